@@ -1,0 +1,22 @@
+//! Graphs, writes, commits and journals as plain data, with the definitions that every layer is proved against.
+#![tactic(auto)]
+
+mod journal;
+mod limits;
+mod memory;
+mod refusal;
+mod row;
+mod table;
+mod write;
+
+pub use journal::{Begun, Commit, Journal, TxnName};
+pub use limits::{
+    LEAF_SEGMENTS, MAX_BEGINS, MAX_ID, MAX_LEAVES, MAX_LOAD_ROWS, MAX_PASSES, MAX_ROUNDS,
+    MAX_SCRIPTS, MAX_SOURCE_BYTES, MAX_THREADS, MAX_TXNS_PER_PASS, MAX_WEIGHT, NO_WALK, SCAN_ROWS,
+    SEGMENT_ROWS,
+};
+pub use memory::NoMemory;
+pub use refusal::{BeginRefusal, Cause, Refusal};
+pub use row::{Cursor, Key, Row, Rows64};
+pub use table::{Entry, KernelRefusal, Table, Value};
+pub use write::{Kind, Write, Writes};

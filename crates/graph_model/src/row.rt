@@ -1,0 +1,112 @@
+//! Rows and their keys, scans over them.
+
+ghost use Rattle.std.specs.Prelude.{◌≡◌, ◌<◌, [], ◌∷◌, ◌++◌, ◌==◌, length};
+
+use std::marker::Model;
+
+/// A row's key: `(v, 0)` for the vertex v, `(u, v + 1)` for the arc from u to v. So a vertex's row
+/// stands directly before the rows of its arcs.
+#[derive(Clone, Copy, Debug, PartialEq, Eq, PartialOrd, Ord)]
+pub struct Key {
+    pub src: u64,
+    pub second: u64,
+}
+
+impl Key {
+    /// Below it lies the key of every row.
+    pub const END: Key = Key {
+        src: 9223372036854775807,
+        second: 0,
+    };
+}
+
+/// A vertex with weight 0, or an arc with its weight.
+#[derive(Clone, Copy, Debug, PartialEq, Eq)]
+pub struct Row {
+    pub key: Key,
+    pub weight: u64,
+}
+
+/// A scan: the rows from `next` on and below `until` are still to come, unless it is done.
+#[derive(Clone, Copy, Debug, PartialEq, Eq)]
+pub struct Cursor {
+    pub next: Key,
+    pub until: Key,
+    pub done: bool,
+}
+
+/// A buffer of at most 64 rows, which takes no memory.
+#[derive(Drop)]
+pub struct Rows64 {
+    rows: [Row; 64],
+    len: usize,
+}
+
+impl Model for Rows64 {
+    ghost use Rattle.std.specs.Prelude.{◌≡◌, ◌≤◌, List, length, take};
+    ghost use Rattle.graph_model.specs.declared.row.Row.{Row};
+
+    ghost Value = { List Row };
+
+    ghost view = { λ a. take a.len a.rows };
+
+    ghost invariant = { λ a. (a.len ≤ 64) × (length a.rows ≡ 64) };
+}
+
+impl Rows64 {
+    /// An empty buffer.
+    pub fn new() -> Rows64
+        ensures { result ≡ [] }
+    {
+        let blank = Row {
+            key: Key::END,
+            weight: 0,
+        };
+        Rows64 {
+            rows: [blank; 64],
+            len: 0,
+        }
+    }
+
+    /// Empties the buffer.
+    pub fn clear(&mut self)
+        ensures { self.new ≡ [] }
+    {
+        self.len = 0;
+    }
+
+    /// Appends a row, where there is room.
+    pub fn push(&mut self, row: Row)
+        requires { length self.old < 64 }
+        ensures { self.new ≡ self.old ++ row ∷ [] }
+    {
+        self.rows[self.len] = row;
+        self.len += 1;
+    }
+
+    pub fn len(&self) -> usize
+        ensures { result ≡ length self.now }
+    {
+        self.len
+    }
+
+    pub fn is_empty(&self) -> bool
+        ensures { result ≡ (length self.now == 0) }
+    {
+        self.len == 0
+    }
+
+    /// Whether there is no room left.
+    pub fn is_full(&self) -> bool
+        ensures { result ≡ (length self.now == 64) }
+    {
+        self.len == 64
+    }
+
+    /// Lends the rows.
+    pub fn as_slice(&self) -> &[Row]
+        ensures { result.now ≡ self.now }
+    {
+        &self.rows[..self.len]
+    }
+}
