@@ -1,3 +1,14 @@
 pub mod Items
 pub mod Graph
+pub mod Refused
+pub mod History
+pub mod Legal
+pub mod Conflict
+pub mod Account
+pub mod Inserted
+pub mod Rows
+pub mod Walks
+pub mod Components
+pub mod Labels
+pub mod Tables
 pub mod TableText
