@@ -3,8 +3,6 @@ use Rattle.std.specs.Prelude.{◌≡◌, ℕ, Bool, ◌==◌, ◌||◌, List, []
 use Rattle.std.specs.List.{list_any}
 use Rattle.std.specs.Ordering.{nat_cmp, ordering_then}
 use Rattle.std.specs.declared.cmp.Ordering.{Ordering}
-use Rattle.std.specs.FinSet as set
-use Rattle.std.specs.FinSet.{FinSet}
 use Rattle.std.specs.FinMap as map
 use Rattle.std.specs.FinMap.{FinMap}
 use Rattle.graph_model.specs.declared.write.Kind.{Kind}
@@ -16,16 +14,20 @@ use Rattle.graph_model.specs.declared.write.Write.TheVariants.{AddVertex, DropVe
 abbrev pub arc_cmp : ℕ × ℕ → ℕ × ℕ → Ordering
 arc_cmp a b = ordering_then (nat_cmp a.0 b.0) (nat_cmp a.1 b.1)
 
--- a finite set of vertices, and a finite map from arcs to weights
+-- a finite set of vertices, kept as a finite map to nothing, and a finite map from arcs to weights
 pub record Graph : Type 0 where
-  pub vertices : FinSet nat_cmp
+  pub vertices : FinMap nat_cmp (Unit {0})
   pub arcs : FinMap arc_cmp ℕ
 
 abbrev pub empty_graph : Graph
-empty_graph = record { vertices = set.empty; arcs = map.empty }
+empty_graph = record { vertices = map.empty; arcs = map.empty }
 
 abbrev pub has_vertex : Graph → ℕ → Bool
-has_vertex g v = set.contains g.vertices v
+has_vertex g v = map.contains_key g.vertices v
+
+-- the vertices in rising order
+abbrev pub vertices_of : Graph → List ℕ
+vertices_of g = map.keys g.vertices
 
 -- the weight of the arc from u to v, if it is there
 abbrev pub weight_of : Graph → ℕ → ℕ → Option ℕ
@@ -55,8 +57,8 @@ without_edge Undirected g u v = without_arc (without_arc g u v) v u
 
 -- the graph after a write
 abbrev pub apply : Kind → Graph → Write → Graph
-apply kind g (AddVertex v) = record g { vertices = set.insert g.vertices v }
-apply kind g (DropVertex v) = record g { vertices = set.remove g.vertices v }
+apply kind g (AddVertex v) = record g { vertices = map.insert g.vertices v tt }
+apply kind g (DropVertex v) = record g { vertices = map.remove g.vertices v }
 apply kind g (AddEdge u v weight) = with_edge kind g u v weight
 apply kind g (SetEdge u v weight) = with_edge kind g u v weight
 apply kind g (DropEdge u v) = without_edge kind g u v

@@ -1,18 +1,17 @@
 -- Community labels by synchronous rounds (LDBC Graphalytics, CDLP).
 use Rattle.std.specs.Prelude.{ℕ, zero, suc, Bool, ◌==◌, ◌++◌, nat_le, List, [], ◌∷◌, map, count_by, min}
 use Rattle.std.specs.List.{filter, list_all}
-use Rattle.std.specs.FinSet as set
 use Rattle.graph_model.specs.declared.write.Kind.{Kind}
 use Rattle.graph_model.specs.declared.write.Kind.TheVariants.{Directed, Undirected}
-use Rattle.graph_model.specs.Graph.{Graph, has_arc}
+use Rattle.graph_model.specs.Graph.{Graph, has_arc, vertices_of}
 
 -- the vertices to which an arc leads from v
 abbrev pub targets : Graph → ℕ → List ℕ
-targets g v = filter (λ u. has_arc g v u) (set.items g.vertices)
+targets g v = filter (λ u. has_arc g v u) (vertices_of g)
 
 -- the vertices from which an arc leads to v
 abbrev pub sources : Graph → ℕ → List ℕ
-sources g v = filter (λ u. has_arc g u v) (set.items g.vertices)
+sources g v = filter (λ u. has_arc g u v) (vertices_of g)
 
 -- whose labels v meets in a round: with directions, once for each arc out and once for each arc in
 abbrev pub neighbours : Kind → Graph → ℕ → List ℕ

@@ -3,13 +3,12 @@ use Rattle.std.specs.Prelude.{◌≡◌, ℕ, ◌+◌, ◌-◌, ◌≤◌, ◌==
 use Rattle.std.specs.List.{filter}
 use Rattle.std.specs.Ordering.{nat_cmp, ordering_then, is_lt}
 use Rattle.std.specs.declared.cmp.Ordering.{Ordering}
-use Rattle.std.specs.FinSet as set
 use Rattle.std.specs.FinMap as fin_map
 use Rattle.std.specs.FinMap.{FinMap}
 use Rattle.graph_model.specs.declared.row.Key.{Key}
 use Rattle.graph_model.specs.declared.row.Row.{Row}
 use Rattle.graph_model.specs.declared.limits.TheConstants.{MAX_ID}
-use Rattle.graph_model.specs.Graph.{Graph, has_vertex, weight_of, HasBothEnds}
+use Rattle.graph_model.specs.Graph.{Graph, has_vertex, vertices_of, weight_of, HasBothEnds}
 
 abbrev pub key_cmp : Key → Key → Ordering
 key_cmp a b = ordering_then (nat_cmp a.src b.src) (nat_cmp a.second b.second)
@@ -40,7 +39,7 @@ arc_entry a = (arc_key a.0.0 a.0.1, a.1)
 
 -- each vertex with weight 0, and each arc with its weight, by their keys
 abbrev pub row_map : Graph → FinMap key_cmp ℕ
-row_map g = fin_map.from_entries (map vertex_entry (set.items g.vertices) ++ map arc_entry (fin_map.entries g.arcs))
+row_map g = fin_map.from_entries (map vertex_entry (vertices_of g) ++ map arc_entry (fin_map.entries g.arcs))
 
 abbrev pub row_of : Key × ℕ → Row
 row_of e = record { key = e.0; weight = e.1 }

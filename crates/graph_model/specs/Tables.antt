@@ -1,18 +1,17 @@
 -- What the tables of the kernels are (LDBC Graphalytics): each vertex in rising order, with its value.
 use Rattle.std.specs.Prelude.{◌≡◌, ℕ, List, map, slice_get, Option, Some}
-use Rattle.std.specs.FinSet as set
 use Rattle.graph_model.specs.declared.write.Kind.{Kind}
 use Rattle.graph_model.specs.declared.table.Value.{Value}
 use Rattle.graph_model.specs.declared.table.Value.TheVariants.{Number, Infinity}
 use Rattle.graph_model.specs.declared.table.Entry.{Entry}
-use Rattle.graph_model.specs.Graph.{Graph}
+use Rattle.graph_model.specs.Graph.{Graph, vertices_of}
 use Rattle.graph_model.specs.Walks.{IsDistance, IsLeastWeight, IsUnreached}
 use Rattle.graph_model.specs.Components.{IsComponent}
 use Rattle.graph_model.specs.Labels.{label}
 
 -- the vertices of the graph in rising order, each with a value that is right for it
 pub record IsTable (g : Graph) (right : ℕ → Value → Type 0) (table : List Entry) : Type 0 where
-  pub vertices : map (λ e. e.vertex) table ≡ set.items g.vertices
+  pub vertices : map (λ e. e.vertex) table ≡ vertices_of g
   pub values : (i : ℕ) (e : Entry) → slice_get table i ≡ Some e → right e.vertex e.value
 
 abbrev pub IsBfsValue : Graph → ℕ → ℕ → Value → Type 0

@@ -1,0 +1,5 @@
+pub mod OrderLemmas
+pub mod WalkLemmas
+pub mod SortedLemmas
+pub mod RowLemmas
+pub mod ItemLemmas
