@@ -9,6 +9,7 @@ use Rattle.std.specs.FinMap.{nat_cmp-IsAntisymmetric}
 use Rattle.std.specs.FinMap.Entries.{find, is_sorted, below_all, same_entries}
 use Rattle.std.proofs.lemmas.Bool.Decides.{nat_tests}
 use Rattle.graph_model.specs.Graph.{Graph, has_vertex, vertices_of}
+use Rattle.graph_model.proofs.GraphLemmas.{marks}
 use Rattle.graph_model.proofs.SortedLemmas.{true_from_T, T_from_true}
 
 -- numbers as the entries of a set
@@ -43,11 +44,6 @@ list_any-same p q same (x ∷ xs) = λ i. same x i || list_any-same p q same xs 
 keys-marked : (xs : List ℕ) → map (λ (e : ℕ × Unit {0}). e.0) (map marked xs) ≡ xs
 keys-marked [] = refl
 keys-marked (x ∷ xs) = ap (λ ys. x ∷ ys) (keys-marked xs)
-
--- a mark is there or not
-marks : (x : Option (Unit {0})) → x ≡ cond (is_some x) (Some tt) None
-marks None = refl
-marks (Some u) = refl
 
 -- rising numbers that are the members of a set are its keys in order
 pub sorted_items : (g : Graph) (xs : List ℕ) → ((i j a b : ℕ) → i < j → slice_get xs i ≡ Some a → slice_get xs j ≡ Some b → a < b) → ((v : ℕ) → list_any (λ x. x == v) xs ≡ has_vertex g v) → xs ≡ vertices_of g

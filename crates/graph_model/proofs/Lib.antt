@@ -1,5 +1,11 @@
 pub mod OrderLemmas
 pub mod WalkLemmas
+pub mod GraphLemmas
+pub mod WriteLemmas
 pub mod SortedLemmas
 pub mod RowLemmas
 pub mod ItemLemmas
+pub mod ComponentLemmas
+pub mod LabelLemmas
+pub mod TableLemmas
+pub mod LegalLemmas

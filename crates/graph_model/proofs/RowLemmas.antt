@@ -8,7 +8,7 @@ use Rattle.std.specs.declared.cmp.Ordering.TheVariants.{Less, Equal, Greater}
 use Rattle.std.specs.Ordering.{nat_cmp, eq_by_cmp, is_lt, is_eq}
 use Rattle.std.specs.Cmp.{IsTotalOrder, nat_cmp_total, unsigned_tied}
 use Rattle.std.specs.FinMap as fin_map
-use Rattle.std.specs.FinMap.Entries.{find, is_sorted, where_key, find-where_key, is_sorted-where_key, same_entries}
+use Rattle.std.specs.FinMap.Entries.{find, is_sorted, below_all, where_key, find-where_key, is_sorted-where_key, same_entries}
 use Rattle.std.proofs.lemmas.Bool.Decides.{nat_tests}
 use Rattle.graph_model.specs.declared.limits.TheConstants.{MAX_ID}
 use Rattle.graph_model.specs.declared.row.Key.{Key}
@@ -169,3 +169,89 @@ module _ {rows : List Row} {g : Graph} (are : AreRowsOf rows g) where
       let between : is_between first_key end_key key ≡ true = (λ i. not (first_least key.src key.second i) && below_end key.src key.second within i) in
       let place = row_at_between g first_key end_key key w between is in
       (place.0, ap (λ rs. slice_get rs place.0) are.listed ∙ place.1)
+
+-- ---- adjoining ranges
+
+module _ (e_src e_second b_src b_second u_src u_second : ℕ) where
+  abbrev first_of : Key
+  first_of = record { src = e_src; second = e_second }
+
+  abbrev second_of : Key
+  second_of = record { src = b_src; second = b_second }
+
+  abbrev third_of : Key
+  third_of = record { src = u_src; second = u_second }
+
+  below_through : is_below first_of second_of ≡ true → is_below third_of second_of ≡ false → is_below first_of third_of ≡ true
+  below_through p q = grind (arith, nat_tests)
+
+  not_below_through : is_below first_of second_of ≡ false → is_below second_of third_of ≡ false → is_below first_of third_of ≡ false
+  not_below_through p q = grind (arith, nat_tests)
+
+  not_below_later : is_below first_of second_of ≡ true → is_below first_of third_of ≡ false → is_below second_of third_of ≡ false
+  not_below_later p q = grind (arith, nat_tests)
+
+module _ {X : Type 0} (from between until : Key) (low : is_below between from ≡ false) (high : is_below until between ≡ false) where
+  abbrev in_front : Key × X → Bool
+  in_front e = is_between from between e.0
+
+  abbrev behind : Key × X → Bool
+  behind e = is_between between until e.0
+
+  abbrev in_both : Key × X → Bool
+  in_both e = is_between from until e.0
+
+  -- from the middle key on
+  filter_behind : (es : List (Key × X)) → list_any (λ e. is_below e.0 between) es ≡ false → (filter in_front es ≡ []) × (filter behind es ≡ filter in_both es)
+  filter_behind [] none = (refl, refl)
+  filter_behind (e ∷ es) none =
+      let parts : (is_below e.0 between ≡ false) × (list_any (λ (e : Key × X). is_below e.0 between) es ≡ false) = neither_of (is_below e.0 between) _ none in
+      let rest = filter_behind es parts.1 in
+      let after : is_below e.0 from ≡ false = not_below_through e.0.src e.0.second between.src between.second from.src from.second parts.0 low in
+      let not_front : in_front e ≡ false = and_off (not (is_below e.0 from)) (is_below e.0 between) parts.0 in
+      let same : behind e ≡ in_both e = (λ i. not ((parts.0 ∙ sym after) i) && is_below e.0 until) in
+      (ap (λ t. cond t (e ∷ filter in_front es) (filter in_front es)) not_front ∙ rest.0, λ i. cond (same i) (e ∷ rest.1 i) (rest.1 i))
+    where
+      neither_of : (s t : Bool) → (s || t) ≡ false → (s ≡ false) × (t ≡ false)
+      neither_of true t e = cc
+      neither_of false t e = (refl, e)
+
+      and_off : (s t : Bool) → t ≡ false → (s && t) ≡ false
+      and_off true t e = e
+      and_off false t e = refl
+
+  none_later : (e : Key × X) (es : List (Key × X)) → below_all key_cmp e.0 es ≡ true → is_below e.0 between ≡ false → list_any (λ (f : Key × X). is_below f.0 between) es ≡ false
+  none_later e [] below off = refl
+  none_later e (f ∷ es) below off =
+      let parts = both_true (is_lt (key_cmp e.0 f.0)) _ below in
+      (λ i. not_below_later e.0.src e.0.second f.0.src f.0.second between.src between.second parts.0 off i || none_later e es parts.1 off i)
+
+  pub filters_adjoin : (es : List (Key × X)) → is_sorted key_cmp es ≡ true → filter in_front es ++ filter behind es ≡ filter in_both es
+  filters_adjoin [] sorted = refl
+  filters_adjoin (e ∷ es) sorted =
+      let parts = both_true (below_all key_cmp e.0 es) _ sorted in
+      elim (is_below e.0 between) as (λ t. is_below e.0 between ≡ t → filter in_front (e ∷ es) ++ filter behind (e ∷ es) ≡ filter in_both (e ∷ es)) [
+        | true ↦ λ t.
+            let up : is_below e.0 until ≡ true = below_through e.0.src e.0.second between.src between.second until.src until.second t high in
+            let same : in_front e ≡ in_both e = (λ i. not (is_below e.0 from) && (t ∙ sym up) i) in
+            let off : behind e ≡ false = (λ i. not (t i) && is_below e.0 until) in
+            (λ i. cond (same i) (e ∷ filter in_front es) (filter in_front es) ++ cond (off i) (e ∷ filter behind es) (filter behind es))
+            ∙ push_cond (in_both e) e (filter in_front es) (filter behind es)
+            ∙ ap (λ fs. cond (in_both e) (e ∷ fs) fs) (filters_adjoin es parts.1)
+        | false ↦ λ t.
+            let all = filter_behind (e ∷ es) (λ i. t i || none_later e es parts.0 t i) in
+            (λ i. all.0 i ++ all.1 i)
+      ] refl
+    where
+      push_cond : (s : Bool) (x : Key × X) (xs ys : List (Key × X)) → cond s (x ∷ xs) xs ++ ys ≡ cond s (x ∷ (xs ++ ys)) (xs ++ ys)
+      push_cond true x xs ys = refl
+      push_cond false x xs ys = refl
+
+map-both : {A B : Type 0} (f : A → B) (xs ys : List A) → map f (xs ++ ys) ≡ map f xs ++ map f ys
+map-both f [] ys = refl
+map-both f (x ∷ xs) ys = ap (λ zs. f x ∷ zs) (map-both f xs ys)
+
+pub ranges_adjoin : (g : Graph) (from between until : Key) → is_below between from ≡ false → is_below until between ≡ false → rows g from between ++ rows g between until ≡ rows g from until
+ranges_adjoin g from between until low high =
+    sym (map-both row_of (entries_of g from between) (entries_of g between until))
+    ∙ ap (map row_of) (filters_adjoin from between until low high (fin_map.entries (row_map g)) (true_from_T _ (fin_map.entries_sorted (row_map g))))

@@ -12,3 +12,4 @@ pub mod Components
 pub mod Labels
 pub mod Tables
 pub mod TableText
+pub mod Laws

@@ -2,6 +2,7 @@
 #![tactic(auto)]
 
 mod journal;
+mod laws;
 mod limits;
 mod memory;
 mod refusal;
@@ -10,6 +11,11 @@ mod table;
 mod write;
 
 pub use journal::{Begun, Commit, Journal, TxnName};
+pub use laws::{
+    apart_writes_commute, components_are_least_vertices, labels_follow_neighbours,
+    least_walks_are_distances, prefixes_are_legal, rows_are_of_the_graph, tables_are_determined,
+    walks_have_their_forms, writes_keep_graphs_sound,
+};
 pub use limits::{
     LEAF_SEGMENTS, MAX_BEGINS, MAX_ID, MAX_LEAVES, MAX_LOAD_ROWS, MAX_PASSES, MAX_ROUNDS,
     MAX_SCRIPTS, MAX_SOURCE_BYTES, MAX_THREADS, MAX_TXNS_PER_PASS, MAX_WEIGHT, NO_WALK, SCAN_ROWS,

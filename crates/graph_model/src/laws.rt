@@ -1,0 +1,71 @@
+//! Laws that show that the definitions mean what they say. Each is a function whose contract is the law.
+
+ghost use Rattle.graph_model.specs.Laws.{KeepsBothEnds, KeepsSymmetric, WritesCommute, StaysAllowed, PrefixIsLegal, LegalHasBothEnds, PrefixHasItsGraphs, RowsRise, RowsAreOfTheGraph, RowsAreComplete, RangesAdjoin, RootIsNearest, OneDistance, OneLeastWeight, ArcAddsOne, ArcAddsItsWeight, NoWalkIsNone, WalksReach, ReachesIsWalk, ReachesByIsWalk, ReachesWithinIsWalk, ComponentIsNotAbove, OneComponent, ArcJoinsComponents, LeastIsItsComponent, FirstLabelIsTheVertex, LonelyKeepsItsLabel, TwiceIsOnce, OneTable};
+
+/// A write that isn't refused keeps both ends of each arc vertices, and an undirected graph symmetric.
+pub fn writes_keep_graphs_sound()
+    ensures ends { KeepsBothEnds }
+    ensures symmetric { KeepsSymmetric }
+{}
+
+/// Two writes that don't clash and that neither is refused commute, and neither makes the other
+/// refused. This is why one writer an item is enough.
+pub fn apart_writes_commute()
+    ensures commute { WritesCommute }
+    ensures allowed { StaysAllowed }
+{}
+
+/// A prefix of a legal journal is legal, and has the same graphs, each with both ends of its arcs.
+pub fn prefixes_are_legal()
+    ensures legal { PrefixIsLegal }
+    ensures ends { LegalHasBothEnds }
+    ensures graphs { PrefixHasItsGraphs }
+{}
+
+/// Rows rise by key, and are exactly what the graph has in the range; ranges adjoin.
+pub fn rows_are_of_the_graph()
+    ensures rise { RowsRise }
+    ensures sound { RowsAreOfTheGraph }
+    ensures complete { RowsAreComplete }
+    ensures adjoin { RangesAdjoin }
+{}
+
+/// The root has 0, a vertex has one least length and one least weight, an arc adds at most one or
+/// its weight, and the number that stands for no walk means it.
+pub fn least_walks_are_distances()
+    ensures root { RootIsNearest }
+    ensures one_length { OneDistance }
+    ensures one_weight { OneLeastWeight }
+    ensures arc { ArcAddsOne }
+    ensures weight { ArcAddsItsWeight }
+    ensures none { NoWalkIsNone }
+{}
+
+/// The forms of walks that proofs use are the walks of the definition.
+pub fn walks_have_their_forms()
+    ensures forms { WalksReach }
+    ensures reaches { ReachesIsWalk }
+    ensures weighs { ReachesByIsWalk }
+    ensures within { ReachesWithinIsWalk }
+{}
+
+/// A component is never above its vertex, the same at both ends of an arc, and its own component.
+pub fn components_are_least_vertices()
+    ensures below { ComponentIsNotAbove }
+    ensures one { OneComponent }
+    ensures arc { ArcJoinsComponents }
+    ensures least { LeastIsItsComponent }
+{}
+
+/// The first label is the vertex, a vertex without neighbours keeps its label, and in an undirected
+/// graph each neighbour may count once or twice.
+pub fn labels_follow_neighbours()
+    ensures first { FirstLabelIsTheVertex }
+    ensures lonely { LonelyKeepsItsLabel }
+    ensures twice { TwiceIsOnce }
+{}
+
+/// The definitions determine the tables.
+pub fn tables_are_determined()
+    ensures { OneTable }
+{}
