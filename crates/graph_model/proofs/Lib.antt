@@ -9,3 +9,4 @@ pub mod ComponentLemmas
 pub mod LabelLemmas
 pub mod TableLemmas
 pub mod LegalLemmas
+pub mod ExampleLemmas

@@ -13,3 +13,4 @@ pub mod Labels
 pub mod Tables
 pub mod TableText
 pub mod Laws
+pub mod Examples

@@ -1,5 +1,6 @@
 //! Laws that show that the definitions mean what they say. Each is a function whose contract is the law.
 
+ghost use Rattle.graph_model.specs.Examples.{ClashExamples, RefusalExamples, ViewExamples, ConflictExamples, CountExamples, RowExamples, LabelExamples, TableExample};
 ghost use Rattle.graph_model.specs.Laws.{KeepsBothEnds, KeepsSymmetric, WritesCommute, StaysAllowed, PrefixIsLegal, LegalHasBothEnds, PrefixHasItsGraphs, RowsRise, RowsAreOfTheGraph, RowsAreComplete, RangesAdjoin, RootIsNearest, OneDistance, OneLeastWeight, ArcAddsOne, ArcAddsItsWeight, NoWalkIsNone, WalksReach, ReachesIsWalk, ReachesByIsWalk, ReachesWithinIsWalk, ComponentIsNotAbove, OneComponent, ArcJoinsComponents, LeastIsItsComponent, FirstLabelIsTheVertex, LonelyKeepsItsLabel, TwiceIsOnce, OneTable};
 
 /// A write that isn't refused keeps both ends of each arc vertices, and an undirected graph symmetric.
@@ -68,4 +69,16 @@ pub fn labels_follow_neighbours()
 /// The definitions determine the tables.
 pub fn tables_are_determined()
     ensures { OneTable }
+{}
+
+/// Worked examples of the definitions, with values reckoned by hand.
+pub fn examples_hold()
+    ensures clashes { ClashExamples }
+    ensures refusals { RefusalExamples }
+    ensures views { ViewExamples }
+    ensures conflicts { ConflictExamples }
+    ensures counts { CountExamples }
+    ensures rows { RowExamples }
+    ensures labels { LabelExamples }
+    ensures text { TableExample }
 {}

@@ -12,7 +12,7 @@ mod write;
 
 pub use journal::{Begun, Commit, Journal, TxnName};
 pub use laws::{
-    apart_writes_commute, components_are_least_vertices, labels_follow_neighbours,
+    apart_writes_commute, components_are_least_vertices, examples_hold, labels_follow_neighbours,
     least_walks_are_distances, prefixes_are_legal, rows_are_of_the_graph, tables_are_determined,
     walks_have_their_forms, writes_keep_graphs_sound,
 };
