@@ -1,6 +1,7 @@
 //! Graphs, writes, commits and journals as plain data, with the definitions that every layer is proved against.
 #![tactic(auto)]
 
+mod ids;
 mod journal;
 mod laws;
 mod limits;
@@ -10,6 +11,7 @@ mod row;
 mod table;
 mod write;
 
+pub use ids::Ids;
 pub use journal::{Begun, Commit, Journal, TxnName};
 pub use laws::{
     apart_writes_commute, components_are_least_vertices, examples_hold, labels_follow_neighbours,
