@@ -1,0 +1,46 @@
+-- What calls of a desk leave, one after another
+use Rattle.std.proofs.Common.{◌≡◌, ◌∙◌, ◌+◌, ◌≤◌, ℕ, List, ◌++◌, length, take, Option, Some, None, IfSome, IsSome, refl, ap, arith, length-append, length-take}
+use Rattle.std.proofs.Math.Seq.{take-add}
+use Rattle.desk_io.specs.Files.{Files, ChangesOnly, Gives, IsWritten, IsFront, and_then}
+
+-- two changes of one name are one
+pub ChangesOnly-trans : (name : List ℕ) (old mid new : Files) → ChangesOnly name old mid → ChangesOnly name mid new → ChangesOnly name old new
+ChangesOnly-trans name old mid new first second = record {
+  holds = λ other apart. second.holds other apart ∙ first.holds other apart;
+  written = λ other apart. second.written other apart ∙ first.written other apart;
+  said = second.said ∙ first.said;
+  tells = second.tells ∙ first.tells;
+  read_faults = second.read_faults ∙ first.read_faults;
+}
+
+-- a piece behind a text that is told
+whole-and_then : (before after : Option (List ℕ)) (text piece : List ℕ) → after ≡ and_then before piece → IfSome before (λ told. told ≡ text) → IfSome after (λ told. told ≡ text ++ piece)
+whole-and_then None after text piece e whole = rw e tt
+whole-and_then (Some told) after text piece e whole = rw e (ap (λ front. front ++ piece) whole)
+
+-- a text with a piece behind it is told where the text is
+told-and_then : (before after : Option (List ℕ)) (piece : List ℕ) → after ≡ and_then before piece → IsSome before → IsSome after
+told-and_then None after piece e told = absurd (cc)
+told-and_then (Some text) after piece e told = rw e told
+
+-- a piece that is written behind a text that is written
+pub IsWritten-append : (old new : Files) (name text piece : List ℕ) → IsWritten old name text → new.written name ≡ and_then (old.written name) piece → new.tells ≡ old.tells → IsWritten new name (text ++ piece)
+IsWritten-append old new name text piece is e tells = record {
+  whole = whole-and_then (old.written name) (new.written name) text piece e is.whole;
+  told = λ does. told-and_then (old.written name) (new.written name) piece e (is.told (rw (← tells) does));
+}
+
+-- bytes that a read gives behind the front of a source
+front-append : (holds : Option (List ℕ)) (bytes buffer : List ℕ) (count : ℕ)
+    → IfSome holds (λ source. bytes ≡ take (length bytes) source) → IfSome holds (λ source. Gives source (length bytes) buffer count)
+    → IfSome holds (λ source. bytes ++ take count buffer ≡ take (length bytes + count) source)
+front-append None bytes buffer count front gives = tt
+front-append (Some source) bytes buffer count front gives =
+    rw (take-add (length bytes) count source, ← gives.bytes, ← front) refl
+
+-- a longer front of the source
+pub IsFront-append : (files : Files) (name bytes buffer items : List ℕ) (at count : ℕ) → at ≡ length bytes → count ≤ length buffer → items ≡ bytes ++ take count buffer
+    → IsFront files name bytes → IfSome (files.holds name) (λ source. Gives source at buffer count) → IsFront files name items
+IsFront-append files name bytes buffer items at count place bound e front gives =
+    let longer : length items ≡ length bytes + count = rw e (omega (arith, length-append bytes (take count buffer), length-take count buffer)) in
+    record { front = rw (longer, e) (front-append (files.holds name) bytes buffer count front.front (rw place at gives)) }

@@ -1,0 +1,157 @@
+//! A source that is read whole, in pieces, up to a limit.
+ghost use Rattle.std.specs.Prelude.{◌≡◌, ◌+◌, ◌<◌, ◌≤◌, length, min, vec_len, IfOk, IfErr, OnOk};
+ghost use Rattle.desk_io.specs.Files.{IsSource, IsFront};
+ghost use Rattle.desk_io.specs.Refusals.{IsRefused, Reads};
+
+use crate::bytes::Bytes;
+use crate::desk::Desk;
+use std::alloc::{AllocError, Global};
+use thiserror::Error;
+
+/// How many bytes one call of the desk reads at most: enough that the calls cost little, and little
+/// enough that the buffer fits the processor's cache.
+pub const PIECE: usize = 65_536;
+
+/// Why a source was not read.
+#[derive(Clone, Copy, Debug, PartialEq, Eq, Error)]
+pub enum SourceRefusal {
+    #[error("the file cannot be read")]
+    ReadFault,
+    #[error("the file is too long")]
+    TooLong,
+    #[error("out of memory")]
+    NoMemory,
+}
+
+// What one turn of the reading found.
+enum Piece {
+    Taken,
+    End,
+}
+
+/// Reads a source whole, unless it has more bytes than the limit. No more than one byte beyond the
+/// limit is asked for.
+pub fn read_source<D: Desk>(
+    alloc: Global,
+    desk: &mut D,
+    name: &str,
+    limit: u64,
+) -> Result<Bytes, SourceRefusal>
+    ensures whole { IfOk result (λ bytes. IsSource (D.files desk.old) name.now bytes) }
+    ensures short { IfOk result (λ bytes. length bytes ≤ limit) }
+    ensures ok { OnOk result (D.files desk.new ≡ D.files desk.old) }
+    ensures refused { IfErr result
+        (IsRefused name.now limit (D.files desk.old) (D.files desk.new)) }
+{
+    let mut buffer = match buffer_of(alloc, PIECE) {
+        Ok(buffer) => buffer,
+        Err(_) => return Err(SourceRefusal::NoMemory),
+    };
+    let mut bytes = Vec::new(alloc);
+    'pieces: loop {
+        match read_piece(desk, name, limit, buffer.as_mut_slice(), &mut bytes) {
+            Ok(Piece::Taken) => {}
+            Ok(Piece::End) => return Ok(Bytes::from_vec(bytes)),
+            Err(refusal) => return Err(refusal),
+        }
+    }
+}
+
+// A buffer of this many bytes.
+fn buffer_of(alloc: Global, len: usize) -> Result<Vec<u8>, AllocError>
+    ensures { IfOk result (λ buffer. vec_len buffer ≡ len) }
+{
+    vec![in alloc; 0u8; len]
+}
+
+// Reads the next piece and puts it behind the bytes.
+fn read_piece<D: Desk>(
+    desk: &mut D,
+    name: &str,
+    limit: u64,
+    buffer: &mut [u8],
+    bytes: &mut Vec<u8>,
+) -> Result<Piece, SourceRefusal>
+    requires room { 0 < length buffer.old }
+    requires short { vec_len bytes.old ≤ limit }
+    requires front { IsFront (D.files desk.old) name.now bytes.old.items }
+    ensures piece { IfOk result
+        (Reads name.now limit (D.files desk.old) bytes.old.items bytes.new.items) }
+    ensures ok { OnOk result (D.files desk.new ≡ D.files desk.old) }
+    ensures refused { IfErr result
+        (IsRefused name.now limit (D.files desk.old) (D.files desk.new)) }
+{
+    let at = bytes.len() as u64;
+    let room = limit - at;
+    let most = piece_len(buffer.len(), room);
+    let count = match desk.read(name, at, &mut buffer[..most]) {
+        Ok(count) => count,
+        Err(_) => return Err(SourceRefusal::ReadFault),
+    };
+    if count == 0 {
+        return Ok(Piece::End);
+    }
+    if count as u64 > room {
+        return Err(SourceRefusal::TooLong);
+    }
+    match bytes.extend_from_slice(&buffer[..count]) {
+        Ok(()) => Ok(Piece::Taken),
+        Err(_) => Err(SourceRefusal::NoMemory),
+    }
+}
+
+// How many bytes the next call asks for: one beyond the limit shows that a source is too long.
+fn piece_len(most: usize, room: u64) -> usize
+    ensures { result ≡ min most (room + 1) }
+{
+    if room < most as u64 {
+        room as usize + 1
+    } else {
+        most
+    }
+}
+
+#[cfg(test)]
+mod tests {
+    use super::*;
+    use crate::memory_desk::MemoryDesk;
+    use std::test::Fail;
+
+    #[test]
+    fn a_source_of_eleven_bytes_is_too_long_for_ten(rt: HostRuntime) -> Result<(), Fail> {
+        let mut desk = MemoryDesk::new(rt.alloc());
+        desk.put("eleven", b"0123456789A")?;
+        let refused = read_source(rt.alloc(), &mut desk, "eleven", 10);
+        assert!(rt; matches!(&refused, Err(SourceRefusal::TooLong)));
+        for limit in [11, u64::MAX] {
+            let bytes = read_source(rt.alloc(), &mut desk, "eleven", limit)?;
+            assert_eq!(rt; bytes.as_slice(), b"0123456789A".as_slice(), "at {limit}");
+        }
+        Ok(())
+    }
+
+    #[test]
+    fn a_source_of_two_pieces_is_read_whole(rt: HostRuntime) -> Result<(), Fail> {
+        let alloc = rt.alloc();
+        let mut long = Vec::new(alloc);
+        for i in 0..70_000u32 {
+            long.push((i % 251) as u8)?;
+        }
+        let mut desk = MemoryDesk::new(alloc);
+        desk.put("long", &long)?;
+        let bytes = read_source(alloc, &mut desk, "long", 70_000)?;
+        assert_eq!(rt; bytes.len(), 70_000);
+        assert!(rt; bytes.into_vec() == long);
+        Ok(())
+    }
+
+    #[test]
+    fn a_read_that_fails_later_is_a_fault(rt: HostRuntime) -> Result<(), Fail> {
+        let alloc = rt.alloc();
+        let mut desk = MemoryDesk::with_failing(alloc, &[2])?;
+        desk.put("short", b"1 2")?;
+        let refused = read_source(alloc, &mut desk, "short", 10);
+        assert!(rt; matches!(&refused, Err(SourceRefusal::ReadFault)));
+        Ok(())
+    }
+}

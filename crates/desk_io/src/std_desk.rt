@@ -1,0 +1,96 @@
+//! The desk over real files and standard output.
+ghost use Rattle.std.specs.Prelude.{◌≡◌};
+ghost use Rattle.desk_io.specs.Files.{nothing_told};
+
+use crate::desk::{Desk, Failed};
+use crate::faults::risen;
+use crate::open_files::OpenFiles;
+use std::alloc::Global;
+use std::rt::Files;
+
+/// Files of the file system, and standard output. Nothing is told of what they hold.
+///
+/// A folder is not read, and a write of 0 bytes is a failure. A text that cannot be said is lost.
+#[derive(Drop)]
+pub struct StdDesk<R: Files> {
+    files: OpenFiles<R>,
+    read_faults: u64,
+    write_faults: u64,
+}
+
+impl<R: Files + Print> StdDesk<R> {
+    pub fn new(alloc: Global, rt: R) -> StdDesk<R>
+        ensures { ⟦<StdDesk<R> as Desk>⟧.files result ≡ nothing_told 0 0 }
+    {
+        StdDesk {
+            files: OpenFiles::new(alloc, rt),
+            read_faults: 0,
+            write_faults: 0,
+        }
+    }
+}
+
+impl<R: Files + Print> Desk for StdDesk<R> {
+    ghost files = { λ desk. nothing_told desk.read_faults desk.write_faults };
+
+    fn read(&mut self, name: &str, at: u64, buffer: &mut [u8]) -> Result<usize, Failed> {
+        match self.files.read(name, at, buffer) {
+            Ok(count) => Ok(count),
+            Err(_) => {
+                self.read_faults = risen(self.read_faults);
+                Err(Failed)
+            }
+        }
+    }
+
+    fn create(&mut self, name: &str) -> Result<(), Failed> {
+        match self.files.create(name) {
+            Ok(()) => Ok(()),
+            Err(_) => {
+                self.write_faults = risen(self.write_faults);
+                Err(Failed)
+            }
+        }
+    }
+
+    fn write(&mut self, name: &str, bytes: &[u8]) -> Result<usize, Failed> {
+        match self.files.write(name, bytes) {
+            Ok(count) => Ok(count),
+            Err(_) => {
+                self.write_faults = risen(self.write_faults);
+                Err(Failed)
+            }
+        }
+    }
+
+    fn say(&mut self, text: &[u8]) {
+        let _ = self.files.rt.write_all(text);
+    }
+}
+
+#[cfg(test)]
+mod tests {
+    use super::*;
+    use crate::sink::write_sink;
+    use crate::source::read_source;
+    use std::test::Fail;
+    use std::{env, fs, process};
+
+    #[test]
+    fn a_file_of_three_pieces_is_written_and_read_back(rt: HostRuntime) -> Result<(), Fail> {
+        let alloc = rt.alloc();
+        let name = format!(in alloc; "desk_io-{}", process::id(rt.process()))?;
+        let path = env::temp_dir(&rt)?.join(alloc, name.as_str())?;
+        let name = path.as_path().as_str();
+        let text = vec![in alloc; b'7'; 150_000]?;
+        let mut desk = StdDesk::new(alloc, rt.clone()?);
+        write_sink(&mut desk, name, &text)?;
+        let read = read_source(alloc, &mut desk, name, 150_000);
+        let folder = desk.read(env::temp_dir(&rt)?.as_path().as_str(), 0, &mut [0; 8]);
+        fs::remove_file(&rt, name)?;
+        assert!(rt; read?.into_vec() == text);
+        assert_eq!(rt; folder, Err(Failed));
+        assert_eq!(rt; desk.read(name, 0, &mut [0; 8]), Err(Failed), "removed");
+        Ok(())
+    }
+}

@@ -1,0 +1,5 @@
+pub mod FieldLemmas
+pub mod LinesLemmas
+pub mod DuplicatesLemmas
+pub mod EdgeFileLemmas
+pub mod KnownLemmas

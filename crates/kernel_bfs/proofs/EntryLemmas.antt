@@ -1,0 +1,33 @@
+-- The entries, one more at a time.
+use Rattle.std.proofs.Common.{◌≡◌, ℕ, ◌+◌, ◌<◌, ◌≤◌, ◌⊎◌, inl, inr, ⊎_elim, List, [], ◌∷◌, ◌++◌, length, get_or, map, take, slice_get, Option, Some, refl, sym, ap, ◌∙◌, subst, arith}
+use Rattle.std.proofs.lemmas.List.{length-map, length-take-le, map_push, take_more, take_all}
+use Rattle.std.proofs.lemmas.Option.{slice_get-get_or, slice_get_read}
+use Rattle.graph_model.specs.declared.table.Entry.{Entry}
+use Rattle.graph_model.specs.declared.table.Value.{Value}
+use Rattle.graph_model.specs.declared.table.Value.TheVariants.{Number}
+use Rattle.kernel_bfs.specs.Search.{AreEntries}
+use Rattle.kernel_bfs.proofs.Lists.{get_pushed, get_last, get_push_cases}
+
+abbrev entry : ℕ → ℕ → Entry
+entry v n = record { vertex = v; value = Number n }
+
+pub entries_more : (vertices distances : List ℕ) (i v : ℕ) (entries later : List Entry) → AreEntries (take i vertices) distances entries → i < length vertices → length distances ≡ length vertices → v ≡ get_or vertices i v → later ≡ entries ++ entry v (get_or distances i 0) ∷ [] → AreEntries (take (i + 1) vertices) distances later
+entries_more vertices distances i v entries later listed below same_count v_is later_is =
+    let n = get_or distances i 0 in
+    let e = entry v n in
+    let more : take (i + 1) vertices ≡ take i vertices ++ v ∷ [] = take_more vertices i v below ∙ ap (λ x. take i vertices ++ x ∷ []) (sym v_is) in
+    let taken : length (take i vertices) ≡ i = length-take-le i vertices (omega arith) in
+    let count : length entries ≡ i = sym (length-map entries (λ e. e.vertex)) ∙ ap length listed.listed ∙ taken in
+    let result : AreEntries (take i vertices ++ v ∷ []) distances (entries ++ e ∷ []) = record {
+      listed = map_push (λ e. e.vertex) entries e ∙ ap (λ xs. xs ++ v ∷ []) listed.listed;
+      each = λ k f is. ⊎_elim
+          (λ old. let there = listed.each k f old in (there.0, get_pushed (take i vertices) v k f.vertex there.1, there.2, there.3))
+          (λ new. let at : k ≡ i = new.0 ∙ count in (
+            n,
+            ap (slice_get (take i vertices ++ v ∷ [])) (at ∙ sym taken) ∙ get_last (take i vertices) v ∙ ap (λ (x : Entry). Some x.vertex) new.1,
+            ap (slice_get distances) at ∙ slice_get-get_or distances i 0 (omega arith),
+            sym (ap (λ (x : Entry). x.value) new.1),
+          ))
+          (get_push_cases entries e k f is);
+    } in
+    subst (λ xs. AreEntries xs distances later) (sym more) (subst (λ es. AreEntries (take i vertices ++ v ∷ []) distances es) (sym later_is) result)

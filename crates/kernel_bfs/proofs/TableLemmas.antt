@@ -1,0 +1,129 @@
+-- From places to vertices: the table is the graph's.
+use Rattle.std.proofs.Common.{◌≡◌, ℕ, zero, suc, ◌+◌, ◌-◌, ◌<◌, ◌≤◌, ◌⊎◌, inl, inr, ⊎_elim, List, [], ◌∷◌, Bool, true, false, cond, ◌==◌, length, get_or, map, slice_get, Option, Some, None, is_some, IsTrue, refl, sym, ap, ◌∙◌, subst, arith}
+use Rattle.std.specs.List.{list_any}
+use Rattle.std.proofs.lemmas.Bool.{cases_Bool, cases_eq, cases_lt, eq-eqb, eqb-true, ne_eqb}
+use Rattle.std.proofs.lemmas.Bool.Decides.{nat_tests}
+use Rattle.std.proofs.lemmas.List.Folds.{list_any_at, Any-from_list_any}
+use Rattle.std.proofs.lemmas.Option.{get_or_from_slice_get, same_Some, none-some, slice_get_within, slice_get-get_or, cond_some}
+use Rattle.graph_model.specs.declared.limits.TheConstants.{NO_WALK}
+use Rattle.graph_model.specs.declared.row.Key.{Key}
+use Rattle.graph_model.specs.declared.row.Row.{Row}
+use Rattle.graph_model.specs.declared.table.Entry.{Entry}
+use Rattle.graph_model.specs.declared.table.Value.{Value}
+use Rattle.graph_model.specs.declared.table.Value.TheVariants.{Number}
+use Rattle.graph_model.specs.Graph.{Graph, has_vertex, has_arc, weight_of, vertices_of}
+use Rattle.graph_model.specs.Rows.{AreRowsOf, is_below, value_at, vertex_key, arc_key}
+use Rattle.graph_model.specs.Walks.{IsWalk, IsUnreached, IsLeastLength, IsDistance, Reaches}
+use Rattle.graph_model.specs.Tables.{IsTable, IsBfsValue, IsBfs}
+use Rattle.graph_model.proofs.RowLemmas.{rows_rise, row_is, row_at}
+use Rattle.graph_model.proofs.WalkLemmas.{walk_reaches, reaches_walk}
+use Rattle.graph_model.proofs.ItemLemmas.{sorted_items}
+use Rattle.kernel_bfs.specs.Places.{KeysRise, IdsRise, IsIndex, HasLink}
+use Rattle.kernel_bfs.specs.Search.{HasPath, IsWithin, IsSearched, AreEntries}
+use Rattle.kernel_bfs.proofs.Lists.{get_within}
+use Rattle.kernel_bfs.proofs.PlaceLemmas.{same_place}
+
+-- what a lower key says of its two numbers
+below_means : (a b : Key) → IsTrue (is_below a b) → (a.src ≤ b.src) × (a.src ≡ b.src → a.second < b.second)
+below_means a b below = (grind (arith, nat_tests), λ same. grind (arith, nat_tests))
+
+pub keys_rise : (rows : List Row) (g : Graph) → AreRowsOf rows g → KeysRise rows
+keys_rise rows g are = record {
+  sources = λ i j a b less at_i at_j. (below_means a.key b.key (rows_rise are i j a b less at_i at_j)).0;
+  seconds = λ i j a b less at_i at_j. (below_means a.key b.key (rows_rise are i j a b less at_i at_j)).1;
+}
+
+-- a listed number is one of the list
+any_at : (xs : List ℕ) (v p : ℕ) → slice_get xs p ≡ Some v → list_any (λ x. x == v) xs ≡ true
+any_at xs v p is = list_any_at (λ x. x == v) xs p v (slice_get_within xs p v is) (eq-eqb (get_or xs p v) v (get_or_from_slice_get xs p v v is))
+
+-- a number that the list has stands in it
+place_from_any : (xs : List ℕ) (v : ℕ) → list_any (λ x. x == v) xs ≡ true → (p : ℕ) × (slice_get xs p ≡ Some v)
+place_from_any xs v any =
+    let there = Any-from_list_any (λ x. x == v) xs any in
+    (there.0, slice_get-get_or xs there.0 there.1 there.2 ∙ ap Some (there.3 ∙ eqb-true there.1 v there.4))
+
+-- what the graph has at an arc's key
+arc_value : (g : Graph) (u v : ℕ) → value_at g (arc_key u v) ≡ weight_of g u v
+arc_value g u v =
+    let later : (v + 1 == 0) ≡ false = ne_eqb (v + 1) 0 (λ same. absurd (omega arith)) in
+    let back : v + 1 - 1 ≡ v = omega arith in
+    (λ i. cond (later i) (cond (has_vertex g u) (Some 0) None) (weight_of g u (back i)))
+
+some_there : (o : Option ℕ) → is_some o ≡ true → (w : ℕ) × (o ≡ Some w)
+some_there None is = absurd (let no : false ≡ true = is in cc)
+some_there (Some w) is = (w, refl)
+
+same_tests : (a b : Bool) → (a ≡ true → b ≡ true) → (b ≡ true → a ≡ true) → a ≡ b
+same_tests true b up down = sym (up refl)
+same_tests false true up down = down refl
+same_tests false false up down = refl
+
+module _ (rows : List Row) (g : Graph) (are : AreRowsOf rows g) (vertices starts : List ℕ) (index : IsIndex rows (length rows) vertices starts) where
+  -- what has a place is a vertex
+  pub placed_vertex : (p v : ℕ) → slice_get vertices p ≡ Some v → has_vertex g v ≡ true
+  placed_vertex p v at =
+      let old = index.placed p v at in
+      let value : value_at g (vertex_key v) ≡ Some old.1.weight = ap (value_at g) (sym old.5) ∙ row_is are old.0 old.1 old.4 in
+      (cond_some (has_vertex g v) 0 old.1.weight value).0
+
+  -- a vertex has a place
+  pub vertex_placed : (v : ℕ) → has_vertex g v ≡ true → (p : ℕ) × (slice_get vertices p ≡ Some v)
+  vertex_placed v is =
+      let value : value_at g (vertex_key v) ≡ Some 0 = ap (λ b. cond b (Some 0) None) is in
+      let row = row_at are (vertex_key v) 0 value in
+      index.listed row.0 (record { key = vertex_key v; weight = 0 }) (slice_get_within rows row.0 _ row.1) row.1 refl
+
+  -- a link is an arc
+  linked_arc : (p q u v : ℕ) → HasLink rows vertices p q → slice_get vertices p ≡ Some u → slice_get vertices q ≡ Some v → has_arc g u v ≡ true
+  linked_arc p q u v link from to =
+      let source : link.row.key.src ≡ u = same_Some link.row.key.src u (sym link.source_at ∙ from) in
+      let target : link.target ≡ v = same_Some link.target v (sym link.target_at ∙ to) in
+      let leads = link.leads in
+      let second : link.row.key.second ≡ v + 1 = omega arith in
+      let key_is : link.row.key ≡ arc_key u v = (λ i. record { src = source i; second = second i }) in
+      let value : value_at g (arc_key u v) ≡ Some link.row.weight = ap (value_at g) (sym key_is) ∙ row_is are link.at link.row link.is in
+      ap is_some (sym (arc_value g u v) ∙ value)
+
+  -- an arc is a link
+  arc_linked : (p q u v : ℕ) → has_arc g u v ≡ true → slice_get vertices p ≡ Some u → slice_get vertices q ≡ Some v → HasLink rows vertices p q
+  arc_linked p q u v arc from to =
+      let weight = some_there (weight_of g u v) arc in
+      let row = row_at are (arc_key u v) weight.0 (arc_value g u v ∙ weight.1) in
+      record { at = row.0; row = record { key = arc_key u v; weight = weight.0 }; target = v; is = row.1; source_at = from; target_at = to; leads = refl }
+
+  -- a path over places is a walk
+  path_reaches : (root a n p v : ℕ) → slice_get vertices root ≡ Some a → slice_get vertices p ≡ Some v → HasPath (HasLink rows vertices) root n p → Reaches g a n v
+  path_reaches root a zero p v at_root at path = (placed_vertex root a at_root, same_Some a v (sym at_root ∙ ap (slice_get vertices) path ∙ at))
+  path_reaches root a (suc n) p v at_root at path =
+      let link = path.2 in
+      (link.row.key.src, path_reaches root a n path.0 link.row.key.src at_root link.source_at path.1, linked_arc path.0 p link.row.key.src v link link.source_at at, placed_vertex p v at)
+
+  -- a walk is a path over places
+  reaches_path : (root a n p v : ℕ) → slice_get vertices root ≡ Some a → slice_get vertices p ≡ Some v → Reaches g a n v → HasPath (HasLink rows vertices) root n p
+  reaches_path root a zero p v at_root at reaches = same_place index.ids root p v (at_root ∙ ap Some reaches.1) at
+  reaches_path root a (suc n) p v at_root at reaches =
+      let before = vertex_placed reaches.0 (are.ends reaches.0 v reaches.2).0 in
+      (before.0, reaches_path root a n before.0 reaches.0 at_root before.1 reaches.1, arc_linked before.0 p reaches.0 v reaches.2 before.1 at)
+
+  -- the distance at a place is the vertex's
+  distance_right : (root a p v n : ℕ) (distances : List ℕ) → slice_get vertices root ≡ Some a → slice_get vertices p ≡ Some v → slice_get distances p ≡ Some n → IsSearched (HasLink rows vertices) root (length vertices) distances → IsDistance g a v n
+  distance_right root a p v n distances at_root at is searched = ⊎_elim
+      (λ none. inr ((λ vs walk. (let within = searched.least (length vs) p (reaches_path root a (length vs) p v at_root at (walk_reaches g a v vs walk)) in within.walked (same_Some within.found NO_WALK (sym within.distance ∙ is ∙ ap Some none)))), none))
+      (λ walked. inl (record {
+        attained = reaches_walk g a n v (path_reaches root a n p v at_root at (searched.sound p n is walked));
+        least = λ vs walk. (let within = searched.least (length vs) p (reaches_path root a (length vs) p v at_root at (walk_reaches g a v vs walk)) in let same = same_Some within.found n (sym within.distance ∙ is) in let bound = within.bound in omega arith);
+      }))
+      (cases_eq n NO_WALK)
+
+  -- the vertices are the graph's
+  pub all_vertices : vertices ≡ vertices_of g
+  all_vertices = sorted_items g vertices index.ids.rise (λ v. same_tests _ _
+      (λ any. let place = place_from_any vertices v any in placed_vertex place.0 v place.1)
+      (λ is. let place = vertex_placed v is in any_at vertices v place.0 place.1))
+
+  pub table_right : (root a : ℕ) (distances : List ℕ) (entries : List Entry) → slice_get vertices root ≡ Some a → IsSearched (HasLink rows vertices) root (length vertices) distances → AreEntries vertices distances entries → IsBfs g a entries
+  table_right root a distances entries at_root searched listed = record {
+    vertices = listed.listed ∙ all_vertices;
+    values = λ i e is. (let each = listed.each i e is in subst (IsBfsValue g a e.vertex) (sym each.3) (distance_right root a i e.vertex each.0 distances at_root each.1 each.2 searched));
+  }
