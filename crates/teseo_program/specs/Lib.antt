@@ -1,0 +1,6 @@
+pub mod Words
+pub mod Names
+pub mod Sources
+pub mod Said
+pub mod Outputs
+pub mod OutputsHeld

@@ -1,0 +1,7 @@
+//! The top call: from the words to the written files.
+#![tactic(auto)]
+
+mod ending;
+mod outputs;
+mod sources;
+mod words;
