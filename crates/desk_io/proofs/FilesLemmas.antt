@@ -1,7 +1,7 @@
 -- What calls of a desk leave, one after another
 use Rattle.std.proofs.Common.{◌≡◌, ◌∙◌, ◌+◌, ◌≤◌, ℕ, List, ◌++◌, length, take, Option, Some, None, IfSome, IsSome, refl, ap, arith, length-append, length-take}
 use Rattle.std.proofs.Math.Seq.{take-add}
-use Rattle.desk_io.specs.Files.{Files, ChangesOnly, Gives, IsWritten, IsFront, and_then}
+use Rattle.desk_io.specs.Files.{Files, ChangesOnly, Gives, IsWritten, IsFront, with_piece}
 
 -- two changes of one name are one
 pub ChangesOnly-trans : (name : List ℕ) (old mid new : Files) → ChangesOnly name old mid → ChangesOnly name mid new → ChangesOnly name old new
@@ -14,20 +14,20 @@ ChangesOnly-trans name old mid new first second = record {
 }
 
 -- a piece behind a text that is told
-whole-and_then : (before after : Option (List ℕ)) (text piece : List ℕ) → after ≡ and_then before piece → IfSome before (λ told. told ≡ text) → IfSome after (λ told. told ≡ text ++ piece)
-whole-and_then None after text piece e whole = rw e tt
-whole-and_then (Some told) after text piece e whole = rw e (ap (λ front. front ++ piece) whole)
+whole-with_piece : (before after : Option (List ℕ)) (text piece : List ℕ) → after ≡ with_piece before piece → IfSome before (λ told. told ≡ text) → IfSome after (λ told. told ≡ text ++ piece)
+whole-with_piece None after text piece e whole = rw e tt
+whole-with_piece (Some told) after text piece e whole = rw e (ap (λ front. front ++ piece) whole)
 
 -- a text with a piece behind it is told where the text is
-told-and_then : (before after : Option (List ℕ)) (piece : List ℕ) → after ≡ and_then before piece → IsSome before → IsSome after
-told-and_then None after piece e told = absurd (cc)
-told-and_then (Some text) after piece e told = rw e told
+told-with_piece : (before after : Option (List ℕ)) (piece : List ℕ) → after ≡ with_piece before piece → IsSome before → IsSome after
+told-with_piece None after piece e told = absurd (cc)
+told-with_piece (Some text) after piece e told = rw e told
 
 -- a piece that is written behind a text that is written
-pub IsWritten-append : (old new : Files) (name text piece : List ℕ) → IsWritten old name text → new.written name ≡ and_then (old.written name) piece → new.tells ≡ old.tells → IsWritten new name (text ++ piece)
+pub IsWritten-append : (old new : Files) (name text piece : List ℕ) → IsWritten old name text → new.written name ≡ with_piece (old.written name) piece → new.tells ≡ old.tells → IsWritten new name (text ++ piece)
 IsWritten-append old new name text piece is e tells = record {
-  whole = whole-and_then (old.written name) (new.written name) text piece e is.whole;
-  told = λ does. told-and_then (old.written name) (new.written name) piece e (is.told (rw (← tells) does));
+  whole = whole-with_piece (old.written name) (new.written name) text piece e is.whole;
+  told = λ does. told-with_piece (old.written name) (new.written name) piece e (is.told (rw (← tells) does));
 }
 
 -- bytes that a read gives behind the front of a source

@@ -65,9 +65,9 @@ pub record Gives (source : List ℕ) (at : ℕ) (buffer : List ℕ) (count : ℕ
   pub end : count ≡ 0 → 0 < length buffer → length source ≤ at
 
 -- the text with a piece after it, where the text is told
-abbrev pub and_then : Option (List ℕ) → List ℕ → Option (List ℕ)
-and_then None piece = None
-and_then (Some text) piece = Some (text ++ piece)
+abbrev pub with_piece : Option (List ℕ) → List ℕ → Option (List ℕ)
+with_piece None piece = None
+with_piece (Some text) piece = Some (text ++ piece)
 
 -- what was written under the name is this text, where it is told, and a desk that tells tells it
 pub record IsWritten (files : Files) (name text : List ℕ) : Type 0 where

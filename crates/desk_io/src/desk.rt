@@ -3,7 +3,7 @@
 //! What is known of a desk is its ghost member `files`. A desk may tell the contents of its files,
 //! as one in memory does, or tell none of them, as one over real files.
 ghost use Rattle.std.specs.Prelude.{◌≡◌, ◌<◌, ◌≤◌, [], ◌++◌, length, take, IsNone, IfSome, IfNone, IfOk, OnOk, OnErr};
-ghost use Rattle.desk_io.specs.Files.{Files, Gives, IsThere, ReadFails, WriteFails, ChangesOnly, IsWritten, and_then};
+ghost use Rattle.desk_io.specs.Files.{Files, Gives, IsThere, ReadFails, WriteFails, ChangesOnly, IsWritten, with_piece};
 
 use thiserror::Error;
 
@@ -38,7 +38,7 @@ pub trait Desk {
         ensures bound { IfOk result (λ count. count ≤ length bytes.now) }
         ensures some { IfOk result (λ count. 0 < length bytes.now → 0 < count) }
         ensures appended { IfOk result (λ count. (files self.new).written name.now
-            ≡ and_then ((files self.old).written name.now) (take count bytes.now)) }
+            ≡ with_piece ((files self.old).written name.now) (take count bytes.now)) }
         ensures ok { OnOk result ((files self.new).write_faults ≡ (files self.old).write_faults) }
         ensures others { ChangesOnly name.now (files self.old) (files self.new) }
         ensures err { OnErr result (WriteFails (files self.old) (files self.new)) };

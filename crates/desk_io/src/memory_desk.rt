@@ -1,6 +1,6 @@
 //! A desk in memory, for tests.
 ghost use Rattle.std.specs.Prelude.{◌≡◌, ◌≢◌, ◌⊎◌, ◌++◌, ◌+◌, ◌-◌, ◌<◌, ◌≤◌, [], length, min, take, false, option_copied, option_map, IsTrue, IsSome, IsNone, IsOk, IsErr, IfSome, IfNone, IfOk, OnOk, OnErr, Contains, Some, None};
-ghost use Rattle.desk_io.specs.Files.{Gives, IsThere, ReadFails, WriteFails, ChangesOnly, IsWritten, and_then};
+ghost use Rattle.desk_io.specs.Files.{Gives, IsThere, ReadFails, WriteFails, ChangesOnly, IsWritten, with_piece};
 ghost use Rattle.desk_io.specs.MemoryDesk.{files_of, texts_of, failing_calls, next_call, fails_now, file_count, Counts};
 
 use crate::desk::{Desk, Failed};
@@ -172,7 +172,7 @@ impl Desk for MemoryDesk {
         ensures bound { IfOk result (λ count. count ≤ length bytes.now) }
         ensures some { IfOk result (λ count. 0 < length bytes.now → 0 < count) }
         ensures appended { IfOk result (λ count. (files_of self.new).written name.now
-            ≡ and_then ((files_of self.old).written name.now) (take count bytes.now)) }
+            ≡ with_piece ((files_of self.old).written name.now) (take count bytes.now)) }
         ensures ok { OnOk result
             ((files_of self.new).write_faults ≡ (files_of self.old).write_faults) }
         ensures others { ChangesOnly name.now (files_of self.old) (files_of self.new) }
@@ -248,7 +248,7 @@ fn append(
 ) -> Result<(), Failed>
     ensures there { OnOk result (IsSome (texts_of files.old name.now)) }
     ensures put { OnOk result (texts_of files.new name.now
-        ≡ and_then (texts_of files.old name.now) bytes.now) }
+        ≡ with_piece (texts_of files.old name.now) bytes.now) }
     ensures others { (other : _) → other ≢ name.now
         → texts_of files.new other ≡ texts_of files.old other }
     ensures err { OnErr result (texts_of files.new ≡ texts_of files.old) }

@@ -4,3 +4,4 @@ pub mod QueueLemmas
 pub mod VisitLemmas
 pub mod EntryLemmas
 pub mod TableLemmas
+pub mod LiteralGraphs

@@ -1,26 +1,23 @@
 -- From places to vertices: the table is the graph's.
-use Rattle.std.proofs.Common.{◌≡◌, ℕ, zero, suc, ◌+◌, ◌-◌, ◌<◌, ◌≤◌, ◌⊎◌, inl, inr, ⊎_elim, List, [], ◌∷◌, Bool, true, false, cond, ◌==◌, length, get_or, map, slice_get, Option, Some, None, is_some, IsTrue, refl, sym, ap, ◌∙◌, subst, arith}
+use Rattle.std.proofs.Common.{◌≡◌, ℕ, zero, suc, ◌+◌, ◌-◌, ◌<◌, ◌≤◌, inl, inr, ⊎_elim, List, Bool, true, false, cond, ◌==◌, length, get_or, slice_get, Option, Some, None, is_some, IsTrue, refl, sym, ap, ◌∙◌, subst, arith}
 use Rattle.std.specs.List.{list_any}
-use Rattle.std.proofs.lemmas.Bool.{cases_Bool, cases_eq, cases_lt, eq-eqb, eqb-true, ne_eqb}
+use Rattle.std.proofs.lemmas.Bool.{cases_eq, eq-eqb, eqb-true, ne_eqb}
 use Rattle.std.proofs.lemmas.Bool.Decides.{nat_tests}
 use Rattle.std.proofs.lemmas.List.Folds.{list_any_at, Any-from_list_any}
-use Rattle.std.proofs.lemmas.Option.{get_or_from_slice_get, same_Some, none-some, slice_get_within, slice_get-get_or, cond_some}
+use Rattle.std.proofs.lemmas.Option.{get_or_from_slice_get, same_Some, slice_get_within, slice_get-get_or, cond_some}
 use Rattle.graph_model.specs.declared.limits.TheConstants.{NO_WALK}
 use Rattle.graph_model.specs.declared.row.Key.{Key}
 use Rattle.graph_model.specs.declared.row.Row.{Row}
 use Rattle.graph_model.specs.declared.table.Entry.{Entry}
-use Rattle.graph_model.specs.declared.table.Value.{Value}
-use Rattle.graph_model.specs.declared.table.Value.TheVariants.{Number}
 use Rattle.graph_model.specs.Graph.{Graph, has_vertex, has_arc, weight_of, vertices_of}
 use Rattle.graph_model.specs.Rows.{AreRowsOf, is_below, value_at, vertex_key, arc_key}
-use Rattle.graph_model.specs.Walks.{IsWalk, IsUnreached, IsLeastLength, IsDistance, Reaches}
-use Rattle.graph_model.specs.Tables.{IsTable, IsBfsValue, IsBfs}
+use Rattle.graph_model.specs.Walks.{IsDistance, Reaches}
+use Rattle.graph_model.specs.Tables.{IsBfsValue, IsBfs}
 use Rattle.graph_model.proofs.RowLemmas.{rows_rise, row_is, row_at}
 use Rattle.graph_model.proofs.WalkLemmas.{walk_reaches, reaches_walk}
 use Rattle.graph_model.proofs.ItemLemmas.{sorted_items}
-use Rattle.kernel_bfs.specs.Places.{KeysRise, IdsRise, IsIndex, HasLink}
-use Rattle.kernel_bfs.specs.Search.{HasPath, IsWithin, IsSearched, AreEntries}
-use Rattle.kernel_bfs.proofs.Lists.{get_within}
+use Rattle.kernel_bfs.specs.Places.{KeysRise, IsIndex, HasLink}
+use Rattle.kernel_bfs.specs.Search.{HasPath, IsSearched, AreEntries}
 use Rattle.kernel_bfs.proofs.PlaceLemmas.{same_place}
 
 -- what a lower key says of its two numbers

@@ -1,5 +1,5 @@
 -- The arcs of one vertex, from row to row.
-use Rattle.std.proofs.Common.{◌≡◌, ℕ, ◌+◌, ◌-◌, ◌<◌, ◌≤◌, ◌⊎◌, inl, inr, ⊎_elim, List, length, get_or, slice_get, Option, Some, refl, sym, ap, ◌∙◌, subst, arith}
+use Rattle.std.proofs.Common.{◌≡◌, ℕ, ◌+◌, ◌-◌, ◌<◌, ◌≤◌, ◌⊎◌, inl, inr, ⊎_elim, List, length, get_or, slice_get, Some, refl, sym, ap, ◌∙◌, subst, arith}
 use Rattle.std.proofs.lemmas.Bool.{cases_lt, cases_order}
 use Rattle.std.proofs.lemmas.Option.{same_Some, slice_get_within, slice_get_read, slice_get-get_or}
 use Rattle.graph_model.specs.declared.row.Row.{Row}
@@ -7,7 +7,7 @@ use Rattle.graph_model.specs.Rows.{vertex_key}
 use Rattle.kernel_bfs.specs.Places.{KeysRise, IdsRise, IsIndex, HasLink}
 use Rattle.kernel_bfs.specs.Search.{IsWithin, IsQueue, IsReach}
 use Rattle.kernel_bfs.proofs.PlaceLemmas.{below_cases, same_place}
-use Rattle.kernel_bfs.proofs.QueueLemmas.{Reached, after_reach, next_head}
+use Rattle.kernel_bfs.proofs.QueueLemmas.{after_reach, next_head}
 
 -- the place at the head is being visited: its rows from the start on have been read up to one
 pub record IsVisit (rows : List Row) (vertices : List ℕ) (root : ℕ) (distances queue : List ℕ) (head place d id start at : ℕ) : Type 0 where

@@ -1,6 +1,6 @@
 //! The table of a search.
 
-ghost use Rattle.std.specs.Prelude.{◌≡◌, ℕ, false, length, IfOk, IsTrue};
+ghost use Rattle.std.specs.Prelude.{◌≡◌, ℕ, false, length, map, min, IfOk, IsTrue};
 ghost use Rattle.graph_model.specs.Graph.{Graph, has_vertex};
 ghost use Rattle.graph_model.specs.Rows.{AreRowsOf};
 ghost use Rattle.graph_model.specs.Tables.{IsBfs};
@@ -26,9 +26,9 @@ fn entries_of(alloc: Global, index: &Index, distances: &[u64]) -> Result<Vec<Ent
     Ok(entries)
 }
 
-/// Breadth-first search from a root: each vertex in rising order with the least number of arcs of a
-/// walk that leads there from the root. Takes time in proportion to the rows, and besides, where the
-/// ids aren't consecutive, a binary search for each arc. No clause speaks of want of memory.
+/// Breadth-first search from a root: each vertex in rising order, with the least number of arcs of a
+/// walk that leads there from the root, or NO_WALK (LDBC Graphalytics, BFS). No clause speaks of
+/// want of memory.
 pub fn run(alloc: Global, rows: &[Row], root: u64) -> Result<Table, KernelRefusal>
     requires { (g : Graph) × AreRowsOf rows.now g }
     ensures table { IfOk result (λ table. (g : Graph) → AreRowsOf rows.now g → IsTrue (has_vertex g root) × IsBfs g root table) }
@@ -48,5 +48,118 @@ pub fn run(alloc: Global, rows: &[Row], root: u64) -> Result<Table, KernelRefusa
     match entries_of(alloc, &index, &distances) {
         Ok(entries) => Ok(Table::from_vec(entries)),
         Err(_) => Err(KernelRefusal::NoMemory),
+    }
+}
+
+#[cfg(test)]
+mod tests {
+    use super::*;
+    use graph_model::{Key, NO_WALK};
+    use std::process::Abort;
+    use std::test::Fail;
+
+    /// The rows of these keys, where each arc has the weight 1.
+    fn rows_of(alloc: Global, keys: &[(u64, u64)]) -> Result<Vec<Row>, AllocError>
+        ensures { IfOk result (λ rows. rows.items ≡ map (λ k. record { key = record { src = k.0; second = k.1 }; weight = min k.1 1 }) keys.now) }
+    {
+        keys.iter()
+            .map(|key| Row {
+                key: Key {
+                    src: key.0,
+                    second: key.1,
+                },
+                weight: key.1.min(1),
+            })
+            .collect(alloc)
+    }
+
+    /// Asserts that a search gives these distances, or that the root isn't a vertex.
+    fn check(
+        rt: &impl Abort,
+        alloc: Global,
+        rows: &[Row],
+        root: u64,
+        want: Option<&[(u64, u64)]>,
+    ) -> Result<(), Fail>
+        requires { (g : Graph) × AreRowsOf rows.now g }
+    {
+        match run(alloc, rows, root) {
+            Ok(table) => {
+                let want = want.ok_or("a root that isn't a vertex")?;
+                let entries = table.as_slice();
+                assert_eq!(rt; entries.len(), want.len(), "the vertices from {root}");
+                for (entry, pair) in entries.iter().zip(want) {
+                    assert_eq!(rt; entry.vertex, pair.0, "a vertex from {root}");
+                    assert_eq!(rt; entry.value, Value::Number { n: pair.1 }, "from {root}");
+                }
+            }
+            Err(KernelRefusal::NoRoot) => assert!(rt; want.is_none(), "the root {root}"),
+            Err(e) => return Err(Fail::from(e)),
+        }
+        Ok(())
+    }
+
+    #[test]
+    fn each_vertex_has_its_least_number_of_arcs(rt: HostRuntime) -> Result<(), Fail> {
+        let alloc = rt.alloc();
+        let path = rows_of(
+            alloc,
+            &[
+                (1, 0),
+                (1, 3),
+                (2, 0),
+                (2, 2),
+                (2, 4),
+                (3, 0),
+                (3, 3),
+                (4, 0),
+            ],
+        )?;
+        check(
+            &rt,
+            alloc,
+            &path,
+            1,
+            Some(&[(1, 0), (2, 1), (3, 2), (4, NO_WALK)]),
+        )?;
+        check(
+            &rt,
+            alloc,
+            &path,
+            4,
+            Some(&[(1, NO_WALK), (2, NO_WALK), (3, NO_WALK), (4, 0)]),
+        )?;
+        check(&rt, alloc, &path, 9, None)
+    }
+
+    #[test]
+    fn an_arc_leads_one_way(rt: HostRuntime) -> Result<(), Fail> {
+        let alloc = rt.alloc();
+        let triangle = rows_of(alloc, &[(1, 0), (1, 3), (2, 0), (2, 4), (3, 0), (3, 2)])?;
+        check(&rt, alloc, &triangle, 2, Some(&[(1, 2), (2, 0), (3, 1)]))
+    }
+
+    #[test]
+    fn ids_may_lie_far_apart(rt: HostRuntime) -> Result<(), Fail> {
+        let alloc = rt.alloc();
+        let sparse = rows_of(
+            alloc,
+            &[
+                (5, 0),
+                (5, 1000001),
+                (1000000, 0),
+                (1000000, 9223372036854775807),
+                (9223372036854775806, 0),
+                (9223372036854775806, 6),
+            ],
+        )?;
+        check(
+            &rt,
+            alloc,
+            &sparse,
+            1000000,
+            Some(&[(5, 2), (1000000, 0), (9223372036854775806, 1)]),
+        )?;
+        check(&rt, alloc, &[], 5, None)
     }
 }

@@ -1,5 +1,5 @@
 -- What a line is answered on a graph: reads, kernels and refused writes by the graph alone.
-use Rattle.std.specs.Prelude.{◌≡◌, ℕ, ◌+◌, ◌-◌, Bool, cond, nat_lt, List, map, length, count_by, Option, Some, None}
+use Rattle.std.specs.Prelude.{◌≡◌, ℕ, ◌+◌, ◌-◌, ◌/◌, cond, List, map, length, Option, Some, None}
 use Rattle.std.specs.FinMap as fin_map
 use Rattle.graph_model.specs.declared.write.Kind.{Kind}
 use Rattle.graph_model.specs.declared.write.Kind.TheVariants.{Directed, Undirected}
@@ -34,10 +34,10 @@ weight_answer None = answers.Nothing
 abbrev pub targets_of : Graph → ℕ → List ℕ
 targets_of g v = map (λ r. r.key.second - 1) (rows g (record { src = v; second = 1 }) (record { src = v + 1; second = 0 }))
 
--- an undirected edge counts once
+-- an undirected edge is two arcs, and counts once
 abbrev pub edges_in : Kind → Graph → ℕ
 edges_in Directed g = fin_map.len g.arcs
-edges_in Undirected g = count_by (λ arc. nat_lt arc.0 arc.1) (fin_map.keys g.arcs)
+edges_in Undirected g = fin_map.len g.arcs / 2
 
 -- where the vertex is there, the answer, else that it isn't
 abbrev pub at_vertex : Graph → ℕ → Answer → Answer

@@ -1,3 +1,4 @@
 pub mod WordLemmas
 pub mod OutputLemmas
 pub mod HeldLemmas
+pub mod InputLemmas

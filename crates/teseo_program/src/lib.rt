@@ -2,6 +2,7 @@
 #![tactic(auto)]
 
 mod ending;
+mod input;
 mod outputs;
 mod sources;
 mod words;

@@ -1,4 +1,4 @@
-use Rattle.std.proofs.Common.{ℕ, length, arith, ◌<◌, ◌≤◌, ◌≡◌, ◌∙◌, ap, ◌++◌, ◌∷◌, [], replicate}
+use Rattle.std.proofs.Common.{length, arith, ◌<◌, ◌≤◌, ◌≡◌, ◌∙◌, ap, ◌++◌, ◌∷◌, []}
 use Rattle.graph_model.specs.declared.limits.TheConstants.{NO_WALK}
 use Rattle.kernel_bfs.specs.Places.{HasLink}
 use Rattle.kernel_bfs.proofs.QueueLemmas.{queue_begun}

@@ -1,4 +1,4 @@
-use Rattle.std.proofs.Common.{ℕ, ap, ◌∙◌, sym, subst, refl, length, ◌+◌, ◌≡◌}
+use Rattle.std.proofs.Common.{ℕ, ap, ◌∙◌, sym, subst, refl, ◌+◌}
 use Rattle.kernel_bfs.specs.declared.search.Search.{Search}
 use Rattle.kernel_bfs.proofs.VisitLemmas.{IsVisit, visit_none, visit_found, visit_absent, visit_past, visit_other}
 use Rattle.kernel_bfs.proofs.search.Search.visit.Goals as goal

@@ -1,0 +1,10 @@
+use Rattle.std.proofs.Common.{◌≡◌, ◌++◌, map, take}
+use Rattle.graph_model.specs.declared.write.Write.TheVariants.{AddVertex}
+use Rattle.first_load.specs.Load.{added_edge}
+use Rattle.first_load.proofs.load.load_writes.Given as goal
+
+abbrev pub invariant-ids : goal.invariant-ids
+invariant-ids l = l.writes.items ≡ map AddVertex (take l.v-index l.v-items)
+
+abbrev pub invariant-edges : goal.invariant-edges
+invariant-edges l = l.writes.items ≡ map AddVertex l.ids ++ map added_edge (take l.edge-index l.edge-items)

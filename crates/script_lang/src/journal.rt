@@ -1,0 +1,103 @@
+//! The journal's text.
+
+ghost use Rattle.std.specs.Prelude.{◌≡◌, ◌++◌, codes, OnOk, OnErr};
+ghost use Rattle.run_model.specs.Texts.{field, name_text, write_text, writes_text, commit_text, journal_text};
+ghost use Rattle.graphalytics_io.specs.Appends.{Extends};
+
+use crate::pieces::{write_counted, write_field, write_named};
+use graph_model::{Commit, Journal, NoMemory, Write};
+use graphalytics_io::Text;
+
+/// Writes a journal at the end of a text: a line for each commit, and one for each of its writes. Without
+/// memory nothing is written. Takes no memory but the text's own.
+pub fn write_journal(journal: &Journal, text: &mut Text) -> Result<(), NoMemory>
+    ensures ok { OnOk result (text.new ≡ text.old ++ journal_text journal.now) }
+    ensures err { OnErr result (text.new ≡ text.old) }
+{
+    let before = text.len();
+    match write_commits(journal.as_slice(), text) {
+        Ok(()) => Ok(()),
+        Err(refusal) => {
+            text.truncate(before);
+            Err(refusal)
+        }
+    }
+}
+
+/// Writes commits. Without memory the text may have some of them.
+fn write_commits(commits: &[Commit], text: &mut Text) -> Result<(), NoMemory>
+    ensures ok { OnOk result (text.new ≡ text.old ++ journal_text commits.now) }
+    ensures err { OnErr result (Extends text.old text.new) }
+{
+    'commits: for commit in commits {
+        match write_commit(commit, text) {
+            Ok(()) => {}
+            Err(refusal) => return Err(refusal),
+        }
+    }
+    Ok(())
+}
+
+/// Writes a commit. Without memory the text may have a part of it.
+fn write_commit(commit: &Commit, text: &mut Text) -> Result<(), NoMemory>
+    ensures ok { OnOk result (text.new ≡ text.old ++ commit_text commit.now) }
+    ensures err { OnErr result (Extends text.old text.new) }
+{
+    write_counted(b"commit", commit.stamp, text)?;
+    write_counted(b" start", commit.start, text)?;
+    write_named(b" by ", commit.by, text)?;
+    text.push_bytes(b"\n")?;
+    write_writes(commit.writes.as_slice(), text)
+}
+
+/// Writes the writes of a commit. Without memory the text may have some of them.
+fn write_writes(writes: &[Write], text: &mut Text) -> Result<(), NoMemory>
+    ensures ok { OnOk result (text.new ≡ text.old ++ writes_text writes.now) }
+    ensures err { OnErr result (Extends text.old text.new) }
+{
+    'writes: for write in writes {
+        match write_line(*write, text) {
+            Ok(()) => {}
+            Err(refusal) => return Err(refusal),
+        }
+    }
+    Ok(())
+}
+
+/// Writes a write and a line feed. Without memory the text may have a part of it.
+fn write_line(write: Write, text: &mut Text) -> Result<(), NoMemory>
+    ensures ok { OnOk result (text.new ≡ text.old ++ write_text write ++ codes "\n") }
+    ensures err { OnErr result (Extends text.old text.new) }
+{
+    write_change(write, text)?;
+    text.push_bytes(b"\n")
+}
+
+/// Writes a write, without its line feed. Without memory the text may have a part of it.
+fn write_change(write: Write, text: &mut Text) -> Result<(), NoMemory>
+    ensures ok { OnOk result (text.new ≡ text.old ++ write_text write) }
+    ensures err { OnErr result (Extends text.old text.new) }
+{
+    match write {
+        Write::AddVertex { v } => write_counted(b"vertex", v, text),
+        Write::DropVertex { v } => write_counted(b"unvertex", v, text),
+        Write::AddEdge { u, v, weight } => {
+            write_ends(b"edge", u, v, text)?;
+            write_field(weight, text)
+        }
+        Write::SetEdge { u, v, weight } => {
+            write_ends(b"set", u, v, text)?;
+            write_field(weight, text)
+        }
+        Write::DropEdge { u, v } => write_ends(b"drop", u, v, text),
+    }
+}
+
+/// Writes a word, and the ends of an edge. Without memory the text may have a part of it.
+fn write_ends(word: &[u8], u: u64, v: u64, text: &mut Text) -> Result<(), NoMemory>
+    ensures ok { OnOk result (text.new ≡ text.old ++ (word.now ++ field u ++ field v)) }
+    ensures err { OnErr result (Extends text.old text.new) }
+{
+    write_counted(word, u, text)?;
+    write_field(v, text)
+}

@@ -1,0 +1,37 @@
+//! Parts of lines that reports and the journal share.
+
+ghost use Rattle.std.specs.Prelude.{◌≡◌, ◌++◌, OnOk, OnErr};
+ghost use Rattle.run_model.specs.Texts.{field, name_text};
+ghost use Rattle.graphalytics_io.specs.Appends.{Extends};
+
+use graph_model::{NoMemory, TxnName};
+use graphalytics_io::Text;
+
+/// Writes a number behind a blank. Without memory the text may have a part of it.
+pub(crate) fn write_field(n: u64, text: &mut Text) -> Result<(), NoMemory>
+    ensures ok { OnOk result (text.new ≡ text.old ++ field n) }
+    ensures err { OnErr result (Extends text.old text.new) }
+{
+    text.push_bytes(b" ")?;
+    text.push_number(n)
+}
+
+/// Writes a word, and a number behind a blank. Without memory the text may have a part of it.
+pub(crate) fn write_counted(word: &[u8], n: u64, text: &mut Text) -> Result<(), NoMemory>
+    ensures ok { OnOk result (text.new ≡ text.old ++ (word.now ++ field n)) }
+    ensures err { OnErr result (Extends text.old text.new) }
+{
+    text.push_bytes(word)?;
+    write_field(n, text)
+}
+
+/// Writes a word, and a transaction's name. Without memory the text may have a part of it.
+pub(crate) fn write_named(word: &[u8], name: TxnName, text: &mut Text) -> Result<(), NoMemory>
+    ensures ok { OnOk result (text.new ≡ text.old ++ (word.now ++ name_text name)) }
+    ensures err { OnErr result (Extends text.old text.new) }
+{
+    text.push_bytes(word)?;
+    text.push_number(name.job as u64)?;
+    text.push_bytes(b".")?;
+    text.push_number(name.number as u64)
+}

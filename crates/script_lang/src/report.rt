@@ -1,0 +1,138 @@
+//! Reports.
+
+ghost use Rattle.std.specs.Prelude.{◌≡◌, ◌++◌, codes, length, OnOk, OnErr};
+ghost use Rattle.std.specs.List.{flat_map};
+ghost use Rattle.run_model.specs.Texts.{field, name_text, cause_text, commit_answer_text, answer_text, report_text};
+ghost use Rattle.graphalytics_io.specs.Appends.{Extends};
+
+use crate::pieces::{write_counted, write_field, write_named};
+use graph_model::{Cause, Ids, NoMemory, TxnName};
+use graphalytics_io::Text;
+use run_model::{Answer, Answers};
+
+/// Writes a report at the end of a text: a line for each answer. Without memory nothing is written.
+pub fn write_report(answers: &Answers, text: &mut Text) -> Result<(), NoMemory>
+    ensures ok { OnOk result (text.new ≡ text.old ++ report_text answers.now) }
+    ensures err { OnErr result (text.new ≡ text.old) }
+{
+    let before = text.len();
+    match write_lines(answers.as_slice(), text) {
+        Ok(()) => Ok(()),
+        Err(refusal) => {
+            text.truncate(before);
+            Err(refusal)
+        }
+    }
+}
+
+/// Writes the lines of a report. Without memory the text may have some of them.
+fn write_lines(answers: &[Answer], text: &mut Text) -> Result<(), NoMemory>
+    ensures ok { OnOk result (text.new ≡ text.old ++ report_text answers.now) }
+    ensures err { OnErr result (Extends text.old text.new) }
+{
+    'lines: for answer in answers {
+        match write_line(answer, text) {
+            Ok(()) => {}
+            Err(refusal) => return Err(refusal),
+        }
+    }
+    Ok(())
+}
+
+/// Writes an answer and a line feed. Without memory the text may have a part of it.
+fn write_line(answer: &Answer, text: &mut Text) -> Result<(), NoMemory>
+    ensures ok { OnOk result (text.new ≡ text.old ++ answer_text answer.now ++ codes "\n") }
+    ensures err { OnErr result (Extends text.old text.new) }
+{
+    write_answer(answer, text)?;
+    text.push_bytes(b"\n")
+}
+
+/// Writes an answer, without its line feed. Without memory the text may have a part of it.
+fn write_answer(answer: &Answer, text: &mut Text) -> Result<(), NoMemory>
+    ensures ok { OnOk result (text.new ≡ text.old ++ answer_text answer.now) }
+    ensures err { OnErr result (Extends text.old text.new) }
+{
+    match answer {
+        Answer::Begun { by, start } => write_begun(*by, *start, text),
+        Answer::Done => text.push_bytes(b"ok"),
+        Answer::Exists => text.push_bytes(b"exists"),
+        Answer::SelfLoop => text.push_bytes(b"self loop"),
+        Answer::NoVertex { v } => write_counted(b"no vertex", *v, text),
+        Answer::NoEdge => text.push_bytes(b"no edge"),
+        Answer::HasEdges => text.push_bytes(b"has edges"),
+        Answer::Conflict { cause } => write_cause(cause, text),
+        Answer::Full => text.push_bytes(b"full"),
+        Answer::Weight { weight } => write_counted(b"weight", *weight, text),
+        Answer::Nothing => text.push_bytes(b"none"),
+        Answer::Neighbours { targets } => write_neighbours(targets, text),
+        Answer::Counted { vertices, edges } => write_counts(*vertices, *edges, text),
+        Answer::Table { entries } => write_counted(b"table", *entries, text),
+        Answer::Committed { stamp } => write_committed(*stamp, text),
+        Answer::Aborted => text.push_bytes(b"aborted"),
+        Answer::Skipped => text.push_bytes(b"skipped"),
+    }
+}
+
+/// Writes the answer to a `begin`. Without memory the text may have a part of it.
+fn write_begun(by: TxnName, start: u64, text: &mut Text) -> Result<(), NoMemory>
+    ensures ok { OnOk result (text.new ≡ text.old ++ (codes "begin " ++ name_text by ++ codes " start" ++ field start)) }
+    ensures err { OnErr result (Extends text.old text.new) }
+{
+    write_named(b"begin ", by, text)?;
+    write_counted(b" start", start, text)
+}
+
+/// Writes what a conflict was met with. Without memory the text may have a part of it.
+fn write_cause(cause: &Cause, text: &mut Text) -> Result<(), NoMemory>
+    ensures ok { OnOk result (text.new ≡ text.old ++ cause_text cause.now) }
+    ensures err { OnErr result (Extends text.old text.new) }
+{
+    match cause {
+        Cause::Later { stamp } => write_counted(b"conflict later", *stamp, text),
+        Cause::Holder { by } => write_named(b"conflict open ", *by, text),
+    }
+}
+
+/// Writes how many targets there are, and each. Without memory the text may have a part of it.
+fn write_neighbours(targets: &Ids, text: &mut Text) -> Result<(), NoMemory>
+    ensures ok { OnOk result (text.new ≡ text.old ++ (codes "neighbours" ++ field (length targets.now) ++ flat_map field targets.now)) }
+    ensures err { OnErr result (Extends text.old text.new) }
+{
+    write_counted(b"neighbours", targets.len() as u64, text)?;
+    write_fields(targets.as_slice(), text)
+}
+
+/// Writes numbers, each behind a blank. Without memory the text may have some of them.
+fn write_fields(numbers: &[u64], text: &mut Text) -> Result<(), NoMemory>
+    ensures ok { OnOk result (text.new ≡ text.old ++ flat_map field numbers.now) }
+    ensures err { OnErr result (Extends text.old text.new) }
+{
+    'numbers: for n in numbers {
+        match write_field(*n, text) {
+            Ok(()) => {}
+            Err(refusal) => return Err(refusal),
+        }
+    }
+    Ok(())
+}
+
+/// Writes how many vertices and edges there are. Without memory the text may have a part of it.
+fn write_counts(vertices: u64, edges: u64, text: &mut Text) -> Result<(), NoMemory>
+    ensures ok { OnOk result (text.new ≡ text.old ++ (codes "vertices" ++ field vertices ++ codes " edges" ++ field edges)) }
+    ensures err { OnErr result (Extends text.old text.new) }
+{
+    write_counted(b"vertices", vertices, text)?;
+    write_counted(b" edges", edges, text)
+}
+
+/// Writes the answer to a `commit`. Without memory the text may have a part of it.
+fn write_committed(stamp: Option<u64>, text: &mut Text) -> Result<(), NoMemory>
+    ensures ok { OnOk result (text.new ≡ text.old ++ commit_answer_text stamp) }
+    ensures err { OnErr result (Extends text.old text.new) }
+{
+    match stamp {
+        Some(stamp) => write_counted(b"commit", stamp, text),
+        None => text.push_bytes(b"commit -"),
+    }
+}
