@@ -2,3 +2,5 @@ pub mod WordLemmas
 pub mod OutputLemmas
 pub mod HeldLemmas
 pub mod InputLemmas
+pub mod RunLemmas
+pub mod RanLemmas

@@ -3,6 +3,7 @@ pub mod Names
 pub mod Sources
 pub mod Input
 pub mod InputHeld
+pub mod Ran
 pub mod Said
 pub mod Outputs
 pub mod OutputsHeld

@@ -4,5 +4,6 @@
 mod ending;
 mod input;
 mod outputs;
+mod run;
 mod sources;
 mod words;
