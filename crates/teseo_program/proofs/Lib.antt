@@ -4,3 +4,5 @@ pub mod HeldLemmas
 pub mod InputLemmas
 pub mod RunLemmas
 pub mod RanLemmas
+pub mod CountLemmas
+pub mod NameLemmas

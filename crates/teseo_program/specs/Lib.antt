@@ -7,3 +7,6 @@ pub mod Ran
 pub mod Said
 pub mod Outputs
 pub mod OutputsHeld
+pub mod Sinks
+pub mod TextsHeld
+pub mod Ends

@@ -6,4 +6,5 @@ mod input;
 mod outputs;
 mod run;
 mod sources;
+mod texts;
 mod words;
