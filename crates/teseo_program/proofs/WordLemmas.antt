@@ -1,7 +1,9 @@
 -- Lists of words, cell by cell.
-use Rattle.std.proofs.Common.{◌≡◌, ℕ, zero, suc, ◌+◌, ◌<◌, ◌≤◌, List, [], ◌∷◌, length, get_or, drop, map, refl, sym, ◌∙◌, ap, subst, arith, drop-cons, eq-or-lt_of_le, inl, inr}
-use Rattle.std.specs.Prelude.{Bool, true, false, ◌≢◌}
-use Rattle.std.proofs.lemmas.List.{get_or-map, drop_all}
+use Rattle.std.proofs.Common.{◌≡◌, ℕ, zero, suc, ◌+◌, ◌<◌, ◌≤◌, List, [], ◌∷◌, ◌++◌, length, get_or, drop, map, refl, sym, ◌∙◌, ap, subst, arith, drop-cons, eq-or-lt_of_le, inl, inr, length-append}
+use Rattle.std.specs.Prelude.{Bool, true, false, ◌≢◌, AllPairs, codes}
+use Rattle.teseo_program.specs.Words.{RunNames, report_name, words_of, taken_names}
+use Rattle.std.proofs.lemmas.List.Quantifiers.{all_pairs_push}
+use Rattle.std.proofs.lemmas.List.{get_or-map, drop_all, get_or_append_left}
 use Rattle.std.specs.Str.{bytes_eq}
 use Rattle.std.proofs.lemmas.Slice.Eq.{bytes_eq-Decides}
 
@@ -39,3 +41,36 @@ module _ {X : Type 0} (text : X → List ℕ) (xs : List X) (i j : ℕ) (x y : X
 -- one more index
 pub up_to : (P : ℕ → Type 0) (low j : ℕ) → ((b : ℕ) → low < b → b < j → P b) → P j → (b : ℕ) → low < b → b < j + 1 → P b
 up_to P low j below here b above lt = elim (eq-or-lt_of_le (let le : b ≤ j = omega arith in le)) as (λ _. P b) [ inl e ↦ subst P (sym e) here | inr l ↦ below b above l ]
+
+-- ---- the names of a run
+
+script_is_not_its_report : (script : List ℕ) → script ≢ report_name script
+script_is_not_its_report script same = let shorter : length script ≡ length script + 7 = ap length same ∙ length-append script (codes ".report") in omega arith
+
+module _ (names : RunNames) where
+  abbrev given : List (List ℕ)
+  given = names.vertices ∷ names.edges ∷ names.journal ∷ names.script ∷ []
+
+  last_differs : (report : List ℕ) → names.vertices ≢ report → names.edges ≢ report → names.journal ≢ report → names.script ≢ report → (k : ℕ) (d : List ℕ) → k < 4 → get_or given k d ≢ report
+  last_differs report v e j s zero d lt = v
+  last_differs report v e j s (suc zero) d lt = e
+  last_differs report v e j s (suc (suc zero)) d lt = j
+  last_differs report v e j s (suc (suc (suc zero))) d lt = s
+  last_differs report v e j s (suc (suc (suc (suc k)))) d lt = absurd (omega arith)
+
+  -- the four given names and the report's
+  pub five : AllPairs (λ a b. a ≢ b) given → names.vertices ≢ report_name names.script → names.edges ≢ report_name names.script → names.journal ≢ report_name names.script → AllPairs (λ a b. a ≢ b) (taken_names names)
+  five all v e j = all_pairs_push (λ a b. a ≢ b) given (report_name names.script) all (last_differs (report_name names.script) v e j (script_is_not_its_report names.script))
+
+  pub four : AllPairs (λ a b. a ≢ b) (taken_names names) → AllPairs (λ a b. a ≢ b) given
+  four all i j d lt below same =
+      all i j d lt (omega arith) (get_or_append_left given (report_name names.script ∷ []) d i (omega arith) ∙ same ∙ sym (get_or_append_left given (report_name names.script ∷ []) d j below))
+
+-- words spell one set of names
+pub one_spelling : (a b : RunNames) → words_of a ≡ words_of b → a ≡ b
+one_spelling a b same =
+    let v : a.vertices ≡ b.vertices = cc in
+    let e : a.edges ≡ b.edges = cc in
+    let j : a.journal ≡ b.journal = cc in
+    let s : a.script ≡ b.script = cc in
+    λ i. record { vertices = v i; edges = e i; journal = j i; script = s i }

@@ -10,3 +10,4 @@ pub mod OutputsHeld
 pub mod Sinks
 pub mod TextsHeld
 pub mod Ends
+pub mod Made

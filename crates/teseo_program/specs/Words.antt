@@ -25,8 +25,11 @@ taken_names names = names.vertices ∷ names.edges ∷ names.journal ∷ names.s
 abbrev pub IsPlain : List ℕ → Type 0
 IsPlain name = slice_get name 0 ≢ Some 45
 
+abbrev pub ArePlain : RunNames → Type 0
+ArePlain names = AllByRecursion IsPlain (names.vertices ∷ names.edges ∷ names.journal ∷ names.script ∷ [])
+
 -- the words are taken, with these names: none is an option, and they are pairwise different
 pub record TakesWords (words : List (List ℕ)) (names : RunNames) : Type 0 where
   pub spelled : words ≡ words_of names
-  pub plain : AllByRecursion IsPlain (names.vertices ∷ names.edges ∷ names.journal ∷ names.script ∷ [])
+  pub plain : ArePlain names
   pub distinct : AllPairs (λ a b. a ≢ b) (taken_names names)

@@ -4,7 +4,9 @@
 mod ending;
 mod input;
 mod outputs;
+mod prepare;
 mod run;
+mod said;
 mod sources;
 mod texts;
 mod words;

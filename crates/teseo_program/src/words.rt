@@ -2,7 +2,7 @@
 
 ghost use Rattle.std.specs.Prelude.{◌≡◌, ◌≢◌, ◌↔◌, map, slice_get, AllPairs, Some, IsTrue, IfSome, IfNone};
 ghost use Rattle.std.specs.String.{string_bytes};
-ghost use Rattle.teseo_program.specs.Words.{RunNames, IsPlain, words_of};
+ghost use Rattle.teseo_program.specs.Words.{RunNames, IsPlain, ArePlain, TakesWords, words_of, taken_names, report_name};
 ghost use Rattle.teseo_program.specs.Names.{shown};
 
 /// The names that the words of a run give.
@@ -14,8 +14,62 @@ pub struct Names<'a> {
     pub script: &'a str,
 }
 
+/// The names that the words of a run give, if the words are taken: none of the names is an option, and
+/// they and the report's are pairwise different. Takes no memory.
+pub fn take_words(words: &[String]) -> Option<Names<'_>>
+    ensures taken { IfSome result (λ names. TakesWords (map string_bytes words.now) (shown names)) }
+    ensures refused { IfNone result ((names : RunNames) → TakesWords (map string_bytes words.now) names → ⊥) }
+{
+    let Some(names) = split_words(words) else {
+        return None
+    };
+    if !are_plain(&names) {
+        return None;
+    }
+    if !are_apart(&names) {
+        return None;
+    }
+    Some(names)
+}
+
+/// Whether no name is one of an option.
+fn are_plain(names: &Names<'_>) -> bool
+    ensures { IsTrue result ↔ ArePlain (shown names.now) }
+{
+    is_plain(names.vertices)
+        && is_plain(names.edges)
+        && is_plain(names.journal)
+        && is_plain(names.script)
+}
+
+/// Whether the names and the report's are pairwise different.
+fn are_apart(names: &Names<'_>) -> bool
+    ensures { IsTrue result ↔ AllPairs (λ a b. a ≢ b) (taken_names (shown names.now)) }
+{
+    if is_report_of(names.vertices, names.script) {
+        return false;
+    }
+    if is_report_of(names.edges, names.script) {
+        return false;
+    }
+    if is_report_of(names.journal, names.script) {
+        return false;
+    }
+    all_different(&[names.vertices, names.edges, names.journal, names.script])
+}
+
+/// Whether the name is that of the script's report.
+fn is_report_of(name: &str, script: &str) -> bool
+    ensures { IsTrue result ↔ (name.now ≡ report_name script.now) }
+{
+    match name.as_bytes().strip_suffix(b".report".as_slice()) {
+        Some(front) => front == script.as_bytes(),
+        None => false,
+    }
+}
+
 /// The names in `run --vertices V --edges E --journal J SCRIPT`, if these are the words.
-pub fn split_words(words: &[String]) -> Option<Names<'_>>
+fn split_words(words: &[String]) -> Option<Names<'_>>
     ensures found { IfSome result (λ names. map string_bytes words.now ≡ words_of (shown names)) }
     ensures none { IfNone result ((names : RunNames) → map string_bytes words.now ≡ words_of names → ⊥) }
 {
@@ -52,14 +106,14 @@ fn is_word(word: &String, wanted: &str) -> bool
 }
 
 /// Whether a name isn't one of an option.
-pub fn is_plain(name: &str) -> bool
+fn is_plain(name: &str) -> bool
     ensures { IsTrue result ↔ IsPlain name.now }
 {
     name.as_bytes().first() != Some(&b'-')
 }
 
 /// Whether no two of the names are equal.
-pub fn all_different(names: &[&str]) -> bool
+fn all_different(names: &[&str]) -> bool
     ensures { IsTrue result ↔ AllPairs (λ a b. a ≢ b) (map (λ x. x.now) names.now) }
 {
     'firsts: for i in 0..names.len() {
