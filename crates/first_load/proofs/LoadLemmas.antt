@@ -1,6 +1,6 @@
 -- No write of a load is refused, and each is within its limits.
-use Rattle.std.proofs.Common.{◌≡◌, ◌≢◌, ◌⊎◌, inl, inr, ℕ, zero, suc, ◌+◌, ◌<◌, ◌≤◌, List, [], ◌∷◌, ◌++◌, length, map, get_or, refl, sym, ◌∙◌, ap, subst, cond, arith, All, AllPairs, Contains, append-nil}
-use Rattle.std.specs.Prelude.{Bool, true, false, ◌==◌, ◌&&◌, ◌||◌, IsTrue, Option, Some, None, is_some, min, max, slice_get}
+use Rattle.std.proofs.Common.{◌≡◌, ◌≢◌, ℕ, zero, suc, ◌≤◌, List, [], ◌∷◌, ◌++◌, map, get_or, refl, sym, ◌∙◌, ap, subst, cond, arith, All, AllPairs, Contains, append-nil}
+use Rattle.std.specs.Prelude.{Bool, true, false, ◌==◌, IsTrue, Some, None, is_some, min, max, slice_get}
 use Rattle.std.specs.List.{AllByRecursion}
 use Rattle.std.specs.Ordering.{nat_cmp}
 use Rattle.std.specs.FinMap as fin_map
@@ -11,17 +11,17 @@ use Rattle.graph_model.specs.declared.write.Kind.{Kind}
 use Rattle.graph_model.specs.declared.write.Kind.TheVariants.{Undirected}
 use Rattle.graph_model.specs.declared.write.Write.{Write}
 use Rattle.graph_model.specs.declared.write.Write.TheVariants.{AddVertex, DropVertex, AddEdge, SetEdge, DropEdge}
-use Rattle.graph_model.specs.declared.refusal.Refusal.{Refusal}
 use Rattle.graph_model.specs.declared.refusal.Refusal.TheVariants.{SelfLoop, NoVertex, VertexExists, EdgeExists}
 use Rattle.graph_model.specs.declared.journal.Commit.{Commit}
 use Rattle.graph_model.specs.Graph.{Graph, arc_cmp, empty_graph, has_vertex, has_arc, weight_of, apply, apply_all, HasBothEnds}
-use Rattle.graph_model.specs.Refused.{unless_ends, refused, AllAllowed, IsWithinLimits}
+use Rattle.graph_model.specs.Refused.{refused, AllAllowed, IsWithinLimits}
 use Rattle.graph_model.specs.History.{graph_at}
 use Rattle.graph_model.specs.Legal.{IsLegal, IsLegalCommit}
 use Rattle.graph_model.proofs.GraphLemmas.{covers, is_about, leaves_vertex, has_vertex-apply, weight-apply}
 use Rattle.graph_model.proofs.WriteLemmas.{keeps_ends}
 use Rattle.graphalytics_io.specs.declared.edges.Edge.{Edge}
-use Rattle.graphalytics_io.specs.EdgeFile.{HasKnownEnds, SpellsEdges, ends}
+use Rattle.graphalytics_io.specs.EdgeFile.{SpellsEdges, IsEdgeFile, ends}
+use Rattle.graphalytics_io.specs.VertexFile.{IsVertexFile}
 use Rattle.first_load.specs.Load.{added_edge, load_of, IsLoadable, HasEndsInRange, journal_of, graph_of}
 
 -- ---- lists
@@ -246,3 +246,14 @@ load_limit load within = all_keep_limit load empty_graph within (λ v there. let
 pub unit_weights : (edges : List Edge) (text : List ℕ) → SpellsEdges text edges → All (λ edge. edge.weight ≤ MAX_WEIGHT) edges
 unit_weights [] text spelled = λ k d inside. absurd (omega arith)
 unit_weights (e ∷ edges) text spelled = All-cons (λ edge. edge.weight ≤ MAX_WEIGHT) e edges (omega (arith, spelled.1.unit)) (unit_weights edges spelled.0 spelled.2)
+
+-- what the readers of the two files accept can be loaded
+pub files_loadable : (vertices edge_lines ids : List ℕ) (edges : List Edge) (vertex_limit limit : ℕ) → IsVertexFile vertices vertex_limit ids → IsEdgeFile edge_lines ids limit edges → IsLoadable ids edges
+files_loadable vertices edge_lines ids edges vertex_limit limit vertex_file edge_file = record {
+  in_range = vertex_file.in_range;
+  distinct = vertex_file.distinct;
+  known = edge_file.known;
+  no_loops = edge_file.no_loops;
+  distinct_edges = edge_file.distinct;
+  weights = unit_weights edges edge_lines edge_file.spelled;
+}

@@ -1,5 +1,5 @@
 -- The rows of a load, in file order and sorted, are those of its graph.
-use Rattle.std.proofs.Common.{◌≡◌, ◌≢◌, ℕ, zero, suc, ◌+◌, ◌-◌, ◌<◌, ◌≤◌, List, [], ◌∷◌, ◌++◌, length, map, get_or, refl, sym, ◌∙◌, ap, subst, cond, arith, All, AllPairs, Contains, append-nil, append_assoc}
+use Rattle.std.proofs.Common.{◌≡◌, ◌≢◌, ℕ, ◌+◌, ◌-◌, ◌≤◌, List, [], ◌∷◌, ◌++◌, map, get_or, refl, sym, ◌∙◌, ap, subst, cond, arith, All, AllPairs, Contains, append-nil, append_assoc}
 use Rattle.std.specs.Prelude.{Bool, true, false, not, ◌==◌, ◌&&◌, IsTrue, Option, Some, None, is_some, slice_get}
 use Rattle.std.specs.List.{flat_map}
 use Rattle.std.specs.List.Sorted.{IsPermutation, IsSortedByKey}
@@ -23,7 +23,7 @@ use Rattle.graph_model.specs.declared.refusal.Refusal.{Refusal}
 use Rattle.graph_model.specs.declared.refusal.Refusal.TheVariants.{VertexExists, EdgeExists}
 use Rattle.graph_model.specs.Graph.{Graph, empty_graph, has_vertex, has_arc, weight_of, with_arc, apply, apply_all, HasBothEnds, IsSymmetric}
 use Rattle.graph_model.specs.Refused.{refused, AllAllowed}
-use Rattle.graph_model.specs.Rows.{key_cmp, is_below, vertex_key, arc_key, first_key, end_key, row_of, is_between, rows, all_rows, value_at, AreRowsOf}
+use Rattle.graph_model.specs.Rows.{key_cmp, is_below, vertex_key, arc_key, first_key, end_key, row_of, is_between, value_at, AreRowsOf}
 use Rattle.graph_model.proofs.OrderLemmas.{keys_total, keys_exact, key_tie}
 use Rattle.graph_model.proofs.GraphLemmas.{has_vertex-apply, weight-with_arc}
 use Rattle.graph_model.proofs.WriteLemmas.{allowed_ends, keeps_symmetric}

@@ -1,6 +1,5 @@
 -- Edge files by their lines.
 use Rattle.std.proofs.Common.{◌≡◌, ◌≢◌, ℕ, ◌-◌, ◌≤◌, List, length, get_or, map, refl, sym, ap, ◌∙◌, arith, AllPairs, Ordering}
-use Rattle.std.specs.declared.cmp.Ordering.TheVariants.{Equal}
 use Rattle.std.specs.Cmp.{IsTotalOrder}
 use Rattle.std.specs.List.Sorted.{IsPermutation}
 use Rattle.std.specs.Ordering.{nat_cmp, ordering_then}
@@ -12,6 +11,7 @@ use Rattle.std.proofs.lemmas.List.Sorted.{Contains-permutation, IsPermutation-sy
 use Rattle.graphalytics_io.specs.declared.edges.Edge.{Edge}
 use Rattle.graphalytics_io.specs.declared.refusal.ReadRefusal.{ReadRefusal}
 use Rattle.graphalytics_io.specs.declared.refusal.ReadRefusal.TheVariants.{NotAccepted, NoMemory}
+use Rattle.graphalytics_io.specs.Duplicates.{AllDiffer}
 use Rattle.graphalytics_io.specs.EdgeFile.{HasKnownEnds, IsEdgeFile, ends}
 use Rattle.graphalytics_io.specs.Answers.{AreEdgeLines, Refuses}
 use Rattle.graphalytics_io.proofs.DuplicatesLemmas.{one_of}
@@ -24,14 +24,14 @@ pairs_total : IsTotalOrder pair_cmp
 pairs_total = then_total (on_total (λ (p : ℕ × ℕ). p.0) nat_cmp_total) (on_total (λ (p : ℕ × ℕ). p.1) nat_cmp_total)
 
 -- of edges no two have the same ends where no two pairs of ends tie
-pub ends_differ : (edges : List Edge) → AllPairs (λ x y. pair_cmp x y ≢ Equal) (map ends edges) → AllPairs (λ a b. ends a ≢ ends b) edges
+pub ends_differ : (edges : List Edge) → AllDiffer pair_cmp (map ends edges) → AllPairs (λ a b. ends a ≢ ends b) edges
 ends_differ edges apart i j d before inside same =
     let first = get_or-map ends edges i d (ends d) (omega arith) in
     let second = get_or-map ends edges j d (ends d) inside in
     apart i j (ends d) before (omega (arith, length-map edges ends))
     (ap (λ p. pair_cmp p (get_or (map ends edges) j (ends d))) (first ∙ same ∙ sym second) ∙ tied_itself pairs_total (get_or (map ends edges) j (ends d)))
 
-pub pairs_differ : (edges : List Edge) → AllPairs (λ a b. ends a ≢ ends b) edges → AllPairs (λ x y. pair_cmp x y ≢ Equal) (map ends edges)
+pub pairs_differ : (edges : List Edge) → AllPairs (λ a b. ends a ≢ ends b) edges → AllDiffer pair_cmp (map ends edges)
 pairs_differ edges apart i j d before inside tie =
     let long = length-map edges ends in
     let e = one_of edges (omega arith) in

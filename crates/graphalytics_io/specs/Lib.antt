@@ -4,3 +4,4 @@ pub mod EdgeFile
 pub mod Answers
 pub mod Appends
 pub mod Known
+pub mod Duplicates

@@ -1,8 +1,7 @@
 //! Whether a list has something twice.
 
-ghost use Rattle.std.specs.Prelude.{◌≡◌, ◌≢◌, ◌+◌, ◌<◌, ℕ, ⊤, length, slice_index_or, IfOk, AllPairs, MatchBool};
-ghost use Rattle.std.specs.List.{AllAdjacentBelow};
-ghost use Rattle.std.specs.declared.cmp.Ordering.TheVariants.{Less, Equal};
+ghost use Rattle.std.specs.Prelude.{IfOk, MatchBool};
+ghost use Rattle.graphalytics_io.specs.Duplicates.{Rises, StopsRising, AllDiffer};
 
 use graph_model::NoMemory;
 use std::alloc::Global;
@@ -10,7 +9,7 @@ use std::cmp::Ordering;
 
 /// Whether each item is below the next.
 fn rises<T: Ord>(items: &[T]) -> bool
-    ensures { MatchBool result (AllAdjacentBelow (λ x y. T.cmp x y ≡ Less) items.now (length items.now)) ((k : ℕ) × (k + 1 < length items.now) × ((d : T) → T.cmp (slice_index_or items.now k d) (slice_index_or items.now (k + 1) d) ≢ Less)) }
+    ensures { MatchBool result (Rises T.cmp items.now) (StopsRising T.cmp items.now) }
 {
     'items: for i in 1..items.len() {
         match items[i - 1].cmp(&items[i]) {
@@ -23,7 +22,8 @@ fn rises<T: Ord>(items: &[T]) -> bool
 
 /// Whether no item stands twice. Sorts a copy, unless the items rise as they stand.
 pub(crate) fn all_differ<T: Ord + Copy>(alloc: Global, items: &[T]) -> Result<bool, NoMemory>
-    ensures { IfOk result (λ answer. MatchBool answer (AllPairs (λ x y. T.cmp x y ≢ Equal) items.now) (AllPairs (λ x y. T.cmp x y ≢ Equal) items.now → ⊥)) }
+    ensures { IfOk result (λ answer.
+        MatchBool answer (AllDiffer T.cmp items.now) (¬ AllDiffer T.cmp items.now)) }
 {
     if rises(items) {
         return Ok(true);

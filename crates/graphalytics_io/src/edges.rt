@@ -234,18 +234,18 @@ mod tests {
         ];
         for (text, limit) in refused {
             assert!(rt;
-                is_refused(rt.alloc(), text, &ids, limit),
+                is_refused(rt.alloc(), text, &ids, limit)?,
                 "accepted {text}"
             );
         }
         Ok(())
     }
 
-    fn is_refused(alloc: Global, text: &str, ids: &Ids, limit: u64) -> bool {
+    fn is_refused(alloc: Global, text: &str, ids: &Ids, limit: u64) -> Result<bool, ReadRefusal> {
         match read_edges(alloc, text.as_bytes(), ids, limit) {
-            Ok(_) => false,
-            Err(ReadRefusal::NotAccepted) => true,
-            Err(ReadRefusal::NoMemory) => false,
+            Ok(_) => Ok(false),
+            Err(ReadRefusal::NotAccepted) => Ok(true),
+            Err(ReadRefusal::NoMemory) => Err(ReadRefusal::NoMemory),
         }
     }
 }

@@ -8,7 +8,8 @@ ghost use Rattle.graphalytics_io.specs.Lines.{IsField};
 pub(crate) fn read_field(text: &[u8], stop: u8) -> Option<(u64, &[u8])>
     requires { stop < 48 }
     ensures found { IfSome result (λ f. IsField text.now f.0 stop f.1.now) }
-    ensures none { IfNone result ((n : ℕ) (rest : List ℕ) → n < 2 ^ 64 → IsField text.now n stop rest → ⊥) }
+    ensures none { IfNone result ((n : ℕ) (rest : List ℕ) → n < 2 ^ 64
+        → IsField text.now n stop rest → ⊥) }
 {
     let mut value = 0u64;
     'digits: for i in 0..text.len() {

@@ -76,10 +76,8 @@ mod tests {
             ("10\n9\n11\n8\n", 4, &[10, 9, 11, 8]),
         ];
         for (text, limit, want) in accepted {
-            match read_vertices(rt.alloc(), text.as_bytes(), limit) {
-                Ok(ids) => assert!(rt; ids.as_slice() == want, "other ids of {text}"),
-                Err(refusal) => return Err(Fail::from(refusal)),
-            }
+            let ids = read_vertices(rt.alloc(), text.as_bytes(), limit)?;
+            assert!(rt; ids.as_slice() == want, "other ids of {text}");
         }
         let refused = [
             "9223372036854775807\n",
@@ -104,16 +102,16 @@ mod tests {
             "1\n2\n3\n4\n5\n",
         ];
         for text in refused {
-            assert!(rt; is_refused(rt.alloc(), text), "accepted {text}");
+            assert!(rt; is_refused(rt.alloc(), text)?, "accepted {text}");
         }
         Ok(())
     }
 
-    fn is_refused(alloc: Global, text: &str) -> bool {
+    fn is_refused(alloc: Global, text: &str) -> Result<bool, ReadRefusal> {
         match read_vertices(alloc, text.as_bytes(), 4) {
-            Ok(_) => false,
-            Err(ReadRefusal::NotAccepted) => true,
-            Err(ReadRefusal::NoMemory) => false,
+            Ok(_) => Ok(false),
+            Err(ReadRefusal::NotAccepted) => Ok(true),
+            Err(ReadRefusal::NoMemory) => Err(ReadRefusal::NoMemory),
         }
     }
 }

@@ -22,14 +22,17 @@ module _ {K X : Type 0} (R : K → K → Ordering) (total : IsTotalOrder R) (exa
   in_order [] = []
   in_order (e ∷ es) = put R e.0 e.1 (in_order es)
 
+  -- they are sorted
   order_sorted : (es : List (K × X)) → T (is_sorted R (in_order es))
   order_sorted [] = tt
   order_sorted (e ∷ es) = is_sorted-put R total e.0 e.1 (in_order es) (order_sorted es)
 
+  -- and have the same values
   find-in_order : (q : K) (es : List (K × X)) → find R q (in_order es) ≡ find R q es
   find-in_order q [] = refl
   find-in_order q (e ∷ es) = find-put R total q e.0 e.1 (in_order es) ∙ ap (cond (eq_by_cmp R q e.0) (Some e.1)) (find-in_order q es)
 
+  -- so they are the entries of the map
   pub entries-in_order : (es : List (K × X)) → fin_map.entries (fin_map.from_entries {R = R} es) ≡ in_order es
   entries-in_order es =
       let m = fin_map.from_entries {R = R} es in
@@ -53,6 +56,7 @@ arc_entries arcs = in_order arc_cmp arcs_total arcs_exact arcs
 abbrev pub rows_from : List ℕ → List ((ℕ × ℕ) × ℕ) → List Row
 rows_from vertices arcs = map row_of (filter (λ e. is_between first_key end_key e.0) (in_order key_cmp keys_total keys_exact (map vertex_entry (map (λ (e : ℕ × Unit {0}). e.0) (vertex_entries vertices)) ++ map arc_entry (arc_entries arcs))))
 
+-- the rows that are computed are all rows of the graph
 rows_computed : (vertices : List ℕ) (arcs : List ((ℕ × ℕ) × ℕ)) → rows_from vertices arcs ≡ all_rows (graph_of vertices arcs)
 rows_computed vertices arcs =
     let vertices_are = entries-in_order nat_cmp nat_cmp_total nat_cmp-IsAntisymmetric (marked vertices) in
@@ -66,6 +70,7 @@ rows_computed vertices arcs =
 abbrev pub lists : List ℕ → ℕ → Bool
 lists vertices v = is_some (find nat_cmp v (marked vertices))
 
+-- the vertices of the graph are the listed ones
 has-listed : (vertices : List ℕ) (arcs : List ((ℕ × ℕ) × ℕ)) (v : ℕ) → has_vertex (graph_of vertices arcs) v ≡ lists vertices v
 has-listed vertices arcs v = ap is_some (fin_map.get-from_entries nat_cmp_total (marked vertices) v)
 
@@ -78,11 +83,13 @@ abbrev pub all_ended : List ℕ → List ((ℕ × ℕ) × ℕ) → Bool
 all_ended vertices [] = true
 all_ended vertices (e ∷ es) = lists vertices e.0.0 && lists vertices e.0.1 && all_ended vertices es
 
+-- a tie is the ordering Equal
 is_tie : (o : Ordering) → is_eq o ≡ true → o ≡ Equal
 is_tie Less is = absurd (let t : false ≡ true = is in cc)
 is_tie Equal is = refl
 is_tie Greater is = absurd (let t : false ≡ true = is in cc)
 
+-- a listed vertex is within the limit
 small_listed : (vertices : List ℕ) (v : ℕ) → all_small vertices ≡ true → lists vertices v ≡ true → v ≤ MAX_ID
 small_listed [] v small is = absurd (let t : false ≡ true = is in cc)
 small_listed (x ∷ xs) v small is =
@@ -92,6 +99,7 @@ small_listed (x ∷ xs) v small is =
     (λ other. small_listed xs v parts.1 (ap (λ b. is_some (cond b (Some tt) (find nat_cmp v (marked xs)))) (sym other) ∙ is))
     (cases_Bool (eq_by_cmp nat_cmp v x))
 
+-- the ends of an arc are listed
 ended_listed : (vertices : List ℕ) (arcs : List ((ℕ × ℕ) × ℕ)) (u v : ℕ) → all_ended vertices arcs ≡ true → is_some (find arc_cmp (u, v) arcs) ≡ true → (lists vertices u ≡ true) × (lists vertices v ≡ true)
 ended_listed vertices [] u v ended is = absurd (let t : false ≡ true = is in cc)
 ended_listed vertices (e ∷ es) u v ended is =
@@ -116,5 +124,6 @@ literal_rows vertices arcs small ended = (
   },
 )
 
+-- the same of rows that are equal to literal ones
 pub literal_rows_at : (rows : List Row) (vertices : List ℕ) (arcs : List ((ℕ × ℕ) × ℕ)) → rows ≡ rows_from vertices arcs → all_small vertices ≡ true → all_ended vertices arcs ≡ true → (g : Graph) × AreRowsOf rows g
 literal_rows_at rows vertices arcs same small ended = subst (λ rs. (g : Graph) × AreRowsOf rs g) (sym same) (literal_rows vertices arcs small ended)

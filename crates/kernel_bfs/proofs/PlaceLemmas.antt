@@ -1,15 +1,15 @@
 -- The index of the rows, and the look-up of a place.
-use Rattle.std.proofs.Common.{◌≡◌, ℕ, ◌+◌, ◌<◌, ◌≤◌, ◌⊎◌, inl, inr, ⊎_elim, List, [], ◌∷◌, ◌++◌, length, get_or, slice_get, Some, Err, refl, sym, ap, ◌∙◌, subst, arith}
+use Rattle.std.proofs.Common.{◌≡◌, ℕ, zero, suc, ◌+◌, ◌-◌, ◌<◌, ◌≤◌, ◌⊎◌, inl, inr, ⊎_elim, List, [], ◌∷◌, ◌++◌, length, get_or, slice_get, Some, Ok, Err, refl, sym, ap, ◌∙◌, subst, arith}
 use Rattle.std.proofs.lemmas.Bool.{cases_lt, cases_order}
 use Rattle.std.proofs.lemmas.List.{length_push}
 use Rattle.std.proofs.lemmas.List.Sorted.{searched}
-use Rattle.std.proofs.lemmas.Option.{same_Some, slice_get_within, slice_get-get_or, get_or_from_slice_get}
+use Rattle.std.proofs.lemmas.Option.{same_Some, slice_get_within, slice_get-get_or, slice_get_read, get_or_from_slice_get}
 use Rattle.std.specs.List.Sorted.{IsBinarySearchResult}
 use Rattle.std.specs.Ordering.{nat_cmp}
 use Rattle.graph_model.specs.declared.row.Row.{Row}
 use Rattle.graph_model.specs.Rows.{vertex_key}
 use Rattle.kernel_bfs.specs.Places.{KeysRise, IdsRise, IsIndex}
-use Rattle.kernel_bfs.proofs.Lists.{get_pushed, get_last, get_push_cases}
+use Rattle.kernel_bfs.proofs.Lists.{get_pushed, get_last, get_push_cases, get_within}
 
 -- below i + 1 is below i or at it
 pub below_cases : (k i : ℕ) → k < i + 1 → (k < i) ⊎ (k ≡ i)
@@ -19,15 +19,68 @@ below_cases k i below = ⊎_elim (λ lower. inl lower) (λ upper. inr (omega ari
 pub same_place : {vertices : List ℕ} → IdsRise vertices → (p q v : ℕ) → slice_get vertices p ≡ Some v → slice_get vertices q ≡ Some v → p ≡ q
 same_place ids p q v at_p at_q = ⊎_elim (λ same. same) (⊎_elim (λ less. let step = ids.rise p q v v less at_p at_q in absurd (omega arith)) (λ more. let step = ids.rise q p v v more at_q at_p in absurd (omega arith))) (cases_order p q)
 
+-- over k places the ids rise by k at least
+spread : (vertices : List ℕ) → IdsRise vertices → (k p a b : ℕ) → slice_get vertices p ≡ Some a → slice_get vertices (p + k) ≡ Some b → a + k ≤ b
+spread vertices ids zero p a b at_a at_b =
+    let here : p + 0 ≡ p = omega arith in
+    let same = same_Some a b (sym at_a ∙ ap (slice_get vertices) (sym here) ∙ at_b) in
+    omega arith
+spread vertices ids (suc k) p a b at_a at_b =
+    let bound = slice_get_within vertices (p + suc k) b at_b in
+    let before = get_within vertices (p + k) (omega arith) in
+    let rest = spread vertices ids k p a before.0 at_a before.1 in
+    let step = ids.rise (p + k) (p + suc k) before.0 b (omega arith) before.1 at_b in
+    omega arith
+
+module _ (vertices : List ℕ) (ids : IdsRise vertices) (count first last id : ℕ) (count_is : count ≡ length vertices) (some : 0 < count) (first_is : first ≡ get_or vertices 0 first) (last_is : last ≡ get_or vertices (count - 1) last) where
+  -- the first id stands at 0
+  first_at : slice_get vertices 0 ≡ Some first
+  first_at = slice_get_read vertices count 0 first count_is some first_is
+
+  -- the last at the end
+  last_at : slice_get vertices (count - 1) ≡ Some last
+  last_at = slice_get_read vertices count (count - 1) last count_is (omega arith) last_is
+
+  -- an id lies between the first and the last
+  between : (place v : ℕ) → slice_get vertices place ≡ Some v → (first + place ≤ v) × (v + (count - 1 - place) ≤ last)
+  between place v at =
+      let bound = slice_get_within vertices place v at in
+      let back : place + (count - 1 - place) ≡ count - 1 = omega arith in
+      let here : 0 + place ≡ place = omega arith in
+      (spread vertices ids place 0 first v first_at (ap (slice_get vertices) here ∙ at), spread vertices ids (count - 1 - place) place v last at (ap (slice_get vertices) back ∙ last_at))
+
+  -- consecutive ids are found by their number
+  pub consecutive : first ≤ id → id ≤ last → last - first ≡ count - 1 → slice_get vertices (id - first) ≡ Some id
+  consecutive low high even =
+      let there = get_within vertices (id - first) (omega arith) in
+      let inside = between (id - first) there.0 there.1 in
+      let under = inside.0 in
+      let over = inside.1 in
+      let same : there.0 ≡ id = omega arith in
+      there.1 ∙ ap Some same
+
+-- the ids never fall
+never_fall : (vertices : List ℕ) → IdsRise vertices → (a b : ℕ) → a ≤ b → b < length vertices → get_or vertices a 0 ≤ get_or vertices b 0
+never_fall vertices ids a b le within = ⊎_elim
+    (λ less. let step = ids.rise a b _ _ less (slice_get-get_or vertices a 0 (omega arith)) (slice_get-get_or vertices b 0 within) in omega arith)
+    (λ up. let same : a ≡ b = omega arith in let equal : get_or vertices a 0 ≡ get_or vertices b 0 = ap (λ k. get_or vertices k 0) same in omega arith)
+    (cases_lt a b)
+
 -- where a binary search finds nothing there is nothing
-pub not_placed : (vertices : List ℕ) → IdsRise vertices → (id : ℕ) (i : ℕ) → IsBinarySearchResult (λ y. nat_cmp y id) vertices (Err i) → (place : ℕ) → slice_get vertices place ≡ Some id → ⊥
+not_placed : (vertices : List ℕ) → IdsRise vertices → (id i : ℕ) → IsBinarySearchResult (λ y. nat_cmp y id) vertices (Err i) → (place : ℕ) → slice_get vertices place ≡ Some id → ⊥
 not_placed vertices ids id i answer place at =
-    let up : (a b : ℕ) → a ≤ b → b < length vertices → get_or vertices a 0 ≤ get_or vertices b 0 = λ a b le within. ⊎_elim (λ less. let step = ids.rise a b _ _ less (slice_get-get_or vertices a 0 (omega arith)) (slice_get-get_or vertices b 0 within) in omega arith) (λ up. let same : a ≡ b = omega arith in let equal : get_or vertices a 0 ≡ get_or vertices b 0 = ap (λ k. get_or vertices k 0) same in omega arith) (cases_lt a b) in
-    let found = searched vertices id (Err i) answer up in
+    let found = searched vertices id (Err i) answer (never_fall vertices ids) in
     let within = slice_get_within vertices place id at in
     let here = get_or_from_slice_get vertices place id 0 at in
     ⊎_elim (λ less. let step = found.1 place less in absurd (omega arith)) (λ more. let step = found.2 place more within in absurd (omega arith)) (cases_lt place i)
 
+-- and where it finds, it is there
+pub placed_in : (xs vertices : List ℕ) → xs ≡ vertices → IdsRise vertices → (id i : ℕ) → IsBinarySearchResult (λ y. nat_cmp y id) xs (Ok i) → slice_get vertices i ≡ Some id
+placed_in xs vertices same ids id i answer =
+    let found = searched vertices id (Ok i) (subst (λ ys. IsBinarySearchResult (λ y. nat_cmp y id) ys (Ok i)) same answer) (never_fall vertices ids) in
+    slice_get-get_or vertices i 0 found.0 ∙ ap Some found.1
+
+-- the same of a list that is equal
 pub not_placed_in : (xs vertices : List ℕ) → xs ≡ vertices → IdsRise vertices → (id : ℕ) (i : ℕ) → IsBinarySearchResult (λ y. nat_cmp y id) xs (Err i) → (place : ℕ) → slice_get vertices place ≡ Some id → ⊥
 not_placed_in xs vertices same ids id i answer = not_placed vertices ids id i (subst (λ ys. IsBinarySearchResult (λ y. nat_cmp y id) ys (Err i)) same answer)
 
@@ -87,6 +140,7 @@ index_step_vertex rows i vertices starts vertices_later starts_later e keys inde
     let key_is : r.key ≡ vertex_key r.key.src = (λ k. record { src = r.key.src; second = second k }) in
     subst (λ xs. IsIndex rows (i + 1) xs starts_later) (sym vertices_is) (subst (λ xs. IsIndex rows (i + 1) (vertices ++ r.key.src ∷ []) xs) (sym starts_is) (index_vertex rows keys i vertices starts index r (slice_get-get_or rows i e more) second key_is))
 
+-- the same for the row of an arc
 pub index_step_arc : (rows : List Row) (i : ℕ) (vertices starts vertices_later starts_later : List ℕ) (e : Row) → KeysRise rows → IsIndex rows i vertices starts → i < length rows → ((get_or rows i e).key.second ≡ 0 → ⊥) → vertices_later ≡ vertices → starts_later ≡ starts → IsIndex rows (i + 1) vertices_later starts_later
 index_step_arc rows i vertices starts vertices_later starts_later e keys index more arc vertices_is starts_is =
     subst (λ xs. IsIndex rows (i + 1) xs starts_later) (sym vertices_is) (subst (λ xs. IsIndex rows (i + 1) vertices xs) (sym starts_is) (index_arc rows keys i vertices starts index (get_or rows i e) (slice_get-get_or rows i e more) arc))

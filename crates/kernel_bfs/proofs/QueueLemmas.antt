@@ -12,7 +12,7 @@ use Rattle.kernel_bfs.proofs.Lists.{get_pushed, get_last, get_push_cases, get_wi
 pub within_more : (distances : List ℕ) (place limit more : ℕ) → limit ≤ more → IsWithin distances place limit → IsWithin distances place more
 within_more distances place limit more le within = record { found = within.found; distance = within.distance; walked = within.walked; bound = (let bound = within.bound in omega arith) }
 
--- a step from a place to one with a greater number of links
+-- a path with one more link
 one_more : (Link : ℕ → ℕ → Type 0) (root n m c p : ℕ) → m ≡ n + 1 → HasPath Link root n c → Link c p → HasPath Link root m p
 one_more Link root n zero c p is path link = absurd (omega arith)
 one_more Link root n (suc m) c p is path link = let same : n ≡ m = omega arith in (c, subst (λ k. HasPath Link root k c) same path, link)
@@ -30,6 +30,7 @@ module _ (Link : ℕ → ℕ → Type 0) (root : ℕ) (distances queue : List �
       let bound = here.2 in
       omega arith
 
+  -- and stands within the queue
   pub at_below : (k d : ℕ) → IsAt distances queue k d → k < length queue
   at_below k d at = slice_get_within queue k at.place at.queued
 
@@ -42,6 +43,7 @@ module _ (Link : ℕ → ℕ → Type 0) (root : ℕ) (distances queue : List �
   reached_at p d distance walked = let here = queued.reached p d distance walked in (here.0, record { place = p; queued = here.1; distance = distance })
 
   module _ (p d q : ℕ) (at_head : slice_get queue head ≡ Some p) (distance : slice_get distances p ≡ Some d) (link : Link p q) where
+    -- the place at the head, with its distance
     here : IsAt distances queue head d
     here = record { place = p; queued = at_head; distance = distance }
 
@@ -62,9 +64,11 @@ module _ (Link : ℕ → ℕ → Type 0) (root : ℕ) (distances queue : List �
       count_less : (d + 1 ≡ NO_WALK → ⊥) → count_by (λ x. x == NO_WALK) later + 1 ≡ count_by (λ x. x == NO_WALK) distances
       count_less walked = count_written (λ x. x == NO_WALK) distances q NO_WALK (d + 1) unreached (eq-eqb NO_WALK NO_WALK refl) (ne_eqb (d + 1) NO_WALK walked)
 
+      -- the next distance is no NO_WALK, since one place at least is still to come
       next_walked : d + 1 ≡ NO_WALK → ⊥
       next_walked same = let bound = at_bound head d here in let below = at_below head d here in let count = queued.count in let small = queued.small in let open_place = count_written (λ x. x == NO_WALK) distances q NO_WALK 0 unreached refl refl in omega arith
 
+      -- and is at most the place in the queue that it gets
       next_bound : d + 1 ≤ length queue
       next_bound = let bound = at_bound head d here in let below = at_below head d here in omega arith
 
@@ -72,10 +76,11 @@ module _ (Link : ℕ → ℕ → Type 0) (root : ℕ) (distances queue : List �
       pub keeps : (x e : ℕ) → slice_get distances x ≡ Some e → (e ≡ NO_WALK → ⊥) → slice_get later x ≡ Some e
       keeps x e is walked = get_unwritten distances q x (d + 1) (λ same. walked (same_Some e NO_WALK (sym is ∙ ap (slice_get distances) same ∙ unreached))) ∙ is
 
+      -- and so does a bound on one
       pub keeps_within : (x limit : ℕ) → IsWithin distances x limit → IsWithin later x limit
       keeps_within x limit within = record { found = within.found; distance = keeps x within.found within.distance within.walked; walked = within.walked; bound = within.bound }
 
-      -- what is in the queue was in it, or is the new place
+      -- what stood in the queue has its old distance
       old_at : (k x e : ℕ) → slice_get queue k ≡ Some x → slice_get later x ≡ Some e → IsAt distances queue k e
       old_at k x e in_queue is =
           let there = queued.queued k x in_queue in
@@ -83,22 +88,26 @@ module _ (Link : ℕ → ℕ → Type 0) (root : ℕ) (distances queue : List �
           let same = same_Some there.0 e (sym (keeps x there.0 there.1 (at_walked k there.0 old)) ∙ is) in
           subst (λ y. IsAt distances queue k y) same old
 
+      -- the new place has the next distance
       new_distance : (x e : ℕ) → q ≡ x → slice_get later x ≡ Some e → d + 1 ≡ e
       new_distance x e same is = same_Some (d + 1) e (sym (get_written distances q NO_WALK (d + 1) unreached) ∙ ap (slice_get later) same ∙ is)
 
+      -- whatever stands in the new queue stood in the old, or is the new place
       at_cases : (k e : ℕ) → IsAt later queue_later k e → IsAt distances queue k e ⊎ ((k ≡ length queue) × (d + 1 ≡ e))
       at_cases k e at = ⊎_elim (λ old. inl (old_at k at.place e old at.distance)) (λ new. inr (new.0, new_distance at.place e new.1 at.distance)) (get_push_cases queue q k at.place at.queued)
 
-      -- the first element is the same
+      -- the new place is within one more link
       pub new_within : IsWithin later q (d + 1)
       new_within = record { found = d + 1; distance = get_written distances q NO_WALK (d + 1) unreached; walked = next_walked; bound = (let same : d + 1 ≤ d + 1 = omega arith in same) }
 
+      -- the distances along the queue still rise
       new_order : (i j a b : ℕ) → i ≤ j → IsAt later queue_later i a → IsAt later queue_later j b → a ≤ b
       new_order i j a b le at_i at_j = ⊎_elim
           (λ old_i. ⊎_elim (λ old_j. queued.order i j a b le old_i old_j) (λ new_j. let step = queued.window head i d a (let same : head ≤ head = omega arith in same) here old_i in let is = new_j.1 in omega arith) (at_cases j b at_j))
           (λ new_i. ⊎_elim (λ old_j. let below = at_below j b old_j in let is = new_i.0 in absurd (omega arith)) (λ new_j. let one = new_i.1 in let two = new_j.1 in omega arith) (at_cases j b at_j))
           (at_cases i a at_i)
 
+      -- and none is more than one above those that are still to be visited
       new_window : (i j a b : ℕ) → head ≤ i → IsAt later queue_later i a → IsAt later queue_later j b → b ≤ a + 1
       new_window i j a b le at_i at_j = ⊎_elim
           (λ old_i. ⊎_elim (λ old_j. queued.window i j a b le old_i old_j) (λ new_j. let step = queued.order head i d a le here old_i in let is = new_j.1 in omega arith) (at_cases j b at_j))
@@ -144,8 +153,9 @@ pub record Reached (Link : ℕ → ℕ → Type 0) (root : ℕ) (distances : Lis
   pub within : IsWithin later q (d + 1)
   pub kept : (x limit : ℕ) → IsWithin distances x limit → IsWithin later x limit
 
+-- a place has been reached from the head
 pub after_reach : (Link : ℕ → ℕ → Type 0) (root : ℕ) (distances queue later queue_later : List ℕ) (head p d q : ℕ) → IsQueue Link root distances queue head → slice_get queue head ≡ Some p → slice_get distances p ≡ Some d → Link p q → q < length distances → IsReach distances queue q (d + 1) later queue_later → Reached Link root distances later queue_later head p d q
-after_reach Link root distances queue later queue_later head p d q queued at_head distance link fits (inl new) =
+after_reach Link root distances queue distances_later queue_later head p d q queued at_head distance link fits (inl new) =
     let walked = at_walked Link root distances queue head queued head d (record { place = p; queued = at_head; distance = distance }) in
     let result : Reached Link root distances (slice_set distances q (d + 1)) (queue ++ q ∷ []) head p d q = record {
       queue_is = new_queue Link root distances queue head queued p d q at_head distance link new.0;
@@ -156,7 +166,7 @@ after_reach Link root distances queue later queue_later head p d q queued at_hea
       kept = keeps_within Link root distances queue head queued p d q at_head distance link new.0;
     } in
     subst (λ xs. Reached Link root distances xs queue_later head p d q) (sym new.1) (subst (λ xs. Reached Link root distances (slice_set distances q (d + 1)) xs head p d q) (sym new.2) result)
-after_reach Link root distances queue later queue_later head p d q queued at_head distance link fits (inr old) =
+after_reach Link root distances queue distances_later queue_later head p d q queued at_head distance link fits (inr old) =
     let there = get_within distances q fits in
     let walked : there.0 ≡ NO_WALK → ⊥ = λ same. old.0 (there.1 ∙ ap Some same) in
     let result : Reached Link root distances distances queue head p d q = record {
@@ -217,9 +227,11 @@ pub search_done : (Link : ℕ → ℕ → Type 0) (root aim count : ℕ) (distan
 search_done Link root aim count distances queue head same same_count queued at_end =
     subst (λ r. IsSearched Link r count distances) same (subst (λ n. IsSearched Link root n distances) same_count (finished Link root distances queue head queued at_end))
 
+-- at first each place is unreached
 count_none : (n : ℕ) → count_by (λ x. x == NO_WALK) (replicate n NO_WALK) ≡ n
 count_none n = let each = sum_by-replicate (λ x. cond (x == NO_WALK) 1 0) n NO_WALK in omega arith
 
+-- each element of a repeated one
 get_replicate : (n i x : ℕ) → i < n → slice_get (replicate n x) i ≡ Some x
 get_replicate zero i x below = absurd (omega arith)
 get_replicate (suc n) zero x below = refl
@@ -233,12 +245,15 @@ module _ (Link : ℕ → ℕ → Type 0) (count root : ℕ) (within : root < cou
   abbrev begun : List ℕ
   begun = slice_set blank root 0
 
+  -- the root has the distance 0
   root_is : slice_get begun root ≡ Some 0
   root_is = get_written blank root NO_WALK 0 (get_replicate count root NO_WALK within)
 
+  -- nothing else stands in the queue
   only_root : (i d : ℕ) → IsAt begun (root ∷ []) i d → d ≡ 0
   only_root i d at = ⊎_elim (λ old. absurd (none-some at.place old)) (λ new. same_Some d 0 (sym at.distance ∙ ap (slice_get begun) (sym new.1) ∙ root_is)) (get_push_cases [] root i at.place at.queued)
 
+  -- what holds of such a queue
   pub start_queue : IsQueue Link root begun (root ∷ []) 0
   start_queue = record {
     count = (let less = count_written (λ x. x == NO_WALK) blank root NO_WALK 0 (get_replicate count root NO_WALK within) refl refl in let all = count_none count in let same = length-set blank root 0 in let long = length-replicate count NO_WALK in let one : length (root ∷ []) ≡ 1 = refl in omega arith);

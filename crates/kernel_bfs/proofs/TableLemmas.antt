@@ -24,6 +24,7 @@ use Rattle.kernel_bfs.proofs.PlaceLemmas.{same_place}
 below_means : (a b : Key) → IsTrue (is_below a b) → (a.src ≤ b.src) × (a.src ≡ b.src → a.second < b.second)
 below_means a b below = (grind (arith, nat_tests), λ same. grind (arith, nat_tests))
 
+-- the keys of a graph's rows rise
 pub keys_rise : (rows : List Row) (g : Graph) → AreRowsOf rows g → KeysRise rows
 keys_rise rows g are = record {
   sources = λ i j a b less at_i at_j. (below_means a.key b.key (rows_rise are i j a b less at_i at_j)).0;
@@ -47,10 +48,12 @@ arc_value g u v =
     let back : v + 1 - 1 ≡ v = omega arith in
     (λ i. cond (later i) (cond (has_vertex g u) (Some 0) None) (weight_of g u (back i)))
 
+-- what is there is something
 some_there : (o : Option ℕ) → is_some o ≡ true → (w : ℕ) × (o ≡ Some w)
 some_there None is = absurd (let no : false ≡ true = is in cc)
 some_there (Some w) is = (w, refl)
 
+-- tests that hold together are one
 same_tests : (a b : Bool) → (a ≡ true → b ≡ true) → (b ≡ true → a ≡ true) → a ≡ b
 same_tests true b up down = sym (up refl)
 same_tests false true up down = down refl
@@ -119,6 +122,7 @@ module _ (rows : List Row) (g : Graph) (are : AreRowsOf rows g) (vertices starts
       (λ any. let place = place_from_any vertices v any in placed_vertex place.0 v place.1)
       (λ is. let place = vertex_placed v is in any_at vertices v place.0 place.1))
 
+  -- a search and its entries are the table of the graph
   pub table_right : (root a : ℕ) (distances : List ℕ) (entries : List Entry) → slice_get vertices root ≡ Some a → IsSearched (HasLink rows vertices) root (length vertices) distances → AreEntries vertices distances entries → IsBfs g a entries
   table_right root a distances entries at_root searched listed = record {
     vertices = listed.listed ∙ all_vertices;

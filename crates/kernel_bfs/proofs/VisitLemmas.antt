@@ -46,6 +46,7 @@ visit_none rows vertices starts root distances queue head place d id start index
     }
 
 module _ (rows : List Row) (keys : KeysRise rows) (vertices : List ℕ) (ids : IdsRise vertices) (root : ℕ) (distances queue : List ℕ) (head place d id start at : ℕ) (visit : IsVisit rows vertices root distances queue head place d id start at) where
+  -- the vertex's own row
   first_src : visit.first.key.src ≡ id
   first_src = ap (λ k. k.src) visit.first_key
 
@@ -108,7 +109,7 @@ module _ (rows : List Row) (keys : KeysRise rows) (vertices : List ℕ) (ids : I
           (λ v q leads there. (let same : v ≡ r.key.second - 1 = omega arith in absurd (absent q (there ∙ ap Some same))));
     }
 
-  -- the row at hand is no row of the vertex, or there is none
+  -- the row at hand is of another vertex, or there is none: each link has been followed
   visit_done : (length rows ≤ at) ⊎ ((r : Row) × (slice_get rows at ≡ Some r) × (r.key.src ≡ id → ⊥)) → IsQueue (HasLink rows vertices) root distances queue (head + 1)
   visit_done stop = next_head (HasLink rows vertices) root distances queue head visit.queue_is place d visit.at_head visit.distance (λ q link.
       let src : id ≡ link.row.key.src = same_Some id link.row.key.src (sym visit.id_at ∙ link.source_at) in
@@ -128,8 +129,10 @@ module _ (rows : List Row) (keys : KeysRise rows) (vertices : List ℕ) (ids : I
       stop) (cases_lt link.at at) in
       visit.visited link.at link.target q link.row above below link.is leads link.target_at)
 
+  -- all rows have been read
   pub visit_past : length rows ≤ at → IsQueue (HasLink rows vertices) root distances queue (head + 1)
   visit_past past = visit_done (inl past)
 
+  -- the row at hand is of another vertex
   pub visit_other : (e : Row) → at < length rows → ((get_or rows at e).key.src ≡ id → ⊥) → IsQueue (HasLink rows vertices) root distances queue (head + 1)
   visit_other e more other = visit_done (inr (get_or rows at e, slice_get-get_or rows at e more, other))

@@ -32,20 +32,23 @@ pub fn index_of(alloc: Global, rows: &[Row]) -> Result<Index, AllocError>
 }
 
 impl Index {
-    /// The place of a vertex. Where the ids are consecutive, the first guess is right.
+    /// The place of a vertex: by its number where the ids are consecutive, else by a binary search.
     pub fn place_of(&self, id: u64) -> Option<usize>
         requires { IdsRise self.now.vertices.items }
         ensures found { IfSome result (λ place. slice_get self.now.vertices.items place ≡ Some id) }
         ensures absent { IfNone result ((place : ℕ) → slice_get self.now.vertices.items place ≡ Some id → ⊥) }
     {
-        if let Some(first) = self.vertices.first() {
-            let first = *first;
-            if first <= id {
-                let guess = id - first;
-                if guess < self.vertices.len() as u64 && self.vertices[guess as usize] == id {
-                    return Some(guess as usize);
-                }
-            }
+        let count = self.vertices.len();
+        if count == 0 {
+            return None;
+        }
+        let first = self.vertices[0];
+        let last = self.vertices[count - 1];
+        if id < first || last < id {
+            return None;
+        }
+        if last - first == count as u64 - 1 {
+            return Some((id - first) as usize);
         }
         match self.vertices.binary_search(&id) {
             Ok(place) => Some(place),

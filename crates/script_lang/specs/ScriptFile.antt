@@ -27,7 +27,7 @@ abbrev pub lines : ℕ → List ℕ → List Command
 lines root file = Begin ∷ Bfs root file ∷ Commit ∷ []
 
 -- the script has the lines that the text spells, and the names taken have its file at their end
-pub record Reads (text : List ℕ) (old : List (List ℕ)) (script : List Command) (new : List (List ℕ)) : Type 0 where
+pub record ReadsScript (text : List ℕ) (old : List (List ℕ)) (script : List Command) (new : List (List ℕ)) : Type 0 where
   pub root : ℕ
   pub file : List ℕ
   pub accepted : IsScriptFile text old root file

@@ -1,7 +1,7 @@
 //! The journal's text.
 
 ghost use Rattle.std.specs.Prelude.{◌≡◌, ◌++◌, codes, OnOk, OnErr};
-ghost use Rattle.run_model.specs.Texts.{field, name_text, write_text, writes_text, commit_text, journal_text};
+ghost use Rattle.run_model.specs.Texts.{field, write_text, writes_text, commit_text, journal_text};
 ghost use Rattle.graphalytics_io.specs.Appends.{Extends};
 
 use crate::pieces::{write_counted, write_field, write_named};
@@ -100,4 +100,58 @@ fn write_ends(word: &[u8], u: u64, v: u64, text: &mut Text) -> Result<(), NoMemo
 {
     write_counted(word, u, text)?;
     write_field(v, text)
+}
+
+#[cfg(test)]
+mod tests {
+    use super::*;
+    use graph_model::{TxnName, Writes};
+    use std::test::Fail;
+
+    #[test]
+    fn each_commit_is_followed_by_its_writes(rt: HostRuntime) -> Result<(), Fail> {
+        let mut load = Writes::new(rt.alloc());
+        load.push(Write::AddVertex { v: 0 })?;
+        load.push(Write::AddVertex {
+            v: 9223372036854775806,
+        })?;
+        load.push(Write::AddEdge {
+            u: 0,
+            v: 9223372036854775806,
+            weight: 4294967295,
+        })?;
+        let mut later = Writes::new(rt.alloc());
+        later.push(Write::SetEdge {
+            u: 9223372036854775806,
+            v: 0,
+            weight: 0,
+        })?;
+        later.push(Write::DropEdge {
+            u: 0,
+            v: 9223372036854775806,
+        })?;
+        later.push(Write::DropVertex { v: 0 })?;
+        let mut journal = Journal::new(rt.alloc());
+        journal.push(Commit {
+            stamp: 1,
+            start: 0,
+            by: TxnName { job: 0, number: 1 },
+            writes: load,
+        })?;
+        journal.push(Commit {
+            stamp: 2,
+            start: 1,
+            by: TxnName { job: 7, number: 12 },
+            writes: later,
+        })?;
+        let mut text = Text::new(rt.alloc());
+        write_journal(&Journal::new(rt.alloc()), &mut text)?;
+        assert!(rt; text.is_empty());
+        text.push_bytes(b"# ")?;
+        write_journal(&journal, &mut text)?;
+        let want: &[u8] =
+            b"# commit 1 start 0 by 0.1\nvertex 0\nvertex 9223372036854775806\nedge 0 9223372036854775806 4294967295\ncommit 2 start 1 by 7.12\nset 9223372036854775806 0 0\ndrop 0 9223372036854775806\nunvertex 0\n";
+        assert!(rt; text.as_slice() == want);
+        Ok(())
+    }
 }

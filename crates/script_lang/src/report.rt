@@ -1,8 +1,8 @@
 //! Reports.
 
-ghost use Rattle.std.specs.Prelude.{◌≡◌, ◌++◌, codes, length, OnOk, OnErr};
+ghost use Rattle.std.specs.Prelude.{◌≡◌, ◌++◌, codes, OnOk, OnErr};
 ghost use Rattle.std.specs.List.{flat_map};
-ghost use Rattle.run_model.specs.Texts.{field, name_text, cause_text, commit_answer_text, answer_text, report_text};
+ghost use Rattle.run_model.specs.Texts.{field, answer_text, report_text};
 ghost use Rattle.graphalytics_io.specs.Appends.{Extends};
 
 use crate::pieces::{write_counted, write_field, write_named};
@@ -76,7 +76,7 @@ fn write_answer(answer: &Answer, text: &mut Text) -> Result<(), NoMemory>
 
 /// Writes the answer to a `begin`. Without memory the text may have a part of it.
 fn write_begun(by: TxnName, start: u64, text: &mut Text) -> Result<(), NoMemory>
-    ensures ok { OnOk result (text.new ≡ text.old ++ (codes "begin " ++ name_text by ++ codes " start" ++ field start)) }
+    ensures ok { OnOk result (text.new ≡ text.old ++ answer_text (Answer.Begun by start)) }
     ensures err { OnErr result (Extends text.old text.new) }
 {
     write_named(b"begin ", by, text)?;
@@ -85,7 +85,7 @@ fn write_begun(by: TxnName, start: u64, text: &mut Text) -> Result<(), NoMemory>
 
 /// Writes what a conflict was met with. Without memory the text may have a part of it.
 fn write_cause(cause: &Cause, text: &mut Text) -> Result<(), NoMemory>
-    ensures ok { OnOk result (text.new ≡ text.old ++ cause_text cause.now) }
+    ensures ok { OnOk result (text.new ≡ text.old ++ answer_text (Answer.Conflict cause.now)) }
     ensures err { OnErr result (Extends text.old text.new) }
 {
     match cause {
@@ -96,7 +96,7 @@ fn write_cause(cause: &Cause, text: &mut Text) -> Result<(), NoMemory>
 
 /// Writes how many targets there are, and each. Without memory the text may have a part of it.
 fn write_neighbours(targets: &Ids, text: &mut Text) -> Result<(), NoMemory>
-    ensures ok { OnOk result (text.new ≡ text.old ++ (codes "neighbours" ++ field (length targets.now) ++ flat_map field targets.now)) }
+    ensures ok { OnOk result (text.new ≡ text.old ++ answer_text (Answer.Neighbours targets.now)) }
     ensures err { OnErr result (Extends text.old text.new) }
 {
     write_counted(b"neighbours", targets.len() as u64, text)?;
@@ -119,7 +119,7 @@ fn write_fields(numbers: &[u64], text: &mut Text) -> Result<(), NoMemory>
 
 /// Writes how many vertices and edges there are. Without memory the text may have a part of it.
 fn write_counts(vertices: u64, edges: u64, text: &mut Text) -> Result<(), NoMemory>
-    ensures ok { OnOk result (text.new ≡ text.old ++ (codes "vertices" ++ field vertices ++ codes " edges" ++ field edges)) }
+    ensures ok { OnOk result (text.new ≡ text.old ++ answer_text (Answer.Counted vertices edges)) }
     ensures err { OnErr result (Extends text.old text.new) }
 {
     write_counted(b"vertices", vertices, text)?;
@@ -128,11 +128,74 @@ fn write_counts(vertices: u64, edges: u64, text: &mut Text) -> Result<(), NoMemo
 
 /// Writes the answer to a `commit`. Without memory the text may have a part of it.
 fn write_committed(stamp: Option<u64>, text: &mut Text) -> Result<(), NoMemory>
-    ensures ok { OnOk result (text.new ≡ text.old ++ commit_answer_text stamp) }
+    ensures ok { OnOk result (text.new ≡ text.old ++ answer_text (Answer.Committed stamp)) }
     ensures err { OnErr result (Extends text.old text.new) }
 {
     match stamp {
         Some(stamp) => write_counted(b"commit", stamp, text),
         None => text.push_bytes(b"commit -"),
+    }
+}
+
+#[cfg(test)]
+mod tests {
+    use super::*;
+    use std::test::Fail;
+
+    #[test]
+    fn each_kind_of_answer_is_a_line_behind_what_stands_in_the_text(
+        rt: HostRuntime,
+    ) -> Result<(), Fail> {
+        let holder = TxnName {
+            job: 3,
+            number: 4294967295,
+        };
+        let targets = Ids::from_vec(Vec::from_slice(rt.alloc(), &[7, 20])?);
+        let lines = Vec::from_array(
+            rt.alloc(),
+            [
+                Answer::Begun {
+                    by: TxnName { job: 12, number: 1 },
+                    start: 40,
+                },
+                Answer::Done,
+                Answer::Exists,
+                Answer::SelfLoop,
+                Answer::NoVertex {
+                    v: 9223372036854775806,
+                },
+                Answer::NoEdge,
+                Answer::HasEdges,
+                Answer::Conflict {
+                    cause: Cause::Later { stamp: 41 },
+                },
+                Answer::Conflict {
+                    cause: Cause::Holder { by: holder },
+                },
+                Answer::Full,
+                Answer::Weight { weight: 0 },
+                Answer::Nothing,
+                Answer::Neighbours { targets },
+                Answer::Neighbours {
+                    targets: Ids::new(rt.alloc()),
+                },
+                Answer::Counted {
+                    vertices: 10,
+                    edges: 100,
+                },
+                Answer::Table { entries: 10 },
+                Answer::Committed { stamp: Some(42) },
+                Answer::Committed { stamp: None },
+                Answer::Aborted,
+                Answer::Skipped,
+            ],
+        )?;
+        let mut text = Text::new(rt.alloc());
+        text.push_bytes(b"# ")?;
+        write_report(&Answers::from_vec(lines), &mut text)?;
+        let want: &[u8] =
+            b"# begin 12.1 start 40\nok\nexists\nself loop\nno vertex 9223372036854775806\nno edge\nhas edges\nconflict later 41\nconflict open 3.4294967295\nfull\nweight 0\nnone\nneighbours 2 7 20\nneighbours 0\nvertices 10 edges 100\ntable 10\ncommit 42\ncommit -\naborted\nskipped\n";
+        assert!(rt; text.as_slice() == want);
+        Ok(())
     }
 }

@@ -47,10 +47,10 @@ two_arcs g u v weight same is =
     let at = allowed_ends g u v _ is in
     let out : has_arc g u v ≡ false = no_arc (has_arc g u v) at.3 in
     let back : has_arc (with_arc g u v weight) v u ≡ false =
-          ap is_some (weight-with_arc g u v weight v u ∙ ap (λ t. cond t (Some weight) (weight_of g v u)) (apart_tests u v at.0)) ∙ ap is_some (sym (same u v)) ∙ out in
+    ap is_some (weight-with_arc g u v weight v u ∙ ap (λ t. cond t (Some weight) (weight_of g v u)) (apart_tests u v at.0)) ∙ ap is_some (sym (same u v)) ∙ out in
     let first : fin_map.len (with_arc g u v weight).arcs ≡ fin_map.len g.arcs + 1 = fin_map.len-insert arcs_total g.arcs (u, v) weight ∙ grown (has_arc g u v) (fin_map.len g.arcs) out in
     let second : fin_map.len (apply Undirected g (AddEdge u v weight)).arcs ≡ fin_map.len (with_arc g u v weight).arcs + 1 =
-          fin_map.len-insert arcs_total (with_arc g u v weight).arcs (v, u) weight ∙ grown (has_arc (with_arc g u v weight) v u) (fin_map.len (with_arc g u v weight).arcs) back in
+    fin_map.len-insert arcs_total (with_arc g u v weight).arcs (v, u) weight ∙ grown (has_arc (with_arc g u v weight) v u) (fin_map.len (with_arc g u v weight).arcs) back in
     omega arith
 
 allowed_front : (xs ys : List Write) (g : Graph) → AllAllowed Undirected g (xs ++ ys) → AllAllowed Undirected g xs × AllAllowed Undirected (apply_all Undirected g xs) ys
@@ -97,9 +97,10 @@ counts ids edges all =
     let no_vertices : fin_map.len empty_graph.vertices ≡ 0 = fin_map.len-empty nat_cmp (Unit {0}) in
     let no_arcs : fin_map.len empty_graph.arcs ≡ 0 = fin_map.len-empty arc_cmp ℕ in
     let all_vertices : fin_map.len (apply_all Undirected alone (map added_edge edges)).vertices ≡ length ids = omega (arith, first.0, second.0) in
-    let all_arcs : fin_map.len (apply_all Undirected alone (map added_edge edges)).arcs ≡ 2 * length edges = omega (arith, first.1, second.1) in
-    (ap (λ (h : Graph). fin_map.len h.vertices) (apply_behind (map AddVertex ids) (map added_edge edges) empty_graph) ∙ all_vertices,
-     ap (λ (h : Graph). fin_map.len h.arcs) (apply_behind (map AddVertex ids) (map added_edge edges) empty_graph) ∙ all_arcs)
+    let all_arcs : fin_map.len (apply_all Undirected alone (map added_edge edges)).arcs ≡ 2 * length edges = omega (arith, first.1, second.1) in (
+      ap (λ (h : Graph). fin_map.len h.vertices) (apply_behind (map AddVertex ids) (map added_edge edges) empty_graph) ∙ all_vertices,
+      ap (λ (h : Graph). fin_map.len h.arcs) (apply_behind (map AddVertex ids) (map added_edge edges) empty_graph) ∙ all_arcs,
+    )
 
 -- the load is allowed, since its journal is legal
 load_allowed : (load : List Write) → IsLegal Undirected (journal_of load) → AllAllowed Undirected empty_graph load
@@ -113,6 +114,7 @@ pub load_counts : LoadIsLegal → (ids : List ℕ) (edges : List Edge) → IsLoa
     → (length (vertices_of (graph_of (load_of ids edges))) ≡ length ids) × (edges_in Undirected (graph_of (load_of ids edges)) ≡ length edges)
 load_counts legal ids edges can =
     let all = counts ids edges (load_allowed (load_of ids edges) (legal ids edges can)) in
-    let g = graph_of (load_of ids edges) in
-    (length-map (fin_map.entries g.vertices) (λ e. e.0) ∙ sym (fin_map.len-entries g.vertices) ∙ all.0,
-     half (fin_map.len g.arcs) (length edges) all.1)
+    let g = graph_of (load_of ids edges) in (
+      length-map (fin_map.entries g.vertices) (λ e. e.0) ∙ sym (fin_map.len-entries g.vertices) ∙ all.0,
+      half (fin_map.len g.arcs) (length edges) all.1,
+    )

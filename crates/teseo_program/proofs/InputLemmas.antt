@@ -5,7 +5,7 @@ use Rattle.run_model.specs.declared.command.Command.{Command}
 use Rattle.graphalytics_io.specs.declared.edges.Edge.{Edge}
 use Rattle.graphalytics_io.specs.VertexFile.{IsVertexFile}
 use Rattle.graphalytics_io.specs.EdgeFile.{IsEdgeFile}
-use Rattle.script_lang.specs.ScriptFile.{IsScriptFile, Reads}
+use Rattle.script_lang.specs.ScriptFile.{IsScriptFile, ReadsScript}
 use Rattle.script_lang.specs.declared.refusal.ScriptRefusal.{ScriptRefusal}
 use Rattle.script_lang.specs.declared.refusal.ScriptRefusal.TheVariants as refusals
 use Rattle.teseo_program.specs.declared.ending.Source.TheVariants.{Script}
@@ -17,7 +17,7 @@ use Rattle.teseo_program.specs.InputHeld.{IsParsed}
 
 module _ (names : RunNames) (sources : Sources) (v e s : List ℕ) (v_is : v ≡ sources.vertices) (e_is : e ≡ sources.edges) (s_is : s ≡ sources.script)
     (ids : List ℕ) (edges : List Edge) (taken : List (List ℕ)) (vertices_are : IsVertexFile v MAX_LOAD_ROWS ids) (edges_are : IsEdgeFile e ids MAX_LOAD_ROWS edges) (taken_are : taken ≡ taken_names names) where
-  pub parsed : (script : List Command) (new : List (List ℕ)) → Reads s taken script new → IsParsed names sources (record { ids = ids; edges = edges; script = script })
+  pub parsed : (script : List Command) (new : List (List ℕ)) → ReadsScript s taken script new → IsParsed names sources (record { ids = ids; edges = edges; script = script })
   parsed script new reads = (
     record { ids = ids; edges = edges; root = reads.root; file = reads.file },
     record { ids = refl; edges = refl; script = reads.same },
@@ -25,7 +25,7 @@ module _ (names : RunNames) (sources : Sources) (v e s : List ℕ) (v_is : v ≡
       vertices = subst (λ t. IsVertexFile t MAX_LOAD_ROWS ids) v_is vertices_are;
       edges = subst (λ t. IsEdgeFile t ids MAX_LOAD_ROWS edges) e_is edges_are;
       script = subst (λ t. IsScriptFile t (taken_names names) reads.root reads.file) s_is (subst (λ ns. IsScriptFile s ns reads.root reads.file) taken_are reads.accepted);
-    }
+    },
   )
 
   pub not_script : (refusal : ScriptRefusal) → refusal ≡ refusals.NotAccepted → ((root : ℕ) (file : List ℕ) → IsScriptFile s taken root file → refusal ≡ refusals.NoMemory) → IsNotAccepted names sources (endings.NotAccepted Script)
@@ -35,7 +35,7 @@ module _ (names : RunNames) (sources : Sources) (v e s : List ℕ) (v_is : v ≡
     subst (λ t. IsVertexFile t MAX_LOAD_ROWS ids) v_is vertices_are,
     subst (λ t. IsEdgeFile t ids MAX_LOAD_ROWS edges) e_is edges_are,
     λ root file accepted.
-      let here : IsScriptFile s taken root file = subst (λ t. IsScriptFile t taken root file) (sym s_is) (subst (λ ns. IsScriptFile sources.script ns root file) (sym taken_are) accepted) in
-      let other = only root file here in
-      cc
+        let here : IsScriptFile s taken root file = subst (λ t. IsScriptFile t taken root file) (sym s_is) (subst (λ ns. IsScriptFile sources.script ns root file) (sym taken_are) accepted) in
+        let other = only root file here in
+        cc,
   )

@@ -6,3 +6,5 @@ pub mod RunLemmas
 pub mod RanLemmas
 pub mod CountLemmas
 pub mod NameLemmas
+pub mod MadeLemmas
+pub mod ProgramLemmas

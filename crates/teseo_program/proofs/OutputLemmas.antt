@@ -25,6 +25,7 @@ new_name outputs i o lt at distinct =
     length_names : (outputs : List Output) → length (names_of outputs) ≡ length outputs
     length_names [] = refl
     length_names (o ∷ outputs) = ap suc (length_names outputs)
+
     name_here : (outputs : List Output) (i : ℕ) (o : Output) (d : List ℕ) → i < length outputs → o ≡ get_or outputs i o → get_or (names_of outputs) i d ≡ o.name
     name_here [] i o d lt at = absurd (omega arith)
     name_here (x ∷ outputs) zero o d lt at = ap (λ (y : Output). y.name) (sym at)
@@ -33,7 +34,7 @@ new_name outputs i o lt at distinct =
 written_still : (mid new : Files) (name other text : List ℕ) → ChangesOnly name mid new → other ≢ name → IsWritten mid other text → IsWritten new other text
 written_still mid new name other text change apart is = record {
   whole = subst (λ t. IfSome t (λ told. told ≡ text)) (sym (change.written other apart)) is.whole;
-  told = λ tells. subst (λ t. IsSome t) (sym (change.written other apart)) (is.told (sym change.tells ∙ tells))
+  told = λ tells. subst (λ t. IsSome t) (sym (change.written other apart)) (is.told (sym change.tells ∙ tells));
 }
 
 all_still : (mid new : Files) (name : List ℕ) (outputs : List Output) → ChangesOnly name mid new → HaveOtherNames name outputs → AreWritten mid outputs → AreWritten new outputs
@@ -52,22 +53,22 @@ names_push (x ∷ outputs) o = ap (λ ns. x.name ∷ ns) (names_push outputs o)
 others_on : (outputs : List Output) (o : Output) (old mid new : Files) → KeepsOthers (names_of outputs) old mid → ChangesOnly o.name mid new → KeepsOthers (names_of (outputs ++ o ∷ [])) old new
 others_on outputs o old mid new before change =
     let not_before : (other : List ℕ) → (Contains (names_of (outputs ++ o ∷ [])) other → ⊥) → Contains (names_of outputs) other → ⊥ = λ other out there.
-          out (subst (λ ns. Contains ns other) (sym (names_push outputs o)) (Contains-append_left (names_of outputs) (o.name ∷ []) other there)) in
+    out (subst (λ ns. Contains ns other) (sym (names_push outputs o)) (Contains-append_left (names_of outputs) (o.name ∷ []) other there)) in
     let not_here : (other : List ℕ) → (Contains (names_of (outputs ++ o ∷ [])) other → ⊥) → other ≢ o.name = λ other out same.
-          out (subst (λ ns. Contains ns other) (sym (names_push outputs o)) (Contains-append_right (names_of outputs) (o.name ∷ []) other (0, omega arith, sym same))) in
+    out (subst (λ ns. Contains ns other) (sym (names_push outputs o)) (Contains-append_right (names_of outputs) (o.name ∷ []) other (0, omega arith, sym same))) in
     record {
       holds = λ other out. change.holds other (not_here other out) ∙ before.holds other (not_before other out);
       written = λ other out. change.written other (not_here other out) ∙ before.written other (not_before other out);
       said = change.said ∙ before.said;
       tells = change.tells ∙ before.tells;
-      read_faults = change.read_faults ∙ before.read_faults
+      read_faults = change.read_faults ∙ before.read_faults;
     }
 
 pub writes_none : (files : Files) → WritesAll [] files files
 writes_none files = record {
   whole = tt;
   others = record { holds = λ other out. refl; written = λ other out. refl; said = refl; tells = refl; read_faults = refl };
-  write_faults = refl
+  write_faults = refl;
 }
 
 pub writes_more : (outputs : List Output) (i : ℕ) (o : Output) (old mid new : Files) → i < length outputs → o ≡ get_or outputs i o → AllPairs (λ a b. a ≢ b) (names_of outputs)
@@ -76,7 +77,7 @@ writes_more outputs i o old mid new lt at distinct before is faults change =
     subst (λ os. WritesAll os old new) (sym (take_more outputs i o lt ∙ ap (λ x. take i outputs ++ x ∷ []) (sym at))) (record {
       whole = written_push new (take i outputs) o (all_still mid new o.name (take i outputs) change (new_name outputs i o lt at distinct) before.whole) is;
       others = others_on (take i outputs) o old mid new before.others change;
-      write_faults = faults ∙ before.write_faults
+      write_faults = faults ∙ before.write_faults;
     })
 
 -- ---- a failure
@@ -88,7 +89,7 @@ front_of o old mid new same fails =
       | inr part ↦ inr part
     ]
 
-at_place : (outputs : List Output) (i : ℕ) (o : Output) → i < length outputs → o ≡ get_or outputs i o → slice_get outputs i ≡ Some o
+pub at_place : (outputs : List Output) (i : ℕ) (o : Output) → i < length outputs → o ≡ get_or outputs i o → slice_get outputs i ≡ Some o
 at_place [] i o lt at = absurd (omega arith)
 at_place (x ∷ outputs) zero o lt at = ap Some (sym at)
 at_place (x ∷ outputs) (suc i) o lt at = at_place outputs i o (omega arith) at
@@ -107,10 +108,13 @@ rose_from before now later same rose = subst (λ n. Rose n later) same rose
 pub fails_here : (outputs : List Output) (i : ℕ) (o : Output) (old mid new : Files) → i < length outputs → o ≡ get_or outputs i o → AllPairs (λ a b. a ≢ b) (names_of outputs)
     → WritesAll (take i outputs) old mid → SinkFails o.name o.text mid new → ChangesOnly o.name mid new → FailsAtPlace outputs i old new
 fails_here outputs i o old mid new lt at distinct before fails change =
-    let apart = new_name outputs i o lt at distinct in
-    (o, at_place outputs i o lt at, record {
-      rose = rose_from old.write_faults mid.write_faults new.write_faults before.write_faults fails.rose;
-      whole = all_still mid new o.name (take i outputs) change apart before.whole;
-      front = front_of o old mid new (before.others.written o.name (not_among o.name (take i outputs) apart)) fails;
-      others = others_on (take i outputs) o old mid new before.others change
-    })
+    let apart = new_name outputs i o lt at distinct in (
+      o,
+      at_place outputs i o lt at,
+      record {
+        rose = rose_from old.write_faults mid.write_faults new.write_faults before.write_faults fails.rose;
+        whole = all_still mid new o.name (take i outputs) change apart before.whole;
+        front = front_of o old mid new (before.others.written o.name (not_among o.name (take i outputs) apart)) fails;
+        others = others_on (take i outputs) o old mid new before.others change;
+      },
+    )

@@ -33,5 +33,5 @@ module _ (legal : LoadIsLegal) (its_graph : LoadIsItsGraph) (input : Input) (m :
       let here : IsSearched (graph_of (load_of m.ids m.edges)) m.root table = subst (λ r. IsSearched (graph_of (load_of m.ids m.edges)) r table) root_is (subst (λ l. IsSearched (graph_of l) root table) same_load searched) in
       let can : IsLoadable m.ids m.edges = subst (λ es. IsLoadable m.ids es) means.edges (subst (λ ids. IsLoadable ids input.edges) means.ids loadable) in
       let outputs : outputs_from m table ≡ record { journal = journal; reports = answers ∷ []; files = files_of m.file table ∷ [] } =
-            (λ i. record { journal = sym same_journal i; reports = sym same_answers i ∷ []; files = files_of m.file table ∷ [] }) in
+      (λ i. record { journal = sym same_journal i; reports = sym same_answers i ∷ []; files = files_of m.file table ∷ [] }) in
       subst (λ o. IsRun (inputs_of m) MAX_LEAVES o) outputs (first_run m table (legal m.ids m.edges can) (its_graph (load_of m.ids m.edges)) here)

@@ -70,7 +70,7 @@ lines_of_run m table = lines_of (lines m.root m.file) (answers_of (start_of_run 
 -- nothing was written, so the commit has no stamp
 last_line : (m : Meaning) (table : Option (List Entry)) (scripts : List (List Line))
     → IsAnswered (context_of m scripts) (record { txn = 1; command = commands.Begin; answer = answers.Begun (txn_name 1 1) (start_of_run m) } ∷ record { txn = 1; command = commands.Bfs m.root m.file; answer = search_answer m.root table } ∷ [])
-        (record { txn = 1; command = commands.Commit; answer = answers.Committed None })
+    (record { txn = 1; command = commands.Commit; answer = answers.Committed None })
 last_line m (Some table) scripts = refl
 last_line m None scripts = refl
 
@@ -82,7 +82,7 @@ module _ (m : Meaning) (table : Option (List Entry)) (scripts : List (List Line)
   answered : AllAnswered (context_of m scripts) [] (lines_of_run m table)
   answered = (
     (refl, record { within = le_refl (start_of_run m); loaded = load_before (load_of m.ids m.edges); shown = omega arith }),
-    (answer_is (graph_at Undirected (journal_of (load_of m.ids m.edges)) (start_of_run m)) m.root table searched_here, (last_line m table scripts, tt))
+    (answer_is (graph_at Undirected (journal_of (load_of m.ids m.edges)) (start_of_run m)) m.root table searched_here, (last_line m table scripts, tt)),
   )
 
 filed : (m : Meaning) (table : Option (List Entry)) (scripts : List (List Line))
@@ -95,7 +95,7 @@ abbrev pub outputs_from : Meaning → Option (List Entry) → Outputs
 outputs_from m table = record {
   journal = journal_of (load_of m.ids m.edges);
   reports = answers_of (start_of_run m) m.root table ∷ [];
-  files = files_of m.file table ∷ []
+  files = files_of m.file table ∷ [];
 }
 
 pub first_run : (m : Meaning) (table : Option (List Entry)) → IsLegal Undirected (journal_of (load_of m.ids m.edges))
@@ -107,23 +107,23 @@ first_run m table legal its_graph searched = record {
   loaded = load_first (load_of m.ids m.edges);
   reported = refl;
   lines = λ k cs report at_script at_report.
-    let script = one_place (lines m.root m.file) cs k at_script in
-    let answer = one_place (answers_of (start_of_run m) m.root table) report k at_report in
-    sym (ap length answer.1) ∙ ap length script.1;
+      let script = one_place (lines m.root m.file) cs k at_script in
+      let answer = one_place (answers_of (start_of_run m) m.root table) report k at_report in
+      sym (ap length answer.1) ∙ ap length script.1;
   answered = λ k ls at.
-    let here = one_place (lines_of_run m table) ls k at in
-    subst (λ j. AllAnswered (record (context_of m (lines_of_run m table ∷ [])) { job = j + 1 }) [] ls) (sym here.0)
+      let here = one_place (lines_of_run m table) ls k at in
+      subst (λ j. AllAnswered (record (context_of m (lines_of_run m table ∷ [])) { job = j + 1 }) [] ls) (sym here.0)
       (subst (λ xs. AllAnswered (context_of m (lines_of_run m table ∷ [])) [] xs) here.1 (answered m table (lines_of_run m table ∷ []) its_graph searched));
   committed = λ i c at. inl (only_load (load_of m.ids m.edges) i c at);
   full = λ k i ls l at_script at_line is.
-    let here = one_place (lines_of_run m table) ls k at_script in
-    not_full (start_of_run m) m.root m.file table i l (ap (λ xs. slice_get xs i) here.1 ∙ at_line) is;
+      let here = one_place (lines_of_run m table) ls k at_script in
+      not_full (start_of_run m) m.root m.file table i l (ap (λ xs. slice_get xs i) here.1 ∙ at_line) is;
   filed = refl;
   files = λ k ls files at_script at_files.
-    let here = one_place (lines_of_run m table) ls k at_script in
-    let held = one_place (files_of m.file table) files k at_files in
-    subst (λ j. HasFiles (record (context_of m (lines_of_run m table ∷ [])) { job = j + 1 }) [] ls files) (sym here.0)
+      let here = one_place (lines_of_run m table) ls k at_script in
+      let held = one_place (files_of m.file table) files k at_files in
+      subst (λ j. HasFiles (record (context_of m (lines_of_run m table ∷ [])) { job = j + 1 }) [] ls files) (sym here.0)
       (subst (λ fs. HasFiles (context_of m (lines_of_run m table ∷ [])) [] ls fs) held.1
-        (subst (λ xs. HasFiles (context_of m (lines_of_run m table ∷ [])) [] xs (files_of m.file table)) here.1
-          (filed m table (lines_of_run m table ∷ []) (searched_here m table (lines_of_run m table ∷ []) its_graph searched))))
+      (subst (λ xs. HasFiles (context_of m (lines_of_run m table ∷ [])) [] xs (files_of m.file table)) here.1
+      (filed m table (lines_of_run m table ∷ []) (searched_here m table (lines_of_run m table ∷ []) its_graph searched))));
 }

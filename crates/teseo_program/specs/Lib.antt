@@ -11,3 +11,4 @@ pub mod Sinks
 pub mod TextsHeld
 pub mod Ends
 pub mod Made
+pub mod Refusal

@@ -5,8 +5,12 @@ mod ending;
 mod input;
 mod outputs;
 mod prepare;
+mod program;
 mod run;
 mod said;
 mod sources;
 mod texts;
 mod words;
+
+pub use ending::{Ending, Sink, Source};
+pub use program::teseo;

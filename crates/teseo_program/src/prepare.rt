@@ -1,14 +1,14 @@
 //! All that comes before the first output is created: the sources are read and parsed, the script runs,
 //! and the texts are made.
 
-ghost use Rattle.std.specs.Prelude.{◌≡◌, ◌∷◌, ℕ, List, All, IfOk, IfErr, OnOk};
+ghost use Rattle.std.specs.Prelude.{◌≡◌, ◌≢◌, ℕ, List, AllPairs, IfOk, IfErr, OnOk};
 ghost use Rattle.std.specs.String.{string_bytes};
-ghost use Rattle.desk_io.specs.Files.{Files};
-ghost use Rattle.script_lang.specs.ScriptFile.{IsNameByte, lines};
-ghost use Rattle.teseo_program.specs.Words.{report_name};
+ghost use Rattle.script_lang.specs.ScriptFile.{lines};
+ghost use Rattle.teseo_program.specs.Words.{report_name, taken_names};
 ghost use Rattle.teseo_program.specs.Names.{shown};
 ghost use Rattle.teseo_program.specs.InputHeld.{IsParsed};
 ghost use Rattle.teseo_program.specs.Made.{IsMade, IsMadeOf, IsUnmade};
+ghost use Rattle.teseo_program.specs.Refusal.{AreApart};
 
 use crate::ending::Ending;
 use crate::input::{Input, parse_sources};
@@ -18,7 +18,7 @@ use crate::sources::{Sources, read_sources};
 use crate::texts::{outputs_from, summary_of};
 use crate::words::Names;
 use desk_io::Desk;
-use first_load::files_are_loadable;
+use first_load::{files_are_loadable, load_is_its_graph, load_is_legal};
 use graph_model::NoMemory;
 use graphalytics_io::Text;
 use run_model::{Command, Name};
@@ -33,7 +33,9 @@ pub struct Made {
 
 /// Reads and parses the sources, runs the script, and makes all texts. Creates nothing.
 pub fn prepare<D: Desk>(alloc: Global, desk: &mut D, names: &Names<'_>) -> Result<Made, Ending>
+    requires { AllPairs (λ a b. a ≢ b) (taken_names (shown names.now)) }
     ensures made { IfOk result (IsMade (shown names.now) (D.files desk.old)) }
+    ensures apart { IfOk result AreApart }
     ensures ok { OnOk result (D.files desk.new ≡ D.files desk.old) }
     ensures unmade { IfErr result (IsUnmade (shown names.now) (D.files desk.old) (D.files desk.new)) }
 {
@@ -79,9 +81,13 @@ fn make(
 ) -> Result<Made, NoMemory>
     requires parsed { IsParsed (shown names.now) sources.now input.now }
     requires report { string_bytes report ≡ report_name (shown names.now).script }
-    ensures { IfOk result (IsMadeOf (shown names.now) sources.now) }
+    requires distinct { AllPairs (λ a b. a ≢ b) (taken_names (shown names.now)) }
+    ensures made { IfOk result (IsMadeOf (shown names.now) sources.now) }
+    ensures apart { IfOk result AreApart }
 {
     files_are_loadable();
+    load_is_legal();
+    load_is_its_graph();
     let ran = match run_script(alloc, input) {
         Ok(ran) => ran,
         Err(refusal) => return Err(refusal),

@@ -28,7 +28,8 @@ pub struct Ran {
 pub fn run_script(alloc: Global, input: &Input) -> Result<Ran, NoMemory>
     requires loadable { IsLoadable input.now.ids input.now.edges }
     requires script { (root : ℕ) × (file : List ℕ) × (input.now.script ≡ lines root file) }
-    ensures { IfOk result (λ ran. (m : Meaning) → Means input.now m → IsRan m ran) }
+    ensures run { IfOk result (λ ran. (m : Meaning) → Means input.now m → IsRan m ran) }
+    ensures journal { IfOk result (λ ran. ran.journal ≡ journal_of (load_of input.now.ids input.now.edges)) }
 {
     load_is_legal();
     load_is_its_graph();

@@ -32,6 +32,13 @@ next_of text ids room done rest some reads all file =
 known_fits : (xs : List ℕ) (x : ℕ) → All (λ y. y < 2 ^ 64) xs → Contains xs x → x < 2 ^ 64
 known_fits xs x fits there = All-contains (λ (y : ℕ). y < 2 ^ 64) xs x fits there
 
+-- an edge that was read where a file goes on is the file's next
+read_is_next : (text ids : List ℕ) (room : ℕ) (done : List Edge) (rest : List ℕ) → rest ≢ [] → ReadsTo IsEdgeLine text done rest → (all : List Edge) → AreEdgeLines text ids room all → (edge : Edge) (after : List ℕ) → IsEdgeLine rest edge after → HasKnownEnds ids edge × NoLoop edge
+read_is_next text ids room done rest some reads all file edge after line =
+    let next = next_of text ids room done rest some reads all file in
+    let same = edges_exact.same rest next.1 after next.0 edge next.2.line line in
+    (subst (HasKnownEnds ids) same.0 next.2.known, subst NoLoop same.0 next.2.no_loop)
+
 pub returns-in_default : goal.returns-in_default
 returns-in_default c = λ all file.
     let next = next_of c.args.text.now c.args.known.now c.args.room c.lines.edges.items c.lines.rest.now (some_rest _ _ c.is_empty.ensures c.lines-test.true) c.lines.invariant.reads all file in
@@ -42,24 +49,19 @@ returns-in_default c = λ all file.
 
 pub returns-then-edge : goal.returns-then-edge
 returns-then-edge c = λ all file.
-    let next = next_of c.args.text.now c.args.known.now c.args.room c.lines.edges.items c.lines.rest.now (some_rest _ _ c.is_empty.ensures c.lines-test.true) c.lines.invariant.reads all file in
-    let same = edges_exact.same c.lines.rest.now next.1 c.in-Some.after.now next.0 c.in-Some.edge next.2.line c.in-Some.ensures.found in
-    subst NoLoop same.0 next.2.no_loop c.if-edge.true
+    let next = read_is_next _ _ _ _ _ (some_rest _ _ c.is_empty.ensures c.lines-test.true) c.lines.invariant.reads all file _ _ c.in-Some.ensures.found in
+    next.1 c.if-edge.true
 
 pub returns-then-not-contains : goal.returns-then-not-contains
 returns-then-not-contains c = λ all file.
-    let next = next_of c.args.text.now c.args.known.now c.args.room c.lines.edges.items c.lines.rest.now (some_rest _ _ c.is_empty.ensures c.lines-test.true) c.lines.invariant.reads all file in
-    let same = edges_exact.same c.lines.rest.now next.1 c.in-Some.after.now next.0 c.in-Some.edge next.2.line c.in-Some.ensures.found in
-    let known = subst (HasKnownEnds c.args.known.now) same.0 next.2.known in
-    let wrong : c.contains.result ≡ true = c.contains.ensures.1 known.0 in
+    let next = read_is_next _ _ _ _ _ (some_rest _ _ c.is_empty.ensures c.lines-test.true) c.lines.invariant.reads all file _ _ c.in-Some.ensures.found in
+    let wrong : c.contains.result ≡ true = c.contains.ensures.1 next.0.0 in
     cc
 
 pub returns-then-not-contains-2 : goal.returns-then-not-contains-2
 returns-then-not-contains-2 c = λ all file.
-    let next = next_of c.args.text.now c.args.known.now c.args.room c.lines.edges.items c.lines.rest.now (some_rest _ _ c.is_empty.ensures c.lines-test.true) c.lines.invariant.reads all file in
-    let same = edges_exact.same c.lines.rest.now next.1 c.in-Some.after.now next.0 c.in-Some.edge next.2.line c.in-Some.ensures.found in
-    let known = subst (HasKnownEnds c.args.known.now) same.0 next.2.known in
-    let wrong : c.contains-in-lines.result ≡ true = c.contains-in-lines.ensures.1 known.1 in
+    let next = read_is_next _ _ _ _ _ (some_rest _ _ c.is_empty.ensures c.lines-test.true) c.lines.invariant.reads all file _ _ c.in-Some.ensures.found in
+    let wrong : c.contains-in-lines.result ≡ true = c.contains-in-lines.ensures.1 next.0.1 in
     cc
 
 pub lines-preserved : goal.lines-preserved

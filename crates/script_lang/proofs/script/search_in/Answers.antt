@@ -1,5 +1,4 @@
 use Rattle.std.proofs.Common.{◌≡◌, ℕ, ◌<◌, List, length, true, All, subst, sym, ◌∙◌, arith}
-use Rattle.graph_model.specs.declared.limits.TheConstants.{MAX_ID}
 use Rattle.graphalytics_io.specs.Lines.{IsField}
 use Rattle.script_lang.specs.ScriptFile.{IsNameByte}
 use Rattle.script_lang.proofs.ScriptLemmas.{in_parts, same_fields, same_root, same_file}

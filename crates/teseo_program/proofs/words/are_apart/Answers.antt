@@ -15,8 +15,8 @@ returns-then-is_report_of-3 c = (λ wrong. cc, λ all. absurd (all 2 4 [] (omega
 pub returns : goal.returns
 returns c = (
   λ yes. five (shown c.args.names.now) (c.all_different.ensures.0 yes)
-    (λ same. let wrong = c.if-is_report_of.ensures.1 same in cc)
-    (λ same. let wrong = c.if-is_report_of-2.ensures.1 same in cc)
-    (λ same. let wrong = c.if-is_report_of-3.ensures.1 same in cc),
-  λ all. c.all_different.ensures.1 (four (shown c.args.names.now) all)
+      (λ same. let wrong = c.if-is_report_of.ensures.1 same in cc)
+      (λ same. let wrong = c.if-is_report_of-2.ensures.1 same in cc)
+      (λ same. let wrong = c.if-is_report_of-3.ensures.1 same in cc),
+  λ all. c.all_different.ensures.1 (four (shown c.args.names.now) all),
 )
