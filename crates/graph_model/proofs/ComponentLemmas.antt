@@ -1,8 +1,8 @@
 -- Walks that may take each arc either way, and the least vertex that they lead to.
-use Rattle.std.proofs.Common.{◌≡◌, ℕ, ◌≤◌, List, [], ◌∷◌, ◌++◌, refl, sym, ◌∙◌, ap, subst, arith}
+use Rattle.std.proofs.Common.{◌≡◌, ℕ, ◌≤◌, List, [], ◌∷◌, ◌++◌, refl, sym, subst, arith}
 use Rattle.std.specs.Prelude.{Bool, true, false, ◌||◌, IsTrue}
 use Rattle.graph_model.specs.Graph.{Graph, has_vertex, has_arc, HasBothEnds}
-use Rattle.graph_model.specs.Components.{are_joined, IsTrail, IsComponent}
+use Rattle.graph_model.specs.Components.{IsTrail, IsComponent}
 
 or_left : (s t : Bool) → s ≡ true → (s || t) ≡ true
 or_left true t e = refl

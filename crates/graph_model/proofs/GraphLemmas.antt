@@ -1,8 +1,8 @@
 -- What a write changes of a graph, look-up by look-up; and that equal look-ups make equal graphs.
-use Rattle.std.proofs.Common.{◌≡◌, ℕ, ◌+◌, List, [], ◌∷◌, refl, sym, ◌∙◌, ap, subst, cond, arith}
-use Rattle.std.specs.Prelude.{Bool, true, false, ◌==◌, ◌&&◌, ◌||◌, not, IsTrue, Option, Some, None, map, is_some}
+use Rattle.std.proofs.Common.{◌≡◌, ℕ, List, [], ◌∷◌, refl, sym, ◌∙◌, ap, cond, arith}
+use Rattle.std.specs.Prelude.{Bool, true, false, ◌==◌, ◌&&◌, ◌||◌, not, Option, Some, None, is_some}
 use Rattle.std.specs.List.{list_any}
-use Rattle.std.specs.Ordering.{nat_cmp, eq_by_cmp, is_eq}
+use Rattle.std.specs.Ordering.{nat_cmp, eq_by_cmp}
 use Rattle.std.specs.Cmp.{nat_cmp_total, unsigned_tied, Equal-is, eq_by_cmp_equiv}
 use Rattle.std.specs.FinMap as fin_map
 use Rattle.std.specs.FinMap.{nat_cmp-IsAntisymmetric}
@@ -11,7 +11,7 @@ use Rattle.graph_model.specs.declared.write.Kind.{Kind}
 use Rattle.graph_model.specs.declared.write.Kind.TheVariants.{Directed, Undirected}
 use Rattle.graph_model.specs.declared.write.Write.{Write}
 use Rattle.graph_model.specs.declared.write.Write.TheVariants.{AddVertex, DropVertex, AddEdge, SetEdge, DropEdge}
-use Rattle.graph_model.specs.Graph.{Graph, arc_cmp, has_vertex, weight_of, has_arc, has_edges, with_arc, without_arc, with_edge, without_edge, apply}
+use Rattle.graph_model.specs.Graph.{Graph, arc_cmp, has_vertex, weight_of, has_edges, with_arc, without_arc, with_edge, without_edge, apply}
 use Rattle.graph_model.proofs.OrderLemmas.{arcs_total, arcs_exact, arc_tie}
 
 abbrev marked : Bool → Option (Unit {0})

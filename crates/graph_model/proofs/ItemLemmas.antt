@@ -1,6 +1,6 @@
 -- A sorted list with the graph's vertices is the list of them.
-use Rattle.std.proofs.Common.{◌≡◌, ℕ, zero, suc, ◌<◌, List, [], ◌∷◌, refl, sym, ◌∙◌, ap, subst, cond, arith}
-use Rattle.std.specs.Prelude.{Bool, true, false, ◌==◌, ◌&&◌, ◌||◌, IsTrue, Option, Some, None, map, is_some, slice_get}
+use Rattle.std.proofs.Common.{◌≡◌, ℕ, suc, ◌<◌, List, [], ◌∷◌, refl, sym, ◌∙◌, ap, cond, arith}
+use Rattle.std.specs.Prelude.{Bool, true, false, ◌==◌, ◌&&◌, ◌||◌, Option, Some, None, map, slice_get}
 use Rattle.std.specs.List.{list_any}
 use Rattle.std.specs.Ordering.{nat_cmp, eq_by_cmp, is_lt}
 use Rattle.std.specs.Cmp.{nat_cmp_total, unsigned_tied, nat_eq_equiv}
@@ -10,7 +10,7 @@ use Rattle.std.specs.FinMap.Entries.{find, is_sorted, below_all, same_entries}
 use Rattle.std.proofs.lemmas.Bool.Decides.{nat_tests}
 use Rattle.graph_model.specs.Graph.{Graph, has_vertex, vertices_of}
 use Rattle.graph_model.proofs.GraphLemmas.{marks}
-use Rattle.graph_model.proofs.SortedLemmas.{true_from_T, T_from_true}
+use Rattle.graph_model.proofs.SortedLemmas.{T_from_true}
 
 -- numbers as the entries of a set
 abbrev marked : ℕ → ℕ × Unit {0}

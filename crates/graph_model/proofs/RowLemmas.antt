@@ -1,12 +1,11 @@
 -- A graph's rows: they rise, and have the graph's value at each key.
-use Rattle.std.proofs.Common.{◌≡◌, ℕ, zero, suc, ◌+◌, ◌-◌, ◌<◌, ◌≤◌, List, [], ◌∷◌, ◌++◌, refl, sym, ◌∙◌, ap, subst, cond, arith}
-use Rattle.std.specs.Prelude.{Bool, true, false, ◌==◌, ◌&&◌, ◌||◌, not, T, IsTrue, Option, Some, None, map, is_some, slice_get}
+use Rattle.std.proofs.Common.{◌≡◌, ℕ, ◌+◌, ◌-◌, ◌<◌, ◌≤◌, List, [], ◌∷◌, ◌++◌, refl, sym, ◌∙◌, ap, subst, cond, arith}
+use Rattle.std.specs.Prelude.{Bool, true, false, ◌==◌, ◌&&◌, ◌||◌, not, IsTrue, Option, Some, None, map, is_some, slice_get}
 use Rattle.std.specs.List.{list_any, filter}
 use Rattle.std.specs.Option.{option_map}
-use Rattle.std.specs.declared.cmp.Ordering.{Ordering}
-use Rattle.std.specs.declared.cmp.Ordering.TheVariants.{Less, Equal, Greater}
-use Rattle.std.specs.Ordering.{nat_cmp, eq_by_cmp, is_lt, is_eq}
-use Rattle.std.specs.Cmp.{IsTotalOrder, nat_cmp_total, unsigned_tied}
+use Rattle.std.specs.declared.cmp.Ordering.TheVariants.{Equal}
+use Rattle.std.specs.Ordering.{nat_cmp, eq_by_cmp, is_lt}
+use Rattle.std.specs.Cmp.{unsigned_tied}
 use Rattle.std.specs.FinMap as fin_map
 use Rattle.std.specs.FinMap.Entries.{find, is_sorted, below_all, where_key, find-where_key, is_sorted-where_key, same_entries}
 use Rattle.std.proofs.lemmas.Bool.Decides.{nat_tests}
@@ -14,7 +13,7 @@ use Rattle.graph_model.specs.declared.limits.TheConstants.{MAX_ID}
 use Rattle.graph_model.specs.declared.row.Key.{Key}
 use Rattle.graph_model.specs.declared.row.Row.{Row}
 use Rattle.graph_model.specs.Graph.{Graph, has_vertex, vertices_of, has_arc, weight_of, arc_cmp}
-use Rattle.graph_model.specs.Rows.{key_cmp, is_below, vertex_key, arc_key, first_key, end_key, vertex_entry, arc_entry, row_map, row_of, is_between, rows, all_rows, value_at, AreRowsOf}
+use Rattle.graph_model.specs.Rows.{key_cmp, is_below, vertex_key, arc_key, first_key, end_key, vertex_entry, arc_entry, row_map, row_of, is_between, rows, value_at, AreRowsOf}
 use Rattle.graph_model.proofs.OrderLemmas.{keys_total, keys_exact, key_tie, arc_tie}
 use Rattle.graph_model.proofs.SortedLemmas.{true_from_T, T_from_true, both_true, slice_get-map, map_at, rises, found, place_of}
 

@@ -1,6 +1,6 @@
 -- Entries whose keys strictly rise, by their places.
-use Rattle.std.proofs.Common.{◌≡◌, ℕ, zero, suc, ◌<◌, List, [], ◌∷◌, ◌++◌, refl, sym, ◌∙◌, ap, subst, cond, arith}
-use Rattle.std.specs.Prelude.{Bool, true, false, ◌&&◌, T, IsTrue, Option, Some, None, map, is_some, slice_get}
+use Rattle.std.proofs.Common.{◌≡◌, ℕ, zero, suc, ◌<◌, List, [], ◌∷◌, refl, sym, ◌∙◌, ap, subst, cond, arith}
+use Rattle.std.specs.Prelude.{Bool, true, false, ◌&&◌, T, Some, map, slice_get}
 use Rattle.std.specs.Option.{option_map}
 use Rattle.std.specs.declared.cmp.Ordering.{Ordering}
 use Rattle.std.specs.declared.cmp.Ordering.TheVariants.{Less, Equal, Greater}

@@ -1,5 +1,5 @@
 -- What an engine knows for one pass: the journal as far as the pass has seen it, and its own transactions.
-use Rattle.std.specs.Prelude.{◌≡◌, ℕ, ◌≤◌, Bool, List, [], length, Option, IfSome, None}
+use Rattle.std.specs.Prelude.{ℕ, ◌≤◌, Bool, List, length, Option, IfSome}
 use Rattle.std.specs.List.{AllByRecursion}
 use Rattle.graph_model.specs.declared.write.Kind.{Kind}
 use Rattle.graph_model.specs.declared.write.Write.{Write}

@@ -1,22 +1,20 @@
 -- Worked examples, with values from outside: small graphs, journals and tables reckoned by hand.
-use Rattle.std.specs.Prelude.{◌≡◌, ℕ, true, false, List, [], ◌∷◌, ◌++◌, codes, Option, Some, None}
+use Rattle.std.specs.Prelude.{◌≡◌, ℕ, true, false, List, [], ◌∷◌, codes, Some, None}
 use Rattle.graph_model.specs.declared.write.Kind.TheVariants.{Directed, Undirected}
 use Rattle.graph_model.specs.declared.write.Write.{Write}
 use Rattle.graph_model.specs.declared.write.Write.TheVariants.{AddVertex, DropVertex, AddEdge, SetEdge, DropEdge}
 use Rattle.graph_model.specs.declared.journal.Commit.{Commit}
 use Rattle.graph_model.specs.declared.journal.TxnName.{TxnName}
 use Rattle.graph_model.specs.declared.refusal.Refusal.TheVariants.{SelfLoop, NoVertex, VertexExists, EdgeExists, NoEdge, HasEdges}
-use Rattle.graph_model.specs.declared.row.Row.{Row}
-use Rattle.graph_model.specs.declared.table.Entry.{Entry}
 use Rattle.graph_model.specs.declared.table.Value.TheVariants.{Number, Infinity}
 use Rattle.graph_model.specs.Items.{clash}
-use Rattle.graph_model.specs.Graph.{Graph, empty_graph, has_vertex, weight_of, apply, apply_all, vertices_of}
+use Rattle.graph_model.specs.Graph.{Graph, empty_graph, has_vertex, weight_of, vertices_of}
 use Rattle.graph_model.specs.Refused.{refused}
 use Rattle.graph_model.specs.History.{graph_at, view}
-use Rattle.graph_model.specs.Conflict.{OpenTxn, later, holder}
+use Rattle.graph_model.specs.Conflict.{later, holder}
 use Rattle.graph_model.specs.Inserted.{inserted}
 use Rattle.graph_model.specs.Rows.{vertex_key, arc_key, all_rows}
-use Rattle.graph_model.specs.Labels.{most_frequent, label}
+use Rattle.graph_model.specs.Labels.{most_frequent}
 use Rattle.graph_model.specs.TableText.{table_text}
 
 abbrev pub name : ℕ → ℕ → TxnName

@@ -1,5 +1,5 @@
 -- Laws that show that the definitions mean what they say. Each is the contract of a function in `laws`.
-use Rattle.std.specs.Prelude.{◌≡◌, ◌≢◌, ℕ, ◌+◌, ◌<◌, ◌≤◌, Bool, true, false, List, [], ◌∷◌, ◌++◌, length, slice_get, Option, Some, None, IsTrue}
+use Rattle.std.specs.Prelude.{◌≡◌, ℕ, ◌+◌, ◌<◌, ◌≤◌, false, List, [], ◌++◌, length, slice_get, Some, None, IsTrue}
 use Rattle.graph_model.specs.declared.limits.TheConstants.{NO_WALK}
 use Rattle.graph_model.specs.declared.write.Kind.{Kind}
 use Rattle.graph_model.specs.declared.write.Kind.TheVariants.{Directed, Undirected}
@@ -14,7 +14,7 @@ use Rattle.graph_model.specs.Refused.{refused}
 use Rattle.graph_model.specs.History.{graph_at}
 use Rattle.graph_model.specs.Legal.{IsLegal}
 use Rattle.graph_model.specs.Rows.{is_below, is_between, rows, value_at}
-use Rattle.graph_model.specs.Walks.{IsWalk, walk_weight, IsUnreached, IsLeastLength, IsLeastWeight, IsDistance, Reaches, ReachesBy, ReachesWithin}
+use Rattle.graph_model.specs.Walks.{IsWalk, walk_weight, IsLeastLength, IsLeastWeight, IsDistance, Reaches, ReachesBy, ReachesWithin}
 use Rattle.graph_model.specs.Components.{IsComponent}
 use Rattle.graph_model.specs.Labels.{neighbours, label}
 use Rattle.graph_model.specs.Tables.{IsBfs, IsSssp, IsWcc, IsCdlp}

@@ -1,5 +1,5 @@
 -- Walks, and least walks (LDBC Graphalytics, BFS and SSSP; SSSP with whole weights).
-use Rattle.std.specs.Prelude.{◌≡◌, ℕ, zero, suc, ◌+◌, ◌≤◌, ◌⊎◌, List, [], ◌∷◌, length, Option, Some, unwrap_or, IsTrue}
+use Rattle.std.specs.Prelude.{◌≡◌, ℕ, zero, suc, ◌+◌, ◌≤◌, ◌⊎◌, List, [], ◌∷◌, length, Some, unwrap_or, IsTrue}
 use Rattle.graph_model.specs.declared.limits.TheConstants.{NO_WALK}
 use Rattle.graph_model.specs.Graph.{Graph, has_vertex, has_arc, weight_of}
 

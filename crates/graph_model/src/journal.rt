@@ -98,3 +98,22 @@ impl Journal {
         self.commits.as_slice()
     }
 }
+
+#[cfg(test)]
+mod tests {
+    use super::*;
+    use std::test::Fail;
+
+    #[test]
+    fn a_commit_is_appended(rt: HostRuntime) -> Result<(), Fail> {
+        let mut journal = Journal::new(rt.alloc());
+        journal.push(Commit {
+            stamp: 1,
+            start: 0,
+            by: TxnName { job: 0, number: 1 },
+            writes: Writes::new(rt.alloc()),
+        })?;
+        assert_eq!(rt; journal.len(), 1);
+        Ok(())
+    }
+}

@@ -90,3 +90,20 @@ impl Writes {
         self.items.as_slice()
     }
 }
+
+#[cfg(test)]
+mod tests {
+    use super::*;
+    use std::test::Fail;
+
+    #[test]
+    fn writes_are_kept_in_order(rt: HostRuntime) -> Result<(), Fail> {
+        let mut writes = Writes::new(rt.alloc());
+        writes.push(Write::AddVertex { v: 7 })?;
+        writes.push(Write::DropEdge { u: 1, v: 7 })?;
+        assert_eq!(rt; writes.len(), 2);
+        let want = [Write::AddVertex { v: 7 }, Write::DropEdge { u: 1, v: 7 }];
+        assert_eq!(rt; writes.into_vec().as_slice(), want.as_slice());
+        Ok(())
+    }
+}
