@@ -1,6 +1,6 @@
 -- How many vertices and edges the load makes.
-use Rattle.std.proofs.Common.{◌≡◌, ℕ, zero, suc, ◌+◌, ◌*◌, ◌/◌, List, [], ◌∷◌, ◌++◌, length, map, refl, sym, ◌∙◌, ap, subst, cond, arith}
-use Rattle.std.specs.Prelude.{Bool, true, false, ◌==◌, ◌&&◌, ◌≢◌, Option, Some, None, is_some, sum_by}
+use Rattle.std.proofs.Common.{◌≡◌, ℕ, ◌+◌, ◌*◌, ◌/◌, List, [], ◌∷◌, ◌++◌, length, map, refl, sym, ◌∙◌, ap, cond, arith}
+use Rattle.std.specs.Prelude.{Bool, true, false, ◌==◌, ◌&&◌, Some, None, is_some}
 use Rattle.std.proofs.lemmas.List.{length-map}
 use Rattle.std.proofs.lemmas.Bool.Decides.{nat_tests}
 use Rattle.std.specs.Cmp.{nat_cmp_total}
@@ -8,11 +8,10 @@ use Rattle.std.specs.Ordering.{nat_cmp}
 use Rattle.std.specs.FinMap as fin_map
 use Rattle.graph_model.specs.declared.write.Kind.TheVariants.{Undirected}
 use Rattle.graph_model.specs.declared.write.Write.{Write}
-use Rattle.graph_model.specs.declared.write.Write.TheVariants.{AddVertex, DropVertex, AddEdge, SetEdge, DropEdge}
+use Rattle.graph_model.specs.declared.write.Write.TheVariants.{AddVertex, AddEdge}
 use Rattle.graph_model.specs.declared.refusal.Refusal.TheVariants.{VertexExists, EdgeExists}
 use Rattle.graph_model.specs.Graph.{Graph, arc_cmp, empty_graph, has_vertex, vertices_of, weight_of, has_arc, with_arc, apply, apply_all, IsSymmetric}
 use Rattle.graph_model.specs.Refused.{refused, AllAllowed}
-use Rattle.graph_model.specs.History.{graph_at}
 use Rattle.graph_model.specs.Legal.{IsLegal}
 use Rattle.graph_model.proofs.OrderLemmas.{arcs_total}
 use Rattle.graph_model.proofs.GraphLemmas.{weight-with_arc}

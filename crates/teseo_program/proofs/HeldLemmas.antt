@@ -1,5 +1,5 @@
 -- The outputs as the code holds them, by their places.
-use Rattle.std.proofs.Common.{◌≡◌, ℕ, ◌<◌, List, length, get_or, map, sym, ◌∙◌, ap, arith}
+use Rattle.std.proofs.Common.{◌≡◌, ℕ, ◌<◌, List, length, get_or, sym, ◌∙◌, ap, arith}
 use Rattle.std.proofs.lemmas.List.{get_or-map, length-map}
 use Rattle.teseo_program.specs.declared.outputs.Held.{Held}
 use Rattle.teseo_program.specs.OutputsHeld.{output_of, outputs_of}

@@ -1,5 +1,5 @@
 -- What was made of a run is what the definition says is written and said.
-use Rattle.std.proofs.Common.{◌≡◌, ℕ, List, [], ◌∷◌, length, refl, sym, ◌∙◌, ap, subst}
+use Rattle.std.proofs.Common.{◌≡◌, ℕ, List, ◌∷◌, length, sym, ◌∙◌, ap, subst}
 use Rattle.std.specs.Prelude.{map as list_map}
 use Rattle.std.proofs.lemmas.List.{append-nil}
 use Rattle.graphalytics_io.specs.declared.edges.Edge.{Edge}
@@ -13,12 +13,11 @@ use Rattle.first_load.specs.Load.{IsLoadable, load_of, journal_of, graph_of}
 use Rattle.first_load.specs.Laws.{LoadIsLegal, LoadIsItsGraph, FilesAreLoadable}
 use Rattle.script_lang.specs.ScriptFile.{lines}
 use Rattle.teseo_program.specs.declared.input.Input.{Input}
-use Rattle.teseo_program.specs.declared.outputs.Held.{Held}
 use Rattle.teseo_program.specs.declared.prepare.Made.{Made}
 use Rattle.teseo_program.specs.declared.run.Ran.{Ran}
 use Rattle.teseo_program.specs.declared.sources.Sources.{Sources}
 use Rattle.teseo_program.specs.Words.{RunNames, report_name}
-use Rattle.teseo_program.specs.Input.{Meaning, IsAccepted}
+use Rattle.teseo_program.specs.Input.{Meaning}
 use Rattle.teseo_program.specs.InputHeld.{Means, IsParsed}
 use Rattle.teseo_program.specs.Ran.{IsRan, outputs_of, files_of}
 use Rattle.teseo_program.specs.OutputsHeld as held

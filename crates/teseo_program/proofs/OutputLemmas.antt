@@ -1,11 +1,11 @@
 -- Outputs written one after another: an earlier one stays whole, since its name is another.
-use Rattle.std.proofs.Common.{◌≡◌, ℕ, zero, suc, ◌+◌, ◌<◌, ◌≤◌, List, [], ◌∷◌, ◌++◌, length, get_or, take, map, refl, sym, ◌∙◌, ap, subst, arith, inl, inr, eq-or-lt_of_le}
-use Rattle.std.specs.Prelude.{◌≢◌, ◌⊎◌, Contains, AllPairs, slice_get, Option, Some, None, IfSome, IsSome, IsTrue}
+use Rattle.std.proofs.Common.{◌≡◌, ℕ, zero, suc, ◌+◌, ◌<◌, ◌≤◌, List, [], ◌∷◌, ◌++◌, length, get_or, take, refl, sym, ◌∙◌, ap, subst, arith, inl, inr}
+use Rattle.std.specs.Prelude.{◌≢◌, Contains, AllPairs, slice_get, Some, IfSome, IsSome}
 use Rattle.std.specs.List.{AllByRecursion}
 use Rattle.std.proofs.lemmas.List.{take_more}
 use Rattle.std.proofs.lemmas.List.Elements.{Contains-append_left, Contains-append_right}
 use Rattle.desk_io.specs.Files.{Files, Rose, IsWritten, ChangesOnly, SinkFails}
-use Rattle.teseo_program.specs.Outputs.{Output, names_of, AreWritten, KeepsOthers, WritesAll, HasFront, FailsAt, FailsAtPlace}
+use Rattle.teseo_program.specs.Outputs.{Output, names_of, AreWritten, KeepsOthers, WritesAll, HasFront, FailsAtPlace}
 
 -- each of the outputs has another name
 abbrev HaveOtherNames : List ℕ → List Output → Type 0

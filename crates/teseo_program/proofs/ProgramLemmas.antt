@@ -2,7 +2,6 @@
 use Rattle.std.proofs.Common.{◌≡◌, ℕ, zero, suc, ◌<◌, ◌≤◌, List, [], ◌∷◌, ◌++◌, length, get_or, refl, sym, ◌∙◌, ap, subst, arith}
 use Rattle.std.specs.Prelude.{◌≢◌, AllPairs, Contains, codes, slice_get, Option, Some, None, IfSome}
 use Rattle.std.proofs.lemmas.List.{length-map}
-use Rattle.graph_model.specs.declared.write.Kind.TheVariants.{Undirected}
 use Rattle.graph_model.specs.declared.table.Entry.{Entry}
 use Rattle.desk_io.specs.Files.{Files, Rose, ReadFails}
 use Rattle.teseo_program.specs.declared.ending.Source.{Source}
@@ -17,14 +16,14 @@ use Rattle.teseo_program.specs.declared.prepare.Made.{Made}
 use Rattle.teseo_program.specs.declared.run.Ran.{Ran}
 use Rattle.teseo_program.specs.Words.{RunNames, taken_names, report_name}
 use Rattle.teseo_program.specs.Sources.{source_name}
-use Rattle.teseo_program.specs.Said.{Says, OnlySays}
+use Rattle.teseo_program.specs.Said.{OnlySays}
 use Rattle.teseo_program.specs.Outputs.{Output, names_of, WritesAll, FailsAtPlace}
 use Rattle.teseo_program.specs.OutputsHeld.{output_of, outputs_of}
-use Rattle.teseo_program.specs.Sinks.{sinks_of, summary_text}
+use Rattle.teseo_program.specs.Sinks.{sinks_of}
 use Rattle.teseo_program.specs.TextsHeld.{sinks_from}
-use Rattle.teseo_program.specs.Ends.{line, place_of, EndsRun, IsRunOf, IsDone, IsWriteFault, IsReadFault}
+use Rattle.teseo_program.specs.Ends.{line, place_of, EndsRun, IsRunOf, IsReadFault}
 use Rattle.teseo_program.specs.Made.{IsMade, IsUnmade}
-use Rattle.teseo_program.specs.Refusal.{refusal_text, AreApart, Finishes}
+use Rattle.teseo_program.specs.Refusal.{refusal_text, Finishes}
 use Rattle.teseo_program.proofs.OutputLemmas.{at_place}
 use Rattle.teseo_program.proofs.HeldLemmas.{held_at, held_below}
 

@@ -6,7 +6,7 @@ use Rattle.graph_model.specs.declared.write.Write.{Write}
 use Rattle.graph_model.specs.declared.journal.Commit.{Commit}
 use Rattle.graph_model.specs.declared.table.Entry.{Entry}
 use Rattle.run_model.specs.declared.answer.Answer.{Answer}
-use Rattle.run_model.specs.Run.{Outputs, IsRun}
+use Rattle.run_model.specs.Run.{IsRun}
 use Rattle.first_load.specs.Load.{IsLoadable, load_of, journal_of, graph_of}
 use Rattle.first_load.specs.Laws.{LoadIsLegal, LoadIsItsGraph}
 use Rattle.teseo_program.specs.declared.input.Input.{Input}

@@ -1,24 +1,21 @@
 -- The three lines of a search on the loaded graph are a run.
-use Rattle.std.proofs.Common.{◌≡◌, ℕ, zero, suc, ◌+◌, ◌*◌, ◌<◌, ◌≤◌, List, [], ◌∷◌, ◌++◌, length, map, refl, sym, ◌∙◌, ap, subst, cond, arith, inl, inr, le_refl}
-use Rattle.std.specs.Prelude.{◌≢◌, ◌⊎◌, Bool, true, false, slice_get, Option, Some, None, IsTrue}
+use Rattle.std.proofs.Common.{◌≡◌, ℕ, zero, suc, ◌+◌, ◌≤◌, List, [], ◌∷◌, length, refl, sym, ◌∙◌, ap, subst, cond, arith, inl, inr, le_refl}
+use Rattle.std.specs.Prelude.{◌⊎◌, slice_get, Option, Some, None}
 use Rattle.std.proofs.lemmas.List.{length-map}
 use Rattle.graph_model.specs.declared.limits.TheConstants.{MAX_LEAVES}
 use Rattle.graph_model.specs.declared.write.Kind.TheVariants.{Undirected}
 use Rattle.graph_model.specs.declared.write.Write.{Write}
 use Rattle.graph_model.specs.declared.journal.Commit.{Commit}
 use Rattle.graph_model.specs.declared.table.Entry.{Entry}
-use Rattle.graph_model.specs.Graph.{Graph, has_vertex, vertices_of}
+use Rattle.graph_model.specs.Graph.{Graph, vertices_of}
 use Rattle.graph_model.specs.History.{graph_at}
 use Rattle.graph_model.specs.Legal.{IsLegal}
 use Rattle.graph_model.specs.Tables.{IsBfs}
-use Rattle.graph_model.specs.Inserted.{inserted}
-use Rattle.run_model.specs.declared.command.Command.{Command}
 use Rattle.run_model.specs.declared.command.Command.TheVariants as commands
-use Rattle.run_model.specs.declared.answer.Answer.{Answer}
 use Rattle.run_model.specs.declared.answer.Answer.TheVariants as answers
 use Rattle.run_model.specs.Lines.{Line, lines_of}
 use Rattle.run_model.specs.Answering.{at_vertex, table_answer}
-use Rattle.run_model.specs.Run.{Inputs, Outputs, File, Context, txn_name, load_stamp, IsStart, IsAnswered, AllAnswered, HasFiles, IsLoad, IsShown, all_lines, inserted_in, IsRun}
+use Rattle.run_model.specs.Run.{Outputs, Context, txn_name, load_stamp, IsAnswered, AllAnswered, HasFiles, IsLoad, IsRun}
 use Rattle.first_load.specs.Load.{load_of, journal_of, graph_of}
 use Rattle.script_lang.specs.ScriptFile.{lines}
 use Rattle.teseo_program.specs.Input.{Meaning, inputs_of}

@@ -1,6 +1,6 @@
 -- Lists of words, cell by cell.
-use Rattle.std.proofs.Common.{◌≡◌, ℕ, zero, suc, ◌+◌, ◌<◌, ◌≤◌, List, [], ◌∷◌, ◌++◌, length, get_or, drop, map, refl, sym, ◌∙◌, ap, subst, arith, drop-cons, eq-or-lt_of_le, inl, inr, length-append}
-use Rattle.std.specs.Prelude.{Bool, true, false, ◌≢◌, AllPairs, codes}
+use Rattle.std.proofs.Common.{◌≡◌, ℕ, zero, suc, ◌+◌, ◌<◌, ◌≤◌, List, [], ◌∷◌, length, get_or, drop, map, sym, ◌∙◌, ap, subst, arith, drop-cons, eq-or-lt_of_le, inl, inr, length-append}
+use Rattle.std.specs.Prelude.{true, false, ◌≢◌, AllPairs, codes}
 use Rattle.teseo_program.specs.Words.{RunNames, report_name, words_of, taken_names}
 use Rattle.std.proofs.lemmas.List.Quantifiers.{all_pairs_push}
 use Rattle.std.proofs.lemmas.List.{get_or-map, drop_all, get_or_append_left}

@@ -1,5 +1,5 @@
 -- How a run may end: for each ending its cause, what it leaves, and what is said.
-use Rattle.std.specs.Prelude.{◌≡◌, ℕ, List, [], ◌∷◌, ◌++◌, codes, take, slice_get, Option, Some}
+use Rattle.std.specs.Prelude.{◌≡◌, ℕ, List, [], ◌∷◌, ◌++◌, codes, slice_get, Some}
 use Rattle.graph_model.specs.declared.write.Kind.TheVariants.{Undirected}
 use Rattle.graph_model.specs.declared.limits.TheConstants.{MAX_SOURCE_BYTES, MAX_LEAVES}
 use Rattle.run_model.specs.Run.{Outputs, IsRun}
@@ -10,7 +10,7 @@ use Rattle.teseo_program.specs.declared.ending.Sink.TheVariants as sinks
 use Rattle.teseo_program.specs.declared.ending.Ending.{Ending}
 use Rattle.teseo_program.specs.declared.ending.Ending.TheVariants.{Done, TooLong, NotAccepted, BadWords, NoMemory, ReadFault, WriteFault}
 use Rattle.teseo_program.specs.declared.sources.Sources.{Sources}
-use Rattle.teseo_program.specs.Words.{RunNames, TakesWords, report_name}
+use Rattle.teseo_program.specs.Words.{RunNames, TakesWords}
 use Rattle.teseo_program.specs.Sources.{source_name, AreSources, AreReadBefore}
 use Rattle.teseo_program.specs.Input.{Meaning, IsAccepted, IsNotAccepted, inputs_of}
 use Rattle.teseo_program.specs.Said.{Says, OnlySays}

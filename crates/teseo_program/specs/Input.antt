@@ -1,8 +1,7 @@
 -- What the sources stand for, and why they are refused.
-use Rattle.std.specs.Prelude.{◌≡◌, ℕ, List, [], ◌∷◌}
+use Rattle.std.specs.Prelude.{ℕ, List, [], ◌∷◌}
 use Rattle.graph_model.specs.declared.limits.TheConstants.{MAX_LOAD_ROWS}
 use Rattle.graph_model.specs.declared.write.Kind.TheVariants.{Undirected}
-use Rattle.run_model.specs.declared.command.Command.{Command}
 use Rattle.run_model.specs.Run.{Inputs}
 use Rattle.graphalytics_io.specs.declared.edges.Edge.{Edge}
 use Rattle.graphalytics_io.specs.VertexFile.{IsVertexFile}

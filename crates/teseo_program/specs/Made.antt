@@ -1,10 +1,9 @@
 -- What is made before the first output is created, or why it isn't.
-use Rattle.std.specs.Prelude.{◌≡◌, ℕ, List}
+use Rattle.std.specs.Prelude.{◌≡◌}
 use Rattle.graph_model.specs.declared.limits.TheConstants.{MAX_SOURCE_BYTES, MAX_LEAVES}
 use Rattle.graph_model.specs.declared.write.Kind.TheVariants.{Undirected}
 use Rattle.run_model.specs.Run.{Outputs, IsRun}
 use Rattle.desk_io.specs.Files.{Files, ReadFails, IsTooLong}
-use Rattle.teseo_program.specs.declared.ending.Source.{Source}
 use Rattle.teseo_program.specs.declared.ending.Ending.{Ending}
 use Rattle.teseo_program.specs.declared.ending.Ending.TheVariants.{TooLong, NotAccepted, NoMemory, ReadFault}
 use Rattle.teseo_program.specs.declared.sources.Sources.{Sources}
@@ -14,7 +13,6 @@ use Rattle.teseo_program.specs.Sources.{source_name, AreSources, AreReadBefore}
 use Rattle.teseo_program.specs.Input.{Meaning, IsAccepted, IsNotAccepted, inputs_of}
 use Rattle.teseo_program.specs.OutputsHeld.{outputs_of}
 use Rattle.teseo_program.specs.Sinks.{sinks_of, summary_text}
-use Rattle.teseo_program.specs.Ends.{IsRunOf}
 
 -- what was made is what a run gives of what these sources mean
 pub record IsMadeOf (names : RunNames) (sources : Sources) (made : Made) : Type 0 where

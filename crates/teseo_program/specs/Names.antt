@@ -1,5 +1,4 @@
 -- The names of a run as the code holds them.
-use Rattle.std.specs.Prelude.{ℕ, List}
 use Rattle.teseo_program.specs.declared.words.Names.{Names}
 use Rattle.teseo_program.specs.Words.{RunNames}
 

@@ -1,5 +1,5 @@
 -- Outputs by name, and what writing them leaves.
-use Rattle.std.specs.Prelude.{◌≡◌, ◌≢◌, ℕ, List, [], ◌∷◌, ◌++◌, map, take, Contains, ◌⊎◌, slice_get, Option, Some}
+use Rattle.std.specs.Prelude.{◌≡◌, ℕ, List, [], ◌∷◌, ◌++◌, map, take, Contains, ◌⊎◌, slice_get, Some}
 use Rattle.std.specs.List.{AllByRecursion}
 use Rattle.desk_io.specs.Files.{Files, Rose, IsWritten}
 

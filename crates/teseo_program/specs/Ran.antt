@@ -1,5 +1,5 @@
 -- What a run of one search leaves.
-use Rattle.std.specs.Prelude.{◌≡◌, ℕ, List, [], ◌∷◌, length, Bool, false, IsTrue, Option, Some, None}
+use Rattle.std.specs.Prelude.{◌≡◌, ℕ, List, [], ◌∷◌, length, false, IsTrue, Option, Some, None}
 use Rattle.graph_model.specs.declared.table.Entry.{Entry}
 use Rattle.graph_model.specs.declared.limits.TheConstants.{MAX_LEAVES}
 use Rattle.graph_model.specs.Graph.{Graph, has_vertex}
@@ -7,7 +7,6 @@ use Rattle.graph_model.specs.Tables.{IsBfs}
 use Rattle.run_model.specs.declared.answer.Answer.{Answer}
 use Rattle.run_model.specs.declared.answer.Answer.TheVariants.{Begun, NoVertex, Table, Committed}
 use Rattle.run_model.specs.Run.{Outputs, File, IsRun, txn_name}
-use Rattle.first_load.specs.Load.{load_of, journal_of, graph_of}
 use Rattle.teseo_program.specs.declared.run.Ran.{Ran}
 use Rattle.teseo_program.specs.Input.{Meaning, inputs_of}
 

@@ -1,5 +1,5 @@
 -- What is said where nothing is created, and how writing the outputs ends.
-use Rattle.std.specs.Prelude.{◌≡◌, ◌≢◌, ℕ, List, ◌++◌, AllPairs, codes, slice_get, length, ◌≤◌, Option, Some}
+use Rattle.std.specs.Prelude.{◌≡◌, ◌≢◌, ℕ, List, AllPairs, codes, slice_get, length, ◌≤◌, Some}
 use Rattle.desk_io.specs.Files.{Files}
 use Rattle.teseo_program.specs.declared.ending.Sink.{Sink}
 use Rattle.teseo_program.specs.declared.ending.Ending.{Ending}

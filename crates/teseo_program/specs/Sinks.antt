@@ -1,9 +1,9 @@
 -- What is written where, and the summary that is said.
-use Rattle.std.specs.Prelude.{ℕ, List, [], ◌∷◌, ◌++◌, length, map, codes}
+use Rattle.std.specs.Prelude.{ℕ, List, ◌∷◌, ◌++◌, length, map, codes}
 use Rattle.std.specs.List.{flat_map}
 use Rattle.graph_model.specs.TableText.{table_text}
 use Rattle.graph_model.specs.declared.write.Kind.{Kind}
-use Rattle.graph_model.specs.Graph.{Graph, vertices_of}
+use Rattle.graph_model.specs.Graph.{vertices_of}
 use Rattle.graph_model.specs.History.{graph_at}
 use Rattle.run_model.specs.Answering.{edges_in}
 use Rattle.run_model.specs.Run.{Outputs, File}

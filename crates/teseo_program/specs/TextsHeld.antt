@@ -1,6 +1,5 @@
 -- The outputs that are made of what a run left.
-use Rattle.std.specs.Prelude.{ℕ, List, [], ◌∷◌, map}
-use Rattle.graph_model.specs.TableText.{table_text}
+use Rattle.std.specs.Prelude.{ℕ, List, ◌∷◌, map}
 use Rattle.run_model.specs.Texts.{journal_text, report_text}
 use Rattle.teseo_program.specs.declared.run.Ran.{Ran}
 use Rattle.teseo_program.specs.Ran.{files_of}

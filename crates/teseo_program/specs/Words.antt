@@ -1,5 +1,5 @@
 -- The words of a run, and the names that they give.
-use Rattle.std.specs.Prelude.{◌≡◌, ◌≢◌, ℕ, List, [], ◌∷◌, ◌++◌, codes, AllPairs, slice_get, Option, Some}
+use Rattle.std.specs.Prelude.{◌≡◌, ◌≢◌, ℕ, List, [], ◌∷◌, ◌++◌, codes, AllPairs, slice_get, Some}
 use Rattle.std.specs.List.{AllByRecursion}
 
 -- the names of the sources and of the journal

@@ -1,4 +1,3 @@
-use Rattle.std.proofs.Common.{refl}
 use Rattle.teseo_program.specs.OutputsHeld.{output_of, outputs_of}
 use Rattle.teseo_program.proofs.HeldLemmas.{held_at, held_below}
 use Rattle.teseo_program.proofs.OutputLemmas.{writes_more, fails_here}

@@ -1,4 +1,3 @@
-use Rattle.std.proofs.Common.{refl}
 use Rattle.std.specs.String.{string_bytes}
 use Rattle.teseo_program.specs.Names.{shown}
 use Rattle.teseo_program.proofs.MadeLemmas.{loadable, made_of}

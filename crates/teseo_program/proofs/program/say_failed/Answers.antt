@@ -1,4 +1,3 @@
-use Rattle.std.proofs.Common.{sym, ◌∙◌}
 use Rattle.teseo_program.proofs.ProgramLemmas.{said_name}
 use Rattle.teseo_program.proofs.program.say_failed.Goals as goal
 

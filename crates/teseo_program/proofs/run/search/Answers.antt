@@ -1,5 +1,3 @@
-use Rattle.std.proofs.Common.{sym, subst, List}
-use Rattle.graph_model.specs.Rows.{AreRowsOf}
 use Rattle.first_load.specs.Load.{load_of, graph_of}
 use Rattle.teseo_program.proofs.run.search.Goals as goal
 

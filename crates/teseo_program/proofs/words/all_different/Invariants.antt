@@ -1,4 +1,4 @@
-use Rattle.std.proofs.Common.{◌≡◌, ℕ, ◌<◌, List, map, length, get_or}
+use Rattle.std.proofs.Common.{ℕ, ◌<◌, List, map, length, get_or}
 use Rattle.std.specs.Prelude.{◌≢◌}
 use Rattle.teseo_program.proofs.words.all_different.Given as goal
 

@@ -1,4 +1,4 @@
-use Rattle.std.proofs.Common.{◌≡◌, ap, refl, sym, ◌∙◌, List, [], ◌∷◌, map}
+use Rattle.std.proofs.Common.{ap, refl, sym, ◌∙◌, [], ◌∷◌, map}
 use Rattle.std.specs.String.{string_bytes}
 use Rattle.teseo_program.proofs.WordLemmas.{eight}
 use Rattle.teseo_program.proofs.words.split_words.Goals as goal
