@@ -8,3 +8,4 @@ pub mod CountLemmas
 pub mod NameLemmas
 pub mod MadeLemmas
 pub mod ProgramLemmas
+pub mod LawLemmas

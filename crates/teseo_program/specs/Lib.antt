@@ -12,3 +12,4 @@ pub mod TextsHeld
 pub mod Ends
 pub mod Made
 pub mod Refusal
+pub mod Laws

@@ -3,6 +3,7 @@
 
 mod ending;
 mod input;
+mod laws;
 mod outputs;
 mod prepare;
 mod program;
@@ -13,4 +14,5 @@ mod texts;
 mod words;
 
 pub use ending::{Ending, Sink, Source};
+pub use laws::accepted_runs_end_well;
 pub use program::teseo;
