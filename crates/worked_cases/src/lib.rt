@@ -1,0 +1,9 @@
+//! Worked cases of the top call, from the words to the written files, on a desk in memory.
+//!
+//! The expected texts were worked out by hand, and never taken from a run.
+#![tactic(auto)]
+
+#[cfg(test)]
+mod setting;
+#[cfg(test)]
+mod whole_runs;
