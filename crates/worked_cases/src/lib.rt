@@ -4,6 +4,8 @@
 #![tactic(auto)]
 
 #[cfg(test)]
+mod calls_that_fail;
+#[cfg(test)]
 mod setting;
 #[cfg(test)]
 mod whole_runs;
