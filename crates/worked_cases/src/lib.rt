@@ -6,6 +6,12 @@
 #[cfg(test)]
 mod calls_that_fail;
 #[cfg(test)]
+mod faulty_words;
+#[cfg(test)]
+mod inputs_that_are_refused;
+#[cfg(test)]
+mod outputs_that_are_there;
+#[cfg(test)]
 mod setting;
 #[cfg(test)]
 mod whole_runs;
