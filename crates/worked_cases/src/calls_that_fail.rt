@@ -103,7 +103,7 @@ fn the_second_write_fails(rt: HostRuntime) -> Result<(), Fail> {
     // The writes are the calls 8, 10 and 12.
     let mut desk = MemoryDesk::with_failing(rt.alloc(), &[10])?;
     lay(&mut desk, &PATH)?;
-    assert_eq!(rt; run(rt.alloc(), &mut desk, &RUN)?, 5);
+    assert_eq!(rt; run(rt.alloc(), &mut desk, RUN)?, 5);
     let said = "write failed s1.report\n";
     assert_eq!(rt; desk.get("j"), Some(PATH_JOURNAL.as_bytes()), "the journal");
     assert_eq!(rt; desk.get("s1.report"), Some("".as_bytes()), "the report");
@@ -117,7 +117,7 @@ fn the_third_read_fails(rt: HostRuntime) -> Result<(), Fail> {
     // The first two reads give the vertices and their end.
     let mut desk = MemoryDesk::with_failing(rt.alloc(), &[3])?;
     lay(&mut desk, &PATH)?;
-    assert_eq!(rt; run(rt.alloc(), &mut desk, &RUN)?, 4);
+    assert_eq!(rt; run(rt.alloc(), &mut desk, RUN)?, 4);
     let said = "read failed e\n";
     assert_eq!(rt; desk.said(), Some(said.as_bytes()), "what is said");
     assert_eq!(rt; desk.file_count(), SOURCES);
@@ -129,7 +129,7 @@ fn each_call_of_the_desk_fails_once(rt: HostRuntime) -> Result<(), Fail> {
     for case in CALLS {
         let mut desk = MemoryDesk::with_failing(rt.alloc(), &[case.call])?;
         lay(&mut desk, &PATH)?;
-        let status = run(rt.alloc(), &mut desk, &RUN)?;
+        let status = run(rt.alloc(), &mut desk, RUN)?;
         assert_eq!(rt; status, case.status, "the status at call {}", case.call);
         assert_eq!(rt;
             desk.said(),

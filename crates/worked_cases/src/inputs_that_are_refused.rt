@@ -75,7 +75,7 @@ const SCRIPTS: [&str; 17] = [
 fn is_refused(alloc: Global, sources: &Sources, said: &str) -> Result<bool, AllocError> {
     let mut desk = MemoryDesk::new(alloc);
     lay(&mut desk, sources)?;
-    let status = run(alloc, &mut desk, &RUN)?;
+    let status = run(alloc, &mut desk, RUN)?;
     Ok(status == 1 && desk.said() == Some(said.as_bytes()) && desk.file_count() == SOURCES)
 }
 
@@ -144,7 +144,7 @@ fn a_source_that_is_not_there(rt: HostRuntime) -> Result<(), Fail> {
             }
         }
         assert_eq!(rt;
-            run(rt.alloc(), &mut desk, &RUN)?,
+            run(rt.alloc(), &mut desk, RUN)?,
             4,
             "the status without {name}"
         );
@@ -163,7 +163,7 @@ fn all_sources_are_read_before_one_is_refused(rt: HostRuntime) -> Result<(), Fai
     let mut desk = MemoryDesk::new(rt.alloc());
     desk.put("v", "1".as_bytes())?;
     desk.put("e", PATH.edges.as_bytes())?;
-    assert_eq!(rt; run(rt.alloc(), &mut desk, &RUN)?, 4);
+    assert_eq!(rt; run(rt.alloc(), &mut desk, RUN)?, 4);
     assert_eq!(rt; desk.said(), Some("read failed s1\n".as_bytes()));
     Ok(())
 }
@@ -177,7 +177,7 @@ fn ids_up_to_the_greatest_are_accepted(rt: HostRuntime) -> Result<(), Fail> {
         script: "begin\nbfs 9223372036854775806 o\ncommit\n",
     };
     lay(&mut desk, &sources)?;
-    assert_eq!(rt; run(rt.alloc(), &mut desk, &RUN)?, 0);
+    assert_eq!(rt; run(rt.alloc(), &mut desk, RUN)?, 0);
     let table = "0 1\n9223372036854775806 0\n";
     let summary = "commits 1 vertices 2 edges 1 undo 0 retired 0\n";
     assert_eq!(rt; desk.get("o"), Some(table.as_bytes()), "the result");

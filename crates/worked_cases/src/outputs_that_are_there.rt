@@ -10,7 +10,7 @@ use std::test::Fail;
 
 /// A text that is longer than each output.
 const OLDER: &str =
-    "an older text that is longer than each of the outputs is, so that an output which were written over its front alone would leave an end of it, and one which were put behind it would show\n";
+    "an older file, longer than each of the texts that take its place, even than the journal\n";
 
 #[test]
 fn an_output_that_is_there_is_replaced_whole(rt: HostRuntime) -> Result<(), Fail> {
@@ -18,11 +18,7 @@ fn an_output_that_is_there_is_replaced_whole(rt: HostRuntime) -> Result<(), Fail
         let mut desk = MemoryDesk::new(rt.alloc());
         lay(&mut desk, &PATH)?;
         desk.put(name, OLDER.as_bytes())?;
-        assert_eq!(rt;
-            run(rt.alloc(), &mut desk, &RUN)?,
-            0,
-            "the status at {name}"
-        );
+        assert_eq!(rt; run(rt.alloc(), &mut desk, RUN)?, 0, "the status at {name}");
         assert_eq!(rt;
             desk.get("j"),
             Some(PATH_JOURNAL.as_bytes()),
@@ -57,7 +53,7 @@ fn a_file_of_a_search_with_no_table_stays(rt: HostRuntime) -> Result<(), Fail> {
     };
     lay(&mut desk, &sources)?;
     desk.put("o", OLDER.as_bytes())?;
-    assert_eq!(rt; run(rt.alloc(), &mut desk, &RUN)?, 0);
+    assert_eq!(rt; run(rt.alloc(), &mut desk, RUN)?, 0);
     assert_eq!(rt; desk.get("o"), Some(OLDER.as_bytes()));
     Ok(())
 }

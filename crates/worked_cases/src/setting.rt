@@ -4,17 +4,8 @@ use desk_io::{MemoryDesk, OpenGate};
 use std::alloc::{AllocError, Global};
 use teseo_program::teseo;
 
-/// The words of a run, with the names that every case has.
-pub const RUN: [&str; 8] = [
-    "run",
-    "--vertices",
-    "v",
-    "--edges",
-    "e",
-    "--journal",
-    "j",
-    "s1",
-];
+/// The words of a run, with the names that the cases have.
+pub const RUN: &str = "run --vertices v --edges e --journal j s1";
 
 /// The texts of the three sources.
 #[derive(Clone, Copy)]
@@ -54,16 +45,16 @@ pub fn lay(desk: &mut MemoryDesk, sources: &Sources) -> Result<(), AllocError> {
     desk.put("s1", sources.script.as_bytes())
 }
 
-/// Runs the words, and answers the exit status.
-pub fn run(alloc: Global, desk: &mut MemoryDesk, words: &[&str]) -> Result<u8, AllocError> {
-    let words = owned(alloc, words)?;
+/// Runs the words of a line, and answers the exit status.
+pub fn run(alloc: Global, desk: &mut MemoryDesk, words: &str) -> Result<u8, AllocError> {
+    let words = split(alloc, words)?;
     Ok(teseo(alloc, &words, desk, &OpenGate))
 }
 
-/// The words as the top call takes them.
-fn owned(alloc: Global, words: &[&str]) -> Result<Vec<String>, AllocError> {
+/// The words of a line, as the top call takes them.
+fn split(alloc: Global, words: &str) -> Result<Vec<String>, AllocError> {
     let mut list = Vec::new(alloc);
-    for word in words {
+    for word in words.split_whitespace() {
         list.push(String::from_str(alloc, word)?)?;
     }
     Ok(list)

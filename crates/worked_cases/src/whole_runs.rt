@@ -10,7 +10,7 @@ use std::test::Fail;
 fn a_search_on_a_path(rt: HostRuntime) -> Result<(), Fail> {
     let mut desk = MemoryDesk::new(rt.alloc());
     lay(&mut desk, &PATH)?;
-    assert_eq!(rt; run(rt.alloc(), &mut desk, &RUN)?, 0);
+    assert_eq!(rt; run(rt.alloc(), &mut desk, RUN)?, 0);
     assert_eq!(rt; desk.get("j"), Some(PATH_JOURNAL.as_bytes()), "the journal");
     assert_eq!(rt;
         desk.get("s1.report"),
@@ -31,7 +31,7 @@ fn a_root_that_is_no_vertex(rt: HostRuntime) -> Result<(), Fail> {
         ..PATH
     };
     lay(&mut desk, &sources)?;
-    assert_eq!(rt; run(rt.alloc(), &mut desk, &RUN)?, 0);
+    assert_eq!(rt; run(rt.alloc(), &mut desk, RUN)?, 0);
     let report = "begin 1.1 start 1\nno vertex 9\ncommit -\n";
     assert_eq!(rt; desk.get("j"), Some(PATH_JOURNAL.as_bytes()), "the journal");
     assert_eq!(rt;
@@ -54,7 +54,7 @@ fn nothing_to_load(rt: HostRuntime) -> Result<(), Fail> {
         ..PATH
     };
     lay(&mut desk, &sources)?;
-    assert_eq!(rt; run(rt.alloc(), &mut desk, &RUN)?, 0);
+    assert_eq!(rt; run(rt.alloc(), &mut desk, RUN)?, 0);
     let report = "begin 1.1 start 0\nno vertex 1\ncommit -\n";
     let summary = "commits 0 vertices 0 edges 0 undo 0 retired 0\n";
     assert_eq!(rt; desk.get("j"), Some("".as_bytes()), "the journal");
