@@ -30,8 +30,8 @@ demo: build
 test:
 	rt ci
 
-# Prints a table of times and of memory. Takes some minutes.
-bench: build
+# Builds the program, and prints a table of times and of memory. Takes some minutes.
+bench:
 	bench/run.sh
 
 # make install PREFIX=FOLDER puts the program into FOLDER/bin.

@@ -1,0 +1,73 @@
+#!/usr/bin/env bash
+# Builds the program, runs the whole command on graphs of three sizes and two kinds, and prints a table. The
+# graphs are made from a seed in a temporary folder, which is removed at the end. RUNS=N and SEED=N change how
+# often each graph is run (3), and which graphs they are (1).
+set -euo pipefail
+
+top=$(cd "$(dirname "$0")/.." && pwd)
+program=$top/crates/teseo/out/teseo
+runs=${RUNS:-3}
+seed=${SEED:-1}
+
+# Makes graph.v, graph.e and the script `search` in the folder that it is called in.
+make_inputs() {
+    local kind=$1 vertices=$2 edges=$3
+    python3 "$top/bench/generate.py" --kind "$kind" --vertices "$vertices" --edges "$edges" --seed "$seed" --out graph
+    printf 'begin\nbfs 1 distances\ncommit\n' >search
+}
+
+# Whether the last run left what a run on such a graph leaves.
+is_as_expected() {
+    local vertices=$1 edges=$2
+    grep -qx "commits 1 vertices $vertices edges $edges undo 0 retired 0" said &&
+        [ "$(wc -l <distances)" = "$vertices" ] &&
+        [ "$(wc -l <journal)" = $((1 + vertices + edges)) ]
+}
+
+# Ends the script, and shows what the program and the measurement said.
+fail() {
+    echo "run.sh: a run did not end as it is to; it said:" >&2
+    cat said >&2
+    exit 1
+}
+
+# The load of the machine in the last minute.
+load() {
+    uptime | sed 's/.*load average[s]*: *\([0-9.]*\).*/\1/'
+}
+
+nanoseconds_a_row() {
+    awk -v seconds="$1" -v rows="$2" 'BEGIN { print seconds * 1e9 / rows }'
+}
+
+# Prints the table's row for one graph.
+measure() {
+    local kind=$1 vertices=$2 edges=$3 figures best worst processor memory rows
+    make_inputs "$kind" "$vertices" "$edges"
+    figures=$(python3 "$top/bench/measure.py" --runs "$runs" --remove journal --remove distances \
+        --remove search.report -- "$program" run --vertices graph.v --edges graph.e --journal journal search 2>said) || fail
+    is_as_expected "$vertices" "$edges" || fail
+    read -r best worst processor memory <<<"$figures"
+    rows=$((vertices + 2 * edges))
+    printf '| %-9s | %8d | %8d | %6s | %6s | %9s | %6d | %6.0f | %5s |\n' "$kind" "$vertices" "$edges" "$best" \
+        "$worst" "$processor" "$memory" "$(nanoseconds_a_row "$best" "$rows")" "$(load)"
+}
+
+make -s -C "$top" build >/dev/null
+work=$(mktemp -d)
+trap 'rm -rf "$work"' EXIT
+cd "$work"
+
+echo "$(getconf _NPROCESSORS_ONLN) cores, load $(load); $runs runs of each, seed $seed"
+echo
+echo '| Kind      | Vertices |    Edges |   Best |  Worst | Processor | Memory | ns row |  Load |'
+echo '|-----------|---------:|---------:|-------:|-------:|----------:|-------:|-------:|------:|'
+for vertices in 1000 100000 1000000; do
+    for kind in random power-law; do
+        measure "$kind" "$vertices" $((vertices * 7 / 2))
+    done
+done
+echo
+echo "Best and Worst are seconds of the whole command by the clock, Processor is the least seconds of processor time"
+echo "of a run, Memory is the peak in MiB, ns row is Best in nanoseconds for each row of the store (one for a vertex,"
+echo "and one for each direction of an edge), and Load is that of the last minute when the runs ended."
