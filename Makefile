@@ -13,7 +13,7 @@ build:
 	cd crates/teseo && \
 	rt run -- run --vertices "$$work/v" --edges "$$work/e" --journal "$$work/j" "$$work/s1"
 
-# Runs the first example on a copy, so that it can be run again.
+# Runs the first example on a copy in a temporary folder, so that nothing is left behind.
 demo: build
 	@program=$(CURDIR)/$(PROGRAM); \
 	work=$$(mktemp -d) && trap 'rm -rf "$$work"' EXIT && \

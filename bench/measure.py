@@ -6,9 +6,9 @@
 Prints one line of four figures: the seconds of the fastest run, those of the
 slowest, the least processor seconds of a run, and the most memory in MiB that
 a run held at once, as the operating system counts it (the largest resident
-set). Each FILE, where there is one, is removed before each run, for a program
-that refuses to overwrite what it made. What the command prints is passed to
-the standard error stream.
+set). Each FILE, where there is one, is removed before each run, so that each
+begins with no outputs. What the command prints is passed to the standard error
+stream.
 
 The count of memory begins with what this script itself holds when it starts
 the command, some 10 MiB, so a smaller figure cannot come.
