@@ -11,7 +11,7 @@ begins with no outputs. What the command prints is passed to the standard error
 stream.
 
 The count of memory begins with what this script itself holds when it starts
-the command, some 10 MiB, so a smaller figure cannot come.
+the command, some 10 to 15 MiB, so a smaller figure cannot come.
 """
 
 import argparse
