@@ -45,7 +45,8 @@ measure() {
     local kind=$1 vertices=$2 edges=$3 figures best worst processor memory rows
     make_inputs "$kind" "$vertices" "$edges"
     figures=$(python3 "$top/bench/measure.py" --runs "$runs" --remove journal --remove distances \
-        --remove search.report -- "$program" run --vertices graph.v --edges graph.e --journal journal search 2>said) || fail
+        --remove search.report -- \
+        "$program" run --vertices graph.v --edges graph.e --journal journal search 2>said) || fail
     is_as_expected "$vertices" "$edges" || fail
     read -r best worst processor memory <<<"$figures"
     rows=$((vertices + 2 * edges))
