@@ -1,6 +1,6 @@
 //! Words that are not those of a run.
 
-use crate::setting::{PATH, SOURCES, lay, run};
+use crate::setting::{End, PATH, differs, lay};
 use desk_io::MemoryDesk;
 use std::test::Fail;
 
@@ -62,20 +62,22 @@ const CASES: [Case; 12] = [
     },
 ];
 
+/// The end of a run on such words.
+const REFUSED: End = End {
+    status: 2,
+    said: "bad words\n",
+    files: 3,
+    made: &[],
+};
+
 #[test]
 fn words_that_are_refused(rt: HostRuntime) -> Result<(), Fail> {
     for case in CASES {
         let fault = case.fault;
         let mut desk = MemoryDesk::new(rt.alloc());
         lay(&mut desk, &PATH)?;
-        let status = run(rt.alloc(), &mut desk, case.words)?;
-        assert_eq!(rt; status, 2, "the status with {fault}");
-        assert_eq!(rt;
-            desk.said(),
-            Some("bad words\n".as_bytes()),
-            "what is said with {fault}"
-        );
-        assert_eq!(rt; desk.file_count(), SOURCES, "the files with {fault}");
+        let found = differs(rt.alloc(), &mut desk, case.words, &REFUSED)?;
+        assert_eq!(rt; found, None, "with {fault}");
     }
     Ok(())
 }

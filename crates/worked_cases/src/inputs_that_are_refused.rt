@@ -1,6 +1,6 @@
 //! Sources that are not there or not accepted, beside some that just are.
 
-use crate::setting::{PATH, RUN, SOURCES, Sources, lay, run};
+use crate::setting::{End, Made, PATH, RUN, Sources, differs, lay};
 use desk_io::MemoryDesk;
 use std::alloc::{AllocError, Global};
 use std::test::Fail;
@@ -71,20 +71,33 @@ const SCRIPTS: [&str; 17] = [
     "begin\nbfs 18446744073709551617 o\ncommit\n",
 ];
 
-/// Whether a run on the sources ends so, and creates nothing.
-fn is_refused(alloc: Global, sources: &Sources, said: &str) -> Result<bool, AllocError> {
+/// The end of a run that creates nothing, with so many sources there.
+fn nothing_made(status: u8, said: &'static str, files: usize) -> End {
+    End {
+        status,
+        said,
+        files,
+        made: &[],
+    }
+}
+
+/// What of the end of a run differs whose source isn't accepted, if anything does.
+fn refusal_differs(
+    alloc: Global,
+    sources: &Sources,
+    said: &'static str,
+) -> Result<Option<&'static str>, AllocError> {
     let mut desk = MemoryDesk::new(alloc);
     lay(&mut desk, sources)?;
-    let status = run(alloc, &mut desk, RUN)?;
-    Ok(status == 1 && desk.said() == Some(said.as_bytes()) && desk.file_count() == SOURCES)
+    differs(alloc, &mut desk, RUN, &nothing_made(1, said, 3))
 }
 
 #[test]
 fn vertex_files_that_are_refused(rt: HostRuntime) -> Result<(), Fail> {
     for vertices in VERTICES {
         let sources = Sources { vertices, ..PATH };
-        let refused = is_refused(rt.alloc(), &sources, "v: not accepted\n")?;
-        assert!(rt; refused, "another end with {vertices}");
+        let found = refusal_differs(rt.alloc(), &sources, "v: not accepted\n")?;
+        assert_eq!(rt; found, None, "with {vertices}");
     }
     Ok(())
 }
@@ -93,8 +106,8 @@ fn vertex_files_that_are_refused(rt: HostRuntime) -> Result<(), Fail> {
 fn edge_files_that_are_refused(rt: HostRuntime) -> Result<(), Fail> {
     for edges in EDGES {
         let sources = Sources { edges, ..PATH };
-        let refused = is_refused(rt.alloc(), &sources, "e: not accepted\n")?;
-        assert!(rt; refused, "another end with {edges}");
+        let found = refusal_differs(rt.alloc(), &sources, "e: not accepted\n")?;
+        assert_eq!(rt; found, None, "with {edges}");
     }
     Ok(())
 }
@@ -103,70 +116,111 @@ fn edge_files_that_are_refused(rt: HostRuntime) -> Result<(), Fail> {
 fn scripts_that_are_refused(rt: HostRuntime) -> Result<(), Fail> {
     for script in SCRIPTS {
         let sources = Sources { script, ..PATH };
-        let refused = is_refused(rt.alloc(), &sources, "s1: not accepted\n")?;
-        assert!(rt; refused, "another end with {script}");
+        let found = refusal_differs(rt.alloc(), &sources, "s1: not accepted\n")?;
+        assert_eq!(rt; found, None, "with {script}");
     }
     Ok(())
 }
+
+/// Sources of which several are faulty, and what is said of the first.
+#[derive(Clone, Copy)]
+struct Faulty {
+    sources: Sources,
+    said: &'static str,
+}
+
+const FAULTY: [Faulty; 3] = [
+    Faulty {
+        sources: Sources {
+            vertices: "1",
+            edges: "1 2\n2 3\n",
+            script: "begin",
+        },
+        said: "v: not accepted\n",
+    },
+    Faulty {
+        sources: Sources {
+            vertices: "1\n2\n3\n",
+            edges: "1",
+            script: "begin",
+        },
+        said: "e: not accepted\n",
+    },
+    Faulty {
+        sources: Sources {
+            vertices: "1",
+            edges: "1",
+            script: "begin",
+        },
+        said: "v: not accepted\n",
+    },
+];
 
 #[test]
 fn the_first_faulty_source_is_named(rt: HostRuntime) -> Result<(), Fail> {
-    // the vertices and the script, the edges and the script, all three
-    let faulty = [
-        ("1", PATH.edges, "v: not accepted\n"),
-        (PATH.vertices, "1", "e: not accepted\n"),
-        ("1", "1", "v: not accepted\n"),
-    ];
-    for (vertices, edges, said) in faulty {
-        let sources = Sources {
-            vertices,
-            edges,
-            script: "begin",
-        };
-        let refused = is_refused(rt.alloc(), &sources, said)?;
-        assert!(rt; refused, "another end than {said}");
+    for faulty in FAULTY {
+        let found = refusal_differs(rt.alloc(), &faulty.sources, faulty.said)?;
+        assert_eq!(rt; found, None, "where it is {}", faulty.said);
     }
     Ok(())
 }
 
 #[test]
-fn a_source_that_is_not_there(rt: HostRuntime) -> Result<(), Fail> {
-    let missing = [
-        ("v", "read failed v\n"),
-        ("e", "read failed e\n"),
-        ("s1", "read failed s1\n"),
-    ];
-    for (name, said) in missing {
-        let mut desk = MemoryDesk::new(rt.alloc());
-        for (other, text) in [("v", PATH.vertices), ("e", PATH.edges), ("s1", PATH.script)] {
-            if other != name {
-                desk.put(other, text.as_bytes())?;
-            }
-        }
-        assert_eq!(rt;
-            run(rt.alloc(), &mut desk, RUN)?,
-            4,
-            "the status without {name}"
-        );
-        assert_eq!(rt;
-            desk.said(),
-            Some(said.as_bytes()),
-            "what is said without {name}"
-        );
-        assert_eq!(rt; desk.file_count(), 2, "the files without {name}");
-    }
+fn vertices_that_are_not_there(rt: HostRuntime) -> Result<(), Fail> {
+    let mut desk = MemoryDesk::new(rt.alloc());
+    desk.put("e", PATH.edges.as_bytes())?;
+    desk.put("s1", PATH.script.as_bytes())?;
+    let found = differs(
+        rt.alloc(),
+        &mut desk,
+        RUN,
+        &nothing_made(4, "read failed v\n", 2),
+    )?;
+    assert_eq!(rt; found, None);
     Ok(())
 }
 
 #[test]
-fn all_sources_are_read_before_one_is_refused(rt: HostRuntime) -> Result<(), Fail> {
+fn edges_that_are_not_there(rt: HostRuntime) -> Result<(), Fail> {
+    let mut desk = MemoryDesk::new(rt.alloc());
+    desk.put("v", PATH.vertices.as_bytes())?;
+    desk.put("s1", PATH.script.as_bytes())?;
+    let found = differs(
+        rt.alloc(),
+        &mut desk,
+        RUN,
+        &nothing_made(4, "read failed e\n", 2),
+    )?;
+    assert_eq!(rt; found, None);
+    Ok(())
+}
+
+#[test]
+fn a_script_that_is_not_there(rt: HostRuntime) -> Result<(), Fail> {
+    // All sources are read before one is refused, so the faulty vertices are not named.
     let mut desk = MemoryDesk::new(rt.alloc());
     desk.put("v", "1".as_bytes())?;
     desk.put("e", PATH.edges.as_bytes())?;
-    assert_eq!(rt; run(rt.alloc(), &mut desk, RUN)?, 4);
-    assert_eq!(rt; desk.said(), Some("read failed s1\n".as_bytes()));
+    let found = differs(
+        rt.alloc(),
+        &mut desk,
+        RUN,
+        &nothing_made(4, "read failed s1\n", 2),
+    )?;
+    assert_eq!(rt; found, None);
     Ok(())
 }
+
+/// The end of a run on an edge between the least id and the greatest.
+const GREATEST: End = End {
+    status: 0,
+    said: "commits 1 vertices 2 edges 1 undo 0 retired 0\n",
+    files: 6,
+    made: &[Made {
+        name: "o",
+        text: "0 1\n9223372036854775806 0\n",
+    }],
+};
 
 #[test]
 fn ids_up_to_the_greatest_are_accepted(rt: HostRuntime) -> Result<(), Fail> {
@@ -177,10 +231,7 @@ fn ids_up_to_the_greatest_are_accepted(rt: HostRuntime) -> Result<(), Fail> {
         script: "begin\nbfs 9223372036854775806 o\ncommit\n",
     };
     lay(&mut desk, &sources)?;
-    assert_eq!(rt; run(rt.alloc(), &mut desk, RUN)?, 0);
-    let table = "0 1\n9223372036854775806 0\n";
-    let summary = "commits 1 vertices 2 edges 1 undo 0 retired 0\n";
-    assert_eq!(rt; desk.get("o"), Some(table.as_bytes()), "the result");
-    assert_eq!(rt; desk.said(), Some(summary.as_bytes()), "what is said");
+    let found = differs(rt.alloc(), &mut desk, RUN, &GREATEST)?;
+    assert_eq!(rt; found, None);
     Ok(())
 }

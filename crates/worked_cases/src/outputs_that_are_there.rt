@@ -2,9 +2,7 @@
 //!
 //! A desk makes an empty file in place of one that was there, so nothing of the older text stays.
 
-use crate::setting::{
-    PATH, PATH_JOURNAL, PATH_REPORT, PATH_RESULT, PATH_SUMMARY, RUN, Sources, lay, run,
-};
+use crate::setting::{End, Made, PATH, RUN, SUMMARY, Sources, WHOLE, differs, lay};
 use desk_io::MemoryDesk;
 use std::test::Fail;
 
@@ -18,42 +16,31 @@ fn an_output_that_is_there_is_replaced_whole(rt: HostRuntime) -> Result<(), Fail
         let mut desk = MemoryDesk::new(rt.alloc());
         lay(&mut desk, &PATH)?;
         desk.put(name, OLDER.as_bytes())?;
-        assert_eq!(rt; run(rt.alloc(), &mut desk, RUN)?, 0, "the status at {name}");
-        assert_eq!(rt;
-            desk.get("j"),
-            Some(PATH_JOURNAL.as_bytes()),
-            "the journal at {name}"
-        );
-        assert_eq!(rt;
-            desk.get("s1.report"),
-            Some(PATH_REPORT.as_bytes()),
-            "the report at {name}"
-        );
-        assert_eq!(rt;
-            desk.get("o"),
-            Some(PATH_RESULT.as_bytes()),
-            "the result at {name}"
-        );
-        assert_eq!(rt;
-            desk.said(),
-            Some(PATH_SUMMARY.as_bytes()),
-            "what is said at {name}"
-        );
-        assert_eq!(rt; desk.file_count(), 6, "the files at {name}");
+        let found = differs(rt.alloc(), &mut desk, RUN, &WHOLE)?;
+        assert_eq!(rt; found, None, "with an older {name}");
     }
     Ok(())
 }
 
 #[test]
-fn a_file_of_a_search_with_no_table_stays(rt: HostRuntime) -> Result<(), Fail> {
+fn a_file_stays_where_a_search_has_no_result(rt: HostRuntime) -> Result<(), Fail> {
     let mut desk = MemoryDesk::new(rt.alloc());
     let sources = Sources {
         script: "begin\nbfs 9 o\ncommit\n",
         ..PATH
     };
+    let end = End {
+        status: 0,
+        said: SUMMARY,
+        files: 6,
+        made: &[Made {
+            name: "o",
+            text: OLDER,
+        }],
+    };
     lay(&mut desk, &sources)?;
     desk.put("o", OLDER.as_bytes())?;
-    assert_eq!(rt; run(rt.alloc(), &mut desk, RUN)?, 0);
-    assert_eq!(rt; desk.get("o"), Some(OLDER.as_bytes()));
+    let found = differs(rt.alloc(), &mut desk, RUN, &end)?;
+    assert_eq!(rt; found, None);
     Ok(())
 }

@@ -1,8 +1,6 @@
 //! Runs to the end, each with all that it writes.
 
-use crate::setting::{
-    PATH, PATH_JOURNAL, PATH_REPORT, PATH_RESULT, PATH_SUMMARY, RUN, Sources, lay, run,
-};
+use crate::setting::{End, JOURNAL, Made, PATH, RUN, SUMMARY, Sources, WHOLE, differs, lay};
 use desk_io::MemoryDesk;
 use std::test::Fail;
 
@@ -10,18 +8,24 @@ use std::test::Fail;
 fn a_search_on_a_path(rt: HostRuntime) -> Result<(), Fail> {
     let mut desk = MemoryDesk::new(rt.alloc());
     lay(&mut desk, &PATH)?;
-    assert_eq!(rt; run(rt.alloc(), &mut desk, RUN)?, 0);
-    assert_eq!(rt; desk.get("j"), Some(PATH_JOURNAL.as_bytes()), "the journal");
-    assert_eq!(rt;
-        desk.get("s1.report"),
-        Some(PATH_REPORT.as_bytes()),
-        "the report"
-    );
-    assert_eq!(rt; desk.get("o"), Some(PATH_RESULT.as_bytes()), "the result");
-    assert_eq!(rt; desk.said(), Some(PATH_SUMMARY.as_bytes()), "what is said");
-    assert_eq!(rt; desk.file_count(), 6);
+    let found = differs(rt.alloc(), &mut desk, RUN, &WHOLE)?;
+    assert_eq!(rt; found, None);
     Ok(())
 }
+
+/// The end of a search from a root that is no vertex: there is no result.
+const NO_VERTEX: End = End {
+    status: 0,
+    said: SUMMARY,
+    files: 5,
+    made: &[
+        JOURNAL,
+        Made {
+            name: "s1.report",
+            text: "begin 1.1 start 1\nno vertex 9\ncommit -\n",
+        },
+    ],
+};
 
 #[test]
 fn a_root_that_is_no_vertex(rt: HostRuntime) -> Result<(), Fail> {
@@ -31,19 +35,27 @@ fn a_root_that_is_no_vertex(rt: HostRuntime) -> Result<(), Fail> {
         ..PATH
     };
     lay(&mut desk, &sources)?;
-    assert_eq!(rt; run(rt.alloc(), &mut desk, RUN)?, 0);
-    let report = "begin 1.1 start 1\nno vertex 9\ncommit -\n";
-    assert_eq!(rt; desk.get("j"), Some(PATH_JOURNAL.as_bytes()), "the journal");
-    assert_eq!(rt;
-        desk.get("s1.report"),
-        Some(report.as_bytes()),
-        "the report"
-    );
-    assert_eq!(rt; desk.get("o"), None, "the result");
-    assert_eq!(rt; desk.said(), Some(PATH_SUMMARY.as_bytes()), "what is said");
-    assert_eq!(rt; desk.file_count(), 5);
+    let found = differs(rt.alloc(), &mut desk, RUN, &NO_VERTEX)?;
+    assert_eq!(rt; found, None);
     Ok(())
 }
+
+/// The end of a search on no graph: the journal is there and empty, and there is no result.
+const NOTHING: End = End {
+    status: 0,
+    said: "commits 0 vertices 0 edges 0 undo 0 retired 0\n",
+    files: 5,
+    made: &[
+        Made {
+            name: "j",
+            text: "",
+        },
+        Made {
+            name: "s1.report",
+            text: "begin 1.1 start 0\nno vertex 1\ncommit -\n",
+        },
+    ],
+};
 
 #[test]
 fn nothing_to_load(rt: HostRuntime) -> Result<(), Fail> {
@@ -54,17 +66,7 @@ fn nothing_to_load(rt: HostRuntime) -> Result<(), Fail> {
         ..PATH
     };
     lay(&mut desk, &sources)?;
-    assert_eq!(rt; run(rt.alloc(), &mut desk, RUN)?, 0);
-    let report = "begin 1.1 start 0\nno vertex 1\ncommit -\n";
-    let summary = "commits 0 vertices 0 edges 0 undo 0 retired 0\n";
-    assert_eq!(rt; desk.get("j"), Some("".as_bytes()), "the journal");
-    assert_eq!(rt;
-        desk.get("s1.report"),
-        Some(report.as_bytes()),
-        "the report"
-    );
-    assert_eq!(rt; desk.get("o"), None, "the result");
-    assert_eq!(rt; desk.said(), Some(summary.as_bytes()), "what is said");
-    assert_eq!(rt; desk.file_count(), 5);
+    let found = differs(rt.alloc(), &mut desk, RUN, &NOTHING)?;
+    assert_eq!(rt; found, None);
     Ok(())
 }
