@@ -291,9 +291,14 @@ mod tests {
         desk.say(b"well done\n");
         let text = read_source(rt.alloc(), &mut desk, "graph.txt", 4)?;
         assert_eq!(rt; text.as_slice(), b"1 2\n".as_slice());
-        assert_eq!(rt; desk.get("empty.txt"), Some(b"".as_slice()));
-        assert_eq!(rt; desk.said().ok_or("lost")?, b"done\nwell done\n".as_slice());
-        assert_eq!(rt; desk.file_count(), 2);
+        assert_eq!(rt;
+            (desk.get("empty.txt"), desk.said(), desk.file_count()),
+            (
+                Some(b"".as_slice()),
+                Some(b"done\nwell done\n".as_slice()),
+                2
+            )
+        );
         Ok(())
     }
 
@@ -302,11 +307,16 @@ mod tests {
         let mut desk = MemoryDesk::with_failing(rt.alloc(), &[2, 4])?;
         desk.put("graph.txt", b"1 2\n")?;
         let mut buffer = [0; 8];
-        assert_eq!(rt; desk.read("graph.txt", 0, &mut buffer), Ok(4));
-        assert_eq!(rt; desk.read("graph.txt", 4, &mut buffer), Err(Failed));
-        assert_eq!(rt; desk.create("out.txt"), Ok(()));
-        assert_eq!(rt; desk.write("out.txt", b"3"), Err(Failed));
-        assert_eq!(rt; desk.write("out.txt", b"3"), Ok(1));
+        let reads = [
+            desk.read("graph.txt", 0, &mut buffer),
+            desk.read("graph.txt", 4, &mut buffer),
+        ];
+        desk.create("out.txt")?;
+        let writes = [desk.write("out.txt", b"3"), desk.write("out.txt", b"3")];
+        assert_eq!(rt;
+            (reads, writes),
+            ([Ok(4), Err(Failed)], [Err(Failed), Ok(1)])
+        );
         assert_eq!(rt; desk.get("out.txt"), Some(b"3".as_slice()));
         Ok(())
     }
@@ -314,8 +324,10 @@ mod tests {
     #[test]
     fn a_name_with_no_file_is_neither_read_nor_written(rt: HostRuntime) {
         let mut desk = MemoryDesk::new(rt.alloc());
-        assert_eq!(rt; desk.read("none.txt", 0, &mut [0; 8]), Err(Failed));
-        assert_eq!(rt; desk.write("none.txt", b"3"), Err(Failed));
-        assert_eq!(rt; desk.file_count(), 0);
+        let calls = [
+            desk.read("none.txt", 0, &mut [0; 8]),
+            desk.write("none.txt", b"3"),
+        ];
+        assert_eq!(rt; (calls, desk.file_count()), ([Err(Failed); 2], 0));
     }
 }
