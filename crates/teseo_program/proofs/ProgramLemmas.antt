@@ -15,7 +15,7 @@ use Rattle.teseo_program.specs.declared.outputs.Held.{Held}
 use Rattle.teseo_program.specs.declared.prepare.Made.{Made}
 use Rattle.teseo_program.specs.declared.run.Ran.{Ran}
 use Rattle.teseo_program.specs.Words.{RunNames, taken_names, report_name}
-use Rattle.teseo_program.specs.Sources.{source_name}
+use Rattle.teseo_program.specs.Sources.{source_name, AreReadBefore}
 use Rattle.teseo_program.specs.Said.{OnlySays}
 use Rattle.teseo_program.specs.Outputs.{Output, names_of, WritesAll, FailsAtPlace}
 use Rattle.teseo_program.specs.OutputsHeld.{output_of, outputs_of}
@@ -120,12 +120,13 @@ ended names old mid new made is same BadWords finishes = absurd finishes
 ended names old mid new made is same NoMemory finishes = absurd finishes
 ended names old mid new made is same (ReadFault source) finishes = absurd finishes
 
-read_fault : (names : RunNames) (source : Source) (old mid new : Files) → ReadFails old mid → OnlySays (line (codes "read failed ") (source_name names source)) mid new → IsReadFault names source old new
-read_fault names source old mid new fails says =
+read_fault : (names : RunNames) (source : Source) (old mid new : Files) → AreReadBefore names old source → ReadFails old mid → OnlySays (line (codes "read failed ") (source_name names source)) mid new → IsReadFault names source old new
+read_fault names source old mid new before fails says =
     let faults : new.read_faults ≡ mid.read_faults = ap (λ (f : Files). f.read_faults) says.rest in
     let said : mid.said ≡ old.said = ap (λ (f : Files). f.said) fails.rest in
     let whole : new ≡ record old { said = new.said; read_faults = mid.read_faults } = says.rest ∙ ap (λ (f : Files). let g : Files = record f { said = new.said } in g) fails.rest in
     record {
+      before = before;
       rose = subst (λ n. Rose old.read_faults n) (sym faults) fails.rose;
       rest = whole ∙ ap (λ n. let g : Files = record old { said = new.said; read_faults = n } in g) (sym faults);
       says = subst (λ s. IfSome new.said (λ all. IfSome s (λ before. all ≡ before ++ line (codes "read failed ") (source_name names source)))) said says.says;
@@ -137,5 +138,5 @@ refused names old mid new (TooLong source) is says = (is.0, is.1, subst (λ f. O
 refused names old mid new (NotAccepted source) is says = (is.0, is.1, is.2, subst (λ f. OnlySays (line (source_name names source) (codes ": not accepted")) f new) is.3 says)
 refused names old mid new BadWords is says = absurd is
 refused names old mid new NoMemory is says = subst (λ f. OnlySays (codes "no memory\n") f new) is says
-refused names old mid new (ReadFault source) is says = read_fault names source old mid new is says
+refused names old mid new (ReadFault source) is says = read_fault names source old mid new is.0 is.1 says
 refused names old mid new (WriteFault sink) is says = absurd is

@@ -64,8 +64,9 @@ pub record IsDone (names : RunNames) (old new : Files) : Type 0 where
   pub writes : WritesAll (sinks_of names outputs) old written
   pub says : OnlySays (summary_text Undirected outputs) written new
 
--- a read failed, and nothing was created
+-- a read failed, the sources before this one are read whole, and nothing was created
 pub record IsReadFault (names : RunNames) (source : Source) (old new : Files) : Type 0 where
+  pub before : AreReadBefore names old source
   pub rose : Rose old.read_faults new.read_faults
   pub rest : new ≡ record old { said = new.said; read_faults = new.read_faults }
   pub says : Says (line (codes "read failed ") (source_name names source)) old new

@@ -34,5 +34,5 @@ abbrev pub IsUnmade : RunNames → Files → Files → Ending → Type 0
 IsUnmade names old new (TooLong source) = AreReadBefore names old source × IsTooLong old (source_name names source) MAX_SOURCE_BYTES × (new ≡ old)
 IsUnmade names old new (NotAccepted source) = (sources : Sources) × AreSources names old sources × IsNotAccepted names sources (NotAccepted source) × (new ≡ old)
 IsUnmade names old new NoMemory = new ≡ old
-IsUnmade names old new (ReadFault source) = ReadFails old new
+IsUnmade names old new (ReadFault source) = AreReadBefore names old source × ReadFails old new
 IsUnmade names old new _ = ⊥

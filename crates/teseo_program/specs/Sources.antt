@@ -42,6 +42,6 @@ unread source refusals.NoMemory = endings.NoMemory
 -- why a source isn't read, and what that leaves
 abbrev pub IsUnread : RunNames → Files → Files → Ending → Type 0
 IsUnread names old new (endings.TooLong source) = AreReadBefore names old source × IsTooLong old (source_name names source) MAX_SOURCE_BYTES × (new ≡ old)
-IsUnread names old new (endings.ReadFault source) = ReadFails old new
+IsUnread names old new (endings.ReadFault source) = AreReadBefore names old source × ReadFails old new
 IsUnread names old new endings.NoMemory = new ≡ old
 IsUnread names old new _ = ⊥
