@@ -5,13 +5,13 @@ mod ids;
 mod journal;
 mod laws;
 mod limits;
-mod memory;
 mod refusal;
 mod row;
 mod table;
 mod write;
 
 pub use ids::Ids;
+pub use items::NoMemory;
 pub use journal::{Begun, Commit, Journal, TxnName};
 pub use laws::{
     apart_writes_commute, components_are_least_vertices, examples_hold, labels_follow_neighbours,
@@ -23,7 +23,6 @@ pub use limits::{
     MAX_SCRIPTS, MAX_SOURCE_BYTES, MAX_THREADS, MAX_TXNS_PER_PASS, MAX_WEIGHT, NO_WALK, SCAN_ROWS,
     SEGMENT_ROWS,
 };
-pub use memory::NoMemory;
 pub use refusal::{BeginRefusal, Cause, Refusal};
 pub use row::{Cursor, Key, Row, Rows64};
 pub use table::{Entry, KernelRefusal, Table, Value};

@@ -1,0 +1,94 @@
+//! A list that knows how much room it has.
+
+ghost use Rattle.std.specs.Prelude.{◌≡◌, ◌==◌, ◌+◌, ◌<◌, ◌≤◌, [], ◌∷◌, ◌++◌, length, IsSome, IfSome, IfNone, OnOk, OnErr, ◌↔◌};
+
+use crate::list::Items;
+use crate::memory::NoMemory;
+use std::alloc::Global;
+use std::marker::Model;
+
+/// Items in order, with the number of those that may still be put at the end with no memory taken.
+#[derive(Drop)]
+pub struct RoomyItems<T> {
+    items: Vec<T>,
+}
+
+impl<T> Model for RoomyItems<T> {
+    ghost use Rattle.std.specs.Prelude.{◌-◌};
+    ghost use Rattle.std.specs.Vec.{vec_capacity, vec_len};
+    ghost use Rattle.items.specs.Room.{WithRoom};
+
+    ghost Value = { WithRoom T };
+
+    ghost view = { λ list. record { items = list.items.items; spare = vec_capacity list.items - vec_len list.items } };
+}
+
+impl<T> RoomyItems<T> {
+    /// No items. Takes no memory.
+    pub fn new(alloc: Global) -> RoomyItems<T>
+        ensures { result.items ≡ [] }
+    {
+        RoomyItems {
+            items: Vec::new(alloc),
+        }
+    }
+
+    /// The items as a list that only grows with memory. Takes no memory.
+    pub fn into_items(self) -> Items<T>
+        ensures { result ≡ self.items }
+    {
+        Items::from_vec(self.items)
+    }
+
+    pub fn len(&self) -> usize
+        ensures { result ≡ length self.now.items }
+    {
+        self.items.len()
+    }
+
+    pub fn is_empty(&self) -> bool
+        ensures { result ≡ (length self.now.items == 0) }
+    {
+        self.items.is_empty()
+    }
+
+    /// Lends the items.
+    pub fn as_slice(&self) -> &[T]
+        ensures { result.now ≡ self.now.items }
+    {
+        self.items.as_slice()
+    }
+
+    /// Makes room for so many more items.
+    pub fn reserve(&mut self, room: usize) -> Result<(), NoMemory>
+        ensures kept { self.new.items ≡ self.old.items }
+        ensures ok { OnOk result (room ≤ self.new.spare) }
+        ensures spare { self.old.spare ≤ self.new.spare }
+    {
+        self.items.reserve(room)?;
+        Ok(())
+    }
+
+    /// Takes the last item away. Takes no memory, and the room for it is left.
+    pub fn pop(&mut self) -> Option<T>
+        ensures last { IfSome result (λ item. self.old.items ≡ self.new.items ++ item ∷ []) }
+        ensures none { IfNone result ((self.old.items ≡ []) × (self.new.items ≡ [])) }
+        ensures spare { self.old.spare ≤ self.new.spare }
+    {
+        self.items.pop()
+    }
+}
+
+impl<T: Drop> RoomyItems<T> {
+    /// Puts an item at the end, where there is room for it. Takes no memory.
+    pub fn push_within(&mut self, item: T)
+        requires { 0 < self.old.spare }
+        ensures put { self.new.items ≡ self.old.items ++ item ∷ [] }
+        ensures spare { self.old.spare ≤ self.new.spare + 1 }
+    {
+        match self.items.push(item) {
+            Ok(()) => {}
+            Err(_) => unreachable!(),
+        }
+    }
+}
