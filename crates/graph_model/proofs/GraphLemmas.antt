@@ -155,12 +155,6 @@ is_none : (x : Option ℕ) → is_some x ≡ false → x ≡ None
 is_none None e = refl
 is_none (Some w) e = cc
 
-self_eq : (n : ℕ) → (n == n) ≡ true
-self_eq n = grind (arith, nat_tests)
-
-eq_of : (m n : ℕ) → (m == n) ≡ true → m ≡ n
-eq_of m n e = grind (arith, nat_tests)
-
 -- a vertex with no edges has no arc out and none in
 pub no_edges : (g : Graph) (v : ℕ) → has_edges g v ≡ false → (a b : ℕ) → ((a == v) || (b == v)) ≡ true → weight_of g a b ≡ None
 no_edges g v none a b touches =

@@ -1,12 +1,16 @@
+pub mod TestLemmas
 pub mod OrderLemmas
 pub mod WalkLemmas
 pub mod GraphLemmas
 pub mod WriteLemmas
+pub mod EffectLemmas
+pub mod ClashLemmas
 pub mod SortedLemmas
 pub mod RowLemmas
 pub mod ItemLemmas
 pub mod ComponentLemmas
 pub mod LabelLemmas
 pub mod TableLemmas
+pub mod HistoryLemmas
 pub mod LegalLemmas
 pub mod ExampleLemmas

@@ -1,6 +1,8 @@
 -- What an allowed write keeps, and that two which don't clash commute.
 use Rattle.std.proofs.Common.{◌≡◌, ℕ, refl, sym, ◌∙◌, ap, cond, arith, inl, inr}
 use Rattle.std.specs.Prelude.{Bool, true, false, ◌==◌, ◌&&◌, ◌||◌, ◌⊎◌, nat_lt, Option, Some, None, is_some}
+use Rattle.std.proofs.Math.Bool.{and_comm}
+use Rattle.std.proofs.lemmas.Bool.{or_left, or_right, false_from_ne_true}
 use Rattle.std.proofs.lemmas.Bool.Decides.{nat_tests}
 use Rattle.graph_model.specs.declared.write.Kind.{Kind}
 use Rattle.graph_model.specs.declared.write.Kind.TheVariants.{Directed, Undirected}
@@ -12,38 +14,8 @@ use Rattle.graph_model.specs.Items.{Item, edge, item, same_item, cuts_off, clash
 use Rattle.graph_model.specs.Items.Item.{Vertex, Edge}
 use Rattle.graph_model.specs.Graph.{Graph, has_vertex, weight_of, has_arc, has_edges, apply, HasBothEnds, IsSymmetric}
 use Rattle.graph_model.specs.Refused.{unless_ends, refused}
+use Rattle.graph_model.proofs.TestLemmas.{self_eq, eq_of, both_of, either_of, never, or_comm}
 use Rattle.graph_model.proofs.GraphLemmas.{same_graph, covers, is_about, leaves_vertex, is_about_arc, leaves_weight, has_vertex-apply, weight-apply, no_edges, has_no_edges}
-
-self_eq : (n : ℕ) → (n == n) ≡ true
-self_eq n = grind (arith, nat_tests)
-
-eq_of : (m n : ℕ) → (m == n) ≡ true → m ≡ n
-eq_of m n e = grind (arith, nat_tests)
-
-both_of : (s t : Bool) → (s && t) ≡ true → (s ≡ true) × (t ≡ true)
-both_of true t e = (refl, e)
-both_of false t e = cc
-
-either_of : (s t : Bool) → (s || t) ≡ true → (s ≡ true) ⊎ (t ≡ true)
-either_of true t e = inl refl
-either_of false t e = inr e
-
-or_left : (s t : Bool) → s ≡ true → (s || t) ≡ true
-or_left true t e = refl
-or_left false t e = cc
-
-or_right : (s t : Bool) → t ≡ true → (s || t) ≡ true
-or_right true t e = refl
-or_right false t e = e
-
--- what refutes a test makes it false
-refuted : (s : Bool) → (s ≡ true → ⊥) → s ≡ false
-refuted true against = absurd (against refl)
-refuted false against = refl
-
-never : {X : Type 0} (s : Bool) → s ≡ true → s ≡ false → X
-never true e f = cc
-never false e f = cc
 
 -- an edge that is allowed has two ends, and passes the test behind them
 pub allowed_ends : (g : Graph) (u v : ℕ) (answer : Option Refusal) → unless_ends g u v answer ≡ None → ((u == v) ≡ false) × (has_vertex g u ≡ true) × (has_vertex g v ≡ true) × (answer ≡ None)
@@ -111,9 +83,9 @@ keeps_ends kind g (AddVertex v) is ends a b arc =
 keeps_ends kind g (DropVertex v) is ends a b arc =
     let old = ends a b arc in
     let bare = (droppable g v is).1 in
-    let away : ((a == v) || (b == v)) ≡ false = refuted _ (λ touches. never (is_some (weight_of g a b)) arc (ap is_some (no_edges g v bare a b touches))) in
-    let not_a : (a == v) ≡ false = refuted _ (λ e. never _ (or_left _ _ e) away) in
-    let not_b : (b == v) ≡ false = refuted _ (λ e. never _ (or_right (a == v) _ e) away) in
+    let away : ((a == v) || (b == v)) ≡ false = false_from_ne_true _ (λ touches. never (is_some (weight_of g a b)) arc (ap is_some (no_edges g v bare a b touches))) in
+    let not_a : (a == v) ≡ false = false_from_ne_true _ (λ e. never _ (or_left _ _ e) away) in
+    let not_b : (b == v) ≡ false = false_from_ne_true _ (λ e. never _ (or_right (a == v) _ e) away) in
     (has_vertex-apply kind g (DropVertex v) a ∙ kept_other _ _ not_a old.0, has_vertex-apply kind g (DropVertex v) b ∙ kept_other _ _ not_b old.1)
 keeps_ends kind g (AddEdge u v weight) is ends a b arc =
     let at = allowed_ends g u v _ is in
@@ -130,22 +102,11 @@ keeps_ends kind g (DropEdge u v) is ends a b arc =
 
 -- ---- a write keeps an undirected graph symmetric
 
-and_comm : (s t : Bool) → (s && t) ≡ (t && s)
-and_comm true true = refl
-and_comm true false = refl
-and_comm false true = refl
-and_comm false false = refl
-
-or_comm : (s t : Bool) → (s || t) ≡ (t || s)
-or_comm true true = refl
-or_comm true false = refl
-or_comm false true = refl
-or_comm false false = refl
-
 edge_turned : (u v a b : ℕ) → covers Undirected u v a b ≡ covers Undirected u v b a
 edge_turned u v a b = or_comm ((a == v) && (b == u)) ((a == u) && (b == v)) ∙ (λ i. and_comm (a == u) (b == v) i || and_comm (a == v) (b == u) i)
 
-covers_turned : (w : Write) (a b : ℕ) → is_about_arc Undirected w a b ≡ is_about_arc Undirected w b a
+-- a write without direction is about an arc either way
+pub covers_turned : (w : Write) (a b : ℕ) → is_about_arc Undirected w a b ≡ is_about_arc Undirected w b a
 covers_turned (AddVertex v) a b = refl
 covers_turned (DropVertex v) a b = refl
 covers_turned (AddEdge u v weight) a b = edge_turned u v a b
@@ -160,7 +121,8 @@ keeps_symmetric g w same a b =
 
 -- ---- writes that don't clash
 
-two_ways : (u v : ℕ) → edge Undirected u v ≡ edge Undirected v u
+-- an edge without direction is the same item either way
+pub two_ways : (u v : ℕ) → edge Undirected u v ≡ edge Undirected v u
 two_ways u v = by_tests (nat_lt v u) (nat_lt u v) refl refl
   where
     by_tests : (s t : Bool) → nat_lt v u ≡ s → nat_lt u v ≡ t → cond s (Edge v u) (Edge u v) ≡ cond t (Edge u v) (Edge v u)
@@ -169,7 +131,8 @@ two_ways u v = by_tests (nat_lt v u) (nat_lt u v) refl refl
     by_tests false true e f = refl
     by_tests false false e f = let same : u ≡ v = grind (arith, nat_tests) in (λ i. Edge (same i) (sym same i))
 
-turned_edge : (kind : Kind) (u v a b : ℕ) → covers kind u v a b ≡ true → edge kind u v ≡ edge kind a b
+-- each arc of an edge names the edge
+pub turned_edge : (kind : Kind) (u v a b : ℕ) → covers kind u v a b ≡ true → edge kind u v ≡ edge kind a b
 turned_edge Directed u v a b e = let p = both_of _ _ e in (λ i. Edge (sym (eq_of a u p.0) i) (sym (eq_of b v p.1) i))
 turned_edge Undirected u v a b e =
     elim (either_of ((a == v) && (b == u)) ((a == u) && (b == v)) e) as (λ _. edge Undirected u v ≡ edge Undirected a b) [
@@ -177,14 +140,16 @@ turned_edge Undirected u v a b e =
       | inr h ↦ let p = both_of _ _ h in (λ i. edge Undirected (sym (eq_of a u p.0) i) (sym (eq_of b v p.1) i))
     ]
 
-about_item : (kind : Kind) (w : Write) (q : ℕ) → is_about w q ≡ true → item kind w ≡ Vertex q
+-- a write that is about a vertex writes that item
+pub about_item : (kind : Kind) (w : Write) (q : ℕ) → is_about w q ≡ true → item kind w ≡ Vertex q
 about_item kind (AddVertex v) q e = ap Vertex (sym (eq_of q v e))
 about_item kind (DropVertex v) q e = ap Vertex (sym (eq_of q v e))
 about_item kind (AddEdge u v weight) q e = cc
 about_item kind (SetEdge u v weight) q e = cc
 about_item kind (DropEdge u v) q e = cc
 
-about_arc_item : (kind : Kind) (w : Write) (a b : ℕ) → is_about_arc kind w a b ≡ true → item kind w ≡ edge kind a b
+-- a write that is about an arc writes the item of its edge
+pub about_arc_item : (kind : Kind) (w : Write) (a b : ℕ) → is_about_arc kind w a b ≡ true → item kind w ≡ edge kind a b
 about_arc_item kind (AddVertex v) a b e = cc
 about_arc_item kind (DropVertex v) a b e = cc
 about_arc_item kind (AddEdge u v weight) a b e = turned_edge kind u v a b e
@@ -289,7 +254,7 @@ still_allowed kind g x (DropVertex v) apart x_allowed y_allowed =
     let y_is = droppable g v y_allowed in
     let bare : has_edges (apply kind g x) v ≡ false = has_no_edges (apply kind g x) v (λ a b touches.
     weight-apply kind g x a b ∙ ap (cond (is_about_arc kind x a b) (leaves_weight x)) (no_edges g v y_is.1 a b touches)
-    ∙ still_bare kind g x x_allowed v y_is.1 (refuted _ (λ cuts. never _ (clash_of_cut_by kind x (DropVertex v) cuts) apart)) a b touches x refl) in
+    ∙ still_bare kind g x x_allowed v y_is.1 (false_from_ne_true _ (λ cuts. never _ (clash_of_cut_by kind x (DropVertex v) cuts) apart)) a b touches x refl) in
     (λ i. cond ((same_vertex kind g x x_allowed (DropVertex v) apart v refl ∙ y_is.0) i) (cond (bare i) (Some HasEdges) None) (Some (NoVertex v)))
 still_allowed kind g x (AddEdge u v weight) apart x_allowed y_allowed =
     let at = allowed_ends g u v _ y_allowed in

@@ -5,6 +5,8 @@ use Rattle.graph_model.specs.declared.write.Kind.{Kind}
 use Rattle.graph_model.specs.declared.write.Write.{Write}
 use Rattle.graph_model.specs.declared.journal.TxnName.{TxnName}
 use Rattle.graph_model.specs.declared.journal.Commit.{Commit}
+use Rattle.graph_model.specs.declared.refusal.Cause.{Cause}
+use Rattle.graph_model.specs.declared.refusal.Cause.TheVariants.{Later, Holder}
 use Rattle.graph_model.specs.Items.{clash}
 
 -- one of the writes clashes with w
@@ -35,3 +37,26 @@ least_job (name ∷ names) = Some (with_lesser_job name (least_job names))
 -- of the open transactions other than by that hold a write that clashes with w, the one with the least job
 abbrev pub holder : Kind → List OpenTxn → TxnName → Write → Option TxnName
 holder kind txns by w = least_job (map (λ t. t.by) (filter (λ t. not (same_name t.by by) && meets kind w t.writes) txns))
+
+abbrev pub with_greater : ℕ → Option ℕ → ℕ
+with_greater a None = a
+with_greater a (Some b) = cond (nat_le a b) b a
+
+-- the greatest of the numbers, or none
+abbrev pub greatest : List ℕ → Option ℕ
+greatest [] = None
+greatest (x ∷ xs) = Some (with_greater x (greatest xs))
+
+-- the stamp of the newest of the later commits that clash with w
+abbrev pub newest_later : Kind → List Commit → ℕ → Write → Option ℕ
+newest_later kind journal start w = greatest (later kind journal start w)
+
+-- of the two an open transaction is named before a later commit
+abbrev pub cause_of : Option TxnName → Option ℕ → Option Cause
+cause_of (Some by) stamp = Some (Holder by)
+cause_of None (Some stamp) = Some (Later stamp)
+cause_of None None = None
+
+-- the cause of a conflict: why snapshot isolation doesn't let by, which began at start, make the write
+abbrev pub conflict : Kind → List Commit → List OpenTxn → TxnName → ℕ → Write → Option Cause
+conflict kind journal txns by start w = cause_of (holder kind txns by w) (newest_later kind journal start w)

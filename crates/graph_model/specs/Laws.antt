@@ -1,5 +1,5 @@
 -- Laws that show that the definitions mean what they say. Each is the contract of a function in `laws`.
-use Rattle.std.specs.Prelude.{◌≡◌, ℕ, ◌+◌, ◌<◌, ◌≤◌, false, List, [], ◌++◌, length, slice_get, Some, None, IsTrue}
+use Rattle.std.specs.Prelude.{◌≡◌, ℕ, ◌+◌, ◌<◌, ◌≤◌, true, false, Bool, cond, List, [], ◌++◌, length, slice_get, Some, None, IsTrue}
 use Rattle.graph_model.specs.declared.limits.TheConstants.{NO_WALK}
 use Rattle.graph_model.specs.declared.write.Kind.{Kind}
 use Rattle.graph_model.specs.declared.write.Kind.TheVariants.{Directed, Undirected}
@@ -9,11 +9,12 @@ use Rattle.graph_model.specs.declared.row.Key.{Key}
 use Rattle.graph_model.specs.declared.row.Row.{Row}
 use Rattle.graph_model.specs.declared.table.Entry.{Entry}
 use Rattle.graph_model.specs.Items.{clash}
-use Rattle.graph_model.specs.Graph.{Graph, has_vertex, has_arc, weight_of, apply, HasBothEnds, IsSymmetric}
-use Rattle.graph_model.specs.Refused.{refused}
+use Rattle.graph_model.specs.Graph.{Graph, has_vertex, has_arc, weight_of, apply, apply_all, HasBothEnds, IsSymmetric}
+use Rattle.graph_model.specs.Refused.{refused, AllAllowed}
 use Rattle.graph_model.specs.History.{graph_at}
-use Rattle.graph_model.specs.Legal.{IsLegal}
+use Rattle.graph_model.specs.Legal.{have_clash, IsLegal}
 use Rattle.graph_model.specs.Rows.{is_below, is_between, rows, value_at}
+use Rattle.graph_model.specs.Effects.{value_left, writes_at, value_after}
 use Rattle.graph_model.specs.Walks.{IsWalk, walk_weight, IsLeastLength, IsLeastWeight, IsDistance, Reaches, ReachesBy, ReachesWithin}
 use Rattle.graph_model.specs.Components.{IsComponent}
 use Rattle.graph_model.specs.Labels.{neighbours, label}
@@ -36,6 +37,32 @@ WritesCommute = (kind : Kind) (g : Graph) (x y : Write) → clash kind x y ≡ f
 -- of two allowed writes that don't clash, the one is still allowed behind the other
 abbrev pub StaysAllowed : Type 0
 StaysAllowed = (kind : Kind) (g : Graph) (x y : Write) → clash kind x y ≡ false → refused g x ≡ None → refused g y ≡ None → refused (apply kind g x) y ≡ None
+
+-- either of two writes may stand first
+abbrev pub ClashIsSymmetric : Type 0
+ClashIsSymmetric = (kind : Kind) (x y : Write) → clash kind x y ≡ clash kind y x
+
+-- two lists of writes that don't clash lead to one graph in either order
+abbrev pub ListsCommute : Type 0
+ListsCommute = (kind : Kind) (g : Graph) (xs ys : List Write) → have_clash kind xs ys ≡ false → apply_all kind (apply_all kind g xs) ys ≡ apply_all kind (apply_all kind g ys) xs
+
+-- of two lists of allowed writes that don't clash, the one is still allowed behind the other
+abbrev pub ListsStayAllowed : Type 0
+ListsStayAllowed = (kind : Kind) (g : Graph) (xs ys : List Write) → have_clash kind xs ys ≡ false → AllAllowed kind g xs → AllAllowed kind g ys → AllAllowed kind (apply_all kind g xs) ys
+
+-- ---- writes, key by key
+
+-- after a write a key has what the write leaves there, or what it had
+abbrev pub WriteByKey : Type 0
+WriteByKey = (kind : Kind) (g : Graph) (w : Write) (q : Key) → value_at (apply kind g w) q ≡ cond (writes_at kind w q) (value_left w) (value_at g q)
+
+-- after a list of writes it has what the list leaves there
+abbrev pub WritesByKey : Type 0
+WritesByKey = (kind : Kind) (g : Graph) (ws : List Write) (q : Key) → value_at (apply_all kind g ws) q ≡ value_after kind ws q (value_at g q)
+
+-- two writes of one row clash, so that a row has one writer
+abbrev pub RowHasOneWriter : Type 0
+RowHasOneWriter = (kind : Kind) (x y : Write) (q : Key) → writes_at kind x q ≡ true → writes_at kind y q ≡ true → clash kind x y ≡ true
 
 -- ---- journals
 

@@ -7,6 +7,7 @@ pub mod Conflict
 pub mod Account
 pub mod Inserted
 pub mod Rows
+pub mod Effects
 pub mod Walks
 pub mod Components
 pub mod Labels

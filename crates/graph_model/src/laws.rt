@@ -1,7 +1,7 @@
 //! Laws that show that the definitions mean what they say. Each is a function whose contract is the law.
 
 ghost use Rattle.graph_model.specs.Examples.{ClashExamples, RefusalExamples, ViewExamples, ConflictExamples, CountExamples, RowExamples, LabelExamples, TableExample};
-ghost use Rattle.graph_model.specs.Laws.{KeepsBothEnds, KeepsSymmetric, WritesCommute, StaysAllowed, PrefixIsLegal, LegalHasBothEnds, PrefixHasItsGraphs, RowsRise, RowsAreOfTheGraph, RowsAreComplete, RangesAdjoin, RootIsNearest, OneDistance, OneLeastWeight, ArcAddsOne, ArcAddsItsWeight, NoWalkIsNone, WalksReach, ReachesIsWalk, ReachesByIsWalk, ReachesWithinIsWalk, ComponentIsNotAbove, OneComponent, ArcJoinsComponents, LeastIsItsComponent, FirstLabelIsTheVertex, LonelyKeepsItsLabel, TwiceIsOnce, OneTable};
+ghost use Rattle.graph_model.specs.Laws.{KeepsBothEnds, KeepsSymmetric, WritesCommute, StaysAllowed, ClashIsSymmetric, ListsCommute, ListsStayAllowed, WriteByKey, WritesByKey, RowHasOneWriter, PrefixIsLegal, LegalHasBothEnds, PrefixHasItsGraphs, RowsRise, RowsAreOfTheGraph, RowsAreComplete, RangesAdjoin, RootIsNearest, OneDistance, OneLeastWeight, ArcAddsOne, ArcAddsItsWeight, NoWalkIsNone, WalksReach, ReachesIsWalk, ReachesByIsWalk, ReachesWithinIsWalk, ComponentIsNotAbove, OneComponent, ArcJoinsComponents, LeastIsItsComponent, FirstLabelIsTheVertex, LonelyKeepsItsLabel, TwiceIsOnce, OneTable};
 
 /// A write that isn't refused keeps both ends of each arc vertices, and an undirected graph symmetric.
 pub fn writes_keep_graphs_sound()
@@ -10,10 +10,20 @@ pub fn writes_keep_graphs_sound()
 {}
 
 /// Two writes that don't clash and that neither is refused commute, and neither makes the other
-/// refused. This is why one writer an item is enough.
+/// refused; so do two lists of writes. This is why one writer an item is enough.
 pub fn apart_writes_commute()
     ensures commute { WritesCommute }
     ensures allowed { StaysAllowed }
+    ensures symmetric { ClashIsSymmetric }
+    ensures lists { ListsCommute }
+    ensures all_allowed { ListsStayAllowed }
+{}
+
+/// What writes do to a graph, key by key, and that two writes of one row clash.
+pub fn writes_are_by_key()
+    ensures write { WriteByKey }
+    ensures writes { WritesByKey }
+    ensures one_writer { RowHasOneWriter }
 {}
 
 /// A prefix of a legal journal is legal, and has the same graphs, each with both ends of its arcs.

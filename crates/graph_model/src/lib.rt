@@ -16,7 +16,7 @@ pub use journal::{Begun, Commit, Journal, TxnName};
 pub use laws::{
     apart_writes_commute, components_are_least_vertices, examples_hold, labels_follow_neighbours,
     least_walks_are_distances, prefixes_are_legal, rows_are_of_the_graph, tables_are_determined,
-    walks_have_their_forms, writes_keep_graphs_sound,
+    walks_have_their_forms, writes_are_by_key, writes_keep_graphs_sound,
 };
 pub use limits::{
     LEAF_SEGMENTS, MAX_BEGINS, MAX_ID, MAX_LEAVES, MAX_LOAD_ROWS, MAX_PASSES, MAX_ROUNDS,
