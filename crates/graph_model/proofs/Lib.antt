@@ -14,3 +14,7 @@ pub mod TableLemmas
 pub mod HistoryLemmas
 pub mod LegalLemmas
 pub mod ExampleLemmas
+pub mod PlaceLemmas
+pub mod PickLemmas
+pub mod TransactionLemmas
+pub mod StampLemmas

@@ -4,6 +4,7 @@ pub mod Refused
 pub mod History
 pub mod Legal
 pub mod Conflict
+pub mod Transactions
 pub mod Account
 pub mod Inserted
 pub mod Rows
@@ -14,4 +15,5 @@ pub mod Labels
 pub mod Tables
 pub mod TableText
 pub mod Laws
+pub mod TransactionLaws
 pub mod Examples

@@ -8,6 +8,7 @@ mod limits;
 mod refusal;
 mod row;
 mod table;
+mod transactions;
 mod write;
 
 pub use ids::Ids;
@@ -26,4 +27,5 @@ pub use limits::{
 pub use refusal::{BeginRefusal, Cause, Refusal};
 pub use row::{Cursor, Key, Row, Rows64};
 pub use table::{Entry, KernelRefusal, Table, Value};
+pub use transactions::{names_have_their_stamps, transactions_stay_apart};
 pub use write::{Kind, Write, Writes};
