@@ -18,3 +18,4 @@ pub mod PlaceLemmas
 pub mod PickLemmas
 pub mod TransactionLemmas
 pub mod StampLemmas
+pub mod PassLemmas

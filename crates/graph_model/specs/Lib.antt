@@ -5,6 +5,7 @@ pub mod History
 pub mod Legal
 pub mod Conflict
 pub mod Transactions
+pub mod Passes
 pub mod Account
 pub mod Inserted
 pub mod Rows

@@ -1,13 +1,14 @@
 -- How a journal and its open transactions go on: one law for each kind of change. Each is the contract
 -- of a function in `transactions`.
-use Rattle.std.specs.Prelude.{◌≡◌, ℕ, ◌<◌, ◌≤◌, Bool, true, false, List, [], ◌∷◌, ◌++◌, length, slice_get, Option, Some, None}
+use Rattle.std.specs.Prelude.{◌≡◌, ◌⊎◌, ℕ, ◌+◌, ◌<◌, ◌≤◌, Bool, true, false, List, [], ◌∷◌, ◌++◌, length, slice_get, slice_set, Option, Some, None}
 use Rattle.graph_model.specs.declared.write.Kind.{Kind}
 use Rattle.graph_model.specs.declared.write.Write.{Write}
 use Rattle.graph_model.specs.declared.journal.Commit.{Commit}
 use Rattle.graph_model.specs.declared.journal.TxnName.{TxnName}
 use Rattle.graph_model.specs.Refused.{refused, IsWithinLimits}
 use Rattle.graph_model.specs.History.{view}
-use Rattle.graph_model.specs.Transactions.{Running, Changes, commit_of, HasNotCommitted, stamp_in, reached, MeetsNoHolder, MeetsNoLater, AreTransactions}
+use Rattle.graph_model.specs.Transactions.{Running, Changes, commit_of, HasNotCommitted, stamp_in, reached, MeetsNoHolder, MeetsNoLater, AreTransactions, IsListed}
+use Rattle.graph_model.specs.Passes.{latest_name, of_latest, revised, state_in, open_txns_of}
 
 -- before the first begin nothing is committed and nothing is open
 abbrev pub NoneAtFirst : Type 0
@@ -86,3 +87,32 @@ abbrev pub StampStays : Type 0
 StampStays =
     (journal more : List Commit) (by : TxnName) (stamp : ℕ)
     → stamp_in journal by ≡ Some stamp → stamp_in (journal ++ more) by ≡ Some stamp
+
+-- ---- passes, over any type of their states
+
+-- a step of a pass with an open transaction that goes on, or ends, changes that transaction alone
+abbrev pub LatestChanges : Type 0 → Type 0
+LatestChanges S =
+    (number : S → ℕ) (current : S → Option Running) (pass : ℕ → S) (p : ℕ) (state : S)
+    → (number state ≡ number (pass p)) ⊎ (current state ≡ None)
+    → Changes (latest_name number pass p) (of_latest number current None pass) (of_latest number current None (revised pass p state)) (current state)
+
+-- a begin on a pass where none is open changes the next transaction alone
+abbrev pub NextBegins : Type 0 → Type 0
+NextBegins S =
+    (number : S → ℕ) (current : S → Option Running) (pass : ℕ → S) (p : ℕ) (state : S)
+    → current (pass p) ≡ None
+    → Changes (record { job = p; number = number state }) (of_latest number current None pass) (of_latest number current None (revised pass p state)) (current state)
+
+-- of passes in a list, the list of the open transactions has exactly these
+abbrev pub OpenAreListed : Type 0 → Type 0
+OpenAreListed S =
+    (number : S → ℕ) (current : S → Option Running) (other : S) → current other ≡ None
+    → (from : ℕ) (states : List S)
+    → IsListed (open_txns_of number current from states) (of_latest number current None (state_in other from states))
+
+-- and a list with one state set has that state at its pass
+abbrev pub ListIsRevised : Type 0 → Type 0
+ListIsRevised S =
+    (other : S) (from : ℕ) (states : List S) (i : ℕ) (state : S) → i < length states
+    → (q : ℕ) → state_in other from (slice_set states i state) q ≡ revised (state_in other from states) (from + i) state q

@@ -27,5 +27,7 @@ pub use limits::{
 pub use refusal::{BeginRefusal, Cause, Refusal};
 pub use row::{Cursor, Key, Row, Rows64};
 pub use table::{Entry, KernelRefusal, Table, Value};
-pub use transactions::{names_have_their_stamps, transactions_stay_apart};
+pub use transactions::{
+    names_have_their_stamps, passes_have_one_transaction, transactions_stay_apart,
+};
 pub use write::{Kind, Write, Writes};
