@@ -12,7 +12,7 @@ mod write;
 
 pub use ids::Ids;
 pub use items::NoMemory;
-pub use journal::{Begun, Commit, Journal, TxnName};
+pub use journal::{Begun, Commit, Journal, RoomyJournal, TxnName};
 pub use laws::{
     apart_writes_commute, components_are_least_vertices, examples_hold, labels_follow_neighbours,
     least_walks_are_distances, prefixes_are_legal, rows_are_of_the_graph, tables_are_determined,
@@ -26,4 +26,4 @@ pub use limits::{
 pub use refusal::{BeginRefusal, Cause, Refusal};
 pub use row::{Cursor, Key, Row, Rows64};
 pub use table::{Entry, KernelRefusal, Table, Value};
-pub use write::{Kind, Write, Writes};
+pub use write::{Kind, RoomyWrites, Write, Writes};
