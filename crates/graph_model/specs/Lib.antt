@@ -13,5 +13,8 @@ pub mod Components
 pub mod Labels
 pub mod Tables
 pub mod TableText
-pub mod Laws
+pub mod WriteLaws
+pub mod JournalLaws
+pub mod RowLaws
+pub mod KernelLaws
 pub mod Examples
