@@ -1,7 +1,10 @@
 //! Laws that show that the definitions mean what they say. Each is a function whose contract is the law.
 
 ghost use Rattle.graph_model.specs.Examples.{ClashExamples, RefusalExamples, ViewExamples, ConflictExamples, CountExamples, RowExamples, LabelExamples, TableExample};
-ghost use Rattle.graph_model.specs.Laws.{KeepsBothEnds, KeepsSymmetric, WritesCommute, StaysAllowed, ClashIsSymmetric, ListsCommute, ListsStayAllowed, WriteByKey, WritesByKey, RowHasOneWriter, PrefixIsLegal, LegalHasBothEnds, PrefixHasItsGraphs, RowsRise, RowsAreOfTheGraph, RowsAreComplete, RangesAdjoin, RootIsNearest, OneDistance, OneLeastWeight, ArcAddsOne, ArcAddsItsWeight, NoWalkIsNone, WalksReach, ReachesIsWalk, ReachesByIsWalk, ReachesWithinIsWalk, ComponentIsNotAbove, OneComponent, ArcJoinsComponents, LeastIsItsComponent, FirstLabelIsTheVertex, LonelyKeepsItsLabel, TwiceIsOnce, OneTable};
+ghost use Rattle.graph_model.specs.WriteLaws.{KeepsBothEnds, KeepsSymmetric, WritesCommute, StaysAllowed, ClashIsSymmetric, ListsCommute, ListsStayAllowed, WriteByKey, WritesByKey, TouchesAreOfVertices, ClashIsByRow};
+ghost use Rattle.graph_model.specs.JournalLaws.{PrefixIsLegal, LegalHasBothEnds, PrefixHasItsGraphs};
+ghost use Rattle.graph_model.specs.RowLaws.{RowsRise, RowsAreOfTheGraph, RowsAreComplete, RangesAdjoin};
+ghost use Rattle.graph_model.specs.KernelLaws.{RootIsNearest, OneDistance, OneLeastWeight, ArcAddsOne, ArcAddsItsWeight, NoWalkIsNone, WalksReach, ReachesIsWalk, ReachesByIsWalk, ReachesWithinIsWalk, ComponentIsNotAbove, OneComponent, ArcJoinsComponents, LeastIsItsComponent, FirstLabelIsTheVertex, LonelyKeepsItsLabel, TwiceIsOnce, OneTable};
 
 /// A write that isn't refused keeps both ends of each arc vertices, and an undirected graph symmetric.
 pub fn writes_keep_graphs_sound()
@@ -19,11 +22,13 @@ pub fn apart_writes_commute()
     ensures all_allowed { ListsStayAllowed }
 {}
 
-/// What writes do to a graph, key by key, and that two writes of one row clash.
+/// What writes do to a graph, row by row, which rows they touch, and what a clash is by rows. A
+/// store that looks at rows alone goes by these.
 pub fn writes_are_by_key()
     ensures write { WriteByKey }
     ensures writes { WritesByKey }
-    ensures one_writer { RowHasOneWriter }
+    ensures touches { TouchesAreOfVertices }
+    ensures clash { ClashIsByRow }
 {}
 
 /// A prefix of a legal journal is legal, and has the same graphs, each with both ends of its arcs.

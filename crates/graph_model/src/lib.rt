@@ -1,6 +1,7 @@
 //! Graphs, writes, commits and journals as plain data, with the definitions that every layer is proved against.
 #![tactic(auto)]
 
+mod engine;
 mod ids;
 mod journal;
 mod laws;
@@ -11,9 +12,10 @@ mod table;
 mod transactions;
 mod write;
 
+pub use engine::{Engine, StepEngine, VertexEngine};
 pub use ids::Ids;
 pub use items::NoMemory;
-pub use journal::{Begun, Commit, Journal, TxnName};
+pub use journal::{Begun, Commit, Journal, RoomyJournal, TxnName};
 pub use laws::{
     apart_writes_commute, components_are_least_vertices, examples_hold, labels_follow_neighbours,
     least_walks_are_distances, prefixes_are_legal, rows_are_of_the_graph, tables_are_determined,
@@ -30,4 +32,4 @@ pub use table::{Entry, KernelRefusal, Table, Value};
 pub use transactions::{
     names_have_their_stamps, passes_have_one_transaction, transactions_stay_apart,
 };
-pub use write::{Kind, Write, Writes};
+pub use write::{Kind, RoomyWrites, Write, Writes};
