@@ -19,3 +19,4 @@ pub mod PickLemmas
 pub mod TransactionLemmas
 pub mod StampLemmas
 pub mod PassLemmas
+pub mod OwnerLemmas

@@ -90,7 +90,7 @@ WritesFrom old start w (Ok done) new =
 WritesFrom old start w (Err refusal) new = RefusesBy old start w refusal new
 
 abbrev pub WritesBy : Account → Write → Result (Unit {0}) Refusal → Account → Type 0
-WritesBy old w result new = (start : ℕ) → old.start ≡ Some start → WritesFrom old start w result new
+WritesBy old w result new = (start : ℕ) × (old.start ≡ Some start) × WritesFrom old start w result new
 
 abbrev pub with_none_open : Account → Account
 with_none_open account = record account { start = None; own = [] }
@@ -105,7 +105,7 @@ pub record IsCommitOf (account : Account) (start stamp : ℕ) (seen : List Commi
 abbrev pub CommitsBy : Account → Option ℕ → Account → Type 0
 CommitsBy old None new = (old.own ≡ []) × GoesOn old (with_none_open old) new
 CommitsBy old (Some stamp) new =
-    (0 < length old.own) × ((start : ℕ) → old.start ≡ Some start → IsCommitOf old start stamp new.seen)
+    (0 < length old.own) × ((start : ℕ) × (old.start ≡ Some start) × IsCommitOf old start stamp new.seen)
     × GoesOn old (with_none_open old) new
 
 -- ---- scans

@@ -1,6 +1,7 @@
 -- An engine of one owner: one journal and all passes, and exactly what each call does to them.
 use Rattle.std.specs.Prelude.{◌≡◌, ℕ, ◌+◌, ◌-◌, ◌*◌, ◌^◌, ◌<◌, ◌≤◌, min, Bool, true, false, List, [], ◌∷◌, ◌++◌, length, Option, Some, None, option_map, unwrap_or, Result, Ok, Err, slice_get, slice_set}
 use Rattle.std.specs.List.{flat_map}
+use Rattle.graph_model.specs.declared.limits.TheConstants.{SPLIT_ROWS}
 use Rattle.graph_model.specs.declared.write.Kind.{Kind}
 use Rattle.graph_model.specs.declared.write.Write.{Write}
 use Rattle.graph_model.specs.declared.journal.Begun.{Begun}
@@ -129,7 +130,7 @@ RefusesHere old start w (refusals.Conflict cause) new =
     × (new ≡ with_current old (record (current old) { sighted = sighted_by (account_here old) start w cause }))
 RefusesHere old start w (refusals.Full leaves) new =
     (refused (view_of (account_here old) start) w ≡ None) × (conflict_here old start w ≡ None)
-    × (inserts w ≡ true) × (leaves ≡ old.leaves) × (103 * leaves ≤ inserted_here old)
+    × (inserts w ≡ true) × (leaves ≡ old.leaves) × (SPLIT_ROWS * leaves ≤ inserted_here old)
     × (new ≡ with_current old (record (current old) { filled = true }))
 RefusesHere old start w refusals.NoMemory new = new ≡ old
 
@@ -141,7 +142,7 @@ WritesHereFrom old start w (Ok done) new =
 WritesHereFrom old start w (Err refusal) new = RefusesHere old start w refusal new
 
 abbrev pub WritesHere : Core → Write → Result (Unit {0}) Refusal → Core → Type 0
-WritesHere old w result new = (start : ℕ) → (current old).start ≡ Some start → WritesHereFrom old start w result new
+WritesHere old w result new = (start : ℕ) × ((current old).start ≡ Some start) × WritesHereFrom old start w result new
 
 abbrev pub ended_pass : Core → PassState
 ended_pass core = record (current core) { start = None; own = [] }
@@ -157,7 +158,7 @@ CommitsHereFrom old start (w ∷ ws) answer new =
 
 abbrev pub CommitsHere : Core → Option ℕ → Core → Type 0
 CommitsHere old answer new =
-    (start : ℕ) → (current old).start ≡ Some start → CommitsHereFrom old start (current old).own answer new
+    (start : ℕ) × ((current old).start ≡ Some start) × CommitsHereFrom old start (current old).own answer new
 
 abbrev pub AbortsHere : Core → Core → Type 0
 AbortsHere old new = new ≡ with_current old (ended_pass old)

@@ -6,6 +6,7 @@ mod ids;
 mod journal;
 mod laws;
 mod limits;
+mod owner;
 mod refusal;
 mod row;
 mod table;
@@ -24,8 +25,9 @@ pub use laws::{
 pub use limits::{
     LEAF_SEGMENTS, MAX_BEGINS, MAX_ID, MAX_LEAVES, MAX_LOAD_ROWS, MAX_PASSES, MAX_ROUNDS,
     MAX_SCRIPTS, MAX_SOURCE_BYTES, MAX_THREADS, MAX_TXNS_PER_PASS, MAX_WEIGHT, NO_WALK, SCAN_ROWS,
-    SEGMENT_ROWS,
+    SEGMENT_ROWS, SPLIT_ROWS,
 };
+pub use owner::one_owner_meets_the_account;
 pub use refusal::{BeginRefusal, Cause, Refusal};
 pub use row::{Cursor, Key, Row, Rows64};
 pub use table::{Entry, KernelRefusal, Table, Value};

@@ -18,6 +18,10 @@ pub const MAX_SOURCE_BYTES: u64 = 1073741824;
 /// How many leaves a store may be configured with.
 pub const MAX_LEAVES: u32 = 131072;
 
+/// How many inserted rows a split of a leaf uses up at least: a store is full only where its writes may
+/// have inserted as many rows for each leaf.
+pub const SPLIT_ROWS: u64 = 103;
+
 /// How many rows a segment has room for.
 pub const SEGMENT_ROWS: usize = 32;
 

@@ -1,0 +1,114 @@
+-- An engine of one owner does to the account of the selected pass what every engine does.
+use Rattle.std.proofs.Common.{◌≡◌, ℕ, zero, suc, ◌+◌, ◌<◌, ◌≤◌, List, [], ◌∷◌, ◌++◌, length, refl, sym, ◌∙◌, ap, subst, arith, le_refl}
+use Rattle.std.specs.Prelude.{Option, Some, None, unwrap_or, Result, Ok, Err, slice_get, slice_set, Bool}
+use Rattle.std.proofs.lemmas.List.{append-nil, get_or-set_same}
+use Rattle.std.proofs.lemmas.Option.{unwrap_or-slice_get}
+use Rattle.graph_model.specs.declared.write.Write.{Write}
+use Rattle.graph_model.specs.declared.journal.Begun.{Begun}
+use Rattle.graph_model.specs.declared.journal.Commit.{Commit}
+use Rattle.graph_model.specs.declared.refusal.Refusal.{Refusal}
+use Rattle.graph_model.specs.declared.refusal.Refusal.TheVariants as refusals
+use Rattle.graph_model.specs.declared.refusal.BeginRefusal.{BeginRefusal}
+use Rattle.graph_model.specs.declared.refusal.BeginRefusal.TheVariants as begin_refusals
+use Rattle.graph_model.specs.Account.{Account}
+use Rattle.graph_model.proofs.PlaceLemmas.{get_end}
+use Rattle.graph_model.specs.EngineCalls.{GoesOn, BeginsBy, WritesFrom, WritesBy, RefusesBy, CommitsBy, IsCommitOf, with_none_open}
+use Rattle.graph_model.specs.OwnerCalls.{PassState, Core, no_pass, current, with_current, account_of, account_here, name_here, begun_pass, written_pass, ended_pass, BeginsHere, WritesHere, WritesHereFrom, RefusesHere, CommitsHere, CommitsHereFrom, AbortsHere, ServesHere, one_more}
+use Rattle.graph_model.specs.OwnerLaws.{IsChosen, OneOwnerBegins, OneOwnerWrites, OneOwnerReads, OneOwnerCommits, OneOwnerAborts, OneOwnerServes}
+use Rattle.graph_model.specs.Transactions.{commit_of}
+
+-- what stands at a place after it was set
+at_set : {X : Type 0} (xs : List X) (i : ℕ) (x other : X) → i < length xs → unwrap_or (slice_get (slice_set xs i x) i) other ≡ x
+at_set xs i x other lt = unwrap_or-slice_get (slice_set xs i x) i other ∙ get_or-set_same xs i x other lt
+
+-- the account of the selected pass is that of the state that it was given
+pub account_set : (core : Core) (state : PassState) → IsChosen core → account_here (with_current core state) ≡ account_of core core.selected state
+account_set core state chosen = ap (account_of core core.selected) (at_set core.passes core.selected state no_pass chosen)
+
+-- nothing more was seen
+as_it_is : (old changed new : Account) → changed.seen ≡ old.seen → new ≡ changed → GoesOn old changed new
+as_it_is old changed new same is = record {
+  more = [];
+  seen = ap (λ (a : Account). a.seen) is ∙ same ∙ sym (append-nil old.seen);
+  others = is ∙ (λ i. record changed { seen = sym (ap (λ (a : Account). a.seen) is) i });
+}
+
+goes_on : (s t : Core) (state : PassState) → IsChosen s → t ≡ with_current s state → GoesOn (account_here s) (account_of s s.selected state) (account_here t)
+goes_on s t state chosen is = as_it_is (account_here s) (account_of s s.selected state) (account_here t) refl (ap account_here is ∙ account_set s state chosen)
+
+served_same : (s t : Core) (state : PassState) → t ≡ with_current s state → t.served ≡ s.served
+served_same s t state is = ap (λ (c : Core). c.served) is
+
+stays : (s t : Core) → t ≡ s → GoesOn (account_here s) (account_here s) (account_here t)
+stays s t is = as_it_is (account_here s) (account_here s) (account_here t) refl (ap account_here is)
+
+pub reads_by : OneOwnerReads
+reads_by s t is = (stays s t is, ap (λ (c : Core). c.served) is)
+
+pub serves_by : OneOwnerServes
+serves_by s t is = (as_it_is (account_here s) (account_here s) (account_here t) refl (ap account_here is), ap (λ (c : Core). c.served) is)
+
+pub aborts_by : OneOwnerAborts
+aborts_by s t chosen is = (goes_on s t (ended_pass s) chosen is, served_same s t (ended_pass s) is)
+
+pub begins_by : OneOwnerBegins
+begins_by s t (Ok begun) chosen (room, is, after) =
+    let start : begun.start ≡ length s.journal = ap (λ (b : Begun). b.start) is in
+    let more = goes_on s t (begun_pass s) chosen after in
+    let seen : length (account_here t).seen ≡ length s.journal = ap (λ (c : Core). length c.journal) after in
+    (
+      (room, omega arith, omega arith, ap (λ (b : Begun). b.by) is,
+        subst (λ n. GoesOn (account_here s) (record (account_here s) { start = Some n; own = []; begun = (current s).begun + 1; made = (current s).made ++ [] ∷ [] }) (account_here t)) (sym start) more),
+      served_same s t (begun_pass s) after,
+    )
+begins_by s t (Err begin_refusals.TxnsUsed) chosen (used, is) = ((used, stays s t is), ap (λ (c : Core). c.served) is)
+begins_by s t (Err begin_refusals.NoMemory) chosen is = (stays s t is, ap (λ (c : Core). c.served) is)
+
+refuses_by : (s t : Core) (start : ℕ) (w : Write) (r : Refusal) → IsChosen s → RefusesHere s start w r t → RefusesBy (account_here s) start w r (account_here t) × (t.served ≡ s.served)
+refuses_by s t start w refusals.SelfLoop chosen (why, is) = ((why, stays s t is), ap (λ (c : Core). c.served) is)
+refuses_by s t start w (refusals.NoVertex v) chosen (why, is) = ((why, stays s t is), ap (λ (c : Core). c.served) is)
+refuses_by s t start w refusals.VertexExists chosen (why, is) = ((why, stays s t is), ap (λ (c : Core). c.served) is)
+refuses_by s t start w refusals.EdgeExists chosen (why, is) = ((why, stays s t is), ap (λ (c : Core). c.served) is)
+refuses_by s t start w refusals.NoEdge chosen (why, is) = ((why, stays s t is), ap (λ (c : Core). c.served) is)
+refuses_by s t start w refusals.HasEdges chosen (why, is) = ((why, stays s t is), ap (λ (c : Core). c.served) is)
+refuses_by s t start w (refusals.Conflict cause) chosen (allowed, met, is) = ((allowed, goes_on s t _ chosen is), served_same s t _ is)
+refuses_by s t start w (refusals.Full leaves) chosen (allowed, met, inserts, leaves_are, count, is) =
+    ((allowed, inserts, leaves_are, goes_on s t _ chosen is), served_same s t _ is)
+refuses_by s t start w refusals.NoMemory chosen is = (stays s t is, ap (λ (c : Core). c.served) is)
+
+pub writes_by : OneOwnerWrites
+writes_by s t w (Ok done) chosen (start, began, (allowed, met, is)) =
+    ((start, began, (allowed, goes_on s t (written_pass s w) chosen is)), served_same s t (written_pass s w) is)
+writes_by s t w (Err refusal) chosen (start, began, refuses) =
+    let by = refuses_by s t start w refusal chosen refuses in
+    ((start, began, by.0), by.1)
+
+commits_from : (s t : Core) (r : Option ℕ) (start : ℕ) (own : List Write) → own ≡ (current s).own → (current s).start ≡ Some start → IsChosen s → CommitsHereFrom s start own r t
+    → CommitsBy (account_here s) r (account_here t) × (t.served ≡ s.served)
+commits_from s t r start [] same began chosen (none, is) =
+    subst (λ (a : Option ℕ). CommitsBy (account_here s) a (account_here t) × (t.served ≡ s.served)) (sym none)
+    ((sym same, goes_on s t (ended_pass s) chosen is), served_same s t (ended_pass s) is)
+commits_from s t r start (w ∷ ws) same began chosen (stamp, is) =
+    let c : Commit = commit_of s.journal (name_here s) (record { start = start; writes = w ∷ ws }) in
+    let longer : Core = record (with_current s (ended_pass s)) { journal = s.journal ++ c ∷ [] } in
+    let here : account_here t ≡ account_of longer s.selected (ended_pass s) =
+    ap account_here is ∙ ap (account_of longer s.selected) (at_set s.passes s.selected (ended_pass s) no_pass chosen) in
+    let some : 0 < length (current s).own = subst (λ (ws : List Write). 0 < length ws) same (omega arith) in
+    let commit_is : c ≡ record { stamp = length s.journal + 1; start = start; by = name_here s; writes = (current s).own } =
+    (λ i. record { stamp = length s.journal + 1; start = start; by = name_here s; writes = same i }) in
+    let seen : (account_here t).seen ≡ s.journal ++ c ∷ [] = ap (λ (a : Account). a.seen) here in
+    subst (λ (a : Option ℕ). CommitsBy (account_here s) a (account_here t) × (t.served ≡ s.served)) (sym stamp) (
+      (
+        some,
+        (start, began, record {
+          place = length s.journal;
+          numbered = refl;
+          there = ap (λ (cs : List Commit). slice_get cs (length s.journal)) seen ∙ get_end s.journal c ∙ ap Some commit_is;
+        }),
+        record { more = c ∷ []; seen = seen; others = here ∙ (λ i. record (with_none_open (account_here s)) { seen = sym seen i }) },
+      ),
+      ap (λ (d : Core). d.served) is,
+    )
+
+pub commits_by : OneOwnerCommits
+commits_by s t r chosen (start, began, is) = commits_from s t r start (current s).own refl began chosen is
