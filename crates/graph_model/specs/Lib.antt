@@ -15,6 +15,7 @@ pub mod Tables
 pub mod TableText
 pub mod WriteLaws
 pub mod JournalLaws
+pub mod ConflictLaws
 pub mod RowLaws
 pub mod KernelLaws
 pub mod Examples
