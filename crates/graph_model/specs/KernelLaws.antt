@@ -1,11 +1,11 @@
 -- Laws of the kernels: walks, components, labels and their tables. Each is the contract of a function in `laws`.
 use Rattle.std.specs.Prelude.{◌≡◌, ℕ, ◌+◌, ◌≤◌, List, [], length, Some, IsTrue}
-use Rattle.graph_model.specs.declared.limits.TheConstants.{NO_WALK}
+use Rattle.graph_model.specs.declared.limits.TheConstants.{MAX_ID, NO_WALK}
 use Rattle.graph_model.specs.declared.write.Kind.{Kind}
 use Rattle.graph_model.specs.declared.write.Kind.TheVariants.{Directed, Undirected}
 use Rattle.graph_model.specs.declared.table.Entry.{Entry}
 use Rattle.graph_model.specs.Graph.{Graph, has_vertex, has_arc, weight_of, HasBothEnds, IsSymmetric}
-use Rattle.graph_model.specs.Walks.{IsWalk, walk_weight, IsLeastLength, IsLeastWeight, IsDistance, Reaches, ReachesBy, ReachesWithin}
+use Rattle.graph_model.specs.Walks.{IsWalk, walk_weight, IsLeastLength, IsLeastWeight, IsUnreached, IsDistance, Reaches, ReachesBy, ReachesWithin}
 use Rattle.graph_model.specs.Components.{IsComponent}
 use Rattle.graph_model.specs.Labels.{neighbours, label}
 use Rattle.graph_model.specs.Tables.{IsBfs, IsSssp, IsWcc, IsCdlp}
@@ -30,9 +30,9 @@ ArcAddsOne = (g : Graph) (root u v m n : ℕ) → IsTrue (has_arc g u v) → IsT
 abbrev pub ArcAddsItsWeight : Type 0
 ArcAddsItsWeight = (g : Graph) (root u v step m n : ℕ) → weight_of g u v ≡ Some step → IsTrue (has_vertex g v) → IsLeastWeight g root u m → IsLeastWeight g root v n → n ≤ m + step
 
--- no walk of fewer arcs leads to a vertex with the number that stands for none
+-- where ids are within their limit, the number that stands for no walk means that there is none
 abbrev pub NoWalkIsNone : Type 0
-NoWalkIsNone = (g : Graph) (root v : ℕ) (vs : List ℕ) → IsDistance g root v NO_WALK → IsWalk g root vs v → NO_WALK ≤ length vs
+NoWalkIsNone = (g : Graph) (root v : ℕ) → ((q : ℕ) → IsTrue (has_vertex g q) → q ≤ MAX_ID) → IsDistance g root v NO_WALK → IsUnreached g root v
 
 -- a walk, by its arcs from the near end to the far one, and back
 abbrev pub WalksReach : Type 0

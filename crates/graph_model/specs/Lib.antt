@@ -21,6 +21,7 @@ pub mod OwnerLaws
 pub mod TransactionLaws
 pub mod WriteLaws
 pub mod JournalLaws
+pub mod ConflictLaws
 pub mod RowLaws
 pub mod KernelLaws
 pub mod Examples

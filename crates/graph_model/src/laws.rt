@@ -2,7 +2,8 @@
 
 ghost use Rattle.graph_model.specs.Examples.{ClashExamples, RefusalExamples, ViewExamples, ConflictExamples, CountExamples, RowExamples, LabelExamples, TableExample};
 ghost use Rattle.graph_model.specs.WriteLaws.{KeepsBothEnds, KeepsSymmetric, WritesCommute, StaysAllowed, ClashIsSymmetric, ListsCommute, ListsStayAllowed, WriteByKey, WritesByKey, TouchesAreOfVertices, ClashIsByRow};
-ghost use Rattle.graph_model.specs.JournalLaws.{PrefixIsLegal, LegalHasBothEnds, PrefixHasItsGraphs};
+ghost use Rattle.graph_model.specs.JournalLaws.{PrefixIsLegal, LegalHasBothEnds, PrefixHasItsGraphs, NoCommitIsLegal, OneCommitMore, CommitsAreSerial, EndsFollow, StartIsEnough, ViewIsSymmetric, ViewIsBounded, ViewHasNoLoops, ViewHasBothEnds};
+ghost use Rattle.graph_model.specs.ConflictLaws.{NoConflict, NamesLeastJob, NamesNewest};
 ghost use Rattle.graph_model.specs.RowLaws.{RowsRise, RowsAreOfTheGraph, RowsAreComplete, RangesAdjoin};
 ghost use Rattle.graph_model.specs.KernelLaws.{RootIsNearest, OneDistance, OneLeastWeight, ArcAddsOne, ArcAddsItsWeight, NoWalkIsNone, WalksReach, ReachesIsWalk, ReachesByIsWalk, ReachesWithinIsWalk, ComponentIsNotAbove, OneComponent, ArcJoinsComponents, LeastIsItsComponent, FirstLabelIsTheVertex, LonelyKeepsItsLabel, TwiceIsOnce, OneTable};
 
@@ -38,6 +39,37 @@ pub fn prefixes_are_legal()
     ensures graphs { PrefixHasItsGraphs }
 {}
 
+/// A journal is legal exactly where it grew from no commit, by commits that may follow each other.
+pub fn journals_grow_by_commits()
+    ensures none { NoCommitIsLegal }
+    ensures more { OneCommitMore }
+{}
+
+/// Each commit is allowed on the graph of all commits before it, and not on its own snapshot alone:
+/// a legal journal is a serial one as far as its graphs go.
+pub fn commits_are_serial()
+    ensures serial { CommitsAreSerial }
+    ensures ends { EndsFollow }
+    ensures later { StartIsEnough }
+{}
+
+/// What a transaction sees is a graph without loops, within the limits, with both ends of each arc,
+/// and symmetric where edges have no direction.
+pub fn views_are_sound()
+    ensures symmetric { ViewIsSymmetric }
+    ensures bounded { ViewIsBounded }
+    ensures no_loops { ViewHasNoLoops }
+    ensures ends { ViewHasBothEnds }
+{}
+
+/// A conflict names an open transaction that clashes, the one with the least job, or else the newest
+/// later commit that does; and there is one wherever there is something to name.
+pub fn conflicts_have_causes()
+    ensures none { NoConflict }
+    ensures holder { NamesLeastJob }
+    ensures later { NamesNewest }
+{}
+
 /// Rows rise by key, and are exactly what the graph has in the range; ranges adjoin.
 pub fn rows_are_of_the_graph()
     ensures rise { RowsRise }
@@ -47,7 +79,7 @@ pub fn rows_are_of_the_graph()
 {}
 
 /// The root has 0, a vertex has one least length and one least weight, an arc adds at most one or
-/// its weight, and the number that stands for no walk means it.
+/// its weight, and within the limit of ids the number that stands for no walk means that there is none.
 pub fn least_walks_are_distances()
     ensures root { RootIsNearest }
     ensures one_length { OneDistance }
