@@ -24,13 +24,16 @@ abbrev pub answered_from : ℕ → List Command → List Answer → List Answere
 answered_from txn [] report = []
 answered_from txn (c ∷ cs) [] = []
 answered_from txn (c ∷ cs) (a ∷ rest) =
-    record { txn = next_txn txn (request c); command = c; answer = a } ∷ answered_from (next_txn txn (request c)) cs rest
+    record { txn = next_txn txn (request c); command = c; answer = a }
+    ∷ answered_from (next_txn txn (request c)) cs rest
 
+-- a script and its whole report
 abbrev pub answered_lines : List Command → List Answer → List AnsweredLine
 answered_lines cs report = answered_from 0 cs report
 
 -- ---- what an answer tells
 
+-- what an answer tells beside its words
 pub record Effect : Type 0 where
   -- the line's transaction begins at this start
   pub start : Option ℕ
@@ -43,17 +46,21 @@ pub record Effect : Type 0 where
   -- the script has been shown this stamp: a start, a commit's, a later commit's
   pub stamp : ℕ
 
+-- none of these
 abbrev pub no_effect : Effect
 no_effect = record { start = None; writes = false; stops = false; files = false; stamp = 0 }
 
+-- the later commit that a conflict names
 abbrev pub stamp_of_cause : Cause → ℕ
 stamp_of_cause (Later stamp) = stamp
 stamp_of_cause (Holder by) = 0
 
+-- the stamp of a commit that wrote something
 abbrev pub stamp_of_commit : Option ℕ → ℕ
 stamp_of_commit (Some stamp) = stamp
 stamp_of_commit None = 0
 
+-- each answer, with all that it tells
 abbrev pub effect : Answer → Effect
 effect (answers.Begun by start) = record no_effect { start = Some start; stamp = start }
 effect answers.Done = record no_effect { writes = true }
@@ -79,6 +86,7 @@ effect answers.Skipped = no_effect
 abbrev pub made_by : AnsweredLine → Option Write
 made_by l = cond (effect l.answer).writes (write_of (request l.command)) None
 
+-- the lines of one transaction
 abbrev pub of_txn : ℕ → List AnsweredLine → List AnsweredLine
 of_txn txn before = filter (λ l. l.txn == txn) before
 
@@ -90,6 +98,7 @@ own_writes txn before = filter_map made_by (of_txn txn before)
 abbrev pub is_stopped : ℕ → List AnsweredLine → Bool
 is_stopped txn before = list_any (λ l. (effect l.answer).stops) (of_txn txn before)
 
+-- the start that is given, or else a later one
 abbrev pub or_later : Option ℕ → ℕ → ℕ
 or_later (Some start) later = start
 or_later None later = later

@@ -29,6 +29,7 @@ pub data Request : Type 0 where
   ToRead : Query → Request
   ToRun : Kernel → List ℕ → Request
 
+-- each command, with what it asks for
 abbrev pub request : Command → Request
 request commands.Begin = ToBegin
 request commands.Commit = ToCommit
@@ -84,18 +85,20 @@ open_behind true (ToWrite w) = Some true
 open_behind true (ToRead query) = Some true
 open_behind true (ToRun kernel file) = Some true
 
--- ids and rounds are within their limits
+-- the ids of a read are within their limit
 abbrev pub IsQuery : Query → Type 0
 IsQuery (WeightOf u v) = (u ≤ MAX_ID) × (v ≤ MAX_ID)
 IsQuery (NeighboursOf v) = v ≤ MAX_ID
 IsQuery Counts = Unit {0}
 
+-- the root or the number of rounds is within its limit
 abbrev pub IsKernel : Kernel → Type 0
 IsKernel (Bfs root) = root ≤ MAX_ID
 IsKernel Wcc = Unit {0}
 IsKernel (Cdlp rounds) = rounds ≤ MAX_ROUNDS
 IsKernel (Sssp root) = root ≤ MAX_ID
 
+-- each number is within its limit
 abbrev pub IsRequest : Request → Type 0
 IsRequest ToBegin = Unit {0}
 IsRequest ToCommit = Unit {0}
