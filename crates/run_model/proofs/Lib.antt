@@ -1,1 +1,6 @@
-pub mod TextLemmas
+pub mod NumeralLemmas
+pub mod JournalLemmas
+pub mod ReportLemmas
+pub mod ListLemmas
+pub mod SnapshotLemmas
+pub mod ShortLemmas

@@ -1,5 +1,7 @@
-pub mod Lines
+pub mod Requests
+pub mod AnsweredLines
 pub mod Answering
+pub mod Inputs
 pub mod Run
 pub mod Texts
 pub mod Laws

@@ -1,12 +1,16 @@
 //! What a run of scripts is: command lines, answers, reports and the journal, related by one definition.
+//!
+//! 1. The types hold values and do nothing; what they mean is said in `specs/` alone.
+//! 2. A report has one answer for each line of its script, in the same order.
 #![tactic(auto)]
 
 mod answer;
 mod command;
 mod laws;
-mod name;
 
 pub use answer::{Answer, Answers};
-pub use command::{Command, Script};
-pub use laws::{journal_text_is_of_one_journal, worked_texts_hold};
-pub use name::Name;
+pub use command::{Command, Name, Script};
+pub use laws::{
+    journal_text_is_of_one_journal, report_text_is_of_one_report, runs_have_short_numbers,
+    texts_tell_runs,
+};
