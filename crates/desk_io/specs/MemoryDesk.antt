@@ -5,6 +5,7 @@ use Rattle.std.specs.BTreeMap.{BTreeMap, get_by_text}
 use Rattle.std.specs.declared.vec.Vec.{Vec}
 use Rattle.std.specs.declared.string.String.{String}
 use Rattle.std.specs.declared.alloc.Global.{Global}
+use Rattle.desk_io.specs.Faults.{last_name}
 use Rattle.desk_io.specs.Files.{Told, Files}
 use Rattle.desk_io.specs.declared.memory_desk.MemoryDesk.{MemoryDesk}
 
@@ -19,8 +20,10 @@ files_of desk = record {
   written = texts_of desk.files;
   said = option_map (λ text. text.items) desk.said;
   tells = true;
-  read_faults = desk.read_faults;
-  write_faults = desk.write_faults;
+  read_faults = desk.reads.count;
+  failed_read = last_name desk.reads;
+  write_faults = desk.writes.count;
+  failed_write = last_name desk.writes;
 }
 
 -- the numbers of the calls that are to fail

@@ -1,10 +1,10 @@
 //! A desk in memory, for tests.
 ghost use Rattle.std.specs.Prelude.{◌≡◌, ◌≢◌, ◌⊎◌, ◌++◌, ◌+◌, ◌-◌, ◌<◌, ◌≤◌, [], length, min, take, false, option_copied, option_map, IsTrue, IsSome, IsNone, IsOk, IsErr, IfSome, IfNone, IfOk, OnOk, OnErr, Contains, Some, None};
-ghost use Rattle.desk_io.specs.Files.{Gives, IsThere, ReadFails, WriteFails, ChangesOnly, IsWritten, with_piece};
+ghost use Rattle.desk_io.specs.Files.{Gives, IsThere, ReadFails, WriteFails, NoWriteFails, ChangesOnly, IsWritten, with_piece};
 ghost use Rattle.desk_io.specs.MemoryDesk.{files_of, texts_of, failing_calls, next_call, fails_now, file_count, Counts};
 
 use crate::desk::{Desk, Failed};
-use crate::faults::risen;
+use crate::faults::Faults;
 use std::alloc::{AllocError, Global};
 use std::collections::BTreeMap;
 
@@ -22,8 +22,9 @@ pub struct MemoryDesk {
     calls: u64,
     // None: memory for a text was refused
     said: Option<Vec<u8>>,
-    read_faults: u64,
-    write_faults: u64,
+    // the reads that failed, and the creates and writes
+    reads: Faults,
+    writes: Faults,
 }
 
 impl MemoryDesk {
@@ -43,8 +44,8 @@ impl MemoryDesk {
             failing: Vec::new(alloc),
             calls: 0,
             said: Some(Vec::new(alloc)),
-            read_faults: 0,
-            write_faults: 0,
+            reads: Faults::new(alloc),
+            writes: Faults::new(alloc),
         }
     }
 
@@ -124,7 +125,7 @@ impl Desk for MemoryDesk {
             Gives source at buffer.new count)) }
         ensures found { OnOk result (IsThere (files_of self.old) name.now) }
         ensures ok { OnOk result (files_of self.new ≡ files_of self.old) }
-        ensures err { OnErr result (ReadFails (files_of self.old) (files_of self.new)) }
+        ensures err { OnErr result (ReadFails name.now (files_of self.old) (files_of self.new)) }
         // What the trait does not say: as many bytes as there are come, and a read of a file that
         // is there fails only by the list.
         ensures whole { IfOk result (λ count. IfSome ((files_of self.old).holds name.now) (λ source.
@@ -137,13 +138,13 @@ impl Desk for MemoryDesk {
         ensures counted { Counts self.old self.new }
     {
         if self.next_fails() {
-            self.read_faults = risen(self.read_faults);
+            self.reads.add(name);
             return Err(Failed);
         }
         match self.files.get(name) {
             Some(text) => Ok(copy_part(text, at, buffer)),
             None => {
-                self.read_faults = risen(self.read_faults);
+                self.reads.add(name);
                 Err(Failed)
             }
         }
@@ -151,10 +152,9 @@ impl Desk for MemoryDesk {
 
     fn create(&mut self, name: &str) -> Result<(), Failed>
         ensures empty { OnOk result (IsWritten (files_of self.new) name.now []) }
-        ensures ok { OnOk result
-            ((files_of self.new).write_faults ≡ (files_of self.old).write_faults) }
+        ensures ok { OnOk result (NoWriteFails (files_of self.old) (files_of self.new)) }
         ensures others { ChangesOnly name.now (files_of self.old) (files_of self.new) }
-        ensures err { OnErr result (WriteFails (files_of self.old) (files_of self.new)) }
+        ensures err { OnErr result (WriteFails name.now (files_of self.old) (files_of self.new)) }
         // What the trait does not say.
         ensures told { OnOk result ((files_of self.new).written name.now ≡ Some []) }
         ensures planned { IsTrue (fails_now self.old) → IsErr result }
@@ -164,7 +164,7 @@ impl Desk for MemoryDesk {
         if !self.next_fails() && put_text(alloc, &mut self.files, name, Vec::new(alloc)).is_ok() {
             return Ok(());
         }
-        self.write_faults = risen(self.write_faults);
+        self.writes.add(name);
         Err(Failed)
     }
 
@@ -173,10 +173,9 @@ impl Desk for MemoryDesk {
         ensures some { IfOk result (λ count. 0 < length bytes.now → 0 < count) }
         ensures appended { IfOk result (λ count. (files_of self.new).written name.now
             ≡ with_piece ((files_of self.old).written name.now) (take count bytes.now)) }
-        ensures ok { OnOk result
-            ((files_of self.new).write_faults ≡ (files_of self.old).write_faults) }
+        ensures ok { OnOk result (NoWriteFails (files_of self.old) (files_of self.new)) }
         ensures others { ChangesOnly name.now (files_of self.old) (files_of self.new) }
-        ensures err { OnErr result (WriteFails (files_of self.old) (files_of self.new)) }
+        ensures err { OnErr result (WriteFails name.now (files_of self.old) (files_of self.new)) }
         // What the trait does not say: the whole piece is taken, of a file that is there.
         ensures whole { IfOk result (λ count. count ≡ length bytes.now) }
         ensures there { OnOk result (IsSome ((files_of self.old).written name.now)) }
@@ -184,13 +183,13 @@ impl Desk for MemoryDesk {
         ensures counted { Counts self.old self.new }
     {
         if self.next_fails() {
-            self.write_faults = risen(self.write_faults);
+            self.writes.add(name);
             return Err(Failed);
         }
         match append(self.alloc, &mut self.files, name, bytes) {
             Ok(()) => Ok(bytes.len()),
             Err(Failed) => {
-                self.write_faults = risen(self.write_faults);
+                self.writes.add(name);
                 Err(Failed)
             }
         }

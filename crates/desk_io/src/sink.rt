@@ -1,6 +1,6 @@
 //! A text that is written whole, in pieces.
 ghost use Rattle.std.specs.Prelude.{◌≡◌, OnOk, OnErr};
-ghost use Rattle.desk_io.specs.Files.{ChangesOnly, IsWritten, SinkFails};
+ghost use Rattle.desk_io.specs.Files.{NoWriteFails, ChangesOnly, IsWritten, SinkFails};
 
 use crate::desk::Desk;
 use thiserror::Error;
@@ -14,7 +14,7 @@ pub struct WriteFault;
 /// no call that writes.
 pub fn write_sink<D: Desk>(desk: &mut D, name: &str, bytes: &[u8]) -> Result<(), WriteFault>
     ensures written { OnOk result (IsWritten (D.files desk.new) name.now bytes.now) }
-    ensures ok { OnOk result ((D.files desk.new).write_faults ≡ (D.files desk.old).write_faults) }
+    ensures ok { OnOk result (NoWriteFails (D.files desk.old) (D.files desk.new)) }
     ensures others { ChangesOnly name.now (D.files desk.old) (D.files desk.new) }
     ensures err { OnErr result
         (SinkFails name.now bytes.now (D.files desk.old) (D.files desk.new)) }

@@ -3,10 +3,13 @@ ghost use Rattle.std.specs.Prelude.{◌≡◌, ◌+◌, ◌<◌, ◌≤◌, leng
 ghost use Rattle.desk_io.specs.Files.{IsSource, IsFront};
 ghost use Rattle.desk_io.specs.Refusals.{IsRefused, Reads};
 
-use crate::bytes::Bytes;
-use crate::desk::Desk;
+use crate::desk::{Desk, Failed};
+use items::Items;
 use std::alloc::{AllocError, Global};
 use thiserror::Error;
+
+/// A list of bytes, as a source that was read whole.
+pub type Bytes = Items<u8>;
 
 /// How many bytes one call of the desk reads at most: enough that the calls cost little, and little
 /// enough that the buffer fits the processor's cache.
@@ -51,7 +54,7 @@ pub fn read_source<D: Desk>(
     'pieces: loop {
         match read_piece(desk, name, limit, buffer.as_mut_slice(), &mut bytes) {
             Ok(Piece::Taken) => {}
-            Ok(Piece::End) => return Ok(Bytes::from_vec(bytes)),
+            Ok(Piece::End) => return Ok(Items::from_vec(bytes)),
             Err(refusal) => return Err(refusal),
         }
     }
