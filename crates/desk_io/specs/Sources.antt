@@ -2,6 +2,8 @@
 use Rattle.std.specs.Prelude.{◌≡◌, ◌≤◌, ℕ, List, length, take, slice_get, Some}
 use Rattle.std.specs.List.{AllZip}
 use Rattle.desk_io.specs.Files.{Files, ReadFails, IsSource, IsTooLong}
+use Rattle.desk_io.specs.declared.source.SourceRefusal.{SourceRefusal}
+use Rattle.desk_io.specs.declared.source.SourceRefusal.TheVariants as refusals
 use Rattle.desk_io.specs.declared.sources.ReadStop.{ReadStop}
 use Rattle.desk_io.specs.declared.sources.ReadStop.TheVariants.{Fault, TooLong, NoMemory}
 
@@ -28,3 +30,9 @@ IsReadStop limit names old new (Fault place) =
 IsReadStop limit names old new (TooLong place) =
     (name : List ℕ) × StopsAt limit old names place name × IsTooLong old name limit × (new ≡ old)
 IsReadStop limit names old new NoMemory = new ≡ old
+
+-- the stop at a place whose source is refused
+abbrev pub stop_at : ℕ → SourceRefusal → ReadStop
+stop_at place refusals.ReadFault = Fault place
+stop_at place refusals.TooLong = TooLong place
+stop_at place refusals.NoMemory = NoMemory

@@ -1,6 +1,6 @@
 //! Sources that are read whole, one after another.
 ghost use Rattle.std.specs.Prelude.{◌≡◌, map, IfOk, IfErr, OnOk};
-ghost use Rattle.desk_io.specs.Sources.{AreRead, IsReadStop};
+ghost use Rattle.desk_io.specs.Sources.{AreRead, IsReadStop, stop_at};
 
 use crate::desk::Desk;
 use crate::source::{Bytes, SourceRefusal, read_source};
@@ -49,25 +49,21 @@ pub fn read_all<D: Desk>(
 {
     let mut sources = Items::new(alloc);
     'sources: for place in 0..names.len() {
-        let source = read_at(alloc, desk, names, place, limit)?;
-        sources.push(source)?;
+        match read_source(alloc, desk, names[place], limit) {
+            Ok(source) => sources.push(source)?,
+            Err(refusal) => return Err(stop_at(place, refusal)),
+        }
     }
     Ok(sources)
 }
 
-// Reads the source at a place.
-fn read_at<D: Desk>(
-    alloc: Global,
-    desk: &mut D,
-    names: &[&str],
-    place: usize,
-    limit: u64,
-) -> Result<Bytes, ReadStop>
+// The stop at a place whose source is refused.
+fn stop_at(place: usize, refusal: SourceRefusal) -> ReadStop
+    ensures { result ≡ stop_at place refusal }
 {
-    match read_source(alloc, desk, names[place], limit) {
-        Ok(source) => Ok(source),
-        Err(SourceRefusal::ReadFault) => Err(ReadStop::Fault { place }),
-        Err(SourceRefusal::TooLong) => Err(ReadStop::TooLong { place }),
-        Err(SourceRefusal::NoMemory) => Err(ReadStop::NoMemory),
+    match refusal {
+        SourceRefusal::ReadFault => ReadStop::Fault { place },
+        SourceRefusal::TooLong => ReadStop::TooLong { place },
+        SourceRefusal::NoMemory => ReadStop::NoMemory,
     }
 }
