@@ -2,13 +2,19 @@
 ghost use Rattle.std.specs.Prelude.{◌≡◌, OnOk, OnErr};
 ghost use Rattle.desk_io.specs.Files.{NoWriteFails, ChangesOnly, IsWritten, SinkFails};
 
-use crate::desk::Desk;
+use crate::desk::{Desk, Failed};
 use thiserror::Error;
 
 /// A text was not written whole.
 #[derive(Clone, Copy, Debug, PartialEq, Eq, Error)]
 #[error("the file cannot be written")]
 pub struct WriteFault;
+
+impl From<Failed> for WriteFault {
+    fn from(_: Failed) -> WriteFault {
+        WriteFault
+    }
+}
 
 /// Creates the file and writes the bytes to it. No memory is taken. An empty text is created, with
 /// no call that writes.
@@ -19,16 +25,10 @@ pub fn write_sink<D: Desk>(desk: &mut D, name: &str, bytes: &[u8]) -> Result<(),
     ensures err { OnErr result
         (SinkFails name.now bytes.now (D.files desk.old) (D.files desk.new)) }
 {
-    match desk.create(name) {
-        Ok(()) => {}
-        Err(_) => return Err(WriteFault),
-    }
+    desk.create(name)?;
     let mut taken = 0;
     'pieces: while taken < bytes.len() {
-        match desk.write(name, &bytes[taken..]) {
-            Ok(count) => taken += count,
-            Err(_) => return Err(WriteFault),
-        }
+        taken += desk.write(name, &bytes[taken..])?;
     }
     Ok(())
 }
