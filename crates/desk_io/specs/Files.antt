@@ -46,19 +46,19 @@ abbrev pub Rose : ℕ → ℕ → Type 0
 Rose before now = (before < now) ⊎ ((before ≡ 2 ^ 64 - 1) × (now ≡ 2 ^ 64 - 1))
 
 -- a failure is of this name, where the desk tells of which
-abbrev pub IsOf : Option (List ℕ) → List ℕ → Type 0
-IsOf failed name = IfSome failed (λ told. told ≡ name)
+abbrev pub IsOfName : Option (List ℕ) → List ℕ → Type 0
+IsOfName failed name = IfSome failed (λ told. told ≡ name)
 
 -- a read of this name failed: the count rose, and no more changed
 pub record ReadFails (name : List ℕ) (old new : Files) : Type 0 where
   pub rose : Rose old.read_faults new.read_faults
-  pub named : IsOf new.failed_read name
+  pub named : IsOfName new.failed_read name
   pub rest : new ≡ record old { read_faults = new.read_faults; failed_read = new.failed_read }
 
 -- a create or a write of this name failed: their count rose, and no more changed
 pub record WriteFails (name : List ℕ) (old new : Files) : Type 0 where
   pub rose : Rose old.write_faults new.write_faults
-  pub named : IsOf new.failed_write name
+  pub named : IsOfName new.failed_write name
   pub rest : new ≡ record old { write_faults = new.write_faults; failed_write = new.failed_write }
 
 -- no create and no write failed
@@ -96,7 +96,7 @@ pub record IsWritten (files : Files) (name text : List ℕ) : Type 0 where
 -- was written
 pub record SinkFails (name text : List ℕ) (old new : Files) : Type 0 where
   pub rose : Rose old.write_faults new.write_faults
-  pub named : IsOf new.failed_write name
+  pub named : IsOfName new.failed_write name
   pub front : (new ≡ record old { write_faults = new.write_faults; failed_write = new.failed_write })
       ⊎ ((count : ℕ) × IsWritten new name (take count text))
 

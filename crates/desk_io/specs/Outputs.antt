@@ -1,7 +1,7 @@
 -- Texts that are written under their names one after another, and what that leaves
 use Rattle.std.specs.Prelude.{◌≡◌, ◌⊎◌, ℕ, List, [], ◌∷◌, ◌++◌, map, take, Contains, slice_get, Some}
 use Rattle.std.specs.List.{AllByRecursion}
-use Rattle.desk_io.specs.Files.{Files, Rose, IsOf, IsWritten}
+use Rattle.desk_io.specs.Files.{Files, Rose, IsOfName, IsWritten}
 
 -- a text and the name that it is written under
 pub record NamedText : Type 0 where
@@ -44,7 +44,7 @@ HasFront o old new = IsNotCreated o.name old new ⊎ ((count : ℕ) × IsWritten
 -- text, and the later ones and all other names are as they were
 pub record FailsAt (before : List NamedText) (failed : NamedText) (old new : Files) : Type 0 where
   pub rose : Rose old.write_faults new.write_faults
-  pub named : IsOf new.failed_write failed.name
+  pub named : IsOfName new.failed_write failed.name
   pub whole : AreWritten new before
   pub front : HasFront failed old new
   pub others : KeepsOthers (names_of (before ++ failed ∷ [])) old new

@@ -5,12 +5,19 @@
 ghost use Rattle.std.specs.Prelude.{◌≡◌, ◌<◌, ◌≤◌, [], ◌++◌, length, take, IsNone, IfSome, IfNone, IfOk, OnOk, OnErr};
 ghost use Rattle.desk_io.specs.Files.{Files, Gives, IsThere, ReadFails, WriteFails, NoWriteFails, ChangesOnly, IsWritten, with_piece};
 
+use std::alloc::AllocError;
 use thiserror::Error;
 
 /// The answer of a call that failed. The desk counts it, and keeps the name.
 #[derive(Clone, Copy, Debug, PartialEq, Eq, Error)]
 #[error("the file cannot be reached")]
 pub struct Failed;
+
+impl From<AllocError> for Failed {
+    fn from(_: AllocError) -> Failed {
+        Failed
+    }
+}
 
 /// Files by name, and an output that texts are said on.
 pub trait Desk {

@@ -1,6 +1,6 @@
 //! The failures of one kind: how many, and the name that the last of them was of.
 ghost use Rattle.std.specs.Prelude.{◌≡◌, None};
-ghost use Rattle.desk_io.specs.Files.{Rose, IsOf};
+ghost use Rattle.desk_io.specs.Files.{Rose, IsOfName};
 ghost use Rattle.desk_io.specs.Faults.{last_name};
 
 use std::alloc::Global;
@@ -29,7 +29,7 @@ impl Faults {
     // Counts a failure of this name.
     pub(crate) fn add(&mut self, name: &str)
         ensures rose { Rose self.old.count self.new.count }
-        ensures named { IsOf (last_name self.new) name.now }
+        ensures named { IsOfName (last_name self.new) name.now }
     {
         self.count = self.count.saturating_add(1);
         self.last = String::from_str(self.alloc, name).ok();

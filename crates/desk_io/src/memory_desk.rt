@@ -1,7 +1,7 @@
 //! A desk in memory, for tests.
 ghost use Rattle.std.specs.Prelude.{◌≡◌, ◌≢◌, ◌⊎◌, ◌++◌, ◌+◌, ◌-◌, ◌<◌, ◌≤◌, [], length, min, take, false, option_copied, option_map, IsTrue, IsSome, IsNone, IsOk, IsErr, IfSome, IfNone, IfOk, OnOk, OnErr, Contains, Some, None};
 ghost use Rattle.desk_io.specs.Files.{Gives, IsThere, ReadFails, WriteFails, NoWriteFails, ChangesOnly, IsWritten, with_piece};
-ghost use Rattle.desk_io.specs.MemoryDesk.{files_of, texts_of, failing_calls, next_call, fails_now, file_count, Counts};
+ghost use Rattle.desk_io.specs.MemoryDesk.{files_of, texts_of, failing_calls, next_call, fails_now, file_count, Counts, IsNew};
 
 use crate::desk::{Desk, Failed};
 use crate::faults::Faults;
@@ -30,13 +30,7 @@ pub struct MemoryDesk {
 impl MemoryDesk {
     /// A desk with no file, no call of which is to fail.
     pub fn new(alloc: Global) -> MemoryDesk
-        ensures nothing { (name : _) → (files_of result).holds name ≡ None }
-        ensures silent { (files_of result).said ≡ Some [] }
-        ensures read_faults { (files_of result).read_faults ≡ 0 }
-        ensures write_faults { (files_of result).write_faults ≡ 0 }
-        ensures failing { failing_calls result ≡ [] }
-        ensures first { next_call result ≡ 1 }
-        ensures empty { file_count result ≡ 0 }
+        ensures { IsNew [] result }
     {
         MemoryDesk {
             alloc,
@@ -51,13 +45,7 @@ impl MemoryDesk {
 
     /// A desk with no file, where the calls of these numbers fail.
     pub fn with_failing(alloc: Global, calls: &[u64]) -> Result<MemoryDesk, AllocError>
-        ensures nothing { IfOk result (λ desk. (name : _) → (files_of desk).holds name ≡ None) }
-        ensures silent { IfOk result (λ desk. (files_of desk).said ≡ Some []) }
-        ensures read_faults { IfOk result (λ desk. (files_of desk).read_faults ≡ 0) }
-        ensures write_faults { IfOk result (λ desk. (files_of desk).write_faults ≡ 0) }
-        ensures failing { IfOk result (λ desk. failing_calls desk ≡ calls.now) }
-        ensures first { IfOk result (λ desk. next_call desk ≡ 1) }
-        ensures empty { IfOk result (λ desk. file_count desk ≡ 0) }
+        ensures { IfOk result (IsNew calls.now) }
     {
         let failing = Vec::from_slice(alloc, calls)?;
         let mut desk = MemoryDesk::new(alloc);
@@ -70,7 +58,7 @@ impl MemoryDesk {
         ensures put { OnOk result ((files_of self.new).holds name.now ≡ Some bytes.now) }
         ensures failing { failing_calls self.new ≡ failing_calls self.old }
         ensures next { next_call self.new ≡ next_call self.old }
-        ensures write_faults { (files_of self.new).write_faults ≡ (files_of self.old).write_faults }
+        ensures faults { NoWriteFails (files_of self.old) (files_of self.new) }
         ensures others { ChangesOnly name.now (files_of self.old) (files_of self.new) }
         ensures err { OnErr result (files_of self.new ≡ files_of self.old) }
     {
@@ -186,13 +174,11 @@ impl Desk for MemoryDesk {
             self.writes.add(name);
             return Err(Failed);
         }
-        match append(self.alloc, &mut self.files, name, bytes) {
-            Ok(()) => Ok(bytes.len()),
-            Err(Failed) => {
-                self.writes.add(name);
-                Err(Failed)
-            }
+        if let Err(failed) = append(self.alloc, &mut self.files, name, bytes) {
+            self.writes.add(name);
+            return Err(failed);
         }
+        Ok(bytes.len())
     }
 
     fn say(&mut self, text: &[u8]) {
@@ -253,16 +239,11 @@ fn append(
     ensures err { OnErr result (texts_of files.new ≡ texts_of files.old) }
 {
     let longer = match files.get(name) {
-        Some(text) => joined(alloc, text, bytes),
+        Some(text) => joined(alloc, text, bytes)?,
         None => return Err(Failed),
     };
-    match longer {
-        Ok(text) => match put_text(alloc, files, name, text) {
-            Ok(()) => Ok(()),
-            Err(_) => Err(Failed),
-        },
-        Err(_) => Err(Failed),
-    }
+    put_text(alloc, files, name, longer)?;
+    Ok(())
 }
 
 // The text with the bytes behind it.

@@ -7,19 +7,21 @@ use crate::desk::{Desk, Failed};
 use crate::faults::Faults;
 use crate::open_files::OpenFiles;
 use std::alloc::Global;
+use std::fs::File;
 use std::rt::Files;
 
 /// Files of the file system, and standard output. Nothing is told of what they hold.
 ///
-/// A folder is not read, and a write of 0 bytes is a failure. A text that cannot be said is lost.
+/// A folder is not read, and a text that cannot be said is lost. A write is of the whole piece, and
+/// the file is closed with it: where that fails, some of the piece may have been written.
 #[derive(Drop)]
-pub struct StdDesk<R: Files> {
+pub struct StdDesk<R: Files<File = File>> {
     files: OpenFiles<R>,
     reads: Faults,
     writes: Faults,
 }
 
-impl<R: Files + Print> StdDesk<R> {
+impl<R: Files<File = File> + Print> StdDesk<R> {
     pub fn new(alloc: Global, rt: R) -> StdDesk<R>
         ensures { ⟦<StdDesk<R> as Desk>⟧.files result ≡ nothing_told 0 None 0 None }
     {
@@ -31,8 +33,9 @@ impl<R: Files + Print> StdDesk<R> {
     }
 }
 
-impl<R: Files + Print> Desk for StdDesk<R> {
-    ghost files = { λ desk. nothing_told desk.reads.count (last_name desk.reads) desk.writes.count (last_name desk.writes) };
+impl<R: Files<File = File> + Print> Desk for StdDesk<R> {
+    ghost files = { λ desk. nothing_told desk.reads.count (last_name desk.reads)
+        desk.writes.count (last_name desk.writes) };
 
     fn read(&mut self, name: &str, at: u64, buffer: &mut [u8]) -> Result<usize, Failed> {
         match self.files.read(name, at, buffer) {
@@ -56,7 +59,7 @@ impl<R: Files + Print> Desk for StdDesk<R> {
 
     fn write(&mut self, name: &str, bytes: &[u8]) -> Result<usize, Failed> {
         match self.files.write(name, bytes) {
-            Ok(count) => Ok(count),
+            Ok(()) => Ok(bytes.len()),
             Err(_) => {
                 self.writes.add(name);
                 Err(Failed)
