@@ -1,7 +1,7 @@
 -- What calls of a desk leave, one after another
 use Rattle.std.proofs.Common.{◌≡◌, ◌∙◌, ◌+◌, ◌≤◌, ℕ, List, ◌++◌, length, take, Option, Some, None, IfSome, IsSome, refl, ap, arith, length-append, length-take}
 use Rattle.std.proofs.Math.Seq.{take-add}
-use Rattle.desk_io.specs.Files.{Files, ChangesOnly, Gives, IsWritten, IsFront, with_piece}
+use Rattle.desk_io.specs.Files.{Files, NoWriteFails, ChangesOnly, Gives, IsWritten, IsFront, with_piece}
 
 -- two changes of one name are one
 pub ChangesOnly-trans : (name : List ℕ) (old mid new : Files) → ChangesOnly name old mid → ChangesOnly name mid new → ChangesOnly name old new
@@ -11,6 +11,14 @@ ChangesOnly-trans name old mid new first second = record {
   said = second.said ∙ first.said;
   tells = second.tells ∙ first.tells;
   read_faults = second.read_faults ∙ first.read_faults;
+  failed_read = second.failed_read ∙ first.failed_read;
+}
+
+-- two calls of which neither is a failed write
+pub NoWriteFails-trans : (old mid new : Files) → NoWriteFails old mid → NoWriteFails mid new → NoWriteFails old new
+NoWriteFails-trans old mid new first second = record {
+  write_faults = second.write_faults ∙ first.write_faults;
+  failed_write = second.failed_write ∙ first.failed_write;
 }
 
 -- a piece behind a text that is told

@@ -1,1 +1,4 @@
 pub mod FilesLemmas
+pub mod OutputLemmas
+pub mod PlaceLemmas
+pub mod SourceLemmas

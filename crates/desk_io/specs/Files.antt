@@ -17,18 +17,24 @@ pub record Files : Type 0 where
   pub tells : Bool
   -- how many reads failed
   pub read_faults : ℕ
+  -- the name of the last read that failed, or None: not told, or none failed
+  pub failed_read : Option (List ℕ)
   -- how many creates and writes failed
   pub write_faults : ℕ
+  -- the name of the last create or write that failed, or None: not told, or none failed
+  pub failed_write : Option (List ℕ)
 
--- what is known of a desk that tells no contents: its counts
-abbrev pub nothing_told : ℕ → ℕ → Files
-nothing_told read_faults write_faults = record {
+-- what is known of a desk that tells no contents: what failed
+abbrev pub nothing_told : ℕ → Option (List ℕ) → ℕ → Option (List ℕ) → Files
+nothing_told read_faults failed_read write_faults failed_write = record {
   holds = λ _. None;
   written = λ _. None;
   said = None;
   tells = false;
   read_faults = read_faults;
+  failed_read = failed_read;
   write_faults = write_faults;
+  failed_write = failed_write;
 }
 
 -- a desk that tells holds a file of this name
@@ -39,15 +45,26 @@ IsThere files name = IsTrue files.tells → IsSome (files.holds name)
 abbrev pub Rose : ℕ → ℕ → Type 0
 Rose before now = (before < now) ⊎ ((before ≡ 2 ^ 64 - 1) × (now ≡ 2 ^ 64 - 1))
 
--- a read failed: its count rose, and nothing else changed
-pub record ReadFails (old new : Files) : Type 0 where
-  pub rose : Rose old.read_faults new.read_faults
-  pub rest : new ≡ record old { read_faults = new.read_faults }
+-- a failure is of this name, where the desk tells of which
+abbrev pub IsOfName : Option (List ℕ) → List ℕ → Type 0
+IsOfName failed name = IfSome failed (λ told. told ≡ name)
 
--- a create or a write failed: their count rose, and nothing else changed
-pub record WriteFails (old new : Files) : Type 0 where
+-- a read of this name failed: the count rose, and no more changed
+pub record ReadFails (name : List ℕ) (old new : Files) : Type 0 where
+  pub rose : Rose old.read_faults new.read_faults
+  pub named : IsOfName new.failed_read name
+  pub rest : new ≡ record old { read_faults = new.read_faults; failed_read = new.failed_read }
+
+-- a create or a write of this name failed: their count rose, and no more changed
+pub record WriteFails (name : List ℕ) (old new : Files) : Type 0 where
   pub rose : Rose old.write_faults new.write_faults
-  pub rest : new ≡ record old { write_faults = new.write_faults }
+  pub named : IsOfName new.failed_write name
+  pub rest : new ≡ record old { write_faults = new.write_faults; failed_write = new.failed_write }
+
+-- no create and no write failed
+pub record NoWriteFails (old new : Files) : Type 0 where
+  pub write_faults : new.write_faults ≡ old.write_faults
+  pub failed_write : new.failed_write ≡ old.failed_write
 
 -- what is known of the other names, what was said and the reads that failed stay as they were
 pub record ChangesOnly (name : List ℕ) (old new : Files) : Type 0 where
@@ -56,6 +73,7 @@ pub record ChangesOnly (name : List ℕ) (old new : Files) : Type 0 where
   pub said : new.said ≡ old.said
   pub tells : new.tells ≡ old.tells
   pub read_faults : new.read_faults ≡ old.read_faults
+  pub failed_read : new.failed_read ≡ old.failed_read
 
 -- the first bytes of the buffer are those of the source from a place on, and 0 bytes for a buffer
 -- with room are its end
@@ -78,7 +96,8 @@ pub record IsWritten (files : Files) (name text : List ℕ) : Type 0 where
 -- was written
 pub record SinkFails (name text : List ℕ) (old new : Files) : Type 0 where
   pub rose : Rose old.write_faults new.write_faults
-  pub front : (new ≡ record old { write_faults = new.write_faults })
+  pub named : IsOfName new.failed_write name
+  pub front : (new ≡ record old { write_faults = new.write_faults; failed_write = new.failed_write })
       ⊎ ((count : ℕ) × IsWritten new name (take count text))
 
 -- the bytes are the whole source of this name, where it is told, and a desk that tells has one

@@ -1,10 +1,11 @@
 -- What a desk in memory tells, and which of its calls are to fail
-use Rattle.std.specs.Prelude.{◌≡◌, ◌==◌, ◌+◌, ◌-◌, ◌^◌, ℕ, min, Bool, true, List, length, option_map}
+use Rattle.std.specs.Prelude.{◌≡◌, ◌==◌, ◌+◌, ◌-◌, ◌^◌, ℕ, min, Bool, true, List, [], length, Some, None, option_map}
 use Rattle.std.specs.List.{list_any}
 use Rattle.std.specs.BTreeMap.{BTreeMap, get_by_text}
 use Rattle.std.specs.declared.vec.Vec.{Vec}
 use Rattle.std.specs.declared.string.String.{String}
 use Rattle.std.specs.declared.alloc.Global.{Global}
+use Rattle.desk_io.specs.Faults.{last_name}
 use Rattle.desk_io.specs.Files.{Told, Files}
 use Rattle.desk_io.specs.declared.memory_desk.MemoryDesk.{MemoryDesk}
 
@@ -19,8 +20,10 @@ files_of desk = record {
   written = texts_of desk.files;
   said = option_map (λ text. text.items) desk.said;
   tells = true;
-  read_faults = desk.read_faults;
-  write_faults = desk.write_faults;
+  read_faults = desk.reads.count;
+  failed_read = last_name desk.reads;
+  write_faults = desk.writes.count;
+  failed_write = last_name desk.writes;
 }
 
 -- the numbers of the calls that are to fail
@@ -43,3 +46,15 @@ pub record Counts (old new : MemoryDesk) : Type 0 where
 -- how many files there are
 abbrev pub file_count : MemoryDesk → ℕ
 file_count desk = length desk.files.entries
+
+-- a desk with no file, on which nothing was said and no call was made, where these calls are to fail
+pub record IsNew (calls : List ℕ) (desk : MemoryDesk) : Type 0 where
+  pub nothing : (name : List ℕ) → (files_of desk).holds name ≡ None
+  pub empty : file_count desk ≡ 0
+  pub silent : (files_of desk).said ≡ Some []
+  pub read_faults : (files_of desk).read_faults ≡ 0
+  pub failed_read : (files_of desk).failed_read ≡ None
+  pub write_faults : (files_of desk).write_faults ≡ 0
+  pub failed_write : (files_of desk).failed_write ≡ None
+  pub first : next_call desk ≡ 1
+  pub failing : failing_calls desk ≡ calls

@@ -8,7 +8,7 @@ use Rattle.desk_io.specs.declared.source.Piece.TheVariants.{Taken, End}
 
 -- what each refusal means
 abbrev pub IsRefused : List ℕ → ℕ → Files → Files → SourceRefusal → Type 0
-IsRefused name limit old new ReadFault = ReadFails old new
+IsRefused name limit old new ReadFault = ReadFails name old new
 IsRefused name limit old new TooLong = IsTooLong old name limit × (new ≡ old)
 IsRefused name limit old new NoMemory = new ≡ old
 

@@ -3,14 +3,21 @@
 //! What is known of a desk is its ghost member `files`. A desk may tell the contents of its files,
 //! as one in memory does, or tell none of them, as one over real files.
 ghost use Rattle.std.specs.Prelude.{◌≡◌, ◌<◌, ◌≤◌, [], ◌++◌, length, take, IsNone, IfSome, IfNone, IfOk, OnOk, OnErr};
-ghost use Rattle.desk_io.specs.Files.{Files, Gives, IsThere, ReadFails, WriteFails, ChangesOnly, IsWritten, with_piece};
+ghost use Rattle.desk_io.specs.Files.{Files, Gives, IsThere, ReadFails, WriteFails, NoWriteFails, ChangesOnly, IsWritten, with_piece};
 
+use std::alloc::AllocError;
 use thiserror::Error;
 
-/// The answer of a call that failed. The desk counts it.
+/// The answer of a call that failed. The desk counts it, and keeps the name.
 #[derive(Clone, Copy, Debug, PartialEq, Eq, Error)]
 #[error("the file cannot be reached")]
 pub struct Failed;
+
+impl From<AllocError> for Failed {
+    fn from(_: AllocError) -> Failed {
+        Failed
+    }
+}
 
 /// Files by name, and an output that texts are said on.
 pub trait Desk {
@@ -24,14 +31,14 @@ pub trait Desk {
             Gives source at buffer.new count)) }
         ensures found { OnOk result (IsThere (files self.old) name.now) }
         ensures ok { OnOk result (files self.new ≡ files self.old) }
-        ensures err { OnErr result (ReadFails (files self.old) (files self.new)) };
+        ensures err { OnErr result (ReadFails name.now (files self.old) (files self.new)) };
 
     /// Makes an empty file, in place of one that was there.
     fn create(&mut self, name: &str) -> Result<(), Failed>
         ensures empty { OnOk result (IsWritten (files self.new) name.now []) }
-        ensures ok { OnOk result ((files self.new).write_faults ≡ (files self.old).write_faults) }
+        ensures ok { OnOk result (NoWriteFails (files self.old) (files self.new)) }
         ensures others { ChangesOnly name.now (files self.old) (files self.new) }
-        ensures err { OnErr result (WriteFails (files self.old) (files self.new)) };
+        ensures err { OnErr result (WriteFails name.now (files self.old) (files self.new)) };
 
     /// Writes the first of the bytes at the end of the file, and answers how many it took.
     fn write(&mut self, name: &str, bytes: &[u8]) -> Result<usize, Failed>
@@ -39,9 +46,9 @@ pub trait Desk {
         ensures some { IfOk result (λ count. 0 < length bytes.now → 0 < count) }
         ensures appended { IfOk result (λ count. (files self.new).written name.now
             ≡ with_piece ((files self.old).written name.now) (take count bytes.now)) }
-        ensures ok { OnOk result ((files self.new).write_faults ≡ (files self.old).write_faults) }
+        ensures ok { OnOk result (NoWriteFails (files self.old) (files self.new)) }
         ensures others { ChangesOnly name.now (files self.old) (files self.new) }
-        ensures err { OnErr result (WriteFails (files self.old) (files self.new)) };
+        ensures err { OnErr result (WriteFails name.now (files self.old) (files self.new)) };
 
     /// Says the text at the end of the output. There is no answer: where it cannot be said, what
     /// was said is no longer told.

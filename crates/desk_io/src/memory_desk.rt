@@ -1,10 +1,10 @@
 //! A desk in memory, for tests.
 ghost use Rattle.std.specs.Prelude.{◌≡◌, ◌≢◌, ◌⊎◌, ◌++◌, ◌+◌, ◌-◌, ◌<◌, ◌≤◌, [], length, min, take, false, option_copied, option_map, IsTrue, IsSome, IsNone, IsOk, IsErr, IfSome, IfNone, IfOk, OnOk, OnErr, Contains, Some, None};
-ghost use Rattle.desk_io.specs.Files.{Gives, IsThere, ReadFails, WriteFails, ChangesOnly, IsWritten, with_piece};
-ghost use Rattle.desk_io.specs.MemoryDesk.{files_of, texts_of, failing_calls, next_call, fails_now, file_count, Counts};
+ghost use Rattle.desk_io.specs.Files.{Gives, IsThere, ReadFails, WriteFails, NoWriteFails, ChangesOnly, IsWritten, with_piece};
+ghost use Rattle.desk_io.specs.MemoryDesk.{files_of, texts_of, failing_calls, next_call, fails_now, file_count, Counts, IsNew};
 
 use crate::desk::{Desk, Failed};
-use crate::faults::risen;
+use crate::faults::Faults;
 use std::alloc::{AllocError, Global};
 use std::collections::BTreeMap;
 
@@ -22,20 +22,15 @@ pub struct MemoryDesk {
     calls: u64,
     // None: memory for a text was refused
     said: Option<Vec<u8>>,
-    read_faults: u64,
-    write_faults: u64,
+    // the reads that failed, and the creates and writes
+    reads: Faults,
+    writes: Faults,
 }
 
 impl MemoryDesk {
     /// A desk with no file, no call of which is to fail.
     pub fn new(alloc: Global) -> MemoryDesk
-        ensures nothing { (name : _) → (files_of result).holds name ≡ None }
-        ensures silent { (files_of result).said ≡ Some [] }
-        ensures read_faults { (files_of result).read_faults ≡ 0 }
-        ensures write_faults { (files_of result).write_faults ≡ 0 }
-        ensures failing { failing_calls result ≡ [] }
-        ensures first { next_call result ≡ 1 }
-        ensures empty { file_count result ≡ 0 }
+        ensures { IsNew [] result }
     {
         MemoryDesk {
             alloc,
@@ -43,20 +38,14 @@ impl MemoryDesk {
             failing: Vec::new(alloc),
             calls: 0,
             said: Some(Vec::new(alloc)),
-            read_faults: 0,
-            write_faults: 0,
+            reads: Faults::new(alloc),
+            writes: Faults::new(alloc),
         }
     }
 
     /// A desk with no file, where the calls of these numbers fail.
     pub fn with_failing(alloc: Global, calls: &[u64]) -> Result<MemoryDesk, AllocError>
-        ensures nothing { IfOk result (λ desk. (name : _) → (files_of desk).holds name ≡ None) }
-        ensures silent { IfOk result (λ desk. (files_of desk).said ≡ Some []) }
-        ensures read_faults { IfOk result (λ desk. (files_of desk).read_faults ≡ 0) }
-        ensures write_faults { IfOk result (λ desk. (files_of desk).write_faults ≡ 0) }
-        ensures failing { IfOk result (λ desk. failing_calls desk ≡ calls.now) }
-        ensures first { IfOk result (λ desk. next_call desk ≡ 1) }
-        ensures empty { IfOk result (λ desk. file_count desk ≡ 0) }
+        ensures { IfOk result (IsNew calls.now) }
     {
         let failing = Vec::from_slice(alloc, calls)?;
         let mut desk = MemoryDesk::new(alloc);
@@ -69,7 +58,7 @@ impl MemoryDesk {
         ensures put { OnOk result ((files_of self.new).holds name.now ≡ Some bytes.now) }
         ensures failing { failing_calls self.new ≡ failing_calls self.old }
         ensures next { next_call self.new ≡ next_call self.old }
-        ensures write_faults { (files_of self.new).write_faults ≡ (files_of self.old).write_faults }
+        ensures faults { NoWriteFails (files_of self.old) (files_of self.new) }
         ensures others { ChangesOnly name.now (files_of self.old) (files_of self.new) }
         ensures err { OnErr result (files_of self.new ≡ files_of self.old) }
     {
@@ -124,7 +113,7 @@ impl Desk for MemoryDesk {
             Gives source at buffer.new count)) }
         ensures found { OnOk result (IsThere (files_of self.old) name.now) }
         ensures ok { OnOk result (files_of self.new ≡ files_of self.old) }
-        ensures err { OnErr result (ReadFails (files_of self.old) (files_of self.new)) }
+        ensures err { OnErr result (ReadFails name.now (files_of self.old) (files_of self.new)) }
         // What the trait does not say: as many bytes as there are come, and a read of a file that
         // is there fails only by the list.
         ensures whole { IfOk result (λ count. IfSome ((files_of self.old).holds name.now) (λ source.
@@ -137,13 +126,13 @@ impl Desk for MemoryDesk {
         ensures counted { Counts self.old self.new }
     {
         if self.next_fails() {
-            self.read_faults = risen(self.read_faults);
+            self.reads.add(name);
             return Err(Failed);
         }
         match self.files.get(name) {
             Some(text) => Ok(copy_part(text, at, buffer)),
             None => {
-                self.read_faults = risen(self.read_faults);
+                self.reads.add(name);
                 Err(Failed)
             }
         }
@@ -151,10 +140,9 @@ impl Desk for MemoryDesk {
 
     fn create(&mut self, name: &str) -> Result<(), Failed>
         ensures empty { OnOk result (IsWritten (files_of self.new) name.now []) }
-        ensures ok { OnOk result
-            ((files_of self.new).write_faults ≡ (files_of self.old).write_faults) }
+        ensures ok { OnOk result (NoWriteFails (files_of self.old) (files_of self.new)) }
         ensures others { ChangesOnly name.now (files_of self.old) (files_of self.new) }
-        ensures err { OnErr result (WriteFails (files_of self.old) (files_of self.new)) }
+        ensures err { OnErr result (WriteFails name.now (files_of self.old) (files_of self.new)) }
         // What the trait does not say.
         ensures told { OnOk result ((files_of self.new).written name.now ≡ Some []) }
         ensures planned { IsTrue (fails_now self.old) → IsErr result }
@@ -164,7 +152,7 @@ impl Desk for MemoryDesk {
         if !self.next_fails() && put_text(alloc, &mut self.files, name, Vec::new(alloc)).is_ok() {
             return Ok(());
         }
-        self.write_faults = risen(self.write_faults);
+        self.writes.add(name);
         Err(Failed)
     }
 
@@ -173,10 +161,9 @@ impl Desk for MemoryDesk {
         ensures some { IfOk result (λ count. 0 < length bytes.now → 0 < count) }
         ensures appended { IfOk result (λ count. (files_of self.new).written name.now
             ≡ with_piece ((files_of self.old).written name.now) (take count bytes.now)) }
-        ensures ok { OnOk result
-            ((files_of self.new).write_faults ≡ (files_of self.old).write_faults) }
+        ensures ok { OnOk result (NoWriteFails (files_of self.old) (files_of self.new)) }
         ensures others { ChangesOnly name.now (files_of self.old) (files_of self.new) }
-        ensures err { OnErr result (WriteFails (files_of self.old) (files_of self.new)) }
+        ensures err { OnErr result (WriteFails name.now (files_of self.old) (files_of self.new)) }
         // What the trait does not say: the whole piece is taken, of a file that is there.
         ensures whole { IfOk result (λ count. count ≡ length bytes.now) }
         ensures there { OnOk result (IsSome ((files_of self.old).written name.now)) }
@@ -184,16 +171,14 @@ impl Desk for MemoryDesk {
         ensures counted { Counts self.old self.new }
     {
         if self.next_fails() {
-            self.write_faults = risen(self.write_faults);
+            self.writes.add(name);
             return Err(Failed);
         }
-        match append(self.alloc, &mut self.files, name, bytes) {
-            Ok(()) => Ok(bytes.len()),
-            Err(Failed) => {
-                self.write_faults = risen(self.write_faults);
-                Err(Failed)
-            }
+        if let Err(failed) = append(self.alloc, &mut self.files, name, bytes) {
+            self.writes.add(name);
+            return Err(failed);
         }
+        Ok(bytes.len())
     }
 
     fn say(&mut self, text: &[u8]) {
@@ -254,16 +239,11 @@ fn append(
     ensures err { OnErr result (texts_of files.new ≡ texts_of files.old) }
 {
     let longer = match files.get(name) {
-        Some(text) => joined(alloc, text, bytes),
+        Some(text) => joined(alloc, text, bytes)?,
         None => return Err(Failed),
     };
-    match longer {
-        Ok(text) => match put_text(alloc, files, name, text) {
-            Ok(()) => Ok(()),
-            Err(_) => Err(Failed),
-        },
-        Err(_) => Err(Failed),
-    }
+    put_text(alloc, files, name, longer)?;
+    Ok(())
 }
 
 // The text with the bytes behind it.

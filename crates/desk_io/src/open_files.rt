@@ -1,34 +1,42 @@
 //! The files that the desk over real files keeps open.
-ghost use Rattle.std.specs.Prelude.{◌<◌, ◌≤◌, length, IfOk};
+//!
+//! 1. One source at most is open, at the place that was reached: a source that is read in pieces is
+//!    opened once.
+//! 2. One sink at most is open, from the call that creates it to the end of the call that writes it.
+//!    It is closed there, so that what a close loses, as over a quota, is a failed write.
+//! 3. A file is created only once the files before it are closed.
+//! 4. A call that a signal interrupts is made again.
+ghost use Rattle.std.specs.Prelude.{◌≤◌, ◌≢◌, length, IfOk, IfErr};
+ghost use Rattle.std.specs.IoError.{error_kind};
+ghost use Rattle.std.specs.declared.io.ErrorKind.{ErrorKind};
 
 use std::alloc::Global;
-use std::fs::OpenOptions;
-use std::io::{Read, Seek, SeekFrom, Write};
+use std::fs::{File, OpenOptions};
+use std::io::{ErrorKind, Read, Seek, SeekFrom, Write};
+use std::os::fd::IntoRawFd;
 use std::rt::Files;
 use std::{fs, io};
 
-/// The file that was read last, at the place that was reached, and the one that was created last.
-/// So a source that is read in pieces is opened once, and so is a sink.
 #[derive(Drop)]
-pub(crate) struct OpenFiles<R: Files> {
+pub(crate) struct OpenFiles<R: Files<File = File>> {
     alloc: Global,
     pub(crate) rt: R,
-    source: Option<OpenFile<R::File>>,
+    source: Option<OpenFile>,
     // the place in the source that was reached
     reached: u64,
-    sink: Option<OpenFile<R::File>>,
+    sink: Option<OpenFile>,
 }
 
 // A file that is kept open, for the calls on its name.
 #[derive(Drop)]
-struct OpenFile<F> {
+struct OpenFile {
     // None: memory for the name was refused, so no call finds the file by it
     name: Option<String>,
-    file: F,
+    file: File,
 }
 
-impl<F> OpenFile<F> {
-    fn new(alloc: Global, name: &str, file: F) -> OpenFile<F> {
+impl OpenFile {
+    fn new(alloc: Global, name: &str, file: File) -> OpenFile {
         OpenFile {
             name: String::from_str(alloc, name).ok(),
             file,
@@ -41,9 +49,18 @@ impl<F> OpenFile<F> {
             None => false,
         }
     }
+
+    // Closes the file. A `File` that is dropped closes too, and no one learns whether that failed.
+    fn close(self) -> io::Result<()> {
+        let OpenFile { name: _, file } = self;
+        if libc::close(file.into_raw_fd()) < 0 {
+            return Err(io::Error::from(ErrorKind::Other));
+        }
+        Ok(())
+    }
 }
 
-impl<R: Files> OpenFiles<R> {
+impl<R: Files<File = File>> OpenFiles<R> {
     pub(crate) fn new(alloc: Global, rt: R) -> OpenFiles<R> {
         OpenFiles {
             alloc,
@@ -58,32 +75,29 @@ impl<R: Files> OpenFiles<R> {
         ensures { IfOk result (λ count. count ≤ length buffer.old) }
     {
         let mut source = self.take_source(name, at)?;
-        let count = source.file.read(buffer)?;
+        let count = read_again(&mut source.file, buffer)?;
         self.source = Some(source);
         self.reached = at.saturating_add(count as u64);
         Ok(count)
     }
 
     pub(crate) fn create(&mut self, name: &str) -> io::Result<()> {
+        self.source = None;
+        self.sink = None;
         let file = fs::create(&self.rt, name)?;
         self.sink = Some(OpenFile::new(self.alloc, name, file));
         Ok(())
     }
 
-    pub(crate) fn write(&mut self, name: &str, bytes: &[u8]) -> io::Result<usize>
-        ensures { IfOk result (λ count. (0 < count) × (count ≤ length bytes.now)) }
-    {
+    // Writes all of the bytes. Where no byte is taken, that is a failure.
+    pub(crate) fn write(&mut self, name: &str, bytes: &[u8]) -> io::Result<()> {
         let mut sink = self.take_sink(name)?;
-        let count = sink.file.write(bytes)?;
-        self.sink = Some(sink);
-        if count == 0 {
-            return Err(io::Error::from(io::ErrorKind::WriteZero));
-        }
-        Ok(count)
+        sink.file.write_all(bytes)?;
+        sink.close()
     }
 
     // The source at this place, as it was kept or opened anew.
-    fn take_source(&mut self, name: &str, at: u64) -> io::Result<OpenFile<R::File>> {
+    fn take_source(&mut self, name: &str, at: u64) -> io::Result<OpenFile> {
         if let Some(source) = self.source.take() {
             if self.reached == at && source.is_named(name) {
                 return Ok(source);
@@ -97,7 +111,7 @@ impl<R: Files> OpenFiles<R> {
     }
 
     // The sink at its end, as it was kept or opened anew.
-    fn take_sink(&mut self, name: &str) -> io::Result<OpenFile<R::File>> {
+    fn take_sink(&mut self, name: &str) -> io::Result<OpenFile> {
         if let Some(sink) = self.sink.take() {
             if sink.is_named(name) {
                 return Ok(sink);
@@ -106,4 +120,18 @@ impl<R: Files> OpenFiles<R> {
         let file = OpenOptions::new().append(true).open(&self.rt, name)?;
         Ok(OpenFile::new(self.alloc, name, file))
     }
+}
+
+// Reads once, and again where a signal interrupts it.
+fn read_again(file: &mut File, buffer: &mut [u8]) -> io::Result<usize>
+    ensures bound { IfOk result (λ count. count ≤ length buffer.old) }
+    ensures again { IfErr result (λ error. error_kind error ≢ ErrorKind.Interrupted) }
+{
+    for _ in 0..u64::MAX {
+        match file.read(buffer) {
+            Err(error) if error.kind() == ErrorKind::Interrupted => {}
+            answer => return answer,
+        }
+    }
+    Err(io::Error::from(ErrorKind::TimedOut))
 }

@@ -1,8 +1,8 @@
 //! A text that is written whole, in pieces.
 ghost use Rattle.std.specs.Prelude.{◌≡◌, OnOk, OnErr};
-ghost use Rattle.desk_io.specs.Files.{ChangesOnly, IsWritten, SinkFails};
+ghost use Rattle.desk_io.specs.Files.{NoWriteFails, ChangesOnly, IsWritten, SinkFails};
 
-use crate::desk::Desk;
+use crate::desk::{Desk, Failed};
 use thiserror::Error;
 
 /// A text was not written whole.
@@ -10,25 +10,25 @@ use thiserror::Error;
 #[error("the file cannot be written")]
 pub struct WriteFault;
 
+impl From<Failed> for WriteFault {
+    fn from(_: Failed) -> WriteFault {
+        WriteFault
+    }
+}
+
 /// Creates the file and writes the bytes to it. No memory is taken. An empty text is created, with
 /// no call that writes.
 pub fn write_sink<D: Desk>(desk: &mut D, name: &str, bytes: &[u8]) -> Result<(), WriteFault>
     ensures written { OnOk result (IsWritten (D.files desk.new) name.now bytes.now) }
-    ensures ok { OnOk result ((D.files desk.new).write_faults ≡ (D.files desk.old).write_faults) }
+    ensures ok { OnOk result (NoWriteFails (D.files desk.old) (D.files desk.new)) }
     ensures others { ChangesOnly name.now (D.files desk.old) (D.files desk.new) }
     ensures err { OnErr result
         (SinkFails name.now bytes.now (D.files desk.old) (D.files desk.new)) }
 {
-    match desk.create(name) {
-        Ok(()) => {}
-        Err(_) => return Err(WriteFault),
-    }
+    desk.create(name)?;
     let mut taken = 0;
     'pieces: while taken < bytes.len() {
-        match desk.write(name, &bytes[taken..]) {
-            Ok(count) => taken += count,
-            Err(_) => return Err(WriteFault),
-        }
+        taken += desk.write(name, &bytes[taken..])?;
     }
     Ok(())
 }

@@ -3,10 +3,13 @@ ghost use Rattle.std.specs.Prelude.{◌≡◌, ◌+◌, ◌<◌, ◌≤◌, leng
 ghost use Rattle.desk_io.specs.Files.{IsSource, IsFront};
 ghost use Rattle.desk_io.specs.Refusals.{IsRefused, Reads};
 
-use crate::bytes::Bytes;
-use crate::desk::Desk;
+use crate::desk::{Desk, Failed};
+use items::Items;
 use std::alloc::{AllocError, Global};
 use thiserror::Error;
+
+/// A list of bytes, as a source that was read whole.
+pub type Bytes = Items<u8>;
 
 /// How many bytes one call of the desk reads at most: enough that the calls cost little, and little
 /// enough that the buffer fits the processor's cache.
@@ -21,6 +24,26 @@ pub enum SourceRefusal {
     TooLong,
     #[error("out of memory")]
     NoMemory,
+}
+
+impl From<Failed> for SourceRefusal {
+    ghost use Rattle.desk_io.specs.declared.source.SourceRefusal.TheVariants as refusals;
+
+    ghost from_gives = { λ _ e. e ≡ refusals.ReadFault };
+
+    fn from(_: Failed) -> SourceRefusal {
+        SourceRefusal::ReadFault
+    }
+}
+
+impl From<AllocError> for SourceRefusal {
+    ghost use Rattle.desk_io.specs.declared.source.SourceRefusal.TheVariants as refusals;
+
+    ghost from_gives = { λ _ e. e ≡ refusals.NoMemory };
+
+    fn from(_: AllocError) -> SourceRefusal {
+        SourceRefusal::NoMemory
+    }
 }
 
 // What one turn of the reading found.
@@ -43,16 +66,12 @@ pub fn read_source<D: Desk>(
     ensures refused { IfErr result
         (IsRefused name.now limit (D.files desk.old) (D.files desk.new)) }
 {
-    let mut buffer = match buffer_of(alloc, PIECE) {
-        Ok(buffer) => buffer,
-        Err(_) => return Err(SourceRefusal::NoMemory),
-    };
+    let mut buffer = buffer_of(alloc, PIECE)?;
     let mut bytes = Vec::new(alloc);
     'pieces: loop {
-        match read_piece(desk, name, limit, buffer.as_mut_slice(), &mut bytes) {
-            Ok(Piece::Taken) => {}
-            Ok(Piece::End) => return Ok(Bytes::from_vec(bytes)),
-            Err(refusal) => return Err(refusal),
+        match read_piece(desk, name, limit, buffer.as_mut_slice(), &mut bytes)? {
+            Piece::Taken => {}
+            Piece::End => return Ok(Items::from_vec(bytes)),
         }
     }
 }
@@ -84,20 +103,15 @@ fn read_piece<D: Desk>(
     let at = bytes.len() as u64;
     let room = limit - at;
     let most = piece_len(buffer.len(), room);
-    let count = match desk.read(name, at, &mut buffer[..most]) {
-        Ok(count) => count,
-        Err(_) => return Err(SourceRefusal::ReadFault),
-    };
+    let count = desk.read(name, at, &mut buffer[..most])?;
     if count == 0 {
         return Ok(Piece::End);
     }
     if count as u64 > room {
         return Err(SourceRefusal::TooLong);
     }
-    match bytes.extend_from_slice(&buffer[..count]) {
-        Ok(()) => Ok(Piece::Taken),
-        Err(_) => Err(SourceRefusal::NoMemory),
-    }
+    bytes.extend_from_slice(&buffer[..count])?;
+    Ok(Piece::Taken)
 }
 
 // How many bytes the next call asks for: one beyond the limit shows that a source is too long.

@@ -1,43 +1,47 @@
 //! The desk over real files and standard output.
-ghost use Rattle.std.specs.Prelude.{◌≡◌};
+ghost use Rattle.std.specs.Prelude.{◌≡◌, None};
+ghost use Rattle.desk_io.specs.Faults.{last_name};
 ghost use Rattle.desk_io.specs.Files.{nothing_told};
 
 use crate::desk::{Desk, Failed};
-use crate::faults::risen;
+use crate::faults::Faults;
 use crate::open_files::OpenFiles;
 use std::alloc::Global;
+use std::fs::File;
 use std::rt::Files;
 
 /// Files of the file system, and standard output. Nothing is told of what they hold.
 ///
-/// A folder is not read, and a write of 0 bytes is a failure. A text that cannot be said is lost.
+/// A folder is not read, and a text that cannot be said is lost. A write is of the whole piece, and
+/// the file is closed with it: where that fails, some of the piece may have been written.
 #[derive(Drop)]
-pub struct StdDesk<R: Files> {
+pub struct StdDesk<R: Files<File = File>> {
     files: OpenFiles<R>,
-    read_faults: u64,
-    write_faults: u64,
+    reads: Faults,
+    writes: Faults,
 }
 
-impl<R: Files + Print> StdDesk<R> {
+impl<R: Files<File = File> + Print> StdDesk<R> {
     pub fn new(alloc: Global, rt: R) -> StdDesk<R>
-        ensures { ⟦<StdDesk<R> as Desk>⟧.files result ≡ nothing_told 0 0 }
+        ensures { ⟦<StdDesk<R> as Desk>⟧.files result ≡ nothing_told 0 None 0 None }
     {
         StdDesk {
             files: OpenFiles::new(alloc, rt),
-            read_faults: 0,
-            write_faults: 0,
+            reads: Faults::new(alloc),
+            writes: Faults::new(alloc),
         }
     }
 }
 
-impl<R: Files + Print> Desk for StdDesk<R> {
-    ghost files = { λ desk. nothing_told desk.read_faults desk.write_faults };
+impl<R: Files<File = File> + Print> Desk for StdDesk<R> {
+    ghost files = { λ desk. nothing_told desk.reads.count (last_name desk.reads)
+        desk.writes.count (last_name desk.writes) };
 
     fn read(&mut self, name: &str, at: u64, buffer: &mut [u8]) -> Result<usize, Failed> {
         match self.files.read(name, at, buffer) {
             Ok(count) => Ok(count),
             Err(_) => {
-                self.read_faults = risen(self.read_faults);
+                self.reads.add(name);
                 Err(Failed)
             }
         }
@@ -47,7 +51,7 @@ impl<R: Files + Print> Desk for StdDesk<R> {
         match self.files.create(name) {
             Ok(()) => Ok(()),
             Err(_) => {
-                self.write_faults = risen(self.write_faults);
+                self.writes.add(name);
                 Err(Failed)
             }
         }
@@ -55,9 +59,9 @@ impl<R: Files + Print> Desk for StdDesk<R> {
 
     fn write(&mut self, name: &str, bytes: &[u8]) -> Result<usize, Failed> {
         match self.files.write(name, bytes) {
-            Ok(count) => Ok(count),
+            Ok(()) => Ok(bytes.len()),
             Err(_) => {
-                self.write_faults = risen(self.write_faults);
+                self.writes.add(name);
                 Err(Failed)
             }
         }
