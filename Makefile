@@ -1,44 +1,44 @@
-# teseo: `make demo` shows a run, `make test` is the gate. The toolchain's command `rt` must be on PATH.
+# The toolchain's command `rt` must be on PATH.
 
 PREFIX ?= /usr/local
 PROGRAM = crates/teseo/out/teseo
+ARCHIVE = teseo-$(shell git rev-parse --short HEAD).tar.gz
 
-.PHONY: build demo test bench install clean
+.PHONY: help demo build install uninstall test bench dist clean
 
-# Proves the program and builds it to $(PROGRAM). `rt run` builds a program only to run it, so it runs on the
-# stored example, with all that it writes in a temporary folder.
+help:
+	@echo 'make demo       runs the example, checked and not proved, in half a minute'
+	@echo 'make build      proves and builds the program: 6 to 20 minutes the first time'
+	@echo 'make install    builds, and puts teseo into PREFIX/bin (PREFIX=$(PREFIX))'
+	@echo 'make uninstall  removes it from there'
+	@echo 'make test       the gate: proves every crate from nothing, and runs all tests (an hour)'
+	@echo 'make bench      builds, and prints a table of times and of memory (some minutes)'
+	@echo 'make dist       packs the last commit into teseo-COMMIT.tar.gz'
+	@echo 'make clean      removes all that was built'
+
+demo:
+	@examples/first/demo.sh
+
 build:
-	@work=$$(mktemp -d) && trap 'rm -rf "$$work"' EXIT && \
-	sed "s|^bfs 1 o$$|bfs 1 $$work/o|" crates/teseo/data/s1 >"$$work/s1" && cp crates/teseo/data/[ve] "$$work" && \
-	cd crates/teseo && \
-	rt run -- run --vertices "$$work/v" --edges "$$work/e" --journal "$$work/j" "$$work/s1"
+	@echo 'Proving and building takes 6 to 20 minutes the first time, and seconds where nothing changed.'
+	@.ci/build
 
-# Runs the first example on a copy in a temporary folder, so that nothing is left behind.
-demo: build
-	@program=$(CURDIR)/$(PROGRAM); \
-	work=$$(mktemp -d) && trap 'rm -rf "$$work"' EXIT && \
-	cp examples/first/network.v examples/first/network.e examples/first/first.script "$$work" && cd "$$work" && \
-	echo && echo '== The command' && \
-	echo 'teseo run --vertices network.v --edges network.e --journal journal first.script' && \
-	echo && echo '== What it says' && \
-	"$$program" run --vertices network.v --edges network.e --journal journal first.script && \
-	echo && echo '== The result: station, hops' && cat hops && \
-	echo && echo '== The report' && cat first.script.report && \
-	echo && echo '== The journal' && cat journal
-
-# Proves each crate, and runs the tests and the stored runs.
-test:
-	rt ci
-
-# Builds the program, and prints a table of times and of memory. Takes some minutes.
-bench:
-	bench/run.sh
-
-# make install PREFIX=FOLDER puts the program into FOLDER/bin.
 install: build
 	install -d $(DESTDIR)$(PREFIX)/bin
 	install -m 755 $(PROGRAM) $(DESTDIR)$(PREFIX)/bin/teseo
 
-# Removes all that was built. The next build proves each crate again.
+uninstall:
+	rm -f $(DESTDIR)$(PREFIX)/bin/teseo
+
+test:
+	.ci/run
+
+bench:
+	bench/run.sh
+
+dist:
+	git archive --prefix=$(ARCHIVE:.tar.gz=)/ -o $(ARCHIVE) HEAD
+	@echo $(ARCHIVE)
+
 clean:
-	rm -rf crates/*/out
+	rm -rf crates/*/out teseo-*.tar.gz
