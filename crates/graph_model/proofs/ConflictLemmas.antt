@@ -8,7 +8,6 @@ use Rattle.graph_model.specs.declared.write.Kind.{Kind}
 use Rattle.graph_model.specs.declared.write.Write.{Write}
 use Rattle.graph_model.specs.declared.journal.Commit.{Commit}
 use Rattle.graph_model.specs.declared.journal.TxnName.{TxnName}
-use Rattle.graph_model.specs.declared.refusal.Cause.{Cause}
 use Rattle.graph_model.specs.declared.refusal.Cause.TheVariants.{Later, Holder}
 use Rattle.graph_model.specs.Conflict.{meets, later, OpenTxn, same_name, with_lesser_job, least_job, holder, with_greater, greatest, newest_later, cause_of, conflict}
 use Rattle.graph_model.specs.ConflictLaws.{NoHolder, NoLater, IsHolder, IsLater}

@@ -20,7 +20,8 @@ list_all-same : (p q : ℕ → Bool) → ((x : ℕ) → p x ≡ q x) → (xs : L
 list_all-same p q same [] = refl
 list_all-same p q same (x ∷ xs) = λ i. same x i && list_all-same p q same xs i
 
-map-same : (f h : ℕ → ℕ) → ((x : ℕ) → f x ≡ h x) → (xs : List ℕ) → map f xs ≡ map h xs
+-- functions that agree give one list
+pub map-same : (f h : ℕ → ℕ) → ((x : ℕ) → f x ≡ h x) → (xs : List ℕ) → map f xs ≡ map h xs
 map-same f h same [] = refl
 map-same f h same (x ∷ xs) = λ i. same x i ∷ map-same f h same xs i
 

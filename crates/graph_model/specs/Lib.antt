@@ -19,3 +19,5 @@ pub mod ConflictLaws
 pub mod RowLaws
 pub mod KernelLaws
 pub mod Examples
+pub mod JournalExamples
+pub mod KernelExamples

@@ -1,6 +1,8 @@
 //! Laws that show that the definitions mean what they say. Each is a function whose contract is the law.
 
-ghost use Rattle.graph_model.specs.Examples.{ClashExamples, RefusalExamples, ViewExamples, ConflictExamples, CountExamples, RowExamples, LabelExamples, TableExample};
+ghost use Rattle.graph_model.specs.Examples.{ClashExamples, RefusalExamples, AllowedExamples, LimitExamples, EffectExamples, SoundExamples, CountExamples, RowExamples};
+ghost use Rattle.graph_model.specs.JournalExamples.{LegalExamples, IllegalExamples, ViewExamples, ConflictExamples, AccountExamples};
+ghost use Rattle.graph_model.specs.KernelExamples.{SearchExamples, PathExamples, ComponentExamples, LabelExamples, TextExamples};
 ghost use Rattle.graph_model.specs.WriteLaws.{KeepsBothEnds, KeepsSymmetric, WritesCommute, StaysAllowed, ClashIsSymmetric, ListsCommute, ListsStayAllowed, WriteByKey, WritesByKey, TouchesAreOfVertices, ClashIsByRow};
 ghost use Rattle.graph_model.specs.JournalLaws.{PrefixIsLegal, LegalHasBothEnds, PrefixHasItsGraphs, NoCommitIsLegal, OneCommitMore, CommitsAreSerial, EndsFollow, StartIsEnough, ViewIsSymmetric, ViewIsBounded, ViewHasNoLoops, ViewHasBothEnds};
 ghost use Rattle.graph_model.specs.ConflictLaws.{NoConflict, NamesLeastJob, NamesNewest};
@@ -118,14 +120,32 @@ pub fn tables_are_determined()
     ensures { OneTable }
 {}
 
-/// Worked examples of the definitions, with values reckoned by hand.
+/// Worked examples of writes and of rows, with values reckoned by hand.
 pub fn examples_hold()
     ensures clashes { ClashExamples }
     ensures refusals { RefusalExamples }
-    ensures views { ViewExamples }
-    ensures conflicts { ConflictExamples }
+    ensures allowed { AllowedExamples }
+    ensures limits { LimitExamples }
+    ensures effects { EffectExamples }
+    ensures sound { SoundExamples }
     ensures counts { CountExamples }
     ensures rows { RowExamples }
+{}
+
+/// Worked examples of journals, and of what transactions see and meet.
+pub fn journal_examples_hold()
+    ensures legal { LegalExamples }
+    ensures illegal { IllegalExamples }
+    ensures views { ViewExamples }
+    ensures conflicts { ConflictExamples }
+    ensures accounts { AccountExamples }
+{}
+
+/// Worked examples of the kernels' tables on small graphs.
+pub fn kernel_examples_hold()
+    ensures searches { SearchExamples }
+    ensures paths { PathExamples }
+    ensures components { ComponentExamples }
     ensures labels { LabelExamples }
-    ensures text { TableExample }
+    ensures text { TextExamples }
 {}

@@ -15,9 +15,10 @@ pub use items::NoMemory;
 pub use journal::{Begun, Commit, Journal, RoomyJournal, TxnName};
 pub use laws::{
     apart_writes_commute, commits_are_serial, components_are_least_vertices, conflicts_have_causes,
-    examples_hold, journals_grow_by_commits, labels_follow_neighbours, least_walks_are_distances,
-    prefixes_are_legal, rows_are_of_the_graph, tables_are_determined, views_are_sound,
-    walks_have_their_forms, writes_are_by_key, writes_keep_graphs_sound,
+    examples_hold, journal_examples_hold, journals_grow_by_commits, kernel_examples_hold,
+    labels_follow_neighbours, least_walks_are_distances, prefixes_are_legal, rows_are_of_the_graph,
+    tables_are_determined, views_are_sound, walks_have_their_forms, writes_are_by_key,
+    writes_keep_graphs_sound,
 };
 pub use limits::{
     LEAF_SEGMENTS, MAX_BEGINS, MAX_ID, MAX_LEAVES, MAX_LOAD_ROWS, MAX_PASSES, MAX_ROUNDS,

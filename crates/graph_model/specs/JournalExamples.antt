@@ -1,0 +1,119 @@
+-- Worked examples of journals, and of what transactions see and meet.
+use Rattle.std.specs.Prelude.{◌≡◌, ℕ, true, false, List, [], ◌∷◌, ◌++◌, Some, None}
+use Rattle.graph_model.specs.declared.write.Kind.TheVariants.{Undirected}
+use Rattle.graph_model.specs.declared.write.Write.{Write}
+use Rattle.graph_model.specs.declared.write.Write.TheVariants.{AddVertex, DropVertex, AddEdge, SetEdge, DropEdge}
+use Rattle.graph_model.specs.declared.journal.Commit.{Commit}
+use Rattle.graph_model.specs.declared.journal.TxnName.{TxnName}
+use Rattle.graph_model.specs.declared.refusal.Cause.TheVariants.{Later, Holder}
+use Rattle.graph_model.specs.Graph.{has_vertex, weight_of}
+use Rattle.graph_model.specs.History.{view}
+use Rattle.graph_model.specs.Legal.{IsLegal}
+use Rattle.graph_model.specs.Conflict.{later, OpenTxn, least_job, holder, greatest, newest_later, conflict}
+use Rattle.graph_model.specs.Account.{Account, IsValid}
+use Rattle.graph_model.specs.Examples.{load}
+
+abbrev pub name : ℕ → ℕ → TxnName
+name job number = record { job = job; number = number }
+
+abbrev pub commit : ℕ → ℕ → TxnName → List Write → Commit
+commit stamp start by writes = record { stamp = stamp; start = start; by = by; writes = writes }
+
+-- the load, and then a transaction that sets the weight of one edge
+abbrev pub journal : List Commit
+journal = commit 1 0 (name 0 1) load ∷ commit 2 1 (name 1 1) (SetEdge 1 2 9 ∷ []) ∷ []
+
+-- the journal, and a third commit
+abbrev pub then_commit : ℕ → ℕ → TxnName → List Write → List Commit
+then_commit stamp start by writes = journal ++ commit stamp start by writes ∷ []
+
+pub record LegalExamples : Type 0 where
+  pub legal : IsLegal Undirected journal
+  -- another transaction that began as early, and wrote something else
+  pub overlaps_apart : IsLegal Undirected (then_commit 3 1 (name 2 1) (SetEdge 2 3 8 ∷ []))
+  -- one that writes the same edge, and began when the other had committed
+  pub follows : IsLegal Undirected (then_commit 3 2 (name 2 1) (SetEdge 2 1 8 ∷ []))
+
+-- journals with one part of a legal one broken
+pub record IllegalExamples : Type 0 where
+  -- it sets an edge that another has set since its start
+  pub overlaps : IsLegal Undirected (then_commit 3 1 (name 2 1) (SetEdge 2 1 8 ∷ [])) → ⊥
+  pub commits_twice : IsLegal Undirected (then_commit 3 2 (name 1 1) (SetEdge 2 1 8 ∷ [])) → ⊥
+  pub writes_nothing : IsLegal Undirected (then_commit 3 2 (name 2 1) []) → ⊥
+  pub skips_a_stamp : IsLegal Undirected (then_commit 4 2 (name 2 1) (SetEdge 2 1 8 ∷ [])) → ⊥
+  pub starts_at_itself : IsLegal Undirected (then_commit 3 3 (name 2 1) (SetEdge 2 1 8 ∷ [])) → ⊥
+  -- vertex 5 is there when it commits, and wasn't when it began
+  pub not_on_its_snapshot : IsLegal Undirected (commit 1 0 (name 0 1) load ∷ commit 2 1 (name 1 1) (AddVertex 5 ∷ []) ∷ commit 3 1 (name 2 1) (AddEdge 4 5 1 ∷ []) ∷ []) → ⊥
+  pub refused_by_its_snapshot : IsLegal Undirected (then_commit 3 2 (name 2 1) (SetEdge 2 2 8 ∷ [])) → ⊥
+  pub too_great_an_id : IsLegal Undirected (then_commit 3 2 (name 2 1) (AddVertex 9223372036854775807 ∷ [])) → ⊥
+  pub too_heavy : IsLegal Undirected (then_commit 3 2 (name 2 1) (SetEdge 2 1 4294967296 ∷ [])) → ⊥
+
+pub record ViewExamples : Type 0 where
+  -- the snapshot at the load has the old weight, whoever committed since
+  pub old_weight : weight_of (view Undirected journal 1 []) 1 2 ≡ Some 1
+  pub new_weight : weight_of (view Undirected journal 2 []) 2 1 ≡ Some 9
+  pub nothing_yet : has_vertex (view Undirected journal 0 []) 1 ≡ false
+  -- its own writes are seen on it, both ways
+  pub own : weight_of (view Undirected journal 1 (AddEdge 1 4 1 ∷ [])) 4 1 ≡ Some 1
+  pub own_dropped : weight_of (view Undirected journal 1 (DropEdge 1 2 ∷ [])) 2 1 ≡ None
+  pub own_vertex : has_vertex (view Undirected journal 1 (AddVertex 5 ∷ [])) 5 ≡ true
+  pub own_removed : has_vertex (view Undirected journal 2 (DropVertex 4 ∷ [])) 4 ≡ false
+  -- the last of its own writes counts
+  pub last_of_its_own : weight_of (view Undirected journal 2 (SetEdge 1 2 7 ∷ SetEdge 2 1 6 ∷ [])) 1 2 ≡ Some 6
+
+-- an open transaction with one write
+abbrev pub open_txn : ℕ → Write → OpenTxn
+open_txn job w = record { by = name job 1; writes = w ∷ [] }
+
+-- the edge was set twice since the load
+abbrev pub set_twice : List Commit
+set_twice = then_commit 3 2 (name 2 1) (SetEdge 2 1 8 ∷ [])
+
+pub record ConflictExamples : Type 0 where
+  pub met_later : later Undirected set_twice 1 (SetEdge 2 1 5) ≡ 2 ∷ 3 ∷ []
+  pub not_at_its_start : later Undirected set_twice 2 (SetEdge 2 1 5) ≡ 3 ∷ []
+  pub not_clashing : later Undirected set_twice 0 (SetEdge 1 3 5) ≡ []
+  pub newest : newest_later Undirected set_twice 1 (SetEdge 2 1 5) ≡ Some 3
+  pub no_newest : newest_later Undirected set_twice 3 (SetEdge 2 1 5) ≡ None
+  pub greatest_first : greatest (9 ∷ 2 ∷ 4 ∷ []) ≡ Some 9
+  pub greatest_between : greatest (2 ∷ 9 ∷ 4 ∷ []) ≡ Some 9
+  pub greatest_last : greatest (2 ∷ 4 ∷ 9 ∷ []) ≡ Some 9
+  -- of two that clash the one with the lesser job, wherever it stands
+  pub lesser_job_first : holder Undirected (open_txn 2 (AddEdge 1 4 1) ∷ open_txn 3 (AddEdge 2 4 1) ∷ []) (name 1 1) (DropVertex 4) ≡ Some (name 2 1)
+  pub lesser_job_last : holder Undirected (open_txn 3 (AddEdge 2 4 1) ∷ open_txn 2 (AddEdge 1 4 1) ∷ []) (name 1 1) (DropVertex 4) ≡ Some (name 2 1)
+  pub least_between : least_job (name 4 1 ∷ name 2 1 ∷ name 3 1 ∷ []) ≡ Some (name 2 1)
+  pub not_itself : holder Undirected (open_txn 1 (AddEdge 1 4 1) ∷ []) (name 1 1) (DropVertex 4) ≡ None
+  pub another_of_its_job : holder Undirected (open_txn 1 (AddEdge 1 4 1) ∷ []) (name 1 2) (DropVertex 4) ≡ Some (name 1 1)
+  pub no_holder : holder Undirected (open_txn 2 (AddEdge 1 4 1) ∷ []) (name 1 1) (DropVertex 3) ≡ None
+  -- an open transaction is named before a later commit
+  pub both : conflict Undirected set_twice (open_txn 4 (DropEdge 1 2) ∷ []) (name 3 1) 1 (SetEdge 2 1 5) ≡ Some (Holder (name 4 1))
+  pub later_alone : conflict Undirected set_twice (open_txn 4 (DropEdge 2 3) ∷ []) (name 3 1) 1 (SetEdge 2 1 5) ≡ Some (Later 3)
+  pub neither : conflict Undirected set_twice (open_txn 4 (DropEdge 2 3) ∷ []) (name 3 1) 3 (SetEdge 2 1 5) ≡ None
+
+-- a pass whose first transaction wrote nothing, and whose second has added an edge so far
+abbrev pub account : Account
+account = record {
+  job = 2;
+  kind = Undirected;
+  leaves = 4;
+  seen = journal;
+  made = [] ∷ (AddEdge 1 4 1 ∷ []) ∷ [];
+  sighted = [];
+  start = Some 1;
+  own = AddEdge 1 4 1 ∷ [];
+  filled = false;
+  begun = 2;
+  allowed = 5;
+}
+
+pub record AccountExamples : Type 0 where
+  pub valid : IsValid account
+  pub ended : IsValid (record account { start = None; own = [] })
+  pub own_where_none_is_open : IsValid (record account { start = None }) → ⊥
+  pub own_not_made : IsValid (record account { own = [] }) → ⊥
+  pub begun_not_made : IsValid (record account { begun = 3 }) → ⊥
+  pub more_than_allowed : IsValid (record account { allowed = 1 }) → ⊥
+  pub start_not_seen : IsValid (record account { start = Some 3 }) → ⊥
+  pub not_on_its_snapshot : IsValid (record account { own = AddEdge 1 9 1 ∷ []; made = [] ∷ (AddEdge 1 9 1 ∷ []) ∷ [] }) → ⊥
+  pub too_heavy : IsValid (record account { own = AddEdge 1 4 4294967296 ∷ []; made = [] ∷ (AddEdge 1 4 4294967296 ∷ []) ∷ [] }) → ⊥
+  pub seen_not_legal : IsValid (record account { seen = then_commit 3 1 (name 2 1) (SetEdge 2 1 8 ∷ []) }) → ⊥
