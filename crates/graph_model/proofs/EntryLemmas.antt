@@ -28,6 +28,7 @@ no_items : {A : Type 0} (xs : List A) → length xs ≡ 0 → xs ≡ []
 no_items [] e = refl
 no_items (x ∷ xs) e = absurd (omega arith)
 
+-- the empty map has no entries
 pub entries-empty : {K X : Type 0} (R : K → K → Ordering) → map.entries (map.empty {K = K} {X = X} {R = R}) ≡ []
 entries-empty {K} {X} R = no_items _ (sym (map.len-entries (map.empty {K = K} {X = X} {R = R})) ∙ map.len-empty R X)
 
@@ -40,6 +41,7 @@ module _ {K X : Type 0} {R : K → K → Ordering} (total : IsTotalOrder R) (exa
   not_cond true x = refl
   not_cond false x = refl
 
+  -- a map without a key has all entries but those of the key
   pub entries-remove : (m : FinMap R X) (k : K) → map.entries (map.remove m k) ≡ without k (map.entries m)
   entries-remove m k =
       same_entries R total exact _ _ (map.entries_sorted (map.remove m k)) (is_sorted-where_key R (λ x. not (eq_by_cmp R k x)) (map.entries m) (map.entries_sorted m))
@@ -51,9 +53,11 @@ module _ {K X : Type 0} {R : K → K → Ordering} (total : IsTotalOrder R) (exa
 
 -- ---- a graph that is written out
 
+-- the entries of a set of vertices
 abbrev pub Marks : Type 0
 Marks = List (ℕ × Unit {0})
 
+-- the entries of a map of arcs
 abbrev pub Arcs : Type 0
 Arcs = List ((ℕ × ℕ) × ℕ)
 
@@ -62,6 +66,7 @@ pub record HasEntries (g : Graph) (vs : Marks) (es : Arcs) : Type 0 where
   pub vertices : map.entries g.vertices ≡ vs
   pub arcs : map.entries g.arcs ≡ es
 
+-- the same questions, to the entries
 abbrev pub vertex_in : Marks → ℕ → Bool
 vertex_in vs v = is_some (find nat_cmp v vs)
 
@@ -72,6 +77,7 @@ abbrev pub edges_in : Arcs → ℕ → Bool
 edges_in es v = list_any (λ (arc : ℕ × ℕ). (arc.0 == v) || (arc.1 == v)) (list_map (λ (e : (ℕ × ℕ) × ℕ). e.0) es)
 
 module _ (g : Graph) (vs : Marks) (es : Arcs) (has : HasEntries g vs es) where
+  -- the graph and its entries give one answer
   pub vertex_at : (v : ℕ) → has_vertex g v ≡ vertex_in vs v
   vertex_at v = ap is_some (map.get-entries g.vertices v ∙ ap (find nat_cmp v) has.vertices)
 
@@ -100,6 +106,7 @@ refusal_in vs es (SetEdge u v weight) = unless_ends_in vs u v (cond (is_some (we
 refusal_in vs es (DropEdge u v) = unless_ends_in vs u v (cond (is_some (weight_in es u v)) None (Some NoEdge))
 
 module _ (g : Graph) (vs : Marks) (es : Arcs) (has : HasEntries g vs es) where
+  -- what it refuses, its entries refuse
   pub refused_at : (w : Write) → refused g w ≡ refusal_in vs es w
   refused_at (AddVertex v) = ap (λ s. cond s (Some VertexExists) None) (vertex_at g vs es has v)
   refused_at (DropVertex v) = λ i. cond (vertex_at g vs es has v i) (cond (edges_at g vs es has v i) (Some HasEdges) None) (Some (NoVertex v))
@@ -109,6 +116,7 @@ module _ (g : Graph) (vs : Marks) (es : Arcs) (has : HasEntries g vs es) where
 
 -- ---- what it becomes
 
+-- the entries of the vertices after a write
 abbrev pub marks_after : Write → Marks → Marks
 marks_after (AddVertex v) vs = put nat_cmp v tt vs
 marks_after (DropVertex v) vs = where_key nat_cmp (λ x. not (eq_by_cmp nat_cmp v x)) vs
@@ -127,6 +135,7 @@ abbrev pub without_edge_in : Kind → ℕ → ℕ → Arcs → Arcs
 without_edge_in Directed u v es = without_arc_in u v es
 without_edge_in Undirected u v es = without_arc_in v u (without_arc_in u v es)
 
+-- the entries of the arcs after a write
 abbrev pub arcs_after : Kind → Write → Arcs → Arcs
 arcs_after kind (AddVertex v) es = es
 arcs_after kind (DropVertex v) es = es
@@ -158,6 +167,7 @@ without_edge_entries Undirected g vs es has u v = record {
       ∙ ap (without_arc_in v u) (entries-remove arcs_total arcs_exact g.arcs (u, v) ∙ ap (without_arc_in u v) has.arcs);
 }
 
+-- a write does to a graph what it does to its entries
 pub entries_after : (kind : Kind) (g : Graph) (vs : Marks) (es : Arcs) → HasEntries g vs es → (w : Write) → HasEntries (apply kind g w) (marks_after w vs) (arcs_after kind w es)
 entries_after kind g vs es has (AddVertex v) = record { vertices = map.entries-insert nat_cmp_total g.vertices v tt ∙ ap (put nat_cmp v tt) has.vertices; arcs = has.arcs }
 entries_after kind g vs es has (DropVertex v) = record { vertices = entries-remove nat_cmp_total nat_cmp-IsAntisymmetric g.vertices v ∙ ap (where_key nat_cmp (λ x. not (eq_by_cmp nat_cmp v x))) has.vertices; arcs = has.arcs }
@@ -173,10 +183,12 @@ abbrev pub arcs_after_all : Kind → List Write → Arcs → Arcs
 arcs_after_all kind [] es = es
 arcs_after_all kind (w ∷ ws) es = arcs_after_all kind ws (arcs_after kind w es)
 
+-- so does a list of writes
 pub entries_after_all : (kind : Kind) (g : Graph) (vs : Marks) (es : Arcs) → HasEntries g vs es → (ws : List Write) → HasEntries (apply_all kind g ws) (marks_after_all ws vs) (arcs_after_all kind ws es)
 entries_after_all kind g vs es has [] = has
 entries_after_all kind g vs es has (w ∷ ws) = entries_after_all kind (apply kind g w) (marks_after w vs) (arcs_after kind w es) (entries_after kind g vs es has w) ws
 
+-- the empty graph has no entries
 pub empty_entries : HasEntries empty_graph [] []
 empty_entries = record { vertices = entries-empty {X = Unit {0}} nat_cmp; arcs = entries-empty {X = ℕ} arc_cmp }
 
@@ -205,9 +217,11 @@ entries-from_entries : (es : List (Key × ℕ)) → map.entries (map.from_entrie
 entries-from_entries [] = entries-empty {X = ℕ} key_cmp
 entries-from_entries (e ∷ es) = map.entries-insert keys_total (map.from_entries {R = key_cmp} es) e.0 e.1 ∙ ap (put key_cmp e.0 e.1) (entries-from_entries es)
 
+-- the rows of a range, from the entries
 abbrev pub rows_in : Marks → Arcs → Key → Key → List Row
 rows_in vs es from until = list_map row_of (filter (λ e. is_between from until e.0) (sorted_rows (list_map vertex_entry (list_map (λ (e : ℕ × Unit {0}). e.0) vs) ++ list_map arc_entry es)))
 
+-- a graph's rows are those of its entries
 pub rows_at : (g : Graph) (vs : Marks) (es : Arcs) → HasEntries g vs es → (from until : Key) → rows g from until ≡ rows_in vs es from until
 rows_at g vs es has from until =
     ap (λ xs. list_map row_of (filter (λ (e : Key × ℕ). is_between from until e.0) xs))
@@ -216,6 +230,7 @@ rows_at g vs es has from until =
 
 -- ---- lists of writes that it allows
 
+-- the first of two
 abbrev pub first_refusal : Option Refusal → Option Refusal → Option Refusal
 first_refusal (Some e) rest = Some e
 first_refusal None rest = rest
@@ -229,12 +244,14 @@ no_first : (a b : Option Refusal) → first_refusal a b ≡ None → (a ≡ None
 no_first None b e = (refl, e)
 no_first (Some r) b e = cc
 
+-- writes that the entries allow, the graph allows
 pub all_allowed : (kind : Kind) (g : Graph) (vs : Marks) (es : Arcs) → HasEntries g vs es → (ws : List Write) → refusal_of_all kind vs es ws ≡ None → AllAllowed kind g ws
 all_allowed kind g vs es has [] none = tt
 all_allowed kind g vs es has (w ∷ ws) none =
     let p = no_first (refusal_in vs es w) (refusal_of_all kind (marks_after w vs) (arcs_after kind w es) ws) none in
     (refused_at g vs es has w ∙ p.0, all_allowed kind (apply kind g w) (marks_after w vs) (arcs_after kind w es) (entries_after kind g vs es has w) ws p.1)
 
+-- and the other way round
 pub allowed_all : (kind : Kind) (g : Graph) (vs : Marks) (es : Arcs) → HasEntries g vs es → (ws : List Write) → AllAllowed kind g ws → refusal_of_all kind vs es ws ≡ None
 allowed_all kind g vs es has [] all = refl
 allowed_all kind g vs es has (w ∷ ws) all =

@@ -20,4 +20,5 @@ pub mod ViewLemmas
 pub mod EntryLemmas
 pub mod ExampleLemmas
 pub mod JournalExampleLemmas
+pub mod WitnessLemmas
 pub mod KernelExampleLemmas

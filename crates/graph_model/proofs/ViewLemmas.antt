@@ -100,19 +100,23 @@ all_no_loops kind g (w ∷ ws) are none = all_no_loops kind (apply kind g w) ws 
 -- ---- views of a legal journal
 
 module _ (kind : Kind) (journal : List Commit) (start : ℕ) (own : List Write) (legal : IsLegal kind journal) (within : start ≤ length journal) where
+  -- a view is within the limits
   pub view_bounded : AllByRecursion IsWithinLimits own → IsBounded (view kind journal start own)
   view_bounded limits =
       all_bounded kind (graph_at kind journal start) own limits
       (graph_kept kind journal IsBounded empty_bounded (λ i c at is. all_bounded kind (graph_at kind journal i) c.writes (legal.each i c at).within is) start within)
 
+  -- it has no loops
   pub view_no_loops : AllAllowed kind (graph_at kind journal start) own → HasNoLoops (view kind journal start own)
   view_no_loops allowed =
       all_no_loops kind (graph_at kind journal start) own allowed
       (graph_kept kind journal HasNoLoops (λ v. ap is_some (fin_map.get-empty arc_cmp (v, v)))
       (λ i c at none. all_no_loops kind (graph_at kind journal i) c.writes (legal_serial kind journal legal i c at) none) start within)
 
+  -- both ends of its arcs are vertices
   pub view_ends : AllAllowed kind (graph_at kind journal start) own → HasBothEnds (view kind journal start own)
   view_ends allowed = ends_after kind (graph_at kind journal start) own allowed (legal.ends start within)
 
+-- and without direction it is symmetric
 pub view_symmetric : (journal : List Commit) (start : ℕ) (own : List Write) → IsSymmetric (view Undirected journal start own)
 view_symmetric journal start own = all_symmetric (graph_at Undirected journal start) own (made_symmetric (writes_of (take start journal)))

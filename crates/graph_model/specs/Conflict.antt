@@ -22,9 +22,11 @@ pub record OpenTxn : Type 0 where
   pub by : TxnName
   pub writes : List Write
 
+-- one transaction
 abbrev pub same_name : TxnName → TxnName → Bool
 same_name a b = (a.job == b.job) && (a.number == b.number)
 
+-- of a name and the least of the others
 abbrev pub with_lesser_job : TxnName → Option TxnName → TxnName
 with_lesser_job a None = a
 with_lesser_job a (Some b) = cond (nat_le a.job b.job) a b
@@ -38,6 +40,7 @@ least_job (name ∷ names) = Some (with_lesser_job name (least_job names))
 abbrev pub holder : Kind → List OpenTxn → TxnName → Write → Option TxnName
 holder kind txns by w = least_job (map (λ t. t.by) (filter (λ t. not (same_name t.by by) && meets kind w t.writes) txns))
 
+-- of a number and the greatest of the others
 abbrev pub with_greater : ℕ → Option ℕ → ℕ
 with_greater a None = a
 with_greater a (Some b) = cond (nat_le a b) b a

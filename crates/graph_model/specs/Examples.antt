@@ -15,6 +15,7 @@ use Rattle.graph_model.specs.Rows.{vertex_key, arc_key, is_between, rows, all_ro
 abbrev pub load : List Write
 load = AddVertex 1 ∷ AddVertex 2 ∷ AddVertex 3 ∷ AddVertex 4 ∷ AddEdge 1 2 1 ∷ AddEdge 2 3 1 ∷ []
 
+-- what the load makes of the empty graph
 abbrev pub load_graph : Graph
 load_graph = apply_all Undirected empty_graph load
 
@@ -34,6 +35,7 @@ no_target = apply_all Directed empty_graph (AddVertex 1 ∷ AddEdge 1 2 1 ∷ []
 abbrev pub great_id : Graph
 great_id = apply Directed empty_graph (AddVertex 9223372036854775807)
 
+-- which writes have one writer at most
 pub record ClashExamples : Type 0 where
   pub either_way : clash Undirected (AddEdge 1 2 1) (SetEdge 2 1 9) ≡ true
   pub with_direction : clash Directed (AddEdge 1 2 1) (SetEdge 2 1 9) ≡ false
@@ -49,6 +51,7 @@ pub record ClashExamples : Type 0 where
   pub not_dropped : clash Undirected (DropVertex 4) (DropEdge 1 4) ≡ false
   pub not_by_an_added_end : clash Undirected (AddVertex 1) (AddEdge 1 4 1) ≡ false
 
+-- why a graph refuses a write
 pub record RefusalExamples : Type 0 where
   -- a self loop comes before a missing vertex
   pub loop_first : refused empty_graph (AddEdge 9 9 1) ≡ Some SelfLoop
@@ -86,6 +89,7 @@ pub record AllowedExamples : Type 0 where
   pub not_the_first : AllAllowed Undirected load_graph (AddVertex 4 ∷ AddVertex 5 ∷ []) → ⊥
   pub not_the_last : AllAllowed Undirected load_graph (AddVertex 5 ∷ AddVertex 4 ∷ []) → ⊥
 
+-- the greatest ids and weights, and one more
 pub record LimitExamples : Type 0 where
   pub at_most : AllByRecursion IsWithinLimits
       (AddVertex 9223372036854775806 ∷ DropVertex 9223372036854775806 ∷ AddEdge 9223372036854775806 9223372036854775806 4294967295
@@ -96,6 +100,7 @@ pub record LimitExamples : Type 0 where
       ∷ SetEdge 9223372036854775807 1 1 ∷ SetEdge 1 9223372036854775807 1 ∷ SetEdge 1 2 4294967296
       ∷ DropEdge 9223372036854775807 1 ∷ DropEdge 1 9223372036854775807 ∷ [])
 
+-- what each write makes of a graph
 pub record EffectExamples : Type 0 where
   pub vertex_added : has_vertex (apply Undirected load_graph (AddVertex 5)) 5 ≡ true
   pub not_there_before : has_vertex load_graph 5 ≡ false
@@ -130,6 +135,7 @@ pub record CountExamples : Type 0 where
   pub directed : inserted Directed load ≡ 6
   pub nothing : inserted Undirected (SetEdge 1 2 9 ∷ DropEdge 1 2 ∷ DropVertex 4 ∷ []) ≡ 0
 
+-- the rows of a graph, and of ranges
 pub record RowExamples : Type 0 where
   pub vertices : vertices_of load_graph ≡ 1 ∷ 2 ∷ 3 ∷ 4 ∷ []
   -- a vertex's row stands directly before its arcs

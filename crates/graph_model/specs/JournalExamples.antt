@@ -13,9 +13,11 @@ use Rattle.graph_model.specs.Conflict.{later, OpenTxn, least_job, holder, greate
 use Rattle.graph_model.specs.Account.{Account, IsValid}
 use Rattle.graph_model.specs.Examples.{load}
 
+-- the transaction of this number of this script
 abbrev pub name : ℕ → ℕ → TxnName
 name job number = record { job = job; number = number }
 
+-- what it has committed
 abbrev pub commit : ℕ → ℕ → TxnName → List Write → Commit
 commit stamp start by writes = record { stamp = stamp; start = start; by = by; writes = writes }
 
@@ -27,6 +29,7 @@ journal = commit 1 0 (name 0 1) load ∷ commit 2 1 (name 1 1) (SetEdge 1 2 9 �
 abbrev pub then_commit : ℕ → ℕ → TxnName → List Write → List Commit
 then_commit stamp start by writes = journal ++ commit stamp start by writes ∷ []
 
+-- journals that snapshot isolation allows
 pub record LegalExamples : Type 0 where
   pub legal : IsLegal Undirected journal
   -- another transaction that began as early, and wrote something else
@@ -48,6 +51,7 @@ pub record IllegalExamples : Type 0 where
   pub too_great_an_id : IsLegal Undirected (then_commit 3 2 (name 2 1) (AddVertex 9223372036854775807 ∷ [])) → ⊥
   pub too_heavy : IsLegal Undirected (then_commit 3 2 (name 2 1) (SetEdge 2 1 4294967296 ∷ [])) → ⊥
 
+-- what transactions see
 pub record ViewExamples : Type 0 where
   -- the snapshot at the load has the old weight, whoever committed since
   pub old_weight : weight_of (view Undirected journal 1 []) 1 2 ≡ Some 1
@@ -69,6 +73,7 @@ open_txn job w = record { by = name job 1; writes = w ∷ [] }
 abbrev pub set_twice : List Commit
 set_twice = then_commit 3 2 (name 2 1) (SetEdge 2 1 8 ∷ [])
 
+-- what a refused writer has met
 pub record ConflictExamples : Type 0 where
   pub met_later : later Undirected set_twice 1 (SetEdge 2 1 5) ≡ 2 ∷ 3 ∷ []
   pub not_at_its_start : later Undirected set_twice 2 (SetEdge 2 1 5) ≡ 3 ∷ []
@@ -106,6 +111,7 @@ account = record {
   allowed = 5;
 }
 
+-- the account as it is, and with one part wrong
 pub record AccountExamples : Type 0 where
   pub valid : IsValid account
   pub ended : IsValid (record account { start = None; own = [] })

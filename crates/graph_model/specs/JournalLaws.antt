@@ -31,6 +31,7 @@ pub record IsNext (kind : Kind) (journal : List Commit) (c : Commit) : Type 0 wh
   pub unnamed : (i : ℕ) (d : Commit) → slice_get journal i ≡ Some d → d.by ≡ c.by → ⊥
   pub apart : (i : ℕ) (d : Commit) → slice_get journal i ≡ Some d → IsTrue (have_clash kind d.writes c.writes) → d.stamp ≤ c.start
 
+-- the empty journal is legal
 abbrev pub NoCommitIsLegal : Type 0
 NoCommitIsLegal = (kind : Kind) → IsLegal kind []
 
@@ -59,14 +60,18 @@ StartIsEnough = (kind : Kind) (journal : List Commit) (start stamp : ℕ) (ws : 
 
 -- ---- what a transaction sees
 
+-- where edges have no direction, what a transaction sees is symmetric
 abbrev pub ViewIsSymmetric : Type 0
 ViewIsSymmetric = (journal : List Commit) (start : ℕ) (own : List Write) → IsSymmetric (view Undirected journal start own)
 
+-- its ids and weights are within their limits
 abbrev pub ViewIsBounded : Type 0
 ViewIsBounded = (kind : Kind) (journal : List Commit) (start : ℕ) (own : List Write) → IsLegal kind journal → start ≤ length journal → AllByRecursion IsWithinLimits own → IsBounded (view kind journal start own)
 
+-- it has no loops
 abbrev pub ViewHasNoLoops : Type 0
 ViewHasNoLoops = (kind : Kind) (journal : List Commit) (start : ℕ) (own : List Write) → IsLegal kind journal → start ≤ length journal → AllAllowed kind (graph_at kind journal start) own → HasNoLoops (view kind journal start own)
 
+-- both ends of each of its arcs are vertices
 abbrev pub ViewHasBothEnds : Type 0
 ViewHasBothEnds = (kind : Kind) (journal : List Commit) (start : ℕ) (own : List Write) → IsLegal kind journal → start ≤ length journal → AllAllowed kind (graph_at kind journal start) own → HasBothEnds (view kind journal start own)

@@ -8,11 +8,13 @@ use Rattle.graph_model.specs.Tables.{IsBfs, IsSssp, IsWcc, IsCdlp}
 use Rattle.graph_model.specs.TableText.{table_text}
 use Rattle.graph_model.specs.Examples.{load_graph, arrows, detour}
 
+-- a line with a number
 abbrev pub entry : ℕ → ℕ → Entry
 entry v n = record { vertex = v; value = Number n }
 
-abbrev pub unreached : ℕ → Entry
-unreached v = record { vertex = v; value = Infinity }
+-- the line of a vertex that no walk leads to
+abbrev pub no_walk_to : ℕ → Entry
+no_walk_to v = record { vertex = v; value = Infinity }
 
 -- breadth-first search
 pub record SearchExamples : Type 0 where
@@ -25,7 +27,7 @@ pub record SearchExamples : Type 0 where
 -- shortest paths
 pub record PathExamples : Type 0 where
   -- the way of two arcs is lighter, though the search takes the one arc
-  pub lighter_way : IsSssp detour 1 (entry 1 0 ∷ entry 2 7 ∷ entry 3 3 ∷ unreached 4 ∷ [])
+  pub lighter_way : IsSssp detour 1 (entry 1 0 ∷ entry 2 7 ∷ entry 3 3 ∷ no_walk_to 4 ∷ [])
   pub fewest_arcs : IsBfs detour 1 (entry 1 0 ∷ entry 2 1 ∷ entry 3 1 ∷ entry 4 9223372036854775807 ∷ [])
 
 -- weakly connected components
@@ -49,5 +51,5 @@ pub record LabelExamples : Type 0 where
 
 -- the text of a table
 pub record TextExamples : Type 0 where
-  pub text : table_text (entry 1 0 ∷ entry 2 15 ∷ unreached 4 ∷ []) ≡ codes "1 0\n2 15\n4 infinity\n"
+  pub text : table_text (entry 1 0 ∷ entry 2 15 ∷ no_walk_to 4 ∷ []) ≡ codes "1 0\n2 15\n4 infinity\n"
   pub none : table_text [] ≡ []

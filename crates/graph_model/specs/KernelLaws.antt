@@ -16,9 +16,11 @@ use Rattle.graph_model.specs.Tables.{IsBfs, IsSssp, IsWcc, IsCdlp}
 abbrev pub RootIsNearest : Type 0
 RootIsNearest = (g : Graph) (root : ℕ) → IsTrue (has_vertex g root) → IsLeastLength g root root 0 × IsLeastWeight g root root 0
 
+-- a vertex has one distance
 abbrev pub OneDistance : Type 0
 OneDistance = (g : Graph) (root v m n : ℕ) → IsDistance g root v m → IsDistance g root v n → m ≡ n
 
+-- and one least weight
 abbrev pub OneLeastWeight : Type 0
 OneLeastWeight = (g : Graph) (root v m n : ℕ) → IsLeastWeight g root v m → IsLeastWeight g root v n → m ≡ n
 
@@ -38,20 +40,25 @@ NoWalkIsNone = (g : Graph) (root v : ℕ) → ((q : ℕ) → IsTrue (has_vertex 
 abbrev pub WalksReach : Type 0
 WalksReach = (g : Graph) (a b : ℕ) (vs : List ℕ) → IsWalk g a vs b → Reaches g a (length vs) b × ReachesBy g a (length vs) b (walk_weight g a vs) × ReachesWithin g a (length vs) b
 
+-- what is reached by so many arcs, a walk of so many leads to
 abbrev pub ReachesIsWalk : Type 0
 ReachesIsWalk = (g : Graph) (a n b : ℕ) → Reaches g a n b → (vs : List ℕ) × IsWalk g a vs b × (length vs ≡ n)
 
+-- with this weight, a walk with this weight
 abbrev pub ReachesByIsWalk : Type 0
 ReachesByIsWalk = (g : Graph) (a n b weight : ℕ) → ReachesBy g a n b weight → (vs : List ℕ) × IsWalk g a vs b × (length vs ≡ n) × (walk_weight g a vs ≡ weight)
 
+-- within so many arcs, a walk of at most so many
 abbrev pub ReachesWithinIsWalk : Type 0
 ReachesWithinIsWalk = (g : Graph) (a n b : ℕ) → ReachesWithin g a n b → (vs : List ℕ) × IsWalk g a vs b × (length vs ≤ n)
 
 -- ---- components
 
+-- a vertex's component is not above it
 abbrev pub ComponentIsNotAbove : Type 0
 ComponentIsNotAbove = (g : Graph) (v c : ℕ) → IsComponent g v c → c ≤ v
 
+-- and there is one
 abbrev pub OneComponent : Type 0
 OneComponent = (g : Graph) (v c d : ℕ) → IsComponent g v c → IsComponent g v d → c ≡ d
 
@@ -65,9 +72,11 @@ LeastIsItsComponent = (g : Graph) (v c : ℕ) → IsComponent g v c → IsCompon
 
 -- ---- labels
 
+-- before the first round each vertex has itself as its label
 abbrev pub FirstLabelIsTheVertex : Type 0
 FirstLabelIsTheVertex = (kind : Kind) (g : Graph) (v : ℕ) → label kind g 0 v ≡ v
 
+-- a vertex without neighbours keeps its label
 abbrev pub LonelyKeepsItsLabel : Type 0
 LonelyKeepsItsLabel = (kind : Kind) (g : Graph) (rounds v : ℕ) → neighbours kind g v ≡ [] → label kind g (rounds + 1) v ≡ label kind g rounds v
 

@@ -21,6 +21,7 @@ pub record IsLegalCommit (kind : Kind) (journal : List Commit) (place : ℕ) (c 
   pub allowed : AllAllowed kind (graph_at kind journal c.start) c.writes
   pub within : AllByRecursion IsWithinLimits c.writes
 
+-- what snapshot isolation allows: each commit by itself, and how they stand to each other
 pub record IsLegal (kind : Kind) (journal : List Commit) : Type 0 where
   pub each : (i : ℕ) (c : Commit) → slice_get journal i ≡ Some c → IsLegalCommit kind journal i c
   -- no transaction commits twice

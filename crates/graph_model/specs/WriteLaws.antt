@@ -64,6 +64,7 @@ ShareARow kind x y = (q : Key) × (writes_at kind x q ≡ true) × (writes_at ki
 abbrev pub RemovesTouched : Write → Write → Type 0
 RemovesTouched x y = (v : ℕ) × (x ≡ DropVertex v) × (touches_at y (vertex_key v) ≡ true)
 
+-- one of the three
 abbrev pub ClashesByRow : Kind → Write → Write → Type 0
 ClashesByRow kind x y = ShareARow kind x y ⊎ RemovesTouched x y ⊎ RemovesTouched y x
 

@@ -1,4 +1,7 @@
 //! Commits, and the journal of them.
+//!
+//! These types hold any stamps, starts and writes. Which journals there may be is `IsLegal`: whoever
+//! makes one proves it, and whoever is handed one may ask for it.
 
 use crate::write::Writes;
 use items::{Items, RoomyItems};

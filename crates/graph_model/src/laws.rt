@@ -1,4 +1,7 @@
-//! Laws that show that the definitions mean what they say. Each is a function whose contract is the law.
+//! Laws that show that the definitions mean what they say.
+//!
+//! Each is a function whose contract is the law: it takes nothing, does nothing, and is proved. The
+//! name in a clause is a definition in `specs/`, in the file that its `ghost use` line names.
 
 ghost use Rattle.graph_model.specs.Examples.{ClashExamples, RefusalExamples, AllowedExamples, LimitExamples, EffectExamples, SoundExamples, CountExamples, RowExamples};
 ghost use Rattle.graph_model.specs.JournalExamples.{LegalExamples, IllegalExamples, ViewExamples, ConflictExamples, AccountExamples};

@@ -1,4 +1,8 @@
 //! Graphs, writes, commits and journals as plain data, with the definitions that every layer is proved against.
+//!
+//! 1. The code holds values and does nothing else. What is true of them stands in `specs/`, and no
+//!    definition there knows how a store keeps a graph.
+//! 2. What shows that a definition means what it says is the contract of a function in `laws`.
 #![tactic(auto)]
 
 mod ids;

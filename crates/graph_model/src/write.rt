@@ -1,4 +1,7 @@
 //! Writes, and lists of them.
+//!
+//! A write is a wish: whether a graph takes it is `refused`, what it makes of the graph is `apply`,
+//! and which two can't both be made by transactions that overlap is `clash`.
 
 use items::{Items, RoomyItems};
 
