@@ -17,6 +17,7 @@ pub mod LegalLemmas
 pub mod ConflictLemmas
 pub mod SerialLemmas
 pub mod ViewLemmas
+pub mod AccountLemmas
 pub mod EntryLemmas
 pub mod ExampleLemmas
 pub mod JournalExampleLemmas

@@ -5,9 +5,11 @@ pub mod History
 pub mod Legal
 pub mod Conflict
 pub mod Account
+pub mod AccountSteps
 pub mod Inserted
 pub mod Rows
 pub mod Effects
+pub mod Scans
 pub mod Walks
 pub mod Components
 pub mod Labels
@@ -16,6 +18,7 @@ pub mod TableText
 pub mod WriteLaws
 pub mod JournalLaws
 pub mod ConflictLaws
+pub mod AccountLaws
 pub mod RowLaws
 pub mod KernelLaws
 pub mod Examples

@@ -9,6 +9,7 @@ ghost use Rattle.graph_model.specs.KernelExamples.{SearchExamples, PathExamples,
 ghost use Rattle.graph_model.specs.WriteLaws.{KeepsBothEnds, KeepsSymmetric, WritesCommute, StaysAllowed, ClashIsSymmetric, ListsCommute, ListsStayAllowed, WriteByKey, WritesByKey, TouchesAreOfVertices, ClashIsByRow};
 ghost use Rattle.graph_model.specs.JournalLaws.{PrefixIsLegal, LegalHasBothEnds, PrefixHasItsGraphs, NoCommitIsLegal, OneCommitMore, CommitsAreSerial, EndsFollow, StartIsEnough, ViewIsSymmetric, ViewIsBounded, ViewHasNoLoops, ViewHasBothEnds};
 ghost use Rattle.graph_model.specs.ConflictLaws.{NoConflict, NamesLeastJob, NamesNewest};
+ghost use Rattle.graph_model.specs.AccountLaws.{BeginKeepsValid, WriteKeepsValid, ReadKeepsValid, EndKeepsValid, DoneScanIsWhole};
 ghost use Rattle.graph_model.specs.RowLaws.{RowsRise, RowsAreOfTheGraph, RowsAreComplete, RangesAdjoin};
 ghost use Rattle.graph_model.specs.KernelLaws.{RootIsNearest, OneDistance, OneLeastWeight, ArcAddsOne, ArcAddsItsWeight, NoWalkIsNone, WalksReach, ReachesIsWalk, ReachesByIsWalk, ReachesWithinIsWalk, ComponentIsNotAbove, OneComponent, ArcJoinsComponents, LeastIsItsComponent, FirstLabelIsTheVertex, LonelyKeepsItsLabel, TwiceIsOnce, OneTable};
 
@@ -75,12 +76,25 @@ pub fn conflicts_have_causes()
     ensures later { NamesNewest }
 {}
 
+/// What a call may do to an account keeps it valid, so long as what is seen of the journal is legal.
+pub fn calls_keep_accounts_valid()
+    ensures begin { BeginKeepsValid }
+    ensures write { WriteKeepsValid }
+    ensures read { ReadKeepsValid }
+    ensures end { EndKeepsValid }
+{}
+
 /// Rows rise by key, and are exactly what the graph has in the range; ranges adjoin.
 pub fn rows_are_of_the_graph()
     ensures rise { RowsRise }
     ensures sound { RowsAreOfTheGraph }
     ensures complete { RowsAreComplete }
     ensures adjoin { RangesAdjoin }
+{}
+
+/// A scan that is done has given all rows that were left.
+pub fn scans_end_with_the_last_row()
+    ensures { DoneScanIsWhole }
 {}
 
 /// The root has 0, a vertex has one least length and one least weight, an arc adds at most one or
