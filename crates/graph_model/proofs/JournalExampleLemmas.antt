@@ -99,7 +99,7 @@ illegal_journals = record {
   starts_at_itself = λ legal. omega (arith, (legal.each 2 _ refl).started);
   not_on_its_snapshot = λ legal. some_none (NoVertex 5) (sym (by_load (AddEdge 4 5 1)) ∙ (legal.each 2 _ refl).allowed.0);
   refused_by_its_snapshot = λ legal. some_none SelfLoop ((legal.each 2 _ refl).allowed.0);
-  too_great_an_id = λ legal. omega (arith, (legal.each 2 _ refl).within.0);
+  too_great_id = λ legal. omega (arith, (legal.each 2 _ refl).within.0);
   too_heavy = λ legal. omega (arith, (legal.each 2 _ refl).within.0.2);
 }
 

@@ -9,7 +9,7 @@ use Rattle.graph_model.specs.Items.{clash}
 use Rattle.graph_model.specs.Graph.{Graph, empty_graph, has_vertex, vertices_of, weight_of, apply, apply_all, HasBothEnds, IsSymmetric, HasNoLoops, IsBounded}
 use Rattle.graph_model.specs.Refused.{refused, AllAllowed, IsWithinLimits}
 use Rattle.graph_model.specs.Inserted.{inserted}
-use Rattle.graph_model.specs.Rows.{vertex_key, arc_key, is_between, rows, all_rows, AreRowsOf}
+use Rattle.graph_model.specs.Rows.{vertex_key, arc_key, first_key, end_key, is_between, rows, all_rows, AreRowsOf}
 
 -- vertices 1 to 4, and undirected edges from 1 to 2 and from 2 to 3
 abbrev pub load : List Write
@@ -21,11 +21,14 @@ load_graph = apply_all Undirected empty_graph load
 
 -- arcs from 3 to 1, from 1 to 3 and from 2 to 1
 abbrev pub arrows : Graph
-arrows = apply_all Directed empty_graph (AddVertex 1 ∷ AddVertex 2 ∷ AddVertex 3 ∷ AddEdge 3 1 1 ∷ AddEdge 1 3 1 ∷ AddEdge 2 1 1 ∷ [])
+arrows = apply_all Directed empty_graph
+    (AddVertex 1 ∷ AddVertex 2 ∷ AddVertex 3 ∷ AddEdge 3 1 1 ∷ AddEdge 1 3 1 ∷ AddEdge 2 1 1 ∷ [])
 
 -- the arc from 1 to 2 is heavier than the way over 3, and no arc leads to 4
 abbrev pub detour : Graph
-detour = apply_all Directed empty_graph (AddVertex 1 ∷ AddVertex 2 ∷ AddVertex 3 ∷ AddVertex 4 ∷ AddEdge 1 2 10 ∷ AddEdge 1 3 3 ∷ AddEdge 3 2 4 ∷ AddEdge 4 1 1 ∷ [])
+detour = apply_all Directed empty_graph
+    (AddVertex 1 ∷ AddVertex 2 ∷ AddVertex 3 ∷ AddVertex 4
+    ∷ AddEdge 1 2 10 ∷ AddEdge 1 3 3 ∷ AddEdge 3 2 4 ∷ AddEdge 4 1 1 ∷ [])
 
 -- an arc to what is no vertex
 abbrev pub no_target : Graph
@@ -92,8 +95,10 @@ pub record AllowedExamples : Type 0 where
 -- the greatest ids and weights, and one more
 pub record LimitExamples : Type 0 where
   pub at_most : AllByRecursion IsWithinLimits
-      (AddVertex 9223372036854775806 ∷ DropVertex 9223372036854775806 ∷ AddEdge 9223372036854775806 9223372036854775806 4294967295
-      ∷ SetEdge 9223372036854775806 9223372036854775806 4294967295 ∷ DropEdge 9223372036854775806 9223372036854775806 ∷ [])
+      (AddVertex 9223372036854775806 ∷ DropVertex 9223372036854775806
+      ∷ AddEdge 9223372036854775806 9223372036854775806 4294967295
+      ∷ SetEdge 9223372036854775806 9223372036854775806 4294967295
+      ∷ DropEdge 9223372036854775806 9223372036854775806 ∷ [])
   pub no_more : AllByRecursion (λ w. IsWithinLimits w → ⊥)
       (AddVertex 9223372036854775807 ∷ DropVertex 9223372036854775807
       ∷ AddEdge 9223372036854775807 1 1 ∷ AddEdge 1 9223372036854775807 1 ∷ AddEdge 1 2 4294967296
@@ -141,15 +146,18 @@ pub record RowExamples : Type 0 where
   -- a vertex's row stands directly before its arcs
   pub whole : all_rows load_graph ≡
       record { key = vertex_key 1; weight = 0 } ∷ record { key = arc_key 1 2; weight = 1 }
-      ∷ record { key = vertex_key 2; weight = 0 } ∷ record { key = arc_key 2 1; weight = 1 } ∷ record { key = arc_key 2 3; weight = 1 }
+      ∷ record { key = vertex_key 2; weight = 0 } ∷ record { key = arc_key 2 1; weight = 1 }
+      ∷ record { key = arc_key 2 3; weight = 1 }
       ∷ record { key = vertex_key 3; weight = 0 } ∷ record { key = arc_key 3 2; weight = 1 }
       ∷ record { key = vertex_key 4; weight = 0 } ∷ []
   -- a range has its first key, and not the one that it ends at
   pub range : rows load_graph (arc_key 2 1) (arc_key 3 2) ≡
-      record { key = arc_key 2 1; weight = 1 } ∷ record { key = arc_key 2 3; weight = 1 } ∷ record { key = vertex_key 3; weight = 0 } ∷ []
+      record { key = arc_key 2 1; weight = 1 } ∷ record { key = arc_key 2 3; weight = 1 }
+      ∷ record { key = vertex_key 3; weight = 0 } ∷ []
   pub first_key_in : is_between (vertex_key 2) (vertex_key 3) (vertex_key 2) ≡ true
   pub last_key_out : is_between (vertex_key 2) (vertex_key 3) (vertex_key 3) ≡ false
-  pub greatest_in : is_between (vertex_key 0) (vertex_key 9223372036854775807) (arc_key 9223372036854775806 9223372036854775806) ≡ true
+  pub greatest_in : is_between first_key end_key
+      (arc_key 9223372036854775806 9223372036854775806) ≡ true
   pub all_of_it : AreRowsOf (all_rows load_graph) load_graph
   pub none_of_it : AreRowsOf [] load_graph → ⊥
   pub of_no_target : AreRowsOf (all_rows no_target) no_target → ⊥

@@ -43,4 +43,5 @@ most_frequent default xs = least_or default (filter (is_most_frequent xs) xs)
 -- the label of v after so many rounds
 abbrev pub label : Kind → Graph → ℕ → ℕ → ℕ
 label kind g zero v = v
-label kind g (suc round) v = most_frequent (label kind g round v) (map (label kind g round) (neighbours kind g v))
+label kind g (suc round) v =
+    most_frequent (label kind g round v) (map (label kind g round) (neighbours kind g v))

@@ -64,7 +64,8 @@ all_rows g = rows g first_key end_key
 
 -- what the graph has at a key: nothing, a vertex with weight 0, or an arc's weight
 abbrev pub value_at : Graph → Key → Option ℕ
-value_at g key = cond (key.second == 0) (cond (has_vertex g key.src) (Some 0) None) (weight_of g key.src (key.second - 1))
+value_at g key =
+    cond (key.second == 0) (cond (has_vertex g key.src) (Some 0) None) (weight_of g key.src (key.second - 1))
 
 -- these are all rows of the graph, whose arcs lead between its vertices and whose ids are within their limit
 pub record AreRowsOf (list : List Row) (g : Graph) : Type 0 where

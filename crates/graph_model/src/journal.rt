@@ -33,5 +33,6 @@ pub struct Commit {
 /// The commits in the order of their stamps, which are 1, 2, 3 and so on.
 pub type Journal = Items<Commit>;
 
-/// The same with the room that is left seen beside them, for an owner whose commits must take no memory.
+/// The same with the room that is left seen beside them, for an owner whose commits must take no
+/// memory.
 pub type RoomyJournal = RoomyItems<Commit>;

@@ -25,5 +25,6 @@ pub enum Write {
 /// The writes of a transaction, oldest first.
 pub type Writes = Items<Write>;
 
-/// The same with the room that is left seen beside them, for a transaction whose next write must take no memory.
+/// The same with the room that is left seen beside them, for a transaction whose next write must
+/// take no memory.
 pub type RoomyWrites = RoomyItems<Write>;
