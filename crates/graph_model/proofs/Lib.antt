@@ -17,6 +17,8 @@ pub mod LegalLemmas
 pub mod ConflictLemmas
 pub mod SerialLemmas
 pub mod ViewLemmas
+pub mod AccountLemmas
+pub mod EntryLemmas
 pub mod ExampleLemmas
 pub mod PlaceLemmas
 pub mod PickLemmas
@@ -24,3 +26,6 @@ pub mod TransactionLemmas
 pub mod StampLemmas
 pub mod PassLemmas
 pub mod OwnerLemmas
+pub mod JournalExampleLemmas
+pub mod WitnessLemmas
+pub mod KernelExampleLemmas

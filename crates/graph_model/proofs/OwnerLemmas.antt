@@ -6,13 +6,15 @@ use Rattle.std.proofs.lemmas.Option.{unwrap_or-slice_get}
 use Rattle.graph_model.specs.declared.write.Write.{Write}
 use Rattle.graph_model.specs.declared.journal.Begun.{Begun}
 use Rattle.graph_model.specs.declared.journal.Commit.{Commit}
+use Rattle.graph_model.specs.declared.refusal.Cause.{Cause}
+use Rattle.graph_model.specs.declared.refusal.Cause.TheVariants.{Later, Holder}
 use Rattle.graph_model.specs.declared.refusal.Refusal.{Refusal}
 use Rattle.graph_model.specs.declared.refusal.Refusal.TheVariants as refusals
 use Rattle.graph_model.specs.declared.refusal.BeginRefusal.{BeginRefusal}
 use Rattle.graph_model.specs.declared.refusal.BeginRefusal.TheVariants as begin_refusals
 use Rattle.graph_model.specs.Account.{Account}
-use Rattle.graph_model.proofs.PlaceLemmas.{get_end}
-use Rattle.graph_model.specs.EngineCalls.{GoesOn, BeginsBy, WritesFrom, WritesBy, RefusesBy, CommitsBy, IsCommitOf, with_none_open}
+use Rattle.graph_model.proofs.PlaceLemmas.{get_end, some_eq}
+use Rattle.graph_model.specs.AccountSteps.{GoesOn, BeginsBy, begun_at, WritesAt, WritesBy, RefusesBy, CommitsBy, HasCommit, with_cause, ended}
 use Rattle.graph_model.specs.OwnerCalls.{PassState, Core, no_pass, current, with_current, account_of, account_here, name_here, begun_pass, written_pass, ended_pass, BeginsHere, WritesHere, WritesHereFrom, RefusesHere, CommitsHere, CommitsHereFrom, AbortsHere, ServesHere, one_more}
 use Rattle.graph_model.specs.OwnerLaws.{IsChosen, OneOwnerBegins, OneOwnerWrites, OneOwnerReads, OneOwnerCommits, OneOwnerAborts, OneOwnerServes}
 use Rattle.graph_model.specs.Transactions.{commit_of}
@@ -28,8 +30,7 @@ account_set core state chosen = ap (account_of core core.selected) (at_set core.
 -- nothing more was seen
 as_it_is : (old changed new : Account) → changed.seen ≡ old.seen → new ≡ changed → GoesOn old changed new
 as_it_is old changed new same is = record {
-  more = [];
-  seen = ap (λ (a : Account). a.seen) is ∙ same ∙ sym (append-nil old.seen);
+  seen = ([], ap (λ (a : Account). a.seen) is ∙ same ∙ sym (append-nil old.seen));
   others = is ∙ (λ i. record changed { seen = sym (ap (λ (a : Account). a.seen) is) i });
 }
 
@@ -57,12 +58,23 @@ begins_by s t (Ok begun) chosen (room, is, after) =
     let more = goes_on s t (begun_pass s) chosen after in
     let seen : length (account_here t).seen ≡ length s.journal = ap (λ (c : Core). length c.journal) after in
     (
-      (room, omega arith, omega arith, ap (λ (b : Begun). b.by) is,
-        subst (λ n. GoesOn (account_here s) (record (account_here s) { start = Some n; own = []; begun = (current s).begun + 1; made = (current s).made ++ [] ∷ [] }) (account_here t)) (sym start) more),
+      record {
+        room = room;
+        by = ap (λ (b : Begun). b.by) is;
+        from = omega arith;
+        until = omega arith;
+        opened = subst (λ n. GoesOn (account_here s) (begun_at (account_here s) n) (account_here t)) (sym start) more;
+      },
       served_same s t (begun_pass s) after,
     )
 begins_by s t (Err begin_refusals.TxnsUsed) chosen (used, is) = ((used, stays s t is), ap (λ (c : Core). c.served) is)
 begins_by s t (Err begin_refusals.NoMemory) chosen is = (stays s t is, ap (λ (c : Core). c.served) is)
+
+-- a cause that is noted in the pass is noted in its account
+cause_noted : (s : Core) (start : ℕ) (w : Write) (cause : Cause)
+    → account_of s s.selected (record (current s) { sighted = (with_cause (account_here s) start w cause).sighted }) ≡ with_cause (account_here s) start w cause
+cause_noted s start w (Later stamp) = refl
+cause_noted s start w (Holder by) = refl
 
 refuses_by : (s t : Core) (start : ℕ) (w : Write) (r : Refusal) → IsChosen s → RefusesHere s start w r t → RefusesBy (account_here s) start w r (account_here t) × (t.served ≡ s.served)
 refuses_by s t start w refusals.SelfLoop chosen (why, is) = ((why, stays s t is), ap (λ (c : Core). c.served) is)
@@ -71,17 +83,22 @@ refuses_by s t start w refusals.VertexExists chosen (why, is) = ((why, stays s t
 refuses_by s t start w refusals.EdgeExists chosen (why, is) = ((why, stays s t is), ap (λ (c : Core). c.served) is)
 refuses_by s t start w refusals.NoEdge chosen (why, is) = ((why, stays s t is), ap (λ (c : Core). c.served) is)
 refuses_by s t start w refusals.HasEdges chosen (why, is) = ((why, stays s t is), ap (λ (c : Core). c.served) is)
-refuses_by s t start w (refusals.Conflict cause) chosen (allowed, met, is) = ((allowed, goes_on s t _ chosen is), served_same s t _ is)
+refuses_by s t start w (refusals.Conflict cause) chosen (allowed, met, is) =
+    ((allowed, subst (λ (a : Account). GoesOn (account_here s) a (account_here t)) (cause_noted s start w cause) (goes_on s t _ chosen is)), served_same s t _ is)
 refuses_by s t start w (refusals.Full leaves) chosen (allowed, met, inserts, leaves_are, count, is) =
     ((allowed, inserts, leaves_are, goes_on s t _ chosen is), served_same s t _ is)
 refuses_by s t start w refusals.NoMemory chosen is = (stays s t is, ap (λ (c : Core). c.served) is)
 
+-- the open transaction has one start
+at_start : (old : Account) (w : Write) (r : Result (Unit {0}) Refusal) (new : Account) (start : ℕ) → old.start ≡ Some start → WritesAt old start w r new → WritesBy old w r new
+at_start old w r new start began at = λ other also. subst (λ n. WritesAt old n w r new) (some_eq start other (sym began ∙ also)) at
+
 pub writes_by : OneOwnerWrites
 writes_by s t w (Ok done) chosen (start, began, (allowed, met, is)) =
-    ((start, began, (allowed, goes_on s t (written_pass s w) chosen is)), served_same s t (written_pass s w) is)
+    (at_start (account_here s) w (Ok done) (account_here t) start began (allowed, goes_on s t (written_pass s w) chosen is), served_same s t (written_pass s w) is)
 writes_by s t w (Err refusal) chosen (start, began, refuses) =
     let by = refuses_by s t start w refusal chosen refuses in
-    ((start, began, by.0), by.1)
+    (at_start (account_here s) w (Err refusal) (account_here t) start began by.0, by.1)
 
 commits_from : (s t : Core) (r : Option ℕ) (start : ℕ) (own : List Write) → own ≡ (current s).own → (current s).start ≡ Some start → IsChosen s → CommitsHereFrom s start own r t
     → CommitsBy (account_here s) r (account_here t) × (t.served ≡ s.served)
@@ -94,18 +111,20 @@ commits_from s t r start (w ∷ ws) same began chosen (stamp, is) =
     let here : account_here t ≡ account_of longer s.selected (ended_pass s) =
     ap account_here is ∙ ap (account_of longer s.selected) (at_set s.passes s.selected (ended_pass s) no_pass chosen) in
     let some : 0 < length (current s).own = subst (λ (ws : List Write). 0 < length ws) same (omega arith) in
-    let commit_is : c ≡ record { stamp = length s.journal + 1; start = start; by = name_here s; writes = (current s).own } =
-    (λ i. record { stamp = length s.journal + 1; start = start; by = name_here s; writes = same i }) in
     let seen : (account_here t).seen ≡ s.journal ++ c ∷ [] = ap (λ (a : Account). a.seen) here in
     subst (λ (a : Option ℕ). CommitsBy (account_here s) a (account_here t) × (t.served ≡ s.served)) (sym stamp) (
       (
-        some,
-        (start, began, record {
+        (λ other also. record {
+          wrote = some;
           place = length s.journal;
-          numbered = refl;
-          there = ap (λ (cs : List Commit). slice_get cs (length s.journal)) seen ∙ get_end s.journal c ∙ ap Some commit_is;
+          commit = c;
+          at = ap (λ (cs : List Commit). slice_get cs (length s.journal)) seen ∙ get_end s.journal c;
+          stamped = refl;
+          begun = some_eq start other (sym began ∙ also);
+          by = refl;
+          writes = same;
         }),
-        record { more = c ∷ []; seen = seen; others = here ∙ (λ i. record (with_none_open (account_here s)) { seen = sym seen i }) },
+        record { seen = (c ∷ [], seen); others = here ∙ (λ i. record (ended (account_here s)) { seen = sym seen i }) },
       ),
       ap (λ (d : Core). d.served) is,
     )

@@ -1,6 +1,6 @@
 -- Paths: walks that meet no vertex twice. A least walk may be taken as one, so it has fewer arcs than there are ids.
-use Rattle.std.proofs.Common.{◌≡◌, ℕ, ◌<◌, ◌≤◌, List, [], ◌∷◌, length, refl, sym, ◌∙◌, ap, subst, arith, inl, inr}
-use Rattle.std.specs.Prelude.{Bool, true, false, ◌||◌, IsTrue, eqb}
+use Rattle.std.proofs.Common.{◌≡◌, ℕ, ◌<◌, ◌≤◌, List, [], ◌∷◌, length, refl, sym, subst, arith, inl, inr}
+use Rattle.std.specs.Prelude.{true, false, ◌||◌, IsTrue, eqb}
 use Rattle.std.specs.List.{list_any, AllByRecursion, IsDistinct}
 use Rattle.std.proofs.lemmas.Bool.{or_parts}
 use Rattle.std.proofs.lemmas.Map.Keys.{IsDistinct-cons, IsDistinct-tail, IsDistinct-from_apart}
@@ -9,7 +9,6 @@ use Rattle.graph_model.specs.declared.limits.TheConstants.{MAX_ID, NO_WALK}
 use Rattle.graph_model.specs.Graph.{Graph, has_vertex}
 use Rattle.graph_model.specs.Walks.{IsWalk, IsDistance, IsUnreached}
 use Rattle.graph_model.proofs.TestLemmas.{eq_of}
-use Rattle.graph_model.proofs.WalkLemmas.{walk_from}
 
 -- a walk from a over the listed vertices to b that meets none of them twice
 abbrev pub IsPath : Graph → ℕ → List ℕ → ℕ → Type 0

@@ -1,18 +1,18 @@
 -- In a legal journal each commit is allowed on the graph of all commits before it; and how a journal grows by a commit.
-use Rattle.std.proofs.Common.{◌≡◌, ℕ, zero, suc, ◌+◌, ◌-◌, ◌<◌, ◌≤◌, List, [], ◌∷◌, ◌++◌, length, refl, sym, ◌∙◌, ap, subst, arith, inl, inr, length-append}
+use Rattle.std.proofs.Common.{◌≡◌, ℕ, zero, suc, ◌+◌, ◌-◌, ◌<◌, ◌≤◌, List, [], ◌∷◌, ◌++◌, length, refl, sym, ◌∙◌, ap, subst, arith, inl, inr}
 use Rattle.std.specs.Prelude.{◌⊎◌, true, false, slice_get, Option, Some, is_some, IsTrue}
 use Rattle.std.specs.FinMap as fin_map
 use Rattle.std.proofs.lemmas.Bool.{false_from_ne_true}
 use Rattle.graph_model.specs.declared.write.Kind.{Kind}
 use Rattle.graph_model.specs.declared.write.Write.{Write}
 use Rattle.graph_model.specs.declared.journal.Commit.{Commit}
-use Rattle.graph_model.specs.Graph.{Graph, arc_cmp, empty_graph, apply_all, has_arc, has_vertex, HasBothEnds}
+use Rattle.graph_model.specs.Graph.{Graph, arc_cmp, empty_graph, apply_all, HasBothEnds}
 use Rattle.graph_model.specs.Refused.{AllAllowed}
 use Rattle.graph_model.specs.History.{graph_at}
 use Rattle.graph_model.specs.Legal.{have_clash, IsLegalCommit, IsLegal}
 use Rattle.graph_model.specs.JournalLaws.{IsNext}
 use Rattle.graph_model.proofs.HistoryLemmas.{ends_after, graph_at-next, get_within, allowed_up_to}
-use Rattle.graph_model.proofs.LegalLemmas.{get_front, below_length, graph_at-append, legal_prefix}
+use Rattle.graph_model.proofs.LegalLemmas.{get_front, below_length, graph_at-append}
 
 -- what the empty graph has, and each commit keeps, each graph of the journal has
 pub graph_kept : (kind : Kind) (journal : List Commit) (P : Graph → Type 0) → P empty_graph

@@ -1,5 +1,5 @@
 -- How many rows writes may have inserted, the count that bounds when a store may be full.
-use Rattle.std.specs.Prelude.{ℕ, List, sum_by}
+use Rattle.std.specs.Prelude.{ℕ, Bool, true, false, List, sum_by}
 use Rattle.graph_model.specs.declared.write.Kind.{Kind}
 use Rattle.graph_model.specs.declared.write.Kind.TheVariants.{Directed, Undirected}
 use Rattle.graph_model.specs.declared.write.Write.{Write}
@@ -18,5 +18,14 @@ inserted_by kind (AddEdge u v weight) = arcs_of_edge kind
 inserted_by kind (SetEdge u v weight) = 0
 inserted_by kind (DropEdge u v) = 0
 
+-- the most rows that all of them insert
 abbrev pub inserted : Kind → List Write → ℕ
 inserted kind writes = sum_by (inserted_by kind) writes
+
+-- the write may want a place for a row
+abbrev pub inserts : Write → Bool
+inserts (AddVertex v) = true
+inserts (DropVertex v) = false
+inserts (AddEdge u v weight) = true
+inserts (SetEdge u v weight) = false
+inserts (DropEdge u v) = false

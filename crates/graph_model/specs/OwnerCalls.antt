@@ -14,8 +14,8 @@ use Rattle.graph_model.specs.declared.refusal.BeginRefusal.{BeginRefusal}
 use Rattle.graph_model.specs.declared.refusal.BeginRefusal.TheVariants as begin_refusals
 use Rattle.graph_model.specs.Account.{Account, Sighting}
 use Rattle.graph_model.specs.Conflict.{OpenTxn, conflict}
-use Rattle.graph_model.specs.EngineCalls.{inserts, made_more, view_of, name_of, sighted_by}
-use Rattle.graph_model.specs.Inserted.{inserted}
+use Rattle.graph_model.specs.AccountSteps.{view_of, last_with, with_cause}
+use Rattle.graph_model.specs.Inserted.{inserted, inserts}
 use Rattle.graph_model.specs.Passes.{open_txns_of}
 use Rattle.graph_model.specs.Refused.{refused}
 use Rattle.graph_model.specs.Transactions.{Running, commit_of}
@@ -110,7 +110,7 @@ conflict_here core start w = conflict core.kind core.journal (open_txns core) (n
 abbrev pub written_pass : Core → Write → PassState
 written_pass core w = record (current core) {
   own = (current core).own ++ w ∷ [];
-  made = made_more (current core).made w;
+  made = last_with (current core).made w;
 }
 
 -- the view of the open transaction refuses the write, and nothing changed
@@ -127,7 +127,7 @@ RefusesHere old start w refusals.NoEdge new = RefusedHere old start w refusals.N
 RefusesHere old start w refusals.HasEdges new = RefusedHere old start w refusals.HasEdges new
 RefusesHere old start w (refusals.Conflict cause) new =
     (refused (view_of (account_here old) start) w ≡ None) × (conflict_here old start w ≡ Some cause)
-    × (new ≡ with_current old (record (current old) { sighted = sighted_by (account_here old) start w cause }))
+    × (new ≡ with_current old (record (current old) { sighted = (with_cause (account_here old) start w cause).sighted }))
 RefusesHere old start w (refusals.Full leaves) new =
     (refused (view_of (account_here old) start) w ≡ None) × (conflict_here old start w ≡ None)
     × (inserts w ≡ true) × (leaves ≡ old.leaves) × (SPLIT_ROWS * leaves ≤ inserted_here old)

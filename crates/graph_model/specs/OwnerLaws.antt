@@ -5,7 +5,7 @@ use Rattle.graph_model.specs.declared.write.Write.{Write}
 use Rattle.graph_model.specs.declared.journal.Begun.{Begun}
 use Rattle.graph_model.specs.declared.refusal.Refusal.{Refusal}
 use Rattle.graph_model.specs.declared.refusal.BeginRefusal.{BeginRefusal}
-use Rattle.graph_model.specs.EngineCalls.{GoesOn, BeginsBy, WritesBy, CommitsBy, with_none_open}
+use Rattle.graph_model.specs.AccountSteps.{ReadsBy, BeginsBy, WritesBy, CommitsBy, AbortsBy}
 use Rattle.graph_model.specs.OwnerCalls.{Core, account_here, BeginsHere, WritesHere, CommitsHere, AbortsHere, ServesHere, one_more}
 
 -- the selected pass is one of the passes
@@ -26,11 +26,11 @@ OneOwnerCommits = (s t : Core) (r : Option ℕ) → IsChosen s → CommitsHere s
 
 abbrev pub OneOwnerAborts : Type 0
 OneOwnerAborts = (s t : Core) → IsChosen s → AbortsHere s t
-    → GoesOn (account_here s) (with_none_open (account_here s)) (account_here t) × (t.served ≡ s.served)
+    → AbortsBy (account_here s) (account_here t) × (t.served ≡ s.served)
 
 abbrev pub OneOwnerReads : Type 0
-OneOwnerReads = (s t : Core) → t ≡ s → GoesOn (account_here s) (account_here s) (account_here t) × (t.served ≡ s.served)
+OneOwnerReads = (s t : Core) → t ≡ s → ReadsBy (account_here s) (account_here t) × (t.served ≡ s.served)
 
 abbrev pub OneOwnerServes : Type 0
 OneOwnerServes = (s t : Core) → ServesHere s t
-    → GoesOn (account_here s) (account_here s) (account_here t) × (t.served ≡ one_more s.served)
+    → ReadsBy (account_here s) (account_here t) × (t.served ≡ one_more s.served)

@@ -17,10 +17,11 @@ ghost use Rattle.graph_model.specs.declared.refusal.BeginRefusal.{BeginRefusal};
 ghost use Rattle.graph_model.specs.declared.limits.TheConstants.{MAX_ID};
 ghost use Rattle.items.specs.declared.memory.NoMemory.{NoMemory};
 ghost use Rattle.graph_model.specs.Account.{Account, IsValid};
-ghost use Rattle.graph_model.specs.EngineCalls.{view_of, with_none_open, GoesOn, BeginsBy, WritesBy, CommitsBy, ScansBy};
+ghost use Rattle.graph_model.specs.AccountSteps.{view_of, ReadsBy, BeginsBy, WritesBy, CommitsBy, AbortsBy};
 ghost use Rattle.graph_model.specs.Graph.{has_vertex, weight_of};
 ghost use Rattle.graph_model.specs.OwnerCalls.{Core, account_here, BeginsHere, WritesHere, CommitsHere, AbortsHere, ServesHere, one_more};
 ghost use Rattle.graph_model.specs.Refused.{IsWithinLimits};
+ghost use Rattle.graph_model.specs.Scans.{ScansBy};
 
 use crate::journal::Begun;
 use crate::refusal::{BeginRefusal, Refusal};
@@ -124,16 +125,16 @@ pub trait Engine {
     ghost wrote: { (s t : Self) (w : Write) (r : Result (Unit {0}) Refusal) → did_write s w r t
         → WritesBy (account s) w r (account t) × (served t ≡ served s) };
 
-    ghost reads: { (s t : Self) → did_read s t → GoesOn (account s) (account s) (account t) × (served t ≡ served s) };
+    ghost reads: { (s t : Self) → did_read s t → ReadsBy (account s) (account t) × (served t ≡ served s) };
 
     ghost commits: { (s t : Self) (r : Option ℕ) → did_commit s r t
         → CommitsBy (account s) r (account t) × (served t ≡ served s) };
 
     ghost aborts: { (s t : Self) → did_abort s t
-        → GoesOn (account s) (with_none_open (account s)) (account t) × (served t ≡ served s) };
+        → AbortsBy (account s) (account t) × (served t ≡ served s) };
 
     ghost serves: { (s t : Self) (r : Result Bool NoMemory) → did_serve s r t
-        → GoesOn (account s) (account s) (account t) × (served t ≡ one_more (served s)) };
+        → ReadsBy (account s) (account t) × (served t ≡ one_more (served s)) };
 }
 
 /// An engine that removes vertices too.
