@@ -132,40 +132,28 @@ mod tests {
     use std::test::Fail;
 
     #[test]
-    fn a_source_of_eleven_bytes_is_too_long_for_ten(rt: HostRuntime) -> Result<(), Fail> {
-        let mut desk = MemoryDesk::new(rt.alloc());
-        desk.put("eleven", b"0123456789A")?;
-        let refused = read_source(rt.alloc(), &mut desk, "eleven", 10);
-        assert!(rt; matches!(&refused, Err(SourceRefusal::TooLong)));
-        for limit in [11, u64::MAX] {
-            let bytes = read_source(rt.alloc(), &mut desk, "eleven", limit)?;
-            assert_eq!(rt; bytes.as_slice(), b"0123456789A".as_slice(), "at {limit}");
-        }
-        Ok(())
-    }
-
-    #[test]
-    fn a_source_of_two_pieces_is_read_whole(rt: HostRuntime) -> Result<(), Fail> {
+    fn a_source_is_read_whole_up_to_its_limit(rt: HostRuntime) -> Result<(), Fail> {
         let alloc = rt.alloc();
-        let mut long = Vec::new(alloc);
+        let eleven = b"0123456789A".as_slice();
+        let mut pieces = Vec::new(alloc);
         for i in 0..70_000u32 {
-            long.push((i % 251) as u8)?;
+            pieces.push((i % 251) as u8)?;
         }
-        let mut desk = MemoryDesk::new(alloc);
-        desk.put("long", &long)?;
-        let bytes = read_source(alloc, &mut desk, "long", 70_000)?;
-        assert_eq!(rt; bytes.len(), 70_000);
-        assert!(rt; bytes.into_vec() == long);
-        Ok(())
-    }
-
-    #[test]
-    fn a_read_that_fails_later_is_a_fault(rt: HostRuntime) -> Result<(), Fail> {
-        let alloc = rt.alloc();
-        let mut desk = MemoryDesk::with_failing(alloc, &[2])?;
-        desk.put("short", b"1 2")?;
-        let refused = read_source(alloc, &mut desk, "short", 10);
-        assert!(rt; matches!(&refused, Err(SourceRefusal::ReadFault)));
+        for (text, limit, failing, want) in [
+            (eleven, 10, 0, Err(SourceRefusal::TooLong)),
+            (eleven, 11, 0, Ok(true)),
+            (eleven, u64::MAX, 0, Ok(true)),
+            (eleven, 11, 2, Err(SourceRefusal::ReadFault)),
+            (pieces.as_slice(), 70_000, 0, Ok(true)),
+        ] {
+            let mut desk = MemoryDesk::with_failing(alloc, &[failing])?;
+            desk.put("source", text)?;
+            let got = match read_source(alloc, &mut desk, "source", limit) {
+                Ok(bytes) => Ok(bytes.as_slice() == text),
+                Err(refusal) => Err(refusal),
+            };
+            assert!(rt; got == want, "with limit {limit} and call {failing} failing");
+        }
         Ok(())
     }
 }

@@ -75,26 +75,65 @@ impl<R: Files<File = File> + Print> Desk for StdDesk<R> {
 #[cfg(test)]
 mod tests {
     use super::*;
-    use crate::sink::write_sink;
-    use crate::source::read_source;
+    use std::path::PathBuf;
     use std::test::Fail;
-    use std::{env, fs, process};
+    use std::{env, fs, io, process};
 
     #[test]
-    fn a_file_of_three_pieces_is_written_and_read_back(rt: HostRuntime) -> Result<(), Fail> {
-        let alloc = rt.alloc();
-        let name = format!(in alloc; "desk_io-{}", process::id(rt.process()))?;
-        let path = env::temp_dir(&rt)?.join(alloc, name.as_str())?;
+    fn a_file_has_what_was_written_last(rt: HostRuntime) -> Result<(), Fail> {
+        let path = scratch_path(&rt)?;
         let name = path.as_path().as_str();
-        let text = vec![in alloc; b'7'; 150_000]?;
-        let mut desk = StdDesk::new(alloc, rt.clone()?);
-        write_sink(&mut desk, name, &text)?;
-        let read = read_source(alloc, &mut desk, name, 150_000);
-        let folder = desk.read(env::temp_dir(&rt)?.as_path().as_str(), 0, &mut [0; 8]);
+        let mut desk = StdDesk::new(rt.alloc(), rt.clone()?);
+        write_over(&mut desk, name)?;
+        let mut buffer = [0; 8];
+        let reads = [
+            desk.read(name, 4, &mut buffer[4..]),
+            desk.read(name, 0, &mut buffer[..3]),
+            desk.read(name, 3, &mut buffer[3..4]),
+            desk.read(name, 8, &mut [0; 8]),
+        ];
+        let written = fs::read(&rt, name)?;
         fs::remove_file(&rt, name)?;
-        assert!(rt; read?.into_vec() == text);
-        assert_eq!(rt; folder, Err(Failed));
-        assert_eq!(rt; desk.read(name, 0, &mut [0; 8]), Err(Failed), "removed");
+        let text = b"1 2\n3 4\n";
+        assert_eq!(rt;
+            (
+                written.as_slice() == text.as_slice(),
+                buffer == *text,
+                reads == [Ok(4), Ok(3), Ok(1), Ok(0)]
+            ),
+            (true, true, true)
+        );
         Ok(())
+    }
+
+    #[test]
+    fn what_cannot_be_reached_is_a_failure(rt: HostRuntime) -> Result<(), Fail> {
+        let path = scratch_path(&rt)?;
+        let gone = path.as_path().as_str();
+        let mut desk = StdDesk::new(rt.alloc(), rt.clone()?);
+        let failures = [
+            desk.create("/").is_err(),
+            desk.read("/", 0, &mut [0; 8]).is_err(),
+            desk.read(gone, 0, &mut [0; 8]).is_err(),
+            desk.write(gone, b"7").is_err(),
+            desk.write("/dev/full", b"7").is_err(),
+        ];
+        assert_eq!(rt; failures, [true; 5]);
+        Ok(())
+    }
+
+    // A text in two calls, over a longer one.
+    fn write_over(desk: &mut impl Desk, name: &str) -> Result<(), Failed> {
+        desk.create(name)?;
+        desk.write(name, b"5 6\n7 8\n9 9\n")?;
+        desk.create(name)?;
+        desk.write(name, b"1 2\n")?;
+        desk.write(name, b"3 4\n")?;
+        Ok(())
+    }
+
+    fn scratch_path(rt: &HostRuntime) -> io::Result<PathBuf> {
+        let name = format!(in rt.alloc(); "desk_io-{}", process::id(rt.process()))?;
+        Ok(env::temp_dir(rt)?.join(rt.alloc(), name.as_str())?)
     }
 }
