@@ -1,6 +1,8 @@
 //! The tables that kernels give: one line for each vertex, in rising order.
 
-use items::Items;
+ghost use Rattle.std.specs.Prelude.{◌≡◌};
+
+use items::{Items, NoMemory};
 use thiserror::Error;
 
 /// A vertex's value: a number, or the distance of a vertex that no walk reaches.
@@ -28,4 +30,15 @@ pub enum KernelRefusal {
     NoRoot,
     #[error("no memory")]
     NoMemory,
+}
+
+/// Want of memory is that of the kernel.
+impl From<NoMemory> for KernelRefusal {
+    ghost use Rattle.graph_model.specs.declared.table.KernelRefusal.TheVariants as refusals;
+
+    ghost from_gives = { λ _ e. e ≡ refusals.NoMemory };
+
+    fn from(_refused: NoMemory) -> KernelRefusal {
+        KernelRefusal::NoMemory
+    }
 }

@@ -4,3 +4,4 @@ pub mod ReportLemmas
 pub mod ListLemmas
 pub mod SnapshotLemmas
 pub mod ShortLemmas
+pub mod ExampleLemmas

@@ -1,11 +1,10 @@
 -- The numbers in a run's journal and reports have at most 64 digits.
-use Rattle.std.proofs.Common.{◌≡◌, ℕ, zero, suc, ◌+◌, ◌-◌, ◌*◌, ◌/◌, ◌<◌, ◌≤◌, ◌⊎◌, inl, inr, ⊎_elim, List, [], ◌∷◌, ◌++◌, length, slice_get, cond, Some, None, refl, sym, ap, ◌∙◌, subst, arith, le_trans}
-use Rattle.std.specs.Prelude.{Bool, true, false, ◌==◌, ◌&&◌, map, filter, nat_lt, Option, Contains}
-use Rattle.std.specs.List.{AllByRecursion, filter_map}
-use Rattle.std.specs.FinMap as fin_map
+use Rattle.std.proofs.Common.{◌≡◌, ℕ, zero, suc, ◌+◌, ◌*◌, ◌<◌, ◌≤◌, ⊎_elim, List, [], ◌∷◌, ◌++◌, length, slice_get, cond, Some, None, refl, sym, ap, ◌∙◌, subst, arith}
+use Rattle.std.specs.Prelude.{Bool, true, false, ◌==◌, ◌&&◌, map, filter, nat_lt, Option}
+use Rattle.std.specs.List.{AllByRecursion}
 use Rattle.std.proofs.lemmas.List.{length-map}
 use Rattle.std.proofs.lemmas.Option.{same_Some, none-some, slice_get_within, slice_get-get_or}
-use Rattle.graph_model.specs.declared.limits.TheConstants.{MAX_ID, MAX_WEIGHT, MAX_SCRIPTS, MAX_BEGINS}
+use Rattle.graph_model.specs.declared.limits.TheConstants.{MAX_ID, MAX_SCRIPTS, MAX_BEGINS}
 use Rattle.graph_model.specs.declared.write.Kind.{Kind}
 use Rattle.graph_model.specs.declared.write.Kind.TheVariants.{Directed, Undirected}
 use Rattle.graph_model.specs.declared.write.Write.{Write}
@@ -16,7 +15,7 @@ use Rattle.graph_model.specs.declared.refusal.Cause.{Cause}
 use Rattle.graph_model.specs.declared.refusal.Cause.TheVariants.{Later, Holder}
 use Rattle.graph_model.specs.declared.refusal.Refusal.{Refusal}
 use Rattle.graph_model.specs.declared.refusal.Refusal.TheVariants as refusals
-use Rattle.graph_model.specs.Graph.{Graph, has_vertex, has_arc, has_edges, weight_of, vertices_of}
+use Rattle.graph_model.specs.Graph.{Graph, has_vertex, has_arc, has_edges, weight_of}
 use Rattle.graph_model.specs.Refused.{refused, unless_ends, IsWithinLimits}
 use Rattle.graph_model.specs.Conflict.{meets, later}
 use Rattle.graph_model.proofs.SortedLemmas.{map_at}
@@ -27,12 +26,12 @@ use Rattle.run_model.specs.Requests.{Query, WeightOf, NeighboursOf, Counts, Kern
 use Rattle.run_model.specs.AnsweredLines.{AnsweredLine, answered_from, answered_lines, effect, made_by, of_txn, own_writes, is_stopped, start_of, snapshot}
 use Rattle.run_model.specs.Answering.{refusal_answer, weight_answer, edges_in, at_vertex, query_answer, table_answer, kernel_answer}
 use Rattle.run_model.specs.Inputs.{Inputs, Outputs}
-use Rattle.run_model.specs.Run.{Context, IsCause, IsAllowedAnswer, IsWriteAnswer, IsBeginAnswer, IsCommitAnswer, IsLiveAnswer, IsAnswered, AllAnswered, answered_scripts, run_lines, context_at, IsLoad, IsShown, IsRun}
+use Rattle.run_model.specs.Run.{Context, IsCause, IsAllowedAnswer, IsWriteAnswer, IsBeginAnswer, IsCommitAnswer, IsLiveAnswer, IsAnswered, AllAnswered, answered_scripts, run_lines, context_at, IsRun}
 use Rattle.run_model.specs.Laws.{IsShort, HasShortName, IsShortWrite, IsShortCommit, IsShortCause, IsShortAnswer, HasShortOutputs, TextsTell}
 use Rattle.run_model.proofs.JournalLemmas.{one_journal}
 use Rattle.run_model.proofs.ReportLemmas.{one_report}
 use Rattle.run_model.proofs.ListLemmas.{apart_short, all_from_places, all_on, all_filtered, all_mapped, all_weaker, there}
-use Rattle.run_model.proofs.SnapshotLemmas.{IsSmall, view_small, ids_below, vertices_count, arcs_count, targets_are, targets_count}
+use Rattle.run_model.proofs.SnapshotLemmas.{IsSmall, view_small, vertices_count, arcs_count, targets_are, targets_count}
 
 -- ---- the lines of a script
 
@@ -164,7 +163,7 @@ short_weight g u v small = elim (weight_of g u v) as (λ m. weight_of g u v ≡ 
 short_query : (kind : Kind) (g : Graph) (query : Query) → IsSmall g → IsQuery query → IsShortAnswer (query_answer kind g query)
 short_query kind g (WeightOf u v) small within = short_weight g u v small
 short_query kind g (NeighboursOf v) small within =
-    short_at g v _ within ((let count = targets_count g small v in omega arith), all_weaker (λ t. t ≤ MAX_ID) IsShort short_id _ (targets_are g small v))
+    short_at g v _ within ((let count = targets_count g v small in omega arith), all_weaker (λ t. t ≤ MAX_ID) IsShort short_id _ (targets_are g v small))
 short_query kind g Counts small within = ((let count = vertices_count g small in omega arith), short_edges kind g small)
 
 -- ---- answers by the journal and the other scripts

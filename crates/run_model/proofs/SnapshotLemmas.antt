@@ -1,6 +1,6 @@
 -- Ids and weights of a snapshot are within their limits, and so its vertices and arcs can be counted.
-use Rattle.std.proofs.Common.{◌≡◌, ℕ, suc, ◌+◌, ◌-◌, ◌*◌, ◌<◌, ◌≤◌, ◌⊎◌, ⊎_elim, List, [], ◌∷◌, ◌++◌, length, slice_get, cond, Some, None, refl, sym, ap, ◌∙◌, subst, arith}
-use Rattle.std.specs.Prelude.{Bool, true, false, ◌==◌, ◌&&◌, not, map, take, Option, is_some, IsTrue}
+use Rattle.std.proofs.Common.{◌≡◌, ℕ, ◌+◌, ◌-◌, ◌*◌, ◌<◌, ◌≤◌, ⊎_elim, List, [], ◌∷◌, length, slice_get, cond, Some, None, refl, sym, ap, ◌∙◌, subst, arith}
+use Rattle.std.specs.Prelude.{true, false, ◌==◌, map, take, Option, is_some}
 use Rattle.std.specs.List.{AllByRecursion}
 use Rattle.std.specs.Ordering.{nat_cmp}
 use Rattle.std.specs.declared.cmp.Ordering.TheVariants.{Less}
@@ -19,11 +19,11 @@ use Rattle.graph_model.specs.declared.row.Row.{Row}
 use Rattle.graph_model.specs.Graph.{Graph, arc_cmp, empty_graph, has_vertex, weight_of, vertices_of, apply, apply_all}
 use Rattle.graph_model.specs.Refused.{IsWithinLimits}
 use Rattle.graph_model.specs.History.{writes_of, graph_at, view}
-use Rattle.graph_model.specs.Rows.{key_cmp, is_below, is_between, rows, value_at}
+use Rattle.graph_model.specs.Rows.{is_below, is_between, rows, value_at}
 use Rattle.graph_model.proofs.GraphLemmas.{covers, is_about, leaves_vertex, is_about_arc, leaves_weight, has_vertex-apply, weight-apply}
 use Rattle.graph_model.proofs.OrderLemmas.{arcs_total}
 use Rattle.graph_model.proofs.RowLemmas.{rows_rise_between, row_is_between}
-use Rattle.graph_model.proofs.SortedLemmas.{true_from_T, both_true, map_at, rises, found}
+use Rattle.graph_model.proofs.SortedLemmas.{true_from_T, map_at, rises, found}
 use Rattle.graph_model.proofs.WriteLemmas.{covers_ends}
 use Rattle.run_model.specs.Answering.{targets_of}
 use Rattle.run_model.proofs.ListLemmas.{apart_short, all_from_places, all_on, all_taken}
@@ -172,53 +172,58 @@ module _ (g : Graph) (small : IsSmall g) where
       let len = fin_map.len-entries g.arcs in
       omega arith
 
-  -- ---- targets
+-- ---- targets
 
-  module _ (v : ℕ) where
-    abbrev from : Key
-    from = record { src = v; second = 1 }
+module _ (g : Graph) (v : ℕ) where
+  abbrev from : Key
+  from = record { src = v; second = 1 }
 
-    abbrev until : Key
-    until = record { src = v + 1; second = 0 }
+  abbrev until : Key
+  until = record { src = v + 1; second = 0 }
 
-    -- a row of the range is an arc's from v
-    arc_row : (r : Row) → is_between from until r.key ≡ true → (r.key.src ≡ v) × (1 ≤ r.key.second)
-    arc_row r between = (grind (arith, nat_tests), grind (arith, nat_tests))
+  -- a row of the range is an arc's from v
+  arc_row : (r : Row) → is_between from until r.key ≡ true → (r.key.src ≡ v) × (1 ≤ r.key.second)
+  arc_row r between = (grind (arith, nat_tests), grind (arith, nat_tests))
 
-    arc_value : (r : Row) → 1 ≤ r.key.second → value_at g r.key ≡ Some r.weight → weight_of g r.key.src (r.key.second - 1) ≡ Some r.weight
-    arc_value r arc is =
-        ap (λ t. cond t (cond (has_vertex g r.key.src) (Some 0) None) (weight_of g r.key.src (r.key.second - 1))) (sym (ne_eqb r.key.second 0 (λ none. absurd (omega arith)))) ∙ is
+  arc_value : (r : Row) → 1 ≤ r.key.second → value_at g r.key ≡ Some r.weight → weight_of g r.key.src (r.key.second - 1) ≡ Some r.weight
+  arc_value r arc is =
+      ap (λ t. cond t (cond (has_vertex g r.key.src) (Some 0) None) (weight_of g r.key.src (r.key.second - 1))) (sym (ne_eqb r.key.second 0 (λ none. absurd (omega arith)))) ∙ is
 
+  -- an arc leads from v to each target
+  pub target_arc : (i t : ℕ) → slice_get (targets_of g v) i ≡ Some t → (weight : ℕ) × (weight_of g v t ≡ Some weight)
+  target_arc i t at =
+      let r = map_at (λ (r : Row). r.key.second - 1) (rows g from until) i t at in
+      let is = row_is_between g from until i r.0 r.1 in
+      let arc = arc_row r.0 is.0 in
+      (r.0.weight, (λ k. weight_of g (sym arc.0 k) (sym r.2 k)) ∙ arc_value r.0 arc.1 is.1)
+
+  -- rows of one vertex with one target are not below each other
+  not_below : (r s : Row) → is_between from until r.key ≡ true → is_between from until s.key ≡ true → r.key.second - 1 ≡ s.key.second - 1 → is_below r.key s.key ≡ true → ⊥
+  not_below r s between_r between_s same below =
+      let arc_r = arc_row r between_r in
+      let arc_s = arc_row s between_s in
+      let sources : r.key.src ≡ s.key.src = arc_r.0 ∙ sym arc_s.0 in
+      let seconds : r.key.second ≡ s.key.second = omega (arith, arc_r.1, arc_s.1) in
+      let keys : r.key ≡ s.key = (λ i. record { src = sources i; second = seconds i }) in
+      key_not_below s.key (subst (λ k. is_below k s.key ≡ true) keys below)
+    where
+      key_not_below : (k : Key) → is_below k k ≡ true → ⊥
+      key_not_below k below = grind (arith, nat_tests)
+
+  targets_apart : (i j t : ℕ) → slice_get (targets_of g v) i ≡ Some t → slice_get (targets_of g v) j ≡ Some t → i ≡ j
+  targets_apart i j t at_i at_j =
+      let a = map_at (λ (r : Row). r.key.second - 1) (rows g from until) i t at_i in
+      let b = map_at (λ (r : Row). r.key.second - 1) (rows g from until) j t at_j in
+      let is_a = row_is_between g from until i a.0 a.1 in
+      let is_b = row_is_between g from until j b.0 b.1 in
+      ⊎_elim (λ equal. equal) (⊎_elim
+      (λ less. absurd (not_below a.0 b.0 is_a.0 is_b.0 (a.2 ∙ sym b.2) (rows_rise_between g from until i j a.0 b.0 less a.1 b.1)))
+      (λ more. absurd (not_below b.0 a.0 is_b.0 is_a.0 (b.2 ∙ sym a.2) (rows_rise_between g from until j i b.0 a.0 more b.1 a.1))))
+      (cases_order i j)
+
+  module _ (small : IsSmall g) where
     target_within : (i t : ℕ) → slice_get (targets_of g v) i ≡ Some t → t ≤ MAX_ID
-    target_within i t at =
-        let r = map_at (λ (r : Row). r.key.second - 1) (rows g from until) i t at in
-        let is = row_is_between g from until i r.0 r.1 in
-        let within = small.arcs r.0.key.src (r.0.key.second - 1) r.0.weight (arc_value r.0 (arc_row r.0 is.0).1 is.1) in
-        subst (λ n. n ≤ MAX_ID) r.2 within.1
-
-    -- rows of one vertex with one target are not below each other
-    not_below : (r s : Row) → is_between from until r.key ≡ true → is_between from until s.key ≡ true → r.key.second - 1 ≡ s.key.second - 1 → is_below r.key s.key ≡ true → ⊥
-    not_below r s between_r between_s same below =
-        let arc_r = arc_row r between_r in
-        let arc_s = arc_row s between_s in
-        let sources : r.key.src ≡ s.key.src = arc_r.0 ∙ sym arc_s.0 in
-        let seconds : r.key.second ≡ s.key.second = omega (arith, arc_r.1, arc_s.1) in
-        let keys : r.key ≡ s.key = (λ i. record { src = sources i; second = seconds i }) in
-        key_not_below s.key (subst (λ k. is_below k s.key ≡ true) keys below)
-      where
-        key_not_below : (k : Key) → is_below k k ≡ true → ⊥
-        key_not_below k below = grind (arith, nat_tests)
-
-    targets_apart : (i j t : ℕ) → slice_get (targets_of g v) i ≡ Some t → slice_get (targets_of g v) j ≡ Some t → i ≡ j
-    targets_apart i j t at_i at_j =
-        let a = map_at (λ (r : Row). r.key.second - 1) (rows g from until) i t at_i in
-        let b = map_at (λ (r : Row). r.key.second - 1) (rows g from until) j t at_j in
-        let is_a = row_is_between g from until i a.0 a.1 in
-        let is_b = row_is_between g from until j b.0 b.1 in
-        ⊎_elim (λ equal. equal) (⊎_elim
-        (λ less. absurd (not_below a.0 b.0 is_a.0 is_b.0 (a.2 ∙ sym b.2) (rows_rise_between g from until i j a.0 b.0 less a.1 b.1)))
-        (λ more. absurd (not_below b.0 a.0 is_b.0 is_a.0 (b.2 ∙ sym a.2) (rows_rise_between g from until j i b.0 a.0 more b.1 a.1))))
-        (cases_order i j)
+    target_within i t at = let arc = target_arc i t at in (small.arcs v t arc.0 arc.1).1
 
     pub targets_are : AllByRecursion (λ t. t ≤ MAX_ID) (targets_of g v)
     targets_are = all_from_places (λ t. t ≤ MAX_ID) (targets_of g v) target_within

@@ -5,3 +5,4 @@ pub mod Inputs
 pub mod Run
 pub mod Texts
 pub mod Laws
+pub mod Examples

@@ -1,6 +1,7 @@
 //! Laws of runs and of their texts. Each is a function whose contract is the law.
 
 ghost use Rattle.run_model.specs.Laws.{TextIsOfOneJournal, TextIsOfOneReport, RunsAreShort, TextsTellRuns};
+ghost use Rattle.run_model.specs.Examples.{ConflictExamples, AnswerExamples, WrongAnswers, WrongParts, TextExamples};
 
 /// Two journals with the same text are equal, where no number has more than 64 digits.
 pub fn journal_text_is_of_one_journal()
@@ -20,4 +21,17 @@ pub fn runs_have_short_numbers()
 /// Two runs that wrote the same text of a journal or of a report have the same journal or report.
 pub fn texts_tell_runs()
     ensures { TextsTellRuns }
+{}
+
+/// The texts of a small journal, and of one answer of each kind.
+pub fn worked_texts_hold()
+    ensures { TextExamples }
+{}
+
+/// Runs that were worked by hand are runs, and outputs with one answer or one part wrong are not.
+pub fn worked_runs_hold()
+    ensures conflicts { ConflictExamples }
+    ensures answers { AnswerExamples }
+    ensures wrong_answers { WrongAnswers }
+    ensures wrong_parts { WrongParts }
 {}

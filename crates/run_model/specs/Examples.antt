@@ -1,0 +1,177 @@
+-- Worked by hand: runs, outputs that are no run's, and texts.
+use Rattle.std.specs.Prelude.{◌≡◌, ℕ, List, [], ◌∷◌, ◌++◌, codes, Some, None}
+use Rattle.graph_model.specs.declared.write.Kind.TheVariants.{Undirected}
+use Rattle.graph_model.specs.declared.write.Write.{Write}
+use Rattle.graph_model.specs.declared.write.Write.TheVariants as writes
+use Rattle.graph_model.specs.declared.journal.TxnName.{TxnName}
+use Rattle.graph_model.specs.declared.journal.Commit.{Commit}
+use Rattle.graph_model.specs.declared.refusal.Cause.{Cause}
+use Rattle.graph_model.specs.declared.refusal.Cause.TheVariants.{Later, Holder}
+use Rattle.graph_model.specs.declared.table.Value.TheVariants.{Number}
+use Rattle.run_model.specs.declared.command.Command.{Command}
+use Rattle.run_model.specs.declared.command.Command.TheVariants as commands
+use Rattle.run_model.specs.declared.answer.Answer.{Answer}
+use Rattle.run_model.specs.declared.answer.Answer.TheVariants as answers
+use Rattle.run_model.specs.Inputs.{File}
+use Rattle.run_model.specs.Run.{txn_name, load_commit, IsRun}
+use Rattle.run_model.specs.Texts.{report_text, journal_text}
+
+-- a run of these scripts on an undirected graph, with one leaf, gives this
+abbrev pub Gives : List Write → List (List Command) → List Commit → List (List Answer) → List (List File)
+    → Type 0
+Gives load scripts journal reports files =
+    IsRun (record { kind = Undirected; load = load; scripts = scripts }) 1
+    (record { journal = journal; reports = reports; files = files })
+
+-- ---- two scripts that set the weight of one edge
+
+-- vertices 1 to 4, and edges from 1 to 2 and from 2 to 3
+abbrev pub load : List Write
+load =
+    writes.AddVertex 1 ∷ writes.AddVertex 2 ∷ writes.AddVertex 3 ∷ writes.AddVertex 4
+    ∷ writes.AddEdge 1 2 1 ∷ writes.AddEdge 2 3 1 ∷ []
+
+-- a script that gives the edge from 1 to 2 another weight
+abbrev pub sets : ℕ → List Command
+sets weight = commands.Begin ∷ commands.SetEdge 1 2 weight ∷ commands.Commit ∷ []
+
+-- a commit of the weight 9
+abbrev pub nine : ℕ → Commit
+nine stamp = record { stamp = stamp; start = 1; by = txn_name 1 1; writes = writes.SetEdge 1 2 9 ∷ [] }
+
+-- the first commits, and the second, with this start, meets it
+abbrev pub Meets : ℕ → Cause → Type 0
+Meets start cause =
+    Gives load (sets 9 ∷ sets 8 ∷ []) (load_commit load ∷ nine 2 ∷ [])
+    ((answers.Begun (txn_name 1 1) 1 ∷ answers.Done ∷ answers.Committed (Some 2) ∷ [])
+    ∷ (answers.Begun (txn_name 2 1) start ∷ answers.Conflict cause ∷ answers.Skipped ∷ []) ∷ [])
+    ([] ∷ [] ∷ [])
+
+-- what the second may name
+pub record ConflictExamples : Type 0 where
+  -- the first may still be open, or have committed
+  pub with_open : Meets 1 (Holder (txn_name 1 1))
+  pub with_later : Meets 1 (Later 2)
+  -- the load is not later than the start, and no other transaction wrote
+  pub with_load : Meets 1 (Later 1) → ⊥
+  pub with_itself : Meets 1 (Holder (txn_name 2 1)) → ⊥
+  pub with_nobody : Meets 1 (Holder (txn_name 1 2)) → ⊥
+  -- the first had committed at the start
+  pub with_earlier : Meets 2 (Holder (txn_name 1 1)) → ⊥
+
+-- ---- one script on a graph of one vertex
+
+-- vertex 1 alone
+abbrev pub one_vertex : List Write
+one_vertex = writes.AddVertex 1 ∷ []
+
+-- a transaction that commits nothing is answered this
+abbrev pub GetsAnswers : List Command → List Answer → List File → Type 0
+GetsAnswers cs report files =
+    Gives one_vertex ((commands.Begin ∷ cs) ∷ []) (load_commit one_vertex ∷ [])
+    ((answers.Begun (txn_name 1 1) 1 ∷ report) ∷ []) (files ∷ [])
+
+-- lines of each kind
+pub record AnswerExamples : Type 0 where
+  pub reads : GetsAnswers
+      (commands.Weight 1 1 ∷ commands.Neighbours 1 ∷ commands.Neighbours 2 ∷ commands.Count ∷ commands.Commit ∷ [])
+      (answers.Nothing ∷ answers.Neighbours [] ∷ answers.NoVertex 2 ∷ answers.Counted 1 0
+      ∷ answers.Committed None ∷ []) []
+  pub refusals : GetsAnswers
+      (commands.AddVertex 1 ∷ commands.AddEdge 1 1 5 ∷ commands.AddEdge 1 2 5 ∷ commands.Commit ∷ [])
+      (answers.Exists ∷ answers.SelfLoop ∷ answers.NoVertex 2 ∷ answers.Committed None ∷ []) []
+  pub own_writes : GetsAnswers
+      (commands.AddVertex 2 ∷ commands.Count ∷ commands.Abort ∷ [])
+      (answers.Done ∷ answers.Counted 2 0 ∷ answers.Aborted ∷ []) []
+  pub kernel : GetsAnswers
+      (commands.Cdlp 0 (codes "f") ∷ commands.Bfs 2 (codes "g") ∷ commands.Commit ∷ [])
+      (answers.Table 1 ∷ answers.NoVertex 2 ∷ answers.Committed None ∷ [])
+      (record { name = codes "f"; table = record { vertex = 1; value = Number 1 } ∷ [] } ∷ [])
+
+-- one answer is wrong
+pub record WrongAnswers : Type 0 where
+  pub other_weight : GetsAnswers (commands.Weight 1 1 ∷ commands.Abort ∷ [])
+      (answers.Weight 5 ∷ answers.Aborted ∷ []) [] → ⊥
+  pub made_what_exists : GetsAnswers (commands.AddVertex 1 ∷ commands.Abort ∷ [])
+      (answers.Done ∷ answers.Aborted ∷ []) [] → ⊥
+  pub met_nobody : GetsAnswers (commands.AddVertex 2 ∷ commands.Abort ∷ [])
+      (answers.Conflict (Later 1) ∷ answers.Skipped ∷ []) [] → ⊥
+  pub full_at_a_drop : GetsAnswers (commands.DropVertex 1 ∷ commands.Abort ∷ [])
+      (answers.Full ∷ answers.Skipped ∷ []) [] → ⊥
+  pub full_too_early : GetsAnswers (commands.AddVertex 2 ∷ commands.Abort ∷ [])
+      (answers.Full ∷ answers.Skipped ∷ []) [] → ⊥
+  pub skipped_alone : GetsAnswers (commands.Count ∷ commands.Abort ∷ [])
+      (answers.Skipped ∷ answers.Aborted ∷ []) [] → ⊥
+  pub not_skipped : GetsAnswers (commands.AddVertex 2 ∷ commands.Abort ∷ [])
+      (answers.Full ∷ answers.Aborted ∷ []) [] → ⊥
+  pub commits_nothing : GetsAnswers (commands.Commit ∷ [])
+      (answers.Committed (Some 1) ∷ []) [] → ⊥
+  pub forgets_a_write : GetsAnswers (commands.AddVertex 2 ∷ commands.Commit ∷ [])
+      (answers.Done ∷ answers.Committed None ∷ []) [] → ⊥
+  pub lacks_its_file : GetsAnswers (commands.Wcc (codes "f") ∷ commands.Abort ∷ [])
+      (answers.Table 1 ∷ answers.Aborted ∷ []) [] → ⊥
+  pub unasked_file : GetsAnswers (commands.Abort ∷ [])
+      (answers.Aborted ∷ []) (record { name = codes "f"; table = [] } ∷ []) → ⊥
+
+-- a transaction begins so
+abbrev pub Begins : TxnName → ℕ → Type 0
+Begins by start =
+    Gives one_vertex ((commands.Begin ∷ commands.Abort ∷ []) ∷ []) (load_commit one_vertex ∷ [])
+    ((answers.Begun by start ∷ answers.Aborted ∷ []) ∷ []) ([] ∷ [])
+
+-- one other part is wrong
+pub record WrongParts : Type 0 where
+  pub begins_before_the_load : Begins (txn_name 1 1) 0 → ⊥
+  pub begins_in_the_future : Begins (txn_name 1 1) 2 → ⊥
+  pub has_another_name : Begins (txn_name 1 2) 1 → ⊥
+  pub begins_before_its_last_commit : Gives load
+      ((commands.Begin ∷ commands.SetEdge 1 2 9 ∷ commands.Commit ∷ commands.Begin ∷ commands.Abort ∷ []) ∷ [])
+      (load_commit load ∷ nine 2 ∷ [])
+      ((answers.Begun (txn_name 1 1) 1 ∷ answers.Done ∷ answers.Committed (Some 2)
+      ∷ answers.Begun (txn_name 1 2) 1 ∷ answers.Aborted ∷ []) ∷ []) ([] ∷ []) → ⊥
+  pub commits_another_write : Gives load (sets 8 ∷ []) (load_commit load ∷ nine 2 ∷ [])
+      ((answers.Begun (txn_name 1 1) 1 ∷ answers.Done ∷ answers.Committed (Some 2) ∷ []) ∷ []) ([] ∷ []) → ⊥
+  pub not_begun : Gives [] ((commands.Commit ∷ []) ∷ []) [] ((answers.Committed None ∷ []) ∷ []) ([] ∷ []) → ⊥
+  pub skips_a_stamp : Gives load (sets 9 ∷ []) (load_commit load ∷ nine 3 ∷ [])
+      ((answers.Begun (txn_name 1 1) 1 ∷ answers.Done ∷ answers.Committed (Some 3) ∷ []) ∷ []) ([] ∷ []) → ⊥
+  pub not_loaded : Gives one_vertex [] [] [] [] → ⊥
+  pub not_reported : Gives [] ([] ∷ []) [] [] ([] ∷ []) → ⊥
+  pub reported_in_part : Gives [] ((commands.Begin ∷ commands.Abort ∷ []) ∷ []) []
+      ((answers.Begun (txn_name 1 1) 0 ∷ []) ∷ []) ([] ∷ []) → ⊥
+  pub commits_unasked : Gives load [] (load_commit load ∷ nine 2 ∷ []) [] [] → ⊥
+  pub lacks_its_files : Gives [] ([] ∷ []) [] ([] ∷ []) [] → ⊥
+
+-- ---- texts
+
+-- the texts of a small journal, and of one answer of each kind
+abbrev pub small_journal : List Commit
+small_journal =
+    record {
+      stamp = 1;
+      start = 0;
+      by = txn_name 0 1;
+      writes = writes.AddVertex 1 ∷ writes.AddVertex 20 ∷ writes.AddEdge 1 20 1 ∷ [];
+    }
+    ∷ record {
+      stamp = 2;
+      start = 1;
+      by = txn_name 1 3;
+      writes = writes.SetEdge 1 20 9 ∷ writes.DropEdge 20 1 ∷ writes.DropVertex 1 ∷ [];
+    } ∷ []
+
+abbrev pub all_answers : List Answer
+all_answers =
+    answers.Begun (txn_name 2 1) 1 ∷ answers.Done ∷ answers.Exists ∷ answers.SelfLoop ∷ answers.NoVertex 9
+    ∷ answers.NoEdge ∷ answers.HasEdges ∷ answers.Conflict (Later 2) ∷ answers.Conflict (Holder (txn_name 1 1))
+    ∷ answers.Full ∷ answers.Weight 5 ∷ answers.Nothing ∷ answers.Neighbours (2 ∷ 4 ∷ []) ∷ answers.Counted 4 2
+    ∷ answers.Table 4 ∷ answers.Committed (Some 2) ∷ answers.Committed None ∷ answers.Aborted
+    ∷ answers.Skipped ∷ []
+
+pub record TextExamples : Type 0 where
+  pub journal : journal_text small_journal ≡
+      codes "commit 1 start 0 by 0.1\nvertex 1\nvertex 20\nedge 1 20 1\n"
+      ++ codes "commit 2 start 1 by 1.3\nset 1 20 9\ndrop 20 1\nunvertex 1\n"
+  pub report : report_text all_answers ≡
+      codes "begin 2.1 start 1\nok\nexists\nself loop\nno vertex 9\nno edge\nhas edges\n"
+      ++ codes "conflict later 2\nconflict open 1.1\nfull\nweight 5\nnone\nneighbours 2 2 4\n"
+      ++ codes "vertices 4 edges 2\ntable 4\ncommit 2\ncommit -\naborted\nskipped\n"
