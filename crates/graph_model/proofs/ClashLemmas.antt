@@ -37,7 +37,8 @@ or_turn false false c d e = or_comm c d
 pub clash-symm : (kind : Kind) (x y : Write) → clash kind x y ≡ clash kind y x
 clash-symm kind x y = or_turn _ _ (cuts_off x y) (cuts_off y x) (same_item-symm (item kind x) (item kind y))
 
-any_or : {X : Type 0} (p q : X → Bool) (xs : List X) → list_any (λ x. p x || q x) xs ≡ (list_any p xs || list_any q xs)
+-- one of two tests passes somewhere where one of them passes somewhere
+pub any_or : {X : Type 0} (p q : X → Bool) (xs : List X) → list_any (λ x. p x || q x) xs ≡ (list_any p xs || list_any q xs)
 any_or p q [] = refl
 any_or p q (x ∷ xs) = ap (λ t. (p x || q x) || t) (any_or p q xs) ∙ shuffle (p x) (q x) (list_any p xs) (list_any q xs)
   where

@@ -1,0 +1,17 @@
+pub mod VersionLemmas
+pub mod LayerLemmas
+pub mod ValueLemmas
+pub mod RowLemmas
+pub mod SettledRowLemmas
+pub mod MeetLemmas
+pub mod StoreLemmas
+pub mod PruneLemmas
+pub mod OwnerLemmas
+pub mod NewLemmas
+pub mod WriterLemmas
+pub mod CheckLemmas
+pub mod CombineLemmas
+pub mod ConflictLemmas
+pub mod CellLemmas
+pub mod SeenLemmas
+pub mod StampedLemmas
