@@ -1,23 +1,25 @@
 -- Clashes have no direction, and writes of one row clash.
-use Rattle.std.proofs.Common.{◌≡◌, ℕ, ◌-◌, List, [], ◌∷◌, ◌++◌, refl, sym, ◌∙◌, ap, cond}
-use Rattle.std.specs.Prelude.{Bool, true, false, ◌==◌, ◌&&◌, ◌||◌}
+use Rattle.std.proofs.Common.{◌≡◌, ℕ, ◌-◌, List, [], ◌∷◌, ◌++◌, refl, sym, ◌∙◌, ap, cond, inl, inr}
+use Rattle.std.specs.Prelude.{Bool, true, false, ◌==◌, ◌&&◌, ◌||◌, nat_lt}
 use Rattle.std.specs.List.{list_any}
-use Rattle.std.proofs.lemmas.Bool.{or_from, or_parts, false_from_ne_true, true≢false}
+use Rattle.std.proofs.lemmas.Bool.{or_left, or_right, or_from, or_parts, false_from_ne_true, true≢false}
 use Rattle.std.proofs.lemmas.List.Folds.{list_any-append}
 use Rattle.graph_model.specs.declared.write.Kind.{Kind}
+use Rattle.graph_model.specs.declared.write.Kind.TheVariants.{Directed, Undirected}
 use Rattle.graph_model.specs.declared.write.Write.{Write}
 use Rattle.graph_model.specs.declared.write.Write.TheVariants.{AddVertex, DropVertex, AddEdge, SetEdge, DropEdge}
 use Rattle.graph_model.specs.declared.row.Key.{Key}
 use Rattle.graph_model.specs.Items.{Item, edge, item, same_item, cuts_off, clash}
 use Rattle.graph_model.specs.Items.Item.{Vertex, Edge}
-use Rattle.graph_model.specs.Rows.{vertex_key}
-use Rattle.graph_model.specs.Effects.{same_key, arc_keys, writes_at, any_writes}
+use Rattle.graph_model.specs.Rows.{vertex_key, arc_key}
+use Rattle.graph_model.specs.Effects.{same_key, arc_keys, writes_at, touches_at, any_writes}
 use Rattle.graph_model.specs.Legal.{have_clash}
 use Rattle.graph_model.specs.Conflict.{meets}
-use Rattle.graph_model.proofs.TestLemmas.{eq_of, eq_symm, both_of, either_of, or_comm}
+use Rattle.graph_model.specs.WriteLaws.{ClashesByRow}
+use Rattle.graph_model.proofs.TestLemmas.{self_eq, eq_of, eq_symm, both_of, either_of, or_comm}
 use Rattle.graph_model.proofs.GraphLemmas.{covers}
-use Rattle.graph_model.proofs.WriteLemmas.{turned_edge, clash_of_item}
-use Rattle.graph_model.proofs.EffectLemmas.{edge_tie}
+use Rattle.graph_model.proofs.WriteLemmas.{turned_edge, clash_of_item, clash_of_cut, clash_of_cut_by}
+use Rattle.graph_model.proofs.EffectLemmas.{edge_tie, touch_is_cut_off}
 
 -- ---- a clash has no direction
 
@@ -118,3 +120,68 @@ apart_rows kind w [] q away on = refl
 apart_rows kind w (x ∷ ws) q away on =
     let p = or_parts _ _ away in
     or_from _ _ (false_from_ne_true _ (λ on_x. true≢false (sym (same_row_clash kind w x q on on_x) ∙ p.0))) (apart_rows kind w ws q p.1 on)
+
+-- ---- a clash, by rows
+
+-- a row of the item: of an edge that of the arc that names it
+pub key_of_item : Item → Key
+key_of_item (Vertex v) = vertex_key v
+key_of_item (Edge u v) = arc_key u v
+
+key_self : (q : Key) → same_key q q ≡ true
+key_self q = λ i. self_eq q.src i && self_eq q.second i
+
+edge_row : (kind : Kind) (u v : ℕ) → list_any (same_key (key_of_item (edge kind u v))) (arc_keys kind u v) ≡ true
+unfolding key_of_item
+edge_row Directed u v = or_left _ _ (key_self (arc_key u v))
+edge_row Undirected u v = elim (nat_lt v u) as (λ t. list_any (same_key (key_of_item (cond t (Edge v u) (Edge u v)))) (arc_keys Undirected u v) ≡ true) [
+  | true ↦ or_left _ _ (key_self (arc_key v u))
+  | false ↦ or_right (same_key (arc_key u v) (arc_key v u)) _ (or_left _ _ (key_self (arc_key u v)))
+]
+
+-- a write writes a row of its item
+pub writes_its_item : (kind : Kind) (w : Write) → writes_at kind w (key_of_item (item kind w)) ≡ true
+unfolding key_of_item
+writes_its_item kind (AddVertex v) = or_left _ _ (key_self (vertex_key v))
+writes_its_item kind (DropVertex v) = or_left _ _ (key_self (vertex_key v))
+writes_its_item kind (AddEdge u v weight) = edge_row kind u v
+writes_its_item kind (SetEdge u v weight) = edge_row kind u v
+writes_its_item kind (DropEdge u v) = edge_row kind u v
+
+item_eq : (i j : Item) → same_item i j ≡ true → i ≡ j
+item_eq (Vertex v) (Vertex w) e = ap Vertex (eq_of v w e)
+item_eq (Vertex v) (Edge a b) e = cc
+item_eq (Edge u v) (Vertex w) e = cc
+item_eq (Edge u v) (Edge a b) e = let p = both_of _ _ e in λ i. Edge (eq_of u a p.0 i) (eq_of v b p.1 i)
+
+-- two writes of one item write one row
+pub same_item_row : (kind : Kind) (x y : Write) → same_item (item kind x) (item kind y) ≡ true → (q : Key) × (writes_at kind x q ≡ true) × (writes_at kind y q ≡ true)
+same_item_row kind x y same =
+    let one : item kind x ≡ item kind y = item_eq (item kind x) (item kind y) same in
+    (key_of_item (item kind x), writes_its_item kind x, ap (λ i. writes_at kind y (key_of_item i)) one ∙ writes_its_item kind y)
+
+-- the first write removes a vertex that the second touches
+cut_off : (x y : Write) → cuts_off x y ≡ true → (v : ℕ) × (x ≡ DropVertex v) × (touches_at y (vertex_key v) ≡ true)
+cut_off (DropVertex v) y cuts = (v, refl, touch_is_cut_off v y ∙ cuts)
+cut_off (AddVertex v) y cuts = cc
+cut_off (AddEdge u v weight) y cuts = cc
+cut_off (SetEdge u v weight) y cuts = cc
+cut_off (DropEdge u v) y cuts = cc
+
+cut_by_touch : (x y : Write) (v : ℕ) → x ≡ DropVertex v → touches_at y (vertex_key v) ≡ true → cuts_off x y ≡ true
+cut_by_touch x y v is touches = ap (λ w. cuts_off w y) is ∙ sym (touch_is_cut_off v y) ∙ touches
+
+-- what a clash is, by rows
+pub clash_parts : (kind : Kind) (x y : Write) → clash kind x y ≡ true → ClashesByRow kind x y
+clash_parts kind x y clashes = elim (either_of (same_item (item kind x) (item kind y) || cuts_off x y) (cuts_off y x) clashes) as (λ _. ClashesByRow kind x y) [
+  | inl first ↦ elim (either_of (same_item (item kind x) (item kind y)) (cuts_off x y) first) as (λ _. ClashesByRow kind x y) [
+    | inl same ↦ inl (same_item_row kind x y same)
+    | inr cuts ↦ inr (inl (cut_off x y cuts))
+  ]
+  | inr cuts ↦ inr (inr (cut_off y x cuts))
+]
+
+pub clash_of_parts : (kind : Kind) (x y : Write) → ClashesByRow kind x y → clash kind x y ≡ true
+clash_of_parts kind x y (inl h) = same_row_clash kind x y h.0 h.1 h.2
+clash_of_parts kind x y (inr (inl h)) = clash_of_cut kind x y (cut_by_touch x y h.0 h.1 h.2)
+clash_of_parts kind x y (inr (inr h)) = clash_of_cut_by kind x y (cut_by_touch y x h.0 h.1 h.2)

@@ -10,8 +10,9 @@ use Rattle.graph_model.specs.declared.write.Write.{Write}
 use Rattle.graph_model.specs.declared.write.Write.TheVariants.{AddVertex, DropVertex, AddEdge, SetEdge, DropEdge}
 use Rattle.graph_model.specs.declared.row.Key.{Key}
 use Rattle.graph_model.specs.Graph.{Graph, has_vertex, weight_of, apply, apply_all}
-use Rattle.graph_model.specs.Rows.{arc_key, value_at}
-use Rattle.graph_model.specs.Effects.{same_key, arc_keys, value_left, writes_at, any_writes, value_after}
+use Rattle.graph_model.specs.Items.{cuts_off}
+use Rattle.graph_model.specs.Rows.{vertex_key, arc_key, value_at}
+use Rattle.graph_model.specs.Effects.{same_key, arc_keys, value_left, writes_at, touches_at, any_writes, value_after}
 use Rattle.graph_model.proofs.GraphLemmas.{covers, is_about, leaves_vertex, is_about_arc, leaves_weight, has_vertex-apply, weight-apply}
 
 -- ---- the keys of an edge are those of the arcs that it covers
@@ -95,3 +96,33 @@ value_after-none kind [] q value none = refl
 value_after-none kind (w ∷ ws) q value none =
     let p = or_parts _ _ none in
     value_after-none kind ws q _ p.1 ∙ ap (λ t. cond t (value_left w) value) p.0
+
+-- ---- touched rows
+
+and_true : (s : Bool) → (s && true) ≡ s
+and_true true = refl
+and_true false = refl
+
+no_touch : (s t : Bool) → (s && false || t && false) ≡ false
+no_touch true true = refl
+no_touch true false = refl
+no_touch false true = refl
+no_touch false false = refl
+
+-- a vertex is touched by the writes that its removal would cut off
+pub touch_is_cut_off : (v : ℕ) (w : Write) → touches_at w (vertex_key v) ≡ cuts_off (DropVertex v) w
+touch_is_cut_off v (AddVertex u) = refl
+touch_is_cut_off v (DropVertex u) = refl
+touch_is_cut_off v (AddEdge a b weight) = λ i. and_true (v == a) i || and_true (v == b) i
+touch_is_cut_off v (SetEdge a b weight) = refl
+touch_is_cut_off v (DropEdge a b) = refl
+
+-- no arc is touched
+pub touch_is_of_vertex : (u v : ℕ) (w : Write) → touches_at w (arc_key u v) ≡ false
+touch_is_of_vertex u v (AddVertex a) = refl
+touch_is_of_vertex u v (DropVertex a) = refl
+touch_is_of_vertex u v (AddEdge a b weight) =
+    let off : (v + 1 == 0) ≡ false = grind (arith, nat_tests) in
+    (λ i. ((u == a) && off i) || ((u == b) && off i)) ∙ no_touch (u == a) (u == b)
+touch_is_of_vertex u v (SetEdge a b weight) = refl
+touch_is_of_vertex u v (DropEdge a b) = refl

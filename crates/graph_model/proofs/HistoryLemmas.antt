@@ -105,15 +105,23 @@ get_within [] i lt = absurd (omega arith)
 get_within (x ∷ xs) zero lt = (x, refl)
 get_within (x ∷ xs) (suc i) lt = get_within xs i (omega arith)
 
--- Writes that were allowed at a start, and that clash with no commit since, are allowed at each later stamp.
+-- Writes that were allowed at a start, and that clash with no commit since, are allowed up to a later stamp.
+module _ (kind : Kind) (journal : List Commit) (ws : List Write) (start limit : ℕ) (within : limit ≤ length journal)
+    (serial : (i : ℕ) (c : Commit) → i < limit → slice_get journal i ≡ Some c → AllAllowed kind (graph_at kind journal i) c.writes)
+    (before : (i : ℕ) (c : Commit) → i < limit → slice_get journal i ≡ Some c → start ≤ i → have_clash kind c.writes ws ≡ false)
+    (allowed : AllAllowed kind (graph_at kind journal start) ws) where
+  pub allowed_up_to : (m : ℕ) → start + m ≤ limit → AllAllowed kind (graph_at kind journal (start + m)) ws
+  allowed_up_to zero le = let same : start + 0 ≡ start = omega arith in subst (λ n. AllAllowed kind (graph_at kind journal n) ws) (sym same) allowed
+  allowed_up_to (suc m) le =
+      let at = get_within journal (start + m) (omega arith) in
+      let next : start + suc m ≡ start + m + 1 = omega arith in
+      subst (λ g. AllAllowed kind g ws) (sym (ap (graph_at kind journal) next ∙ graph_at-next kind journal (start + m) at.0 at.1))
+      (behind_all kind (graph_at kind journal (start + m)) at.0.writes ws (serial (start + m) at.0 (omega arith) at.1) (before (start + m) at.0 (omega arith) at.1 (omega arith)) (allowed_up_to m (omega arith)))
+
+-- The same up to the end.
 module _ (kind : Kind) (journal : List Commit) (ws : List Write) (start : ℕ)
     (serial : (i : ℕ) (c : Commit) → slice_get journal i ≡ Some c → AllAllowed kind (graph_at kind journal i) c.writes)
     (before : (i : ℕ) (c : Commit) → slice_get journal i ≡ Some c → start ≤ i → have_clash kind c.writes ws ≡ false)
     (allowed : AllAllowed kind (graph_at kind journal start) ws) where
   pub allowed_later : (m : ℕ) → start + m ≤ length journal → AllAllowed kind (graph_at kind journal (start + m)) ws
-  allowed_later zero le = let same : start + 0 ≡ start = omega arith in subst (λ n. AllAllowed kind (graph_at kind journal n) ws) (sym same) allowed
-  allowed_later (suc m) le =
-      let at = get_within journal (start + m) (omega arith) in
-      let next : start + suc m ≡ start + m + 1 = omega arith in
-      subst (λ g. AllAllowed kind g ws) (sym (ap (graph_at kind journal) next ∙ graph_at-next kind journal (start + m) at.0 at.1))
-      (behind_all kind (graph_at kind journal (start + m)) at.0.writes ws (serial (start + m) at.0 at.1) (before (start + m) at.0 at.1 (omega arith)) (allowed_later m (omega arith)))
+  allowed_later = allowed_up_to kind journal ws start (length journal) (omega arith) (λ i c below at. serial i c at) (λ i c below at from. before i c at from) allowed

@@ -1,6 +1,7 @@
 pub mod TestLemmas
 pub mod OrderLemmas
 pub mod WalkLemmas
+pub mod PathLemmas
 pub mod GraphLemmas
 pub mod WriteLemmas
 pub mod EffectLemmas
@@ -13,6 +14,9 @@ pub mod LabelLemmas
 pub mod TableLemmas
 pub mod HistoryLemmas
 pub mod LegalLemmas
+pub mod ConflictLemmas
+pub mod SerialLemmas
+pub mod ViewLemmas
 pub mod ExampleLemmas
 pub mod PlaceLemmas
 pub mod PickLemmas

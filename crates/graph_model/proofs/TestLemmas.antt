@@ -1,5 +1,5 @@
 -- What tests of numbers and of names say, and tests joined by 'and' and 'or'.
-use Rattle.std.proofs.Common.{◌≡◌, ℕ, refl, sym, ◌∙◌, ap, cond, arith, inl, inr}
+use Rattle.std.proofs.Common.{◌≡◌, ℕ, refl, arith, inl, inr}
 use Rattle.std.specs.Prelude.{Bool, true, false, ◌==◌, ◌&&◌, ◌||◌, ◌⊎◌}
 use Rattle.std.proofs.lemmas.Bool.Decides.{nat_tests}
 use Rattle.graph_model.specs.declared.journal.TxnName.{TxnName}

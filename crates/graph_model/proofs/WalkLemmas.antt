@@ -1,7 +1,6 @@
 -- The forms of walks that proofs use are the walks of the definition.
 use Rattle.std.proofs.Common.{◌≡◌, ℕ, zero, suc, ◌+◌, ◌≤◌, List, [], ◌∷◌, ◌++◌, length, refl, sym, ◌∙◌, ap, subst, arith, add-one, length-append, inl, inr, le_refl}
 use Rattle.std.specs.Prelude.{IsTrue, true, Option, Some, None, is_some, unwrap_or}
-use Rattle.graph_model.specs.declared.limits.TheConstants.{NO_WALK}
 use Rattle.graph_model.specs.Graph.{Graph, has_vertex, has_arc, weight_of}
 use Rattle.graph_model.specs.Walks.{IsWalk, walk_weight, IsLeastLength, IsLeastWeight, IsDistance, Reaches, ReachesBy, ReachesWithin}
 
@@ -113,10 +112,6 @@ pub weight_by_arc : (g : Graph) (root u v step m n : ℕ) → weight_of g u v �
 weight_by_arc g root u v step m n arc there p q =
     let on = q.least (p.attained.0 ++ v ∷ []) (walk_onto g root u v p.attained.0 p.attained.1 (ap is_some arc) there) in
     omega (arith, on, weight_onto g root u v step p.attained.0 p.attained.1 arc, p.attained.2)
-
-pub no_walk_is_none : (g : Graph) (root v : ℕ) (vs : List ℕ) → IsDistance g root v NO_WALK → IsWalk g root vs v → NO_WALK ≤ length vs
-no_walk_is_none g root v vs (inl p) w = p.least vs w
-no_walk_is_none g root v vs (inr p) w = absurd (p.0 vs w)
 
 pub walk_within : (g : Graph) (a b : ℕ) (vs : List ℕ) → IsWalk g a vs b → ReachesWithin g a (length vs) b
 walk_within g a b vs w = (length vs, le_refl (length vs), walk_reaches g a b vs w)

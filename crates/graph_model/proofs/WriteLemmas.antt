@@ -166,10 +166,12 @@ clash_of_item kind x y same =
     let items : same_item (item kind x) (item kind y) ≡ true = ap (same_item (item kind x)) (sym same) ∙ same_item_self (item kind x) in
     (λ i. items i || cuts_off x y || cuts_off y x)
 
-clash_of_cut : (kind : Kind) (x y : Write) → cuts_off x y ≡ true → clash kind x y ≡ true
+-- a removal clashes with what it cuts off
+pub clash_of_cut : (kind : Kind) (x y : Write) → cuts_off x y ≡ true → clash kind x y ≡ true
 clash_of_cut kind x y cuts = or_left _ _ (or_right (same_item (item kind x) (item kind y)) _ cuts)
 
-clash_of_cut_by : (kind : Kind) (x y : Write) → cuts_off y x ≡ true → clash kind x y ≡ true
+-- and the other way round
+pub clash_of_cut_by : (kind : Kind) (x y : Write) → cuts_off y x ≡ true → clash kind x y ≡ true
 clash_of_cut_by kind x y cuts = or_right (same_item (item kind x) (item kind y) || cuts_off x y) _ cuts
 
 swap_cond : {X : Type 0} (s t : Bool) (a b z : X) → (s ≡ true → t ≡ true → ⊥) → cond s a (cond t b z) ≡ cond t b (cond s a z)

@@ -1,5 +1,5 @@
 -- What an engine knows for one pass: the journal as far as the pass has seen it, and its own transactions.
-use Rattle.std.specs.Prelude.{ℕ, ◌≤◌, Bool, List, length, Option, IfSome}
+use Rattle.std.specs.Prelude.{◌≡◌, ℕ, ◌≤◌, Bool, List, [], ◌∷◌, ◌++◌, length, Option, IfSome, IfNone}
 use Rattle.std.specs.List.{AllByRecursion}
 use Rattle.graph_model.specs.declared.write.Kind.{Kind}
 use Rattle.graph_model.specs.declared.write.Write.{Write}
@@ -35,12 +35,19 @@ pub record Account : Type 0 where
   pub begun : ℕ
   pub allowed : ℕ
 
--- the open transaction began within what was seen, and its snapshot refused none of its writes
+-- an open transaction began within what was seen, its snapshot refused none of its writes, and they
+-- stand last in what the pass has made
 pub record IsOpenTxn (account : Account) (start : ℕ) : Type 0 where
   pub seen : start ≤ length account.seen
   pub allowed : AllAllowed account.kind (graph_at account.kind account.seen start) account.own
   pub within : AllByRecursion IsWithinLimits account.own
+  pub last : (earlier : List (List Write)) × (account.made ≡ earlier ++ account.own ∷ [])
 
 pub record IsValid (account : Account) : Type 0 where
   pub legal : IsLegal account.kind account.seen
   pub current : IfSome account.start (IsOpenTxn account)
+  -- there are no writes of its own where no transaction is open
+  pub idle : IfNone account.start (account.own ≡ [])
+  -- one list of writes for each transaction that was begun, of which there are no more than allowed
+  pub counted : length account.made ≡ account.begun
+  pub room : account.begun ≤ account.allowed

@@ -1,10 +1,11 @@
 -- Graphs, and what a write makes of one.
-use Rattle.std.specs.Prelude.{◌≡◌, ℕ, Bool, ◌==◌, ◌||◌, List, [], ◌∷◌, Option, is_some, IsTrue}
+use Rattle.std.specs.Prelude.{◌≡◌, ℕ, ◌≤◌, Bool, false, ◌==◌, ◌||◌, List, [], ◌∷◌, Option, Some, is_some, IsTrue}
 use Rattle.std.specs.List.{list_any}
 use Rattle.std.specs.Ordering.{nat_cmp, ordering_then}
 use Rattle.std.specs.declared.cmp.Ordering.{Ordering}
 use Rattle.std.specs.FinMap as map
 use Rattle.std.specs.FinMap.{FinMap}
+use Rattle.graph_model.specs.declared.limits.TheConstants.{MAX_ID, MAX_WEIGHT}
 use Rattle.graph_model.specs.declared.write.Kind.{Kind}
 use Rattle.graph_model.specs.declared.write.Kind.TheVariants.{Directed, Undirected}
 use Rattle.graph_model.specs.declared.write.Write.{Write}
@@ -74,3 +75,12 @@ HasBothEnds g = (u v : ℕ) → IsTrue (has_arc g u v) → IsTrue (has_vertex g 
 -- each arc goes the other way as well, with the same weight
 abbrev pub IsSymmetric : Graph → Type 0
 IsSymmetric g = (u v : ℕ) → weight_of g u v ≡ weight_of g v u
+
+-- no arc leads from a vertex to itself
+abbrev pub HasNoLoops : Graph → Type 0
+HasNoLoops g = (v : ℕ) → has_arc g v v ≡ false
+
+-- ids and weights are within their limits
+pub record IsBounded (g : Graph) : Type 0 where
+  pub ids : (v : ℕ) → IsTrue (has_vertex g v) → v ≤ MAX_ID
+  pub weights : (u v weight : ℕ) → weight_of g u v ≡ Some weight → weight ≤ MAX_WEIGHT

@@ -15,6 +15,10 @@ pub mod Components
 pub mod Labels
 pub mod Tables
 pub mod TableText
-pub mod Laws
+pub mod WriteLaws
+pub mod JournalLaws
+pub mod ConflictLaws
 pub mod TransactionLaws
+pub mod RowLaws
+pub mod KernelLaws
 pub mod Examples

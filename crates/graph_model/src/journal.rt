@@ -1,7 +1,7 @@
 //! Commits, and the journal of them.
 
 use crate::write::Writes;
-use items::Items;
+use items::{Items, RoomyItems};
 
 /// A transaction's name: the number of its script or pass, and its own number there, from 1. The
 /// load is `0.1`.
@@ -29,3 +29,6 @@ pub struct Commit {
 
 /// The commits in the order of their stamps, which are 1, 2, 3 and so on.
 pub type Journal = Items<Commit>;
+
+/// The same with the room that is left seen beside them, for an owner whose commits must take no memory.
+pub type RoomyJournal = RoomyItems<Commit>;

@@ -1,7 +1,11 @@
 //! Laws that show that the definitions mean what they say. Each is a function whose contract is the law.
 
 ghost use Rattle.graph_model.specs.Examples.{ClashExamples, RefusalExamples, ViewExamples, ConflictExamples, CountExamples, RowExamples, LabelExamples, TableExample};
-ghost use Rattle.graph_model.specs.Laws.{KeepsBothEnds, KeepsSymmetric, WritesCommute, StaysAllowed, ClashIsSymmetric, ListsCommute, ListsStayAllowed, WriteByKey, WritesByKey, RowHasOneWriter, PrefixIsLegal, LegalHasBothEnds, PrefixHasItsGraphs, RowsRise, RowsAreOfTheGraph, RowsAreComplete, RangesAdjoin, RootIsNearest, OneDistance, OneLeastWeight, ArcAddsOne, ArcAddsItsWeight, NoWalkIsNone, WalksReach, ReachesIsWalk, ReachesByIsWalk, ReachesWithinIsWalk, ComponentIsNotAbove, OneComponent, ArcJoinsComponents, LeastIsItsComponent, FirstLabelIsTheVertex, LonelyKeepsItsLabel, TwiceIsOnce, OneTable};
+ghost use Rattle.graph_model.specs.WriteLaws.{KeepsBothEnds, KeepsSymmetric, WritesCommute, StaysAllowed, ClashIsSymmetric, ListsCommute, ListsStayAllowed, WriteByKey, WritesByKey, TouchesAreOfVertices, ClashIsByRow};
+ghost use Rattle.graph_model.specs.JournalLaws.{PrefixIsLegal, LegalHasBothEnds, PrefixHasItsGraphs, NoCommitIsLegal, OneCommitMore, CommitsAreSerial, EndsFollow, StartIsEnough, ViewIsSymmetric, ViewIsBounded, ViewHasNoLoops, ViewHasBothEnds};
+ghost use Rattle.graph_model.specs.ConflictLaws.{NoConflict, NamesLeastJob, NamesNewest};
+ghost use Rattle.graph_model.specs.RowLaws.{RowsRise, RowsAreOfTheGraph, RowsAreComplete, RangesAdjoin};
+ghost use Rattle.graph_model.specs.KernelLaws.{RootIsNearest, OneDistance, OneLeastWeight, ArcAddsOne, ArcAddsItsWeight, NoWalkIsNone, WalksReach, ReachesIsWalk, ReachesByIsWalk, ReachesWithinIsWalk, ComponentIsNotAbove, OneComponent, ArcJoinsComponents, LeastIsItsComponent, FirstLabelIsTheVertex, LonelyKeepsItsLabel, TwiceIsOnce, OneTable};
 
 /// A write that isn't refused keeps both ends of each arc vertices, and an undirected graph symmetric.
 pub fn writes_keep_graphs_sound()
@@ -19,11 +23,13 @@ pub fn apart_writes_commute()
     ensures all_allowed { ListsStayAllowed }
 {}
 
-/// What writes do to a graph, key by key, and that two writes of one row clash.
+/// What writes do to a graph, row by row, which rows they touch, and what a clash is by rows. A
+/// store that looks at rows alone goes by these.
 pub fn writes_are_by_key()
     ensures write { WriteByKey }
     ensures writes { WritesByKey }
-    ensures one_writer { RowHasOneWriter }
+    ensures touches { TouchesAreOfVertices }
+    ensures clash { ClashIsByRow }
 {}
 
 /// A prefix of a legal journal is legal, and has the same graphs, each with both ends of its arcs.
@@ -31,6 +37,37 @@ pub fn prefixes_are_legal()
     ensures legal { PrefixIsLegal }
     ensures ends { LegalHasBothEnds }
     ensures graphs { PrefixHasItsGraphs }
+{}
+
+/// A journal is legal exactly where it grew from no commit, by commits that may follow each other.
+pub fn journals_grow_by_commits()
+    ensures none { NoCommitIsLegal }
+    ensures more { OneCommitMore }
+{}
+
+/// Each commit is allowed on the graph of all commits before it, and not on its own snapshot alone:
+/// a legal journal is a serial one as far as its graphs go.
+pub fn commits_are_serial()
+    ensures serial { CommitsAreSerial }
+    ensures ends { EndsFollow }
+    ensures later { StartIsEnough }
+{}
+
+/// What a transaction sees is a graph without loops, within the limits, with both ends of each arc,
+/// and symmetric where edges have no direction.
+pub fn views_are_sound()
+    ensures symmetric { ViewIsSymmetric }
+    ensures bounded { ViewIsBounded }
+    ensures no_loops { ViewHasNoLoops }
+    ensures ends { ViewHasBothEnds }
+{}
+
+/// A conflict names an open transaction that clashes, the one with the least job, or else the newest
+/// later commit that does; and there is one wherever there is something to name.
+pub fn conflicts_have_causes()
+    ensures none { NoConflict }
+    ensures holder { NamesLeastJob }
+    ensures later { NamesNewest }
 {}
 
 /// Rows rise by key, and are exactly what the graph has in the range; ranges adjoin.
@@ -42,7 +79,7 @@ pub fn rows_are_of_the_graph()
 {}
 
 /// The root has 0, a vertex has one least length and one least weight, an arc adds at most one or
-/// its weight, and the number that stands for no walk means it.
+/// its weight, and within the limit of ids the number that stands for no walk means that there is none.
 pub fn least_walks_are_distances()
     ensures root { RootIsNearest }
     ensures one_length { OneDistance }

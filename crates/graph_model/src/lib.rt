@@ -13,10 +13,11 @@ mod write;
 
 pub use ids::Ids;
 pub use items::NoMemory;
-pub use journal::{Begun, Commit, Journal, TxnName};
+pub use journal::{Begun, Commit, Journal, RoomyJournal, TxnName};
 pub use laws::{
-    apart_writes_commute, components_are_least_vertices, examples_hold, labels_follow_neighbours,
-    least_walks_are_distances, prefixes_are_legal, rows_are_of_the_graph, tables_are_determined,
+    apart_writes_commute, commits_are_serial, components_are_least_vertices, conflicts_have_causes,
+    examples_hold, journals_grow_by_commits, labels_follow_neighbours, least_walks_are_distances,
+    prefixes_are_legal, rows_are_of_the_graph, tables_are_determined, views_are_sound,
     walks_have_their_forms, writes_are_by_key, writes_keep_graphs_sound,
 };
 pub use limits::{
@@ -30,4 +31,4 @@ pub use table::{Entry, KernelRefusal, Table, Value};
 pub use transactions::{
     names_have_their_stamps, passes_have_one_transaction, transactions_stay_apart,
 };
-pub use write::{Kind, Write, Writes};
+pub use write::{Kind, RoomyWrites, Write, Writes};

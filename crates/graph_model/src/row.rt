@@ -1,6 +1,8 @@
 //! Rows and their keys, scans over them.
 
-ghost use Rattle.std.specs.Prelude.{◌≡◌, ◌<◌, [], ◌∷◌, ◌++◌, ◌==◌, length};
+ghost use Rattle.std.specs.Prelude.{◌≡◌, ◌<◌, ◌≤◌, [], ◌∷◌, ◌++◌, ◌==◌, length};
+ghost use Rattle.graph_model.specs.declared.limits.TheConstants.{MAX_ID};
+ghost use Rattle.graph_model.specs.Rows.{vertex_key, arc_key, end_key, is_below};
 
 use std::marker::Model;
 
@@ -18,6 +20,38 @@ impl Key {
         src: 9223372036854775807,
         second: 0,
     };
+
+    /// `Key::END`, as the definitions have it.
+    pub const fn end() -> Key
+        ensures { result ≡ end_key }
+    {
+        Key::END
+    }
+
+    /// The key of a vertex's row.
+    pub fn of_vertex(v: u64) -> Key
+        ensures { result ≡ vertex_key v }
+    {
+        Key { src: v, second: 0 }
+    }
+
+    /// The key of an arc's row.
+    pub fn of_arc(u: u64, v: u64) -> Key
+        requires { v ≤ MAX_ID }
+        ensures { result ≡ arc_key u v }
+    {
+        Key {
+            src: u,
+            second: v + 1,
+        }
+    }
+
+    /// Whether its row stands before the other's.
+    pub fn is_below(self, other: Key) -> bool
+        ensures { result ≡ is_below self other }
+    {
+        self < other
+    }
 }
 
 /// A vertex with weight 0, or an arc with its weight.

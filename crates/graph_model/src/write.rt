@@ -1,6 +1,6 @@
 //! Writes, and lists of them.
 
-use items::Items;
+use items::{Items, RoomyItems};
 
 /// Whether an edge is one arc or two.
 #[derive(Clone, Copy, Debug, PartialEq, Eq)]
@@ -21,3 +21,6 @@ pub enum Write {
 
 /// The writes of a transaction, oldest first.
 pub type Writes = Items<Write>;
+
+/// The same with the room that is left seen beside them, for a transaction whose next write must take no memory.
+pub type RoomyWrites = RoomyItems<Write>;

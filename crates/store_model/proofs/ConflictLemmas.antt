@@ -15,7 +15,8 @@ use Rattle.graph_model.specs.Transactions.{Running, stamp_in, writes_of_running,
 use Rattle.graph_model.proofs.TestLemmas.{both_of}
 use Rattle.graph_model.proofs.ClashLemmas.{apart_rows}
 use Rattle.graph_model.proofs.PlaceLemmas.{some_eq}
-use Rattle.graph_model.proofs.PickLemmas.{name_at, at_name, least_none, least_same, greatest_none, greatest_same, in_filtered, filtered_in, no_cause}
+use Rattle.graph_model.proofs.ConflictLemmas.{greatest_none, in_filtered, filtered_in, no_cause}
+use Rattle.graph_model.proofs.PickLemmas.{name_at, at_name, not_least, least_same, greatest_same}
 use Rattle.graph_model.proofs.StampLemmas.{stamp_at}
 use Rattle.store_model.specs.declared.versions.Versions.{Versions}
 use Rattle.store_model.specs.Layers.{row_key}
@@ -68,7 +69,7 @@ module _ (kind : Kind) (journal : List Commit) (running : TxnName → Option Run
   no_holder : least_job live ≡ None → MeetsNoHolder kind running by w
   no_holder none n away = elim (running n) as (λ r. running n ≡ r → meets kind w (writes_of_running r) ≡ false) [
     | None ↦ λ e. refl
-    | Some u ↦ λ e. sym (sym (least_none live n none) ∙ live_met n u e ∙ ap (λ s. not s && meets kind w u.writes) away)
+    | Some u ↦ λ e. sym (ap (λ s. not s && meets kind w u.writes) away) ∙ sym (live_met n u e) ∙ false_from_ne_true _ (not_least live none n)
   ] refl
 
   clear_of : least_job live ≡ None → (n : TxnName) → same_name n by ≡ false → any_writes kind (own_of running n) (row_key w) ≡ false

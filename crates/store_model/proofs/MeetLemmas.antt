@@ -17,7 +17,7 @@ use Rattle.graph_model.specs.Legal.{have_clash}
 use Rattle.graph_model.specs.Conflict.{meets}
 use Rattle.graph_model.proofs.GraphLemmas.{covers}
 use Rattle.graph_model.proofs.TestLemmas.{self_eq, eq_symm, either_of}
-use Rattle.graph_model.proofs.EffectLemmas.{edge_tie}
+use Rattle.graph_model.proofs.EffectLemmas.{edge_tie, touch_is_cut_off}
 use Rattle.graph_model.proofs.ClashLemmas.{any_same, any_or, key_item, same_row_clash}
 use Rattle.store_model.specs.Layers.{row_key}
 use Rattle.store_model.specs.Check.{no_value}
@@ -154,15 +154,7 @@ cuts_no_drop_edge : (x : Write) (u v : ℕ) → cuts_off x (DropEdge u v) ≡ fa
 cuts_no_drop_edge (DropVertex q) u v = refl
 cuts_no_drop_edge x u v = refl
 
--- a removal of a vertex cuts off what touches its row
-cuts_touch : (v : ℕ) (x : Write) → cuts_off (DropVertex v) x ≡ touches_at x (vertex_key v)
-cuts_touch v (AddVertex q) = refl
-cuts_touch v (DropVertex q) = refl
-cuts_touch v (AddEdge a b weight) = λ i. and_true (v == a) i || and_true (v == b) i
-cuts_touch v (SetEdge a b weight) = refl
-cuts_touch v (DropEdge a b) = refl
-
--- and an edge that is added is cut off where an end's row is left without value
+-- an edge that is added is cut off where an end's row is left without value
 cuts_drop : (kind : Kind) (u v weight : ℕ) (x : Write) → cuts_off x (AddEdge u v weight) ≡ ((writes_at kind x (vertex_key u) && no_value (value_left x)) || (writes_at kind x (vertex_key v) && no_value (value_left x)))
 cuts_drop kind u v weight (AddVertex q) = λ i. nothing (writes_at kind (AddVertex q) (vertex_key u)) i || nothing (writes_at kind (AddVertex q) (vertex_key v)) i
   where
@@ -183,7 +175,7 @@ or_false false = refl
 
 pub clash_is_bars : (kind : Kind) (w x : Write) → clash kind w x ≡ bars kind w x
 clash_is_bars kind (AddVertex v) x = (λ i. (vertex_tie kind x v i || false) || cuts_no_vertex x v i) ∙ or_false _ ∙ or_false _
-clash_is_bars kind (DropVertex v) x = (λ i. (vertex_tie kind x v i || cuts_touch v x i) || cuts_no_drop x v i) ∙ or_false _
+clash_is_bars kind (DropVertex v) x = (λ i. (vertex_tie kind x v i || sym (touch_is_cut_off v x) i) || cuts_no_drop x v i) ∙ or_false _
 clash_is_bars kind (AddEdge u v weight) x = (λ i. or_false (edge_row_tie kind x u v i) i || cuts_drop kind u v weight x i)
 clash_is_bars kind (SetEdge u v weight) x = (λ i. (edge_row_tie kind x u v i || false) || cuts_no_set x u v weight i) ∙ or_false _ ∙ or_false _
 clash_is_bars kind (DropEdge u v) x = (λ i. (edge_row_tie kind x u v i || false) || cuts_no_drop_edge x u v i) ∙ or_false _ ∙ or_false _

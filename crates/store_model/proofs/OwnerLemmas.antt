@@ -9,10 +9,11 @@ use Rattle.graph_model.specs.declared.row.Key.{Key}
 use Rattle.graph_model.specs.declared.journal.Commit.{Commit}
 use Rattle.graph_model.specs.declared.journal.TxnName.{TxnName}
 use Rattle.graph_model.specs.Conflict.{same_name}
+use Rattle.graph_model.specs.ConflictLaws.{NoLater}
 use Rattle.graph_model.specs.Effects.{touches_at, any_touches}
 use Rattle.graph_model.specs.History.{view}
 use Rattle.graph_model.specs.Refused.{refused, IsWithinLimits}
-use Rattle.graph_model.specs.Transactions.{Running, Changes, commit_of, writes_of_running, own_of, HasNotCommitted, MeetsNoHolder, MeetsNoLater}
+use Rattle.graph_model.specs.Transactions.{Running, Changes, commit_of, writes_of_running, own_of, HasNotCommitted, MeetsNoHolder}
 use Rattle.graph_model.proofs.TestLemmas.{name_self, name_eq}
 use Rattle.graph_model.proofs.ClashLemmas.{apart_rows}
 use Rattle.graph_model.proofs.TransactionLemmas.{own_here, own_else}
@@ -93,7 +94,7 @@ module _ (kind : Kind) (journal : List Commit) (running : TxnName → Option Run
     pub owner_written : (w : Write) (running' : TxnName → Option Running) (contents' : Key → Versions)
         → Changes by running running' (Some (record { start = t.start; writes = t.writes ++ w ∷ [] }))
         → refused (view kind journal t.start t.writes) w ≡ None → IsWithinLimits w
-        → MeetsNoHolder kind running by w → MeetsNoLater kind journal t.start w
+        → MeetsNoHolder kind running by w → NoLater kind journal t.start w
         → ((k : Key) → contents' k ≡ after_write kind by w k (contents k))
         → IsPlainStore kind journal running' horizon contents'
     owner_written w running' contents' ch allowed within no_holder no_later written =

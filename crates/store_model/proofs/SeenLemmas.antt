@@ -11,9 +11,10 @@ use Rattle.graph_model.specs.declared.row.Key.{Key}
 use Rattle.graph_model.specs.declared.journal.Commit.{Commit}
 use Rattle.graph_model.specs.declared.journal.TxnName.{TxnName}
 use Rattle.graph_model.specs.Conflict.{same_name, meets}
+use Rattle.graph_model.specs.ConflictLaws.{NoLater}
 use Rattle.graph_model.specs.Effects.{same_key, any_writes, any_touches}
 use Rattle.graph_model.specs.Rows.{vertex_key, arc_key}
-use Rattle.graph_model.specs.Transactions.{Running, stamp_in, reached, has_name, writes_of_running, HasNotCommitted, MeetsNoHolder, MeetsNoLater}
+use Rattle.graph_model.specs.Transactions.{Running, stamp_in, reached, has_name, writes_of_running, HasNotCommitted, MeetsNoHolder}
 use Rattle.graph_model.proofs.TestLemmas.{self_eq, name_eq, either_of}
 use Rattle.graph_model.proofs.StampLemmas.{stamp_none}
 use Rattle.store_model.specs.declared.version.Version.{Version}
@@ -58,7 +59,7 @@ module _ (kind : Kind) (journal : List Commit) (running : TxnName → Option Run
   ] refl
 
   -- and with no later commit
-  pub looked_none_later : MeetsNoLater kind journal t.start w
+  pub looked_none_later : NoLater kind journal t.start w
   looked_none_later i c at late = false_from_ne_true _ (λ h.
       let m = looked_late kind journal running own touching horizon contents is by t there w looked_clear i c at late h in
       elim (either_of (same_name m.name by) (reached (stamp_in journal m.name) t.start) (free m.name m.found)) as (λ _. ⊥) [

@@ -7,11 +7,12 @@ use Rattle.graph_model.specs.declared.row.Key.{Key}
 use Rattle.graph_model.specs.declared.journal.Commit.{Commit}
 use Rattle.graph_model.specs.declared.journal.TxnName.{TxnName}
 use Rattle.graph_model.specs.Conflict.{OpenTxn, same_name, meets, conflict}
+use Rattle.graph_model.specs.ConflictLaws.{NoLater}
 use Rattle.graph_model.specs.Effects.{any_writes, any_touches}
 use Rattle.graph_model.specs.History.{graph_at, view}
 use Rattle.graph_model.specs.Refused.{refused, IsWithinLimits}
 use Rattle.graph_model.specs.Rows.{value_at, is_between}
-use Rattle.graph_model.specs.Transactions.{Running, Changes, own_of, commit_of, stamp_in, has_name, HasNotCommitted, MeetsNoHolder, MeetsNoLater, IsListed}
+use Rattle.graph_model.specs.Transactions.{Running, Changes, own_of, commit_of, stamp_in, has_name, HasNotCommitted, MeetsNoHolder, IsListed}
 use Rattle.store_model.specs.declared.versions.Versions.{Versions}
 use Rattle.store_model.specs.Versions.{no_versions, first_seen, sees, read, prune, IsPruned}
 use Rattle.store_model.specs.Layers.{row_key, after_write, undone}
@@ -111,7 +112,7 @@ OwnerWritten =
     → (w : Write) (running' : TxnName → Option Running) (contents' : Key → Versions)
     → Changes by running running' (Some (record { start = t.start; writes = t.writes ++ w ∷ [] }))
     → refused (view kind journal t.start t.writes) w ≡ None → IsWithinLimits w
-    → MeetsNoHolder kind running by w → MeetsNoLater kind journal t.start w
+    → MeetsNoHolder kind running by w → NoLater kind journal t.start w
     → ((k : Key) → contents' k ≡ after_write kind by w k (contents k))
     → IsPlainStore kind journal running' horizon contents'
 

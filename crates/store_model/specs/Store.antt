@@ -7,9 +7,10 @@ use Rattle.graph_model.specs.declared.journal.Commit.{Commit}
 use Rattle.graph_model.specs.declared.journal.TxnName.{TxnName}
 use Rattle.graph_model.specs.Conflict.{same_name}
 use Rattle.graph_model.specs.Rows.{value_at}
+use Rattle.graph_model.specs.ConflictLaws.{NoLater}
 use Rattle.graph_model.specs.History.{graph_at}
 use Rattle.graph_model.specs.Effects.{touches_at, any_writes, any_touches}
-use Rattle.graph_model.specs.Transactions.{Running, own_of, has_name, MeetsNoHolder, MeetsNoLater, AreTransactions}
+use Rattle.graph_model.specs.Transactions.{Running, own_of, has_name, MeetsNoHolder, AreTransactions}
 use Rattle.store_model.specs.declared.versions.Versions.{Versions}
 use Rattle.store_model.specs.Layers.{row_key, after_write, before_write, layered, layered_all, touched_in}
 
@@ -65,7 +66,7 @@ IsPlainStore kind journal running horizon contents =
 pub record MeetsNobody (kind : Kind) (journal : List Commit) (running : TxnName → Option Running) (own : TxnName → List Write) (by : TxnName) (start : ℕ) (w : Write) : Type 0 where
   pub clear : (q : TxnName) → same_name q by ≡ false → any_writes kind (own q) (row_key w) ≡ false
   pub holder : MeetsNoHolder kind running by w
-  pub later : MeetsNoLater kind journal start w
+  pub later : NoLater kind journal start w
 
 -- a transaction lays one write more
 pub record Lays (kind : Kind) (by : TxnName) (w : Write) (own own' : TxnName → List Write) (touching touching' : TxnName → Key → Bool) (contents contents' : Key → Versions) : Type 0 where

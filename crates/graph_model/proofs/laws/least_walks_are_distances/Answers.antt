@@ -1,4 +1,5 @@
-use Rattle.graph_model.proofs.WalkLemmas.{root_length, root_weight, one_distance, one_least_weight, length_by_arc, weight_by_arc, no_walk_is_none}
+use Rattle.graph_model.proofs.WalkLemmas.{root_length, root_weight, one_distance, one_least_weight, length_by_arc, weight_by_arc}
+use Rattle.graph_model.proofs.PathLemmas.{no_walk_is_none}
 use Rattle.graph_model.proofs.laws.least_walks_are_distances.Goals as goal
 
 pub returns-clause-root : goal.returns-clause-root
