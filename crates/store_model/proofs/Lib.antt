@@ -15,3 +15,4 @@ pub mod ConflictLemmas
 pub mod CellLemmas
 pub mod SeenLemmas
 pub mod StampedLemmas
+pub mod ExampleLemmas

@@ -6,3 +6,4 @@ pub mod Cells
 pub mod Stamped
 pub mod RowLaws
 pub mod Laws
+pub mod Examples

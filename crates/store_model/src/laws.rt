@@ -1,6 +1,7 @@
 //! What a store keeps through each kind of change, and what reads and checks get out of it. Each law is a
 //! function whose contract is the law. A store of any kind cites them, and no store proves them again.
 
+ghost use Rattle.store_model.specs.Examples.{LayerExamples, ReadExamples, PruneExamples, CheckExamples, StampExamples, CellExamples, StoreExample};
 ghost use Rattle.store_model.specs.Laws.{ValueAtStamp, ValueOfView, ValueAtEnd, StoreNew, StoreBegun, OwnerBegun, StoreStopped, StoreWritten, OwnerWritten, StoreCommitted, OwnerCommitted, StoreUndone, OwnerAborted, StorePruned, RowSettled, StoreSame, OwnerMoved, WriterOfPair, WriterOfTouch, LookedOpen, LookedCommitted, LookedLate, CheckIsConflict, CheckAllows, CheckByParts, SeenAllows, SeenByRow, ContentsRouted, CellChanged};
 ghost use Rattle.store_model.specs.RowLaws.{OwnWriteIsSeen, OtherWriteIsNotSeen, UndoTakesBack, TouchIsNotRead, PruneKeepsValues, ReadForgetsStamps, PruneForgetsStamps, StampKeepsVersions, StampsStayRight};
 
@@ -89,4 +90,15 @@ pub fn checks_are_exact()
 pub fn cells_hold_contents()
     ensures routed { ContentsRouted }
     ensures changed { CellChanged }
+{}
+
+/// Worked examples of the definitions, with values reckoned by hand, and a store that holds.
+pub fn examples_hold()
+    ensures layers { LayerExamples }
+    ensures reads { ReadExamples }
+    ensures prunes { PruneExamples }
+    ensures checks { CheckExamples }
+    ensures stamps { StampExamples }
+    ensures cells { CellExamples }
+    ensures store { StoreExample }
 {}

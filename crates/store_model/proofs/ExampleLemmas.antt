@@ -1,0 +1,78 @@
+-- A store that holds, by the laws of each change.
+use Rattle.std.proofs.Common.{◌≡◌, ℕ, zero, suc, ◌<◌, List, [], ◌∷◌, refl, sym, ◌∙◌, ap, cond, arith}
+use Rattle.std.specs.Prelude.{true, false, slice_get, Some, None, is_some}
+use Rattle.std.specs.FinMap as fin_map
+use Rattle.std.specs.Ordering.{nat_cmp}
+use Rattle.graph_model.specs.declared.write.Kind.TheVariants.{Directed}
+use Rattle.graph_model.specs.declared.write.Write.{Write}
+use Rattle.graph_model.specs.declared.write.Write.TheVariants.{AddVertex}
+use Rattle.graph_model.specs.declared.refusal.Refusal.TheVariants.{VertexExists}
+use Rattle.graph_model.specs.declared.row.Key.{Key}
+use Rattle.graph_model.specs.declared.journal.Commit.{Commit}
+use Rattle.graph_model.specs.declared.journal.TxnName.{TxnName}
+use Rattle.graph_model.specs.Conflict.{same_name, meets}
+use Rattle.graph_model.specs.ConflictLaws.{NoLater}
+use Rattle.graph_model.specs.Graph.{empty_graph, has_vertex}
+use Rattle.graph_model.specs.Transactions.{Running, Changes, writes_of_running, MeetsNoHolder}
+use Rattle.graph_model.proofs.GraphLemmas.{has_vertex-apply}
+use Rattle.graph_model.proofs.PlaceLemmas.{some_eq}
+use Rattle.store_model.specs.declared.versions.Versions.{Versions}
+use Rattle.store_model.specs.Versions.{no_versions}
+use Rattle.store_model.specs.Layers.{after_write}
+use Rattle.store_model.specs.Store.{IsPlainStore}
+use Rattle.store_model.specs.Examples.{name, only, StoreExample}
+use Rattle.store_model.proofs.NewLemmas.{store_new}
+use Rattle.store_model.proofs.OwnerLemmas.{owner_begun, owner_written, owner_committed}
+
+-- one transaction begins, goes on and ends
+begins : (by : TxnName) (t : Running) → same_name by by ≡ true → Changes by (λ q. None) (only by t) (Some t)
+begins by t self = record { here = ap (λ s. cond s (Some t) None) self; else = λ q e. ap (λ s. cond s (Some t) None) e }
+
+goes_on : (by : TxnName) (t u : Running) → same_name by by ≡ true → Changes by (only by t) (only by u) (Some u)
+goes_on by t u self = record { here = ap (λ s. cond s (Some u) None) self; else = λ q e. ap (λ s. cond s (Some u) None) e ∙ sym (ap (λ s. cond s (Some t) None) e) }
+
+ends : (by : TxnName) (t : Running) → Changes by (only by t) (λ q. None) None
+ends by t = record { here = refl; else = λ q e. sym (ap (λ s. cond s (Some t) None) e) }
+
+-- where no other is open none clashes
+alone : (by : TxnName) (t : Running) (w : Write) → MeetsNoHolder Directed (only by t) by w
+alone by t w q e = ap (λ s. meets Directed w (writes_of_running (cond s (Some t) None))) e
+
+no_vertex : (v : ℕ) → has_vertex empty_graph v ≡ false
+no_vertex v = ap is_some (fin_map.get-empty {X = Unit {0}} nat_cmp v)
+
+abbrev loaded : List Commit
+loaded = record { stamp = 1; start = 0; by = name 0 1; writes = AddVertex 1 ∷ [] } ∷ []
+
+abbrev first_rows : Key → Versions
+first_rows k = after_write Directed (name 0 1) (AddVertex 1) k no_versions
+
+-- the load
+load_holds : IsPlainStore Directed loaded (λ by. None) 0 first_rows
+load_holds =
+    let t : Running = record { start = 0; writes = [] } in
+    let u : Running = record { start = 0; writes = AddVertex 1 ∷ [] } in
+    let begun : IsPlainStore Directed [] (only (name 0 1) t) 0 (λ k. no_versions) =
+    owner_begun Directed [] (λ by. None) 0 (λ k. no_versions) (store_new Directed) (name 0 1) (only (name 0 1) t) (begins (name 0 1) t refl) refl (λ i c at. cc) in
+    let written : IsPlainStore Directed [] (only (name 0 1) u) 0 first_rows =
+    owner_written Directed [] (only (name 0 1) t) 0 (λ k. no_versions) begun (name 0 1) t refl (AddVertex 1) (only (name 0 1) u) first_rows (goes_on (name 0 1) t u refl)
+    (ap (λ s. cond s (Some VertexExists) None) (no_vertex 1)) (omega arith) (alone (name 0 1) t (AddVertex 1)) (λ i c at late. cc) (λ k. refl) in
+    owner_committed Directed [] (only (name 0 1) u) 0 first_rows written (name 0 1) u refl (λ by. None) (ends (name 0 1) u) (omega arith)
+
+only_load : (P : Commit → Type 0) → P (record { stamp = 1; start = 0; by = name 0 1; writes = AddVertex 1 ∷ [] }) → (i : ℕ) (c : Commit) → slice_get loaded i ≡ Some c → P c
+only_load P is zero c at = subst_commit (some_eq _ c at) is
+  where
+    subst_commit : {x y : Commit} → x ≡ y → P x → P y
+    subst_commit e p = rw (← e) p
+only_load P is (suc i) c at = cc
+
+pub store_holds : StoreExample
+store_holds =
+    let t : Running = record { start = 1; writes = [] } in
+    let u : Running = record { start = 1; writes = AddVertex 2 ∷ [] } in
+    let begun : IsPlainStore Directed loaded (only (name 1 1) t) 0 first_rows =
+    owner_begun Directed loaded (λ by. None) 0 first_rows load_holds (name 1 1) (only (name 1 1) t) (begins (name 1 1) t refl) refl (only_load (λ c. same_name c.by (name 1 1) ≡ false) refl) in
+    let late : NoLater Directed loaded 1 (AddVertex 2) = only_load (λ c. 1 < c.stamp → meets Directed (AddVertex 2) c.writes ≡ false) (λ lt. absurd (omega (arith, lt))) in
+    owner_written Directed loaded (only (name 1 1) t) 0 first_rows begun (name 1 1) t refl (AddVertex 2) (only (name 1 1) u)
+    (λ k. after_write Directed (name 1 1) (AddVertex 2) k (first_rows k)) (goes_on (name 1 1) t u refl)
+    (ap (λ s. cond s (Some VertexExists) None) (has_vertex-apply Directed empty_graph (AddVertex 1) 2 ∙ no_vertex 2)) (omega arith) (alone (name 1 1) t (AddVertex 2)) late (λ k. refl)
