@@ -1,5 +1,5 @@
 -- A store that holds, by the laws of each change.
-use Rattle.std.proofs.Common.{◌≡◌, ℕ, zero, suc, ◌<◌, List, [], ◌∷◌, refl, sym, ◌∙◌, ap, cond, arith}
+use Rattle.std.proofs.Common.{◌≡◌, ℕ, zero, suc, ◌<◌, [], ◌∷◌, refl, sym, ◌∙◌, ap, subst, cond, arith}
 use Rattle.std.specs.Prelude.{true, false, slice_get, Some, None, is_some}
 use Rattle.std.specs.FinMap as fin_map
 use Rattle.std.specs.Ordering.{nat_cmp}
@@ -7,7 +7,6 @@ use Rattle.graph_model.specs.declared.write.Kind.TheVariants.{Directed}
 use Rattle.graph_model.specs.declared.write.Write.{Write}
 use Rattle.graph_model.specs.declared.write.Write.TheVariants.{AddVertex}
 use Rattle.graph_model.specs.declared.refusal.Refusal.TheVariants.{VertexExists}
-use Rattle.graph_model.specs.declared.row.Key.{Key}
 use Rattle.graph_model.specs.declared.journal.Commit.{Commit}
 use Rattle.graph_model.specs.declared.journal.TxnName.{TxnName}
 use Rattle.graph_model.specs.Conflict.{same_name, meets}
@@ -16,11 +15,10 @@ use Rattle.graph_model.specs.Graph.{empty_graph, has_vertex}
 use Rattle.graph_model.specs.Transactions.{Running, Changes, writes_of_running, MeetsNoHolder}
 use Rattle.graph_model.proofs.GraphLemmas.{has_vertex-apply}
 use Rattle.graph_model.proofs.PlaceLemmas.{some_eq}
-use Rattle.store_model.specs.declared.versions.Versions.{Versions}
 use Rattle.store_model.specs.Versions.{no_versions}
 use Rattle.store_model.specs.Layers.{after_write}
 use Rattle.store_model.specs.Store.{IsPlainStore}
-use Rattle.store_model.specs.Examples.{name, only, StoreExample}
+use Rattle.store_model.specs.Examples.{load, writer, only, first_commit, first_rows, StoreExample}
 use Rattle.store_model.proofs.NewLemmas.{store_new}
 use Rattle.store_model.proofs.OwnerLemmas.{owner_begun, owner_written, owner_committed}
 
@@ -41,38 +39,30 @@ alone by t w q e = ap (λ s. meets Directed w (writes_of_running (cond s (Some t
 no_vertex : (v : ℕ) → has_vertex empty_graph v ≡ false
 no_vertex v = ap is_some (fin_map.get-empty {X = Unit {0}} nat_cmp v)
 
-abbrev loaded : List Commit
-loaded = record { stamp = 1; start = 0; by = name 0 1; writes = AddVertex 1 ∷ [] } ∷ []
-
-abbrev first_rows : Key → Versions
-first_rows k = after_write Directed (name 0 1) (AddVertex 1) k no_versions
-
 -- the load
-load_holds : IsPlainStore Directed loaded (λ by. None) 0 first_rows
+load_holds : IsPlainStore Directed (first_commit ∷ []) (λ by. None) 0 first_rows
 load_holds =
     let t : Running = record { start = 0; writes = [] } in
     let u : Running = record { start = 0; writes = AddVertex 1 ∷ [] } in
-    let begun : IsPlainStore Directed [] (only (name 0 1) t) 0 (λ k. no_versions) =
-    owner_begun Directed [] (λ by. None) 0 (λ k. no_versions) (store_new Directed) (name 0 1) (only (name 0 1) t) (begins (name 0 1) t refl) refl (λ i c at. cc) in
-    let written : IsPlainStore Directed [] (only (name 0 1) u) 0 first_rows =
-    owner_written Directed [] (only (name 0 1) t) 0 (λ k. no_versions) begun (name 0 1) t refl (AddVertex 1) (only (name 0 1) u) first_rows (goes_on (name 0 1) t u refl)
-    (ap (λ s. cond s (Some VertexExists) None) (no_vertex 1)) (omega arith) (alone (name 0 1) t (AddVertex 1)) (λ i c at late. cc) (λ k. refl) in
-    owner_committed Directed [] (only (name 0 1) u) 0 first_rows written (name 0 1) u refl (λ by. None) (ends (name 0 1) u) (omega arith)
+    let begun : IsPlainStore Directed [] (only load t) 0 (λ k. no_versions) =
+    owner_begun Directed [] (λ by. None) 0 (λ k. no_versions) (store_new Directed) load (only load t) (begins load t refl) refl (λ i c at. cc) in
+    let written : IsPlainStore Directed [] (only load u) 0 first_rows =
+    owner_written Directed [] (only load t) 0 (λ k. no_versions) begun load t refl (AddVertex 1) (only load u) first_rows (goes_on load t u refl)
+    (ap (λ s. cond s (Some VertexExists) None) (no_vertex 1)) (omega arith) (alone load t (AddVertex 1)) (λ i c at late. cc) (λ k. refl) in
+    owner_committed Directed [] (only load u) 0 first_rows written load u refl (λ by. None) (ends load u) (omega arith)
 
-only_load : (P : Commit → Type 0) → P (record { stamp = 1; start = 0; by = name 0 1; writes = AddVertex 1 ∷ [] }) → (i : ℕ) (c : Commit) → slice_get loaded i ≡ Some c → P c
-only_load P is zero c at = subst_commit (some_eq _ c at) is
-  where
-    subst_commit : {x y : Commit} → x ≡ y → P x → P y
-    subst_commit e p = rw (← e) p
+only_load : (P : Commit → Type 0) → P first_commit → (i : ℕ) (c : Commit) → slice_get (first_commit ∷ []) i ≡ Some c → P c
+only_load P is zero c at = subst P (some_eq first_commit c at) is
 only_load P is (suc i) c at = cc
 
+-- and the one that is open on it
 pub store_holds : StoreExample
 store_holds =
     let t : Running = record { start = 1; writes = [] } in
     let u : Running = record { start = 1; writes = AddVertex 2 ∷ [] } in
-    let begun : IsPlainStore Directed loaded (only (name 1 1) t) 0 first_rows =
-    owner_begun Directed loaded (λ by. None) 0 first_rows load_holds (name 1 1) (only (name 1 1) t) (begins (name 1 1) t refl) refl (only_load (λ c. same_name c.by (name 1 1) ≡ false) refl) in
-    let late : NoLater Directed loaded 1 (AddVertex 2) = only_load (λ c. 1 < c.stamp → meets Directed (AddVertex 2) c.writes ≡ false) (λ lt. absurd (omega (arith, lt))) in
-    owner_written Directed loaded (only (name 1 1) t) 0 first_rows begun (name 1 1) t refl (AddVertex 2) (only (name 1 1) u)
-    (λ k. after_write Directed (name 1 1) (AddVertex 2) k (first_rows k)) (goes_on (name 1 1) t u refl)
-    (ap (λ s. cond s (Some VertexExists) None) (has_vertex-apply Directed empty_graph (AddVertex 1) 2 ∙ no_vertex 2)) (omega arith) (alone (name 1 1) t (AddVertex 2)) late (λ k. refl)
+    let begun : IsPlainStore Directed (first_commit ∷ []) (only writer t) 0 first_rows =
+    owner_begun Directed (first_commit ∷ []) (λ by. None) 0 first_rows load_holds writer (only writer t) (begins writer t refl) refl (only_load (λ c. same_name c.by writer ≡ false) refl) in
+    let late : NoLater Directed (first_commit ∷ []) 1 (AddVertex 2) = only_load (λ c. 1 < c.stamp → meets Directed (AddVertex 2) c.writes ≡ false) (λ lt. absurd (omega (arith, lt))) in
+    owner_written Directed (first_commit ∷ []) (only writer t) 0 first_rows begun writer t refl (AddVertex 2) (only writer u)
+    (λ k. after_write Directed writer (AddVertex 2) k (first_rows k)) (goes_on writer t u refl)
+    (ap (λ s. cond s (Some VertexExists) None) (has_vertex-apply Directed empty_graph (AddVertex 1) 2 ∙ no_vertex 2)) (omega arith) (alone writer t (AddVertex 2)) late (λ k. refl)

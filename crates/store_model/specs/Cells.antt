@@ -26,6 +26,7 @@ contents_in rows k = or_none (find key_cmp k rows)
 
 -- rows stand within the fence keys of their cell, and no key lies within those of two cells
 pub record AreCells (cells : List Cell) : Type 0 where
-  pub within : (i : ℕ) (c : Cell) → slice_get cells i ≡ Some c → AllByRecursion (λ e. is_between c.low c.high e.0 ≡ true) c.rows
+  pub within : (i : ℕ) (c : Cell) → slice_get cells i ≡ Some c
+      → AllByRecursion (λ e. is_between c.low c.high e.0 ≡ true) c.rows
   pub apart : (i j : ℕ) (c d : Cell) (k : Key) → slice_get cells i ≡ Some c → slice_get cells j ≡ Some d
       → is_between c.low c.high k ≡ true → is_between d.low d.high k ≡ true → i ≡ j
