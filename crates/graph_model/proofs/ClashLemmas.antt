@@ -39,7 +39,7 @@ or_turn false false c d e = or_comm c d
 pub clash-symm : (kind : Kind) (x y : Write) → clash kind x y ≡ clash kind y x
 clash-symm kind x y = or_turn _ _ (cuts_off x y) (cuts_off y x) (same_item-symm (item kind x) (item kind y))
 
--- one of two tests passes somewhere where one of them passes somewhere
+-- one of two tests finds something where one of them does
 pub any_or : {X : Type 0} (p q : X → Bool) (xs : List X) → list_any (λ x. p x || q x) xs ≡ (list_any p xs || list_any q xs)
 any_or p q [] = refl
 any_or p q (x ∷ xs) = ap (λ t. (p x || q x) || t) (any_or p q xs) ∙ shuffle (p x) (q x) (list_any p xs) (list_any q xs)
@@ -181,6 +181,7 @@ clash_parts kind x y clashes = elim (either_of (same_item (item kind x) (item ki
   | inr cuts ↦ inr (inr (cut_off y x cuts))
 ]
 
+-- and each of these is a clash
 pub clash_of_parts : (kind : Kind) (x y : Write) → ClashesByRow kind x y → clash kind x y ≡ true
 clash_of_parts kind x y (inl h) = same_row_clash kind x y h.0 h.1 h.2
 clash_of_parts kind x y (inr (inl h)) = clash_of_cut kind x y (cut_by_touch x y h.0 h.1 h.2)

@@ -158,11 +158,13 @@ module _ (kind : Kind) (txns : List OpenTxn) (by : TxnName) (w : Write) where
   holder_at : (t : OpenTxn) → IsHolder kind txns by w t → (i : ℕ) × (slice_get (map name_of (filter asks txns)) i ≡ Some t.by)
   holder_at t is = filtered_in name_of asks txns is.listed.0 t is.listed.1 (both_true _ _ (ap not is.other) is.met)
 
+  -- where no holder is named, no other open transaction clashes
   pub no_holder : holder kind txns by w ≡ None → NoHolder kind txns by w
   no_holder none i t at other = false_from_ne_true _ (λ met.
       let place = holder_at t (record { listed = (i, at); other = other; met = met }) in
       least_none (map name_of (filter asks txns)) none place.0 t.by place.1)
 
+  -- a holder that is named is an open transaction that clashes
   pub holder_is : (n : TxnName) → holder kind txns by w ≡ Some n → (t : OpenTxn) × IsHolder kind txns by w t × (t.by ≡ n)
   holder_is n e =
       let place = least_in (map name_of (filter asks txns)) n e in
@@ -170,9 +172,11 @@ module _ (kind : Kind) (txns : List OpenTxn) (by : TxnName) (w : Write) where
       let tests = both_of (not (same_name (found.1).by by)) (meets kind w (found.1).writes) found.3 in
       (found.1, record { listed = (found.0, found.2); other = not_true _ tests.0; met = tests.1 }, found.4)
 
+  -- and none that clashes has a lesser job
   pub holder_least : (n : TxnName) → holder kind txns by w ≡ Some n → (t : OpenTxn) → IsHolder kind txns by w t → n.job ≤ t.by.job
   holder_least n e t is = let place = holder_at t is in least_le (map name_of (filter asks txns)) n e place.0 t.by place.1
 
+  -- where no other open transaction clashes, none is named
   pub holder_none : NoHolder kind txns by w → holder kind txns by w ≡ None
   holder_none none = by_holder (holder kind txns by w) refl
     where
@@ -197,11 +201,13 @@ module _ (kind : Kind) (journal : List Commit) (start : ℕ) (w : Write) where
       let test : nat_lt start c.stamp ≡ true = grind (arith, nat_tests) in
       filtered_in stamp_of counts journal is.listed.0 c is.listed.1 (both_true _ _ test is.met)
 
+  -- where no stamp is named, no later commit clashes
   pub no_later : newest_later kind journal start w ≡ None → NoLater kind journal start w
   no_later none i c at after = false_from_ne_true _ (λ met.
       let place = later_at c (record { listed = (i, at); after = after; met = met }) in
       greatest_none (later kind journal start w) none place.0 c.stamp place.1)
 
+  -- a stamp that is named is that of a later commit that clashes
   pub later_is : (s : ℕ) → newest_later kind journal start w ≡ Some s → (c : Commit) × IsLater kind journal start w c × (c.stamp ≡ s)
   later_is s e =
       let place = greatest_in (later kind journal start w) s e in
@@ -211,9 +217,11 @@ module _ (kind : Kind) (journal : List Commit) (start : ℕ) (w : Write) where
       let after : start < (found.1).stamp = grind (arith, nat_tests) in
       (found.1, record { listed = (found.0, found.2); after = after; met = tests.1 }, found.4)
 
+  -- and none that clashes is newer
   pub later_newest : (s : ℕ) → newest_later kind journal start w ≡ Some s → (c : Commit) → IsLater kind journal start w c → c.stamp ≤ s
   later_newest s e c is = let place = later_at c is in greatest_ge (later kind journal start w) s e place.0 c.stamp place.1
 
+  -- where no later commit clashes, none is named
   pub later_none : NoLater kind journal start w → newest_later kind journal start w ≡ None
   later_none none = by_stamp (newest_later kind journal start w) refl
     where
@@ -225,18 +233,22 @@ module _ (kind : Kind) (journal : List Commit) (start : ℕ) (w : Write) where
           absurd (true≢false (sym is.met ∙ none is.listed.0 found.0 is.listed.1 is.after))
 
 module _ (kind : Kind) (journal : List Commit) (txns : List OpenTxn) (by : TxnName) (start : ℕ) (w : Write) where
+  -- where there is no conflict, nothing clashes
   pub conflict_none : conflict kind journal txns by start w ≡ None → NoHolder kind txns by w × NoLater kind journal start w
   conflict_none e = let p = no_cause (holder kind txns by w) (newest_later kind journal start w) e in (no_holder kind txns by w p.0, no_later kind journal start w p.1)
 
+  -- and where nothing clashes, there is no conflict
   pub none_conflicts : NoHolder kind txns by w × NoLater kind journal start w → conflict kind journal txns by start w ≡ None
   none_conflicts none = λ i. cause_of (holder_none kind txns by w none.0 i) (later_none kind journal start w none.1 i)
 
+  -- a conflict with an open transaction names the one with the least job
   pub names_least : (n : TxnName) → conflict kind journal txns by start w ≡ Some (Holder n)
       → ((t : OpenTxn) × IsHolder kind txns by w t × (t.by ≡ n)) × ((t : OpenTxn) → IsHolder kind txns by w t → n.job ≤ t.by.job)
   names_least n e =
       let h = cause_is_holder (holder kind txns by w) (newest_later kind journal start w) n e in
       (holder_is kind txns by w n h, holder_least kind txns by w n h)
 
+  -- a conflict with a commit names the newest, where no open transaction clashes
   pub names_newest : (s : ℕ) → conflict kind journal txns by start w ≡ Some (Later s)
       → NoHolder kind txns by w × ((c : Commit) × IsLater kind journal start w c × (c.stamp ≡ s)) × ((c : Commit) → IsLater kind journal start w c → c.stamp ≤ s)
   names_newest s e =

@@ -13,12 +13,10 @@ use Rattle.graph_model.specs.Graph.{Graph, has_vertex, weight_of, apply, apply_a
 use Rattle.graph_model.specs.Items.{cuts_off}
 use Rattle.graph_model.specs.Rows.{vertex_key, arc_key, value_at}
 use Rattle.graph_model.specs.Effects.{same_key, arc_keys, value_left, writes_at, touches_at, any_writes, value_after}
+use Rattle.graph_model.proofs.RowLemmas.{second_tie}
 use Rattle.graph_model.proofs.GraphLemmas.{covers, is_about, leaves_vertex, is_about_arc, leaves_weight, has_vertex-apply, weight-apply}
 
 -- ---- the keys of an edge are those of the arcs that it covers
-
-second_tie : (second v : ℕ) → (second == v + 1) ≡ cond (second == 0) false (second - 1 == v)
-second_tie second v = grind (arith, nat_tests)
 
 and_cond : (a z b : Bool) → (a && cond z false b) ≡ cond z false (a && b)
 and_cond true z b = refl

@@ -36,15 +36,19 @@ none_cond : (b : Bool) (x : Option (Unit {0})) → is_some (cond b None x) ≡ (
 none_cond true x = refl
 none_cond false x = refl
 
+-- the vertices behind an added one
 pub has_vertex-insert : (g : Graph) (v q : ℕ) → has_vertex (record g { vertices = fin_map.insert g.vertices v tt }) q ≡ ((q == v) || has_vertex g q)
 has_vertex-insert g v q = ap is_some (fin_map.get-insert nat_cmp_total g.vertices v tt q) ∙ some_cond (eq_by_cmp nat_cmp q v) (fin_map.get g.vertices q) ∙ ap (λ b. b || has_vertex g q) (unsigned_tied q v)
 
+-- behind a removed one
 pub has_vertex-remove : (g : Graph) (v q : ℕ) → has_vertex (record g { vertices = fin_map.remove g.vertices v }) q ≡ (not (q == v) && has_vertex g q)
 has_vertex-remove g v q = ap is_some (fin_map.get-remove nat_cmp_total g.vertices v q) ∙ none_cond (eq_by_cmp nat_cmp q v) (fin_map.get g.vertices q) ∙ ap (λ b. not b && has_vertex g q) (unsigned_tied q v)
 
+-- the weights behind an added arc
 pub weight-with_arc : (g : Graph) (u v weight a b : ℕ) → weight_of (with_arc g u v weight) a b ≡ cond ((a == u) && (b == v)) (Some weight) (weight_of g a b)
 weight-with_arc g u v weight a b = fin_map.get-insert arcs_total g.arcs (u, v) weight (a, b) ∙ ap (λ t. cond t (Some weight) (weight_of g a b)) (arc_tie a b u v)
 
+-- behind a removed one
 pub weight-without_arc : (g : Graph) (u v a b : ℕ) → weight_of (without_arc g u v) a b ≡ cond ((a == u) && (b == v)) None (weight_of g a b)
 weight-without_arc g u v a b = fin_map.get-remove arcs_total g.arcs (u, v) (a, b) ∙ ap (λ t. cond t None (weight_of g a b)) (arc_tie a b u v)
 
@@ -57,6 +61,7 @@ cond_or : {X : Type 0} (s t : Bool) (x y : X) → cond s x (cond t x y) ≡ cond
 cond_or true t x y = refl
 cond_or false t x y = refl
 
+-- behind an edge that is added or set
 pub weight-with_edge : (kind : Kind) (g : Graph) (u v weight a b : ℕ) → weight_of (with_edge kind g u v weight) a b ≡ cond (covers kind u v a b) (Some weight) (weight_of g a b)
 weight-with_edge Directed g u v weight a b = weight-with_arc g u v weight a b
 weight-with_edge Undirected g u v weight a b =
@@ -64,6 +69,7 @@ weight-with_edge Undirected g u v weight a b =
     ∙ ap (cond ((a == v) && (b == u)) (Some weight)) (weight-with_arc g u v weight a b)
     ∙ cond_or ((a == v) && (b == u)) ((a == u) && (b == v)) (Some weight) (weight_of g a b)
 
+-- behind one that is dropped
 pub weight-without_edge : (kind : Kind) (g : Graph) (u v a b : ℕ) → weight_of (without_edge kind g u v) a b ≡ cond (covers kind u v a b) None (weight_of g a b)
 weight-without_edge Directed g u v a b = weight-without_arc g u v a b
 weight-without_edge Undirected g u v a b =
@@ -73,6 +79,7 @@ weight-without_edge Undirected g u v a b =
 
 -- The effect of a write, in one form for all: which vertices and arcs it is about, and what it leaves there.
 
+-- the vertices that it adds or removes
 abbrev pub is_about : Write → ℕ → Bool
 is_about (AddVertex v) q = q == v
 is_about (DropVertex v) q = q == v
@@ -80,6 +87,7 @@ is_about (AddEdge u v weight) q = false
 is_about (SetEdge u v weight) q = false
 is_about (DropEdge u v) q = false
 
+-- whether it leaves them there
 abbrev pub leaves_vertex : Write → Bool
 leaves_vertex (AddVertex v) = true
 leaves_vertex (DropVertex v) = false
@@ -87,6 +95,7 @@ leaves_vertex (AddEdge u v weight) = true
 leaves_vertex (SetEdge u v weight) = true
 leaves_vertex (DropEdge u v) = true
 
+-- the arcs that it adds, sets or removes
 abbrev pub is_about_arc : Kind → Write → ℕ → ℕ → Bool
 is_about_arc kind (AddVertex v) a b = false
 is_about_arc kind (DropVertex v) a b = false
@@ -94,6 +103,7 @@ is_about_arc kind (AddEdge u v weight) a b = covers kind u v a b
 is_about_arc kind (SetEdge u v weight) a b = covers kind u v a b
 is_about_arc kind (DropEdge u v) a b = covers kind u v a b
 
+-- what weight it leaves them
 abbrev pub leaves_weight : Write → Option ℕ
 leaves_weight (AddVertex v) = None
 leaves_weight (DropVertex v) = None
@@ -117,6 +127,7 @@ not_cond : (s t : Bool) → (not s && t) ≡ cond s false t
 not_cond true t = refl
 not_cond false t = refl
 
+-- the vertices after a write
 pub has_vertex-apply : (kind : Kind) (g : Graph) (w : Write) (q : ℕ) → has_vertex (apply kind g w) q ≡ cond (is_about w q) (leaves_vertex w) (has_vertex g q)
 has_vertex-apply kind g (AddVertex v) q = has_vertex-insert g v q ∙ or_cond (q == v) (has_vertex g q)
 has_vertex-apply kind g (DropVertex v) q = has_vertex-remove g v q ∙ not_cond (q == v) (has_vertex g q)
@@ -124,6 +135,7 @@ has_vertex-apply kind g (AddEdge u v weight) q = same_vertices_with kind g u v w
 has_vertex-apply kind g (SetEdge u v weight) q = same_vertices_with kind g u v weight q
 has_vertex-apply kind g (DropEdge u v) q = same_vertices_without kind g u v q
 
+-- the weights after a write
 pub weight-apply : (kind : Kind) (g : Graph) (w : Write) (a b : ℕ) → weight_of (apply kind g w) a b ≡ cond (is_about_arc kind w a b) (leaves_weight w) (weight_of g a b)
 weight-apply kind g (AddVertex v) a b = refl
 weight-apply kind g (DropVertex v) a b = refl

@@ -105,6 +105,12 @@ get_within [] i lt = absurd (omega arith)
 get_within (x ∷ xs) zero lt = (x, refl)
 get_within (x ∷ xs) (suc i) lt = get_within xs i (omega arith)
 
+-- what each item of a list has, the one at a place has
+pub each_item : {X : Type 0} (P : X → Type 0) (xs : List X) → AllByRecursion P xs → (i : ℕ) (x : X) → slice_get xs i ≡ Some x → P x
+each_item P [] all i x at = cc
+each_item {X = X} P (y ∷ xs) all zero x at = let is : ◌≡◌ {A = Option X} (Some y) (Some x) = at in let same : y ≡ x = cc in subst P same all.0
+each_item P (y ∷ xs) all (suc i) x at = each_item P xs all.1 i x at
+
 -- Writes that were allowed at a start, and that clash with no commit since, are allowed up to a later stamp.
 module _ (kind : Kind) (journal : List Commit) (ws : List Write) (start limit : ℕ) (within : limit ≤ length journal)
     (serial : (i : ℕ) (c : Commit) → i < limit → slice_get journal i ≡ Some c → AllAllowed kind (graph_at kind journal i) c.writes)

@@ -11,6 +11,7 @@ use Rattle.std.proofs.lemmas.Bool.Decides.{nat_tests}
 use Rattle.graph_model.specs.Graph.{Graph, has_vertex, vertices_of}
 use Rattle.graph_model.proofs.GraphLemmas.{marks}
 use Rattle.graph_model.proofs.SortedLemmas.{T_from_true}
+use Rattle.graph_model.proofs.ClashLemmas.{any_same}
 
 -- numbers as the entries of a set
 abbrev marked : ℕ → ℕ × Unit {0}
@@ -37,10 +38,6 @@ find-marked : (xs : List ℕ) (q : ℕ) → find nat_cmp q (map marked xs) ≡ c
 find-marked [] q = refl
 find-marked (x ∷ xs) q = unit_mark (eq_by_cmp nat_cmp q x) (find nat_cmp q (map marked xs)) (list_any (eq_by_cmp nat_cmp q) xs) (find-marked xs q)
 
-pub list_any-same : {X : Type 0} (p q : X → Bool) → ((x : X) → p x ≡ q x) → (xs : List X) → list_any p xs ≡ list_any q xs
-list_any-same p q same [] = refl
-list_any-same p q same (x ∷ xs) = λ i. same x i || list_any-same p q same xs i
-
 keys-marked : (xs : List ℕ) → map (λ (e : ℕ × Unit {0}). e.0) (map marked xs) ≡ xs
 keys-marked [] = refl
 keys-marked (x ∷ xs) = ap (λ ys. x ∷ ys) (keys-marked xs)
@@ -50,7 +47,7 @@ pub sorted_items : (g : Graph) (xs : List ℕ) → ((i j a b : ℕ) → i < j �
 sorted_items g xs rise has =
     let members : (q : ℕ) → find nat_cmp q (map marked xs) ≡ find nat_cmp q (fin_map.entries g.vertices) = λ q.
     find-marked xs q
-    ∙ ap (λ b. cond b (Some tt) None) (list_any-same (eq_by_cmp nat_cmp q) (λ x. x == q) (λ x. unsigned_tied q x ∙ nat_eq_equiv.symm q x) xs ∙ has q)
+    ∙ ap (λ b. cond b (Some tt) None) (any_same (eq_by_cmp nat_cmp q) (λ x. x == q) xs (λ x. unsigned_tied q x ∙ nat_eq_equiv.symm q x) ∙ has q)
     ∙ sym (marks (fin_map.get g.vertices q)) ∙ fin_map.get-entries g.vertices q in
     sym (keys-marked xs) ∙ ap (map (λ (e : ℕ × Unit {0}). e.0))
     (same_entries nat_cmp nat_cmp_total nat_cmp-IsAntisymmetric (map marked xs) (fin_map.entries g.vertices) (T_from_true _ (sorted_from_rising xs rise)) (fin_map.entries_sorted g.vertices) members)

@@ -20,7 +20,8 @@ list_all-same : (p q : ℕ → Bool) → ((x : ℕ) → p x ≡ q x) → (xs : L
 list_all-same p q same [] = refl
 list_all-same p q same (x ∷ xs) = λ i. same x i && list_all-same p q same xs i
 
-map-same : (f h : ℕ → ℕ) → ((x : ℕ) → f x ≡ h x) → (xs : List ℕ) → map f xs ≡ map h xs
+-- functions that agree give one list
+pub map-same : (f h : ℕ → ℕ) → ((x : ℕ) → f x ≡ h x) → (xs : List ℕ) → map f xs ≡ map h xs
 map-same f h same [] = refl
 map-same f h same (x ∷ xs) = λ i. same x i ∷ map-same f h same xs i
 
@@ -71,6 +72,7 @@ least-twice default [] = refl
 least-twice default (x ∷ xs) =
     least-append x xs (x ∷ xs) ∙ least_low (least_of x xs) (x ∷ xs) (least_below x xs, least_each x xs)
 
+-- values that stand twice as often have one answer
 pub most_frequent-twice : (default : ℕ) (xs : List ℕ) → most_frequent default (xs ++ xs) ≡ most_frequent default xs
 most_frequent-twice default xs =
     ap (least_or default) (filter-append (is_most_frequent (xs ++ xs)) xs xs ∙ (λ i. filter-same (is_most_frequent (xs ++ xs)) (is_most_frequent xs) (most-twice xs) xs i ++ filter-same (is_most_frequent (xs ++ xs)) (is_most_frequent xs) (most-twice xs) xs i))
@@ -79,6 +81,7 @@ most_frequent-twice default xs =
 sources-symmetric : (g : Graph) (v : ℕ) → IsSymmetric g → sources g v ≡ targets g v
 sources-symmetric g v same = filter-same (λ u. has_arc g u v) (λ u. has_arc g v u) (λ u. ap is_some (same u v)) (vertices_of g)
 
+-- in a symmetric graph each neighbour may count once or twice
 pub label-twice : (g : Graph) (rounds v : ℕ) → IsSymmetric g → label Directed g rounds v ≡ label Undirected g rounds v
 label-twice g zero v same = refl
 label-twice g (suc rounds) v same =
@@ -90,5 +93,6 @@ label-twice g (suc rounds) v same =
     ∙ map-both (label Undirected g rounds) (targets g v) (targets g v) in
     (λ i. most_frequent (before v i) (both i)) ∙ most_frequent-twice (label Undirected g rounds v) met
 
+-- a vertex without neighbours keeps its label
 pub label-alone : (kind : Kind) (g : Graph) (rounds v : ℕ) → neighbours kind g v ≡ [] → label kind g (rounds + 1) v ≡ label kind g rounds v
 label-alone kind g rounds v alone = rw add-one (ap (λ us. most_frequent (label kind g rounds v) (map (label kind g rounds) us)) alone)

@@ -9,19 +9,23 @@ use Rattle.graph_model.specs.Refused.{AllAllowed}
 use Rattle.graph_model.specs.History.{graph_at, writes_of}
 use Rattle.graph_model.specs.Legal.{IsLegal}
 
+-- what stands in a list stands there in a longer one
 pub get_front : {X : Type 0} (xs ys : List X) (i : ℕ) (x : X) → slice_get xs i ≡ Some x → slice_get (xs ++ ys) i ≡ Some x
 get_front [] ys i x e = cc
 get_front (y ∷ xs) ys zero x e = e
 get_front (y ∷ xs) ys (suc i) x e = get_front xs ys i x e
 
+-- its place is below the length
 pub below_length : {X : Type 0} (xs : List X) (i : ℕ) (x : X) → slice_get xs i ≡ Some x → i < length xs
 below_length [] i x e = cc
 below_length (y ∷ xs) zero x e = omega arith
 below_length (y ∷ xs) (suc i) x e = omega (arith, below_length xs i x e)
 
+-- what is appended leaves the graph of the commits before it
 pub graph_at-append : (kind : Kind) (front rest : List Commit) (stamp : ℕ) → stamp ≤ length front → graph_at kind (front ++ rest) stamp ≡ graph_at kind front stamp
 graph_at-append kind front rest stamp within = ap (λ js. apply_all kind empty_graph (writes_of js)) (take-append-le stamp front rest within)
 
+-- a prefix of a legal journal is legal
 pub legal_prefix : (kind : Kind) (front rest : List Commit) → IsLegal kind (front ++ rest) → IsLegal kind front
 legal_prefix kind front rest legal = record {
   each = λ i c at.

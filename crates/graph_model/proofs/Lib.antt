@@ -17,9 +17,14 @@ pub mod LegalLemmas
 pub mod ConflictLemmas
 pub mod SerialLemmas
 pub mod ViewLemmas
+pub mod AccountLemmas
+pub mod EntryLemmas
 pub mod ExampleLemmas
 pub mod PlaceLemmas
 pub mod PickLemmas
 pub mod TransactionLemmas
 pub mod StampLemmas
 pub mod PassLemmas
+pub mod JournalExampleLemmas
+pub mod WitnessLemmas
+pub mod KernelExampleLemmas

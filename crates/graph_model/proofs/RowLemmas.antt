@@ -36,7 +36,7 @@ find-vertices (v ∷ vs) q =
     ∙ one_of (eq_by_cmp nat_cmp q.src v) (q.second == 0) (list_any (eq_by_cmp nat_cmp q.src) vs) (Some 0)
 
 -- an arc's key ties with a key that isn't a vertex's
-second_tie : (second v : ℕ) → (second == v + 1) ≡ cond (second == 0) false (second - 1 == v)
+pub second_tie : (second v : ℕ) → (second == v + 1) ≡ cond (second == 0) false (second - 1 == v)
 second_tie second v = grind (arith, nat_tests)
 
 arc_one : (z a b : Bool) (x y : Option ℕ) → cond (a && cond z false b) x (cond z None y) ≡ cond z None (cond (a && b) x y)

@@ -29,6 +29,7 @@ one_table g right one s t p q =
     same_entries s t (p.vertices ∙ sym q.vertices)
     (λ i e f at_s at_t same. one f.vertex e.value f.value (subst (λ v. right v e.value) same (p.values i e at_s)) (q.values i f at_t))
 
+-- a vertex has one right value of each kernel
 pub one_bfs_value : (g : Graph) (root v : ℕ) (x y : Value) → IsBfsValue g root v x → IsBfsValue g root v y → x ≡ y
 one_bfs_value g root v (Number m) (Number n) p q = ap Number (one_distance g root v m n p q)
 one_bfs_value g root v (Number m) Infinity p q = absurd q

@@ -23,6 +23,7 @@ use Rattle.graph_model.proofs.SerialLemmas.{graph_kept, legal_serial}
 
 -- ---- symmetry
 
+-- writes without direction keep a graph symmetric
 pub all_symmetric : (g : Graph) (ws : List Write) → IsSymmetric g → IsSymmetric (apply_all Undirected g ws)
 all_symmetric g [] same = same
 all_symmetric g (w ∷ ws) same = all_symmetric (apply Undirected g w) ws (keeps_symmetric g w same)
@@ -62,11 +63,13 @@ keeps_bounded kind g w limit is = record {
       ] (sym (weight-apply kind g w u v) ∙ there);
 }
 
+-- so do a list of them
 pub all_bounded : (kind : Kind) (g : Graph) (ws : List Write) → AllByRecursion IsWithinLimits ws → IsBounded g → IsBounded (apply_all kind g ws)
 all_bounded kind g [] limits is = is
 all_bounded kind g (w ∷ ws) limits is = all_bounded kind (apply kind g w) ws limits.1 (keeps_bounded kind g w limits.0 is)
 
-empty_bounded : IsBounded empty_graph
+-- the empty graph is within the limits
+pub empty_bounded : IsBounded empty_graph
 empty_bounded = record {
   ids = λ v there. let e : true ≡ false = sym there ∙ ap is_some (fin_map.get-empty nat_cmp v) in cc;
   weights = λ u v weight there. let e : ◌≡◌ {A = Option ℕ} (Some weight) None = sym there ∙ fin_map.get-empty arc_cmp (u, v) in cc;
@@ -89,6 +92,7 @@ keeps_no_loops kind g (SetEdge u v weight) is none a =
 keeps_no_loops kind g (DropEdge u v) is none a =
     ap is_some (weight-apply kind g (DropEdge u v) a a ∙ ap (λ s. cond s None (weight_of g a a)) (loop_of kind u v a (allowed_ends g u v _ is).0)) ∙ none a
 
+-- allowed writes make none
 pub all_no_loops : (kind : Kind) (g : Graph) (ws : List Write) → AllAllowed kind g ws → HasNoLoops g → HasNoLoops (apply_all kind g ws)
 all_no_loops kind g [] are none = none
 all_no_loops kind g (w ∷ ws) are none = all_no_loops kind (apply kind g w) ws are.1 (keeps_no_loops kind g w are.0 none)
@@ -96,19 +100,23 @@ all_no_loops kind g (w ∷ ws) are none = all_no_loops kind (apply kind g w) ws 
 -- ---- views of a legal journal
 
 module _ (kind : Kind) (journal : List Commit) (start : ℕ) (own : List Write) (legal : IsLegal kind journal) (within : start ≤ length journal) where
+  -- a view is within the limits
   pub view_bounded : AllByRecursion IsWithinLimits own → IsBounded (view kind journal start own)
   view_bounded limits =
       all_bounded kind (graph_at kind journal start) own limits
       (graph_kept kind journal IsBounded empty_bounded (λ i c at is. all_bounded kind (graph_at kind journal i) c.writes (legal.each i c at).within is) start within)
 
+  -- it has no loops
   pub view_no_loops : AllAllowed kind (graph_at kind journal start) own → HasNoLoops (view kind journal start own)
   view_no_loops allowed =
       all_no_loops kind (graph_at kind journal start) own allowed
       (graph_kept kind journal HasNoLoops (λ v. ap is_some (fin_map.get-empty arc_cmp (v, v)))
       (λ i c at none. all_no_loops kind (graph_at kind journal i) c.writes (legal_serial kind journal legal i c at) none) start within)
 
+  -- both ends of its arcs are vertices
   pub view_ends : AllAllowed kind (graph_at kind journal start) own → HasBothEnds (view kind journal start own)
   view_ends allowed = ends_after kind (graph_at kind journal start) own allowed (legal.ends start within)
 
+-- and without direction it is symmetric
 pub view_symmetric : (journal : List Commit) (start : ℕ) (own : List Write) → IsSymmetric (view Undirected journal start own)
 view_symmetric journal start own = all_symmetric (graph_at Undirected journal start) own (made_symmetric (writes_of (take start journal)))

@@ -76,6 +76,7 @@ kept_other : (s : Bool) (x : Bool) → s ≡ false → x ≡ true → cond s fal
 kept_other true x off e = cc
 kept_other false x off e = e
 
+-- an allowed write keeps both ends of each arc
 pub keeps_ends : (kind : Kind) (g : Graph) (w : Write) → refused g w ≡ None → HasBothEnds g → HasBothEnds (apply kind g w)
 keeps_ends kind g (AddVertex v) is ends a b arc =
     let old = ends a b arc in
@@ -113,6 +114,7 @@ covers_turned (AddEdge u v weight) a b = edge_turned u v a b
 covers_turned (SetEdge u v weight) a b = edge_turned u v a b
 covers_turned (DropEdge u v) a b = edge_turned u v a b
 
+-- a write without direction keeps a graph symmetric
 pub keeps_symmetric : (g : Graph) (w : Write) → IsSymmetric g → IsSymmetric (apply Undirected g w)
 keeps_symmetric g w same a b =
     weight-apply Undirected g w a b
@@ -186,6 +188,7 @@ module _ (kind : Kind) (x y : Write) (apart : clash kind x y ≡ false) where
   not_both_arcs : (a b : ℕ) → is_about_arc kind x a b ≡ true → is_about_arc kind y a b ≡ true → ⊥
   not_both_arcs a b of_x of_y = never _ (clash_of_item kind x y (about_arc_item kind x a b of_x ∙ sym (about_arc_item kind y a b of_y))) apart
 
+  -- writes that don't clash commute
   pub commute : (g : Graph) → apply kind (apply kind g x) y ≡ apply kind (apply kind g y) x
   commute g =
       same_graph _ _
@@ -249,6 +252,7 @@ module _ (kind : Kind) (g : Graph) (x : Write) (x_allowed : refused g x ≡ None
 not_dropped : (g : Graph) (x : Write) (u v q : ℕ) → refused g x ≡ None → has_arc g u v ≡ true → ((q == u) || (q == v)) ≡ true → x ≡ DropVertex q → ⊥
 not_dropped g x u v q x_allowed there touches is = never _ there (touched g u v q touches (droppable g q (ap (refused g) (sym is) ∙ x_allowed)).1)
 
+-- and neither makes the other refused
 pub still_allowed : (kind : Kind) (g : Graph) (x y : Write) → clash kind x y ≡ false → refused g x ≡ None → refused g y ≡ None → refused (apply kind g x) y ≡ None
 still_allowed kind g x (AddVertex v) apart x_allowed y_allowed =
     ap (λ s. cond s (Some VertexExists) None) (same_vertex kind g x x_allowed (AddVertex v) apart v refl) ∙ y_allowed

@@ -15,16 +15,19 @@ meets kind w writes = list_any (clash kind w) writes
 
 -- the stamps above the start whose commits hold a write that clashes with w
 abbrev pub later : Kind → List Commit → ℕ → Write → List ℕ
-later kind journal start w = map (λ c. c.stamp) (filter (λ c. nat_lt start c.stamp && meets kind w c.writes) journal)
+later kind journal start w =
+    map (λ c. c.stamp) (filter (λ c. nat_lt start c.stamp && meets kind w c.writes) journal)
 
 -- a transaction that has begun and not ended, with its writes so far
 pub record OpenTxn : Type 0 where
   pub by : TxnName
   pub writes : List Write
 
+-- one transaction
 abbrev pub same_name : TxnName → TxnName → Bool
 same_name a b = (a.job == b.job) && (a.number == b.number)
 
+-- of a name and the least of the others
 abbrev pub with_lesser_job : TxnName → Option TxnName → TxnName
 with_lesser_job a None = a
 with_lesser_job a (Some b) = cond (nat_le a.job b.job) a b
@@ -36,8 +39,10 @@ least_job (name ∷ names) = Some (with_lesser_job name (least_job names))
 
 -- of the open transactions other than by that hold a write that clashes with w, the one with the least job
 abbrev pub holder : Kind → List OpenTxn → TxnName → Write → Option TxnName
-holder kind txns by w = least_job (map (λ t. t.by) (filter (λ t. not (same_name t.by by) && meets kind w t.writes) txns))
+holder kind txns by w =
+    least_job (map (λ t. t.by) (filter (λ t. not (same_name t.by by) && meets kind w t.writes) txns))
 
+-- of a number and the greatest of the others
 abbrev pub with_greater : ℕ → Option ℕ → ℕ
 with_greater a None = a
 with_greater a (Some b) = cond (nat_le a b) b a

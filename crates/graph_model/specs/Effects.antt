@@ -8,6 +8,7 @@ use Rattle.graph_model.specs.declared.write.Write.TheVariants.{AddVertex, DropVe
 use Rattle.graph_model.specs.declared.row.Key.{Key}
 use Rattle.graph_model.specs.Rows.{vertex_key, arc_key}
 
+-- one row
 abbrev pub same_key : Key → Key → Bool
 same_key a b = (a.src == b.src) && (a.second == b.second)
 

@@ -20,9 +20,11 @@ pub record Graph : Type 0 where
   pub vertices : FinMap nat_cmp (Unit {0})
   pub arcs : FinMap arc_cmp ℕ
 
+-- no vertex and no arc
 abbrev pub empty_graph : Graph
 empty_graph = record { vertices = map.empty; arcs = map.empty }
 
+-- v is a vertex
 abbrev pub has_vertex : Graph → ℕ → Bool
 has_vertex g v = map.contains_key g.vertices v
 
@@ -34,6 +36,7 @@ vertices_of g = map.keys g.vertices
 abbrev pub weight_of : Graph → ℕ → ℕ → Option ℕ
 weight_of g u v = map.get g.arcs (u, v)
 
+-- an arc leads from u to v
 abbrev pub has_arc : Graph → ℕ → ℕ → Bool
 has_arc g u v = is_some (weight_of g u v)
 
@@ -41,9 +44,11 @@ has_arc g u v = is_some (weight_of g u v)
 abbrev pub has_edges : Graph → ℕ → Bool
 has_edges g v = list_any (λ arc. (arc.0 == v) || (arc.1 == v)) (map.keys g.arcs)
 
+-- the arc from u to v has this weight now
 abbrev pub with_arc : Graph → ℕ → ℕ → ℕ → Graph
 with_arc g u v weight = record g { arcs = map.insert g.arcs (u, v) weight }
 
+-- no arc leads from u to v now
 abbrev pub without_arc : Graph → ℕ → ℕ → Graph
 without_arc g u v = record g { arcs = map.remove g.arcs (u, v) }
 
@@ -52,6 +57,7 @@ abbrev pub with_edge : Kind → Graph → ℕ → ℕ → ℕ → Graph
 with_edge Directed g u v weight = with_arc g u v weight
 with_edge Undirected g u v weight = with_arc (with_arc g u v weight) v u weight
 
+-- and it goes as it came
 abbrev pub without_edge : Kind → Graph → ℕ → ℕ → Graph
 without_edge Directed g u v = without_arc g u v
 without_edge Undirected g u v = without_arc (without_arc g u v) v u
@@ -64,6 +70,7 @@ apply kind g (AddEdge u v weight) = with_edge kind g u v weight
 apply kind g (SetEdge u v weight) = with_edge kind g u v weight
 apply kind g (DropEdge u v) = without_edge kind g u v
 
+-- the graph after a list of writes, the first of them first
 abbrev pub apply_all : Kind → Graph → List Write → Graph
 apply_all kind g [] = g
 apply_all kind g (w ∷ ws) = apply_all kind (apply kind g w) ws

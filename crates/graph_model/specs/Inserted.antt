@@ -18,5 +18,6 @@ inserted_by kind (AddEdge u v weight) = arcs_of_edge kind
 inserted_by kind (SetEdge u v weight) = 0
 inserted_by kind (DropEdge u v) = 0
 
+-- the most rows that all of them insert
 abbrev pub inserted : Kind → List Write → ℕ
 inserted kind writes = sum_by (inserted_by kind) writes

@@ -24,6 +24,7 @@ item kind (AddEdge u v weight) = edge kind u v
 item kind (SetEdge u v weight) = edge kind u v
 item kind (DropEdge u v) = edge kind u v
 
+-- the same vertex, or the same edge
 abbrev pub same_item : Item → Item → Bool
 same_item (Vertex v) (Vertex w) = v == w
 same_item (Vertex v) (Edge a b) = false

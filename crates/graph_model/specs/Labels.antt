@@ -26,10 +26,12 @@ times xs x = count_by (λ y. y == x) xs
 abbrev pub is_most_frequent : List ℕ → ℕ → Bool
 is_most_frequent xs x = list_all (λ y. nat_le (times xs y) (times xs x)) xs
 
+-- the least of x and the values
 abbrev pub least_of : ℕ → List ℕ → ℕ
 least_of x [] = x
 least_of x (y ∷ ys) = least_of (min x y) ys
 
+-- the least of the values, or the default where there is none
 abbrev pub least_or : ℕ → List ℕ → ℕ
 least_or default [] = default
 least_or default (x ∷ xs) = least_of x xs
@@ -41,4 +43,5 @@ most_frequent default xs = least_or default (filter (is_most_frequent xs) xs)
 -- the label of v after so many rounds
 abbrev pub label : Kind → Graph → ℕ → ℕ → ℕ
 label kind g zero v = v
-label kind g (suc round) v = most_frequent (label kind g round v) (map (label kind g round) (neighbours kind g v))
+label kind g (suc round) v =
+    most_frequent (label kind g round v) (map (label kind g round) (neighbours kind g v))

@@ -21,10 +21,12 @@ pub record IsLegalCommit (kind : Kind) (journal : List Commit) (place : ℕ) (c 
   pub allowed : AllAllowed kind (graph_at kind journal c.start) c.writes
   pub within : AllByRecursion IsWithinLimits c.writes
 
+-- what snapshot isolation allows: each commit by itself, and how they stand to each other
 pub record IsLegal (kind : Kind) (journal : List Commit) : Type 0 where
   pub each : (i : ℕ) (c : Commit) → slice_get journal i ≡ Some c → IsLegalCommit kind journal i c
   -- no transaction commits twice
-  pub names : (i j : ℕ) (c d : Commit) → slice_get journal i ≡ Some c → slice_get journal j ≡ Some d → c.by ≡ d.by → i ≡ j
+  pub names : (i j : ℕ) (c d : Commit) → slice_get journal i ≡ Some c → slice_get journal j ≡ Some d
+      → c.by ≡ d.by → i ≡ j
   -- of two that clash, the later one began when the earlier had committed
   pub apart : (i j : ℕ) (c d : Commit) → i < j → slice_get journal i ≡ Some c → slice_get journal j ≡ Some d
       → IsTrue (have_clash kind c.writes d.writes) → c.stamp ≤ d.start

@@ -7,9 +7,11 @@ pub mod Conflict
 pub mod Transactions
 pub mod Passes
 pub mod Account
+pub mod AccountSteps
 pub mod Inserted
 pub mod Rows
 pub mod Effects
+pub mod Scans
 pub mod Walks
 pub mod Components
 pub mod Labels
@@ -19,6 +21,9 @@ pub mod WriteLaws
 pub mod JournalLaws
 pub mod ConflictLaws
 pub mod TransactionLaws
+pub mod AccountLaws
 pub mod RowLaws
 pub mod KernelLaws
 pub mod Examples
+pub mod JournalExamples
+pub mod KernelExamples

@@ -11,12 +11,14 @@ use Rattle.graph_model.specs.Graph.{Graph, has_vertex, has_arc, has_edges, apply
 -- the ends of an edge are two vertices; then the last answer counts
 abbrev pub unless_ends : Graph → ℕ → ℕ → Option Refusal → Option Refusal
 unless_ends g u v then_answer =
-    cond (u == v) (Some SelfLoop) (cond (has_vertex g u) (cond (has_vertex g v) then_answer (Some (NoVertex v))) (Some (NoVertex u)))
+    cond (u == v) (Some SelfLoop)
+    (cond (has_vertex g u) (cond (has_vertex g v) then_answer (Some (NoVertex v))) (Some (NoVertex u)))
 
 -- the first cause that holds, or none
 abbrev pub refused : Graph → Write → Option Refusal
 refused g (AddVertex v) = cond (has_vertex g v) (Some VertexExists) None
-refused g (DropVertex v) = cond (has_vertex g v) (cond (has_edges g v) (Some HasEdges) None) (Some (NoVertex v))
+refused g (DropVertex v) =
+    cond (has_vertex g v) (cond (has_edges g v) (Some HasEdges) None) (Some (NoVertex v))
 refused g (AddEdge u v weight) = unless_ends g u v (cond (has_arc g u v) (Some EdgeExists) None)
 refused g (SetEdge u v weight) = unless_ends g u v (cond (has_arc g u v) None (Some NoEdge))
 refused g (DropEdge u v) = unless_ends g u v (cond (has_arc g u v) None (Some NoEdge))

@@ -5,6 +5,7 @@ use Rattle.graph_model.specs.declared.table.Value.{Value}
 use Rattle.graph_model.specs.declared.table.Value.TheVariants.{Number, Infinity}
 use Rattle.graph_model.specs.declared.table.Entry.{Entry}
 
+-- a number in decimal, or the word
 abbrev pub value_text : Value → List ℕ
 value_text (Number n) = decimal n
 value_text Infinity = codes "infinity"
@@ -13,5 +14,6 @@ value_text Infinity = codes "infinity"
 abbrev pub entry_line : Entry → List ℕ
 entry_line e = decimal e.vertex ++ (32 ∷ []) ++ value_text e.value ++ (10 ∷ [])
 
+-- its lines, one behind the other
 abbrev pub table_text : List Entry → List ℕ
 table_text entries = flat_map entry_line entries

@@ -14,18 +14,22 @@ pub record IsTable (g : Graph) (right : ℕ → Value → Type 0) (table : List 
   pub vertices : map (λ e. e.vertex) table ≡ vertices_of g
   pub values : (i : ℕ) (e : Entry) → slice_get table i ≡ Some e → right e.vertex e.value
 
+-- what breadth-first search gives a vertex: always a number
 abbrev pub IsBfsValue : Graph → ℕ → ℕ → Value → Type 0
 IsBfsValue g root v (Number n) = IsDistance g root v n
 IsBfsValue g root v Infinity = ⊥
 
+-- what shortest paths give it: the least weight, or infinity where no walk leads
 abbrev pub IsSsspValue : Graph → ℕ → ℕ → Value → Type 0
 IsSsspValue g root v (Number weight) = IsLeastWeight g root v weight
 IsSsspValue g root v Infinity = IsUnreached g root v
 
+-- what components give it: always a number
 abbrev pub IsWccValue : Graph → ℕ → Value → Type 0
 IsWccValue g v (Number c) = IsComponent g v c
 IsWccValue g v Infinity = ⊥
 
+-- what community detection gives it: its label
 abbrev pub IsCdlpValue : Kind → Graph → ℕ → ℕ → Value → Type 0
 IsCdlpValue kind g rounds v value = value ≡ Number (label kind g rounds v)
 

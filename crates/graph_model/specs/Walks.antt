@@ -42,7 +42,8 @@ Reaches g a (suc n) b = (c : ℕ) × Reaches g a n c × IsTrue (has_arc g c b) �
 -- a walk of n arcs and of this weight leads from a to b
 abbrev pub ReachesBy : Graph → ℕ → ℕ → ℕ → ℕ → Type 0
 ReachesBy g a zero b weight = IsTrue (has_vertex g a) × (a ≡ b) × (weight ≡ 0)
-ReachesBy g a (suc n) b weight = (c before step : ℕ) × ReachesBy g a n c before × (weight_of g c b ≡ Some step) × IsTrue (has_vertex g b) × (weight ≡ before + step)
+ReachesBy g a (suc n) b weight = (c before step : ℕ) × ReachesBy g a n c before
+    × (weight_of g c b ≡ Some step) × IsTrue (has_vertex g b) × (weight ≡ before + step)
 
 -- a walk of at most n arcs leads from a to b
 abbrev pub ReachesWithin : Graph → ℕ → ℕ → ℕ → Type 0

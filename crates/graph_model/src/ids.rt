@@ -1,6 +1,6 @@
-//! Lists of vertex ids.
+//! Vertex ids, in lists. The order is the maker's, and an id may stand twice.
 
 use items::Items;
 
-/// Vertex ids, in an order that the maker chooses.
+/// Vertex ids, one behind the other.
 pub type Ids = Items<u64>;

@@ -1,4 +1,7 @@
 //! Commits, and the journal of them.
+//!
+//! These types hold any stamps, starts and writes. Which journals there may be is `IsLegal`: whoever
+//! makes one proves it, and whoever is handed one may ask for it.
 
 use crate::write::Writes;
 use items::{Items, RoomyItems};
@@ -30,5 +33,6 @@ pub struct Commit {
 /// The commits in the order of their stamps, which are 1, 2, 3 and so on.
 pub type Journal = Items<Commit>;
 
-/// The same with the room that is left seen beside them, for an owner whose commits must take no memory.
+/// The same with the room that is left seen beside them, for an owner whose commits must take no
+/// memory.
 pub type RoomyJournal = RoomyItems<Commit>;

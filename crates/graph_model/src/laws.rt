@@ -1,9 +1,15 @@
-//! Laws that show that the definitions mean what they say. Each is a function whose contract is the law.
+//! Laws that show that the definitions mean what they say.
+//!
+//! Each is a function whose contract is the law: it takes nothing, does nothing, and is proved. The
+//! name in a clause is a definition in `specs/`, in the file that its `ghost use` line names.
 
-ghost use Rattle.graph_model.specs.Examples.{ClashExamples, RefusalExamples, ViewExamples, ConflictExamples, CountExamples, RowExamples, LabelExamples, TableExample};
+ghost use Rattle.graph_model.specs.Examples.{ClashExamples, RefusalExamples, AllowedExamples, LimitExamples, EffectExamples, SoundExamples, CountExamples, RowExamples};
+ghost use Rattle.graph_model.specs.JournalExamples.{LegalExamples, IllegalExamples, ViewExamples, ConflictExamples, AccountExamples};
+ghost use Rattle.graph_model.specs.KernelExamples.{SearchExamples, PathExamples, ComponentExamples, LabelExamples, TextExamples};
 ghost use Rattle.graph_model.specs.WriteLaws.{KeepsBothEnds, KeepsSymmetric, WritesCommute, StaysAllowed, ClashIsSymmetric, ListsCommute, ListsStayAllowed, WriteByKey, WritesByKey, TouchesAreOfVertices, ClashIsByRow};
 ghost use Rattle.graph_model.specs.JournalLaws.{PrefixIsLegal, LegalHasBothEnds, PrefixHasItsGraphs, NoCommitIsLegal, OneCommitMore, CommitsAreSerial, EndsFollow, StartIsEnough, ViewIsSymmetric, ViewIsBounded, ViewHasNoLoops, ViewHasBothEnds};
 ghost use Rattle.graph_model.specs.ConflictLaws.{NoConflict, NamesLeastJob, NamesNewest};
+ghost use Rattle.graph_model.specs.AccountLaws.{BeginKeepsValid, WriteKeepsValid, ReadKeepsValid, EndKeepsValid, DoneScanIsWhole};
 ghost use Rattle.graph_model.specs.RowLaws.{RowsRise, RowsAreOfTheGraph, RowsAreComplete, RangesAdjoin};
 ghost use Rattle.graph_model.specs.KernelLaws.{RootIsNearest, OneDistance, OneLeastWeight, ArcAddsOne, ArcAddsItsWeight, NoWalkIsNone, WalksReach, ReachesIsWalk, ReachesByIsWalk, ReachesWithinIsWalk, ComponentIsNotAbove, OneComponent, ArcJoinsComponents, LeastIsItsComponent, FirstLabelIsTheVertex, LonelyKeepsItsLabel, TwiceIsOnce, OneTable};
 
@@ -70,12 +76,25 @@ pub fn conflicts_have_causes()
     ensures later { NamesNewest }
 {}
 
+/// What a call may do to an account keeps it valid, so long as what is seen of the journal is legal.
+pub fn calls_keep_accounts_valid()
+    ensures begin { BeginKeepsValid }
+    ensures write { WriteKeepsValid }
+    ensures read { ReadKeepsValid }
+    ensures end { EndKeepsValid }
+{}
+
 /// Rows rise by key, and are exactly what the graph has in the range; ranges adjoin.
 pub fn rows_are_of_the_graph()
     ensures rise { RowsRise }
     ensures sound { RowsAreOfTheGraph }
     ensures complete { RowsAreComplete }
     ensures adjoin { RangesAdjoin }
+{}
+
+/// A scan that is done has given all rows that were left.
+pub fn scans_end_with_the_last_row()
+    ensures { DoneScanIsWhole }
 {}
 
 /// The root has 0, a vertex has one least length and one least weight, an arc adds at most one or
@@ -118,14 +137,32 @@ pub fn tables_are_determined()
     ensures { OneTable }
 {}
 
-/// Worked examples of the definitions, with values reckoned by hand.
+/// Worked examples of writes and of rows, with values reckoned by hand.
 pub fn examples_hold()
     ensures clashes { ClashExamples }
     ensures refusals { RefusalExamples }
-    ensures views { ViewExamples }
-    ensures conflicts { ConflictExamples }
+    ensures allowed { AllowedExamples }
+    ensures limits { LimitExamples }
+    ensures effects { EffectExamples }
+    ensures sound { SoundExamples }
     ensures counts { CountExamples }
     ensures rows { RowExamples }
+{}
+
+/// Worked examples of journals, and of what transactions see and meet.
+pub fn journal_examples_hold()
+    ensures legal { LegalExamples }
+    ensures illegal { IllegalExamples }
+    ensures views { ViewExamples }
+    ensures conflicts { ConflictExamples }
+    ensures accounts { AccountExamples }
+{}
+
+/// Worked examples of the kernels' tables on small graphs.
+pub fn kernel_examples_hold()
+    ensures searches { SearchExamples }
+    ensures paths { PathExamples }
+    ensures components { ComponentExamples }
     ensures labels { LabelExamples }
-    ensures text { TableExample }
+    ensures text { TextExamples }
 {}

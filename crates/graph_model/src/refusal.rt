@@ -1,4 +1,7 @@
 //! Why a write or a `begin` is refused.
+//!
+//! Where several causes hold, the one that stands first is answered. A refused call has changed
+//! nothing.
 
 use crate::journal::TxnName;
 use std::fmt;
@@ -24,8 +27,8 @@ impl fmt::Display for Cause {
     }
 }
 
-/// Why a write was refused. The first that holds, in the order in which they stand here; want of
-/// memory may come in place of any answer. A refused write has changed nothing.
+/// Why a write was refused: the first that holds, in the order in which they stand here. Want of
+/// memory may come in place of any answer.
 #[derive(Clone, Copy, Debug, PartialEq, Eq, Error)]
 pub enum Refusal {
     /// Both ends of the edge are one vertex.

@@ -1,4 +1,8 @@
-//! Rows and their keys, scans over them.
+//! Rows and their keys, and scans over them.
+//!
+//! 1. Keys are in the order of their sources, and then of their second numbers, so a vertex's row
+//!    stands directly before those of its arcs.
+//! 2. A buffer holds at most 64 rows and never takes memory.
 
 ghost use Rattle.std.specs.Prelude.{◌≡◌, ◌<◌, ◌≤◌, [], ◌∷◌, ◌++◌, ◌==◌, length};
 ghost use Rattle.graph_model.specs.declared.limits.TheConstants.{MAX_ID};

@@ -1,4 +1,4 @@
-//! The tables that kernels give.
+//! The tables that kernels give: one line for each vertex, in rising order.
 
 use items::Items;
 use thiserror::Error;
@@ -17,7 +17,7 @@ pub struct Entry {
     pub value: Value,
 }
 
-/// A kernel's answer, in rising order of vertex.
+/// A kernel's answer. That each vertex stands there once, and rightly, is `IsBfs` and the like.
 pub type Table = Items<Entry>;
 
 /// Why a kernel gave no table.

@@ -1,4 +1,7 @@
 //! Writes, and lists of them.
+//!
+//! A write is a wish: whether a graph takes it is `refused`, what it makes of the graph is `apply`,
+//! and which two can't both be made by transactions that overlap is `clash`.
 
 use items::{Items, RoomyItems};
 
@@ -22,5 +25,6 @@ pub enum Write {
 /// The writes of a transaction, oldest first.
 pub type Writes = Items<Write>;
 
-/// The same with the room that is left seen beside them, for a transaction whose next write must take no memory.
+/// The same with the room that is left seen beside them, for a transaction whose next write must
+/// take no memory.
 pub type RoomyWrites = RoomyItems<Write>;

@@ -92,3 +92,28 @@ impl<T: Drop> RoomyItems<T> {
         }
     }
 }
+
+#[cfg(test)]
+mod tests {
+    use super::*;
+    use std::test::Fail;
+
+    #[test]
+    fn lists_grow_with_ample_memory(rt: HostRuntime) -> Result<(), Fail> {
+        let alloc = rt.alloc();
+        let mut plain = Items::new(alloc);
+        plain.push(7)?;
+        plain.push(8)?;
+        assert_eq!(rt;
+            plain.as_slice(),
+            &[7, 8][..],
+            "a list that grows as it can"
+        );
+        let mut roomy = RoomyItems::new(alloc);
+        roomy.reserve(2)?;
+        roomy.push_within(7);
+        roomy.push_within(8);
+        assert_eq!(rt; roomy.as_slice(), &[7, 8][..], "a list that has its room");
+        Ok(())
+    }
+}

@@ -1,14 +1,20 @@
-use Rattle.graph_model.proofs.ExampleLemmas.{refusals, views, row_list, text}
+use Rattle.graph_model.proofs.ExampleLemmas.{refusals, allowed_lists, limits, effects, sound_graphs, row_lists}
 use Rattle.graph_model.proofs.laws.examples_hold.Goals as goal
 
 pub returns-clause-refusals : goal.returns-clause-refusals
 returns-clause-refusals c = refusals
 
-pub returns-clause-views : goal.returns-clause-views
-returns-clause-views c = views
+pub returns-clause-allowed : goal.returns-clause-allowed
+returns-clause-allowed c = allowed_lists
+
+pub returns-clause-limits : goal.returns-clause-limits
+returns-clause-limits c = limits
+
+pub returns-clause-effects : goal.returns-clause-effects
+returns-clause-effects c = effects
+
+pub returns-clause-sound : goal.returns-clause-sound
+returns-clause-sound c = sound_graphs
 
 pub returns-clause-rows : goal.returns-clause-rows
-returns-clause-rows c = row_list
-
-pub returns-clause-text : goal.returns-clause-text
-returns-clause-text c = text
+returns-clause-rows c = row_lists

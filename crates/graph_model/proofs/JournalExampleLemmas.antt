@@ -1,0 +1,154 @@
+-- The worked examples of journals, and of what transactions see and meet.
+use Rattle.std.proofs.Common.{◌≡◌, ℕ, ◌≤◌, List, [], ◌∷◌, ◌++◌, refl, sym, ◌∙◌, ap, arith}
+use Rattle.std.specs.Prelude.{false, ◌==◌, None, IsTrue}
+use Rattle.graph_model.specs.declared.write.Kind.TheVariants.{Undirected}
+use Rattle.graph_model.specs.declared.write.Write.{Write}
+use Rattle.graph_model.specs.declared.write.Write.TheVariants.{AddVertex, DropVertex, AddEdge, SetEdge, DropEdge}
+use Rattle.graph_model.specs.declared.journal.Commit.{Commit}
+use Rattle.graph_model.specs.declared.journal.TxnName.{TxnName}
+use Rattle.graph_model.specs.declared.refusal.Refusal.TheVariants.{SelfLoop, NoVertex}
+use Rattle.graph_model.specs.Graph.{empty_graph}
+use Rattle.graph_model.specs.Refused.{refused, IsWithinLimits}
+use Rattle.graph_model.specs.History.{graph_at}
+use Rattle.graph_model.specs.Legal.{have_clash, IsLegal}
+use Rattle.graph_model.specs.Examples.{load}
+use Rattle.graph_model.specs.JournalExamples.{name, commit, journal, then_commit, LegalExamples, IllegalExamples, ViewExamples, AccountExamples}
+use Rattle.graph_model.proofs.TestLemmas.{self_eq}
+use Rattle.graph_model.proofs.EntryLemmas.{Arcs, HasEntries, refused_at, entries_made, empty_entries, made_weight, made_vertex, all_allowed}
+use Rattle.graph_model.proofs.HistoryLemmas.{each_item}
+use Rattle.graph_model.proofs.SerialLemmas.{no_commit_legal, legal_more}
+use Rattle.graph_model.proofs.ExampleLemmas.{load_marks, load_within, by_load, some_none, true_false}
+
+-- ---- legal journals
+
+other_job : {P : Type 0} (a b : TxnName) → (a.job == b.job) ≡ false → a ≡ b → P
+other_job a b apart same = true_false (sym (self_eq a.job) ∙ ap (λ (n : TxnName). a.job == n.job) same ∙ apart)
+
+never_clash : {P : Type 0} → IsTrue false → P
+never_clash clash = true_false (sym clash)
+
+abbrev one : List Commit
+one = commit 1 0 (name 0 1) load ∷ []
+
+one_legal : IsLegal Undirected one
+one_legal = legal_more Undirected [] (commit 1 0 (name 0 1) load) (no_commit_legal Undirected) (record {
+  commit = record {
+    stamped = refl;
+    started = omega arith;
+    wrote = omega arith;
+    allowed = all_allowed Undirected empty_graph [] [] empty_entries load refl;
+    within = load_within;
+  };
+  unnamed = λ i d at. cc;
+  apart = λ i d at. cc;
+})
+
+two_legal : IsLegal Undirected journal
+two_legal = legal_more Undirected one (commit 2 1 (name 1 1) (SetEdge 1 2 9 ∷ [])) one_legal (record {
+  commit = record {
+    stamped = refl;
+    started = omega arith;
+    wrote = omega arith;
+    allowed = (by_load (SetEdge 1 2 9), tt);
+    within = ((omega arith, omega arith, omega arith), tt);
+  };
+  unnamed = each_item (λ (d : Commit). d.by ≡ name 1 1 → ⊥) one (λ same. other_job (name 0 1) (name 1 1) refl same, tt);
+  apart = each_item (λ (d : Commit). IsTrue (have_clash Undirected d.writes (SetEdge 1 2 9 ∷ [])) → d.stamp ≤ 1) one (λ clash. omega arith, tt);
+})
+
+-- a third commit that sets an edge
+third_legal : (start u v : ℕ) → start ≤ 2 → refused (graph_at Undirected journal start) (SetEdge u v 8) ≡ None → IsWithinLimits (SetEdge u v 8)
+    → (IsTrue (have_clash Undirected (SetEdge 1 2 9 ∷ []) (SetEdge u v 8 ∷ [])) → 2 ≤ start) → 1 ≤ start
+    → IsLegal Undirected (then_commit 3 start (name 2 1) (SetEdge u v 8 ∷ []))
+third_legal start u v began allowed within apart from = legal_more Undirected journal (commit 3 start (name 2 1) (SetEdge u v 8 ∷ [])) two_legal (record {
+  commit = record {
+    stamped = refl;
+    started = began;
+    wrote = omega arith;
+    allowed = (allowed, tt);
+    within = (within, tt);
+  };
+  unnamed = each_item (λ (d : Commit). d.by ≡ name 2 1 → ⊥) journal (λ same. other_job (name 0 1) (name 2 1) refl same, (λ same. other_job (name 1 1) (name 2 1) refl same, tt));
+  apart = each_item (λ (d : Commit). IsTrue (have_clash Undirected d.writes (SetEdge u v 8 ∷ [])) → d.stamp ≤ start) journal (λ clash. from, (apart, tt));
+})
+
+abbrev journal_arcs : Arcs
+journal_arcs = ((1, 2), 9) ∷ ((2, 1), 9) ∷ ((2, 3), 1) ∷ ((3, 2), 1) ∷ []
+
+journal_entries : HasEntries (graph_at Undirected journal 2) load_marks journal_arcs
+journal_entries = entries_made Undirected (load ++ SetEdge 1 2 9 ∷ [])
+
+pub legal_journals : LegalExamples
+legal_journals = record {
+  legal = two_legal;
+  overlaps_apart = third_legal 1 2 3 (omega arith) (by_load (SetEdge 2 3 8)) (omega arith, omega arith, omega arith) never_clash (omega arith);
+  follows = third_legal 2 2 1 (omega arith) (refused_at (graph_at Undirected journal 2) load_marks journal_arcs journal_entries (SetEdge 2 1 8)) (omega arith, omega arith, omega arith) (λ clash. omega arith) (omega arith);
+}
+
+-- ---- journals that aren't legal
+
+overlapping : IsLegal Undirected (then_commit 3 1 (name 2 1) (SetEdge 2 1 8 ∷ [])) → ⊥
+overlapping legal = omega (arith, legal.apart 1 2 _ _ (omega arith) refl refl refl)
+
+pub illegal_journals : IllegalExamples
+illegal_journals = record {
+  overlaps = overlapping;
+  commits_twice = λ legal. omega (arith, legal.names 1 2 _ _ refl refl refl);
+  writes_nothing = λ legal. omega (arith, (legal.each 2 _ refl).wrote);
+  skips_a_stamp = λ legal. omega (arith, (legal.each 2 _ refl).stamped);
+  starts_at_itself = λ legal. omega (arith, (legal.each 2 _ refl).started);
+  not_on_its_snapshot = λ legal. some_none (NoVertex 5) (sym (by_load (AddEdge 4 5 1)) ∙ (legal.each 2 _ refl).allowed.0);
+  refused_by_its_snapshot = λ legal. some_none SelfLoop ((legal.each 2 _ refl).allowed.0);
+  too_great_id = λ legal. omega (arith, (legal.each 2 _ refl).within.0);
+  too_heavy = λ legal. omega (arith, (legal.each 2 _ refl).within.0.2);
+}
+
+-- ---- views
+
+pub views : ViewExamples
+views = record {
+  old_weight = made_weight Undirected load 1 2;
+  new_weight = made_weight Undirected (load ++ SetEdge 1 2 9 ∷ []) 2 1;
+  nothing_yet = made_vertex Undirected [] 1;
+  own = made_weight Undirected (load ++ AddEdge 1 4 1 ∷ []) 4 1;
+  own_dropped = made_weight Undirected (load ++ DropEdge 1 2 ∷ []) 2 1;
+  own_vertex = made_vertex Undirected (load ++ AddVertex 5 ∷ []) 5;
+  own_removed = made_vertex Undirected (load ++ SetEdge 1 2 9 ∷ DropVertex 4 ∷ []) 4;
+  last_of_its_own = made_weight Undirected (load ++ SetEdge 1 2 9 ∷ SetEdge 1 2 7 ∷ SetEdge 2 1 6 ∷ []) 1 2;
+}
+
+-- ---- accounts
+
+no_writes : {P : Type 0} (w : Write) (ws : List Write) → w ∷ ws ≡ [] → P
+no_writes w ws e = cc
+
+last_list : {X : Type 0} (earlier : List X) (x a b : X) → a ∷ b ∷ [] ≡ earlier ++ x ∷ [] → b ≡ x
+last_list [] x a b e = cc
+last_list {X = X} (y ∷ []) x a b e = let rest : ◌≡◌ {A = List X} (b ∷ []) (x ∷ []) = cc in cc
+last_list {X = X} (y ∷ z ∷ []) x a b e = let rest : ◌≡◌ {A = List X} (b ∷ []) (z ∷ x ∷ []) = cc in cc
+last_list {X = X} (y ∷ z ∷ t ∷ ys) x a b e = let rest : ◌≡◌ {A = List X} (b ∷ []) (z ∷ t ∷ (ys ++ x ∷ [])) = cc in cc
+
+pub accounts : AccountExamples
+accounts = record {
+  valid = record {
+    legal = two_legal;
+    current = record {
+      seen = omega arith;
+      allowed = (by_load (AddEdge 1 4 1), tt);
+      within = ((omega arith, omega arith, omega arith), tt);
+      last = ([] ∷ [], refl);
+    };
+    idle = tt;
+    counted = refl;
+    room = omega arith;
+  };
+  ended = record { legal = two_legal; current = tt; idle = refl; counted = refl; room = omega arith };
+  own_where_none_is_open = λ is. no_writes _ _ is.idle;
+  own_not_made = λ is. no_writes _ _ (last_list is.current.last.0 [] [] (AddEdge 1 4 1 ∷ []) is.current.last.1);
+  begun_not_made = λ is. omega (arith, is.counted);
+  more_than_allowed = λ is. omega (arith, is.room);
+  start_not_seen = λ is. omega (arith, is.current.seen);
+  not_on_its_snapshot = λ is. some_none (NoVertex 9) (sym (by_load (AddEdge 1 9 1)) ∙ is.current.allowed.0);
+  too_heavy = λ is. omega (arith, is.current.within.0.2);
+  seen_not_legal = λ is. overlapping is.legal;
+}
