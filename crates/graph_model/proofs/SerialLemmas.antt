@@ -1,6 +1,6 @@
 -- In a legal journal each commit is allowed on the graph of all commits before it; and how a journal grows by a commit.
-use Rattle.std.proofs.Common.{◌≡◌, ℕ, zero, suc, ◌+◌, ◌-◌, ◌<◌, ◌≤◌, List, [], ◌∷◌, ◌++◌, length, refl, sym, ◌∙◌, ap, subst, arith, inl, inr}
-use Rattle.std.specs.Prelude.{◌⊎◌, true, false, slice_get, Option, Some, is_some, IsTrue}
+use Rattle.std.proofs.Common.{◌≡◌, ℕ, zero, suc, ◌+◌, ◌-◌, ◌<◌, ◌≤◌, List, [], ◌∷◌, ◌++◌, length, sym, ◌∙◌, ap, subst, arith, inl, inr}
+use Rattle.std.specs.Prelude.{true, false, slice_get, Some, is_some, IsTrue}
 use Rattle.std.specs.FinMap as fin_map
 use Rattle.std.proofs.lemmas.Bool.{false_from_ne_true}
 use Rattle.graph_model.specs.declared.write.Kind.{Kind}
@@ -12,6 +12,7 @@ use Rattle.graph_model.specs.History.{graph_at}
 use Rattle.graph_model.specs.Legal.{have_clash, IsLegalCommit, IsLegal}
 use Rattle.graph_model.specs.JournalLaws.{IsNext}
 use Rattle.graph_model.proofs.HistoryLemmas.{ends_after, graph_at-next, get_within, allowed_up_to}
+use Rattle.graph_model.proofs.PlaceLemmas.{get_snoc, get_end}
 use Rattle.graph_model.proofs.LegalLemmas.{get_front, below_length, graph_at-append}
 
 -- what the empty graph has, and each commit keeps, each graph of the journal has
@@ -83,21 +84,6 @@ no_commit_legal kind = record {
   ends = ends_follow kind [] (λ i c at. cc) (λ i j c d lt at_i at_j. cc);
 }
 
--- what stands in a journal with one commit more
-pub get_more : (js : List Commit) (c : Commit) (i : ℕ) (d : Commit) → slice_get (js ++ c ∷ []) i ≡ Some d → ((i < length js) × (slice_get js i ≡ Some d)) ⊎ ((i ≡ length js) × (c ≡ d))
-get_more [] c zero d e = let both : ◌≡◌ {A = Option Commit} (Some c) (Some d) = e in let same : c ≡ d = cc in inr (refl, same)
-get_more [] c (suc i) d e = cc
-get_more (x ∷ js) c zero d e = inl (omega arith, e)
-get_more (x ∷ js) c (suc i) d e = elim (get_more js c i d e) as (λ _. ((suc i < length (x ∷ js)) × (slice_get js i ≡ Some d)) ⊎ ((suc i ≡ length (x ∷ js)) × (c ≡ d))) [
-  | inl p ↦ let below : i < length js = p.0 in inl (omega arith, p.1)
-  | inr p ↦ let same : i ≡ length js = p.0 in inr (omega arith, p.1)
-]
-
--- the last of them
-pub get_last : (js : List Commit) (c : Commit) → slice_get (js ++ c ∷ []) (length js) ≡ Some c
-get_last [] c = refl
-get_last (x ∷ js) c = get_last js c
-
 -- a commit is legal by itself in a longer journal as well
 pub longer_commit : (kind : Kind) (front rest : List Commit) (place : ℕ) (c : Commit) → place ≤ length front → IsLegalCommit kind front place c → IsLegalCommit kind (front ++ rest) place c
 longer_commit kind front rest place c within is = record {
@@ -114,18 +100,18 @@ module _ (kind : Kind) (journal : List Commit) (c : Commit) where
 
   module _ (legal : IsLegal kind journal) (next : IsNext kind journal c) where
     each_more : (i : ℕ) (d : Commit) → slice_get longer i ≡ Some d → IsLegalCommit kind longer i d
-    each_more i d at = elim (get_more journal c i d at) as (λ _. IsLegalCommit kind longer i d) [
+    each_more i d at = elim (get_snoc journal c i d at) as (λ _. IsLegalCommit kind longer i d) [
       | inl p ↦ let below : i < length journal = p.0 in longer_commit kind journal (c ∷ []) i d (omega arith) (legal.each i d p.1)
       | inr p ↦ subst (λ x. IsLegalCommit kind longer i x) p.1 (subst (λ n. IsLegalCommit kind longer n c) (sym p.0) (longer_commit kind journal (c ∷ []) (length journal) c (omega arith) next.commit))
     ]
 
     apart_more : (i j : ℕ) (x y : Commit) → i < j → slice_get longer i ≡ Some x → slice_get longer j ≡ Some y → IsTrue (have_clash kind x.writes y.writes) → x.stamp ≤ y.start
-    apart_more i j x y lt at_i at_j clash = elim (get_more journal c i x at_i) as (λ _. x.stamp ≤ y.start) [
-      | inl p ↦ elim (get_more journal c j y at_j) as (λ _. x.stamp ≤ y.start) [
+    apart_more i j x y lt at_i at_j clash = elim (get_snoc journal c i x at_i) as (λ _. x.stamp ≤ y.start) [
+      | inl p ↦ elim (get_snoc journal c j y at_j) as (λ _. x.stamp ≤ y.start) [
         | inl q ↦ legal.apart i j x y lt p.1 q.1 clash
         | inr q ↦ subst (λ (z : Commit). x.stamp ≤ z.start) q.1 (next.apart i x p.1 (ap (λ (z : Commit). have_clash kind x.writes z.writes) q.1 ∙ clash))
       ]
-      | inr p ↦ elim (get_more journal c j y at_j) as (λ _. x.stamp ≤ y.start) [
+      | inr p ↦ elim (get_snoc journal c j y at_j) as (λ _. x.stamp ≤ y.start) [
         | inl q ↦ absurd (omega (arith, lt, p.0, q.0))
         | inr q ↦ absurd (omega (arith, lt, p.0, q.0))
       ]
@@ -135,12 +121,12 @@ module _ (kind : Kind) (journal : List Commit) (c : Commit) where
     pub legal_more : IsLegal kind longer
     legal_more = record {
       each = each_more;
-      names = λ i j x y at_i at_j same. elim (get_more journal c i x at_i) as (λ _. i ≡ j) [
-        | inl p ↦ elim (get_more journal c j y at_j) as (λ _. i ≡ j) [
+      names = λ i j x y at_i at_j same. elim (get_snoc journal c i x at_i) as (λ _. i ≡ j) [
+        | inl p ↦ elim (get_snoc journal c j y at_j) as (λ _. i ≡ j) [
           | inl q ↦ legal.names i j x y p.1 q.1 same
           | inr q ↦ absurd (next.unnamed i x p.1 (same ∙ ap (λ (z : Commit). z.by) (sym q.1)))
         ]
-        | inr p ↦ elim (get_more journal c j y at_j) as (λ _. i ≡ j) [
+        | inr p ↦ elim (get_snoc journal c j y at_j) as (λ _. i ≡ j) [
           | inl q ↦ absurd (next.unnamed j y q.1 (sym same ∙ ap (λ (z : Commit). z.by) (sym p.1)))
           | inr q ↦ p.0 ∙ sym q.0
         ]
@@ -152,7 +138,7 @@ module _ (kind : Kind) (journal : List Commit) (c : Commit) where
   -- the last commit of a legal journal may follow those before it
   pub legal_last : IsLegal kind longer → IsNext kind journal c
   legal_last legal =
-      let last = legal.each (length journal) c (get_last journal c) in
+      let last = legal.each (length journal) c (get_end journal c) in
       record {
         commit = record {
           stamped = last.stamped;
@@ -162,8 +148,8 @@ module _ (kind : Kind) (journal : List Commit) (c : Commit) where
           within = last.within;
         };
         unnamed = λ i d at same.
-            let place : i ≡ length journal = legal.names i (length journal) d c (get_front journal (c ∷ []) i d at) (get_last journal c) same in
+            let place : i ≡ length journal = legal.names i (length journal) d c (get_front journal (c ∷ []) i d at) (get_end journal c) same in
             let below : i < length journal = below_length journal i d at in
             omega arith;
-        apart = λ i d at clash. legal.apart i (length journal) d c (below_length journal i d at) (get_front journal (c ∷ []) i d at) (get_last journal c) clash;
+        apart = λ i d at clash. legal.apart i (length journal) d c (below_length journal i d at) (get_front journal (c ∷ []) i d at) (get_end journal c) clash;
       }

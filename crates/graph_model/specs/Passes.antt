@@ -1,6 +1,6 @@
 -- Passes, each with at most one open transaction: what these have, by their names. A pass's state is of
 -- any type; `number` gives the number of its latest transaction, `current` what is open of it.
-use Rattle.std.specs.Prelude.{ℕ, ◌+◌, ◌-◌, Bool, ◌==◌, cond, nat_lt, List, [], ◌∷◌, slice_get, Option, Some, None, unwrap_or}
+use Rattle.std.specs.Prelude.{ℕ, ◌+◌, ◌-◌, ◌==◌, cond, nat_lt, List, [], ◌∷◌, slice_get, Option, Some, None, unwrap_or}
 use Rattle.graph_model.specs.declared.journal.TxnName.{TxnName}
 use Rattle.graph_model.specs.Conflict.{OpenTxn}
 use Rattle.graph_model.specs.Transactions.{Running}

@@ -1,13 +1,14 @@
 -- How a journal and its open transactions go on: one law for each kind of change. Each is the contract
 -- of a function in `transactions`.
-use Rattle.std.specs.Prelude.{◌≡◌, ◌⊎◌, ℕ, ◌+◌, ◌<◌, ◌≤◌, Bool, true, false, List, [], ◌∷◌, ◌++◌, length, slice_get, slice_set, Option, Some, None}
+use Rattle.std.specs.Prelude.{◌≡◌, ◌⊎◌, ℕ, ◌+◌, ◌<◌, ◌≤◌, true, false, List, [], ◌∷◌, ◌++◌, length, slice_get, slice_set, Option, Some, None}
 use Rattle.graph_model.specs.declared.write.Kind.{Kind}
 use Rattle.graph_model.specs.declared.write.Write.{Write}
 use Rattle.graph_model.specs.declared.journal.Commit.{Commit}
 use Rattle.graph_model.specs.declared.journal.TxnName.{TxnName}
 use Rattle.graph_model.specs.Refused.{refused, IsWithinLimits}
 use Rattle.graph_model.specs.History.{view}
-use Rattle.graph_model.specs.Transactions.{Running, Changes, commit_of, HasNotCommitted, stamp_in, reached, MeetsNoHolder, MeetsNoLater, AreTransactions, IsListed}
+use Rattle.graph_model.specs.ConflictLaws.{NoLater}
+use Rattle.graph_model.specs.Transactions.{Running, Changes, commit_of, HasNotCommitted, stamp_in, reached, MeetsNoHolder, AreTransactions, IsListed}
 use Rattle.graph_model.specs.Passes.{latest_name, of_latest, revised, state_in, open_txns_of}
 
 -- before the first begin nothing is committed and nothing is open
@@ -35,7 +36,7 @@ WriteKeeps =
     → refused (view kind journal t.start t.writes) w ≡ None
     → IsWithinLimits w
     → MeetsNoHolder kind running by w
-    → MeetsNoLater kind journal t.start w
+    → NoLater kind journal t.start w
     → AreTransactions kind journal running' horizon
 
 -- It commits, if it has written anything: so the longer journal is legal.

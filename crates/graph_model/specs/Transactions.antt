@@ -54,10 +54,6 @@ reached (Some stamp) then = nat_le stamp then
 abbrev pub MeetsNoHolder : Kind → (TxnName → Option Running) → TxnName → Write → Type 0
 MeetsNoHolder kind running by w = (q : TxnName) → same_name q by ≡ false → meets kind w (own_of running q) ≡ false
 
--- no commit behind the start holds one
-abbrev pub MeetsNoLater : Kind → List Commit → ℕ → Write → Type 0
-MeetsNoLater kind journal start w = (i : ℕ) (c : Commit) → slice_get journal i ≡ Some c → start < c.stamp → meets kind w c.writes ≡ false
-
 -- An open transaction began within the journal and not below the horizon, its snapshot allows its
 -- writes, none of them clashes with a commit behind its start, and it has not committed.
 pub record IsRunning (kind : Kind) (journal : List Commit) (horizon : ℕ) (by : TxnName) (t : Running) : Type 0 where
@@ -72,8 +68,6 @@ pub record IsRunning (kind : Kind) (journal : List Commit) (horizon : ℕ) (by :
 pub record AreTransactions (kind : Kind) (journal : List Commit) (running : TxnName → Option Running) (horizon : ℕ) : Type 0 where
   pub legal : IsLegal kind journal
   pub behind : horizon ≤ length journal
-  -- the graph just before each commit allows its writes, as its own snapshot does
-  pub serial : (i : ℕ) (c : Commit) → slice_get journal i ≡ Some c → AllAllowed kind (graph_at kind journal i) c.writes
   pub each : (by : TxnName) (t : Running) → running by ≡ Some t → IsRunning kind journal horizon by t
   pub apart : (a b : TxnName) → same_name a b ≡ false → have_clash kind (own_of running a) (own_of running b) ≡ false
 

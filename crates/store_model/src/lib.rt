@@ -1,0 +1,14 @@
+//! Versions of rows, and what a store holds.
+#![tactic(auto)]
+
+mod laws;
+mod version;
+mod versions;
+
+pub use laws::{
+    begins_keep_stores, cells_hold_contents, checks_are_exact, commits_keep_stores, examples_hold,
+    moves_keep_stores, prunes_keep_stores, rows_give_views, rows_keep_values,
+    rows_name_their_writers, stamps_change_no_value, undos_keep_stores, writes_keep_stores,
+};
+pub use version::Version;
+pub use versions::Versions;
