@@ -16,7 +16,7 @@ show() {
     [ "$lines" -le 5 ] || echo ".. $lines lines"
 }
 
-echo "This runs the checked build and not the proved one (that is 'make build'). Compiling takes half a minute."
+echo "This runs the checked build and not the proved one (that is 'make build'). Compiling takes half a minute or more."
 cd "$example/../../crates/teseo"
 "$example/run.sh" "$work/outputs" rt try -- 2>"$work/told" || {
     cat "$work/outputs/said" "$work/told"
