@@ -3,3 +3,4 @@ pub mod LinesLemmas
 pub mod DuplicatesLemmas
 pub mod EdgeFileLemmas
 pub mod KnownLemmas
+pub mod MadeLemmas
