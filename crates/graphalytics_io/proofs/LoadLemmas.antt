@@ -1,4 +1,4 @@
--- No write of a load is refused, and each is within its limits.
+-- No write of a load is refused, each is within its limits, and so a journal of it is legal.
 use Rattle.std.proofs.Common.{◌≡◌, ◌≢◌, ℕ, zero, suc, ◌≤◌, List, [], ◌∷◌, ◌++◌, map, get_or, refl, sym, ◌∙◌, ap, subst, cond, arith, All, AllPairs, Contains, append-nil}
 use Rattle.std.specs.Prelude.{Bool, true, false, ◌==◌, IsTrue, Some, None, is_some, min, max, slice_get}
 use Rattle.std.specs.List.{AllByRecursion}
@@ -22,32 +22,39 @@ use Rattle.graph_model.proofs.WriteLemmas.{keeps_ends}
 use Rattle.graphalytics_io.specs.declared.edges.Edge.{Edge}
 use Rattle.graphalytics_io.specs.EdgeFile.{SpellsEdges, IsEdgeFile, ends}
 use Rattle.graphalytics_io.specs.VertexFile.{IsVertexFile}
-use Rattle.first_load.specs.Load.{added_edge, load_of, IsLoadable, HasEndsInRange, journal_of, graph_of}
+use Rattle.graphalytics_io.specs.Load.{added_edge, load_of, IsLoadable, journal_of, graph_of}
 
 -- ---- lists
 
+-- of pairs, those of the first item with each later one
 pub pairs_head : {X : Type 0} (R : X → X → Type 0) (x : X) (xs : List X) → AllPairs R (x ∷ xs) → All (R x) xs
 pairs_head R x xs each = λ k d inside. each 0 (suc k) d (omega arith) (omega arith)
 
+-- of pairs, those behind the first item
 pub pairs_tail : {X : Type 0} (R : X → X → Type 0) (x : X) (xs : List X) → AllPairs R (x ∷ xs) → AllPairs R xs
 pairs_tail R x xs each = λ i j d before inside. each (suc i) (suc j) d (omega arith) (omega arith)
 
+-- two facts of each item give a third
 all_both : {X : Type 0} (P Q R : X → Type 0) → ((x : X) → P x → Q x → R x) → (xs : List X) → All P xs → All Q xs → All R xs
 all_both P Q R each xs p q = λ k d inside. each (get_or xs k d) (p k d inside) (q k d inside)
 
 -- ---- what is allowed
 
-pub allowed-append : (kind : Kind) (xs ys : List Write) (g : Graph) → AllAllowed kind g xs → AllAllowed kind (apply_all kind g xs) ys → AllAllowed kind g (xs ++ ys)
+-- writes that are allowed, and others that are allowed on what those leave, are allowed together
+allowed-append : (kind : Kind) (xs ys : List Write) (g : Graph) → AllAllowed kind g xs → AllAllowed kind (apply_all kind g xs) ys → AllAllowed kind g (xs ++ ys)
 allowed-append kind [] ys g first second = second
 allowed-append kind (x ∷ xs) ys g first second = (first.0, allowed-append kind xs ys (apply kind g x) first.1 second)
 
+-- writes behind others are applied to what those leave
 pub apply_all-append : (kind : Kind) (xs ys : List Write) (g : Graph) → apply_all kind g (xs ++ ys) ≡ apply_all kind (apply_all kind g xs) ys
 apply_all-append kind [] ys g = refl
 apply_all-append kind (x ∷ xs) ys g = apply_all-append kind xs ys (apply kind g x)
 
-abbrev pub IsNew : Graph → ℕ → Type 0
+-- the graph doesn't have the vertex
+abbrev IsNew : Graph → ℕ → Type 0
 IsNew g v = has_vertex g v ≡ false
 
+-- a vertex that is new stays so where another is added
 still_new : (g : Graph) (v w : ℕ) → IsNew g w → v ≢ w → IsNew (apply Undirected g (AddVertex v)) w
 still_new g v w new other = has_vertex-apply Undirected g (AddVertex v) w ∙ (λ i. cond (differ w v other i) true (new i))
   where
@@ -55,14 +62,14 @@ still_new g v w new other = has_vertex-apply Undirected g (AddVertex v) w ∙ (�
     differ w v other = grind (arith, nat_tests)
 
 -- vertices that are new and that differ can be added
-pub vertices_allowed : (ids : List ℕ) (g : Graph) → All (IsNew g) ids → AllPairs (λ v w. v ≢ w) ids → AllAllowed Undirected g (map AddVertex ids)
+vertices_allowed : (ids : List ℕ) (g : Graph) → All (IsNew g) ids → AllPairs (λ v w. v ≢ w) ids → AllAllowed Undirected g (map AddVertex ids)
 vertices_allowed [] g new distinct = tt
 vertices_allowed (v ∷ ids) g new distinct =
     let rest = all_both (IsNew g) (λ w. v ≢ w) (IsNew (apply Undirected g (AddVertex v))) (still_new g v) ids (All-tail (IsNew g) v ids new) (pairs_head (λ v w. v ≢ w) v ids distinct) in
     (ap (λ s. cond s (Some VertexExists) None) (All-head (IsNew g) v ids new), vertices_allowed ids (apply Undirected g (AddVertex v)) rest (pairs_tail (λ v w. v ≢ w) v ids distinct))
 
--- vertices stay, and those that are added are there
-pub vertex_stays : (ids : List ℕ) (g : Graph) (v : ℕ) → has_vertex g v ≡ true → has_vertex (apply_all Undirected g (map AddVertex ids)) v ≡ true
+-- a vertex stays where others are added
+vertex_stays : (ids : List ℕ) (g : Graph) (v : ℕ) → has_vertex g v ≡ true → has_vertex (apply_all Undirected g (map AddVertex ids)) v ≡ true
 vertex_stays [] g v there = there
 vertex_stays (x ∷ ids) g v there = vertex_stays ids (apply Undirected g (AddVertex x)) v (has_vertex-apply Undirected g (AddVertex x) v ∙ either (v == x) (has_vertex g v) there)
   where
@@ -70,7 +77,8 @@ vertex_stays (x ∷ ids) g v there = vertex_stays ids (apply Undirected g (AddVe
     either true t e = refl
     either false t e = e
 
-pub vertex_added : (ids : List ℕ) (g : Graph) → All (λ v. has_vertex (apply_all Undirected g (map AddVertex ids)) v ≡ true) ids
+-- each vertex that is added is there
+vertex_added : (ids : List ℕ) (g : Graph) → All (λ v. has_vertex (apply_all Undirected g (map AddVertex ids)) v ≡ true) ids
 vertex_added [] g = λ k d inside. absurd (omega arith)
 vertex_added (x ∷ ids) g =
     let h = apply Undirected g (AddVertex x) in
@@ -80,20 +88,22 @@ vertex_added (x ∷ ids) g =
     self_eq : (n : ℕ) → (n == n) ≡ true
     self_eq n = grind (arith, nat_tests)
 
+-- vertices that are added change no arc
 pub no_arcs_yet : (ids : List ℕ) (g : Graph) (u v : ℕ) → weight_of (apply_all Undirected g (map AddVertex ids)) u v ≡ weight_of g u v
 no_arcs_yet [] g u v = refl
 no_arcs_yet (x ∷ ids) g u v = no_arcs_yet ids (apply Undirected g (AddVertex x)) u v
 
 -- the graph has both ends of the edge, which differ, and no arc between them
-pub record IsAddable (g : Graph) (edge : Edge) : Type 0 where
-  pub source : has_vertex g edge.u ≡ true
-  pub target : has_vertex g edge.v ≡ true
-  pub no_loop : edge.u ≢ edge.v
-  pub absent : has_arc g edge.u edge.v ≡ false
+record IsAddable (g : Graph) (edge : Edge) : Type 0 where
+  source : has_vertex g edge.u ≡ true
+  target : has_vertex g edge.v ≡ true
+  no_loop : edge.u ≢ edge.v
+  absent : has_arc g edge.u edge.v ≡ false
 
 apart : (u v : ℕ) → u ≢ v → (u == v) ≡ false
 apart u v other = grind (arith, nat_tests)
 
+-- such an edge is not refused
 addable : (g : Graph) (edge : Edge) → IsAddable g edge → refused g (added_edge edge) ≡ None
 addable g edge is = (λ i. cond (apart edge.u edge.v is.no_loop i) (Some SelfLoop) (cond (is.source i) (cond (is.target i) (cond (is.absent i) (Some EdgeExists) None) (Some (NoVertex edge.v))) (Some (NoVertex edge.u))))
 
@@ -111,6 +121,7 @@ other_arc u v a b differ =
     same_max : (u v a b : ℕ) → covers Undirected u v a b ≡ true → max u v ≡ max a b
     same_max u v a b same = grind (arith, nat_tests)
 
+-- nor is it once another edge is added
 still_addable : (g : Graph) (e f : Edge) → IsAddable g f → ends e ≢ ends f → IsAddable (apply Undirected g (added_edge e)) f
 still_addable g e f is differ = record {
   source = is.source;
@@ -119,21 +130,25 @@ still_addable g e f is differ = record {
   absent = ap is_some (weight-apply Undirected g (added_edge e) f.u f.v ∙ ap (λ s. cond s (Some e.weight) (weight_of g f.u f.v)) (other_arc e.u e.v f.u f.v differ)) ∙ is.absent;
 }
 
-pub edges_allowed : (edges : List Edge) (g : Graph) → All (IsAddable g) edges → AllPairs (λ a b. ends a ≢ ends b) edges → AllAllowed Undirected g (map added_edge edges)
+-- edges that can be added and that differ can be added one after the other
+edges_allowed : (edges : List Edge) (g : Graph) → All (IsAddable g) edges → AllPairs (λ a b. ends a ≢ ends b) edges → AllAllowed Undirected g (map added_edge edges)
 edges_allowed [] g each distinct = tt
 edges_allowed (e ∷ edges) g each distinct =
     let rest = all_both (IsAddable g) (λ f. ends e ≢ ends f) (IsAddable (apply Undirected g (added_edge e))) (still_addable g e) edges (All-tail (IsAddable g) e edges each) (pairs_head (λ a b. ends a ≢ ends b) e edges distinct) in
     (addable g e (All-head (IsAddable g) e edges each), edges_allowed edges (apply Undirected g (added_edge e)) rest (pairs_tail (λ a b. ends a ≢ ends b) e edges distinct))
 
-pub within-append : (xs ys : List Write) → AllByRecursion IsWithinLimits xs → AllByRecursion IsWithinLimits ys → AllByRecursion IsWithinLimits (xs ++ ys)
+-- writes within their limits behind others
+within-append : (xs ys : List Write) → AllByRecursion IsWithinLimits xs → AllByRecursion IsWithinLimits ys → AllByRecursion IsWithinLimits (xs ++ ys)
 within-append [] ys first second = second
 within-append (x ∷ xs) ys first second = (first.0, within-append xs ys first.1 second)
 
 -- ---- the load
 
+-- the empty graph has no vertex
 pub no_vertex : (v : ℕ) → has_vertex empty_graph v ≡ false
 no_vertex v = ap is_some (fin_map.get-empty nat_cmp v)
 
+-- nor has it an arc
 pub no_arc : (u v : ℕ) → weight_of empty_graph u v ≡ None
 no_arc u v = fin_map.get-empty arc_cmp (u, v)
 
@@ -142,9 +157,11 @@ abbrev pub vertices_alone : List ℕ → Graph
 vertices_alone ids = apply_all Undirected empty_graph (map AddVertex ids)
 
 module _ (ids : List ℕ) (edges : List Edge) (loadable : IsLoadable ids edges) where
+  -- the vertices can be added to the empty graph
   pub first_allowed : AllAllowed Undirected empty_graph (map AddVertex ids)
   first_allowed = vertices_allowed ids empty_graph (λ k d inside. no_vertex (get_or ids k d)) loadable.distinct
 
+  -- the edges can be added behind the vertices
   pub then_allowed : AllAllowed Undirected (vertices_alone ids) (map added_edge edges)
   then_allowed =
       edges_allowed edges (vertices_alone ids) (λ k d inside.
@@ -161,11 +178,13 @@ module _ (ids : List ℕ) (edges : List Edge) (loadable : IsLoadable ids edges) 
   pub load_allowed : AllAllowed Undirected empty_graph (load_of ids edges)
   load_allowed = allowed-append Undirected (map AddVertex ids) (map added_edge edges) empty_graph first_allowed then_allowed
 
-  pub ends_in_range : All HasEndsInRange edges
+  -- the ends of each edge are within their limit, as the ids are
+  pub ends_in_range : All (λ edge. (edge.u ≤ MAX_ID) × (edge.v ≤ MAX_ID)) edges
   ends_in_range = λ k d inside.
       let known = loadable.known k d inside in
       (All-contains (λ v. v ≤ MAX_ID) ids (get_or edges k d).u loadable.in_range known.0, All-contains (λ v. v ≤ MAX_ID) ids (get_or edges k d).v loadable.in_range known.1)
 
+  -- each write of a load is within its limits
   pub load_within : AllByRecursion IsWithinLimits (load_of ids edges)
   load_within =
       within-append (map AddVertex ids) (map added_edge edges)
@@ -176,19 +195,22 @@ module _ (ids : List ℕ) (edges : List Edge) (loadable : IsLoadable ids edges) 
 
 -- ---- what allowed writes keep
 
-pub all_keep_ends : (kind : Kind) (ws : List Write) (g : Graph) → AllAllowed kind g ws → HasBothEnds g → HasBothEnds (apply_all kind g ws)
+-- allowed writes keep both ends of each arc
+all_keep_ends : (kind : Kind) (ws : List Write) (g : Graph) → AllAllowed kind g ws → HasBothEnds g → HasBothEnds (apply_all kind g ws)
 all_keep_ends kind [] g allowed ends = ends
 all_keep_ends kind (w ∷ ws) g allowed ends = all_keep_ends kind ws (apply kind g w) allowed.1 (keeps_ends kind g w allowed.0 ends)
 
 empty_ends : HasBothEnds empty_graph
 empty_ends u v arc = let wrong : true ≡ false = sym arc ∙ ap is_some (no_arc u v) in cc
 
+-- the graph of a load has both ends of each arc
 pub load_ends : (load : List Write) → AllAllowed Undirected empty_graph load → HasBothEnds (graph_of load)
 load_ends load allowed = all_keep_ends Undirected load empty_graph allowed empty_ends
 
 abbrev commit_of : List Write → Commit
 commit_of load = record { stamp = 1; start = 0; by = record { job = 0; number = 1 }; writes = load }
 
+-- a list of one commit has no other
 only_one : (c : Commit) (i : ℕ) (d : Commit) → slice_get (c ∷ []) i ≡ Some d → (i ≡ 0) × (c ≡ d)
 only_one c zero d at = (refl, cc)
 only_one c (suc i) d at = cc
@@ -221,6 +243,7 @@ load_legal (w ∷ ws) allowed within = record {
 
 -- ---- limits of vertices
 
+-- a write within its limits keeps all vertices within theirs
 keeps_limit : (w : Write) (g : Graph) → IsWithinLimits w → ((v : ℕ) → IsTrue (has_vertex g v) → v ≤ MAX_ID) → (v : ℕ) → IsTrue (has_vertex (apply Undirected g w) v) → v ≤ MAX_ID
 keeps_limit w g within old v there = one_of w within (has_vertex g v) (old v) (sym (has_vertex-apply Undirected g w v) ∙ there)
   where
@@ -237,13 +260,14 @@ all_keep_limit : (ws : List Write) (g : Graph) → AllByRecursion IsWithinLimits
 all_keep_limit [] g within old = old
 all_keep_limit (w ∷ ws) g within old = all_keep_limit ws (apply Undirected g w) within.1 (keeps_limit w g within.0 old)
 
+-- the vertices of a load's graph are within their limit
 pub load_limit : (load : List Write) → AllByRecursion IsWithinLimits load → (v : ℕ) → IsTrue (has_vertex (graph_of load) v) → v ≤ MAX_ID
 load_limit load within = all_keep_limit load empty_graph within (λ v there. let wrong : true ≡ false = sym there ∙ no_vertex v in cc)
 
 -- ---- files
 
 -- an edge file has unit weights
-pub unit_weights : (edges : List Edge) (text : List ℕ) → SpellsEdges text edges → All (λ edge. edge.weight ≤ MAX_WEIGHT) edges
+unit_weights : (edges : List Edge) (text : List ℕ) → SpellsEdges text edges → All (λ edge. edge.weight ≤ MAX_WEIGHT) edges
 unit_weights [] text spelled = λ k d inside. absurd (omega arith)
 unit_weights (e ∷ edges) text spelled = All-cons (λ edge. edge.weight ≤ MAX_WEIGHT) e edges (omega (arith, spelled.1.unit)) (unit_weights edges spelled.0 spelled.2)
 

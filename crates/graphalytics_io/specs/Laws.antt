@@ -7,11 +7,12 @@ use Rattle.graph_model.specs.Legal.{IsLegal}
 use Rattle.graphalytics_io.specs.declared.edges.Edge.{Edge}
 use Rattle.graphalytics_io.specs.VertexFile.{IsVertexFile}
 use Rattle.graphalytics_io.specs.EdgeFile.{IsEdgeFile}
-use Rattle.first_load.specs.Load.{load_of, IsLoadable, journal_of, graph_of}
+use Rattle.graphalytics_io.specs.Load.{load_of, IsLoadable, journal_of, graph_of}
 
 -- a journal of the load alone is legal
 abbrev pub LoadIsLegal : Type 0
-LoadIsLegal = (ids : List ℕ) (edges : List Edge) → IsLoadable ids edges → IsLegal Undirected (journal_of (load_of ids edges))
+LoadIsLegal = (ids : List ℕ) (edges : List Edge) → IsLoadable ids edges
+    → IsLegal Undirected (journal_of (load_of ids edges))
 
 -- the graph of that journal is what the writes make of the empty graph
 abbrev pub LoadIsItsGraph : Type 0
@@ -19,4 +20,5 @@ LoadIsItsGraph = (load : List Write) → graph_at Undirected (journal_of load) (
 
 -- what the strict readers accept can be loaded
 abbrev pub FilesAreLoadable : Type 0
-FilesAreLoadable = (vertices edge_lines ids : List ℕ) (edges : List Edge) (vertex_limit limit : ℕ) → IsVertexFile vertices vertex_limit ids → IsEdgeFile edge_lines ids limit edges → IsLoadable ids edges
+FilesAreLoadable = (vertices edge_lines ids : List ℕ) (edges : List Edge) (vertex_limit limit : ℕ)
+    → IsVertexFile vertices vertex_limit ids → IsEdgeFile edge_lines ids limit edges → IsLoadable ids edges

@@ -1,6 +1,6 @@
 //! Laws that show that the load is a legal transaction.
 
-ghost use Rattle.first_load.specs.Laws.{LoadIsLegal, LoadIsItsGraph, FilesAreLoadable};
+ghost use Rattle.graphalytics_io.specs.Laws.{LoadIsLegal, LoadIsItsGraph, FilesAreLoadable};
 
 /// The load may stand alone in a journal: no write of it is refused, its ids and weights are within
 /// their limits, and both ends of each arc are vertices.

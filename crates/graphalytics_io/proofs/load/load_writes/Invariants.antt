@@ -1,7 +1,8 @@
+-- the vertices so far have been written, then all vertices and the edges so far
 use Rattle.std.proofs.Common.{◌≡◌, ◌++◌, map, take}
 use Rattle.graph_model.specs.declared.write.Write.TheVariants.{AddVertex}
-use Rattle.first_load.specs.Load.{added_edge}
-use Rattle.first_load.proofs.load.load_writes.Given as goal
+use Rattle.graphalytics_io.specs.Load.{added_edge}
+use Rattle.graphalytics_io.proofs.load.load_writes.Given as goal
 
 abbrev pub invariant-ids : goal.invariant-ids
 invariant-ids l = l.writes.items ≡ map AddVertex (take l.v-index l.v-items)
