@@ -51,6 +51,7 @@ module _ {X : Type 0} {R : X → X → Ordering} (o : IsTotalOrder R) where
   sorted_from_rises : (xs : List X) → Rises R xs → IsSorted R xs
   sorted_from_rises xs rises k d low high = ap is_lt (o.antisymm (get_or xs (k + 1) d) (get_or xs k d) ∙ ap ordering_reverse (rises k d high))
 
+  -- where each item is below the next no two tie
   pub differ_from_rises : (xs : List X) → Rises R xs → AllDiffer R xs
   differ_from_rises xs rises = differ_from_adjacent xs (sorted_from_rises xs rises) (λ k d high tie. let less = rises k d high in cc)
 

@@ -3,3 +3,5 @@ pub mod LinesLemmas
 pub mod DuplicatesLemmas
 pub mod EdgeFileLemmas
 pub mod KnownLemmas
+pub mod LoadLemmas
+pub mod MadeLemmas

@@ -13,9 +13,9 @@ Refuses {X} P NotAccepted = (x : X) → P x → ⊥
 Refuses P NoMemory = Unit {0}
 
 -- the one thing of which the fact holds, or that there is none, unless memory ran out
-abbrev pub Exactly : {V X : Type 0} → (V → X) → (X → Type 0) → Result V ReadRefusal → Type 0
-Exactly {V} {X} view P (Ok found) = P (view found) × ((x : X) → P x → x ≡ view found)
-Exactly view P (Err refusal) = Refuses P refusal
+abbrev pub Exactly : {X : Type 0} → (X → Type 0) → Result X ReadRefusal → Type 0
+Exactly {X} P (Ok found) = P found × ((x : X) → P x → x ≡ found)
+Exactly P (Err refusal) = Refuses P refusal
 
 -- a vertex file in which ids may stand twice
 pub record AreIdLines (text : List ℕ) (limit : ℕ) (ids : List ℕ) : Type 0 where
@@ -23,9 +23,12 @@ pub record AreIdLines (text : List ℕ) (limit : ℕ) (ids : List ℕ) : Type 0 
   pub in_range : All (λ id. id ≤ MAX_ID) ids
   pub rows : length ids ≤ limit
 
+-- an edge joins two of the ids, which differ
+abbrev pub Joins : List ℕ → Edge → Type 0
+Joins ids edge = (edge.u ≢ edge.v) × HasKnownEnds ids edge
+
 -- an edge file in which edges may stand twice, with room for so many rows
 pub record AreEdgeLines (text ids : List ℕ) (room : ℕ) (edges : List Edge) : Type 0 where
   pub spelled : SpellsEdges text edges
-  pub known : All (HasKnownEnds ids) edges
-  pub no_loops : All (λ edge. edge.u ≢ edge.v) edges
+  pub joined : All (Joins ids) edges
   pub rows : 2 * length edges ≤ room

@@ -22,11 +22,14 @@ ends edge = (min edge.u edge.v, max edge.u edge.v)
 abbrev pub HasKnownEnds : List ℕ → Edge → Type 0
 HasKnownEnds ids edge = Contains ids edge.u × Contains ids edge.v
 
--- an edge file with these edges over these ids: no edge stands twice, either way round, and the ids
--- and two rows for each edge are at most so many
+-- no edge stands twice, either way round
+abbrev pub AreDistinct : List Edge → Type 0
+AreDistinct edges = AllPairs (λ a b. ends a ≢ ends b) edges
+
+-- an edge file with these edges over these ids: the ids and two rows for each edge are at most so many
 pub record IsEdgeFile (text ids : List ℕ) (limit : ℕ) (edges : List Edge) : Type 0 where
   pub spelled : SpellsEdges text edges
   pub known : All (HasKnownEnds ids) edges
   pub no_loops : All (λ edge. edge.u ≢ edge.v) edges
-  pub distinct : AllPairs (λ a b. ends a ≢ ends b) edges
+  pub distinct : AreDistinct edges
   pub rows : length ids + 2 * length edges ≤ limit

@@ -1,6 +1,8 @@
 pub mod Lines
 pub mod VertexFile
 pub mod EdgeFile
+pub mod Load
+pub mod Laws
 pub mod Answers
 pub mod Appends
 pub mod Known

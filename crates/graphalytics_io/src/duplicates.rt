@@ -3,7 +3,7 @@
 ghost use Rattle.std.specs.Prelude.{IfOk, MatchBool};
 ghost use Rattle.graphalytics_io.specs.Duplicates.{Rises, StopsRising, AllDiffer};
 
-use graph_model::NoMemory;
+use items::NoMemory;
 use std::alloc::Global;
 use std::cmp::Ordering;
 
@@ -28,10 +28,7 @@ pub(crate) fn all_differ<T: Ord + Copy>(alloc: Global, items: &[T]) -> Result<bo
     if rises(items) {
         return Ok(true);
     }
-    let mut sorted = match Vec::from_slice(alloc, items) {
-        Ok(sorted) => sorted,
-        Err(_) => return Err(NoMemory),
-    };
+    let mut sorted = Vec::from_slice(alloc, items)?;
     sorted.sort_unstable();
     Ok(rises(sorted.as_slice()))
 }

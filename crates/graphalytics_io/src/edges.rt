@@ -1,17 +1,17 @@
 //! Edge files of undirected graphs without weights.
 
-ghost use Rattle.std.specs.Prelude.{◌≡◌, ◌==◌, ◌≢◌, ◌<◌, ◌^◌, ℕ, List, [], ⊤, All, length, map, min, max, IfOk, IfSome, IfNone, MatchResult};
+ghost use Rattle.std.specs.Prelude.{◌≡◌, ◌<◌, ◌^◌, ◌↔◌, ℕ, List, ⊤, All, map, IsTrue, IfOk, IfSome, IfNone, MatchBool, MatchResult};
 ghost use Rattle.graphalytics_io.specs.declared.edges.Edge.{Edge};
-ghost use Rattle.graphalytics_io.specs.EdgeFile.{IsEdgeLine, SpellsEdges, IsEdgeFile, ends};
-ghost use Rattle.graphalytics_io.specs.Answers.{Exactly, AreEdgeLines};
+ghost use Rattle.graphalytics_io.specs.EdgeFile.{IsEdgeLine, SpellsEdges, AreDistinct, IsEdgeFile, ends};
+ghost use Rattle.graphalytics_io.specs.Answers.{Exactly, Joins, AreEdgeLines};
 
 use crate::duplicates::all_differ;
 use crate::field::read_field;
 use crate::known::Known;
 use crate::refusal::ReadRefusal;
-use graph_model::{Ids, NoMemory};
+use graph_model::Ids;
+use items::{Items, NoMemory};
 use std::alloc::Global;
-use std::marker::Model;
 
 /// An edge, with its ends as the file gave them.
 #[derive(Clone, Copy, Debug, PartialEq, Eq)]
@@ -22,63 +22,7 @@ pub struct Edge {
 }
 
 /// The edges of a graph, in the order of the file.
-#[derive(Drop)]
-pub struct Edges {
-    items: Vec<Edge>,
-}
-
-impl Model for Edges {
-    ghost use Rattle.std.specs.Prelude.{List};
-    ghost use Rattle.graphalytics_io.specs.declared.edges.Edge.{Edge};
-
-    ghost Value = { List Edge };
-
-    ghost view = { λ edges. edges.items.items };
-}
-
-impl Edges {
-    /// No edges. Takes no memory.
-    pub fn new(alloc: Global) -> Edges
-        ensures { result ≡ [] }
-    {
-        Edges {
-            items: Vec::new(alloc),
-        }
-    }
-
-    /// The edges of a vector, in its order. Takes no memory.
-    pub fn from_vec(items: Vec<Edge>) -> Edges
-        ensures { result ≡ items.items }
-    {
-        Edges { items }
-    }
-
-    /// The vector of the edges. Takes no memory.
-    pub fn into_vec(self) -> Vec<Edge>
-        ensures { result.items ≡ self }
-    {
-        self.items
-    }
-
-    pub fn len(&self) -> usize
-        ensures { result ≡ length self.now }
-    {
-        self.items.len()
-    }
-
-    pub fn is_empty(&self) -> bool
-        ensures { result ≡ (length self.now == 0) }
-    {
-        self.items.is_empty()
-    }
-
-    /// Lends the edges, in the order of the file.
-    pub fn as_slice(&self) -> &[Edge]
-        ensures { result.now ≡ self.now }
-    {
-        self.items.as_slice()
-    }
-}
+pub type Edges = Items<Edge>;
 
 /// Reads the edges of an edge file over these ids: each line is two numbers with one blank between them,
 /// and each ends in a line feed. An empty text is a file without edges.
@@ -91,22 +35,12 @@ pub fn read_edges(alloc: Global, text: &[u8], ids: &Ids, limit: u64) -> Result<E
     if limit < count {
         return Err(ReadRefusal::NotAccepted);
     }
-    let known = match Known::of(alloc, ids.as_slice()) {
-        Ok(known) => known,
-        Err(_) => return Err(ReadRefusal::NoMemory),
-    };
-    let edges = match read_edge_lines(alloc, text, &known, limit - count) {
-        Ok(edges) => edges,
-        Err(refusal) => return Err(refusal),
-    };
-    let pairs = match pairs_of(alloc, edges.as_slice()) {
-        Ok(pairs) => pairs,
-        Err(_) => return Err(ReadRefusal::NoMemory),
-    };
-    match all_differ(alloc, pairs.as_slice()) {
-        Ok(true) => Ok(Edges::from_vec(edges)),
-        Ok(false) => Err(ReadRefusal::NotAccepted),
-        Err(_) => Err(ReadRefusal::NoMemory),
+    let known = Known::of(alloc, ids.as_slice())?;
+    let edges = read_edge_lines(alloc, text, &known, limit - count)?;
+    if are_distinct(alloc, edges.as_slice())? {
+        Ok(edges)
+    } else {
+        Err(ReadRefusal::NotAccepted)
     }
 }
 
@@ -116,37 +50,32 @@ fn read_edge_lines(
     text: &[u8],
     known: &Known,
     room: u64,
-) -> Result<Vec<Edge>, ReadRefusal>
+) -> Result<Edges, ReadRefusal>
     requires { All (λ id. id < 2 ^ 64) known.now }
-    ensures { Exactly (λ edges. edges.items) (AreEdgeLines text.now known.now room) result }
+    ensures { Exactly (AreEdgeLines text.now known.now room) result }
 {
-    let mut edges = Vec::new(alloc);
+    let mut edges = Edges::new(alloc);
     let mut rest = text;
     let mut left = room;
     'lines: while !rest.is_empty() {
         let Some((edge, after)) = read_edge_line(rest) else {
             return Err(ReadRefusal::NotAccepted)
         };
-        if left < 2 {
+        if left < 2 || !joins_known(&edge, known) {
             return Err(ReadRefusal::NotAccepted);
         }
-        if edge.u == edge.v {
-            return Err(ReadRefusal::NotAccepted);
-        }
-        if !known.contains(edge.u) {
-            return Err(ReadRefusal::NotAccepted);
-        }
-        if !known.contains(edge.v) {
-            return Err(ReadRefusal::NotAccepted);
-        }
-        match edges.push(edge) {
-            Ok(()) => {}
-            Err(_) => return Err(ReadRefusal::NoMemory),
-        }
+        edges.push(edge)?;
         left -= 2;
         rest = after;
     }
     Ok(edges)
+}
+
+/// Whether an edge joins two known ids that differ.
+fn joins_known(edge: &Edge, known: &Known) -> bool
+    ensures { IsTrue result ↔ Joins known.now edge.now }
+{
+    edge.u != edge.v && known.contains(edge.u) && known.contains(edge.v)
 }
 
 /// Reads the edge at the front of a text, and lends the rest.
@@ -164,19 +93,21 @@ fn read_edge_line(text: &[u8]) -> Option<(Edge, &[u8])>
     Some((Edge { u, v, weight: 1 }, rest))
 }
 
+/// Whether no edge stands twice, either way round.
+fn are_distinct(alloc: Global, edges: &[Edge]) -> Result<bool, NoMemory>
+    ensures { IfOk result (λ answer. MatchBool answer (AreDistinct edges.now) (¬ AreDistinct edges.now)) }
+{
+    let pairs = pairs_of(alloc, edges)?;
+    all_differ(alloc, pairs.as_slice())
+}
+
 /// The ends of each edge, the lesser first.
 fn pairs_of(alloc: Global, edges: &[Edge]) -> Result<Vec<(u64, u64)>, NoMemory>
     ensures { IfOk result (λ pairs. pairs.items ≡ map ends edges.now) }
 {
-    let mut pairs = match Vec::with_capacity(alloc, edges.len()) {
-        Ok(pairs) => pairs,
-        Err(_) => return Err(NoMemory),
-    };
+    let mut pairs = Vec::with_capacity(alloc, edges.len())?;
     'edges: for edge in edges {
-        match pairs.push((edge.u.min(edge.v), edge.u.max(edge.v))) {
-            Ok(()) => {}
-            Err(_) => return Err(NoMemory),
-        }
+        pairs.push((edge.u.min(edge.v), edge.u.max(edge.v)))?;
     }
     Ok(pairs)
 }
@@ -189,63 +120,59 @@ pub fn one_list_of_edges()
 #[cfg(test)]
 mod tests {
     use super::*;
-    use crate::vertices::read_vertices;
+    use crate::text::Text;
     use std::test::Fail;
 
     #[test]
     fn an_edge_file_is_read_in_the_strict_form_alone(rt: HostRuntime) -> Result<(), Fail> {
-        let ids = read_vertices(rt.alloc(), b"1\n2\n3\n4\n", 9)?;
-        let accepted: [(&str, u64, &[(u64, u64)]); 5] = [
-            ("", 4, &[]),
-            ("1 2\n2 3\n", 9, &[(1, 2), (2, 3)]),
-            ("1 2\n2 3\n", 8, &[(1, 2), (2, 3)]),
-            ("4 1\n3 4\n1 2\n", 99, &[(4, 1), (3, 4), (1, 2)]),
-            ("01 0002\n", 9, &[(1, 2)]),
-        ];
-        for (text, limit, want) in accepted {
-            let edges = read_edges(rt.alloc(), text.as_bytes(), &ids, limit)?;
-            assert_eq!(rt; edges.len(), want.len(), "the edges of {text}");
-            for (edge, ends) in edges.as_slice().iter().zip(want) {
-                assert!(rt; (edge.u, edge.v) == *ends, "the ends in {text}");
-                assert_eq!(rt; edge.weight, 1, "the weight in {text}");
-            }
-        }
-        let refused = [
-            ("", 3),
-            ("1 2\n2 3\n", 7),
-            ("1 5\n", 9),
-            ("0 1\n", 9),
-            ("2 2\n", 9),
-            ("1 2\n1 2\n", 9),
-            ("1 2\n2 1\n", 9),
-            ("1 2\n3 4\n02 1\n", 99),
-            ("1  2\n", 9),
-            ("1\t2\n", 9),
-            (" 1 2\n", 9),
-            ("1 2 \n", 9),
-            ("1 2 1\n", 9),
-            ("1\n", 9),
-            ("1 \n", 9),
-            ("1 2", 9),
-            ("1 2\n\n", 9),
-            ("1 2\r\n", 9),
-            ("1,2\n", 9),
-            ("1 18446744073709551618\n", 9),
-        ];
-        for (text, limit) in refused {
-            assert!(rt;
-                is_refused(rt.alloc(), text, &ids, limit)?,
-                "accepted {text}"
-            );
+        let ids = Ids::from_vec(Vec::from_slice(rt.alloc(), &[1, 2, 3, 4])?);
+        for (text, limit, want) in [
+            ("", 4, ""),
+            ("1 2\n2 3\n", 8, "1-2:1 2-3:1 "),
+            ("4 1\n3 4\n01 0002\n", 99, "4-1:1 3-4:1 1-2:1 "),
+            ("", 3, "not accepted"),
+            ("1 2\n2 3\n", 7, "not accepted"),
+            ("1 5\n", 9, "not accepted"),
+            ("0 1\n", 9, "not accepted"),
+            ("2 2\n", 9, "not accepted"),
+            ("1 2\n1 2\n", 9, "not accepted"),
+            ("1 2\n3 4\n02 1\n", 99, "not accepted"),
+            ("1  2\n", 9, "not accepted"),
+            ("1\t2\n", 9, "not accepted"),
+            ("1 2 1\n", 9, "not accepted"),
+            ("1 \n", 9, "not accepted"),
+            ("1 2", 9, "not accepted"),
+            ("1 2\r\n", 9, "not accepted"),
+            ("1 18446744073709551618\n", 9, "not accepted"),
+        ] {
+            let got = edges_or_refusal(rt.alloc(), text, &ids, limit)?;
+            assert_eq!(rt; got.as_slice(), want.as_bytes(), "of {text}");
         }
         Ok(())
     }
 
-    fn is_refused(alloc: Global, text: &str, ids: &Ids, limit: u64) -> Result<bool, ReadRefusal> {
+    /// The edges that are read, each as `1-2:1` for the weight 1, with a blank behind it, or the refusal.
+    fn edges_or_refusal(
+        alloc: Global,
+        text: &str,
+        ids: &Ids,
+        limit: u64,
+    ) -> Result<Text, NoMemory> {
+        let mut said = Text::new(alloc);
         match read_edges(alloc, text.as_bytes(), ids, limit) {
-            Ok(_) => Ok(false),
-            Err(ReadRefusal::NotAccepted) => Ok(true),
-            Err(ReadRefusal::NoMemory) => Err(ReadRefusal::NoMemory),
+            Ok(edges) => {
+                for edge in edges.as_slice() {
+                    said.push_number(edge.u)?;
+                    said.push_bytes(b"-")?;
+                    said.push_number(edge.v)?;
+                    said.push_bytes(b":")?;
+                    said.push_number(edge.weight)?;
+                    said.push_bytes(b" ")?;
+                }
+            }
+            Err(ReadRefusal::NotAccepted) => said.push_bytes(b"not accepted")?,
+            Err(ReadRefusal::NoMemory) => return Err(NoMemory),
         }
+        Ok(said)
     }
 }

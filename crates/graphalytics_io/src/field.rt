@@ -5,7 +5,7 @@ ghost use Rattle.graphalytics_io.specs.Lines.{IsField};
 
 /// Reads the number at the front of a text and the byte `stop` behind it, and lends the rest.
 /// `None` stands for a text that has none there below `2 ^ 64`.
-pub(crate) fn read_field(text: &[u8], stop: u8) -> Option<(u64, &[u8])>
+pub fn read_field(text: &[u8], stop: u8) -> Option<(u64, &[u8])>
     requires { stop < 48 }
     ensures found { IfSome result (λ f. IsField text.now f.0 stop f.1.now) }
     ensures none { IfNone result ((n : ℕ) (rest : List ℕ) → n < 2 ^ 64

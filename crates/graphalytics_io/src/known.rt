@@ -4,7 +4,7 @@ ghost use Rattle.std.specs.Prelude.{◌↔◌, ◌<◌, ◌^◌, All, IfOk, IsTr
 ghost use Rattle.std.specs.List.Sorted.{IsNonDecreasing};
 ghost use Rattle.graphalytics_io.specs.Known.{StartsDense};
 
-use graph_model::NoMemory;
+use items::NoMemory;
 use std::alloc::Global;
 use std::marker::Model;
 
@@ -33,14 +33,10 @@ impl Known {
         ensures same { IfOk result (λ known. IsPermutation ids.now known) }
         ensures fits { IfOk result (λ known. All (λ id. id < 2 ^ 64) known) }
     {
-        match Vec::from_slice(alloc, ids) {
-            Ok(mut sorted) => {
-                sorted.sort_unstable();
-                let dense = dense_front(sorted.as_slice());
-                Ok(Known { sorted, dense })
-            }
-            Err(_) => Err(NoMemory),
-        }
+        let mut sorted = Vec::from_slice(alloc, ids)?;
+        sorted.sort_unstable();
+        let dense = dense_front(sorted.as_slice());
+        Ok(Known { sorted, dense })
     }
 
     pub(crate) fn contains(&self, id: u64) -> bool

@@ -1,18 +1,30 @@
 //! The files of LDBC Graphalytics, in the strict form: vertex and edge files are read, and result files written.
+//!
+//! 1. A text is read once, from left to right, and is lent: nothing of it is copied but what it spells.
+//! 2. What is accepted is defined apart from the loops that read it, and a text spells one list at most.
+//! 3. Writers put text behind what stands there. One that is refused memory leaves the text as it was, or, where
+//!    its name begins with `write_` and it writes a part alone, says that the text may have some of it.
 #![tactic(auto)]
 
 mod duplicates;
 mod edges;
 mod field;
 mod known;
+mod laws;
+mod load;
 mod refusal;
+mod spelling;
 mod table;
 mod text;
 mod vertices;
 
 pub use edges::{Edge, Edges, one_list_of_edges, read_edges};
+pub use field::read_field;
 pub use graph_model::Ids;
+pub use laws::{files_are_loadable, load_is_its_graph, load_is_legal};
+pub use load::load_writes;
 pub use refusal::ReadRefusal;
+pub use spelling::{Spelling, append_each, write_each};
 pub use table::write_table;
 pub use text::Text;
 pub use vertices::{one_list_of_ids, read_vertices};

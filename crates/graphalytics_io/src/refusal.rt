@@ -1,5 +1,10 @@
 //! Why a file was not read.
 
+ghost use Rattle.std.specs.Prelude.{◌≡◌};
+ghost use Rattle.graphalytics_io.specs.declared.refusal.ReadRefusal.{ReadRefusal};
+ghost use Rattle.graphalytics_io.specs.declared.refusal.ReadRefusal.TheVariants as refusals;
+
+use items::NoMemory;
 use thiserror::Error;
 
 /// Why a reader gave nothing.
@@ -10,4 +15,12 @@ pub enum ReadRefusal {
     NotAccepted,
     #[error("no memory")]
     NoMemory,
+}
+
+impl From<NoMemory> for ReadRefusal {
+    ghost from_gives = { λ _ refusal. refusal ≡ ReadRefusal.NoMemory };
+
+    fn from(_refused: NoMemory) -> ReadRefusal {
+        ReadRefusal::NoMemory
+    }
 }

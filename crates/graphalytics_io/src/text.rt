@@ -2,7 +2,7 @@
 
 ghost use Rattle.std.specs.Prelude.{◌≡◌, ◌==◌, ℕ, List, [], ◌++◌, length, take, decimal, OnOk, OnErr};
 
-use graph_model::NoMemory;
+use items::{Items, NoMemory};
 use itoa::Buffer;
 use std::alloc::Global;
 use std::marker::Model;
@@ -38,6 +38,13 @@ impl Text {
         Text { bytes }
     }
 
+    /// The list of the bytes. Takes no memory.
+    pub fn into_items(self) -> Items<u8>
+        ensures { result ≡ self }
+    {
+        Items::from_vec(self.bytes)
+    }
+
     /// The vector of the bytes. Takes no memory.
     pub fn into_vec(self) -> Vec<u8>
         ensures { result.items ≡ self }
@@ -69,10 +76,8 @@ impl Text {
         ensures ok { OnOk result (self.new ≡ self.old ++ bytes.now) }
         ensures err { OnErr result (self.new ≡ self.old) }
     {
-        match self.bytes.extend_from_slice(bytes) {
-            Ok(()) => Ok(()),
-            Err(_) => Err(NoMemory),
-        }
+        self.bytes.extend_from_slice(bytes)?;
+        Ok(())
     }
 
     /// Writes a number in decimal at the end, without leading zeros.

@@ -7,4 +7,4 @@ returns-then-rises g c = differ_from_rises g.met.T.Ord.total c.args.items.now c.
 
 pub returns : goal.returns
 returns g c =
-    differ_from_sorted g.met.T.Ord.total c.args.items.now c.sort_unstable.new.self.items c.rises-2.result (rw (sym c.in-Ok.ensures.items) c.sort_unstable.ensures.permutation) c.sort_unstable.ensures.sorted (rw (sym c.as_slice.ensures.value) c.rises-2.ensures)
+    differ_from_sorted g.met.T.Ord.total c.args.items.now c.sort_unstable.new.self.items c.rises-2.result (rw (sym c.in_ok-sorted.ensures.items) c.sort_unstable.ensures.permutation) c.sort_unstable.ensures.sorted (rw (sym c.as_slice.ensures.value) c.rises-2.ensures)

@@ -1,3 +1,4 @@
+-- each item before this place is below the next
 use Rattle.std.proofs.Common.{◌≡◌}
 use Rattle.std.specs.List.{AllAdjacentBelow}
 use Rattle.std.specs.declared.cmp.Ordering.TheVariants.{Less}

@@ -1,3 +1,4 @@
+-- the ends of the edges so far
 use Rattle.std.proofs.Common.{◌≡◌, map, take}
 use Rattle.graphalytics_io.specs.EdgeFile.{ends}
 use Rattle.graphalytics_io.proofs.edges.pairs_of.Given as goal

@@ -1,3 +1,4 @@
+-- the bytes before this place are digits, and stand for the value
 use Rattle.std.proofs.Common.{◌≡◌, take}
 use Rattle.std.specs.Str.Parse.{AllDigits, digits_value}
 use Rattle.graphalytics_io.proofs.field.read_field.Given as goal

@@ -1,3 +1,4 @@
+-- the ids before this place have no gap
 use Rattle.graphalytics_io.specs.Known.{StartsDense}
 use Rattle.graphalytics_io.proofs.known.dense_front.Given as goal
 

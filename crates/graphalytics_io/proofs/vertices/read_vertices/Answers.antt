@@ -1,11 +1,10 @@
-use Rattle.std.proofs.Common.{sym}
 use Rattle.graphalytics_io.proofs.DuplicatesLemmas.{numbers_differ}
 use Rattle.graphalytics_io.proofs.vertices.read_vertices.Goals as goal
 
-pub returns-in-Ok-true-clause-found : goal.returns-in-Ok-true-clause-found
-returns-in-Ok-true-clause-found c = record {
-  spelled = rw c.from_vec.ensures c.in-Ok.ensures.0.spelled;
-  in_range = rw c.from_vec.ensures c.in-Ok.ensures.0.in_range;
-  distinct = rw (c.from_vec.ensures, sym c.as_slice.ensures.value) (numbers_differ c.as_slice.result.now (rw c.in-Ok-true.field-0-test at c.in-Ok-true.ensures));
-  rows = rw c.from_vec.ensures c.in-Ok.ensures.0.rows;
+pub returns-then-branch-clause-found : goal.returns-then-branch-clause-found
+returns-then-branch-clause-found c = record {
+  spelled = c.in_ok-ids.ensures.0.spelled;
+  in_range = c.in_ok-ids.ensures.0.in_range;
+  distinct = numbers_differ c.in_ok-ids.ids (rw (c.if-branch.true, c.as_slice.ensures) at c.in_ok-all_differ.ensures);
+  rows = c.in_ok-ids.ensures.0.rows;
 }
