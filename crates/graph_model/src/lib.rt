@@ -7,6 +7,7 @@ mod laws;
 mod limits;
 mod refusal;
 mod row;
+mod state;
 mod table;
 mod transactions;
 mod write;
@@ -26,6 +27,7 @@ pub use limits::{
 };
 pub use refusal::{BeginRefusal, Cause, Refusal};
 pub use row::{Cursor, Key, Row, Rows64};
+pub use state::State;
 pub use table::{Entry, KernelRefusal, Table, Value};
 pub use transactions::{
     names_have_their_stamps, passes_have_one_transaction, transactions_stay_apart,

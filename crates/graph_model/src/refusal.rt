@@ -1,6 +1,9 @@
 //! Why a write or a `begin` is refused.
 
+ghost use Rattle.std.specs.Prelude.{◌≡◌};
+
 use crate::journal::TxnName;
+use items::NoMemory;
 use std::fmt;
 use thiserror::Error;
 
@@ -64,4 +67,14 @@ pub enum BeginRefusal {
     TxnsUsed,
     #[error("no memory")]
     NoMemory,
+}
+
+impl From<NoMemory> for BeginRefusal {
+    ghost use Rattle.graph_model.specs.declared.refusal.BeginRefusal.TheVariants as refusals;
+
+    ghost from_gives = { λ _ refusal. refusal ≡ refusals.NoMemory };
+
+    fn from(_refused: NoMemory) -> BeginRefusal {
+        BeginRefusal::NoMemory
+    }
 }
