@@ -50,19 +50,20 @@ inside_of journal hs allowed m p is inside =
     let same : length (map txns_in hs) ≡ length m.passes = ap (λ (m : Manager). length m.passes) is in
     omega arith
 
-history_get : (hs : List PassHistory) (p : ℕ) → history_of hs p ≡ get_or hs p no_history
-history_get hs p =
+-- what a list of all passes has for one
+pub state_in-get : {S : Type 0} (other : S) (states : List S) (p : ℕ) → state_in other 0 states p ≡ get_or states p other
+state_in-get other states p =
     let past : nat_lt p 0 ≡ false = grind (arith, nat_tests) in
     let place : p - 0 ≡ p = omega arith in
-    (λ i. cond (past i) no_history (unwrap_or (slice_get hs (place i)) no_history)) ∙ unwrap_or-slice_get hs p no_history
+    (λ i. cond (past i) other (unwrap_or (slice_get states (place i)) other)) ∙ unwrap_or-slice_get states p other
 
 -- the history that an index lends
 pub history_at : (hs : List PassHistory) (p : ℕ) (h : PassHistory) → p < length hs → h ≡ get_or hs p h → history_of hs p ≡ h
-history_at hs p h inside is = history_get hs p ∙ get_or_default hs p no_history h inside ∙ sym is
+history_at hs p h inside is = state_in-get no_history hs p ∙ get_or_default hs p no_history h inside ∙ sym is
 
 -- past the last pass there is none
 history_past : (hs : List PassHistory) (p : ℕ) → length hs ≤ p → history_of hs p ≡ no_history
-history_past hs p le = history_get hs p ∙ get_or_past hs p no_history le
+history_past hs p le = state_in-get no_history hs p ∙ get_or_past hs p no_history le
 
 -- the oldest start is found in the histories
 pub starts-kept : (hs : List PassHistory) → starts_of (map txns_in hs) ≡ filter_map (λ (h : PassHistory). h.start) hs
@@ -82,7 +83,7 @@ starts_le (p ∷ passes) = by_start p.start (starts_le passes)
 -- one fewer is open where a pass has ended its own
 pub one_fewer : (hs : List PassHistory) (p start : ℕ) (h : PassHistory) → p < length hs → (history_of hs p).start ≡ Some start → h.start ≡ None
     → length (starts_of (map txns_in (slice_set hs p h))) + 1 ≡ length (starts_of (map txns_in hs))
-one_fewer hs p start h inside is none = at_place hs p inside (sym (ap (λ (h : PassHistory). h.start) (history_get hs p)) ∙ is)
+one_fewer hs p start h inside is none = at_place hs p inside (sym (ap (λ (h : PassHistory). h.start) (state_in-get no_history hs p)) ∙ is)
   where
     at_place : (hs : List PassHistory) (p : ℕ) → p < length hs → (get_or hs p no_history).start ≡ Some start
         → length (starts_of (map txns_in (slice_set hs p h))) + 1 ≡ length (starts_of (map txns_in hs))
@@ -109,11 +110,12 @@ no_stamp (suc place) = refl
 abbrev pub IsOpenAt : List PassHistory → TxnName → ℕ → Type 0
 IsOpenAt hs by start = (by.job < length hs) × ((history_of hs by.job).start ≡ Some start) × (by.number ≡ length (history_of hs by.job).stamps)
 
-some_of : (x : Option ℕ) → IsSome x → (start : ℕ) × (x ≡ Some start)
+pub some_of : (x : Option ℕ) → IsSome x → (start : ℕ) × (x ≡ Some start)
 some_of None h = cc
 some_of (Some start) h = (start, refl)
 
-by_test : (number begun : ℕ) (start : Option ℕ) (s : ℕ) → cond (number == begun) start None ≡ Some s → (start ≡ Some s) × (number ≡ begun)
+-- what a number's test gives is the latest transaction's
+pub by_test : (number begun : ℕ) (start : Option ℕ) (s : ℕ) → cond (number == begun) start None ≡ Some s → (start ≡ Some s) × (number ≡ begun)
 by_test number begun start s e = elim (number == begun) as (λ t. (number == begun) ≡ t → cond t start None ≡ Some s → (start ≡ Some s) × (number ≡ begun)) [
   | true ↦ λ f g. (g, eq_of number begun f)
   | false ↦ λ f g. cc
@@ -293,7 +295,7 @@ new_kept journal n allowed empty small = record {
   small = small;
   room = let none = ap length (none_open n) in omega arith;
   histories_are = subst (λ items. AreHistories items allowed (history_of (replicate n no_history))) (sym empty)
-      (subst (AreHistories [] allowed) (λ i p. sym (history_get (replicate n no_history) p ∙ get_replicate n p) i) (record {
+      (subst (AreHistories [] allowed) (λ i p. sym (state_in-get no_history (replicate n no_history) p ∙ get_replicate n p) i) (record {
         used = λ p. omega arith;
         started = λ p start e. cc;
         latest = λ p start e. cc;

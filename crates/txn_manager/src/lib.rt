@@ -8,7 +8,9 @@
 
 mod config;
 mod history;
+mod laws;
 mod manager;
 
 pub use config::{Config, RoomRefusal, StoreRefusal, Totals};
+pub use laws::{calls_follow_transactions, checked_commits_are_legal, horizon_is_safe};
 pub use manager::TxnManager;
