@@ -14,6 +14,7 @@ mod limits;
 mod owner;
 mod refusal;
 mod row;
+mod state;
 mod table;
 mod transactions;
 mod write;
@@ -38,6 +39,7 @@ pub use limits::{
 pub use owner::one_owner_meets_the_account;
 pub use refusal::{BeginRefusal, Cause, Refusal};
 pub use row::{Cursor, Key, Row, Rows64};
+pub use state::State;
 pub use table::{Entry, KernelRefusal, Table, Value};
 pub use transactions::{
     names_have_their_stamps, passes_have_one_transaction, transactions_stay_apart,

@@ -3,7 +3,10 @@
 //! Where several causes hold, the one that stands first is answered. A refused call has changed
 //! nothing.
 
+ghost use Rattle.std.specs.Prelude.{◌≡◌};
+
 use crate::journal::TxnName;
+use items::NoMemory;
 use std::fmt;
 use thiserror::Error;
 
@@ -67,4 +70,14 @@ pub enum BeginRefusal {
     TxnsUsed,
     #[error("no memory")]
     NoMemory,
+}
+
+impl From<NoMemory> for BeginRefusal {
+    ghost use Rattle.graph_model.specs.declared.refusal.BeginRefusal.TheVariants as refusals;
+
+    ghost from_gives = { λ _ refusal. refusal ≡ refusals.NoMemory };
+
+    fn from(_refused: NoMemory) -> BeginRefusal {
+        BeginRefusal::NoMemory
+    }
 }

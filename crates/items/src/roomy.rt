@@ -1,6 +1,6 @@
 //! A list that knows how much room it has.
 
-ghost use Rattle.std.specs.Prelude.{◌≡◌, ◌==◌, ◌+◌, ◌<◌, ◌≤◌, [], ◌∷◌, ◌++◌, length, IsSome, IfSome, IfNone, OnOk, OnErr, ◌↔◌};
+ghost use Rattle.std.specs.Prelude.{◌≡◌, ◌==◌, ◌+◌, ◌^◌, ◌<◌, ◌≤◌, [], ◌∷◌, ◌++◌, length, IsSome, IfSome, IfNone, OnOk, OnErr, ◌↔◌};
 
 use crate::list::Items;
 use crate::memory::NoMemory;
@@ -41,7 +41,8 @@ impl<T> RoomyItems<T> {
     }
 
     pub fn len(&self) -> usize
-        ensures { result ≡ length self.now.items }
+        ensures len { result ≡ length self.now.items }
+        ensures small { result < 2 ^ 63 }
     {
         self.items.len()
     }
@@ -64,6 +65,7 @@ impl<T> RoomyItems<T> {
         ensures kept { self.new.items ≡ self.old.items }
         ensures ok { OnOk result (room ≤ self.new.spare) }
         ensures spare { self.old.spare ≤ self.new.spare }
+        ensures err { OnErr result (self.new ≡ self.old) }
     {
         self.items.reserve(room)?;
         Ok(())

@@ -1,0 +1,4 @@
+pub mod HistoryLemmas
+pub mod ManagerLemmas
+pub mod OpenLemmas
+pub mod HorizonLemmas

@@ -1,0 +1,4 @@
+pub mod Config
+pub mod Manager
+pub mod Histories
+pub mod ManagerLaws
