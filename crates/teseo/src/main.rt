@@ -1,32 +1,69 @@
 //! The program `teseo`: runs a script on a graph, over real files.
+//!
+//! 1. The descriptors of standard input, output and error are open before any file is, so that no
+//!    output can take the place of one that was closed.
 #![tactic(auto)]
 
 use desk_io::{OpenGate, StdDesk};
 use std::alloc::Global;
-use std::env;
 use std::env::Env;
+use std::fs::{File, OpenOptions};
+use std::os::fd::AsRawFd;
 use std::process::ExitCode;
-use teseo_program::teseo;
+use std::rt::Files;
+use std::{env, fs, io};
+use teseo_program::{Outcome, end_with, teseo};
 
-/// The exit status where the words can't be had for want of memory.
-const NO_MEMORY: u8 = 3;
+/// The last descriptor of the three that a program begins with.
+const STANDARD_ERROR: i32 = 2;
 
 fn main(rt: HostRuntime) -> ExitCode {
+    let _standard = fill_standard(&rt);
     let alloc = rt.alloc();
-    match words(&rt, alloc) {
-        Ok(words) => {
-            let mut desk = StdDesk::new(alloc, rt);
-            ExitCode::from(teseo(alloc, &words, &mut desk, &OpenGate))
-        }
-        Err(_) => ExitCode::from(NO_MEMORY),
+    let words = words(&rt, alloc);
+    let mut desk = StdDesk::new(alloc, rt);
+    ExitCode::from(match words {
+        Ok(words) => teseo(alloc, &words, &mut desk, &OpenGate),
+        Err(outcome) => end_with(&mut desk, outcome),
+    })
+}
+
+/// Opens the null device in place of each of the first three descriptors that is closed. Where there
+/// is no such device, they stay closed.
+fn fill_standard(rt: &impl Files<File = File>) -> [Option<File>; 3] {
+    [open_standard(rt), open_standard(rt), open_standard(rt)]
+}
+
+/// The null device, if one of the first three descriptors was closed: the least that is closed is taken.
+fn open_standard(rt: &impl Files<File = File>) -> Option<File> {
+    let null = OpenOptions::new()
+        .read(true)
+        .write(true)
+        .open(rt, "/dev/null")
+        .ok()?;
+    if null.as_raw_fd() <= STANDARD_ERROR {
+        Some(null)
+    } else {
+        None
     }
 }
 
-/// The words behind the program's name.
-fn words(rt: &(impl Env + Alloc<A = Global>), alloc: Global) -> std::io::Result<Vec<String>> {
+/// The words behind the program's name, or how the run ends without them.
+fn words(rt: &(impl Env + Alloc<A = Global>), alloc: Global) -> Result<Vec<String>, Outcome> {
+    match env::args(rt) {
+        Ok(args) => copied(alloc, args),
+        Err(e) if e.kind() == io::ErrorKind::InvalidData => Err(Outcome::BadWords),
+        Err(_) => Err(Outcome::NoMemory),
+    }
+}
+
+/// All words but the first.
+fn copied(alloc: Global, args: env::Args) -> Result<Vec<String>, Outcome> {
     let mut words = Vec::new(alloc);
-    for word in env::args(rt)?.skip(1) {
-        words.push(word)?;
+    for word in args.skip(1) {
+        if words.push(word).is_err() {
+            return Err(Outcome::NoMemory);
+        }
     }
     Ok(words)
 }

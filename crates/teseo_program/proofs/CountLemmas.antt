@@ -18,8 +18,8 @@ use Rattle.graph_model.proofs.GraphLemmas.{weight-with_arc}
 use Rattle.graph_model.proofs.WriteLemmas.{allowed_ends, keeps_symmetric}
 use Rattle.graphalytics_io.specs.declared.edges.Edge.{Edge}
 use Rattle.run_model.specs.Answering.{edges_in}
-use Rattle.first_load.specs.Load.{added_edge, load_of, journal_of, graph_of, IsLoadable}
-use Rattle.first_load.specs.Laws.{LoadIsLegal}
+use Rattle.graphalytics_io.specs.Load.{added_edge, load_of, journal_of, graph_of, IsLoadable}
+use Rattle.graphalytics_io.specs.Laws.{LoadIsLegal}
 
 absent : (s : Bool) → cond s (Some VertexExists) None ≡ None → s ≡ false
 absent true e = cc

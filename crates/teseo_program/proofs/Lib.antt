@@ -1,11 +1,11 @@
 pub mod WordLemmas
-pub mod OutputLemmas
-pub mod HeldLemmas
+pub mod TextLemmas
 pub mod InputLemmas
 pub mod RunLemmas
-pub mod RanLemmas
+pub mod ScriptResultLemmas
 pub mod CountLemmas
 pub mod NameLemmas
-pub mod MadeLemmas
-pub mod ProgramLemmas
+pub mod PreparedLemmas
 pub mod LawLemmas
+pub mod RowsLemmas
+pub mod OutcomeLemmas

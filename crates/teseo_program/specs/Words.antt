@@ -9,13 +9,21 @@ pub record RunNames : Type 0 where
   pub journal : List ℕ
   pub script : List ℕ
 
+-- the sources, in the order in which they are read
+abbrev pub source_names : RunNames → List (List ℕ)
+source_names names = names.vertices ∷ names.edges ∷ names.script ∷ []
+
 -- the report of a script has the script's name with `.report` behind it
 abbrev pub report_name : List ℕ → List ℕ
 report_name script = script ++ codes ".report"
 
+abbrev pub report_names : RunNames → List (List ℕ)
+report_names names = report_name names.script ∷ []
+
 -- run --vertices V --edges E --journal J SCRIPT
 abbrev pub words_of : RunNames → List (List ℕ)
-words_of names = codes "run" ∷ codes "--vertices" ∷ names.vertices ∷ codes "--edges" ∷ names.edges ∷ codes "--journal" ∷ names.journal ∷ names.script ∷ []
+words_of names = codes "run" ∷ codes "--vertices" ∷ names.vertices ∷ codes "--edges" ∷ names.edges
+    ∷ codes "--journal" ∷ names.journal ∷ names.script ∷ []
 
 -- the names that are taken before any script line is read
 abbrev pub taken_names : RunNames → List (List ℕ)

@@ -1,18 +1,19 @@
-//! What the sources stand for: they are parsed in the order in which they were read.
+//! What the sources stand for.
+//!
+//! 1. The sources are parsed in the order in which they were read, so the first one that isn't
+//!    accepted is the one that is named.
 
-ghost use Rattle.std.specs.Prelude.{◌≡◌, ◌∷◌, [], IfOk, IfErr};
+ghost use Rattle.std.specs.Prelude.{◌≡◌, IfOk, IfErr};
+ghost use Rattle.teseo_program.specs.CommandLine.{run_names};
 ghost use Rattle.teseo_program.specs.Words.{report_name, taken_names};
-ghost use Rattle.teseo_program.specs.Names.{shown};
-ghost use Rattle.teseo_program.specs.Input.{IsNotAccepted};
-ghost use Rattle.teseo_program.specs.InputHeld.{IsParsed};
+ghost use Rattle.teseo_program.specs.Input.{Texts, in_order, IsParsed, IsParseStop};
 
-use crate::ending::{Ending, Source};
-use crate::sources::Sources;
-use crate::words::Names;
+use crate::words::CommandLine;
+use desk_io::Sources;
 use graph_model::{Ids, MAX_LOAD_ROWS, NoMemory};
 use graphalytics_io::{Edges, ReadRefusal, read_edges, read_vertices};
 use run_model::{Name, Script};
-use script_lang::{Names as TakenNames, ScriptRefusal, read_script};
+use script_lang::{Names, ScriptRefusal, read_script};
 use std::alloc::Global;
 
 /// The graph of the files, and the script that runs on it.
@@ -23,48 +24,67 @@ pub struct Input {
     pub script: Script,
 }
 
+/// Why the sources weren't parsed.
+#[derive(Clone, Copy, Debug, PartialEq, Eq)]
+pub enum ParseStop {
+    /// The source at this place is the first that isn't of its form.
+    NotAccepted { place: usize },
+    NoMemory,
+}
+
+impl From<NoMemory> for ParseStop {
+    ghost use Rattle.teseo_program.specs.declared.input.ParseStop.TheVariants as stops;
+
+    ghost from_gives = { λ _ stop. stop ≡ stops.NoMemory };
+
+    fn from(_: NoMemory) -> ParseStop {
+        ParseStop::NoMemory
+    }
+}
+
 /// Parses the vertex file, the edge file and the script.
 pub fn parse_sources(
     alloc: Global,
     sources: &Sources,
-    names: &Names<'_>,
+    line: &CommandLine<'_>,
     report: &str,
-) -> Result<Input, Ending>
-    requires { report.now ≡ report_name (shown names.now).script }
-    ensures accepted { IfOk result (IsParsed (shown names.now) sources.now) }
-    ensures refused { IfErr result (IsNotAccepted (shown names.now) sources.now) }
+) -> Result<Input, ParseStop>
+    requires sources { (texts : Texts) × (sources.now ≡ in_order texts) }
+    requires report { report.now ≡ report_name (run_names line.now).script }
+    ensures accepted { IfOk result (λ input. (texts : Texts) → sources.now ≡ in_order texts → IsParsed (run_names line.now) texts input) }
+    ensures refused { IfErr result (λ stop. (texts : Texts) → sources.now ≡ in_order texts → IsParseStop (run_names line.now) texts stop) }
 {
-    let ids = match read_vertices(alloc, sources.vertices.as_slice(), MAX_LOAD_ROWS) {
+    let [vertices, edges, script] = sources.as_slice() else {
+        unreachable!()
+    };
+    let ids = match read_vertices(alloc, vertices.as_slice(), MAX_LOAD_ROWS) {
         Ok(ids) => ids,
-        Err(ReadRefusal::NotAccepted) => return Err(Ending::NotAccepted(Source::Vertices)),
-        Err(ReadRefusal::NoMemory) => return Err(Ending::NoMemory),
+        Err(ReadRefusal::NotAccepted) => return Err(ParseStop::NotAccepted { place: 0 }),
+        Err(ReadRefusal::NoMemory) => return Err(ParseStop::NoMemory),
     };
-    let edges = match read_edges(alloc, sources.edges.as_slice(), &ids, MAX_LOAD_ROWS) {
+    let edges = match read_edges(alloc, edges.as_slice(), &ids, MAX_LOAD_ROWS) {
         Ok(edges) => edges,
-        Err(ReadRefusal::NotAccepted) => return Err(Ending::NotAccepted(Source::Edges)),
-        Err(ReadRefusal::NoMemory) => return Err(Ending::NoMemory),
+        Err(ReadRefusal::NotAccepted) => return Err(ParseStop::NotAccepted { place: 1 }),
+        Err(ReadRefusal::NoMemory) => return Err(ParseStop::NoMemory),
     };
-    let mut taken = match taken_by(alloc, names, report) {
-        Ok(taken) => taken,
-        Err(_) => return Err(Ending::NoMemory),
-    };
-    match read_script(alloc, sources.script.as_slice(), &mut taken) {
+    let mut taken = names_taken(alloc, line, report)?;
+    match read_script(alloc, script.as_slice(), &mut taken) {
         Ok(script) => Ok(Input { ids, edges, script }),
-        Err(ScriptRefusal::NotAccepted) => Err(Ending::NotAccepted(Source::Script)),
-        Err(ScriptRefusal::NoMemory) => Err(Ending::NoMemory),
+        Err(ScriptRefusal::NotAccepted) => Err(ParseStop::NotAccepted { place: 2 }),
+        Err(ScriptRefusal::NoMemory) => Err(ParseStop::NoMemory),
     }
 }
 
 /// The names that a script may not give a file.
-fn taken_by(alloc: Global, names: &Names<'_>, report: &str) -> Result<TakenNames, NoMemory>
-    requires { report.now ≡ report_name (shown names.now).script }
-    ensures { IfOk result (λ taken. taken ≡ taken_names (shown names.now)) }
+fn names_taken(alloc: Global, line: &CommandLine<'_>, report: &str) -> Result<Names, NoMemory>
+    requires { report.now ≡ report_name (run_names line.now).script }
+    ensures { IfOk result (λ taken. taken ≡ taken_names (run_names line.now)) }
 {
-    let mut taken = TakenNames::new(alloc);
-    taken.push(name_of(alloc, names.vertices)?)?;
-    taken.push(name_of(alloc, names.edges)?)?;
-    taken.push(name_of(alloc, names.journal)?)?;
-    taken.push(name_of(alloc, names.script)?)?;
+    let mut taken = Names::new(alloc);
+    taken.push(name_of(alloc, line.vertices)?)?;
+    taken.push(name_of(alloc, line.edges)?)?;
+    taken.push(name_of(alloc, line.journal)?)?;
+    taken.push(name_of(alloc, line.script)?)?;
     taken.push(name_of(alloc, report)?)?;
     Ok(taken)
 }
@@ -73,8 +93,5 @@ fn taken_by(alloc: Global, names: &Names<'_>, report: &str) -> Result<TakenNames
 fn name_of(alloc: Global, name: &str) -> Result<Name, NoMemory>
     ensures { IfOk result (λ copy. copy ≡ name.now) }
 {
-    match Vec::from_slice(alloc, name.as_bytes()) {
-        Ok(bytes) => Ok(Name::from_vec(bytes)),
-        Err(_) => Err(NoMemory),
-    }
+    Ok(Name::from_vec(Vec::from_slice(alloc, name.as_bytes())?))
 }

@@ -1,18 +1,21 @@
 //! The top call: from the words to the written files.
+//!
+//! 1. All sources are read before any of them is parsed, and all are parsed before the script runs.
+//! 2. All texts are made before the first output is created.
+//! 3. What is said is said last, piece by piece, so that saying it takes no memory.
 #![tactic(auto)]
 
-mod ending;
 mod input;
 mod laws;
+mod outcome;
 mod outputs;
 mod prepare;
 mod program;
+mod rows;
 mod run;
-mod said;
-mod sources;
-mod texts;
+mod say;
 mod words;
 
-pub use ending::{Ending, Sink, Source};
 pub use laws::accepted_runs_end_well;
-pub use program::teseo;
+pub use outcome::Outcome;
+pub use program::{end_with, teseo};

@@ -2,22 +2,33 @@
 
 ghost use Rattle.std.specs.Prelude.{◌≡◌, ◌≢◌, ◌↔◌, map, slice_get, AllPairs, Some, IsTrue, IfSome, IfNone};
 ghost use Rattle.std.specs.String.{string_bytes};
-ghost use Rattle.teseo_program.specs.Words.{RunNames, IsPlain, ArePlain, TakesWords, words_of, taken_names, report_name};
-ghost use Rattle.teseo_program.specs.Names.{shown};
+ghost use Rattle.teseo_program.specs.CommandLine.{run_names};
+ghost use Rattle.teseo_program.specs.Words.{RunNames, IsPlain, ArePlain, TakesWords, words_of, taken_names, report_name, source_names};
 
 /// The names that the words of a run give.
 #[derive(Clone, Copy)]
-pub struct Names<'a> {
+pub struct CommandLine<'a> {
     pub vertices: &'a str,
     pub edges: &'a str,
     pub journal: &'a str,
     pub script: &'a str,
 }
 
+impl<'a> CommandLine<'a> {
+    ghost use Rattle.teseo_program.specs.CommandLine.{run_names};
+
+    /// The names of the sources, in the order in which they are read.
+    pub fn sources(&self) -> [&'a str; 3]
+        ensures { map (λ name. name.now) result ≡ source_names (run_names self.now) }
+    {
+        [self.vertices, self.edges, self.script]
+    }
+}
+
 /// The names that the words of a run give, if the words are taken: none of the names is an option, and
 /// they and the report's are pairwise different. Takes no memory.
-pub fn take_words(words: &[String]) -> Option<Names<'_>>
-    ensures taken { IfSome result (λ names. TakesWords (map string_bytes words.now) (shown names)) }
+pub fn take_words(words: &[String]) -> Option<CommandLine<'_>>
+    ensures taken { IfSome result (λ names. TakesWords (map string_bytes words.now) (run_names names)) }
     ensures refused { IfNone result ((names : RunNames) → TakesWords (map string_bytes words.now) names → ⊥) }
 {
     let Some(names) = split_words(words) else {
@@ -33,8 +44,8 @@ pub fn take_words(words: &[String]) -> Option<Names<'_>>
 }
 
 /// Whether no name is one of an option.
-fn are_plain(names: &Names<'_>) -> bool
-    ensures { IsTrue result ↔ ArePlain (shown names.now) }
+fn are_plain(names: &CommandLine<'_>) -> bool
+    ensures { IsTrue result ↔ ArePlain (run_names names.now) }
 {
     is_plain(names.vertices)
         && is_plain(names.edges)
@@ -43,8 +54,8 @@ fn are_plain(names: &Names<'_>) -> bool
 }
 
 /// Whether the names and the report's are pairwise different.
-fn are_apart(names: &Names<'_>) -> bool
-    ensures { IsTrue result ↔ AllPairs (λ a b. a ≢ b) (taken_names (shown names.now)) }
+fn are_apart(names: &CommandLine<'_>) -> bool
+    ensures { IsTrue result ↔ AllPairs (λ a b. a ≢ b) (taken_names (run_names names.now)) }
 {
     if is_report_of(names.vertices, names.script) {
         return false;
@@ -69,8 +80,8 @@ fn is_report_of(name: &str, script: &str) -> bool
 }
 
 /// The names in `run --vertices V --edges E --journal J SCRIPT`, if these are the words.
-fn split_words(words: &[String]) -> Option<Names<'_>>
-    ensures found { IfSome result (λ names. map string_bytes words.now ≡ words_of (shown names)) }
+fn split_words(words: &[String]) -> Option<CommandLine<'_>>
+    ensures found { IfSome result (λ names. map string_bytes words.now ≡ words_of (run_names names)) }
     ensures none { IfNone result ((names : RunNames) → map string_bytes words.now ≡ words_of names → ⊥) }
 {
     match words {
@@ -87,7 +98,7 @@ fn split_words(words: &[String]) -> Option<Names<'_>>
             if !is_word(journal, "--journal") {
                 return None;
             }
-            Some(Names {
+            Some(CommandLine {
                 vertices: v.as_str(),
                 edges: e.as_str(),
                 journal: j.as_str(),

@@ -2,45 +2,49 @@
 //!
 //! A desk makes an empty file in place of one that was there, so nothing of the older text stays.
 
-use crate::setting::{End, Made, PATH, RUN, SUMMARY, Sources, WHOLE, differs, lay};
-use desk_io::MemoryDesk;
+use crate::setting::{
+    EDGES, End, JOURNAL, RUN, SEARCH, SUMMARY, VERTICES, WHOLE, desk_with, end_of, text_of_end,
+};
 use std::test::Fail;
 
 /// A text that is longer than each output.
 const OLDER: &str =
     "an older file, longer than each of the texts that take its place, even than the journal\n";
 
-#[test]
-fn an_output_that_is_there_is_replaced_whole(rt: HostRuntime) -> Result<(), Fail> {
-    for name in ["j", "s1.report", "o"] {
-        let mut desk = MemoryDesk::new(rt.alloc());
-        lay(&mut desk, &PATH)?;
-        desk.put(name, OLDER.as_bytes())?;
-        let found = differs(rt.alloc(), &mut desk, RUN, &WHOLE)?;
-        assert_eq!(rt; found, None, "with an older {name}");
-    }
-    Ok(())
-}
+/// The root, the name of the older file, and how the run ends: where the root isn't a vertex there is
+/// no result, and the older file stays.
+const RUNS: [(&str, &str, End); 4] = [
+    (SEARCH, "j", WHOLE),
+    (SEARCH, "s1.report", WHOLE),
+    (SEARCH, "o", WHOLE),
+    (
+        "begin\nbfs 9 o\ncommit\n",
+        "o",
+        (
+            0,
+            SUMMARY,
+            6,
+            &[
+                JOURNAL,
+                ("s1.report", "begin 1.1 start 1\nno vertex 9\ncommit -\n"),
+                ("o", OLDER),
+            ],
+        ),
+    ),
+];
 
 #[test]
-fn a_file_stays_where_a_search_has_no_result(rt: HostRuntime) -> Result<(), Fail> {
-    let mut desk = MemoryDesk::new(rt.alloc());
-    let sources = Sources {
-        script: "begin\nbfs 9 o\ncommit\n",
-        ..PATH
-    };
-    let end = End {
-        status: 0,
-        said: SUMMARY,
-        files: 6,
-        made: &[Made {
-            name: "o",
-            text: OLDER,
-        }],
-    };
-    lay(&mut desk, &sources)?;
-    desk.put("o", OLDER.as_bytes())?;
-    let found = differs(rt.alloc(), &mut desk, RUN, &end)?;
-    assert_eq!(rt; found, None);
+fn an_output_that_is_there_is_replaced_whole(rt: HostRuntime) -> Result<(), Fail> {
+    let alloc = rt.alloc();
+    for (script, older, end) in RUNS {
+        let mut desk = desk_with(alloc, (VERTICES, EDGES, script), &[])?;
+        desk.put(older, OLDER.as_bytes())?;
+        let found = end_of(alloc, &mut desk, RUN)?;
+        assert_eq!(rt;
+            found.as_str(),
+            text_of_end(alloc, end)?.as_str(),
+            "with an older {older}"
+        );
+    }
     Ok(())
 }

@@ -1,72 +1,70 @@
 //! Runs to the end, each with all that it writes.
 
-use crate::setting::{End, JOURNAL, Made, PATH, RUN, SUMMARY, Sources, WHOLE, differs, lay};
-use desk_io::MemoryDesk;
+use crate::setting::{
+    EDGES, End, JOURNAL, PATH, RUN, SEARCH, SUMMARY, Sources, VERTICES, WHOLE, desk_with, end_of,
+    text_of_end,
+};
 use std::test::Fail;
 
+/// Runs, by their sources, and how each ends.
+const RUNS: [(Sources, End); 4] = [
+    (PATH, WHOLE),
+    // a root that is no vertex: there is no result
+    (
+        (VERTICES, EDGES, "begin\nbfs 9 o\ncommit\n"),
+        (
+            0,
+            SUMMARY,
+            5,
+            &[
+                JOURNAL,
+                ("s1.report", "begin 1.1 start 1\nno vertex 9\ncommit -\n"),
+            ],
+        ),
+    ),
+    // nothing to load: the journal is there and empty
+    (
+        ("", "", SEARCH),
+        (
+            0,
+            "commits 0 vertices 0 edges 0 undo 0 retired 0\n",
+            5,
+            &[
+                ("j", ""),
+                ("s1.report", "begin 1.1 start 0\nno vertex 1\ncommit -\n"),
+            ],
+        ),
+    ),
+    // an edge between the least id and the greatest
+    (
+        (
+            "0\n9223372036854775806\n",
+            "9223372036854775806 0\n",
+            "begin\nbfs 9223372036854775806 o\ncommit\n",
+        ),
+        (
+            0,
+            "commits 1 vertices 2 edges 1 undo 0 retired 0\n",
+            6,
+            &[
+                (
+                    "j",
+                    "commit 1 start 0 by 0.1\nvertex 0\nvertex 9223372036854775806\nedge 9223372036854775806 0 1\n",
+                ),
+                ("s1.report", "begin 1.1 start 1\ntable 2\ncommit -\n"),
+                ("o", "0 1\n9223372036854775806 0\n"),
+            ],
+        ),
+    ),
+];
+
 #[test]
-fn a_search_on_a_path(rt: HostRuntime) -> Result<(), Fail> {
-    let mut desk = MemoryDesk::new(rt.alloc());
-    lay(&mut desk, &PATH)?;
-    let found = differs(rt.alloc(), &mut desk, RUN, &WHOLE)?;
-    assert_eq!(rt; found, None);
-    Ok(())
-}
-
-/// The end of a search from a root that is no vertex: there is no result.
-const NO_VERTEX: End = End {
-    status: 0,
-    said: SUMMARY,
-    files: 5,
-    made: &[
-        JOURNAL,
-        Made {
-            name: "s1.report",
-            text: "begin 1.1 start 1\nno vertex 9\ncommit -\n",
-        },
-    ],
-};
-
-#[test]
-fn a_root_that_is_no_vertex(rt: HostRuntime) -> Result<(), Fail> {
-    let mut desk = MemoryDesk::new(rt.alloc());
-    let sources = Sources {
-        script: "begin\nbfs 9 o\ncommit\n",
-        ..PATH
-    };
-    lay(&mut desk, &sources)?;
-    let found = differs(rt.alloc(), &mut desk, RUN, &NO_VERTEX)?;
-    assert_eq!(rt; found, None);
-    Ok(())
-}
-
-/// The end of a search on no graph: the journal is there and empty, and there is no result.
-const NOTHING: End = End {
-    status: 0,
-    said: "commits 0 vertices 0 edges 0 undo 0 retired 0\n",
-    files: 5,
-    made: &[
-        Made {
-            name: "j",
-            text: "",
-        },
-        Made {
-            name: "s1.report",
-            text: "begin 1.1 start 0\nno vertex 1\ncommit -\n",
-        },
-    ],
-};
-
-#[test]
-fn nothing_to_load(rt: HostRuntime) -> Result<(), Fail> {
-    let mut desk = MemoryDesk::new(rt.alloc());
-    let sources = Sources {
-        vertices: "",
-        edges: "",
-        ..PATH
-    };
-    lay(&mut desk, &sources)?;
-    let found = differs(rt.alloc(), &mut desk, RUN, &NOTHING)?;
-    assert_eq!(rt; found, None);
+fn runs_end_with_all_that_they_write(rt: HostRuntime) -> Result<(), Fail> {
+    let alloc = rt.alloc();
+    for (sources, end) in RUNS {
+        let mut desk = desk_with(alloc, sources, &[])?;
+        let found = end_of(alloc, &mut desk, RUN)?;
+        assert_eq!(rt; found.as_str(), text_of_end(alloc, end)?.as_str());
+    }
     Ok(())
 }

@@ -1,9 +1,9 @@
-use Rattle.teseo_program.proofs.RanLemmas.{ran}
+use Rattle.teseo_program.proofs.ScriptResultLemmas.{is_run_of}
 use Rattle.teseo_program.proofs.run.run_script.Goals as goal
 
-pub returns-in-Ok-answers_of-clause-run : goal.returns-in-Ok-answers_of-clause-run
-returns-in-Ok-answers_of-clause-run c = λ m means.
-    ran c.load_is_legal.ensures c.load_is_its_graph.ensures c.args.input.now m means c.requires.loadable
-    c.in-Ok.writes c.in-Ok.ensures c.in-Ok-journal_of.journal c.in-Ok-journal_of.ensures
-    c.root_of-root.result (c.root_of-root.ensures m.root m.file means.script) c.in-Ok-search.table c.in-Ok-search.ensures
-    c.len.result c.len.ensures c.in-Ok-answers_of.answers c.in-Ok-answers_of.ensures
+pub returns-clause-run : goal.returns-clause-run
+returns-clause-run c = λ m means in_range.
+    is_run_of c.load_is_legal.ensures c.load_is_its_graph.ensures c.args.input.now m means c.requires.loadable in_range
+    c.in_ok-writes.writes c.in_ok-writes.ensures c.in_ok-journal.journal c.in_ok-journal.ensures
+    c.root_of-root.result (c.root_of-root.ensures m.root m.file means.script) c.in_ok-table.table c.in_ok-table.ensures
+    c.len.result c.len.ensures c.in_ok-answers.answers c.in_ok-answers.ensures

@@ -1,6 +1,6 @@
 use Rattle.std.proofs.Common.{refl, arith, []}
-use Rattle.teseo_program.specs.Names.{shown}
 use Rattle.teseo_program.proofs.WordLemmas.{five, four}
+use Rattle.teseo_program.specs.CommandLine.{run_names}
 use Rattle.teseo_program.proofs.words.are_apart.Goals as goal
 
 pub returns-then-is_report_of : goal.returns-then-is_report_of
@@ -14,9 +14,9 @@ returns-then-is_report_of-3 c = (λ wrong. cc, λ all. absurd (all 2 4 [] (omega
 
 pub returns : goal.returns
 returns c = (
-  λ yes. five (shown c.args.names.now) (c.all_different.ensures.0 yes)
+  λ yes. five (run_names c.args.names.now) (c.all_different.ensures.0 yes)
       (λ same. let wrong = c.if-is_report_of.ensures.1 same in cc)
       (λ same. let wrong = c.if-is_report_of-2.ensures.1 same in cc)
       (λ same. let wrong = c.if-is_report_of-3.ensures.1 same in cc),
-  λ all. c.all_different.ensures.1 (four (shown c.args.names.now) all),
+  λ all. c.all_different.ensures.1 (four (run_names c.args.names.now) all),
 )

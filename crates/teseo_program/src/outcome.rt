@@ -1,0 +1,92 @@
+//! How a run ends.
+
+ghost use Rattle.std.specs.Prelude.{◌≡◌};
+
+use crate::input::ParseStop;
+use desk_io::{ReadStop, WriteStop};
+use graph_model::NoMemory;
+
+/// How a run ends, each with its exit status and what is said.
+///
+/// | Outcome | Status | Said |
+/// |---|---|---|
+/// | `Done` | 0 | the summary |
+/// | `NotRead` too long, `NotAccepted` | 1 | `NAME: too long`, `NAME: not accepted` |
+/// | `BadWords` | 2 | `bad words` |
+/// | `NoMemory`, `NotRead` for want of memory | 3 | `no memory` |
+/// | `NotRead` by a fault | 4 | `read failed NAME` |
+/// | `NotWritten` | 5 | `write failed NAME` |
+///
+/// A place is that of a source, or of an output, among those that the run reads or writes, from 0.
+#[derive(Clone, Copy, Debug, PartialEq, Eq)]
+pub enum Outcome {
+    Done,
+    BadWords,
+    NotRead(ReadStop),
+    NotAccepted { place: usize },
+    NoMemory,
+    NotWritten(WriteStop),
+}
+
+impl Outcome {
+    ghost use Rattle.teseo_program.specs.Outcomes.{status_of};
+
+    /// The exit status.
+    pub fn status(self) -> u8
+        ensures { result ≡ status_of self }
+    {
+        match self {
+            Outcome::Done => 0,
+            Outcome::BadWords => 2,
+            Outcome::NotRead(ReadStop::Fault { .. }) => 4,
+            Outcome::NotRead(ReadStop::TooLong { .. }) => 1,
+            Outcome::NotRead(ReadStop::NoMemory) => 3,
+            Outcome::NotAccepted { .. } => 1,
+            Outcome::NoMemory => 3,
+            Outcome::NotWritten(_) => 5,
+        }
+    }
+}
+
+impl From<ReadStop> for Outcome {
+    ghost use Rattle.teseo_program.specs.declared.outcome.Outcome.TheVariants.{NotRead};
+
+    ghost from_gives = { λ stop outcome. outcome ≡ NotRead stop };
+
+    fn from(stop: ReadStop) -> Outcome {
+        Outcome::NotRead(stop)
+    }
+}
+
+impl From<ParseStop> for Outcome {
+    ghost use Rattle.teseo_program.specs.Outcomes.{outcome_of_parse};
+
+    ghost from_gives = { λ stop outcome. outcome ≡ outcome_of_parse stop };
+
+    fn from(stop: ParseStop) -> Outcome {
+        match stop {
+            ParseStop::NotAccepted { place } => Outcome::NotAccepted { place },
+            ParseStop::NoMemory => Outcome::NoMemory,
+        }
+    }
+}
+
+impl From<WriteStop> for Outcome {
+    ghost use Rattle.teseo_program.specs.declared.outcome.Outcome.TheVariants.{NotWritten};
+
+    ghost from_gives = { λ stop outcome. outcome ≡ NotWritten stop };
+
+    fn from(stop: WriteStop) -> Outcome {
+        Outcome::NotWritten(stop)
+    }
+}
+
+impl From<NoMemory> for Outcome {
+    ghost use Rattle.teseo_program.specs.declared.outcome.Outcome.TheVariants as outcomes;
+
+    ghost from_gives = { λ _ outcome. outcome ≡ outcomes.NoMemory };
+
+    fn from(_: NoMemory) -> Outcome {
+        Outcome::NoMemory
+    }
+}
