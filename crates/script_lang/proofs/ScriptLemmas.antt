@@ -13,6 +13,7 @@ pub record InParts (text : List ℕ) (root : ℕ) (file : List ℕ) : Type 0 whe
   pub start : IsField fields root 32 rest
   pub end : rest ≡ file ++ codes "\ncommit\n"
 
+-- a script is cut into its three parts
 pub in_parts : (text : List ℕ) (root : ℕ) (file : List ℕ) → SpellsScript text root file → InParts text root file
 in_parts text root file spelled = record {
   fields = spelled.digits ++ 32 ∷ (file ++ codes "\ncommit\n");
@@ -24,6 +25,7 @@ in_parts text root file spelled = record {
   end = λ i. file ++ codes "\ncommit\n";
 }
 
+-- three such parts are a script
 pub of_parts : (text : List ℕ) (root : ℕ) (file fields rest : List ℕ) → text ≡ codes "begin\nbfs " ++ fields → IsField fields root 32 rest → rest ≡ file ++ codes "\ncommit\n" → SpellsScript text root file
 of_parts text root file fields rest front start end = record {
   digits = start.digits;
@@ -48,6 +50,7 @@ same_root fields a b r s left right = same_field fields a b 32 r s (omega arith)
 pub same_file : (rest a b : List ℕ) → rest ≡ a ++ codes "\ncommit\n" → rest ≡ b ++ codes "\ncommit\n" → a ≡ b
 same_file rest a b left right = append_cancel_right a b (codes "\ncommit\n") (sym left ∙ right)
 
+-- a text spells one root and one file at most
 pub one_script : (text : List ℕ) (a b : ℕ) (file other : List ℕ) → SpellsScript text a file → SpellsScript text b other → (a ≡ b) × (file ≡ other)
 one_script text a b file other left right =
     let first = in_parts text a file left in

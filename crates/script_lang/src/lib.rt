@@ -1,4 +1,7 @@
 //! The texts of a run: scripts are read, in the strict form, and reports and the journal are written.
+//!
+//! 1. A call that is refused memory leaves the text, or the names that are taken, as they were.
+//! 2. What a writer puts behind a text is what `run_model` defines, and nothing else.
 #![tactic(auto)]
 
 mod journal;

@@ -3,6 +3,7 @@
 ghost use Rattle.std.specs.Prelude.{◌≡◌, ◌==◌, ◌↔◌, [], ◌∷◌, ◌++◌, length, Contains, IsTrue, OnOk, OnErr};
 
 use graph_model::NoMemory;
+use items::Items;
 use run_model::Name;
 use std::alloc::Global;
 use std::marker::Model;
@@ -10,7 +11,7 @@ use std::marker::Model;
 /// The file names that scripts have asked for so far, in the order in which they did.
 #[derive(Drop)]
 pub struct Names {
-    names: Vec<Name>,
+    names: Items<Name>,
 }
 
 impl Model for Names {
@@ -18,7 +19,7 @@ impl Model for Names {
 
     ghost Value = { List (List ℕ) };
 
-    ghost view = { λ taken. taken.names.items };
+    ghost view = { λ taken. taken.names };
 }
 
 impl Names {
@@ -27,7 +28,7 @@ impl Names {
         ensures { result ≡ [] }
     {
         Names {
-            names: Vec::new(alloc),
+            names: Items::new(alloc),
         }
     }
 
@@ -36,8 +37,7 @@ impl Names {
         ensures ok { OnOk result (self.new ≡ self.old ++ name ∷ []) }
         ensures err { OnErr result (self.new ≡ self.old) }
     {
-        self.names.push(name)?;
-        Ok(())
+        self.names.push(name)
     }
 
     pub fn contains(&self, bytes: &[u8]) -> bool

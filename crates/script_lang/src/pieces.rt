@@ -5,15 +5,18 @@ ghost use Rattle.run_model.specs.Texts.{field, name_text};
 ghost use Rattle.graphalytics_io.specs.Appends.{Extends};
 
 use graph_model::{NoMemory, TxnName};
-use graphalytics_io::Text;
+use graphalytics_io::{Spelling, Text};
 
-/// Writes a number behind a blank. Without memory the text may have a part of it.
-pub(crate) fn write_field(n: u64, text: &mut Text) -> Result<(), NoMemory>
-    ensures ok { OnOk result (text.new ≡ text.old ++ field n) }
-    ensures err { OnErr result (Extends text.old text.new) }
-{
-    text.push_bytes(b" ")?;
-    text.push_number(n)
+/// A number behind a blank.
+pub(crate) struct Field;
+
+impl Spelling<u64> for Field {
+    ghost text_of = { field };
+
+    fn write(n: &u64, text: &mut Text) -> Result<(), NoMemory> {
+        text.push_bytes(b" ")?;
+        text.push_number(*n)
+    }
 }
 
 /// Writes a word, and a number behind a blank. Without memory the text may have a part of it.
@@ -22,7 +25,7 @@ pub(crate) fn write_counted(word: &[u8], n: u64, text: &mut Text) -> Result<(), 
     ensures err { OnErr result (Extends text.old text.new) }
 {
     text.push_bytes(word)?;
-    write_field(n, text)
+    Field::write(&n, text)
 }
 
 /// Writes a word, and a transaction's name. Without memory the text may have a part of it.

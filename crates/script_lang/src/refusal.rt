@@ -1,5 +1,9 @@
 //! Why a script was not read.
 
+ghost use Rattle.std.specs.Prelude.{◌≡◌};
+ghost use Rattle.script_lang.specs.declared.refusal.ScriptRefusal.TheVariants as refusals;
+
+use graph_model::NoMemory;
 use thiserror::Error;
 
 /// Why no script was given.
@@ -10,4 +14,12 @@ pub enum ScriptRefusal {
     NotAccepted,
     #[error("no memory")]
     NoMemory,
+}
+
+impl From<NoMemory> for ScriptRefusal {
+    ghost from_gives = { λ _ refusal. refusal ≡ refusals.NoMemory };
+
+    fn from(_refused: NoMemory) -> ScriptRefusal {
+        ScriptRefusal::NoMemory
+    }
 }

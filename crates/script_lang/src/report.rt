@@ -1,13 +1,12 @@
 //! Reports.
 
 ghost use Rattle.std.specs.Prelude.{◌≡◌, ◌++◌, codes, OnOk, OnErr};
-ghost use Rattle.std.specs.List.{flat_map};
-ghost use Rattle.run_model.specs.Texts.{field, answer_text, report_text};
+ghost use Rattle.run_model.specs.Texts.{answer_text, report_text};
 ghost use Rattle.graphalytics_io.specs.Appends.{Extends};
 
-use crate::pieces::{write_counted, write_field, write_named};
+use crate::pieces::{Field, write_counted, write_named};
 use graph_model::{Cause, Ids, NoMemory, TxnName};
-use graphalytics_io::Text;
+use graphalytics_io::{Spelling, Text, append_each, write_each};
 use run_model::{Answer, Answers};
 
 /// Writes a report at the end of a text: a line for each answer. Without memory nothing is written.
@@ -15,37 +14,19 @@ pub fn write_report(answers: &Answers, text: &mut Text) -> Result<(), NoMemory>
     ensures ok { OnOk result (text.new ≡ text.old ++ report_text answers.now) }
     ensures err { OnErr result (text.new ≡ text.old) }
 {
-    let before = text.len();
-    match write_lines(answers.as_slice(), text) {
-        Ok(()) => Ok(()),
-        Err(refusal) => {
-            text.truncate(before);
-            Err(refusal)
-        }
-    }
+    append_each::<Answer, AnswerLine>(answers.as_slice(), text)
 }
 
-/// Writes the lines of a report. Without memory the text may have some of them.
-fn write_lines(answers: &[Answer], text: &mut Text) -> Result<(), NoMemory>
-    ensures ok { OnOk result (text.new ≡ text.old ++ report_text answers.now) }
-    ensures err { OnErr result (Extends text.old text.new) }
-{
-    'lines: for answer in answers {
-        match write_line(answer, text) {
-            Ok(()) => {}
-            Err(refusal) => return Err(refusal),
-        }
-    }
-    Ok(())
-}
+/// The line of an answer.
+struct AnswerLine;
 
-/// Writes an answer and a line feed. Without memory the text may have a part of it.
-fn write_line(answer: &Answer, text: &mut Text) -> Result<(), NoMemory>
-    ensures ok { OnOk result (text.new ≡ text.old ++ answer_text answer.now ++ codes "\n") }
-    ensures err { OnErr result (Extends text.old text.new) }
-{
-    write_answer(answer, text)?;
-    text.push_bytes(b"\n")
+impl Spelling<Answer> for AnswerLine {
+    ghost text_of = { λ answer. answer_text answer ++ codes "\n" };
+
+    fn write(answer: &Answer, text: &mut Text) -> Result<(), NoMemory> {
+        write_answer(answer, text)?;
+        text.push_bytes(b"\n")
+    }
 }
 
 /// Writes an answer, without its line feed. Without memory the text may have a part of it.
@@ -100,21 +81,7 @@ fn write_neighbours(targets: &Ids, text: &mut Text) -> Result<(), NoMemory>
     ensures err { OnErr result (Extends text.old text.new) }
 {
     write_counted(b"neighbours", targets.len() as u64, text)?;
-    write_fields(targets.as_slice(), text)
-}
-
-/// Writes numbers, each behind a blank. Without memory the text may have some of them.
-fn write_fields(numbers: &[u64], text: &mut Text) -> Result<(), NoMemory>
-    ensures ok { OnOk result (text.new ≡ text.old ++ flat_map field numbers.now) }
-    ensures err { OnErr result (Extends text.old text.new) }
-{
-    'numbers: for n in numbers {
-        match write_field(*n, text) {
-            Ok(()) => {}
-            Err(refusal) => return Err(refusal),
-        }
-    }
-    Ok(())
+    write_each::<u64, Field>(targets.as_slice(), text)
 }
 
 /// Writes how many vertices and edges there are. Without memory the text may have a part of it.
@@ -195,7 +162,7 @@ mod tests {
         write_report(&Answers::from_vec(lines), &mut text)?;
         let want: &[u8] =
             b"# begin 12.1 start 40\nok\nexists\nself loop\nno vertex 9223372036854775806\nno edge\nhas edges\nconflict later 41\nconflict open 3.4294967295\nfull\nweight 0\nnone\nneighbours 2 7 20\nneighbours 0\nvertices 10 edges 100\ntable 10\ncommit 42\ncommit -\naborted\nskipped\n";
-        assert!(rt; text.as_slice() == want);
+        assert_eq!(rt; text.as_slice(), want);
         Ok(())
     }
 }

@@ -1,4 +1,4 @@
-use Rattle.std.proofs.Common.{ℕ, ◌≤◌, List, length, ap, arith, All}
+use Rattle.std.proofs.Common.{ℕ, ◌≤◌, length, ap, arith}
 use Rattle.graph_model.specs.declared.limits.TheConstants.{MAX_ID}
 use Rattle.std.proofs.lemmas.List.{length_push}
 use Rattle.std.proofs.lemmas.List.Elements.{All-push}

@@ -1,3 +1,4 @@
+-- none of the names so far is this one
 use Rattle.std.proofs.Common.{◌≢◌, take, All}
 use Rattle.script_lang.proofs.names.is_among.Given as goal
 

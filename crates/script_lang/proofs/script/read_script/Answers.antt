@@ -10,7 +10,7 @@ returns-then-contains-clause-accepted c = λ root file script.
     let same = one_script c.args.text.now root c.in-Some.root file c.in-Some.file.now script.spelled c.in-Some.ensures.found.spelled in
     absurd (script.new (subst (Contains c.args.taken.now) (sym same.1) (c.contains.ensures.0 c.if-contains.true)))
 
-pub returns-in-Ok-take_name-clause-accepted : goal.returns-in-Ok-take_name-clause-accepted
-returns-in-Ok-take_name-clause-accepted c = λ root file script.
+pub returns-clause-accepted : goal.returns-clause-accepted
+returns-clause-accepted c = λ root file script.
     let same = one_script c.args.text.now root c.in-Some.root file c.in-Some.file.now script.spelled c.in-Some.ensures.found.spelled in
-    cc (same.0, same.1, c.in-Ok.ensures)
+    cc (same.0, same.1, c.in_ok-script.ensures)

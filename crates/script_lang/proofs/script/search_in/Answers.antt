@@ -8,25 +8,25 @@ use Rattle.script_lang.proofs.script.search_in.Goals.{else-root-le-MAX_ID-via-th
 abbrev IsName : List ℕ → Type 0
 IsName file = (0 < length file) × All IsNameByte file
 
-pub returns-in_default-read_root-clause-none : goal.returns-in_default-read_root-clause-none
-returns-in_default-read_root-clause-none c = λ root file script.
+pub returns-in_default-read_field-clause-none : goal.returns-in_default-read_field-clause-none
+returns-in_default-read_field-clause-none c = λ root file script.
     let parts = in_parts c.args.text.now root file script.spelled in
     let fields = same_fields c.args.text.now parts.fields c.in-Some.fields.now parts.front c.in-Some.ensures in
-    c.in_default-read_root.ensures.none root parts.rest (omega (arith, script.in_range)) (subst (λ (f : List ℕ). IsField f root 32 parts.rest) fields parts.start)
+    c.in_default-read_field.ensures.none root parts.rest (omega (arith, script.in_range)) (subst (λ (f : List ℕ). IsField f root 32 parts.rest) fields parts.start)
 
-pub returns-in_default-before-clause-none : goal.returns-in_default-before-clause-none
-returns-in_default-before-clause-none c = λ root file script.
+pub returns-in_default-strip_end-clause-none : goal.returns-in_default-strip_end-clause-none
+returns-in_default-strip_end-clause-none c = λ root file script.
     let parts = in_parts c.args.text.now root file script.spelled in
     let fields = same_fields c.args.text.now parts.fields c.in-Some.fields.now parts.front c.in-Some.ensures in
-    let same = same_root c.in-Some.fields.now root c.in-Some-read_root.root parts.rest c.in-Some-read_root.rest.now (subst (λ (f : List ℕ). IsField f root 32 parts.rest) fields parts.start) c.in-Some-read_root.ensures.found in
-    c.in_default-before.ensures file (sym same.1 ∙ parts.end)
+    let same = same_root c.in-Some.fields.now root c.in-Some-read_field.root parts.rest c.in-Some-read_field.rest.now (subst (λ (f : List ℕ). IsField f root 32 parts.rest) fields parts.start) c.in-Some-read_field.ensures.found in
+    c.in_default-strip_end.ensures file (sym same.1 ∙ parts.end)
 
 pub returns-else-root-le-MAX_ID-clause-none : goal.returns-else-root-le-MAX_ID-clause-none
 returns-else-root-le-MAX_ID-clause-none c = λ root file script.
     let parts = in_parts c.args.text.now root file script.spelled in
     let fields = same_fields c.args.text.now parts.fields c.in-Some.fields.now parts.front c.in-Some.ensures in
-    let same = same_root c.in-Some.fields.now root c.in-Some-read_root.root parts.rest c.in-Some-read_root.rest.now (subst (λ (f : List ℕ). IsField f root 32 parts.rest) fields parts.start) c.in-Some-read_root.ensures.found in
-    let name = same_file c.in-Some-read_root.rest.now file c.in-Some-before.file.now (sym same.1 ∙ parts.end) c.in-Some-before.ensures in
+    let same = same_root c.in-Some.fields.now root c.in-Some-read_field.root parts.rest c.in-Some-read_field.rest.now (subst (λ (f : List ℕ). IsField f root 32 parts.rest) fields parts.start) c.in-Some-read_field.ensures.found in
+    let name = same_file c.in-Some-read_field.rest.now file c.in-Some-strip_end.file.now (sym same.1 ∙ parts.end) c.in-Some-strip_end.ensures in
     elim c.else-root-le-MAX_ID.branch [
       | else-root-le-MAX_ID-via-then-root-le-MAX_ID+else-is_file_name w ↦
           let good : w.is_file_name.result ≡ true = w.is_file_name.ensures.1 (subst IsName name (script.some, script.printable)) in
