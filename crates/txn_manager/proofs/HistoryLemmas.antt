@@ -1,7 +1,6 @@
 -- Histories of passes: what a begin, a commit and an end leave of them.
-use Rattle.std.proofs.Common.{◌≡◌, ℕ, zero, suc, ◌+◌, ◌-◌, ◌<◌, ◌≤◌, List, [], ◌∷◌, ◌++◌, length, get_or, refl, sym, ◌∙◌, ap, subst, cond, arith, length-append, zero-add}
-use Rattle.std.specs.Prelude.{Bool, true, false, ◌==◌, ◌&&◌, nat_lt, Option, Some, None, is_some, IsSome, slice_get, slice_set, unwrap_or}
-use Rattle.std.proofs.lemmas.Bool.{true≢false}
+use Rattle.std.proofs.Common.{◌≡◌, ℕ, zero, suc, ◌+◌, ◌-◌, ◌<◌, ◌≤◌, List, [], ◌∷◌, ◌++◌, length, refl, sym, ◌∙◌, ap, cond, arith, length-append, zero-add}
+use Rattle.std.specs.Prelude.{Bool, true, false, ◌==◌, ◌&&◌, nat_lt, Option, Some, None, slice_get, slice_set, unwrap_or}
 use Rattle.std.proofs.lemmas.Bool.Decides.{nat_tests}
 use Rattle.std.proofs.lemmas.List.{length-set}
 use Rattle.std.proofs.lemmas.Option.{slice_get_past}
@@ -14,7 +13,7 @@ use Rattle.graph_model.proofs.PassLemmas.{state_in-set}
 use Rattle.graph_model.proofs.PlaceLemmas.{some_eq}
 use Rattle.graph_model.proofs.TestLemmas.{self_eq, eq_of, eq_symm, name_eq, name_symm}
 use Rattle.txn_manager.specs.declared.history.PassHistory.{PassHistory}
-use Rattle.txn_manager.specs.Histories.{no_history, history_of, stamp_at, AreHistories}
+use Rattle.txn_manager.specs.Histories.{no_history, history_of, stamp_at, with_open, with_none, with_stamp, IsHistory, AreHistories}
 
 -- ---- stamps by number
 
@@ -96,10 +95,24 @@ history_of-set hs p h inside = λ i q. (state_in-set no_history 0 hs p h inside 
 all_revised : (P : PassHistory → Type 0) (history : ℕ → PassHistory) (p : ℕ) (h : PassHistory) → P h → ((q : ℕ) → P (history q)) → (q : ℕ) → P (revised history p h q)
 all_revised P history p h here rest q = elim (q == p) as (λ t. P (cond t h (history q))) [ true ↦ here | false ↦ rest q ]
 
+-- a history stays one while the journal grows
+later_history : (clock more allowed : ℕ) (h : PassHistory) → clock ≤ more → IsHistory clock allowed h → IsHistory more allowed h
+later_history clock more allowed h le is = record {
+  used = is.used;
+  current = λ start e. let at = is.current start e in let before = at.started in record { started = omega arith; latest = at.latest; pending = at.pending };
+}
+
 module _ (journal : List Commit) (allowed : ℕ) (history : ℕ → PassHistory) (are : AreHistories journal allowed history) (p : ℕ) where
-  -- the stamps of the journal, where one history is revised and its stamps are the new journal's
+  abbrev stamps : List (Option ℕ)
+  stamps = (history p).stamps
+
+  -- the name of the pass's transaction with this number
+  abbrev name : ℕ → TxnName
+  name number = record { job = p; number = number }
+
+  -- the stamps stay those of the journal, where one history is revised and has those of the new journal
   stamps_revised : (journal' : List Commit) (h : PassHistory)
-      → ((number : ℕ) → stamp_at h.stamps number ≡ stamp_in journal' (record { job = p; number = number }))
+      → ((number : ℕ) → stamp_at h.stamps number ≡ stamp_in journal' (name number))
       → ((by : TxnName) → (by.job == p) ≡ false → stamp_in journal' by ≡ stamp_in journal by)
       → (by : TxnName) → stamp_at (revised history p h by.job).stamps by.number ≡ stamp_in journal' by
   stamps_revised journal' h here else by = elim (by.job == p) as (λ t. (by.job == p) ≡ t → stamp_at (cond t h (history by.job)).stamps by.number ≡ stamp_in journal' by) [
@@ -108,68 +121,64 @@ module _ (journal : List Commit) (allowed : ℕ) (history : ℕ → PassHistory)
   ] refl
 
   -- it begins its next transaction
-  pub begin_keeps : length (history p).stamps < allowed
-      → AreHistories journal allowed (revised history p (record { start = Some (length journal); stamps = (history p).stamps ++ None ∷ [] }))
+  pub begin_keeps : length stamps < allowed → AreHistories journal allowed (revised history p (with_open (history p) (length journal)))
   begin_keeps free = record {
-    used = all_revised (λ (h : PassHistory). length h.stamps ≤ allowed) history p _ (omega (arith, longer)) are.used;
-    started = all_revised (λ (h : PassHistory). (start : ℕ) → h.start ≡ Some start → start ≤ length journal) history p _ (λ start e. let same : length journal ≡ start = some_eq _ _ e in omega arith) are.started;
-    latest = all_revised (λ (h : PassHistory). (start : ℕ) → h.start ≡ Some start → 0 < length h.stamps) history p _ (λ start e. omega (arith, longer)) are.latest;
-    pending = all_revised (λ (h : PassHistory). (start : ℕ) → h.start ≡ Some start → stamp_at h.stamps (length h.stamps) ≡ None) history p _
-        (λ start e. ap (stamp_at ((history p).stamps ++ None ∷ [])) longer ∙ stamp_at-more (history p).stamps (length (history p).stamps + 1) ∙ no_next (history p).stamps) are.pending;
-    stamps = stamps_revised journal _ (λ number. stamp_at-more (history p).stamps number ∙ are.stamps (record { job = p; number = number })) (λ by e. refl);
+    each = all_revised (IsHistory (length journal) allowed) history p _ begun are.each;
+    stamps = stamps_revised journal _ (λ number. stamp_at-more stamps number ∙ are.stamps (name number)) (λ by e. refl);
   }
     where
-      longer : length ((history p).stamps ++ None ∷ []) ≡ length (history p).stamps + 1
-      longer = length-append (history p).stamps (None ∷ [])
+      longer : length (stamps ++ None ∷ []) ≡ length stamps + 1
+      longer = length-append stamps (None ∷ [])
+
+      begun : IsHistory (length journal) allowed (with_open (history p) (length journal))
+      begun = record {
+        used = omega (arith, longer);
+        current = λ start e. let same : length journal ≡ start = some_eq _ _ e in record {
+          started = omega arith;
+          latest = omega (arith, longer);
+          pending = ap (stamp_at (stamps ++ None ∷ [])) longer ∙ stamp_at-more stamps (length stamps + 1) ∙ no_next stamps;
+        };
+      }
 
   -- it ends its open one
-  pub end_keeps : AreHistories journal allowed (revised history p (record { start = None; stamps = (history p).stamps }))
+  pub end_keeps : AreHistories journal allowed (revised history p (with_none (history p)))
   end_keeps = record {
-    used = all_revised (λ (h : PassHistory). length h.stamps ≤ allowed) history p _ (are.used p) are.used;
-    started = all_revised (λ (h : PassHistory). (start : ℕ) → h.start ≡ Some start → start ≤ length journal) history p _ (λ start e. cc) are.started;
-    latest = all_revised (λ (h : PassHistory). (start : ℕ) → h.start ≡ Some start → 0 < length h.stamps) history p _ (λ start e. cc) are.latest;
-    pending = all_revised (λ (h : PassHistory). (start : ℕ) → h.start ≡ Some start → stamp_at h.stamps (length h.stamps) ≡ None) history p _ (λ start e. cc) are.pending;
-    stamps = stamps_revised journal _ (λ number. are.stamps (record { job = p; number = number })) (λ by e. refl);
+    each = all_revised (IsHistory (length journal) allowed) history p _ (record { used = (are.each p).used; current = λ start e. cc }) are.each;
+    stamps = stamps_revised journal _ (λ number. are.stamps (name number)) (λ by e. refl);
   }
 
-  -- the name of its latest transaction
-  abbrev latest_name : TxnName
-  latest_name = record { job = p; number = length (history p).stamps }
+  -- the next transaction has no stamp
+  pub next_unstamped : stamp_in journal (name (length stamps + 1)) ≡ None
+  next_unstamped = sym (are.stamps (name (length stamps + 1))) ∙ no_next stamps
 
-  -- an open transaction has no stamp
-  pub open_unstamped : (start : ℕ) → (history p).start ≡ Some start → stamp_in journal latest_name ≡ None
-  open_unstamped start is = sym (are.stamps latest_name) ∙ are.pending p start is
+  module _ (start : ℕ) (is : (history p).start ≡ Some start) where
+    -- nor has an open one
+    pub open_unstamped : stamp_in journal (name (length stamps)) ≡ None
+    open_unstamped = sym (are.stamps (name (length stamps))) ∙ ((are.each p).current start is).pending
 
-  -- nor has the next one
-  pub next_unstamped : stamp_in journal (record { job = p; number = length (history p).stamps + 1 }) ≡ None
-  next_unstamped = sym (are.stamps (record { job = p; number = length (history p).stamps + 1 })) ∙ no_next (history p).stamps
+    -- it commits its open one
+    pub commit_keeps : (c : Commit) → c.by ≡ name (length stamps) → AreHistories (journal ++ c ∷ []) allowed (revised history p (with_stamp (history p) c.stamp))
+    commit_keeps c latest = record {
+      each = all_revised (IsHistory (length (journal ++ c ∷ [])) allowed) history p _ ended (λ q. later_history _ _ allowed (history q) (omega (arith, length-append journal (c ∷ []))) (are.each q));
+      stamps = stamps_revised (journal ++ c ∷ []) _ here else;
+    }
+      where
+        ended : IsHistory (length (journal ++ c ∷ [])) allowed (with_stamp (history p) c.stamp)
+        ended = record { used = let le = (are.each p).used in omega (arith, length-set stamps (length stamps - 1) (Some c.stamp)); current = λ begun e. cc }
 
-  -- it commits its open one
-  pub commit_keeps : (start : ℕ) → (history p).start ≡ Some start → (c : Commit) → c.by ≡ latest_name
-      → AreHistories (journal ++ c ∷ []) allowed (revised history p (record { start = None; stamps = slice_set (history p).stamps (length (history p).stamps - 1) (Some c.stamp) }))
-  commit_keeps start is c by_latest = record {
-    used = all_revised (λ (h : PassHistory). length h.stamps ≤ allowed) history p _ (let le = are.used p in omega (arith, le, length-set (history p).stamps (length (history p).stamps - 1) (Some c.stamp))) are.used;
-    started = all_revised (λ (h : PassHistory). (begun : ℕ) → h.start ≡ Some begun → begun ≤ length (journal ++ c ∷ [])) history p _ (λ begun e. cc)
-        (λ q begun e. let le = are.started q begun e in omega (arith, le, length-append journal (c ∷ [])));
-    latest = all_revised (λ (h : PassHistory). (begun : ℕ) → h.start ≡ Some begun → 0 < length h.stamps) history p _ (λ begun e. cc) are.latest;
-    pending = all_revised (λ (h : PassHistory). (begun : ℕ) → h.start ≡ Some begun → stamp_at h.stamps (length h.stamps) ≡ None) history p _ (λ begun e. cc) are.pending;
-    stamps = stamps_revised (journal ++ c ∷ []) _ here else;
-  }
-    where
-      none : stamp_in journal c.by ≡ None
-      none = ap (stamp_in journal) by_latest ∙ open_unstamped start is
+        none : stamp_in journal c.by ≡ None
+        none = ap (stamp_in journal) latest ∙ open_unstamped
 
-      here : (number : ℕ) → stamp_at (slice_set (history p).stamps (length (history p).stamps - 1) (Some c.stamp)) number ≡ stamp_in (journal ++ c ∷ []) (record { job = p; number = number })
-      here number =
-          let same : same_name c.by (record { job = p; number = number }) ≡ (number == length (history p).stamps) =
-                ap (λ by. same_name by (record { job = p; number = number })) by_latest
-                ∙ ap (λ t. t && (length (history p).stamps == number)) (self_eq p) ∙ eq_symm (length (history p).stamps) number in
-          stamp_at-set (history p).stamps (Some c.stamp) number (are.latest p start is)
-          ∙ (λ i. cond (sym same i) (Some c.stamp) (are.stamps (record { job = p; number = number }) i))
-          ∙ sym (stamp_in-more journal c (record { job = p; number = number }) none)
+        here : (number : ℕ) → stamp_at (slice_set stamps (length stamps - 1) (Some c.stamp)) number ≡ stamp_in (journal ++ c ∷ []) (name number)
+        here number =
+            let same : same_name c.by (name number) ≡ (number == length stamps) =
+            ap (λ by. same_name by (name number)) latest ∙ ap (λ t. t && (length stamps == number)) (self_eq p) ∙ eq_symm (length stamps) number in
+            stamp_at-set stamps (Some c.stamp) number ((are.each p).current start is).latest
+            ∙ (λ i. cond (sym same i) (Some c.stamp) (are.stamps (name number) i))
+            ∙ sym (stamp_in-more journal c (name number) none)
 
-      else : (by : TxnName) → (by.job == p) ≡ false → stamp_in (journal ++ c ∷ []) by ≡ stamp_in journal by
-      else by e =
-          let other : same_name c.by by ≡ false =
-                ap (λ q. same_name q by) by_latest ∙ ap (λ t. t && (length (history p).stamps == by.number)) (eq_symm p by.job ∙ e) in
-          stamp_in-more journal c by none ∙ ap (λ t. cond t (Some c.stamp) (stamp_in journal by)) other
+        else : (by : TxnName) → (by.job == p) ≡ false → stamp_in (journal ++ c ∷ []) by ≡ stamp_in journal by
+        else by e =
+            let other : same_name c.by by ≡ false =
+            ap (λ q. same_name q by) latest ∙ ap (λ t. t && (length stamps == by.number)) (eq_symm p by.job ∙ e) in
+            stamp_in-more journal c by none ∙ ap (λ t. cond t (Some c.stamp) (stamp_in journal by)) other

@@ -1,5 +1,5 @@
 -- The horizon: at or below each start, within the journal, and as great as that allows.
-use Rattle.std.proofs.Common.{◌≡◌, ℕ, zero, suc, ◌<◌, ◌≤◌, List, [], ◌∷◌, length, get_or, refl, sym, ◌∙◌, ap, subst, min, fold, arith}
+use Rattle.std.proofs.Common.{◌≡◌, ℕ, zero, suc, ◌≤◌, List, [], ◌∷◌, length, get_or, refl, sym, ◌∙◌, ap, subst, min, fold, arith}
 use Rattle.std.specs.Prelude.{Option, Some, None, IfSome, option_map, unwrap_or}
 use Rattle.std.specs.List.{AllByRecursion, reduce, cons_option}
 use Rattle.std.proofs.Math.Nat.{le-min, min-le_left, min-le_right}
@@ -9,7 +9,7 @@ use Rattle.graph_model.proofs.PassLemmas.{latest_here}
 use Rattle.graph_model.proofs.PlaceLemmas.{some_eq}
 use Rattle.txn_manager.specs.Manager.{PassTxns, Manager, no_txns, txns_of, open_start, starts_of, horizon_of, IsManaged}
 use Rattle.txn_manager.specs.ManagerLaws.{AreOpenIn}
-use Rattle.txn_manager.proofs.ManagerLemmas.{state_in-get, by_test}
+use Rattle.txn_manager.proofs.ViewLemmas.{state_in-get, by_test}
 
 -- ---- the least of a list
 
@@ -87,12 +87,12 @@ module _ (m : Manager) where
         let start = sym (are by) ∙ ap (option_map (λ (t : Running). t.start)) there in
         let is = by_test by.number (txns_of m by.job).begun (txns_of m by.job).start t.start start in
         at_start (λ s. horizon_of m ≤ s) m.passes (least_below_each (starts_of m.passes) (length m.journal)) by.job t.start
-            (ap (λ (p : PassTxns). p.start) (sym (state_in-get no_txns m.passes by.job)) ∙ is.0)
+        (ap (λ (p : PassTxns). p.start) (sym (state_in-get no_txns m.passes by.job)) ∙ is.0)
 
     pub horizon_is_greatest : (stamp : ℕ) → stamp ≤ length m.journal → ((by : TxnName) (t : Running) → running by ≡ Some t → stamp ≤ t.start) → stamp ≤ horizon_of m
     horizon_is_greatest stamp le each = below_least_or stamp (length m.journal) (starts_of m.passes) le (from_starts _ m.passes (λ j s e.
         by_running (record { job = j; number = (txns_of m j).begun }) s (running (record { job = j; number = (txns_of m j).begun })) refl
-            (are (record { job = j; number = (txns_of m j).begun }) ∙ start_is_open j s e)))
+        (are (record { job = j; number = (txns_of m j).begun }) ∙ start_is_open j s e)))
       where
         by_running : (by : TxnName) (s : ℕ) (x : Option Running) → running by ≡ x → option_map (λ t. t.start) x ≡ Some s → stamp ≤ s
         by_running by s None at e = cc

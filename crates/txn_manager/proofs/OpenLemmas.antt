@@ -1,6 +1,6 @@
 -- Open transactions with their writes stay the manager's while it is called.
-use Rattle.std.proofs.Common.{◌≡◌, ℕ, zero, suc, ◌+◌, ◌<◌, ◌≤◌, List, [], ◌∷◌, ◌++◌, length, replicate, get_or, refl, sym, ◌∙◌, ap, subst, cond, arith, zero-add, inl, inr}
-use Rattle.std.specs.Prelude.{Bool, true, false, ◌==◌, Option, Some, None, option_map, unwrap_or}
+use Rattle.std.proofs.Common.{◌≡◌, ℕ, zero, suc, ◌+◌, ◌<◌, [], ◌∷◌, ◌++◌, length, replicate, get_or, refl, sym, ◌∙◌, ap, subst, cond, zero-add, inl, inr}
+use Rattle.std.specs.Prelude.{Bool, true, false, ◌==◌, Option, Some, None, is_some, option_map, unwrap_or}
 use Rattle.std.proofs.lemmas.Bool.{cases_lt}
 use Rattle.std.proofs.lemmas.List.{get_or_past}
 use Rattle.graph_model.specs.declared.write.Kind.{Kind}
@@ -13,7 +13,7 @@ use Rattle.graph_model.proofs.TestLemmas.{name_eq}
 use Rattle.graph_model.proofs.TransactionLemmas.{commit_keeps}
 use Rattle.txn_manager.specs.Manager.{PassTxns, Manager, no_txns, new_manager, txns_of, open_start, next_name, with_txns, running_with, opened, ended, committed}
 use Rattle.txn_manager.specs.ManagerLaws.{AreOpenIn}
-use Rattle.txn_manager.proofs.ManagerLemmas.{state_in-get, by_test}
+use Rattle.txn_manager.proofs.ViewLemmas.{state_in-get, by_test}
 
 -- ---- at first
 
@@ -60,6 +60,13 @@ opened_is_open m running are pass inside closed running' t at ch = follows m (op
   where
     begun : PassTxns
     begun = record { begun = (txns_of m pass).begun + 1; start = Some (length m.journal) }
+
+pub open_is_running : (m : Manager) (running : TxnName → Option Running) → AreOpenIn m running → (by : TxnName) → is_some (open_start m by) ≡ is_some (running by)
+open_is_running m running are by = ap is_some (sym (are by)) ∙ mapped (running by)
+  where
+    mapped : (x : Option Running) → is_some (option_map (λ (t : Running). t.start) x) ≡ is_some x
+    mapped None = refl
+    mapped (Some t) = refl
 
 module _ (m : Manager) (running : TxnName → Option Running) (are : AreOpenIn m running) (by : TxnName) (t : Running) (there : running by ≡ Some t) where
   -- the manager has its start

@@ -1,7 +1,9 @@
 -- What a manager of transactions has, what each of its calls makes of it, and what it answers.
-use Rattle.std.specs.Prelude.{◌≡◌, ℕ, ◌+◌, ◌≤◌, Bool, true, false, min, List, [], ◌∷◌, ◌++◌, length, replicate, slice_set, Option, Some, None, IsSome, IfSome, is_some, unwrap_or}
+use Rattle.std.specs.Prelude.{ℕ, ◌+◌, ◌≤◌, Bool, true, false, min, List, [], ◌∷◌, ◌++◌, length, replicate}
+use Rattle.std.specs.Prelude.{slice_set, Option, Some, None, IsSome, IfSome, is_some, unwrap_or}
 use Rattle.std.specs.List.{filter_map, reduce}
 use Rattle.graph_model.specs.declared.write.Write.{Write}
+use Rattle.graph_model.specs.declared.journal.Begun.{Begun}
 use Rattle.graph_model.specs.declared.journal.Commit.{Commit}
 use Rattle.graph_model.specs.declared.journal.TxnName.{TxnName}
 use Rattle.graph_model.specs.declared.state.State.{State}
@@ -27,7 +29,8 @@ no_txns = record { begun = 0; start = None }
 
 -- a manager of so many passes that have begun nothing
 abbrev pub new_manager : ℕ → ℕ → Manager
-new_manager passes allowed = record { journal = []; spare = 0; passes = replicate passes no_txns; allowed = allowed }
+new_manager passes allowed =
+    record { journal = []; spare = 0; passes = replicate passes no_txns; allowed = allowed }
 
 -- the transactions of the pass with this number
 abbrev pub txns_of : Manager → ℕ → PassTxns
@@ -41,6 +44,10 @@ open_start m = of_latest (λ p. p.begun) (λ p. p.start) None (txns_of m)
 abbrev pub next_name : Manager → ℕ → TxnName
 next_name m pass = record { job = pass; number = (txns_of m pass).begun + 1 }
 
+-- and what its begin answers
+abbrev pub next_begun : Manager → ℕ → Begun
+next_begun m pass = record { by = next_name m pass; start = length m.journal }
+
 -- ---- what the calls make of it
 
 abbrev pub with_txns : Manager → ℕ → PassTxns → Manager
@@ -48,7 +55,8 @@ with_txns m pass txns = record m { passes = slice_set m.passes pass txns }
 
 -- the pass has begun one more, which sees the whole journal
 abbrev pub opened : Manager → ℕ → Manager
-opened m pass = with_txns m pass (record { begun = (txns_of m pass).begun + 1; start = Some (length m.journal) })
+opened m pass =
+    with_txns m pass (record { begun = (txns_of m pass).begun + 1; start = Some (length m.journal) })
 
 -- the pass has none open any more
 abbrev pub ended : Manager → TxnName → Manager
@@ -60,7 +68,8 @@ running_with m by writes = record { start = unwrap_or (open_start m by) 0; write
 
 -- and its commit stands at the end of the journal
 abbrev pub committed : Manager → TxnName → List Write → Manager
-committed m by writes = record (ended m by) { journal = m.journal ++ commit_of m.journal by (running_with m by writes) ∷ [] }
+committed m by writes =
+    record (ended m by) { journal = m.journal ++ commit_of m.journal by (running_with m by writes) ∷ [] }
 
 -- ---- what it answers
 

@@ -4,7 +4,8 @@ use Rattle.std.specs.Prelude.{◌≡◌, ℕ, ◌<◌, ◌≤◌, length, Option
 use Rattle.graph_model.specs.declared.write.Kind.{Kind}
 use Rattle.graph_model.specs.declared.journal.TxnName.{TxnName}
 use Rattle.graph_model.specs.Transactions.{Running, Changes, AreTransactions}
-use Rattle.txn_manager.specs.Manager.{Manager, new_manager, txns_of, open_start, next_name, opened, ended, committed, horizon_of, IsManaged}
+use Rattle.txn_manager.specs.Manager.{Manager, new_manager, txns_of, open_start, next_name, opened, ended}
+use Rattle.txn_manager.specs.Manager.{committed, horizon_of, IsManaged}
 
 -- these are the manager's open transactions, each under its name and with its start
 abbrev pub AreOpenIn : Manager → (TxnName → Option Running) → Type 0
@@ -21,7 +22,8 @@ abbrev pub OpenedIsOpen : Type 0
 OpenedIsOpen =
     (m : Manager) (running : TxnName → Option Running) → AreOpenIn m running
     → (pass : ℕ) → pass < length m.passes → (txns_of m pass).start ≡ None
-    → (running' : TxnName → Option Running) (t : Running) → t.start ≡ length m.journal → Changes (next_name m pass) running running' (Some t)
+    → (running' : TxnName → Option Running) (t : Running) → t.start ≡ length m.journal
+    → Changes (next_name m pass) running running' (Some t)
     → AreOpenIn (opened m pass) running'
 
 -- one goes on with other writes
@@ -29,7 +31,8 @@ abbrev pub WrittenIsOpen : Type 0
 WrittenIsOpen =
     (m : Manager) (running : TxnName → Option Running) → AreOpenIn m running
     → (by : TxnName) (t : Running) → running by ≡ Some t
-    → (running' : TxnName → Option Running) (u : Running) → u.start ≡ t.start → Changes by running running' (Some u)
+    → (running' : TxnName → Option Running) (u : Running) → u.start ≡ t.start
+    → Changes by running running' (Some u)
     → AreOpenIn m running'
 
 -- one is gone, with a commit or without
@@ -39,6 +42,12 @@ EndedIsGone =
     → (by : TxnName) (t : Running) → running by ≡ Some t
     → (running' : TxnName → Option Running) → Changes by running running' None
     → AreOpenIn (ended m by) running' × AreOpenIn (committed m by t.writes) running'
+
+-- and whoever the manager has open is one of them
+abbrev pub OpenIsRunning : Type 0
+OpenIsRunning =
+    (m : Manager) (running : TxnName → Option Running) → AreOpenIn m running
+    → (by : TxnName) → is_some (open_start m by) ≡ is_some (running by)
 
 -- ---- the journal
 
@@ -67,5 +76,6 @@ HorizonIsWithin = (m : Manager) → IsManaged m → horizon_of m ≤ length m.jo
 abbrev pub HorizonIsGreatest : Type 0
 HorizonIsGreatest =
     (m : Manager) (running : TxnName → Option Running) → AreOpenIn m running
-    → (stamp : ℕ) → stamp ≤ length m.journal → ((by : TxnName) (t : Running) → running by ≡ Some t → stamp ≤ t.start)
+    → (stamp : ℕ) → stamp ≤ length m.journal
+    → ((by : TxnName) (t : Running) → running by ≡ Some t → stamp ≤ t.start)
     → stamp ≤ horizon_of m

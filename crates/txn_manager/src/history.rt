@@ -1,7 +1,6 @@
 //! The transactions of one pass, by their numbers.
 
-ghost use Rattle.std.specs.Prelude.{◌≡◌, ◌==◌, ◌+◌, ◌-◌, ◌^◌, ◌<◌, [], ◌∷◌, ◌++◌, length, slice_set, cond, Some, None, IsSome, is_some, OnOk, OnErr};
-ghost use Rattle.txn_manager.specs.Manager.{state_from};
+ghost use Rattle.std.specs.Prelude.{◌≡◌, ◌^◌, ◌<◌, length, Some, IsSome, OnOk, OnErr};
 
 use graph_model::State;
 use items::{Items, NoMemory};
@@ -18,7 +17,7 @@ pub struct PassHistory {
 }
 
 impl PassHistory {
-    ghost use Rattle.txn_manager.specs.Histories.{no_history, stamp_at};
+    ghost use Rattle.txn_manager.specs.Histories.{no_history, stamp_at, state_at, with_open, with_stamp};
 
     /// Of a pass that has begun nothing.
     pub fn new(alloc: Global) -> PassHistory
@@ -40,7 +39,7 @@ impl PassHistory {
 
     /// Begins the next transaction.
     pub fn begin(&mut self, start: u64) -> Result<(), NoMemory>
-        ensures ok { OnOk result (self.new ≡ record { start = Some start; stamps = self.old.stamps ++ None ∷ [] }) }
+        ensures ok { OnOk result (self.new ≡ with_open self.old start) }
         ensures err { OnErr result (self.new ≡ self.old) }
     {
         self.stamps.push(None)?;
@@ -53,7 +52,7 @@ impl PassHistory {
         requires is_open { IsSome self.old.start }
         requires begun { 0 < length self.old.stamps }
         ensures start { self.old.start ≡ Some result }
-        ensures stamped { self.new ≡ record { start = None; stamps = slice_set self.old.stamps (length self.old.stamps - 1) (Some stamp) } }
+        ensures stamped { self.new ≡ with_stamp self.old stamp }
     {
         let latest = self.stamps.len() - 1;
         self.stamps.set(latest, Some(stamp));
@@ -64,7 +63,7 @@ impl PassHistory {
 
     /// Where the transaction with this number stands.
     pub fn state(&self, number: u32) -> State
-        ensures { result ≡ state_from (stamp_at self.now.stamps number) (is_some (cond (number == length self.now.stamps) self.now.start None)) }
+        ensures { result ≡ state_at self.now number }
     {
         match self.stamp(number) {
             Some(stamp) => State::Committed { stamp },

@@ -1,7 +1,8 @@
 //! Laws of a manager's calls. Each is a function whose contract is the law, and an engine of one owner
 //! rests on them.
 
-ghost use Rattle.txn_manager.specs.ManagerLaws.{NoneIsOpenAtFirst, OpenedIsOpen, WrittenIsOpen, EndedIsGone, CheckedCommitIsLegal, HorizonIsBelow, HorizonIsWithin, HorizonIsGreatest};
+ghost use Rattle.txn_manager.specs.ManagerLaws.{NoneIsOpenAtFirst, OpenedIsOpen, WrittenIsOpen, EndedIsGone, OpenIsRunning};
+ghost use Rattle.txn_manager.specs.ManagerLaws.{CheckedCommitIsLegal, HorizonIsBelow, HorizonIsWithin, HorizonIsGreatest};
 
 /// Open transactions with their writes stay the manager's open ones while they begin, write and end.
 pub fn calls_follow_transactions()
@@ -9,6 +10,7 @@ pub fn calls_follow_transactions()
     ensures begin { OpenedIsOpen }
     ensures write { WrittenIsOpen }
     ensures end { EndedIsGone }
+    ensures running { OpenIsRunning }
 {}
 
 /// The journal stays legal where each write was checked before its commit was pushed.

@@ -1,10 +1,11 @@
 //! The manager of the transactions of one owner.
 
-ghost use Rattle.std.specs.Prelude.{◌≡◌, ◌↔◌, ◌+◌, ◌<◌, ◌≤◌, length, Some, None, Ok, Err, IsSome, IfSome, IfOk, OnOk, OnErr, IsTrue, is_some};
+ghost use Rattle.std.specs.Prelude.{◌≡◌, ◌↔◌, ◌+◌, ◌<◌, length, None, Err, IsSome, IfOk, OnOk, OnErr};
 ghost use Rattle.graph_model.specs.declared.refusal.BeginRefusal.TheVariants.{TxnsUsed};
 ghost use Rattle.graph_model.specs.declared.state.State.TheVariants.{Live};
 ghost use Rattle.graph_model.specs.Transactions.{HasNotCommitted};
-ghost use Rattle.txn_manager.specs.Manager.{new_manager, txns_of, open_start, next_name, opened, committed, ended, state_of, least_pin_of, horizon_of, IsManaged};
+ghost use Rattle.txn_manager.specs.Manager.{new_manager, txns_of, open_start, next_name, next_begun, opened};
+ghost use Rattle.txn_manager.specs.Manager.{committed, ended, state_of, least_pin_of, horizon_of, IsManaged};
 
 use crate::history::PassHistory;
 use graph_model::{BeginRefusal, Begun, Commit, Journal, NoMemory, State, TxnName, Writes};
@@ -51,7 +52,7 @@ impl TxnManager {
     pub fn open_txn(&mut self, pass: u32) -> Result<Begun, BeginRefusal>
         requires pass { pass < length self.old.passes }
         requires closed { (txns_of self.old pass).start ≡ None }
-        ensures begun { IfOk result (λ begun. begun ≡ record { by = next_name self.old pass; start = length self.old.journal }) }
+        ensures begun { IfOk result (λ begun. begun ≡ next_begun self.old pass) }
         ensures opened { OnOk result (self.new ≡ record (opened self.old pass) { spare = self.new.spare }) }
         ensures used { (result ≡ Err TxnsUsed) ↔ ((txns_of self.old pass).begun ≡ self.old.allowed) }
         ensures err { OnErr result (self.new ≡ record self.old { spare = self.new.spare }) }
@@ -152,5 +153,73 @@ impl TxnManager {
         ensures { result ≡ self.journal }
     {
         self.journal.into_items()
+    }
+}
+
+#[cfg(test)]
+mod tests {
+    use super::*;
+    use graph_model::Write;
+    use std::alloc::AllocError;
+    use std::test::Fail;
+
+    /// Begins the next transaction of a pass, and ends it.
+    fn begin_and_end(manager: &mut TxnManager, pass: u32) -> Result<Begun, BeginRefusal>
+        requires pass { pass < length manager.old.passes }
+        requires closed { (txns_of manager.old pass).start ≡ None }
+        ensures passes { length manager.new.passes ≡ length manager.old.passes }
+        ensures closed { (txns_of manager.new pass).start ≡ None }
+    {
+        let begun = manager.open_txn(pass)?;
+        manager.end_txn(begun.by);
+        Ok(begun)
+    }
+
+    fn begun_text(alloc: Global, begun: Result<Begun, BeginRefusal>) -> Result<String, AllocError> {
+        match begun {
+            Ok(begun) => {
+                let by = begun.by;
+                format!(in alloc; "{}.{} start {}", by.job, by.number, begun.start)
+            }
+            Err(refusal) => format!(in alloc; "{refusal}"),
+        }
+    }
+
+    #[test]
+    fn a_pass_begins_as_many_transactions_as_it_may(rt: HostRuntime) -> Result<(), Fail> {
+        let mut manager = TxnManager::new(rt.alloc(), 3, 2)?;
+        for want in [
+            "1.1 start 0",
+            "1.2 start 0",
+            "all transactions of the pass are used",
+        ] {
+            let begun = begin_and_end(&mut manager, 1);
+            assert_eq!(rt; begun_text(rt.alloc(), begun)?.as_str(), want);
+        }
+        Ok(())
+    }
+
+    #[test]
+    fn the_horizon_is_the_oldest_start_of_two_passes(rt: HostRuntime) -> Result<(), Fail> {
+        let mut manager = TxnManager::new(rt.alloc(), 3, 2)?;
+        let reader = manager.open_txn(1)?;
+        let writer = manager.open_txn(2)?;
+        let mut writes = Writes::new(rt.alloc());
+        writes.push(Write::AddVertex { v: 7 })?;
+        manager.push_commit(writer.by, writes);
+        let late = manager.open_txn(2)?;
+        assert_eq!(rt; (manager.clock(), manager.horizon()), (1, 0));
+        manager.end_txn(reader.by);
+        assert_eq!(rt; manager.least_pin(), Some(1));
+        manager.end_txn(late.by);
+        assert_eq!(rt; manager.horizon(), 1);
+        for (by, want) in [
+            (reader.by, State::Aborted),
+            (writer.by, State::Committed { stamp: 1 }),
+        ] {
+            assert_eq!(rt; manager.state(by), want);
+        }
+        assert_eq!(rt; manager.into_journal().len(), 1);
+        Ok(())
     }
 }

@@ -1,4 +1,4 @@
-use Rattle.txn_manager.proofs.OpenLemmas.{none_at_first, opened_is_open, written_is_open, ended_is_gone}
+use Rattle.txn_manager.proofs.OpenLemmas.{none_at_first, opened_is_open, written_is_open, ended_is_gone, open_is_running}
 use Rattle.txn_manager.proofs.laws.calls_follow_transactions.Goals as goal
 
 pub returns-clause-first : goal.returns-clause-first
@@ -13,3 +13,6 @@ returns-clause-write c = λ m running are by t there. written_is_open m running 
 pub returns-clause-end : goal.returns-clause-end
 returns-clause-end c = λ m running are by t there running' ch.
     (ended_is_gone m running are by t there running' ch, ended_is_gone m running are by t there running' ch)
+
+pub returns-clause-running : goal.returns-clause-running
+returns-clause-running c = open_is_running

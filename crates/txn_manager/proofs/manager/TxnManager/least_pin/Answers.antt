@@ -1,11 +1,11 @@
-use Rattle.std.proofs.Common.{◌≡◌, ◌∙◌, rules, tests, sym, ap, min}
+use Rattle.std.proofs.Common.{◌∙◌, rules, tests, sym, ap, min}
 use Rattle.std.specs.List.{reduce}
 use Rattle.std.proofs.lemmas.Iterator.{YieldsList-from_slice}
 use Rattle.std.proofs.lemmas.Iterator.Adapters.{option_map_id}
 use Rattle.std.proofs.lemmas.Iterator.Consumers.{YieldsList-from_filter_map, min_from_yields_List}
 use Rattle.txn_manager.specs.declared.history.PassHistory.{PassHistory}
 use Rattle.txn_manager.specs.Manager.{Manager, least_pin_of}
-use Rattle.txn_manager.proofs.ManagerLemmas.{starts-kept}
+use Rattle.txn_manager.proofs.ViewLemmas.{starts-kept}
 use Rattle.txn_manager.proofs.manager.TxnManager.least_pin.Goals as goal
 
 pub returns : goal.returns

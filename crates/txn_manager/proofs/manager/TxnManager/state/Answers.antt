@@ -1,6 +1,7 @@
-use Rattle.std.proofs.Common.{◌≡◌, ◌<◌, ◌≤◌, ◌∙◌, sym, ap, length}
+use Rattle.std.proofs.Common.{◌∙◌, sym, ap}
 use Rattle.txn_manager.specs.Manager.{Manager, state_of}
-use Rattle.txn_manager.proofs.ManagerLemmas.{history_at, state-kept, state_past, live_is_open}
+use Rattle.txn_manager.proofs.ViewLemmas.{history_at}
+use Rattle.txn_manager.proofs.ManagerLemmas.{state-kept, state_past, live_is_open}
 use Rattle.txn_manager.proofs.manager.TxnManager.state.Goals as goal
 
 pub returns-in-Some-clause-state : goal.returns-in-Some-clause-state
