@@ -1,8 +1,8 @@
 -- Outputs written one after another: an earlier one stays whole, since its name is another
-use Rattle.std.proofs.Common.{◌≡◌, ℕ, ◌+◌, List, [], ◌∷◌, ◌++◌, length, map, take, refl, sym, ◌∙◌, ap, subst, arith, inl, inr}
+use Rattle.std.proofs.Common.{◌≡◌, ℕ, ◌+◌, List, [], ◌∷◌, ◌++◌, take, sym, ◌∙◌, ap, subst, arith, inl, inr}
 use Rattle.std.specs.Prelude.{◌≢◌, Contains, AllPairs, slice_get, Some, IfSome, IsSome}
 use Rattle.std.proofs.lemmas.List.{map-append, take-map}
-use Rattle.std.proofs.lemmas.List.Elements.{Contains-append_left, Contains-append_right, Contains-push}
+use Rattle.std.proofs.lemmas.List.Elements.{Contains-append_left, Contains-append_right}
 use Rattle.desk_io.specs.Files.{Files, Rose, NoWriteFails, IsWritten, ChangesOnly, SinkFails}
 use Rattle.desk_io.specs.Outputs.{NamedText, names_of, AreWritten, KeepsOthers, WritesAll, HasFront, FailsAtPlace}
 use Rattle.desk_io.proofs.PlaceLemmas.{map_at, none_before, take_next}
@@ -27,15 +27,6 @@ written_push : (files : Files) (outputs : List NamedText) (o : NamedText) → Ar
 written_push files [] o are is = (is, tt)
 written_push files (x ∷ outputs) o are is = (are.0, written_push files outputs o are.1 is)
 
--- with no output nothing changes
-pub writes_none : (files : Files) → WritesAll [] files files
-writes_none files = record {
-  whole = tt;
-  others = record { holds = λ other out. refl; written = λ other out. refl; said = refl; tells = refl; read_faults = refl; failed_read = refl };
-  write_faults = refl;
-  failed_write = refl;
-}
-
 -- a change of one name more
 others_push : (outputs : List NamedText) (o : NamedText) (old mid new : Files) → KeepsOthers (names_of outputs) old mid → ChangesOnly o.name mid new → KeepsOthers (names_of (outputs ++ o ∷ [])) old new
 others_push outputs o old mid new before change =
@@ -55,7 +46,6 @@ others_push outputs o old mid new before change =
 
 module _ (outputs : List NamedText) (place : ℕ) (o : NamedText) (at : slice_get outputs place ≡ Some o) (apart : AllPairs (λ a b. a ≢ b) (names_of outputs))
     (old mid new : Files) (before : WritesAll (take place outputs) old mid) (change : ChangesOnly o.name mid new) where
-
   -- no earlier output has the name
   new_name : Contains (names_of (take place outputs)) o.name → ⊥
   new_name there =
@@ -79,9 +69,9 @@ module _ (outputs : List NamedText) (place : ℕ) (o : NamedText) (at : slice_ge
   front_of fails =
       elim fails.front as (λ _. HasFront o old new) [
         | inl rest ↦ inl (record {
-            holds = ap (λ (f : Files). f.holds o.name) rest ∙ before.others.holds o.name new_name;
-            written = ap (λ (f : Files). f.written o.name) rest ∙ before.others.written o.name new_name;
-          })
+          holds = ap (λ (f : Files). f.holds o.name) rest ∙ before.others.holds o.name new_name;
+          written = ap (λ (f : Files). f.written o.name) rest ∙ before.others.written o.name new_name;
+        })
         | inr part ↦ inr part
       ]
 

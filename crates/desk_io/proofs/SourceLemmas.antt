@@ -16,7 +16,6 @@ pub name_at : (names : List (Bor (List ℕ))) (place : ℕ) (none : Bor (List �
 name_at names place none within = map_at (λ (name : Bor (List ℕ)). name.now) names place (get_or names place none) (slice_get-get_or names place none within)
 
 module _ (limit : ℕ) (names sources : List (List ℕ)) (place : ℕ) (name : List ℕ) (at : slice_get names place ≡ Some name) (old : Files) (before : AreRead limit old (take place names) sources) where
-
   -- one more source is read
   pub reads_more : (source : List ℕ) → IsRead limit old name source → AreRead limit old (take (place + 1) names) (sources ++ source ∷ [])
   reads_more source here =

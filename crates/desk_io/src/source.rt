@@ -152,7 +152,10 @@ mod tests {
                 Ok(bytes) => Ok(bytes.as_slice() == text),
                 Err(refusal) => Err(refusal),
             };
-            assert!(rt; got == want, "with limit {limit} and call {failing} failing");
+            assert!(rt;
+                got == want,
+                "with limit {limit} and call {failing} failing"
+            );
         }
         Ok(())
     }

@@ -92,7 +92,10 @@ mod tests {
                 Ok(sources) => Ok(sources.len()),
                 Err(stop) => Err(stop),
             };
-            assert!(rt; got == want, "with limit {limit} and call {failing} failing");
+            assert!(rt;
+                got == want,
+                "with limit {limit} and call {failing} failing"
+            );
         }
         Ok(())
     }

@@ -1,4 +1,4 @@
-use Rattle.std.proofs.Common.{List, length, take, ◌-◌, ◌≡◌, ℕ, ◌≤◌}
+use Rattle.std.proofs.Common.{List, length, take, ◌-◌, ℕ, ◌≤◌}
 use Rattle.desk_io.specs.Files.{Files, NoWriteFails, ChangesOnly, IsWritten}
 use Rattle.desk_io.proofs.sink.write_sink.Given as goal
 

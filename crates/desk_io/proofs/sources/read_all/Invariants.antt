@@ -1,5 +1,4 @@
 use Rattle.std.proofs.Common.{◌≡◌, take, map}
-use Rattle.desk_io.specs.Files.{Files}
 use Rattle.desk_io.specs.Sources.{AreRead}
 use Rattle.desk_io.proofs.sources.read_all.Given as goal
 
