@@ -4,17 +4,20 @@ use Rattle.std.proofs.lemmas.List.{length-map, length-take-le, map_push, take_mo
 use Rattle.std.proofs.lemmas.Option.{slice_get-get_or}
 use Rattle.graph_model.specs.declared.table.Entry.{Entry}
 use Rattle.graph_model.specs.declared.table.Value.TheVariants.{Number}
-use Rattle.kernel_bfs.specs.Search.{AreEntries}
+use Rattle.kernel_bfs.specs.Entries.{AreEntries}
 use Rattle.kernel_bfs.proofs.Lists.{get_pushed, get_last, get_push_cases}
 
 abbrev entry : ℕ → ℕ → Entry
 entry v n = record { vertex = v; value = Number n }
 
-pub entries_more : (vertices distances : List ℕ) (i v : ℕ) (entries later : List Entry) → AreEntries (take i vertices) distances entries → i < length vertices → length distances ≡ length vertices → v ≡ get_or vertices i v → later ≡ entries ++ entry v (get_or distances i 0) ∷ [] → AreEntries (take (i + 1) vertices) distances later
-entries_more vertices distances i v entries later listed below same_count v_is later_is =
+-- the entry of the next place
+pub entries_more : (vertices distances : List ℕ) (i : ℕ) (entries later : List Entry) → AreEntries (take i vertices) distances entries → i < length vertices → length distances ≡ length vertices
+    → later ≡ entries ++ entry (get_or vertices i 0) (get_or distances i 0) ∷ [] → AreEntries (take (i + 1) vertices) distances later
+entries_more vertices distances i entries later listed below same_count later_is =
+    let v = get_or vertices i 0 in
     let n = get_or distances i 0 in
     let e = entry v n in
-    let more : take (i + 1) vertices ≡ take i vertices ++ v ∷ [] = take_more vertices i v below ∙ ap (λ x. take i vertices ++ x ∷ []) (sym v_is) in
+    let more : take (i + 1) vertices ≡ take i vertices ++ v ∷ [] = take_more vertices i 0 below in
     let taken : length (take i vertices) ≡ i = length-take-le i vertices (omega arith) in
     let count : length entries ≡ i = sym (length-map entries (λ e. e.vertex)) ∙ ap length listed.listed ∙ taken in
     let result : AreEntries (take i vertices ++ v ∷ []) distances (entries ++ e ∷ []) = record {

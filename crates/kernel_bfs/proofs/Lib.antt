@@ -1,7 +1,8 @@
 pub mod Lists
 pub mod PlaceLemmas
+pub mod ArcLemmas
 pub mod QueueLemmas
-pub mod VisitLemmas
+pub mod SearchLemmas
 pub mod EntryLemmas
 pub mod TableLemmas
 pub mod LiteralGraphs

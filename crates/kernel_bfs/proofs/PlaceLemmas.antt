@@ -6,9 +6,11 @@ use Rattle.std.proofs.lemmas.List.Sorted.{searched}
 use Rattle.std.proofs.lemmas.Option.{same_Some, slice_get_within, slice_get-get_or, slice_get_read, get_or_from_slice_get}
 use Rattle.std.specs.List.Sorted.{IsBinarySearchResult}
 use Rattle.std.specs.Ordering.{nat_cmp}
+use Rattle.std.specs.Prelude.{Result, IfSome, IfNone}
+use Rattle.std.specs.Result.{result_ok}
 use Rattle.graph_model.specs.declared.row.Row.{Row}
 use Rattle.graph_model.specs.Rows.{vertex_key}
-use Rattle.kernel_bfs.specs.Places.{KeysRise, IdsRise, IsIndex}
+use Rattle.kernel_bfs.specs.Places.{KeysRise, AreOrdered, IdsRise, IsIndexed, IsIndex, AreVertices}
 use Rattle.kernel_bfs.proofs.Lists.{get_pushed, get_last, get_push_cases, get_within}
 
 -- below i + 1 is below i or at it
@@ -75,17 +77,22 @@ not_placed vertices ids id i answer place at =
     ⊎_elim (λ less. let step = found.1 place less in absurd (omega arith)) (λ more. let step = found.2 place more within in absurd (omega arith)) (cases_lt place i)
 
 -- and where it finds, it is there
-pub placed_in : (xs vertices : List ℕ) → xs ≡ vertices → IdsRise vertices → (id i : ℕ) → IsBinarySearchResult (λ y. nat_cmp y id) xs (Ok i) → slice_get vertices i ≡ Some id
-placed_in xs vertices same ids id i answer =
-    let found = searched vertices id (Ok i) (subst (λ ys. IsBinarySearchResult (λ y. nat_cmp y id) ys (Ok i)) same answer) (never_fall vertices ids) in
-    slice_get-get_or vertices i 0 found.0 ∙ ap Some found.1
+placed : (vertices : List ℕ) → IdsRise vertices → (id i : ℕ) → IsBinarySearchResult (λ y. nat_cmp y id) vertices (Ok i) → slice_get vertices i ≡ Some id
+placed vertices ids id i answer = let found = searched vertices id (Ok i) answer (never_fall vertices ids) in slice_get-get_or vertices i 0 found.0 ∙ ap Some found.1
 
--- the same of a list that is equal
-pub not_placed_in : (xs vertices : List ℕ) → xs ≡ vertices → IdsRise vertices → (id : ℕ) (i : ℕ) → IsBinarySearchResult (λ y. nat_cmp y id) xs (Err i) → (place : ℕ) → slice_get vertices place ≡ Some id → ⊥
-not_placed_in xs vertices same ids id i answer = not_placed vertices ids id i (subst (λ ys. IsBinarySearchResult (λ y. nat_cmp y id) ys (Err i)) same answer)
+-- the answer of a binary search, as an option
+pub search_found : (vertices : List ℕ) → IdsRise vertices → (id : ℕ) (r : Result ℕ ℕ) → IsBinarySearchResult (λ y. nat_cmp y id) vertices r
+    → IfSome (result_ok r) (λ place. slice_get vertices place ≡ Some id)
+search_found vertices ids id (Ok i) answer = placed vertices ids id i answer
+search_found vertices ids id (Err i) answer = tt
+
+pub search_absent : (vertices : List ℕ) → IdsRise vertices → (id : ℕ) (r : Result ℕ ℕ) → IsBinarySearchResult (λ y. nat_cmp y id) vertices r
+    → IfNone (result_ok r) ((place : ℕ) → slice_get vertices place ≡ Some id → ⊥)
+search_absent vertices ids id (Ok i) answer = tt
+search_absent vertices ids id (Err i) answer = not_placed vertices ids id i answer
 
 -- the index of no rows
-pub index_none : (rows : List Row) → IsIndex rows 0 [] []
+pub index_none : (rows : List Row) → IsIndexed rows 0 [] []
 index_none rows = record {
   ids = record { rise = λ i j a b less at_i at_j. absurd (let within = slice_get_within [] i a at_i in omega arith) };
   count = refl;
@@ -93,9 +100,9 @@ index_none rows = record {
   listed = λ i r below at zero. absurd (omega arith);
 }
 
-module _ (rows : List Row) (keys : KeysRise rows) (i : ℕ) (vertices starts : List ℕ) (index : IsIndex rows i vertices starts) (r : Row) (r_is : slice_get rows i ≡ Some r) where
+module _ (rows : List Row) (keys : KeysRise rows) (i : ℕ) (vertices starts : List ℕ) (index : IsIndexed rows i vertices starts) (r : Row) (r_is : slice_get rows i ≡ Some r) where
   -- past the row of an arc
-  pub index_arc : (r.key.second ≡ 0 → ⊥) → IsIndex rows (i + 1) vertices starts
+  pub index_arc : (r.key.second ≡ 0 → ⊥) → IsIndexed rows (i + 1) vertices starts
   index_arc arc = record {
     ids = index.ids;
     count = index.count;
@@ -114,7 +121,7 @@ module _ (rows : List Row) (keys : KeysRise rows) (i : ℕ) (vertices starts : L
       ⊎_elim (λ same. let more = seconds (src ∙ same) in absurd (omega arith)) (⊎_elim (λ less. less) (λ more. absurd (omega arith))) (cases_order v r.key.src)
 
   -- past the row of a vertex
-  pub index_vertex : r.key.second ≡ 0 → r.key ≡ vertex_key r.key.src → IsIndex rows (i + 1) (vertices ++ r.key.src ∷ []) (starts ++ i ∷ [])
+  pub index_vertex : r.key.second ≡ 0 → r.key ≡ vertex_key r.key.src → IsIndexed rows (i + 1) (vertices ++ r.key.src ∷ []) (starts ++ i ∷ [])
   index_vertex second is_key = record {
     ids = record {
       rise = λ a b u v less at_a at_b. ⊎_elim
@@ -134,13 +141,28 @@ module _ (rows : List Row) (keys : KeysRise rows) (i : ℕ) (vertices starts : L
   }
 
 -- the step of the index, at lists that are equal to what it makes
-pub index_step_vertex : (rows : List Row) (i : ℕ) (vertices starts vertices_later starts_later : List ℕ) (e : Row) → KeysRise rows → IsIndex rows i vertices starts → i < length rows → (get_or rows i e).key.second ≡ 0 → vertices_later ≡ vertices ++ (get_or rows i e).key.src ∷ [] → starts_later ≡ starts ++ i ∷ [] → IsIndex rows (i + 1) vertices_later starts_later
+pub index_step_vertex : (rows : List Row) (i : ℕ) (vertices starts vertices_later starts_later : List ℕ) (e : Row) → KeysRise rows → IsIndexed rows i vertices starts → i < length rows → (get_or rows i e).key.second ≡ 0 → vertices_later ≡ vertices ++ (get_or rows i e).key.src ∷ [] → starts_later ≡ starts ++ i ∷ [] → IsIndexed rows (i + 1) vertices_later starts_later
 index_step_vertex rows i vertices starts vertices_later starts_later e keys index more second vertices_is starts_is =
     let r = get_or rows i e in
     let key_is : r.key ≡ vertex_key r.key.src = (λ k. record { src = r.key.src; second = second k }) in
-    subst (λ xs. IsIndex rows (i + 1) xs starts_later) (sym vertices_is) (subst (λ xs. IsIndex rows (i + 1) (vertices ++ r.key.src ∷ []) xs) (sym starts_is) (index_vertex rows keys i vertices starts index r (slice_get-get_or rows i e more) second key_is))
+    subst (λ xs. IsIndexed rows (i + 1) xs starts_later) (sym vertices_is) (subst (λ xs. IsIndexed rows (i + 1) (vertices ++ r.key.src ∷ []) xs) (sym starts_is) (index_vertex rows keys i vertices starts index r (slice_get-get_or rows i e more) second key_is))
 
 -- the same for the row of an arc
-pub index_step_arc : (rows : List Row) (i : ℕ) (vertices starts vertices_later starts_later : List ℕ) (e : Row) → KeysRise rows → IsIndex rows i vertices starts → i < length rows → ((get_or rows i e).key.second ≡ 0 → ⊥) → vertices_later ≡ vertices → starts_later ≡ starts → IsIndex rows (i + 1) vertices_later starts_later
+pub index_step_arc : (rows : List Row) (i : ℕ) (vertices starts vertices_later starts_later : List ℕ) (e : Row) → KeysRise rows → IsIndexed rows i vertices starts → i < length rows → ((get_or rows i e).key.second ≡ 0 → ⊥) → vertices_later ≡ vertices → starts_later ≡ starts → IsIndexed rows (i + 1) vertices_later starts_later
 index_step_arc rows i vertices starts vertices_later starts_later e keys index more arc vertices_is starts_is =
-    subst (λ xs. IsIndex rows (i + 1) xs starts_later) (sym vertices_is) (subst (λ xs. IsIndex rows (i + 1) vertices xs) (sym starts_is) (index_arc rows keys i vertices starts index (get_or rows i e) (slice_get-get_or rows i e more) arc))
+    subst (λ xs. IsIndexed rows (i + 1) xs starts_later) (sym vertices_is) (subst (λ xs. IsIndexed rows (i + 1) vertices xs) (sym starts_is) (index_arc rows keys i vertices starts index (get_or rows i e) (slice_get-get_or rows i e more) arc))
+
+-- past the last row the index is whole
+pub whole_index : (rows : List Row) (i : ℕ) (vertices begins starts : List ℕ) → AreOrdered rows → IsIndexed rows i vertices begins → i ≤ length rows → length rows ≤ i
+    → starts ≡ begins ++ length rows ∷ [] → IsIndex rows vertices starts
+whole_index rows i vertices begins starts ordered indexed low high starts_are =
+    let end : i ≡ length rows = omega arith in
+    record { rows_are = ordered; begins = begins; starts_are = starts_are; indexed = subst (λ n. IsIndexed rows n vertices begins) end indexed }
+
+-- and has all vertices
+pub vertices_are : {rows : List Row} {vertices starts : List ℕ} → IsIndex rows vertices starts → AreVertices (record { rows = rows; vertices = vertices })
+vertices_are {rows} index = record {
+  ids = index.indexed.ids;
+  placed = λ p v at. let there = index.indexed.placed p v at in (there.0, there.1, there.4, there.5);
+  listed = λ i r at second. index.indexed.listed i r (slice_get_within rows i r at) at second;
+}

@@ -5,8 +5,8 @@ use Rattle.std.proofs.lemmas.List.{length_push, length-replicate}
 use Rattle.std.proofs.lemmas.List.Folds.{sum_by-replicate}
 use Rattle.std.proofs.lemmas.Option.{same_Some, none-some, slice_get_within}
 use Rattle.graph_model.specs.declared.limits.TheConstants.{NO_WALK}
-use Rattle.kernel_bfs.specs.Search.{HasPath, IsAt, IsWithin, IsQueue, IsReach, IsSearched}
-use Rattle.kernel_bfs.proofs.Lists.{get_pushed, get_last, get_push_cases, get_within, get_written, get_unwritten, count_written}
+use Rattle.kernel_bfs.specs.Search.{HasPath, IsAt, IsWithin, IsQueue}
+use Rattle.kernel_bfs.proofs.Lists.{get_pushed, get_last, get_push_cases, get_written, get_unwritten, count_written}
 
 -- a bound may be raised
 pub within_more : (distances : List ℕ) (place limit more : ℕ) → limit ≤ more → IsWithin distances place limit → IsWithin distances place more
@@ -144,41 +144,6 @@ module _ (Link : ℕ → ℕ → Type 0) (root : ℕ) (distances queue : List �
             (get_push_cases queue q k x in_queue);
       }
 
--- what a reach from the head leaves
-pub record Reached (Link : ℕ → ℕ → Type 0) (root : ℕ) (distances : List ℕ) (later queue_later : List ℕ) (head p d q : ℕ) : Type 0 where
-  pub queue_is : IsQueue Link root later queue_later head
-  pub at_head : slice_get queue_later head ≡ Some p
-  pub distance : slice_get later p ≡ Some d
-  pub same_count : length later ≡ length distances
-  pub within : IsWithin later q (d + 1)
-  pub kept : (x limit : ℕ) → IsWithin distances x limit → IsWithin later x limit
-
--- a place has been reached from the head
-pub after_reach : (Link : ℕ → ℕ → Type 0) (root : ℕ) (distances queue later queue_later : List ℕ) (head p d q : ℕ) → IsQueue Link root distances queue head → slice_get queue head ≡ Some p → slice_get distances p ≡ Some d → Link p q → q < length distances → IsReach distances queue q (d + 1) later queue_later → Reached Link root distances later queue_later head p d q
-after_reach Link root distances queue distances_later queue_later head p d q queued at_head distance link fits (inl new) =
-    let walked = at_walked Link root distances queue head queued head d (record { place = p; queued = at_head; distance = distance }) in
-    let result : Reached Link root distances (slice_set distances q (d + 1)) (queue ++ q ∷ []) head p d q = record {
-      queue_is = new_queue Link root distances queue head queued p d q at_head distance link new.0;
-      at_head = get_pushed queue q head p at_head;
-      distance = keeps Link root distances queue head queued p d q at_head distance link new.0 p d distance walked;
-      same_count = length-set distances q (d + 1);
-      within = new_within Link root distances queue head queued p d q at_head distance link new.0;
-      kept = keeps_within Link root distances queue head queued p d q at_head distance link new.0;
-    } in
-    subst (λ xs. Reached Link root distances xs queue_later head p d q) (sym new.1) (subst (λ xs. Reached Link root distances (slice_set distances q (d + 1)) xs head p d q) (sym new.2) result)
-after_reach Link root distances queue distances_later queue_later head p d q queued at_head distance link fits (inr old) =
-    let there = get_within distances q fits in
-    let walked : there.0 ≡ NO_WALK → ⊥ = λ same. old.0 (there.1 ∙ ap Some same) in
-    let result : Reached Link root distances distances queue head p d q = record {
-      queue_is = queued;
-      at_head = at_head;
-      distance = distance;
-      same_count = refl;
-      within = old_within Link root distances queue head queued p d q at_head distance link there.0 there.1 walked;
-      kept = λ x limit within. within;
-    } in
-    subst (λ xs. Reached Link root distances xs queue_later head p d q) (sym old.1) (subst (λ xs. Reached Link root distances distances xs head p d q) (sym old.2) result)
-
 module _ (Link : ℕ → ℕ → Type 0) (root : ℕ) (distances queue : List ℕ) (head : ℕ) (queued : IsQueue Link root distances queue head) where
   -- past a place of which each link has been followed
   pub next_head : (p d : ℕ) → slice_get queue head ≡ Some p → slice_get distances p ≡ Some d → ((q : ℕ) → Link p q → IsWithin distances q (d + 1)) → IsQueue Link root distances queue (head + 1)
@@ -200,7 +165,7 @@ module _ (Link : ℕ → ℕ → Type 0) (root : ℕ) (distances queue : List �
   }
 
   -- each place that a path leads to is reached, at no more than the path's links
-  all_within : length queue ≤ head → (n p : ℕ) → HasPath Link root n p → IsWithin distances p n
+  pub all_within : length queue ≤ head → (n p : ℕ) → HasPath Link root n p → IsWithin distances p n
   all_within finished zero p path = subst (λ x. IsWithin distances x 0) path (record { found = 0; distance = queued.begun; walked = (λ same. absurd (omega arith)); bound = (let same : 0 ≤ 0 = omega arith in same) })
   all_within finished (suc n) p path =
       let before = all_within finished n path.0 path.1 in
@@ -210,22 +175,13 @@ module _ (Link : ℕ → ℕ → Type 0) (root : ℕ) (distances queue : List �
       let bound = before.bound in
       within_more distances p (before.found + 1) (suc n) (omega arith) (queued.done in_queue.0 path.0 before.found p (omega arith) in_queue.1 before.distance path.2)
 
-  -- at the end of the queue
-  pub finished : length queue ≤ head → IsSearched Link root (length distances) distances
-  finished at_end = record {
-    count_is = refl;
-    sound = λ p d is walked.
-        (let at = queued.reached p d is walked in
-        let there = queued.queued at.0 p at.1 in
-        let same = same_Some there.0 d (sym there.1 ∙ is) in
-        subst (λ n. HasPath Link root n p) same there.3);
-    least = all_within at_end;
-  }
-
--- and so at the root and count that are meant
-pub search_done : (Link : ℕ → ℕ → Type 0) (root aim count : ℕ) (distances queue : List ℕ) (head : ℕ) → root ≡ aim → length distances ≡ count → IsQueue Link root distances queue head → length queue ≤ head → IsSearched Link aim count distances
-search_done Link root aim count distances queue head same same_count queued at_end =
-    subst (λ r. IsSearched Link r count distances) same (subst (λ n. IsSearched Link root n distances) same_count (finished Link root distances queue head queued at_end))
+  -- at the end of the queue each distance is that of a path
+  pub all_sound : (p d : ℕ) → slice_get distances p ≡ Some d → (d ≡ NO_WALK → ⊥) → HasPath Link root d p
+  all_sound p d is walked =
+      let at = queued.reached p d is walked in
+      let there = queued.queued at.0 p at.1 in
+      let same = same_Some there.0 d (sym there.1 ∙ is) in
+      subst (λ n. HasPath Link root n p) same there.3
 
 -- at first each place is unreached
 count_none : (n : ℕ) → count_by (λ x. x == NO_WALK) (replicate n NO_WALK) ≡ n
@@ -271,8 +227,3 @@ module _ (Link : ℕ → ℕ → Type 0) (count root : ℕ) (within : root < cou
     window = λ i j d e le at_i at_j. (let one = only_root j e at_j in omega arith);
     done = λ k p d q before at is link. absurd (omega arith);
   }
-
--- the same of lists that are equal to these
-pub queue_begun : (Link : ℕ → ℕ → Type 0) (count root : ℕ) (distances queue : List ℕ) → root < count → count ≤ NO_WALK → distances ≡ replicate count NO_WALK → queue ≡ root ∷ [] → IsQueue Link root (slice_set distances root 0) queue 0
-queue_begun Link count root distances queue within small blank_is queue_is =
-    subst (λ xs. IsQueue Link root (slice_set xs root 0) queue 0) (sym blank_is) (subst (λ xs. IsQueue Link root (slice_set (replicate count NO_WALK) root 0) xs 0) (sym queue_is) (start_queue Link count root within small))

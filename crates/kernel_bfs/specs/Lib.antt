@@ -1,2 +1,4 @@
 pub mod Places
 pub mod Search
+pub mod Fields
+pub mod Entries

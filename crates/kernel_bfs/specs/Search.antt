@@ -1,8 +1,18 @@
--- The search over places and the links between them, and the entries of its table.
-use Rattle.std.specs.Prelude.{◌≡◌, ℕ, zero, suc, ◌+◌, ◌<◌, ◌≤◌, ◌==◌, ◌⊎◌, ◌++◌, List, [], ◌∷◌, length, map, slice_get, slice_set, count_by, Some}
+-- The search over places and the links between them.
+use Rattle.std.specs.Prelude.{◌≡◌, ℕ, zero, suc, ◌+◌, ◌<◌, ◌≤◌, ◌==◌, List, length, slice_get, count_by, Some}
 use Rattle.graph_model.specs.declared.limits.TheConstants.{NO_WALK}
-use Rattle.graph_model.specs.declared.table.Value.TheVariants.{Number}
-use Rattle.graph_model.specs.declared.table.Entry.{Entry}
+use Rattle.kernel_bfs.specs.Places.{Places, IdsRise, HasLink}
+
+-- A search under way: the distance of each place that is reached, else NO_WALK; the reached places in
+-- the order in which they were found; and how many of these have been visited.
+pub record Searching : Type 0 where
+  pub places : Places
+  pub root : ℕ
+  pub distances : List ℕ
+  pub queue : List ℕ
+  pub head : ℕ
+
+-- ---- what a search keeps
 
 -- a path of so many links leads from the root to a place
 abbrev pub HasPath : (ℕ → ℕ → Type 0) → ℕ → ℕ → ℕ → Type 0
@@ -28,25 +38,51 @@ pub record IsQueue (Link : ℕ → ℕ → Type 0) (root : ℕ) (distances queue
   pub count : length queue + count_by (λ d. d == NO_WALK) distances ≡ length distances
   pub small : length distances ≤ NO_WALK
   pub begun : slice_get distances root ≡ Some 0
-  pub queued : (k p : ℕ) → slice_get queue k ≡ Some p → (d : ℕ) × (slice_get distances p ≡ Some d) × (d ≤ k) × HasPath Link root d p
-  pub reached : (p d : ℕ) → slice_get distances p ≡ Some d → (d ≡ NO_WALK → ⊥) → (k : ℕ) × (slice_get queue k ≡ Some p)
+  pub queued : (k p : ℕ) → slice_get queue k ≡ Some p
+      → (d : ℕ) × (slice_get distances p ≡ Some d) × (d ≤ k) × HasPath Link root d p
+  pub reached : (p d : ℕ) → slice_get distances p ≡ Some d → (d ≡ NO_WALK → ⊥)
+      → (k : ℕ) × (slice_get queue k ≡ Some p)
   pub order : (i j d e : ℕ) → i ≤ j → IsAt distances queue i d → IsAt distances queue j e → d ≤ e
   pub window : (i j d e : ℕ) → head ≤ i → IsAt distances queue i d → IsAt distances queue j e → e ≤ d + 1
-  pub done : (k p d q : ℕ) → k < head → slice_get queue k ≡ Some p → slice_get distances p ≡ Some d → Link p q → IsWithin distances q (d + 1)
+  pub done : (k p d q : ℕ) → k < head → slice_get queue k ≡ Some p → slice_get distances p ≡ Some d → Link p q
+      → IsWithin distances q (d + 1)
 
--- a place takes a distance and is queued, or it has one already
-abbrev pub IsReach : List ℕ → List ℕ → ℕ → ℕ → List ℕ → List ℕ → Type 0
-IsReach distances queue place distance distances' queue' =
-    ((slice_get distances place ≡ Some NO_WALK) × (distances' ≡ slice_set distances place distance) × (queue' ≡ queue ++ place ∷ []))
-    ⊎ ((slice_get distances place ≡ Some NO_WALK → ⊥) × (distances' ≡ distances) × (queue' ≡ queue))
+-- the search keeps its queue, and has room in it for each place that isn't reached
+pub record IsSearch (s : Searching) (spare : ℕ) : Type 0 where
+  pub ids : IdsRise s.places.vertices
+  pub count : length s.distances ≡ length s.places.vertices
+  pub queue : IsQueue (HasLink s.places) s.root s.distances s.queue s.head
+  pub room : length s.distances ≤ length s.queue + spare
+
+-- ---- what its calls do
+
+-- it has reached the root alone
+abbrev pub begun_at : Places → ℕ → Searching → Searching
+begun_at places root s = record s { places = places; root = root; head = 0 }
+
+-- a link leads to the target from the place at the head, whose distance is one less
+pub record IsNext (s : Searching) (target distance : ℕ) : Type 0 where
+  pub place : ℕ
+  pub at_head : slice_get s.queue s.head ≡ Some place
+  pub link : HasLink s.places place target
+  pub before : ℕ
+  pub is : slice_get s.distances place ≡ Some before
+  pub one_more : distance ≡ before + 1
+
+-- the target has a distance of no more than the limit, and what was reached before stays
+pub record Reaches (old : Searching) (target limit : ℕ) (new : Searching) : Type 0 where
+  pub same : new ≡ record old { distances = new.distances; queue = new.queue }
+  pub within : IsWithin new.distances target limit
+  pub distances : (p d : ℕ) → slice_get old.distances p ≡ Some d → (d ≡ NO_WALK → ⊥)
+      → slice_get new.distances p ≡ Some d
+  pub queue : (k p : ℕ) → slice_get old.queue k ≡ Some p → slice_get new.queue k ≡ Some p
+
+-- the place at the head has been visited
+abbrev pub Visits : Searching → Searching → Type 0
+Visits old new = new ≡ record old { distances = new.distances; queue = new.queue; head = old.head + 1 }
 
 -- each place has the least number of links of a path from the root, or NO_WALK where there is none
-pub record IsSearched (Link : ℕ → ℕ → Type 0) (root count : ℕ) (distances : List ℕ) : Type 0 where
-  pub count_is : length distances ≡ count
-  pub sound : (p d : ℕ) → slice_get distances p ≡ Some d → (d ≡ NO_WALK → ⊥) → HasPath Link root d p
-  pub least : (n p : ℕ) → HasPath Link root n p → IsWithin distances p n
-
--- one entry for each vertex, with the distance at its place
-pub record AreEntries (vertices distances : List ℕ) (entries : List Entry) : Type 0 where
-  pub listed : map (λ e. e.vertex) entries ≡ vertices
-  pub each : (i : ℕ) (e : Entry) → slice_get entries i ≡ Some e → (n : ℕ) × (slice_get vertices i ≡ Some e.vertex) × (slice_get distances i ≡ Some n) × (e.value ≡ Number n)
+pub record IsSearched (places : Places) (root : ℕ) (distances : List ℕ) : Type 0 where
+  pub count : length distances ≡ length places.vertices
+  pub sound : (p d : ℕ) → slice_get distances p ≡ Some d → (d ≡ NO_WALK → ⊥) → HasPath (HasLink places) root d p
+  pub least : (n p : ℕ) → HasPath (HasLink places) root n p → IsWithin distances p n

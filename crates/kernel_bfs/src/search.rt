@@ -1,103 +1,102 @@
 //! The search from place to place.
+//!
+//! 1. Just the reached places stand in the queue, in the order of their distances, which are those of
+//!    paths from the root.
+//! 2. The links of the places before the head have been followed.
+//! 3. The queue has room for each place that isn't reached, so no step takes memory.
 
-ghost use Rattle.std.specs.Prelude.{◌≡◌, ℕ, ◌+◌, ◌<◌, ◌≤◌, length, slice_get, IfOk, OnOk};
-ghost use Rattle.kernel_bfs.specs.Places.{KeysRise, IsIndex, HasLink};
-ghost use Rattle.kernel_bfs.specs.Search.{IsQueue, IsReach, IsSearched};
+ghost use Rattle.std.specs.Prelude.{◌≡◌, ◌<◌, length, IfOk};
+ghost use Rattle.kernel_bfs.specs.Places.{AreVertices};
+ghost use Rattle.kernel_bfs.specs.Search.{begun_at, IsNext, Reaches, Visits, IsSearched};
 
 use crate::index::Index;
-use graph_model::{NO_WALK, Row};
-use std::alloc::{AllocError, Global};
+use graph_model::{NO_WALK, NoMemory};
+use items::RoomyItems;
+use std::alloc::Global;
+use std::marker::Model;
 
-/// The places reached so far in the order in which they were found, and the distance of each place
-/// from the root's, NO_WALK where it isn't reached.
+/// A search from a root: the places that are reached so far, and their distances.
 #[derive(Drop)]
-pub struct Search {
-    pub root: usize,
-    pub distances: Vec<u64>,
-    pub queue: Vec<usize>,
+pub struct Search<'a> {
+    index: &'a Index<'a>,
+    root: usize,
+    /// The distance of each place from the root's, NO_WALK where it isn't reached.
+    distances: Vec<u64>,
+    /// The reached places, in the order in which they were found.
+    queue: RoomyItems<usize>,
+    /// How many places of the queue have been visited.
+    head: usize,
 }
 
-impl Search {
+impl<'a> Model for Search<'a> {
+    ghost use Rattle.kernel_bfs.specs.Search.{Searching};
+
+    ghost Value = { Searching };
+
+    ghost use Rattle.kernel_bfs.specs.Fields.{searching, IsKept};
+
+    ghost view = { searching };
+
+    ghost invariant = { IsKept };
+}
+
+impl<'a> Search<'a> {
     /// A search that has reached the root alone.
-    pub fn new(
-        alloc: Global,
-        rows: &[Row],
-        index: &Index,
-        root: usize,
-    ) -> Result<Search, AllocError>
-        requires { root < length index.now.vertices.items }
-        ensures root { IfOk result (λ s. s.root ≡ root) }
-        ensures count { IfOk result (λ s. length s.distances.items ≡ length index.now.vertices.items) }
-        ensures queue { IfOk result (λ s. IsQueue (HasLink rows.now index.now.vertices.items) root s.distances.items s.queue.items 0) }
+    pub fn new(alloc: Global, index: &'a Index<'a>, root: usize) -> Result<Search<'a>, NoMemory>
+        requires vertices { AreVertices index.now }
+        requires root { root < length index.now.vertices }
+        ensures { IfOk result (λ s. s ≡ begun_at index.now root s) }
     {
-        let count = index.vertices.len();
+        let count = index.vertices().len();
         let mut distances = vec![in alloc; NO_WALK; count]?;
         distances[root] = 0;
-        let mut queue = Vec::with_capacity(alloc, count)?;
-        queue.push(root)?;
+        let mut queue = RoomyItems::new(alloc);
+        queue.reserve(count)?;
+        queue.push_within(root);
         Ok(Search {
+            index,
             root,
             distances,
             queue,
+            head: 0,
         })
     }
 
-    /// Gives a place its distance, unless it has one.
-    pub fn reach(&mut self, place: usize, distance: u64) -> Result<(), AllocError>
-        requires { place < length self.old.distances.items }
-        ensures root { self.new.root ≡ self.old.root }
-        ensures reached { OnOk result (IsReach self.old.distances.items self.old.queue.items place distance self.new.distances.items self.new.queue.items) }
+    /// Gives a place its distance and puts it into the queue, unless it has a distance.
+    fn reach(&mut self, target: usize, distance: u64)
+        requires { IsNext self.old target distance }
+        ensures { Reaches self.old target distance self.new }
     {
-        if self.distances[place] == NO_WALK {
-            self.queue.push(place)?;
-            self.distances[place] = distance;
+        if self.distances[target] == NO_WALK {
+            self.queue.push_within(target);
+            self.distances[target] = distance;
         }
-        Ok(())
     }
 
-    /// Reaches the targets of the arcs of the place at the head of the queue.
-    pub fn visit(&mut self, rows: &[Row], index: &Index, head: usize) -> Result<(), AllocError>
-        requires rise { KeysRise rows.now }
-        requires index { IsIndex rows.now (length rows.now) index.now.vertices.items index.now.starts.items }
-        requires count { length self.old.distances.items ≡ length index.now.vertices.items }
-        requires queue { IsQueue (HasLink rows.now index.now.vertices.items) self.old.root self.old.distances.items self.old.queue.items head }
-        requires head { head < length self.old.queue.items }
-        ensures root { self.new.root ≡ self.old.root }
-        ensures count { OnOk result (length self.new.distances.items ≡ length index.now.vertices.items) }
-        ensures queue { OnOk result (IsQueue (HasLink rows.now index.now.vertices.items) self.new.root self.new.distances.items self.new.queue.items (head + 1)) }
+    /// Reaches the targets of the arcs of the place at the head, and moves the head on.
+    fn visit(&mut self)
+        requires { self.old.head < length self.old.queue }
+        ensures { Visits self.old self.new }
     {
-        let place = self.queue[head];
-        let id = index.vertices[place];
-        let distance = self.distances[place];
-        let start = index.starts[place];
-        let mut at = start + 1;
-        'arcs: while at < rows.len() && rows[at].key.src == id {
-            if let Some(target) = index.place_of(rows[at].key.second - 1) {
-                self.reach(target, distance + 1)?;
+        let index = self.index;
+        let place = self.queue.as_slice()[self.head];
+        let distance = self.distances[place] + 1;
+        let arcs = index.arcs_of(place);
+        'arcs: for i in 0..arcs.len() {
+            if let Some(target) = index.place_of(arcs[i].key.second - 1) {
+                self.reach(target, distance);
             }
-            at += 1;
         }
-        Ok(())
+        self.head += 1;
     }
-}
 
-/// The distance of each place from the root's.
-pub fn distances_from(
-    alloc: Global,
-    rows: &[Row],
-    index: &Index,
-    root: usize,
-) -> Result<Vec<u64>, AllocError>
-    requires rise { KeysRise rows.now }
-    requires index { IsIndex rows.now (length rows.now) index.now.vertices.items index.now.starts.items }
-    requires root { root < length index.now.vertices.items }
-    ensures { IfOk result (λ distances. IsSearched (HasLink rows.now index.now.vertices.items) root (length index.now.vertices.items) distances.items) }
-{
-    let mut search = Search::new(alloc, rows, index, root)?;
-    let mut head = 0;
-    'queue: while head < search.queue.len() {
-        search.visit(rows, index, head)?;
-        head += 1;
+    /// Visits each place that is reached, and gives the distance of each place.
+    pub fn distances(mut self) -> Vec<u64>
+        ensures { IsSearched self.entry.places self.entry.root result.items }
+    {
+        'queue: while self.head < self.queue.len() {
+            self.visit();
+        }
+        self.distances
     }
-    Ok(search.distances)
 }

@@ -1,12 +1,13 @@
-use Rattle.std.proofs.Common.{length, arith, ◌<◌, ◌≤◌, ◌≡◌, ◌∙◌, ap, ◌++◌, ◌∷◌, []}
+use Rattle.std.proofs.Common.{◌<◌, ◌≤◌, ◌++◌, ◌∷◌, [], length, ap, ◌∙◌, arith}
 use Rattle.graph_model.specs.declared.limits.TheConstants.{NO_WALK}
-use Rattle.kernel_bfs.specs.Places.{HasLink}
-use Rattle.kernel_bfs.proofs.QueueLemmas.{queue_begun}
+use Rattle.kernel_bfs.proofs.SearchLemmas.{begun_search}
 use Rattle.kernel_bfs.proofs.search.Search.new.Goals as goal
 
-pub returns-clause-queue : goal.returns-clause-queue
-returns-clause-queue c =
-    let count_is : c.len-count.result ≡ length c.args.index.now.vertices.items = (let len = c.len-count.ensures in let ok = c.args.index.now.vertices.ok.0 in omega arith) in
-    let within : c.args.root < c.len-count.result = (let root = c.requires in omega arith) in
-    let small : c.len-count.result ≤ NO_WALK = (let ok = c.args.index.now.vertices.ok.1 in let len = c.len-count.ensures in let cap = c.args.index.now.vertices.small in omega arith) in
-    queue_begun (HasLink c.args.rows.now c.args.index.now.vertices.items) c.len-count.result c.args.root c.in_ok-distances.distances.items c.push.new.self.items within small (c.in_ok-distances.ensures.items_if_clones_equal (λ y same. same)) (c.in_ok-push.ensures.items ∙ ap (λ xs. xs ++ c.args.root ∷ []) c.in_ok-queue.ensures.items)
+pub invariant_of-result : goal.invariant_of-result
+invariant_of-result c =
+    let count_is = ap length c.vertices-count.ensures in
+    let below : c.args.root < length c.vertices-count.result.now = omega (arith, count_is, c.requires.root) in
+    let small : length c.vertices-count.result.now ≤ NO_WALK = omega (arith, c.in_ok-distances.ensures.len, c.in_ok-distances.distances.ok, c.in_ok-distances.distances.small) in
+    let put = c.push_within.ensures.put ∙ ap (λ xs. xs ++ c.args.root ∷ []) (c.in_ok-reserve.ensures.kept ∙ c.new-queue.ensures) in
+    begun_search c.args.index.now (length c.vertices-count.result.now) c.args.root c.in_ok-distances.distances.items c.push_within.new.self.items _ _ c.requires.vertices.ids count_is below small
+    (c.in_ok-distances.ensures.items_if_clones_equal (λ y same. same)) put c.in_ok-reserve.ensures.ok c.push_within.ensures.spare

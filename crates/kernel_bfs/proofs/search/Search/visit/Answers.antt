@@ -1,35 +1,31 @@
-use Rattle.std.proofs.Common.{ℕ, ap, ◌∙◌, sym, subst, refl, ◌+◌}
-use Rattle.kernel_bfs.specs.declared.search.Search.{Search}
-use Rattle.kernel_bfs.proofs.VisitLemmas.{IsVisit, visit_none, visit_found, visit_absent, visit_past, visit_other}
+use Rattle.std.proofs.Common.{◌+◌, arith, subst, sym}
+use Rattle.kernel_bfs.specs.Search.{Searching}
+use Rattle.kernel_bfs.proofs.SearchLemmas.{IsVisiting, visit_none, leads_on, next_target, visit_found, visit_absent, visit_done, visit_visits, head_below}
 use Rattle.kernel_bfs.proofs.search.Search.visit.Goals as goal
-use Rattle.kernel_bfs.proofs.search.Search.visit.Goals.{in-Some+in_ok-reach, in_default}
+use Rattle.kernel_bfs.proofs.search.Search.visit.Goals.{in-Some, in_default}
 
 pub arcs-init : goal.arcs-init
-arcs-init c = record {
-  visit = visit_none c.args.rows.now c.args.index.now.vertices.items c.args.index.now.starts.items _ _ _ _ _ _ _ _ c.requires.index c.requires.queue c.requires.count c.requires.head c.index-place.ensures c.index-id.ensures c.index-distance.ensures c.index-start.ensures;
-  same_root = refl;
-}
+arcs-init c = visit_none _ _ _ c.self.view_is c.self.invariant c.requires _ c.as_slice.ensures _ c.index.ensures _ c.arcs_of-arcs.ensures
+
+pub overflow_sub-arcs : goal.overflow_sub-arcs
+overflow_sub-arcs c = leads_on _ _ _ _ _ _ _ c.arcs.invariant c.arcs-test.true _
+
+pub reach-requires : goal.reach-requires
+reach-requires c = next_target _ _ _ _ _ _ _ c.arcs.invariant c.arcs-test.true _ _ c.in-Some.ensures.found
 
 pub arcs-preserved : goal.arcs-preserved
 arcs-preserved c =
-    let visit_at : ℕ → Search → Type 0 = λ root s. IsVisit c.args.rows.now c.args.index.now.vertices.items root s.distances.items s.queue.items c.args.head c.index-place.result.now c.index-distance.result.now c.index-id.result.now c.index-start.result.now (c.arcs.at + 1) in
+    let visiting : Searching → Type 0 = λ s. IsVisiting c.args.self.now c.self.inside.index.now c.arcs_of-arcs.result.now _ (c.index.result.now + 1) (c.arcs.i + 1) s in
     elim c.match-place_of.branch [
-      | in-Some+in_ok-reach w ↦
-          let found = visit_found c.args.rows.now c.requires.rise c.args.index.now.vertices.items c.requires.index.ids _ _ _ _ _ _ _ _ _ c.arcs.invariant.visit _ c.arcs-test.true c.if-rows-at.true w.in-Some.target w.reach.new.self.distances.items w.reach.new.self.queue.items w.in-Some.ensures.found w.in_ok-reach.ensures.reached in
-          record {
-            visit = subst (λ (s : Search). visit_at s.root s) (sym w.self-is) (subst (λ r. visit_at r w.reach.new.self) (sym w.in_ok-reach.ensures.root) found);
-            same_root = ap (λ (s : Search). s.root) w.self-is ∙ w.in_ok-reach.ensures.root ∙ c.arcs.invariant.same_root;
-          }
-      | in_default w ↦
-          let absent = visit_absent c.args.rows.now c.requires.rise c.args.index.now.vertices.items c.requires.index.ids _ _ _ _ _ _ _ _ _ c.arcs.invariant.visit _ c.arcs-test.true c.if-rows-at.true w.in_default.ensures.absent in
-          record {
-            visit = subst (λ (s : Search). visit_at s.root s) (sym w.self-is) absent;
-            same_root = ap (λ (s : Search). s.root) w.self-is ∙ c.arcs.invariant.same_root;
-          }
+      | in-Some w ↦ subst visiting (sym w.self-is) (visit_found _ _ _ _ _ _ _ c.arcs.invariant c.arcs-test.true _ _ w.in-Some.ensures.found _ w.reach.ensures)
+      | in_default w ↦ subst visiting (sym w.self-is) (visit_absent _ _ _ _ _ _ _ c.arcs.invariant c.arcs-test.true _ w.in_default.ensures.absent)
     ]
 
-pub returns-else-rows-at-clause-queue : goal.returns-else-rows-at-clause-queue
-returns-else-rows-at-clause-queue c = visit_other c.args.rows.now c.requires.rise c.args.index.now.vertices.items c.requires.index.ids _ _ _ _ _ _ _ _ _ c.arcs.invariant.visit _ c.arcs-test.true c.if-rows-at.false
+pub overflow_add-self : goal.overflow_add-self
+overflow_add-self c = let below = head_below _ _ _ _ _ _ _ c.arcs.invariant _ _ c.self-2.view_is c.self-2.invariant in omega (arith, below)
 
-pub returns-after-arcs-clause-queue : goal.returns-after-arcs-clause-queue
-returns-after-arcs-clause-queue c = visit_past c.args.rows.now c.requires.rise c.args.index.now.vertices.items c.requires.index.ids _ _ _ _ _ _ _ _ _ c.arcs.invariant.visit c.arcs-test.false
+pub invariant_of-self : goal.invariant_of-self
+invariant_of-self c = visit_done _ _ _ _ _ _ _ c.arcs.invariant _ _ c.self-2.view_is c.self-2.invariant c.arcs-test.false
+
+pub returns : goal.returns
+returns c = visit_visits _ _ _ _ _ _ _ c.arcs.invariant _ c.self-2.view_is
