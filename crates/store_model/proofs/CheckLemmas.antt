@@ -1,6 +1,7 @@
 -- What the writers that a write looks at say of the transactions that it clashes with.
 use Rattle.std.proofs.Common.{◌≡◌, ℕ, ◌+◌, ◌-◌, ◌<◌, ◌≤◌, List, [], ◌∷◌, ◌++◌, map, drop, refl, sym, ◌∙◌, ap, subst, arith, inl, inr}
-use Rattle.std.specs.Prelude.{◌⊎◌, Bool, true, false, ◌&&◌, ◌||◌, slice_get, Option, Some}
+use Rattle.std.specs.Prelude.{◌⊎◌, Bool, true, false, ◌||◌, slice_get, Option, Some}
+use Rattle.std.proofs.Math.Bool.{and-true, or-false}
 use Rattle.std.proofs.lemmas.Bool.{or_left, or_right, true≢false, false_from_ne_true}
 use Rattle.std.proofs.lemmas.List.Folds.{list_any-append}
 use Rattle.graph_model.specs.declared.write.Kind.{Kind}
@@ -32,17 +33,9 @@ has-append xs ys n = list_any-append (same_name n) xs ys
 in_either : (xs ys : List TxnName) (n : TxnName) → has_name (xs ++ ys) n ≡ true → (has_name xs n ≡ true) ⊎ (has_name ys n ≡ true)
 in_either xs ys n h = either_of (has_name xs n) (has_name ys n) (sym (has-append xs ys n) ∙ h)
 
-or_end : (a b : Bool) → b ≡ false → (a || b) ≡ a
-or_end true b e = refl
-or_end false b e = e
-
 has-writers : (ps : List Version) (n : TxnName) → has_name (map (λ p. p.by) ps) n ≡ marked any ps n
 has-writers [] n = refl
-has-writers (p ∷ ps) n = λ i. and_true (same_name n p.by) i || has-writers ps n i
-  where
-    and_true : (s : Bool) → s ≡ (s && true)
-    and_true true = refl
-    and_true false = refl
+has-writers (p ∷ ps) n = λ i. sym (and-true (same_name n p.by)) i || has-writers ps n i
 
 -- ---- commits that pass a test
 
@@ -77,7 +70,7 @@ module _ (kind : Kind) (journal : List Commit) (running : TxnName → Option Run
     not_behind from p = committed_none p (drop from journal) n (λ i c at. unnamed (from + i) c (get_drop from journal i c at))
 
     marked_open : (f : Option ℕ → Bool) (k : Key) → marked f (contents k).pairs n ≡ any_leaves kind f (own n) k
-    marked_open f k = marked_at f k n ∙ or_end _ _ (not_behind (is.rows k).cut (λ ws. any_leaves kind f ws k))
+    marked_open f k = marked_at f k n ∙ ap (λ t. any_leaves kind f (own n) k || t) (not_behind (is.rows k).cut (λ ws. any_leaves kind f ws k)) ∙ or-false _
 
     -- has the newest pair of each row of which it has laid a write, and of no other
     pub newest_open : (k : Key) → has_name (newest (contents k)) n ≡ any_writes kind (own n) k
@@ -90,7 +83,7 @@ module _ (kind : Kind) (journal : List Commit) (running : TxnName → Option Run
 
     module _ (marks : (k : Key) → touching n k ≡ any_touches (own n) k) where
       touched_open : (k : Key) → has_name (contents k).touches n ≡ any_touches (own n) k
-      touched_open k = (is.rows k).row.touched n ∙ (λ i. marks k i || not_behind (is.rows k).since (λ ws. any_touches ws k) i) ∙ or_end _ _ refl
+      touched_open k = (is.rows k).row.touched n ∙ (λ i. marks k i || not_behind (is.rows k).since (λ ws. any_touches ws k) i) ∙ or-false _
 
       looked_met : (w : Write) → has_name (looked w contents) n ≡ met kind w (own n)
       looked_met (AddVertex v) = newest_open (vertex_key v)

@@ -2,6 +2,7 @@
 use Rattle.std.proofs.Common.{◌≡◌, ℕ, ◌+◌, ◌-◌, List, [], ◌∷◌, refl, sym, ◌∙◌, ap, cond, arith, inl, inr}
 use Rattle.std.specs.Prelude.{Bool, true, false, ◌==◌, ◌&&◌, ◌||◌, nat_lt, Option}
 use Rattle.std.specs.List.{list_any}
+use Rattle.std.proofs.Math.Bool.{and-true, or-false}
 use Rattle.std.proofs.lemmas.Bool.{or_left, or_right, or_from, or_parts, false_from_ne_true, true≢false}
 use Rattle.std.proofs.lemmas.Bool.Decides.{nat_tests}
 use Rattle.graph_model.specs.declared.write.Kind.{Kind}
@@ -24,13 +25,8 @@ use Rattle.store_model.specs.Check.{no_value}
 
 -- ---- items and the rows that stand for them
 
-and_true : (s : Bool) → s ≡ (s && true)
-and_true true = refl
-and_true false = refl
-
 and_true_or : (s : Bool) → s ≡ ((s && true) || false)
-and_true_or true = refl
-and_true_or false = refl
+and_true_or s = sym (or-false (s && true) ∙ and-true s)
 
 vertex_no_edge : (kind : Kind) (q u v : ℕ) → same_item (Vertex q) (edge kind u v) ≡ false
 vertex_no_edge Directed q u v = refl
@@ -164,21 +160,17 @@ cuts_drop kind u v weight (AddVertex q) = λ i. nothing (writes_at kind (AddVert
 cuts_drop kind u v weight (DropVertex q) = λ i. dropped u i || dropped v i
   where
     dropped : (u : ℕ) → (q == u) ≡ ((((u == q) && true) || false) && true)
-    dropped u = eq_symm q u ∙ and_true_or (u == q) ∙ and_true (((u == q) && true) || false)
+    dropped u = eq_symm q u ∙ and_true_or (u == q) ∙ sym (and-true (((u == q) && true) || false))
 cuts_drop kind u v weight (AddEdge a b w) = sym (or_from _ _ (ap (λ t. t && false) (no_edge_key kind a b u)) (ap (λ t. t && false) (no_edge_key kind a b v)))
 cuts_drop kind u v weight (SetEdge a b w) = sym (or_from _ _ (ap (λ t. t && false) (no_edge_key kind a b u)) (ap (λ t. t && false) (no_edge_key kind a b v)))
 cuts_drop kind u v weight (DropEdge a b) = sym (or_from _ _ (ap (λ t. t && true) (no_edge_key kind a b u)) (ap (λ t. t && true) (no_edge_key kind a b v)))
 
-or_false : (s : Bool) → (s || false) ≡ s
-or_false true = refl
-or_false false = refl
-
 pub clash_is_bars : (kind : Kind) (w x : Write) → clash kind w x ≡ bars kind w x
-clash_is_bars kind (AddVertex v) x = (λ i. (vertex_tie kind x v i || false) || cuts_no_vertex x v i) ∙ or_false _ ∙ or_false _
-clash_is_bars kind (DropVertex v) x = (λ i. (vertex_tie kind x v i || sym (touch_is_cut_off v x) i) || cuts_no_drop x v i) ∙ or_false _
-clash_is_bars kind (AddEdge u v weight) x = (λ i. or_false (edge_row_tie kind x u v i) i || cuts_drop kind u v weight x i)
-clash_is_bars kind (SetEdge u v weight) x = (λ i. (edge_row_tie kind x u v i || false) || cuts_no_set x u v weight i) ∙ or_false _ ∙ or_false _
-clash_is_bars kind (DropEdge u v) x = (λ i. (edge_row_tie kind x u v i || false) || cuts_no_drop_edge x u v i) ∙ or_false _ ∙ or_false _
+clash_is_bars kind (AddVertex v) x = (λ i. (vertex_tie kind x v i || false) || cuts_no_vertex x v i) ∙ or-false _ ∙ or-false _
+clash_is_bars kind (DropVertex v) x = (λ i. (vertex_tie kind x v i || sym (touch_is_cut_off v x) i) || cuts_no_drop x v i) ∙ or-false _
+clash_is_bars kind (AddEdge u v weight) x = (λ i. or-false (edge_row_tie kind x u v i) i || cuts_drop kind u v weight x i)
+clash_is_bars kind (SetEdge u v weight) x = (λ i. (edge_row_tie kind x u v i || false) || cuts_no_set x u v weight i) ∙ or-false _ ∙ or-false _
+clash_is_bars kind (DropEdge u v) x = (λ i. (edge_row_tie kind x u v i || false) || cuts_no_drop_edge x u v i) ∙ or-false _ ∙ or-false _
 
 -- one of the writes writes the row and leaves there a value that passes a test
 abbrev pub any_leaves : Kind → (Option ℕ → Bool) → List Write → Key → Bool

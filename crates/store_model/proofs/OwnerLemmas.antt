@@ -21,7 +21,8 @@ use Rattle.store_model.specs.declared.versions.Versions.{Versions}
 use Rattle.store_model.specs.Layers.{row_key, after_write, undone}
 use Rattle.store_model.specs.Store.{touching_of, IsStore, IsPlainStore}
 use Rattle.store_model.proofs.MeetLemmas.{row_key-written}
-use Rattle.store_model.proofs.StoreLemmas.{any_touches-snoc, store_same, store_begun, store_stopped, store_written, store_committed, store_undone}
+use Rattle.store_model.proofs.RowLemmas.{list_any-snoc}
+use Rattle.store_model.proofs.StoreLemmas.{store_same, store_begun, store_stopped, store_written, store_committed, store_undone}
 
 -- ---- an abort: the writes that a transaction has laid are taken back, the newest first
 
@@ -109,7 +110,7 @@ module _ (kind : Kind) (journal : List Commit) (running : TxnName → Option Run
         touches : (q : TxnName) (k : Key) → touching_of running' q k ≡ ((same_name q by && touches_at w k) || touching_of running q k)
         touches q k = elim (same_name q by) as (λ s. same_name q by ≡ s → touching_of running' q k ≡ ((s && touches_at w k) || touching_of running q k)) [
           | true ↦ λ e. let me = name_eq q by e in
-              ap (λ x. touching_of running' x k) me ∙ ap (λ ws. any_touches ws k) mine ∙ any_touches-snoc (own_of running by) w k
+              ap (λ x. touching_of running' x k) me ∙ ap (λ ws. any_touches ws k) mine ∙ list_any-snoc (λ x. touches_at x k) (own_of running by) w
               ∙ ap (λ x. touches_at w k || touching_of running x k) (sym me)
           | false ↦ λ e. ap (λ ws. any_touches ws k) (own_else by running running' _ ch q e)
         ] refl

@@ -1,5 +1,5 @@
 -- What a commit and a prune do to one row.
-use Rattle.std.proofs.Common.{◌≡◌, ℕ, suc, ◌+◌, ◌-◌, ◌<◌, ◌≤◌, List, [], ◌∷◌, ◌++◌, length, take, drop, refl, sym, ◌∙◌, ap, arith, cond, inl, inr}
+use Rattle.std.proofs.Common.{◌≡◌, ℕ, suc, ◌+◌, ◌-◌, ◌<◌, ◌≤◌, List, [], ◌∷◌, ◌++◌, length, take, drop, refl, sym, ◌∙◌, ap, subst, arith, cond, inl, inr}
 use Rattle.std.specs.Prelude.{◌⊎◌, Bool, true, false, ◌&&◌, ◌||◌, not, Option, Some, slice_get}
 use Rattle.std.specs.List.{filter}
 use Rattle.std.proofs.lemmas.Bool.{true≢false}
@@ -26,20 +26,9 @@ use Rattle.store_model.specs.Store.{IsRow}
 use Rattle.store_model.proofs.VersionLemmas.{filter-has}
 use Rattle.store_model.proofs.ValueLemmas.{committed_value}
 use Rattle.store_model.proofs.LayerLemmas.{layered_none, layered_all-append, front_unseen, front_unseen_all, front_seen_all, unseen_layer}
-use Rattle.store_model.proofs.RowLemmas.{not_keeper}
+use Rattle.store_model.proofs.RowLemmas.{by_name, list_any-snoc, not_keeper}
 
 -- ---- a commit
-
-moved : (m a b f t : Bool) → t ≡ (a || b) → (m ≡ true → a ≡ f) → t ≡ (cond m false a || (b || ((m && f) || false)))
-moved true true true f t e g = e
-moved true true false true t e g = e
-moved true true false false t e g = absurd (true≢false (g refl))
-moved true false true f t e g = e
-moved true false false true t e g = absurd (true≢false (sym (g refl)))
-moved true false false false t e g = e
-moved false true b f t e g = e
-moved false false true f t e g = e
-moved false false false f t e g = e
 
 module _ (kind : Kind) (journal : List Commit) (own : TxnName → List Write) (touching : TxnName → Key → Bool) (k : Key) (cut since : ℕ) (keeper : TxnName) (vs : Versions) (row : IsRow kind journal own touching k cut since keeper vs)
     (c : Commit) (own' : TxnName → List Write) (touching' : TxnName → Key → Bool)
@@ -49,35 +38,51 @@ module _ (kind : Kind) (journal : List Commit) (own : TxnName → List Write) (t
     (others : (q : TxnName) → same_name q c.by ≡ false → own' q ≡ own q)
     (marks : (q : TxnName) → touching' q k ≡ cond (same_name q c.by) false (touching q k))
     (mark : touching c.by k ≡ any_touches c.writes k) where
+  abbrev old : List Version
+  old = layered_all kind k (drop cut journal) []
+
+  abbrev new : List Version
+  new = layered_all kind k (drop cut (journal ++ c ∷ [])) []
+
+  -- the commit's pairs lie on those of the journal before it
+  on_top : new ≡ layered kind k c.by c.writes old
+  on_top = ap (λ cs. layered_all kind k cs []) (drop-append-le cut journal (c ∷ []) inside) ∙ layered_all-append kind k (drop cut journal) (c ∷ []) []
+
+  -- so where the committer was the keeper they are the journal's, and where it wasn't it has laid none
+  same_layer : layered kind k keeper (own keeper) old ≡ layered kind k keeper (own' keeper) new
+  same_layer = by_name keeper c.by
+      (λ me. subst (λ q. layered kind k q (own q) old ≡ layered kind k q (own' q) new) (sym me)
+      (ap (λ ws. layered kind k c.by ws old) mine ∙ sym on_top ∙ sym (ap (λ ws. layered kind k c.by ws new) left)))
+      (λ e.
+      let none : any_writes kind c.writes k ≡ false = ap (λ ws. any_writes kind ws k) (sym mine) ∙ not_keeper kind journal own touching k cut since keeper vs row c.by (name_symm c.by keeper ∙ e) in
+      (λ i. layered kind k keeper (sym (others keeper e) i) ((sym (layered_none kind k c.by c.writes old none) ∙ sym on_top) i)))
+
+  -- and its touches are the journal's
+  same_touches : (q : TxnName) → has_name vs.touches q ≡ (touching' q k || touched_in (drop since (journal ++ c ∷ [])) q k)
+  same_touches q =
+      row.touched q
+      ∙ moved (same_name c.by q) (touching q k) (touched_in (drop since journal) q k) (any_touches c.writes k) (λ e. ap (λ x. touching x k) (sym (name_eq c.by q e)) ∙ mark)
+      ∙ (λ i. (ap (λ t. cond t false (touching q k)) (name_symm c.by q) ∙ sym (marks q)) i || ((same_name c.by q && any_touches c.writes k) || touched_in (drop since journal) q k))
+      ∙ ap (λ t. touching' q k || t) (sym (ap (λ cs. touched_in cs q k) (drop-append-le since journal (c ∷ []) inside_since) ∙ list_any-snoc (λ (d : Commit). same_name d.by q && any_touches d.writes k) (drop since journal) c))
+    where
+      moved : (m a b f : Bool) → (m ≡ true → a ≡ f) → (a || b) ≡ (cond m false a || ((m && f) || b))
+      moved true a b f same = ap (λ t. t || b) (same refl)
+      moved false a b f same = refl
+
+  -- COMMIT: the row itself stays as it is
   pub row_commit : IsRow kind (journal ++ c ∷ []) own' touching' k cut since keeper vs
   row_commit = record {
-    only = λ q has. elim (same_name q c.by) as (λ t. same_name q c.by ≡ t → q ≡ keeper) [
-      | true ↦ λ e. absurd (true≢false (sym has ∙ ap (λ x. any_writes kind (own' x) k) (name_eq q c.by e) ∙ ap (λ xs. any_writes kind xs k) left))
-      | false ↦ λ e. row.only q (sym (ap (λ xs. any_writes kind xs k) (others q e)) ∙ has)
-    ] refl;
-    pairs = row.pairs ∙ (elim (same_name keeper c.by) as (λ t. same_name keeper c.by ≡ t → layered kind k keeper (own keeper) old ≡ layered kind k keeper (own' keeper) (layered_all kind k (drop cut (journal ++ c ∷ [])) [])) [
-      | true ↦ λ e. let me = name_eq keeper c.by e in
-          ap (λ x. layered kind k x (own x) old) me ∙ ap (λ xs. layered kind k c.by xs old) mine ∙ sym new
-          ∙ sym (ap (λ x. layered kind k x (own' x) (layered_all kind k (drop cut (journal ++ c ∷ [])) [])) me ∙ ap (λ xs. layered kind k c.by xs (layered_all kind k (drop cut (journal ++ c ∷ [])) [])) left)
-      | false ↦ λ e.
-          let none : any_writes kind c.writes k ≡ false = ap (λ xs. any_writes kind xs k) (sym mine) ∙ not_keeper kind journal own touching k cut since keeper vs row c.by (name_symm c.by keeper ∙ e) in
-          (λ i. layered kind k keeper (sym (others keeper e) i) ((sym (layered_none kind k c.by c.writes old none) ∙ sym new) i))
-    ] refl);
+    only = λ q has. by_name q c.by
+        (λ me. absurd (true≢false (sym has ∙ ap (λ x. any_writes kind (own' x) k) me ∙ ap (λ ws. any_writes kind ws k) left)))
+        (λ e. row.only q (sym (ap (λ ws. any_writes kind ws k) (others q e)) ∙ has));
+    pairs = row.pairs ∙ same_layer;
     oldest = row.oldest ∙ ap (λ g. value_at g k) (sym (graph_at-append kind journal (c ∷ []) cut inside));
-    touched = λ q.
-        moved (same_name q c.by) (touching q k) (touched_in (drop since journal) q k) (any_touches c.writes k) _ (row.touched q) (λ e. ap (λ x. touching x k) (name_eq q c.by e) ∙ mark)
-        ∙ (λ i. sym (marks q) i || (touched_in (drop since journal) q k || ((name_symm q c.by i && any_touches c.writes k) || false)))
-        ∙ ap (λ t. touching' q k || t) (sym (list_any-append (λ (d : Commit). same_name d.by q && any_touches d.writes k) (drop since journal) (c ∷ [])) ∙ ap (λ cs. touched_in cs q k) (sym (drop-append-le since journal (c ∷ []) inside_since)));
+    touched = same_touches;
   }
-    where
-      old : List Version
-      old = layered_all kind k (drop cut journal) []
-
-      new : layered_all kind k (drop cut (journal ++ c ∷ [])) [] ≡ layered kind k c.by c.writes old
-      new = ap (λ cs. layered_all kind k cs []) (drop-append-le cut journal (c ∷ []) inside) ∙ layered_all-append kind k (drop cut journal) (c ∷ []) []
 
 -- ---- pruning at a horizon
 
+-- whoever touches the row by a commit of a list is seen as its commits are
 touched_name : (seen : TxnName → Bool) (v : Bool) (cs : List Commit) (q : TxnName) (k : Key) → ((i : ℕ) (c : Commit) → slice_get cs i ≡ Some c → seen c.by ≡ v) → touched_in cs q k ≡ true → seen q ≡ v
 touched_name seen v [] q k each has = cc
 touched_name seen v (c ∷ cs) q k each has =
@@ -86,6 +91,7 @@ touched_name seen v (c ∷ cs) q k each has =
       | false ↦ λ e h. touched_name seen v cs q k (λ i d at. each (suc i) d at) h
     ] refl has
 
+-- of the touches of the open ones, of the commits up to the horizon and of those behind it the second go
 pruned_has : (seen a f b t : Bool) → t ≡ (a || (f || b)) → (a ≡ true → seen ≡ false) → (f ≡ true → seen ≡ true) → (b ≡ true → seen ≡ false) → (not seen && t) ≡ (a || b)
 pruned_has true true f b t e x y z = absurd (true≢false (x refl))
 pruned_has true false f true t e x y z = absurd (true≢false (z refl))
@@ -123,6 +129,7 @@ module _ (kind : Kind) (journal : List Commit) (own : TxnName → List Write) (t
     unfolding front back
     split = drop_cut from (horizon - from) journal
 
+  -- PRUNE: what is left of the pairs is what the commits behind the new cut have laid, and the keeper
   pub pairs_pruned : unseen_front (is_settled stamps horizon) vs.pairs ≡ layered kind k keeper (own keeper) (layered_all kind k (drop (cut + (horizon - cut)) journal) [])
   unfolding seen back
   pairs_pruned = ap (unseen_front seen) row.pairs
@@ -139,6 +146,7 @@ module _ (kind : Kind) (journal : List Commit) (own : TxnName → List Write) (t
       all : List Version
       all = layered_all kind k (drop cut journal) []
 
+  -- the oldest value is the graph's at the new cut
   pub oldest_pruned : first_seen (is_settled stamps horizon) vs.pairs vs.oldest ≡ value_at (graph_at kind journal (cut + (horizon - cut))) k
   unfolding seen
   oldest_pruned = (λ i. first_seen seen (row.pairs i) (row.oldest i))
@@ -154,6 +162,7 @@ module _ (kind : Kind) (journal : List Commit) (own : TxnName → List Write) (t
       old : Option ℕ
       old = value_at (graph_at kind journal cut) k
 
+  -- and the touches are those of the commits behind it, and of the open ones
   pub touches_pruned : (q : TxnName) → has_name (filter (λ by. not (is_settled stamps horizon by)) vs.touches) q ≡ (touching q k || touched_in (drop (since + (horizon - since)) journal) q k)
   unfolding seen back
   touches_pruned q = filter-has (λ x. not (seen x)) vs.touches q

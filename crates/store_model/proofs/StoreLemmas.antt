@@ -1,8 +1,7 @@
 -- The store relation through each kind of change.
-use Rattle.std.proofs.Common.{◌≡◌, ℕ, ◌+◌, ◌<◌, List, [], ◌∷◌, ◌++◌, length, drop, refl, sym, ◌∙◌, ap, subst, arith, cond, inl, inr}
-use Rattle.std.specs.Prelude.{Bool, true, false, ◌&&◌, ◌||◌, Option, Some, None}
+use Rattle.std.proofs.Common.{◌≡◌, ℕ, ◌+◌, ◌<◌, List, [], ◌∷◌, ◌++◌, length, drop, sym, ◌∙◌, ap, subst, arith, cond, inl, inr}
+use Rattle.std.specs.Prelude.{Bool, false, ◌&&◌, ◌||◌, Option, Some, None}
 use Rattle.std.proofs.lemmas.Bool.{false_from_ne_true}
-use Rattle.std.proofs.lemmas.List.Folds.{list_any-append}
 use Rattle.graph_model.specs.declared.write.Kind.{Kind}
 use Rattle.graph_model.specs.declared.write.Write.{Write}
 use Rattle.graph_model.specs.declared.row.Key.{Key}
@@ -18,20 +17,10 @@ use Rattle.graph_model.proofs.PlaceLemmas.{get_drop, get_snoc}
 use Rattle.graph_model.proofs.TransactionLemmas.{each_changed, each_gone, begin_keeps, end_keeps, write_keeps, commit_keeps}
 use Rattle.store_model.specs.declared.versions.Versions.{Versions}
 use Rattle.store_model.specs.Store.{HasRow, IsStore, MeetsNobody, Lays, TakesBack, Settles}
-use Rattle.store_model.proofs.RowLemmas.{row_write, row_undo}
+use Rattle.store_model.proofs.RowLemmas.{list_any-snoc, row_write, row_undo}
 use Rattle.store_model.proofs.SettledRowLemmas.{row_commit}
 use Rattle.store_model.proofs.MeetLemmas.{clear_row}
 use Rattle.store_model.proofs.WriterLemmas.{committed_none}
-
--- the touches of a list of writes with one more at its end
-pub any_touches-snoc : (ws : List Write) (w : Write) (k : Key) → any_touches (ws ++ w ∷ []) k ≡ (touches_at w k || any_touches ws k)
-any_touches-snoc ws w k = list_any-append (λ x. touches_at x k) ws (w ∷ []) ∙ turn (any_touches ws k) (touches_at w k)
-  where
-    turn : (a b : Bool) → (a || (b || false)) ≡ (b || a)
-    turn true true = refl
-    turn true false = refl
-    turn false true = refl
-    turn false false = refl
 
 not_empty : (ws : List Write) (w : Write) → ws ++ w ∷ [] ≡ [] → ⊥
 not_empty [] w e = cc
@@ -96,7 +85,7 @@ module _ (kind : Kind) (journal : List Commit) (running : TxnName → Option Run
         });
         laid = each_changed (λ q u. own' q ≡ u.writes) by running running' _ ch (lays.mine ∙ ap (λ ws. ws ++ w ∷ []) (is.laid by t there)) (λ q u e at. lays.others q e ∙ is.laid q u at);
         marked = each_changed (λ q u. (k : Key) → touching' q k ≡ any_touches u.writes k) by running running' _ ch
-            (λ k. lays.touches by k ∙ (λ i. (name_self by i && touches_at w k) || is.marked by t there k i) ∙ sym (any_touches-snoc t.writes w k))
+            (λ k. lays.touches by k ∙ (λ i. (name_self by i && touches_at w k) || is.marked by t there k i) ∙ sym (list_any-snoc (λ x. touches_at x k) t.writes w))
             (λ q u e at k. lays.touches q k ∙ ap (λ s. (s && touches_at w k) || touching q k) e ∙ is.marked q u at k);
         settled = λ i c at. (
           lays.others c.by (unnamed_here i c at) ∙ (is.settled i c at).0,
@@ -141,7 +130,7 @@ module _ (kind : Kind) (journal : List Commit) (running : TxnName → Option Run
       keeper = (is.rows k).keeper;
       below = (is.rows k).below;
       below_since = (is.rows k).below_since;
-      row = row_undo kind journal own touching k (is.rows k).cut (is.rows k).since (is.rows k).keeper (contents k) (is.rows k).row by w (own' by) own' touching' takes.mine refl takes.others (λ q. takes.touches q k)
+      row = row_undo kind journal own touching k (is.rows k).cut (is.rows k).since (is.rows k).keeper (contents k) (is.rows k).row by w own' touching' takes.mine takes.others (λ q. takes.touches q k)
           (committed_none (λ ws. any_touches ws k) (drop (is.rows k).since journal) by (λ i c at. unnamed ((is.rows k).since + i) c (get_drop (is.rows k).since journal i c at)));
     });
     laid = λ q u at. takes.others q (away q u at) ∙ is.laid q u at;

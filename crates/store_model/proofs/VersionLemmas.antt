@@ -2,6 +2,7 @@
 use Rattle.std.proofs.Common.{◌≡◌, ℕ, ◌≤◌, List, [], ◌∷◌, ◌++◌, refl, sym, ◌∙◌, ap, arith, cond}
 use Rattle.std.specs.Prelude.{Bool, true, false, ◌&&◌, ◌||◌, not, Option, Some, None}
 use Rattle.std.specs.List.{filter}
+use Rattle.std.proofs.Math.Bool.{or-false}
 use Rattle.std.proofs.lemmas.Bool.{or_right}
 use Rattle.std.proofs.lemmas.Bool.Decides.{nat_tests}
 use Rattle.std.proofs.lemmas.List.Folds.{list_any-append}
@@ -9,7 +10,7 @@ use Rattle.std.proofs.lemmas.Map.Views.{any-filter_same}
 use Rattle.graph_model.specs.declared.journal.TxnName.{TxnName}
 use Rattle.graph_model.specs.Conflict.{same_name}
 use Rattle.graph_model.specs.Transactions.{reached, has_name}
-use Rattle.graph_model.proofs.TestLemmas.{name_self, name_eq}
+use Rattle.graph_model.proofs.TestLemmas.{name_self, name_eq, or_comm}
 use Rattle.store_model.specs.declared.version.Version.{Version}
 use Rattle.store_model.specs.declared.versions.Versions.{Versions}
 use Rattle.store_model.specs.Versions.{first_seen, sees, read, write, undo, with_name, without_name, touch, unseen_front, is_settled, prune}
@@ -72,10 +73,7 @@ with_name-has by names q =
     ] refl
   where
     at_end : (a b : Bool) → (a || (b || false)) ≡ (b || a)
-    at_end true true = refl
-    at_end true false = refl
-    at_end false true = refl
-    at_end false false = refl
+    at_end a b = ap (λ t. a || t) (or-false b) ∙ or_comm a b
 
 -- the names that pass a test
 pub filter-has : (p : TxnName → Bool) (names : List TxnName) (q : TxnName) → has_name (filter p names) q ≡ (p q && has_name names q)

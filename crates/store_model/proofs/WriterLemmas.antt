@@ -2,6 +2,7 @@
 use Rattle.std.proofs.Common.{◌≡◌, ℕ, zero, suc, ◌≤◌, List, [], ◌∷◌, map, take, drop, refl, sym, ◌∙◌, ap, subst, arith, cond, inl, inr}
 use Rattle.std.specs.Prelude.{◌⊎◌, Bool, true, false, ◌&&◌, ◌||◌, slice_get, Option, Some}
 use Rattle.std.specs.List.{list_any, filter}
+use Rattle.std.proofs.Math.Bool.{and-true, or-false, or_assoc}
 use Rattle.std.proofs.lemmas.Bool.{or_left, or_right, true≢false, false_from_ne_true}
 use Rattle.graph_model.specs.declared.write.Kind.{Kind}
 use Rattle.graph_model.specs.declared.write.Write.{Write}
@@ -11,7 +12,7 @@ use Rattle.graph_model.specs.declared.journal.TxnName.{TxnName}
 use Rattle.graph_model.specs.Conflict.{same_name}
 use Rattle.graph_model.specs.Effects.{writes_at, value_left, any_writes}
 use Rattle.graph_model.specs.Transactions.{has_name, HasNotCommitted}
-use Rattle.graph_model.proofs.TestLemmas.{name_self, name_eq, name_symm, both_of, either_of}
+use Rattle.graph_model.proofs.TestLemmas.{name_self, name_eq, name_symm, both_of, either_of, or_comm}
 use Rattle.graph_model.proofs.PlaceLemmas.{some_eq}
 use Rattle.store_model.specs.declared.version.Version.{Version}
 use Rattle.store_model.specs.declared.versions.Versions.{Versions}
@@ -20,10 +21,6 @@ use Rattle.store_model.specs.Store.{IsRow}
 use Rattle.store_model.specs.Check.{IsCommitted}
 use Rattle.store_model.proofs.LayerLemmas.{layered_none}
 use Rattle.store_model.proofs.MeetLemmas.{any_leaves}
-
-and_true : (s : Bool) → (s && true) ≡ s
-and_true true = refl
-and_true false = refl
 
 -- ---- commits by name
 
@@ -84,13 +81,10 @@ module _ (kind : Kind) (k : Key) (f : Option ℕ → Bool) (n : TxnName) where
   marked-commits [] below = refl
   marked-commits (c ∷ cs) below =
       marked-commits cs _ ∙ ap (λ t. left_in kind f cs n k || t) (marked-layered c.by c.writes below ∙ (λ i. (name_symm n c.by i && any_leaves kind f c.writes k) || marked f below n))
-      ∙ or_assoc (left_in kind f cs n k) (same_name c.by n && any_leaves kind f c.writes k) (marked f below n)
+      ∙ turn (left_in kind f cs n k) (same_name c.by n && any_leaves kind f c.writes k) (marked f below n)
     where
-      or_assoc : (a b c : Bool) → (a || (b || c)) ≡ ((b || a) || c)
-      or_assoc true true c = refl
-      or_assoc true false c = refl
-      or_assoc false true c = refl
-      or_assoc false false c = refl
+      turn : (a b c : Bool) → (a || (b || c)) ≡ ((b || a) || c)
+      turn a b c = sym (or_assoc a b c) ∙ ap (λ t. t || c) (or_comm a b)
 
   -- whoever leaves something at the row writes it
   some_leaves : (ws : List Write) → any_leaves kind f ws k ≡ true → any_writes kind ws k ≡ true
@@ -107,22 +101,17 @@ module _ (kind : Kind) (k : Key) (f : Option ℕ → Bool) (n : TxnName) where
     marked_row =
         ap (λ ps. marked f ps n) row.pairs ∙ marked-layered keeper (own keeper) (layered_all kind k (drop cut journal) [])
         ∙ ap (λ t. (same_name n keeper && any_leaves kind f (own keeper) k) || t) (marked-commits (drop cut journal) [])
-        ∙ or_none (same_name n keeper && any_leaves kind f (own keeper) k) (left_in kind f (drop cut journal) n k)
+        ∙ ap (λ t. (same_name n keeper && any_leaves kind f (own keeper) k) || t) (or-false (left_in kind f (drop cut journal) n k))
         ∙ ap (λ t. t || left_in kind f (drop cut journal) n k) (elim (same_name n keeper) as (λ s. same_name n keeper ≡ s → (s && any_leaves kind f (own keeper) k) ≡ any_leaves kind f (own n) k) [
           | true ↦ λ e. ap (λ q. any_leaves kind f (own q) k) (sym (name_eq n keeper e))
           | false ↦ λ e. sym (false_from_ne_true _ (λ h. true≢false (sym (name_self keeper) ∙ ap (λ q. same_name q keeper) (sym (row.only n (some_leaves (own n) h))) ∙ e)))
         ] refl)
-      where
-        or_none : (a b : Bool) → (a || (b || false)) ≡ (a || b)
-        or_none true b = refl
-        or_none false true = refl
-        or_none false false = refl
 
 -- the names of the pairs whose values pass a test
 pub has-filtered : (f : Option ℕ → Bool) (ps : List Version) (n : TxnName) → has_name (map (λ p. p.by) (filter (λ p. f p.value) ps)) n ≡ marked f ps n
 has-filtered f [] n = refl
 has-filtered f (p ∷ ps) n = elim (f p.value) as (λ t. has_name (map (λ (q : Version). q.by) (cond t (p ∷ filter (λ (q : Version). f q.value) ps) (filter (λ (q : Version). f q.value) ps))) n ≡ ((same_name n p.by && t) || marked f ps n)) [
-  | true ↦ ap (λ t. same_name n p.by || t) (has-filtered f ps n) ∙ ap (λ t. t || marked f ps n) (sym (and_true (same_name n p.by)))
+  | true ↦ ap (λ t. same_name n p.by || t) (has-filtered f ps n) ∙ ap (λ t. t || marked f ps n) (sym (and-true (same_name n p.by)))
   | false ↦ has-filtered f ps n ∙ none_or (same_name n p.by) _
 ]
 
@@ -133,7 +122,7 @@ any value = true
 -- each write of a row leaves something there, be it nothing
 pub all_leave : (kind : Kind) (ws : List Write) (k : Key) → any_leaves kind any ws k ≡ any_writes kind ws k
 all_leave kind [] k = refl
-all_leave kind (w ∷ ws) k = λ i. and_true (writes_at kind w k) i || all_leave kind ws k i
+all_leave kind (w ∷ ws) k = λ i. and-true (writes_at kind w k) i || all_leave kind ws k i
 
 -- ---- the newest writer
 

@@ -11,7 +11,7 @@ use std::fs::{File, OpenOptions};
 use std::os::fd::AsRawFd;
 use std::process::ExitCode;
 use std::rt::Files;
-use std::{env, fs, io};
+use std::{env, io};
 use teseo_program::{Outcome, end_with, teseo};
 
 /// The last descriptor of the three that a program begins with.

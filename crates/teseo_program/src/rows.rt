@@ -27,20 +27,14 @@ fn rows_in_file_order(alloc: Global, ids: &Ids, edges: &Edges) -> Result<Vec<Row
     let count = ids.len().saturating_add(edges.len().saturating_mul(2));
     let mut rows = Vec::with_capacity(alloc, count)?;
     'ids: for v in ids.as_slice() {
-        let key = Key { src: *v, second: 0 };
+        let key = Key::of_vertex(*v);
         rows.push(Row { key, weight: 0 })?;
     }
     'edges: for edge in edges.as_slice() {
         let weight = edge.weight;
-        let out = Key {
-            src: edge.u,
-            second: edge.v + 1,
-        };
+        let out = Key::of_arc(edge.u, edge.v);
         rows.push(Row { key: out, weight })?;
-        let back = Key {
-            src: edge.v,
-            second: edge.u + 1,
-        };
+        let back = Key::of_arc(edge.v, edge.u);
         rows.push(Row { key: back, weight })?;
     }
     Ok(rows)
