@@ -56,8 +56,7 @@ pub begins_by : OneOwnerBegins
 begins_by s t (Ok begun) chosen (room, is, after) =
     let start : begun.start ≡ length s.journal = ap (λ (b : Begun). b.start) is in
     let more = goes_on s t (begun_pass s) chosen after in
-    let seen : length (account_here t).seen ≡ length s.journal = ap (λ (c : Core). length c.journal) after in
-    (
+    let seen : length (account_here t).seen ≡ length s.journal = ap (λ (c : Core). length c.journal) after in (
       record {
         room = room;
         by = ap (λ (b : Begun). b.by) is;

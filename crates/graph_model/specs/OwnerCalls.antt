@@ -56,9 +56,17 @@ with_current core state = record core { passes = slice_set core.passes core.sele
 
 abbrev pub account_of : Core → ℕ → PassState → Account
 account_of core p state = record {
-  job = p; kind = core.kind; leaves = core.leaves; seen = core.journal;
-  made = state.made; sighted = state.sighted; start = state.start; own = state.own;
-  filled = state.filled; begun = state.begun; allowed = state.allowed;
+  job = p;
+  kind = core.kind;
+  leaves = core.leaves;
+  seen = core.journal;
+  made = state.made;
+  sighted = state.sighted;
+  start = state.start;
+  own = state.own;
+  filled = state.filled;
+  begun = state.begun;
+  allowed = state.allowed;
 }
 
 -- the account of a pass: all passes see the whole journal
