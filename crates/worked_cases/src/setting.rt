@@ -22,22 +22,22 @@ pub const SEARCH: &str = "begin\nbfs 1 o\ncommit\n";
 pub const PATH: Sources = (VERTICES, EDGES, SEARCH);
 
 /// An output that is there at the end: its name and its text.
-pub type Made = (&'static str, &'static str);
+pub type Written = (&'static str, &'static str);
 
 /// A status, what is said, how many files there are, and those of the outputs that are there.
-pub type End = (u8, &'static str, usize, &'static [Made]);
+pub type End = (u8, &'static str, usize, &'static [Written]);
 
 /// The journal of the path.
-pub const JOURNAL: Made = (
+pub const JOURNAL: Written = (
     "j",
     "commit 1 start 0 by 0.1\nvertex 1\nvertex 2\nvertex 3\nvertex 4\nedge 1 2 1\nedge 2 3 1\n",
 );
 
 /// The report of the search on the path.
-pub const REPORT: Made = ("s1.report", "begin 1.1 start 1\ntable 4\ncommit -\n");
+pub const REPORT: Written = ("s1.report", "begin 1.1 start 1\ntable 4\ncommit -\n");
 
 /// The result of the search on the path.
-pub const RESULT: Made = ("o", "1 0\n2 1\n3 2\n4 9223372036854775807\n");
+pub const RESULT: Written = ("o", "1 0\n2 1\n3 2\n4 9223372036854775807\n");
 
 /// What is said at the end of a run on the path.
 pub const SUMMARY: &str = "commits 1 vertices 4 edges 2 undo 0 retired 0\n";

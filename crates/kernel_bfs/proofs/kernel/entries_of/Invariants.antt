@@ -1,3 +1,4 @@
+-- the vertices so far have each its distance in the table
 use Rattle.std.proofs.Common.{take}
 use Rattle.kernel_bfs.specs.Entries.{AreEntries}
 use Rattle.kernel_bfs.proofs.kernel.entries_of.Given as goal

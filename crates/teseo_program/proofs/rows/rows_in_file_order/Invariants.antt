@@ -1,3 +1,4 @@
+-- the rows of the vertices so far; then all of these, and the rows of the edges so far
 use Rattle.std.proofs.Common.{◌≡◌, ◌++◌, map, take}
 use Rattle.std.specs.List.{flat_map}
 use Rattle.teseo_program.specs.LoadRows.{vertex_row, edge_rows}
