@@ -1,19 +1,20 @@
 -- The worked examples of writes and of rows.
-use Rattle.std.proofs.Common.{◌≡◌, ℕ, ◌≤◌, List, [], ◌∷◌, refl, sym, ◌∙◌, ap, arith}
+use Rattle.std.proofs.Common.{◌≡◌, ℕ, ◌<◌, ◌≤◌, List, [], ◌∷◌, length, take, refl, sym, ◌∙◌, ap, arith}
 use Rattle.std.specs.Prelude.{true, false, ◌==◌, Option, Some, None, IsTrue}
 use Rattle.std.specs.List.{AllByRecursion}
 use Rattle.graph_model.specs.declared.write.Kind.{Kind}
 use Rattle.graph_model.specs.declared.write.Kind.TheVariants.{Directed, Undirected}
 use Rattle.graph_model.specs.declared.write.Write.{Write}
 use Rattle.graph_model.specs.declared.write.Write.TheVariants.{AddVertex, DropVertex, AddEdge, SetEdge, DropEdge}
+use Rattle.graph_model.specs.declared.row.Key.{Key}
 use Rattle.graph_model.specs.declared.row.Row.{Row}
 use Rattle.graph_model.specs.declared.refusal.Refusal.TheVariants.{NoVertex, VertexExists}
 use Rattle.graph_model.specs.Graph.{Graph, empty_graph, has_vertex, weight_of, apply, HasBothEnds}
 use Rattle.graph_model.specs.Refused.{refused, IsWithinLimits}
-use Rattle.graph_model.specs.Rows.{arc_key, first_key, end_key}
-use Rattle.graph_model.specs.Examples.{load, load_graph, arrows, detour, no_target, great_id, RefusalExamples, AllowedExamples, LimitExamples, EffectExamples, SoundExamples, RowExamples}
+use Rattle.graph_model.specs.Rows.{arc_key, first_key, end_key, all_rows}
+use Rattle.graph_model.specs.Examples.{load, load_graph, arrows, detour, no_target, great_id, RefusalExamples, AllowedExamples, LimitExamples, EffectExamples, SoundExamples, RowExamples, ScanExamples}
 use Rattle.graph_model.proofs.TestLemmas.{self_eq}
-use Rattle.graph_model.proofs.EntryLemmas.{Marks, Arcs, HasEntries, vertex_in, weight_in, vertex_at, weight_at, vertices_are, refusal_in, refused_at, marks_after_all, arcs_after_all, entries_after, entries_made, made_weight, made_vertex, made_arc, empty_entries, all_allowed, allowed_all, rows_at}
+use Rattle.graph_model.proofs.EntryLemmas.{Marks, Arcs, HasEntries, vertex_in, weight_in, vertex_at, weight_at, vertices_are, refusal_in, refused_at, marks_after_all, arcs_after_all, entries_after, entries_made, made_weight, made_vertex, made_arc, empty_entries, all_allowed, allowed_all, rows_in, rows_at}
 use Rattle.graph_model.proofs.HistoryLemmas.{ends_after}
 use Rattle.graph_model.proofs.SerialLemmas.{empty_ends}
 use Rattle.graph_model.proofs.ViewLemmas.{made_symmetric, empty_bounded, all_bounded}
@@ -191,6 +192,9 @@ sound_graphs = record {
 pub load_within : AllByRecursion IsWithinLimits load
 load_within = (omega arith, (omega arith, (omega arith, (omega arith, ((omega arith, omega arith, omega arith), ((omega arith, omega arith, omega arith), tt))))))
 
+no_rows : {P : Type 0} (r : Row) (rs : List Row) → [] ≡ r ∷ rs → P
+no_rows r rs e = cc
+
 pub row_lists : RowExamples
 row_lists = record {
   vertices = vertices_are load_graph load_marks load_arcs load_entries;
@@ -204,6 +208,27 @@ row_lists = record {
   of_no_target = λ are. no_ends are.ends;
   of_great_id = λ are. id_above are.within;
 }
-  where
-    no_rows : {P : Type 0} (r : Row) (rs : List Row) → [] ≡ r ∷ rs → P
-    no_rows r rs e = cc
+
+-- ---- scans
+
+load_rows : all_rows load_graph ≡ rows_in load_marks load_arcs first_key end_key
+load_rows = row_lists.whole
+
+other_src : {P : Type 0} (a b : Key) → (a.src == b.src) ≡ false → a ≡ b → P
+other_src a b apart same = true_false (sym (self_eq a.src) ∙ ap (λ (k : Key). a.src == k.src) same ∙ apart)
+
+short : length (all_rows load_graph) < 64
+short = let count : ◌≡◌ {A = ℕ} (length (all_rows load_graph)) 8 = ap length load_rows in omega arith
+
+pub scans : ScanExamples
+scans = record {
+  whole = record {
+    gave = load_rows ∙ sym (ap (take 64) load_rows);
+    until = refl;
+    ended = λ done. short;
+    goes_on = λ going. true_false going;
+  };
+  not_without_rows = λ is. no_rows _ _ (is.gave ∙ ap (take 64) load_rows);
+  not_going_on = λ is. let full : length (all_rows load_graph) ≡ 64 = (is.goes_on refl).0 in omega (arith, full, short);
+  not_of_another_range = λ is. other_src first_key end_key refl is.until;
+}

@@ -1,6 +1,6 @@
 -- An engine of one owner does to the account of the selected pass what every engine does.
-use Rattle.std.proofs.Common.{◌≡◌, ℕ, zero, suc, ◌+◌, ◌<◌, ◌≤◌, List, [], ◌∷◌, ◌++◌, length, refl, sym, ◌∙◌, ap, subst, arith, le_refl}
-use Rattle.std.specs.Prelude.{Option, Some, None, unwrap_or, Result, Ok, Err, slice_get, slice_set, Bool}
+use Rattle.std.proofs.Common.{◌≡◌, ℕ, ◌<◌, List, [], ◌∷◌, ◌++◌, length, refl, sym, ◌∙◌, ap, subst, arith}
+use Rattle.std.specs.Prelude.{Option, Some, unwrap_or, Result, Ok, Err, slice_get, slice_set}
 use Rattle.std.proofs.lemmas.List.{append-nil, get_or-set_same}
 use Rattle.std.proofs.lemmas.Option.{unwrap_or-slice_get}
 use Rattle.graph_model.specs.declared.write.Write.{Write}
@@ -10,12 +10,11 @@ use Rattle.graph_model.specs.declared.refusal.Cause.{Cause}
 use Rattle.graph_model.specs.declared.refusal.Cause.TheVariants.{Later, Holder}
 use Rattle.graph_model.specs.declared.refusal.Refusal.{Refusal}
 use Rattle.graph_model.specs.declared.refusal.Refusal.TheVariants as refusals
-use Rattle.graph_model.specs.declared.refusal.BeginRefusal.{BeginRefusal}
 use Rattle.graph_model.specs.declared.refusal.BeginRefusal.TheVariants as begin_refusals
 use Rattle.graph_model.specs.Account.{Account}
 use Rattle.graph_model.proofs.PlaceLemmas.{get_end, some_eq}
-use Rattle.graph_model.specs.AccountSteps.{GoesOn, BeginsBy, begun_at, WritesAt, WritesBy, RefusesBy, CommitsBy, HasCommit, with_cause, ended}
-use Rattle.graph_model.specs.OwnerCalls.{PassState, Core, no_pass, current, with_current, account_of, account_here, name_here, begun_pass, written_pass, ended_pass, BeginsHere, WritesHere, WritesHereFrom, RefusesHere, CommitsHere, CommitsHereFrom, AbortsHere, ServesHere, one_more}
+use Rattle.graph_model.specs.AccountSteps.{GoesOn, begun_at, WritesAt, WritesBy, RefusesBy, CommitsBy, with_cause, ended}
+use Rattle.graph_model.specs.OwnerCalls.{PassState, Core, no_pass, current, with_current, account_of, account_here, name_here, begun_pass, written_pass, ended_pass, RefusesHere, CommitsHereFrom}
 use Rattle.graph_model.specs.OwnerLaws.{IsChosen, OneOwnerBegins, OneOwnerWrites, OneOwnerReads, OneOwnerCommits, OneOwnerAborts, OneOwnerServes}
 use Rattle.graph_model.specs.Transactions.{commit_of}
 

@@ -5,10 +5,12 @@ use Rattle.graph_model.specs.declared.write.Kind.TheVariants.{Directed, Undirect
 use Rattle.graph_model.specs.declared.write.Write.{Write}
 use Rattle.graph_model.specs.declared.write.Write.TheVariants.{AddVertex, DropVertex, AddEdge, SetEdge, DropEdge}
 use Rattle.graph_model.specs.declared.refusal.Refusal.TheVariants.{SelfLoop, NoVertex, VertexExists, EdgeExists, NoEdge, HasEdges}
+use Rattle.graph_model.specs.declared.row.Cursor.{Cursor}
 use Rattle.graph_model.specs.Items.{clash}
 use Rattle.graph_model.specs.Graph.{Graph, empty_graph, has_vertex, vertices_of, weight_of, apply, apply_all, HasBothEnds, IsSymmetric, HasNoLoops, IsBounded}
 use Rattle.graph_model.specs.Refused.{refused, AllAllowed, IsWithinLimits}
 use Rattle.graph_model.specs.Inserted.{inserted}
+use Rattle.graph_model.specs.Scans.{ScansBy}
 use Rattle.graph_model.specs.Rows.{vertex_key, arc_key, first_key, end_key, is_between, rows, all_rows, AreRowsOf}
 
 -- vertices 1 to 4, and undirected edges from 1 to 2 and from 2 to 3
@@ -162,3 +164,15 @@ pub record RowExamples : Type 0 where
   pub none_of_it : AreRowsOf [] load_graph → ⊥
   pub of_no_target : AreRowsOf (all_rows no_target) no_target → ⊥
   pub of_great_id : AreRowsOf (all_rows great_id) great_id → ⊥
+
+-- a scan of all rows, before its first step
+abbrev pub scan : Cursor
+scan = record { next = first_key; until = end_key; done = false }
+
+-- steps of a scan: eight rows are one portion, and it isn't full
+pub record ScanExamples : Type 0 where
+  pub whole : ScansBy load_graph scan (record scan { done = true }) (all_rows load_graph)
+  pub not_without_rows : ScansBy load_graph scan (record scan { done = true }) [] → ⊥
+  pub not_going_on : ScansBy load_graph scan scan (all_rows load_graph) → ⊥
+  pub not_of_another_range : ScansBy load_graph scan (record scan { done = true; until = first_key })
+      (all_rows load_graph) → ⊥

@@ -12,6 +12,7 @@ use Rattle.graph_model.specs.History.{view}
 use Rattle.graph_model.specs.Legal.{IsLegal}
 use Rattle.graph_model.specs.Conflict.{later, OpenTxn, least_job, holder, greatest, newest_later, conflict}
 use Rattle.graph_model.specs.Account.{Account, IsValid}
+use Rattle.graph_model.specs.AccountSteps.{name_of, begun_at, with_write, with_cause, ended}
 use Rattle.graph_model.specs.Examples.{load}
 
 -- the transaction of this number of this script
@@ -146,3 +147,21 @@ pub record AccountExamples : Type 0 where
   pub not_on_its_snapshot : IsValid (with_own (AddEdge 1 9 1 ∷ [])) → ⊥
   pub too_heavy : IsValid (with_own (AddEdge 1 4 4294967296 ∷ [])) → ⊥
   pub seen_not_legal : IsValid (record account { seen = then_commit 3 1 (name 2 1) (SetEdge 2 1 8 ∷ []) }) → ⊥
+
+-- what a call makes of the account
+pub record StepExamples : Type 0 where
+  pub named : name_of account ≡ name 2 2
+  pub no_more_open : ended account ≡ record account { start = None; own = [] }
+  -- the next transaction has its own list of writes
+  pub began : begun_at (ended account) 2 ≡ record account {
+    made = [] ∷ (AddEdge 1 4 1 ∷ []) ∷ [] ∷ [];
+    start = Some 2;
+    own = [];
+    begun = 3;
+  }
+  pub wrote : with_write account (SetEdge 1 2 5) ≡ with_own (AddEdge 1 4 1 ∷ SetEdge 1 2 5 ∷ [])
+  -- an open transaction that was met is noted, and a later commit isn't
+  pub met_open : with_cause account 1 (SetEdge 1 2 5) (Holder (name 3 1)) ≡ record account {
+    sighted = record { by = name 3 1; write = SetEdge 1 2 5; start = 1 } ∷ [];
+  }
+  pub met_later : with_cause account 1 (SetEdge 1 2 5) (Later 2) ≡ account

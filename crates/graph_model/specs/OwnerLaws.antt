@@ -1,6 +1,6 @@
 -- What the exact calls of an engine of one owner mean for the account of the selected pass: what every
 -- engine's calls mean. Each is the contract of a function in `owner`, for engines to cite.
-use Rattle.std.specs.Prelude.{◌≡◌, ℕ, ◌<◌, Bool, List, length, Option, Result}
+use Rattle.std.specs.Prelude.{◌≡◌, ℕ, ◌<◌, length, Option, Result}
 use Rattle.graph_model.specs.declared.write.Write.{Write}
 use Rattle.graph_model.specs.declared.journal.Begun.{Begun}
 use Rattle.graph_model.specs.declared.refusal.Refusal.{Refusal}

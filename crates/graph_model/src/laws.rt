@@ -3,8 +3,8 @@
 //! Each is a function whose contract is the law: it takes nothing, does nothing, and is proved. The
 //! name in a clause is a definition in `specs/`, in the file that its `ghost use` line names.
 
-ghost use Rattle.graph_model.specs.Examples.{ClashExamples, RefusalExamples, AllowedExamples, LimitExamples, EffectExamples, SoundExamples, CountExamples, RowExamples};
-ghost use Rattle.graph_model.specs.JournalExamples.{LegalExamples, IllegalExamples, ViewExamples, ConflictExamples, AccountExamples};
+ghost use Rattle.graph_model.specs.Examples.{ClashExamples, RefusalExamples, AllowedExamples, LimitExamples, EffectExamples, SoundExamples, CountExamples, RowExamples, ScanExamples};
+ghost use Rattle.graph_model.specs.JournalExamples.{LegalExamples, IllegalExamples, ViewExamples, ConflictExamples, AccountExamples, StepExamples};
 ghost use Rattle.graph_model.specs.KernelExamples.{SearchExamples, PathExamples, ComponentExamples, LabelExamples, TextExamples};
 ghost use Rattle.graph_model.specs.WriteLaws.{KeepsBothEnds, KeepsSymmetric, WritesCommute, StaysAllowed, ClashIsSymmetric, ListsCommute, ListsStayAllowed, WriteByKey, WritesByKey, TouchesAreOfVertices, ClashIsByRow};
 ghost use Rattle.graph_model.specs.JournalLaws.{PrefixIsLegal, LegalHasBothEnds, PrefixHasItsGraphs, NoCommitIsLegal, OneCommitMore, CommitsAreSerial, EndsFollow, StartIsEnough, ViewIsSymmetric, ViewIsBounded, ViewHasNoLoops, ViewHasBothEnds};
@@ -147,6 +147,7 @@ pub fn examples_hold()
     ensures sound { SoundExamples }
     ensures counts { CountExamples }
     ensures rows { RowExamples }
+    ensures scans { ScanExamples }
 {}
 
 /// Worked examples of journals, and of what transactions see and meet.
@@ -156,6 +157,7 @@ pub fn journal_examples_hold()
     ensures views { ViewExamples }
     ensures conflicts { ConflictExamples }
     ensures accounts { AccountExamples }
+    ensures steps { StepExamples }
 {}
 
 /// Worked examples of the kernels' tables on small graphs.

@@ -1,4 +1,4 @@
-use Rattle.graph_model.proofs.ExampleLemmas.{refusals, allowed_lists, limits, effects, sound_graphs, row_lists}
+use Rattle.graph_model.proofs.ExampleLemmas.{refusals, allowed_lists, limits, effects, sound_graphs, row_lists, scans}
 use Rattle.graph_model.proofs.laws.examples_hold.Goals as goal
 
 pub returns-clause-refusals : goal.returns-clause-refusals
@@ -18,3 +18,6 @@ returns-clause-sound c = sound_graphs
 
 pub returns-clause-rows : goal.returns-clause-rows
 returns-clause-rows c = row_lists
+
+pub returns-clause-scans : goal.returns-clause-scans
+returns-clause-scans c = scans
