@@ -127,7 +127,7 @@ module _ (old : Account) (valid : IsValid old) where
     answered (Err refusals.EdgeExists) new legal is = read_keeps new legal is.1
     answered (Err refusals.NoEdge) new legal is = read_keeps new legal is.1
     answered (Err refusals.HasEdges) new legal is = read_keeps new legal is.1
-    answered (Err (refusals.Conflict cause)) new legal is = caused start w cause new is.1 legal
+    answered (Err (refusals.Conflict cause)) new legal is = caused start w cause new is.2 legal
     answered (Err (refusals.Full leaves)) new legal is = noted (record old { filled = true }) new refl is.3 legal
     answered (Err refusals.NoMemory) new legal is = read_keeps new legal is
 

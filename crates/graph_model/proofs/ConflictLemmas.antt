@@ -137,12 +137,12 @@ no_cause (Some n) g e = cc
 no_cause None (Some c) e = cc
 no_cause None None e = (refl, refl)
 
-cause_is_holder : (h : Option TxnName) (g : Option ℕ) (n : TxnName) → cause_of h g ≡ Some (Holder n) → h ≡ Some n
+pub cause_is_holder : (h : Option TxnName) (g : Option ℕ) (n : TxnName) → cause_of h g ≡ Some (Holder n) → h ≡ Some n
 cause_is_holder (Some m) g n e = let c : Holder m ≡ Holder n = some_is (Holder m) (Holder n) e in let same : m ≡ n = cc in ap Some same
 cause_is_holder None (Some s) n e = let c : Later s ≡ Holder n = some_is (Later s) (Holder n) e in cc
 cause_is_holder None None n e = cc
 
-cause_is_later : (h : Option TxnName) (g : Option ℕ) (s : ℕ) → cause_of h g ≡ Some (Later s) → (h ≡ None) × (g ≡ Some s)
+pub cause_is_later : (h : Option TxnName) (g : Option ℕ) (s : ℕ) → cause_of h g ≡ Some (Later s) → (h ≡ None) × (g ≡ Some s)
 cause_is_later (Some m) g s e = let c : Holder m ≡ Later s = some_is (Holder m) (Later s) e in cc
 cause_is_later None (Some r) s e = let c : Later r ≡ Later s = some_is (Later r) (Later s) e in let same : r ≡ s = cc in (refl, ap Some same)
 cause_is_later None None s e = cc

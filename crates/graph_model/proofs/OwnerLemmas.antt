@@ -1,10 +1,12 @@
 -- An engine of one owner does to the account of the selected pass what every engine does.
-use Rattle.std.proofs.Common.{◌≡◌, ℕ, ◌<◌, List, [], ◌∷◌, ◌++◌, length, refl, sym, ◌∙◌, ap, subst, arith}
-use Rattle.std.specs.Prelude.{Option, Some, unwrap_or, Result, Ok, Err, slice_get, slice_set}
+use Rattle.std.proofs.Common.{◌≡◌, ◌≢◌, ℕ, ◌+◌, ◌<◌, List, [], ◌∷◌, ◌++◌, length, refl, sym, ◌∙◌, ap, subst, arith}
+use Rattle.std.specs.Prelude.{Option, Some, unwrap_or, Result, Ok, Err, Contains, slice_get, slice_set}
 use Rattle.std.proofs.lemmas.List.{append-nil, get_or-set_same}
-use Rattle.std.proofs.lemmas.Option.{unwrap_or-slice_get}
+use Rattle.std.proofs.lemmas.List.Elements.{Contains-get_or}
+use Rattle.std.proofs.lemmas.Option.{unwrap_or-slice_get, slice_get_within, get_or_from_slice_get}
 use Rattle.graph_model.specs.declared.write.Write.{Write}
 use Rattle.graph_model.specs.declared.journal.Begun.{Begun}
+use Rattle.graph_model.specs.declared.journal.TxnName.{TxnName}
 use Rattle.graph_model.specs.declared.journal.Commit.{Commit}
 use Rattle.graph_model.specs.declared.refusal.Cause.{Cause}
 use Rattle.graph_model.specs.declared.refusal.Cause.TheVariants.{Later, Holder}
@@ -12,9 +14,14 @@ use Rattle.graph_model.specs.declared.refusal.Refusal.{Refusal}
 use Rattle.graph_model.specs.declared.refusal.Refusal.TheVariants as refusals
 use Rattle.graph_model.specs.declared.refusal.BeginRefusal.TheVariants as begin_refusals
 use Rattle.graph_model.specs.Account.{Account}
+use Rattle.graph_model.specs.Conflict.{later, OpenTxn, same_name, holder, newest_later}
 use Rattle.graph_model.proofs.PlaceLemmas.{get_end, some_eq}
-use Rattle.graph_model.specs.AccountSteps.{GoesOn, begun_at, WritesAt, WritesBy, RefusesBy, CommitsBy, with_cause, ended}
-use Rattle.graph_model.specs.OwnerCalls.{PassState, Core, no_pass, current, with_current, account_of, account_here, name_here, begun_pass, written_pass, ended_pass, RefusesHere, CommitsHereFrom}
+use Rattle.graph_model.proofs.TestLemmas.{name_self}
+use Rattle.graph_model.proofs.ExampleLemmas.{true_false}
+use Rattle.graph_model.proofs.PassLemmas.{found_in}
+use Rattle.graph_model.proofs.ConflictLemmas.{greatest_in, holder_is, cause_is_holder, cause_is_later}
+use Rattle.graph_model.specs.AccountSteps.{GoesOn, begun_at, WritesAt, WritesBy, IsNamed, RefusesBy, CommitsBy, with_cause, ended}
+use Rattle.graph_model.specs.OwnerCalls.{PassState, Core, no_pass, pass_at, current, with_current, account_of, account_here, name_here, running_of, open_txns, conflict_here, begun_pass, written_pass, ended_pass, RefusesHere, CommitsHereFrom}
 use Rattle.graph_model.specs.OwnerLaws.{IsChosen, OneOwnerBegins, OneOwnerWrites, OneOwnerReads, OneOwnerCommits, OneOwnerAborts, OneOwnerServes}
 use Rattle.graph_model.specs.Transactions.{commit_of}
 
@@ -74,6 +81,34 @@ cause_noted : (s : Core) (start : ℕ) (w : Write) (cause : Cause)
 cause_noted s start w (Later stamp) = refl
 cause_noted s start w (Holder by) = refl
 
+-- ---- causes of conflicts
+
+-- an open transaction that is named is of another pass, since no pass has two
+holder_elsewhere : (s : Core) (w : Write) (by : TxnName) → holder s.kind (open_txns s) (name_here s) w ≡ Some by → by.job ≢ s.selected
+holder_elsewhere s w by named same =
+    let holds = holder_is s.kind (open_txns s) (name_here s) w by named in
+    let is = holds.1 in
+    let found = found_in (λ (state : PassState). state.begun) running_of 0 s.passes is.listed.0 holds.0 is.listed.1 in
+    let here : (holds.0).by ≡ name_here s = holds.2 ∙ name_of_pass found.0 found.1 found.3 (sym holds.2 ∙ ap (λ (x : OpenTxn). x.by) found.5) in
+    true_false (sym (name_self (name_here s)) ∙ ap (λ n. same_name n (name_here s)) (sym here) ∙ is.other)
+  where
+    name_of_pass : (j : ℕ) (state : PassState) → slice_get s.passes j ≡ Some state → by ≡ record { job = 0 + j; number = state.begun } → by ≡ name_here s
+    name_of_pass j state at is =
+        let place : 0 + j ≡ s.selected = sym (ap (λ (n : TxnName). n.job) is) ∙ same in
+        let at_it : j ≡ s.selected = omega (arith, place) in
+        let state_is : current s ≡ state = ap (λ k. pass_at s k) (sym at_it) ∙ ap (λ o. unwrap_or o no_pass) at in
+        is ∙ (λ i. record { job = place i; number = (sym state_is i).begun })
+
+-- a commit that is named is later and clashes
+later_there : (s : Core) (start : ℕ) (w : Write) (stamp : ℕ) → newest_later s.kind s.journal start w ≡ Some stamp → Contains (later s.kind s.journal start w) stamp
+later_there s start w stamp named =
+    let place = greatest_in (later s.kind s.journal start w) stamp named in
+    subst (Contains (later s.kind s.journal start w)) (get_or_from_slice_get _ place.0 stamp stamp place.1) (Contains-get_or _ place.0 stamp (slice_get_within _ place.0 stamp place.1))
+
+cause_named : (s : Core) (start : ℕ) (w : Write) (cause : Cause) → conflict_here s start w ≡ Some cause → IsNamed (account_here s) start w s.journal cause
+cause_named s start w (Later stamp) met = later_there s start w stamp (cause_is_later (holder s.kind (open_txns s) (name_here s) w) (newest_later s.kind s.journal start w) stamp met).1
+cause_named s start w (Holder by) met = holder_elsewhere s w by (cause_is_holder (holder s.kind (open_txns s) (name_here s) w) (newest_later s.kind s.journal start w) by met)
+
 refuses_by : (s t : Core) (start : ℕ) (w : Write) (r : Refusal) → IsChosen s → RefusesHere s start w r t → RefusesBy (account_here s) start w r (account_here t) × (t.served ≡ s.served)
 refuses_by s t start w refusals.SelfLoop chosen (why, is) = ((why, stays s t is), ap (λ (c : Core). c.served) is)
 refuses_by s t start w (refusals.NoVertex v) chosen (why, is) = ((why, stays s t is), ap (λ (c : Core). c.served) is)
@@ -82,7 +117,14 @@ refuses_by s t start w refusals.EdgeExists chosen (why, is) = ((why, stays s t i
 refuses_by s t start w refusals.NoEdge chosen (why, is) = ((why, stays s t is), ap (λ (c : Core). c.served) is)
 refuses_by s t start w refusals.HasEdges chosen (why, is) = ((why, stays s t is), ap (λ (c : Core). c.served) is)
 refuses_by s t start w (refusals.Conflict cause) chosen (allowed, met, is) =
-    ((allowed, subst (λ (a : Account). GoesOn (account_here s) a (account_here t)) (cause_noted s start w cause) (goes_on s t _ chosen is)), served_same s t _ is)
+    let seen : (account_here t).seen ≡ s.journal = ap (λ (c : Core). c.journal) is in (
+      (
+        allowed,
+        subst (λ cs. IsNamed (account_here s) start w cs cause) (sym seen) (cause_named s start w cause met),
+        subst (λ (a : Account). GoesOn (account_here s) a (account_here t)) (cause_noted s start w cause) (goes_on s t _ chosen is),
+      ),
+      served_same s t _ is,
+    )
 refuses_by s t start w (refusals.Full leaves) chosen (allowed, met, inserts, leaves_are, count, is) =
     ((allowed, inserts, leaves_are, goes_on s t _ chosen is), served_same s t _ is)
 refuses_by s t start w refusals.NoMemory chosen is = (stays s t is, ap (λ (c : Core). c.served) is)

@@ -96,13 +96,13 @@ state_in-set {S = S} other from states i state inside q = elim (nat_lt q from) a
 
 module _ {S : Type 0} (number : S → ℕ) (current : S → Option Running) where
   -- what stands in the list of open transactions is open of one of the passes
-  abbrev Found : ℕ → List S → OpenTxn → Type 0
+  abbrev pub Found : ℕ → List S → OpenTxn → Type 0
   Found from states x = (j : ℕ) × (s : S) × (t : Running) × (slice_get states j ≡ Some s) × (current s ≡ Some t) × (x ≡ record { by = record { job = from + j; number = number s }; writes = t.writes })
 
   shift : (from j : ℕ) → from + 1 + j ≡ from + suc j
   shift from j = omega arith
 
-  found_in : (from : ℕ) (states : List S) (i : ℕ) (x : OpenTxn) → slice_get (open_txns_of number current from states) i ≡ Some x → Found from states x
+  pub found_in : (from : ℕ) (states : List S) (i : ℕ) (x : OpenTxn) → slice_get (open_txns_of number current from states) i ≡ Some x → Found from states x
   found_in from [] i x e = cc
   found_in from (s ∷ states) i x e = by_current (current s) refl (λ k h. later (found_in (from + 1) states k x h)) i e
     where

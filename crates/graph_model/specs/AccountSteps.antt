@@ -1,5 +1,5 @@
 -- What each call of an engine does to the account of its pass.
-use Rattle.std.specs.Prelude.{◌≡◌, ℕ, ◌+◌, ◌<◌, ◌≤◌, true, List, [], ◌∷◌, ◌++◌, length, slice_get, Option, Some, None, Result, Ok, Err}
+use Rattle.std.specs.Prelude.{◌≡◌, ◌≢◌, ℕ, ◌+◌, ◌<◌, ◌≤◌, true, List, [], ◌∷◌, ◌++◌, length, slice_get, Contains, Option, Some, None, Result, Ok, Err}
 use Rattle.graph_model.specs.declared.write.Write.{Write}
 use Rattle.graph_model.specs.declared.journal.TxnName.{TxnName}
 use Rattle.graph_model.specs.declared.journal.Begun.{Begun}
@@ -11,6 +11,7 @@ use Rattle.graph_model.specs.declared.refusal.Refusal.TheVariants as refusals
 use Rattle.graph_model.specs.declared.refusal.BeginRefusal.{BeginRefusal}
 use Rattle.graph_model.specs.declared.refusal.BeginRefusal.TheVariants as begin_refusals
 use Rattle.graph_model.specs.Graph.{Graph}
+use Rattle.graph_model.specs.Conflict.{later}
 use Rattle.graph_model.specs.Refused.{refused}
 use Rattle.graph_model.specs.History.{view}
 use Rattle.graph_model.specs.Account.{Account}
@@ -72,6 +73,12 @@ with_cause account start w (Later stamp) = account
 with_cause account start w (Holder by) =
     record account { sighted = account.sighted ++ record { by = by; write = w; start = start } ∷ [] }
 
+-- A cause that is named is a commit that has been seen by now, stands behind the start and clashes with
+-- the write, or a transaction of another pass.
+abbrev pub IsNamed : Account → ℕ → Write → List Commit → Cause → Type 0
+IsNamed account start w seen (Later stamp) = Contains (later account.kind seen start w) stamp
+IsNamed account start w seen (Holder by) = by.job ≢ account.job
+
 -- why a write was refused, one line a cause
 abbrev pub RefusesBy : Account → ℕ → Write → Refusal → Account → Type 0
 RefusesBy old start w refusals.SelfLoop new =
@@ -87,7 +94,8 @@ RefusesBy old start w refusals.NoEdge new =
 RefusesBy old start w refusals.HasEdges new =
     (refused (view_of old start) w ≡ Some refusals.HasEdges) × GoesOn old old new
 RefusesBy old start w (refusals.Conflict cause) new =
-    (refused (view_of old start) w ≡ None) × GoesOn old (with_cause old start w cause) new
+    (refused (view_of old start) w ≡ None) × IsNamed old start w new.seen cause
+    × GoesOn old (with_cause old start w cause) new
 RefusesBy old start w (refusals.Full leaves) new =
     (refused (view_of old start) w ≡ None) × (inserts w ≡ true) × (leaves ≡ old.leaves)
     × GoesOn old (record old { filled = true }) new
