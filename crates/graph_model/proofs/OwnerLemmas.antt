@@ -12,6 +12,7 @@ use Rattle.graph_model.specs.declared.refusal.Cause.{Cause}
 use Rattle.graph_model.specs.declared.refusal.Cause.TheVariants.{Later, Holder}
 use Rattle.graph_model.specs.declared.refusal.Refusal.{Refusal}
 use Rattle.graph_model.specs.declared.refusal.Refusal.TheVariants as refusals
+use Rattle.graph_model.specs.declared.refusal.BeginRefusal.{BeginRefusal}
 use Rattle.graph_model.specs.declared.refusal.BeginRefusal.TheVariants as begin_refusals
 use Rattle.graph_model.specs.Account.{Account}
 use Rattle.graph_model.specs.Conflict.{later, OpenTxn, same_name, holder, newest_later}
@@ -20,9 +21,9 @@ use Rattle.graph_model.proofs.TestLemmas.{name_self}
 use Rattle.graph_model.proofs.ExampleLemmas.{true_false}
 use Rattle.graph_model.proofs.PassLemmas.{found_in}
 use Rattle.graph_model.proofs.ConflictLemmas.{greatest_in, holder_is, cause_is_holder, cause_is_later}
-use Rattle.graph_model.specs.AccountSteps.{GoesOn, begun_at, WritesAt, WritesBy, IsNamed, RefusesBy, CommitsBy, with_cause, ended}
-use Rattle.graph_model.specs.OwnerCalls.{PassState, Core, no_pass, pass_at, current, with_current, account_of, account_here, name_here, running_of, open_txns, conflict_here, begun_pass, written_pass, ended_pass, RefusesHere, CommitsHereFrom}
-use Rattle.graph_model.specs.OwnerLaws.{IsChosen, OneOwnerBegins, OneOwnerWrites, OneOwnerReads, OneOwnerCommits, OneOwnerAborts, OneOwnerServes}
+use Rattle.graph_model.specs.AccountSteps.{GoesOn, BeginsBy, begun_at, WritesAt, WritesBy, IsNamed, RefusesBy, CommitsBy, with_cause, ended, IsSteady}
+use Rattle.graph_model.specs.OwnerCalls.{PassState, Core, no_pass, pass_at, current, with_current, account_of, account_here, name_here, running_of, open_txns, conflict_here, begun_pass, written_pass, ended_pass, BeginsHere, WritesHere, RefusesHere, CommitsHereFrom, one_more}
+use Rattle.graph_model.specs.OwnerLaws.{IsChosen, IsExact, OneOwnerBegins, OneOwnerWrites, OneOwnerReads, OneOwnerCommits, OneOwnerAborts, OneOwnerServes}
 use Rattle.graph_model.specs.Transactions.{commit_of}
 
 -- what stands at a place after it was set
@@ -46,20 +47,25 @@ goes_on s t state chosen is = as_it_is (account_here s) (account_of s s.selected
 served_same : (s t : Core) (state : PassState) → t ≡ with_current s state → t.served ≡ s.served
 served_same s t state is = ap (λ (c : Core). c.served) is
 
+-- what the exact call says of the account, with the legal journal behind it
+steadily : {Here By : Type 0} (s t : Core) (turns : ℕ) → IsExact Here s t → By × (t.served ≡ turns) → By × IsSteady (account_here t) turns t.served
+steadily s t turns did (by, served) = (by, record { legal = did.legal; served = served })
+
 stays : (s t : Core) → t ≡ s → GoesOn (account_here s) (account_here s) (account_here t)
 stays s t is = as_it_is (account_here s) (account_here s) (account_here t) refl (ap account_here is)
 
 pub reads_by : OneOwnerReads
-reads_by s t is = (stays s t is, ap (λ (c : Core). c.served) is)
+reads_by s t did = steadily s t s.served did (stays s t did.here, ap (λ (c : Core). c.served) did.here)
 
 pub serves_by : OneOwnerServes
-serves_by s t is = (as_it_is (account_here s) (account_here s) (account_here t) refl (ap account_here is), ap (λ (c : Core). c.served) is)
+serves_by s t did = steadily s t (one_more s.served) did
+    (as_it_is (account_here s) (account_here s) (account_here t) refl (ap account_here did.here), ap (λ (c : Core). c.served) did.here)
 
 pub aborts_by : OneOwnerAborts
-aborts_by s t chosen is = (goes_on s t (ended_pass s) chosen is, served_same s t (ended_pass s) is)
+aborts_by s t did = steadily s t s.served did (goes_on s t (ended_pass s) did.chosen did.here, served_same s t (ended_pass s) did.here)
 
-pub begins_by : OneOwnerBegins
-begins_by s t (Ok begun) chosen (room, is, after) =
+begins_from : (s t : Core) (r : Result Begun BeginRefusal) → IsChosen s → BeginsHere s r t → BeginsBy (account_here s) r (account_here t) × (t.served ≡ s.served)
+begins_from s t (Ok begun) chosen (room, is, after) =
     let start : begun.start ≡ length s.journal = ap (λ (b : Begun). b.start) is in
     let more = goes_on s t (begun_pass s) chosen after in
     let seen : length (account_here t).seen ≡ length s.journal = ap (λ (c : Core). length c.journal) after in (
@@ -72,8 +78,11 @@ begins_by s t (Ok begun) chosen (room, is, after) =
       },
       served_same s t (begun_pass s) after,
     )
-begins_by s t (Err begin_refusals.TxnsUsed) chosen (used, is) = ((used, stays s t is), ap (λ (c : Core). c.served) is)
-begins_by s t (Err begin_refusals.NoMemory) chosen is = (stays s t is, ap (λ (c : Core). c.served) is)
+begins_from s t (Err begin_refusals.TxnsUsed) chosen (used, is) = ((used, stays s t is), ap (λ (c : Core). c.served) is)
+begins_from s t (Err begin_refusals.NoMemory) chosen is = (stays s t is, ap (λ (c : Core). c.served) is)
+
+pub begins_by : OneOwnerBegins
+begins_by s t r did = steadily s t s.served did (begins_from s t r did.chosen did.here)
 
 -- a cause that is noted in the pass is noted in its account
 cause_noted : (s : Core) (start : ℕ) (w : Write) (cause : Cause)
@@ -133,12 +142,15 @@ refuses_by s t start w refusals.NoMemory chosen is = (stays s t is, ap (λ (c : 
 at_start : (old : Account) (w : Write) (r : Result (Unit {0}) Refusal) (new : Account) (start : ℕ) → old.start ≡ Some start → WritesAt old start w r new → WritesBy old w r new
 at_start old w r new start began at = λ other also. subst (λ n. WritesAt old n w r new) (some_eq start other (sym began ∙ also)) at
 
-pub writes_by : OneOwnerWrites
-writes_by s t w (Ok done) chosen (start, began, (allowed, met, is)) =
+writes_from : (s t : Core) (w : Write) (r : Result (Unit {0}) Refusal) → IsChosen s → WritesHere s w r t → WritesBy (account_here s) w r (account_here t) × (t.served ≡ s.served)
+writes_from s t w (Ok done) chosen (start, began, (allowed, met, is)) =
     (at_start (account_here s) w (Ok done) (account_here t) start began (allowed, goes_on s t (written_pass s w) chosen is), served_same s t (written_pass s w) is)
-writes_by s t w (Err refusal) chosen (start, began, refuses) =
+writes_from s t w (Err refusal) chosen (start, began, refuses) =
     let by = refuses_by s t start w refusal chosen refuses in
     (at_start (account_here s) w (Err refusal) (account_here t) start began by.0, by.1)
+
+pub writes_by : OneOwnerWrites
+writes_by s t w r did = steadily s t s.served did (writes_from s t w r did.chosen did.here)
 
 commits_from : (s t : Core) (r : Option ℕ) (start : ℕ) (own : List Write) → own ≡ (current s).own → (current s).start ≡ Some start → IsChosen s → CommitsHereFrom s start own r t
     → CommitsBy (account_here s) r (account_here t) × (t.served ≡ s.served)
@@ -170,4 +182,4 @@ commits_from s t r start (w ∷ ws) same began chosen (stamp, is) =
     )
 
 pub commits_by : OneOwnerCommits
-commits_by s t r chosen (start, began, is) = commits_from s t r start (current s).own refl began chosen is
+commits_by s t r did = let at = did.here in steadily s t s.served did (commits_from s t r at.0 (current s).own refl at.1 did.chosen at.2)

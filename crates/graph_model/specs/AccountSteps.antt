@@ -14,6 +14,7 @@ use Rattle.graph_model.specs.Graph.{Graph}
 use Rattle.graph_model.specs.Conflict.{later}
 use Rattle.graph_model.specs.Refused.{refused}
 use Rattle.graph_model.specs.History.{view}
+use Rattle.graph_model.specs.Legal.{IsLegal}
 use Rattle.graph_model.specs.Account.{Account}
 use Rattle.graph_model.specs.Inserted.{inserts}
 
@@ -136,3 +137,10 @@ CommitsBy old (Some stamp) new =
 -- an abort leaves nothing open
 abbrev pub AbortsBy : Account → Account → Type 0
 AbortsBy old new = GoesOn old (ended old) new
+
+-- ---- any call
+
+-- the journal that was seen after it is legal, and the service has had so many turns
+pub record IsSteady (account : Account) (turns now : ℕ) : Type 0 where
+  pub legal : IsLegal account.kind account.seen
+  pub served : now ≡ turns

@@ -6,7 +6,11 @@
 //!    after it. Laws below the calls give the relation its meaning: by the account for every engine
 //!    (`Engine`), by the whole core where one owner has it all (`StepEngine`). So an engine of many
 //!    passes and one of a single owner meet one trait, each by the relation that it can show.
-//! 3. A call of a `StepEngine` speaks of the selected pass, and changes no other.
+//! 3. The journal that was seen is legal after each call, so that a valid account stays valid. No law
+//!    says this of every engine: a law speaks of all values that an engine might have in a contract,
+//!    and some of these have a journal that isn't legal. What is true of an engine before its first
+//!    call is for its constructor to ensure.
+//! 4. A call of a `StepEngine` speaks of the selected pass, and changes no other.
 
 ghost use Rattle.std.specs.Prelude.{◌≡◌, ◌<◌, ◌≤◌, ℕ, Bool, false, Option, None, Some, IsSome, Result, length};
 ghost use Rattle.graph_model.specs.declared.write.Write.{Write};
@@ -16,8 +20,8 @@ ghost use Rattle.graph_model.specs.declared.refusal.Refusal.{Refusal};
 ghost use Rattle.graph_model.specs.declared.refusal.BeginRefusal.{BeginRefusal};
 ghost use Rattle.graph_model.specs.declared.limits.TheConstants.{MAX_ID};
 ghost use Rattle.items.specs.declared.memory.NoMemory.{NoMemory};
-ghost use Rattle.graph_model.specs.Account.{Account, IsValid};
-ghost use Rattle.graph_model.specs.AccountSteps.{view_of, ReadsBy, BeginsBy, WritesBy, CommitsBy, AbortsBy};
+ghost use Rattle.graph_model.specs.Account.{Account};
+ghost use Rattle.graph_model.specs.AccountSteps.{view_of, ReadsBy, BeginsBy, WritesBy, CommitsBy, AbortsBy, IsSteady};
 ghost use Rattle.graph_model.specs.Graph.{has_vertex, weight_of};
 ghost use Rattle.graph_model.specs.OwnerCalls.{Core, account_here, BeginsHere, WritesHere, CommitsHere, AbortsHere, ServesHere, one_more};
 ghost use Rattle.graph_model.specs.Refused.{IsWithinLimits};
@@ -117,24 +121,23 @@ pub trait Engine {
     fn service_step(&mut self) -> Result<bool, NoMemory>
         ensures { did_serve self.old result self.new };
 
-    ghost valid: { (s : Self) → IsValid (account s) };
-
     ghost begins: { (s t : Self) (r : Result Begun BeginRefusal) → did_begin s r t
-        → BeginsBy (account s) r (account t) × (served t ≡ served s) };
+        → BeginsBy (account s) r (account t) × IsSteady (account t) (served s) (served t) };
 
     ghost wrote: { (s t : Self) (w : Write) (r : Result (Unit {0}) Refusal) → did_write s w r t
-        → WritesBy (account s) w r (account t) × (served t ≡ served s) };
+        → WritesBy (account s) w r (account t) × IsSteady (account t) (served s) (served t) };
 
-    ghost reads: { (s t : Self) → did_read s t → ReadsBy (account s) (account t) × (served t ≡ served s) };
+    ghost reads: { (s t : Self) → did_read s t
+        → ReadsBy (account s) (account t) × IsSteady (account t) (served s) (served t) };
 
     ghost commits: { (s t : Self) (r : Option ℕ) → did_commit s r t
-        → CommitsBy (account s) r (account t) × (served t ≡ served s) };
+        → CommitsBy (account s) r (account t) × IsSteady (account t) (served s) (served t) };
 
     ghost aborts: { (s t : Self) → did_abort s t
-        → AbortsBy (account s) (account t) × (served t ≡ served s) };
+        → AbortsBy (account s) (account t) × IsSteady (account t) (served s) (served t) };
 
     ghost serves: { (s t : Self) (r : Result Bool NoMemory) → did_serve s r t
-        → ReadsBy (account s) (account t) × (served t ≡ one_more (served s)) };
+        → ReadsBy (account s) (account t) × IsSteady (account t) (one_more (served s)) (served t) };
 }
 
 /// An engine that removes vertices too.
@@ -154,8 +157,6 @@ pub trait StepEngine: VertexEngine {
     fn select(&mut self, pass: u32)
         requires { pass < length (core self.old).passes }
         ensures { core self.new ≡ record (core self.old) { selected = pass } };
-
-    ghost chosen: { (s : Self) → (core s).selected < length (core s).passes };
 
     ghost accounts: { (s : Self) → Self.account s ≡ account_here (core s) };
 
