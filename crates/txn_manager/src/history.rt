@@ -1,4 +1,6 @@
 //! The transactions of one pass, by their numbers.
+//!
+//! Only the latest may be open, and an open one has no stamp.
 
 ghost use Rattle.std.specs.Prelude.{◌≡◌, ◌^◌, ◌<◌, length, Some, IsSome, OnOk, OnErr};
 
@@ -17,7 +19,7 @@ pub struct PassHistory {
 }
 
 impl PassHistory {
-    ghost use Rattle.txn_manager.specs.Histories.{no_history, stamp_at, state_at, with_open, with_stamp};
+    ghost use Rattle.txn_manager.specs.Histories.{no_history, stamp_at, state_at, with_open, with_none, with_stamp};
 
     /// Of a pass that has begun nothing.
     pub fn new(alloc: Global) -> PassHistory
@@ -56,9 +58,14 @@ impl PassHistory {
     {
         let latest = self.stamps.len() - 1;
         self.stamps.set(latest, Some(stamp));
-        let start = self.start.unwrap();
+        self.start.take().unwrap()
+    }
+
+    /// Ends the open transaction without a commit.
+    pub fn end(&mut self)
+        ensures { self.new ≡ with_none self.old }
+    {
         self.start = None;
-        start
     }
 
     /// Where the transaction with this number stands.

@@ -1,8 +1,9 @@
 //! Laws of a manager's calls. Each is a function whose contract is the law, and an engine of one owner
 //! rests on them.
 
-ghost use Rattle.txn_manager.specs.ManagerLaws.{NoneIsOpenAtFirst, OpenedIsOpen, WrittenIsOpen, EndedIsGone, OpenIsRunning};
-ghost use Rattle.txn_manager.specs.ManagerLaws.{CheckedCommitIsLegal, HorizonIsBelow, HorizonIsWithin, HorizonIsGreatest};
+ghost use Rattle.txn_manager.specs.ManagerLaws.{NoneIsOpenAtFirst, OpenedIsOpen, WrittenIsOpen, EndedIsGone};
+ghost use Rattle.txn_manager.specs.ManagerLaws.{OpenIsRunning, CheckedCommitIsLegal};
+ghost use Rattle.txn_manager.specs.ManagerLaws.{HorizonIsBelow, HorizonIsWithin, HorizonIsGreatest};
 
 /// Open transactions with their writes stay the manager's open ones while they begin, write and end.
 pub fn calls_follow_transactions()

@@ -1,4 +1,8 @@
 //! The manager of the transactions of one owner.
+//!
+//! 1. A transaction has a stamp in its pass's history exactly where a commit of the journal has its name.
+//! 2. An open transaction has none, and began within the journal.
+//! 3. The journal has room for as many commits as transactions are open.
 
 ghost use Rattle.std.specs.Prelude.{◌≡◌, ◌↔◌, ◌+◌, ◌<◌, length, None, Err, IsSome, IfOk, OnOk, OnErr};
 ghost use Rattle.graph_model.specs.declared.refusal.BeginRefusal.TheVariants.{TxnsUsed};
@@ -13,7 +17,7 @@ use items::RoomyItems;
 use std::alloc::Global;
 use std::marker::Model;
 
-/// The journal and the transactions of each pass.
+/// The journal, the transactions of each pass, and how many a pass may begin.
 #[derive(Drop)]
 pub struct TxnManager {
     journal: RoomyItems<Commit>,
@@ -74,7 +78,8 @@ impl TxnManager {
         })
     }
 
-    /// Ends an open transaction with a commit of its writes, and answers the stamp. Takes no memory.
+    /// Ends an open transaction with a commit of its writes, and answers the stamp. Takes no memory, and
+    /// checks no write: each was checked when it was made.
     pub fn push_commit(&mut self, by: TxnName, writes: Writes) -> u64
         requires is_open { IsSome (open_start self.old by) }
         requires wrote { 0 < length writes }
@@ -97,7 +102,7 @@ impl TxnManager {
         requires { IsSome (open_start self.old by) }
         ensures { self.new ≡ ended self.old by }
     {
-        self.passes[by.job as usize].start = None;
+        self.passes[by.job as usize].end();
     }
 
     /// How many transactions a pass has begun.
