@@ -1,0 +1,87 @@
+//! The names that the words of a run give.
+
+ghost use Rattle.std.specs.Prelude.{◌≡◌, ◌+◌, ◌<◌, [], ◌++◌, map, length, get_or, IfOk};
+ghost use Rattle.std.specs.String.{string_bytes};
+ghost use Rattle.command_line.specs.Words.{taken_names, source_names, report_name, report_names};
+ghost use Rattle.command_line.specs.Lines.{run_names, taken_name, name_at};
+
+use crate::names::TakenName;
+use items::NoMemory;
+use std::alloc::Global;
+
+/// The names that the words of a run give.
+#[derive(Clone, Copy)]
+pub struct CommandLine<'a> {
+    pub vertices: &'a str,
+    pub edges: &'a str,
+    pub journal: &'a str,
+    pub schedule: Option<&'a str>,
+    pub scripts: &'a [String],
+}
+
+impl<'a> CommandLine<'a> {
+    /// The names of the sources, in the order in which they are read.
+    pub fn sources(&self, alloc: Global) -> Result<Vec<&'a str>, NoMemory>
+        ensures { IfOk result (λ names. map (λ name. name.now) names.items ≡ source_names (run_names self.now)) }
+    {
+        let mut names = Vec::new(alloc);
+        names.push(self.vertices)?;
+        names.push(self.edges)?;
+        'scripts: for script in self.scripts {
+            names.push(script.as_str())?;
+        }
+        if let Some(schedule) = self.schedule {
+            names.push(schedule)?;
+        }
+        Ok(names)
+    }
+
+    /// How many names are taken before any script line is read.
+    pub fn taken_len(&self) -> usize
+        ensures { result ≡ length (taken_names (run_names self.now)) }
+    {
+        let schedules = match self.schedule {
+            Some(_) => 1,
+            None => 0,
+        };
+        3 + schedules + self.scripts.len() + self.scripts.len()
+    }
+
+    /// The name at a place among those that are taken before any script line is read.
+    pub fn taken(&self, place: usize) -> TakenName<'a>
+        requires { place < length (taken_names (run_names self.now)) }
+        ensures { taken_name result ≡ get_or (taken_names (run_names self.now)) place [] }
+    {
+        match place {
+            0 => TakenName::Given(self.vertices),
+            1 => TakenName::Given(self.edges),
+            2 => TakenName::Given(self.journal),
+            _ => self.taken_behind_journal(place - 3),
+        }
+    }
+
+    /// The name at a place among the schedule, the scripts and their reports.
+    fn taken_behind_journal(&self, place: usize) -> TakenName<'a>
+        requires { place + 3 < length (taken_names (run_names self.now)) }
+        ensures { taken_name result ≡ get_or (taken_names (run_names self.now)) (place + 3) [] }
+    {
+        match self.schedule {
+            None => self.script_or_report(place),
+            Some(schedule) if place == 0 => TakenName::Given(schedule),
+            Some(_) => self.script_or_report(place - 1),
+        }
+    }
+
+    /// The name at a place among the scripts and their reports.
+    fn script_or_report(&self, place: usize) -> TakenName<'a>
+        requires { place < length self.now.scripts.now + length self.now.scripts.now }
+        ensures { taken_name result ≡ get_or (map string_bytes self.now.scripts.now ++ report_names (run_names self.now)) place [] }
+    {
+        let count = self.scripts.len();
+        if place < count {
+            TakenName::Given(self.scripts[place].as_str())
+        } else {
+            TakenName::ReportOf(self.scripts[place - count].as_str())
+        }
+    }
+}
