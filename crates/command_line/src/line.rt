@@ -1,6 +1,6 @@
 //! The names that the words of a run give.
 
-ghost use Rattle.std.specs.Prelude.{◌≡◌, ◌+◌, ◌<◌, [], ◌++◌, map, length, get_or, IfOk};
+ghost use Rattle.std.specs.Prelude.{◌≡◌, ◌+◌, ◌<◌, [], ◌++◌, map, length, get_or, option_to_list, IfOk};
 ghost use Rattle.std.specs.String.{string_bytes};
 ghost use Rattle.command_line.specs.Words.{taken_names, source_names, report_name, report_names};
 ghost use Rattle.command_line.specs.Lines.{run_names, taken_name, name_at};
@@ -34,6 +34,31 @@ impl<'a> CommandLine<'a> {
             names.push(schedule)?;
         }
         Ok(names)
+    }
+
+    /// The name of the source at a place, or an empty one where there is no such place. Takes no memory.
+    pub fn source(&self, place: usize) -> &'a str
+        ensures { result.now ≡ name_at (source_names (run_names self.now)) place }
+    {
+        match place {
+            0 => self.vertices,
+            1 => self.edges,
+            _ => self.script_or_schedule(place - 2),
+        }
+    }
+
+    /// The name at a place among the scripts and the schedule, or an empty one.
+    fn script_or_schedule(&self, place: usize) -> &'a str
+        ensures { result.now ≡ get_or (map string_bytes self.now.scripts.now ++ option_to_list (run_names self.now).schedule) place [] }
+    {
+        let count = self.scripts.len();
+        if place < count {
+            return self.scripts[place].as_str();
+        }
+        match self.schedule {
+            Some(schedule) if place == count => schedule,
+            _ => "",
+        }
     }
 
     /// How many names are taken before any script line is read.

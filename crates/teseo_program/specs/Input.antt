@@ -1,70 +1,92 @@
 -- What the sources stand for, and why they are refused.
-use Rattle.std.specs.Prelude.{◌≡◌, ℕ, zero, suc, List, [], ◌∷◌}
+use Rattle.std.specs.Prelude.{◌≡◌, ℕ, zero, suc, List, [], ◌∷◌, ◌++◌, length, Option, Some, None, option_to_list, Ok, Err}
 use Rattle.graph_model.specs.declared.limits.TheConstants.{MAX_LOAD_ROWS}
 use Rattle.graph_model.specs.declared.write.Kind.{Kind}
+use Rattle.run_model.specs.declared.command.Command.{Command}
 use Rattle.run_model.specs.Inputs.{Inputs}
 use Rattle.graphalytics_io.specs.declared.edges.Edge.{Edge}
 use Rattle.graphalytics_io.specs.VertexFile.{IsVertexFile}
 use Rattle.graphalytics_io.specs.EdgeFile.{IsEdgeFile}
 use Rattle.graphalytics_io.specs.Load.{load_of}
-use Rattle.script_lang.specs.ScriptFile.{IsScriptFile, lines}
-use Rattle.teseo_program.specs.declared.input.Input.{Input}
-use Rattle.teseo_program.specs.declared.input.ParseStop.{ParseStop}
-use Rattle.teseo_program.specs.declared.input.ParseStop.TheVariants as stops
-use Rattle.teseo_program.specs.Words.{RunNames, taken_names}
+use Rattle.script_lang.specs.declared.refusal.ScriptRefusal.TheVariants as scripts
+use Rattle.script_lang.specs.declared.refusal.ScheduleRefusal.TheVariants as schedules
+use Rattle.script_lang.specs.Scripts.{files_of, script_of}
+use Rattle.script_lang.specs.Schedules.{schedule_of}
+use Rattle.command_line.specs.Words.{RunNames, taken_names}
+use Rattle.teseo_program.specs.declared.fault.SourceFault.{SourceFault}
+use Rattle.teseo_program.specs.declared.fault.SourceFault.TheVariants as faults
 
 -- the bytes of the sources
 pub record Texts : Type 0 where
   pub vertices : List ℕ
   pub edges : List ℕ
-  pub script : List ℕ
+  pub scripts : List (List ℕ)
+  pub schedule : Option (List ℕ)
 
 -- in the order in which they are read
 abbrev pub in_order : Texts → List (List ℕ)
-in_order texts = texts.vertices ∷ texts.edges ∷ texts.script ∷ []
+in_order texts = texts.vertices ∷ texts.edges ∷ (texts.scripts ++ option_to_list texts.schedule)
 
 -- what the sources stand for
 pub record Meaning : Type 0 where
   pub ids : List ℕ
   pub edges : List Edge
-  pub root : ℕ
-  pub file : List ℕ
+  pub scripts : List (List Command)
+  pub schedule : List ℕ
+
+-- each text is a script, where these names and the files of the scripts before it are taken
+abbrev pub AreScripts : List (List ℕ) → List (List ℕ) → List (List Command) → Type 0
+AreScripts taken [] scripts = scripts ≡ []
+AreScripts taken (text ∷ texts) [] = ⊥
+AreScripts taken (text ∷ texts) (script ∷ scripts) =
+    (script_of taken text ≡ Ok script) × AreScripts (taken ++ files_of script) texts scripts
+
+-- without a schedule there are no entries
+abbrev pub IsSchedule : ℕ → Option (List ℕ) → List ℕ → Type 0
+IsSchedule jobs None schedule = schedule ≡ []
+IsSchedule jobs (Some text) schedule = schedule_of jobs text ≡ Ok schedule
 
 -- the sources are accepted, and stand for this
 pub record IsAccepted (names : RunNames) (texts : Texts) (m : Meaning) : Type 0 where
   pub vertices : IsVertexFile texts.vertices MAX_LOAD_ROWS m.ids
   pub edges : IsEdgeFile texts.edges m.ids MAX_LOAD_ROWS m.edges
-  pub script : IsScriptFile texts.script (taken_names names) m.root m.file
+  pub scripts : AreScripts (taken_names names) texts.scripts m.scripts
+  pub schedule : IsSchedule (length names.scripts) texts.schedule m.schedule
 
--- the source at this place isn't accepted, and those before it are
-abbrev pub IsNotAccepted : RunNames → Texts → ℕ → Type 0
-IsNotAccepted names texts zero = (ids : List ℕ) → IsVertexFile texts.vertices MAX_LOAD_ROWS ids → ⊥
-IsNotAccepted names texts (suc zero) =
-    (ids : List ℕ) × IsVertexFile texts.vertices MAX_LOAD_ROWS ids
-    × ((edges : List Edge) → IsEdgeFile texts.edges ids MAX_LOAD_ROWS edges → ⊥)
-IsNotAccepted names texts (suc (suc zero)) =
+-- the schedule has this fault
+abbrev pub HasScheduleFault : ℕ → Option (List ℕ) → SourceFault → Type 0
+HasScheduleFault jobs None fault = ⊥
+HasScheduleFault jobs (Some text) faults.NotAccepted = ⊥
+HasScheduleFault jobs (Some text) (faults.Script line what) = ⊥
+HasScheduleFault jobs (Some text) (faults.Schedule line what) = schedule_of jobs text ≡ Err (schedules.Fault line what)
+
+-- the text is no script, and this is its first fault
+abbrev pub HasScriptFault : List (List ℕ) → List ℕ → SourceFault → Type 0
+HasScriptFault taken text faults.NotAccepted = ⊥
+HasScriptFault taken text (faults.Script line what) = script_of taken text ≡ Err (scripts.Fault line what)
+HasScriptFault taken text (faults.Schedule line what) = ⊥
+
+-- of the scripts and the schedule, the one at the place has this fault, and those before it have none
+abbrev pub IsFaultBehind : ℕ → List (List ℕ) → List (List ℕ) → Option (List ℕ) → ℕ → SourceFault → Type 0
+IsFaultBehind jobs taken [] schedule zero fault = HasScheduleFault jobs schedule fault
+IsFaultBehind jobs taken [] schedule (suc place) fault = ⊥
+IsFaultBehind jobs taken (text ∷ texts) schedule zero fault = HasScriptFault taken text fault
+IsFaultBehind jobs taken (text ∷ texts) schedule (suc place) fault =
+    (script : List Command) × (script_of taken text ≡ Ok script)
+    × IsFaultBehind jobs (taken ++ files_of script) texts schedule place fault
+
+-- the source at this place has this fault, and those before it have none
+abbrev pub IsNotAccepted : RunNames → Texts → ℕ → SourceFault → Type 0
+IsNotAccepted names texts zero fault =
+    (fault ≡ faults.NotAccepted) × ((ids : List ℕ) → IsVertexFile texts.vertices MAX_LOAD_ROWS ids → ⊥)
+IsNotAccepted names texts (suc zero) fault =
+    (fault ≡ faults.NotAccepted) × ((ids : List ℕ) × IsVertexFile texts.vertices MAX_LOAD_ROWS ids
+    × ((edges : List Edge) → IsEdgeFile texts.edges ids MAX_LOAD_ROWS edges → ⊥))
+IsNotAccepted names texts (suc (suc place)) fault =
     (ids : List ℕ) × (edges : List Edge) × IsVertexFile texts.vertices MAX_LOAD_ROWS ids
     × IsEdgeFile texts.edges ids MAX_LOAD_ROWS edges
-    × ((root : ℕ) (file : List ℕ) → IsScriptFile texts.script (taken_names names) root file → ⊥)
-IsNotAccepted names texts (suc (suc (suc place))) = ⊥
+    × IsFaultBehind (length names.scripts) (taken_names names) texts.scripts texts.schedule place fault
 
--- the inputs of the run: the load, and one script of three lines
+-- the inputs of the run
 abbrev pub inputs_of : Kind → Meaning → Inputs
-inputs_of kind m = record { kind = kind; load = load_of m.ids m.edges; scripts = lines m.root m.file ∷ [] }
-
--- ---- as the code has it
-
--- the parsed sources are this meaning
-pub record Means (input : Input) (m : Meaning) : Type 0 where
-  pub ids : input.ids ≡ m.ids
-  pub edges : input.edges ≡ m.edges
-  pub script : input.script ≡ lines m.root m.file
-
--- the parsed sources are what the texts stand for
-abbrev pub IsParsed : RunNames → Texts → Input → Type 0
-IsParsed names texts input = (m : Meaning) × Means input m × IsAccepted names texts m
-
--- why nothing was parsed
-abbrev pub IsParseStop : RunNames → Texts → ParseStop → Type 0
-IsParseStop names texts (stops.NotAccepted place) = IsNotAccepted names texts place
-IsParseStop names texts stops.NoMemory = Unit {0}
+inputs_of kind m = record { kind = kind; load = load_of m.ids m.edges; scripts = m.scripts }

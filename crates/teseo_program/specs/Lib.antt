@@ -1,9 +1,7 @@
-pub mod Words
-pub mod CommandLine
 pub mod Input
-pub mod LoadRows
+pub mod Parsing
 pub mod Sinks
-pub mod ScriptResult
 pub mod Outcomes
 pub mod Prepared
+pub mod Running
 pub mod Laws

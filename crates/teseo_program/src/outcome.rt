@@ -2,7 +2,7 @@
 
 ghost use Rattle.std.specs.Prelude.{◌≡◌};
 
-use crate::input::ParseStop;
+use crate::fault::{ParseStop, SourceFault};
 use desk_io::{ReadStop, WriteStop};
 use graph_model::NoMemory;
 
@@ -11,19 +11,23 @@ use graph_model::NoMemory;
 /// | Outcome | Status | Said |
 /// |---|---|---|
 /// | `Done` | 0 | the summary |
-/// | `NotRead` too long, `NotAccepted` | 1 | `NAME: too long`, `NAME: not accepted` |
+/// | `NotRead` too long | 1 | `NAME: too long` |
+/// | `NotAccepted` | 1 | `NAME: not accepted`, or of a script or a schedule `NAME line L: TEXT` |
 /// | `BadWords` | 2 | `bad words` |
 /// | `NoMemory`, `NotRead` for want of memory | 3 | `no memory` |
 /// | `NotRead` by a fault | 4 | `read failed NAME` |
 /// | `NotWritten` | 5 | `write failed NAME` |
+/// | `Full` | 6 | the summary |
 ///
 /// A place is that of a source, or of an output, among those that the run reads or writes, from 0.
 #[derive(Clone, Copy, Debug, PartialEq, Eq)]
 pub enum Outcome {
     Done,
+    /// All is written, and a write found no place: a report has the line `full`.
+    Full,
     BadWords,
     NotRead(ReadStop),
-    NotAccepted { place: usize },
+    NotAccepted { place: usize, fault: SourceFault },
     NoMemory,
     NotWritten(WriteStop),
 }
@@ -44,6 +48,7 @@ impl Outcome {
             Outcome::NotAccepted { .. } => 1,
             Outcome::NoMemory => 3,
             Outcome::NotWritten(_) => 5,
+            Outcome::Full => 6,
         }
     }
 }
@@ -65,7 +70,7 @@ impl From<ParseStop> for Outcome {
 
     fn from(stop: ParseStop) -> Outcome {
         match stop {
-            ParseStop::NotAccepted { place } => Outcome::NotAccepted { place },
+            ParseStop::NotAccepted { place, fault } => Outcome::NotAccepted { place, fault },
             ParseStop::NoMemory => Outcome::NoMemory,
         }
     }

@@ -2,16 +2,17 @@
 
 ghost use Rattle.std.specs.Prelude.{◌≡◌, ◌≢◌, [], map, AllPairs};
 ghost use Rattle.std.specs.String.{string_bytes};
+ghost use Rattle.desk_io.specs.Outputs.{names_of};
+ghost use Rattle.command_line.specs.Words.{TakesWords, source_names};
+ghost use Rattle.command_line.specs.Lines.{run_names};
 ghost use Rattle.teseo_program.specs.declared.outcome.Outcome.{Outcome};
-ghost use Rattle.teseo_program.specs.CommandLine.{run_names};
-ghost use Rattle.teseo_program.specs.Words.{taken_names};
-ghost use Rattle.teseo_program.specs.Outcomes.{status_of, said_text, OnlySays, IsOutcome, IsRunOutcome};
+ghost use Rattle.teseo_program.specs.Outcomes.{status_of, said_text, blamed, OnlySays, IsOutcome, IsRunOutcome};
 
 use crate::outcome::Outcome;
-use crate::prepare::prepare;
+use crate::prepare::{Prepared, prepare};
 use crate::say::say_outcome;
-use crate::words::{CommandLine, take_words};
-use desk_io::{Desk, Gate, write_all};
+use command_line::{CommandLine, take_words};
+use desk_io::{Desk, Gate, Output, ReadStop, write_all};
 use std::alloc::Global;
 
 /// Runs `teseo` on the words behind its name, and answers the exit status. The gate is for runs with
@@ -27,9 +28,9 @@ pub fn teseo<D: Desk, G: Gate>(alloc: Global, words: &[String], desk: &mut D, _g
 /// its exit status.
 pub fn end_with<D: Desk>(desk: &mut D, outcome: Outcome) -> u8
     ensures status { result ≡ status_of outcome }
-    ensures says { OnlySays (said_text [] [] [] outcome) (D.files desk.old) (D.files desk.new) }
+    ensures says { OnlySays (said_text [] [] outcome) (D.files desk.old) (D.files desk.new) }
 {
-    say_outcome(desk, &[], &[], &[], outcome);
+    say_outcome(desk, "", &[], outcome);
     outcome.status()
 }
 
@@ -40,35 +41,50 @@ fn outcome_of<D: Desk>(alloc: Global, words: &[String], desk: &mut D) -> Outcome
     match take_words(words) {
         Some(line) => run(alloc, desk, &line),
         None => {
-            say_outcome(desk, &[], &[], &[], Outcome::BadWords);
+            say_outcome(desk, "", &[], Outcome::BadWords);
             Outcome::BadWords
         }
     }
 }
 
-/// Runs the script that the command line names.
+/// Runs the scripts that the command line names.
 fn run<D: Desk>(alloc: Global, desk: &mut D, line: &CommandLine<'_>) -> Outcome
-    requires { AllPairs (λ a b. a ≢ b) (taken_names (run_names line.now)) }
+    requires { (words : List (List ℕ)) × TakesWords words (run_names line.now) }
     ensures { IsRunOutcome result (run_names line.now) (D.files desk.old) (D.files desk.new) }
 {
     match prepare(alloc, desk, line) {
         Ok(prepared) => {
-            let outcome = match write_all(desk, prepared.outputs.as_slice()) {
-                Ok(()) => Outcome::Done,
-                Err(stop) => Outcome::NotWritten(stop),
-            };
-            say_outcome(
-                desk,
-                &line.sources(),
-                prepared.outputs.as_slice(),
-                prepared.summary.as_slice(),
-                outcome,
-            );
+            let outcome = write(desk, &prepared);
+            let name = blamed_name(line, prepared.outputs.as_slice(), outcome);
+            say_outcome(desk, name, prepared.summary.as_slice(), outcome);
             outcome
         }
         Err(outcome) => {
-            say_outcome(desk, &line.sources(), &[], &[], outcome);
+            say_outcome(desk, blamed_name(line, &[], outcome), &[], outcome);
             outcome
         }
+    }
+}
+
+/// Writes the outputs, and answers how that went.
+fn write<D: Desk>(desk: &mut D, prepared: &Prepared) -> Outcome
+{
+    match write_all(desk, prepared.outputs.as_slice()) {
+        Ok(()) if prepared.is_full => Outcome::Full,
+        Ok(()) => Outcome::Done,
+        Err(stop) => Outcome::NotWritten(stop),
+    }
+}
+
+/// The name that an outcome blames, or an empty one.
+fn blamed_name<'a>(line: &CommandLine<'a>, outputs: &'a [Output], outcome: Outcome) -> &'a str
+    ensures { result.now ≡ blamed (source_names (run_names line.now)) (names_of outputs.now) outcome }
+{
+    match outcome {
+        Outcome::NotRead(ReadStop::Fault { place }) => line.source(place),
+        Outcome::NotRead(ReadStop::TooLong { place }) => line.source(place),
+        Outcome::NotAccepted { place, .. } => line.source(place),
+        Outcome::NotWritten(stop) => output_at(outputs, stop.place),
+        _ => "",
     }
 }

@@ -1,69 +1,53 @@
 //! What is said at the end of a run, piece by piece.
+//!
+//! 1. Saying takes no memory, so that want of memory can be said too.
 
-ghost use Rattle.std.specs.Prelude.{◌≡◌, map};
-ghost use Rattle.desk_io.specs.Outputs.{names_of};
-ghost use Rattle.teseo_program.specs.Outcomes.{OnlySays, said_text, text_line, name_at};
+ghost use Rattle.std.specs.Prelude.{◌≡◌, decimal};
+ghost use Rattle.teseo_program.specs.Outcomes.{OnlySays, said_text, text_line, line_text, fault_text};
 
+use crate::fault::SourceFault;
 use crate::outcome::Outcome;
-use desk_io::{Desk, Output, ReadStop};
+use desk_io::{Desk, ReadStop};
+use itoa::Buffer;
 
-/// Says how a run ended. Takes no memory.
-pub fn say_outcome<D: Desk>(
-    desk: &mut D,
-    sources: &[&str],
-    outputs: &[Output],
-    summary: &[u8],
-    outcome: Outcome,
-)
-    ensures { OnlySays (said_text (map (λ name. name.now) sources.now) (names_of outputs.now) summary.now outcome)
-        (D.files desk.old) (D.files desk.new) }
+/// Says how a run ended, by the name that the outcome blames, where it blames one, and the summary. Takes no memory.
+pub fn say_outcome<D: Desk>(desk: &mut D, name: &str, summary: &[u8], outcome: Outcome)
+    ensures { OnlySays (said_text name.now summary.now outcome) (D.files desk.old) (D.files desk.new) }
 {
     match outcome {
         Outcome::Done => say_text(desk, summary),
+        Outcome::Full => say_text(desk, summary),
         Outcome::BadWords => say_text(desk, b"bad words\n"),
-        Outcome::NotRead(ReadStop::Fault { place }) => {
-            say_line(desk, b"read failed ", source_at(sources, place).as_bytes())
-        }
-        Outcome::NotRead(ReadStop::TooLong { place }) => {
-            say_line(desk, source_at(sources, place).as_bytes(), b": too long")
-        }
+        Outcome::NotRead(ReadStop::Fault { .. }) => say_line(desk, b"read failed ", name.as_bytes()),
+        Outcome::NotRead(ReadStop::TooLong { .. }) => say_line(desk, name.as_bytes(), b": too long"),
         Outcome::NotRead(ReadStop::NoMemory) => say_text(desk, b"no memory\n"),
-        Outcome::NotAccepted { place } => {
-            say_line(
-                desk,
-                source_at(sources, place).as_bytes(),
-                b": not accepted",
-            )
-        }
+        Outcome::NotAccepted { fault, .. } => say_fault(desk, name, fault),
         Outcome::NoMemory => say_text(desk, b"no memory\n"),
-        Outcome::NotWritten(stop) => {
-            say_line(
-                desk,
-                b"write failed ",
-                output_at(outputs, stop.place).as_bytes(),
-            )
-        }
+        Outcome::NotWritten(_) => say_line(desk, b"write failed ", name.as_bytes()),
     }
 }
 
-/// The name at a place, or an empty one where there is no such place.
-fn source_at<'a>(sources: &[&'a str], place: usize) -> &'a str
-    ensures { result.now ≡ name_at (map (λ name. name.now) sources.now) place }
+/// Says what is wrong with the source of this name.
+fn say_fault<D: Desk>(desk: &mut D, name: &str, fault: SourceFault)
+    ensures { OnlySays (fault_text name.now fault) (D.files desk.old) (D.files desk.new) }
 {
-    match sources.get(place) {
-        Some(name) => name,
-        None => "",
+    match fault {
+        SourceFault::NotAccepted => say_line(desk, name.as_bytes(), b": not accepted"),
+        SourceFault::Script { line, what } => say_line_fault(desk, name, line, what.text()),
+        SourceFault::Schedule { line, what } => say_line_fault(desk, name, line, what.text()),
     }
 }
 
-/// The name of the output at a place, or an empty one where there is no such place.
-fn output_at(outputs: &[Output], place: usize) -> &str
-    ensures { result.now ≡ name_at (names_of outputs.now) place }
+/// Says what is wrong with a line of the source of this name.
+fn say_line_fault<D: Desk>(desk: &mut D, name: &str, line: u64, what: &str)
+    ensures { OnlySays (line_text name.now line what.now) (D.files desk.old) (D.files desk.new) }
 {
-    match outputs.get(place) {
-        Some(output) => output.name(),
-        None => "",
-    }
+    desk.say(name.as_bytes());
+    desk.say(b" line ");
+    desk.say(Buffer::new().format(line).as_bytes());
+    desk.say(b": ");
+    desk.say(what.as_bytes());
+    desk.say(b"\n");
 }
 
 /// Says two texts and a line feed.
