@@ -254,19 +254,3 @@ fn joined(alloc: Global, text: &Vec<u8>, bytes: &[u8]) -> Result<Vec<u8>, AllocE
     longer.extend_from_slice(bytes)?;
     Ok(longer)
 }
-
-#[cfg(test)]
-mod tests {
-    use super::*;
-
-    #[test]
-    fn what_was_said_is_told(rt: HostRuntime) {
-        let mut desk = MemoryDesk::new(rt.alloc());
-        desk.say(b"done\n");
-        desk.say(b"well done\n");
-        assert_eq!(rt;
-            (desk.said(), desk.file_count()),
-            (Some(b"done\nwell done\n".as_slice()), 0)
-        );
-    }
-}

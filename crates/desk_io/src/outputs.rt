@@ -66,27 +66,3 @@ pub fn write_all<D: Desk>(desk: &mut D, outputs: &[Output]) -> Result<(), WriteS
     }
     Ok(())
 }
-
-#[cfg(test)]
-mod tests {
-    use super::*;
-    use crate::memory_desk::MemoryDesk;
-    use std::test::Fail;
-
-    #[test]
-    fn an_output_is_created_and_written(rt: HostRuntime) -> Result<(), Fail> {
-        let name = String::from_str(rt.alloc(), "o")?;
-        let text = Vec::from_slice(rt.alloc(), b"7\n")?;
-        let outputs = [Output::new(name, Items::from_vec(text))];
-        for (failing, want) in [
-            (1, (Err(WriteStop { place: 0 }), None)),
-            (2, (Err(WriteStop { place: 0 }), Some(b"".as_slice()))),
-            (3, (Ok(()), Some(b"7\n".as_slice()))),
-        ] {
-            let mut desk = MemoryDesk::with_failing(rt.alloc(), &[failing])?;
-            let result = write_all(&mut desk, &outputs);
-            assert!(rt; (result, desk.get("o")) == want, "call {failing} fails");
-        }
-        Ok(())
-    }
-}

@@ -67,36 +67,3 @@ fn stop_at(place: usize, refusal: SourceRefusal) -> ReadStop
         SourceRefusal::NoMemory => ReadStop::NoMemory,
     }
 }
-
-#[cfg(test)]
-mod tests {
-    use super::*;
-    use crate::memory_desk::MemoryDesk;
-    use std::test::Fail;
-
-    #[test]
-    fn the_first_source_that_is_refused_is_named(rt: HostRuntime) -> Result<(), Fail> {
-        let alloc = rt.alloc();
-        // Each source takes two calls: its bytes, and its end.
-        for (failing, limit, want) in [
-            (0, 9, Ok(3)),
-            (3, 9, Err(ReadStop::Fault { place: 1 })),
-            (6, 9, Err(ReadStop::Fault { place: 2 })),
-            (0, 4, Err(ReadStop::TooLong { place: 2 })),
-        ] {
-            let mut desk = MemoryDesk::with_failing(alloc, &[failing])?;
-            desk.put("v", b"1\n2\n")?;
-            desk.put("e", b"1 2\n")?;
-            desk.put("s1", b"begin\n")?;
-            let got = match read_all(alloc, &mut desk, &["v", "e", "s1"], limit) {
-                Ok(sources) => Ok(sources.len()),
-                Err(stop) => Err(stop),
-            };
-            assert!(rt;
-                got == want,
-                "with limit {limit} and call {failing} failing"
-            );
-        }
-        Ok(())
-    }
-}
