@@ -5,3 +5,7 @@ pub mod ListLemmas
 pub mod SnapshotLemmas
 pub mod ShortLemmas
 pub mod ExampleLemmas
+pub mod LineLemmas
+pub mod GrowthLemmas
+pub mod OpenLemmas
+pub mod AnswerLemmas

@@ -5,6 +5,7 @@ pub mod Inputs
 pub mod Run
 pub mod Jobs
 pub mod Stepped
+pub mod UnderWay
 pub mod Texts
 pub mod Laws
 pub mod Examples

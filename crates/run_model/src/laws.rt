@@ -1,6 +1,6 @@
 //! Laws of runs and of their texts. Each is a function whose contract is the law.
 
-ghost use Rattle.run_model.specs.Laws.{TextIsOfOneJournal, TextIsOfOneReport, RunsAreShort, TextsTellRuns, SteppedRunsAreRuns};
+ghost use Rattle.run_model.specs.Laws.{TextIsOfOneJournal, TextIsOfOneReport, RunsAreShort, TextsTellRuns, FirstIsUnderWay, TurnIsUnderWay, ReachedIsUnderWay, SteppedRunsAreRuns};
 ghost use Rattle.run_model.specs.Examples.{ConflictExamples, AnswerExamples, WrongAnswers, WrongParts, TextExamples};
 
 /// Two journals with the same text are equal, where no number has more than 64 digits.
@@ -21,6 +21,13 @@ pub fn runs_have_short_numbers()
 /// Two runs that wrote the same text of a journal or of a report have the same journal or report.
 pub fn texts_tell_runs()
     ensures { TextsTellRuns }
+{}
+
+/// Each state that turns lead to from the inputs is that of a run under way.
+pub fn turns_keep_runs_under_way()
+    ensures first { FirstIsUnderWay }
+    ensures turn { TurnIsUnderWay }
+    ensures reached { ReachedIsUnderWay }
 {}
 
 /// What scripts give that take their turns by a schedule and then by rotation is a run.
