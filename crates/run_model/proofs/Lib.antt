@@ -9,3 +9,5 @@ pub mod LineLemmas
 pub mod GrowthLemmas
 pub mod OpenLemmas
 pub mod AnswerLemmas
+pub mod SetLemmas
+pub mod UnderWayLemmas
