@@ -17,6 +17,7 @@ use Rattle.graph_model.proofs.ClashLemmas.{clash-symm}
 use Rattle.graph_model.proofs.PlaceLemmas.{some_eq}
 use Rattle.graph_model.proofs.TestLemmas.{eq_of}
 use Rattle.run_model.specs.declared.command.Command.{Command}
+use Rattle.run_model.specs.declared.command.Command.TheVariants as commands
 use Rattle.run_model.specs.declared.answer.Answer.{Answer}
 use Rattle.run_model.specs.Requests.{Query, WeightOf, NeighboursOf, Counts, Kernel, Bfs, Wcc, Cdlp, Sssp, Request, ToBegin, ToCommit, ToAbort, ToWrite, ToRead, ToRun, write_of, request, next_txn, open_behind, IsRequest, IsScript}
 use Rattle.run_model.specs.AnsweredLines.{AnsweredLine, effect, made_by, own_writes}
@@ -56,6 +57,24 @@ must_begin c rest is = by_request (request c) is.1
     by_request (ToWrite w) next = absurd next
     by_request (ToRead query) next = absurd next
     by_request (ToRun kernel file) next = absurd next
+
+-- only a `commit` asks for one
+pub asks_commit : (c : Command) → request c ≡ ToCommit → c ≡ commands.Commit
+asks_commit commands.Commit f = refl
+asks_commit commands.Begin f = cc
+asks_commit commands.Abort f = cc
+asks_commit (commands.AddVertex v) f = cc
+asks_commit (commands.DropVertex v) f = cc
+asks_commit (commands.AddEdge u v weight) f = cc
+asks_commit (commands.SetEdge u v weight) f = cc
+asks_commit (commands.DropEdge u v) f = cc
+asks_commit (commands.Weight u v) f = cc
+asks_commit (commands.Neighbours v) f = cc
+asks_commit commands.Count f = cc
+asks_commit (commands.Bfs root file) f = cc
+asks_commit (commands.Wcc file) f = cc
+asks_commit (commands.Cdlp rounds file) f = cc
+asks_commit (commands.Sssp root file) f = cc
 
 -- a write that may want a place may be answered `full`
 pub may_be_full : (w : Write) → inserts w ≡ true → MayBeFull w

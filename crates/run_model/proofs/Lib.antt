@@ -11,3 +11,4 @@ pub mod OpenLemmas
 pub mod AnswerLemmas
 pub mod SetLemmas
 pub mod UnderWayLemmas
+pub mod TurnLemmas
