@@ -12,3 +12,4 @@ pub mod AnswerLemmas
 pub mod SetLemmas
 pub mod UnderWayLemmas
 pub mod TurnLemmas
+pub mod SteppedLemmas
