@@ -13,3 +13,4 @@ pub mod SetLemmas
 pub mod UnderWayLemmas
 pub mod TurnLemmas
 pub mod SteppedLemmas
+pub mod StepLemmas

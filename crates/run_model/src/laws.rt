@@ -1,6 +1,6 @@
 //! Laws of runs and of their texts. Each is a function whose contract is the law.
 
-ghost use Rattle.run_model.specs.Laws.{TextIsOfOneJournal, TextIsOfOneReport, RunsAreShort, TextsTellRuns, FirstIsUnderWay, TurnIsUnderWay, ReachedIsUnderWay, SteppedRunsAreRuns};
+ghost use Rattle.run_model.specs.Laws.{TextIsOfOneJournal, TextIsOfOneReport, RunsAreShort, TextsTellRuns, FirstIsUnderWay, TurnIsUnderWay, ReachedIsUnderWay, SteppedRunsAreRuns, FullSettlesRuns};
 ghost use Rattle.run_model.specs.Examples.{ConflictExamples, AnswerExamples, WrongAnswers, WrongParts, TextExamples};
 
 /// Two journals with the same text are equal, where no number has more than 64 digits.
@@ -33,6 +33,11 @@ pub fn turns_keep_runs_under_way()
 /// What scripts give that take their turns by a schedule and then by rotation is a run.
 pub fn stepped_runs_are_runs()
     ensures { SteppedRunsAreRuns }
+{}
+
+/// Two runs by the same turns that find no place for the same writes give the same.
+pub fn full_lines_settle_runs()
+    ensures { FullSettlesRuns }
 {}
 
 /// The texts of a small journal, and of one answer of each kind.
