@@ -14,3 +14,4 @@ pub mod UnderWayLemmas
 pub mod TurnLemmas
 pub mod SteppedLemmas
 pub mod StepLemmas
+pub mod FullLemmas

@@ -116,7 +116,7 @@ AreFullAlike xs ys = (k i : ℕ) (ls ms : List AnsweredLine) (l m : AnsweredLine
     → (l.answer ≡ answers.Full → m.answer ≡ answers.Full) × (m.answer ≡ answers.Full → l.answer ≡ answers.Full)
 
 -- it doesn't matter which is named first
-full_alike-symm : (xs ys : List JobState) → AreFullAlike xs ys → AreFullAlike ys xs
+pub full_alike-symm : (xs ys : List JobState) → AreFullAlike xs ys → AreFullAlike ys xs
 full_alike-symm xs ys alike k i ls ms l m at_l at_m in_l in_m = let r = alike k i ms ls m l at_m at_l in_m in_l in (r.1, r.0)
 
 -- and it was so before

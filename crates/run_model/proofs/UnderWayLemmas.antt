@@ -26,7 +26,8 @@ use Rattle.run_model.specs.Stepped.{context_in}
 use Rattle.run_model.specs.UnderWay.{open_by_name, is_within, script_of, IsToldByLines, IsJob, IsUnderWay}
 use Rattle.run_model.proofs.GrowthLemmas.{answered_grows, all_grow, all_more}
 use Rattle.run_model.proofs.LineLemmas.{numbered_more, shown_more, start_below, next_least}
-use Rattle.run_model.proofs.SetLemmas.{get_set, get_set_else, set_cases, map_set, get_map, map_get, append_cases, sum_set, sum_map}
+use Rattle.run_model.proofs.StepLemmas.{LinesGoOn, lines_set}
+use Rattle.run_model.proofs.SetLemmas.{get_set, set_cases, map_set, get_map, map_get, append_cases, sum_set, sum_map}
 
 -- the run behind a line of the script at place k
 abbrev pub answered_run : RunState → ℕ → JobState → Command → List Command → LineResult → RunState
@@ -68,20 +69,8 @@ module _ (inputs : Inputs) (leaves : ℕ) (s : RunState) (u : IsUnderWay inputs 
   old_job = u.each k j at
 
   -- the lines of each script go on
-  lines_go_on : (m : ℕ) (ls : List AnsweredLine) → slice_get (lines_so_far s) m ≡ Some ls → (more : List AnsweredLine) × (slice_get (lines_so_far s') m ≡ Some (ls ++ more))
-  lines_go_on m ls e =
-      let r = map_get (λ (x : JobState). x.lines) s.jobs m ls e in
-      elim (m == k) as (λ t. (m == k) ≡ t → (more : List AnsweredLine) × (slice_get (lines_so_far s') m ≡ Some (ls ++ more))) [
-        | true ↦ λ f.
-            let same : m ≡ k = eq_of m k f in
-            let it : r.0 ≡ j = some_eq r.0 j (sym r.1 ∙ ap (slice_get s.jobs) same ∙ at) in (
-              line ∷ [],
-              ap (slice_get (lines_so_far s')) same ∙ get_map (λ (x : JobState). x.lines) s'.jobs k j' (get_set s.jobs k j' inside)
-                  ∙ ap (λ xs. Some (xs ++ line ∷ [])) (ap (λ (x : JobState). x.lines) (sym it) ∙ r.2),
-            )
-        | false ↦ λ f.
-            ([], get_map (λ (x : JobState). x.lines) s'.jobs m r.0 (get_set_else s.jobs k m j' f ∙ r.1) ∙ ap Some (r.2 ∙ sym (append-nil ls)))
-      ] refl
+  lines_go_on : LinesGoOn s.jobs s'.jobs
+  lines_go_on = lines_set s.jobs k j j' (line ∷ []) at refl
 
   longer_journal : length s.journal ≤ length s'.journal
   longer_journal = omega (arith, length-append s.journal o.commits)
