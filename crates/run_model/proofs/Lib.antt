@@ -15,3 +15,4 @@ pub mod TurnLemmas
 pub mod SteppedLemmas
 pub mod StepLemmas
 pub mod FullLemmas
+pub mod TurnExampleLemmas

@@ -1,7 +1,7 @@
 //! Laws of runs and of their texts. Each is a function whose contract is the law.
 
 ghost use Rattle.run_model.specs.Laws.{TextIsOfOneJournal, TextIsOfOneReport, RunsAreShort, TextsTellRuns, FirstIsUnderWay, TurnIsUnderWay, ReachedIsUnderWay, SteppedRunsAreRuns, FullSettlesRuns};
-ghost use Rattle.run_model.specs.Examples.{ConflictExamples, AnswerExamples, WrongAnswers, WrongParts, TextExamples};
+ghost use Rattle.run_model.specs.Examples.{ConflictExamples, AnswerExamples, WrongAnswers, WrongParts, TextExamples, OrderExamples, TurnExamples, CountExamples};
 
 /// Two journals with the same text are equal, where no number has more than 64 digits.
 pub fn journal_text_is_of_one_journal()
@@ -51,4 +51,11 @@ pub fn worked_runs_hold()
     ensures answers { AnswerExamples }
     ensures wrong_answers { WrongAnswers }
     ensures wrong_parts { WrongParts }
+{}
+
+/// Runs by turns that were worked by hand, by rotation and by a schedule, with the turns that they take.
+pub fn worked_turns_hold()
+    ensures order { OrderExamples }
+    ensures conflicts { TurnExamples }
+    ensures counts { CountExamples }
 {}

@@ -1,0 +1,210 @@
+-- The examples of runs by turns, turn by turn.
+use Rattle.std.proofs.Common.{◌≡◌, ℕ, zero, suc, ◌+◌, ◌/◌, ◌<◌, ◌≤◌, List, [], ◌∷◌, ◌++◌, length, refl, sym, ◌∙◌, ap, subst, arith}
+use Rattle.std.specs.Prelude.{Bool, true, false, ◌||◌, slice_get, Option, Some, None, map as list_map}
+use Rattle.std.specs.FinMap as fin_map
+use Rattle.std.specs.List.{list_any}
+use Rattle.std.proofs.lemmas.Bool.{true≢false}
+use Rattle.std.proofs.lemmas.Option.{none-some}
+use Rattle.graph_model.specs.declared.write.Kind.TheVariants.{Undirected}
+use Rattle.graph_model.specs.declared.write.Write.{Write}
+use Rattle.graph_model.specs.declared.write.Write.TheVariants as writes
+use Rattle.graph_model.specs.declared.journal.Commit.{Commit}
+use Rattle.graph_model.specs.declared.refusal.Cause.{Cause}
+use Rattle.graph_model.specs.declared.refusal.Cause.TheVariants.{Later, Holder}
+use Rattle.graph_model.specs.Graph.{Graph, empty_graph, vertices_of, apply_all}
+use Rattle.graph_model.specs.Refused.{refused}
+use Rattle.graph_model.specs.Rows.{first_key, end_key, all_rows}
+use Rattle.graph_model.proofs.EntryLemmas.{entries_made, refused_at, vertices_are, rows_at}
+use Rattle.graph_model.proofs.PlaceLemmas.{some_eq}
+use Rattle.run_model.specs.declared.command.Command.{Command}
+use Rattle.run_model.specs.declared.command.Command.TheVariants as commands
+use Rattle.run_model.specs.declared.answer.Answer.{Answer}
+use Rattle.run_model.specs.declared.answer.Answer.TheVariants as answers
+use Rattle.run_model.specs.Requests.{ToCommit}
+use Rattle.run_model.specs.AnsweredLines.{AnsweredLine}
+use Rattle.run_model.specs.Answering.{edges_in}
+use Rattle.run_model.specs.Inputs.{Inputs, File, Outputs}
+use Rattle.run_model.specs.Run.{Context, txn_name, load_commit, HasFiles}
+use Rattle.run_model.specs.Jobs.{JobState, RunState, LineResult, new_job, first_state, lines_so_far, answered_job, goes_on, writes_more, stops, ends, begins, skips, write_result, turn, has_ended}
+use Rattle.run_model.specs.Stepped.{Setting, setting_of, turn_at, context_in, IsReached}
+use Rattle.run_model.specs.Laws.{HasFull}
+use Rattle.run_model.specs.Examples.{load, sets, nine, OrderExamples, MeetsByTurns, TurnExamples, vertices_to, CountsRows, CountExamples}
+use Rattle.run_model.proofs.ExampleLemmas.{at_two, is_full, two_inputs}
+use Rattle.run_model.proofs.FullLemmas.{full_settles}
+use Rattle.run_model.proofs.UnderWayLemmas.{answered_run}
+
+pub orders : OrderExamples
+orders = record { by_rotation = refl; by_schedule = refl; service = refl; one_script = refl }
+
+module _ (inputs : Inputs) (schedule : List ℕ) where
+  -- the state behind so many turns
+  abbrev At : ℕ → RunState → Type 0
+  At n s = IsReached (setting_of inputs 1 schedule) (first_state inputs) n s
+
+  -- one turn more, in which a place is found
+  next : (n : ℕ) (before s : RunState) → At n before → has_ended before ≡ false → s ≡ turn inputs.kind before (turn_at (length inputs.scripts) schedule n) false → At (suc n) s
+  next n before s reached going step = (before, false, reached, going, (λ f. absurd (true≢false (sym f))), step)
+
+-- ---- two scripts that set one edge
+
+set_nine : refused (apply_all Undirected empty_graph load) (writes.SetEdge 1 2 9) ≡ None
+set_nine = refused_at _ _ _ (entries_made Undirected load) (writes.SetEdge 1 2 9)
+
+set_eight : refused (apply_all Undirected empty_graph load) (writes.SetEdge 1 2 8) ≡ None
+set_eight = refused_at _ _ _ (entries_made Undirected load) (writes.SetEdge 1 2 8)
+
+-- the first script before its first line, and behind each
+abbrev a0 : JobState
+a0 = new_job (sets 9)
+
+abbrev a1 : JobState
+a1 = answered_job a0 commands.Begin (commands.SetEdge 1 2 9 ∷ commands.Commit ∷ []) (begins (txn_name 1 1) 1)
+
+abbrev a2 : JobState
+a2 = answered_job a1 (commands.SetEdge 1 2 9) (commands.Commit ∷ []) (writes_more a1 (writes.SetEdge 1 2 9))
+
+abbrev a3 : JobState
+a3 = answered_job a2 commands.Commit [] (ends (answers.Committed (Some 2)) (nine 2 ∷ []))
+
+-- and the second
+abbrev b0 : JobState
+b0 = new_job (sets 8)
+
+abbrev b1 : JobState
+b1 = answered_job b0 commands.Begin (commands.SetEdge 1 2 8 ∷ commands.Commit ∷ []) (begins (txn_name 2 1) 1)
+
+abbrev b2 : Cause → JobState
+b2 cause = answered_job b1 (commands.SetEdge 1 2 8) (commands.Commit ∷ []) (stops (answers.Conflict cause))
+
+abbrev b3 : Cause → JobState
+b3 cause = answered_job (b2 cause) commands.Commit [] (skips ToCommit)
+
+-- before the first has committed, and behind it
+abbrev early : JobState → JobState → RunState
+early a b = record { journal = load_commit load ∷ []; jobs = a ∷ b ∷ [] }
+
+abbrev late : JobState → JobState → RunState
+late a b = record { journal = load_commit load ∷ nine 2 ∷ []; jobs = a ∷ b ∷ [] }
+
+-- the first sets the edge; the second meets it, or its commit
+first_sets : early a2 b1 ≡ turn Undirected (early a1 b1) 1 false
+first_sets = ap (λ r. answered_run (early a1 b1) 0 a1 (commands.SetEdge 1 2 9) (commands.Commit ∷ []) (write_result a1 (writes.SetEdge 1 2 9) r None false)) (sym set_nine)
+
+second_meets_open : early a2 (b2 (Holder (txn_name 1 1))) ≡ turn Undirected (early a2 b1) 2 false
+second_meets_open = ap (λ r. answered_run (early a2 b1) 1 b1 (commands.SetEdge 1 2 8) (commands.Commit ∷ []) (write_result b1 (writes.SetEdge 1 2 8) r (Some (Holder (txn_name 1 1))) false)) (sym set_eight)
+
+second_meets_later : late a3 (b2 (Later 2)) ≡ turn Undirected (late a3 b1) 2 false
+second_meets_later = ap (λ r. answered_run (late a3 b1) 1 b1 (commands.SetEdge 1 2 8) (commands.Commit ∷ []) (write_result b1 (writes.SetEdge 1 2 8) r (Some (Later 2)) false)) (sym set_eight)
+
+-- what the last state gives
+set_runs : (schedule : List ℕ) (cause : Cause) (turns : ℕ) → IsReached (setting_of two_inputs 1 schedule) (first_state two_inputs) turns (late a3 (b3 cause)) → MeetsByTurns schedule cause
+set_runs schedule cause turns reached = record {
+  turns = turns;
+  last = late a3 (b3 cause);
+  reached = reached;
+  over = refl;
+  journal = refl;
+  reports = refl;
+  filed = refl;
+  files = λ k ls files at_script at_files.
+      let none : [] ≡ files = at_two (λ k fs. [] ≡ fs) [] [] refl refl k files at_files in
+      subst (λ fs. HasFiles (context_in Undirected load (late a3 (b3 cause)) k) [] ls fs) none
+      (at_two (λ k ls. HasFiles (context_in Undirected load (late a3 (b3 cause)) k) [] ls []) a3.lines (b3 cause).lines ([], refl, ([], refl, ([], refl, refl))) ([], refl, ([], refl, ([], refl, refl))) k ls at_script);
+}
+
+abbrev open_one : Cause
+open_one = Holder (txn_name 1 1)
+
+rotated_turns : At two_inputs [] 8 (late a3 (b3 open_one))
+rotated_turns =
+    next two_inputs [] 7 (late a3 (b2 open_one)) (late a3 (b3 open_one))
+    (next two_inputs [] 6 (early a2 (b2 open_one)) (late a3 (b2 open_one))
+    (next two_inputs [] 5 (early a2 (b2 open_one)) (early a2 (b2 open_one))
+    (next two_inputs [] 4 (early a2 b1) (early a2 (b2 open_one))
+    (next two_inputs [] 3 (early a1 b1) (early a2 b1)
+    (next two_inputs [] 2 (early a1 b1) (early a1 b1)
+    (next two_inputs [] 1 (early a1 b0) (early a1 b1)
+    (next two_inputs [] 0 (early a0 b0) (early a1 b0) refl refl refl)
+    refl refl) refl refl) refl first_sets) refl second_meets_open) refl refl) refl refl) refl refl
+
+abbrev in_a_row : List ℕ
+in_a_row = 2 ∷ 1 ∷ 1 ∷ 1 ∷ 2 ∷ 2 ∷ []
+
+scheduled_turns : At two_inputs in_a_row 6 (late a3 (b3 (Later 2)))
+scheduled_turns =
+    next two_inputs in_a_row 5 (late a3 (b2 (Later 2))) (late a3 (b3 (Later 2)))
+    (next two_inputs in_a_row 4 (late a3 b1) (late a3 (b2 (Later 2)))
+    (next two_inputs in_a_row 3 (early a2 b1) (late a3 b1)
+    (next two_inputs in_a_row 2 (early a1 b1) (early a2 b1)
+    (next two_inputs in_a_row 1 (early a0 b1) (early a1 b1)
+    (next two_inputs in_a_row 0 (early a0 b0) (early a0 b1) refl refl refl)
+    refl refl) refl first_sets) refl refl) refl second_meets_later) refl refl
+
+-- reports in which no answer is `full`
+no_full : (reports : List (List Answer)) → list_any (λ r. list_any is_full r) reports ≡ false → (k i : ℕ) → HasFull reports k i → ⊥
+no_full [] none k i is = none-some _ is.1
+no_full (r ∷ reports) none zero i is = in_report r i (neither (list_any is_full r) _ none).0 (ap (λ xs. slice_get xs i) (some_eq r is.0 is.1) ∙ is.2)
+  where
+    neither : (a b : Bool) → (a || b) ≡ false → (a ≡ false) × (b ≡ false)
+    neither true b e = cc
+    neither false b e = (refl, e)
+
+    in_report : (xs : List Answer) (i : ℕ) → list_any is_full xs ≡ false → slice_get xs i ≡ Some answers.Full → ⊥
+    in_report [] i none at = none-some _ at
+    in_report (x ∷ xs) zero none at =
+        let full : is_full x ≡ true = ap is_full (some_eq x answers.Full at) in
+        true≢false (sym full ∙ (neither (is_full x) _ none).0)
+    in_report (x ∷ xs) (suc i) none at = in_report xs i (neither (is_full x) _ none).1 at
+no_full (r ∷ reports) none (suc k) i is = no_full reports (rest (list_any is_full r) _ none) k i is
+  where
+    rest : (a b : Bool) → (a || b) ≡ false → b ≡ false
+    rest true b e = cc
+    rest false b e = e
+
+abbrev second_report : Cause → List Answer
+second_report c = answers.Begun (txn_name 2 1) 1 ∷ answers.Conflict c ∷ answers.Skipped ∷ []
+
+abbrev both_reports : Cause → List (List Answer)
+both_reports c = (answers.Begun (txn_name 1 1) 1 ∷ answers.Done ∷ answers.Committed (Some 2) ∷ []) ∷ second_report c ∷ []
+
+-- one schedule gives one cause
+one_cause : (schedule : List ℕ) (cause cause' : Cause) → MeetsByTurns schedule cause → MeetsByTurns schedule cause' → cause ≡ cause'
+one_cause schedule cause cause' is that =
+    let same = full_settles two_inputs 1 1 schedule _ _ is that (λ k i. ((λ full. absurd (no_full (both_reports cause) refl k i full)), (λ full. absurd (no_full (both_reports cause') refl k i full)))) in
+    second _ _ (ap (λ (x : Outputs). x.reports) same)
+  where
+    second : (xs ys : List Answer) → xs ∷ second_report cause ∷ [] ≡ ys ∷ second_report cause' ∷ [] → cause ≡ cause'
+    second xs ys e = let r : second_report cause ≡ second_report cause' = some_eq _ _ (ap (λ rs. slice_get rs 1) e) in cc
+
+pub turns : TurnExamples
+turns = record {
+  while_open = set_runs [] open_one 8 rotated_turns;
+  not_yet_later = λ run. other_cause (one_cause [] open_one (Later 2) (set_runs [] open_one 8 rotated_turns) run);
+  once_committed = set_runs in_a_row (Later 2) 6 scheduled_turns;
+  no_longer_open = λ run. other_cause (one_cause in_a_row open_one (Later 2) run (set_runs in_a_row (Later 2) 6 scheduled_turns));
+}
+  where
+    other_cause : open_one ≡ Later 2 → ⊥
+    other_cause e = cc
+
+-- ---- a count
+
+-- what the vertices make: so many rows, as many vertices, no edge
+record IsCounted (n : ℕ) : Type 0 where
+  rows : length (all_rows (apply_all Undirected empty_graph (vertices_to n))) ≡ n
+  vertices : length (vertices_of (apply_all Undirected empty_graph (vertices_to n))) ≡ n
+  edges : edges_in Undirected (apply_all Undirected empty_graph (vertices_to n)) ≡ 0
+
+counted_few : IsCounted 63
+counted_few = record {
+  rows = ap length (rows_at _ _ _ (entries_made Undirected (vertices_to 63)) first_key end_key);
+  vertices = ap length (vertices_are _ _ _ (entries_made Undirected (vertices_to 63)));
+  edges = ap (λ n. n / 2) (fin_map.len-entries (apply_all Undirected empty_graph (vertices_to 63)).arcs ∙ ap length (entries_made Undirected (vertices_to 63)).arcs);
+}
+
+counted_many : IsCounted 64
+counted_many = record {
+  rows = ap length (rows_at _ _ _ (entries_made Undirected (vertices_to 64)) first_key end_key);
+  vertices = ap length (vertices_are _ _ _ (entries_made Undirected (vertices_to 64)));
+  edges = ap (λ n. n / 2) (fin_map.len-entries (apply_all Undirected empty_graph (vertices_to 64)).arcs ∙ ap length (entries_made Undirected (vertices_to 64)).arcs);
+}
