@@ -1,10 +1,9 @@
 -- Two runs by the same turns that answer `full` at the same lines give the same.
-use Rattle.std.proofs.Common.{◌≡◌, ℕ, zero, suc, ◌+◌, ◌-◌, ◌<◌, ◌≤◌, List, [], ◌∷◌, ◌++◌, map, length, refl, sym, ◌∙◌, ap, subst, arith, ⊎_elim}
-use Rattle.std.specs.Prelude.{◌↔◌, ◌⊎◌, true, false, slice_get, Option, Some, None}
+use Rattle.std.proofs.Common.{◌≡◌, ℕ, suc, ◌+◌, ◌-◌, ◌<◌, List, [], ◌∷◌, ◌++◌, map, length, refl, sym, ◌∙◌, ap, subst, arith, ⊎_elim}
+use Rattle.std.specs.Prelude.{true, slice_get, Option, Some, None}
 use Rattle.std.proofs.lemmas.Bool.{true≢false, cases_order}
 use Rattle.std.proofs.lemmas.List.{length-map}
 use Rattle.graph_model.specs.declared.write.Kind.{Kind}
-use Rattle.graph_model.specs.declared.journal.Commit.{Commit}
 use Rattle.graph_model.specs.declared.table.Entry.{Entry}
 use Rattle.graph_model.specs.Graph.{Graph}
 use Rattle.graph_model.specs.Tables.{IsBfsValue, IsSsspValue, IsWccValue, IsCdlpValue}
@@ -13,17 +12,17 @@ use Rattle.graph_model.proofs.PlaceLemmas.{some_eq}
 use Rattle.graph_model.proofs.TableLemmas.{one_table, one_bfs_value, one_sssp_value, one_wcc_value, one_cdlp_value}
 use Rattle.run_model.specs.declared.answer.Answer.{Answer}
 use Rattle.run_model.specs.declared.answer.Answer.TheVariants as answers
-use Rattle.run_model.specs.Requests.{Kernel, Bfs, Wcc, Cdlp, Sssp, request}
-use Rattle.run_model.specs.AnsweredLines.{AnsweredLine, effect}
+use Rattle.run_model.specs.Requests.{Kernel, Bfs, Wcc, Cdlp, Sssp}
+use Rattle.run_model.specs.AnsweredLines.{AnsweredLine}
 use Rattle.run_model.specs.Answering.{IsKernelTable}
-use Rattle.run_model.specs.Inputs.{Inputs, File, Outputs}
-use Rattle.run_model.specs.Run.{Context, Filing, filing_of, IsFiled, HasFile, HasFiles}
+use Rattle.run_model.specs.Inputs.{File}
+use Rattle.run_model.specs.Run.{Context, Filing, IsFiled, HasFile, HasFiles}
 use Rattle.run_model.specs.Jobs.{JobState, RunState, new_job, first_state, lines_so_far, has_ended}
-use Rattle.run_model.specs.Stepped.{Setting, setting_of, context_in, IsReached, IsStepped}
+use Rattle.run_model.specs.Stepped.{Setting, setting_of, context_in, IsReached}
 use Rattle.run_model.specs.Laws.{HasFull, FullSettlesRuns}
 use Rattle.run_model.proofs.ListLemmas.{there}
 use Rattle.run_model.proofs.SetLemmas.{get_map, map_get}
-use Rattle.run_model.proofs.StepLemmas.{LinesGoOn, lines_stay, AreFullAlike, full_alike-symm, full_alike_before, reached_count, reached_before, reached_alike}
+use Rattle.run_model.proofs.StepLemmas.{lines_stay, AreFullAlike, full_alike-symm, full_alike_before, reached_count, reached_before, reached_alike}
 
 -- ---- kernel files
 

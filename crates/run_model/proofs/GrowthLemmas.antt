@@ -10,7 +10,7 @@ use Rattle.graph_model.specs.declared.journal.Commit.{Commit}
 use Rattle.graph_model.specs.declared.refusal.Cause.{Cause}
 use Rattle.graph_model.specs.declared.refusal.Cause.TheVariants.{Later, Holder}
 use Rattle.graph_model.specs.declared.refusal.Refusal.{Refusal}
-use Rattle.graph_model.specs.Graph.{Graph, apply_all}
+use Rattle.graph_model.specs.Graph.{apply_all}
 use Rattle.graph_model.specs.Refused.{refused}
 use Rattle.graph_model.specs.Conflict.{meets, later}
 use Rattle.graph_model.proofs.LegalLemmas.{graph_at-append, get_front}

@@ -1,7 +1,7 @@
 -- What the lines before a line tell, where one line more stands behind them.
 use Rattle.std.proofs.Common.{◌≡◌, ℕ, ◌<◌, ◌≤◌, List, [], ◌∷◌, ◌++◌, map, refl, sym, ◌∙◌, ap, arith, cond}
-use Rattle.std.specs.Prelude.{Bool, true, false, ◌==◌, ◌||◌, Option, Some, None, max}
-use Rattle.std.specs.List.{filter, filter_map, list_any}
+use Rattle.std.specs.Prelude.{true, false, ◌==◌, ◌||◌, Option, Some, None, max}
+use Rattle.std.specs.List.{filter_map, list_any}
 use Rattle.std.proofs.lemmas.Bool.Decides.{nat_tests}
 use Rattle.std.proofs.lemmas.List.Elements.{filter-append, filter_map-append}
 use Rattle.std.proofs.lemmas.List.Folds.{list_any-append}

@@ -1,14 +1,13 @@
 -- The open transactions of scripts by their names: which one changes with one script, and the list of them.
 use Rattle.std.proofs.Common.{◌≡◌, ℕ, ◌+◌, ◌-◌, List, [], refl, sym, ◌∙◌, ap, subst, cond, arith, inl, inr}
-use Rattle.std.specs.Prelude.{◌⊎◌, true, false, ◌==◌, ◌&&◌, not, nat_lt, Option, Some, None, slice_get, slice_set, unwrap_or}
-use Rattle.std.proofs.lemmas.Bool.{false_from_ne_true}
+use Rattle.std.specs.Prelude.{◌⊎◌, true, false, ◌==◌, nat_lt, Option, Some, None, slice_get, slice_set, unwrap_or}
 use Rattle.std.proofs.lemmas.Bool.Decides.{nat_tests}
 use Rattle.graph_model.specs.declared.journal.TxnName.{TxnName}
 use Rattle.graph_model.specs.declared.write.Kind.{Kind}
 use Rattle.graph_model.specs.declared.write.Write.{Write}
 use Rattle.graph_model.specs.Conflict.{OpenTxn, same_name, meets}
 use Rattle.graph_model.specs.ConflictLaws.{NoHolder}
-use Rattle.graph_model.specs.Transactions.{Running, Changes, IsListed, MeetsNoHolder, own_of, writes_of_running}
+use Rattle.graph_model.specs.Transactions.{Running, Changes, IsListed, MeetsNoHolder, writes_of_running}
 use Rattle.graph_model.specs.Passes.{latest_name, of_latest, revised, state_in}
 use Rattle.graph_model.proofs.LegalLemmas.{below_length}
 use Rattle.graph_model.proofs.PassLemmas.{changes_latest, changes_next, is_listed, state_in-set}

@@ -1,6 +1,6 @@
 -- Lists by their places: where one element is set, images of elements, and sums over them.
 use Rattle.std.proofs.Common.{◌≡◌, ℕ, zero, suc, ◌+◌, ◌<◌, ◌≤◌, List, [], ◌∷◌, ◌++◌, map, length, refl, sym, ◌∙◌, ap, arith, inl, inr}
-use Rattle.std.specs.Prelude.{◌⊎◌, true, false, ◌==◌, slice_get, slice_set, sum_by, Option, Some}
+use Rattle.std.specs.Prelude.{◌⊎◌, true, false, ◌==◌, slice_get, slice_set, sum_by, Some}
 use Rattle.std.proofs.lemmas.Bool.{true≢false}
 use Rattle.std.proofs.lemmas.Bool.Decides.{nat_tests}
 use Rattle.std.proofs.lemmas.List.Sums.{sum_by-append}

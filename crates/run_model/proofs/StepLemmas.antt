@@ -1,6 +1,6 @@
 -- Turns only add lines, and two turns that differ in nothing but whether a place is found differ in a `full`.
-use Rattle.std.proofs.Common.{◌≡◌, ℕ, zero, suc, ◌+◌, ◌<◌, ◌≤◌, List, [], ◌∷◌, ◌++◌, map, length, refl, sym, ◌∙◌, ap, subst, arith, cond, inl, inr, append_assoc}
-use Rattle.std.specs.Prelude.{◌⊎◌, Bool, true, false, ◌==◌, ◌&&◌, nat_lt, slice_get, slice_set, Option, Some, None}
+use Rattle.std.proofs.Common.{◌≡◌, ℕ, zero, suc, ◌+◌, List, [], ◌∷◌, ◌++◌, map, length, refl, sym, ◌∙◌, ap, subst, arith, cond, inl, inr, append_assoc}
+use Rattle.std.specs.Prelude.{◌⊎◌, Bool, true, false, ◌==◌, nat_lt, slice_get, slice_set, Option, Some, None}
 use Rattle.std.proofs.lemmas.List.{append-nil}
 use Rattle.graph_model.specs.declared.write.Kind.{Kind}
 use Rattle.graph_model.specs.declared.write.Write.{Write}
@@ -14,12 +14,11 @@ use Rattle.graph_model.proofs.LegalLemmas.{below_length, get_front}
 use Rattle.graph_model.proofs.PlaceLemmas.{some_eq, get_end}
 use Rattle.graph_model.proofs.TestLemmas.{eq_of}
 use Rattle.run_model.specs.declared.command.Command.{Command}
-use Rattle.run_model.specs.declared.answer.Answer.{Answer}
 use Rattle.run_model.specs.declared.answer.Answer.TheVariants as answers
 use Rattle.run_model.specs.Requests.{Request, ToBegin, ToCommit, ToAbort, ToWrite, ToRead, ToRun, request}
 use Rattle.run_model.specs.AnsweredLines.{AnsweredLine}
 use Rattle.run_model.specs.Run.{txn_name}
-use Rattle.run_model.specs.Jobs.{JobState, RunState, LineResult, open_txns, lines_so_far, start_of_job, view_of_job, answered_job, goes_on, writes_more, stops, skips, write_result, live_result, line_result, turns_of, with_job, line_turn, job_turn, turn_at_place, turn, has_ended}
+use Rattle.run_model.specs.Jobs.{JobState, RunState, LineResult, open_txns, start_of_job, view_of_job, answered_job, writes_more, stops, skips, write_result, live_result, line_result, turns_of, with_job, line_turn, job_turn, turn_at_place, turn, has_ended}
 use Rattle.run_model.specs.Stepped.{Setting, turn_at, IsReached}
 use Rattle.run_model.proofs.SetLemmas.{get_set, get_set_else, get_map, map_get}
 

@@ -1,6 +1,6 @@
 -- A run is under way before its first turn, and where all scripts have ended it is one.
 use Rattle.std.proofs.Common.{◌≡◌, ℕ, zero, suc, ◌+◌, ◌<◌, ◌≤◌, List, [], ◌∷◌, ◌++◌, map, length, refl, sym, ◌∙◌, ap, subst, arith, cond, inl, inr}
-use Rattle.std.specs.Prelude.{◌⊎◌, Bool, true, false, ◌==◌, ◌-◌, ◌&&◌, nat_lt, slice_get, Option, Some, None, unwrap_or}
+use Rattle.std.specs.Prelude.{◌⊎◌, Bool, true, false, ◌-◌, nat_lt, slice_get, Option, Some, None, unwrap_or}
 use Rattle.std.specs.List.{list_all, AllByRecursion}
 use Rattle.std.proofs.lemmas.Bool.{true≢false}
 use Rattle.std.proofs.lemmas.List.{append-nil, length-map}
@@ -21,11 +21,10 @@ use Rattle.graph_model.proofs.TestLemmas.{name_self, name_eq, name_symm, both_of
 use Rattle.graph_model.proofs.TransactionLemmas.{none_at_first, commit_keeps}
 use Rattle.run_model.specs.declared.command.Command.{Command}
 use Rattle.run_model.specs.declared.answer.Answer.{Answer}
-use Rattle.run_model.specs.AnsweredLines.{AnsweredLine, answered_lines}
-use Rattle.run_model.specs.Inputs.{Inputs, AreInputs, File, Outputs}
-use Rattle.run_model.specs.Run.{IsRun, AllAnswered, HasFiles, IsLoad, IsShown, MayFill, answered_scripts, run_lines, txn_name, load_stamp, load_commit}
-use Rattle.run_model.specs.Jobs.{JobState, RunState, new_job, load_journal, first_state, lines_so_far, running_of, is_empty, has_ended}
-use Rattle.run_model.specs.Stepped.{setting_of, context_in, IsReached, IsStepped}
+use Rattle.run_model.specs.AnsweredLines.{AnsweredLine}
+use Rattle.run_model.specs.Run.{AllAnswered, HasFiles, IsLoad, IsShown, MayFill, answered_scripts, run_lines, txn_name, load_stamp, load_commit}
+use Rattle.run_model.specs.Jobs.{JobState, RunState, new_job, load_journal, first_state, lines_so_far, running_of, is_empty}
+use Rattle.run_model.specs.Stepped.{context_in}
 use Rattle.run_model.specs.UnderWay.{AreNumbered, open_by_name, script_of, IsJob, IsUnderWay}
 use Rattle.run_model.specs.Laws.{FirstIsUnderWay, SteppedRunsAreRuns}
 use Rattle.run_model.proofs.LineLemmas.{numbered_lines}

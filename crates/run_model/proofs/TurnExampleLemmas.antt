@@ -1,32 +1,29 @@
 -- The examples of runs by turns, turn by turn.
-use Rattle.std.proofs.Common.{◌≡◌, ℕ, zero, suc, ◌+◌, ◌/◌, ◌<◌, ◌≤◌, List, [], ◌∷◌, ◌++◌, length, refl, sym, ◌∙◌, ap, subst, arith}
-use Rattle.std.specs.Prelude.{Bool, true, false, ◌||◌, slice_get, Option, Some, None, map as list_map}
+use Rattle.std.proofs.Common.{◌≡◌, ℕ, zero, suc, ◌+◌, ◌/◌, List, [], ◌∷◌, length, refl, sym, ◌∙◌, ap, subst}
+use Rattle.std.specs.Prelude.{Bool, cond, nat_lt, true, false, ◌||◌, slice_get, Some, None}
 use Rattle.std.specs.FinMap as fin_map
 use Rattle.std.specs.List.{list_any}
 use Rattle.std.proofs.lemmas.Bool.{true≢false}
 use Rattle.std.proofs.lemmas.Option.{none-some}
 use Rattle.graph_model.specs.declared.write.Kind.TheVariants.{Undirected}
-use Rattle.graph_model.specs.declared.write.Write.{Write}
 use Rattle.graph_model.specs.declared.write.Write.TheVariants as writes
-use Rattle.graph_model.specs.declared.journal.Commit.{Commit}
 use Rattle.graph_model.specs.declared.refusal.Cause.{Cause}
 use Rattle.graph_model.specs.declared.refusal.Cause.TheVariants.{Later, Holder}
-use Rattle.graph_model.specs.Graph.{Graph, empty_graph, vertices_of, apply_all}
+use Rattle.graph_model.specs.Graph.{Graph, empty_graph, apply_all}
+use Rattle.graph_model.specs.History.{view}
 use Rattle.graph_model.specs.Refused.{refused}
 use Rattle.graph_model.specs.Rows.{first_key, end_key, all_rows}
 use Rattle.graph_model.proofs.EntryLemmas.{entries_made, refused_at, vertices_are, rows_at}
 use Rattle.graph_model.proofs.PlaceLemmas.{some_eq}
-use Rattle.run_model.specs.declared.command.Command.{Command}
 use Rattle.run_model.specs.declared.command.Command.TheVariants as commands
 use Rattle.run_model.specs.declared.answer.Answer.{Answer}
 use Rattle.run_model.specs.declared.answer.Answer.TheVariants as answers
-use Rattle.run_model.specs.Requests.{ToCommit}
-use Rattle.run_model.specs.AnsweredLines.{AnsweredLine}
-use Rattle.run_model.specs.Answering.{edges_in}
-use Rattle.run_model.specs.Inputs.{Inputs, File, Outputs}
-use Rattle.run_model.specs.Run.{Context, txn_name, load_commit, HasFiles}
-use Rattle.run_model.specs.Jobs.{JobState, RunState, LineResult, new_job, first_state, lines_so_far, answered_job, goes_on, writes_more, stops, ends, begins, skips, write_result, turn, has_ended}
-use Rattle.run_model.specs.Stepped.{Setting, setting_of, turn_at, context_in, IsReached}
+use Rattle.run_model.specs.Requests.{Counts, ToCommit}
+use Rattle.run_model.specs.Answering.{edges_in, query_answer}
+use Rattle.run_model.specs.Inputs.{Inputs, Outputs}
+use Rattle.run_model.specs.Run.{txn_name, load_commit, HasFiles}
+use Rattle.run_model.specs.Jobs.{JobState, RunState, new_job, line_turn, first_state, answered_job, goes_on, writes_more, stops, ends, begins, skips, write_result, turn, has_ended}
+use Rattle.run_model.specs.Stepped.{setting_of, turn_at, context_in, IsReached}
 use Rattle.run_model.specs.Laws.{HasFull}
 use Rattle.run_model.specs.Examples.{load, sets, nine, OrderExamples, MeetsByTurns, TurnExamples, vertices_to, CountsRows, CountExamples}
 use Rattle.run_model.proofs.ExampleLemmas.{at_two, is_full, two_inputs}
@@ -189,22 +186,127 @@ turns = record {
 
 -- ---- a count
 
--- what the vertices make: so many rows, as many vertices, no edge
-record IsCounted (n : ℕ) : Type 0 where
-  rows : length (all_rows (apply_all Undirected empty_graph (vertices_to n))) ≡ n
-  vertices : length (vertices_of (apply_all Undirected empty_graph (vertices_to n))) ≡ n
-  edges : edges_in Undirected (apply_all Undirected empty_graph (vertices_to n)) ≡ 0
+-- what the counting script sees
+abbrev seen : ℕ → Graph
+seen n = view Undirected (load_commit (vertices_to n) ∷ []) 1 []
 
-counted_few : IsCounted 63
-counted_few = record {
+-- it has so many rows, and as many vertices; so this is what a count is answered
+record IsCounted (n : ℕ) : Type 0 where
+  rows : length (all_rows (seen n)) ≡ n
+  answer : query_answer Undirected (seen n) Counts ≡ answers.Counted n 0
+
+counted_63 : IsCounted 63
+counted_63 = record {
   rows = ap length (rows_at _ _ _ (entries_made Undirected (vertices_to 63)) first_key end_key);
-  vertices = ap length (vertices_are _ _ _ (entries_made Undirected (vertices_to 63)));
-  edges = ap (λ n. n / 2) (fin_map.len-entries (apply_all Undirected empty_graph (vertices_to 63)).arcs ∙ ap length (entries_made Undirected (vertices_to 63)).arcs);
+  answer = (λ i. answers.Counted (length (vertices_are _ _ _ (entries_made Undirected (vertices_to 63)) i)) (no_edges i));
+}
+  where
+    no_edges : edges_in Undirected (seen 63) ≡ 0
+    no_edges = ap (λ n. n / 2) (fin_map.len-entries (seen 63).arcs ∙ ap length (entries_made Undirected (vertices_to 63)).arcs)
+
+counted_64 : IsCounted 64
+counted_64 = record {
+  rows = ap length (rows_at _ _ _ (entries_made Undirected (vertices_to 64)) first_key end_key);
+  answer = (λ i. answers.Counted (length (vertices_are _ _ _ (entries_made Undirected (vertices_to 64)) i)) (no_edges i));
+}
+  where
+    no_edges : edges_in Undirected (seen 64) ≡ 0
+    no_edges = ap (λ n. n / 2) (fin_map.len-entries (seen 64).arcs ∙ ap length (entries_made Undirected (vertices_to 64)).arcs)
+
+abbrev count_inputs : ℕ → Inputs
+count_inputs n = record {
+  kind = Undirected;
+  load = vertices_to n;
+  scripts = (commands.Begin ∷ commands.Count ∷ commands.Abort ∷ []) ∷ (commands.Begin ∷ commands.Commit ∷ []) ∷ [];
 }
 
-counted_many : IsCounted 64
-counted_many = record {
-  rows = ap length (rows_at _ _ _ (entries_made Undirected (vertices_to 64)) first_key end_key);
-  vertices = ap length (vertices_are _ _ _ (entries_made Undirected (vertices_to 64)));
-  edges = ap (λ n. n / 2) (fin_map.len-entries (apply_all Undirected empty_graph (vertices_to 64)).arcs ∙ ap length (entries_made Undirected (vertices_to 64)).arcs);
+-- the script that counts: before its first line, behind each, and with so many turns of the count taken
+abbrev c0 : JobState
+c0 = new_job (commands.Begin ∷ commands.Count ∷ commands.Abort ∷ [])
+
+abbrev c1 : ℕ → JobState
+c1 taken = record (answered_job c0 commands.Begin (commands.Count ∷ commands.Abort ∷ []) (begins (txn_name 1 1) 1)) { taken = taken }
+
+abbrev c2 : ℕ → JobState
+c2 n = answered_job (c1 0) commands.Count (commands.Abort ∷ []) (goes_on (c1 0) (answers.Counted n 0))
+
+abbrev c3 : ℕ → JobState
+c3 n = answered_job (c2 n) commands.Abort [] (ends answers.Aborted [])
+
+-- the script that does nothing
+abbrev d0 : JobState
+d0 = new_job (commands.Begin ∷ commands.Commit ∷ [])
+
+abbrev d1 : JobState
+d1 = answered_job d0 commands.Begin (commands.Commit ∷ []) (begins (txn_name 2 1) 1)
+
+abbrev d2 : JobState
+d2 = answered_job d1 commands.Commit [] (ends (answers.Committed None) [])
+
+abbrev counting : ℕ → JobState → JobState → RunState
+counting n c d = record { journal = load_commit (vertices_to n) ∷ []; jobs = c ∷ d ∷ [] }
+
+module _ (n : ℕ) (is : IsCounted n) (d : JobState) (taken : ℕ) where
+  -- while more rows are left than a turn gives, the count goes on
+  count_waits : nat_lt (taken + 1) (n / 64 + 1) ≡ true → counting n (c1 (taken + 1)) d ≡ turn Undirected (counting n (c1 taken) d) 1 false
+  count_waits more =
+      ap (λ t. cond t (counting n (c1 (taken + 1)) d) (line_turn Undirected (counting n (c1 taken) d) 0 false (c1 taken) commands.Count (commands.Abort ∷ [])))
+      (sym (ap (λ r. nat_lt (taken + 1) (r / 64 + 1)) is.rows ∙ more))
+
+  -- then it is answered
+  count_ends : nat_lt (taken + 1) (n / 64 + 1) ≡ false → counting n (c2 n) d ≡ turn Undirected (counting n (c1 taken) d) 1 false
+  count_ends last =
+      ap (λ a. counting n (answered_job (c1 taken) commands.Count (commands.Abort ∷ []) (goes_on (c1 taken) a)) d) (sym is.answer)
+      ∙ ap (λ t. cond t (counting n (c1 (taken + 1)) d) (line_turn Undirected (counting n (c1 taken) d) 0 false (c1 taken) commands.Count (commands.Abort ∷ [])))
+      (sym (ap (λ r. nat_lt (taken + 1) (r / 64 + 1)) is.rows ∙ last))
+
+-- what the last state gives
+counts_by : (n turns : ℕ) → At (count_inputs n) [] turns (counting n (c3 n) d2) → CountsRows n
+counts_by n turns reached = record {
+  turns = turns;
+  last = counting n (c3 n) d2;
+  reached = reached;
+  over = refl;
+  journal = refl;
+  reports = refl;
+  filed = refl;
+  files = λ k ls files at_script at_files.
+      let none : [] ≡ files = at_two (λ k fs. [] ≡ fs) [] [] refl refl k files at_files in
+      subst (λ fs. HasFiles (context_in Undirected (vertices_to n) (counting n (c3 n) d2) k) [] ls fs) none
+      (at_two (λ k ls. HasFiles (context_in Undirected (vertices_to n) (counting n (c3 n) d2) k) [] ls []) (c3 n).lines d2.lines ([], refl, ([], refl, ([], refl, refl))) ([], refl, ([], refl, refl)) k ls at_script);
+}
+
+few_turns : At (count_inputs 63) [] 7 (counting 63 (c3 63) d2)
+few_turns =
+    next (count_inputs 63) [] 6 (counting 63 (c2 63) d2) (counting 63 (c3 63) d2)
+    (next (count_inputs 63) [] 5 (counting 63 (c2 63) d2) (counting 63 (c2 63) d2)
+    (next (count_inputs 63) [] 4 (counting 63 (c2 63) d1) (counting 63 (c2 63) d2)
+    (next (count_inputs 63) [] 3 (counting 63 (c1 0) d1) (counting 63 (c2 63) d1)
+    (next (count_inputs 63) [] 2 (counting 63 (c1 0) d1) (counting 63 (c1 0) d1)
+    (next (count_inputs 63) [] 1 (counting 63 (c1 0) d0) (counting 63 (c1 0) d1)
+    (next (count_inputs 63) [] 0 (counting 63 c0 d0) (counting 63 (c1 0) d0) refl refl refl)
+    refl refl) refl refl) refl (count_ends 63 counted_63 d1 0 refl)) refl refl) refl refl) refl refl
+
+many_turns : At (count_inputs 64) [] 10 (counting 64 (c3 64) d2)
+many_turns =
+    next (count_inputs 64) [] 9 (counting 64 (c2 64) d2) (counting 64 (c3 64) d2)
+    (next (count_inputs 64) [] 8 (counting 64 (c2 64) d2) (counting 64 (c2 64) d2)
+    (next (count_inputs 64) [] 7 (counting 64 (c2 64) d2) (counting 64 (c2 64) d2)
+    (next (count_inputs 64) [] 6 (counting 64 (c1 1) d2) (counting 64 (c2 64) d2)
+    (next (count_inputs 64) [] 5 (counting 64 (c1 1) d2) (counting 64 (c1 1) d2)
+    (next (count_inputs 64) [] 4 (counting 64 (c1 1) d1) (counting 64 (c1 1) d2)
+    (next (count_inputs 64) [] 3 (counting 64 (c1 0) d1) (counting 64 (c1 1) d1)
+    (next (count_inputs 64) [] 2 (counting 64 (c1 0) d1) (counting 64 (c1 0) d1)
+    (next (count_inputs 64) [] 1 (counting 64 (c1 0) d0) (counting 64 (c1 0) d1)
+    (next (count_inputs 64) [] 0 (counting 64 c0 d0) (counting 64 (c1 0) d0) refl refl refl)
+    refl refl) refl refl) refl (count_waits 64 counted_64 d1 0 refl)) refl refl) refl refl) refl (count_ends 64 counted_64 d2 1 refl)) refl refl) refl refl) refl refl
+
+pub counts : CountExamples
+unfolding counts_by
+counts = record {
+  in_one = counts_by 63 7 few_turns;
+  one_turn = refl;
+  in_two = counts_by 64 10 many_turns;
+  two_turns = refl;
+  service = refl;
 }

@@ -1,11 +1,10 @@
 -- A run stays under way behind each turn.
-use Rattle.std.proofs.Common.{◌≡◌, ◌≢◌, ℕ, zero, suc, ◌+◌, ◌<◌, ◌≤◌, List, [], ◌∷◌, ◌++◌, map, length, refl, sym, ◌∙◌, ap, subst, arith, cond, inl, inr, length-append}
-use Rattle.std.specs.Prelude.{◌⊎◌, Bool, true, false, ◌==◌, ◌&&◌, ◌||◌, not, nat_lt, slice_get, slice_set, Option, Some, None, is_some, unwrap_or, option_map, Contains}
+use Rattle.std.proofs.Common.{◌≡◌, ℕ, zero, suc, ◌+◌, ◌<◌, ◌≤◌, List, [], ◌∷◌, ◌++◌, map, length, refl, sym, ◌∙◌, ap, subst, arith, cond, inl, inr, length-append}
+use Rattle.std.specs.Prelude.{◌⊎◌, Bool, true, false, ◌&&◌, ◌||◌, not, nat_lt, slice_get, slice_set, Option, Some, None, is_some, unwrap_or, option_map}
 use Rattle.std.specs.List.{filter_map, cons_option, list_any}
 use Rattle.std.proofs.lemmas.Bool.{true≢false, false_from_ne_true}
 use Rattle.std.proofs.lemmas.List.{append-nil}
 use Rattle.std.proofs.lemmas.Option.{none-some}
-use Rattle.graph_model.specs.declared.write.Kind.{Kind}
 use Rattle.graph_model.specs.declared.write.Write.{Write}
 use Rattle.graph_model.specs.declared.journal.Commit.{Commit}
 use Rattle.graph_model.specs.declared.journal.TxnName.{TxnName}
@@ -13,11 +12,11 @@ use Rattle.graph_model.specs.declared.refusal.Cause.{Cause}
 use Rattle.graph_model.specs.declared.refusal.Cause.TheVariants.{Later, Holder}
 use Rattle.graph_model.specs.declared.refusal.Refusal.{Refusal}
 use Rattle.graph_model.specs.History.{view}
-use Rattle.graph_model.specs.Refused.{refused, IsWithinLimits}
+use Rattle.graph_model.specs.Refused.{refused}
 use Rattle.graph_model.specs.Inserted.{inserts}
 use Rattle.graph_model.specs.Conflict.{OpenTxn, same_name, meets, later, holder, newest_later, conflict}
 use Rattle.graph_model.specs.ConflictLaws.{IsHolder}
-use Rattle.graph_model.specs.Transactions.{Running, Changes, IsListed, AreTransactions, commit_of}
+use Rattle.graph_model.specs.Transactions.{Running, Changes, AreTransactions, commit_of}
 use Rattle.graph_model.proofs.ConflictLemmas.{greatest_in, cause_is_later, later_is, conflict_none, names_least}
 use Rattle.graph_model.proofs.LegalLemmas.{below_length}
 use Rattle.graph_model.proofs.PassLemmas.{found_in}
@@ -25,17 +24,16 @@ use Rattle.graph_model.proofs.PlaceLemmas.{some_eq, get_end}
 use Rattle.graph_model.proofs.TestLemmas.{name_self, name_eq}
 use Rattle.graph_model.proofs.TransactionLemmas.{begin_keeps, write_keeps, commit_keeps, end_keeps}
 use Rattle.run_model.specs.declared.command.Command.{Command}
-use Rattle.run_model.specs.declared.command.Command.TheVariants as commands
 use Rattle.run_model.specs.declared.answer.Answer.{Answer}
 use Rattle.run_model.specs.declared.answer.Answer.TheVariants as answers
 use Rattle.run_model.specs.Requests.{Request, ToBegin, ToCommit, ToAbort, ToWrite, ToRead, ToRun, request, write_of, next_txn, IsRequest, IsScript}
-use Rattle.run_model.specs.AnsweredLines.{AnsweredLine, effect, made_by, of_txn, own_writes, is_stopped, start_of, newest_shown, snapshot}
+use Rattle.run_model.specs.AnsweredLines.{AnsweredLine, effect, made_by, of_txn, own_writes, is_stopped, start_of, snapshot}
 use Rattle.run_model.specs.Answering.{refusal_answer, query_answer, kernel_answer}
 use Rattle.run_model.specs.Inputs.{Inputs}
-use Rattle.run_model.specs.Run.{Context, MadeClash, IsCause, IsWriteAnswer, IsCommitAnswer, IsLiveAnswer, IsAnswered, IsShown, IsLoad, MayFill, txn_name}
-use Rattle.run_model.specs.Jobs.{JobState, RunState, LineResult, running_of, open_txns, lines_so_far, start_of_job, view_of_job, answered_job, is_end, goes_on, writes_more, stops, ends, begins, skips, write_result, commit_result, live_result, line_result, turns_of, with_job, line_turn, job_turn, turn_at_place, turn}
+use Rattle.run_model.specs.Run.{Context, IsCause, IsWriteAnswer, IsCommitAnswer, IsLiveAnswer, IsAnswered, IsShown, IsLoad, MayFill, txn_name}
+use Rattle.run_model.specs.Jobs.{JobState, RunState, LineResult, running_of, open_txns, lines_so_far, start_of_job, view_of_job, answered_job, is_end, goes_on, writes_more, stops, ends, begins, skips, write_result, commit_result, live_result, turns_of, with_job, line_turn, job_turn, turn_at_place, turn}
 use Rattle.run_model.specs.Stepped.{context_in, setting_of, turn_at, IsReached}
-use Rattle.run_model.specs.UnderWay.{open_by_name, is_within, script_of, IsToldByLines, IsJob, IsUnderWay}
+use Rattle.run_model.specs.UnderWay.{open_by_name, script_of, IsToldByLines, IsJob, IsUnderWay}
 use Rattle.run_model.proofs.AnswerLemmas.{IsWithinTxn, within_txn, must_begin, asks_commit, may_be_full, IsPlain, refusal_plain, query_plain, kernel_plain, plain_makes_none, contains_at, made_clash}
 use Rattle.run_model.proofs.LineLemmas.{none_later, own_more, stopped_more, start_more, start_first}
 use Rattle.run_model.proofs.OpenLemmas.{no_open_meets, open_are_listed, open_here, latest_changes, next_changes, open_unchanged}

@@ -1,26 +1,23 @@
 -- A run stays under way where a line is answered: what the result of the line owes for that.
 use Rattle.std.proofs.Common.{◌≡◌, ℕ, ◌+◌, ◌<◌, ◌≤◌, List, [], ◌∷◌, ◌++◌, map, length, refl, sym, ◌∙◌, ap, subst, arith, inl, inr, length-append, append_assoc}
-use Rattle.std.specs.Prelude.{◌⊎◌, true, false, ◌==◌, slice_get, slice_set, sum_by, Option, Some, None}
+use Rattle.std.specs.Prelude.{◌⊎◌, true, slice_get, slice_set, sum_by, Some, None}
 use Rattle.std.specs.List.{filter_map}
 use Rattle.std.proofs.lemmas.List.Elements.{filter_map-append}
-use Rattle.std.proofs.lemmas.List.{append-nil, map-append}
+use Rattle.std.proofs.lemmas.List.{map-append}
 use Rattle.std.proofs.lemmas.List.Sums.{sum_by-append}
-use Rattle.graph_model.specs.declared.write.Kind.{Kind}
-use Rattle.graph_model.specs.declared.write.Write.{Write}
 use Rattle.graph_model.specs.declared.journal.Commit.{Commit}
 use Rattle.graph_model.specs.declared.journal.TxnName.{TxnName}
 use Rattle.graph_model.specs.Inserted.{inserted, inserted_by}
 use Rattle.graph_model.specs.Transactions.{AreTransactions}
 use Rattle.graph_model.proofs.LegalLemmas.{get_front, below_length}
 use Rattle.graph_model.proofs.PlaceLemmas.{some_eq, get_snoc}
-use Rattle.graph_model.proofs.TestLemmas.{eq_of}
 use Rattle.run_model.specs.declared.command.Command.{Command}
 use Rattle.run_model.specs.declared.answer.Answer.{Answer}
 use Rattle.run_model.specs.declared.answer.Answer.TheVariants as answers
 use Rattle.run_model.specs.Requests.{request, next_txn, IsScript}
 use Rattle.run_model.specs.AnsweredLines.{AnsweredLine, effect, made_by, is_stopped, start_of, newest_shown}
 use Rattle.run_model.specs.Inputs.{Inputs}
-use Rattle.run_model.specs.Run.{Context, IsAnswered, AllAnswered, IsShown, IsLoad, MayFill, txn_name, load_stamp, load_commit, inserted_in}
+use Rattle.run_model.specs.Run.{IsAnswered, AllAnswered, IsShown, IsLoad, MayFill, txn_name, load_stamp, load_commit, inserted_in}
 use Rattle.run_model.specs.Jobs.{JobState, RunState, LineResult, answered_job, lines_so_far}
 use Rattle.run_model.specs.Stepped.{context_in}
 use Rattle.run_model.specs.UnderWay.{open_by_name, is_within, script_of, IsToldByLines, IsJob, IsUnderWay}
