@@ -1,7 +1,7 @@
--- Answers that tell nothing beside their words, requests within a transaction, and what a conflict names.
-use Rattle.std.proofs.Common.{◌≡◌, ℕ, zero, suc, List, [], ◌∷◌, refl, ◌∙◌, ap, subst, arith, cond}
-use Rattle.std.specs.Prelude.{Bool, true, false, ◌==◌, ◌||◌, not, slice_get, Option, Some, None, Contains}
-use Rattle.std.specs.List.{filter, filter_map, cons_option}
+-- Requests within a transaction, and answers that tell nothing beside their words.
+use Rattle.std.proofs.Common.{◌≡◌, ℕ, List, [], ◌∷◌, refl, ap, subst, cond}
+use Rattle.std.specs.Prelude.{Bool, true, false, ◌==◌, not, Option, Some, None}
+use Rattle.std.specs.List.{filter_map, cons_option}
 use Rattle.graph_model.specs.declared.write.Kind.{Kind}
 use Rattle.graph_model.specs.declared.write.Write.{Write}
 use Rattle.graph_model.specs.declared.write.Write.TheVariants as writes
@@ -10,18 +10,13 @@ use Rattle.graph_model.specs.declared.refusal.Refusal.TheVariants as refusals
 use Rattle.graph_model.specs.Graph.{Graph, has_vertex, has_arc, has_edges, weight_of}
 use Rattle.graph_model.specs.Refused.{refused, unless_ends}
 use Rattle.graph_model.specs.Inserted.{inserts}
-use Rattle.graph_model.specs.Items.{clash}
-use Rattle.graph_model.specs.Conflict.{meets}
-use Rattle.graph_model.proofs.ClashLemmas.{clash-symm}
-use Rattle.graph_model.proofs.PlaceLemmas.{some_eq}
-use Rattle.graph_model.proofs.TestLemmas.{eq_of}
 use Rattle.run_model.specs.declared.command.Command.{Command}
 use Rattle.run_model.specs.declared.command.Command.TheVariants as commands
 use Rattle.run_model.specs.declared.answer.Answer.{Answer}
 use Rattle.run_model.specs.Requests.{Query, WeightOf, NeighboursOf, Counts, Kernel, Bfs, Wcc, Cdlp, Sssp, Request, ToBegin, ToCommit, ToAbort, ToWrite, ToRead, ToRun, write_of, request, next_txn, open_behind, IsRequest, IsScript}
-use Rattle.run_model.specs.AnsweredLines.{AnsweredLine, effect, made_by, own_writes}
+use Rattle.run_model.specs.AnsweredLines.{AnsweredLine, effect, made_by}
 use Rattle.run_model.specs.Answering.{refusal_answer, weight_answer, query_answer, kernel_answer}
-use Rattle.run_model.specs.Run.{MadeClash, MayBeFull}
+use Rattle.run_model.specs.Run.{MayBeFull}
 use Rattle.run_model.specs.Jobs.{is_end}
 
 -- ---- requests
@@ -140,30 +135,3 @@ kernel_plain g (Sssp root) = by_cond IsPlain (has_vertex g root) _ _ (record { s
 -- a plain answer makes no write
 pub plain_makes_none : (l : AnsweredLine) → IsPlain l.answer → filter_map made_by (l ∷ []) ≡ []
 plain_makes_none l plain = ap (λ b. cons_option (cond b (write_of (request l.command)) None) []) plain.writes
-
--- ---- what a conflict names
-
--- a number at a place is contained
-pub contains_at : (xs : List ℕ) (i x : ℕ) → slice_get xs i ≡ Some x → Contains xs x
-contains_at [] i x e = cc
-contains_at (y ∷ xs) zero x e = let same : y ≡ x = some_eq y x e in (0, omega arith, same)
-contains_at (y ∷ xs) (suc i) x e = let r = contains_at xs i x e in (suc r.0, omega (arith, r.1), r.2)
-
--- a clash with the writes of a transaction is one with a line that made a write
-pub made_clash : (kind : Kind) (lines : List AnsweredLine) (txn : ℕ) (w : Write) → meets kind w (own_writes txn lines) ≡ true → MadeClash kind lines txn w
-made_clash kind [] txn w e = cc
-made_clash kind (l ∷ lines) txn w e = elim (l.txn == txn) as (λ s. (l.txn == txn) ≡ s → meets kind w (filter_map made_by (cond s (l ∷ filter (λ k. k.txn == txn) lines) (filter (λ k. k.txn == txn) lines))) ≡ true → MadeClash kind (l ∷ lines) txn w) [
-  | true ↦ λ f g. by_made f (λ h. further_on (made_clash kind lines txn w h)) (made_by l) refl g
-  | false ↦ λ f g. further_on (made_clash kind lines txn w g)
-] refl e
-  where
-    further_on : MadeClash kind lines txn w → MadeClash kind (l ∷ lines) txn w
-    further_on m = record { place = suc m.place; line = m.line; write = m.write; there = m.there; txn = m.txn; made = m.made; clashes = m.clashes }
-
-    by_made : (l.txn == txn) ≡ true → (meets kind w (own_writes txn lines) ≡ true → MadeClash kind (l ∷ lines) txn w) → (m : Option Write) → made_by l ≡ m
-        → meets kind w (cons_option m (own_writes txn lines)) ≡ true → MadeClash kind (l ∷ lines) txn w
-    by_made f rest None h g = rest g
-    by_made f rest (Some x) h g = elim (clash kind w x) as (λ s. clash kind w x ≡ s → (s || meets kind w (own_writes txn lines)) ≡ true → MadeClash kind (l ∷ lines) txn w) [
-      | true ↦ λ c k. record { place = 0; line = l; write = x; there = refl; txn = eq_of l.txn txn f; made = h; clashes = clash-symm kind x w ∙ c }
-      | false ↦ λ c k. rest k
-    ] refl g

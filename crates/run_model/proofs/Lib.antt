@@ -11,6 +11,8 @@ pub mod OpenLemmas
 pub mod AnswerLemmas
 pub mod SetLemmas
 pub mod UnderWayLemmas
+pub mod CauseLemmas
+pub mod ResultLemmas
 pub mod TurnLemmas
 pub mod SteppedLemmas
 pub mod StepLemmas

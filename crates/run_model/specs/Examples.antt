@@ -1,4 +1,4 @@
--- Worked by hand: runs, outputs that are no run's, and texts.
+-- Worked by hand: runs, outputs that are no run's, runs by turns, and texts.
 use Rattle.std.specs.Prelude.{◌≡◌, ℕ, zero, suc, List, [], ◌∷◌, ◌++◌, map, codes, Some, None}
 use Rattle.graph_model.specs.declared.write.Kind.TheVariants.{Undirected}
 use Rattle.graph_model.specs.declared.write.Write.{Write}
@@ -225,7 +225,8 @@ CountsRows n =
       files = [] ∷ [] ∷ [];
     })
 
--- 63 rows are counted in one turn of the script, and 64 in two: then the other script has ended a round before
+-- 63 rows are counted in one turn of the script, and 64 in two: then the run takes three turns more, one of them
+-- of a script that has ended
 pub record CountExamples : Type 0 where
   pub in_one : CountsRows 63
   pub one_turn : in_one.turns ≡ 7

@@ -93,7 +93,8 @@ goes_on j a = record { answer = a; start = j.start; own = j.own; skipping = fals
 
 -- the transaction has one write more
 abbrev pub writes_more : JobState → Write → LineResult
-writes_more j w = record { answer = answers.Done; start = j.start; own = j.own ++ w ∷ []; skipping = false; commits = [] }
+writes_more j w =
+    record { answer = answers.Done; start = j.start; own = j.own ++ w ∷ []; skipping = false; commits = [] }
 
 -- the transaction is over, and its other lines are skipped
 abbrev pub stops : Answer → LineResult
@@ -130,7 +131,8 @@ write_result j w None None full = cond (full && inserts w) (stops answers.Full) 
 abbrev pub commit_result : List Commit → TxnName → ℕ → List Write → LineResult
 commit_result journal by start [] = ends (answers.Committed None) []
 commit_result journal by start (w ∷ ws) =
-    ends (answers.Committed (Some (length journal + 1))) (commit_of journal by (record { start = start; writes = w ∷ ws }) ∷ [])
+    ends (answers.Committed (Some (length journal + 1)))
+    (commit_of journal by (record { start = start; writes = w ∷ ws }) ∷ [])
 
 -- a line that isn't skipped, in script number `job`, among these open transactions. The bit says whether a
 -- write that nothing refuses finds no place
