@@ -1,10 +1,11 @@
 -- The examples of runs by turns, turn by turn.
-use Rattle.std.proofs.Common.{◌≡◌, ℕ, zero, suc, ◌+◌, ◌/◌, List, [], ◌∷◌, length, refl, sym, ◌∙◌, ap, subst}
+use Rattle.std.proofs.Common.{◌≡◌, ℕ, zero, suc, ◌+◌, ◌/◌, ◌≤◌, List, [], ◌∷◌, length, refl, sym, ◌∙◌, ap, subst, arith}
 use Rattle.std.specs.Prelude.{Bool, cond, nat_lt, true, false, ◌||◌, slice_get, Some, None}
 use Rattle.std.specs.FinMap as fin_map
 use Rattle.std.specs.List.{list_any}
 use Rattle.std.proofs.lemmas.Bool.{true≢false}
 use Rattle.std.proofs.lemmas.Option.{none-some}
+use Rattle.graph_model.specs.declared.limits.TheConstants.{MAX_BEGINS}
 use Rattle.graph_model.specs.declared.write.Kind.TheVariants.{Undirected}
 use Rattle.graph_model.specs.declared.write.Write.TheVariants as writes
 use Rattle.graph_model.specs.declared.refusal.Cause.{Cause}
@@ -18,29 +19,38 @@ use Rattle.graph_model.proofs.PlaceLemmas.{some_eq}
 use Rattle.run_model.specs.declared.command.Command.TheVariants as commands
 use Rattle.run_model.specs.declared.answer.Answer.{Answer}
 use Rattle.run_model.specs.declared.answer.Answer.TheVariants as answers
-use Rattle.run_model.specs.Requests.{Counts, ToCommit}
+use Rattle.run_model.specs.Requests.{Counts, ToCommit, ToAbort, begun_by, IsScript}
 use Rattle.run_model.specs.Answering.{edges_in, query_answer}
-use Rattle.run_model.specs.Inputs.{Inputs, Outputs}
+use Rattle.run_model.specs.Inputs.{Inputs, AreInputs, Outputs}
 use Rattle.run_model.specs.Run.{txn_name, load_commit, HasFiles}
-use Rattle.run_model.specs.Jobs.{JobState, RunState, new_job, line_turn, first_state, answered_job, goes_on, writes_more, stops, ends, begins, skips, write_result, turn, has_ended}
+use Rattle.run_model.specs.Jobs.{JobState, RunState, LineResult, new_job, line_turn, first_state, answered_job, goes_on, writes_more, stops, ends, begins, skips, write_result, turn, has_ended}
 use Rattle.run_model.specs.Stepped.{setting_of, turn_at, context_in, IsReached}
 use Rattle.run_model.specs.Laws.{HasFull}
-use Rattle.run_model.specs.Examples.{load, sets, nine, OrderExamples, MeetsByTurns, TurnExamples, vertices_to, CountsRows, CountExamples}
-use Rattle.run_model.proofs.ExampleLemmas.{at_two, is_full, two_inputs}
+use Rattle.run_model.specs.Examples.{load, sets, nine, OrderExamples, MeetsByTurns, TurnExamples, vertices_to, CountsRows, CountExamples, one_vertex, AddsByTurns, PlaceExamples}
+use Rattle.run_model.proofs.ExampleLemmas.{at_one, at_two, is_full, two_inputs, wrong_answers}
 use Rattle.run_model.proofs.FullLemmas.{full_settles}
+use Rattle.run_model.proofs.SteppedLemmas.{stepped_is_run}
 use Rattle.run_model.proofs.UnderWayLemmas.{answered_run}
 
 pub orders : OrderExamples
 orders = record { by_rotation = refl; by_schedule = refl; service = refl; one_script = refl }
 
-module _ (inputs : Inputs) (schedule : List ℕ) where
+module _ (inputs : Inputs) (leaves : ℕ) (schedule : List ℕ) where
   -- the state behind so many turns
-  abbrev At : ℕ → RunState → Type 0
-  At n s = IsReached (setting_of inputs 1 schedule) (first_state inputs) n s
+  abbrev Behind : ℕ → RunState → Type 0
+  Behind n s = IsReached (setting_of inputs leaves schedule) (first_state inputs) n s
 
   -- one turn more, in which a place is found
-  next : (n : ℕ) (before s : RunState) → At n before → has_ended before ≡ false → s ≡ turn inputs.kind before (turn_at (length inputs.scripts) schedule n) false → At (suc n) s
-  next n before s reached going step = (before, false, reached, going, (λ f. absurd (true≢false (sym f))), step)
+  one_more : (n : ℕ) (before s : RunState) → Behind n before → has_ended before ≡ false → s ≡ turn inputs.kind before (turn_at (length inputs.scripts) schedule n) false → Behind (suc n) s
+  one_more n before s reached going step = (before, false, reached, going, (λ f. absurd (true≢false (sym f))), step)
+
+-- the state behind so many turns on one leaf
+abbrev At : Inputs → List ℕ → ℕ → RunState → Type 0
+At inputs schedule n s = Behind inputs 1 schedule n s
+
+next : (inputs : Inputs) (schedule : List ℕ) (n : ℕ) (before s : RunState) → At inputs schedule n before → has_ended before ≡ false
+    → s ≡ turn inputs.kind before (turn_at (length inputs.scripts) schedule n) false → At inputs schedule (suc n) s
+next inputs schedule = one_more inputs 1 schedule
 
 -- ---- two scripts that set one edge
 
@@ -310,3 +320,82 @@ counts = record {
   two_turns = refl;
   service = refl;
 }
+
+-- ---- a place that is missed, and one that is found
+
+abbrev add_inputs : Inputs
+add_inputs = record { kind = Undirected; load = one_vertex; scripts = (commands.Begin ∷ commands.AddVertex 2 ∷ commands.Abort ∷ []) ∷ [] }
+
+add_allowed : refused (apply_all Undirected empty_graph one_vertex) (writes.AddVertex 2) ≡ None
+add_allowed = refused_at _ _ _ (entries_made Undirected one_vertex) (writes.AddVertex 2)
+
+abbrev e0 : JobState
+e0 = new_job (commands.Begin ∷ commands.AddVertex 2 ∷ commands.Abort ∷ [])
+
+abbrev e1 : JobState
+e1 = answered_job e0 commands.Begin (commands.AddVertex 2 ∷ commands.Abort ∷ []) (begins (txn_name 1 1) 1)
+
+-- behind the write, as its result says
+abbrev e2 : LineResult → JobState
+e2 o = answered_job e1 (commands.AddVertex 2) (commands.Abort ∷ []) o
+
+-- and behind the last line
+abbrev e3 : LineResult → LineResult → JobState
+e3 o last = answered_job (e2 o) commands.Abort [] last
+
+abbrev adding : JobState → RunState
+adding e = record { journal = load_commit one_vertex ∷ []; jobs = e ∷ [] }
+
+adds : (full : Bool) → adding (e2 (write_result e1 (writes.AddVertex 2) None None full)) ≡ turn Undirected (adding e1) 1 full
+adds true = ap (λ r. answered_run (adding e1) 0 e1 (commands.AddVertex 2) (commands.Abort ∷ []) (write_result e1 (writes.AddVertex 2) r None true)) (sym add_allowed)
+adds false = ap (λ r. answered_run (adding e1) 0 e1 (commands.AddVertex 2) (commands.Abort ∷ []) (write_result e1 (writes.AddVertex 2) r None false)) (sym add_allowed)
+
+-- what the last state gives
+adds_by : (o last : LineResult) → Behind add_inputs 0 [] 5 (adding (e3 o last))
+    → HasFiles (context_in Undirected one_vertex (adding (e3 o last)) 0) [] (e3 o last).lines [] → AddsByTurns 0 (o.answer ∷ last.answer ∷ [])
+adds_by o last reached no_files = record {
+  turns = 5;
+  last = adding (e3 o last);
+  reached = reached;
+  over = refl;
+  journal = refl;
+  reports = refl;
+  filed = refl;
+  files = λ k ls files at_script at_files.
+      let none : [] ≡ files = at_one (λ k fs. [] ≡ fs) [] refl k files at_files in
+      subst (λ fs. HasFiles (context_in Undirected one_vertex (adding (e3 o last)) k) [] ls fs) none
+      (at_one (λ k ls. HasFiles (context_in Undirected one_vertex (adding (e3 o last)) k) [] ls []) (e3 o last).lines no_files k ls at_script);
+}
+
+pub places : PlaceExamples
+places = record {
+  missed = adds_by (stops answers.Full) (skips ToAbort) missed_turns ([], refl, ([], refl, ([], refl, refl)));
+  found = adds_by (writes_more e1 (writes.AddVertex 2)) (ends answers.Aborted []) found_turns ([], refl, ([], refl, ([], refl, refl)));
+  too_early = λ run. wrong_answers.full_too_early (stepped_is_run add_inputs 1 [] _ given run);
+}
+  where
+    last_turns : (o last : LineResult) → Behind add_inputs 0 [] 3 (adding (e2 o)) → adding (e3 o last) ≡ turn Undirected (adding (e2 o)) 1 false → Behind add_inputs 0 [] 5 (adding (e3 o last))
+    last_turns o last reached step =
+        one_more add_inputs 0 [] 4 (adding (e2 o)) (adding (e3 o last)) (one_more add_inputs 0 [] 3 (adding (e2 o)) (adding (e2 o)) reached refl refl) refl step
+
+    begun_turns : Behind add_inputs 0 [] 2 (adding e1)
+    begun_turns = one_more add_inputs 0 [] 1 (adding e1) (adding e1) (one_more add_inputs 0 [] 0 (adding e0) (adding e1) refl refl refl) refl refl
+
+    missed_turns : Behind add_inputs 0 [] 5 (adding (e3 (stops answers.Full) (skips ToAbort)))
+    missed_turns = last_turns (stops answers.Full) (skips ToAbort) (adding e1, true, begun_turns, refl, (λ _. omega arith), adds true) refl
+
+    found_turns : Behind add_inputs 0 [] 5 (adding (e3 (writes_more e1 (writes.AddVertex 2)) (ends answers.Aborted [])))
+    found_turns = last_turns (writes_more e1 (writes.AddVertex 2)) (ends answers.Aborted [])
+        (one_more add_inputs 0 [] 2 (adding e1) (adding (e2 (writes_more e1 (writes.AddVertex 2)))) begun_turns refl (adds false)) refl
+
+    given : AreInputs add_inputs
+    given = record {
+      allowed = (add_first, tt);
+      within = (omega arith, tt);
+      count = omega arith;
+      scripts = at_one (λ k cs. IsScript (Some false) cs) (commands.Begin ∷ commands.AddVertex 2 ∷ commands.Abort ∷ []) (tt, (omega arith, (tt, refl)));
+      begins = at_one (λ k cs. begun_by 0 cs ≤ MAX_BEGINS) (commands.Begin ∷ commands.AddVertex 2 ∷ commands.Abort ∷ []) (omega arith);
+    }
+      where
+        add_first : refused empty_graph (writes.AddVertex 1) ≡ None
+        add_first = refused_at _ _ _ (entries_made Undirected []) (writes.AddVertex 1)

@@ -233,3 +233,22 @@ pub record CountExamples : Type 0 where
   pub in_two : CountsRows 64
   pub two_turns : in_two.turns ≡ 10
   pub service : service_turns 2 [] in_two.turns ≡ 3
+
+-- a script that adds a vertex, on so many leaves, is answered this by turns
+abbrev pub AddsByTurns : ℕ → List Answer → Type 0
+AddsByTurns leaves report =
+    IsStepped (record {
+      kind = Undirected;
+      load = one_vertex;
+      scripts = (commands.Begin ∷ commands.AddVertex 2 ∷ commands.Abort ∷ []) ∷ [];
+    }) leaves [] (record {
+      journal = load_commit one_vertex ∷ [];
+      reports = (answers.Begun (txn_name 1 1) 1 ∷ report) ∷ [];
+      files = [] ∷ [];
+    })
+
+-- where no leaf is left a place may be missed or found, and where one is, it is found
+pub record PlaceExamples : Type 0 where
+  pub missed : AddsByTurns 0 (answers.Full ∷ answers.Skipped ∷ [])
+  pub found : AddsByTurns 0 (answers.Done ∷ answers.Aborted ∷ [])
+  pub too_early : AddsByTurns 1 (answers.Full ∷ answers.Skipped ∷ []) → ⊥

@@ -1,7 +1,7 @@
 //! Laws of runs and of their texts. Each is a function whose contract is the law.
 
 ghost use Rattle.run_model.specs.Laws.{TextIsOfOneJournal, TextIsOfOneReport, RunsAreShort, TextsTellRuns, FirstIsUnderWay, TurnIsUnderWay, ReachedIsUnderWay, SteppedRunsAreRuns, FullSettlesRuns};
-ghost use Rattle.run_model.specs.Examples.{ConflictExamples, AnswerExamples, WrongAnswers, WrongParts, TextExamples, OrderExamples, TurnExamples, CountExamples};
+ghost use Rattle.run_model.specs.Examples.{ConflictExamples, AnswerExamples, WrongAnswers, WrongParts, TextExamples, OrderExamples, TurnExamples, CountExamples, PlaceExamples};
 
 /// Two journals with the same text are equal, where no number has more than 64 digits.
 pub fn journal_text_is_of_one_journal()
@@ -58,4 +58,5 @@ pub fn worked_turns_hold()
     ensures order { OrderExamples }
     ensures conflicts { TurnExamples }
     ensures counts { CountExamples }
+    ensures places { PlaceExamples }
 {}
