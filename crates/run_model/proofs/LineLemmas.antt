@@ -10,7 +10,7 @@ use Rattle.graph_model.proofs.TestLemmas.{self_eq}
 use Rattle.run_model.specs.declared.command.Command.{Command}
 use Rattle.run_model.specs.declared.answer.Answer.{Answer}
 use Rattle.run_model.specs.declared.answer.Answer.TheVariants as answers
-use Rattle.run_model.specs.Requests.{Request, ToBegin, ToCommit, ToAbort, ToWrite, ToRead, ToRun, request, next_txn}
+use Rattle.run_model.specs.Requests.{Request, ToBegin, ToCommit, ToAbort, ToWrite, ToRead, ToRun, request, next_txn, begun_by}
 use Rattle.run_model.specs.AnsweredLines.{AnsweredLine, answered_from, effect, made_by, of_txn, own_writes, is_stopped, or_later, first_start, start_of, newest_shown}
 use Rattle.run_model.specs.UnderWay.{AreNumbered}
 
@@ -45,6 +45,12 @@ pub numbered_lines : (before : ℕ) (ls : List AnsweredLine) (latest : ℕ) → 
 numbered_lines before [] latest are = refl
 numbered_lines before (l ∷ ls) latest are =
     (λ i. record { txn = sym are.0 i; command = l.command; answer = l.answer } ∷ numbered_lines (next_txn before (request l.command)) ls latest are.1 i)
+
+-- behind numbered lines a script comes to as many transactions as it does as a whole
+pub begun_behind : (before : ℕ) (ls : List AnsweredLine) (latest : ℕ) (cs : List Command) → AreNumbered before ls latest
+    → begun_by before (map (λ l. l.command) ls ++ cs) ≡ begun_by latest cs
+begun_behind before [] latest cs are = ap (λ n. begun_by n cs) are
+begun_behind before (l ∷ ls) latest cs are = begun_behind (next_txn before (request l.command)) ls latest cs are.1
 
 -- no line is of a transaction behind the latest
 pub none_later : (before : ℕ) (ls : List AnsweredLine) (latest txn : ℕ) → AreNumbered before ls latest → latest < txn → of_txn txn ls ≡ []

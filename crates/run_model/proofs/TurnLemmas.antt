@@ -1,17 +1,21 @@
 -- A run is under way behind each turn, and so in each state that is reached.
-use Rattle.std.proofs.Common.{◌≡◌, ℕ, zero, suc, ◌+◌, ◌<◌, ◌≤◌, List, [], ◌∷◌, length, refl, sym, ◌∙◌, ap, subst, cond, inl, inr}
+use Rattle.std.proofs.Common.{◌≡◌, ℕ, zero, suc, ◌+◌, ◌<◌, ◌≤◌, List, [], ◌∷◌, length, refl, sym, ◌∙◌, ap, subst, arith, cond, inl, inr}
 use Rattle.std.specs.Prelude.{◌⊎◌, Bool, true, false, nat_lt, slice_get, Option, Some, None}
 use Rattle.graph_model.specs.Transactions.{AreTransactions}
 use Rattle.graph_model.proofs.LegalLemmas.{below_length}
+use Rattle.graph_model.specs.declared.limits.TheConstants.{MAX_BEGINS}
 use Rattle.run_model.specs.declared.command.Command.{Command}
-use Rattle.run_model.specs.Requests.{request}
+use Rattle.run_model.specs.Requests.{request, next_txn, open_behind, begun_by, IsScript}
 use Rattle.run_model.specs.Inputs.{Inputs}
 use Rattle.run_model.specs.Run.{IsShown, IsLoad, MayFill}
 use Rattle.run_model.specs.Jobs.{JobState, RunState, lines_so_far, turns_of, with_job, line_turn, job_turn, turn_at_place, turn}
 use Rattle.run_model.specs.Stepped.{context_in, setting_of, turn_at, IsReached}
-use Rattle.run_model.specs.UnderWay.{script_of, IsJob, IsUnderWay}
+use Rattle.run_model.specs.UnderWay.{is_within, script_of, IsJob, IsUnderWay}
 use Rattle.run_model.proofs.OpenLemmas.{open_unchanged}
-use Rattle.run_model.proofs.SetLemmas.{set_cases, map_set}
+use Rattle.run_model.specs.Laws.{LinesMayStand}
+use Rattle.run_model.proofs.LineLemmas.{begun_behind}
+use Rattle.run_model.proofs.ShortLemmas.{begun_grows}
+use Rattle.run_model.proofs.SetLemmas.{get_map, set_cases, map_set}
 use Rattle.run_model.proofs.ResultLemmas.{keeps_line}
 
 module _ (inputs : Inputs) (leaves : ℕ) (s : RunState) (u : IsUnderWay inputs leaves s) (k : ℕ) (j : JobState) (at : slice_get s.jobs k ≡ Some j) where
@@ -77,3 +81,24 @@ reached_keeps inputs leaves schedule first zero s u r = subst (IsUnderWay inputs
 reached_keeps inputs leaves schedule first (suc n) s u r =
     subst (IsUnderWay inputs leaves) (sym r.5)
     (turn_keeps inputs leaves r.0 (turn_at (length inputs.scripts) schedule n) r.1 (reached_keeps inputs leaves schedule first n r.0 u r.2) r.4)
+
+-- ---- the line at hand
+
+-- a script that goes on behind a line lets the line stand
+goes_on_so : (within : Option Bool) (cs : List Command) → IsScript within cs → (b : Bool) × (within ≡ Some b)
+goes_on_so None cs is = absurd is
+goes_on_so (Some b) cs is = (b, refl)
+
+pub lines_stand : LinesMayStand
+lines_stand inputs leaves s k j c rest are u at left =
+    let job = u.each k j at in
+    let script : IsScript (Some (is_within j)) (c ∷ rest) = subst (IsScript (Some (is_within j))) left job.script in
+    let whole : slice_get inputs.scripts k ≡ Some (script_of j) = ap (λ xs. slice_get xs k) (sym u.whole) ∙ get_map script_of s.jobs k j at in
+    let all : begun_by 0 (script_of j) ≡ begun_by (next_txn j.begun (request c)) rest = begun_behind 0 j.lines j.begun j.left job.numbered ∙ ap (begun_by j.begun) left in
+    let few : begun_by 0 (script_of j) ≤ MAX_BEGINS = are.begins k (script_of j) whole in
+    let behind : next_txn j.begun (request c) ≤ begun_by (next_txn j.begun (request c)) rest = begun_grows (next_txn j.begun (request c)) rest in
+    record {
+      limits = script.0;
+      stands = goes_on_so (open_behind (is_within j) (request c)) rest script.1;
+      begins = λ begins. (let one : next_txn j.begun (request c) ≡ j.begun + 1 = ap (next_txn j.begun) begins in omega arith);
+    }

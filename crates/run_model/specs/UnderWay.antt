@@ -1,12 +1,13 @@
 -- What holds of the scripts of a run before and behind each of its turns.
-use Rattle.std.specs.Prelude.{◌≡◌, ℕ, ◌+◌, ◌≤◌, ◌⊎◌, Bool, true, false, ◌||◌, List, [], ◌∷◌, ◌++◌, length, map, slice_get, Option, Some, None, is_some}
+use Rattle.std.specs.Prelude.{◌≡◌, ℕ, ◌+◌, ◌<◌, ◌≤◌, ◌⊎◌, Bool, true, false, ◌||◌, List, [], ◌∷◌, ◌++◌, length, map, slice_get, Option, Some, None, is_some}
+use Rattle.graph_model.specs.declared.limits.TheConstants.{MAX_BEGINS}
 use Rattle.graph_model.specs.declared.journal.TxnName.{TxnName}
 use Rattle.graph_model.specs.declared.journal.Commit.{Commit}
 use Rattle.graph_model.specs.Transactions.{Running, AreTransactions}
 use Rattle.graph_model.specs.Passes.{of_latest, state_in}
 use Rattle.run_model.specs.declared.command.Command.{Command}
 use Rattle.run_model.specs.declared.answer.Answer.TheVariants as answers
-use Rattle.run_model.specs.Requests.{request, next_txn, IsScript}
+use Rattle.run_model.specs.Requests.{Request, ToBegin, request, next_txn, open_behind, IsRequest, IsScript}
 use Rattle.run_model.specs.AnsweredLines.{AnsweredLine, own_writes, is_stopped, start_of, newest_shown}
 use Rattle.run_model.specs.Inputs.{Inputs}
 use Rattle.run_model.specs.Run.{Context, AllAnswered, IsShown, IsLoad, load_stamp, load_commit, MayFill}
@@ -46,6 +47,13 @@ pub record IsJob (context : Context) (j : JobState) : Type 0 where
   pub closed : j.skipping ≡ true → j.start ≡ None
   -- what is left may follow
   pub script : IsScript (Some (is_within j)) j.left
+
+-- the line at hand may stand where the script is: its numbers are within their limits, it begins a transaction
+-- exactly where the script is within none, and it begins no more than a script may
+pub record MayStand (j : JobState) (r : Request) : Type 0 where
+  pub limits : IsRequest r
+  pub stands : (within : Bool) × (open_behind (is_within j) r ≡ Some within)
+  pub begins : r ≡ ToBegin → j.begun < MAX_BEGINS
 
 -- ---- all scripts
 

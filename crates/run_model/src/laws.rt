@@ -1,6 +1,6 @@
 //! Laws of runs and of their texts. Each is a function whose contract is the law.
 
-ghost use Rattle.run_model.specs.Laws.{TextIsOfOneJournal, TextIsOfOneReport, RunsAreShort, TextsTellRuns, FirstIsUnderWay, TurnIsUnderWay, ReachedIsUnderWay, SteppedRunsAreRuns, FullSettlesRuns};
+ghost use Rattle.run_model.specs.Laws.{TextIsOfOneJournal, TextIsOfOneReport, RunsAreShort, TextsTellRuns, FirstIsUnderWay, TurnIsUnderWay, ReachedIsUnderWay, LinesMayStand, SteppedRunsAreRuns, FullSettlesRuns};
 ghost use Rattle.run_model.specs.Examples.{ConflictExamples, AnswerExamples, WrongAnswers, WrongParts, TextExamples, OrderExamples, TurnExamples, CountExamples, PlaceExamples};
 
 /// Two journals with the same text are equal, where no number has more than 64 digits.
@@ -23,11 +23,13 @@ pub fn texts_tell_runs()
     ensures { TextsTellRuns }
 {}
 
-/// Each state that turns lead to from the inputs is that of a run under way.
+/// Each state that turns lead to from the inputs is that of a run under way, and the line at hand of each
+/// script may stand there.
 pub fn turns_keep_runs_under_way()
     ensures first { FirstIsUnderWay }
     ensures turn { TurnIsUnderWay }
     ensures reached { ReachedIsUnderWay }
+    ensures lines { LinesMayStand }
 {}
 
 /// What scripts give that take their turns by a schedule and then by rotation is a run.
