@@ -128,16 +128,16 @@ two_legal = record {
 
 -- ---- parts of a run that hold by looking at each place
 
-at_one : {X : Type 0} (P : ℕ → X → Type 0) (x : X) → P 0 x → (k : ℕ) (z : X) → slice_get (x ∷ []) k ≡ Some z → P k z
+pub at_one : {X : Type 0} (P : ℕ → X → Type 0) (x : X) → P 0 x → (k : ℕ) (z : X) → slice_get (x ∷ []) k ≡ Some z → P k z
 at_one P x here zero z at = subst (P 0) (same_Some x z at) here
 at_one P x here (suc k) z at = absurd (none-some z at)
 
-at_two : {X : Type 0} (P : ℕ → X → Type 0) (x y : X) → P 0 x → P 1 y → (k : ℕ) (z : X) → slice_get (x ∷ y ∷ []) k ≡ Some z → P k z
+pub at_two : {X : Type 0} (P : ℕ → X → Type 0) (x y : X) → P 0 x → P 1 y → (k : ℕ) (z : X) → slice_get (x ∷ y ∷ []) k ≡ Some z → P k z
 at_two P x y first second zero z at = subst (P 0) (same_Some x z at) first
 at_two P x y first second (suc zero) z at = subst (P 1) (same_Some y z at) second
 at_two P x y first second (suc (suc k)) z at = absurd (none-some z at)
 
-abbrev is_full : Answer → Bool
+abbrev pub is_full : Answer → Bool
 is_full answers.Full = true
 is_full _ = false
 
@@ -155,7 +155,7 @@ none_full (x ∷ xs) none (suc i) l at full = none_full xs (neither (is_full x.a
 
 -- ---- the conflict
 
-abbrev two_inputs : Inputs
+abbrev pub two_inputs : Inputs
 two_inputs = record { kind = Undirected; load = load; scripts = sets 9 ∷ sets 8 ∷ [] }
 
 abbrev first_lines : List AnsweredLine

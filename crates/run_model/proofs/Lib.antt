@@ -5,3 +5,16 @@ pub mod ListLemmas
 pub mod SnapshotLemmas
 pub mod ShortLemmas
 pub mod ExampleLemmas
+pub mod LineLemmas
+pub mod GrowthLemmas
+pub mod OpenLemmas
+pub mod AnswerLemmas
+pub mod SetLemmas
+pub mod UnderWayLemmas
+pub mod CauseLemmas
+pub mod ResultLemmas
+pub mod TurnLemmas
+pub mod SteppedLemmas
+pub mod StepLemmas
+pub mod FullLemmas
+pub mod TurnExampleLemmas

@@ -43,7 +43,7 @@ next_grows txn (ToWrite w) = omega arith
 next_grows txn (ToRead query) = omega arith
 next_grows txn (ToRun kernel file) = omega arith
 
-begun_grows : (txn : ℕ) (cs : List Command) → txn ≤ begun_by txn cs
+pub begun_grows : (txn : ℕ) (cs : List Command) → txn ≤ begun_by txn cs
 begun_grows txn [] = omega arith
 begun_grows txn (c ∷ cs) = omega (arith, next_grows txn (request c), begun_grows (next_txn txn (request c)) cs)
 

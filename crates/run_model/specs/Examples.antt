@@ -1,5 +1,5 @@
--- Worked by hand: runs, outputs that are no run's, and texts.
-use Rattle.std.specs.Prelude.{◌≡◌, ℕ, List, [], ◌∷◌, ◌++◌, codes, Some, None}
+-- Worked by hand: runs, outputs that are no run's, runs by turns, and texts.
+use Rattle.std.specs.Prelude.{◌≡◌, ℕ, zero, suc, List, [], ◌∷◌, ◌++◌, map, codes, Some, None}
 use Rattle.graph_model.specs.declared.write.Kind.TheVariants.{Undirected}
 use Rattle.graph_model.specs.declared.write.Write.{Write}
 use Rattle.graph_model.specs.declared.write.Write.TheVariants as writes
@@ -14,6 +14,7 @@ use Rattle.run_model.specs.declared.answer.Answer.{Answer}
 use Rattle.run_model.specs.declared.answer.Answer.TheVariants as answers
 use Rattle.run_model.specs.Inputs.{File}
 use Rattle.run_model.specs.Run.{txn_name, load_commit, IsRun}
+use Rattle.run_model.specs.Stepped.{turn_at, service_turns, IsStepped}
 use Rattle.run_model.specs.Texts.{report_text, journal_text}
 
 -- a run of these scripts on an undirected graph, with one leaf, gives this
@@ -175,3 +176,79 @@ pub record TextExamples : Type 0 where
       codes "begin 2.1 start 1\nok\nexists\nself loop\nno vertex 9\nno edge\nhas edges\n"
       ++ codes "conflict later 2\nconflict open 1.1\nfull\nweight 5\nnone\nneighbours 2 2 4\n"
       ++ codes "vertices 4 edges 2\ntable 4\ncommit 2\ncommit -\naborted\nskipped\n"
+
+-- ---- runs by turns
+
+-- the order of turns, and how many of them are the service's
+pub record OrderExamples : Type 0 where
+  pub by_rotation : map (turn_at 2 []) (0 ∷ 1 ∷ 2 ∷ 3 ∷ 4 ∷ 5 ∷ 6 ∷ []) ≡ 1 ∷ 2 ∷ 0 ∷ 1 ∷ 2 ∷ 0 ∷ 1 ∷ []
+  -- behind the schedule the rotation begins with the first script
+  pub by_schedule : map (turn_at 2 (2 ∷ 0 ∷ [])) (0 ∷ 1 ∷ 2 ∷ 3 ∷ 4 ∷ 5 ∷ 6 ∷ []) ≡ 2 ∷ 0 ∷ 1 ∷ 2 ∷ 0 ∷ 1 ∷ 2 ∷ []
+  pub service : map (service_turns 2 (2 ∷ 0 ∷ [])) (1 ∷ 2 ∷ 3 ∷ 4 ∷ 5 ∷ 6 ∷ []) ≡ 0 ∷ 1 ∷ 1 ∷ 1 ∷ 2 ∷ 2 ∷ []
+  pub one_script : map (turn_at 1 []) (0 ∷ 1 ∷ 2 ∷ 3 ∷ []) ≡ 1 ∷ 0 ∷ 1 ∷ 0 ∷ []
+
+-- by these turns, two scripts that set one edge begin together; the first commits, and the second meets this
+abbrev pub MeetsByTurns : List ℕ → Cause → Type 0
+MeetsByTurns schedule cause =
+    IsStepped (record { kind = Undirected; load = load; scripts = sets 9 ∷ sets 8 ∷ [] }) 1 schedule (record {
+      journal = load_commit load ∷ nine 2 ∷ [];
+      reports = (answers.Begun (txn_name 1 1) 1 ∷ answers.Done ∷ answers.Committed (Some 2) ∷ [])
+          ∷ (answers.Begun (txn_name 2 1) 1 ∷ answers.Conflict cause ∷ answers.Skipped ∷ []) ∷ [];
+      files = [] ∷ [] ∷ [];
+    })
+
+-- the schedule settles what it is
+pub record TurnExamples : Type 0 where
+  -- by rotation the first is open when the second sets the edge
+  pub while_open : MeetsByTurns [] (Holder (txn_name 1 1))
+  pub not_yet_later : MeetsByTurns [] (Later 2) → ⊥
+  -- it has committed by then, where the schedule gives it three turns in a row
+  pub once_committed : MeetsByTurns (2 ∷ 1 ∷ 1 ∷ 1 ∷ 2 ∷ 2 ∷ []) (Later 2)
+  pub no_longer_open : MeetsByTurns (2 ∷ 1 ∷ 1 ∷ 1 ∷ 2 ∷ 2 ∷ []) (Holder (txn_name 1 1)) → ⊥
+
+-- the vertices from n down to 1
+abbrev pub vertices_to : ℕ → List Write
+vertices_to zero = []
+vertices_to (suc n) = writes.AddVertex (suc n) ∷ vertices_to n
+
+-- a script counts so many rows, beside one that does nothing
+abbrev pub CountsRows : ℕ → Type 0
+CountsRows n =
+    IsStepped (record {
+      kind = Undirected;
+      load = vertices_to n;
+      scripts = (commands.Begin ∷ commands.Count ∷ commands.Abort ∷ []) ∷ (commands.Begin ∷ commands.Commit ∷ []) ∷ [];
+    }) 1 [] (record {
+      journal = load_commit (vertices_to n) ∷ [];
+      reports = (answers.Begun (txn_name 1 1) 1 ∷ answers.Counted n 0 ∷ answers.Aborted ∷ [])
+          ∷ (answers.Begun (txn_name 2 1) 1 ∷ answers.Committed None ∷ []) ∷ [];
+      files = [] ∷ [] ∷ [];
+    })
+
+-- 63 rows are counted in one turn of the script, and 64 in two: then the run takes three turns more, one of them
+-- of a script that has ended
+pub record CountExamples : Type 0 where
+  pub in_one : CountsRows 63
+  pub one_turn : in_one.turns ≡ 7
+  pub in_two : CountsRows 64
+  pub two_turns : in_two.turns ≡ 10
+  pub service : service_turns 2 [] in_two.turns ≡ 3
+
+-- a script that adds a vertex, on so many leaves, is answered this by turns
+abbrev pub AddsByTurns : ℕ → List Answer → Type 0
+AddsByTurns leaves report =
+    IsStepped (record {
+      kind = Undirected;
+      load = one_vertex;
+      scripts = (commands.Begin ∷ commands.AddVertex 2 ∷ commands.Abort ∷ []) ∷ [];
+    }) leaves [] (record {
+      journal = load_commit one_vertex ∷ [];
+      reports = (answers.Begun (txn_name 1 1) 1 ∷ report) ∷ [];
+      files = [] ∷ [];
+    })
+
+-- where no leaf is left a place may be missed or found, and where one is, it is found
+pub record PlaceExamples : Type 0 where
+  pub missed : AddsByTurns 0 (answers.Full ∷ answers.Skipped ∷ [])
+  pub found : AddsByTurns 0 (answers.Done ∷ answers.Aborted ∷ [])
+  pub too_early : AddsByTurns 1 (answers.Full ∷ answers.Skipped ∷ []) → ⊥

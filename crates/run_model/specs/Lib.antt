@@ -3,6 +3,9 @@ pub mod AnsweredLines
 pub mod Answering
 pub mod Inputs
 pub mod Run
+pub mod Jobs
+pub mod Stepped
+pub mod UnderWay
 pub mod Texts
 pub mod Laws
 pub mod Examples

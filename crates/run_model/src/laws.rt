@@ -1,7 +1,7 @@
 //! Laws of runs and of their texts. Each is a function whose contract is the law.
 
-ghost use Rattle.run_model.specs.Laws.{TextIsOfOneJournal, TextIsOfOneReport, RunsAreShort, TextsTellRuns};
-ghost use Rattle.run_model.specs.Examples.{ConflictExamples, AnswerExamples, WrongAnswers, WrongParts, TextExamples};
+ghost use Rattle.run_model.specs.Laws.{TextIsOfOneJournal, TextIsOfOneReport, RunsAreShort, TextsTellRuns, FirstIsUnderWay, TurnIsUnderWay, ReachedIsUnderWay, LinesMayStand, SteppedRunsAreRuns, FullSettlesRuns};
+ghost use Rattle.run_model.specs.Examples.{ConflictExamples, AnswerExamples, WrongAnswers, WrongParts, TextExamples, OrderExamples, TurnExamples, CountExamples, PlaceExamples};
 
 /// Two journals with the same text are equal, where no number has more than 64 digits.
 pub fn journal_text_is_of_one_journal()
@@ -23,6 +23,25 @@ pub fn texts_tell_runs()
     ensures { TextsTellRuns }
 {}
 
+/// Each state that turns lead to from the inputs is that of a run under way, and the line at hand of each
+/// script may stand there.
+pub fn turns_keep_runs_under_way()
+    ensures first { FirstIsUnderWay }
+    ensures turn { TurnIsUnderWay }
+    ensures reached { ReachedIsUnderWay }
+    ensures lines { LinesMayStand }
+{}
+
+/// What scripts give that take their turns by a schedule and then by rotation is a run.
+pub fn stepped_runs_are_runs()
+    ensures { SteppedRunsAreRuns }
+{}
+
+/// Two runs by the same turns that find no place for the same writes give the same.
+pub fn full_lines_settle_runs()
+    ensures { FullSettlesRuns }
+{}
+
 /// The texts of a small journal, and of one answer of each kind.
 pub fn worked_texts_hold()
     ensures { TextExamples }
@@ -34,4 +53,12 @@ pub fn worked_runs_hold()
     ensures answers { AnswerExamples }
     ensures wrong_answers { WrongAnswers }
     ensures wrong_parts { WrongParts }
+{}
+
+/// Runs by turns that were worked by hand, by rotation and by a schedule, with the turns that they take.
+pub fn worked_turns_hold()
+    ensures order { OrderExamples }
+    ensures conflicts { TurnExamples }
+    ensures counts { CountExamples }
+    ensures places { PlaceExamples }
 {}

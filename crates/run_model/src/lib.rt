@@ -11,6 +11,7 @@ mod laws;
 pub use answer::{Answer, Answers};
 pub use command::{Command, Name, Script};
 pub use laws::{
-    journal_text_is_of_one_journal, report_text_is_of_one_report, runs_have_short_numbers,
-    texts_tell_runs, worked_runs_hold, worked_texts_hold,
+    full_lines_settle_runs, journal_text_is_of_one_journal, report_text_is_of_one_report,
+    runs_have_short_numbers, stepped_runs_are_runs, texts_tell_runs, turns_keep_runs_under_way,
+    worked_runs_hold, worked_texts_hold, worked_turns_hold,
 };
