@@ -1,11 +1,7 @@
-pub mod WordLemmas
-pub mod TextLemmas
-pub mod InputLemmas
-pub mod RunLemmas
-pub mod ScriptResultLemmas
-pub mod CountLemmas
-pub mod NameLemmas
-pub mod PreparedLemmas
-pub mod LawLemmas
-pub mod RowsLemmas
-pub mod OutcomeLemmas
+mod InputLemmas
+mod SublistLemmas
+mod FileLemmas
+mod NameLemmas
+mod TextLemmas
+mod OutcomeLemmas
+mod LawLemmas

@@ -1,20 +1,23 @@
 -- What the sources stand for, as the code has it.
-use Rattle.std.specs.Prelude.{◌≡◌, ℕ, ◌+◌, cond, List, [], length, get_or, take, drop, Some, None, is_some}
+use Rattle.std.specs.Prelude.{◌≡◌, ℕ, ◌+◌, cond, List, [], ◌∷◌, ◌++◌, length, get_or, take, drop, Option, Some, None, is_some}
+use Rattle.graph_model.specs.declared.limits.TheConstants.{MAX_LOAD_ROWS}
+use Rattle.run_model.specs.declared.command.Command.{Command}
+use Rattle.graphalytics_io.specs.declared.edges.Edge.{Edge}
+use Rattle.graphalytics_io.specs.VertexFile.{IsVertexFile}
+use Rattle.graphalytics_io.specs.EdgeFile.{IsEdgeFile}
+use Rattle.script_lang.specs.Scripts.{files_of}
+use Rattle.script_lang.specs.Runnable.{IsRunnable}
 use Rattle.command_line.specs.Words.{RunNames, source_names}
 use Rattle.teseo_program.specs.declared.input.Input.{Input}
+use Rattle.teseo_program.specs.declared.fault.SourceFault.TheVariants as faults
 use Rattle.teseo_program.specs.declared.fault.ParseStop.{ParseStop}
 use Rattle.teseo_program.specs.declared.fault.ParseStop.TheVariants as stops
-use Rattle.teseo_program.specs.Input.{Meaning, Texts, IsAccepted, IsNotAccepted}
+use Rattle.teseo_program.specs.Input.{Meaning, Texts, HasScheduleFault, IsFaultBehind, IsNotAccepted}
 
 -- the parsed sources
 abbrev pub meaning_of : Input → Meaning
 meaning_of input =
     record { ids = input.ids; edges = input.edges; scripts = input.scripts; schedule = input.schedule }
-
--- why nothing was parsed
-abbrev pub IsParseStop : RunNames → Texts → ParseStop → Type 0
-IsParseStop names texts (stops.NotAccepted place fault) = IsNotAccepted names texts place fault
-IsParseStop names texts stops.NoMemory = Unit {0}
 
 -- what was read, one text for each source
 abbrev pub AreTexts : RunNames → List (List ℕ) → Type 0
@@ -28,3 +31,35 @@ texts_of names sources = record {
   scripts = take (length names.scripts) (drop 2 sources);
   schedule = cond (is_some names.schedule) (Some (get_or sources (length names.scripts + 2) [])) None;
 }
+
+-- each script can be run where these names and the files of those before it are taken
+abbrev pub AreRunnable : List (List ℕ) → List (List Command) → Type 0
+AreRunnable taken [] = Unit {0}
+AreRunnable taken (script ∷ scripts) = IsRunnable taken script × AreRunnable (taken ++ files_of script) scripts
+
+-- ---- why nothing was parsed
+
+abbrev pub IsVertexStop : List ℕ → ParseStop → Type 0
+IsVertexStop text (stops.NotAccepted place fault) =
+    (place ≡ 0) × (fault ≡ faults.NotAccepted) × ((ids : List ℕ) → IsVertexFile text MAX_LOAD_ROWS ids → ⊥)
+IsVertexStop text stops.NoMemory = Unit {0}
+
+abbrev pub IsEdgeStop : List ℕ → List ℕ → ParseStop → Type 0
+IsEdgeStop text ids (stops.NotAccepted place fault) =
+    (place ≡ 1) × (fault ≡ faults.NotAccepted) × ((edges : List Edge) → IsEdgeFile text ids MAX_LOAD_ROWS edges → ⊥)
+IsEdgeStop text ids stops.NoMemory = Unit {0}
+
+-- the fault is that of a script, whatever schedule comes behind
+abbrev pub IsScriptStop : List (List ℕ) → List (List ℕ) → ParseStop → Type 0
+IsScriptStop taken texts (stops.NotAccepted place fault) = (k : ℕ) × (place ≡ k + 2)
+    × ((jobs : ℕ) (schedule : Option (List ℕ)) → IsFaultBehind jobs taken texts schedule k fault)
+IsScriptStop taken texts stops.NoMemory = Unit {0}
+
+-- the fault is that of the schedule, behind so many scripts
+abbrev pub IsScheduleStop : ℕ → Option (List ℕ) → ParseStop → Type 0
+IsScheduleStop jobs schedule (stops.NotAccepted place fault) = (place ≡ jobs + 2) × HasScheduleFault jobs schedule fault
+IsScheduleStop jobs schedule stops.NoMemory = Unit {0}
+
+abbrev pub IsParseStop : RunNames → Texts → ParseStop → Type 0
+IsParseStop names texts (stops.NotAccepted place fault) = IsNotAccepted names texts place fault
+IsParseStop names texts stops.NoMemory = Unit {0}

@@ -1,97 +1,168 @@
 //! What the sources stand for.
 //!
-//! 1. The sources are parsed in the order in which they were read, so the first one that isn't
-//!    accepted is the one that is named.
+//! 1. The sources are parsed in the order in which they were read, so the first one with a fault is the one that
+//!    is named.
+//! 2. The names that a script may not use grow by the files of each script, in order.
 
-ghost use Rattle.std.specs.Prelude.{◌≡◌, IfOk, IfErr};
-ghost use Rattle.teseo_program.specs.CommandLine.{run_names};
-ghost use Rattle.teseo_program.specs.Words.{report_name, taken_names};
-ghost use Rattle.teseo_program.specs.Input.{Texts, in_order, IsParsed, IsParseStop};
+ghost use Rattle.std.specs.Prelude.{◌≡◌, ◌+◌, ◌++◌, ℕ, List, Option, length, take, get_or, [], AllPairs, IfOk, IfErr};
+ghost use Rattle.std.specs.List.{flat_map};
+ghost use Rattle.graph_model.specs.declared.limits.TheConstants.{MAX_LOAD_ROWS};
+ghost use Rattle.graphalytics_io.specs.VertexFile.{IsVertexFile};
+ghost use Rattle.graphalytics_io.specs.EdgeFile.{IsEdgeFile};
+ghost use Rattle.script_lang.specs.Scripts.{files_of};
+ghost use Rattle.command_line.specs.Words.{taken_names};
+ghost use Rattle.command_line.specs.Lines.{run_names, taken_name};
+ghost use Rattle.teseo_program.specs.Input.{AreScripts, IsSchedule, IsAccepted};
+ghost use Rattle.teseo_program.specs.Parsing.{AreTexts, texts_of, meaning_of, AreRunnable, IsParseStop, IsVertexStop, IsEdgeStop, IsScriptStop, IsScheduleStop};
 
-use crate::words::CommandLine;
-use desk_io::Sources;
+use crate::fault::{ParseStop, SourceFault};
+use command_line::{CommandLine, TakenName};
+use desk_io::{Bytes, Sources};
 use graph_model::{Ids, MAX_LOAD_ROWS, NoMemory};
 use graphalytics_io::{Edges, ReadRefusal, read_edges, read_vertices};
+use items::Items;
 use run_model::{Name, Script};
-use script_lang::{Names, ScriptRefusal, read_script};
+use script_lang::{Names, Schedule, ScheduleRefusal, ScriptRefusal, read_schedule, read_script};
 use std::alloc::Global;
 
-/// The graph of the files, and the script that runs on it.
+/// The graph of the files, the scripts that run on it, and their schedule.
 #[derive(Drop)]
 pub struct Input {
     pub ids: Ids,
     pub edges: Edges,
-    pub script: Script,
+    pub scripts: Items<Script>,
+    pub schedule: Schedule,
 }
 
-/// Why the sources weren't parsed.
-#[derive(Clone, Copy, Debug, PartialEq, Eq)]
-pub enum ParseStop {
-    /// The source at this place is the first that isn't of its form.
-    NotAccepted { place: usize },
-    NoMemory,
-}
-
-impl From<NoMemory> for ParseStop {
-    ghost use Rattle.teseo_program.specs.declared.input.ParseStop.TheVariants as stops;
-
-    ghost from_gives = { λ _ stop. stop ≡ stops.NoMemory };
-
-    fn from(_: NoMemory) -> ParseStop {
-        ParseStop::NoMemory
-    }
-}
-
-/// Parses the vertex file, the edge file and the script.
+/// Parses the vertex file, the edge file, the scripts and the schedule.
 pub fn parse_sources(
     alloc: Global,
     sources: &Sources,
     line: &CommandLine<'_>,
-    report: &str,
 ) -> Result<Input, ParseStop>
-    requires sources { (texts : Texts) × (sources.now ≡ in_order texts) }
-    requires report { report.now ≡ report_name (run_names line.now).script }
-    ensures accepted { IfOk result (λ input. (texts : Texts) → sources.now ≡ in_order texts → IsParsed (run_names line.now) texts input) }
-    ensures refused { IfErr result (λ stop. (texts : Texts) → sources.now ≡ in_order texts → IsParseStop (run_names line.now) texts stop) }
+    requires { AreTexts (run_names line.now) sources.now }
+    ensures accepted { IfOk result (λ input. IsAccepted (run_names line.now) (texts_of (run_names line.now) sources.now) (meaning_of input)) }
+    ensures runnable { IfOk result (λ input. AreRunnable (taken_names (run_names line.now)) input.scripts) }
+    ensures refused { IfErr result (IsParseStop (run_names line.now) (texts_of (run_names line.now) sources.now)) }
 {
-    let [vertices, edges, script] = sources.as_slice() else {
-        unreachable!()
-    };
-    let ids = match read_vertices(alloc, vertices.as_slice(), MAX_LOAD_ROWS) {
-        Ok(ids) => ids,
-        Err(ReadRefusal::NotAccepted) => return Err(ParseStop::NotAccepted { place: 0 }),
-        Err(ReadRefusal::NoMemory) => return Err(ParseStop::NoMemory),
-    };
-    let edges = match read_edges(alloc, edges.as_slice(), &ids, MAX_LOAD_ROWS) {
-        Ok(edges) => edges,
-        Err(ReadRefusal::NotAccepted) => return Err(ParseStop::NotAccepted { place: 1 }),
-        Err(ReadRefusal::NoMemory) => return Err(ParseStop::NoMemory),
-    };
-    let mut taken = names_taken(alloc, line, report)?;
-    match read_script(alloc, script.as_slice(), &mut taken) {
-        Ok(script) => Ok(Input { ids, edges, script }),
-        Err(ScriptRefusal::NotAccepted) => Err(ParseStop::NotAccepted { place: 2 }),
-        Err(ScriptRefusal::NoMemory) => Err(ParseStop::NoMemory),
+    let texts = sources.as_slice();
+    let ids = parse_vertices(alloc, texts[0].as_slice())?;
+    let edges = parse_edges(alloc, texts[1].as_slice(), &ids)?;
+    let mut taken = names_taken(alloc, line)?;
+    let count = line.scripts.len();
+    let scripts = parse_scripts(alloc, &texts[2..count + 2], &mut taken)?;
+    let schedule = parse_schedule(alloc, texts, line)?;
+    Ok(Input {
+        ids,
+        edges,
+        scripts,
+        schedule,
+    })
+}
+
+/// Parses the vertex file, the first source.
+fn parse_vertices(alloc: Global, text: &[u8]) -> Result<Ids, ParseStop>
+    ensures ok { IfOk result (IsVertexFile text.now MAX_LOAD_ROWS) }
+    ensures refused { IfErr result (IsVertexStop text.now) }
+{
+    match read_vertices(alloc, text, MAX_LOAD_ROWS) {
+        Ok(ids) => Ok(ids),
+        Err(ReadRefusal::NotAccepted) => Err(ParseStop::NotAccepted {
+            place: 0,
+            fault: SourceFault::NotAccepted,
+        }),
+        Err(ReadRefusal::NoMemory) => Err(ParseStop::NoMemory),
     }
 }
 
-/// The names that a script may not give a file.
-fn names_taken(alloc: Global, line: &CommandLine<'_>, report: &str) -> Result<Names, NoMemory>
-    requires { report.now ≡ report_name (run_names line.now).script }
+/// Parses the edge file, the second source.
+fn parse_edges(alloc: Global, text: &[u8], ids: &Ids) -> Result<Edges, ParseStop>
+    ensures ok { IfOk result (IsEdgeFile text.now ids.now MAX_LOAD_ROWS) }
+    ensures refused { IfErr result (IsEdgeStop text.now ids.now) }
+{
+    match read_edges(alloc, text, ids, MAX_LOAD_ROWS) {
+        Ok(edges) => Ok(edges),
+        Err(ReadRefusal::NotAccepted) => Err(ParseStop::NotAccepted {
+            place: 1,
+            fault: SourceFault::NotAccepted,
+        }),
+        Err(ReadRefusal::NoMemory) => Err(ParseStop::NoMemory),
+    }
+}
+
+/// Parses the scripts, the sources from the third on.
+fn parse_scripts(
+    alloc: Global,
+    texts: &[Bytes],
+    taken: &mut Names,
+) -> Result<Items<Script>, ParseStop>
+    ensures ok { IfOk result (AreScripts taken.old texts.now) }
+    ensures runnable { IfOk result (AreRunnable taken.old) }
+    ensures refused { IfErr result (IsScriptStop taken.old texts.now) }
+{
+    let mut scripts = Items::new(alloc);
+    'texts: for k in 0..texts.len() {
+        let script = match read_script(alloc, texts[k].as_slice(), taken) {
+            Ok(script) => script,
+            Err(ScriptRefusal::Fault { line, what }) => {
+                return Err(ParseStop::NotAccepted {
+                    place: k + 2,
+                    fault: SourceFault::Script { line, what },
+                });
+            }
+            Err(ScriptRefusal::NoMemory) => return Err(ParseStop::NoMemory),
+        };
+        scripts.push(script)?;
+    }
+    Ok(scripts)
+}
+
+/// Parses the schedule, the last source, where there is one.
+fn parse_schedule(
+    alloc: Global,
+    texts: &[Bytes],
+    line: &CommandLine<'_>,
+) -> Result<Schedule, ParseStop>
+    requires { AreTexts (run_names line.now) texts.now }
+    ensures ok { IfOk result (IsSchedule (length (run_names line.now).scripts) (texts_of (run_names line.now) texts.now).schedule) }
+    ensures refused { IfErr result (IsScheduleStop (length (run_names line.now).scripts) (texts_of (run_names line.now) texts.now).schedule) }
+{
+    let count = line.scripts.len();
+    if line.schedule.is_none() {
+        return Ok(Schedule::new(alloc));
+    }
+    match read_schedule(alloc, texts[count + 2].as_slice(), count as u32) {
+        Ok(schedule) => Ok(schedule),
+        Err(ScheduleRefusal::Fault { line, what }) => Err(ParseStop::NotAccepted {
+            place: count + 2,
+            fault: SourceFault::Schedule { line, what },
+        }),
+        Err(ScheduleRefusal::NoMemory) => Err(ParseStop::NoMemory),
+    }
+}
+
+/// The names that a script may not give a file, before the first script is read.
+fn names_taken(alloc: Global, line: &CommandLine<'_>) -> Result<Names, NoMemory>
     ensures { IfOk result (λ taken. taken ≡ taken_names (run_names line.now)) }
 {
     let mut taken = Names::new(alloc);
-    taken.push(name_of(alloc, line.vertices)?)?;
-    taken.push(name_of(alloc, line.edges)?)?;
-    taken.push(name_of(alloc, line.journal)?)?;
-    taken.push(name_of(alloc, line.script)?)?;
-    taken.push(name_of(alloc, report)?)?;
+    'places: for place in 0..line.taken_len() {
+        taken.push(name_of(alloc, line.taken(place))?)?;
+    }
     Ok(taken)
 }
 
-/// A copy of a name.
-fn name_of(alloc: Global, name: &str) -> Result<Name, NoMemory>
-    ensures { IfOk result (λ copy. copy ≡ name.now) }
+/// A name with its bytes.
+fn name_of(alloc: Global, name: TakenName<'_>) -> Result<Name, NoMemory>
+    ensures { IfOk result (λ copy. copy ≡ taken_name name.entry) }
 {
-    Ok(Name::from_vec(Vec::from_slice(alloc, name.as_bytes())?))
+    let bytes = match name {
+        TakenName::Given(name) => Vec::from_slice(alloc, name.as_bytes())?,
+        TakenName::ReportOf(script) => {
+            let mut bytes = Vec::from_slice(alloc, script.as_bytes())?;
+            bytes.extend_from_slice(b".report")?;
+            bytes
+        }
+    };
+    Ok(Name::from_vec(bytes))
 }
