@@ -3,4 +3,6 @@ pub mod Faults
 pub mod FieldFaults
 pub mod Values
 pub mod Scripts
+pub mod Runnable
+pub mod Readings
 pub mod Places

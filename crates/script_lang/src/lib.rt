@@ -2,15 +2,19 @@
 #![tactic(auto)]
 
 mod arguments;
+mod command;
 mod journal;
 mod names;
 mod pieces;
+mod reading;
 mod refusal;
 mod report;
+mod script;
 mod word;
 
 pub use journal::write_journal;
 pub use names::Names;
 pub use refusal::{ScheduleRefusal, ScheduleWhat, ScriptRefusal, ScriptWhat};
 pub use report::write_report;
+pub use script::read_script;
 pub use word::{FieldKind, WORDS, Word};
