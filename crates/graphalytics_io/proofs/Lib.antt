@@ -1,4 +1,6 @@
 pub mod FieldLemmas
+pub mod FieldsLemmas
+pub mod NumberLemmas
 pub mod LinesLemmas
 pub mod DuplicatesLemmas
 pub mod EdgeFileLemmas

@@ -1,4 +1,7 @@
 pub mod Lines
+pub mod Fields
+pub mod FieldLines
+pub mod Numbers
 pub mod VertexFile
 pub mod EdgeFile
 pub mod Load

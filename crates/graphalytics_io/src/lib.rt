@@ -9,9 +9,12 @@
 mod duplicates;
 mod edges;
 mod field;
+mod line_fields;
 mod known;
 mod laws;
+mod lines;
 mod load;
+mod number;
 mod refusal;
 mod spelling;
 mod table;
@@ -20,9 +23,12 @@ mod vertices;
 
 pub use edges::{Edge, Edges, one_list_of_edges, read_edges};
 pub use field::read_field;
+pub use line_fields::Fields;
 pub use graph_model::Ids;
 pub use laws::{files_are_loadable, load_is_its_graph, load_is_legal};
+pub use lines::{FieldLine, FieldLines, field_lines, fields};
 pub use load::load_writes;
+pub use number::{NumberFault, read_number};
 pub use refusal::ReadRefusal;
 pub use spelling::{Spelling, append_each, write_each};
 pub use table::write_table;

@@ -1,1 +1,4 @@
+pub mod PlaceLemmas
+pub mod FaultLemmas
+pub mod LineLemmas
 pub mod ScriptLemmas

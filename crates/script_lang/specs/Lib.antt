@@ -1,1 +1,8 @@
-pub mod ScriptFile
+pub mod Words
+pub mod Faults
+pub mod FieldFaults
+pub mod Values
+pub mod Scripts
+pub mod Runnable
+pub mod Readings
+pub mod Places

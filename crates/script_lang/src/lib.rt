@@ -1,18 +1,20 @@
-//! The texts of a run: scripts are read, in the strict form, and reports and the journal are written.
-//!
-//! 1. A call that is refused memory leaves the text, or the names that are taken, as they were.
-//! 2. What a writer puts behind a text is what `run_model` defines, and nothing else.
+//! The texts of a run: scripts and schedules are read, and reports and the journal are written.
 #![tactic(auto)]
 
+mod arguments;
+mod command;
 mod journal;
 mod names;
 mod pieces;
+mod reading;
 mod refusal;
 mod report;
 mod script;
+mod word;
 
 pub use journal::write_journal;
 pub use names::Names;
-pub use refusal::ScriptRefusal;
+pub use refusal::{ScheduleRefusal, ScheduleWhat, ScriptRefusal, ScriptWhat};
 pub use report::write_report;
-pub use script::{one_script_of_a_text, read_script};
+pub use script::read_script;
+pub use word::{FieldKind, WORDS, Word};

@@ -1,25 +1,37 @@
 //! The file names that are taken.
+//!
+//! 1. A map keeps for each name the first place at which it stands, so a name is looked up in logarithmic time.
+//! 2. After a refusal the names are those of before the call.
 
-ghost use Rattle.std.specs.Prelude.{◌≡◌, ◌==◌, ◌↔◌, [], ◌∷◌, ◌++◌, length, Contains, IsTrue, OnOk, OnErr};
+ghost use Rattle.std.specs.Prelude.{◌≡◌, ◌==◌, ◌↔◌, ℕ, cond, List, [], ◌∷◌, ◌++◌, length, take, Contains, Some, None, IsTrue, OnOk, OnErr, ◌&&◌};
+ghost use Rattle.std.specs.Option.{option_or};
+ghost use Rattle.std.specs.Str.{bytes_eq};
+ghost use Rattle.script_lang.specs.Places.{place_in, is_at};
 
 use graph_model::NoMemory;
-use items::Items;
+use items::RoomyItems;
 use run_model::Name;
 use std::alloc::Global;
+use std::collections::BTreeMap;
 use std::marker::Model;
 
-/// The file names that scripts have asked for so far, in the order in which they did.
+/// The file names that are taken, in the order in which they were.
 #[derive(Drop)]
 pub struct Names {
-    names: Items<Name>,
+    alloc: Global,
+    names: RoomyItems<Name>,
+    places: BTreeMap<Vec<u8>, usize>,
 }
 
 impl Model for Names {
     ghost use Rattle.std.specs.Prelude.{ℕ, List};
+    ghost use Rattle.script_lang.specs.Places.{AreFirstPlaces};
 
     ghost Value = { List (List ℕ) };
 
-    ghost view = { λ taken. taken.names };
+    ghost view = { λ taken. taken.names.items };
+
+    ghost invariant = { λ taken. AreFirstPlaces taken.places taken.names.items };
 }
 
 impl Names {
@@ -28,7 +40,9 @@ impl Names {
         ensures { result ≡ [] }
     {
         Names {
-            names: Items::new(alloc),
+            alloc,
+            names: RoomyItems::new(alloc),
+            places: BTreeMap::new(alloc),
         }
     }
 
@@ -37,13 +51,17 @@ impl Names {
         ensures ok { OnOk result (self.new ≡ self.old ++ name ∷ []) }
         ensures err { OnErr result (self.new ≡ self.old) }
     {
-        self.names.push(name)
+        self.names.reserve(1)?;
+        let place = self.names.len();
+        add_place(self.alloc, &mut self.places, name.as_slice(), place)?;
+        self.names.push_within(name);
+        Ok(())
     }
 
     pub fn contains(&self, bytes: &[u8]) -> bool
         ensures { IsTrue result ↔ Contains self.now bytes.now }
     {
-        is_among(self.names.as_slice(), bytes)
+        self.places.contains_key(bytes)
     }
 
     pub fn len(&self) -> usize
@@ -57,16 +75,48 @@ impl Names {
     {
         self.names.is_empty()
     }
-}
 
-/// Whether these bytes are one of the names.
-fn is_among(names: &[Name], bytes: &[u8]) -> bool
-    ensures { IsTrue result ↔ Contains names.now bytes.now }
-{
-    'names: for name in names {
-        if name.as_slice() == bytes {
-            return true;
+    /// Keeps the first names alone, so many.
+    pub fn truncate(&mut self, len: usize)
+        ensures { self.new ≡ take len self.old }
+    {
+        'names: while len < self.names.len() {
+            let Some(name) = self.names.pop() else {
+                return
+            };
+            let place = self.names.len();
+            remove_place(&mut self.places, name.as_slice(), place);
         }
     }
-    false
+}
+
+/// Keeps this place for a name, unless there is one for it.
+fn add_place(
+    alloc: Global,
+    places: &mut BTreeMap<Vec<u8>, usize>,
+    name: &[u8],
+    place: usize,
+) -> Result<(), NoMemory>
+    ensures ok { OnOk result ((other : List ℕ) → place_in places.new other
+        ≡ option_or (place_in places.old other) (cond (bytes_eq other name.now) (Some place) None)) }
+    ensures err { OnErr result ((other : List ℕ) → place_in places.new other ≡ place_in places.old other) }
+{
+    if places.contains_key(name) {
+        return Ok(());
+    }
+    let key = Vec::from_slice(alloc, name)?;
+    places.insert(key, place)?;
+    Ok(())
+}
+
+/// Forgets a name's place, where it is this one.
+fn remove_place(places: &mut BTreeMap<Vec<u8>, usize>, name: &[u8], place: usize)
+    ensures { (other : List ℕ) → place_in places.new other
+        ≡ cond (bytes_eq name.now other && is_at place (place_in places.old name.now)) None (place_in places.old other) }
+{
+    if let Some(first) = places.get(name) {
+        if *first == place {
+            places.remove(name);
+        }
+    }
 }

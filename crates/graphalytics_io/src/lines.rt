@@ -1,0 +1,172 @@
+//! The lines of a text that have fields.
+//!
+//! 1. Each line is counted, and those that say nothing are passed over.
+//! 2. The number of the line that was read last and the bytes that are left are no more than the text has, so the
+//!    numbers do not overflow.
+
+ghost use Rattle.std.specs.Prelude.{◌≡◌, [], ◌∷◌, MatchOption};
+ghost use Rattle.std.specs.List.{position, before_first, after_first, list_all};
+ghost use Rattle.graphalytics_io.specs.Fields.{is_blank, is_line_feed, fields_of, without_return};
+ghost use Rattle.graphalytics_io.specs.FieldLines.{field_lines, is_comment, is_passed_over};
+
+use crate::line_fields::{Fields, is_blank};
+use std::marker::Model;
+
+/// A line that says something, with its number in the text, from 1.
+#[derive(Drop)]
+pub struct FieldLine<'a> {
+    pub number: u64,
+    pub fields: Fields<'a>,
+}
+
+/// What is left of the lines of a text.
+#[derive(Drop)]
+pub struct FieldLines<'a> {
+    rest: &'a [u8],
+    /// The number of the line that was read last.
+    number: u64,
+}
+
+impl<'a> Model for FieldLines<'a> {
+    ghost use Rattle.std.specs.Prelude.{List, ◌+◌, ◌^◌, ◌<◌, length};
+    ghost use Rattle.graphalytics_io.specs.declared.lines.FieldLine.{FieldLine};
+    ghost use Rattle.graphalytics_io.specs.Fields.{lines_of};
+    ghost use Rattle.graphalytics_io.specs.FieldLines.{numbered};
+
+    ghost Value = { List FieldLine };
+
+    ghost view = { λ lines. numbered lines.number (lines_of lines.rest.now) };
+
+    ghost invariant = { λ lines. lines.number + length lines.rest.now < 2 ^ 64 };
+}
+
+/// The fields of a line.
+pub fn fields(line: &[u8]) -> Fields<'_>
+    ensures { result ≡ fields_of line.now }
+{
+    Fields::of(line)
+}
+
+/// The lines of a text that say something.
+pub fn field_lines(text: &[u8]) -> FieldLines<'_>
+    ensures { result ≡ field_lines text.now }
+{
+    FieldLines {
+        rest: text,
+        number: 0,
+    }
+}
+
+impl<'a> FieldLines<'a> {
+    /// Lends the next line that says something, and takes it from those that are left.
+    pub fn next(&mut self) -> Option<FieldLine<'a>>
+        ensures { MatchOption result ((self.old ≡ []) × (self.new ≡ []))
+            (λ line. self.old ≡ line ∷ self.new) }
+    {
+        'lines: while !self.rest.is_empty() {
+            let (line, rest) = cut_line(self.rest);
+            self.rest = rest;
+            self.number += 1;
+            let line = without_return(line);
+            if !is_passed_over(line) {
+                return Some(FieldLine {
+                    number: self.number,
+                    fields: fields(line),
+                });
+            }
+        }
+        None
+    }
+}
+
+/// Cuts a text at its first line feed, or at its end where it has none.
+fn cut_line(text: &[u8]) -> (&[u8], &[u8])
+    ensures line { result.0.now ≡ before_first is_line_feed text.now }
+    ensures rest { result.1.now ≡ after_first is_line_feed text.now }
+{
+    match first_line_feed(text) {
+        Some(end) => (&text[..end], &text[end + 1..]),
+        None => (text, &text[text.len()..]),
+    }
+}
+
+fn first_line_feed(text: &[u8]) -> Option<usize>
+    ensures { result ≡ position is_line_feed text.now }
+{
+    text.iter().position(|byte| *byte == b'\n')
+}
+
+/// A line without the carriage return at its end, where it has one.
+fn without_return(line: &[u8]) -> &[u8]
+    ensures { result.now ≡ without_return line.now }
+{
+    match line {
+        [front @ .., b'\r'] => front,
+        _ => line,
+    }
+}
+
+fn is_passed_over(line: &[u8]) -> bool
+    ensures { result ≡ is_passed_over line.now }
+{
+    is_comment(line) || has_only_blanks(line)
+}
+
+fn is_comment(line: &[u8]) -> bool
+    ensures { result ≡ is_comment line.now }
+{
+    match line {
+        [b'#', ..] => true,
+        _ => false,
+    }
+}
+
+fn has_only_blanks(line: &[u8]) -> bool
+    ensures { result ≡ list_all is_blank line.now }
+{
+    line.iter().all(|byte| is_blank(*byte))
+}
+
+#[cfg(test)]
+mod tests {
+    use super::*;
+    use crate::text::Text;
+    use graph_model::NoMemory;
+    use std::alloc::Global;
+    use std::test::Fail;
+
+    #[test]
+    fn lines_that_say_something_are_given_with_their_numbers_and_fields(
+        rt: HostRuntime,
+    ) -> Result<(), Fail> {
+        for (text, want) in [
+            ("", ""),
+            ("\n\r\n \t\n# 1\n#", ""),
+            ("1 2\n3", "1(1)(2) 2(3) "),
+            ("\n\t 7 \t  8 \r\n\n9\n", "2(7)(8) 4(9) "),
+            (" # 1\n1#\n", "1(#)(1) 2(1#) "),
+            ("1\r\r\n2\r", "1(1\r) 2(2) "),
+            ("a\x0bb\n\x0c", "1(a\x0bb) 2(\x0c) "),
+        ] {
+            let got = said_lines(rt.alloc(), text)?;
+            assert_eq!(rt; got.as_slice(), want.as_bytes(), "of {text}");
+        }
+        Ok(())
+    }
+
+    /// Each line as `1(a)(b)` for its number and its fields, with a blank behind it.
+    fn said_lines(alloc: Global, text: &str) -> Result<Text, NoMemory> {
+        let mut said = Text::new(alloc);
+        let mut lines = field_lines(text.as_bytes());
+        while let Some(mut line) = lines.next() {
+            said.push_number(line.number)?;
+            while let Some(field) = line.fields.next() {
+                said.push_bytes(b"(")?;
+                said.push_bytes(field)?;
+                said.push_bytes(b")")?;
+            }
+            said.push_bytes(b" ")?;
+        }
+        Ok(said)
+    }
+}
