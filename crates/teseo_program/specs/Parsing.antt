@@ -5,6 +5,10 @@ use Rattle.run_model.specs.declared.command.Command.{Command}
 use Rattle.graphalytics_io.specs.declared.edges.Edge.{Edge}
 use Rattle.graphalytics_io.specs.VertexFile.{IsVertexFile}
 use Rattle.graphalytics_io.specs.EdgeFile.{IsEdgeFile}
+use Rattle.script_lang.specs.declared.refusal.ScriptRefusal.{ScriptRefusal}
+use Rattle.script_lang.specs.declared.refusal.ScriptRefusal.TheVariants as scripts
+use Rattle.script_lang.specs.declared.refusal.ScheduleRefusal.{ScheduleRefusal}
+use Rattle.script_lang.specs.declared.refusal.ScheduleRefusal.TheVariants as schedules
 use Rattle.script_lang.specs.Scripts.{files_of}
 use Rattle.script_lang.specs.Runnable.{IsRunnable}
 use Rattle.command_line.specs.Words.{RunNames, source_names}
@@ -63,3 +67,12 @@ IsScheduleStop jobs schedule stops.NoMemory = Unit {0}
 abbrev pub IsParseStop : RunNames → Texts → ParseStop → Type 0
 IsParseStop names texts (stops.NotAccepted place fault) = IsNotAccepted names texts place fault
 IsParseStop names texts stops.NoMemory = Unit {0}
+
+-- the stop at the source at this place, a script or the schedule
+abbrev pub stop_of_script : ℕ → ScriptRefusal → ParseStop
+stop_of_script place (scripts.Fault line what) = stops.NotAccepted place (faults.Script line what)
+stop_of_script place scripts.NoMemory = stops.NoMemory
+
+abbrev pub stop_of_schedule : ℕ → ScheduleRefusal → ParseStop
+stop_of_schedule place (schedules.Fault line what) = stops.NotAccepted place (faults.Schedule line what)
+stop_of_schedule place schedules.NoMemory = stops.NoMemory

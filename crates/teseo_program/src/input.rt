@@ -13,7 +13,7 @@ ghost use Rattle.script_lang.specs.Scripts.{files_of};
 ghost use Rattle.command_line.specs.Words.{taken_names};
 ghost use Rattle.command_line.specs.Lines.{run_names, taken_name};
 ghost use Rattle.teseo_program.specs.Input.{AreScripts, IsSchedule, IsAccepted};
-ghost use Rattle.teseo_program.specs.Parsing.{AreTexts, texts_of, meaning_of, AreRunnable, IsParseStop, IsVertexStop, IsEdgeStop, IsScriptStop, IsScheduleStop};
+ghost use Rattle.teseo_program.specs.Parsing.{AreTexts, texts_of, meaning_of, AreRunnable, IsParseStop, IsVertexStop, IsEdgeStop, IsScriptStop, IsScheduleStop, stop_of_script};
 
 use crate::fault::{ParseStop, SourceFault};
 use command_line::{CommandLine, TakenName};
@@ -104,17 +104,24 @@ fn parse_scripts(
     'texts: for k in 0..texts.len() {
         let script = match read_script(alloc, texts[k].as_slice(), taken) {
             Ok(script) => script,
-            Err(ScriptRefusal::Fault { line, what }) => {
-                return Err(ParseStop::NotAccepted {
-                    place: k + 2,
-                    fault: SourceFault::Script { line, what },
-                });
-            }
-            Err(ScriptRefusal::NoMemory) => return Err(ParseStop::NoMemory),
+            Err(refusal) => return Err(script_stop(k + 2, refusal)),
         };
         scripts.push(script)?;
     }
     Ok(scripts)
+}
+
+/// The stop at a script, the source at this place.
+fn script_stop(place: usize, refusal: ScriptRefusal) -> ParseStop
+    ensures { result ≡ stop_of_script place refusal }
+{
+    match refusal {
+        ScriptRefusal::Fault { line, what } => ParseStop::NotAccepted {
+            place,
+            fault: SourceFault::Script { line, what },
+        },
+        ScriptRefusal::NoMemory => ParseStop::NoMemory,
+    }
 }
 
 /// Parses the schedule, the last source, where there is one.

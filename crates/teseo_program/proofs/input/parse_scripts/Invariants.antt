@@ -1,5 +1,5 @@
 -- the scripts so far stand for their texts, and their files are taken
-use Rattle.std.proofs.Common.{◌≡◌, ◌×◌, take}
+use Rattle.std.proofs.Common.{◌≡◌, take}
 use Rattle.teseo_program.specs.Input.{AreScripts}
 use Rattle.teseo_program.specs.Parsing.{AreRunnable}
 use Rattle.teseo_program.proofs.InputLemmas.{taken_behind}
