@@ -16,6 +16,7 @@ use Rattle.script_lang.specs.declared.refusal.ScriptWhat.{ScriptWhat}
 use Rattle.script_lang.specs.declared.refusal.ScriptWhat.TheVariants.{NotACommand, MissingField, ExtraField, NotBegun, BegunTwice, TooManyBegins, NotEnded}
 use Rattle.script_lang.specs.declared.refusal.ScriptRefusal.{ScriptRefusal}
 use Rattle.script_lang.specs.declared.refusal.ScriptRefusal.TheVariants.{Fault, NoMemory}
+use Rattle.script_lang.specs.Results.{in_front}
 use Rattle.script_lang.specs.FieldFaults.{fields_fault}
 use Rattle.script_lang.specs.Values.{Values, no_values, with_values}
 use Rattle.script_lang.specs.Words.{word_of, kinds_of, needed, is_begin}
@@ -105,11 +106,6 @@ behind before number command = record {
   begun = next_txn before.begun (request command);
   taken = before.taken ++ file_of (request command);
 }
-
--- a command in front of those of the lines behind it
-abbrev pub in_front : Command → Result (List Command) ScriptRefusal → Result (List Command) ScriptRefusal
-in_front command (Ok script) = Ok (command ∷ script)
-in_front command (Err refusal) = Err refusal
 
 -- a line's command, and then the others; or the line's fault
 abbrev pub then_lines : ℕ → Result Command ScriptWhat → (Command → Result (List Command) ScriptRefusal) → Result (List Command) ScriptRefusal
