@@ -19,4 +19,4 @@ pub use refusal::{ScheduleRefusal, ScheduleWhat, ScriptRefusal, ScriptWhat};
 pub use report::write_report;
 pub use schedule::{Schedule, read_schedule};
 pub use script::read_script;
-pub use word::{FieldKind, WORDS, Word};
+pub use word::words_are_read;
