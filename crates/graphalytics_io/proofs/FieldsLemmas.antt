@@ -1,12 +1,13 @@
 -- Texts that are cut into lines, and lines into fields.
-use Rattle.std.proofs.Common.{◌≡◌, ℕ, ◌+◌, ◌-◌, ◌<◌, ◌≤◌, Bool, true, false, not, cond, List, [], ◌∷◌, ◌++◌, length, take, drop, refl, sym, ap, ap₂, subst, ◌∙◌, arith, suc, ◌^◌, ◌==◌, length-drop, Option, Some, None}
-use Rattle.std.specs.List.{onto_first, slice_split, filter, position, position_or_len, before_first, after_first}
+use Rattle.std.proofs.Common.{◌≡◌, ℕ, ◌+◌, ◌-◌, ◌<◌, ◌≤◌, Bool, true, false, not, cond, List, [], ◌∷◌, ◌++◌, length, take, drop, refl, sym, ap, ap₂, subst, ◌∙◌, arith, suc, ◌^◌, ◌==◌, ◌&&◌, ◌||◌, All, length-drop, Option, Some, None}
+use Rattle.std.proofs.lemmas.List.Elements.{All-nil, All-cons}
+use Rattle.std.specs.List.{list_all, onto_first, slice_split, filter, position, position_or_len, before_first, after_first}
 use Rattle.std.proofs.lemmas.Bool.Decides.{nat_tests}
 use Rattle.std.proofs.lemmas.Grind.{common_steps}
 use borrow.Author.Tests.{eqb-true}
 use Rattle.graphalytics_io.specs.Fields.{is_line_feed, is_blank, is_some_part, lines_of, fields_of, without_return}
 use Rattle.graphalytics_io.specs.declared.lines.FieldLine.{FieldLine}
-use Rattle.graphalytics_io.specs.FieldLines.{numbered, line_before, is_passed_over}
+use Rattle.graphalytics_io.specs.FieldLines.{numbered, line_before, is_comment, is_passed_over}
 
 -- the place that `position` gives is how many elements precede the first that passes
 pub position_at : {X : Type 0} (p : X → Bool) (xs : List X) (i : ℕ) → Some i ≡ position p xs → (position_or_len p xs ≡ i) × (i < length xs)
@@ -177,3 +178,25 @@ module _ (text line rest short : List ℕ) (number : ℕ) (all : List FieldLine)
   -- where it says nothing, the lines are those of the rest
   pub line_skipped : is_passed_over short ≡ true → numbered (number + 1) (lines_of rest) ≡ all
   line_skipped silent = sym (parted_lines ∙ rw silent refl)
+
+-- a line that isn't blank throughout has a field
+some_field : (line : List ℕ) → list_all is_blank line ≡ false → 0 < length (fields_of line)
+some_field [] says = absurd (cc)
+some_field (byte ∷ line) says = field_step (is_blank byte) (slice_split is_blank line) (some_field line) says
+  where
+    field_step : (v : Bool) (parts : List (List ℕ)) → (list_all is_blank line ≡ false → 0 < length (filter is_some_part parts))
+        → (v && list_all is_blank line) ≡ false → 0 < length (filter is_some_part (cond v ([] ∷ parts) (onto_first byte parts)))
+    field_step true parts more says = more says
+    field_step false [] more says = omega arith
+    field_step false (part ∷ parts) more says = omega arith
+
+-- the lines of a text that say something have fields
+pub numbered_fields : (number : ℕ) (lines : List (List ℕ)) → All (λ line. 0 < length line.fields) (numbered number lines)
+numbered_fields number [] = All-nil (λ (line : FieldLine). 0 < length line.fields)
+numbered_fields number (line ∷ lines) = one_more (without_return line) (is_comment (without_return line)) (list_all is_blank (without_return line)) refl (numbered (number + 1) lines) (numbered_fields (number + 1) lines)
+  where
+    one_more : (short : List ℕ) (comment blank : Bool) → list_all is_blank short ≡ blank → (more : List FieldLine) → All (λ line. 0 < length line.fields) more
+        → All (λ line. 0 < length line.fields) (cond (comment || blank) more (record { number = number + 1; fields = fields_of short } ∷ more))
+    one_more short true blank says more each = each
+    one_more short false true says more each = each
+    one_more short false false says more each = All-cons (λ (line : FieldLine). 0 < length line.fields) _ more (some_field short says) each

@@ -20,7 +20,9 @@ number_of field = digits_value 10 field
 -- what a field stands for where it is a number up to a limit
 abbrev pub number_within : ℕ → List ℕ → Result ℕ NumberFault
 number_within limit field =
-    cond (is_number field) (cond (nat_le (number_of field) limit) (Ok (number_of field)) (Err TooLarge)) (Err NotANumber)
+    cond (is_number field)
+    (cond (nat_le (number_of field) limit) (Ok (number_of field)) (Err TooLarge))
+    (Err NotANumber)
 
 -- the number with one more digit, or that it is `2 ^ 64` or more
 abbrev pub WithDigit : Option ℕ → ℕ → Option ℕ → Type 0

@@ -26,7 +26,7 @@ pub use field::read_field;
 pub use line_fields::Fields;
 pub use graph_model::Ids;
 pub use laws::{files_are_loadable, load_is_its_graph, load_is_legal};
-pub use lines::{FieldLine, FieldLines, field_lines, fields};
+pub use lines::{FieldLine, FieldLines, field_lines, fields, lines_have_fields};
 pub use load::load_writes;
 pub use number::{NumberFault, read_number};
 pub use refusal::ReadRefusal;

@@ -67,13 +67,13 @@ fn blanks_len(line: &[u8]) -> usize
     ensures place { result ≡ position_or_len (λ byte. not (is_blank byte)) line.now }
     ensures within { result ≤ length line.now }
 {
-    match first_byte(line) {
+    match first_non_blank(line) {
         Some(place) => place,
         None => line.len(),
     }
 }
 
-fn first_byte(line: &[u8]) -> Option<usize>
+fn first_non_blank(line: &[u8]) -> Option<usize>
     ensures { result ≡ position (λ byte. not (is_blank byte)) line.now }
 {
     line.iter().position(|byte| !is_blank(*byte))

@@ -7,7 +7,7 @@
 ghost use Rattle.std.specs.Prelude.{◌≡◌, [], ◌∷◌, MatchOption};
 ghost use Rattle.std.specs.List.{position, before_first, after_first, list_all};
 ghost use Rattle.graphalytics_io.specs.Fields.{is_blank, is_line_feed, fields_of, without_return};
-ghost use Rattle.graphalytics_io.specs.FieldLines.{field_lines, is_comment, is_passed_over};
+ghost use Rattle.graphalytics_io.specs.FieldLines.{field_lines, is_comment, is_passed_over, LinesHaveFields};
 
 use crate::line_fields::{Fields, is_blank};
 use std::marker::Model;
@@ -126,6 +126,11 @@ fn has_only_blanks(line: &[u8]) -> bool
 {
     line.iter().all(|byte| is_blank(*byte))
 }
+
+/// A line that says something has a field.
+pub fn lines_have_fields()
+    ensures { LinesHaveFields }
+{}
 
 #[cfg(test)]
 mod tests {

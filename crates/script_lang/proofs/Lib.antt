@@ -1,4 +1,5 @@
 pub mod PlaceLemmas
 pub mod FaultLemmas
 pub mod LineLemmas
+pub mod ResultLemmas
 pub mod ScriptLemmas

@@ -1,13 +1,12 @@
 -- What the checks of a line say of its command.
-use Rattle.std.proofs.Common.{◌≡◌, ℕ, ◌+◌, ◌<◌, ◌≤◌, ◌&&◌, Bool, true, false, cond, not, nat_le, nat_lt, IsTrue, List, [], ◌∷◌, ◌++◌, length, All, Contains, Option, Some, None, is_some, Result, Ok, Err, refl, sym, ap, subst, ◌∙◌, ◌⊎◌, inl, inr, ⊎_elim, arith}
-use Rattle.std.specs.List.{list_all, list_any, count_by}
+use Rattle.std.proofs.Common.{◌≡◌, ℕ, ◌+◌, ◌≤◌, Bool, true, false, cond, nat_le, nat_lt, List, [], ◌∷◌, length, All, Contains, Option, Some, None, is_some, Ok, Err, refl, sym, subst, ◌⊎◌, inl, inr, arith}
+use Rattle.std.specs.List.{list_all, list_any}
 use Rattle.std.specs.Option.{option_or}
-use Rattle.std.proofs.lemmas.Bool.{cases_Bool}
 use Rattle.std.proofs.lemmas.Bool.Decides.{nat_tests}
 use Rattle.std.proofs.lemmas.List.Elements.{All-nil, All-cons}
 use Rattle.graph_model.specs.declared.limits.TheConstants.{MAX_ID, MAX_WEIGHT, MAX_ROUNDS, MAX_BEGINS}
 use Rattle.run_model.specs.declared.command.Command.{Command}
-use Rattle.run_model.specs.Requests.{Request, request, next_txn, open_behind, IsRequest}
+use Rattle.run_model.specs.Requests.{request, next_txn, open_behind, IsRequest}
 use Rattle.graphalytics_io.specs.declared.number.NumberFault.TheVariants as numbers
 use Rattle.graphalytics_io.specs.Numbers.{is_number, number_of, number_within}
 use Rattle.script_lang.specs.declared.word.Word.{Word}
@@ -20,7 +19,7 @@ use Rattle.script_lang.specs.FieldFaults.{fault_of, is_name_byte, is_file_name, 
 use Rattle.script_lang.specs.Runnable.{IsFileName}
 use Rattle.script_lang.specs.Scripts.{Before, command_of, count_fault, place_fault, begins_fault, line_fault, read_behind, read_line, unless, began_behind, file_of}
 use Rattle.script_lang.specs.Values.{Values, no_values, with_value, with_values}
-use Rattle.script_lang.specs.Words.{word_of, kinds_of, needed, is_needed}
+use Rattle.script_lang.specs.Words.{word_of, kinds_of}
 use Rattle.script_lang.proofs.FaultLemmas.{neither}
 use Rattle.script_lang.proofs.PlaceLemmas.{among_iff}
 

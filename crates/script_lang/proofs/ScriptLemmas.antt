@@ -1,29 +1,21 @@
 -- Scripts that are read line by line.
-use Rattle.std.proofs.Common.{◌≡◌, ◌≢◌, ℕ, ◌<◌, ◌≤◌, Bool, true, false, List, [], ◌∷◌, ◌++◌, length, take, drop, All, AllPairs, Contains, Option, Some, None, is_some, Result, Ok, Err, refl, sym, ap, ap₂, subst, ◌∙◌, arith, append_assoc}
-use Rattle.std.specs.List.{flat_map}
+use Rattle.std.proofs.Common.{◌≡◌, ◌≢◌, ℕ, ◌≤◌, List, [], ◌∷◌, ◌++◌, length, take, drop, All, AllPairs, Contains, Option, Some, None, is_some, Result, Ok, Err, refl, sym, ap, subst, ◌∙◌, arith, append_assoc}
 use Rattle.std.proofs.lemmas.List.{append-nil, take-append-drop, take_at}
 use Rattle.std.proofs.lemmas.Grind.{flat_map-append}
 use Rattle.std.proofs.lemmas.List.Elements.{All-nil, All-cons, Contains-append_left, Contains-push}
 use Rattle.std.proofs.lemmas.List.Kept.{AllPairs-cons}
 use Rattle.graph_model.specs.declared.limits.TheConstants.{MAX_BEGINS}
 use Rattle.run_model.specs.declared.command.Command.{Command}
-use Rattle.run_model.specs.Requests.{Request, ToBegin, ToCommit, ToAbort, ToWrite, ToRead, ToRun, request, next_txn, begun_by, IsScript}
+use Rattle.run_model.specs.Requests.{Request, ToRun, request, begun_by, IsScript}
 use Rattle.graphalytics_io.specs.declared.lines.FieldLine.{FieldLine}
 use Rattle.script_lang.specs.declared.refusal.ScriptWhat.{ScriptWhat}
 use Rattle.script_lang.specs.declared.refusal.ScriptRefusal.{ScriptRefusal}
-use Rattle.script_lang.specs.declared.refusal.ScriptRefusal.TheVariants.{Fault, NoMemory}
+use Rattle.script_lang.specs.declared.refusal.ScriptRefusal.TheVariants.{Fault}
+use Rattle.script_lang.specs.Results.{in_front}
 use Rattle.script_lang.specs.Runnable.{IsFileName, IsRunnable}
-use Rattle.script_lang.specs.Scripts.{Before, behind, read_line, read_lines, in_front, then_lines, at_end, file_of, files_of}
+use Rattle.script_lang.specs.Scripts.{Before, behind, read_line, read_lines, then_lines, at_end, file_of, files_of}
+use Rattle.script_lang.proofs.ResultLemmas.{after, after_front}
 use Rattle.script_lang.proofs.LineLemmas.{IsAllowed, allowed, IsNewName}
-
--- the commands so far, in front of what the other lines stand for
-abbrev pub after : List Command → Result (List Command) ScriptRefusal → Result (List Command) ScriptRefusal
-after done (Ok more) = Ok (done ++ more)
-after done (Err refusal) = Err refusal
-
-after_front : (done : List Command) (command : Command) (more : Result (List Command) ScriptRefusal) → after done (in_front command more) ≡ after (done ++ command ∷ []) more
-after_front done command (Ok more) = ap Ok (sym (append_assoc done (command ∷ []) more))
-after_front done command (Err refusal) = refl
 
 module _ (before : Before) (lines : List FieldLine) (line : FieldLine) (rest : List FieldLine) (done : List Command) (all : Result (List Command) ScriptRefusal)
     (next : lines ≡ line ∷ rest) (so_far : after done (read_lines before lines) ≡ all) where

@@ -1,7 +1,31 @@
 -- The faults of scripts, in the order of the checks of a line.
-use Rattle.std.specs.Prelude.{ℕ, cond, nat_le, Option, Some, None}
+use Rattle.std.specs.Prelude.{ℕ, List, codes, cond, nat_le, Option, Some, None}
 use Rattle.script_lang.specs.declared.refusal.ScriptWhat.{ScriptWhat}
 use Rattle.script_lang.specs.declared.refusal.ScriptWhat.TheVariants.{NotACommand, MissingField, ExtraField, NotBegun, BegunTwice, NotANumber, IdTooLarge, WeightTooLarge, RoundsTooLarge, BadName, NameTwice, TooManyBegins, NotEnded}
+use Rattle.script_lang.specs.declared.refusal.ScheduleWhat.{ScheduleWhat}
+use Rattle.script_lang.specs.declared.refusal.ScheduleWhat.TheVariants as schedules
+
+-- what is said of each fault
+abbrev pub what_text : ScriptWhat → List ℕ
+what_text NotACommand = codes "not a command"
+what_text MissingField = codes "missing field"
+what_text ExtraField = codes "extra field"
+what_text NotBegun = codes "not begun"
+what_text BegunTwice = codes "begun twice"
+what_text NotANumber = codes "not a number"
+what_text IdTooLarge = codes "id too large"
+what_text WeightTooLarge = codes "weight too large"
+what_text RoundsTooLarge = codes "rounds too large"
+what_text BadName = codes "bad name"
+what_text NameTwice = codes "name twice"
+what_text TooManyBegins = codes "too many begins"
+what_text NotEnded = codes "not ended"
+
+-- and of each fault of a schedule
+abbrev pub schedule_what_text : ScheduleWhat → List ℕ
+schedule_what_text schedules.ExtraField = codes "extra field"
+schedule_what_text schedules.NotANumber = codes "not a number"
+schedule_what_text schedules.NoSuchJob = codes "no such job"
 
 -- the number of the check that a fault fails
 abbrev pub order : ScriptWhat → ℕ

@@ -51,4 +51,5 @@ field_fault taken File field = file_fault taken field
 abbrev pub fields_fault : List (List ℕ) → List FieldKind → List (List ℕ) → Option ScriptWhat
 fields_fault taken [] fields = None
 fields_fault taken (kind ∷ kinds) [] = None
-fields_fault taken (kind ∷ kinds) (field ∷ fields) = earlier (field_fault taken kind field) (fields_fault taken kinds fields)
+fields_fault taken (kind ∷ kinds) (field ∷ fields) =
+    earlier (field_fault taken kind field) (fields_fault taken kinds fields)

@@ -2,7 +2,9 @@ pub mod Words
 pub mod Faults
 pub mod FieldFaults
 pub mod Values
+pub mod Results
 pub mod Scripts
 pub mod Runnable
 pub mod Readings
+pub mod Schedules
 pub mod Places

@@ -1,5 +1,5 @@
 -- A script that is read as far as some line.
-use Rattle.std.specs.Prelude.{◌≡◌, ℕ, ◌≤◌, List, [], ◌∷◌, ◌++◌, Result, Ok, Err}
+use Rattle.std.specs.Prelude.{◌≡◌, ℕ, ◌≤◌, List, [], ◌∷◌, ◌++◌, Ok, Err}
 use Rattle.graph_model.specs.declared.limits.TheConstants.{MAX_BEGINS}
 use Rattle.run_model.specs.declared.command.Command.{Command}
 use Rattle.graphalytics_io.specs.declared.lines.FieldLine.{FieldLine}
@@ -13,7 +13,8 @@ abbrev pub before_of : Reading → List (List ℕ) → Before
 before_of reading taken = record { began = reading.began; begun = reading.begun; taken = taken }
 
 -- one more line is read: its command stands behind the others
-pub record ReadsLine (old : Reading) (old_taken : List (List ℕ)) (line : FieldLine) (new : Reading) (new_taken : List (List ℕ)) : Type 0 where
+pub record ReadsLine (old : Reading) (old_taken : List (List ℕ)) (line : FieldLine)
+    (new : Reading) (new_taken : List (List ℕ)) : Type 0 where
   pub command : Command
   pub read : read_line (before_of old old_taken) line.fields ≡ Ok command
   pub script : new.script ≡ old.script ++ command ∷ []
@@ -22,5 +23,6 @@ pub record ReadsLine (old : Reading) (old_taken : List (List ℕ)) (line : Field
 
 -- a line is refused for its fault, or for want of memory
 abbrev pub IsRefusedLine : Reading → List (List ℕ) → FieldLine → ScriptRefusal → Type 0
-IsRefusedLine old taken line (Fault number what) = (number ≡ line.number) × (read_line (before_of old taken) line.fields ≡ Err what)
+IsRefusedLine old taken line (Fault number what) =
+    (number ≡ line.number) × (read_line (before_of old taken) line.fields ≡ Err what)
 IsRefusedLine old taken line NoMemory = Unit {0}

@@ -3,7 +3,6 @@ use Rattle.std.specs.Prelude.{◌≡◌, ℕ, Bool, cond, nat_le, nat_lt, ◌&&�
 use Rattle.std.specs.List.{flat_map}
 use Rattle.std.specs.Option.{option_or}
 use Rattle.graph_model.specs.declared.limits.TheConstants.{MAX_BEGINS}
-use Rattle.graph_model.specs.declared.write.Write.{Write}
 use Rattle.run_model.specs.declared.command.Command.{Command}
 use Rattle.run_model.specs.declared.command.Command.TheVariants as commands
 use Rattle.run_model.specs.Requests.{Request, ToBegin, ToCommit, ToAbort, ToWrite, ToRead, ToRun, request, next_txn}
@@ -16,6 +15,7 @@ use Rattle.script_lang.specs.declared.refusal.ScriptWhat.{ScriptWhat}
 use Rattle.script_lang.specs.declared.refusal.ScriptWhat.TheVariants.{NotACommand, MissingField, ExtraField, NotBegun, BegunTwice, TooManyBegins, NotEnded}
 use Rattle.script_lang.specs.declared.refusal.ScriptRefusal.{ScriptRefusal}
 use Rattle.script_lang.specs.declared.refusal.ScriptRefusal.TheVariants.{Fault, NoMemory}
+use Rattle.script_lang.specs.Results.{in_front}
 use Rattle.script_lang.specs.FieldFaults.{fields_fault}
 use Rattle.script_lang.specs.Values.{Values, no_values, with_values}
 use Rattle.script_lang.specs.Words.{word_of, kinds_of, needed, is_begin}
@@ -37,17 +37,22 @@ command_of words.Bfs values = commands.Bfs values.vertex values.file
 
 -- too few or too many fields
 abbrev pub count_fault : List FieldKind → ℕ → Option ScriptWhat
-count_fault kinds count = cond (nat_lt count (needed kinds)) (Some MissingField) (cond (nat_lt (length kinds) count) (Some ExtraField) None)
+count_fault kinds count =
+    cond (nat_lt count (needed kinds)) (Some MissingField)
+    (cond (nat_lt (length kinds) count) (Some ExtraField) None)
 
 -- `begin` inside a transaction, or another line outside of one
 abbrev pub place_fault : Word → Bool → Option ScriptWhat
-place_fault word is_open = cond (is_begin word) (cond is_open (Some BegunTwice) None) (cond is_open None (Some NotBegun))
+place_fault word is_open =
+    cond (is_begin word) (cond is_open (Some BegunTwice) None)
+    (cond is_open None (Some NotBegun))
 
 -- one `begin` more than a script may have
 abbrev pub begins_fault : Word → ℕ → Option ScriptWhat
 begins_fault word begun = cond (is_begin word && nat_le MAX_BEGINS begun) (Some TooManyBegins) None
 
--- what is known before a line: the line of the `begin` that is open, if one is, how many there were, and the names taken
+-- what is known before a line: the line of the `begin` that is open, if one is, how many `begin` lines there were,
+-- and the names taken
 pub record Before : Type 0 where
   pub began : Option ℕ
   pub begun : ℕ
@@ -69,7 +74,8 @@ unless (Some what) command = Err what
 -- the command of a line whose first field is this word, or the line's fault
 abbrev pub read_behind : Before → Option Word → List (List ℕ) → Result Command ScriptWhat
 read_behind before None fields = Err NotACommand
-read_behind before (Some word) fields = unless (line_fault before word fields) (command_of word (with_values no_values (kinds_of word) fields))
+read_behind before (Some word) fields =
+    unless (line_fault before word fields) (command_of word (with_values no_values (kinds_of word) fields))
 
 -- the command of a line, or its fault
 abbrev pub read_line : Before → List (List ℕ) → Result Command ScriptWhat
@@ -106,13 +112,9 @@ behind before number command = record {
   taken = before.taken ++ file_of (request command);
 }
 
--- a command in front of those of the lines behind it
-abbrev pub in_front : Command → Result (List Command) ScriptRefusal → Result (List Command) ScriptRefusal
-in_front command (Ok script) = Ok (command ∷ script)
-in_front command (Err refusal) = Err refusal
-
 -- a line's command, and then the others; or the line's fault
-abbrev pub then_lines : ℕ → Result Command ScriptWhat → (Command → Result (List Command) ScriptRefusal) → Result (List Command) ScriptRefusal
+abbrev pub then_lines : ℕ → Result Command ScriptWhat → (Command → Result (List Command) ScriptRefusal)
+    → Result (List Command) ScriptRefusal
 then_lines number (Ok command) lines = in_front command (lines command)
 then_lines number (Err what) lines = Err (Fault number what)
 
@@ -124,7 +126,9 @@ at_end (Some number) = Err (Fault number NotEnded)
 -- the commands of lines, or the fault of the first line that has one
 abbrev pub read_lines : Before → List FieldLine → Result (List Command) ScriptRefusal
 read_lines before [] = at_end before.began
-read_lines before (line ∷ lines) = then_lines line.number (read_line before line.fields) (λ command. read_lines (behind before line.number command) lines)
+read_lines before (line ∷ lines) =
+    then_lines line.number (read_line before line.fields)
+    (λ command. read_lines (behind before line.number command) lines)
 
 -- what a script's text stands for where these names are taken
 abbrev pub script_of : List (List ℕ) → List ℕ → Result (List Command) ScriptRefusal

@@ -1,5 +1,5 @@
 -- The words of scripts, and the fields of their lines.
-use Rattle.std.specs.Prelude.{ℕ, Bool, true, false, List, [], ◌∷◌, Option, codes}
+use Rattle.std.specs.Prelude.{◌≡◌, ℕ, Bool, true, false, List, [], ◌∷◌, Option, Some, codes}
 use Rattle.std.specs.List.{find, count_by}
 use Rattle.std.specs.Str.{bytes_eq}
 use Rattle.script_lang.specs.declared.word.Word.{Word}
@@ -58,3 +58,7 @@ word_of field = find (λ word. bytes_eq (word_text word) field) WORDS
 -- the word opens a transaction
 abbrev pub is_begin : Word → Bool
 is_begin word = bytes_eq (word_text word) (codes "begin")
+
+-- each word is read from its own text
+abbrev pub WordsAreRead : Type 0
+WordsAreRead = (word : Word) → word_of (word_text word) ≡ Some word

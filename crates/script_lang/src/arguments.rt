@@ -29,8 +29,8 @@ impl<'a> Model for Arguments<'a> {
 
     ghost Value = { Values };
 
-    ghost view = { λ arguments. record { vertex = arguments.vertex; target = arguments.target; weight = arguments.weight;
-        rounds = arguments.rounds; file = arguments.file.now } };
+    ghost view = { λ arguments. record { vertex = arguments.vertex; target = arguments.target;
+        weight = arguments.weight; rounds = arguments.rounds; file = arguments.file.now } };
 }
 
 /// Reads fields of these kinds. The first fault in the order of the checks counts, whichever field has it.
@@ -40,7 +40,8 @@ pub(crate) fn read_arguments<'a>(
     taken: &Names,
 ) -> Result<Arguments<'a>, ScriptWhat>
     ensures { MatchResult result
-        (λ arguments. (fields_fault taken.now kinds.now fields.entry ≡ None) × (arguments ≡ with_values no_values kinds.now fields.entry))
+        (λ arguments. (fields_fault taken.now kinds.now fields.entry ≡ None)
+        × (arguments ≡ with_values no_values kinds.now fields.entry))
         (λ what. fields_fault taken.now kinds.now fields.entry ≡ Some what) }
 {
     let mut left = fields;
@@ -127,7 +128,8 @@ fn earlier(fault: Option<ScriptWhat>, other: Option<ScriptWhat>) -> Option<Scrip
 /// Reads a number up to a limit; `above` is the fault of a number above it.
 fn number_up_to(field: &[u8], limit: u64, above: ScriptWhat) -> Result<u64, ScriptWhat>
     ensures { MatchResult result
-        (λ number. (fault_of above (number_within limit field.now) ≡ None) × (number ≡ number_of field.now) × (number ≤ limit))
+        (λ number. (fault_of above (number_within limit field.now) ≡ None)
+        × (number ≡ number_of field.now) × (number ≤ limit))
         (λ what. fault_of above (number_within limit field.now) ≡ Some what) }
 {
     match read_number(field, limit) {

@@ -9,6 +9,7 @@ mod pieces;
 mod reading;
 mod refusal;
 mod report;
+mod schedule;
 mod script;
 mod word;
 
@@ -16,5 +17,6 @@ pub use journal::write_journal;
 pub use names::Names;
 pub use refusal::{ScheduleRefusal, ScheduleWhat, ScriptRefusal, ScriptWhat};
 pub use report::write_report;
+pub use schedule::{Schedule, read_schedule};
 pub use script::read_script;
-pub use word::{FieldKind, WORDS, Word};
+pub use word::words_are_read;

@@ -112,7 +112,8 @@ fn add_place(
 /// Forgets a name's place, where it is this one.
 fn remove_place(places: &mut BTreeMap<Vec<u8>, usize>, name: &[u8], place: usize)
     ensures { (other : List ℕ) → place_in places.new other
-        ≡ cond (bytes_eq name.now other && is_at place (place_in places.old name.now)) None (place_in places.old other) }
+        ≡ cond (bytes_eq name.now other && is_at place (place_in places.old name.now)) None
+        (place_in places.old other) }
 {
     if let Some(first) = places.get(name) {
         if *first == place {

@@ -3,54 +3,63 @@
 ghost use Rattle.std.specs.Prelude.{◌≡◌};
 ghost use Rattle.script_lang.specs.declared.refusal.ScriptRefusal.TheVariants as scripts;
 ghost use Rattle.script_lang.specs.declared.refusal.ScheduleRefusal.TheVariants as schedules;
-ghost use Rattle.script_lang.specs.Faults.{order};
+ghost use Rattle.script_lang.specs.Faults.{order, what_text, schedule_what_text};
 
 use graph_model::NoMemory;
 use thiserror::Error;
 
 /// What is wrong with a line of a script, in the order in which a line is checked.
 #[derive(Clone, Copy, Debug, PartialEq, Eq, Error)]
+#[error("{}", self.text())]
 pub enum ScriptWhat {
     /// The first field is no word.
-    #[error("not a command")]
     NotACommand,
-    #[error("missing field")]
     MissingField,
-    #[error("extra field")]
     ExtraField,
     /// The line isn't `begin`, and no transaction is open.
-    #[error("not begun")]
     NotBegun,
     /// The line is `begin`, and a transaction is open.
-    #[error("begun twice")]
     BegunTwice,
     /// A field that has to be a number isn't one or more ASCII digits.
-    #[error("not a number")]
     NotANumber,
     /// An id is above `MAX_ID`.
-    #[error("id too large")]
     IdTooLarge,
     /// A weight is above `MAX_WEIGHT`.
-    #[error("weight too large")]
     WeightTooLarge,
     /// A number of rounds is above `MAX_ROUNDS`.
-    #[error("rounds too large")]
     RoundsTooLarge,
     /// A file name has a byte that isn't printable ASCII.
-    #[error("bad name")]
     BadName,
     /// A file name is taken already.
-    #[error("name twice")]
     NameTwice,
     /// The script has `MAX_BEGINS` lines `begin` before this one.
-    #[error("too many begins")]
     TooManyBegins,
     /// The text ends while the transaction that this line opened is open.
-    #[error("not ended")]
     NotEnded,
 }
 
 impl ScriptWhat {
+    /// What is said of the fault.
+    pub fn text(&self) -> &'static str
+        ensures { result.now ≡ what_text self.now }
+    {
+        match self {
+            ScriptWhat::NotACommand => "not a command",
+            ScriptWhat::MissingField => "missing field",
+            ScriptWhat::ExtraField => "extra field",
+            ScriptWhat::NotBegun => "not begun",
+            ScriptWhat::BegunTwice => "begun twice",
+            ScriptWhat::NotANumber => "not a number",
+            ScriptWhat::IdTooLarge => "id too large",
+            ScriptWhat::WeightTooLarge => "weight too large",
+            ScriptWhat::RoundsTooLarge => "rounds too large",
+            ScriptWhat::BadName => "bad name",
+            ScriptWhat::NameTwice => "name twice",
+            ScriptWhat::TooManyBegins => "too many begins",
+            ScriptWhat::NotEnded => "not ended",
+        }
+    }
+
     /// The number of the check.
     pub(crate) fn order(self) -> u8
         ensures { result ≡ order self }
@@ -79,15 +88,26 @@ impl From<NoMemory> for ScriptRefusal {
 
 /// What is wrong with a line of a schedule, in the order in which a line is checked.
 #[derive(Clone, Copy, Debug, PartialEq, Eq, Error)]
+#[error("{}", self.text())]
 pub enum ScheduleWhat {
-    #[error("extra field")]
     ExtraField,
     /// The field isn't one or more ASCII digits.
-    #[error("not a number")]
     NotANumber,
-    /// The number is above the number of jobs.
-    #[error("no such job")]
+    /// The number is above that of the last job.
     NoSuchJob,
+}
+
+impl ScheduleWhat {
+    /// What is said of the fault.
+    pub fn text(&self) -> &'static str
+        ensures { result.now ≡ schedule_what_text self.now }
+    {
+        match self {
+            ScheduleWhat::ExtraField => "extra field",
+            ScheduleWhat::NotANumber => "not a number",
+            ScheduleWhat::NoSuchJob => "no such job",
+        }
+    }
 }
 
 /// Why no schedule was given.

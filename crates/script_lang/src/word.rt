@@ -2,11 +2,11 @@
 
 ghost use Rattle.std.specs.Prelude.{◌≡◌};
 ghost use Rattle.std.specs.Str.{bytes_eq};
-ghost use Rattle.script_lang.specs.Words.{word_text, kinds_of, is_needed, is_begin, word_of};
+ghost use Rattle.script_lang.specs.Words.{word_text, kinds_of, is_needed, is_begin, word_of, WordsAreRead};
 
 /// The first field of a line, which says what the line does.
 #[derive(Clone, Copy, Debug, PartialEq, Eq)]
-pub enum Word {
+pub(crate) enum Word {
     Begin,
     Commit,
     Abort,
@@ -23,7 +23,7 @@ pub enum Word {
 
 /// What a field behind the word says.
 #[derive(Clone, Copy, Debug, PartialEq, Eq)]
-pub enum FieldKind {
+pub(crate) enum FieldKind {
     /// A vertex, the source of an edge, or the root of a search.
     Vertex,
     /// The target of an edge.
@@ -36,7 +36,7 @@ pub enum FieldKind {
 }
 
 /// All words.
-pub const WORDS: [Word; 12] = [
+pub(crate) const WORDS: [Word; 12] = [
     Word::Begin,
     Word::Commit,
     Word::Abort,
@@ -60,7 +60,7 @@ pub(crate) fn word_of(field: &[u8]) -> Option<Word>
 
 impl Word {
     /// The word as a script has it.
-    pub fn text(self) -> &'static [u8]
+    fn text(self) -> &'static [u8]
         ensures { result.now ≡ word_text self }
     {
         match self {
@@ -80,7 +80,7 @@ impl Word {
     }
 
     /// The fields behind the word, from left to right.
-    pub fn kinds(self) -> &'static [FieldKind]
+    pub(crate) fn kinds(self) -> &'static [FieldKind]
         ensures { result.now ≡ kinds_of self }
     {
         match self {
@@ -126,3 +126,8 @@ impl FieldKind {
         }
     }
 }
+
+/// Each word is read from its own text.
+pub fn words_are_read()
+    ensures { WordsAreRead }
+{}

@@ -3,7 +3,7 @@ use Rattle.std.proofs.Common.{◌≡◌, ◌≤◌, ◌++◌, length}
 use Rattle.graph_model.specs.declared.limits.TheConstants.{MAX_BEGINS}
 use Rattle.script_lang.specs.Readings.{before_of}
 use Rattle.script_lang.specs.Scripts.{script_of, files_of, read_lines}
-use Rattle.script_lang.proofs.ScriptLemmas.{after}
+use Rattle.script_lang.proofs.ResultLemmas.{after}
 use Rattle.script_lang.proofs.script.read_lines.Given as goal
 
 abbrev pub invariant-lines : goal.invariant-lines

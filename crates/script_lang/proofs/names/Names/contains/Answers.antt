@@ -1,4 +1,4 @@
-use Rattle.std.proofs.Common.{ap, subst, ◌∙◌}
+use Rattle.std.proofs.Common.{ap, ◌∙◌}
 use Rattle.script_lang.specs.FieldFaults.{is_among}
 use Rattle.script_lang.proofs.PlaceLemmas.{among_iff, known_place}
 use Rattle.script_lang.proofs.names.Names.contains.Goals as goal

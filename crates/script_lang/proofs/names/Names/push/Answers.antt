@@ -1,4 +1,3 @@
-use Rattle.std.proofs.Common.{sym, ◌∙◌}
 use Rattle.script_lang.specs.Places.{place_in}
 use Rattle.script_lang.proofs.PlaceLemmas.{push_place}
 use Rattle.script_lang.proofs.names.Names.push.Goals as goal

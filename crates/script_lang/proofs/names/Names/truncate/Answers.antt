@@ -1,4 +1,4 @@
-use Rattle.std.proofs.Common.{◌≤◌, ℕ, List, ◌∷◌, [], length, ap, sym, subst, ◌∙◌, arith, length-append}
+use Rattle.std.proofs.Common.{◌≤◌, ◌∷◌, [], length, ap, sym, ◌∙◌, arith, length-append}
 use Rattle.std.proofs.lemmas.List.{take-append-le}
 use Rattle.script_lang.specs.Places.{place_in}
 use Rattle.script_lang.proofs.PlaceLemmas.{pop_place}

@@ -1,4 +1,4 @@
-use Rattle.std.proofs.Common.{List, [], ◌∷◌, ◌++◌, Ok, ap, ap₂, ◌∙◌, arith, sym}
+use Rattle.std.proofs.Common.{[], ◌∷◌, ◌++◌, Ok, ap, ap₂, ◌∙◌, arith, sym}
 use Rattle.script_lang.specs.declared.reading.Reading.{Reading}
 use Rattle.script_lang.specs.Readings.{before_of}
 use Rattle.script_lang.proofs.LineLemmas.{allowed}
