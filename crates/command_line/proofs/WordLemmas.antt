@@ -2,7 +2,7 @@
 use Rattle.std.proofs.Common.{◌≡◌, ℕ, zero, suc, ◌+◌, ◌-◌, ◌<◌, ◌≤◌, List, [], ◌∷◌, ◌++◌, length, get_or, take, drop, map, refl, sym, ◌∙◌, ap, subst, arith, drop-cons, eq-or-lt_of_le, inl, inr}
 use Rattle.std.specs.Prelude.{true, false, ◌≢◌, codes, ◌==◌, slice_get, Option, Some, None, option_map}
 use Rattle.std.specs.List.{AllByRecursion}
-use Rattle.command_line.specs.Words.{RunNames, report_name, words_of, schedule_and_scripts, IsPlain, ArePlain}
+use Rattle.command_line.specs.Words.{RunNames, report_name, words_of, schedule_and_scripts, IsPlain, ArePlain, TakesWords}
 use Rattle.std.proofs.lemmas.List.{get_or-map, length-map, map-append, get_or_append_left, get_or-append-add, take_all, length-drop}
 use Rattle.std.proofs.Math.Seq.{take-suc}
 use Rattle.std.specs.Str.{bytes_eq}
@@ -37,6 +37,11 @@ up_to P low j below here b above lt = elim (eq-or-lt_of_le (let le : b ≤ j = o
 
 -- ---- one set of names
 
+-- plain names don't begin with an option
+no_option : (xs : List (List ℕ)) (t : List ℕ) (ys : List (List ℕ)) → xs ≡ codes "--schedule" ∷ t ∷ ys → AllByRecursion IsPlain xs → ⊥
+no_option [] t ys same plain = cc
+no_option (x ∷ xs) t ys same plain = let at : x ≡ codes "--schedule" = cc in plain.0 (ap (λ n. slice_get n 0) at)
+
 -- what stands behind the journal's name, where the scripts are plain, is one schedule, or none, and one list of scripts
 pub one_rest : (a b : Option (List ℕ)) (xs ys : List (List ℕ)) → schedule_and_scripts a xs ≡ schedule_and_scripts b ys
     → AllByRecursion IsPlain xs → (b ≡ None → (s : List ℕ) (rest : List (List ℕ)) → schedule_and_scripts a xs ≢ schedule_and_scripts (Some s) rest)
@@ -44,11 +49,7 @@ pub one_rest : (a b : Option (List ℕ)) (xs ys : List (List ℕ)) → schedule_
 one_rest None None xs ys same plain none = (refl, same)
 one_rest (Some s) (Some t) xs ys same plain none = let at : s ≡ t = cc in let rest : xs ≡ ys = cc in (ap Some at, rest)
 one_rest (Some s) None xs ys same plain none = absurd (none refl s xs refl)
-one_rest None (Some t) xs ys same plain none = absurd (first xs same plain)
-  where
-    first : (xs : List (List ℕ)) → xs ≡ codes "--schedule" ∷ t ∷ ys → AllByRecursion IsPlain xs → ⊥
-    first [] same plain = cc
-    first (x ∷ xs) same plain = let at : x ≡ codes "--schedule" = cc in plain.0 (ap (λ n. slice_get n 0) at)
+one_rest None (Some t) xs ys same plain none = absurd (no_option xs t ys same plain)
 
 -- of the words that a line was split from, no other plain names are spelled
 pub one_spelling : (a b : RunNames) → words_of a ≡ words_of b → ArePlain a
@@ -143,3 +144,9 @@ no_schedule f (Some x) e = cc
 -- what stands behind the first n is all that is left
 pub behind : {X : Type 0} (n : ℕ) (xs : List X) → take (length xs - n) (drop n xs) ≡ drop n xs
 behind n xs = take_all (length xs - n) (drop n xs) (omega (arith, length-drop n xs))
+
+-- words are taken with one set of names at most
+pub taken_once : (words : List (List ℕ)) (a b : RunNames) → TakesWords words a → TakesWords words b → a ≡ b
+taken_once words a b takes also =
+    one_spelling a b (sym takes.spelled ∙ also.spelled) takes.plain
+    (λ none s rest same. no_option b.scripts s rest (sym (ap (λ o. schedule_and_scripts o b.scripts) none) ∙ same) also.plain.scripts)

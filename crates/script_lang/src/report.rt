@@ -7,14 +7,14 @@ ghost use Rattle.graphalytics_io.specs.Appends.{Extends};
 use crate::pieces::{Field, write_counted, write_named};
 use graph_model::{Cause, Ids, NoMemory, TxnName};
 use graphalytics_io::{Spelling, Text, append_each, write_each};
-use run_model::{Answer, Answers};
+use run_model::Answer;
 
 /// Writes a report at the end of a text: a line for each answer. Without memory nothing is written.
-pub fn write_report(answers: &Answers, text: &mut Text) -> Result<(), NoMemory>
+pub fn write_report(answers: &[Answer], text: &mut Text) -> Result<(), NoMemory>
     ensures ok { OnOk result (text.new ≡ text.old ++ report_text answers.now) }
     ensures err { OnErr result (text.new ≡ text.old) }
 {
-    append_each::<Answer, AnswerLine>(answers.as_slice(), text)
+    append_each::<Answer, AnswerLine>(answers, text)
 }
 
 /// The line of an answer.
@@ -159,7 +159,7 @@ mod tests {
         )?;
         let mut text = Text::new(rt.alloc());
         text.push_bytes(b"# ")?;
-        write_report(&Answers::from_vec(lines), &mut text)?;
+        write_report(lines.as_slice(), &mut text)?;
         let want: &[u8] =
             b"# begin 12.1 start 40\nok\nexists\nself loop\nno vertex 9223372036854775806\nno edge\nhas edges\nconflict later 41\nconflict open 3.4294967295\nfull\nweight 0\nnone\nneighbours 2 7 20\nneighbours 0\nvertices 10 edges 100\ntable 10\ncommit 42\ncommit -\naborted\nskipped\n";
         assert_eq!(rt; text.as_slice(), want);

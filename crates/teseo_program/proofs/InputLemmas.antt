@@ -1,9 +1,9 @@
 -- From the texts of the sources to what they stand for.
 use Rattle.std.proofs.Common.{◌≡◌, ◌≢◌, ℕ, zero, suc, ◌+◌, ◌-◌, ◌<◌, ◌≤◌, List, [], ◌∷◌, ◌++◌, length, map, take, drop, get_or, refl, sym, ◌∙◌, ap, subst, arith}
-use Rattle.std.specs.Prelude.{Option, Some, None, Result, Ok, Err, IfErr}
+use Rattle.std.specs.Prelude.{Option, Some, None, option_to_list, Result, Ok, Err, IfErr}
 use Rattle.std.specs.Result.{IsErrAnd}
 use Rattle.std.specs.List.{flat_map}
-use Rattle.std.proofs.lemmas.List.{append-nil, append_assoc, length-map}
+use Rattle.std.proofs.lemmas.List.{append-nil, append_assoc, length-map, length-append, length-drop}
 use Rattle.run_model.specs.declared.command.Command.{Command}
 use Rattle.script_lang.specs.declared.refusal.ScriptRefusal.{ScriptRefusal}
 use Rattle.script_lang.specs.declared.refusal.ScriptRefusal.TheVariants as scripts
@@ -19,8 +19,8 @@ use Rattle.teseo_program.specs.declared.fault.SourceFault.{SourceFault}
 use Rattle.teseo_program.specs.declared.fault.SourceFault.TheVariants as faults
 use Rattle.teseo_program.specs.declared.fault.ParseStop.{ParseStop}
 use Rattle.teseo_program.specs.declared.fault.ParseStop.TheVariants as stops
-use Rattle.teseo_program.specs.Input.{Texts, AreScripts, HasScheduleFault, HasScriptFault, IsFaultBehind, IsNotAccepted}
-use Rattle.teseo_program.specs.Parsing.{AreRunnable, IsScriptStop, IsScheduleStop, IsParseStop, stop_of_script}
+use Rattle.teseo_program.specs.Input.{Texts, texts_of, AreScripts, HasScheduleFault, HasScriptFault, IsFaultBehind, IsNotAccepted}
+use Rattle.teseo_program.specs.Parsing.{AreTexts, AreRunnable, IsScriptStop, IsScheduleStop, IsParseStop, stop_of_script}
 
 -- the names taken behind scripts: their files stand behind those of before
 abbrev pub taken_behind : List (List ℕ) → List (List Command) → List (List ℕ)
@@ -176,3 +176,14 @@ pub script_texts : {X : Type 0} (text : X → List ℕ) (xs : List X) (lent sour
 script_texts text xs lent sources same =
     let count : length xs + 2 - 2 ≡ length (map text xs) = omega (arith, length-map xs text) in
     ap (λ n. take n (drop 2 lent)) count ∙ ap (λ ts. take (length (map text xs)) (drop 2 ts)) same
+
+-- and there is one for each script
+pub script_count : (names : RunNames) (sources : List (List ℕ)) → AreTexts names sources → length (texts_of names sources).scripts ≡ length names.scripts
+script_count names sources are =
+    let rest = length-append names.scripts (option_to_list names.schedule) in
+    length_take (length names.scripts) (drop 2 sources) (omega (arith, are, rest, length-drop 2 sources))
+
+pub one_script_each : (taken : List (List ℕ)) (texts : List (List ℕ)) (scripts : List (List Command)) → AreScripts taken texts scripts → length scripts ≡ length texts
+one_script_each taken [] scripts are = ap length are
+one_script_each taken (text ∷ texts) [] are = absurd are
+one_script_each taken (text ∷ texts) (s ∷ scripts) are = ap suc (one_script_each (taken ++ files_of s) texts scripts are.1)

@@ -1,7 +1,8 @@
 mod InputLemmas
 mod SublistLemmas
 mod FileLemmas
-mod NameLemmas
 mod TextLemmas
-mod OutcomeLemmas
+mod NameLemmas
+mod SinkLemmas
+mod PreparedLemmas
 mod LawLemmas

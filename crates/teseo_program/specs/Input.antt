@@ -1,5 +1,5 @@
 -- What the sources stand for, and why they are refused.
-use Rattle.std.specs.Prelude.{◌≡◌, ℕ, zero, suc, List, [], ◌∷◌, ◌++◌, length, Option, Some, None, option_to_list, Ok, Err}
+use Rattle.std.specs.Prelude.{◌≡◌, ℕ, zero, suc, ◌+◌, cond, List, [], ◌∷◌, ◌++◌, length, get_or, take, drop, Option, Some, None, is_some, Ok, Err}
 use Rattle.graph_model.specs.declared.limits.TheConstants.{MAX_LOAD_ROWS}
 use Rattle.graph_model.specs.declared.write.Kind.{Kind}
 use Rattle.run_model.specs.declared.command.Command.{Command}
@@ -23,9 +23,14 @@ pub record Texts : Type 0 where
   pub scripts : List (List ℕ)
   pub schedule : Option (List ℕ)
 
--- in the order in which they are read
-abbrev pub in_order : Texts → List (List ℕ)
-in_order texts = texts.vertices ∷ texts.edges ∷ (texts.scripts ++ option_to_list texts.schedule)
+-- what was read under the names of the sources, each by what it is the text of
+abbrev pub texts_of : RunNames → List (List ℕ) → Texts
+texts_of names sources = record {
+  vertices = get_or sources 0 [];
+  edges = get_or sources 1 [];
+  scripts = take (length names.scripts) (drop 2 sources);
+  schedule = cond (is_some names.schedule) (Some (get_or sources (length names.scripts + 2) [])) None;
+}
 
 -- what the sources stand for
 pub record Meaning : Type 0 where

@@ -13,7 +13,7 @@ use Rattle.desk_io.specs.Sources.{AreRead, IsReadStop}
 use Rattle.desk_io.specs.Outputs.{NamedText, names_of, WritesAll, FailsAtPlace}
 use Rattle.desk_io.specs.declared.sources.ReadStop.{ReadStop}
 use Rattle.desk_io.specs.declared.sources.ReadStop.TheVariants as reads
-use Rattle.script_lang.specs.Faults.{script_text, schedule_text}
+use Rattle.script_lang.specs.Faults.{what_text, schedule_what_text}
 use Rattle.command_line.specs.Words.{RunNames, TakesWords, source_names, report_names}
 use Rattle.command_line.specs.Lines.{name_at}
 use Rattle.teseo_program.specs.declared.fault.SourceFault.{SourceFault}
@@ -22,7 +22,7 @@ use Rattle.teseo_program.specs.declared.fault.ParseStop.{ParseStop}
 use Rattle.teseo_program.specs.declared.fault.ParseStop.TheVariants as parses
 use Rattle.teseo_program.specs.declared.outcome.Outcome.{Outcome}
 use Rattle.teseo_program.specs.declared.outcome.Outcome.TheVariants.{Done, Full, BadWords, NotRead, NotAccepted, NoMemory, NotWritten}
-use Rattle.teseo_program.specs.Input.{Meaning, Texts, in_order, IsAccepted, IsNotAccepted, inputs_of}
+use Rattle.teseo_program.specs.Input.{Meaning, Texts, texts_of, IsAccepted, IsNotAccepted, inputs_of}
 use Rattle.teseo_program.specs.Sinks.{sinks_of, summary_text}
 
 -- ---- the status
@@ -79,8 +79,8 @@ line_text name line what = name ++ codes " line " ++ decimal line ++ codes ": " 
 
 abbrev pub fault_text : List ℕ → SourceFault → List ℕ
 fault_text name faults.NotAccepted = text_line name (codes ": not accepted")
-fault_text name (faults.Script line what) = line_text name line (script_text what)
-fault_text name (faults.Schedule line what) = line_text name line (schedule_text what)
+fault_text name (faults.Script line what) = line_text name line (what_text what)
+fault_text name (faults.Schedule line what) = line_text name line (schedule_what_text what)
 
 -- what is said of each outcome, by the name that it blames and the summary
 abbrev pub said_text : List ℕ → List ℕ → Outcome → List ℕ
@@ -137,17 +137,17 @@ pub record IsOfTexts (names : RunNames) (texts : Texts) (made : Made) : Type 0 w
   pub outputs_are : made.outputs ≡ sinks_of names.journal (report_names names) made.run
   pub summary_is : made.summary ≡ summary_text Undirected made.run
 
--- the texts are what is held under the sources' names, whole, and what was made is a run of them
+-- what is held under the sources' names was read whole, and what was made is a run of it
 pub record AreOfRun (names : RunNames) (files : Files) (made : Made) : Type 0 where
-  pub texts : Texts
-  pub read : AreRead MAX_SOURCE_BYTES files (source_names names) (in_order texts)
-  pub of_texts : IsOfTexts names texts made
+  pub sources : List (List ℕ)
+  pub read : AreRead MAX_SOURCE_BYTES files (source_names names) sources
+  pub of_texts : IsOfTexts names (texts_of names sources) made
 
 -- all sources were read, and the one at the place is the first with a fault
 abbrev pub IsRefusedAt : RunNames → Files → ℕ → SourceFault → Type 0
 IsRefusedAt names files place fault =
-    (texts : Texts) × AreRead MAX_SOURCE_BYTES files (source_names names) (in_order texts)
-    × IsNotAccepted names texts place fault
+    (sources : List (List ℕ)) × AreRead MAX_SOURCE_BYTES files (source_names names) sources
+    × IsNotAccepted names (texts_of names sources) place fault
 
 -- all is written of a run whose reports show `full`, or don't
 pub record IsWhole (is_full : Bool) (names : RunNames) (made : Made) (old new : Files) : Type 0 where

@@ -1,5 +1,5 @@
 -- What the sources stand for, as the code has it.
-use Rattle.std.specs.Prelude.{◌≡◌, ℕ, ◌+◌, cond, List, [], ◌∷◌, ◌++◌, length, get_or, take, drop, Option, Some, None, is_some}
+use Rattle.std.specs.Prelude.{◌≡◌, ℕ, ◌+◌, List, [], ◌∷◌, ◌++◌, length, Option}
 use Rattle.graph_model.specs.declared.limits.TheConstants.{MAX_LOAD_ROWS}
 use Rattle.run_model.specs.declared.command.Command.{Command}
 use Rattle.graphalytics_io.specs.declared.edges.Edge.{Edge}
@@ -26,15 +26,6 @@ meaning_of input =
 -- what was read, one text for each source
 abbrev pub AreTexts : RunNames → List (List ℕ) → Type 0
 AreTexts names sources = length sources ≡ length (source_names names)
-
--- each by what it is the text of
-abbrev pub texts_of : RunNames → List (List ℕ) → Texts
-texts_of names sources = record {
-  vertices = get_or sources 0 [];
-  edges = get_or sources 1 [];
-  scripts = take (length names.scripts) (drop 2 sources);
-  schedule = cond (is_some names.schedule) (Some (get_or sources (length names.scripts + 2) [])) None;
-}
 
 -- each script can be run where these names and the files of those before it are taken
 abbrev pub AreRunnable : List (List ℕ) → List (List Command) → Type 0

@@ -4,16 +4,14 @@
 //!    is named.
 //! 2. The names that a script may not use grow by the files of each script, in order.
 
-ghost use Rattle.std.specs.Prelude.{◌≡◌, ◌+◌, ◌++◌, ℕ, List, Option, length, take, get_or, [], AllPairs, IfOk, IfErr};
-ghost use Rattle.std.specs.List.{flat_map};
-ghost use Rattle.graph_model.specs.declared.limits.TheConstants.{MAX_LOAD_ROWS};
+ghost use Rattle.std.specs.Prelude.{◌≡◌, ◌≤◌, length, IfOk, IfErr};
+ghost use Rattle.graph_model.specs.declared.limits.TheConstants.{MAX_LOAD_ROWS, MAX_SCRIPTS};
 ghost use Rattle.graphalytics_io.specs.VertexFile.{IsVertexFile};
 ghost use Rattle.graphalytics_io.specs.EdgeFile.{IsEdgeFile};
-ghost use Rattle.script_lang.specs.Scripts.{files_of};
 ghost use Rattle.command_line.specs.Words.{taken_names};
 ghost use Rattle.command_line.specs.Lines.{run_names, taken_name};
-ghost use Rattle.teseo_program.specs.Input.{AreScripts, IsSchedule, IsAccepted};
-ghost use Rattle.teseo_program.specs.Parsing.{AreTexts, texts_of, meaning_of, AreRunnable, IsParseStop, IsVertexStop, IsEdgeStop, IsScriptStop, IsScheduleStop, stop_of_script};
+ghost use Rattle.teseo_program.specs.Input.{texts_of, AreScripts, IsSchedule, IsAccepted};
+ghost use Rattle.teseo_program.specs.Parsing.{AreTexts, meaning_of, AreRunnable, IsParseStop, IsVertexStop, IsEdgeStop, IsScriptStop, IsScheduleStop, stop_of_script};
 
 use crate::fault::{ParseStop, SourceFault};
 use command_line::{CommandLine, TakenName};
@@ -40,9 +38,11 @@ pub fn parse_sources(
     sources: &Sources,
     line: &CommandLine<'_>,
 ) -> Result<Input, ParseStop>
-    requires { AreTexts (run_names line.now) sources.now }
+    requires few { length line.now.scripts.now ≤ MAX_SCRIPTS }
+    requires texts { AreTexts (run_names line.now) sources.now }
     ensures accepted { IfOk result (λ input. IsAccepted (run_names line.now) (texts_of (run_names line.now) sources.now) (meaning_of input)) }
     ensures runnable { IfOk result (λ input. AreRunnable (taken_names (run_names line.now)) input.scripts) }
+    ensures count { IfOk result (λ input. length input.scripts ≡ length (run_names line.now).scripts) }
     ensures refused { IfErr result (IsParseStop (run_names line.now) (texts_of (run_names line.now) sources.now)) }
 {
     let texts = sources.as_slice();
@@ -130,7 +130,8 @@ fn parse_schedule(
     texts: &[Bytes],
     line: &CommandLine<'_>,
 ) -> Result<Schedule, ParseStop>
-    requires { AreTexts (run_names line.now) texts.now }
+    requires few { length line.now.scripts.now ≤ MAX_SCRIPTS }
+    requires texts { AreTexts (run_names line.now) texts.now }
     ensures ok { IfOk result (IsSchedule (length (run_names line.now).scripts) (texts_of (run_names line.now) texts.now).schedule) }
     ensures refused { IfErr result (IsScheduleStop (length (run_names line.now).scripts) (texts_of (run_names line.now) texts.now).schedule) }
 {

@@ -1,21 +1,21 @@
 //! The top call: from the words to the written files.
 //!
-//! 1. All sources are read before any of them is parsed, and all are parsed before the script runs.
+//! 1. All sources are read before any of them is parsed, and all are parsed before the first script runs.
 //! 2. All texts are made before the first output is created.
 //! 3. What is said is said last, piece by piece, so that saying it takes no memory.
 #![tactic(auto)]
 
+mod fault;
 mod input;
 mod laws;
 mod outcome;
 mod outputs;
 mod prepare;
 mod program;
-mod rows;
 mod run;
 mod say;
-mod words;
 
+pub use fault::{ParseStop, SourceFault};
 pub use laws::accepted_runs_end_well;
 pub use outcome::Outcome;
 pub use program::{end_with, teseo};

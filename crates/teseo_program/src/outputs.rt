@@ -1,76 +1,97 @@
 //! The outputs and the summary, all made before the first of them is written.
 
-ghost use Rattle.std.specs.Prelude.{◌≡◌, ◌∷◌, [], All, IfOk};
+ghost use Rattle.std.specs.Prelude.{◌≡◌, ◌++◌, map, length, All, IfOk, OnOk};
+ghost use Rattle.std.specs.List.{AllByRecursion, list_any};
 ghost use Rattle.std.specs.String.{string_bytes};
 ghost use Rattle.graph_model.specs.TableText.{table_text};
 ghost use Rattle.run_model.specs.Texts.{journal_text, report_text};
-ghost use Rattle.script_lang.specs.ScriptFile.{IsNameByte};
-ghost use Rattle.teseo_program.specs.Sinks.{summary_line, sinks_of};
-ghost use Rattle.teseo_program.specs.ScriptResult.{run_outputs};
+ghost use Rattle.script_lang.specs.FieldFaults.{IsNameByte};
+ghost use Rattle.job_runner.specs.Lines.{file_of};
+ghost use Rattle.command_line.specs.Words.{report_name};
+ghost use Rattle.teseo_program.specs.Outcomes.{is_full, shows_full};
+ghost use Rattle.teseo_program.specs.Sinks.{summary_line, sinks_of, file_output};
+ghost use Rattle.teseo_program.specs.Running.{run_outputs, HavePrintableNames};
 
-use crate::run::ScriptResult;
+use crate::run::RunResult;
 use desk_io::Output;
-use graph_model::{Journal, NoMemory, Table};
+use graph_model::{NoMemory, Table};
 use graphalytics_io::{Text, write_table};
 use items::Items;
-use run_model::{Answers, Name};
+use job_runner::NamedTable;
+use run_model::{Answer, Name};
 use script_lang::{write_journal, write_report};
 use std::alloc::Global;
 
-/// The journal, the report and, where there is a table, the result, in the order in which they are
-/// written.
+/// The journal, the reports and the kernel files, in the order in which they are written.
 pub fn outputs_of(
     alloc: Global,
     journal: &str,
-    report: String,
-    file: &Name,
-    left: &ScriptResult,
+    scripts: &[String],
+    run: &RunResult,
 ) -> Result<Items<Output>, NoMemory>
-    requires { All IsNameByte file.now }
+    requires count { length run.now.jobs ≡ length scripts.now }
+    requires names { HavePrintableNames run.now.jobs }
     ensures { IfOk result (λ outputs. outputs
-        ≡ sinks_of journal.now (string_bytes report ∷ []) (run_outputs file.now left.now)) }
+        ≡ sinks_of journal.now (map report_name (map string_bytes scripts.now)) (run_outputs run.now)) }
 {
     let mut outputs = Items::new(alloc);
-    outputs.push(journal_output(alloc, journal, &left.journal)?)?;
-    outputs.push(report_output(alloc, report, &left.answers)?)?;
-    if let Some(table) = &left.table {
-        outputs.push(result_output(alloc, file, table)?)?;
+    let mut text = Text::new(alloc);
+    write_journal(&run.journal, &mut text)?;
+    outputs.push(output_of(alloc, journal, text)?)?;
+    let jobs = run.jobs.as_slice();
+    'reports: for k in 0..scripts.len() {
+        outputs.push(report_output(alloc, scripts[k].as_str(), jobs[k].answers())?)?;
+    }
+    'jobs: for job in jobs {
+        push_results(alloc, job.tables(), &mut outputs)?;
     }
     Ok(outputs)
 }
 
-/// The journal under its name.
-fn journal_output(alloc: Global, name: &str, journal: &Journal) -> Result<Output, NoMemory>
-    ensures { IfOk result (λ output. output ≡ record { name = name.now; text = journal_text journal.now }) }
+/// A text under a name.
+fn output_of(alloc: Global, name: &str, text: Text) -> Result<Output, NoMemory>
+    ensures { IfOk result (λ output. output ≡ record { name = name.now; text = text }) }
 {
-    let mut text = Text::new(alloc);
-    write_journal(journal, &mut text)?;
     Ok(Output::new(
         String::from_str(alloc, name)?,
         Items::from_vec(text.into_vec()),
     ))
 }
 
-/// The report under its name.
-fn report_output(alloc: Global, name: String, answers: &Answers) -> Result<Output, NoMemory>
-    ensures { IfOk result (λ output. output ≡ record { name = string_bytes name; text = report_text answers.now }) }
+/// The report of a script under its name.
+fn report_output(alloc: Global, script: &str, answers: &[Answer]) -> Result<Output, NoMemory>
+    ensures { IfOk result (λ output. output ≡ record { name = report_name script.now; text = report_text answers.now }) }
 {
+    let mut name = String::from_str(alloc, script)?;
+    name.push_str(".report")?;
     let mut text = Text::new(alloc);
     write_report(answers, &mut text)?;
     Ok(Output::new(name, Items::from_vec(text.into_vec())))
 }
 
-/// The result under the name that the script gives it.
+/// Puts the results of a script behind the outputs.
+fn push_results(
+    alloc: Global,
+    tables: &[NamedTable],
+    outputs: &mut Items<Output>,
+) -> Result<(), NoMemory>
+    requires { AllByRecursion (λ t. All IsNameByte t.name) tables.now }
+    ensures { OnOk result (outputs.new ≡ outputs.old ++ map (λ t. file_output (file_of t)) tables.now) }
+{
+    'tables: for named in tables {
+        outputs.push(result_output(alloc, &named.name, &named.table)?)?;
+    }
+    Ok(())
+}
+
+/// A result under the name that its script gives it.
 fn result_output(alloc: Global, file: &Name, table: &Table) -> Result<Output, NoMemory>
     requires { All IsNameByte file.now }
     ensures { IfOk result (λ output. output ≡ record { name = file.now; text = table_text table.now }) }
 {
     let mut text = Text::new(alloc);
     write_table(table, &mut text)?;
-    Ok(Output::new(
-        String::from_str(alloc, name_text(file))?,
-        Items::from_vec(text.into_vec()),
-    ))
+    output_of(alloc, name_text(file), text)
 }
 
 /// A name of printable ASCII, as text.
@@ -84,22 +105,53 @@ fn name_text(file: &Name) -> &str
     }
 }
 
+/// Whether a report has a line `full`.
+pub fn is_full(run: &RunResult) -> bool
+    ensures { result ≡ shows_full (run_outputs run.now) }
+{
+    'jobs: for job in run.jobs.as_slice() {
+        if is_full_report(job.answers()) {
+            return true;
+        }
+    }
+    false
+}
+
+/// Whether one of the answers is `full`.
+fn is_full_report(answers: &[Answer]) -> bool
+    ensures { result ≡ list_any is_full answers.now }
+{
+    'answers: for answer in answers {
+        if is_full_answer(answer) {
+            return true;
+        }
+    }
+    false
+}
+
+/// Whether the answer is `full`.
+fn is_full_answer(answer: &Answer) -> bool
+    ensures { result ≡ is_full answer.now }
+{
+    matches!(answer, Answer::Full)
+}
+
 /// The summary, by its counts.
 pub fn summary_of(
     alloc: Global,
-    commits: usize,
-    vertices: usize,
-    edges: usize,
+    commits: u64,
+    vertices: u64,
+    edges: u64,
 ) -> Result<Text, NoMemory>
     ensures { IfOk result (λ text. text ≡ summary_line commits vertices edges) }
 {
     let mut text = Text::new(alloc);
     text.push_bytes(b"commits ")?;
-    text.push_number(commits as u64)?;
+    text.push_number(commits)?;
     text.push_bytes(b" vertices ")?;
-    text.push_number(vertices as u64)?;
+    text.push_number(vertices)?;
     text.push_bytes(b" edges ")?;
-    text.push_number(edges as u64)?;
+    text.push_number(edges)?;
     text.push_bytes(b" undo 0 retired 0\n")?;
     Ok(text)
 }

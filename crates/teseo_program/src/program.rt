@@ -1,11 +1,12 @@
 //! The top call.
 
-ghost use Rattle.std.specs.Prelude.{◌≡◌, ◌≢◌, [], map, AllPairs};
+ghost use Rattle.std.specs.Prelude.{◌≡◌, ℕ, List, [], map};
 ghost use Rattle.std.specs.String.{string_bytes};
 ghost use Rattle.desk_io.specs.Outputs.{names_of};
 ghost use Rattle.command_line.specs.Words.{TakesWords, source_names};
-ghost use Rattle.command_line.specs.Lines.{run_names};
+ghost use Rattle.command_line.specs.Lines.{run_names, name_at};
 ghost use Rattle.teseo_program.specs.declared.outcome.Outcome.{Outcome};
+ghost use Rattle.teseo_program.specs.Prepared.{NamesAreApart, Writes};
 ghost use Rattle.teseo_program.specs.Outcomes.{status_of, said_text, blamed, OnlySays, IsOutcome, IsRunOutcome};
 
 use crate::outcome::Outcome;
@@ -68,6 +69,8 @@ fn run<D: Desk>(alloc: Global, desk: &mut D, line: &CommandLine<'_>) -> Outcome
 
 /// Writes the outputs, and answers how that went.
 fn write<D: Desk>(desk: &mut D, prepared: &Prepared) -> Outcome
+    requires { NamesAreApart prepared.now }
+    ensures { Writes prepared.now.is_full prepared.now.outputs result (D.files desk.old) (D.files desk.new) }
 {
     match write_all(desk, prepared.outputs.as_slice()) {
         Ok(()) if prepared.is_full => Outcome::Full,
@@ -86,5 +89,15 @@ fn blamed_name<'a>(line: &CommandLine<'a>, outputs: &'a [Output], outcome: Outco
         Outcome::NotAccepted { place, .. } => line.source(place),
         Outcome::NotWritten(stop) => output_at(outputs, stop.place),
         _ => "",
+    }
+}
+
+/// The name of the output at a place, or an empty one where there is no such place.
+fn output_at(outputs: &[Output], place: usize) -> &str
+    ensures { result.now ≡ name_at (names_of outputs.now) place }
+{
+    match outputs.get(place) {
+        Some(output) => output.name(),
+        None => "",
     }
 }

@@ -1,0 +1,6 @@
+pub mod ScanLemmas
+pub mod CoreLemmas
+pub mod LineLemmas
+pub mod CountLemmas
+pub mod ViewLemmas
+pub mod JobLemmas

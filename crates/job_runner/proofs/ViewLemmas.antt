@@ -1,0 +1,71 @@
+-- What a line reads of the view: its rows, how many of them are vertices and arcs, and one vertex's targets.
+use Rattle.std.proofs.Common.{◌≡◌, ℕ, ◌+◌, ◌-◌, ◌≤◌, List, length, refl, sym, ◌∙◌, ap, subst, cond, arith}
+use Rattle.std.specs.Prelude.{◌/◌, Bool, true, false, Option, Some, None, IfSome, IsSome, unwrap_or, count_by}
+use Rattle.std.specs.FinMap as fin_map
+use Rattle.graph_model.specs.declared.row.Row.{Row}
+use Rattle.graph_model.specs.declared.write.Kind.{Kind}
+use Rattle.graph_model.specs.declared.write.Kind.TheVariants.{Directed, Undirected}
+use Rattle.graph_model.specs.Account.{Account, IsOpenTxn, IsValid}
+use Rattle.graph_model.specs.Graph.{Graph, has_vertex, vertices_of}
+use Rattle.graph_model.specs.History.{view}
+use Rattle.graph_model.specs.Rows.{all_rows, AreRowsOf}
+use Rattle.graph_model.specs.OwnerCalls.{Core, current, account_here}
+use Rattle.graph_model.proofs.ViewLemmas.{view_bounded, view_ends}
+use Rattle.run_model.specs.declared.answer.Answer.{Answer}
+use Rattle.run_model.specs.declared.answer.Answer.TheVariants as answers
+use Rattle.run_model.specs.Answering.{targets_of, query_answer}
+use Rattle.run_model.specs.Requests.{Counts, NeighboursOf}
+use Rattle.job_runner.specs.declared.scan.ScanResult.{ScanResult}
+use Rattle.job_runner.specs.declared.scan.ScanResult.TheVariants.{Targets, Rows}
+use Rattle.job_runner.specs.Scanning.{is_vertex, counted}
+use Rattle.job_runner.specs.Lines.{view_here}
+use Rattle.job_runner.proofs.CoreLemmas.{some_of}
+use Rattle.job_runner.proofs.CountLemmas.{vertex_count, arc_count}
+
+-- the rows of what an open transaction sees are those of a graph
+pub here_rows : (core : Core) → IsValid (account_here core) → IsSome (current core).start → AreRowsOf (all_rows (view_here core)) (view_here core)
+here_rows core valid opened =
+    let o = some_of (current core).start opened in
+    let txn : IsOpenTxn (account_here core) o.0 = subst (λ s. IfSome s (IsOpenTxn (account_here core))) o.1 valid.current in
+    subst (λ s. AreRowsOf (all_rows (view core.kind core.journal (unwrap_or s 0) (current core).own)) (view core.kind core.journal (unwrap_or s 0) (current core).own)) (sym o.1)
+    (record {
+      listed = refl;
+      ends = view_ends core.kind core.journal o.0 (current core).own valid.legal txn.seen txn.allowed;
+      within = (view_bounded core.kind core.journal o.0 (current core).own valid.legal txn.seen txn.within).ids;
+    })
+
+-- `count` answers the vertices, and the edges by the other rows
+pub counts_are : (kind : Kind) (g : Graph) → AreRowsOf (all_rows g) g
+    → counted kind (count_by is_vertex (all_rows g)) (length (all_rows g) - count_by is_vertex (all_rows g)) ≡ query_answer kind g Counts
+counts_are kind g are = by_kind kind (length (vertices_of g)) (length (fin_map.entries g.arcs)) (vertex_count g are) (arc_count g are) ∙ edges kind
+  where
+    edges : (kind : Kind) → counted kind (length (vertices_of g)) (length (fin_map.entries g.arcs)) ≡ query_answer kind g Counts
+    edges Directed = ap (λ n. answers.Counted (length (vertices_of g)) n) (sym (fin_map.len-entries g.arcs))
+    edges Undirected = ap (λ n. answers.Counted (length (vertices_of g)) (n / 2)) (sym (fin_map.len-entries g.arcs))
+
+    less : (v a : ℕ) → v + a - v ≡ a
+    less v a = omega arith
+
+    by_kind : (kind : Kind) (v a : ℕ) → count_by is_vertex (all_rows g) ≡ v → length (all_rows g) ≡ v + a
+        → counted kind (count_by is_vertex (all_rows g)) (length (all_rows g) - count_by is_vertex (all_rows g)) ≡ counted kind v a
+    by_kind kind v a e f = (λ i. counted kind (e i) (f i - e i)) ∙ ap (counted kind v) (less v a)
+
+-- `neighbours` answers the targets where the vertex is there, and else that it isn't
+pub neighbours_are : (kind : Kind) (g : Graph) (v : ℕ) (has : Bool) → has ≡ has_vertex g v → (answer : Answer)
+    → (has ≡ true → answer ≡ answers.Neighbours (targets_of g v)) → (has ≡ false → answer ≡ answers.NoVertex v) → answer ≡ query_answer kind g (NeighboursOf v)
+neighbours_are kind g v true is answer there none = there refl ∙ ap (λ b. cond b (answers.Neighbours (targets_of g v)) (answers.NoVertex v)) is
+neighbours_are kind g v false is answer there none = none refl ∙ ap (λ b. cond b (answers.Neighbours (targets_of g v)) (answers.NoVertex v)) is
+
+-- the targets that a scan has kept
+pub same_targets : (xs ys : List ℕ) → Targets xs ≡ Targets ys → xs ≡ ys
+same_targets xs ys e = cc
+
+-- the rows that a scan has kept
+pub same_rows : (xs ys : List Row) → Rows xs ≡ Rows ys → xs ≡ ys
+same_rows xs ys e = cc
+
+-- the rows that a whole scan has kept are those of the view
+pub kept_rows : (core : Core) → IsValid (account_here core) → IsSome (current core).start → (result : ScanResult) → result ≡ Rows (all_rows (view_here core))
+    → (kept given : List Row) → result ≡ Rows kept → given ≡ kept → AreRowsOf given (view_here core)
+kept_rows core valid opened result whole kept given has same =
+    subst (λ rows. AreRowsOf rows (view_here core)) (sym (same ∙ same_rows _ _ (sym has ∙ whole))) (here_rows core valid opened)

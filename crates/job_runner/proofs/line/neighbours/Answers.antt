@@ -1,0 +1,38 @@
+use Rattle.std.proofs.Common.{◌≡◌, true, false, sym, subst, ap, ◌∙◌}
+use Rattle.std.specs.Prelude.{IsSome}
+use Rattle.graph_model.specs.OwnerCalls.{current}
+use Rattle.graph_model.specs.Graph.{has_vertex}
+use Rattle.run_model.specs.declared.answer.Answer.TheVariants as answers
+use Rattle.run_model.specs.Answering.{targets_of, query_answer}
+use Rattle.run_model.specs.Requests.{ToRead, NeighboursOf}
+use Rattle.job_runner.specs.Lines.{DoesLine, view_here}
+use Rattle.job_runner.proofs.CoreLemmas.{not_false, view_is}
+use Rattle.job_runner.proofs.ViewLemmas.{neighbours_are, same_targets}
+use Rattle.job_runner.proofs.LineLemmas.{read_does}
+use Rattle.job_runner.proofs.line.neighbours.Goals as goal
+use Rattle.job_runner.proofs.line.neighbours.Goals.{then-has_vertex, else-has_vertex}
+
+pub returns-clause-takes : goal.returns-clause-takes
+returns-clause-takes g c =
+    let old = g.E.StepEngine.core c.args.engine.now in
+    let mid = g.E.StepEngine.core c.advance.new.engine in
+    let new = g.E.StepEngine.core c.has_vertex.new.self in
+    let v = c.args.v in
+    let same = c.in_ok-scan.ensures.core in
+    let ends = (c.in_ok-scan.ensures.advances (ToRead (NeighboursOf v)) c.requires.scans (c.of_arcs.ensures.scan (view_here old))).rest (not_false _ c.if-not-scan.false) in
+    let has : c.has_vertex.result ≡ has_vertex (view_here old) v =
+    view_is (λ x. c.has_vertex.result ≡ has_vertex x v) mid _ (g.met.E.StepEngine.accounts c.advance.new.engine) (subst (λ x. IsSome (current x).start) (sym same) c.requires.phase_is) c.has_vertex.ensures.answer
+    ∙ ap (λ x. has_vertex (view_here x) v) same in
+    let answer : c.if-has_vertex.answer ≡ query_answer old.kind (view_here old) (NeighboursOf v) = elim c.if-has_vertex.branch [
+      | then-has_vertex w ↦ neighbours_are old.kind (view_here old) v c.has_vertex.result has c.if-has_vertex.answer
+          (λ _. w.answer-is ∙ ap answers.Neighbours (same_targets _ _ (sym w.into_targets.ensures ∙ ends.0.result)))
+          (λ e. absurd (let other : true ≡ false = sym w.if-has_vertex.true ∙ e in cc))
+      | else-has_vertex w ↦ neighbours_are old.kind (view_here old) v c.has_vertex.result has c.if-has_vertex.answer
+          (λ e. absurd (let other : true ≡ false = sym e ∙ w.if-has_vertex.false in cc))
+          (λ _. w.answer-is)
+    ] in
+    record {
+      last = ends.1;
+      does = subst (λ given. DoesLine old false (ToRead (NeighboursOf v)) given new) (sym c.plain.ensures)
+          (read_does old c.requires.selected (NeighboursOf v) c.if-has_vertex.answer new c.requires.phase_is answer (g.met.E.StepEngine.reads_here _ _ c.has_vertex.ensures.did ∙ same));
+    }

@@ -1,0 +1,4 @@
+pub mod Scanning
+pub mod Kernels
+pub mod Lines
+pub mod Progress

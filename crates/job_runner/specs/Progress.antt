@@ -1,0 +1,128 @@
+-- A job under way, as its contracts see it, and the state of a run that jobs and engine have.
+use Rattle.std.specs.Prelude.{◌≡◌, ℕ, ◌+◌, ◌≤◌, ◌<◌, Bool, true, false, ◌||◌, List, [], ◌∷◌, ◌++◌, length, drop, map, take, Option, Some, None, IfSome}
+use Rattle.graph_model.specs.Account.{IsValid}
+use Rattle.graph_model.specs.OwnerCalls.{PassState, Core, current, account_here}
+use Rattle.run_model.specs.declared.command.Command.{Command}
+use Rattle.run_model.specs.declared.answer.Answer.{Answer}
+use Rattle.run_model.specs.AnsweredLines.{answered_lines}
+use Rattle.run_model.specs.Requests.{request, begun_by, IsScript}
+use Rattle.run_model.specs.Jobs.{JobState, RunState, is_empty}
+use Rattle.job_runner.specs.declared.answering.LineTurn.{LineTurn}
+use Rattle.job_runner.specs.declared.answering.LineTurn.TheVariants.{Scanning, Answering}
+use Rattle.job_runner.specs.declared.phase.Phase.{Phase}
+use Rattle.job_runner.specs.declared.phase.Phase.TheVariants.{Between, Open, Skipping, GivenUp}
+use Rattle.job_runner.specs.declared.scan.Scan.{Scan}
+use Rattle.job_runner.specs.declared.table.NamedTable.{NamedTable}
+use Rattle.job_runner.specs.declared.turn.Turn.{Turn}
+use Rattle.job_runner.specs.declared.turn.Turn.TheVariants as turns
+use Rattle.job_runner.specs.Kernels.{AreOffered}
+use Rattle.job_runner.specs.Scanning.{IsScan, taken_of}
+use Rattle.job_runner.specs.Lines.{is_skipping, is_inside, IsPhase, view_here, TakesHere, given_up}
+
+pub record Progress : Type 0 where
+  -- the number of the script, and of the job's pass
+  pub number : ℕ
+  pub commands : List Command
+  -- the answers so far, and the tables of those that have one
+  pub answers : List Answer
+  pub tables : List NamedTable
+  pub phase : Phase
+  -- the scan of the line at hand, if it has taken a turn
+  pub scan : Option Scan
+
+-- a job that has taken no turn
+abbrev pub new_progress : ℕ → List Command → Progress
+new_progress number commands = record {
+  number = number;
+  commands = commands;
+  answers = [];
+  tables = [];
+  phase = Between;
+  scan = None;
+}
+
+-- the lines that aren't answered, the first of which is at hand
+abbrev pub left_of : Progress → List Command
+left_of job = drop (length job.answers) job.commands
+
+-- whether the job has given up for want of memory
+abbrev pub has_given_up : Phase → Bool
+has_given_up Between = false
+has_given_up Open = false
+has_given_up Skipping = false
+has_given_up GivenUp = true
+
+-- each line is answered, or the job has given up
+abbrev pub is_over : Progress → Bool
+is_over job = has_given_up job.phase || is_empty (left_of job)
+
+-- ---- one turn
+
+-- the table of an answer, if it has one
+abbrev pub listed_table : Option NamedTable → List NamedTable
+listed_table None = []
+listed_table (Some table) = table ∷ []
+
+-- the job behind a turn of its line at hand
+abbrev pub behind : Progress → LineTurn → Progress
+behind job (Scanning scan) = record job { scan = Some scan }
+behind job (Answering given) = record job {
+  answers = job.answers ++ given.answer ∷ [];
+  tables = job.tables ++ listed_table given.table;
+  phase = given.phase;
+  scan = None;
+}
+
+-- the job and the pass that is selected fit each other, and the rest of the script may be taken
+pub record IsReady (core : Core) (job : Progress) : Type 0 where
+  pub number : core.selected ≡ job.number
+  pub selected : core.selected < length core.passes
+  pub valid : IsValid (account_here core)
+  pub phase_is : IsPhase job.phase (current core).start
+  -- the pass has begun the transactions of the lines that are answered, and may begin those of the others
+  pub begun : (current core).begun ≡ begun_by 0 (take (length job.answers) job.commands)
+  pub room : begun_by (current core).begun (left_of job) ≤ (current core).allowed
+  pub script : IsScript (Some (is_inside job.phase)) (left_of job)
+  pub offered : AreOffered (left_of job)
+  -- a scan under way is that of the line at hand
+  pub scans : (c : Command) (rest : List Command) → left_of job ≡ c ∷ rest
+      → IfSome job.scan (IsScan (view_here core) (request c))
+
+-- the line at hand takes a turn
+pub record TakesTurn (old : Core) (job : Progress) (c : Command) (next : Progress) (new : Core) : Type 0 where
+  pub turn : LineTurn
+  pub takes : TakesHere old job.phase job.scan (request c) turn new
+  pub job_is : next ≡ behind job turn
+
+-- what a turn comes to: the line at hand takes it, or memory was wanted, and the transaction is taken back
+abbrev pub TookTurn : Core → Progress → Turn → Progress → Core → Type 0
+TookTurn old job turns.More next new = (is_over next ≡ false)
+    × ((c : Command) (rest : List Command) → left_of job ≡ c ∷ rest → TakesTurn old job c next new)
+TookTurn old job turns.Ended next new = (is_over next ≡ true)
+    × ((c : Command) (rest : List Command) → left_of job ≡ c ∷ rest → TakesTurn old job c next new)
+TookTurn old job turns.NoMemory next new =
+    (new ≡ given_up old job.phase) × (next ≡ record job { phase = GivenUp; scan = None })
+
+-- ---- the state of a run
+
+-- a script under way, as its job and its pass have it
+abbrev pub job_at : PassState → Progress → JobState
+job_at pass job = record {
+  lines = answered_lines job.commands job.answers;
+  left = left_of job;
+  taken = taken_of job.scan;
+  begun = pass.begun;
+  start = pass.start;
+  own = pass.own;
+  skipping = is_skipping job.phase;
+}
+
+-- the scripts under way, whose passes are those behind the first
+abbrev pub seats : List PassState → List Progress → List JobState
+seats [] jobs = []
+seats (pass ∷ passes) [] = []
+seats (pass ∷ passes) (job ∷ jobs) = job_at pass job ∷ seats passes jobs
+
+-- script k uses pass k, and pass 0 is the service's
+abbrev pub state_of : Core → List Progress → RunState
+state_of core jobs = record { journal = core.journal; jobs = seats (drop 1 core.passes) jobs }

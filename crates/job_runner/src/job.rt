@@ -1,0 +1,144 @@
+//! A job: a script under way.
+//!
+//! 1. A turn is one line of the script, or one further portion of the rows that the line at hand scans.
+//! 2. Room for a line's answer and its table is made before the engine is touched.
+//! 3. A job that wanted memory has taken its transaction back, and has ended.
+
+ghost use Rattle.std.specs.Prelude.{◌≡◌, List, ◌∷◌, false, None, IsSome, OnOk, OnErr};
+ghost use Rattle.run_model.specs.declared.command.Command.{Command};
+ghost use Rattle.graph_model.specs.OwnerCalls.{current};
+ghost use Rattle.job_runner.specs.Lines.{given_up};
+ghost use Rattle.job_runner.specs.Progress.{new_progress, left_of, is_over, IsReady, TakesTurn, TookTurn};
+
+use crate::answering::LineTurn;
+use crate::line::take_line;
+use crate::phase::Phase;
+use crate::scan::Scan;
+use crate::table::{NamedTable, Tables};
+use crate::turn::Turn;
+use graph_model::{NoMemory, StepEngine};
+use items::RoomyItems;
+use run_model::{Answer, Script};
+use std::alloc::Global;
+use std::marker::Model;
+
+/// A script under way, with its answers so far.
+#[derive(Drop)]
+pub struct Job {
+    alloc: Global,
+    number: u32,
+    script: Script,
+    answers: RoomyItems<Answer>,
+    tables: Tables,
+    phase: Phase,
+    scan: Option<Scan>,
+}
+
+impl Model for Job {
+    ghost use Rattle.job_runner.specs.Progress.{Progress};
+
+    ghost Value = { Progress };
+
+    ghost view = { λ j. record { number = j.number; commands = j.script; answers = j.answers.items; tables = j.tables.items; phase = j.phase; scan = j.scan } };
+}
+
+impl Job {
+    /// A script of this number, of which no line is answered. Takes no memory.
+    pub fn new(alloc: Global, job: u32, script: Script) -> Job
+        ensures { result ≡ new_progress job script }
+    {
+        Job {
+            alloc,
+            number: job,
+            script,
+            answers: RoomyItems::new(alloc),
+            tables: RoomyItems::new(alloc),
+            phase: Phase::Between,
+            scan: None,
+        }
+    }
+
+    /// The number of the script.
+    pub fn number(&self) -> u32
+        ensures { result ≡ self.now.number }
+    {
+        self.number
+    }
+
+    /// Lends the answers so far, in the order of the lines.
+    pub fn answers(&self) -> &[Answer]
+        ensures { result.now ≡ self.now.answers }
+    {
+        self.answers.as_slice()
+    }
+
+    /// Lends the tables so far, in the order of the lines.
+    pub fn tables(&self) -> &[NamedTable]
+        ensures { result.now ≡ self.now.tables }
+    {
+        self.tables.as_slice()
+    }
+
+    /// Whether each line is answered, or memory was wanted.
+    pub fn has_ended(&self) -> bool
+        ensures { result ≡ is_over self.now }
+    {
+        match self.phase {
+            Phase::GivenUp => true,
+            _ => self.script.len() <= self.answers.len(),
+        }
+    }
+
+    /// Takes one turn: a line, or a further portion of the rows that the line at hand scans.
+    pub fn turn<E: StepEngine>(&mut self, engine: &mut E) -> Turn
+        requires going { is_over self.old ≡ false }
+        requires ready { IsReady (E.core engine.old) self.old }
+        ensures { TookTurn (E.core engine.old) self.old result self.new (E.core engine.new) }
+    {
+        match self.take_turn(engine) {
+            Ok(()) if self.has_ended() => Turn::Ended,
+            Ok(()) => Turn::More,
+            Err(NoMemory) => {
+                self.give_up(engine);
+                Turn::NoMemory
+            }
+        }
+    }
+
+    /// Takes the turn, if there is memory.
+    fn take_turn<E: StepEngine>(&mut self, engine: &mut E) -> Result<(), NoMemory>
+        requires going { is_over self.old ≡ false }
+        requires ready { IsReady (E.core engine.old) self.old }
+        ensures ok { OnOk result ((c : Command) (rest : List Command) → left_of self.old ≡ c ∷ rest → TakesTurn (E.core engine.old) self.old c self.new (E.core engine.new)) }
+        ensures err { OnErr result ((E.core engine.new ≡ E.core engine.old) × (self.new ≡ record self.old { scan = None })) }
+    {
+        let scan = self.scan.take();
+        self.answers.reserve(1)?;
+        self.tables.reserve(1)?;
+        let command = &self.script.as_slice()[self.answers.len()];
+        match take_line(self.alloc, engine, command, self.phase, scan)? {
+            LineTurn::Scanning { scan } => self.scan = Some(scan),
+            LineTurn::Answering { given } => {
+                self.answers.push_within(given.answer);
+                self.phase = given.phase;
+                if let Some(table) = given.table {
+                    self.tables.push_within(table);
+                }
+            }
+        }
+        Ok(())
+    }
+
+    /// Takes the transaction back, if one is open, and ends the job.
+    pub fn give_up<E: StepEngine>(&mut self, engine: &mut E)
+        requires { self.old.phase ≡ Phase.Open → IsSome (current (E.core engine.old)).start }
+        ensures core { E.core engine.new ≡ given_up (E.core engine.old) self.old.phase }
+        ensures job { self.new ≡ record self.old { phase = Phase.GivenUp; scan = None } }
+    {
+        if let Phase::Open = self.phase {
+            engine.abort();
+        }
+        self.phase = Phase::GivenUp;
+        self.scan = None;
+    }
+}

@@ -1,0 +1,77 @@
+//! The tables of kernels, by the names of their files.
+
+ghost use Rattle.std.specs.Prelude.{◌≡◌, List, length, IfOk, IfErr};
+ghost use Rattle.graph_model.specs.Graph.{Graph};
+ghost use Rattle.graph_model.specs.Rows.{AreRowsOf};
+ghost use Rattle.run_model.specs.declared.answer.Answer.TheVariants as answers;
+ghost use Rattle.run_model.specs.Answering.{kernel_answer, IsKernelTable};
+ghost use Rattle.job_runner.specs.Kernels.{kernel_of, root_of, IsOfferedKernel};
+
+use graph_model::{KernelRefusal, Kind, NoMemory, Row, Table};
+use items::RoomyItems;
+use kernel_bfs::run as breadth_first_search;
+use run_model::Name;
+use std::alloc::Global;
+
+/// A kernel of LDBC Graphalytics, with its root or its number of rounds.
+#[derive(Clone, Copy, Debug, PartialEq, Eq)]
+pub enum Kernel {
+    Bfs { root: u64 },
+    Wcc,
+    Cdlp { rounds: u32 },
+    Sssp { root: u64 },
+}
+
+impl Kernel {
+    /// The vertex that it begins at; 0 where it needs none.
+    pub fn root(&self) -> u64
+        ensures { result ≡ root_of self.now }
+    {
+        match self {
+            Kernel::Bfs { root } => *root,
+            Kernel::Wcc => 0,
+            Kernel::Cdlp { rounds: _ } => 0,
+            Kernel::Sssp { root } => *root,
+        }
+    }
+}
+
+/// A kernel's table, and the name of the file that it is for.
+#[derive(Drop)]
+pub struct NamedTable {
+    pub name: Name,
+    pub table: Table,
+}
+
+/// The tables of a job, in the order of its lines.
+pub type Tables = RoomyItems<NamedTable>;
+
+/// Runs a kernel on the rows of a graph.
+pub fn kernel_table(
+    alloc: Global,
+    kind: Kind,
+    kernel: Kernel,
+    rows: &[Row],
+) -> Result<Table, KernelRefusal>
+    requires rows { (g : Graph) × AreRowsOf rows.now g }
+    requires offered { IsOfferedKernel (kernel_of kernel) }
+    ensures table { IfOk result (λ table. (g : Graph) → AreRowsOf rows.now g
+        → (kernel_answer g (kernel_of kernel) ≡ answers.Table (length table)) × IsKernelTable kind g (kernel_of kernel) table) }
+    ensures no_root { result ≡ Err KernelRefusal.NoRoot → (g : Graph) → AreRowsOf rows.now g
+        → kernel_answer g (kernel_of kernel) ≡ answers.NoVertex (root_of kernel) }
+{
+    match kernel {
+        Kernel::Bfs { root } => breadth_first_search(alloc, rows, root),
+        Kernel::Wcc => unreachable!(),
+        Kernel::Cdlp { rounds: _ } => unreachable!(),
+        Kernel::Sssp { root: _ } => unreachable!(),
+    }
+}
+
+/// A copy of a name.
+pub fn copy_of(alloc: Global, name: &Name) -> Result<Name, NoMemory>
+    ensures { IfOk result (λ copy. copy ≡ name.now) }
+{
+    let bytes = name.as_slice().to_vec(alloc)?;
+    Ok(Name::from_vec(bytes))
+}

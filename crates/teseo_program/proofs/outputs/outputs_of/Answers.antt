@@ -1,0 +1,25 @@
+use Rattle.std.proofs.Common.{◌∷◌, ◌++◌, ◌∙◌, ap, map, length, arith}
+use Rattle.std.specs.List.{flat_map}
+use Rattle.std.specs.String.{string_bytes}
+use Rattle.run_model.specs.Texts.{journal_text, report_text}
+use Rattle.command_line.specs.Words.{report_name}
+use Rattle.job_runner.specs.Lines.{file_of}
+use Rattle.teseo_program.specs.Sinks.{report_outputs, file_output}
+use Rattle.teseo_program.proofs.SinkLemmas.{report_pushed, all_results}
+use Rattle.teseo_program.proofs.outputs.outputs_of.Goals as goal
+
+pub reports-preserved : goal.reports-preserved
+reports-preserved c =
+    report_pushed report_name string_bytes (λ job. job.answers) c.args.scripts.now c.as_slice-jobs.result.now c.reports.k c.index-scripts-k.result c.index-jobs-k.result
+    _ c.reports.outputs _ _ c.reports-test.true (ap length c.as_slice-jobs.ensures ∙ c.requires.count) c.reports.invariant
+    (c.in_ok-report_output.ensures
+    ∙ (λ i. record { name = report_name ((c.as_str.ensures.value ∙ ap string_bytes c.index-scripts-k.is) i); text = report_text ((c.answers.ensures ∙ ap (λ j. j.answers) c.index-jobs-k.is) i) }))
+    c.in_ok-push-2.ensures.ok
+
+pub returns : goal.returns
+returns c =
+    c.jobs.invariant
+    ∙ ap (λ rest. record { name = c.args.journal.now; text = journal_text c.args.run.now.journal }
+    ∷ (report_outputs (map report_name (map string_bytes c.args.scripts.now)) (map (λ job. job.answers) c.args.run.now.jobs) ++ rest))
+    (all_results c.as_slice-jobs.result.now c.jobs.job-index (omega arith)
+    ∙ ap (λ js. flat_map (λ files. map file_output files) (map (λ job. map file_of job.tables) js)) c.as_slice-jobs.ensures)

@@ -1,0 +1,44 @@
+use Rattle.std.proofs.Common.{◌≡◌, ◌∙◌, sym}
+use Rattle.std.specs.String.{string_bytes}
+use Rattle.std.proofs.lemmas.List.{length-map}
+use Rattle.command_line.specs.Lines.{run_names}
+use Rattle.teseo_program.specs.Parsing.{meaning_of}
+use Rattle.teseo_program.specs.Running.{run_outputs}
+use Rattle.teseo_program.proofs.PreparedLemmas.{loadable, are_inputs, job_count, are_printable, are_apart, same_summary}
+use Rattle.teseo_program.proofs.prepare.make.Goals as goal
+
+pub run_scripts-requires-clause-inputs : goal.run_scripts-requires-clause-inputs
+run_scripts-requires-clause-inputs c =
+    are_inputs c.load_is_legal.ensures c.files_are_loadable.ensures (run_names c.args.line.now) c.requires.words.0 c.requires.words.1 c.requires.accepted.0 (meaning_of c.args.input)
+    c.requires.accepted.1 c.requires.runnable c.requires.count
+
+pub run_scripts-requires-clause-loadable : goal.run_scripts-requires-clause-loadable
+run_scripts-requires-clause-loadable c =
+    loadable c.load_is_legal.ensures c.files_are_loadable.ensures (run_names c.args.line.now) c.requires.words.0 c.requires.words.1 c.requires.accepted.0 (meaning_of c.args.input)
+    c.requires.accepted.1 c.requires.runnable c.requires.count
+
+pub outputs_of-requires-clause-count : goal.outputs_of-requires-clause-count
+outputs_of-requires-clause-count c =
+    job_count c.load_is_legal.ensures c.files_are_loadable.ensures (run_names c.args.line.now) c.requires.words.0 c.requires.words.1 c.requires.accepted.0 (meaning_of c.args.input)
+    c.requires.accepted.1 c.requires.runnable c.requires.count c.in_ok-run.run' c.in_ok-run.ensures.run
+    ∙ length-map c.args.line.now.scripts.now string_bytes
+
+pub outputs_of-requires-clause-names : goal.outputs_of-requires-clause-names
+outputs_of-requires-clause-names c =
+    are_printable c.load_is_legal.ensures c.files_are_loadable.ensures (run_names c.args.line.now) c.requires.words.0 c.requires.words.1 c.requires.accepted.0 (meaning_of c.args.input)
+    c.requires.accepted.1 c.requires.runnable c.requires.count c.in_ok-run.run' c.in_ok-run.ensures.run
+
+pub returns-clause-made : goal.returns-clause-made
+returns-clause-made c = record {
+  outputs = run_outputs c.in_ok-run.run';
+  run = c.in_ok-run.ensures.run;
+  stepped = c.in_ok-run.ensures.stepped;
+  outputs_are = c.in_ok-outputs.ensures;
+  summary_is = c.in_ok-summary.ensures ∙ same_summary c.in_ok-run.run' c.in_ok-run.ensures.counts _ c.len-commits.ensures;
+  full = sym c.is_full-is_full.ensures;
+}
+
+pub returns-clause-apart : goal.returns-clause-apart
+returns-clause-apart c =
+    are_apart c.load_is_legal.ensures c.files_are_loadable.ensures (run_names c.args.line.now) c.requires.words.0 c.requires.words.1 c.requires.accepted.0 (meaning_of c.args.input)
+    c.requires.accepted.1 c.requires.runnable c.requires.count c.in_ok-run.run' c.in_ok-run.ensures.run c.in_ok-outputs.outputs c.in_ok-outputs.ensures
