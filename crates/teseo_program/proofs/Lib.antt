@@ -6,3 +6,4 @@ mod NameLemmas
 mod SinkLemmas
 mod PreparedLemmas
 mod LawLemmas
+mod OutcomeLemmas

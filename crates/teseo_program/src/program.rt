@@ -56,12 +56,12 @@ fn run<D: Desk>(alloc: Global, desk: &mut D, line: &CommandLine<'_>) -> Outcome
     match prepare(alloc, desk, line) {
         Ok(prepared) => {
             let outcome = write(desk, &prepared);
-            let name = blamed_name(line, prepared.outputs.as_slice(), outcome);
-            say_outcome(desk, name, prepared.summary.as_slice(), outcome);
+            let outputs = prepared.outputs.as_slice();
+            say(desk, line, outputs, prepared.summary.as_slice(), outcome);
             outcome
         }
         Err(outcome) => {
-            say_outcome(desk, blamed_name(line, &[], outcome), &[], outcome);
+            say(desk, line, &[], &[], outcome);
             outcome
         }
     }
@@ -79,15 +79,33 @@ fn write<D: Desk>(desk: &mut D, prepared: &Prepared) -> Outcome
     }
 }
 
-/// The name that an outcome blames, or an empty one.
-fn blamed_name<'a>(line: &CommandLine<'a>, outputs: &'a [Output], outcome: Outcome) -> &'a str
-    ensures { result.now ≡ blamed (source_names (run_names line.now)) (names_of outputs.now) outcome }
+/// Says how the run ended, with the name that this blames.
+fn say<D: Desk>(
+    desk: &mut D,
+    line: &CommandLine<'_>,
+    outputs: &[Output],
+    summary: &[u8],
+    outcome: Outcome,
+)
+    ensures { OnlySays (said_text (blamed (source_names (run_names line.now)) (names_of outputs.now) outcome) summary.now outcome)
+        (D.files desk.old) (D.files desk.new) }
+{
+    match outcome {
+        Outcome::NotWritten(stop) => {
+            say_outcome(desk, output_at(outputs, stop.place), summary, outcome);
+        }
+        _ => say_outcome(desk, blamed_source(line, outcome), summary, outcome),
+    }
+}
+
+/// The name of the source that an outcome blames, or an empty one.
+fn blamed_source<'a>(line: &CommandLine<'a>, outcome: Outcome) -> &'a str
+    ensures { result.now ≡ blamed (source_names (run_names line.now)) [] outcome }
 {
     match outcome {
         Outcome::NotRead(ReadStop::Fault { place }) => line.source(place),
         Outcome::NotRead(ReadStop::TooLong { place }) => line.source(place),
         Outcome::NotAccepted { place, .. } => line.source(place),
-        Outcome::NotWritten(stop) => output_at(outputs, stop.place),
         _ => "",
     }
 }

@@ -3,7 +3,7 @@
 //! The calls of a run on the path, in order: two reads of each source, a piece and its end; then
 //! for each output the call that creates it and the one that writes it.
 
-use crate::setting::{End, JOURNAL, PATH, REPORT, RUN, WHOLE, desk_with, end_of, text_of_end};
+use crate::setting::{End, JOURNAL, PATH, REPORT, WHOLE, desk_with, end_of, text_of_end};
 use std::test::Fail;
 
 /// Each call in turn, and one beyond the last. The second write is call 10, the third read call 3.
@@ -38,8 +38,8 @@ const CALLS: [(u64, End); 13] = [
 fn each_call_of_the_desk_fails_once(rt: HostRuntime) -> Result<(), Fail> {
     let alloc = rt.alloc();
     for (call, end) in CALLS {
-        let mut desk = desk_with(alloc, PATH, &[call])?;
-        let found = end_of(alloc, &mut desk, RUN)?;
+        let mut desk = desk_with(alloc, PATH.0, &[call])?;
+        let found = end_of(alloc, &mut desk, PATH.1, end)?;
         assert_eq!(rt;
             found.as_str(),
             text_of_end(alloc, end)?.as_str(),

@@ -1,96 +1,105 @@
 //! Sources that are not there or not accepted. What each reader refuses is in the tests of its crate;
 //! here stand the faults that only the whole run can have, and one of each reader.
 
-use crate::setting::{EDGES, End, RUN, SEARCH, Sources, VERTICES, desk_with, end_of, text_of_end};
-use desk_io::MemoryDesk;
+use crate::setting::{E, End, File, Run, SEARCH, V, desk_with, end_of, text_of_end};
 use std::test::Fail;
 
 /// Sources that are refused, and what is said of the first that is.
-const REFUSED: [(Sources, &str); 14] = [
-    // one of each reader: a missing last line feed, an unknown vertex, a line too many
-    (("1\n2\n3\n4", EDGES, SEARCH), "v: not accepted\n"),
-    ((VERTICES, "1 2\n2 5\n", SEARCH), "e: not accepted\n"),
+const REFUSED: [(Run, &str); 14] = [
+    // one of each reader: a missing last line feed, an unknown vertex, a line of no transaction, no job
+    ((&[("v", "1\n2\n3\n4"), E, SEARCH], "s1"), "v: not accepted\n"),
+    ((&[V, ("e", "1 2\n2 5\n"), SEARCH], "s1"), "e: not accepted\n"),
+    ((&[V, E, ("s1", "vertex 5\n")], "s1"), "s1 line 1: not begun\n"),
     (
-        (VERTICES, EDGES, "begin\nbfs 1 o\ncommit\n\n"),
-        "s1: not accepted\n",
+        (&[V, E, SEARCH, ("t", "1\n2\n")], "--schedule t s1"),
+        "t line 2: no such job\n",
     ),
     // numbers that would wrap to ids that are there
     (
-        ("2\n3\n18446744073709551617\n", EDGES, SEARCH),
+        (&[("v", "2\n3\n18446744073709551617\n"), E, SEARCH], "s1"),
         "v: not accepted\n",
     ),
     (
-        (VERTICES, "1 18446744073709551618\n", SEARCH),
+        (&[V, ("e", "1 18446744073709551618\n"), SEARCH], "s1"),
         "e: not accepted\n",
     ),
     (
         (
-            VERTICES,
-            EDGES,
-            "begin\nbfs 18446744073709551617 o\ncommit\n",
+            &[V, E, ("s1", "begin\nbfs 18446744073709551617 o\ncommit\n")],
+            "s1",
         ),
-        "s1: not accepted\n",
+        "s1 line 2: id too large\n",
     ),
-    // the name of each source and of each output before it
+    // a result with the name of a source, of an output, and of a result of another script
     (
-        (VERTICES, EDGES, "begin\nbfs 1 v\ncommit\n"),
-        "s1: not accepted\n",
-    ),
-    (
-        (VERTICES, EDGES, "begin\nbfs 1 e\ncommit\n"),
-        "s1: not accepted\n",
+        (&[V, E, ("s1", "begin\nbfs 1 v\ncommit\n")], "s1"),
+        "s1 line 2: name twice\n",
     ),
     (
-        (VERTICES, EDGES, "begin\nbfs 1 j\ncommit\n"),
-        "s1: not accepted\n",
+        (&[V, E, ("s1", "begin\nbfs 1 j\ncommit\n")], "s1"),
+        "s1 line 2: name twice\n",
     ),
     (
-        (VERTICES, EDGES, "begin\nbfs 1 s1\ncommit\n"),
-        "s1: not accepted\n",
+        (
+            &[V, E, ("s1", "begin\nbfs 1 s2.report\ncommit\n"), ("s2", "")],
+            "s1 s2",
+        ),
+        "s1 line 2: name twice\n",
     ),
     (
-        (VERTICES, EDGES, "begin\nbfs 1 s1.report\ncommit\n"),
-        "s1: not accepted\n",
+        (
+            &[V, E, SEARCH, ("s2", "# later\n\nbegin\nbfs 2 o\ncommit\n")],
+            "s1 s2",
+        ),
+        "s2 line 4: name twice\n",
     ),
     // of several faulty ones the first is named
-    (("1", EDGES, "begin"), "v: not accepted\n"),
-    (("1\n2\n3\n", "1", "begin"), "e: not accepted\n"),
-    (("1", "1", "begin"), "v: not accepted\n"),
+    (
+        (&[("v", "1"), E, ("s1", "begin")], "s1"),
+        "v: not accepted\n",
+    ),
+    (
+        (&[V, ("e", "1"), ("s1", "begin")], "s1"),
+        "e: not accepted\n",
+    ),
+    (
+        (&[V, E, ("s1", "begin"), ("s2", "end"), ("t", "x")], "--schedule t s1 s2"),
+        "s1 line 1: not ended\n",
+    ),
 ];
 
 #[test]
 fn sources_that_are_refused(rt: HostRuntime) -> Result<(), Fail> {
     let alloc = rt.alloc();
-    for (sources, said) in REFUSED {
-        let mut desk = desk_with(alloc, sources, &[])?;
-        let found = end_of(alloc, &mut desk, RUN)?;
-        assert_eq!(rt;
-            found.as_str(),
-            text_of_end(alloc, (1, said, 3, &[]))?.as_str()
-        );
+    for (run, said) in REFUSED {
+        let end = (1, said, run.0.len(), &[]);
+        let mut desk = desk_with(alloc, run.0, &[])?;
+        let found = end_of(alloc, &mut desk, run.1, end)?;
+        assert_eq!(rt; found.as_str(), text_of_end(alloc, end)?.as_str());
     }
     Ok(())
 }
 
 /// The name of the source that is not there, and how the run ends. All sources are read before one is
 /// refused, so vertices that aren't accepted are not named where the script is missing.
-const MISSING: [(&str, End); 3] = [
-    ("v", (4, "read failed v\n", 2, &[])),
-    ("e", (4, "read failed e\n", 2, &[])),
-    ("s1", (4, "read failed s1\n", 2, &[])),
+const MISSING: [(&str, End); 4] = [
+    ("v", (4, "read failed v\n", 3, &[])),
+    ("e", (4, "read failed e\n", 3, &[])),
+    ("s1", (4, "read failed s1\n", 3, &[])),
+    ("t", (4, "read failed t\n", 3, &[])),
 ];
 
 #[test]
 fn sources_that_are_not_there(rt: HostRuntime) -> Result<(), Fail> {
     let alloc = rt.alloc();
     for (missing, end) in MISSING {
-        let mut desk = MemoryDesk::new(alloc);
-        for name in ["v", "e", "s1"] {
+        let mut desk = desk_with(alloc, &[], &[])?;
+        for name in ["v", "e", "s1", "t"] {
             if name != missing {
                 desk.put(name, b"not accepted")?;
             }
         }
-        let found = end_of(alloc, &mut desk, RUN)?;
+        let found = end_of(alloc, &mut desk, "--schedule t s1", end)?;
         assert_eq!(rt; found.as_str(), text_of_end(alloc, end)?.as_str());
     }
     Ok(())

@@ -14,4 +14,6 @@ mod outputs_that_are_there;
 #[cfg(test)]
 mod setting;
 #[cfg(test)]
+mod several_scripts;
+#[cfg(test)]
 mod whole_runs;

@@ -3,7 +3,7 @@
 //! A desk makes an empty file in place of one that was there, so nothing of the older text stays.
 
 use crate::setting::{
-    EDGES, End, JOURNAL, RUN, SEARCH, SUMMARY, VERTICES, WHOLE, desk_with, end_of, text_of_end,
+    E, End, File, JOURNAL, SEARCH, SUMMARY, V, WHOLE, desk_with, end_of, text_of_end,
 };
 use std::test::Fail;
 
@@ -11,14 +11,14 @@ use std::test::Fail;
 const OLDER: &str =
     "an older file, longer than each of the texts that take its place, even than the journal\n";
 
-/// The root, the name of the older file, and how the run ends: where the root isn't a vertex there is
+/// The script, the name of the older file, and how the run ends: where the root isn't a vertex there is
 /// no result, and the older file stays.
-const RUNS: [(&str, &str, End); 4] = [
+const RUNS: [(File, &str, End); 4] = [
     (SEARCH, "j", WHOLE),
     (SEARCH, "s1.report", WHOLE),
     (SEARCH, "o", WHOLE),
     (
-        "begin\nbfs 9 o\ncommit\n",
+        ("s1", "begin\nbfs 9 o\ncommit\n"),
         "o",
         (
             0,
@@ -37,9 +37,9 @@ const RUNS: [(&str, &str, End); 4] = [
 fn an_output_that_is_there_is_replaced_whole(rt: HostRuntime) -> Result<(), Fail> {
     let alloc = rt.alloc();
     for (script, older, end) in RUNS {
-        let mut desk = desk_with(alloc, (VERTICES, EDGES, script), &[])?;
+        let mut desk = desk_with(alloc, &[V, E, script], &[])?;
         desk.put(older, OLDER.as_bytes())?;
-        let found = end_of(alloc, &mut desk, RUN)?;
+        let found = end_of(alloc, &mut desk, "s1", end)?;
         assert_eq!(rt;
             found.as_str(),
             text_of_end(alloc, end)?.as_str(),

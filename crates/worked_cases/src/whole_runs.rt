@@ -1,17 +1,23 @@
-//! Runs to the end, each with all that it writes.
+//! Runs of one script to the end, each with all that it writes.
 
 use crate::setting::{
-    EDGES, End, JOURNAL, PATH, RUN, SEARCH, SUMMARY, Sources, VERTICES, WHOLE, desk_with, end_of,
-    text_of_end,
+    E, End, File, JOURNAL, PATH, Run, SEARCH, SUMMARY, V, WHOLE, desk_with, end_of, text_of_end,
 };
 use std::test::Fail;
 
-/// Runs, by their sources, and how each ends.
-const RUNS: [(Sources, End); 4] = [
+/// The journal of the path with one more commit.
+const WITH_AN_EDGE: File = (
+    "j",
+    "commit 1 start 0 by 0.1\nvertex 1\nvertex 2\nvertex 3\nvertex 4\nedge 1 2 1\nedge 2 3 1\n\
+     commit 2 start 1 by 1.1\nedge 1 4 1\n",
+);
+
+/// Runs, and how each ends.
+const RUNS: [(Run, End); 9] = [
     (PATH, WHOLE),
     // a root that is no vertex: there is no result
     (
-        (VERTICES, EDGES, "begin\nbfs 9 o\ncommit\n"),
+        (&[V, E, ("s1", "begin\nbfs 9 o\ncommit\n")], "s1"),
         (
             0,
             SUMMARY,
@@ -24,7 +30,7 @@ const RUNS: [(Sources, End); 4] = [
     ),
     // nothing to load: the journal is there and empty
     (
-        ("", "", SEARCH),
+        (&[("v", ""), ("e", ""), SEARCH], "s1"),
         (
             0,
             "commits 0 vertices 0 edges 0 undo 0 retired 0\n",
@@ -38,9 +44,12 @@ const RUNS: [(Sources, End); 4] = [
     // an edge between the least id and the greatest
     (
         (
-            "0\n9223372036854775806\n",
-            "9223372036854775806 0\n",
-            "begin\nbfs 9223372036854775806 o\ncommit\n",
+            &[
+                ("v", "0\n9223372036854775806\n"),
+                ("e", "9223372036854775806 0\n"),
+                ("s1", "begin\nbfs 9223372036854775806 o\ncommit\n"),
+            ],
+            "s1",
         ),
         (
             0,
@@ -56,14 +65,122 @@ const RUNS: [(Sources, End); 4] = [
             ],
         ),
     ),
+    // a kernel sees the writes of its own transaction
+    (
+        (
+            &[V, E, ("s1", "begin\nedge 1 4\nbfs 1 o\ncommit\n")],
+            "s1",
+        ),
+        (
+            0,
+            "commits 2 vertices 4 edges 3 undo 0 retired 0\n",
+            6,
+            &[
+                WITH_AN_EDGE,
+                ("s1.report", "begin 1.1 start 1\nok\ntable 4\ncommit 2\n"),
+                ("o", "1 0\n2 1\n3 2\n4 1\n"),
+            ],
+        ),
+    ),
+    // nothing of an aborted transaction stays
+    (
+        (
+            &[
+                V,
+                E,
+                (
+                    "s1",
+                    "begin\nedge 1 4\nabort\nbegin\nweight 1 4\nweight 2 1\ncommit\n",
+                ),
+            ],
+            "s1",
+        ),
+        (
+            0,
+            SUMMARY,
+            5,
+            &[
+                JOURNAL,
+                (
+                    "s1.report",
+                    "begin 1.1 start 1\nok\naborted\nbegin 1.2 start 1\nnone\nweight 1\ncommit -\n",
+                ),
+            ],
+        ),
+    ),
+    // each refusal of a write, and a write behind them
+    (
+        (
+            &[
+                V,
+                E,
+                (
+                    "s1",
+                    "begin\nedge 1 1\nedge 2 1\nset 1 3 5\nedge 1 9\nvertex 4\nunvertex 2\ndrop 1 3\nedge 3 4 7\ncommit\n",
+                ),
+            ],
+            "s1",
+        ),
+        (
+            0,
+            "commits 2 vertices 4 edges 3 undo 0 retired 0\n",
+            5,
+            &[
+                (
+                    "j",
+                    "commit 1 start 0 by 0.1\nvertex 1\nvertex 2\nvertex 3\nvertex 4\nedge 1 2 1\nedge 2 3 1\n\
+                     commit 2 start 1 by 1.1\nedge 3 4 7\n",
+                ),
+                (
+                    "s1.report",
+                    "begin 1.1 start 1\nself loop\nexists\nno edge\nno vertex 9\nexists\nhas edges\nno edge\nok\ncommit 2\n",
+                ),
+            ],
+        ),
+    ),
+    // a vertex loses its edges, and goes
+    (
+        (
+            &[
+                V,
+                E,
+                (
+                    "s1",
+                    "begin\nneighbours 2\ndrop 2 1\ndrop 2 3\nneighbours 2\nunvertex 2\nneighbours 2\ncount\ncommit\n",
+                ),
+            ],
+            "s1",
+        ),
+        (
+            0,
+            "commits 2 vertices 3 edges 0 undo 0 retired 0\n",
+            5,
+            &[
+                (
+                    "j",
+                    "commit 1 start 0 by 0.1\nvertex 1\nvertex 2\nvertex 3\nvertex 4\nedge 1 2 1\nedge 2 3 1\n\
+                     commit 2 start 1 by 1.1\ndrop 2 1\ndrop 2 3\nunvertex 2\n",
+                ),
+                (
+                    "s1.report",
+                    "begin 1.1 start 1\nneighbours 2 1 3\nok\nok\nneighbours 0\nok\nno vertex 2\nvertices 3 edges 0\ncommit 2\n",
+                ),
+            ],
+        ),
+    ),
+    // a script that does nothing
+    (
+        (&[V, E, ("s1", "")], "s1"),
+        (0, SUMMARY, 5, &[JOURNAL, ("s1.report", "")]),
+    ),
 ];
 
 #[test]
 fn runs_end_with_all_that_they_write(rt: HostRuntime) -> Result<(), Fail> {
     let alloc = rt.alloc();
-    for (sources, end) in RUNS {
-        let mut desk = desk_with(alloc, sources, &[])?;
-        let found = end_of(alloc, &mut desk, RUN)?;
+    for (run, end) in RUNS {
+        let mut desk = desk_with(alloc, run.0, &[])?;
+        let found = end_of(alloc, &mut desk, run.1, end)?;
         assert_eq!(rt; found.as_str(), text_of_end(alloc, end)?.as_str());
     }
     Ok(())
