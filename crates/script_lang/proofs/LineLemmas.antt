@@ -37,6 +37,7 @@ passes before (first ∷ fields) command read = with_word (word_of first) read
     with_fault : (word : Word) (fault : Option ScriptWhat) → line_fault before word fields ≡ fault → unless fault (command_of word (with_values no_values (kinds_of word) fields)) ≡ Ok command → Passes before command
     with_fault word None none read = record { word = word; fields = fields; faultless = none; same = cc }
     with_fault word (Some what) some read = absurd (cc)
+
     with_word : (found : Option Word) → read_behind before found fields ≡ Ok command → Passes before command
     with_word None read = absurd (cc)
     with_word (Some word) read = with_fault word (line_fault before word fields) refl read

@@ -60,11 +60,7 @@ pub(crate) fn command_of(
 }
 
 /// Puts the name of a command's file, if it has one, at the end of those taken.
-pub(crate) fn take_file(
-    alloc: Global,
-    command: &Command,
-    taken: &mut Names,
-) -> Result<(), NoMemory>
+pub(crate) fn take_file(alloc: Global, command: &Command, taken: &mut Names) -> Result<(), NoMemory>
     ensures ok { OnOk result (taken.new ≡ taken.old ++ file_of (request command.now)) }
     ensures err { OnErr result (taken.new ≡ taken.old) }
 {
