@@ -1,9 +1,8 @@
 -- Texts that are cut into lines, and lines into fields.
-use Rattle.std.proofs.Common.{◌≡◌, ℕ, ◌+◌, ◌-◌, ◌<◌, ◌≤◌, Bool, true, false, not, cond, List, [], ◌∷◌, ◌++◌, length, take, drop, refl, sym, ap, ap₂, subst, ◌∙◌, arith, suc, ◌^◌, ◌==◌, ◌&&◌, ◌||◌, All, length-drop, Option, Some, None}
+use Rattle.std.proofs.Common.{◌≡◌, ℕ, ◌+◌, ◌<◌, ◌≤◌, Bool, true, false, not, cond, List, [], ◌∷◌, length, take, drop, refl, sym, ap, ap₂, ◌∙◌, arith, suc, ◌^◌, ◌==◌, ◌&&◌, ◌||◌, All, length-drop, Some, None}
 use Rattle.std.proofs.lemmas.List.Elements.{All-nil, All-cons}
 use Rattle.std.specs.List.{list_all, onto_first, slice_split, filter, position, position_or_len, before_first, after_first}
 use Rattle.std.proofs.lemmas.Bool.Decides.{nat_tests}
-use Rattle.std.proofs.lemmas.Grind.{common_steps}
 use borrow.Author.Tests.{eqb-true}
 use Rattle.graphalytics_io.specs.Fields.{is_line_feed, is_blank, is_some_part, lines_of, fields_of, without_return}
 use Rattle.graphalytics_io.specs.declared.lines.FieldLine.{FieldLine}

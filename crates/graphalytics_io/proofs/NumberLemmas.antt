@@ -1,6 +1,6 @@
 -- Fields that are numbers.
-use Rattle.std.proofs.Common.{◌≡◌, ℕ, ◌<◌, ◌≤◌, ◌+◌, ◌-◌, ◌*◌, ◌&&◌, ◌==◌, subst, take, Option, Some, None, Bool, true, false, nat_le, zero, suc, List, [], ◌∷◌, length, get_or, Result, Ok, Err, refl, ap, ◌∙◌, arith}
-use Rattle.std.specs.Char.{digit_value, IsNotAsciiDigit}
+use Rattle.std.proofs.Common.{◌≡◌, ℕ, ◌<◌, ◌≤◌, ◌+◌, ◌-◌, ◌*◌, ◌==◌, subst, take, Option, Some, None, true, false, nat_le, zero, suc, List, [], ◌∷◌, length, get_or, Ok, Err, refl, arith}
+use Rattle.std.specs.Char.{IsNotAsciiDigit}
 use Rattle.std.specs.List.{list_all}
 use Rattle.std.specs.Int.{IsInRange}
 use Rattle.std.specs.Str.Parse.{AllDigits}

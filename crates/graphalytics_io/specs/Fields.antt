@@ -1,5 +1,5 @@
 -- Texts that are cut into lines, and lines into fields, in the lenient form of LDBC Graphalytics.
-use Rattle.std.specs.Prelude.{ℕ, ◌+◌, ◌-◌, ◌==◌, ◌||◌, Bool, true, false, cond, List, [], ◌∷◌, length, take, slice_index}
+use Rattle.std.specs.Prelude.{ℕ, ◌-◌, ◌==◌, ◌||◌, Bool, true, false, cond, List, [], ◌∷◌, length, take, slice_index}
 use Rattle.std.specs.List.{onto_first, slice_split, filter}
 
 abbrev pub is_line_feed : ℕ → Bool

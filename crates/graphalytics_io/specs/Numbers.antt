@@ -1,5 +1,5 @@
 -- Fields that are numbers.
-use Rattle.std.specs.Prelude.{ℕ, Bool, true, false, cond, nat_le, nat_lt, ◌&&◌, List, [], ◌∷◌, Result, Ok, Err, Option, None, Some, SomeIff, ◌+◌, ◌*◌, ◌^◌, ◌<◌, ◌≤◌, ◌≡◌}
+use Rattle.std.specs.Prelude.{ℕ, Bool, false, cond, nat_le, ◌&&◌, List, [], ◌∷◌, Result, Ok, Err, Option, None, Some, SomeIff, ◌+◌, ◌*◌, ◌^◌, ◌<◌, ◌≤◌, ◌≡◌}
 use Rattle.std.specs.List.{list_all}
 use Rattle.std.specs.Str.Parse.{digits_value}
 use Rattle.graphalytics_io.specs.declared.number.NumberFault.{NumberFault}

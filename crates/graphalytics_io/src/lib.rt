@@ -1,4 +1,5 @@
-//! The files of LDBC Graphalytics, in the strict form: vertex and edge files are read, and result files written.
+//! The files of LDBC Graphalytics: vertex and edge files are read in the strict form, and result files written.
+//! Texts are cut into numbered lines of fields in the lenient form, which scripts and schedules are written in.
 //!
 //! 1. A text is read once, from left to right, and is lent: nothing of it is copied but what it spells.
 //! 2. What is accepted is defined apart from the loops that read it, and a text spells one list at most.
@@ -9,9 +10,9 @@
 mod duplicates;
 mod edges;
 mod field;
-mod line_fields;
 mod known;
 mod laws;
+mod line_fields;
 mod lines;
 mod load;
 mod number;
@@ -23,9 +24,9 @@ mod vertices;
 
 pub use edges::{Edge, Edges, one_list_of_edges, read_edges};
 pub use field::read_field;
-pub use line_fields::Fields;
 pub use graph_model::Ids;
 pub use laws::{files_are_loadable, load_is_its_graph, load_is_legal};
+pub use line_fields::Fields;
 pub use lines::{FieldLine, FieldLines, field_lines, fields, lines_have_fields};
 pub use load::load_writes;
 pub use number::{NumberFault, read_number};

@@ -1,4 +1,6 @@
-//! The fields of a line.
+//! The fields of a line, in the lenient form: blanks may stand at both ends of a line, and any count between fields.
+//!
+//! A field is lent from the line, so taking it copies nothing and needs no memory.
 
 ghost use Rattle.std.specs.Prelude.{◌≡◌, ◌≤◌, [], ◌∷◌, length, not, MatchOption};
 ghost use Rattle.std.specs.List.{position, position_or_len};
@@ -23,7 +25,7 @@ impl<'a> Model for Fields<'a> {
 
 impl<'a> Fields<'a> {
     /// The fields of a line.
-    pub fn of(line: &'a [u8]) -> Fields<'a>
+    pub(crate) fn of(line: &'a [u8]) -> Fields<'a>
         ensures { result ≡ fields_of line.now }
     {
         Fields { rest: line }
@@ -73,6 +75,7 @@ fn blanks_len(line: &[u8]) -> usize
     }
 }
 
+/// The place of the first byte that is no blank.
 fn first_non_blank(line: &[u8]) -> Option<usize>
     ensures { result ≡ position (λ byte. not (is_blank byte)) line.now }
 {
@@ -90,6 +93,7 @@ fn field_len(line: &[u8]) -> usize
     }
 }
 
+/// The place of the first blank.
 fn first_blank(line: &[u8]) -> Option<usize>
     ensures { result ≡ position is_blank line.now }
 {

@@ -1,8 +1,8 @@
-//! The lines of a text that have fields.
+//! The lines of a text that say something, in the lenient form.
 //!
-//! 1. Each line is counted, and those that say nothing are passed over.
-//! 2. The number of the line that was read last and the bytes that are left are no more than the text has, so the
-//!    numbers do not overflow.
+//! 1. Each line is counted, also those that are passed over: comments, and lines that have only blanks.
+//! 2. The number of the line that was read last and the bytes that are left are together at most the bytes of the
+//!    text, so numbers of lines do not overflow.
 
 ghost use Rattle.std.specs.Prelude.{◌≡◌, [], ◌∷◌, MatchOption};
 ghost use Rattle.std.specs.List.{position, before_first, after_first, list_all};
@@ -163,9 +163,9 @@ mod tests {
     fn said_lines(alloc: Global, text: &str) -> Result<Text, NoMemory> {
         let mut said = Text::new(alloc);
         let mut lines = field_lines(text.as_bytes());
-        while let Some(mut line) = lines.next() {
+        'lines: while let Some(mut line) = lines.next() {
             said.push_number(line.number)?;
-            while let Some(field) = line.fields.next() {
+            'fields: while let Some(field) = line.fields.next() {
                 said.push_bytes(b"(")?;
                 said.push_bytes(field)?;
                 said.push_bytes(b")")?;

@@ -1,4 +1,6 @@
-//! Fields that are numbers.
+//! Fields that are numbers: one or more ASCII digits, with any count of leading zeros.
+//!
+//! A value of `2 ^ 64` or more is kept as `None`, so no count of digits overflows.
 
 ghost use Rattle.std.specs.Prelude.{◌≡◌};
 ghost use Rattle.graphalytics_io.specs.Numbers.{number_within, WithDigit};

@@ -51,13 +51,15 @@ module _ (taken : List (List ℕ)) where
         → (earlier (earlier fault next) (fields_fault taken more rest) ≡ all) × (earlier fault next ≡ None → with_values now more rest ≡ last)
     field_read field begins next is value = (
       earlier_assoc fault next (fields_fault taken more rest) ∙ ap (λ found. earlier fault (earlier found (fields_fault taken more rest))) is
-      ∙ ap (earlier fault) (sym (ap₂ (fields_fault taken) split begins)) ∙ faults,
+          ∙ ap (earlier fault) (sym (ap₂ (fields_fault taken) split begins)) ∙ faults,
       λ none.
-      let both = neither fault next none in
-      ap (λ v. with_values v more rest) (value both.1) ∙ sym (ap₂ (with_values values) split begins) ∙ so_far both.0)
+          let both = neither fault next none in
+          ap (λ v. with_values v more rest) (value both.1) ∙ sym (ap₂ (with_values values) split begins) ∙ so_far both.0,
+    )
 
     -- no field is left for the kind
     pub field_missing : left ≡ [] → rest ≡ [] → (earlier fault (fields_fault taken more rest) ≡ all) × (fault ≡ None → with_values values more rest ≡ last)
     field_missing ends after = (
       ap (earlier fault) (ap (fields_fault taken more) after ∙ no_more_faults more ∙ sym (ap (fields_fault taken kinds) ends ∙ no_more_faults kinds)) ∙ faults,
-      λ none. ap (with_values values more) after ∙ no_more_values values more ∙ sym (ap (with_values values kinds) ends ∙ no_more_values values kinds) ∙ so_far none)
+      λ none. ap (with_values values more) after ∙ no_more_values values more ∙ sym (ap (with_values values kinds) ends ∙ no_more_values values kinds) ∙ so_far none,
+    )

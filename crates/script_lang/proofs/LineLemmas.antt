@@ -19,7 +19,7 @@ use Rattle.script_lang.specs.FieldFaults.{fault_of, is_name_byte, is_file_name, 
 use Rattle.script_lang.specs.Runnable.{IsFileName}
 use Rattle.script_lang.specs.Scripts.{Before, command_of, count_fault, place_fault, begins_fault, line_fault, read_behind, read_line, unless, began_behind, file_of}
 use Rattle.script_lang.specs.Values.{Values, no_values, with_value, with_values}
-use Rattle.script_lang.specs.Words.{word_of, kinds_of}
+use Rattle.script_lang.specs.Words.{needed, word_of, kinds_of}
 use Rattle.script_lang.proofs.FaultLemmas.{neither}
 use Rattle.script_lang.proofs.PlaceLemmas.{among_iff}
 
@@ -37,6 +37,7 @@ passes before (first ∷ fields) command read = with_word (word_of first) read
     with_fault : (word : Word) (fault : Option ScriptWhat) → line_fault before word fields ≡ fault → unless fault (command_of word (with_values no_values (kinds_of word) fields)) ≡ Ok command → Passes before command
     with_fault word None none read = record { word = word; fields = fields; faultless = none; same = cc }
     with_fault word (Some what) some read = absurd (cc)
+
     with_word : (found : Option Word) → read_behind before found fields ≡ Ok command → Passes before command
     with_word None read = absurd (cc)
     with_word (Some word) read = with_fault word (line_fault before word fields) refl read
@@ -59,6 +60,15 @@ number_fits limit above field none = with_test (is_number field) (nat_le (number
     with_test true true is none = grind (arith, nat_tests, is)
     with_test true false is none = absurd (cc)
     with_test false within is none = absurd (cc)
+
+-- a field that names a file
+abbrev pub is_file : FieldKind → Bool
+is_file Vertex = false
+is_file Target = false
+is_file Weight = false
+is_file OptionalWeight = false
+is_file Rounds = false
+is_file File = true
 
 module _ (taken : List (List ℕ)) where
   within_more : (values : Values) (kind : FieldKind) (field : List ℕ) → IsWithin values → field_fault taken kind field ≡ None → IsWithin (with_value values kind field)
@@ -97,14 +107,6 @@ module _ (taken : List (List ℕ)) where
         new = λ there. let wrong = (among_iff taken (byte ∷ file) false (sym among)).1 there in absurd (cc);
       }
       with_tests false name among other none = absurd (cc)
-
-  abbrev pub is_file : FieldKind → Bool
-  is_file Vertex = false
-  is_file Target = false
-  is_file Weight = false
-  is_file OptionalWeight = false
-  is_file Rounds = false
-  is_file File = true
 
   -- the file is a new name already, or is still to come
   abbrev IsNamed : Values → List FieldKind → Type 0
@@ -159,14 +161,24 @@ begins words.Begin begun values within none = with_test (nat_le MAX_BEGINS begun
     with_test false is none = grind (arith, nat_tests, is)
 begins word begun values within none = within
 
+-- a line that passes the check of its count has each field that has to be there
+enough : (kinds : List FieldKind) (count : ℕ) → count_fault kinds count ≡ None → needed kinds ≤ count
+enough kinds count counted = with_test (nat_lt count (needed kinds)) refl counted
+  where
+    with_test : (v : Bool) → nat_lt count (needed kinds) ≡ v → cond v (Some MissingField) (cond (nat_lt (length kinds) count) (Some ExtraField) None) ≡ None → needed kinds ≤ count
+    with_test true is none = absurd (cc)
+    with_test false is none = grind (arith, nat_tests, is)
+
+-- the file of fields that all have to be there
+asked : (taken : List (List ℕ)) (kinds : List FieldKind) (fields : List (List ℕ)) → list_any is_file kinds ≡ true → needed kinds ≡ length kinds
+    → count_fault kinds (length fields) ≡ None → fields_fault taken kinds fields ≡ None → All (IsNewName taken) ((with_values no_values kinds fields).file ∷ [])
+asked taken kinds fields file all counted none =
+    All-cons (IsNewName taken) _ [] (file_named taken no_values kinds fields (inr file) (subst (λ n. n ≤ length fields) all (enough kinds (length fields) counted)) none) (All-nil (IsNewName taken))
+
 -- the file of a line is a new name
 asks : (taken : List (List ℕ)) (word : Word) (fields : List (List ℕ)) → count_fault (kinds_of word) (length fields) ≡ None → fields_fault taken (kinds_of word) fields ≡ None
     → All (IsNewName taken) (file_of (request (command_of word (with_values no_values (kinds_of word) fields))))
-asks taken words.Bfs fields counted none = All-cons (IsNewName taken) _ [] (file_named taken no_values (Vertex ∷ File ∷ []) fields (inr refl) (with_test (nat_lt (length fields) 2) refl counted) none) (All-nil (IsNewName taken))
-  where
-    with_test : (v : Bool) → nat_lt (length fields) 2 ≡ v → cond v (Some MissingField) (cond (nat_lt 2 (length fields)) (Some ExtraField) None) ≡ None → 2 ≤ length fields
-    with_test true is none = absurd (cc)
-    with_test false is none = grind (arith, nat_tests, is)
+asks taken words.Bfs fields counted none = asked taken (kinds_of words.Bfs) fields refl refl counted none
 asks taken word fields counted none = All-nil (IsNewName taken)
 
 -- what holds of the command of a line

@@ -122,6 +122,7 @@ pop_place f g names name first change q =
   where
     whole : f name ≡ option_or (position (bytes_eq name) names) (Some (length names))
     whole = first name ∙ position_push (bytes_eq name) names name ∙ ap (option_or (position (bytes_eq name) names)) (cond-true (bytes_eq name name) _ _ (with_itself name))
+
     last : (found : Option ℕ) → position (bytes_eq name) names ≡ found → (all : Option ℕ) → all ≡ option_or found (Some (length names)) → cond (is_at (length names) all) None all ≡ found
     last None none all is = rw is (let here : (length names == length names) ≡ true = grind (arith, nat_tests) in rw here refl)
     last (Some i) some all is =

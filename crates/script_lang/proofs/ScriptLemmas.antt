@@ -83,6 +83,7 @@ can_run before (line ∷ lines) script few read = with_line (read_line before li
     with_rest : (command : Command) → IsAllowed before line.number command → (rest : Result (List Command) ScriptRefusal) → ((more : List Command) → rest ≡ Ok more → CanRun (behind before line.number command) more) → in_front command rest ≡ Ok script → CanRun before script
     with_rest command first (Ok more) runs read = let same : command ∷ more ≡ script = cc in subst (CanRun before) same (run_more before line.number command more first (runs more refl))
     with_rest command first (Err refusal) runs read = absurd (cc)
+
     with_line : (found : Result Command ScriptWhat) → read_line before line.fields ≡ found
         → ((command : Command) (more : List Command) → (behind before line.number command).begun ≤ MAX_BEGINS → read_lines (behind before line.number command) lines ≡ Ok more → CanRun (behind before line.number command) more)
         → then_lines line.number found (λ command. read_lines (behind before line.number command) lines) ≡ Ok script → CanRun before script

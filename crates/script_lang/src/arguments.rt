@@ -29,8 +29,13 @@ impl<'a> Model for Arguments<'a> {
 
     ghost Value = { Values };
 
-    ghost view = { λ arguments. record { vertex = arguments.vertex; target = arguments.target;
-        weight = arguments.weight; rounds = arguments.rounds; file = arguments.file.now } };
+    ghost view = { λ arguments. record {
+      vertex = arguments.vertex;
+      target = arguments.target;
+      weight = arguments.weight;
+      rounds = arguments.rounds;
+      file = arguments.file.now;
+    } };
 }
 
 /// Reads fields of these kinds. The first fault in the order of the checks counts, whichever field has it.
@@ -99,8 +104,11 @@ impl<'a> Arguments<'a> {
                 self.weight = number_up_to(field, MAX_WEIGHT, ScriptWhat::WeightTooLarge)?
             }
             FieldKind::Rounds => {
-                self.rounds =
-                    number_up_to(field, MAX_ROUNDS as u64, ScriptWhat::RoundsTooLarge)? as u32
+                self.rounds = number_up_to(
+                    field,
+                    MAX_ROUNDS as u64,
+                    ScriptWhat::RoundsTooLarge,
+                )? as u32
             }
             FieldKind::File => self.file = new_name(field, taken)?,
         }

@@ -20,51 +20,33 @@ pub(crate) fn command_of(
     ensures { IfOk result (λ command. command ≡ command_of word arguments.entry) }
 {
     let Arguments {
-        vertex,
-        target,
+        vertex: u,
+        target: v,
         weight,
-        rounds: _,
         file,
+        ..
     } = arguments;
     Ok(match word {
         Word::Begin => Command::Begin,
         Word::Commit => Command::Commit,
         Word::Abort => Command::Abort,
-        Word::Vertex => Command::AddVertex { v: vertex },
-        Word::Unvertex => Command::DropVertex { v: vertex },
-        Word::Edge => Command::AddEdge {
-            u: vertex,
-            v: target,
-            weight,
-        },
-        Word::Set => Command::SetEdge {
-            u: vertex,
-            v: target,
-            weight,
-        },
-        Word::Drop => Command::DropEdge {
-            u: vertex,
-            v: target,
-        },
-        Word::Weight => Command::Weight {
-            u: vertex,
-            v: target,
-        },
-        Word::Neighbours => Command::Neighbours { v: vertex },
+        Word::Vertex => Command::AddVertex { v: u },
+        Word::Unvertex => Command::DropVertex { v: u },
+        Word::Edge => Command::AddEdge { u, v, weight },
+        Word::Set => Command::SetEdge { u, v, weight },
+        Word::Drop => Command::DropEdge { u, v },
+        Word::Weight => Command::Weight { u, v },
+        Word::Neighbours => Command::Neighbours { v: u },
         Word::Count => Command::Count,
         Word::Bfs => Command::Bfs {
-            root: vertex,
+            root: u,
             file: copy_name(alloc, file)?,
         },
     })
 }
 
 /// Puts the name of a command's file, if it has one, at the end of those taken.
-pub(crate) fn take_file(
-    alloc: Global,
-    command: &Command,
-    taken: &mut Names,
-) -> Result<(), NoMemory>
+pub(crate) fn take_file(alloc: Global, command: &Command, taken: &mut Names) -> Result<(), NoMemory>
     ensures ok { OnOk result (taken.new ≡ taken.old ++ file_of (request command.now)) }
     ensures err { OnErr result (taken.new ≡ taken.old) }
 {

@@ -81,9 +81,7 @@ impl Names {
         ensures { self.new ≡ take len self.old }
     {
         'names: while len < self.names.len() {
-            let Some(name) = self.names.pop() else {
-                return
-            };
+            let Some(name) = self.names.pop() else { return };
             let place = self.names.len();
             remove_place(&mut self.places, name.as_slice(), place);
         }

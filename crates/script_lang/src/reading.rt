@@ -82,8 +82,10 @@ impl Reading {
     /// Notes what is known behind a line.
     fn follow(&mut self, number: u64, command: &Command)
         requires { next_txn self.old.begun (request command.now) < 2 ^ 32 }
-        ensures { self.new ≡ record self.old { began = began_behind self.old.began number (request command.now);
-            begun = next_txn self.old.begun (request command.now) } }
+        ensures { self.new ≡ record self.old {
+          began = began_behind self.old.began number (request command.now);
+          begun = next_txn self.old.begun (request command.now);
+        } }
     {
         match command {
             Command::Begin => {

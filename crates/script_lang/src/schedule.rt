@@ -14,11 +14,7 @@ use std::alloc::Global;
 pub type Schedule = Items<u32>;
 
 /// Reads a schedule for so many scripts.
-pub fn read_schedule(
-    alloc: Global,
-    text: &[u8],
-    jobs: u32,
-) -> Result<Schedule, ScheduleRefusal>
+pub fn read_schedule(alloc: Global, text: &[u8], jobs: u32) -> Result<Schedule, ScheduleRefusal>
     ensures ok { IfOk result (λ schedule. schedule_of jobs text.now ≡ Ok schedule) }
     ensures within { IfOk result (λ schedule. All (λ job. job ≤ jobs) schedule) }
     ensures fault { IfErr result (λ refusal. IsRefusedSchedule (schedule_of jobs text.now) refusal) }
@@ -51,5 +47,46 @@ fn read_entry(fields: Fields<'_>, jobs: u32) -> Result<u32, ScheduleWhat>
         Ok(job) => Ok(job as u32),
         Err(NumberFault::NotANumber) => Err(ScheduleWhat::NotANumber),
         Err(NumberFault::TooLarge) => Err(ScheduleWhat::NoSuchJob),
+    }
+}
+
+#[cfg(test)]
+mod tests {
+    use super::*;
+    use graphalytics_io::Text;
+    use std::test::Fail;
+
+    #[test]
+    fn a_schedule_is_read_or_its_first_fault_said(rt: HostRuntime) -> Result<(), Fail> {
+        for (text, want) in [
+            ("", ""),
+            ("0\n 2\t\r\n\n# 7\n0001", "0 2 1 "),
+            ("0\n3", "line 2: no such job"),
+            ("18446744073709551617\n", "line 1: no such job"),
+            ("\n1 x\n", "line 2: extra field"),
+            ("1\n-1\n", "line 2: not a number"),
+        ] {
+            let got = said_schedule(rt.alloc(), text)?;
+            assert_eq!(rt; got.as_slice(), want.as_bytes(), "of {text}");
+        }
+        Ok(())
+    }
+
+    /// The jobs of a schedule for two scripts, each with a blank behind it, or the refusal.
+    fn said_schedule(alloc: Global, text: &str) -> Result<Text, Fail> {
+        let mut said = Text::new(alloc);
+        match read_schedule(alloc, text.as_bytes(), 2) {
+            Ok(schedule) => {
+                for job in schedule.as_slice() {
+                    said.push_number(*job as u64)?;
+                    said.push_bytes(b" ")?;
+                }
+            }
+            Err(refusal) => {
+                let text = format!(in alloc; "{refusal}")?;
+                said.push_bytes(text.as_bytes())?;
+            }
+        }
+        Ok(said)
     }
 }

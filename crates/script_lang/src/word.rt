@@ -89,7 +89,11 @@ impl Word {
             Word::Abort => &[],
             Word::Vertex => &[FieldKind::Vertex],
             Word::Unvertex => &[FieldKind::Vertex],
-            Word::Edge => &[FieldKind::Vertex, FieldKind::Target, FieldKind::OptionalWeight],
+            Word::Edge => &[
+                FieldKind::Vertex,
+                FieldKind::Target,
+                FieldKind::OptionalWeight,
+            ],
             Word::Set => &[FieldKind::Vertex, FieldKind::Target, FieldKind::Weight],
             Word::Drop => &[FieldKind::Vertex, FieldKind::Target],
             Word::Weight => &[FieldKind::Vertex, FieldKind::Target],

@@ -1,5 +1,5 @@
 -- the bytes before this place are digits, and stand for the value
-use Rattle.std.proofs.Common.{◌≡◌, take}
+use Rattle.std.proofs.Common.{take}
 use Rattle.std.specs.Str.Parse.{AllDigits}
 use Rattle.graphalytics_io.specs.Numbers.{HasValue}
 use Rattle.graphalytics_io.proofs.number.read_number.Given as goal

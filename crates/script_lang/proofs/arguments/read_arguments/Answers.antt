@@ -10,10 +10,10 @@ kinds-preserved c =
     elim c.match-next.branch [
       | in-Some w ↦
           let step = field_read c.args.taken.now c.kinds.fault _ c.kinds.arguments w.read.new.self _ _ _ c.kinds.left c.next.new.self _ split c.kinds.invariant.fault c.kinds.invariant.values
-              w.in-Some.field.now w.in-Some.ensures w.read.result w.read.ensures.fault w.read.ensures.value in
+          w.in-Some.field.now w.in-Some.ensures w.read.result w.read.ensures.fault w.read.ensures.value in
           rw (w.fault-is, w.arguments-is, w.earlier-fault.ensures) (record { fault = step.0; values = step.1 })
       | in_default w ↦
           let step = field_missing c.args.taken.now c.kinds.fault _ c.kinds.arguments c.kinds.arguments _ _ _ c.kinds.left c.next.new.self _ split c.kinds.invariant.fault c.kinds.invariant.values
-              w.in_default.ensures.0 w.in_default.ensures.1 in
+          w.in_default.ensures.0 w.in_default.ensures.1 in
           rw (w.fault-is, w.arguments-is) (record { fault = step.0; values = step.1 })
     ]

@@ -1,4 +1,4 @@
-use Rattle.std.proofs.Common.{refl, sym, ◌∙◌}
+use Rattle.std.proofs.Common.{sym, ◌∙◌}
 use Rattle.graphalytics_io.proofs.FieldsLemmas.{has_field, has_no_field}
 use Rattle.graphalytics_io.proofs.line_fields.Fields.next.Goals as goal
 

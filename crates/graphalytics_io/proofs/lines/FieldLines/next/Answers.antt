@@ -1,4 +1,4 @@
-use Rattle.std.proofs.Common.{◌<◌, length, arith, sym, ap, subst, ◌∙◌}
+use Rattle.std.proofs.Common.{◌<◌, length, arith, sym, ◌∙◌}
 use Rattle.graphalytics_io.proofs.FieldsLemmas.{line_found, line_skipped, rest_fits}
 use Rattle.graphalytics_io.proofs.lines.FieldLines.next.Goals as goal
 

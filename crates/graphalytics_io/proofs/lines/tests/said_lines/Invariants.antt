@@ -1,0 +1,9 @@
+-- each turn takes a line or a field
+use Rattle.std.proofs.Common.{length}
+use Rattle.graphalytics_io.proofs.lines.tests.said_lines.Given as goal
+
+abbrev pub decreases-lines : goal.decreases-lines
+decreases-lines l = length l.lines
+
+abbrev pub decreases-fields : goal.decreases-fields
+decreases-fields l = length l.line.fields
