@@ -4,3 +4,11 @@ pub mod LineLemmas
 pub mod CountLemmas
 pub mod ViewLemmas
 pub mod JobLemmas
+pub mod SeatLemmas
+pub mod FileLemmas
+pub mod TieLemmas
+pub mod KeepLemmas
+pub mod StepLemmas
+pub mod TookLemmas
+pub mod RunLemmas
+pub mod RotationLemmas

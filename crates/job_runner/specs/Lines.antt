@@ -94,17 +94,24 @@ made_behind made (ToWrite w) answer = cond (effect answer).writes (last_with mad
 made_behind made (ToRead query) answer = made
 made_behind made (ToRun kernel file) answer = made
 
--- the core behind a line that has this result. What the pass has met and whether it was full isn't told
-abbrev pub core_behind : Core → Request → LineResult → List Sighting → Bool → Core
-core_behind old r result sighted filled = record (with_current old (record {
-  made = made_behind (current old).made r result.answer;
+-- the pass behind a line that has this result. What it has met and whether it was full isn't told
+abbrev pub pass_behind : PassState → Request → LineResult → List Sighting → Bool → PassState
+pass_behind old r result sighted filled = record {
+  made = made_behind old.made r result.answer;
   sighted = sighted;
   start = result.start;
   own = result.own;
   filled = filled;
-  begun = next_txn (current old).begun r;
-  allowed = (current old).allowed;
-})) { journal = old.journal ++ result.commits }
+  begun = next_txn old.begun r;
+  allowed = old.allowed;
+}
+
+-- the core behind the line
+abbrev pub core_behind : Core → Request → LineResult → List Sighting → Bool → Core
+core_behind old r result sighted filled =
+    record (with_current old (pass_behind (current old) r result sighted filled)) {
+      journal = old.journal ++ result.commits;
+    }
 
 -- a table in its file
 abbrev pub file_of : NamedTable → File
@@ -152,7 +159,8 @@ pub record MayTake (core : Core) (phase : Phase) (scan : Option Scan) (r : Reque
   pub scans : IfSome scan (IsScan (view_here core) r)
 
 -- a turn of a scan changes nothing but the scan
-pub record ScansHere (old : Core) (phase : Phase) (before : Option Scan) (r : Request) (next : Scan) (new : Core) : Type 0 where
+pub record ScansHere (old : Core) (phase : Phase) (before : Option Scan) (r : Request) (next : Scan) (new : Core)
+    : Type 0 where
   pub is_open : phase ≡ Open
   pub more : goes_on_here old false (taken_of before) r ≡ true
   pub taken : taken_of (Some next) ≡ taken_of before + 1
@@ -167,7 +175,8 @@ pub record Advances (old : Core) (before : Option Scan) (r : Request) (next : Sc
       → IsWhole (view_here old) r next × (goes_on_here old false (taken_of before) r ≡ false)
 
 -- the last turn of a line answers it
-pub record AnswersHere (old : Core) (phase : Phase) (scan : Option Scan) (r : Request) (given : LineAnswer) (new : Core) : Type 0 where
+pub record AnswersHere (old : Core) (phase : Phase) (scan : Option Scan) (r : Request) (given : LineAnswer) (new : Core)
+    : Type 0 where
   pub last : goes_on_here old (is_skipping phase) (taken_of scan) r ≡ false
   pub does : DoesLine old (is_skipping phase) r given new
 

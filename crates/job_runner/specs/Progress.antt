@@ -79,8 +79,7 @@ pub record IsReady (core : Core) (job : Progress) : Type 0 where
   pub selected : core.selected < length core.passes
   pub valid : IsValid (account_here core)
   pub phase_is : IsPhase job.phase (current core).start
-  -- the pass has begun the transactions of the lines that are answered, and may begin those of the others
-  pub begun : (current core).begun ≡ begun_by 0 (take (length job.answers) job.commands)
+  -- the pass may begin the transactions of the lines that are left
   pub room : begun_by (current core).begun (left_of job) ≤ (current core).allowed
   pub script : IsScript (Some (is_inside job.phase)) (left_of job)
   pub offered : AreOffered (left_of job)

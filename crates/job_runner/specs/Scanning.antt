@@ -1,6 +1,7 @@
 -- Scans under way: the rows that a line has scanned, and what is kept of them.
 use Rattle.std.specs.Prelude.{◌≡◌, ℕ, ◌+◌, ◌-◌, ◌*◌, ◌/◌, ◌^◌, ◌<◌, ◌≤◌, ◌==◌, Bool, true, false, List, [], ◌++◌, length, map, count_by, Option, Some, None}
 use Rattle.graph_model.specs.declared.limits.TheConstants.{SCAN_ROWS}
+use Rattle.graph_model.specs.declared.row.Key.{Key}
 use Rattle.graph_model.specs.declared.row.Row.{Row}
 use Rattle.graph_model.specs.declared.write.Kind.{Kind}
 use Rattle.graph_model.specs.declared.write.Kind.TheVariants.{Directed, Undirected}
@@ -77,6 +78,14 @@ rows_of_line g (ToRun kernel file) = all_rows g
 abbrev pub taken_of : Option Scan → ℕ
 taken_of None = 0
 taken_of (Some scan) = scan.rows / SCAN_ROWS
+
+-- a scan of a range that was given no row yet
+abbrev pub fresh_scan : Key → Key → ScanResult → Scan
+fresh_scan next until kept = record {
+  cursor = record { next = next; until = until; done = false };
+  rows = 0;
+  result = kept;
+}
 
 -- A scan under way. The rows that it was given and those that are left are the line's, and what it has kept
 -- is that of the rows that it was given

@@ -39,7 +39,14 @@ impl Model for Job {
 
     ghost Value = { Progress };
 
-    ghost view = { λ j. record { number = j.number; commands = j.script; answers = j.answers.items; tables = j.tables.items; phase = j.phase; scan = j.scan } };
+    ghost view = { λ j. record {
+      number = j.number;
+      commands = j.script;
+      answers = j.answers.items;
+      tables = j.tables.items;
+      phase = j.phase;
+      scan = j.scan;
+    } };
 }
 
 impl Job {
@@ -109,8 +116,10 @@ impl Job {
     fn take_turn<E: StepEngine>(&mut self, engine: &mut E) -> Result<(), NoMemory>
         requires going { is_over self.old ≡ false }
         requires ready { IsReady (E.core engine.old) self.old }
-        ensures ok { OnOk result ((c : Command) (rest : List Command) → left_of self.old ≡ c ∷ rest → TakesTurn (E.core engine.old) self.old c self.new (E.core engine.new)) }
-        ensures err { OnErr result ((E.core engine.new ≡ E.core engine.old) × (self.new ≡ record self.old { scan = None })) }
+        ensures ok { OnOk result ((c : Command) (rest : List Command) → left_of self.old ≡ c ∷ rest
+            → TakesTurn (E.core engine.old) self.old c self.new (E.core engine.new)) }
+        ensures err { OnErr result ((E.core engine.new ≡ E.core engine.old)
+            × (self.new ≡ record self.old { scan = None })) }
     {
         let scan = self.scan.take();
         self.answers.reserve(1)?;

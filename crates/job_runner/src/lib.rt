@@ -1,17 +1,23 @@
-//! Scripts under way, one turn after the other.
+//! Scripts under way, one turn after the other, on an engine of one owner.
+//!
+//! 1. What a turn does to jobs and engine is a turn of the run as `run_model` defines it.
+//! 2. A job and its pass fit each other behind each turn: a transaction is open in both or in neither, and the
+//!    pass has made what the answered lines wrote.
+//! 3. Where memory is wanted, no transaction stays open.
 #![tactic(auto)]
 
 mod answering;
 mod job;
+mod jobs;
 mod line;
 mod phase;
+mod run;
 mod scan;
 mod table;
 mod turn;
 
-pub use answering::{LineAnswer, LineTurn};
 pub use job::Job;
-pub use phase::Phase;
-pub use scan::{Scan, ScanResult};
-pub use table::{Kernel, NamedTable, Tables};
+pub use jobs::Jobs;
+pub use run::run_stepped;
+pub use table::NamedTable;
 pub use turn::Turn;

@@ -7,7 +7,7 @@
 
 ghost use Rattle.std.specs.Prelude.{◌≡◌, ◌<◌, ◌≤◌, false, Some, None, length, IsSome, IfSome, IfOk, OnErr, List};
 ghost use Rattle.graph_model.specs.declared.limits.TheConstants.{MAX_ID};
-ghost use Rattle.graph_model.specs.OwnerCalls.{current, WritesHere};
+ghost use Rattle.graph_model.specs.OwnerCalls.{current, with_current, ended_pass, WritesHere};
 ghost use Rattle.graph_model.specs.Graph.{Graph};
 ghost use Rattle.graph_model.specs.Refused.{IsWithinLimits};
 ghost use Rattle.graph_model.specs.Rows.{AreRowsOf};
@@ -16,7 +16,7 @@ ghost use Rattle.run_model.specs.Requests.{Request, request, ToBegin, ToCommit, 
 ghost use Rattle.run_model.specs.Jobs.{skips};
 ghost use Rattle.job_runner.specs.Kernels.{kernel_of, IsOfferedKernel};
 ghost use Rattle.job_runner.specs.Scanning.{IsScan};
-ghost use Rattle.job_runner.specs.Lines.{phase_behind, view_here, Advances, AnswersKernel, DoesLine, MayTake, TakesHere, Finishes};
+ghost use Rattle.job_runner.specs.Lines.{phase_behind, plain, view_here, Advances, AnswersKernel, DoesLine, MayTake, TakesHere, Finishes};
 
 use crate::answering::{LineAnswer, LineTurn};
 use crate::phase::Phase;
@@ -35,7 +35,8 @@ pub fn take_line<E: StepEngine>(
     scan: Option<Scan>,
 ) -> Result<LineTurn, NoMemory>
     requires { MayTake (E.core engine.old) phase scan (request command.now) }
-    ensures takes { IfOk result (λ turn. TakesHere (E.core engine.old) phase scan (request command.now) turn (E.core engine.new)) }
+    ensures takes { IfOk result (λ turn.
+        TakesHere (E.core engine.old) phase scan (request command.now) turn (E.core engine.new)) }
     ensures err { OnErr result (E.core engine.new ≡ E.core engine.old) }
 {
     if let Phase::Skipping = phase {
@@ -164,17 +165,21 @@ fn finish<E: StepEngine>(engine: &mut E, wrote: Result<(), Refusal>) -> Result<L
         Err(Refusal::EdgeExists) => Answer::Exists,
         Err(Refusal::NoEdge) => Answer::NoEdge,
         Err(Refusal::HasEdges) => Answer::HasEdges,
-        Err(Refusal::Conflict { cause }) => {
-            engine.abort();
-            return Ok(LineAnswer::plain(Answer::Conflict { cause }, Phase::Skipping));
-        }
-        Err(Refusal::Full { leaves: _ }) => {
-            engine.abort();
-            return Ok(LineAnswer::plain(Answer::Full, Phase::Skipping));
-        }
+        Err(Refusal::Conflict { cause }) => return Ok(stop(engine, Answer::Conflict { cause })),
+        Err(Refusal::Full { leaves: _ }) => return Ok(stop(engine, Answer::Full)),
         Err(Refusal::NoMemory) => return Err(NoMemory),
     };
     Ok(LineAnswer::plain(answer, Phase::Open))
+}
+
+/// Takes the transaction back, whose other lines are skipped.
+fn stop<E: StepEngine>(engine: &mut E, answer: Answer) -> LineAnswer
+    requires { IsSome (current (E.core engine.old)).start }
+    ensures answer { result ≡ plain answer Phase.Skipping }
+    ensures core { E.core engine.new ≡ with_current (E.core engine.old) (ended_pass (E.core engine.old)) }
+{
+    engine.abort();
+    LineAnswer::plain(answer, Phase::Skipping)
 }
 
 /// Reads a weight.
@@ -194,7 +199,7 @@ fn weight<E: StepEngine>(engine: &mut E, u: u64, v: u64) -> LineAnswer
 
 /// Skips a line behind a stop, up to the end of its transaction.
 fn skip(command: &Command) -> LineAnswer
-    ensures { result ≡ record { answer = answers.Skipped; phase = phase_behind (skips (request command.now)); table = None } }
+    ensures { result ≡ plain answers.Skipped (phase_behind (skips (request command.now))) }
 {
     let phase = match command {
         Command::Commit => Phase::Between,
@@ -211,7 +216,8 @@ fn advance<E: StepEngine>(
     fresh: Scan,
 ) -> Result<Scan, NoMemory>
     requires current { IsSome (current (E.core engine.old)).start }
-    requires scans { (r : Request) × IfSome before (IsScan (view_here (E.core engine.old)) r) × IsScan (view_here (E.core engine.old)) r fresh }
+    requires scans { (r : Request) × IfSome before (IsScan (view_here (E.core engine.old)) r)
+        × IsScan (view_here (E.core engine.old)) r fresh }
     requires empty { fresh.rows ≡ 0 }
     ensures advances { IfOk result (λ next. (r : Request) → IfSome before (IsScan (view_here (E.core engine.old)) r)
         → IsScan (view_here (E.core engine.old)) r fresh → Advances (E.core engine.old) before r next) }
@@ -230,7 +236,8 @@ fn neighbours<E: StepEngine>(
     before: Option<Scan>,
 ) -> Result<LineTurn, NoMemory>
     requires { MayTake (E.core engine.old) Phase.Open before (ToRead (NeighboursOf v)) }
-    ensures takes { IfOk result (λ turn. TakesHere (E.core engine.old) Phase.Open before (ToRead (NeighboursOf v)) turn (E.core engine.new)) }
+    ensures takes { IfOk result (λ turn.
+        TakesHere (E.core engine.old) Phase.Open before (ToRead (NeighboursOf v)) turn (E.core engine.new)) }
     ensures err { OnErr result (E.core engine.new ≡ E.core engine.old) }
 {
     let scan = advance(engine, before, Scan::of_arcs(alloc, v))?;
@@ -252,7 +259,8 @@ fn neighbours<E: StepEngine>(
 /// Scans all rows, and counts them.
 fn count<E: StepEngine>(engine: &mut E, before: Option<Scan>) -> Result<LineTurn, NoMemory>
     requires { MayTake (E.core engine.old) Phase.Open before (ToRead Counts) }
-    ensures takes { IfOk result (λ turn. TakesHere (E.core engine.old) Phase.Open before (ToRead Counts) turn (E.core engine.new)) }
+    ensures takes { IfOk result (λ turn.
+        TakesHere (E.core engine.old) Phase.Open before (ToRead Counts) turn (E.core engine.new)) }
     ensures err { OnErr result (E.core engine.new ≡ E.core engine.old) }
 {
     let scan = advance(engine, before, Scan::of_counts())?;
@@ -274,7 +282,8 @@ fn run_kernel<E: StepEngine>(
     before: Option<Scan>,
 ) -> Result<LineTurn, NoMemory>
     requires { MayTake (E.core engine.old) Phase.Open before (ToRun (kernel_of kernel) file.now) }
-    ensures takes { IfOk result (λ turn. TakesHere (E.core engine.old) Phase.Open before (ToRun (kernel_of kernel) file.now) turn (E.core engine.new)) }
+    ensures takes { let r = ToRun (kernel_of kernel) file.now in
+        IfOk result (λ turn. TakesHere (E.core engine.old) Phase.Open before r turn (E.core engine.new)) }
     ensures err { OnErr result (E.core engine.new ≡ E.core engine.old) }
 {
     let scan = advance(engine, before, Scan::of_rows(alloc))?;
@@ -296,7 +305,8 @@ fn answer_kernel(
 ) -> Result<LineAnswer, NoMemory>
     requires rows { (g : Graph) × AreRowsOf rows.now g }
     requires offered { IsOfferedKernel (kernel_of kernel) }
-    ensures { IfOk result (λ given. (g : Graph) → AreRowsOf rows.now g → AnswersKernel kind g (kernel_of kernel) file.now given) }
+    ensures { IfOk result (λ given. (g : Graph) → AreRowsOf rows.now g
+        → AnswersKernel kind g (kernel_of kernel) file.now given) }
 {
     match kernel_table(alloc, kind, kernel, rows) {
         Ok(table) => {

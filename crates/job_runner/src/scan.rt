@@ -11,7 +11,7 @@ ghost use Rattle.graph_model.specs.declared.limits.TheConstants.{MAX_ID};
 ghost use Rattle.graph_model.specs.Graph.{Graph};
 ghost use Rattle.graph_model.specs.OwnerCalls.{current};
 ghost use Rattle.run_model.specs.Requests.{Kernel, Request, NeighboursOf, Counts, ToRead, ToRun};
-ghost use Rattle.job_runner.specs.Scanning.{is_vertex, target_of, with_rows, vertices_in, counted, IsScan, ScansOn};
+ghost use Rattle.job_runner.specs.Scanning.{is_vertex, target_of, with_rows, vertices_in, counted, fresh_scan, IsScan, ScansOn};
 ghost use Rattle.job_runner.specs.Lines.{view_here};
 
 use graph_model::{Cursor, Ids, Key, Kind, NoMemory, Row, Rows64, StepEngine};
@@ -118,7 +118,7 @@ impl Scan {
 
     /// A scan that has given nothing yet.
     fn begin(next: Key, until: Key, kept: ScanResult) -> Scan
-        ensures { result ≡ record { cursor = record { next = next; until = until; done = false }; rows = 0; result = kept } }
+        ensures { result ≡ fresh_scan next until kept }
     {
         Scan {
             cursor: Cursor {
@@ -136,7 +136,8 @@ impl Scan {
         requires current { IsSome (current (E.core engine.old)).start }
         requires going { self.old.cursor.done ≡ false }
         requires bounded { vertices_in self.old.result ≤ self.old.rows }
-        ensures ok { OnOk result ((r : Request) → IsScan (view_here (E.core engine.old)) r self.old → ScansOn (view_here (E.core engine.old)) r self.old self.new) }
+        ensures ok { OnOk result ((r : Request) → IsScan (view_here (E.core engine.old)) r self.old
+            → ScansOn (view_here (E.core engine.old)) r self.old self.new) }
         ensures core { E.core engine.new ≡ E.core engine.old }
     {
         let mut rows = Rows64::new();
@@ -177,7 +178,8 @@ impl Scan {
     pub fn into_counts(self, kind: Kind) -> Answer
         requires counts { (count : ℕ) × (self.result ≡ ScanResult.Vertices count) }
         requires bounded { vertices_in self.result ≤ self.rows }
-        ensures { (count : ℕ) → self.result ≡ ScanResult.Vertices count → result ≡ counted kind count (self.rows - count) }
+        ensures { (count : ℕ) → self.result ≡ ScanResult.Vertices count
+            → result ≡ counted kind count (self.rows - count) }
     {
         let vertices = match self.result {
             ScanResult::Targets { ids: _ids } => unreachable!(),

@@ -56,7 +56,8 @@ pub fn kernel_table(
     requires rows { (g : Graph) × AreRowsOf rows.now g }
     requires offered { IsOfferedKernel (kernel_of kernel) }
     ensures table { IfOk result (λ table. (g : Graph) → AreRowsOf rows.now g
-        → (kernel_answer g (kernel_of kernel) ≡ answers.Table (length table)) × IsKernelTable kind g (kernel_of kernel) table) }
+        → (kernel_answer g (kernel_of kernel) ≡ answers.Table (length table))
+        × IsKernelTable kind g (kernel_of kernel) table) }
     ensures no_root { result ≡ Err KernelRefusal.NoRoot → (g : Graph) → AreRowsOf rows.now g
         → kernel_answer g (kernel_of kernel) ≡ answers.NoVertex (root_of kernel) }
 {

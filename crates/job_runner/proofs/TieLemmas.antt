@@ -1,0 +1,298 @@
+-- A job and its pass: what a turn may rely on, and what it leaves.
+use Rattle.std.proofs.Common.{◌≡◌, ℕ, zero, suc, ◌+◌, ◌-◌, ◌*◌, ◌<◌, ◌≤◌, List, [], ◌∷◌, ◌++◌, length, drop, refl, sym, ◌∙◌, ap, subst, arith, cond, inl, inr, length-append, append_assoc}
+use Rattle.std.specs.Prelude.{◌⊎◌, Bool, true, false, ◌||◌, ◌&&◌, map, Option, Some, None, IfSome, IfNone, IsSome, is_some, unwrap_or, slice_get, slice_set}
+use Rattle.std.specs.List.{flat_map, filter_map, cons_option}
+use Rattle.std.specs.Option.{option_map}
+use Rattle.std.proofs.lemmas.List.{append-nil}
+use Rattle.std.proofs.lemmas.List.Elements.{filter_map-append}
+use Rattle.std.proofs.lemmas.Grind.{flat_map-append}
+use Rattle.std.proofs.lemmas.Option.{slice_get_within}
+use Rattle.graph_model.specs.declared.write.Write.{Write}
+use Rattle.graph_model.specs.declared.write.Kind.{Kind}
+use Rattle.graph_model.specs.declared.journal.Commit.{Commit}
+use Rattle.graph_model.specs.declared.journal.TxnName.{TxnName}
+use Rattle.graph_model.specs.Conflict.{OpenTxn}
+use Rattle.graph_model.specs.declared.refusal.Refusal.{Refusal}
+use Rattle.graph_model.specs.declared.refusal.Refusal.TheVariants as refusals
+use Rattle.graph_model.specs.declared.refusal.Cause.{Cause}
+use Rattle.graph_model.specs.Account.{IsOpenTxn, IsValid}
+use Rattle.graph_model.specs.AccountSteps.{last_with}
+use Rattle.graph_model.specs.History.{view, graph_at}
+use Rattle.graph_model.specs.Inserted.{inserts}
+use Rattle.graph_model.specs.Legal.{IsLegal}
+use Rattle.graph_model.specs.Refused.{AllAllowed}
+use Rattle.graph_model.specs.OwnerCalls.{PassState, Core, no_pass, pass_at, current, with_current, account_here}
+use Rattle.run_model.specs.declared.command.Command.{Command}
+use Rattle.run_model.specs.declared.answer.Answer.{Answer}
+use Rattle.run_model.specs.declared.answer.Answer.TheVariants as answers
+use Rattle.run_model.specs.Requests.{Request, ToBegin, ToCommit, ToAbort, ToWrite, ToRead, ToRun, request, next_txn, write_of, open_behind, begun_by, IsScript}
+use Rattle.run_model.specs.AnsweredLines.{AnsweredLine, effect, made_by, answered_lines}
+use Rattle.run_model.specs.Answering.{refusal_answer}
+use Rattle.run_model.specs.Inputs.{Inputs}
+use Rattle.run_model.specs.Run.{txn_name}
+use Rattle.run_model.specs.Jobs.{JobState, RunState, LineResult, skips, stops, writes_more, write_result, commit_result, live_result, line_result}
+use Rattle.run_model.specs.Stepped.{context_in}
+use Rattle.run_model.specs.UnderWay.{IsJob, is_within, IsUnderWay}
+use Rattle.run_model.proofs.OpenLemmas.{open_here}
+use Rattle.job_runner.specs.declared.phase.Phase.{Phase}
+use Rattle.job_runner.specs.declared.phase.Phase.TheVariants.{Between, Open, Skipping, GivenUp}
+use Rattle.job_runner.specs.Lines.{is_skipping, is_inside, IsPhase, phase_at, phase_behind, made_behind}
+use Rattle.job_runner.specs.Progress.{Progress, left_of, IsReady, job_at, state_of}
+use Rattle.job_runner.specs.Runs.{writes_of_pass, AreTied, AreUnderWay}
+use Rattle.job_runner.proofs.CoreLemmas.{some_of}
+use Rattle.job_runner.proofs.JobLemmas.{begun_rises}
+use Rattle.job_runner.proofs.SeatLemmas.{AreClosed, seat_there}
+
+-- ---- phases
+
+-- the script is within a transaction where the phase says so
+pub inside_is : (phase : Phase) (start : Option ℕ) → IsPhase phase start → (is_skipping phase || is_some start) ≡ is_inside phase
+inside_is Between start is = ap is_some is
+inside_is Open start is = is
+inside_is Skipping start is = refl
+inside_is GivenUp start is = absurd is
+
+-- the phase behind a line is that of its result
+pub phase_fits : (result : LineResult) → (result.skipping ≡ true → result.start ≡ None) → IsPhase (phase_behind result) result.start
+phase_fits result closed = by_skipping result.skipping result.start closed
+  where
+    by_skipping : (b : Bool) (s : Option ℕ) → (b ≡ true → s ≡ None) → IsPhase (cond b Skipping (phase_at s)) s
+    by_skipping true s closed = closed refl
+    by_skipping false None closed = refl
+    by_skipping false (Some start) closed = refl
+
+-- ---- what a turn may rely on
+
+idle_if : (own : List Write) (start : Option ℕ) → (start ≡ None → own ≡ []) → IfNone start (own ≡ [])
+idle_if own None idle = idle refl
+idle_if own (Some start) idle = tt
+
+module _ (inputs : Inputs) (core : Core) (jobs : List Progress) (u : AreUnderWay inputs core jobs) where
+  pub closed_passes : AreClosed core (length jobs)
+  closed_passes = record { service = u.closed; others = λ i le. (u.unused i le).closed }
+
+  module _ (k : ℕ) (job : Progress) (there : slice_get jobs k ≡ Some job) where
+    -- the engine with the job's pass selected
+    abbrev pub chosen : Core
+    chosen = record core { selected = suc k }
+
+    abbrev pub pass : PassState
+    pass = pass_at core (suc k)
+
+    pub inside : suc k < length core.passes
+    inside = omega (arith, slice_get_within jobs k job there, u.passes)
+
+    tied : AreTied core pass k job
+    tied = u.each k job there
+
+    pub seat : slice_get (state_of core jobs).jobs k ≡ Some (job_at pass job)
+    seat = seat_there chosen jobs (record { service = u.closed; others = λ i le. (u.unused i le).closed }) k job there refl inside
+
+    pub its : IsJob (context_in inputs.kind inputs.load (state_of core jobs) k) (job_at pass job)
+    its = u.state.each k (job_at pass job) seat
+
+    -- the open transaction is one of the account's
+    pub is_open : (start : ℕ) → pass.start ≡ Some start → IsOpenTxn (account_here chosen) start
+    unfolding tied
+    is_open start e =
+        let run = u.state.transactions.each (txn_name (k + 1) pass.begun) (record { start = start; writes = pass.own })
+        (open_here (state_of core jobs).jobs k (job_at pass job) seat ∙ ap (λ s. option_map (λ start. record { start = start; writes = pass.own }) s) e) in
+        record {
+          seen = run.started;
+          allowed = subst (λ kind. AllAllowed kind (graph_at kind core.journal start) pass.own) (sym u.kind) run.allowed;
+          within = run.within;
+          last = tied.last (ap is_some e);
+        }
+
+    valid : IsValid (account_here chosen)
+    unfolding tied its
+    valid = record {
+      legal = subst (λ kind. IsLegal kind core.journal) (sym u.kind) u.state.transactions.legal;
+      current = by_start pass.start refl;
+      idle = idle_if pass.own pass.start its.idle;
+      counted = tied.counted;
+      room = omega (arith, begun_rises pass.begun (left_of job), tied.room);
+    }
+      where
+        by_start : (s : Option ℕ) → pass.start ≡ s → IfSome s (IsOpenTxn (account_here chosen))
+        by_start None e = tt
+        by_start (Some start) e = is_open start e
+
+    pub ready : IsReady chosen job
+    unfolding tied its
+    ready = record {
+      number = sym tied.number;
+      selected = inside;
+      valid = valid;
+      phase_is = tied.phase_is;
+      room = tied.room;
+      script = subst (λ b. IsScript (Some b) (left_of job)) (inside_is job.phase pass.start tied.phase_is) its.script;
+      offered = tied.offered;
+      scans = tied.scans;
+    }
+
+-- ---- what a pass has made, behind a line
+
+-- the line that is answered
+abbrev pub line_of : ℕ → Command → Answer → AnsweredLine
+line_of txn c a = record { txn = txn; command = c; answer = a }
+
+-- the last of the lists has one write more
+last_more : (earlier : List (List Write)) (ws : List Write) (w : Write) → last_with (earlier ++ ws ∷ []) w ≡ earlier ++ (ws ++ w ∷ []) ∷ []
+last_more [] ws w = refl
+last_more (v ∷ []) ws w = refl
+last_more (v ∷ u ∷ vs) ws w = ap (λ xs. v ∷ xs) (last_more (u ∷ vs) ws w)
+
+last_count : (lists : List (List Write)) (w : Write) → length (last_with lists w) ≡ length lists
+last_count [] w = refl
+last_count (v ∷ []) w = refl
+last_count (v ∷ u ∷ vs) w = ap suc (last_count (u ∷ vs) w)
+
+abbrev pub flat : List (List Write) → List Write
+flat lists = flat_map (λ ws. ws) lists
+
+flat_last : (earlier : List (List Write)) (ws : List Write) → flat (earlier ++ ws ∷ []) ≡ flat earlier ++ ws
+flat_last earlier ws = flat_map-append (λ ws. ws) earlier (ws ∷ []) ∙ ap (λ xs. flat earlier ++ xs) (append-nil ws)
+
+-- a line that asks for no write has made none
+none_made : (c : Command) (r : Request) → request c ≡ r → write_of r ≡ None → (txn : ℕ) (a : Answer) → filter_map made_by (line_of txn c a ∷ []) ≡ []
+none_made c r is none txn a = ap (λ w. cons_option (cond (effect a).writes w None) []) (ap write_of is ∙ none) ∙ either (effect a).writes
+  where
+    either : (b : Bool) → let none : Option Write = None in cons_option (cond b none none) [] ≡ []
+    either true = refl
+    either false = refl
+
+-- what a pass has made behind a line, by what it was answered: the writes of the lines, one list for each
+-- transaction, the open one's last
+module _ (made : List (List Write)) (own : List Write) (txn : ℕ) (c : Command) (a : Answer) (opened : (effect a).writes ≡ true → (earlier : List (List Write)) × (made ≡ earlier ++ own ∷ [])) where
+  unchanged : (r : Request) → request c ≡ r → write_of r ≡ None → flat made ≡ flat made ++ filter_map made_by (line_of txn c a ∷ [])
+  unchanged r is none = sym (ap (λ xs. flat made ++ xs) (none_made c r is none txn a) ∙ append-nil (flat made))
+
+  pub made_more : (r : Request) → request c ≡ r → flat (made_behind made r a) ≡ flat made ++ filter_map made_by (line_of txn c a ∷ [])
+  made_more ToBegin is = flat_last made [] ∙ ap (λ xs. flat made ++ xs) (sym (none_made c ToBegin is refl txn a))
+  made_more ToCommit is = unchanged ToCommit is refl
+  made_more ToAbort is = unchanged ToAbort is refl
+  made_more (ToWrite w) is = by_write (effect a).writes refl ∙ ap (λ x. flat made ++ cons_option (cond (effect a).writes x None) []) (sym (ap write_of is))
+    where
+      by_write : (b : Bool) → (effect a).writes ≡ b → flat (cond (effect a).writes (last_with made w) made) ≡ flat made ++ cons_option (cond (effect a).writes (Some w) None) []
+      by_write true e =
+          let o = opened e in
+          ap (λ b. flat (cond b (last_with made w) made)) e
+          ∙ ap (λ xs. flat (last_with xs w)) o.1 ∙ ap flat (last_more o.0 own w) ∙ flat_last o.0 (own ++ w ∷ []) ∙ sym (append_assoc (flat o.0) own (w ∷ []))
+          ∙ ap (λ xs. xs ++ w ∷ []) (sym (ap flat o.1 ∙ flat_last o.0 own))
+          ∙ ap (λ b. flat made ++ cons_option (cond b (Some w) None) []) (sym e)
+      by_write false e = ap (λ b. flat (cond b (last_with made w) made)) e ∙ sym (append-nil (flat made)) ∙ ap (λ b. flat made ++ cons_option (cond b (Some w) None) []) (sym e)
+  made_more (ToRead query) is = unchanged (ToRead query) is refl
+  made_more (ToRun kernel file) is = unchanged (ToRun kernel file) is refl
+
+pub made_count : (made : List (List Write)) (begun : ℕ) (r : Request) (a : Answer) → length made ≡ begun → length (made_behind made r a) ≡ next_txn begun r
+made_count made begun ToBegin a is = omega (arith, length-append made ([] ∷ []), is)
+made_count made begun ToCommit a is = is
+made_count made begun ToAbort a is = is
+made_count made begun (ToWrite w) a is = by_write (effect a).writes ∙ is
+  where
+    by_write : (b : Bool) → length (cond b (last_with made w) made) ≡ length made
+    by_write true = last_count made w
+    by_write false = refl
+made_count made begun (ToRead query) a is = is
+made_count made begun (ToRun kernel file) a is = is
+
+refused_none : (refusal : Refusal) → (effect (refusal_answer refusal)).writes ≡ false
+refused_none refusals.SelfLoop = refl
+refused_none (refusals.NoVertex v) = refl
+refused_none refusals.VertexExists = refl
+refused_none refusals.EdgeExists = refl
+refused_none refusals.NoEdge = refl
+refused_none refusals.HasEdges = refl
+refused_none (refusals.Conflict cause) = refl
+refused_none (refusals.Full leaves) = refl
+refused_none refusals.NoMemory = refl
+
+-- ---- what a line leaves of its transaction
+
+none_open : {P : Type 0} → false ≡ true → P
+none_open is = cc
+
+module _ (kind : Kind) (journal : List Commit) (txns : List OpenTxn) (number : ℕ) (j : JobState) (full : Bool) where
+  -- no transaction is open behind a stop
+  pub stop_closes : (r : Request) → (line_result kind journal txns number j full r).skipping ≡ true → (line_result kind journal txns number j full r).start ≡ None
+  stop_closes r = by_skipping j.skipping
+    where
+      by_write : (w : Write) (x : Option Refusal) (y : Option Cause) → (write_result j w x y full).skipping ≡ true → (write_result j w x y full).start ≡ None
+      by_write w (Some refusal) y e = cc
+      by_write w None (Some cause) e = refl
+      by_write w None None e = by_full (full && inserts w) e
+        where
+          by_full : (b : Bool) → (cond b (stops answers.Full) (writes_more j w)).skipping ≡ true → (cond b (stops answers.Full) (writes_more j w)).start ≡ None
+          by_full true e = refl
+          by_full false e = cc
+
+      by_own : (by : TxnName) (start : ℕ) (own : List Write) → (commit_result journal by start own).skipping ≡ true → (commit_result journal by start own).start ≡ None
+      by_own by start [] e = refl
+      by_own by start (w ∷ ws) e = refl
+
+      live : (r : Request) → (live_result kind journal txns number j full r).skipping ≡ true → (live_result kind journal txns number j full r).start ≡ None
+      live ToBegin e = cc
+      live ToCommit e = by_own _ _ j.own e
+      live ToAbort e = refl
+      live (ToWrite w) e = by_write w _ _ e
+      live (ToRead query) e = cc
+      live (ToRun kernel file) e = cc
+
+      by_skipping : (b : Bool) → (cond b (skips r) (live_result kind journal txns number j full r)).skipping ≡ true → (cond b (skips r) (live_result kind journal txns number j full r)).start ≡ None
+      by_skipping true e = refl
+      by_skipping false e = live r e
+
+  -- a write is made where a transaction is open
+  pub writes_open : (r : Request) → (j.skipping ≡ false → (r ≡ ToBegin) ⊎ IsSome j.start) → (effect (line_result kind journal txns number j full r).answer).writes ≡ true → IsSome j.start
+  writes_open r may = by_skipping j.skipping refl
+    where
+      begun : (r ≡ ToBegin) ⊎ IsSome j.start → (effect (live_result kind journal txns number j full r).answer).writes ≡ true → IsSome j.start
+      begun (inl is) e = absurd (let never : false ≡ true = sym (ap (λ x. (effect (live_result kind journal txns number j full x).answer).writes) is) ∙ e in cc)
+      begun (inr opened) e = opened
+
+      by_skipping : (b : Bool) → j.skipping ≡ b → (effect (cond b (skips r) (live_result kind journal txns number j full r)).answer).writes ≡ true → IsSome j.start
+      by_skipping true f e = absurd (let never : false ≡ true = e in cc)
+      by_skipping false f e = begun (may f) e
+
+  -- the open transaction's writes stand last
+  module _ (made : List (List Write)) (last : IsSome j.start → (earlier : List (List Write)) × (made ≡ earlier ++ j.own ∷ [])) where
+    abbrev Last : Request → LineResult → Type 0
+    Last r result = IsSome result.start → (earlier : List (List Write)) × (made_behind made r result.answer ≡ earlier ++ result.own ∷ [])
+
+    pub last_behind : (r : Request) → Last r (line_result kind journal txns number j full r)
+    last_behind r = by_skipping j.skipping
+      where
+        by_write : (w : Write) (x : Option Refusal) (y : Option Cause) → Last (ToWrite w) (write_result j w x y full)
+        by_write w (Some refusal) y opened = let l = last opened in (l.0, ap (λ b. cond b (last_with made w) made) (refused_none refusal) ∙ l.1)
+        by_write w None (Some cause) opened = none_open opened
+        by_write w None None opened = by_full (full && inserts w) opened
+          where
+            by_full : (b : Bool) → Last (ToWrite w) (cond b (stops answers.Full) (writes_more j w))
+            by_full true opened = none_open opened
+            by_full false opened = let l = last opened in (l.0, ap (λ xs. last_with xs w) l.1 ∙ last_more l.0 j.own w)
+
+        by_own : (by : TxnName) (start : ℕ) (own : List Write) → Last ToCommit (commit_result journal by start own)
+        by_own by start [] opened = none_open opened
+        by_own by start (w ∷ ws) opened = none_open opened
+
+        live : (r : Request) → Last r (live_result kind journal txns number j full r)
+        live ToBegin opened = (made, refl)
+        live ToCommit opened = by_own _ _ j.own opened
+        live ToAbort opened = none_open opened
+        live (ToWrite w) opened = by_write w _ _ opened
+        live (ToRead query) opened = last opened
+        live (ToRun kernel file) opened = last opened
+
+        by_skipping : (b : Bool) → Last r (cond b (skips r) (live_result kind journal txns number j full r))
+        by_skipping true opened = none_open opened
+        by_skipping false opened = live r opened
+
+-- between transactions only a `begin` may stand
+pub between_begins : (r : Request) (behind : Bool) → open_behind false r ≡ Some behind → r ≡ ToBegin
+between_begins ToBegin behind e = refl
+between_begins ToCommit behind e = let no_one : ◌≡◌ {A = Option Bool} None (Some behind) = e in cc
+between_begins ToAbort behind e = let no_one : ◌≡◌ {A = Option Bool} None (Some behind) = e in cc
+between_begins (ToWrite w) behind e = let no_one : ◌≡◌ {A = Option Bool} None (Some behind) = e in cc
+between_begins (ToRead query) behind e = let no_one : ◌≡◌ {A = Option Bool} None (Some behind) = e in cc
+between_begins (ToRun kernel file) behind e = let no_one : ◌≡◌ {A = Option Bool} None (Some behind) = e in cc

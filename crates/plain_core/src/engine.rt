@@ -1,0 +1,124 @@
+//! The plain engine as an engine of one owner.
+
+ghost use Rattle.std.specs.Prelude.{IsSome};
+ghost use Rattle.graph_model.specs.declared.write.Write.TheVariants as writes;
+ghost use Rattle.graph_model.specs.OwnerCalls.{account_here};
+ghost use Rattle.graph_model.specs.OwnerLaws.{DidBegin, DidWrite, DidRead, DidCommit, DidAbort, DidServe};
+ghost use Rattle.graph_model.proofs.OwnerLemmas.{begins_by, writes_by, reads_by, commits_by, aborts_by, serves_by};
+
+use crate::core::PlainCore;
+use graph_model::{
+    BeginRefusal, Begun, Cursor, Engine, Kind, NoMemory, Refusal, Rows64, StepEngine, VertexEngine,
+    Write,
+};
+
+impl Engine for PlainCore {
+    ghost account = { λ s. account_here s };
+
+    ghost served = { λ s. s.served };
+
+    ghost did_begin = { λ s r t. DidBegin s r t };
+
+    ghost did_write = { λ s w r t. DidWrite s w r t };
+
+    ghost did_read = { λ s t. DidRead s t };
+
+    ghost did_commit = { λ s r t. DidCommit s r t };
+
+    ghost did_abort = { λ s t. DidAbort s t };
+
+    ghost did_serve = { λ s r t. DidServe s t };
+
+    fn kind(&self) -> Kind {
+        self.kind_here()
+    }
+
+    fn begin(&mut self) -> Result<Begun, BeginRefusal> {
+        self.begin_here()
+    }
+
+    fn add_vertex(&mut self, v: u64) -> Result<(), Refusal> {
+        self.write_here(Write::AddVertex { v })
+    }
+
+    fn add_edge(&mut self, u: u64, v: u64, weight: u64) -> Result<(), Refusal> {
+        self.write_here(Write::AddEdge { u, v, weight })
+    }
+
+    fn set_edge(&mut self, u: u64, v: u64, weight: u64) -> Result<(), Refusal> {
+        self.write_here(Write::SetEdge { u, v, weight })
+    }
+
+    fn drop_edge(&mut self, u: u64, v: u64) -> Result<(), Refusal> {
+        self.write_here(Write::DropEdge { u, v })
+    }
+
+    fn has_vertex(&mut self, v: u64) -> bool {
+        self.sees_vertex(v)
+    }
+
+    fn weight(&mut self, u: u64, v: u64) -> Option<u64> {
+        self.sees_weight(u, v)
+    }
+
+    fn scan_step(&mut self, cursor: &mut Cursor, rows: &mut Rows64) {
+        self.scan_here(cursor, rows);
+    }
+
+    fn commit(&mut self) -> Option<u64> {
+        self.commit_here()
+    }
+
+    fn abort(&mut self) {
+        self.abort_here();
+    }
+
+    fn service_step(&mut self) -> Result<bool, NoMemory> {
+        self.serve_here();
+        Ok(false)
+    }
+
+    ghost begins = { begins_by };
+
+    ghost wrote = { writes_by };
+
+    ghost reads = { reads_by };
+
+    ghost commits = { commits_by };
+
+    ghost aborts = { aborts_by };
+
+    ghost serves = { λ s t r did. serves_by s t did };
+}
+
+impl VertexEngine for PlainCore {
+    fn drop_vertex(&mut self, v: u64) -> Result<(), Refusal> {
+        self.write_here(Write::DropVertex { v })
+    }
+}
+
+impl StepEngine for PlainCore {
+    ghost use Rattle.std.specs.Prelude.{refl};
+
+    ghost core = { λ s. s };
+
+    fn select(&mut self, pass: u32) {
+        self.select_here(pass);
+    }
+
+    ghost accounts = { λ s. refl };
+
+    ghost counts = { λ s. refl };
+
+    ghost begins_here = { λ s t r did. did.here };
+
+    ghost writes_here = { λ s t w r did. did.here };
+
+    ghost reads_here = { λ s t did. did.here };
+
+    ghost commits_here = { λ s t r did. did.here };
+
+    ghost aborts_here = { λ s t did. did.here };
+
+    ghost serves_here = { λ s t r did. did.here };
+}

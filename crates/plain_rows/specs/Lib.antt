@@ -1,0 +1,5 @@
+pub mod Rows
+pub mod Readers
+pub mod Laying
+pub mod Checks
+pub mod Seen
