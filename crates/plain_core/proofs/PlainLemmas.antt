@@ -18,7 +18,7 @@ use Rattle.graph_model.specs.OwnerLaws.{IsChosen}
 use Rattle.graph_model.specs.Passes.{revised}
 use Rattle.graph_model.specs.Refused.{refused, IsWithinLimits}
 use Rattle.graph_model.specs.Rows.{value_at}
-use Rattle.graph_model.specs.Transactions.{Running, Changes, HasNotCommitted, own_of, commit_of, stamp_in}
+use Rattle.graph_model.specs.Transactions.{Running, Changes, HasNotCommitted, own_of, writes_of_running, commit_of, stamp_in}
 use Rattle.txn_manager.specs.Manager.{Manager, PassTxns, txns_of, with_txns, opened, ended, open_start, committed, next_name}
 use Rattle.store_model.specs.declared.versions.Versions.{Versions}
 use Rattle.store_model.specs.Check.{check, looked}
@@ -26,11 +26,12 @@ use Rattle.store_model.specs.Layers.{after_write, undone}
 use Rattle.store_model.specs.Store.{IsPlainStore, MeetsNobody, touching_of}
 use Rattle.store_model.proofs.ConflictLemmas.{check_is_conflict, check_allows}
 use Rattle.store_model.proofs.OwnerLemmas.{owner_moved, owner_begun, owner_written, owner_committed, owner_aborted}
-use Rattle.store_model.proofs.ValueLemmas.{value_of_view}
+use Rattle.store_model.proofs.ValueLemmas.{value_of_view, value_at_end}
 use Rattle.plain_rows.specs.declared.reader.Reader.{Reader}
 use Rattle.plain_rows.specs.Readers.{Shows, cause_for}
 use Rattle.plain_rows.specs.Rows.{contents_of, missing}
-use Rattle.plain_core.specs.Plain.{running_in, txns_in, AreTied, IsPlain}
+use Rattle.plain_core.specs.Plain.{running_in, txns_in, AreTied, IsPlain, NoneOpen, newest_graph}
+use Rattle.plain_rows.specs.Seen.{newest_value}
 use Rattle.plain_core.proofs.CountLemmas.{part, total_set, part_begun, part_written, written_length}
 use Rattle.plain_core.proofs.OpenLemmas.{pass_set, here_changes, next_changes, same_running, tied_set, here_running, here_closed, same_open, here_listed}
 
@@ -241,3 +242,14 @@ module _ (core : Core) (m : Manager) (rows : List (Key × Versions)) (is : IsPla
             ∙ (let self : ((current core).begun == (current core).begun) ≡ true = grind (arith, nat_tests) in ap (λ t. unwrap_or (cond t (current core).start None) 0) self) ∙ ap (λ x. unwrap_or x 0) opened
         journal_is : m.journal ++ commit_of m.journal (name_here core) (record { start = unwrap_or (open_start m (name_here core)) 0; writes = (current core).own }) ∷ [] ≡ after
         journal_is = λ i. is.tied.journal i ++ commit_of (is.tied.journal i) (name_here core) (record { start = started i; writes = (current core).own }) ∷ []
+
+-- where no transaction is open, the newest values are those of the newest graph
+pub plain_newest : (core : Core) (m : Manager) (rows : List (Key × Versions)) → IsPlain core m rows → NoneOpen core → (k : Key) → newest_value (contents_of rows k) ≡ value_at (newest_graph core) k
+plain_newest core m rows is none k = value_at_end core.kind core.journal (running_in core) (own_of (running_in core)) (touching_of (running_in core)) 0 (contents_of rows) is.store nothing k
+  where
+    nothing : (by : TxnName) → own_of (running_in core) by ≡ []
+    nothing by = closed (by.number == (pass_at core by.job).begun)
+      where
+        closed : (t : Bool) → writes_of_running (cond t (running_of (pass_at core by.job)) None) ≡ []
+        closed true = ap (λ x. writes_of_running (option_map (λ start. record { start = start; writes = (pass_at core by.job).own }) x)) (none by.job)
+        closed false = refl

@@ -6,7 +6,8 @@ use Rattle.graph_model.specs.declared.write.Kind.{Kind}
 use Rattle.graph_model.specs.declared.write.Kind.TheVariants.{Directed, Undirected}
 use Rattle.graph_model.specs.declared.row.Key.{Key}
 use Rattle.graph_model.specs.declared.journal.TxnName.{TxnName}
-use Rattle.graph_model.specs.Graph.{Graph, vertices_of}
+use Rattle.graph_model.specs.Graph.{Graph}
+use Rattle.graph_model.specs.History.{graph_at}
 use Rattle.graph_model.specs.OwnerCalls.{PassState, Core, pass_at, running_of, inserted_here}
 use Rattle.graph_model.specs.OwnerLaws.{IsChosen}
 use Rattle.graph_model.specs.Passes.{of_latest}
@@ -78,3 +79,7 @@ NoneOpen core = (p : ℕ) → (pass_at core p).start ≡ None
 abbrev pub edges_of : Kind → Graph → ℕ
 edges_of Directed g = fin_map.len g.arcs
 edges_of Undirected g = fin_map.len g.arcs / 2
+
+-- the graph of the whole journal
+abbrev pub newest_graph : Core → Graph
+newest_graph core = graph_at core.kind core.journal (length core.journal)

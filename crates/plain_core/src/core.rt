@@ -4,7 +4,7 @@ ghost use Rattle.std.specs.Prelude.{◌≡◌, ◌+◌, ◌<◌, ◌≤◌, ℕ,
 ghost use Rattle.graph_model.specs.declared.write.Write.{Write};
 ghost use Rattle.graph_model.specs.declared.limits.TheConstants.{MAX_ID};
 ghost use Rattle.graph_model.specs.AccountSteps.{view_of};
-ghost use Rattle.graph_model.specs.Graph.{has_vertex, weight_of};
+ghost use Rattle.graph_model.specs.Graph.{has_vertex, weight_of, vertices_of};
 ghost use Rattle.graph_model.specs.OwnerCalls.{current, account_here};
 ghost use Rattle.graph_model.specs.OwnerLaws.{DidBegin, DidWrite, DidRead, DidCommit, DidAbort, DidServe};
 ghost use Rattle.graph_model.specs.Refused.{IsWithinLimits};
@@ -15,14 +15,14 @@ ghost use Rattle.graph_model.specs.Inserted.{inserts};
 ghost use Rattle.graph_model.specs.declared.refusal.Refusal.TheVariants as refusals;
 ghost use Rattle.plain_rows.specs.Laying.{MayLay, Stays};
 ghost use Rattle.plain_core.specs.Passes.{Laid, new_pass};
-ghost use Rattle.plain_core.specs.Plain.{new_core, states_of};
+ghost use Rattle.plain_core.specs.Plain.{new_core, states_of, NoneOpen, newest_graph, edges_of};
 
 use crate::pass::Pass;
 use graph_model::{BeginRefusal, Begun, Cursor, Journal, Key, Kind, NoMemory, Refusal, Rows64, TxnName, Write};
 use plain_rows::{Reader, RowMap, Touched};
 use std::alloc::Global;
 use std::marker::Model;
-use txn_manager::{Config, StoreRefusal, TxnManager};
+use txn_manager::{Config, StoreRefusal, Totals, TxnManager};
 
 /// A graph under transactions of one owner. It is kept in an ordered map, and nothing is pruned.
 #[derive(Drop)]
@@ -69,6 +69,27 @@ impl PlainCore {
             served: 0,
             rows: RowMap::new(alloc),
         })
+    }
+
+    /// The vertices and the edges of the newest graph, where no transaction is open. Every version stays in
+    /// its row, so there are no undo records, and no leaves.
+    pub fn totals(&self) -> Totals
+        requires { NoneOpen self.now }
+        ensures vertices { result.vertices ≡ length (vertices_of (newest_graph self.now)) }
+        ensures edges { result.edges ≡ edges_of self.now.kind (newest_graph self.now) }
+        ensures none { (result.undo ≡ 0) × (result.retired ≡ 0) }
+    {
+        let counts = self.rows.count();
+        let arcs = counts.arcs as u64;
+        Totals {
+            vertices: counts.vertices as u64,
+            edges: match self.kind {
+                Kind::Directed => arcs,
+                Kind::Undirected => arcs / 2,
+            },
+            undo: 0,
+            retired: 0,
+        }
     }
 
     /// The journal. Takes no memory.

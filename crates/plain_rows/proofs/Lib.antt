@@ -5,3 +5,4 @@ pub mod SeenLemmas
 pub mod CheckLemmas
 pub mod ArcLemmas
 pub mod ScanLemmas
+pub mod TotalLemmas

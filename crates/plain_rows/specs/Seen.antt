@@ -1,5 +1,5 @@
 -- What a reader sees of rows: the entries with a value, in the order of their keys.
-use Rattle.std.specs.Prelude.{ℕ, ◌+◌, true, List, [], ◌∷◌, Option, Some, None}
+use Rattle.std.specs.Prelude.{ℕ, ◌+◌, ◌==◌, ◌&&◌, Bool, true, not, is_some, List, [], ◌∷◌, Option, Some, None}
 use Rattle.graph_model.specs.declared.row.Key.{Key}
 use Rattle.graph_model.specs.Rows.{vertex_key}
 use Rattle.store_model.specs.declared.versions.Versions.{Versions}
@@ -24,3 +24,10 @@ first_arc v = record { src = v; second = 1 }
 
 abbrev pub after_arcs : ℕ → Key
 after_arcs v = vertex_key (v + 1)
+
+-- an entry of a vertex, or of an arc, whose newest value is there
+abbrev pub is_vertex_entry : Key × Versions → Bool
+is_vertex_entry e = (e.0.second == 0) && is_some (newest_value e.1)
+
+abbrev pub is_arc_entry : Key × Versions → Bool
+is_arc_entry e = not (e.0.second == 0) && is_some (newest_value e.1)

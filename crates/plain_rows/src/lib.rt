@@ -7,6 +7,7 @@
 #![tactic(auto)]
 
 mod check;
+mod count;
 mod lay;
 mod map;
 mod reader;
@@ -14,6 +15,7 @@ mod room;
 mod row;
 mod scan;
 
+pub use count::Counts;
 pub use lay::Touched;
 pub use map::RowMap;
 pub use reader::Reader;

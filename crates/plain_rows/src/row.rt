@@ -32,6 +32,7 @@ impl Model for Row {
 
 impl Row {
     ghost use Rattle.plain_rows.specs.Rows.{is_held};
+    ghost use Rattle.plain_rows.specs.Seen.{newest_value};
     ghost use Rattle.plain_rows.specs.Readers.{value_for, cause_for};
 
     /// A row that holds nothing.
@@ -108,6 +109,13 @@ impl Row {
         {
             by != *name
         });
+    }
+
+    /// The newest value, whoever wrote it.
+    pub fn newest_value(&self) -> Option<u64>
+        ensures { result ≡ newest_value self.now }
+    {
+        self.pairs.last().and_then(|version| version.value)
     }
 
     /// The reader's value.

@@ -7,3 +7,5 @@ mod SinkLemmas
 mod PreparedLemmas
 mod LawLemmas
 mod OutcomeLemmas
+mod RunLemmas
+mod OfferedLemmas

@@ -1,12 +1,20 @@
 -- What the run of the scripts leaves, as the code has it.
-use Rattle.std.specs.Prelude.{◌≡◌, ℕ, List, map, length, All}
+use Rattle.std.specs.Prelude.{◌≡◌, ℕ, suc, ◌*◌, ◌<◌, ◌≤◌, List, map, length, All, slice_get, Some}
 use Rattle.std.specs.List.{AllByRecursion}
+use Rattle.graph_model.specs.declared.limits.TheConstants.{SPLIT_ROWS, MAX_LEAVES}
 use Rattle.graph_model.specs.declared.write.Kind.{Kind}
+use Rattle.graph_model.specs.declared.write.Kind.TheVariants.{Undirected}
+use Rattle.graph_model.specs.Inserted.{inserted}
 use Rattle.graph_model.specs.Graph.{vertices_of}
 use Rattle.graph_model.specs.History.{graph_at}
+use Rattle.graphalytics_io.specs.declared.edges.Edge.{Edge}
+use Rattle.graphalytics_io.specs.Load.{load_of}
+use Rattle.run_model.specs.declared.command.Command.{Command}
+use Rattle.run_model.specs.Requests.{begun_by}
 use Rattle.run_model.specs.Answering.{edges_in}
 use Rattle.run_model.specs.Inputs.{Outputs}
 use Rattle.script_lang.specs.FieldFaults.{IsNameByte}
+use Rattle.txn_manager.specs.declared.config.Config.{Config}
 use Rattle.job_runner.specs.Lines.{file_of}
 use Rattle.job_runner.specs.Progress.{Progress}
 use Rattle.teseo_program.specs.declared.run.RunResult.{RunResult}
@@ -27,3 +35,21 @@ HavePrintableNames jobs = AllByRecursion (λ job. AllByRecursion (λ t. All IsNa
 pub record HasCounts (kind : Kind) (r : RunResult) : Type 0 where
   pub vertices : r.vertices ≡ length (vertices_of (graph_at kind r.journal (length r.journal)))
   pub edges : r.edges ≡ edges_in kind (graph_at kind r.journal (length r.journal))
+
+-- ---- the engine
+
+-- the rows of the load fill no store of as many leaves as there may be
+abbrev pub Fits : List ℕ → List Edge → Type 0
+Fits ids edges = inserted Undirected (load_of ids edges) < SPLIT_ROWS * MAX_LEAVES
+
+-- no script begins more transactions
+abbrev pub MayBegin : List (List Command) → ℕ → Type 0
+MayBegin scripts most = (k : ℕ) (commands : List Command) → slice_get scripts k ≡ Some commands → begun_by 0 commands ≤ most
+
+-- a pass for each script, and one for the load
+pub record IsConfig (scripts : List (List Command)) (config : Config) : Type 0 where
+  pub kind : config.kind ≡ Undirected
+  pub leaves : config.leaves ≡ MAX_LEAVES
+  pub passes : config.passes ≡ suc (length scripts)
+  pub begins : MayBegin scripts config.txns_per_pass
+  pub some : 0 < config.txns_per_pass

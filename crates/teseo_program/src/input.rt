@@ -4,7 +4,7 @@
 //!    is named.
 //! 2. The names that a script may not use grow by the files of each script, in order.
 
-ghost use Rattle.std.specs.Prelude.{◌≡◌, ◌≤◌, length, IfOk, IfErr};
+ghost use Rattle.std.specs.Prelude.{◌≡◌, ◌≤◌, length, All, IfOk, IfErr};
 ghost use Rattle.graph_model.specs.declared.limits.TheConstants.{MAX_LOAD_ROWS, MAX_SCRIPTS};
 ghost use Rattle.graphalytics_io.specs.VertexFile.{IsVertexFile};
 ghost use Rattle.graphalytics_io.specs.EdgeFile.{IsEdgeFile};
@@ -43,6 +43,7 @@ pub fn parse_sources(
     ensures accepted { IfOk result (λ input. IsAccepted (run_names line.now) (texts_of (run_names line.now) sources.now) (meaning_of input)) }
     ensures runnable { IfOk result (λ input. AreRunnable (taken_names (run_names line.now)) input.scripts) }
     ensures count { IfOk result (λ input. length input.scripts ≡ length (run_names line.now).scripts) }
+    ensures listed { IfOk result (λ input. All (λ job. job ≤ length input.scripts) input.schedule) }
     ensures refused { IfErr result (IsParseStop (run_names line.now) (texts_of (run_names line.now) sources.now)) }
 {
     let texts = sources.as_slice();
@@ -133,6 +134,7 @@ fn parse_schedule(
     requires few { length line.now.scripts.now ≤ MAX_SCRIPTS }
     requires texts { AreTexts (run_names line.now) texts.now }
     ensures ok { IfOk result (IsSchedule (length (run_names line.now).scripts) (texts_of (run_names line.now) texts.now).schedule) }
+    ensures listed { IfOk result (All (λ job. job ≤ length (run_names line.now).scripts)) }
     ensures refused { IfErr result (IsScheduleStop (length (run_names line.now).scripts) (texts_of (run_names line.now) texts.now).schedule) }
 {
     let count = line.scripts.len();

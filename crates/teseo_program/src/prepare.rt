@@ -1,7 +1,7 @@
 //! All that comes before the first output is created: the sources are read and parsed, the scripts run,
 //! and the texts are made.
 
-ghost use Rattle.std.specs.Prelude.{◌≡◌, ℕ, List, length, IfOk, IfErr, OnOk};
+ghost use Rattle.std.specs.Prelude.{◌≡◌, ◌≤◌, ℕ, List, length, All, IfOk, IfErr, OnOk};
 ghost use Rattle.command_line.specs.Words.{TakesWords, taken_names};
 ghost use Rattle.command_line.specs.Lines.{run_names};
 ghost use Rattle.teseo_program.specs.Input.{Texts, IsAccepted};
@@ -57,6 +57,7 @@ fn make(alloc: Global, line: &CommandLine<'_>, input: Input) -> Result<Prepared,
     requires accepted { (texts : Texts) × IsAccepted (run_names line.now) texts (meaning_of input) }
     requires runnable { AreRunnable (taken_names (run_names line.now)) input.scripts }
     requires count { length input.scripts ≡ length (run_names line.now).scripts }
+    requires listed { All (λ job. job ≤ length input.scripts) input.schedule }
     ensures made { IfOk result (IsMadeOf (run_names line.now) (meaning_of input)) }
     ensures apart { IfOk result NamesAreApart }
 {

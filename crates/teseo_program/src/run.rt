@@ -2,30 +2,44 @@
 //!
 //! 1. The graph is loaded as the first transaction of a new engine, and the scripts take their turns behind it.
 //! 2. Script k uses pass k of the engine, and the load and the service use pass 0.
+//! 3. The engine may have as many leaves as there can be, so the load always finds its places.
 
-ghost use Rattle.std.specs.Prelude.{◌≡◌, ◌≤◌, length, IfOk};
-ghost use Rattle.graph_model.specs.declared.limits.TheConstants.{MAX_LEAVES};
+ghost use Rattle.std.specs.Prelude.{◌≡◌, ◌≤◌, ◌+◌, ◌<◌, ℕ, List, cond, length, All, IfOk, OnOk, false};
+ghost use Rattle.std.specs.List.{AllByRecursion};
+ghost use Rattle.graph_model.specs.declared.limits.TheConstants.{MAX_LEAVES, MAX_SCRIPTS, MAX_BEGINS};
 ghost use Rattle.graph_model.specs.declared.write.Kind.TheVariants.{Undirected};
-ghost use Rattle.graphalytics_io.specs.Load.{IsLoadable};
+ghost use Rattle.graphalytics_io.specs.Load.{load_of, IsLoadable};
+ghost use Rattle.graph_load.specs.Loading.{IsLoad, loaded};
+ghost use Rattle.run_model.specs.declared.command.Command.{Command};
 ghost use Rattle.run_model.specs.Inputs.{AreInputs};
+ghost use Rattle.run_model.specs.Requests.{request, next_txn, begun_by};
 ghost use Rattle.run_model.specs.Run.{IsRun};
 ghost use Rattle.run_model.specs.Stepped.{IsStepped};
+ghost use Rattle.txn_manager.specs.Config.{too_large};
+ghost use Rattle.plain_core.specs.Plain.{new_core};
+ghost use Rattle.job_runner.specs.Kernels.{AreOffered};
+ghost use Rattle.job_runner.specs.Runs.{new_jobs};
 ghost use Rattle.teseo_program.specs.Input.{inputs_of};
 ghost use Rattle.teseo_program.specs.Parsing.{meaning_of};
-ghost use Rattle.teseo_program.specs.Running.{run_outputs, HasCounts};
+ghost use Rattle.teseo_program.specs.Running.{run_outputs, HasCounts, Fits, MayBegin, IsConfig};
 
 use crate::input::Input;
-use graph_model::{Journal, NoMemory};
+use graph_load::{LoadRefusal, load_graph};
+use graph_model::{Ids, Journal, Kind, MAX_LEAVES, NoMemory};
+use graphalytics_io::Edges;
 use items::Items;
-use job_runner::Job;
+use job_runner::{Job, Jobs, run_stepped};
+use plain_core::PlainCore;
+use run_model::{Command, Script, stepped_runs_are_runs};
 use std::alloc::Global;
+use txn_manager::{Config, StoreRefusal};
 
 /// What the run of the scripts leaves: the journal, the scripts with their answers and tables, and how many vertices and
 /// edges the newest graph has.
 #[derive(Drop)]
 pub struct RunResult {
     pub journal: Journal,
-    pub jobs: Items<Job>,
+    pub jobs: Jobs,
     pub vertices: u64,
     pub edges: u64,
 }
@@ -34,11 +48,105 @@ pub struct RunResult {
 pub fn run_scripts(alloc: Global, input: Input) -> Result<RunResult, NoMemory>
     requires inputs { AreInputs (inputs_of Undirected (meaning_of input)) }
     requires loadable { IsLoadable input.ids input.edges }
+    requires fits { Fits input.ids input.edges }
+    requires offered { AllByRecursion AreOffered input.scripts }
+    requires listed { All (λ job. job ≤ length input.scripts) input.schedule }
     ensures run { IfOk result (λ r. IsRun (inputs_of Undirected (meaning_of input)) MAX_LEAVES (run_outputs r)) }
     ensures stepped { IfOk result (λ r. IsStepped (inputs_of Undirected (meaning_of input)) MAX_LEAVES input.schedule (run_outputs r)) }
     ensures counts { IfOk result (HasCounts Undirected) }
 {
-    let _input = input;
-    let _alloc = alloc;
-    Err(NoMemory)
+    stepped_runs_are_runs();
+    let config = config_of(input.scripts.as_slice());
+    let mut engine = new_engine(alloc, config)?;
+    load(&mut engine, &input.ids, &input.edges)?;
+    let mut jobs = jobs_of(alloc, input.scripts)?;
+    run_stepped(&mut engine, &mut jobs, input.schedule.as_slice())?;
+    let totals = engine.totals();
+    Ok(RunResult {
+        journal: engine.into_journal(),
+        jobs,
+        vertices: totals.vertices,
+        edges: totals.edges,
+    })
+}
+
+/// What the engine of these scripts is made with: a pass for each, and one for the load. Each may begin as
+/// many transactions as the script with most of them.
+fn config_of(scripts: &[Script]) -> Config
+    requires count { length scripts.now ≤ MAX_SCRIPTS }
+    requires begins { MayBegin scripts.now MAX_BEGINS }
+    ensures config { IsConfig scripts.now result }
+    ensures fits { too_large result ≡ false }
+{
+    let mut most = 1;
+    'scripts: for script in scripts {
+        most = most.max(begins(script.as_slice()));
+    }
+    Config {
+        kind: Kind::Undirected,
+        leaves: MAX_LEAVES,
+        passes: scripts.len() as u32 + 1,
+        txns_per_pass: most,
+    }
+}
+
+/// How many transactions a script begins.
+fn begins(script: &[Command]) -> u32
+    requires { begun_by 0 script.now ≤ MAX_BEGINS }
+    ensures { result ≡ begun_by 0 script.now }
+{
+    let mut count = 0;
+    'lines: for command in script {
+        if is_begin(command) {
+            count += 1;
+        }
+    }
+    count
+}
+
+/// Whether the line begins a transaction.
+fn is_begin(command: &Command) -> bool
+    ensures { (n : ℕ) → next_txn n (request command.now) ≡ cond result (n + 1) n }
+{
+    matches!(command, Command::Begin)
+}
+
+/// An engine that isn't too large.
+fn new_engine(alloc: Global, config: Config) -> Result<PlainCore, NoMemory>
+    requires { too_large config ≡ false }
+    ensures { IfOk result (λ engine. engine ≡ new_core config) }
+{
+    match PlainCore::new(alloc, config) {
+        Ok(engine) => Ok(engine),
+        Err(StoreRefusal::TooLarge) => unreachable!(),
+        Err(StoreRefusal::NoMemory) => Err(NoMemory),
+    }
+}
+
+/// Loads the graph into a new engine with as many leaves as there may be.
+fn load(engine: &mut PlainCore, ids: &Ids, edges: &Edges) -> Result<(), NoMemory>
+    requires new { (scripts : List (List Command)) × (config : Config) × IsConfig scripts config × (engine.old ≡ new_core config) }
+    requires load { IsLoad engine.old (load_of ids.now edges.now) }
+    requires fits { Fits ids.now edges.now }
+    ensures { OnOk result (engine.new ≡ loaded engine.old (load_of ids.now edges.now)) }
+{
+    match load_graph(engine, ids, edges) {
+        Ok(()) => Ok(()),
+        Err(LoadRefusal::Full { leaves: _ }) => unreachable!(),
+        Err(LoadRefusal::NoMemory) => Err(NoMemory),
+    }
+}
+
+/// A job for each script, numbered from 1 in their order.
+fn jobs_of(alloc: Global, scripts: Items<Script>) -> Result<Jobs, NoMemory>
+    requires { length scripts ≤ MAX_SCRIPTS }
+    ensures { IfOk result (λ jobs. jobs ≡ new_jobs 1 scripts) }
+{
+    let mut jobs = Vec::new(alloc);
+    let mut number = 1;
+    'scripts: for script in scripts.into_vec() {
+        jobs.push(Job::new(alloc, number, script))?;
+        number += 1;
+    }
+    Ok(Jobs::from_vec(jobs))
 }

@@ -5,6 +5,8 @@ use Rattle.command_line.specs.Lines.{run_names}
 use Rattle.teseo_program.specs.Parsing.{meaning_of}
 use Rattle.teseo_program.specs.Running.{run_outputs}
 use Rattle.teseo_program.proofs.PreparedLemmas.{loadable, are_inputs, job_count, are_printable, are_apart, same_summary}
+use Rattle.teseo_program.proofs.RunLemmas.{files_fit}
+use Rattle.teseo_program.proofs.OfferedLemmas.{all_offered}
 use Rattle.teseo_program.proofs.prepare.make.Goals as goal
 
 pub run_scripts-requires-clause-inputs : goal.run_scripts-requires-clause-inputs
@@ -16,6 +18,12 @@ pub run_scripts-requires-clause-loadable : goal.run_scripts-requires-clause-load
 run_scripts-requires-clause-loadable c =
     loadable c.load_is_legal.ensures c.files_are_loadable.ensures (run_names c.args.line.now) c.requires.words.0 c.requires.words.1 c.requires.accepted.0 (meaning_of c.args.input)
     c.requires.accepted.1 c.requires.runnable c.requires.count
+
+pub run_scripts-requires-clause-fits : goal.run_scripts-requires-clause-fits
+run_scripts-requires-clause-fits c = files_fit (run_names c.args.line.now) c.requires.accepted.0 (meaning_of c.args.input) c.requires.accepted.1
+
+pub run_scripts-requires-clause-offered : goal.run_scripts-requires-clause-offered
+run_scripts-requires-clause-offered c = all_offered _ _ c.args.input.scripts c.requires.accepted.1.scripts
 
 pub outputs_of-requires-clause-count : goal.outputs_of-requires-clause-count
 outputs_of-requires-clause-count c =

@@ -1,0 +1,217 @@
+-- The engine of a run before its first turn, and what the run leaves.
+use Rattle.std.proofs.Common.{◌≡◌, ℕ, zero, suc, ◌+◌, ◌*◌, ◌<◌, ◌≤◌, List, [], ◌∷◌, ◌++◌, length, map, take, get_or, All, refl, sym, ◌∙◌, ap, subst, arith, replicate}
+use Rattle.std.specs.Prelude.{Bool, cond, slice_get, Option, Some, None, unwrap_or}
+use Rattle.std.specs.List.{AllByRecursion, flat_map}
+use Rattle.std.proofs.lemmas.List.{append-nil}
+use Rattle.std.proofs.lemmas.List.Elements.{All-tail, All-head}
+use Rattle.graph_model.specs.declared.limits.TheConstants.{MAX_LEAVES}
+use Rattle.graph_model.specs.declared.write.Write.{Write}
+use Rattle.graph_model.specs.declared.write.Write.TheVariants.{AddVertex}
+use Rattle.graph_model.specs.declared.write.Kind.TheVariants.{Undirected}
+use Rattle.graph_model.specs.Graph.{vertices_of}
+use Rattle.graph_model.specs.History.{graph_at}
+use Rattle.graph_model.specs.Inserted.{inserted, inserted_by}
+use Rattle.graph_model.specs.OwnerCalls.{PassState, Core, no_pass, pass_at}
+use Rattle.graphalytics_io.specs.declared.edges.Edge.{Edge}
+use Rattle.graphalytics_io.specs.Load.{load_of, added_edge, journal_of}
+use Rattle.run_model.specs.declared.command.Command.{Command}
+use Rattle.run_model.specs.Requests.{Request, ToBegin, ToCommit, ToAbort, ToWrite, ToRead, ToRun, request, next_txn, begun_by}
+use Rattle.run_model.specs.Inputs.{Inputs, AreInputs}
+use Rattle.run_model.specs.Jobs.{load_journal}
+use Rattle.run_model.specs.Stepped.{IsStepped}
+use Rattle.run_model.proofs.SetLemmas.{sum_cons}
+use Rattle.txn_manager.specs.declared.config.Config.{Config}
+use Rattle.plain_core.specs.Passes.{new_pass}
+use Rattle.plain_core.specs.Plain.{new_core, newest_graph, edges_of}
+use Rattle.graph_load.specs.Loading.{HasBegunNothing, IsNew, loaded}
+use Rattle.job_runner.specs.Kernels.{AreOffered}
+use Rattle.job_runner.specs.Lines.{file_of}
+use Rattle.job_runner.specs.Progress.{Progress, new_progress}
+use Rattle.job_runner.specs.Runs.{new_jobs, IsUnused, AreNew, outputs_of, Ends}
+use Rattle.command_line.specs.Words.{RunNames}
+use Rattle.teseo_program.specs.declared.run.RunResult.{RunResult}
+use Rattle.teseo_program.specs.Input.{Meaning, Texts, IsAccepted}
+use Rattle.teseo_program.specs.Running.{run_outputs, HasCounts, Fits, MayBegin, IsConfig}
+
+-- ---- transactions that a script begins
+
+next_grows : (n : ℕ) (r : Request) → n ≤ next_txn n r
+next_grows n ToBegin = omega arith
+next_grows n ToCommit = omega arith
+next_grows n ToAbort = omega arith
+next_grows n (ToWrite w) = omega arith
+next_grows n (ToRead query) = omega arith
+next_grows n (ToRun kernel file) = omega arith
+
+begun_grows : (cs : List Command) (n : ℕ) → n ≤ begun_by n cs
+begun_grows [] n = omega arith
+begun_grows (c ∷ cs) n = omega (arith, next_grows n (request c), begun_grows cs (next_txn n (request c)))
+
+-- no more are begun by the first lines than by all
+pub begun_within : (cs : List Command) (n i : ℕ) → begun_by n (take i cs) ≤ begun_by n cs
+begun_within cs n zero = begun_grows cs n
+begun_within [] n (suc i) = omega arith
+begun_within (c ∷ cs) n (suc i) = begun_within cs (next_txn n (request c)) i
+
+-- one line more
+begun_more : (cs : List Command) (n i : ℕ) (d : Command) → i < length cs → begun_by n (take (suc i) cs) ≡ next_txn (begun_by n (take i cs)) (request (get_or cs i d))
+begun_more [] n i d lt = absurd (omega (arith, lt))
+begun_more (c ∷ cs) n zero d lt = refl
+begun_more (c ∷ cs) n (suc i) d lt = begun_more cs (next_txn n (request c)) i d (omega (arith, lt))
+
+-- a line is counted where it begins a transaction
+pub begun_next : (cs : List Command) (i : ℕ) (c : Command) → i < length cs → c ≡ get_or cs i c → (begins : Bool) → ((n : ℕ) → next_txn n (request c) ≡ cond begins (n + 1) n)
+    → (count : ℕ) → count ≡ begun_by 0 (take i cs) → cond begins (count + 1) count ≡ begun_by 0 (take (i + 1) cs)
+begun_next cs i c lt is begins next count counted =
+    let one_more : suc i ≡ i + 1 = omega arith in
+    sym (next count) ∙ (λ j. next_txn (counted j) (request (is j))) ∙ sym (begun_more cs 0 i c lt) ∙ ap (λ k. begun_by 0 (take k cs)) one_more
+
+-- ---- jobs
+
+pub new_jobs_count : (number : ℕ) (scripts : List (List Command)) → length (new_jobs number scripts) ≡ length scripts
+new_jobs_count number [] = refl
+new_jobs_count number (cs ∷ scripts) = ap suc (new_jobs_count (number + 1) scripts)
+
+-- ---- the engine
+
+each_new : (allowed n : ℕ) → AllByRecursion HasBegunNothing (replicate n (new_pass allowed))
+each_new allowed zero = tt
+each_new allowed (suc n) = (record { begun = refl; made = refl; start = refl; own = refl }, each_new allowed n)
+
+module _ (scripts : List (List Command)) (config : Config) (is : IsConfig scripts config) where
+  passes_are : (new_core config).passes ≡ new_pass config.txns_per_pass ∷ replicate (length scripts) (new_pass config.txns_per_pass)
+  passes_are = ap (λ n. replicate n (new_pass config.txns_per_pass)) is.passes
+
+  pub is_new : IsNew (new_core config)
+  is_new = record {
+    first = new_pass config.txns_per_pass;
+    others = replicate (length scripts) (new_pass config.txns_per_pass);
+    passes = passes_are;
+    selected = refl;
+    journal = refl;
+    each = each_new config.txns_per_pass (suc (length scripts));
+    allowed = is.some;
+  }
+
+-- ---- behind the load
+
+state_of_pass : List PassState → ℕ → PassState
+state_of_pass passes k = unwrap_or (slice_get passes k) no_pass
+
+-- one of some passes that have begun nothing has begun nothing, nor has a pass that isn't there
+unused_at : (allowed n k : ℕ) → IsUnused (unwrap_or (slice_get (replicate n (new_pass allowed)) k) no_pass)
+unused_at allowed zero k = record { made = refl; closed = refl; own = refl; begun = refl }
+unused_at allowed (suc n) zero = record { made = refl; closed = refl; own = refl; begun = refl }
+unused_at allowed (suc n) (suc k) = unused_at allowed n k
+
+allowed_at : (allowed n k : ℕ) → k < n → (unwrap_or (slice_get (replicate n (new_pass allowed)) k) no_pass).allowed ≡ allowed
+allowed_at allowed zero k lt = absurd (omega (arith, lt))
+allowed_at allowed (suc n) zero lt = refl
+allowed_at allowed (suc n) (suc k) lt = allowed_at allowed n k (omega (arith, lt))
+
+count_new : (allowed n : ℕ) → length (replicate n (new_pass allowed)) ≡ n
+count_new allowed zero = refl
+count_new allowed (suc n) = ap suc (count_new allowed n)
+
+journals_agree : (load : List Write) → journal_of load ≡ load_journal load
+journals_agree [] = refl
+journals_agree (w ∷ ws) = refl
+
+inside : (scripts : List (List Command)) (k : ℕ) (cs : List Command) → slice_get scripts k ≡ Some cs → k < length scripts
+inside [] k cs e = cc
+inside (s ∷ scripts) zero cs e = omega arith
+inside (s ∷ scripts) (suc k) cs e = omega (arith, inside scripts k cs e)
+
+module _ (inputs : Inputs) (config : Config) (is : IsConfig inputs.scripts config) (undirected : inputs.kind ≡ Undirected) (given : AreInputs inputs) (offered : AllByRecursion AreOffered inputs.scripts) where
+  first : PassState
+  first = record (new_pass config.txns_per_pass) { begun = 1; made = inputs.load ∷ [] }
+
+  others : List PassState
+  others = replicate (length inputs.scripts) (new_pass config.txns_per_pass)
+
+  core : Core
+  core = record (new_core config) { passes = first ∷ others; journal = journal_of inputs.load }
+
+  -- the load has a pass of its own, and the others have begun nothing
+  core_is : loaded (new_core config) inputs.load ≡ core
+  unfolding first others core
+  core_is = λ i. record {
+    kind = config.kind;
+    leaves = config.leaves;
+    journal = journal_of inputs.load;
+    passes = loaded_passes (passes_are inputs.scripts config is i);
+    selected = 0;
+    served = 0;
+  }
+    where
+      loaded_passes : List PassState → List PassState
+      loaded_passes ps = (loaded (record (new_core config) { passes = ps }) inputs.load).passes
+
+  new_of : AreNew inputs core (new_jobs 1 inputs.scripts)
+  unfolding first others core
+  new_of = record {
+    given = given;
+    offered = offered;
+    kind = is.kind ∙ sym undirected;
+    journal = journals_agree inputs.load;
+    loaded = append-nil inputs.load;
+    closed = refl;
+    unused = unused_at config.txns_per_pass (length inputs.scripts);
+    room = λ k cs at. subst (λ n. begun_by 0 cs ≤ n) (sym (allowed_at config.txns_per_pass (length inputs.scripts) k (inside inputs.scripts k cs at))) (is.begins k cs at);
+    jobs_are = refl;
+    passes = omega (arith, new_jobs_count 1 inputs.scripts, count_new config.txns_per_pass (length inputs.scripts));
+  }
+
+  pub are_new : AreNew inputs (loaded (new_core config) inputs.load) (new_jobs 1 inputs.scripts)
+  are_new = subst (λ c. AreNew inputs c (new_jobs 1 inputs.scripts)) (sym core_is) new_of
+
+  -- the engine and the jobs, as the code comes to them
+  pub started : (before engine : Core) (jobs : List Progress) → before ≡ new_core config → engine ≡ loaded before inputs.load → jobs ≡ new_jobs 1 inputs.scripts → AreNew inputs engine jobs
+  started before engine jobs before_is engine_is jobs_are =
+      subst (λ c. AreNew inputs c jobs) (sym (engine_is ∙ ap (λ c. loaded c inputs.load) before_is))
+      (subst (λ js. AreNew inputs (loaded (new_core config) inputs.load) js) (sym jobs_are) are_new)
+
+  pub ended : (before engine new : Core) (jobs last : List Progress) (listed : List ℕ) → before ≡ new_core config → engine ≡ loaded before inputs.load → jobs ≡ new_jobs 1 inputs.scripts
+      → ((i : Inputs) → AreNew i engine jobs → Ends i listed engine new last) → Ends inputs listed engine new last
+  ended before engine new jobs last listed before_is engine_is jobs_are ends = ends inputs (started before engine jobs before_is engine_is jobs_are)
+
+  pub leaves_are : (before engine : Core) → before ≡ new_core config → engine ≡ loaded before inputs.load → engine.leaves ≡ MAX_LEAVES
+  leaves_are before engine before_is engine_is = ap (λ c. c.leaves) engine_is ∙ ap (λ c. c.leaves) before_is ∙ is.leaves
+
+-- ---- what a run leaves
+
+-- the run, as the code hands it on
+pub stepped_of : (inputs : Inputs) (schedule listed : List ℕ) (engine new : Core) (jobs : List Progress) (r : RunResult) → Ends inputs listed engine new jobs → listed ≡ schedule → engine.leaves ≡ MAX_LEAVES
+    → r.journal ≡ new.journal → r.jobs ≡ jobs → IsStepped inputs MAX_LEAVES schedule (run_outputs r)
+stepped_of inputs schedule listed engine new jobs r ends same leaves journal jobs_are =
+    subst (λ o. IsStepped inputs MAX_LEAVES schedule o) (λ i. record { journal = sym journal i; reports = map (λ job. job.answers) (sym jobs_are i); files = map (λ job. map file_of job.tables) (sym jobs_are i) })
+    (subst (λ n. IsStepped inputs n schedule (outputs_of new jobs)) leaves (subst (λ turns. IsStepped inputs engine.leaves turns (outputs_of new jobs)) same ends.run))
+
+pub counts_of : (new : Core) (r : RunResult) → new.kind ≡ Undirected → r.journal ≡ new.journal → r.vertices ≡ length (vertices_of (newest_graph new)) → r.edges ≡ edges_of new.kind (newest_graph new) → HasCounts Undirected r
+counts_of new r kind journal vertices edges = record {
+  vertices = vertices ∙ ap (λ g. length (vertices_of g)) graphs_agree;
+  edges = edges ∙ (λ i. edges_of (kind i) (graphs_agree i));
+}
+  where
+    graphs_agree : newest_graph new ≡ graph_at Undirected r.journal (length r.journal)
+    graphs_agree = λ i. graph_at (kind i) (sym journal i) (length (sym journal i))
+
+-- ---- what the code asks for
+
+-- each item of a list, by its place
+pub all_at : {X : Type 0} (P : X → Type 0) (xs : List X) → All P xs → (i : ℕ) (x : X) → slice_get xs i ≡ Some x → P x
+all_at P [] all i x e = cc
+all_at P (y ∷ ys) all zero x e = let same : y ≡ x = cc in subst P same (All-head P y ys all)
+all_at P (y ∷ ys) all (suc i) x e = all_at P ys (All-tail P y ys all) i x e
+
+edge_rows : (edges : List Edge) → inserted Undirected (map added_edge edges) ≡ 2 * length edges
+edge_rows [] = refl
+edge_rows (edge ∷ edges) = sum_cons (inserted_by Undirected) (added_edge edge) (map added_edge edges) ∙ omega (arith, edge_rows edges)
+
+load_rows : (ids : List ℕ) (edges : List Edge) → inserted Undirected (load_of ids edges) ≡ length ids + 2 * length edges
+load_rows [] edges = omega (arith, edge_rows edges)
+load_rows (v ∷ ids) edges = sum_cons (inserted_by Undirected) (AddVertex v) (load_of ids edges) ∙ omega (arith, load_rows ids edges)
+
+-- accepted files have so few rows that the load always finds its places
+pub files_fit : (names : RunNames) (texts : Texts) (m : Meaning) → IsAccepted names texts m → Fits m.ids m.edges
+files_fit names texts m accepted = omega (arith, load_rows m.ids m.edges, accepted.edges.rows)
