@@ -1,7 +1,7 @@
 -- How many rows of a graph are vertices, and how many are arcs.
-use Rattle.std.proofs.Common.{◌≡◌, ℕ, zero, suc, ◌+◌, ◌-◌, ◌<◌, ◌≤◌, List, [], ◌∷◌, ◌++◌, length, refl, sym, ◌∙◌, ap, subst, cond, arith}
-use Rattle.std.specs.Prelude.{Bool, true, false, ◌==◌, ◌&&◌, ◌||◌, not, T, map, count_by, Option, Some, None, IsTrue, is_some}
-use Rattle.std.specs.List.{filter, list_any}
+use Rattle.std.proofs.Common.{◌≡◌, ℕ, suc, ◌+◌, ◌-◌, ◌≤◌, List, [], ◌∷◌, length, refl, sym, ◌∙◌, ap, cond, arith}
+use Rattle.std.specs.Prelude.{Bool, true, false, ◌==◌, ◌&&◌, ◌||◌, not, T, map, count_by, Option, Some, None}
+use Rattle.std.specs.List.{list_any}
 use Rattle.std.specs.Ordering.{nat_cmp, ordering_then, eq_by_cmp, is_lt}
 use Rattle.std.specs.declared.cmp.Ordering.{Ordering}
 use Rattle.std.specs.declared.cmp.Ordering.TheVariants.{Less, Equal, Greater}
@@ -13,9 +13,8 @@ use Rattle.std.proofs.lemmas.List.{length-map}
 use Rattle.std.proofs.lemmas.List.Sums.{length-filter, sum_by-append}
 use Rattle.graph_model.specs.declared.limits.TheConstants.{MAX_ID}
 use Rattle.graph_model.specs.declared.row.Key.{Key}
-use Rattle.graph_model.specs.declared.row.Row.{Row}
-use Rattle.graph_model.specs.Graph.{Graph, arc_cmp, has_vertex, has_arc, weight_of, vertices_of}
-use Rattle.graph_model.specs.Rows.{key_cmp, is_below, is_between, vertex_key, arc_key, vertex_entry, arc_entry, row_of, row_map, value_at, first_key, end_key, all_rows, AreRowsOf}
+use Rattle.graph_model.specs.Graph.{Graph, arc_cmp, has_vertex, weight_of, vertices_of}
+use Rattle.graph_model.specs.Rows.{key_cmp, is_between, vertex_key, arc_key, vertex_entry, arc_entry, row_of, row_map, value_at, first_key, end_key, all_rows, AreRowsOf}
 use Rattle.graph_model.proofs.OrderLemmas.{keys_total, keys_exact, key_tie, arc_tie}
 use Rattle.graph_model.proofs.RowLemmas.{find-entries, second_tie, has_source}
 use Rattle.graph_model.proofs.SortedLemmas.{true_from_T, T_from_true}

@@ -1,13 +1,12 @@
 -- The files of a script: one line more, and a journal that has grown.
-use Rattle.std.proofs.Common.{◌≡◌, ℕ, ◌+◌, ◌<◌, ◌≤◌, List, [], ◌∷◌, ◌++◌, length, refl, sym, ◌∙◌, ap, subst, arith, cond, append_assoc}
-use Rattle.std.specs.Prelude.{Bool, true, false, map, Option, Some, None, unwrap_or}
+use Rattle.std.proofs.Common.{◌≡◌, ℕ, ◌≤◌, List, [], ◌∷◌, ◌++◌, length, refl, sym, ap, subst, arith, cond, append_assoc}
+use Rattle.std.specs.Prelude.{map, Option, Some, None}
 use Rattle.std.proofs.lemmas.List.{append-nil}
-use Rattle.graph_model.specs.declared.table.Entry.{Entry}
 use Rattle.graph_model.specs.declared.write.Write.{Write}
 use Rattle.graph_model.specs.declared.write.Kind.{Kind}
 use Rattle.graph_model.specs.declared.journal.Commit.{Commit}
 use Rattle.graph_model.specs.Graph.{Graph, apply_all}
-use Rattle.graph_model.specs.History.{graph_at, view}
+use Rattle.graph_model.specs.History.{view}
 use Rattle.graph_model.proofs.LegalLemmas.{graph_at-append}
 use Rattle.run_model.specs.AnsweredLines.{AnsweredLine, effect, own_writes, start_of, newest_shown, snapshot}
 use Rattle.run_model.specs.Answering.{IsKernelTable}

@@ -1,10 +1,9 @@
 -- A job's fields, and what contracts see of it.
-use Rattle.std.proofs.Common.{◌≡◌, ℕ, zero, suc, ◌+◌, ◌<◌, ◌≤◌, List, [], ◌∷◌, ◌++◌, length, drop, take, refl, sym, ◌∙◌, ap, subst, arith, cond, slice_index_or}
-use Rattle.std.specs.Prelude.{Bool, true, false, ◌||◌, nat_le, Option, Some, None, IfSome, is_some, IsSome, slice_get}
+use Rattle.std.proofs.Common.{◌≡◌, ℕ, zero, suc, ◌+◌, ◌<◌, ◌≤◌, List, [], ◌∷◌, length, drop, refl, sym, ◌∙◌, ap, subst, arith, slice_index_or}
+use Rattle.std.specs.Prelude.{Bool, true, false, ◌||◌, nat_le, Option, Some, None}
 use Rattle.std.proofs.lemmas.Bool.Decides.{nat_tests}
 use Rattle.graph_model.specs.OwnerCalls.{Core, current}
 use Rattle.run_model.specs.declared.command.Command.{Command}
-use Rattle.run_model.specs.declared.answer.Answer.{Answer}
 use Rattle.run_model.specs.Requests.{Request, ToBegin, ToCommit, ToAbort, ToWrite, ToRead, ToRun, request, next_txn, begun_by, open_behind, IsScript}
 use Rattle.run_model.specs.Jobs.{is_empty}
 use Rattle.job_runner.specs.declared.answering.LineTurn.{LineTurn}

@@ -1,48 +1,33 @@
 -- Jobs that are under way are so behind each turn.
-use Rattle.std.proofs.Common.{◌≡◌, ℕ, zero, suc, ◌+◌, ◌-◌, ◌*◌, ◌<◌, ◌≤◌, List, [], ◌∷◌, ◌++◌, length, drop, refl, sym, ◌∙◌, ap, subst, arith, cond, inl, inr}
-use Rattle.std.specs.Prelude.{◌⊎◌, Bool, true, false, ◌||◌, ◌==◌, not, map, Option, Some, None, IfSome, IsSome, is_some, unwrap_or, slice_get, slice_set, sum_by, count_by}
-use Rattle.std.specs.List.{AllByRecursion, flat_map, filter_map}
-use Rattle.std.proofs.lemmas.List.{append-nil}
-use Rattle.std.proofs.lemmas.List.{map-append}
+use Rattle.std.proofs.Common.{◌≡◌, ℕ, zero, suc, ◌+◌, ◌*◌, ◌<◌, ◌≤◌, List, [], ◌∷◌, ◌++◌, length, drop, refl, sym, ◌∙◌, ap, subst, arith, inl, inr}
+use Rattle.std.specs.Prelude.{◌⊎◌, Bool, true, false, ◌==◌, map, Option, Some, None, IfSome, unwrap_or, slice_get, slice_set, sum_by}
+use Rattle.std.specs.List.{flat_map, filter_map}
 use Rattle.std.proofs.lemmas.List.Sums.{sum_by-append}
-use Rattle.std.proofs.lemmas.List.Elements.{filter_map-append}
 use Rattle.std.proofs.lemmas.Option.{slice_get_within}
 use Rattle.graph_model.specs.declared.limits.TheConstants.{SPLIT_ROWS}
 use Rattle.graph_model.specs.declared.write.Kind.{Kind}
 use Rattle.graph_model.specs.declared.write.Write.{Write}
 use Rattle.graph_model.specs.declared.journal.Commit.{Commit}
-use Rattle.graph_model.specs.Graph.{Graph}
 use Rattle.graph_model.specs.History.{view}
 use Rattle.graph_model.specs.Inserted.{inserted, inserted_by}
-use Rattle.graph_model.specs.OwnerCalls.{PassState, Core, no_pass, pass_at, current, with_current, open_txns, inserted_here}
+use Rattle.graph_model.specs.OwnerCalls.{PassState, Core, no_pass, pass_at, inserted_here}
 use Rattle.graph_model.proofs.TestLemmas.{self_eq}
 use Rattle.run_model.specs.declared.command.Command.{Command}
-use Rattle.run_model.specs.declared.answer.Answer.{Answer}
-use Rattle.run_model.specs.declared.answer.Answer.TheVariants as answers
-use Rattle.run_model.specs.Requests.{Request, ToBegin, ToCommit, ToAbort, ToWrite, ToRead, ToRun, request, next_txn, begun_by}
-use Rattle.run_model.specs.AnsweredLines.{AnsweredLine, effect, made_by, answered_lines, snapshot, start_of, own_writes, newest_shown}
+use Rattle.run_model.specs.Requests.{request}
+use Rattle.run_model.specs.AnsweredLines.{made_by, answered_lines, newest_shown}
 use Rattle.run_model.specs.Inputs.{Inputs}
-use Rattle.run_model.specs.Run.{Context, Filing, filing_of, HasFile, HasFiles, MayFill, inserted_in}
-use Rattle.run_model.specs.Jobs.{JobState, RunState, LineResult, skips, line_result, lines_so_far, turn}
-use Rattle.run_model.specs.Stepped.{context_in}
-use Rattle.run_model.specs.UnderWay.{IsJob, IsUnderWay}
+use Rattle.run_model.specs.Run.{MayFill, inserted_in}
+use Rattle.run_model.specs.Jobs.{lines_so_far, turn}
+use Rattle.run_model.specs.UnderWay.{IsUnderWay}
 use Rattle.run_model.proofs.SetLemmas.{set_cases, sum_cons}
 use Rattle.run_model.proofs.TurnLemmas.{turn_keeps}
-use Rattle.job_runner.specs.declared.answering.LineAnswer.{LineAnswer}
-use Rattle.job_runner.specs.declared.answering.LineTurn.{LineTurn}
-use Rattle.job_runner.specs.declared.answering.LineTurn.TheVariants.{Scanning, Answering}
-use Rattle.job_runner.specs.declared.phase.Phase.{Phase}
-use Rattle.job_runner.specs.declared.phase.Phase.TheVariants.{Between, Open, Skipping, GivenUp}
 use Rattle.job_runner.specs.declared.scan.Scan.{Scan}
-use Rattle.job_runner.specs.Kernels.{AreOffered}
-use Rattle.job_runner.specs.Scanning.{IsScan, taken_of}
-use Rattle.job_runner.specs.Lines.{is_skipping, is_inside, IsPhase, file_of, IsFileOn, MayTake, view_here, seat, result_here, pass_behind, core_behind, ScansHere, AnswersHere}
-use Rattle.job_runner.specs.Progress.{Progress, left_of, is_over, behind, listed_table, TakesTurn, job_at, seats, state_of}
-use Rattle.job_runner.specs.Runs.{IsUnused, writes_of_pass, files_context, AreTied, AreUnderWay, turns_left, under_way, Turns, Goes}
-use Rattle.job_runner.proofs.CoreLemmas.{some_of, get_set}
-use Rattle.job_runner.proofs.JobLemmas.{may_take}
-use Rattle.job_runner.proofs.FileLemmas.{view_grows, files_to, files_more, file_given}
-use Rattle.job_runner.proofs.SeatLemmas.{rest_get, lines_more, left_more, skipping_behind, AreClosed, scan_is_turn, answer_is_turn}
+use Rattle.job_runner.specs.Scanning.{IsScan}
+use Rattle.job_runner.specs.Lines.{file_of}
+use Rattle.job_runner.specs.Progress.{Progress, seats, state_of}
+use Rattle.job_runner.specs.Runs.{IsUnused, writes_of_pass, files_context, AreTied, AreUnderWay}
+use Rattle.job_runner.proofs.FileLemmas.{view_grows, files_to}
+use Rattle.job_runner.proofs.SeatLemmas.{rest_get}
 use Rattle.job_runner.proofs.TieLemmas as ties
 use Rattle.job_runner.proofs.TieLemmas.{phase_fits, line_of, flat, made_more, made_count, stop_closes, writes_open, last_behind, between_begins}
 
@@ -103,6 +88,7 @@ tied_grows old new pass k job tied kind rest journal within shown =
       phase_is = tied.phase_is;
       wrote = tied.wrote;
       counted = tied.counted;
+      by_txn = tied.by_txn;
       last = tied.last;
       room = tied.room;
       offered = tied.offered;

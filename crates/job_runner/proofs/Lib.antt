@@ -7,6 +7,7 @@ pub mod JobLemmas
 pub mod SeatLemmas
 pub mod FileLemmas
 pub mod TieLemmas
+pub mod MadeLemmas
 pub mod KeepLemmas
 pub mod StepLemmas
 pub mod TookLemmas

@@ -1,13 +1,12 @@
 -- What the calls of a line make of the core is what the definition of a run by turns says.
-use Rattle.std.proofs.Common.{◌≡◌, ℕ, zero, suc, ◌+◌, ◌*◌, ◌<◌, ◌≤◌, List, [], ◌∷◌, ◌++◌, length, refl, sym, ◌∙◌, ap, subst, arith, cond}
-use Rattle.std.specs.Prelude.{Bool, true, false, ◌&&◌, nat_lt, ◌/◌, is_some, IfSome, IfNone, Option, Some, None, IsSome, unwrap_or, Result, Ok, Err, IfOk, OnOk, OnErr, slice_get, slice_set}
+use Rattle.std.proofs.Common.{◌≡◌, ℕ, ◌+◌, ◌*◌, ◌<◌, ◌≤◌, List, [], ◌∷◌, length, refl, sym, ◌∙◌, ap, subst, arith, cond}
+use Rattle.std.specs.Prelude.{Bool, true, false, ◌&&◌, nat_lt, ◌/◌, IfSome, IfNone, Option, Some, None, IsSome, unwrap_or, Result, Ok, Err, IfOk, OnOk, OnErr, slice_set}
 use Rattle.std.proofs.Common.{length-append}
 use Rattle.std.proofs.lemmas.List.{append-nil}
 use Rattle.std.proofs.lemmas.List.{length-map}
 use Rattle.std.proofs.lemmas.Bool.Decides.{nat_tests}
 use Rattle.graph_model.specs.declared.limits.TheConstants.{SPLIT_ROWS}
 use Rattle.graph_model.specs.declared.write.Write.{Write}
-use Rattle.graph_model.specs.declared.journal.Begun.{Begun}
 use Rattle.graph_model.specs.declared.refusal.Cause.{Cause}
 use Rattle.graph_model.specs.declared.refusal.Refusal.{Refusal}
 use Rattle.graph_model.specs.declared.refusal.Refusal.TheVariants as refusals
@@ -20,25 +19,22 @@ use Rattle.graph_model.specs.Graph.{Graph}
 use Rattle.graph_model.specs.declared.row.Row.{Row}
 use Rattle.graph_model.specs.Scans.{rows_left}
 use Rattle.graph_model.specs.declared.limits.TheConstants.{SCAN_ROWS}
-use Rattle.graph_model.specs.Inserted.{inserts}
 use Rattle.graph_model.specs.Refused.{refused}
-use Rattle.graph_model.specs.OwnerCalls.{PassState, Core, current, with_current, account_here, name_here, open_txns, inserted_here, conflict_here, BeginsHere, RefusesHere, WritesHere, WritesHereFrom, CommitsHere, CommitsHereFrom, AbortsHere, begun_pass, ended_pass, written_pass}
+use Rattle.graph_model.specs.OwnerCalls.{PassState, Core, current, with_current, account_here, name_here, open_txns, inserted_here, conflict_here, WritesHereFrom, CommitsHere, CommitsHereFrom, ended_pass, written_pass}
 use Rattle.run_model.specs.declared.answer.Answer.{Answer}
 use Rattle.run_model.specs.declared.answer.Answer.TheVariants as answers
 use Rattle.run_model.specs.AnsweredLines.{effect}
 use Rattle.run_model.specs.Answering.{refusal_answer, query_answer, kernel_answer}
 use Rattle.run_model.specs.Requests.{Query, WeightOf, NeighboursOf, Counts, Kernel, request, Request, ToBegin, ToCommit, ToAbort, ToWrite, ToRead, ToRun, next_txn, open_behind}
-use Rattle.run_model.specs.Run.{txn_name, filing_of}
-use Rattle.run_model.specs.Jobs.{JobState, scanned, LineResult, goes_on, writes_more, stops, ends, begins, skips, write_result, commit_result, start_of_job}
+use Rattle.run_model.specs.Run.{filing_of}
+use Rattle.run_model.specs.Jobs.{scanned, LineResult, goes_on, writes_more, stops, skips, write_result, commit_result}
 use Rattle.job_runner.specs.declared.answering.LineAnswer.{LineAnswer}
 use Rattle.job_runner.specs.declared.phase.Phase.{Phase}
 use Rattle.job_runner.specs.declared.phase.Phase.TheVariants.{Between, Open, Skipping, GivenUp}
-use Rattle.job_runner.specs.declared.table.NamedTable.{NamedTable}
 use Rattle.run_model.specs.declared.command.Command.{Command}
-use Rattle.run_model.specs.declared.command.Command.TheVariants as commands
 use Rattle.job_runner.specs.declared.scan.Scan.{Scan}
 use Rattle.job_runner.specs.Scanning.{IsScan, IsWhole, ScansOn, rows_of_line, taken_of}
-use Rattle.job_runner.specs.Lines.{is_skipping, is_inside, IsPhase, MayTake, goes_on_here, Advances, ScansHere, AnswersHere, phase_at, phase_behind, view_here, seat, result_here, made_behind, core_behind, IsFileOn, DoesLine, plain, Goes, Stops, FinishesRefused, Finishes}
+use Rattle.job_runner.specs.Lines.{is_skipping, is_inside, IsPhase, MayTake, goes_on_here, Advances, ScansHere, AnswersHere, phase_at, phase_behind, view_here, seat, result_here, made_behind, core_behind, IsFileOn, DoesLine, plain, Goes, Stops, Finishes}
 use Rattle.job_runner.proofs.CoreLemmas.{some_of, put_back, ended_of}
 
 -- a line that asks for no file gives none
@@ -76,14 +72,9 @@ module _ (old : Core) (inside : old.selected < length old.passes) where
     passes = (sym (put_back old.passes old.selected inside) ∙ (λ i. slice_set old.passes old.selected (record (current old) { made = sym made i; begun = sym begun i }))) i;
   }
 
-  -- ---- the ends and the beginning of a transaction
+  -- ---- the end of a transaction
 
-  pub begin_does : (begun : Begun) (new : Core) → BeginsHere old (Ok begun) new → DoesLine old false ToBegin (plain (answers.Begun begun.by begun.start) Open) new
-  begin_does begun new is =
-      by_result false false ToBegin (plain (answers.Begun begun.by begun.start) Open) new (begins (txn_name old.selected ((current old).begun + 1)) (length old.journal)) refl not_full
-      (ap (λ (b : Begun). answers.Begun b.by b.start) is.1) refl refl (current old).sighted (current old).filled
-      (is.2 ∙ (λ i. record (with_current old (begun_pass old)) { journal = sym (append-nil old.journal) i }))
-
+  -- a commit
   pub commit_does : (stamp : Option ℕ) (new : Core) → CommitsHere old stamp new → DoesLine old false ToCommit (plain (answers.Committed stamp) Between) new
   commit_does stamp new is = by_own (current old).own refl is.2
     where
@@ -99,11 +90,6 @@ module _ (old : Core) (inside : old.selected < length old.passes) where
       by_own (w ∷ ws) f done =
           by_result false false ToCommit (plain (answers.Committed stamp) Between) new (commit_result old.journal (name_here old) is.0 (w ∷ ws)) (named is.0 is.1 (w ∷ ws) f) not_full
           (ap answers.Committed done.0) refl refl (current old).sighted (current old).filled done.1
-
-  pub abort_does : (new : Core) → AbortsHere old new → DoesLine old false ToAbort (plain answers.Aborted Between) new
-  abort_does new is =
-      by_result false false ToAbort (plain answers.Aborted Between) new (ends answers.Aborted []) refl not_full refl refl refl (current old).sighted (current old).filled
-      (is ∙ (λ i. record (with_current old (ended_pass old)) { journal = sym (append-nil old.journal) i }))
 
   -- ---- reads
 
@@ -259,32 +245,6 @@ pub takes_by : (old : Core) (phase : Phase) (scan : Option Scan) → is_skipping
     → (given given' : LineAnswer) → given ≡ given' → (new new' : Core) → new ≡ new' → DoesLine old false (request x) given' new' → AnswersHere old phase scan (request command) given new
 takes_by old phase scan calm command x is none given given' same new new' equal does =
     subst (λ y. AnswersHere old phase scan (request command) y new) (sym same) (subst (λ y. AnswersHere old phase scan (request command) given' y) (sym equal) (takes_answer old phase scan calm command x is none given' new' does))
-
--- ---- what a line may rely on
-
-none_some : {P : Type 0} (x : Bool) → ◌≡◌ {A = Option Bool} None (Some x) → P
-none_some x e = cc
-
--- where the line at hand begins a transaction none is open
-pub may_begin : (core : Core) (phase : Phase) (scan : Option Scan) (r : Request) → MayTake core phase scan r → is_skipping phase ≡ false → r ≡ ToBegin → (current core).start ≡ None
-may_begin core phase scan r may calm is = by_phase phase calm may.phase_is may.stands.0 (ap (open_behind (is_inside phase)) (sym is) ∙ may.stands.1)
-  where
-    by_phase : (phase : Phase) → is_skipping phase ≡ false → IsPhase phase (current core).start → (behind : Bool) → open_behind (is_inside phase) ToBegin ≡ Some behind → (current core).start ≡ None
-    by_phase Between calm closed behind e = closed
-    by_phase Open calm opened behind e = none_some behind e
-    by_phase Skipping calm closed behind e = closed
-    by_phase GivenUp calm never behind e = absurd never
-
--- where it may only stand within a transaction, one is open
-pub may_inside : (core : Core) (phase : Phase) (scan : Option Scan) (r x : Request) → MayTake core phase scan r → is_skipping phase ≡ false → r ≡ x → open_behind false x ≡ None
-    → (phase ≡ Open) × IsSome (current core).start
-may_inside core phase scan r x may calm is only = by_phase phase calm may.phase_is may.stands.0 (ap (open_behind (is_inside phase)) (sym is) ∙ may.stands.1)
-  where
-    by_phase : (phase : Phase) → is_skipping phase ≡ false → IsPhase phase (current core).start → (behind : Bool) → open_behind (is_inside phase) x ≡ Some behind → (phase ≡ Open) × IsSome (current core).start
-    by_phase Between calm closed behind e = none_some behind (sym only ∙ e)
-    by_phase Open calm opened behind e = (refl, opened)
-    by_phase Skipping calm closed behind e = absurd (let no : true ≡ false = calm in cc)
-    by_phase GivenUp calm never behind e = absurd never
 
 -- a line at hand that is skipped
 pub skips_turn : (old : Core) (phase : Phase) (scan : Option Scan) (r : Request) → MayTake old phase scan r → phase ≡ Skipping → (given : LineAnswer) → given ≡ plain answers.Skipped (phase_behind (skips r))

@@ -1,6 +1,6 @@
 -- Turns by rotation come to an end: each takes a turn from some job, or brings the next job that isn't over nearer.
 use Rattle.std.proofs.Common.{◌≡◌, ℕ, zero, suc, ◌+◌, ◌-◌, ◌*◌, ◌<◌, ◌≤◌, List, [], ◌∷◌, length, drop, refl, sym, ◌∙◌, ap, subst, arith, cond, inl, inr}
-use Rattle.std.specs.Prelude.{◌⊎◌, Bool, true, false, ◌==◌, not, Option, Some, None, slice_get, sum_by, count_by}
+use Rattle.std.specs.Prelude.{◌⊎◌, Bool, true, false, ◌==◌, not, Option, Some, slice_get, sum_by}
 use Rattle.std.proofs.lemmas.Bool.{ne_eqb}
 use Rattle.std.proofs.lemmas.Bool.Decides.{nat_tests}
 use Rattle.std.proofs.lemmas.List.Sums.{count_by-le-length}
@@ -47,10 +47,17 @@ times_less m n b d e lt small =
 -- a job that is over isn't counted
 drop_over : (jobs : List Progress) (k : ℕ) (job : Progress) → slice_get jobs k ≡ Some job → is_over job ≡ true → under_way (drop k jobs) ≡ under_way (drop (suc k) jobs)
 drop_over [] k job e over = cc
-drop_over (x ∷ jobs) zero job e over =
-    let same : x ≡ job = cc in
-    let none : ◌≡◌ {A = ℕ} (cond (not (is_over x)) 1 0) 0 = ap (λ y. cond (not (is_over y)) 1 0) same ∙ ap (λ b. cond (not b) 1 0) over in
-    omega (arith, sum_cons (λ j. cond (not (is_over j)) 1 0) x jobs, none)
+drop_over (x ∷ jobs) zero job e over = first x job (same_of e) over
+  where
+    same_of : {y z : Progress} → ◌≡◌ {A = Option Progress} (Some y) (Some z) → y ≡ z
+    same_of e = cc
+
+    none : (b : Bool) → b ≡ true → ◌≡◌ {A = ℕ} (cond (not b) 1 0) 0
+    none true e = refl
+    none false e = cc
+
+    first : (x job : Progress) → x ≡ job → is_over job ≡ true → under_way (x ∷ jobs) ≡ under_way jobs
+    first x job same over = omega (arith, sum_cons (λ j. cond (not (is_over j)) 1 0) x jobs, none (is_over x) (ap is_over same ∙ over))
 drop_over (x ∷ jobs) (suc k) job e over = drop_over jobs k job e over
 
 drop_all : (jobs : List Progress) (n : ℕ) → n ≡ length jobs → under_way (drop n jobs) ≡ 0

@@ -1,12 +1,10 @@
 -- The run from its first turn to its end.
-use Rattle.std.proofs.Common.{◌≡◌, ℕ, zero, suc, ◌+◌, ◌-◌, ◌*◌, ◌^◌, ◌<◌, ◌≤◌, List, [], ◌∷◌, ◌++◌, length, drop, refl, sym, ◌∙◌, ap, subst, arith, cond, inl, inr, append_assoc}
-use Rattle.std.specs.Prelude.{◌⊎◌, min, Bool, true, false, ◌||◌, ◌&&◌, ◌==◌, not, map, Option, Some, None, IfSome, IsSome, is_some, unwrap_or, slice_get, slice_set, get_or, sum_by, count_by}
-use Rattle.std.specs.List.{AllByRecursion, flat_map, filter_map, list_all}
+use Rattle.std.proofs.Common.{inl, inr, ◌≡◌, ℕ, zero, suc, ◌+◌, ◌-◌, ◌^◌, ◌<◌, ◌≤◌, List, [], ◌∷◌, ◌++◌, length, drop, refl, sym, ◌∙◌, ap, subst, arith, cond, append_assoc}
+use Rattle.std.specs.Prelude.{◌⊎◌, min, Bool, true, false, ◌||◌, ◌&&◌, ◌==◌, not, map, Option, None, Some, is_some, unwrap_or, slice_get, get_or}
+use Rattle.std.proofs.lemmas.Option.{slice_get_cases}
+use Rattle.std.specs.List.{flat_map, filter_map, list_all}
 use Rattle.std.proofs.lemmas.Bool.Decides.{nat_tests}
 use Rattle.std.proofs.lemmas.List.{append-nil, length-map}
-use Rattle.std.proofs.lemmas.Option.{slice_get_cases, slice_get_within}
-use Rattle.graph_model.specs.declared.write.Write.{Write}
-use Rattle.graph_model.specs.declared.write.Kind.{Kind}
 use Rattle.graph_model.specs.declared.journal.Commit.{Commit}
 use Rattle.graph_model.specs.History.{view}
 use Rattle.graph_model.specs.OwnerCalls.{PassState, Core, no_pass, pass_at, ServesHere, one_more}
@@ -16,10 +14,10 @@ use Rattle.run_model.specs.declared.command.Command.{Command}
 use Rattle.run_model.specs.declared.answer.Answer.{Answer}
 use Rattle.run_model.specs.Requests.{request, next_txn, begun_by, IsScript}
 use Rattle.run_model.specs.AnsweredLines.{AnsweredLine, made_by, answered_from, answered_lines}
-use Rattle.run_model.specs.Inputs.{Inputs, AreInputs, File}
-use Rattle.run_model.specs.Run.{Context, HasFiles, MayFill}
-use Rattle.run_model.specs.Jobs.{JobState, RunState, new_job, load_journal, first_state, lines_so_far, turn, is_empty, has_ended}
-use Rattle.run_model.specs.Stepped.{rotated, turn_at, service_turns, setting_of, IsReached, context_in, IsStepped}
+use Rattle.run_model.specs.Inputs.{Inputs}
+use Rattle.run_model.specs.Run.{HasFiles, MayFill}
+use Rattle.run_model.specs.Jobs.{JobState, new_job, load_journal, first_state, lines_so_far, turn, is_empty, has_ended}
+use Rattle.run_model.specs.Stepped.{rotated, turn_at, service_turns, setting_of, IsReached, context_in}
 use Rattle.run_model.specs.UnderWay.{IsUnderWay}
 use Rattle.run_model.proofs.SteppedLemmas.{first_is}
 use Rattle.run_model.proofs.SetLemmas.{get_map, map_get, sum_cons}
@@ -28,9 +26,9 @@ use Rattle.job_runner.specs.declared.phase.Phase.TheVariants.{Between, Open, Ski
 use Rattle.job_runner.specs.Kernels.{AreOffered}
 use Rattle.job_runner.specs.Lines.{IsPhase, file_of}
 use Rattle.job_runner.specs.Progress.{Progress, new_progress, left_of, has_given_up, is_over, job_at, seats, state_of}
-use Rattle.job_runner.specs.Runs.{new_jobs, IsUnused, writes_of_pass, AreNew, files_context, AreTied, AreUnderWay, under_way, Turns, outputs_of, Ends, IsStuck}
+use Rattle.job_runner.specs.Runs.{new_jobs, IsUnused, AreNew, files_context, AreTied, AreUnderWay, under_way, Turns, Ends}
 use Rattle.job_runner.proofs.FileLemmas.{files_to}
-use Rattle.job_runner.proofs.SeatLemmas.{rest_get, pass_there}
+use Rattle.job_runner.proofs.SeatLemmas.{rest_get}
 use Rattle.job_runner.proofs.TieLemmas as ties
 
 -- ---- the service
@@ -50,7 +48,7 @@ serves core jobs new is = subst (λ x. Turns core jobs 0 false x jobs) (sym is) 
 })
   where
     same : (k : ℕ) (job : Progress) → AreTied core (pass_at core (suc k)) k job → AreTied (record core { served = one_more core.served }) (pass_at core (suc k)) k job
-    same k job t = record { number = t.number; answered = t.answered; phase_is = t.phase_is; wrote = t.wrote; counted = t.counted; last = t.last; room = t.room; offered = t.offered; scans = t.scans; small = t.small; files = t.files }
+    same k job t = record { number = t.number; answered = t.answered; phase_is = t.phase_is; wrote = t.wrote; counted = t.counted; by_txn = t.by_txn; last = t.last; room = t.room; offered = t.offered; scans = t.scans; small = t.small; files = t.files }
 
 -- ---- the beginning
 
@@ -108,6 +106,7 @@ module _ (inputs : Inputs) (core : Core) (jobs : List Progress) (new : AreNew in
         phase_is = none.closed;
         wrote = ap (flat_map (λ ws. ws)) none.made ∙ ap (filter_map made_by) (sym (none_answered 0 cs));
         counted = ap length none.made ∙ sym none.begun;
+        by_txn = λ n lt. absurd (let zero_begun : (pass_at core (suc k)).begun ≡ 0 = none.begun in omega (arith, lt, zero_begun));
         last = λ opened. absurd (let never : false ≡ true = sym (ap is_some none.closed) ∙ opened in cc);
         room = subst (λ n. begun_by n cs ≤ (pass_at core (suc k)).allowed) (sym none.begun) (new.room k cs there);
         offered = each_item AreOffered inputs.scripts new.offered k cs there;
@@ -290,10 +289,3 @@ at_end inputs schedule first n core jobs at none = record {
 
     some_same : {x y : List AnsweredLine} → ◌≡◌ {A = Option (List AnsweredLine)} (Some x) (Some y) → x ≡ y
     some_same e = cc
-
--- want of memory behind some turns is want of memory
-pub stuck_from : (inputs : Inputs) (schedule : List ℕ) (first : Core) (n : ℕ) (core : Core) (jobs : List Progress) → IsAt inputs schedule first n core jobs → (new : Core) (next : List Progress) → IsStuck core new next → IsStuck first new next
-stuck_from inputs schedule first n core jobs at new next stuck = record {
-  held = stuck.held;
-  journal = ((at.journal).0 ++ (stuck.journal).0, (stuck.journal).1 ∙ ap (λ xs. xs ++ (stuck.journal).0) (at.journal).1 ∙ append_assoc first.journal (at.journal).0 (stuck.journal).0);
-}

@@ -1,12 +1,10 @@
 -- Scans: how one begins, and what a turn makes of it.
-use Rattle.std.proofs.Common.{◌≡◌, ℕ, zero, suc, ◌+◌, ◌*◌, ◌^◌, ◌<◌, ◌≤◌, List, [], ◌∷◌, ◌++◌, length, map, refl, sym, ◌∙◌, ap, subst, arith, cond, length-append, append_assoc}
-use Rattle.std.specs.Prelude.{Bool, true, false, count_by}
+use Rattle.std.proofs.Common.{◌≡◌, ℕ, ◌+◌, ◌^◌, ◌<◌, ◌≤◌, List, [], ◌++◌, length, refl, sym, ◌∙◌, ap, subst, arith, cond, length-append, append_assoc}
+use Rattle.std.specs.Prelude.{Bool, false, count_by}
 use Rattle.std.proofs.lemmas.List.{map-append}
 use Rattle.std.proofs.lemmas.List.Sums.{count_by-le-length, sum_by-append}
-use Rattle.graph_model.specs.declared.limits.TheConstants.{SCAN_ROWS}
 use Rattle.graph_model.specs.declared.row.Row.{Row}
 use Rattle.graph_model.specs.declared.row.Key.{Key}
-use Rattle.graph_model.specs.declared.row.Cursor.{Cursor}
 use Rattle.graph_model.specs.Graph.{Graph}
 use Rattle.graph_model.specs.Rows.{rows}
 use Rattle.graph_model.specs.Scans.{rows_left, ScansBy}
@@ -15,7 +13,7 @@ use Rattle.run_model.specs.Requests.{Query, WeightOf, NeighboursOf, Counts, Requ
 use Rattle.job_runner.specs.declared.scan.Scan.{Scan}
 use Rattle.job_runner.specs.declared.scan.ScanResult.{ScanResult}
 use Rattle.job_runner.specs.declared.scan.ScanResult.TheVariants.{Targets, Vertices, Rows}
-use Rattle.job_runner.specs.Scanning.{is_vertex, target_of, with_rows, vertices_in, IsQueryResult, IsResult, rows_of_line, IsScan, IsWhole, ScansOn}
+use Rattle.job_runner.specs.Scanning.{is_vertex, target_of, with_rows, vertices_in, IsQueryResult, IsResult, rows_of_line, IsScan, ScansOn}
 
 -- a count of two lists, one behind the other
 pub count_append : {X : Type 0} (p : X → Bool) (xs ys : List X) → count_by p (xs ++ ys) ≡ count_by p xs + count_by p ys

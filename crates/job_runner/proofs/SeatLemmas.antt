@@ -1,8 +1,7 @@
 -- A turn of a job is a turn of the state that the engine and the jobs have.
-use Rattle.std.proofs.Common.{◌≡◌, ℕ, zero, suc, ◌+◌, ◌<◌, ◌≤◌, List, [], ◌∷◌, ◌++◌, length, drop, refl, sym, ◌∙◌, ap, subst, arith, cond}
-use Rattle.std.specs.Prelude.{Bool, true, false, ◌&&◌, ◌/◌, nat_lt, Option, Some, None, unwrap_or, slice_get, slice_set, is_some}
+use Rattle.std.proofs.Common.{◌≡◌, ℕ, zero, suc, ◌+◌, ◌<◌, ◌≤◌, List, [], ◌∷◌, ◌++◌, length, drop, refl, sym, ◌∙◌, ap, arith, cond}
+use Rattle.std.specs.Prelude.{Bool, true, false, ◌&&◌, nat_lt, Option, Some, None, unwrap_or, slice_get, slice_set}
 use Rattle.std.specs.Option.{option_map}
-use Rattle.graph_model.specs.declared.limits.TheConstants.{SCAN_ROWS}
 use Rattle.graph_model.specs.declared.write.Kind.{Kind}
 use Rattle.graph_model.specs.declared.write.Write.{Write}
 use Rattle.graph_model.specs.declared.journal.Commit.{Commit}
@@ -19,7 +18,7 @@ use Rattle.graph_model.specs.OwnerCalls.{PassState, Core, no_pass, pass_at, curr
 use Rattle.run_model.specs.declared.command.Command.{Command}
 use Rattle.run_model.specs.declared.answer.Answer.{Answer}
 use Rattle.run_model.specs.Requests.{Request, ToBegin, ToCommit, ToAbort, ToWrite, ToRead, ToRun, request, next_txn}
-use Rattle.run_model.specs.AnsweredLines.{AnsweredLine, answered_from, answered_lines}
+use Rattle.run_model.specs.AnsweredLines.{answered_from, answered_lines}
 use Rattle.run_model.specs.declared.answer.Answer.TheVariants as answers_of
 use Rattle.run_model.specs.Answering.{refusal_answer, query_answer, kernel_answer}
 use Rattle.run_model.specs.Run.{txn_name}
@@ -28,11 +27,10 @@ use Rattle.run_model.specs.Jobs.{JobState, RunState, LineResult, skips, write_re
 use Rattle.run_model.specs.UnderWay.{AreNumbered}
 use Rattle.job_runner.specs.declared.answering.LineAnswer.{LineAnswer}
 use Rattle.job_runner.specs.declared.answering.LineTurn.TheVariants.{Scanning, Answering}
-use Rattle.job_runner.specs.declared.phase.Phase.{Phase}
-use Rattle.job_runner.specs.declared.phase.Phase.TheVariants.{Between, Open, Skipping, GivenUp}
+use Rattle.job_runner.specs.declared.phase.Phase.TheVariants.{Skipping}
 use Rattle.job_runner.specs.declared.scan.Scan.{Scan}
 use Rattle.job_runner.specs.Scanning.{taken_of}
-use Rattle.job_runner.specs.Lines.{is_skipping, phase_at, phase_behind, view_here, seat, result_here, pass_behind, core_behind, goes_on_here, DoesLine, ScansHere, AnswersHere}
+use Rattle.job_runner.specs.Lines.{is_skipping, phase_at, phase_behind, seat, result_here, pass_behind, goes_on_here, ScansHere, AnswersHere}
 use Rattle.job_runner.specs.Progress.{Progress, left_of, behind, job_at, seats, state_of}
 use Rattle.job_runner.proofs.CoreLemmas.{put_back}
 

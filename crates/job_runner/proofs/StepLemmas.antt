@@ -1,28 +1,21 @@
 -- One turn of a job among the others.
 use Rattle.std.proofs.Common.{◌≡◌, ℕ, zero, suc, ◌+◌, ◌-◌, ◌*◌, ◌<◌, ◌≤◌, List, [], ◌∷◌, ◌++◌, length, length-append, drop, refl, sym, ◌∙◌, ap, subst, arith, cond, inl, inr}
-use Rattle.std.specs.Prelude.{◌⊎◌, Bool, true, false, ◌||◌, ◌==◌, not, map, Option, Some, None, IfSome, IsSome, is_some, unwrap_or, slice_get, slice_set, sum_by, count_by}
-use Rattle.std.specs.List.{AllByRecursion, flat_map, filter_map}
+use Rattle.std.specs.Prelude.{◌⊎◌, Bool, true, false, ◌||◌, ◌==◌, not, map, Option, Some, None, IsSome, unwrap_or, slice_get, slice_set, sum_by}
+use Rattle.std.specs.List.{filter_map}
 use Rattle.std.proofs.lemmas.Bool.{ne_eqb}
 use Rattle.std.proofs.lemmas.Bool.Decides.{nat_tests}
 use Rattle.std.proofs.lemmas.List.{append-nil, map-append}
 use Rattle.std.proofs.lemmas.List.Elements.{filter_map-append}
-use Rattle.std.proofs.lemmas.Option.{slice_get_within}
-use Rattle.graph_model.specs.declared.limits.TheConstants.{SPLIT_ROWS}
 use Rattle.graph_model.specs.declared.write.Write.{Write}
-use Rattle.graph_model.specs.declared.journal.Commit.{Commit}
-use Rattle.graph_model.specs.Graph.{Graph}
 use Rattle.graph_model.specs.History.{view}
-use Rattle.graph_model.specs.OwnerCalls.{PassState, Core, no_pass, pass_at, current, with_current, open_txns, inserted_here, ended_pass, one_more}
+use Rattle.graph_model.specs.OwnerCalls.{PassState, Core, no_pass, pass_at, open_txns, one_more}
 use Rattle.run_model.specs.declared.command.Command.{Command}
-use Rattle.run_model.specs.declared.answer.Answer.{Answer}
 use Rattle.run_model.specs.declared.answer.Answer.TheVariants as answers
 use Rattle.run_model.specs.Requests.{Request, ToBegin, ToCommit, ToAbort, ToWrite, ToRead, ToRun, request, next_txn, begun_by, open_behind}
-use Rattle.run_model.specs.AnsweredLines.{AnsweredLine, effect, made_by, answered_lines, snapshot, start_of, own_writes, newest_shown}
+use Rattle.run_model.specs.AnsweredLines.{AnsweredLine, effect, made_by, answered_lines, snapshot, own_writes}
 use Rattle.run_model.specs.Inputs.{Inputs}
-use Rattle.run_model.specs.Run.{Context, Filing, filing_of, HasFile, HasFiles, MayFill}
-use Rattle.run_model.specs.Jobs.{JobState, RunState, LineResult, skips, line_result, lines_so_far, turn, is_empty}
-use Rattle.run_model.specs.Stepped.{context_in}
-use Rattle.run_model.specs.UnderWay.{IsJob, IsUnderWay}
+use Rattle.run_model.specs.Run.{Filing, filing_of, HasFiles}
+use Rattle.run_model.specs.Jobs.{LineResult, is_empty}
 use Rattle.run_model.proofs.SetLemmas.{get_set_else}
 use Rattle.job_runner.specs.declared.answering.LineAnswer.{LineAnswer}
 use Rattle.job_runner.specs.declared.answering.LineTurn.{LineTurn}
@@ -32,15 +25,16 @@ use Rattle.job_runner.specs.declared.phase.Phase.TheVariants.{Between, Open, Ski
 use Rattle.job_runner.specs.declared.scan.Scan.{Scan}
 use Rattle.job_runner.specs.Kernels.{AreOffered}
 use Rattle.job_runner.specs.Scanning.{IsScan, taken_of}
-use Rattle.job_runner.specs.Lines.{is_skipping, is_inside, IsPhase, file_of, IsFileOn, MayTake, view_here, seat, result_here, made_behind, pass_behind, core_behind, ScansHere, AnswersHere, TakesHere}
-use Rattle.job_runner.specs.Progress.{Progress, left_of, has_given_up, is_over, behind, listed_table, TakesTurn, job_at, seats, state_of}
-use Rattle.job_runner.specs.Runs.{IsUnused, writes_of_pass, files_context, AreTied, AreUnderWay, turns_left, under_way, Turns, Goes}
+use Rattle.job_runner.specs.Lines.{is_skipping, is_inside, IsPhase, file_of, MayTake, view_here, seat, result_here, made_behind, pass_behind, core_behind, ScansHere, AnswersHere, TakesHere}
+use Rattle.job_runner.specs.Progress.{Progress, left_of, has_given_up, is_over, behind, listed_table, TakesTurn, state_of}
+use Rattle.job_runner.specs.Runs.{files_context, AreTied, AreUnderWay, turns_left, under_way, Turns, Goes}
 use Rattle.job_runner.proofs.CoreLemmas.{some_of, get_set}
 use Rattle.job_runner.proofs.JobLemmas.{may_take, has_left}
 use Rattle.job_runner.proofs.FileLemmas.{view_grows, files_to, files_more, file_given}
-use Rattle.job_runner.proofs.SeatLemmas.{AreClosed, heads, lines_more, left_more, skipping_behind, scan_is_turn, answer_is_turn, over_is_turn}
+use Rattle.job_runner.proofs.SeatLemmas.{AreClosed, heads, lines_more, left_more, scan_is_turn, answer_is_turn, over_is_turn}
 use Rattle.job_runner.proofs.TieLemmas as ties
 use Rattle.job_runner.proofs.TieLemmas.{phase_fits, line_of, flat, made_more, made_count, stop_closes, writes_open, last_behind, between_begins}
+use Rattle.job_runner.proofs.MadeLemmas.{txn_more}
 use Rattle.job_runner.proofs.KeepLemmas.{fills, within, job_keeps, sum_changed, length_set}
 
 -- a line that has a file runs a kernel, and begins nothing
@@ -102,6 +96,7 @@ module _ (inputs : Inputs) (core : Core) (jobs : List Progress) (u : AreUnderWay
       phase_is = tied.phase_is;
       wrote = tied.wrote;
       counted = tied.counted;
+      by_txn = tied.by_txn;
       last = tied.last;
       room = tied.room;
       offered = tied.offered;
@@ -183,6 +178,9 @@ module _ (inputs : Inputs) (core : Core) (jobs : List Progress) (u : AreUnderWay
           ∙ sym (filter_map-append made_by lines (line ∷ []))
           ∙ ap (filter_map made_by) (sym lines_are);
       counted = made_count pass.made pass.begun (request c) here.answer tied.counted;
+      by_txn = λ n lt. ap (λ a. slice_get (made_behind pass.made (request c) a) n) (sym answered.does.answer)
+          ∙ txn_more pass.made pass.begun lines tied.counted (ties.its inputs core jobs u k job there).numbered tied.by_txn c given.answer (request c) refl n lt
+          ∙ ap (λ ls. Some (own_writes (suc n) ls)) (sym lines_are);
       last = last_behind chosen.kind chosen.journal (open_txns chosen) (suc k) (seat chosen (is_skipping job.phase)) answered.does.full pass.made tied.last (request c);
       room = subst (λ cs. begun_by (next_txn pass.begun (request c)) cs ≤ pass.allowed) (sym left_is) (subst (λ cs. begun_by pass.begun cs ≤ pass.allowed) cons tied.room);
       offered = subst AreOffered (sym left_is) (let all = subst AreOffered cons tied.offered in all.1);

@@ -1,10 +1,9 @@
 -- A job and its pass: what a turn may rely on, and what it leaves.
-use Rattle.std.proofs.Common.{◌≡◌, ℕ, zero, suc, ◌+◌, ◌-◌, ◌*◌, ◌<◌, ◌≤◌, List, [], ◌∷◌, ◌++◌, length, drop, refl, sym, ◌∙◌, ap, subst, arith, cond, inl, inr, length-append, append_assoc}
-use Rattle.std.specs.Prelude.{◌⊎◌, Bool, true, false, ◌||◌, ◌&&◌, map, Option, Some, None, IfSome, IfNone, IsSome, is_some, unwrap_or, slice_get, slice_set}
+use Rattle.std.proofs.Common.{◌≡◌, ℕ, suc, ◌+◌, ◌<◌, List, [], ◌∷◌, ◌++◌, length, refl, sym, ◌∙◌, ap, subst, arith, cond, inl, inr, length-append, append_assoc}
+use Rattle.std.specs.Prelude.{◌⊎◌, Bool, true, false, ◌||◌, ◌&&◌, Option, Some, None, IfSome, IfNone, IsSome, is_some, slice_get}
 use Rattle.std.specs.List.{flat_map, filter_map, cons_option}
 use Rattle.std.specs.Option.{option_map}
 use Rattle.std.proofs.lemmas.List.{append-nil}
-use Rattle.std.proofs.lemmas.List.Elements.{filter_map-append}
 use Rattle.std.proofs.lemmas.Grind.{flat_map-append}
 use Rattle.std.proofs.lemmas.Option.{slice_get_within}
 use Rattle.graph_model.specs.declared.write.Write.{Write}
@@ -17,31 +16,30 @@ use Rattle.graph_model.specs.declared.refusal.Refusal.TheVariants as refusals
 use Rattle.graph_model.specs.declared.refusal.Cause.{Cause}
 use Rattle.graph_model.specs.Account.{IsOpenTxn, IsValid}
 use Rattle.graph_model.specs.AccountSteps.{last_with}
-use Rattle.graph_model.specs.History.{view, graph_at}
+use Rattle.graph_model.specs.History.{graph_at}
 use Rattle.graph_model.specs.Inserted.{inserts}
 use Rattle.graph_model.specs.Legal.{IsLegal}
 use Rattle.graph_model.specs.Refused.{AllAllowed}
-use Rattle.graph_model.specs.OwnerCalls.{PassState, Core, no_pass, pass_at, current, with_current, account_here}
+use Rattle.graph_model.specs.OwnerCalls.{PassState, Core, pass_at, account_here}
 use Rattle.run_model.specs.declared.command.Command.{Command}
 use Rattle.run_model.specs.declared.answer.Answer.{Answer}
 use Rattle.run_model.specs.declared.answer.Answer.TheVariants as answers
-use Rattle.run_model.specs.Requests.{Request, ToBegin, ToCommit, ToAbort, ToWrite, ToRead, ToRun, request, next_txn, write_of, open_behind, begun_by, IsScript}
-use Rattle.run_model.specs.AnsweredLines.{AnsweredLine, effect, made_by, answered_lines}
+use Rattle.run_model.specs.Requests.{Request, ToBegin, ToCommit, ToAbort, ToWrite, ToRead, ToRun, request, next_txn, write_of, open_behind, IsScript}
+use Rattle.run_model.specs.AnsweredLines.{AnsweredLine, effect, made_by}
 use Rattle.run_model.specs.Answering.{refusal_answer}
 use Rattle.run_model.specs.Inputs.{Inputs}
 use Rattle.run_model.specs.Run.{txn_name}
-use Rattle.run_model.specs.Jobs.{JobState, RunState, LineResult, skips, stops, writes_more, write_result, commit_result, live_result, line_result}
+use Rattle.run_model.specs.Jobs.{JobState, LineResult, skips, stops, writes_more, write_result, commit_result, live_result, line_result}
 use Rattle.run_model.specs.Stepped.{context_in}
-use Rattle.run_model.specs.UnderWay.{IsJob, is_within, IsUnderWay}
+use Rattle.run_model.specs.UnderWay.{IsJob}
 use Rattle.run_model.proofs.OpenLemmas.{open_here}
 use Rattle.job_runner.specs.declared.phase.Phase.{Phase}
 use Rattle.job_runner.specs.declared.phase.Phase.TheVariants.{Between, Open, Skipping, GivenUp}
 use Rattle.job_runner.specs.Lines.{is_skipping, is_inside, IsPhase, phase_at, phase_behind, made_behind}
 use Rattle.job_runner.specs.Progress.{Progress, left_of, IsReady, job_at, state_of}
-use Rattle.job_runner.specs.Runs.{writes_of_pass, AreTied, AreUnderWay}
-use Rattle.job_runner.proofs.CoreLemmas.{some_of}
+use Rattle.job_runner.specs.Runs.{AreTied, AreUnderWay}
 use Rattle.job_runner.proofs.JobLemmas.{begun_rises}
-use Rattle.job_runner.proofs.SeatLemmas.{AreClosed, seat_there}
+use Rattle.job_runner.proofs.SeatLemmas.{seat_there}
 
 -- ---- phases
 
@@ -68,9 +66,6 @@ idle_if own None idle = idle refl
 idle_if own (Some start) idle = tt
 
 module _ (inputs : Inputs) (core : Core) (jobs : List Progress) (u : AreUnderWay inputs core jobs) where
-  pub closed_passes : AreClosed core (length jobs)
-  closed_passes = record { service = u.closed; others = λ i le. (u.unused i le).closed }
-
   module _ (k : ℕ) (job : Progress) (there : slice_get jobs k ≡ Some job) where
     -- the engine with the job's pass selected
     abbrev pub chosen : Core
@@ -155,7 +150,7 @@ flat_last : (earlier : List (List Write)) (ws : List Write) → flat (earlier ++
 flat_last earlier ws = flat_map-append (λ ws. ws) earlier (ws ∷ []) ∙ ap (λ xs. flat earlier ++ xs) (append-nil ws)
 
 -- a line that asks for no write has made none
-none_made : (c : Command) (r : Request) → request c ≡ r → write_of r ≡ None → (txn : ℕ) (a : Answer) → filter_map made_by (line_of txn c a ∷ []) ≡ []
+pub none_made : (c : Command) (r : Request) → request c ≡ r → write_of r ≡ None → (txn : ℕ) (a : Answer) → filter_map made_by (line_of txn c a ∷ []) ≡ []
 none_made c r is none txn a = ap (λ w. cons_option (cond (effect a).writes w None) []) (ap write_of is ∙ none) ∙ either (effect a).writes
   where
     either : (b : Bool) → let none : Option Write = None in cons_option (cond b none none) [] ≡ []

@@ -1,13 +1,12 @@
 -- What a turn came to, for the jobs as a whole.
-use Rattle.std.proofs.Common.{◌≡◌, ℕ, zero, suc, ◌+◌, ◌-◌, ◌<◌, ◌≤◌, List, [], ◌∷◌, ◌++◌, length, refl, sym, ◌∙◌, ap, subst, arith, cond, inl, inr}
-use Rattle.std.specs.Prelude.{◌⊎◌, Bool, true, false, ◌==◌, nat_lt, Option, Some, None, IsSome, unwrap_or, slice_get, slice_set, Result, Ok, Err, IfOk, OnOk, OnErr}
+use Rattle.std.proofs.Common.{◌≡◌, ℕ, zero, suc, ◌+◌, ◌<◌, ◌≤◌, List, [], ◌∷◌, length, refl, sym, ◌∙◌, ap, subst, arith, inl, inr}
+use Rattle.std.specs.Prelude.{◌⊎◌, Bool, true, false, ◌==◌, nat_lt, Option, Some, None, unwrap_or, slice_get, slice_set, Result, Ok, Err, IfOk, OnOk, OnErr}
 use Rattle.std.proofs.lemmas.Bool.{ne_eqb, cases_eq}
 use Rattle.std.proofs.lemmas.Bool.Decides.{nat_tests}
 use Rattle.std.proofs.lemmas.List.{append-nil}
 use Rattle.std.proofs.lemmas.Option.{slice_get_within}
 use Rattle.items.specs.declared.memory.NoMemory.{NoMemory}
-use Rattle.graph_model.specs.declared.journal.Commit.{Commit}
-use Rattle.graph_model.specs.OwnerCalls.{PassState, Core, no_pass, pass_at, current, with_current, ended_pass}
+use Rattle.graph_model.specs.OwnerCalls.{PassState, Core, no_pass, pass_at, with_current, ended_pass}
 use Rattle.run_model.specs.Inputs.{Inputs}
 use Rattle.run_model.proofs.SetLemmas.{get_set_else, set_cases}
 use Rattle.job_runner.specs.declared.phase.Phase.{Phase}

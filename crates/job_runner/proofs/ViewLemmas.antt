@@ -1,11 +1,11 @@
 -- What a line reads of the view: its rows, how many of them are vertices and arcs, and one vertex's targets.
-use Rattle.std.proofs.Common.{◌≡◌, ℕ, ◌+◌, ◌-◌, ◌≤◌, List, length, refl, sym, ◌∙◌, ap, subst, cond, arith}
-use Rattle.std.specs.Prelude.{◌/◌, Bool, true, false, Option, Some, None, IfSome, IsSome, unwrap_or, count_by}
+use Rattle.std.proofs.Common.{◌≡◌, ℕ, ◌+◌, ◌-◌, List, length, refl, sym, ◌∙◌, ap, subst, cond, arith}
+use Rattle.std.specs.Prelude.{◌/◌, Bool, true, false, IfSome, IsSome, unwrap_or, count_by}
 use Rattle.std.specs.FinMap as fin_map
 use Rattle.graph_model.specs.declared.row.Row.{Row}
 use Rattle.graph_model.specs.declared.write.Kind.{Kind}
 use Rattle.graph_model.specs.declared.write.Kind.TheVariants.{Directed, Undirected}
-use Rattle.graph_model.specs.Account.{Account, IsOpenTxn, IsValid}
+use Rattle.graph_model.specs.Account.{IsOpenTxn, IsValid}
 use Rattle.graph_model.specs.Graph.{Graph, has_vertex, vertices_of}
 use Rattle.graph_model.specs.History.{view}
 use Rattle.graph_model.specs.Rows.{all_rows, AreRowsOf}

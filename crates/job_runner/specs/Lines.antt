@@ -28,7 +28,7 @@ use Rattle.job_runner.specs.declared.phase.Phase.TheVariants.{Between, Open, Ski
 use Rattle.job_runner.specs.declared.scan.Scan.{Scan}
 use Rattle.job_runner.specs.declared.table.NamedTable.{NamedTable}
 use Rattle.job_runner.specs.Kernels.{IsOffered}
-use Rattle.job_runner.specs.Scanning.{IsScan, IsWhole, taken_of}
+use Rattle.job_runner.specs.Scanning.{too_many_turns, IsScan, IsWhole, taken_of}
 
 -- ---- phases
 
@@ -164,7 +164,7 @@ pub record ScansHere (old : Core) (phase : Phase) (before : Option Scan) (r : Re
   pub is_open : phase ≡ Open
   pub more : goes_on_here old false (taken_of before) r ≡ true
   pub taken : taken_of (Some next) ≡ taken_of before + 1
-  pub small : taken_of (Some next) < 288230376151711744
+  pub small : taken_of (Some next) < too_many_turns
   pub scan : IsScan (view_here old) r next
   pub same : new ≡ old
 

@@ -1,5 +1,5 @@
 -- A job under way, as its contracts see it, and the state of a run that jobs and engine have.
-use Rattle.std.specs.Prelude.{◌≡◌, ℕ, ◌+◌, ◌≤◌, ◌<◌, Bool, true, false, ◌||◌, List, [], ◌∷◌, ◌++◌, length, drop, map, take, Option, Some, None, IfSome}
+use Rattle.std.specs.Prelude.{◌≡◌, ℕ, ◌≤◌, ◌<◌, Bool, true, false, ◌||◌, List, [], ◌∷◌, ◌++◌, length, drop, Option, Some, None, IfSome}
 use Rattle.graph_model.specs.Account.{IsValid}
 use Rattle.graph_model.specs.OwnerCalls.{PassState, Core, current, account_here}
 use Rattle.run_model.specs.declared.command.Command.{Command}

@@ -1,24 +1,22 @@
 -- Jobs that run one beside the other: what holds of them and of their engine before and behind each turn.
-use Rattle.std.specs.Prelude.{◌≡◌, ◌⊎◌, ℕ, suc, ◌+◌, ◌-◌, ◌*◌, ◌^◌, ◌<◌, ◌≤◌, min, Bool, true, false, cond, ◌==◌, not, List, [], ◌∷◌, ◌++◌, length, drop, map, slice_get, slice_set, sum_by, count_by, Option, Some, None, IfSome, IsSome, unwrap_or}
+use Rattle.std.specs.Prelude.{◌≡◌, ◌⊎◌, ℕ, suc, ◌+◌, ◌-◌, ◌*◌, ◌^◌, ◌<◌, ◌≤◌, min, Bool, true, false, cond, ◌==◌, not, List, [], ◌∷◌, ◌++◌, length, map, slice_get, sum_by, count_by, Option, Some, None, IfSome, IsSome, unwrap_or}
 use Rattle.std.specs.List.{AllByRecursion, flat_map, filter_map}
 use Rattle.graph_model.specs.declared.write.Write.{Write}
-use Rattle.graph_model.specs.declared.write.Kind.{Kind}
 use Rattle.graph_model.specs.declared.journal.Commit.{Commit}
-use Rattle.graph_model.specs.Graph.{Graph}
 use Rattle.graph_model.specs.History.{view}
 use Rattle.graph_model.specs.OwnerCalls.{PassState, Core, pass_at, one_more}
 use Rattle.run_model.specs.declared.command.Command.{Command}
-use Rattle.run_model.specs.AnsweredLines.{AnsweredLine, answered_lines, made_by}
-use Rattle.run_model.specs.Inputs.{Inputs, AreInputs, File, Outputs}
+use Rattle.run_model.specs.AnsweredLines.{answered_lines, made_by, own_writes}
+use Rattle.run_model.specs.Inputs.{Inputs, AreInputs, Outputs}
 use Rattle.run_model.specs.Requests.{request, begun_by}
 use Rattle.run_model.specs.Run.{Context, HasFiles, MayFill}
-use Rattle.run_model.specs.Jobs.{RunState, load_journal, first_state, lines_so_far, turn}
+use Rattle.run_model.specs.Jobs.{load_journal, lines_so_far, turn}
 use Rattle.run_model.specs.Stepped.{IsStepped, service_turns}
 use Rattle.run_model.specs.UnderWay.{IsUnderWay}
 use Rattle.job_runner.specs.declared.phase.Phase.{Phase}
 use Rattle.job_runner.specs.declared.phase.Phase.TheVariants.{Between, Open, Skipping, GivenUp}
 use Rattle.job_runner.specs.Kernels.{AreOffered}
-use Rattle.job_runner.specs.Scanning.{IsScan, taken_of}
+use Rattle.job_runner.specs.Scanning.{too_many_turns, IsScan, taken_of}
 use Rattle.job_runner.specs.Lines.{IsPhase, file_of}
 use Rattle.job_runner.specs.Progress.{Progress, new_progress, left_of, is_over, state_of}
 
@@ -70,6 +68,8 @@ pub record AreTied (core : Core) (pass : PassState) (k : ℕ) (job : Progress) :
   -- of these lists is the open transaction's
   pub wrote : writes_of_pass pass ≡ filter_map made_by (answered_lines job.commands job.answers)
   pub counted : length pass.made ≡ pass.begun
+  pub by_txn : (n : ℕ) → n < pass.begun
+      → slice_get pass.made n ≡ Some (own_writes (suc n) (answered_lines job.commands job.answers))
   pub last : IsSome pass.start → (earlier : List (List Write)) × (pass.made ≡ earlier ++ pass.own ∷ [])
   -- it may begin the transactions of the lines that are left
   pub room : begun_by pass.begun (left_of job) ≤ pass.allowed
@@ -77,7 +77,7 @@ pub record AreTied (core : Core) (pass : PassState) (k : ℕ) (job : Progress) :
   -- the rows that the job has laid by, and those that are left to its scan, are those that its line scans
   pub scans : (c : Command) (rest : List Command) → left_of job ≡ c ∷ rest
       → IfSome job.scan (IsScan (view core.kind core.journal (unwrap_or pass.start 0) pass.own) (request c))
-  pub small : taken_of job.scan < 288230376151711744
+  pub small : taken_of job.scan < too_many_turns
   -- each line answered `table` has its table
   pub files : HasFiles (files_context core) [] (answered_lines job.commands job.answers) (map file_of job.tables)
 
@@ -98,7 +98,7 @@ pub record AreUnderWay (inputs : Inputs) (core : Core) (jobs : List Progress) : 
 
 -- how many turns a job has left, at most: a line takes no more than a number of 64 bits can count
 abbrev pub turns_left : Progress → ℕ
-turns_left job = length (left_of job) * 288230376151711744 - taken_of job.scan
+turns_left job = length (left_of job) * too_many_turns - taken_of job.scan
 
 -- how many jobs aren't over
 abbrev pub under_way : List Progress → ℕ

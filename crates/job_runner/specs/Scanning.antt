@@ -74,6 +74,10 @@ rows_of_line g (ToWrite w) = []
 rows_of_line g (ToRead query) = rows_of_query g query
 rows_of_line g (ToRun kernel file) = all_rows g
 
+-- so many portions have as many rows as 64 bits count, and no scan gives as many
+abbrev pub too_many_turns : ℕ
+too_many_turns = 288230376151711744
+
 -- the turns that a scan has taken, each of which gave a full portion
 abbrev pub taken_of : Option Scan → ℕ
 taken_of None = 0

@@ -2,7 +2,7 @@
 //!
 //! 1. What a turn does to jobs and engine is a turn of the run as `run_model` defines it.
 //! 2. A job and its pass fit each other behind each turn: a transaction is open in both or in neither, and the
-//!    pass has made what the answered lines wrote.
+//!    pass has made what the answered lines wrote, transaction by transaction.
 //! 3. Where memory is wanted, no transaction stays open.
 #![tactic(auto)]
 

@@ -1,5 +1,5 @@
 -- The core of an engine by its fields, while one of its passes is changed in place.
-use Rattle.std.proofs.Common.{◌≡◌, ℕ, zero, suc, ◌+◌, ◌/◌, ◌<◌, ◌≤◌, subst, ◌↔◌, List, [], ◌∷◌, ◌++◌, length, map, get_or, cond, refl, sym, ◌∙◌, ap, arith}
+use Rattle.std.proofs.Common.{◌≡◌, ℕ, zero, suc, ◌+◌, ◌/◌, ◌<◌, ◌≤◌, subst, ◌↔◌, List, [], ◌∷◌, ◌++◌, length, get_or, cond, refl, sym, ◌∙◌, ap, arith}
 use Rattle.std.specs.Prelude.{Bool, true, false, ◌==◌, Option, Some, None, IsSome, unwrap_or, slice_get, slice_set, Result, Ok, Err, IsErrAnd}
 use Rattle.std.proofs.lemmas.Bool.Decides.{nat_tests}
 use Rattle.std.specs.FinMap as fin_map
@@ -79,9 +79,13 @@ module _ (kind : Kind) (leaves : ℕ) (m : Manager) (passes : List RoomyPass) (s
 
   plain_spare : (m' : Manager) → m' ≡ record m { spare = m'.spare } → IsPlain core m' rows
   plain_spare m' same = subst (λ (n : Manager). IsPlain core n rows) (sym same) (record {
-    store = is.store; chosen = is.chosen;
+    store = is.store;
+    chosen = is.chosen;
     tied = record { journal = is.tied.journal; count = is.tied.count; each = is.tied.each; allowed = is.tied.allowed };
-    used = is.used; made = is.made; keys = is.keys; leaves = is.leaves;
+    used = is.used;
+    made = is.made;
+    keys = is.keys;
+    leaves = is.leaves;
   })
 
   -- nothing has changed but room

@@ -2,15 +2,14 @@
 use Rattle.std.proofs.Common.{◌≡◌, ℕ, zero, suc, ◌≤◌, ◌<◌, List, [], ◌∷◌, length, replicate, refl, sym, ◌∙◌, ap, subst, cond, arith}
 use Rattle.std.specs.Prelude.{Bool, true, false, ◌==◌, Option, Some, None, unwrap_or, slice_get}
 use Rattle.std.proofs.lemmas.Bool.Decides.{nat_tests}
-use Rattle.graph_model.specs.declared.limits.TheConstants.{MAX_LEAVES}
 use Rattle.graph_model.specs.declared.journal.TxnName.{TxnName}
-use Rattle.graph_model.specs.OwnerCalls.{PassState, Core, no_pass, pass_at, running_of}
+use Rattle.graph_model.specs.OwnerCalls.{PassState, Core, no_pass, running_of}
 use Rattle.graph_model.specs.Transactions.{Running}
 use Rattle.store_model.specs.Store.{IsPlainStore}
 use Rattle.store_model.proofs.NewLemmas.{store_new}
 use Rattle.txn_manager.specs.declared.config.Config.{Config}
 use Rattle.txn_manager.specs.Config.{too_large}
-use Rattle.txn_manager.specs.Manager.{Manager, PassTxns, no_txns, new_manager, txns_of}
+use Rattle.txn_manager.specs.Manager.{Manager, no_txns, new_manager}
 use Rattle.txn_manager.proofs.ViewLemmas.{state_in-get}
 use Rattle.plain_rows.specs.Rows.{contents_of}
 use Rattle.plain_core.specs.Passes.{RoomyPass, new_pass}

@@ -1,16 +1,15 @@
 -- The open transactions of a core, while the selected pass goes on.
-use Rattle.std.proofs.Common.{◌≡◌, ℕ, ◌+◌, ◌-◌, ◌≤◌, ◌<◌, List, [], ◌∷◌, ◌++◌, length, refl, sym, ◌∙◌, ap, subst, cond, arith, inl, inr}
+use Rattle.std.proofs.Common.{◌≡◌, ℕ, ◌+◌, ◌-◌, List, refl, sym, ◌∙◌, ap, subst, cond, arith, inl}
 use Rattle.std.specs.Prelude.{Bool, true, false, ◌==◌, nat_lt, Option, Some, None, is_some, option_map, unwrap_or, slice_get, slice_set}
 use Rattle.std.proofs.lemmas.Bool.Decides.{nat_tests}
 use Rattle.std.proofs.lemmas.List.{length-set}
 use Rattle.graph_model.specs.declared.journal.TxnName.{TxnName}
-use Rattle.graph_model.specs.Conflict.{OpenTxn, same_name}
 use Rattle.graph_model.specs.OwnerCalls.{PassState, Core, no_pass, pass_at, current, with_current, name_here, running_of, open_txns}
 use Rattle.graph_model.specs.OwnerLaws.{IsChosen}
-use Rattle.graph_model.specs.Passes.{of_latest, revised, state_in, latest_name, open_txns_of}
+use Rattle.graph_model.specs.Passes.{of_latest, revised, state_in}
 use Rattle.graph_model.specs.Transactions.{Running, Changes, IsListed}
 use Rattle.graph_model.proofs.PassLemmas.{latest_here, changes_latest, changes_next, state_in-set, is_listed}
-use Rattle.txn_manager.specs.Manager.{Manager, PassTxns, no_txns, txns_of, with_txns, open_start}
+use Rattle.txn_manager.specs.Manager.{Manager, PassTxns, no_txns, with_txns, open_start}
 use Rattle.plain_core.specs.Plain.{running_in, txns_in, AreTied}
 
 -- the pass with a number, in a list from 0 on
@@ -52,14 +51,15 @@ module _ (core : Core) (chosen : IsChosen core) (state : PassState) where
     where
       number : (q : ℕ) → (revised (pass_at core) core.selected state q).begun ≡ (pass_at core q).begun
       number q = elim (q == core.selected) as (λ t. (q == core.selected) ≡ t → (cond t state (pass_at core q)).begun ≡ (pass_at core q).begun) [
-          | true ↦ λ e. let is : q ≡ core.selected = grind (arith, nat_tests) in begun ∙ ap (λ p. (pass_at core p).begun) (sym is)
-          | false ↦ λ e. refl
-        ] refl
+        | true ↦ λ e. let is : q ≡ core.selected = grind (arith, nat_tests) in begun ∙ ap (λ p. (pass_at core p).begun) (sym is)
+        | false ↦ λ e. refl
+      ] refl
+
       run : (q : ℕ) → running_of (revised (pass_at core) core.selected state q) ≡ running_of (pass_at core q)
       run q = elim (q == core.selected) as (λ t. (q == core.selected) ≡ t → running_of (cond t state (pass_at core q)) ≡ running_of (pass_at core q)) [
-          | true ↦ λ e. let is : q ≡ core.selected = grind (arith, nat_tests) in same ∙ ap (λ p. running_of (pass_at core p)) (sym is)
-          | false ↦ λ e. refl
-        ] refl
+        | true ↦ λ e. let is : q ≡ core.selected = grind (arith, nat_tests) in same ∙ ap (λ p. running_of (pass_at core p)) (sym is)
+        | false ↦ λ e. refl
+      ] refl
 
   -- the manager follows
   pub tied_set : (m : Manager) → AreTied core m → (txns : PassTxns) → txns ≡ txns_in state → state.allowed ≡ (current core).allowed → AreTied (with_current core state) (with_txns m core.selected txns)
@@ -103,6 +103,7 @@ same_open core m tied n =
   where
     some_running : PassState → Option ℕ → Bool
     some_running s y = let run : Option Running = option_map (λ start. record { start = start; writes = s.own }) y in is_some run
+
     by_start : (t : Bool) (s : PassState) (x : Option ℕ) → s.start ≡ x → is_some (cond t s.start None) ≡ is_some (cond t (running_of s) None)
     by_start true s None e = ap is_some e ∙ sym (ap (λ y. some_running s y) e)
     by_start true s (Some start) e = ap is_some e ∙ sym (ap (λ y. some_running s y) e)

@@ -1,25 +1,21 @@
 -- What the engine keeps through each call.
-use Rattle.std.proofs.Common.{◌≡◌, ℕ, ◌+◌, ◌*◌, ◌≤◌, ◌<◌, List, [], ◌∷◌, ◌++◌, length, refl, sym, ◌∙◌, ap, subst, cond, arith}
-use Rattle.std.specs.Prelude.{Bool, true, false, ◌==◌, ◌&&◌, not, Option, Some, None, is_some, option_map, unwrap_or, slice_get, slice_set, count_by}
+use Rattle.std.proofs.Common.{◌≡◌, ℕ, ◌+◌, ◌≤◌, ◌<◌, List, [], ◌∷◌, ◌++◌, length, refl, sym, ◌∙◌, ap, subst, cond, arith}
+use Rattle.std.specs.Prelude.{Bool, true, false, ◌==◌, Option, Some, None, is_some, option_map, unwrap_or}
 use Rattle.std.specs.List.{AllByRecursion}
 use Rattle.std.proofs.lemmas.Bool.Decides.{nat_tests}
 use Rattle.std.proofs.lemmas.List.{length-set}
-use Rattle.graph_model.specs.declared.limits.TheConstants.{MAX_LEAVES}
-use Rattle.graph_model.specs.declared.write.Kind.{Kind}
 use Rattle.graph_model.specs.declared.write.Write.{Write}
 use Rattle.graph_model.specs.declared.journal.Commit.{Commit}
 use Rattle.graph_model.specs.declared.journal.TxnName.{TxnName}
-use Rattle.graph_model.specs.declared.refusal.Cause.{Cause}
 use Rattle.graph_model.specs.declared.row.Key.{Key}
 use Rattle.graph_model.specs.AccountSteps.{view_of, last_with}
 use Rattle.graph_model.specs.Inserted.{inserted_by}
 use Rattle.graph_model.specs.OwnerCalls.{PassState, Core, no_pass, pass_at, current, with_current, account_here, name_here, running_of, open_txns, inserted_here, begun_pass, written_pass, ended_pass, conflict_here}
 use Rattle.graph_model.specs.OwnerLaws.{IsChosen}
-use Rattle.graph_model.specs.Passes.{revised}
 use Rattle.graph_model.specs.Refused.{refused, IsWithinLimits}
 use Rattle.graph_model.specs.Rows.{value_at}
 use Rattle.graph_model.specs.Transactions.{Running, Changes, HasNotCommitted, own_of, writes_of_running, commit_of, stamp_in}
-use Rattle.txn_manager.specs.Manager.{Manager, PassTxns, txns_of, with_txns, opened, ended, open_start, committed, next_name}
+use Rattle.txn_manager.specs.Manager.{Manager, PassTxns, txns_of, opened, ended, open_start, committed}
 use Rattle.store_model.specs.declared.versions.Versions.{Versions}
 use Rattle.store_model.specs.Check.{check, looked}
 use Rattle.store_model.specs.Layers.{after_write, undone}
@@ -29,7 +25,7 @@ use Rattle.store_model.proofs.OwnerLemmas.{owner_moved, owner_begun, owner_writt
 use Rattle.store_model.proofs.ValueLemmas.{value_of_view, value_at_end}
 use Rattle.plain_rows.specs.declared.reader.Reader.{Reader}
 use Rattle.plain_rows.specs.Readers.{Shows, cause_for}
-use Rattle.plain_rows.specs.Rows.{contents_of, missing}
+use Rattle.plain_rows.specs.Rows.{contents_of}
 use Rattle.plain_core.specs.Plain.{running_in, txns_in, AreTied, IsPlain, NoneOpen, newest_graph}
 use Rattle.plain_rows.specs.Seen.{newest_value}
 use Rattle.plain_core.proofs.CountLemmas.{part, total_set, part_begun, part_written, written_length}
@@ -73,6 +69,7 @@ module _ (core : Core) (m : Manager) (rows : List (Key × Versions)) (is : IsPla
     where
       journal : r.manager.now.journal ≡ core.journal
       journal = ap (λ (m : Manager). m.journal) reader.manager ∙ is.tied.journal
+
       live : ◌≡◌ {A = TxnName → Bool} (λ n. is_some (open_start r.manager.now n)) (λ n. is_some (running_in core n))
       live = λ i n. (ap (λ (m : Manager). is_some (open_start m n)) reader.manager ∙ same_open core m is.tied n) i
 
@@ -89,14 +86,15 @@ module _ (core : Core) (m : Manager) (rows : List (Key × Versions)) (is : IsPla
     where
       same : (p : ℕ) → txns_in (pass_at core p) ≡ txns_in (pass_at (with_current core state) p)
       same p = (elim (p == core.selected) as (λ t. (p == core.selected) ≡ t → txns_in (pass_at core p) ≡ txns_in (cond t state (pass_at core p))) [
-          | true ↦ λ e. let here : p ≡ core.selected = grind (arith, nat_tests) in ap (λ q. txns_in (pass_at core q)) here ∙ (λ i. record { begun = sym begun i; start = sym start i })
-          | false ↦ λ e. refl
-        ] refl) ∙ ap txns_in (sym (pass_set core is.chosen state p))
+        | true ↦ λ e. let here : p ≡ core.selected = grind (arith, nat_tests) in ap (λ q. txns_in (pass_at core q)) here ∙ (λ i. record { begun = sym begun i; start = sym start i })
+        | false ↦ λ e. refl
+      ] refl) ∙ ap txns_in (sym (pass_set core is.chosen state p))
+
       allowed_at : (p : ℕ) → p < length core.passes → (pass_at (with_current core state) p).allowed ≡ m.allowed
       allowed_at p lt = ap (λ (s : PassState). s.allowed) (pass_set core is.chosen state p) ∙ (elim (p == core.selected) as (λ t. (cond t state (pass_at core p)).allowed ≡ m.allowed) [
-          | true ↦ allowed ∙ is.tied.allowed core.selected is.chosen
-          | false ↦ is.tied.allowed p lt
-        ])
+        | true ↦ allowed ∙ is.tied.allowed core.selected is.chosen
+        | false ↦ is.tied.allowed p lt
+      ])
 
   pub plain_noted : (state : PassState) → state.start ≡ (current core).start → state.own ≡ (current core).own → state.begun ≡ (current core).begun → state.made ≡ (current core).made → state.allowed ≡ (current core).allowed
       → IsPlain (with_current core state) m rows
@@ -123,7 +121,12 @@ module _ (core : Core) (m : Manager) (rows : List (Key × Versions)) (is : IsPla
   pub plain_moved : (rows' : List (Key × Versions)) → ((k : Key) → contents_of rows' k ≡ contents_of rows k) → length rows' ≤ length rows → IsPlain core m rows'
   plain_moved rows' same fewer = record {
     store = owner_moved core.kind core.journal (running_in core) 0 (contents_of rows) is.store (contents_of rows') same;
-    chosen = is.chosen; tied = is.tied; used = is.used; made = is.made; keys = omega (arith, is.keys, fewer); leaves = is.leaves;
+    chosen = is.chosen;
+    tied = is.tied;
+    used = is.used;
+    made = is.made;
+    keys = omega (arith, is.keys, fewer);
+    leaves = is.leaves;
   }
 
   -- ---- begin
@@ -134,10 +137,13 @@ module _ (core : Core) (m : Manager) (rows : List (Key × Versions)) (is : IsPla
     where
       s : PassState
       s = begun_pass core
+
       counts : (txns_of m core.selected).begun ≡ (current core).begun
       counts = ap (λ (t : PassTxns). t.begun) (is.tied.each core.selected)
+
       tied : AreTied (with_current core s) (opened m core.selected)
       tied = tied_set core is.chosen s m is.tied (record { begun = (txns_of m core.selected).begun + 1; start = Some (length m.journal) }) (λ i. record { begun = counts i + 1; start = Some (length (is.tied.journal i)) }) refl
+
       begun : IsPlain (with_current core s) (record (opened m core.selected) { spare = spare }) rows
       begun = record {
         store = owner_begun core.kind core.journal (running_in core) 0 (contents_of rows) is.store (record { job = core.selected; number = (current core).begun + 1 }) (running_in (with_current core s))
@@ -171,28 +177,33 @@ module _ (core : Core) (m : Manager) (rows : List (Key × Versions)) (is : IsPla
         → ((q : Key) → contents_of rows' q ≡ after_write core.kind (name_here core) w q (contents_of rows q)) → length rows' ≤ length rows + inserted_by core.kind w
         → IsPlain (with_current core state) m rows'
     plain_written w state rows' within allowed none is_state laid more = subst (λ (s : PassState). IsPlain (with_current core s) m rows') (sym is_state) (record {
-        store = owner_written core.kind core.journal (running_in core) 0 (contents_of rows) is.store (name_here core) run (here_running core start opened) w (running_in (with_current core s)) (contents_of rows')
-            (subst (λ (r : Option Running). Changes (name_here core) (running_in core) (running_in (with_current core s)) r) going (here_changes core is.chosen s refl))
-            allowed within free.holder free.later laid;
-        chosen = omega (arith, is.chosen, length-set core.passes core.selected s);
-        tied = same_tied;
-        used = by_pass core is.chosen s (λ s. s.begun ≤ s.allowed) (is.used core.selected) is.used;
-        made = λ p. by_pass core is.chosen s (λ s. (at : ℕ) → s.start ≡ Some at → 0 < length s.made) (λ at e. some_made) is.made p;
-        keys = omega (arith, is.keys, more, counted_set core is.chosen s, part_written core.kind (current core).made w some_before);
-        leaves = is.leaves;
-      })
+      store = owner_written core.kind core.journal (running_in core) 0 (contents_of rows) is.store (name_here core) run (here_running core start opened) w (running_in (with_current core s)) (contents_of rows')
+          (subst (λ (r : Option Running). Changes (name_here core) (running_in core) (running_in (with_current core s)) r) going (here_changes core is.chosen s refl))
+          allowed within free.holder free.later laid;
+      chosen = omega (arith, is.chosen, length-set core.passes core.selected s);
+      tied = same_tied;
+      used = by_pass core is.chosen s (λ s. s.begun ≤ s.allowed) (is.used core.selected) is.used;
+      made = λ p. by_pass core is.chosen s (λ s. (at : ℕ) → s.start ≡ Some at → 0 < length s.made) (λ at e. some_made) is.made p;
+      keys = omega (arith, is.keys, more, counted_set core is.chosen s, part_written core.kind (current core).made w some_before);
+      leaves = is.leaves;
+    })
       where
         s : PassState
         s = written_pass core w
+
         going : running_of s ≡ Some (record { start = start; writes = (current core).own ++ w ∷ [] })
         going = ap (option_map (λ at. record { start = at; writes = (current core).own ++ w ∷ [] })) opened
+
         free : MeetsNobody core.kind core.journal (running_in core) (own_of (running_in core)) (name_here core) start w
         free = check_allows core.kind core.journal (running_in core) 0 (contents_of rows) is.store (name_here core) run (here_running core start opened) w
             (check_is_conflict core.kind core.journal (running_in core) 0 (contents_of rows) is.store (name_here core) run (here_running core start opened) w (open_txns core) (here_listed core) ∙ none)
+
         some_before : 0 < length (current core).made
         some_before = is.made core.selected start opened
+
         some_made : 0 < length (last_with (current core).made w)
         some_made = omega (arith, some_before, written_length (current core).made w)
+
         same_tied : AreTied (with_current core s) m
         same_tied = tied_same s refl refl refl
 
@@ -206,15 +217,15 @@ module _ (core : Core) (m : Manager) (rows : List (Key × Versions)) (is : IsPla
         → ((q : Key) → contents_of rows' q ≡ undone core.kind (name_here core) (current core).own q (contents_of rows q)) → length rows' ≤ length rows
         → IsPlain (with_current core state) m' rows'
     plain_aborted state m' rows' is_state is_m gone fewer = subst (λ (n : Manager). IsPlain (with_current core state) n rows') (sym is_m) (subst (λ (s : PassState). IsPlain (with_current core s) (ended m (name_here core)) rows') (sym is_state) (record {
-        store = owner_aborted core.kind core.journal (running_in core) 0 (contents_of rows) is.store (name_here core) run (here_running core start opened) (running_in (with_current core s)) (contents_of rows')
-            (here_changes core is.chosen s refl) gone;
-        chosen = omega (arith, is.chosen, length-set core.passes core.selected s);
-        tied = ended_tied;
-        used = by_pass core is.chosen s (λ s. s.begun ≤ s.allowed) (is.used core.selected) is.used;
-        made = λ p. by_pass core is.chosen s (λ s. (at : ℕ) → s.start ≡ Some at → 0 < length s.made) (λ at e. cc) is.made p;
-        keys = omega (arith, is.keys, fewer, counted_set core is.chosen s);
-        leaves = is.leaves;
-      }))
+      store = owner_aborted core.kind core.journal (running_in core) 0 (contents_of rows) is.store (name_here core) run (here_running core start opened) (running_in (with_current core s)) (contents_of rows')
+          (here_changes core is.chosen s refl) gone;
+      chosen = omega (arith, is.chosen, length-set core.passes core.selected s);
+      tied = ended_tied;
+      used = by_pass core is.chosen s (λ s. s.begun ≤ s.allowed) (is.used core.selected) is.used;
+      made = λ p. by_pass core is.chosen s (λ s. (at : ℕ) → s.start ≡ Some at → 0 < length s.made) (λ at e. cc) is.made p;
+      keys = omega (arith, is.keys, fewer, counted_set core is.chosen s);
+      leaves = is.leaves;
+    }))
       where
         s : PassState
         s = ended_pass core
@@ -235,11 +246,14 @@ module _ (core : Core) (m : Manager) (rows : List (Key × Versions)) (is : IsPla
       where
         s : PassState
         s = ended_pass core
+
         after : List Commit
         after = core.journal ++ commit_of core.journal (name_here core) run ∷ []
+
         started : unwrap_or (open_start m (name_here core)) 0 ≡ start
         started = ap (λ (t : PassTxns). unwrap_or (cond ((current core).begun == t.begun) t.start None) 0) (is.tied.each core.selected)
             ∙ (let self : ((current core).begun == (current core).begun) ≡ true = grind (arith, nat_tests) in ap (λ t. unwrap_or (cond t (current core).start None) 0) self) ∙ ap (λ x. unwrap_or x 0) opened
+
         journal_is : m.journal ++ commit_of m.journal (name_here core) (record { start = unwrap_or (open_start m (name_here core)) 0; writes = (current core).own }) ∷ [] ≡ after
         journal_is = λ i. is.tied.journal i ++ commit_of (is.tied.journal i) (name_here core) (record { start = started i; writes = (current core).own }) ∷ []
 

@@ -1,7 +1,6 @@
 -- How many rows of a write are missing, and what it may insert.
-use Rattle.std.proofs.Common.{◌≡◌, ℕ, ◌+◌, ◌*◌, ◌≤◌, ◌<◌, List, [], ◌∷◌, length, refl, sym, ◌∙◌, ap, cond, arith}
-use Rattle.std.specs.Prelude.{Bool, true, false, ◌==◌, not, nat_le, Option, Some, None, is_some, count_by}
-use Rattle.std.proofs.lemmas.Bool.Decides.{nat_tests}
+use Rattle.std.proofs.Common.{◌≡◌, ℕ, ◌+◌, ◌≤◌, List, [], ◌∷◌, refl, sym, ◌∙◌, ap, cond, arith}
+use Rattle.std.specs.Prelude.{Bool, true, false, not, Option, Some, None, is_some, count_by}
 use Rattle.std.specs.BTreeMap.{is_at}
 use Rattle.std.specs.Map.{lookup}
 use Rattle.graph_model.specs.declared.write.Kind.{Kind}
@@ -11,10 +10,10 @@ use Rattle.graph_model.specs.declared.write.Write.TheVariants.{AddVertex, DropVe
 use Rattle.graph_model.specs.declared.row.Key.{Key}
 use Rattle.graph_model.specs.declared.refusal.Refusal.TheVariants.{HasEdges, NoVertex, NoEdge}
 use Rattle.graph_model.specs.Effects.{arc_keys}
-use Rattle.graph_model.specs.Graph.{Graph, has_vertex, has_arc, has_edges, weight_of, IsSymmetric}
+use Rattle.graph_model.specs.Graph.{Graph, has_vertex, has_arc, has_edges, weight_of}
 use Rattle.graph_model.specs.Inserted.{inserted_by}
 use Rattle.graph_model.specs.Refused.{refused}
-use Rattle.graph_model.specs.Rows.{key_cmp, vertex_key, arc_key, value_at}
+use Rattle.graph_model.specs.Rows.{key_cmp, vertex_key, arc_key}
 use Rattle.graph_model.proofs.WriteLemmas.{allowed_ends}
 use Rattle.store_model.specs.declared.versions.Versions.{Versions}
 use Rattle.plain_rows.specs.declared.reader.Reader.{Reader}

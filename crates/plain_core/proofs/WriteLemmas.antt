@@ -1,14 +1,13 @@
 -- What a write of the open transaction answers, and what it leaves.
-use Rattle.std.proofs.Common.{◌≡◌, ℕ, ◌+◌, ◌*◌, ◌≤◌, ◌<◌, List, [], ◌∷◌, ◌++◌, length, get_or, refl, sym, ◌∙◌, ap, subst, cond, arith, inl, inr}
-use Rattle.std.specs.Prelude.{◌⊎◌, Bool, true, false, ◌==◌, not, nat_le, Option, Some, None, unwrap_or, slice_get, slice_set, Result, Ok, Err, OnOk, IfErr}
+use Rattle.std.proofs.Common.{◌≡◌, ℕ, ◌+◌, ◌*◌, ◌≤◌, ◌<◌, List, length, refl, sym, ◌∙◌, ap, subst, cond, arith, inl, inr}
+use Rattle.std.specs.Prelude.{◌⊎◌, Bool, true, false, ◌==◌, nat_le, Option, Some, None, slice_set, Result, Ok, Err, OnOk, IfErr}
 use Rattle.std.proofs.lemmas.Bool.Decides.{nat_tests}
-use Rattle.graph_model.specs.declared.limits.TheConstants.{MAX_LEAVES, SPLIT_ROWS}
+use Rattle.graph_model.specs.declared.limits.TheConstants.{SPLIT_ROWS}
 use Rattle.graph_model.specs.declared.write.Kind.{Kind}
 use Rattle.graph_model.specs.declared.write.Kind.TheVariants.{Directed, Undirected}
 use Rattle.graph_model.specs.declared.write.Write.{Write}
 use Rattle.graph_model.specs.declared.write.Write.TheVariants.{AddVertex, DropVertex, AddEdge, SetEdge, DropEdge}
 use Rattle.graph_model.specs.declared.row.Key.{Key}
-use Rattle.graph_model.specs.declared.journal.TxnName.{TxnName}
 use Rattle.graph_model.specs.declared.refusal.Cause.{Cause}
 use Rattle.graph_model.specs.declared.refusal.Cause.TheVariants.{Later, Holder}
 use Rattle.graph_model.specs.declared.refusal.Refusal.{Refusal}
@@ -16,8 +15,8 @@ use Rattle.graph_model.specs.declared.refusal.Refusal.TheVariants as refusals
 use Rattle.graph_model.specs.AccountSteps.{view_of, with_cause}
 use Rattle.graph_model.specs.Graph.{Graph, has_vertex, has_arc, has_edges}
 use Rattle.graph_model.specs.Inserted.{inserts, inserted_by}
-use Rattle.graph_model.specs.OwnerCalls.{PassState, Core, no_pass, current, with_current, account_here, name_here, inserted_here, written_pass, conflict_here, WritesHere, WritesHereFrom, RefusesHere}
-use Rattle.graph_model.specs.Refused.{refused, unless_ends, IsWithinLimits}
+use Rattle.graph_model.specs.OwnerCalls.{PassState, Core, current, with_current, account_here, inserted_here, conflict_here, WritesHere, RefusesHere}
+use Rattle.graph_model.specs.Refused.{refused, IsWithinLimits}
 use Rattle.graph_model.proofs.ViewLemmas.{view_symmetric}
 use Rattle.graph_model.proofs.WriteLemmas.{allowed_ends}
 use Rattle.txn_manager.specs.Manager.{Manager}
@@ -26,7 +25,7 @@ use Rattle.plain_rows.specs.declared.lay.Touched.{Touched}
 use Rattle.plain_rows.specs.declared.reader.Reader.{Reader}
 use Rattle.plain_rows.specs.declared.room.TheConstants.{MAX_KEYS}
 use Rattle.plain_rows.specs.Checks.{answer_of, refusal_in, IsChecked, FitsKind, AreTouched}
-use Rattle.plain_rows.specs.Laying.{MayLay, HasEnds, Stays}
+use Rattle.plain_rows.specs.Laying.{MayLay, Stays}
 use Rattle.plain_rows.specs.Readers.{Shows}
 use Rattle.plain_rows.specs.Rows.{contents_of, missing}
 use Rattle.plain_core.specs.Passes.{RoomyPass, Laid, Notes, noted, sighted_by, with_one_write}
@@ -146,11 +145,14 @@ module _ (kind : Kind) (leaves : ℕ) (m : Manager) (passes : List RoomyPass) (s
       of_view (refusals.Conflict cause) a b n = absurd b
       of_view (refusals.Full l) a b n = absurd b
       of_view refusals.NoMemory a b n = absurd b
+
       sighted_same : (cause : Cause) → sighted_by (current core) start w cause ≡ record (current core) { sighted = (with_cause (account_here core) start w cause).sighted }
       sighted_same (Later stamp) = refl
       sighted_same (Holder by) = refl
+
       conflicts : (cause : Cause) → refused g w ≡ None → conflict_here core start w ≡ Some cause → new ≡ with_current core (sighted_by (current core) start w cause) → RefusesHere core start w (refusals.Conflict cause) new
       conflicts cause a b n = (a, b, n ∙ ap (with_current core) (sighted_same cause))
+
       by_case : ((refused g w ≡ Some refusal) × IsOfView refusal) ⊎ ((refused g w ≡ None) × (cause : Cause) × (conflict_here core start w ≡ Some cause) × (refusal ≡ refusals.Conflict cause)) → RefusesHere core start w refusal new
       by_case (inl p) = of_view refusal p.0 p.1 noted_is
       by_case (inr p) = subst (λ e. RefusesHere core start w e new) (sym p.3) (conflicts p.1 p.0 p.2 (noted_is ∙ ap (λ e. with_current core (noted (current core) start w e)) p.3))
@@ -163,6 +165,7 @@ module _ (kind : Kind) (leaves : ℕ) (m : Manager) (passes : List RoomyPass) (s
     where
       same : p'.state ≡ noted (current core) start w refusal
       same = noted_is.1 ∙ ap (λ s. noted s start w refusal) here
+
       -- a note changes what was sighted alone
       only : (e : Refusal) → noted (current core) start w e ≡ record (current core) { sighted = (noted (current core) start w e).sighted }
       only refusals.SelfLoop = refl
@@ -175,14 +178,19 @@ module _ (kind : Kind) (leaves : ℕ) (m : Manager) (passes : List RoomyPass) (s
       only (refusals.Conflict (Holder by)) = refl
       only (refusals.Full l) = refl
       only refusals.NoMemory = refl
+
       starts : (e : Refusal) → (noted (current core) start w e).start ≡ (current core).start
       starts e = ap (λ (s : PassState). s.start) (only e)
+
       owns : (e : Refusal) → (noted (current core) start w e).own ≡ (current core).own
       owns e = ap (λ (s : PassState). s.own) (only e)
+
       begins : (e : Refusal) → (noted (current core) start w e).begun ≡ (current core).begun
       begins e = ap (λ (s : PassState). s.begun) (only e)
+
       makes : (e : Refusal) → (noted (current core) start w e).made ≡ (current core).made
       makes e = ap (λ (s : PassState). s.made) (only e)
+
       allows : (e : Refusal) → (noted (current core) start w e).allowed ≡ (current core).allowed
       allows e = ap (λ (s : PassState). s.allowed) (only e)
   refused_plain refusal said p p' here (inr back) = plain_back kind leaves m passes selected served rows is p' m refl (back.1 ∙ here)
@@ -190,10 +198,18 @@ module _ (kind : Kind) (leaves : ℕ) (m : Manager) (passes : List RoomyPass) (s
   pub refused_answer : {X : Type 0} (result : Result X Refusal) → ((h : Graph) → Shows r rows h → FitsKind kind h → IsChecked r rows h w result) → (refusal said : Refusal) → result ≡ Err refusal
       → (p p' : RoomyPass) → p.state ≡ current core → Notes p.state start w refusal said p'.state
       → WritesHere core w (Err said) (core_of kind leaves m (slice_set passes selected p') selected served)
-  refused_answer result checked refusal said is_err p p' here (inl noted_is) = (start, opened, subst (λ e. RefusesHere core start w e (core_of kind leaves m (slice_set passes selected p') selected served)) (sym noted_is.0)
-      (refuses refusal (sym (answer result checked) ∙ ap refusal_in is_err) _ (put_core kind leaves m passes selected served rows is p' m refl ∙ ap (with_current core) (noted_is.1 ∙ ap (λ s. noted s start w refusal) here))))
-  refused_answer result checked refusal said is_err p p' here (inr back) = (start, opened, subst (λ e. RefusesHere core start w e (core_of kind leaves m (slice_set passes selected p') selected served)) (sym back.0)
-      (kept_core kind leaves m passes selected served rows is p' m refl (back.1 ∙ here)))
+  refused_answer result checked refusal said is_err p p' here (inl noted_is) = (
+    start,
+    opened,
+    subst (λ e. RefusesHere core start w e (core_of kind leaves m (slice_set passes selected p') selected served)) (sym noted_is.0)
+        (refuses refusal (sym (answer result checked) ∙ ap refusal_in is_err) _ (put_core kind leaves m passes selected served rows is p' m refl ∙ ap (with_current core) (noted_is.1 ∙ ap (λ s. noted s start w refusal) here))),
+  )
+  refused_answer result checked refusal said is_err p p' here (inr back) = (
+    start,
+    opened,
+    subst (λ e. RefusesHere core start w e (core_of kind leaves m (slice_set passes selected p') selected served)) (sym back.0)
+        (kept_core kind leaves m passes selected served rows is p' m refl (back.1 ∙ here)),
+  )
 
   -- ---- a write that may be made
 
@@ -232,6 +248,7 @@ module _ (kind : Kind) (leaves : ℕ) (m : Manager) (passes : List RoomyPass) (s
       where
         over : 33554432 < length rows + missing rows kind w
         over = grind (arith, nat_tests)
+
         many : SPLIT_ROWS * leaves ≤ inserted_here core
         many = let most = is.leaves in let two = two_rows kind w in let keys = is.keys in omega (arith, over, few, two, keys, most)
 
@@ -241,7 +258,7 @@ module _ (kind : Kind) (leaves : ℕ) (m : Manager) (passes : List RoomyPass) (s
         → IsPlain (core_of kind leaves m (slice_set passes selected p') selected served) m rows'
     made_plain within (Ok u) p p' rows' here laid stays = subst (λ c. IsPlain c m rows') (sym (put_core kind leaves m passes selected served rows is p' m refl))
         (plain_written core m rows is start opened w p'.state rows' within nothing.0 nothing.1 (laid.noted_in ∙ ap (λ s. with_one_write s w) here)
-          (λ q. laid.contents q ∙ ap (λ n. Rattle.store_model.specs.Layers.after_write kind n w q (contents_of rows q)) reader.by) (let len = laid.len in omega (arith, len, few)))
+        (λ q. laid.contents q ∙ ap (λ n. Rattle.store_model.specs.Layers.after_write kind n w q (contents_of rows q)) reader.by) (let len = laid.len in omega (arith, len, few)))
     made_plain within (Err e) p p' rows' here laid stays = subst (λ c. IsPlain c m rows') (sym (kept_core kind leaves m passes selected served rows is p' m refl (stays.2 ∙ here)))
         (plain_moved core m rows is rows' stays.1.contents stays.1.len)
 

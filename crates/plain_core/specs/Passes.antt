@@ -8,7 +8,6 @@ use Rattle.graph_model.specs.declared.refusal.Refusal.{Refusal}
 use Rattle.graph_model.specs.declared.refusal.Refusal.TheVariants as refusals
 use Rattle.graph_model.specs.declared.refusal.Cause.{Cause}
 use Rattle.graph_model.specs.declared.refusal.Cause.TheVariants.{Later, Holder}
-use Rattle.graph_model.specs.Account.{Sighting}
 use Rattle.graph_model.specs.AccountSteps.{last_with}
 use Rattle.graph_model.specs.OwnerCalls.{PassState, no_pass}
 use Rattle.store_model.specs.declared.versions.Versions.{Versions}
@@ -62,7 +61,8 @@ Notes old start w refusal answer new =
     ((answer ≡ refusal) × (new ≡ noted old start w refusal)) ⊎ ((answer ≡ refusals.NoMemory) × (new ≡ old))
 
 -- a write stands in the rows and in its pass
-pub record Laid (kind : Kind) (by : TxnName) (w : Write) (rows rows' : List (Key × Versions)) (old new : PassState) : Type 0 where
+pub record Laid (kind : Kind) (by : TxnName) (w : Write) (rows rows' : List (Key × Versions)) (old new : PassState)
+    : Type 0 where
   pub contents : (k : Key) → contents_of rows' k ≡ after_write kind by w k (contents_of rows k)
   pub len : length rows' ≡ length rows + missing rows kind w
   pub noted_in : new ≡ with_one_write old w

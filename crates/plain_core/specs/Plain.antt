@@ -1,5 +1,5 @@
 -- An engine of one owner over rows: which transactions are open, and what the engine keeps.
-use Rattle.std.specs.Prelude.{◌≡◌, ℕ, ◌<◌, ◌≤◌, ◌/◌, true, false, List, [], map, length, replicate, Option, Some, None}
+use Rattle.std.specs.Prelude.{◌≡◌, ℕ, ◌<◌, ◌≤◌, ◌/◌, List, [], map, length, replicate, Option, Some, None}
 use Rattle.std.specs.FinMap as fin_map
 use Rattle.graph_model.specs.declared.limits.TheConstants.{MAX_LEAVES}
 use Rattle.graph_model.specs.declared.write.Kind.{Kind}

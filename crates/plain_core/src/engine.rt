@@ -6,7 +6,7 @@ ghost use Rattle.graph_model.specs.OwnerCalls.{account_here};
 ghost use Rattle.graph_model.specs.OwnerLaws.{DidBegin, DidWrite, DidRead, DidCommit, DidAbort, DidServe};
 ghost use Rattle.graph_model.proofs.OwnerLemmas.{begins_by, writes_by, reads_by, commits_by, aborts_by, serves_by};
 
-use crate::core::PlainCore;
+use crate::plain::PlainCore;
 use graph_model::{
     BeginRefusal, Begun, Cursor, Engine, Kind, NoMemory, Refusal, Rows64, StepEngine, VertexEngine,
     Write,
@@ -121,4 +121,60 @@ impl StepEngine for PlainCore {
     ghost aborts_here = { λ s t did. did.here };
 
     ghost serves_here = { λ s t r did. did.here };
+}
+
+#[cfg(test)]
+mod tests {
+    use super::*;
+    use graph_model::{Cause, TxnName};
+    use std::test::Fail;
+    use txn_manager::Config;
+
+    #[test]
+    fn a_pass_begins_as_many_transactions_as_it_may(rt: HostRuntime) -> Result<(), Fail> {
+        let config = Config {
+            kind: Kind::Undirected,
+            leaves: 4,
+            passes: 3,
+            txns_per_pass: 2,
+        };
+        let mut core = PlainCore::new(rt.alloc(), config)?;
+        core.select(1);
+        let first = core.begin()?;
+        assert_eq!(rt; (first.by, first.start), (TxnName { job: 1, number: 1 }, 0));
+        assert_eq!(rt; core.commit(), None);
+        let second = core.begin()?;
+        assert_eq!(rt;
+            (second.by, second.start),
+            (TxnName { job: 1, number: 2 }, 0)
+        );
+        core.abort();
+        assert_eq!(rt; core.begin(), Err(BeginRefusal::TxnsUsed));
+        Ok(())
+    }
+
+    #[test]
+    fn the_first_writer_of_a_vertex_wins(rt: HostRuntime) -> Result<(), Fail> {
+        let config = Config {
+            kind: Kind::Undirected,
+            leaves: 4,
+            passes: 3,
+            txns_per_pass: 2,
+        };
+        let mut core = PlainCore::new(rt.alloc(), config)?;
+        core.select(1);
+        let winner = core.begin()?.by;
+        core.add_vertex(5)?;
+        core.select(2);
+        core.begin()?;
+        let held = Cause::Holder { by: winner };
+        assert_eq!(rt; core.add_vertex(5), Err(Refusal::Conflict { cause: held }));
+        core.select(1);
+        assert_eq!(rt; core.commit(), Some(1));
+        core.select(2);
+        let later = Cause::Later { stamp: 1 };
+        assert_eq!(rt; core.add_vertex(5), Err(Refusal::Conflict { cause: later }));
+        assert_eq!(rt; core.has_vertex(5), false);
+        Ok(())
+    }
 }

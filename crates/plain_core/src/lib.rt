@@ -6,9 +6,8 @@
 //! 4. A call that is refused leaves everything as it was, but for what its refusal notes.
 #![tactic(auto)]
 
-mod core;
 mod engine;
 mod pass;
+mod plain;
 
-pub use core::PlainCore;
-pub use pass::{Pass, Sighted};
+pub use plain::PlainCore;

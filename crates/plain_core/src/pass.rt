@@ -49,20 +49,21 @@ impl Model for Pass {
     ghost Value = { RoomyPass };
 
     ghost view = { λ p. record {
-        state = record {
-            made = made_with p.start p.ended.items p.own.items;
-            sighted = p.sighted.items;
-            start = p.start;
-            own = p.own.items;
-            filled = p.filled;
-            begun = p.begun;
-            allowed = p.allowed;
-        };
-        writes = min p.own.spare p.copy.spare;
-        txns = p.ended.spare;
+      state = record {
+        made = made_with p.start p.ended.items p.own.items;
+        sighted = p.sighted.items;
+        start = p.start;
+        own = p.own.items;
+        filled = p.filled;
+        begun = p.begun;
+        allowed = p.allowed;
+      };
+      writes = min p.own.spare p.copy.spare;
+      txns = p.ended.spare;
     } };
 
-    ghost invariant = { λ p. (p.copy.items ≡ p.own.items) × IfNone p.start (p.own.items ≡ []) × IfSome p.start (λ start. 0 < p.ended.spare) };
+    ghost invariant = { λ p. (p.copy.items ≡ p.own.items) × IfNone p.start (p.own.items ≡ [])
+        × IfSome p.start (λ start. 0 < p.ended.spare) };
 }
 
 impl Pass {

@@ -1,19 +1,18 @@
 -- Whether a vertex has edges, by the entries that a reader sees.
 use Rattle.std.proofs.Common.{◌≡◌, ℕ, ◌+◌, ◌-◌, zero, suc, List, [], ◌∷◌, refl, sym, ◌∙◌, ap, cond, arith, inl, inr}
-use Rattle.std.specs.Prelude.{Bool, true, false, not, ◌&&◌, ◌||◌, ◌==◌, ◌⊎◌, Option, Some, None, is_some, slice_get}
+use Rattle.std.specs.Prelude.{Bool, true, false, ◌&&◌, ◌||◌, ◌==◌, ◌⊎◌, Option, Some, None, is_some, slice_get}
 use Rattle.std.specs.List.{filter, list_any}
 use Rattle.std.specs.declared.ops.Bound.TheVariants.{Included, Excluded}
 use Rattle.std.specs.BTreeMap.Range.{range_contains, entries_between}
-use Rattle.std.specs.FinMap.Entries.{find, is_sorted}
+use Rattle.std.specs.FinMap.Entries.{is_sorted}
 use Rattle.std.proofs.lemmas.Bool.Decides.{nat_tests}
-use Rattle.graph_model.specs.declared.write.Kind.{Kind}
 use Rattle.graph_model.specs.declared.row.Key.{Key}
 use Rattle.graph_model.specs.Graph.{Graph, has_vertex, weight_of, has_edges, IsSymmetric}
 use Rattle.graph_model.specs.Rows.{key_cmp, is_between, arc_key, value_at}
 use Rattle.graph_model.proofs.GraphLemmas.{no_edges, has_no_edges}
 use Rattle.graph_model.proofs.OrderLemmas.{keys_total, keys_exact}
 use Rattle.graph_model.proofs.SortedLemmas.{found, place_of}
-use Rattle.graph_model.proofs.TestLemmas.{both_of, either_of, eq_of, self_eq, never}
+use Rattle.graph_model.proofs.TestLemmas.{either_of, eq_of, self_eq, never}
 use Rattle.store_model.specs.declared.versions.Versions.{Versions}
 use Rattle.store_model.specs.Versions.{no_versions}
 use Rattle.plain_rows.specs.Rows.{contents_of}
@@ -25,9 +24,9 @@ use Rattle.plain_rows.proofs.SeenLemmas.{seen_any, seen_sorted, seen_found, rang
 any_at : {X : Type 0} (p : X → Bool) (xs : List X) → list_any p xs ≡ true → (i : ℕ) × (x : X) × (slice_get xs i ≡ Some x) × (p x ≡ true)
 any_at p [] e = cc
 any_at p (x ∷ xs) e = elim (p x) as (λ t. p x ≡ t → (i : ℕ) × (y : _) × (slice_get (x ∷ xs) i ≡ Some y) × (p y ≡ true)) [
-    | true ↦ λ pass. (0, x, refl, pass)
-    | false ↦ λ fail. let rest = any_at p xs (ap (λ t. t || list_any p xs) (sym fail) ∙ e) in (suc rest.0, rest.1, rest.2, rest.3)
-  ] refl
+  | true ↦ λ pass. (0, x, refl, pass)
+  | false ↦ λ fail. let rest = any_at p xs (ap (λ t. t || list_any p xs) (sym fail) ∙ e) in (suc rest.0, rest.1, rest.2, rest.3)
+] refl
 
 any_of_at : {X : Type 0} (p : X → Bool) (xs : List X) (i : ℕ) (x : X) → slice_get xs i ≡ Some x → p x ≡ true → list_any p xs ≡ true
 any_of_at p [] i x at pass = cc
@@ -45,9 +44,9 @@ any_of_at p (y ∷ xs) (suc i) x at pass = ap (λ t. p y || t) (any_of_at p xs i
 pub any_part : {X : Type 0} (p : Key → Bool) (f : X → Bool) (es : List (Key × X)) → list_any (λ e. f e.1) (filter (λ e. p e.0) es) ≡ list_any (λ e. p e.0 && f e.1) es
 any_part p f [] = refl
 any_part p f (e ∷ es) = elim (p e.0) as (λ t. list_any (λ e. f e.1) (cond t (e ∷ filter (λ e. p e.0) es) (filter (λ e. p e.0) es)) ≡ ((t && f e.1) || list_any (λ e. p e.0 && f e.1) es)) [
-    | true ↦ ap (λ t. f e.1 || t) (any_part p f es)
-    | false ↦ any_part p f es
-  ]
+  | true ↦ ap (λ t. f e.1 || t) (any_part p f es)
+  | false ↦ any_part p f es
+]
 
 -- the keys of the arcs that lead from a vertex
 out_key : (v : ℕ) (k : Key) → is_between (first_arc v) (after_arcs v) k ≡ true → (k.src ≡ v) × ((k.second == 0) ≡ false)
@@ -106,6 +105,7 @@ module _ (value : Versions → Option ℕ) (none : value no_versions ≡ None) (
       where
         not_zero : (n : ℕ) → (n + 1 == 0) ≡ false
         not_zero n = grind (arith, nat_tests)
+
         or_true : (t : Bool) → (t || true) ≡ true
         or_true true = refl
         or_true false = refl

@@ -4,7 +4,6 @@ use Rattle.std.specs.Prelude.{Bool, true, false, ◌==◌, Option, Some, None, i
 use Rattle.std.proofs.lemmas.Bool.Decides.{nat_tests}
 use Rattle.graph_model.specs.declared.journal.TxnName.{TxnName}
 use Rattle.graph_model.specs.declared.refusal.Cause.{Cause}
-use Rattle.graph_model.specs.declared.refusal.Refusal.{Refusal}
 use Rattle.graph_model.specs.declared.refusal.Refusal.TheVariants.{SelfLoop, NoVertex, EdgeExists}
 use Rattle.graph_model.specs.Graph.{Graph, has_vertex, has_arc, weight_of}
 use Rattle.graph_model.specs.Rows.{vertex_key, arc_key, value_at}

@@ -1,7 +1,7 @@
 -- What an edge lays, one row after another, and how a refusal takes it back.
-use Rattle.std.proofs.Common.{◌≡◌, ℕ, ◌+◌, List, [], ◌∷◌, ◌++◌, refl, sym, ◌∙◌, ap, cond, length}
-use Rattle.std.specs.Prelude.{Bool, true, false, ◌==◌, ◌&&◌, ◌||◌, not, Option, Some, None, count_by}
-use Rattle.std.specs.List.{filter, list_any}
+use Rattle.std.proofs.Common.{◌≡◌, ℕ, List, [], ◌∷◌, ◌++◌, refl, sym, ◌∙◌, ap, cond}
+use Rattle.std.specs.Prelude.{Bool, true, false, ◌==◌, ◌&&◌, not}
+use Rattle.std.specs.List.{filter}
 use Rattle.std.proofs.lemmas.Bool.{or_left, or_right}
 use Rattle.graph_model.specs.declared.row.Key.{Key}
 use Rattle.graph_model.specs.declared.journal.TxnName.{TxnName}
@@ -25,9 +25,9 @@ all_kept p (n ∷ names) each =
 filter-append : (p : TxnName → Bool) (xs ys : List TxnName) → filter p (xs ++ ys) ≡ filter p xs ++ filter p ys
 filter-append p [] ys = refl
 filter-append p (x ∷ xs) ys = elim (p x) as (λ t. cond t (x ∷ filter p (xs ++ ys)) (filter p (xs ++ ys)) ≡ cond t (x ∷ filter p xs) (filter p xs) ++ filter p ys) [
-    | true ↦ ap (λ zs. x ∷ zs) (filter-append p xs ys)
-    | false ↦ filter-append p xs ys
-  ]
+  | true ↦ ap (λ zs. x ∷ zs) (filter-append p xs ys)
+  | false ↦ filter-append p xs ys
+]
 
 app_none : (xs : List TxnName) → xs ++ [] ≡ xs
 app_none [] = refl
@@ -51,13 +51,13 @@ pub restored : (before touched back : Key → Versions) (key : Key) (by : TxnNam
     → ((q : Key) → back q ≡ cond (same_key q key) (cond was (touched q) (untouch by (touched q))) (touched q))
     → (q : Key) → back q ≡ before q
 restored before touched back key by was is step step-2 q = elim (same_key q key) as (λ t. same_key q key ≡ t → back q ≡ before q) [
-    | true ↦ λ e.
-        let here : touched q ≡ touch by (before q) = step q ∙ ap (λ t. cond t (touch by (before q)) (before q)) e in
-        let there : back q ≡ cond was (touched q) (untouch by (touched q)) = step-2 q ∙ ap (λ t. cond t (cond was (touched q) (untouch by (touched q))) (touched q)) e in
-        there ∙ (λ i. cond ((is ∙ ap (λ k. has_name (before k).touches by) (sym (key_eq q key e))) i) (here i) (untouch by (here i)))
-        ∙ undo_it (has_name (before q).touches by) refl
-    | false ↦ λ e. step-2 q ∙ ap (λ t. cond t (cond was (touched q) (untouch by (touched q))) (touched q)) e ∙ step q ∙ ap (λ t. cond t (touch by (before q)) (before q)) e
-  ] refl
+  | true ↦ λ e.
+      let here : touched q ≡ touch by (before q) = step q ∙ ap (λ t. cond t (touch by (before q)) (before q)) e in
+      let there : back q ≡ cond was (touched q) (untouch by (touched q)) = step-2 q ∙ ap (λ t. cond t (cond was (touched q) (untouch by (touched q))) (touched q)) e in
+      there ∙ (λ i. cond ((is ∙ ap (λ k. has_name (before k).touches by) (sym (key_eq q key e))) i) (here i) (untouch by (here i)))
+      ∙ undo_it (has_name (before q).touches by) refl
+  | false ↦ λ e. step-2 q ∙ ap (λ t. cond t (cond was (touched q) (untouch by (touched q))) (touched q)) e ∙ step q ∙ ap (λ t. cond t (touch by (before q)) (before q)) e
+] refl
   where
     undo_it : (t : Bool) → has_name (before q).touches by ≡ t → cond t (touch by (before q)) (untouch by (touch by (before q))) ≡ before q
     undo_it true h = λ i. record { pairs = (before q).pairs; oldest = (before q).oldest; touches = cond (h i) (before q).touches ((before q).touches ++ by ∷ []) }
@@ -68,4 +68,4 @@ pub other_end : (old one : Key → Versions) (u v : ℕ) (by : TxnName) (source 
     → ((q : Key) → one q ≡ cond (same_key q source) (touch by (old q)) (old q)) → one target ≡ old target
 other_end old one u v by source target is_source is_target apart step =
     step target ∙ ap (λ t. cond t (touch by (old target)) (old target))
-      ((λ i. same_key (is_target i) (is_source i)) ∙ ap (λ t. t && (0 == 0)) (eq_symm v u ∙ apart))
+    ((λ i. same_key (is_target i) (is_source i)) ∙ ap (λ t. t && (0 == 0)) (eq_symm v u ∙ apart))

@@ -1,21 +1,19 @@
 -- The contents of rows after a change at one key.
-use Rattle.std.proofs.Common.{◌≡◌, ℕ, List, [], ◌∷◌, ◌++◌, refl, sym, ◌∙◌, ap, cond, arith, length}
-use Rattle.std.specs.Prelude.{Bool, true, false, ◌==◌, ◌&&◌, ◌||◌, not, nat_lt, Option, Some, None, is_some, unwrap_or, Result, Ok, Err, OnErr}
-use Rattle.std.specs.List.{filter}
-use Rattle.std.proofs.lemmas.Bool.{or_left, or_right, not_from_true, not_from_false, false_from_ne_true, true≢false}
+use Rattle.std.proofs.Common.{◌≡◌, ℕ, List, [], ◌∷◌, ◌++◌, refl, sym, ◌∙◌, ap, cond, arith}
+use Rattle.std.specs.Prelude.{Bool, true, false, ◌==◌, ◌&&◌, ◌||◌, not, Option, Some, None, is_some, unwrap_or, Result, Ok, Err, OnErr}
+use Rattle.std.proofs.lemmas.Bool.{or_right, true≢false}
 use Rattle.std.proofs.lemmas.Bool.Decides.{nat_tests}
 use Rattle.std.specs.BTreeMap.{BTreeMap, get, is_at, IsOrdered}
 use Rattle.std.proofs.lemmas.Map.Lookups.{btree_map_from_get}
 use Rattle.graph_model.specs.declared.row.Key.{Key}
 use Rattle.graph_model.specs.declared.journal.TxnName.{TxnName}
-use Rattle.graph_model.specs.Conflict.{same_name}
 use Rattle.graph_model.specs.Effects.{same_key}
 use Rattle.graph_model.specs.Rows.{key_cmp}
 use Rattle.graph_model.specs.Transactions.{has_name}
 use Rattle.graph_model.proofs.OrderLemmas.{key_tie, keys_total, keys_exact}
-use Rattle.graph_model.proofs.TestLemmas.{eq_of, both_of, never, name_self, name_eq}
+use Rattle.graph_model.proofs.TestLemmas.{eq_of, both_of, never}
 use Rattle.store_model.specs.declared.versions.Versions.{Versions}
-use Rattle.store_model.specs.Versions.{no_versions, write, touch, untouch, with_name, without_name}
+use Rattle.store_model.specs.Versions.{no_versions, write, touch, with_name}
 use Rattle.plain_rows.specs.Rows.{contents_of, versions_in, is_filled, is_held, is_there, AreRows}
 
 -- keys that are one
@@ -58,14 +56,15 @@ touch_held by vs first =
 -- a row that holds nothing, over none
 pub none_held : (vs : Versions) → is_held vs ≡ false → vs.oldest ≡ None → vs ≡ no_versions
 none_held vs e old = λ i. record {
-    pairs = none_of vs.pairs (or_no (is_filled vs.pairs) (is_filled vs.touches) e).0 i;
-    oldest = old i;
-    touches = none_of vs.touches (or_no (is_filled vs.pairs) (is_filled vs.touches) e).1 i;
-  }
+  pairs = none_of vs.pairs (or_no (is_filled vs.pairs) (is_filled vs.touches) e).0 i;
+  oldest = old i;
+  touches = none_of vs.touches (or_no (is_filled vs.pairs) (is_filled vs.touches) e).1 i;
+}
   where
     or_no : (a b : Bool) → (a || b) ≡ false → (a ≡ false) × (b ≡ false)
     or_no true b e = cc
     or_no false b e = (refl, e)
+
     none_of : {X : Type 0} (xs : List X) → is_filled xs ≡ false → xs ≡ []
     none_of [] e = refl
     none_of (x ∷ xs) e = cc
@@ -81,18 +80,18 @@ module _ (new old : BTreeMap Key Versions) (key : Key) (vs : Versions) (step : (
   -- they are what a change makes of the old ones
   pub changed : (f : Versions → Versions) → vs ≡ f (contents_of old.entries key) → (q : Key) → contents_of new.entries q ≡ cond (same_key q key) (f (contents_of old.entries q)) (contents_of old.entries q)
   changed f is q = updated q ∙ (elim (same_key q key) as (λ t. same_key q key ≡ t → cond t vs (contents_of old.entries q) ≡ cond t (f (contents_of old.entries q)) (contents_of old.entries q)) [
-      | true ↦ λ e. is ∙ ap (λ k. f (contents_of old.entries k)) (sym (key_eq q key e))
-      | false ↦ λ e. refl
-    ] refl)
+    | true ↦ λ e. is ∙ ap (λ k. f (contents_of old.entries k)) (sym (key_eq q key e))
+    | false ↦ λ e. refl
+  ] refl)
 
   -- and the rows are in order, where it holds something
   pub rows_changed : AreRows old → is_held vs ≡ true → IsOrdered key_cmp new → AreRows new
   rows_changed are held ordered = record {
     ordered = ordered;
     held = λ k ws at. elim (is_at (key_cmp key) k) as (λ t. is_at (key_cmp key) k ≡ t → is_held ws ≡ true) [
-        | true ↦ λ e. ap is_held (sym (some_versions vs ws (sym (step k ∙ ap (λ t. cond t (Some vs) (get key_cmp old k)) e) ∙ at))) ∙ held
-        | false ↦ λ e. are.held k ws (sym (step k ∙ ap (λ t. cond t (Some vs) (get key_cmp old k)) e) ∙ at)
-      ] refl;
+      | true ↦ λ e. ap is_held (sym (some_versions vs ws (sym (step k ∙ ap (λ t. cond t (Some vs) (get key_cmp old k)) e) ∙ at))) ∙ held
+      | false ↦ λ e. are.held k ws (sym (step k ∙ ap (λ t. cond t (Some vs) (get key_cmp old k)) e) ∙ at)
+    ] refl;
   }
 
   -- or they are the old ones, and nothing has changed
@@ -107,18 +106,18 @@ module _ (new old : BTreeMap Key Versions) (key : Key) (vs : Versions) (step : (
 module _ (new middle old : BTreeMap Key Versions) (key : Key) (vs : Versions) (step : (q : Key) → get key_cmp middle q ≡ cond (is_at (key_cmp key) q) (Some vs) (get key_cmp old q)) (gone : (q : Key) → get key_cmp new q ≡ cond (is_at (key_cmp key) q) None (get key_cmp middle q)) where
   pub changed_away : (f : Versions → Versions) → vs ≡ f (contents_of old.entries key) → vs ≡ no_versions → (q : Key) → contents_of new.entries q ≡ cond (same_key q key) (f (contents_of old.entries q)) (contents_of old.entries q)
   changed_away f is none q = ap versions_in (gone q ∙ ap (λ t. cond t None (get key_cmp middle q)) (at_key key q)) ∙ versions_gone (same_key q key) (get key_cmp middle q)
-    ∙ (elim (same_key q key) as (λ t. same_key q key ≡ t → cond t no_versions (contents_of middle.entries q) ≡ cond t (f (contents_of old.entries q)) (contents_of old.entries q)) [
-      | true ↦ λ e. sym none ∙ is ∙ ap (λ k. f (contents_of old.entries k)) (sym (key_eq q key e))
-      | false ↦ λ e. ap versions_in (step q ∙ ap (λ t. cond t (Some vs) (get key_cmp old q)) (at_key key q ∙ e))
-    ] refl)
+      ∙ (elim (same_key q key) as (λ t. same_key q key ≡ t → cond t no_versions (contents_of middle.entries q) ≡ cond t (f (contents_of old.entries q)) (contents_of old.entries q)) [
+        | true ↦ λ e. sym none ∙ is ∙ ap (λ k. f (contents_of old.entries k)) (sym (key_eq q key e))
+        | false ↦ λ e. ap versions_in (step q ∙ ap (λ t. cond t (Some vs) (get key_cmp old q)) (at_key key q ∙ e))
+      ] refl)
 
   pub rows_changed_away : AreRows old → IsOrdered key_cmp new → AreRows new
   rows_changed_away are ordered = record {
     ordered = ordered;
     held = λ k ws at. elim (is_at (key_cmp key) k) as (λ t. is_at (key_cmp key) k ≡ t → is_held ws ≡ true) [
-        | true ↦ λ e. absurd (no_some ws (sym at ∙ gone k ∙ ap (λ t. cond t None (get key_cmp middle k)) e))
-        | false ↦ λ e. are.held k ws (sym (gone k ∙ ap (λ t. cond t None (get key_cmp middle k)) e ∙ step k ∙ ap (λ t. cond t (Some vs) (get key_cmp old k)) e) ∙ at)
-      ] refl;
+      | true ↦ λ e. absurd (no_some ws (sym at ∙ gone k ∙ ap (λ t. cond t None (get key_cmp middle k)) e))
+      | false ↦ λ e. are.held k ws (sym (gone k ∙ ap (λ t. cond t None (get key_cmp middle k)) e ∙ step k ∙ ap (λ t. cond t (Some vs) (get key_cmp old k)) e) ∙ at)
+    ] refl;
   }
     where
       no_some : (ws : Versions) → ◌≡◌ {A = Option Versions} (Some ws) None → ⊥
@@ -130,6 +129,7 @@ rows_same new old are were same = btree_map_from_get keys_total new old are.orde
   where
     none_is_held : is_held no_versions ≡ true → ⊥
     none_is_held e = true≢false (sym e)
+
     found : (q : Key) (x y : Option Versions) → get key_cmp new q ≡ x → get key_cmp old q ≡ y → versions_in (get key_cmp new q) ≡ versions_in (get key_cmp old q) → get key_cmp new q ≡ get key_cmp old q
     found q None None a b e = a ∙ sym b
     found q None (Some ws) a b e = absurd (none_is_held (ap is_held (sym (ap versions_in a) ∙ e ∙ ap versions_in b) ∙ were.held q ws b))
@@ -156,9 +156,9 @@ none_is_held e = cc
 pub put_refused : (new old : BTreeMap Key Versions) (key : Key) (vs : Versions) → ((q : Key) → get key_cmp new q ≡ cond (is_at (key_cmp key) q) (Some vs) (get key_cmp old q))
     → vs ≡ versions_in (get key_cmp old key) → is_held vs ≡ true → (q : Key) → get key_cmp new q ≡ get key_cmp old q
 put_refused new old key vs step is held q = step q ∙ (elim (is_at (key_cmp key) q) as (λ t. is_at (key_cmp key) q ≡ t → cond t (Some vs) (get key_cmp old q) ≡ get key_cmp old q) [
-      | true ↦ λ e. there (get key_cmp old key) refl ∙ ap (get key_cmp old) (sym (key_eq q key (sym (at_key key q) ∙ e)))
-      | false ↦ λ e. refl
-    ] refl)
+  | true ↦ λ e. there (get key_cmp old key) refl ∙ ap (get key_cmp old) (sym (key_eq q key (sym (at_key key q) ∙ e)))
+  | false ↦ λ e. refl
+] refl)
   where
     there : (x : Option Versions) → get key_cmp old key ≡ x → Some vs ≡ get key_cmp old key
     there None e = none_is_held (ap is_held (sym (is ∙ ap versions_in e)) ∙ held)
@@ -169,9 +169,9 @@ pub put_undone : (new middle old : BTreeMap Key Versions) (key : Key) (vs : Vers
     → ((q : Key) → get key_cmp new q ≡ cond (is_at (key_cmp key) q) None (get key_cmp middle q)) → AreRows old
     → vs ≡ versions_in (get key_cmp old key) → is_held vs ≡ false → (q : Key) → get key_cmp new q ≡ get key_cmp old q
 put_undone new middle old key vs step gone are is held q = elim (is_at (key_cmp key) q) as (λ t. is_at (key_cmp key) q ≡ t → get key_cmp new q ≡ get key_cmp old q) [
-      | true ↦ λ e. gone q ∙ ap (λ t. cond t None (get key_cmp middle q)) e ∙ there (get key_cmp old key) refl ∙ ap (get key_cmp old) (sym (key_eq q key (sym (at_key key q) ∙ e)))
-      | false ↦ λ e. gone q ∙ ap (λ t. cond t None (get key_cmp middle q)) e ∙ step q ∙ ap (λ t. cond t (Some vs) (get key_cmp old q)) e
-    ] refl
+  | true ↦ λ e. gone q ∙ ap (λ t. cond t None (get key_cmp middle q)) e ∙ there (get key_cmp old key) refl ∙ ap (get key_cmp old) (sym (key_eq q key (sym (at_key key q) ∙ e)))
+  | false ↦ λ e. gone q ∙ ap (λ t. cond t None (get key_cmp middle q)) e ∙ step q ∙ ap (λ t. cond t (Some vs) (get key_cmp old q)) e
+] refl
   where
     there : (x : Option Versions) → get key_cmp old key ≡ x → None ≡ get key_cmp old key
     there None e = sym e
@@ -197,6 +197,6 @@ on_err_of (Err e) p = p
 pub there_stays : (new old : BTreeMap Key Versions) (key : Key) (vs : Versions) → ((q : Key) → get key_cmp new q ≡ cond (is_at (key_cmp key) q) (Some vs) (get key_cmp old q))
     → (row : Versions) → get key_cmp old key ≡ Some row → (q : Key) → is_there new.entries q ≡ is_there old.entries q
 there_stays new old key vs step row there q = ap is_some (step q) ∙ (elim (is_at (key_cmp key) q) as (λ t. is_at (key_cmp key) q ≡ t → is_some (cond t (Some vs) (get key_cmp old q)) ≡ is_some (get key_cmp old q)) [
-    | true ↦ λ e. ap is_some (sym there) ∙ ap (λ k. is_some (get key_cmp old k)) (sym (key_eq q key (sym (at_key key q) ∙ e)))
-    | false ↦ λ e. refl
-  ] refl)
+  | true ↦ λ e. ap is_some (sym there) ∙ ap (λ k. is_some (get key_cmp old k)) (sym (key_eq q key (sym (at_key key q) ∙ e)))
+  | false ↦ λ e. refl
+] refl)

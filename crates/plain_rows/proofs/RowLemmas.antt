@@ -1,6 +1,6 @@
 -- Loops over the pairs and the touches of a row.
-use Rattle.std.proofs.Common.{◌≡◌, ℕ, ◌+◌, ◌<◌, List, [], ◌∷◌, ◌++◌, take, get_or, length, reverse, map, refl, sym, ◌∙◌, ap, cond, arith}
-use Rattle.std.specs.Prelude.{Bool, true, false, ◌||◌, Option, Some, None}
+use Rattle.std.proofs.Common.{◌≡◌, ℕ, ◌+◌, ◌<◌, List, [], ◌∷◌, ◌++◌, take, get_or, length, reverse, map, refl, sym, ◌∙◌, ap, cond}
+use Rattle.std.specs.Prelude.{Bool, true, false, ◌||◌, Option}
 use Rattle.std.specs.List.{filter, list_any}
 use Rattle.std.proofs.lemmas.List.{take_more, reverse-append}
 use Rattle.graph_model.specs.declared.journal.TxnName.{TxnName}
@@ -60,11 +60,11 @@ pub next_dropper : (is_live : TxnName → Bool) (stamps : TxnName → Option ℕ
 next_dropper is_live stamps start own ps i d cause result lt is before =
     is ∙ ap (λ x. cond (no_value (get_or ps i d).value) (combine (check is_live stamps start own ((get_or ps i d).by ∷ [])) x) x) before
     ∙ sym (ap (λ qs. check is_live stamps start own (map (λ (q : Version). q.by) (filter (λ (q : Version). no_value q.value) qs)))
-        (ap reverse (take_more ps i d lt) ∙ reverse-append (take i ps) (get_or ps i d ∷ []))
-      ∙ (elim (no_value (get_or ps i d).value) as (λ t. check is_live stamps start own (map (λ (q : Version). q.by) (cond t (get_or ps i d ∷ rest) rest)) ≡ cond t (combine (check is_live stamps start own ((get_or ps i d).by ∷ [])) (check is_live stamps start own (map (λ (q : Version). q.by) rest))) (check is_live stamps start own (map (λ (q : Version). q.by) rest))) [
-        | true ↦ check-append is_live stamps start own ((get_or ps i d).by ∷ []) (map (λ (q : Version). q.by) rest)
-        | false ↦ refl
-      ]))
+    (ap reverse (take_more ps i d lt) ∙ reverse-append (take i ps) (get_or ps i d ∷ []))
+    ∙ (elim (no_value (get_or ps i d).value) as (λ t. check is_live stamps start own (map (λ (q : Version). q.by) (cond t (get_or ps i d ∷ rest) rest)) ≡ cond t (combine (check is_live stamps start own ((get_or ps i d).by ∷ [])) (check is_live stamps start own (map (λ (q : Version). q.by) rest))) (check is_live stamps start own (map (λ (q : Version). q.by) rest))) [
+      | true ↦ check-append is_live stamps start own ((get_or ps i d).by ∷ []) (map (λ (q : Version). q.by) rest)
+      | false ↦ refl
+    ]))
   where
     rest : List Version
     rest = filter (λ (q : Version). no_value q.value) (reverse (take i ps))

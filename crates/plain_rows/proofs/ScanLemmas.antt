@@ -1,6 +1,6 @@
 -- The next rows of a scan, by the entries that a reader has passed and those that are left.
-use Rattle.std.proofs.Common.{◌≡◌, ℕ, zero, suc, ◌+◌, ◌≤◌, ◌<◌, List, [], ◌∷◌, ◌++◌, map, take, length, refl, sym, ◌∙◌, ap, subst, cond, arith, append_assoc}
-use Rattle.std.specs.Prelude.{Bool, true, false, not, ◌&&◌, ◌==◌, Option, Some, None}
+use Rattle.std.proofs.Common.{◌≡◌, ℕ, zero, suc, ◌≤◌, ◌<◌, List, [], ◌∷◌, ◌++◌, map, take, length, refl, sym, ◌∙◌, ap, subst, cond, arith}
+use Rattle.std.specs.Prelude.{Bool, true, false, not, ◌&&◌, ◌==◌, Option, None}
 use Rattle.std.specs.List.{filter, AllByRecursion}
 use Rattle.std.specs.Ordering.{is_lt, is_le}
 use Rattle.std.specs.declared.cmp.Ordering.{Ordering}
@@ -13,14 +13,13 @@ use Rattle.graph_model.specs.declared.row.Cursor.{Cursor}
 use Rattle.graph_model.specs.declared.row.Key.{Key}
 use Rattle.graph_model.specs.declared.row.Row.{Row}
 use Rattle.graph_model.specs.Graph.{Graph}
-use Rattle.graph_model.specs.Rows.{key_cmp, is_below, is_between, rows, row_of, value_at}
-use Rattle.graph_model.specs.Scans.{ScansBy, next_rows, rows_left}
-use Rattle.graph_model.proofs.OrderLemmas.{keys_total}
+use Rattle.graph_model.specs.Rows.{key_cmp, is_below, rows, row_of, value_at}
+use Rattle.graph_model.specs.Scans.{ScansBy}
 use Rattle.graph_model.proofs.SortedLemmas.{both_true}
 use Rattle.store_model.specs.declared.versions.Versions.{Versions}
 use Rattle.store_model.specs.Versions.{no_versions}
 use Rattle.plain_rows.specs.Rows.{contents_of}
-use Rattle.plain_rows.specs.Seen.{seen_rows, seen_if}
+use Rattle.plain_rows.specs.Seen.{seen_rows}
 use Rattle.plain_rows.proofs.SeenLemmas.{seen_between, none_between, part_sorted}
 
 -- ---- the end of a sorted list, by a test of keys
@@ -64,9 +63,9 @@ from_entry (f ∷ front) e rest sorted =
 filter_both : {X : Type 0} (p q : X → Bool) (xs : List X) → filter p (filter q xs) ≡ filter (λ x. q x && p x) xs
 filter_both p q [] = refl
 filter_both p q (x ∷ xs) = elim (q x) as (λ t. filter p (cond t (x ∷ filter q xs) (filter q xs)) ≡ cond (t && p x) (x ∷ filter (λ x. q x && p x) xs) (filter (λ x. q x && p x) xs)) [
-    | true ↦ ap (λ ys. cond (p x) (x ∷ ys) ys) (filter_both p q xs)
-    | false ↦ filter_both p q xs
-  ]
+  | true ↦ ap (λ ys. cond (p x) (x ∷ ys) ys) (filter_both p q xs)
+  | false ↦ filter_both p q xs
+]
 
 filter_same : {X : Type 0} (p q : X → Bool) → ((x : X) → p x ≡ q x) → (xs : List X) → filter p xs ≡ filter q xs
 filter_same p q same [] = refl
@@ -78,9 +77,9 @@ later_range from until k q after = grind (arith, nat_tests)
 filter_all : {X : Type 0} (p : X → Bool) (xs : List X) → AllByRecursion (λ x. p x ≡ true) (filter p xs)
 filter_all p [] = tt
 filter_all p (x ∷ xs) = elim (p x) as (λ t. p x ≡ t → AllByRecursion (λ x. p x ≡ true) (cond t (x ∷ filter p xs) (filter p xs))) [
-    | true ↦ λ is. (is, filter_all p xs)
-    | false ↦ λ is. filter_all p xs
-  ] refl
+  | true ↦ λ is. (is, filter_all p xs)
+  | false ↦ λ is. filter_all p xs
+] refl
 
 member_of_all : {X : Type 0} (P : X → Type 0) (front : List X) (x : X) (rest : List X) → AllByRecursion P (front ++ x ∷ rest) → P x
 member_of_all P [] x rest all = all.0
@@ -97,8 +96,10 @@ later_entries from until es front e rest sorted is =
   where
     passes : Key × Versions → Bool
     passes x = range_contains key_cmp (Included from) (Excluded until) x.0
+
     here : passes e ≡ true
     here = member_of_all (λ x. passes x ≡ true) front e rest (subst (AllByRecursion (λ x. passes x ≡ true)) is (filter_all passes es))
+
     after : is_le (key_cmp from e.0) ≡ true
     after = (both_true (is_le (key_cmp from e.0)) (not (is_le (key_cmp until e.0))) here).0
 
@@ -152,6 +153,7 @@ module _ (value : Versions → Option ℕ) (none : value no_versions ≡ None) (
     where
       contradiction : true ≡ false → ⊥
       contradiction e = cc
+
       left : rows g new.next new.until ≡ map row_of (seen_rows value (e ∷ rest))
       left = (λ i. rows g (next i) (until i)) ∙ sym (seen_between value none g es sorted shows e.0 old.until) ∙ ap (λ xs. map row_of (seen_rows value xs)) (later_entries old.next old.until es front e rest sorted is)
 
@@ -166,8 +168,10 @@ module _ (value : Versions → Option ℕ) (none : value no_versions ≡ None) (
     where
       contradiction : true ≡ false → ⊥
       contradiction e = cc
+
       not_below_self : (k : Key) → is_below k k ≡ false
       not_below_self k = grind (arith, nat_tests)
+
       left : rows g new.next new.until ≡ []
       left = (λ i. rows g (next i) (until i)) ∙ none_between g old.until old.until (not_below_self old.until)
 

@@ -1,6 +1,6 @@
 -- What a reader sees of rows, and the rows of a graph.
-use Rattle.std.proofs.Common.{◌≡◌, ℕ, ◌+◌, ◌-◌, ◌≤◌, ◌<◌, List, [], ◌∷◌, ◌++◌, map, take, length, refl, sym, ◌∙◌, ap, subst, cond, arith}
-use Rattle.std.specs.Prelude.{Bool, true, false, not, ◌&&◌, ◌||◌, ◌==◌, T, Option, Some, None, is_some, slice_get}
+use Rattle.std.proofs.Common.{◌≡◌, ℕ, List, [], ◌∷◌, map, refl, sym, ◌∙◌, ap, cond, arith}
+use Rattle.std.specs.Prelude.{Bool, true, false, ◌&&◌, ◌||◌, Option, Some, None, is_some}
 use Rattle.std.specs.List.{filter, list_any, AllByRecursion}
 use Rattle.std.specs.List.Sorted.{IsStrictlySortedBy}
 use Rattle.std.specs.Ordering.{is_lt, is_le, eq_by_cmp}
@@ -12,10 +12,9 @@ use Rattle.std.specs.BTreeMap.Range.{range_contains, entries_between}
 use Rattle.std.specs.FinMap.Entries.{find, below_all, is_sorted, where_key, is_sorted-where_key, find-where_key}
 use Rattle.std.proofs.lemmas.Bool.Decides.{nat_tests}
 use Rattle.graph_model.specs.declared.row.Key.{Key}
-use Rattle.graph_model.specs.declared.row.Row.{Row}
 use Rattle.graph_model.specs.Graph.{Graph}
 use Rattle.graph_model.specs.Rows.{key_cmp, is_below, is_between, rows, row_of, value_at}
-use Rattle.graph_model.proofs.OrderLemmas.{keys_total, keys_exact}
+use Rattle.graph_model.proofs.OrderLemmas.{keys_exact}
 use Rattle.graph_model.proofs.RowLemmas.{rows_of_values}
 use Rattle.graph_model.proofs.SortedLemmas.{true_from_T, T_from_true, both_true}
 use Rattle.store_model.specs.declared.versions.Versions.{Versions}
@@ -107,27 +106,28 @@ module _ (value : Versions → Option ℕ) where
   pub seen_part : (p : Key → Bool) (es : List (Key × Versions)) → seen_rows value (filter (λ e. p e.0) es) ≡ where_key key_cmp p (seen_rows value es)
   seen_part p [] = refl
   seen_part p (e ∷ es) = elim (p e.0) as (λ t. p e.0 ≡ t → seen_rows value (cond t (e ∷ filter (λ e. p e.0) es) (filter (λ e. p e.0) es)) ≡ where_key key_cmp p (seen_if e.0 (value e.1) (seen_rows value es))) [
-      | true ↦ λ yes. elim (value e.1) as (λ v. seen_if e.0 v (seen_rows value (filter (λ e. p e.0) es)) ≡ where_key key_cmp p (seen_if e.0 v (seen_rows value es))) [
-          | None ↦ seen_part p es
-          | Some w ↦ ap (λ xs. (e.0, w) ∷ xs) (seen_part p es) ∙ ap (λ t. cond t ((e.0, w) ∷ where_key key_cmp p (seen_rows value es)) (where_key key_cmp p (seen_rows value es))) (sym yes)
-        ]
-      | false ↦ λ no. elim (value e.1) as (λ v. seen_rows value (filter (λ e. p e.0) es) ≡ where_key key_cmp p (seen_if e.0 v (seen_rows value es))) [
-          | None ↦ seen_part p es
-          | Some w ↦ seen_part p es ∙ ap (λ t. cond t ((e.0, w) ∷ where_key key_cmp p (seen_rows value es)) (where_key key_cmp p (seen_rows value es))) (sym no)
-        ]
-    ] refl
+    | true ↦ λ yes. elim (value e.1) as (λ v. seen_if e.0 v (seen_rows value (filter (λ e. p e.0) es)) ≡ where_key key_cmp p (seen_if e.0 v (seen_rows value es))) [
+      | None ↦ seen_part p es
+      | Some w ↦ ap (λ xs. (e.0, w) ∷ xs) (seen_part p es) ∙ ap (λ t. cond t ((e.0, w) ∷ where_key key_cmp p (seen_rows value es)) (where_key key_cmp p (seen_rows value es))) (sym yes)
+    ]
+    | false ↦ λ no. elim (value e.1) as (λ v. seen_rows value (filter (λ e. p e.0) es) ≡ where_key key_cmp p (seen_if e.0 v (seen_rows value es))) [
+      | None ↦ seen_part p es
+      | Some w ↦ seen_part p es ∙ ap (λ t. cond t ((e.0, w) ∷ where_key key_cmp p (seen_rows value es)) (where_key key_cmp p (seen_rows value es))) (sym no)
+    ]
+  ] refl
 
   -- one of the seen entries passes a test of keys
   pub seen_any : (p : Key → Bool) (es : List (Key × Versions)) → list_any (λ e. p e.0 && is_some (value e.1)) es ≡ list_any (λ e. p e.0) (seen_rows value es)
   seen_any p [] = refl
   seen_any p (e ∷ es) = elim (value e.1) as (λ v. ((p e.0 && is_some v) || list_any (λ e. p e.0 && is_some (value e.1)) es) ≡ list_any (λ e. p e.0) (seen_if e.0 v (seen_rows value es))) [
-      | None ↦ ap (λ t. t || list_any (λ e. p e.0 && is_some (value e.1)) es) (and_false (p e.0)) ∙ seen_any p es
-      | Some w ↦ λ i. and_true (p e.0) i || seen_any p es i
-    ]
+    | None ↦ ap (λ t. t || list_any (λ e. p e.0 && is_some (value e.1)) es) (and_false (p e.0)) ∙ seen_any p es
+    | Some w ↦ λ i. and_true (p e.0) i || seen_any p es i
+  ]
     where
       and_false : (t : Bool) → (t && false) ≡ false
       and_false true = refl
       and_false false = refl
+
       and_true : (t : Bool) → (t && true) ≡ t
       and_true true = refl
       and_true false = refl
@@ -148,7 +148,7 @@ module _ (value : Versions → Option ℕ) (none : value no_versions ≡ None) (
   seen_between from until =
       ap (map row_of) (seen_part value p es)
       ∙ rows_of_values g from until (where_key key_cmp p (seen_rows value es)) (part_sorted p (seen_rows value es) (seen_sorted value es sorted))
-        (λ q. part_found p (seen_rows value es) q ∙ (λ i. cond (range_is_between from until q i) ((seen_found value none es sorted q ∙ shows q) i) None))
+      (λ q. part_found p (seen_rows value es) q ∙ (λ i. cond (range_is_between from until q i) ((seen_found value none es sorted q ∙ shows q) i) None))
     where
       p : Key → Bool
       p = range_contains key_cmp (Included from) (Excluded until)

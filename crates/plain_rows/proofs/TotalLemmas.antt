@@ -1,10 +1,8 @@
 -- How many vertices and arcs a graph has, by the entries that are seen.
 use Rattle.std.proofs.Common.{◌≡◌, ℕ, suc, ◌+◌, ◌-◌, List, [], ◌∷◌, length, map, refl, sym, ◌∙◌, ap, cond, arith}
 use Rattle.std.specs.Prelude.{Bool, true, false, not, ◌==◌, ◌&&◌, ◌||◌, Option, Some, None, is_some, count_by}
-use Rattle.std.specs.List.{filter, list_any}
-use Rattle.std.specs.Ordering.{nat_cmp, eq_by_cmp, is_lt, ordering_then}
-use Rattle.std.specs.declared.cmp.Ordering.{Ordering}
-use Rattle.std.specs.declared.cmp.Ordering.TheVariants.{Less, Equal, Greater}
+use Rattle.std.specs.List.{list_any}
+use Rattle.std.specs.Ordering.{nat_cmp, eq_by_cmp, is_lt}
 use Rattle.std.specs.Cmp.{unsigned_tied}
 use Rattle.std.specs.FinMap as fin_map
 use Rattle.std.specs.FinMap.Entries.{find, is_sorted, below_all, where_key, same_entries}
@@ -97,6 +95,7 @@ counted value p (e ∷ es) = sum_by-cons (λ (x : Key × Versions). cond (p x.0 
     nothing : (t : Bool) → ◌≡◌ {A = ℕ} (cond (t && false) 1 0) 0
     nothing true = refl
     nothing false = refl
+
     some : count_by (λ e. p e.0 && is_some (value e.1)) es ≡ length (where_key key_cmp p (seen_rows value es)) → (t : Bool) (w : ℕ) → cond (t && true) 1 0 + count_by (λ e. p e.0 && is_some (value e.1)) es ≡ length (cond t ((e.0, w) ∷ where_key key_cmp p (seen_rows value es)) (where_key key_cmp p (seen_rows value es)))
     some rest true w = omega (arith, rest)
     some rest false w = omega (arith, rest)
@@ -112,10 +111,10 @@ module _ (g : Graph) (es : List (Key × Versions)) (sorted : is_sorted key_cmp e
   vertices_counted =
       counted newest_value (λ k. k.second == 0) es
       ∙ ap length (same_entries key_cmp keys_total keys_exact (where_key key_cmp (λ k. k.second == 0) seen) (map vertex_entry (vertices_of g))
-        (T_from_true _ (part_sorted (λ k. k.second == 0) seen (seen_sorted newest_value es sorted)))
-        (T_from_true _ (ap (is_sorted key_cmp) (map_keys (fin_map.entries g.vertices)) ∙ sorted_vertices (fin_map.entries g.vertices) (true_from_T _ (fin_map.entries_sorted g.vertices))))
-        (λ q. value_found (λ k. k.second == 0) q ∙ by_test (q.second == 0) q
-          ∙ (λ i. cond ((q.second == 0) && fin_map.contains_key-keys g.vertices q.src i) (Some 0) None) ∙ sym (find-vertices (vertices_of g) q)))
+      (T_from_true _ (part_sorted (λ k. k.second == 0) seen (seen_sorted newest_value es sorted)))
+      (T_from_true _ (ap (is_sorted key_cmp) (map_keys (fin_map.entries g.vertices)) ∙ sorted_vertices (fin_map.entries g.vertices) (true_from_T _ (fin_map.entries_sorted g.vertices))))
+      (λ q. value_found (λ k. k.second == 0) q ∙ by_test (q.second == 0) q
+      ∙ (λ i. cond ((q.second == 0) && fin_map.contains_key-keys g.vertices q.src i) (Some 0) None) ∙ sym (find-vertices (vertices_of g) q)))
       ∙ length_of_map vertex_entry (vertices_of g)
     where
       by_test : (t : Bool) (q : Key) → cond t (cond t (cond (has_vertex g q.src) (Some 0) None) (weight_of g q.src (q.second - 1))) None ≡ cond (t && has_vertex g q.src) (Some 0) None
@@ -126,10 +125,10 @@ module _ (g : Graph) (es : List (Key × Versions)) (sorted : is_sorted key_cmp e
   arcs_counted =
       counted newest_value (λ k. not (k.second == 0)) es
       ∙ ap length (same_entries key_cmp keys_total keys_exact (where_key key_cmp (λ k. not (k.second == 0)) seen) (map arc_entry (fin_map.entries g.arcs))
-        (T_from_true _ (part_sorted (λ k. not (k.second == 0)) seen (seen_sorted newest_value es sorted)))
-        (T_from_true _ (sorted_arcs (fin_map.entries g.arcs) (true_from_T _ (fin_map.entries_sorted g.arcs))))
-        (λ q. value_found (λ k. not (k.second == 0)) q ∙ by_test (q.second == 0) q
-          ∙ ap (cond (q.second == 0) None) (fin_map.get-entries g.arcs (q.src, q.second - 1)) ∙ sym (find-arcs (fin_map.entries g.arcs) q)))
+      (T_from_true _ (part_sorted (λ k. not (k.second == 0)) seen (seen_sorted newest_value es sorted)))
+      (T_from_true _ (sorted_arcs (fin_map.entries g.arcs) (true_from_T _ (fin_map.entries_sorted g.arcs))))
+      (λ q. value_found (λ k. not (k.second == 0)) q ∙ by_test (q.second == 0) q
+      ∙ ap (cond (q.second == 0) None) (fin_map.get-entries g.arcs (q.src, q.second - 1)) ∙ sym (find-arcs (fin_map.entries g.arcs) q)))
       ∙ length_of_map arc_entry (fin_map.entries g.arcs) ∙ sym (fin_map.len-entries g.arcs)
     where
       by_test : (t : Bool) (q : Key) → cond (not t) (cond t (cond (has_vertex g q.src) (Some 0) None) (weight_of g q.src (q.second - 1))) None ≡ cond t None (weight_of g q.src (q.second - 1))

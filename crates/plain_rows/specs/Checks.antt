@@ -1,5 +1,5 @@
 -- What a check of a write answers: by what its view refuses, and by who stands against it.
-use Rattle.std.specs.Prelude.{◌≡◌, ◌==◌, ◌≤◌, ◌+◌, ℕ, Bool, true, false, cond, nat_le, List, ◌++◌, length, Option, Some, None, Result, Ok, Err}
+use Rattle.std.specs.Prelude.{◌≡◌, ◌==◌, ℕ, true, false, List, Option, Some, None, Result, Ok, Err}
 use Rattle.graph_model.specs.declared.write.Kind.{Kind}
 use Rattle.graph_model.specs.declared.write.Kind.TheVariants.{Directed, Undirected}
 use Rattle.graph_model.specs.declared.write.Write.{Write}
@@ -10,12 +10,11 @@ use Rattle.graph_model.specs.declared.refusal.Cause.{Cause}
 use Rattle.graph_model.specs.declared.refusal.Refusal.{Refusal}
 use Rattle.graph_model.specs.declared.refusal.Refusal.TheVariants as refusals
 use Rattle.graph_model.specs.Graph.{Graph, has_vertex, IsSymmetric}
-use Rattle.graph_model.specs.Inserted.{inserts}
 use Rattle.graph_model.specs.Refused.{refused, unless_ends}
-use Rattle.graph_model.specs.Rows.{vertex_key, arc_key}
+use Rattle.graph_model.specs.Rows.{vertex_key}
 use Rattle.graph_model.specs.Transactions.{has_name}
 use Rattle.store_model.specs.declared.versions.Versions.{Versions}
-use Rattle.store_model.specs.Check.{looked, newest, droppers}
+use Rattle.store_model.specs.Check.{looked}
 use Rattle.plain_rows.specs.declared.lay.Touched.{Touched}
 use Rattle.plain_rows.specs.declared.reader.Reader.{Reader}
 use Rattle.plain_rows.specs.Rows.{contents_of}

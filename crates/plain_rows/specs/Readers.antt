@@ -1,12 +1,12 @@
 -- What a transaction finds in rows: values of its snapshot, and who stands against its writes.
-use Rattle.std.specs.Prelude.{◌≡◌, ℕ, Bool, List, ◌∷◌, [], Option, Some, None, is_some}
+use Rattle.std.specs.Prelude.{◌≡◌, ℕ, Bool, List, Option, is_some}
 use Rattle.graph_model.specs.declared.row.Key.{Key}
 use Rattle.graph_model.specs.declared.journal.TxnName.{TxnName}
 use Rattle.graph_model.specs.declared.refusal.Cause.{Cause}
 use Rattle.graph_model.specs.Graph.{Graph}
 use Rattle.graph_model.specs.Rows.{value_at}
 use Rattle.graph_model.specs.Transactions.{stamp_in}
-use Rattle.txn_manager.specs.Manager.{Manager, open_start}
+use Rattle.txn_manager.specs.Manager.{open_start}
 use Rattle.store_model.specs.declared.versions.Versions.{Versions}
 use Rattle.store_model.specs.Versions.{sees, read}
 use Rattle.store_model.specs.Check.{check}
@@ -23,7 +23,8 @@ value_for r vs = read (stamp_in r.manager.now.journal) r.start r.by vs
 
 -- who of the writers stands against a write of the reader
 abbrev pub cause_for : Reader → List TxnName → Option Cause
-cause_for r names = check (λ n. is_some (open_start r.manager.now n)) (stamp_in r.manager.now.journal) r.start r.by names
+cause_for r names =
+    check (λ n. is_some (open_start r.manager.now n)) (stamp_in r.manager.now.journal) r.start r.by names
 
 -- the reader sees this graph in the rows
 abbrev pub Shows : Reader → List (Key × Versions) → Graph → Type 0

@@ -6,7 +6,6 @@ use Rattle.graph_model.specs.declared.write.Kind.{Kind}
 use Rattle.graph_model.specs.declared.write.Write.{Write}
 use Rattle.graph_model.specs.declared.row.Key.{Key}
 use Rattle.graph_model.specs.Effects.{keys_of}
-use Rattle.graph_model.specs.Inserted.{inserts}
 use Rattle.graph_model.specs.Rows.{key_cmp}
 use Rattle.store_model.specs.declared.versions.Versions.{Versions}
 use Rattle.store_model.specs.Versions.{no_versions}

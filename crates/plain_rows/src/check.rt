@@ -59,7 +59,8 @@ impl RowMap {
 
     /// Whether a vertex may be added.
     fn check_new_vertex(&self, reader: &Reader, v: u64) -> Result<(), Refusal>
-        ensures { (g : Graph) → Shows reader.now self.now g → IsChecked reader.now self.now g (writes.AddVertex v) result }
+        ensures { (g : Graph) → Shows reader.now self.now g
+            → IsChecked reader.now self.now g (writes.AddVertex v) result }
     {
         let row = self.row(Key::of_vertex(v));
         if row.value(reader).is_some() {
@@ -135,7 +136,7 @@ impl RowMap {
         requires { v ≤ MAX_ID }
         ensures { (g : Graph) → Shows reader.now self.now g → refusal_in result
             ≡ answer_of (unless_ends g u v (cond (has_arc g u v) None (Some refusals.NoEdge)))
-                (cause_for reader.now (newest (contents_of self.now (arc_key u v)))) }
+            (cause_for reader.now (newest (contents_of self.now (arc_key u v)))) }
     {
         let _ends = self.check_ends(reader, u, v)?;
         let arc = self.row(Key::of_arc(u, v));

@@ -27,12 +27,20 @@ pub struct Touched {
 
 impl RowMap {
     /// Puts a pair in front of each row of an edge.
-    fn put_edge(&mut self, kind: Kind, by: TxnName, u: u64, v: u64, value: Option<u64>) -> Result<(), NoMemory>
+    fn put_edge(
+        &mut self,
+        kind: Kind,
+        by: TxnName,
+        u: u64,
+        v: u64,
+        value: Option<u64>,
+    ) -> Result<(), NoMemory>
         requires apart { (u == v) ≡ false }
         requires source_within { u ≤ MAX_ID }
         requires target_within { v ≤ MAX_ID }
         ensures ok { OnOk result ((q : Key) → contents_of self.new q
-            ≡ cond (list_any (same_key q) (arc_keys kind u v)) (write by value (contents_of self.old q)) (contents_of self.old q)) }
+            ≡ cond (list_any (same_key q) (arc_keys kind u v)) (write by value (contents_of self.old q))
+            (contents_of self.old q)) }
         ensures len { OnOk result (length self.new
             ≡ length self.old + count_by (λ k. not (is_there self.old k)) (arc_keys kind u v)) }
         ensures err { OnErr result (Stays self.old self.new) }
@@ -57,7 +65,8 @@ impl RowMap {
         requires source_within { u ≤ MAX_ID }
         requires target_within { v ≤ MAX_ID }
         ensures contents { (q : Key) → contents_of self.new q
-            ≡ cond (list_any (same_key q) (arc_keys kind u v)) (undo (contents_of self.old q)) (contents_of self.old q) }
+            ≡ cond (list_any (same_key q) (arc_keys kind u v)) (undo (contents_of self.old q))
+            (contents_of self.old q) }
         ensures len { length self.new ≤ length self.old }
     {
         self.undo(Key::of_arc(u, v));
@@ -90,7 +99,8 @@ impl RowMap {
     /// Takes a touch away that is new.
     fn untouch_end(&mut self, key: Key, by: TxnName, was_touched: bool)
         ensures contents { (q : Key) → contents_of self.new q
-            ≡ cond (same_key q key) (cond was_touched (contents_of self.old q) (untouch by (contents_of self.old q))) (contents_of self.old q) }
+            ≡ cond (same_key q key) (cond was_touched (contents_of self.old q) (untouch by (contents_of self.old q)))
+            (contents_of self.old q) }
         ensures len { length self.new ≤ length self.old }
     {
         if !was_touched {
@@ -99,12 +109,21 @@ impl RowMap {
     }
 
     /// Lays the rows and the touches of an edge that is added.
-    fn lay_edge(&mut self, kind: Kind, by: TxnName, u: u64, v: u64, weight: u64, touched: Touched) -> Result<(), NoMemory>
+    fn lay_edge(
+        &mut self,
+        kind: Kind,
+        by: TxnName,
+        u: u64,
+        v: u64,
+        weight: u64,
+        touched: Touched,
+    ) -> Result<(), NoMemory>
         requires within { IsWithinLimits (writes.AddEdge u v weight) }
         requires may { MayLay self.old by (writes.AddEdge u v weight) touched }
         ensures ok { OnOk result ((q : Key) → contents_of self.new q
             ≡ after_write kind by (writes.AddEdge u v weight) q (contents_of self.old q)) }
-        ensures len { OnOk result (length self.new ≡ length self.old + missing self.old kind (writes.AddEdge u v weight)) }
+        ensures len { OnOk result (length self.new
+            ≡ length self.old + missing self.old kind (writes.AddEdge u v weight)) }
         ensures err { OnErr result (Stays self.old self.new) }
     {
         let source = Key::of_vertex(u);
@@ -128,10 +147,17 @@ impl RowMap {
     }
 
     /// Lays a write that may be made.
-    pub fn lay(&mut self, kind: Kind, by: TxnName, write: Write, touched: Touched) -> Result<(), NoMemory>
+    pub fn lay(
+        &mut self,
+        kind: Kind,
+        by: TxnName,
+        write: Write,
+        touched: Touched,
+    ) -> Result<(), NoMemory>
         requires within { IsWithinLimits write }
         requires may { MayLay self.old by write touched }
-        ensures ok { OnOk result ((q : Key) → contents_of self.new q ≡ after_write kind by write q (contents_of self.old q)) }
+        ensures ok { OnOk result ((q : Key) → contents_of self.new q
+            ≡ after_write kind by write q (contents_of self.old q)) }
         ensures len { OnOk result (length self.new ≡ length self.old + missing self.old kind write) }
         ensures err { OnErr result (Stays self.old self.new) }
     {

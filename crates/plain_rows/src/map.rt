@@ -145,8 +145,10 @@ fn put_in(
 ) -> Result<(), NoMemory>
     requires { AreRows rows.old }
     ensures ok { OnOk result ((q : Key) → get key_cmp rows.new q
-        ≡ cond (is_at (key_cmp key) q) (Some (write by value (versions_in (get key_cmp rows.old key)))) (get key_cmp rows.old q)) }
-    ensures len { OnOk result (btree_map_len rows.new ≡ btree_map_len rows.old + (if is_some (get key_cmp rows.old key) then 0 else 1)) }
+        ≡ cond (is_at (key_cmp key) q) (Some (write by value (versions_in (get key_cmp rows.old key))))
+        (get key_cmp rows.old q)) }
+    ensures len { OnOk result (btree_map_len rows.new
+        ≡ btree_map_len rows.old + (if is_some (get key_cmp rows.old key) then 0 else 1)) }
     ensures err { OnErr result ((q : Key) → get key_cmp rows.new q ≡ get key_cmp rows.old q) }
     ensures kept { AreRows rows.new }
 {
@@ -165,7 +167,8 @@ fn put_in(
 /// Takes a key's row away.
 fn remove_row(rows: &mut BTreeMap<Key, Row>, key: Key)
     ensures gone { (q : Key) → get key_cmp rows.new q ≡ cond (is_at (key_cmp key) q) None (get key_cmp rows.old q) }
-    ensures len { btree_map_len rows.new + (if is_some (get key_cmp rows.old key) then 1 else 0) ≡ btree_map_len rows.old }
+    ensures len { btree_map_len rows.new + (if is_some (get key_cmp rows.old key) then 1 else 0)
+        ≡ btree_map_len rows.old }
     ensures ordered { IsOrdered key_cmp rows.new }
 {
     rows.remove(&key);

@@ -104,11 +104,11 @@ impl Row {
     pub fn take_touch(&mut self, by: TxnName)
         ensures { self.new ≡ untouch by self.old }
     {
-        self.touches.retain(|name: &TxnName| -> bool
-            ensures { result ≡ not (same_name by name.now) }
-        {
-            by != *name
-        });
+        self.touches.retain(
+            |name: &TxnName| -> bool
+                ensures { result ≡ not (same_name by name.now) }
+            { by != *name },
+        );
     }
 
     /// The newest value, whoever wrote it.

@@ -88,7 +88,11 @@ fn there_are_sixty_scripts_at_most(rt: HostRuntime) -> Result<(), Fail> {
         }
         let mut desk = desk_with(alloc, &[("v", ""), ("e", "")], &[])?;
         let found = end_of_words(alloc, &mut desk, words.as_str(), end)?;
-        assert_eq!(rt; found.as_str(), text_of_end(alloc, end)?.as_str(), "{count}");
+        assert_eq!(rt;
+            found.as_str(),
+            text_of_end(alloc, end)?.as_str(),
+            "{count}"
+        );
     }
     Ok(())
 }

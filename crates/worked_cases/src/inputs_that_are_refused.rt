@@ -7,9 +7,18 @@ use std::test::Fail;
 /// Sources that are refused, and what is said of the first that is.
 const REFUSED: [(Run, &str); 14] = [
     // one of each reader: a missing last line feed, an unknown vertex, a line of no transaction, no job
-    ((&[("v", "1\n2\n3\n4"), E, SEARCH], "s1"), "v: not accepted\n"),
-    ((&[V, ("e", "1 2\n2 5\n"), SEARCH], "s1"), "e: not accepted\n"),
-    ((&[V, E, ("s1", "vertex 5\n")], "s1"), "s1 line 1: not begun\n"),
+    (
+        (&[("v", "1\n2\n3\n4"), E, SEARCH], "s1"),
+        "v: not accepted\n",
+    ),
+    (
+        (&[V, ("e", "1 2\n2 5\n"), SEARCH], "s1"),
+        "e: not accepted\n",
+    ),
+    (
+        (&[V, E, ("s1", "vertex 5\n")], "s1"),
+        "s1 line 1: not begun\n",
+    ),
     (
         (&[V, E, SEARCH, ("t", "1\n2\n")], "--schedule t s1"),
         "t line 2: no such job\n",
@@ -63,7 +72,10 @@ const REFUSED: [(Run, &str); 14] = [
         "e: not accepted\n",
     ),
     (
-        (&[V, E, ("s1", "begin"), ("s2", "end"), ("t", "x")], "--schedule t s1 s2"),
+        (
+            &[V, E, ("s1", "begin"), ("s2", "end"), ("t", "x")],
+            "--schedule t s1 s2",
+        ),
         "s1 line 1: not ended\n",
     ),
 ];
@@ -72,7 +84,7 @@ const REFUSED: [(Run, &str); 14] = [
 fn sources_that_are_refused(rt: HostRuntime) -> Result<(), Fail> {
     let alloc = rt.alloc();
     for (run, said) in REFUSED {
-        let end = (1, said, run.0.len(), &[]);
+        let end: End = (1, said, run.0.len(), &[]);
         let mut desk = desk_with(alloc, run.0, &[])?;
         let found = end_of(alloc, &mut desk, run.1, end)?;
         assert_eq!(rt; found.as_str(), text_of_end(alloc, end)?.as_str());

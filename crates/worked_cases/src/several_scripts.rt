@@ -1,15 +1,13 @@
 //! Runs of two scripts, by rotation and by a schedule.
 
-use crate::setting::{
-    E, End, File, Run, V, desk_with, end_of, text_of_end,
-};
+use crate::setting::{E, End, File, Run, V, desk_with, end_of, text_of_end};
 use std::test::Fail;
 
-/// Two scripts that set the weight of one edge.
-const SETS: (File, File) = (
-    ("s1", "begin\nset 1 2 9\ncommit\n"),
-    ("s2", "begin\nset 1 2 8\ncommit\n"),
-);
+/// A script that sets the weight of an edge.
+const SET_NINE: File = ("s1", "begin\nset 1 2 9\ncommit\n");
+
+/// Another one that sets it.
+const SET_EIGHT: File = ("s2", "begin\nset 1 2 8\ncommit\n");
 
 /// The journal where the first of them commits alone.
 const SET_ONCE: File = (
@@ -19,7 +17,7 @@ const SET_ONCE: File = (
 );
 
 /// What its report says.
-const SET: File = ("s1.report", "begin 1.1 start 1\nok\ncommit 2\n");
+const NINE_IS_SET: File = ("s1.report", "begin 1.1 start 1\nok\ncommit 2\n");
 
 /// What is said of one commit that keeps the numbers of vertices and edges.
 const KEPT: &str = "commits 2 vertices 4 edges 2 undo 0 retired 0\n";
@@ -28,22 +26,25 @@ const KEPT: &str = "commits 2 vertices 4 edges 2 undo 0 retired 0\n";
 const RUNS: [(Run, End); 5] = [
     // by rotation the first script's transaction is open when the second writes
     (
-        (&[V, E, SETS.0, SETS.1], "s1 s2"),
+        (&[V, E, SET_NINE, SET_EIGHT], "s1 s2"),
         (
             0,
             KEPT,
             7,
             &[
                 SET_ONCE,
-                SET,
-                ("s2.report", "begin 2.1 start 1\nconflict open 1.1\nskipped\n"),
+                NINE_IS_SET,
+                (
+                    "s2.report",
+                    "begin 2.1 start 1\nconflict open 1.1\nskipped\n",
+                ),
             ],
         ),
     ),
     // by this schedule it has committed since the second began
     (
         (
-            &[V, E, SETS.0, SETS.1, ("t", "2\n1\n1\n1\n2\n2\n")],
+            &[V, E, SET_NINE, SET_EIGHT, ("t", "2\n1\n1\n1\n2\n2\n")],
             "--schedule t s1 s2",
         ),
         (
@@ -52,8 +53,11 @@ const RUNS: [(Run, End); 5] = [
             8,
             &[
                 SET_ONCE,
-                SET,
-                ("s2.report", "begin 2.1 start 1\nconflict later 2\nskipped\n"),
+                NINE_IS_SET,
+                (
+                    "s2.report",
+                    "begin 2.1 start 1\nconflict later 2\nskipped\n",
+                ),
             ],
         ),
     ),
@@ -109,7 +113,10 @@ const RUNS: [(Run, End); 5] = [
                      commit 2 start 1 by 1.1\nunvertex 4\n",
                 ),
                 ("s1.report", "begin 1.1 start 1\nok\ncommit 2\n"),
-                ("s2.report", "begin 2.1 start 1\nconflict open 1.1\nskipped\n"),
+                (
+                    "s2.report",
+                    "begin 2.1 start 1\nconflict open 1.1\nskipped\n",
+                ),
             ],
         ),
     ),
@@ -120,7 +127,7 @@ const RUNS: [(Run, End); 5] = [
                 V,
                 E,
                 ("s1", "begin\nset 1 2 9\nabort\n"),
-                SETS.1,
+                SET_EIGHT,
                 ("t", "2\n1\n1\n1\n"),
             ],
             "--schedule t s1 s2",

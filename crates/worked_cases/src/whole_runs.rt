@@ -67,10 +67,7 @@ const RUNS: [(Run, End); 9] = [
     ),
     // a kernel sees the writes of its own transaction
     (
-        (
-            &[V, E, ("s1", "begin\nedge 1 4\nbfs 1 o\ncommit\n")],
-            "s1",
-        ),
+        (&[V, E, ("s1", "begin\nedge 1 4\nbfs 1 o\ncommit\n")], "s1"),
         (
             0,
             "commits 2 vertices 4 edges 3 undo 0 retired 0\n",

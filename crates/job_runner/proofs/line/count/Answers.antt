@@ -1,4 +1,4 @@
-use Rattle.std.proofs.Common.{◌≡◌, ◌-◌, false, length, sym, subst, ap, ◌∙◌}
+use Rattle.std.proofs.Common.{◌≡◌, ◌-◌, false, sym, subst, ap, ◌∙◌}
 use Rattle.std.specs.Prelude.{count_by}
 use Rattle.graph_model.specs.Rows.{all_rows}
 use Rattle.run_model.specs.Requests.{ToRead, Counts}

@@ -3,7 +3,7 @@ use Rattle.std.specs.Prelude.{IsSome}
 use Rattle.graph_model.specs.OwnerCalls.{current}
 use Rattle.graph_model.specs.Graph.{has_vertex}
 use Rattle.run_model.specs.declared.answer.Answer.TheVariants as answers
-use Rattle.run_model.specs.Answering.{targets_of, query_answer}
+use Rattle.run_model.specs.Answering.{query_answer}
 use Rattle.run_model.specs.Requests.{ToRead, NeighboursOf}
 use Rattle.job_runner.specs.Lines.{DoesLine, view_here}
 use Rattle.job_runner.proofs.CoreLemmas.{not_false, view_is}

@@ -1,12 +1,10 @@
-use Rattle.std.proofs.Common.{◌≡◌, false, cond, sym, subst, ap, ◌∙◌, List}
+use Rattle.std.proofs.Common.{◌≡◌, cond, subst, ap, ◌∙◌}
 use Rattle.std.specs.Prelude.{None}
-use Rattle.graph_model.specs.declared.row.Row.{Row}
-use Rattle.graph_model.specs.Rows.{all_rows, AreRowsOf}
 use Rattle.run_model.specs.AnsweredLines.{effect}
 use Rattle.run_model.specs.Requests.{ToRun}
 use Rattle.run_model.specs.Run.{filing_of}
 use Rattle.job_runner.specs.Kernels.{kernel_of}
-use Rattle.job_runner.specs.Lines.{DoesLine, AnswersKernel, IsFileOn, view_here}
+use Rattle.job_runner.specs.Lines.{AnswersKernel, IsFileOn, view_here}
 use Rattle.job_runner.proofs.CoreLemmas.{not_false}
 use Rattle.job_runner.proofs.ViewLemmas.{kept_rows}
 use Rattle.job_runner.proofs.LineLemmas.{run_does}

@@ -1,4 +1,4 @@
-use Rattle.std.proofs.Common.{refl, sym, subst, ap}
+use Rattle.std.proofs.Common.{refl, ap}
 use Rattle.run_model.specs.declared.command.Command.TheVariants as commands
 use Rattle.run_model.specs.Requests.{request}
 use Rattle.job_runner.proofs.LineLemmas.{calm_of, takes_by, skips_turn}

@@ -1,4 +1,4 @@
-use Rattle.std.proofs.Common.{◌≡◌, sym, ap, subst}
+use Rattle.std.proofs.Common.{sym, subst}
 use Rattle.std.specs.Prelude.{false}
 use Rattle.job_runner.specs.Runs.{Turns}
 use Rattle.job_runner.proofs.RunLemmas.{serves}

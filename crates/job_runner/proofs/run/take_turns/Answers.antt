@@ -1,8 +1,7 @@
-use Rattle.std.proofs.Common.{◌≡◌, ◌∙◌, ◌+◌, ◌-◌, ◌<◌, ◌≤◌, suc, ℕ, true, false, length, refl, sym, ap, subst, arith, slice_index_or}
-use Rattle.std.specs.Prelude.{Some, slice_get}
+use Rattle.std.proofs.Common.{◌≡◌, ◌∙◌, ◌+◌, ◌-◌, ◌<◌, ◌≤◌, suc, true, false, length, refl, sym, subst, arith, slice_index_or}
 use Rattle.std.proofs.lemmas.Option.{slice_get-get_or}
-use Rattle.job_runner.specs.Runs.{Turns, Goes, under_way, IsStuck}
-use Rattle.job_runner.proofs.RunLemmas.{IsAt, at_first, at_next, at_end, scheduled, behind_schedule, stuck_from}
+use Rattle.job_runner.specs.Runs.{Turns, Goes, under_way}
+use Rattle.job_runner.proofs.RunLemmas.{IsAt, at_first, at_next, at_end, scheduled, behind_schedule}
 use Rattle.job_runner.proofs.RotationLemmas.{measure, falls, rotates_on, next_zero, next_one, left_after}
 use Rattle.job_runner.proofs.run.take_turns.Goals as goal
 use Rattle.job_runner.proofs.run.take_turns.Goals.{then-branch, else-branch, then-branch-2, else-branch-2}

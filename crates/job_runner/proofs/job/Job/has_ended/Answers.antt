@@ -1,6 +1,5 @@
-use Rattle.std.proofs.Common.{◌≡◌, ◌∙◌, length, sym, ap, subst}
+use Rattle.std.proofs.Common.{◌∙◌, length, ap}
 use Rattle.std.specs.Prelude.{nat_le}
-use Rattle.job_runner.specs.declared.phase.Phase.TheVariants.{GivenUp}
 use Rattle.job_runner.specs.Progress.{Progress}
 use Rattle.job_runner.proofs.JobLemmas.{over_at}
 use Rattle.job_runner.proofs.job.Job.has_ended.Goals as goal

@@ -1,7 +1,7 @@
 use Rattle.std.proofs.Common.{◌≡◌, ◌∙◌, ◌-◌, ◌<◌, suc, true, false, length, refl, sym, ap, subst, arith, slice_index_or}
 use Rattle.std.specs.Prelude.{Some, slice_get, slice_set, IfOk, OnOk, OnErr}
 use Rattle.std.proofs.lemmas.Option.{slice_get_read}
-use Rattle.job_runner.specs.Progress.{Progress, is_over}
+use Rattle.job_runner.specs.Progress.{is_over}
 use Rattle.job_runner.specs.Runs.{Turns, Goes, IsStuck}
 use Rattle.job_runner.proofs.TookLemmas.{was_over, stays_over, ready_here, Says, took_turns, took_goes, took_stuck}
 use Rattle.job_runner.proofs.jobs.Jobs.take_turn.Goals as goal

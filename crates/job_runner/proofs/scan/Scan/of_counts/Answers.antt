@@ -1,4 +1,4 @@
-use Rattle.std.proofs.Common.{refl, sym, ◌∙◌, ap, subst}
+use Rattle.std.proofs.Common.{refl}
 use Rattle.graph_model.specs.Rows.{rows}
 use Rattle.run_model.specs.Requests.{ToRead, Counts}
 use Rattle.job_runner.proofs.ScanLemmas.{fresh}

@@ -1,4 +1,4 @@
-use Rattle.std.proofs.Common.{refl, sym, ◌∙◌, ap, subst}
+use Rattle.std.proofs.Common.{refl, ap}
 use Rattle.graph_model.specs.Rows.{rows}
 use Rattle.run_model.specs.Requests.{ToRun}
 use Rattle.job_runner.specs.declared.scan.ScanResult.TheVariants.{Rows}

@@ -1,4 +1,4 @@
-use Rattle.std.proofs.Common.{◌≡◌, ◌∙◌, ◌+◌, ◌<◌, ◌^◌, ap, sym, arith, length, subst}
+use Rattle.std.proofs.Common.{◌≡◌, ◌∙◌, ◌+◌, ◌<◌, ◌^◌, ap, sym, length, subst}
 use Rattle.std.proofs.lemmas.Result.{on_ok_weaker}
 use Rattle.graph_model.specs.Scans.{ScansBy}
 use Rattle.job_runner.specs.Scanning.{with_rows}

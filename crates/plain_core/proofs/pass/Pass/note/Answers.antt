@@ -1,4 +1,4 @@
-use Rattle.std.proofs.Common.{◌≡◌, ◌∙◌, ap}
+use Rattle.std.proofs.Common.{◌∙◌, ap}
 use Rattle.plain_core.specs.Passes.{made_with}
 use Rattle.plain_core.proofs.PassLemmas.{made_more}
 use Rattle.plain_core.proofs.pass.Pass.note.Goals as goal

@@ -1,4 +1,4 @@
-use Rattle.std.proofs.Common.{◌≡◌, sym, ◌∙◌, ap, is_some, None}
+use Rattle.std.proofs.Common.{sym, ◌∙◌, ap, is_some, None}
 use Rattle.graph_model.specs.Rows.{vertex_key, arc_key}
 use Rattle.store_model.specs.Check.{combine, newest, droppers}
 use Rattle.plain_rows.specs.Rows.{contents_of}
@@ -14,8 +14,8 @@ returns-in-Some-clause-checked c = λ g weight shows.
     let arc = c.row-arc.ensures ∙ ap contents c.of_arc.ensures in
     let none = ap is_some (sym (weight_is_value g c.args.u c.args.v) ∙ sym (shows (arc_key c.args.u c.args.v)) ∙ ap (value_for r) (sym arc) ∙ sym c.value.ensures) ∙ sym c.is_some.ensures ∙ c.if-is_some.false in
     let cause = c.combined.ensures ∙ (λ i. combine ((c.cause.ensures ∙ ap (λ vs. cause_for r (newest vs)) arc) i) (c.combined-drops.ensures i))
-          ∙ (λ i. combine (cause_for r (newest (contents (arc_key c.args.u c.args.v)))) (combine ((c.drop_cause.ensures ∙ ap (λ vs. cause_for r (droppers vs)) c.in_ok-ends.ensures.source) i) ((c.drop_cause-2.ensures ∙ ap (λ vs. cause_for r (droppers vs)) c.in_ok-ends.ensures.target) i)))
-          ∙ cause_of_three r (newest (contents (arc_key c.args.u c.args.v))) (droppers (contents (vertex_key c.args.u))) (droppers (contents (vertex_key c.args.v))) in
+    ∙ (λ i. combine (cause_for r (newest (contents (arc_key c.args.u c.args.v)))) (combine ((c.drop_cause.ensures ∙ ap (λ vs. cause_for r (droppers vs)) c.in_ok-ends.ensures.source) i) ((c.drop_cause-2.ensures ∙ ap (λ vs. cause_for r (droppers vs)) c.in_ok-ends.ensures.target) i)))
+    ∙ cause_of_three r (newest (contents (arc_key c.args.u c.args.v))) (droppers (contents (vertex_key c.args.u))) (droppers (contents (vertex_key c.args.v))) in
     ap (answer_of None) (sym c.in-Some.is ∙ cause) ∙ new_edge_answer g c.args.u c.args.v _ (c.in_ok-ends.ensures.sees g shows) none
 
 pub returns-clause-checked : goal.returns-clause-checked
@@ -25,6 +25,6 @@ returns-clause-checked c = λ g weight shows.
     let arc = c.row-arc.ensures ∙ ap contents c.of_arc.ensures in
     let none = ap is_some (sym (weight_is_value g c.args.u c.args.v) ∙ sym (shows (arc_key c.args.u c.args.v)) ∙ ap (value_for r) (sym arc) ∙ sym c.value.ensures) ∙ sym c.is_some.ensures ∙ c.if-is_some.false in
     let cause = c.combined.ensures ∙ (λ i. combine ((c.cause.ensures ∙ ap (λ vs. cause_for r (newest vs)) arc) i) (c.combined-drops.ensures i))
-          ∙ (λ i. combine (cause_for r (newest (contents (arc_key c.args.u c.args.v)))) (combine ((c.drop_cause.ensures ∙ ap (λ vs. cause_for r (droppers vs)) c.in_ok-ends.ensures.source) i) ((c.drop_cause-2.ensures ∙ ap (λ vs. cause_for r (droppers vs)) c.in_ok-ends.ensures.target) i)))
-          ∙ cause_of_three r (newest (contents (arc_key c.args.u c.args.v))) (droppers (contents (vertex_key c.args.u))) (droppers (contents (vertex_key c.args.v))) in
+    ∙ (λ i. combine (cause_for r (newest (contents (arc_key c.args.u c.args.v)))) (combine ((c.drop_cause.ensures ∙ ap (λ vs. cause_for r (droppers vs)) c.in_ok-ends.ensures.source) i) ((c.drop_cause-2.ensures ∙ ap (λ vs. cause_for r (droppers vs)) c.in_ok-ends.ensures.target) i)))
+    ∙ cause_of_three r (newest (contents (arc_key c.args.u c.args.v))) (droppers (contents (vertex_key c.args.u))) (droppers (contents (vertex_key c.args.v))) in
     ap (answer_of None) (sym c.in-None.is ∙ cause) ∙ new_edge_answer g c.args.u c.args.v _ (c.in_ok-ends.ensures.sees g shows) none

@@ -1,8 +1,5 @@
-use Rattle.std.proofs.Common.{◌≡◌, sym, ◌∙◌, refl, ap}
-use Rattle.std.specs.Prelude.{true, false}
-use Rattle.graph_model.specs.Graph.{IsSymmetric}
+use Rattle.std.proofs.Common.{sym, ◌∙◌, refl}
 use Rattle.plain_rows.specs.Readers.{value_for}
-use Rattle.plain_rows.specs.Checks.{FitsKind}
 use Rattle.plain_rows.proofs.SeenLemmas.{rows_sorted}
 use Rattle.plain_rows.proofs.ArcLemmas.{out_edge, in_edge, none_directed, none_undirected, both_ways}
 use Rattle.plain_rows.proofs.map.RowMap.has_edges.Goals as goal
@@ -17,8 +14,8 @@ returns-in-Directed c = λ g shows fits.
     let is_shown = rw (← c.self.view_is) at shows in
     let sorted = rows_sorted _ c.self.invariant.0.ordered in
     both_ways _ _
-      (λ yes. in_edge (value_for c.args.reader.now) refl g c.self.inside.rows.entries sorted is_shown c.args.v (sym c.has_arc_in.ensures ∙ yes))
-      (λ no. none_directed (value_for c.args.reader.now) refl g c.self.inside.rows.entries sorted is_shown c.args.v (sym c.has_arc_out.ensures ∙ c.if-has_arc_out.false) (sym c.has_arc_in.ensures ∙ no))
+    (λ yes. in_edge (value_for c.args.reader.now) refl g c.self.inside.rows.entries sorted is_shown c.args.v (sym c.has_arc_in.ensures ∙ yes))
+    (λ no. none_directed (value_for c.args.reader.now) refl g c.self.inside.rows.entries sorted is_shown c.args.v (sym c.has_arc_out.ensures ∙ c.if-has_arc_out.false) (sym c.has_arc_in.ensures ∙ no))
 
 pub returns-in-Undirected : goal.returns-in-Undirected
 returns-in-Undirected c = λ g shows fits.

@@ -1,4 +1,3 @@
-use Rattle.std.proofs.Common.{◌≡◌, sym, ◌∙◌, ap, refl}
 use Rattle.std.proofs.lemmas.Result.{on_ok_weaker, on_err_weaker}
 use Rattle.store_model.specs.Versions.{write}
 use Rattle.plain_rows.proofs.MapLemmas.{changed_there, rows_found}

@@ -10,4 +10,4 @@ abbrev pub invariant-entries : goal.invariant-entries
 invariant-entries l =
     (length l.rows ≤ 64) × (l.cursor ≡ l.fn.cursor)
     × (map row_of (seen_rows (value_for l.reader) (entries_between key_cmp (Included l.fn.cursor.next) (Excluded l.fn.cursor.until) l.self))
-      ≡ l.rows ++ map row_of (seen_rows (value_for l.reader) l.key-iterator))
+    ≡ l.rows ++ map row_of (seen_rows (value_for l.reader) l.key-iterator))

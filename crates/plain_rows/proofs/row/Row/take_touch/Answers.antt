@@ -1,4 +1,4 @@
-use Rattle.std.proofs.Common.{rules, ◌≡◌, reverse, not, None}
+use Rattle.std.proofs.Common.{rules, reverse, not, None}
 use Rattle.std.proofs.lemmas.Fn.{filter_same}
 use Rattle.graph_model.specs.Conflict.{same_name}
 use Rattle.plain_rows.proofs.row.Row.take_touch.Goals as goal

@@ -1,4 +1,4 @@
-use Rattle.std.proofs.Common.{◌≡◌, ◌∙◌, ap, is_some}
+use Rattle.std.proofs.Common.{◌∙◌, ap, is_some}
 use Rattle.graph_model.specs.Transactions.{stamp_in}
 use Rattle.store_model.specs.Check.{combine}
 use Rattle.txn_manager.specs.Manager.{open_start}

@@ -7,7 +7,7 @@ abbrev pub invariant-pairs : goal.invariant-pairs
 invariant-pairs l =
     (l.left ≤ length l.self-inside.pairs.items)
     × (first_seen (sees_for l.reader) (reverse l.self-inside.pairs.items) None
-      ≡ first_seen (sees_for l.reader) (reverse (take l.left l.self-inside.pairs.items)) None)
+    ≡ first_seen (sees_for l.reader) (reverse (take l.left l.self-inside.pairs.items)) None)
 
 abbrev pub decreases-pairs : goal.decreases-pairs
 decreases-pairs l = l.left

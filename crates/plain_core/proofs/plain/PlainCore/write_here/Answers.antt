@@ -1,0 +1,126 @@
+use Rattle.std.proofs.Common.{ℕ, sym, ◌∙◌, ap, subst}
+use Rattle.graph_model.specs.OwnerCalls.{current}
+use Rattle.plain_core.specs.Passes.{Notes}
+use Rattle.plain_core.specs.Plain.{core_of}
+use Rattle.plain_core.proofs.FieldLemmas.{lent_state, start_of, some_nat}
+use Rattle.plain_core.proofs.PlainLemmas.{IsReader}
+use Rattle.plain_core.proofs.WriteLemmas.{refused_plain, refused_answer, may_lay, full_plain, full_answer, made_plain, made_answer}
+use Rattle.plain_core.proofs.plain.PlainCore.write_here.Goals as goal
+
+pub invariant_of-self : goal.invariant_of-self
+invariant_of-self c =
+    let f = c.self.inside in
+    let core = core_of f.kind f.leaves f.manager f.passes.items f.selected f.served in
+    let start = start_of (current core).start (rw (← c.self.view_is) at c.requires.current) in
+    let here = lent_state f.passes.items f.selected c.index.result.now c.self.invariant.chosen c.index.ensures in
+    let r = c.reader_of-reader in
+    let reader : IsReader core f.manager f.rows c.self.invariant r.result start.0 = record {
+      manager = r.ensures.manager;
+      start_is = some_nat r.result.start start.0 (sym r.ensures.start ∙ ap (λ s. s.start) (sym here) ∙ start.1);
+      by = r.ensures.by ∙ (λ i. record { job = f.selected; number = (sym here i).begun });
+    } in
+    let last = lent_state f.passes.items f.selected c.index_mut.result.now c.self.invariant.chosen c.index_mut.ensures.value in
+    refused_plain f.kind f.leaves f.manager f.passes.items f.selected f.served f.rows c.self.invariant r.result start.0 start.1 reader c.args.write c.in-Err.refusal c.note_refusal.result c.index_mut.result.now c.note_refusal.new.self (sym last)
+    (subst (λ (s : ℕ). Notes c.index_mut.result.now.state s c.args.write c.in-Err.refusal c.note_refusal.result c.note_refusal.new.self.state) reader.start_is c.note_refusal.ensures)
+
+pub returns-in-Err : goal.returns-in-Err
+returns-in-Err c =
+    let f = c.self.inside in
+    let core = core_of f.kind f.leaves f.manager f.passes.items f.selected f.served in
+    let start = start_of (current core).start (rw (← c.self.view_is) at c.requires.current) in
+    let here = lent_state f.passes.items f.selected c.index.result.now c.self.invariant.chosen c.index.ensures in
+    let r = c.reader_of-reader in
+    let reader : IsReader core f.manager f.rows c.self.invariant r.result start.0 = record {
+      manager = r.ensures.manager;
+      start_is = some_nat r.result.start start.0 (sym r.ensures.start ∙ ap (λ s. s.start) (sym here) ∙ start.1);
+      by = r.ensures.by ∙ (λ i. record { job = f.selected; number = (sym here i).begun });
+    } in
+    let last = lent_state f.passes.items f.selected c.index_mut.result.now c.self.invariant.chosen c.index_mut.ensures.value in
+    let notes = subst (λ (s : ℕ). Notes c.index_mut.result.now.state s c.args.write c.in-Err.refusal c.note_refusal.result c.note_refusal.new.self.state) reader.start_is c.note_refusal.ensures in
+    rw (← c.self.view_is) (record {
+      chosen = c.self.invariant.chosen;
+      here = refused_answer f.kind f.leaves f.manager f.passes.items f.selected f.served f.rows c.self.invariant r.result start.0 start.1 reader c.args.write c.check.result c.check.ensures.checked c.in-Err.refusal c.note_refusal.result c.in-Err.is c.index_mut.result.now c.note_refusal.new.self (sym last) notes;
+      legal = c.self.invariant.store.transactions.legal;
+    })
+
+pub invariant_of-self-then-not-has_room : goal.invariant_of-self-then-not-has_room
+invariant_of-self-then-not-has_room c =
+    let f = c.self.inside in
+    let core = core_of f.kind f.leaves f.manager f.passes.items f.selected f.served in
+    let start = start_of (current core).start (rw (← c.self.view_is) at c.requires.current) in
+    let here = lent_state f.passes.items f.selected c.index.result.now c.self.invariant.chosen c.index.ensures in
+    let r = c.reader_of-reader in
+    let reader : IsReader core f.manager f.rows c.self.invariant r.result start.0 = record {
+      manager = r.ensures.manager;
+      start_is = some_nat r.result.start start.0 (sym r.ensures.start ∙ ap (λ s. s.start) (sym here) ∙ start.1);
+      by = r.ensures.by ∙ (λ i. record { job = f.selected; number = (sym here i).begun });
+    } in
+    let last = lent_state f.passes.items f.selected c.index_mut-then-not-has_room.result.now c.self.invariant.chosen c.index_mut-then-not-has_room.ensures.value in
+    full_plain f.kind f.leaves f.manager f.passes.items f.selected f.served f.rows c.self.invariant r.result start.0 start.1 reader c.args.write c.check.result c.check.ensures.checked c.in-Ok.touched c.in-Ok.is c.index_mut-then-not-has_room.result.now c.fill.new.self (sym last) c.fill.ensures
+
+pub returns-then-not-has_room : goal.returns-then-not-has_room
+returns-then-not-has_room c =
+    let f = c.self.inside in
+    let core = core_of f.kind f.leaves f.manager f.passes.items f.selected f.served in
+    let start = start_of (current core).start (rw (← c.self.view_is) at c.requires.current) in
+    let here = lent_state f.passes.items f.selected c.index.result.now c.self.invariant.chosen c.index.ensures in
+    let r = c.reader_of-reader in
+    let reader : IsReader core f.manager f.rows c.self.invariant r.result start.0 = record {
+      manager = r.ensures.manager;
+      start_is = some_nat r.result.start start.0 (sym r.ensures.start ∙ ap (λ s. s.start) (sym here) ∙ start.1);
+      by = r.ensures.by ∙ (λ i. record { job = f.selected; number = (sym here i).begun });
+    } in
+    let last = lent_state f.passes.items f.selected c.index_mut-then-not-has_room.result.now c.self.invariant.chosen c.index_mut-then-not-has_room.ensures.value in
+    rw (← c.self.view_is) (record {
+      chosen = c.self.invariant.chosen;
+      here = full_answer f.kind f.leaves f.manager f.passes.items f.selected f.served f.rows c.self.invariant r.result start.0 start.1 reader c.args.write c.check.result c.check.ensures.checked c.in-Ok.touched c.in-Ok.is (sym c.inserts.ensures ∙ c.if-inserts.true) (sym c.has_room.ensures ∙ c.if-not-has_room.true) c.index_mut-then-not-has_room.result.now c.fill.new.self (sym last) c.fill.ensures;
+      legal = c.self.invariant.store.transactions.legal;
+    })
+
+pub lay-requires-clause-may : goal.lay-requires-clause-may
+lay-requires-clause-may c =
+    let f = c.self.inside in
+    let core = core_of f.kind f.leaves f.manager f.passes.items f.selected f.served in
+    let start = start_of (current core).start (rw (← c.self.view_is) at c.requires.current) in
+    let here = lent_state f.passes.items f.selected c.index.result.now c.self.invariant.chosen c.index.ensures in
+    let r = c.reader_of-reader in
+    let reader : IsReader core f.manager f.rows c.self.invariant r.result start.0 = record {
+      manager = r.ensures.manager;
+      start_is = some_nat r.result.start start.0 (sym r.ensures.start ∙ ap (λ s. s.start) (sym here) ∙ start.1);
+      by = r.ensures.by ∙ (λ i. record { job = f.selected; number = (sym here i).begun });
+    } in
+    may_lay f.kind f.leaves f.manager f.passes.items f.selected f.served f.rows c.self.invariant r.result start.0 start.1 reader c.args.write c.check.result c.check.ensures.checked c.in-Ok.touched c.in-Ok.is c.in-Ok.touched c.in-Ok.ensures.touched
+
+pub invariant_of-self-2 : goal.invariant_of-self-2
+invariant_of-self-2 c =
+    let f = c.self.inside in
+    let core = core_of f.kind f.leaves f.manager f.passes.items f.selected f.served in
+    let start = start_of (current core).start (rw (← c.self.view_is) at c.requires.current) in
+    let here = lent_state f.passes.items f.selected c.index.result.now c.self.invariant.chosen c.index.ensures in
+    let r = c.reader_of-reader in
+    let reader : IsReader core f.manager f.rows c.self.invariant r.result start.0 = record {
+      manager = r.ensures.manager;
+      start_is = some_nat r.result.start start.0 (sym r.ensures.start ∙ ap (λ s. s.start) (sym here) ∙ start.1);
+      by = r.ensures.by ∙ (λ i. record { job = f.selected; number = (sym here i).begun });
+    } in
+    let last = lent_state f.passes.items f.selected c.index_mut-2.result.now c.self.invariant.chosen c.index_mut-2.ensures.value in
+    made_plain f.kind f.leaves f.manager f.passes.items f.selected f.served f.rows c.self.invariant r.result start.0 start.1 reader c.args.write c.check.result c.check.ensures.checked c.in-Ok.touched c.in-Ok.is c.requires.within c.lay.result c.index_mut-2.result.now c.lay.new.pass c.lay.new.rows (sym last) c.lay.ensures.ok c.lay.ensures.err
+
+pub returns : goal.returns
+returns c =
+    let f = c.self.inside in
+    let core = core_of f.kind f.leaves f.manager f.passes.items f.selected f.served in
+    let start = start_of (current core).start (rw (← c.self.view_is) at c.requires.current) in
+    let here = lent_state f.passes.items f.selected c.index.result.now c.self.invariant.chosen c.index.ensures in
+    let r = c.reader_of-reader in
+    let reader : IsReader core f.manager f.rows c.self.invariant r.result start.0 = record {
+      manager = r.ensures.manager;
+      start_is = some_nat r.result.start start.0 (sym r.ensures.start ∙ ap (λ s. s.start) (sym here) ∙ start.1);
+      by = r.ensures.by ∙ (λ i. record { job = f.selected; number = (sym here i).begun });
+    } in
+    let last = lent_state f.passes.items f.selected c.index_mut-2.result.now c.self.invariant.chosen c.index_mut-2.ensures.value in
+    rw (← c.self.view_is) (record {
+      chosen = c.self.invariant.chosen;
+      here = made_answer f.kind f.leaves f.manager f.passes.items f.selected f.served f.rows c.self.invariant r.result start.0 start.1 reader c.args.write c.check.result c.check.ensures.checked c.in-Ok.touched c.in-Ok.is c.lay.result c.index_mut-2.result.now c.lay.new.pass c.lay.new.rows (sym last) c.lay.ensures.ok c.lay.ensures.err;
+      legal = c.self.invariant.store.transactions.legal;
+    })
