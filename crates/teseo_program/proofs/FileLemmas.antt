@@ -1,6 +1,6 @@
 -- The kernel files of a run have names that its scripts give them.
-use Rattle.std.proofs.Common.{◌≡◌, ◌≢◌, ℕ, zero, suc, ◌+◌, ◌<◌, List, [], ◌∷◌, ◌++◌, length, map, refl, sym, ◌∙◌, ap, subst, inl, arith, AllPairs}
-use Rattle.std.specs.Prelude.{slice_get, Option, Some, None, cond, Bool, true, false}
+use Rattle.std.proofs.Common.{◌≡◌, ◌≢◌, ℕ, suc, List, [], ◌∷◌, ◌++◌, length, map, refl, sym, ap, subst, inl, arith, AllPairs}
+use Rattle.std.specs.Prelude.{slice_get, Some, None, cond, Bool, true, false}
 use Rattle.std.specs.List.{flat_map}
 use Rattle.std.proofs.lemmas.List.{append-nil, append_assoc}
 use Rattle.run_model.specs.declared.command.Command.{Command}
@@ -8,7 +8,7 @@ use Rattle.run_model.specs.declared.answer.Answer.{Answer}
 use Rattle.run_model.specs.Requests.{Request, ToBegin, ToCommit, ToAbort, ToWrite, ToRead, ToRun, request, next_txn}
 use Rattle.run_model.specs.AnsweredLines.{AnsweredLine, answered_from, answered_lines, effect}
 use Rattle.run_model.specs.Inputs.{Inputs, File, Outputs}
-use Rattle.run_model.specs.Run.{Context, Filing, filing_of, IsFiled, HasFile, HasFiles, IsRun, run_lines, answered_scripts, context_at}
+use Rattle.run_model.specs.Run.{Context, filing_of, IsFiled, HasFiles, IsRun, answered_scripts, context_at}
 use Rattle.script_lang.specs.Scripts.{file_of, files_of}
 use Rattle.script_lang.specs.Runnable.{IsRunnable}
 use Rattle.teseo_program.specs.Parsing.{AreRunnable}

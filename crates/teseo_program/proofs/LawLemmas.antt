@@ -1,5 +1,5 @@
 -- Runs that are accepted end well.
-use Rattle.std.proofs.Common.{◌≡◌, ℕ, zero, suc, ◌+◌, ◌^◌, ◌<◌, ◌≤◌, List, [], ◌∷◌, ◌++◌, length, refl, sym, ◌∙◌, ap, subst, arith, inl, inr}
+use Rattle.std.proofs.Common.{◌≡◌, ℕ, zero, suc, ◌^◌, ◌<◌, ◌≤◌, List, [], ◌∷◌, ◌++◌, length, refl, sym, ◌∙◌, ap, subst, arith, inl, inr}
 use Rattle.std.specs.Prelude.{◌⊎◌, ◌-◌, IfSome, slice_get, Option, Some, None, Result, Ok, Err}
 use Rattle.std.specs.List.{AllZip}
 use Rattle.graph_model.specs.declared.limits.TheConstants.{MAX_SOURCE_BYTES, MAX_LOAD_ROWS}
@@ -15,15 +15,14 @@ use Rattle.script_lang.specs.declared.refusal.ScriptRefusal.{ScriptRefusal}
 use Rattle.script_lang.specs.declared.refusal.ScriptRefusal.TheVariants as script_refusals
 use Rattle.script_lang.specs.declared.refusal.ScheduleRefusal.{ScheduleRefusal}
 use Rattle.script_lang.specs.declared.refusal.ScheduleRefusal.TheVariants as schedule_refusals
-use Rattle.script_lang.specs.Scripts.{script_of, files_of}
-use Rattle.script_lang.specs.Schedules.{schedule_of}
+use Rattle.script_lang.specs.Scripts.{files_of}
 use Rattle.command_line.specs.Words.{RunNames, TakesWords, source_names, taken_names}
 use Rattle.command_line.proofs.WordLemmas.{taken_once}
 use Rattle.teseo_program.specs.declared.fault.SourceFault.{SourceFault}
 use Rattle.teseo_program.specs.declared.fault.SourceFault.TheVariants as faults
 use Rattle.teseo_program.specs.declared.outcome.Outcome.{Outcome}
 use Rattle.teseo_program.specs.declared.outcome.Outcome.TheVariants.{Done, Full, BadWords, NotRead, NotAccepted, NoMemory, NotWritten}
-use Rattle.teseo_program.specs.Input.{Meaning, Texts, texts_of, AreScripts, IsSchedule, IsAccepted, HasScriptFault, HasScheduleFault, IsFaultBehind, IsNotAccepted}
+use Rattle.teseo_program.specs.Input.{Meaning, Texts, texts_of, AreScripts, IsSchedule, IsAccepted, IsFaultBehind, IsNotAccepted}
 use Rattle.teseo_program.specs.Outcomes.{status_of, IsRunOutcome}
 use Rattle.teseo_program.specs.Laws.{IsTold, AreTold, Stands, HasNoFault, AcceptedRunsEndWell}
 

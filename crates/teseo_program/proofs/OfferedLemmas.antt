@@ -1,5 +1,5 @@
 -- A script that was read asks for no kernel that isn't offered.
-use Rattle.std.proofs.Common.{◌≡◌, ℕ, List, [], ◌∷◌, ◌++◌, refl, sym, ◌∙◌, ap, subst}
+use Rattle.std.proofs.Common.{◌≡◌, ℕ, List, [], ◌∷◌, ◌++◌, refl, sym, subst}
 use Rattle.std.specs.Prelude.{Option, Some, None, Result, Ok, Err}
 use Rattle.std.specs.List.{AllByRecursion}
 use Rattle.run_model.specs.declared.command.Command.{Command}
@@ -13,7 +13,7 @@ use Rattle.script_lang.specs.declared.refusal.ScriptRefusal.{ScriptRefusal}
 use Rattle.script_lang.specs.Results.{in_front}
 use Rattle.script_lang.specs.Values.{Values}
 use Rattle.script_lang.specs.Words.{word_of}
-use Rattle.script_lang.specs.Scripts.{command_of, unless, line_fault, Before, read_behind, read_line, then_lines, at_end, behind, read_lines, files_of, script_of}
+use Rattle.script_lang.specs.Scripts.{command_of, unless, line_fault, Before, read_behind, read_line, then_lines, at_end, behind, read_lines, files_of}
 use Rattle.job_runner.specs.Kernels.{IsOffered, AreOffered}
 use Rattle.teseo_program.specs.Input.{AreScripts}
 

@@ -1,6 +1,5 @@
 -- A run ends as its outputs are written, or as its preparation stopped.
-use Rattle.std.proofs.Common.{◌≡◌, ℕ, List, [], refl, ◌∙◌, subst, Bool}
-use Rattle.run_model.specs.Inputs.{Outputs}
+use Rattle.std.proofs.Common.{◌≡◌, ℕ, List, [], ◌∙◌, subst}
 use Rattle.desk_io.specs.Files.{Files}
 use Rattle.desk_io.specs.Outputs.{NamedText, names_of}
 use Rattle.command_line.specs.Words.{RunNames, source_names}

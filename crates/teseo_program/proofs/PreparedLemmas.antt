@@ -1,31 +1,26 @@
 -- What is made of a run is what the definition says is written and said.
-use Rattle.std.proofs.Common.{◌≡◌, ◌≢◌, ℕ, zero, suc, ◌+◌, ◌<◌, ◌≤◌, List, [], ◌∷◌, ◌++◌, length, map, refl, sym, ◌∙◌, ap, subst, inl, arith, All, AllPairs}
-use Rattle.std.specs.Prelude.{◌⊎◌, Bool, false, slice_get, Option, Some, None, option_to_list}
+use Rattle.std.proofs.Common.{◌≡◌, ◌≢◌, ℕ, zero, suc, ◌≤◌, List, [], ◌∷◌, ◌++◌, length, refl, sym, ◌∙◌, subst, inl, arith, All, AllPairs}
+use Rattle.std.specs.Prelude.{false, slice_get, Some, option_to_list}
 use Rattle.std.specs.List.{AllByRecursion, flat_map}
-use Rattle.std.proofs.lemmas.List.{length-map, append_assoc}
-use Rattle.std.proofs.lemmas.List.Elements.{All-append, All-tail, All-head}
+use Rattle.std.proofs.lemmas.List.{length-map}
+use Rattle.std.proofs.lemmas.List.Elements.{All-append}
 use Rattle.graph_model.specs.declared.limits.TheConstants.{MAX_SCRIPTS, MAX_BEGINS, MAX_LEAVES, MAX_SOURCE_BYTES}
 use Rattle.graph_model.specs.declared.write.Kind.TheVariants.{Undirected}
 use Rattle.graph_model.specs.declared.write.Write.{Write}
 use Rattle.graph_model.specs.Graph.{empty_graph}
 use Rattle.graph_model.specs.Legal.{IsLegal}
 use Rattle.graph_model.specs.Refused.{AllAllowed, IsWithinLimits}
-use Rattle.graphalytics_io.specs.declared.edges.Edge.{Edge}
 use Rattle.graphalytics_io.specs.Load.{load_of, journal_of, IsLoadable}
 use Rattle.graphalytics_io.specs.Laws.{LoadIsLegal, FilesAreLoadable}
 use Rattle.run_model.specs.declared.command.Command.{Command}
 use Rattle.run_model.specs.Requests.{begun_by, IsScript}
-use Rattle.run_model.specs.Inputs.{Inputs, AreInputs, Outputs}
+use Rattle.run_model.specs.Inputs.{AreInputs}
 use Rattle.run_model.specs.Run.{IsRun}
-use Rattle.run_model.specs.Stepped.{IsStepped}
 use Rattle.script_lang.specs.FieldFaults.{IsNameByte}
 use Rattle.script_lang.specs.Scripts.{files_of}
-use Rattle.script_lang.specs.Runnable.{IsRunnable, IsFileName}
 use Rattle.desk_io.specs.Files.{Files}
 use Rattle.desk_io.specs.Sources.{AreRead}
 use Rattle.desk_io.specs.Outputs.{NamedText, names_of}
-use Rattle.job_runner.specs.Lines.{file_of}
-use Rattle.job_runner.specs.Progress.{Progress}
 use Rattle.command_line.specs.Words.{RunNames, TakesWords, source_names, taken_names, given_names, report_names}
 use Rattle.teseo_program.specs.declared.run.RunResult.{RunResult}
 use Rattle.teseo_program.specs.declared.fault.ParseStop.{ParseStop}
@@ -34,11 +29,11 @@ use Rattle.teseo_program.specs.declared.outcome.Outcome.{Outcome}
 use Rattle.teseo_program.specs.declared.prepare.Prepared.{Prepared}
 use Rattle.teseo_program.specs.Input.{Meaning, Texts, texts_of, IsAccepted, inputs_of}
 use Rattle.teseo_program.specs.Parsing.{AreRunnable, IsParseStop}
-use Rattle.teseo_program.specs.Outcomes.{Made, outcome_of_parse, IsOfTexts, AreOfRun}
-use Rattle.teseo_program.specs.Prepared.{IsUnprepared, IsPreparedOf, IsMadeOf, made_of}
+use Rattle.teseo_program.specs.Outcomes.{outcome_of_parse}
+use Rattle.teseo_program.specs.Prepared.{IsUnprepared, IsPreparedOf, IsMadeOf}
 use Rattle.teseo_program.specs.Sinks.{sinks_of, summary_line, summary_text}
 use Rattle.teseo_program.specs.Running.{run_outputs, HasCounts, HavePrintableNames}
-use Rattle.teseo_program.proofs.SublistLemmas.{IsSublist, sub_all, sub_behind}
+use Rattle.teseo_program.proofs.SublistLemmas.{sub_all, sub_behind}
 use Rattle.teseo_program.proofs.FileLemmas.{names_in, files_of_run, files_apart}
 use Rattle.teseo_program.proofs.SinkLemmas.{printable_names, sinks_apart}
 

@@ -1,7 +1,7 @@
 -- The engine of a run before its first turn, and what the run leaves.
-use Rattle.std.proofs.Common.{◌≡◌, ℕ, zero, suc, ◌+◌, ◌*◌, ◌<◌, ◌≤◌, List, [], ◌∷◌, ◌++◌, length, map, take, get_or, All, refl, sym, ◌∙◌, ap, subst, arith, replicate}
-use Rattle.std.specs.Prelude.{Bool, cond, slice_get, Option, Some, None, unwrap_or}
-use Rattle.std.specs.List.{AllByRecursion, flat_map}
+use Rattle.std.proofs.Common.{◌≡◌, ℕ, zero, suc, ◌+◌, ◌*◌, ◌<◌, ◌≤◌, List, [], ◌∷◌, length, map, take, get_or, All, refl, sym, ◌∙◌, ap, subst, arith, replicate}
+use Rattle.std.specs.Prelude.{Bool, cond, slice_get, Some, unwrap_or}
+use Rattle.std.specs.List.{AllByRecursion}
 use Rattle.std.proofs.lemmas.List.{append-nil}
 use Rattle.std.proofs.lemmas.List.Elements.{All-tail, All-head}
 use Rattle.graph_model.specs.declared.limits.TheConstants.{MAX_LEAVES}
@@ -11,7 +11,7 @@ use Rattle.graph_model.specs.declared.write.Kind.TheVariants.{Undirected}
 use Rattle.graph_model.specs.Graph.{vertices_of}
 use Rattle.graph_model.specs.History.{graph_at}
 use Rattle.graph_model.specs.Inserted.{inserted, inserted_by}
-use Rattle.graph_model.specs.OwnerCalls.{PassState, Core, no_pass, pass_at}
+use Rattle.graph_model.specs.OwnerCalls.{PassState, Core, no_pass}
 use Rattle.graphalytics_io.specs.declared.edges.Edge.{Edge}
 use Rattle.graphalytics_io.specs.Load.{load_of, added_edge, journal_of}
 use Rattle.run_model.specs.declared.command.Command.{Command}
@@ -26,12 +26,12 @@ use Rattle.plain_core.specs.Plain.{new_core, newest_graph, edges_of}
 use Rattle.graph_load.specs.Loading.{HasBegunNothing, IsNew, loaded}
 use Rattle.job_runner.specs.Kernels.{AreOffered}
 use Rattle.job_runner.specs.Lines.{file_of}
-use Rattle.job_runner.specs.Progress.{Progress, new_progress}
+use Rattle.job_runner.specs.Progress.{Progress}
 use Rattle.job_runner.specs.Runs.{new_jobs, IsUnused, AreNew, outputs_of, Ends}
 use Rattle.command_line.specs.Words.{RunNames}
 use Rattle.teseo_program.specs.declared.run.RunResult.{RunResult}
 use Rattle.teseo_program.specs.Input.{Meaning, Texts, IsAccepted}
-use Rattle.teseo_program.specs.Running.{run_outputs, HasCounts, Fits, MayBegin, IsConfig}
+use Rattle.teseo_program.specs.Running.{run_outputs, HasCounts, Fits, IsConfig}
 
 -- ---- transactions that a script begins
 

@@ -2,7 +2,7 @@
 use Rattle.std.proofs.Common.{◌≡◌, ◌≢◌, ℕ, zero, suc, ◌+◌, ◌<◌, List, [], ◌∷◌, ◌++◌, length, map, take, get_or, refl, sym, ◌∙◌, ap, subst, arith, inl, All, AllPairs}
 use Rattle.std.specs.Prelude.{Bool, true, false, ◌||◌}
 use Rattle.std.specs.List.{AllByRecursion, flat_map, list_any}
-use Rattle.std.proofs.lemmas.List.{append-nil, append_assoc, map-append, take_all, length-map}
+use Rattle.std.proofs.lemmas.List.{map-append, take_all}
 use Rattle.std.proofs.lemmas.List.Elements.{All-tail, All-head, All-cons}
 use Rattle.run_model.specs.declared.answer.Answer.{Answer}
 use Rattle.run_model.specs.Inputs.{File, Outputs}
@@ -14,7 +14,7 @@ use Rattle.job_runner.specs.Lines.{file_of}
 use Rattle.job_runner.specs.Progress.{Progress}
 use Rattle.teseo_program.specs.Sinks.{file_output, report_outputs, sinks_of}
 use Rattle.teseo_program.specs.Running.{HavePrintableNames}
-use Rattle.teseo_program.proofs.SublistLemmas.{IsSublist, sub_same, sub_behind, sub_append, sub_pairs}
+use Rattle.teseo_program.proofs.SublistLemmas.{IsSublist, sub_append, sub_pairs}
 use Rattle.teseo_program.proofs.FileLemmas.{names_in}
 
 -- a test that holds at a place holds somewhere

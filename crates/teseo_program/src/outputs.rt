@@ -137,12 +137,7 @@ fn is_full_answer(answer: &Answer) -> bool
 }
 
 /// The summary, by its counts.
-pub fn summary_of(
-    alloc: Global,
-    commits: u64,
-    vertices: u64,
-    edges: u64,
-) -> Result<Text, NoMemory>
+pub fn summary_of(alloc: Global, commits: u64, vertices: u64, edges: u64) -> Result<Text, NoMemory>
     ensures { IfOk result (λ text. text ≡ summary_line commits vertices edges) }
 {
     let mut text = Text::new(alloc);

@@ -18,8 +18,16 @@ pub fn say_outcome<D: Desk>(desk: &mut D, name: &str, summary: &[u8], outcome: O
         Outcome::Done => say_text(desk, summary),
         Outcome::Full => say_text(desk, summary),
         Outcome::BadWords => say_text(desk, b"bad words\n"),
-        Outcome::NotRead(ReadStop::Fault { .. }) => say_line(desk, b"read failed ", name.as_bytes()),
-        Outcome::NotRead(ReadStop::TooLong { .. }) => say_line(desk, name.as_bytes(), b": too long"),
+        Outcome::NotRead(ReadStop::Fault { .. }) => say_line(
+            desk,
+            b"read failed ",
+            name.as_bytes(),
+        ),
+        Outcome::NotRead(ReadStop::TooLong { .. }) => say_line(
+            desk,
+            name.as_bytes(),
+            b": too long",
+        ),
         Outcome::NotRead(ReadStop::NoMemory) => say_text(desk, b"no memory\n"),
         Outcome::NotAccepted { fault, .. } => say_fault(desk, name, fault),
         Outcome::NoMemory => say_text(desk, b"no memory\n"),

@@ -1,4 +1,4 @@
-use Rattle.std.proofs.Common.{◌≡◌, ◌≤◌, [], get_or, length, ◌∙◌, ap, sym, subst, arith}
+use Rattle.std.proofs.Common.{◌≤◌, get_or, length, ◌∙◌, ap, sym, subst, arith}
 use Rattle.std.specs.String.{string_bytes}
 use Rattle.graph_model.specs.declared.limits.TheConstants.{MAX_LOAD_ROWS}
 use Rattle.graphalytics_io.specs.VertexFile.{IsVertexFile}
@@ -49,6 +49,6 @@ pub returns-clause-listed : goal.returns-clause-listed
 returns-clause-listed c = λ k d lt.
     let names = run_names c.args.line.now in
     let count = one_script_each _ _ _ c.in_ok-scripts.ensures.ok
-        ∙ ap length (script_texts string_bytes c.args.line.now.scripts.now c.as_slice-texts.result.now c.args.sources.now c.as_slice-texts.ensures)
-        ∙ script_count names c.args.sources.now c.requires.texts in
+    ∙ ap length (script_texts string_bytes c.args.line.now.scripts.now c.as_slice-texts.result.now c.args.sources.now c.as_slice-texts.ensures)
+    ∙ script_count names c.args.sources.now c.requires.texts in
     subst (λ n. get_or c.in_ok-schedule.schedule k d ≤ n) (sym count) (c.in_ok-schedule.ensures.listed k d lt)

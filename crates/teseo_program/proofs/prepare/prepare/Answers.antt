@@ -1,4 +1,4 @@
-use Rattle.std.proofs.Common.{◌≡◌, ◌∙◌, ap, map, subst}
+use Rattle.std.proofs.Common.{◌∙◌, ap, map, subst}
 use Rattle.graph_model.specs.declared.limits.TheConstants.{MAX_SOURCE_BYTES}
 use Rattle.desk_io.specs.Sources.{AreRead}
 use Rattle.command_line.specs.Lines.{run_names}

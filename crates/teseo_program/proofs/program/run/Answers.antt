@@ -1,4 +1,3 @@
-use Rattle.std.proofs.Common.{◌≡◌}
 use Rattle.command_line.specs.Lines.{run_names}
 use Rattle.teseo_program.proofs.program.run.Goals as goal
 use Rattle.teseo_program.proofs.OutcomeLemmas.{written_ends, unprepared_ends}
