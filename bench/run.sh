@@ -1,7 +1,7 @@
 #!/usr/bin/env bash
-# Builds the program, runs the whole command on graphs of three sizes and two kinds, and prints a table. The
-# graphs are made from a seed in a temporary folder, which is removed at the end. RUNS=N and SEED=N change how
-# often each graph is run (3), and which graphs they are (1).
+# Builds the program, runs the whole command on graphs of three sizes and two kinds, and prints a table. Then it runs
+# many scripts of short transactions, and prints a second one. All inputs are made from a seed in a temporary folder,
+# which is removed at the end. RUNS=N and SEED=N change how often each is run (3), and which inputs they are (1).
 set -euo pipefail
 
 top=$(cd "$(dirname "$0")/.." && pwd)
@@ -54,6 +54,26 @@ measure() {
         "$worst" "$processor" "$memory" "$(nanoseconds_a_row "$best" "$rows")" "$(load)"
 }
 
+# Prints the second table's row: so many scripts of so many transactions, by rotation, on a graph of 100,000 vertices.
+# The run of one empty transaction on the same graph is what the load and the texts of it take.
+measure_transactions() {
+    local scripts=$1 transactions=$2 vertices=100000 names load_best best worst processor memory
+    make_inputs random "$vertices" $((vertices * 7 / 2))
+    python3 "$top/bench/scripts.py" --scripts "$scripts" --transactions "$transactions" --vertices "$vertices" \
+        --seed "$seed" --out short
+    printf 'begin\ncommit\n' >none
+    mapfile -t names < <(seq -f 'short.%g' 1 "$scripts")
+    read -r load_best _ < <(python3 "$top/bench/measure.py" --runs "$runs" --remove journal -- \
+        "$program" run --vertices graph.v --edges graph.e --journal journal none 2>said)
+    read -r best worst processor memory < <(python3 "$top/bench/measure.py" --runs "$runs" --remove journal -- \
+        "$program" run --vertices graph.v --edges graph.e --journal journal "${names[@]}" 2>said)
+    [ -n "$memory" ] || fail
+    printf '| %7d | %12d | %6s | %6s | %9s | %6d | %6s | %8.0f | %5s |\n' "$scripts" "$transactions" "$best" "$worst" \
+        "$processor" "$memory" "$load_best" \
+        "$(awk -v n=$((scripts * transactions)) -v all="$best" -v load="$load_best" 'BEGIN { print n / (all - load) }')" \
+        "$(load)"
+}
+
 make -s -C "$top" build >/dev/null
 work=$(mktemp -d)
 trap 'rm -rf "$work"' EXIT
@@ -72,3 +92,13 @@ echo
 echo "Best and Worst are seconds of the whole command by the clock, Processor is the least seconds of processor time"
 echo "of a run, Memory is the peak in MiB, ns row is Best in nanoseconds for each row of the store (one for a vertex,"
 echo "and one for each direction of an edge), and Load is that of the last minute when the runs ended."
+echo
+echo '| Scripts | Transactions |   Best |  Worst | Processor | Memory | Graph  | a second |  Load |'
+echo '|--------:|-------------:|-------:|-------:|----------:|-------:|-------:|---------:|------:|'
+for scripts in 1 60; do
+    measure_transactions "$scripts" 10000
+done
+echo
+echo "Each script has so many transactions of one edge each, which take their lines in turn with those of the other"
+echo "scripts. Graph is the best time of a run with one empty transaction on the same graph; a second is the"
+echo "number of all transactions by what is left of Best without it, with the scripts' reading and their reports."
