@@ -6,7 +6,7 @@ ghost use Rattle.script_lang.specs.Words.{word_text, kinds_of, is_needed, is_beg
 
 /// The first field of a line, which says what the line does.
 #[derive(Clone, Copy, Debug, PartialEq, Eq)]
-pub enum Word {
+pub(crate) enum Word {
     Begin,
     Commit,
     Abort,

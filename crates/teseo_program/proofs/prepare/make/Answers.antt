@@ -9,17 +9,17 @@ use Rattle.teseo_program.proofs.RunLemmas.{files_fit}
 use Rattle.teseo_program.proofs.prepare.make.Goals as goal
 
 pub run_scripts-requires-clause-inputs : goal.run_scripts-requires-clause-inputs
-run_scripts-requires-clause-inputs g c =
+run_scripts-requires-clause-inputs g c κs within =
     are_inputs c.load_is_legal.ensures c.files_are_loadable.ensures (run_names c.args.line.now) c.requires.words.0 c.requires.words.1 c.requires.accepted.0 (meaning_of c.args.input)
     c.requires.accepted.1 c.requires.runnable c.requires.count
 
 pub run_scripts-requires-clause-loadable : goal.run_scripts-requires-clause-loadable
-run_scripts-requires-clause-loadable g c =
+run_scripts-requires-clause-loadable g c κs within =
     loadable c.load_is_legal.ensures c.files_are_loadable.ensures (run_names c.args.line.now) c.requires.words.0 c.requires.words.1 c.requires.accepted.0 (meaning_of c.args.input)
     c.requires.accepted.1 c.requires.runnable c.requires.count
 
 pub run_scripts-requires-clause-fits : goal.run_scripts-requires-clause-fits
-run_scripts-requires-clause-fits g c = files_fit (run_names c.args.line.now) c.requires.accepted.0 (meaning_of c.args.input) c.requires.accepted.1
+run_scripts-requires-clause-fits g c κs within = files_fit (run_names c.args.line.now) c.requires.accepted.0 (meaning_of c.args.input) c.requires.accepted.1
 
 pub outputs_of-requires-clause-count : goal.outputs_of-requires-clause-count
 outputs_of-requires-clause-count g c =

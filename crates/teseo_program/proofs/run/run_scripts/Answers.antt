@@ -9,14 +9,14 @@ use Rattle.teseo_program.proofs.RunLemmas.{started, ended, leaves_are, stepped_o
 use Rattle.teseo_program.proofs.run.run_scripts.Goals as goal
 
 pub run_stepped-requires-clause-new : goal.run_stepped-requires-clause-new
-run_stepped-requires-clause-new g c = (
+run_stepped-requires-clause-new g c κs within = (
   inputs_of Undirected (meaning_of c.args.input),
   started (inputs_of Undirected (meaning_of c.args.input)) c.config_of-config.result (subst (λ scripts. IsConfig scripts c.config_of-config.result) c.as_slice.ensures c.config_of-config.ensures.config) refl c.requires.inputs
       c.in_ok-engine.engine c.load.new.engine c.in_ok-jobs.jobs c.in_ok-engine.ensures c.in_ok-load.ensures c.in_ok-jobs.ensures,
 )
 
 pub run_stepped-requires-clause-listed : goal.run_stepped-requires-clause-listed
-run_stepped-requires-clause-listed g c = λ i job e.
+run_stepped-requires-clause-listed g c κs within = λ i job e.
     subst (λ n. job ≤ n) (sym (new_jobs_count 1 c.args.input.scripts) ∙ ap length (sym c.in_ok-jobs.ensures))
     (all_at (λ j. j ≤ length c.args.input.scripts) c.args.input.schedule c.requires.listed i job (ap (λ xs. slice_get xs i) (sym c.as_slice-2.ensures) ∙ e))
 
