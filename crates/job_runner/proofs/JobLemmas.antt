@@ -10,7 +10,6 @@ use Rattle.job_runner.specs.declared.answering.LineTurn.{LineTurn}
 use Rattle.job_runner.specs.declared.phase.Phase.{Phase}
 use Rattle.job_runner.specs.declared.phase.Phase.TheVariants.{Between, Open, Skipping, GivenUp}
 use Rattle.job_runner.specs.declared.scan.Scan.{Scan}
-use Rattle.job_runner.specs.Kernels.{AreOffered}
 use Rattle.job_runner.specs.Lines.{is_inside, MayTake, TakesHere}
 use Rattle.job_runner.specs.Progress.{Progress, left_of, has_given_up, is_over, behind, IsReady, TakesTurn}
 
@@ -76,14 +75,12 @@ pub may_take : (core : Core) (job : Progress) → IsReady core job → (c : Comm
 may_take core job ready c rest is =
     let script : IsScript (Some (is_inside job.phase)) (c ∷ rest) = subst (IsScript (Some (is_inside job.phase))) is ready.script in
     let room : begun_by (next_txn (current core).begun (request c)) rest ≤ (current core).allowed = subst (λ cs. begun_by (current core).begun cs ≤ (current core).allowed) is ready.room in
-    let offered = subst AreOffered is ready.offered in
     record {
       selected = ready.selected;
       valid = ready.valid;
       phase_is = ready.phase_is;
       stands = some_stands (open_behind (is_inside job.phase) (request c)) rest script.1;
       within = script.0;
-      offered = offered.0;
       room = λ e. begins (current core).begun (request c) e (begun_by (next_txn (current core).begun (request c)) rest) (begun_rises (next_txn (current core).begun (request c)) rest) room;
       scans = ready.scans c rest is;
     }

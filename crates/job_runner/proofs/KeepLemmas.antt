@@ -91,7 +91,6 @@ tied_grows old new pass k job tied kind rest journal within shown =
       by_txn = tied.by_txn;
       last = tied.last;
       room = tied.room;
-      offered = tied.offered;
       scans = λ c more e. scan_on job.scan c (same (unwrap_or pass.start 0) pass.own within) (tied.scans c more e);
       small = tied.small;
       files = files_to (files_context old) (files_context new) (length old.journal) (sym kind) same [] (answered_lines job.commands job.answers) (map file_of job.tables) shown tied.files;

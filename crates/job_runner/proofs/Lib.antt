@@ -3,6 +3,7 @@ pub mod CoreLemmas
 pub mod LineLemmas
 pub mod CountLemmas
 pub mod ViewLemmas
+pub mod TableLemmas
 pub mod JobLemmas
 pub mod SeatLemmas
 pub mod FileLemmas

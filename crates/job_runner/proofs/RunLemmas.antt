@@ -8,7 +8,6 @@ use Rattle.std.proofs.lemmas.List.{append-nil, length-map}
 use Rattle.graph_model.specs.declared.journal.Commit.{Commit}
 use Rattle.graph_model.specs.History.{view}
 use Rattle.graph_model.specs.OwnerCalls.{PassState, Core, no_pass, pass_at, ServesHere, one_more}
-use Rattle.graph_model.proofs.HistoryLemmas.{each_item}
 use Rattle.graph_model.proofs.TestLemmas.{self_eq}
 use Rattle.run_model.specs.declared.command.Command.{Command}
 use Rattle.run_model.specs.declared.answer.Answer.{Answer}
@@ -23,7 +22,6 @@ use Rattle.run_model.proofs.SteppedLemmas.{first_is}
 use Rattle.run_model.proofs.SetLemmas.{get_map, map_get, sum_cons}
 use Rattle.job_runner.specs.declared.phase.Phase.{Phase}
 use Rattle.job_runner.specs.declared.phase.Phase.TheVariants.{Between, Open, Skipping, GivenUp}
-use Rattle.job_runner.specs.Kernels.{AreOffered}
 use Rattle.job_runner.specs.Lines.{IsPhase, file_of}
 use Rattle.job_runner.specs.Progress.{Progress, new_progress, left_of, has_given_up, is_over, job_at, seats, state_of}
 use Rattle.job_runner.specs.Runs.{new_jobs, IsUnused, AreNew, files_context, AreTied, AreUnderWay, under_way, Turns, Ends}
@@ -48,7 +46,7 @@ serves core jobs new is = subst (λ x. Turns core jobs 0 false x jobs) (sym is) 
 })
   where
     same : (k : ℕ) (job : Progress) → AreTied core (pass_at core (suc k)) k job → AreTied (record core { served = one_more core.served }) (pass_at core (suc k)) k job
-    same k job t = record { number = t.number; answered = t.answered; phase_is = t.phase_is; wrote = t.wrote; counted = t.counted; by_txn = t.by_txn; last = t.last; room = t.room; offered = t.offered; scans = t.scans; small = t.small; files = t.files }
+    same k job t = record { number = t.number; answered = t.answered; phase_is = t.phase_is; wrote = t.wrote; counted = t.counted; by_txn = t.by_txn; last = t.last; room = t.room; scans = t.scans; small = t.small; files = t.files }
 
 -- ---- the beginning
 
@@ -109,7 +107,6 @@ module _ (inputs : Inputs) (core : Core) (jobs : List Progress) (new : AreNew in
         by_txn = λ n lt. absurd (let zero_begun : (pass_at core (suc k)).begun ≡ 0 = none.begun in omega (arith, lt, zero_begun));
         last = λ opened. absurd (let never : false ≡ true = sym (ap is_some none.closed) ∙ opened in cc);
         room = subst (λ n. begun_by n cs ≤ (pass_at core (suc k)).allowed) (sym none.begun) (new.room k cs there);
-        offered = each_item AreOffered inputs.scripts new.offered k cs there;
         scans = λ c rest e. tt;
         small = omega arith;
         files = subst (λ ls. HasFiles (files_context core) [] ls []) (sym (none_answered 0 cs)) refl;

@@ -23,7 +23,6 @@ use Rattle.job_runner.specs.declared.answering.LineTurn.TheVariants.{Scanning, A
 use Rattle.job_runner.specs.declared.phase.Phase.{Phase}
 use Rattle.job_runner.specs.declared.phase.Phase.TheVariants.{Between, Open, Skipping, GivenUp}
 use Rattle.job_runner.specs.declared.scan.Scan.{Scan}
-use Rattle.job_runner.specs.Kernels.{AreOffered}
 use Rattle.job_runner.specs.Scanning.{IsScan, taken_of}
 use Rattle.job_runner.specs.Lines.{is_skipping, is_inside, IsPhase, file_of, MayTake, view_here, seat, result_here, made_behind, pass_behind, core_behind, ScansHere, AnswersHere, TakesHere}
 use Rattle.job_runner.specs.Progress.{Progress, left_of, has_given_up, is_over, behind, listed_table, TakesTurn, state_of}
@@ -99,7 +98,6 @@ module _ (inputs : Inputs) (core : Core) (jobs : List Progress) (u : AreUnderWay
       by_txn = tied.by_txn;
       last = tied.last;
       room = tied.room;
-      offered = tied.offered;
       scans = λ x more e. subst (λ y. IsScan (view_here chosen) (request y) next) (heads c x rest more (sym cons ∙ e)) scans.scan;
       small = scans.small;
       files = tied.files;
@@ -183,7 +181,6 @@ module _ (inputs : Inputs) (core : Core) (jobs : List Progress) (u : AreUnderWay
           ∙ ap (λ ls. Some (own_writes (suc n) ls)) (sym lines_are);
       last = last_behind chosen.kind chosen.journal (open_txns chosen) (suc k) (seat chosen (is_skipping job.phase)) answered.does.full pass.made tied.last (request c);
       room = subst (λ cs. begun_by (next_txn pass.begun (request c)) cs ≤ pass.allowed) (sym left_is) (subst (λ cs. begun_by pass.begun cs ≤ pass.allowed) cons tied.room);
-      offered = subst AreOffered (sym left_is) (let all = subst AreOffered cons tied.offered in all.1);
       scans = λ x more e. tt;
       small = omega arith;
       files = subst (λ ls. HasFiles (files_context after) [] ls (map file_of next.tables)) (sym lines_are)

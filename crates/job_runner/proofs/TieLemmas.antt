@@ -122,7 +122,6 @@ module _ (inputs : Inputs) (core : Core) (jobs : List Progress) (u : AreUnderWay
       phase_is = tied.phase_is;
       room = tied.room;
       script = subst (λ b. IsScript (Some b) (left_of job)) (inside_is job.phase pass.start tied.phase_is) its.script;
-      offered = tied.offered;
       scans = tied.scans;
     }
 

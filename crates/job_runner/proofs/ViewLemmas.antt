@@ -3,35 +3,47 @@ use Rattle.std.proofs.Common.{◌≡◌, ℕ, ◌+◌, ◌-◌, List, length, re
 use Rattle.std.specs.Prelude.{◌/◌, Bool, true, false, IfSome, IsSome, unwrap_or, count_by}
 use Rattle.std.specs.FinMap as fin_map
 use Rattle.graph_model.specs.declared.row.Row.{Row}
+use Rattle.graph_model.specs.declared.write.Write.{Write}
 use Rattle.graph_model.specs.declared.write.Kind.{Kind}
 use Rattle.graph_model.specs.declared.write.Kind.TheVariants.{Directed, Undirected}
+use Rattle.graph_model.specs.declared.journal.Commit.{Commit}
 use Rattle.graph_model.specs.Account.{IsOpenTxn, IsValid}
-use Rattle.graph_model.specs.Graph.{Graph, has_vertex, vertices_of}
+use Rattle.graph_model.specs.Graph.{Graph, has_vertex, vertices_of, IsSymmetric}
 use Rattle.graph_model.specs.History.{view}
 use Rattle.graph_model.specs.Rows.{all_rows, AreRowsOf}
 use Rattle.graph_model.specs.OwnerCalls.{Core, current, account_here}
-use Rattle.graph_model.proofs.ViewLemmas.{view_bounded, view_ends}
+use Rattle.graph_model.proofs.ViewLemmas.{view_bounded, view_ends, view_symmetric}
 use Rattle.run_model.specs.declared.answer.Answer.{Answer}
 use Rattle.run_model.specs.declared.answer.Answer.TheVariants as answers
 use Rattle.run_model.specs.Answering.{targets_of, query_answer}
 use Rattle.run_model.specs.Requests.{Counts, NeighboursOf}
 use Rattle.job_runner.specs.declared.scan.ScanResult.{ScanResult}
 use Rattle.job_runner.specs.declared.scan.ScanResult.TheVariants.{Targets, Rows}
+use Rattle.job_runner.specs.Kernels.{AreKernelRows}
 use Rattle.job_runner.specs.Scanning.{is_vertex, counted}
 use Rattle.job_runner.specs.Lines.{view_here}
 use Rattle.job_runner.proofs.CoreLemmas.{some_of}
 use Rattle.job_runner.proofs.CountLemmas.{vertex_count, arc_count}
 
--- the rows of what an open transaction sees are those of a graph
-pub here_rows : (core : Core) → IsValid (account_here core) → IsSome (current core).start → AreRowsOf (all_rows (view_here core)) (view_here core)
+-- what an undirected view sees is symmetric
+view_symmetric_in : (kind : Kind) (journal : List Commit) (start : ℕ) (own : List Write) → kind ≡ Undirected → IsSymmetric (view kind journal start own)
+view_symmetric_in kind journal start own is = subst (λ k. IsSymmetric (view k journal start own)) (sym is) (view_symmetric journal start own)
+
+-- the rows of what an open transaction sees are those of a graph that a kernel may run on
+pub here_rows : (core : Core) → IsValid (account_here core) → IsSome (current core).start → AreKernelRows core.kind (all_rows (view_here core)) (view_here core)
 here_rows core valid opened =
     let o = some_of (current core).start opened in
     let txn : IsOpenTxn (account_here core) o.0 = subst (λ s. IfSome s (IsOpenTxn (account_here core))) o.1 valid.current in
-    subst (λ s. AreRowsOf (all_rows (view core.kind core.journal (unwrap_or s 0) (current core).own)) (view core.kind core.journal (unwrap_or s 0) (current core).own)) (sym o.1)
+    let bounded = view_bounded core.kind core.journal o.0 (current core).own valid.legal txn.seen txn.within in
+    subst (λ s. AreKernelRows core.kind (all_rows (view core.kind core.journal (unwrap_or s 0) (current core).own)) (view core.kind core.journal (unwrap_or s 0) (current core).own)) (sym o.1)
     (record {
-      listed = refl;
-      ends = view_ends core.kind core.journal o.0 (current core).own valid.legal txn.seen txn.allowed;
-      within = (view_bounded core.kind core.journal o.0 (current core).own valid.legal txn.seen txn.within).ids;
+      rows = record {
+        listed = refl;
+        ends = view_ends core.kind core.journal o.0 (current core).own valid.legal txn.seen txn.allowed;
+        within = bounded.ids;
+      };
+      bounded = bounded;
+      symmetric = view_symmetric_in core.kind core.journal o.0 (current core).own;
     })
 
 -- `count` answers the vertices, and the edges by the other rows
@@ -66,6 +78,6 @@ same_rows xs ys e = cc
 
 -- the rows that a whole scan has kept are those of the view
 pub kept_rows : (core : Core) → IsValid (account_here core) → IsSome (current core).start → (result : ScanResult) → result ≡ Rows (all_rows (view_here core))
-    → (kept given : List Row) → result ≡ Rows kept → given ≡ kept → AreRowsOf given (view_here core)
+    → (kept given : List Row) → result ≡ Rows kept → given ≡ kept → AreKernelRows core.kind given (view_here core)
 kept_rows core valid opened result whole kept given has same =
-    subst (λ rows. AreRowsOf rows (view_here core)) (sym (same ∙ same_rows _ _ (sym has ∙ whole))) (here_rows core valid opened)
+    subst (λ rows. AreKernelRows core.kind rows (view_here core)) (sym (same ∙ same_rows _ _ (sym has ∙ whole))) (here_rows core valid opened)

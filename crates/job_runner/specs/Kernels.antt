@@ -1,9 +1,11 @@
--- The kernels that a job runs.
-use Rattle.std.specs.Prelude.{ℕ, List}
-use Rattle.std.specs.List.{AllByRecursion}
-use Rattle.run_model.specs.declared.command.Command.{Command}
+-- The kernels that a job runs, and the rows that they run on.
+use Rattle.std.specs.Prelude.{◌≡◌, ℕ, List}
+use Rattle.graph_model.specs.declared.row.Row.{Row}
+use Rattle.graph_model.specs.declared.write.Kind.{Kind}
+use Rattle.graph_model.specs.declared.write.Kind.TheVariants.{Undirected}
+use Rattle.graph_model.specs.Graph.{Graph, IsBounded, IsSymmetric}
+use Rattle.graph_model.specs.Rows.{AreRowsOf}
 use Rattle.run_model.specs.Requests as requests
-use Rattle.run_model.specs.Requests.{Request, ToBegin, ToCommit, ToAbort, ToWrite, ToRead, ToRun, request}
 use Rattle.job_runner.specs.declared.table.Kernel.{Kernel}
 use Rattle.job_runner.specs.declared.table.Kernel.TheVariants.{Bfs, Wcc, Cdlp, Sssp}
 
@@ -21,22 +23,9 @@ root_of Wcc = 0
 root_of (Cdlp rounds) = 0
 root_of (Sssp root) = root
 
--- a kernel that can be run: so far breadth-first search alone
-abbrev pub IsOfferedKernel : requests.Kernel → Type 0
-IsOfferedKernel (requests.Bfs root) = Unit {0}
-IsOfferedKernel requests.Wcc = ⊥
-IsOfferedKernel (requests.Cdlp rounds) = ⊥
-IsOfferedKernel (requests.Sssp root) = ⊥
-
--- the line asks for no other kernel
-abbrev pub IsOffered : Request → Type 0
-IsOffered ToBegin = Unit {0}
-IsOffered ToCommit = Unit {0}
-IsOffered ToAbort = Unit {0}
-IsOffered (ToWrite w) = Unit {0}
-IsOffered (ToRead query) = Unit {0}
-IsOffered (ToRun kernel file) = IsOfferedKernel kernel
-
--- no line does
-abbrev pub AreOffered : List Command → Type 0
-AreOffered commands = AllByRecursion (λ c. IsOffered (request c)) commands
+-- These are the rows of a graph whose ids and weights are within their limits, and which is symmetric where
+-- the kind is undirected
+pub record AreKernelRows (kind : Kind) (list : List Row) (g : Graph) : Type 0 where
+  pub rows : AreRowsOf list g
+  pub bounded : IsBounded g
+  pub symmetric : kind ≡ Undirected → IsSymmetric g

@@ -27,7 +27,6 @@ use Rattle.job_runner.specs.declared.phase.Phase.{Phase}
 use Rattle.job_runner.specs.declared.phase.Phase.TheVariants.{Between, Open, Skipping, GivenUp}
 use Rattle.job_runner.specs.declared.scan.Scan.{Scan}
 use Rattle.job_runner.specs.declared.table.NamedTable.{NamedTable}
-use Rattle.job_runner.specs.Kernels.{IsOffered}
 use Rattle.job_runner.specs.Scanning.{too_many_turns, IsScan, IsWhole, taken_of}
 
 -- ---- phases
@@ -153,7 +152,6 @@ pub record MayTake (core : Core) (phase : Phase) (scan : Option Scan) (r : Reque
   -- it may stand there, and its numbers are within their limits
   pub stands : (behind : Bool) × (open_behind (is_inside phase) r ≡ Some behind)
   pub within : IsRequest r
-  pub offered : IsOffered r
   pub room : r ≡ ToBegin → (current core).begun < (current core).allowed
   -- a scan under way is the line's
   pub scans : IfSome scan (IsScan (view_here core) r)

@@ -15,7 +15,6 @@ use Rattle.job_runner.specs.declared.scan.Scan.{Scan}
 use Rattle.job_runner.specs.declared.table.NamedTable.{NamedTable}
 use Rattle.job_runner.specs.declared.turn.Turn.{Turn}
 use Rattle.job_runner.specs.declared.turn.Turn.TheVariants as turns
-use Rattle.job_runner.specs.Kernels.{AreOffered}
 use Rattle.job_runner.specs.Scanning.{IsScan, taken_of}
 use Rattle.job_runner.specs.Lines.{is_skipping, is_inside, IsPhase, view_here, TakesHere, given_up}
 
@@ -82,7 +81,6 @@ pub record IsReady (core : Core) (job : Progress) : Type 0 where
   -- the pass may begin the transactions of the lines that are left
   pub room : begun_by (current core).begun (left_of job) ≤ (current core).allowed
   pub script : IsScript (Some (is_inside job.phase)) (left_of job)
-  pub offered : AreOffered (left_of job)
   -- a scan under way is that of the line at hand
   pub scans : (c : Command) (rest : List Command) → left_of job ≡ c ∷ rest
       → IfSome job.scan (IsScan (view_here core) (request c))

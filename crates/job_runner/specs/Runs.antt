@@ -1,6 +1,6 @@
 -- Jobs that run one beside the other: what holds of them and of their engine before and behind each turn.
 use Rattle.std.specs.Prelude.{◌≡◌, ◌⊎◌, ℕ, suc, ◌+◌, ◌-◌, ◌*◌, ◌^◌, ◌<◌, ◌≤◌, min, Bool, true, false, cond, ◌==◌, not, List, [], ◌∷◌, ◌++◌, length, map, slice_get, sum_by, count_by, Option, Some, None, IfSome, IsSome, unwrap_or}
-use Rattle.std.specs.List.{AllByRecursion, flat_map, filter_map}
+use Rattle.std.specs.List.{flat_map, filter_map}
 use Rattle.graph_model.specs.declared.write.Write.{Write}
 use Rattle.graph_model.specs.declared.journal.Commit.{Commit}
 use Rattle.graph_model.specs.History.{view}
@@ -15,7 +15,6 @@ use Rattle.run_model.specs.Stepped.{IsStepped, service_turns}
 use Rattle.run_model.specs.UnderWay.{IsUnderWay}
 use Rattle.job_runner.specs.declared.phase.Phase.{Phase}
 use Rattle.job_runner.specs.declared.phase.Phase.TheVariants.{Between, Open, Skipping, GivenUp}
-use Rattle.job_runner.specs.Kernels.{AreOffered}
 use Rattle.job_runner.specs.Scanning.{too_many_turns, IsScan, taken_of}
 use Rattle.job_runner.specs.Lines.{IsPhase, file_of}
 use Rattle.job_runner.specs.Progress.{Progress, new_progress, left_of, is_over, state_of}
@@ -42,7 +41,6 @@ pub record IsUnused (pass : PassState) : Type 0 where
 -- script, and of the jobs no line is answered
 pub record AreNew (inputs : Inputs) (core : Core) (jobs : List Progress) : Type 0 where
   pub given : AreInputs inputs
-  pub offered : AllByRecursion AreOffered inputs.scripts
   pub kind : core.kind ≡ inputs.kind
   pub journal : core.journal ≡ load_journal inputs.load
   pub loaded : writes_of_pass (pass_at core 0) ≡ inputs.load
@@ -73,7 +71,6 @@ pub record AreTied (core : Core) (pass : PassState) (k : ℕ) (job : Progress) :
   pub last : IsSome pass.start → (earlier : List (List Write)) × (pass.made ≡ earlier ++ pass.own ∷ [])
   -- it may begin the transactions of the lines that are left
   pub room : begun_by pass.begun (left_of job) ≤ pass.allowed
-  pub offered : AreOffered (left_of job)
   -- the rows that the job has laid by, and those that are left to its scan, are those that its line scans
   pub scans : (c : Command) (rest : List Command) → left_of job ≡ c ∷ rest
       → IfSome job.scan (IsScan (view core.kind core.journal (unwrap_or pass.start 0) pass.own) (request c))

@@ -21,6 +21,7 @@ use items::RoomyItems;
 use run_model::{Answer, Script};
 use std::alloc::Global;
 use std::marker::Model;
+use std::thread::Threads;
 
 /// A script under way, with its answers so far.
 #[derive(Drop)]
@@ -97,12 +98,12 @@ impl Job {
     }
 
     /// Takes one turn: a line, or a further portion of the rows that the line at hand scans.
-    pub fn turn<E: StepEngine>(&mut self, engine: &mut E) -> Turn
+    pub fn turn<R: Threads + Sync, E: StepEngine>(&mut self, rt: &R, engine: &mut E) -> Turn
         requires going { is_over self.old ≡ false }
         requires ready { IsReady (E.core engine.old) self.old }
         ensures { TookTurn (E.core engine.old) self.old result self.new (E.core engine.new) }
     {
-        match self.take_turn(engine) {
+        match self.take_turn(rt, engine) {
             Ok(()) if self.has_ended() => Turn::Ended,
             Ok(()) => Turn::More,
             Err(NoMemory) => {
@@ -113,7 +114,11 @@ impl Job {
     }
 
     /// Takes the turn, if there is memory.
-    fn take_turn<E: StepEngine>(&mut self, engine: &mut E) -> Result<(), NoMemory>
+    fn take_turn<R: Threads + Sync, E: StepEngine>(
+        &mut self,
+        rt: &R,
+        engine: &mut E,
+    ) -> Result<(), NoMemory>
         requires going { is_over self.old ≡ false }
         requires ready { IsReady (E.core engine.old) self.old }
         ensures ok { OnOk result ((c : Command) (rest : List Command) → left_of self.old ≡ c ∷ rest
@@ -125,7 +130,7 @@ impl Job {
         self.answers.reserve(1)?;
         self.tables.reserve(1)?;
         let command = &self.script.as_slice()[self.answers.len()];
-        match take_line(self.alloc, engine, command, self.phase, scan)? {
+        match take_line(rt, self.alloc, engine, command, self.phase, scan)? {
             LineTurn::Scanning { scan } => self.scan = Some(scan),
             LineTurn::Answering { given } => {
                 self.answers.push_within(given.answer);

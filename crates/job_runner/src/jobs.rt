@@ -10,6 +10,7 @@ use crate::job::Job;
 use crate::turn::Turn;
 use graph_model::{NoMemory, StepEngine};
 use std::marker::Model;
+use std::thread::Threads;
 
 /// The jobs of a run, numbered from 1 in their order.
 #[derive(Drop)]
@@ -67,8 +68,9 @@ impl Jobs {
     }
 
     /// Gives a turn to the job of this number, unless it has ended. Answers whether it ends with that.
-    pub fn take_turn<E: StepEngine>(
+    pub fn take_turn<R: Threads + Sync, E: StepEngine>(
         &mut self,
+        rt: &R,
         engine: &mut E,
         number: u32,
     ) -> Result<bool, NoMemory>
@@ -85,7 +87,7 @@ impl Jobs {
             return Ok(false);
         }
         engine.select(number);
-        match job.turn(engine) {
+        match job.turn(rt, engine) {
             Turn::More => Ok(false),
             Turn::Ended => Ok(true),
             Turn::NoMemory => Err(NoMemory),

@@ -10,11 +10,10 @@ ghost use Rattle.graph_model.specs.declared.limits.TheConstants.{MAX_ID};
 ghost use Rattle.graph_model.specs.OwnerCalls.{current, with_current, ended_pass, WritesHere};
 ghost use Rattle.graph_model.specs.Graph.{Graph};
 ghost use Rattle.graph_model.specs.Refused.{IsWithinLimits};
-ghost use Rattle.graph_model.specs.Rows.{AreRowsOf};
 ghost use Rattle.run_model.specs.declared.answer.Answer.TheVariants as answers;
 ghost use Rattle.run_model.specs.Requests.{Request, request, ToBegin, ToCommit, ToAbort, ToWrite, ToRead, ToRun, WeightOf, NeighboursOf, Counts};
 ghost use Rattle.run_model.specs.Jobs.{skips};
-ghost use Rattle.job_runner.specs.Kernels.{kernel_of, IsOfferedKernel};
+ghost use Rattle.job_runner.specs.Kernels.{kernel_of, AreKernelRows};
 ghost use Rattle.job_runner.specs.Scanning.{IsScan};
 ghost use Rattle.job_runner.specs.Lines.{phase_behind, plain, view_here, Advances, AnswersKernel, DoesLine, MayTake, TakesHere, Finishes};
 
@@ -25,9 +24,11 @@ use crate::table::{Kernel, NamedTable, copy_of, kernel_table};
 use graph_model::{BeginRefusal, KernelRefusal, Kind, NoMemory, Refusal, Row, StepEngine, Write};
 use run_model::{Answer, Command, Name};
 use std::alloc::Global;
+use std::thread::Threads;
 
 /// Takes one turn of a line.
-pub fn take_line<E: StepEngine>(
+pub fn take_line<R: Threads + Sync, E: StepEngine>(
+    rt: &R,
     alloc: Global,
     engine: &mut E,
     command: &Command,
@@ -71,14 +72,14 @@ pub fn take_line<E: StepEngine>(
         Command::Neighbours { v } => return neighbours(alloc, engine, *v, scan),
         Command::Count => return count(engine, scan),
         Command::Bfs { root, file } => {
-            return run_kernel(alloc, engine, Kernel::Bfs { root: *root }, file, scan);
+            return run_kernel(rt, alloc, engine, Kernel::Bfs { root: *root }, file, scan);
         }
-        Command::Wcc { file } => return run_kernel(alloc, engine, Kernel::Wcc, file, scan),
+        Command::Wcc { file } => return run_kernel(rt, alloc, engine, Kernel::Wcc, file, scan),
         Command::Cdlp { rounds, file } => {
-            return run_kernel(alloc, engine, Kernel::Cdlp { rounds: *rounds }, file, scan);
+            return run_kernel(rt, alloc, engine, Kernel::Cdlp { rounds: *rounds }, file, scan);
         }
         Command::Sssp { root, file } => {
-            return run_kernel(alloc, engine, Kernel::Sssp { root: *root }, file, scan);
+            return run_kernel(rt, alloc, engine, Kernel::Sssp { root: *root }, file, scan);
         }
     };
     Ok(LineTurn::Answering { given })
@@ -274,7 +275,8 @@ fn count<E: StepEngine>(engine: &mut E, before: Option<Scan>) -> Result<LineTurn
 }
 
 /// Scans all rows, and runs a kernel on them.
-fn run_kernel<E: StepEngine>(
+fn run_kernel<R: Threads + Sync, E: StepEngine>(
+    rt: &R,
     alloc: Global,
     engine: &mut E,
     kernel: Kernel,
@@ -291,24 +293,24 @@ fn run_kernel<E: StepEngine>(
         return Ok(LineTurn::Scanning { scan });
     }
     let rows = scan.into_rows();
-    let given = answer_kernel(alloc, engine.kind(), kernel, file, rows.as_slice())?;
+    let given = answer_kernel(rt, alloc, engine.kind(), kernel, file, rows.as_slice())?;
     Ok(LineTurn::Answering { given })
 }
 
 /// Runs a kernel on the rows of a graph, and answers its line.
-fn answer_kernel(
+fn answer_kernel<R: Threads + Sync>(
+    rt: &R,
     alloc: Global,
     kind: Kind,
     kernel: Kernel,
     file: &Name,
     rows: &[Row],
 ) -> Result<LineAnswer, NoMemory>
-    requires rows { (g : Graph) × AreRowsOf rows.now g }
-    requires offered { IsOfferedKernel (kernel_of kernel) }
-    ensures { IfOk result (λ given. (g : Graph) → AreRowsOf rows.now g
+    requires { (g : Graph) × AreKernelRows kind rows.now g }
+    ensures { IfOk result (λ given. (g : Graph) → AreKernelRows kind rows.now g
         → AnswersKernel kind g (kernel_of kernel) file.now given) }
 {
-    match kernel_table(alloc, kind, kernel, rows) {
+    match kernel_table(rt, alloc, kind, kernel, rows) {
         Ok(table) => {
             let name = copy_of(alloc, file)?;
             Ok(LineAnswer {

@@ -11,9 +11,11 @@ ghost use Rattle.job_runner.specs.Runs.{AreNew, AreUnderWay, IsStuck, Turns, Goe
 
 use crate::jobs::Jobs;
 use graph_model::{NoMemory, StepEngine};
+use std::thread::Threads;
 
 /// Runs the jobs of all scripts to their end, one turn after the other.
-pub fn run_stepped<E: StepEngine>(
+pub fn run_stepped<R: Threads + Sync, E: StepEngine>(
+    rt: &R,
     engine: &mut E,
     jobs: &mut Jobs,
     schedule: &[u32],
@@ -24,7 +26,7 @@ pub fn run_stepped<E: StepEngine>(
         → Ends inputs schedule.now (E.core engine.old) (E.core engine.new) jobs.new) }
     ensures err { OnErr result (GivesUp (E.core engine.old) (E.core engine.new)) }
 {
-    match take_turns(engine, jobs, schedule) {
+    match take_turns(rt, engine, jobs, schedule) {
         Ok(()) => Ok(()),
         Err(e) => {
             jobs.give_up(engine);
@@ -34,7 +36,8 @@ pub fn run_stepped<E: StepEngine>(
 }
 
 /// Takes turns until all scripts have ended, or memory is wanted.
-fn take_turns<E: StepEngine>(
+fn take_turns<R: Threads + Sync, E: StepEngine>(
+    rt: &R,
     engine: &mut E,
     jobs: &mut Jobs,
     schedule: &[u32],
@@ -51,13 +54,13 @@ fn take_turns<E: StepEngine>(
         if left == 0 {
             return Ok(());
         }
-        if take_turn(engine, jobs, *job)? {
+        if take_turn(rt, engine, jobs, *job)? {
             left -= 1;
         }
     }
     let mut job = 1;
     'rotation: while left > 0 {
-        if take_turn(engine, jobs, job)? {
+        if take_turn(rt, engine, jobs, job)? {
             left -= 1;
         }
         job = if job as usize == count { 0 } else { job + 1 };
@@ -66,7 +69,12 @@ fn take_turns<E: StepEngine>(
 }
 
 /// Gives a turn to the service, number 0, or to a job. Answers whether the job ends with that.
-fn take_turn<E: StepEngine>(engine: &mut E, jobs: &mut Jobs, number: u32) -> Result<bool, NoMemory>
+fn take_turn<R: Threads + Sync, E: StepEngine>(
+    rt: &R,
+    engine: &mut E,
+    jobs: &mut Jobs,
+    number: u32,
+) -> Result<bool, NoMemory>
     requires under_way { (inputs : Inputs) × AreUnderWay inputs (E.core engine.old) jobs.old }
     requires listed { number ≤ length jobs.old }
     ensures turns { IfOk result (λ ended.
@@ -78,5 +86,5 @@ fn take_turn<E: StepEngine>(engine: &mut E, jobs: &mut Jobs, number: u32) -> Res
         let _ = engine.service_step();
         return Ok(false);
     }
-    jobs.take_turn(engine, number)
+    jobs.take_turn(rt, engine, number)
 }

@@ -2,16 +2,21 @@
 
 ghost use Rattle.std.specs.Prelude.{◌≡◌, List, length, IfOk, IfErr};
 ghost use Rattle.graph_model.specs.Graph.{Graph};
-ghost use Rattle.graph_model.specs.Rows.{AreRowsOf};
+ghost use Rattle.graph_image.specs.Images.{IsImageOf};
 ghost use Rattle.run_model.specs.declared.answer.Answer.TheVariants as answers;
 ghost use Rattle.run_model.specs.Answering.{kernel_answer, IsKernelTable};
-ghost use Rattle.job_runner.specs.Kernels.{kernel_of, root_of, IsOfferedKernel};
+ghost use Rattle.job_runner.specs.Kernels.{kernel_of, root_of, AreKernelRows};
 
+use graph_image::{Builder, Image};
 use graph_model::{KernelRefusal, Kind, NoMemory, Row, Table};
 use items::RoomyItems;
 use kernel_bfs::run as breadth_first_search;
+use kernel_cdlp::run as communities;
+use kernel_sssp::run as shortest_paths;
+use kernel_wcc::run as components;
 use run_model::Name;
 use std::alloc::Global;
+use std::thread::Threads;
 
 /// A kernel of LDBC Graphalytics, with its root or its number of rounds.
 #[derive(Clone, Copy, Debug, PartialEq, Eq)]
@@ -47,26 +52,40 @@ pub struct NamedTable {
 pub type Tables = RoomyItems<NamedTable>;
 
 /// Runs a kernel on the rows of a graph.
-pub fn kernel_table(
+pub fn kernel_table<R: Threads + Sync>(
+    rt: &R,
     alloc: Global,
     kind: Kind,
     kernel: Kernel,
     rows: &[Row],
 ) -> Result<Table, KernelRefusal>
-    requires rows { (g : Graph) × AreRowsOf rows.now g }
-    requires offered { IsOfferedKernel (kernel_of kernel) }
-    ensures table { IfOk result (λ table. (g : Graph) → AreRowsOf rows.now g
+    requires { (g : Graph) × AreKernelRows kind rows.now g }
+    ensures table { IfOk result (λ table. (g : Graph) → AreKernelRows kind rows.now g
         → (kernel_answer g (kernel_of kernel) ≡ answers.Table (length table))
         × IsKernelTable kind g (kernel_of kernel) table) }
-    ensures no_root { result ≡ Err KernelRefusal.NoRoot → (g : Graph) → AreRowsOf rows.now g
+    ensures no_root { result ≡ Err KernelRefusal.NoRoot → (g : Graph) → AreKernelRows kind rows.now g
         → kernel_answer g (kernel_of kernel) ≡ answers.NoVertex (root_of kernel) }
 {
+    let image = image_of(alloc, kind, rows)?;
     match kernel {
-        Kernel::Bfs { root } => breadth_first_search(alloc, rows, root),
-        Kernel::Wcc => unreachable!(),
-        Kernel::Cdlp { rounds: _ } => unreachable!(),
-        Kernel::Sssp { root: _ } => unreachable!(),
+        Kernel::Bfs { root } => breadth_first_search(rt, alloc, &image, root),
+        Kernel::Wcc => Ok(components(rt, alloc, &image)?),
+        Kernel::Cdlp { rounds } => Ok(communities(rt, alloc, &image, rounds)?),
+        Kernel::Sssp { root } => shortest_paths(rt, alloc, &image, root),
     }
+}
+
+/// The image of the graph of these rows. More rows than an image has places for are want of memory.
+fn image_of(alloc: Global, kind: Kind, rows: &[Row]) -> Result<Image, NoMemory>
+    requires { (g : Graph) × AreKernelRows kind rows.now g }
+    ensures { IfOk result (λ image. (g : Graph) → AreKernelRows kind rows.now g → IsImageOf image g) }
+{
+    if rows.len() > u32::MAX as usize {
+        return Err(NoMemory);
+    }
+    let mut builder = Builder::new(alloc);
+    builder.push(rows)?;
+    builder.finish()
 }
 
 /// A copy of a name.

@@ -1,8 +1,3 @@
-pub mod Lists
-pub mod PlaceLemmas
-pub mod ArcLemmas
-pub mod QueueLemmas
-pub mod SearchLemmas
-pub mod EntryLemmas
+pub mod SpreadLemmas
+pub mod LevelLemmas
 pub mod TableLemmas
-pub mod LiteralGraphs

@@ -1,4 +1,1 @@
-pub mod Places
-pub mod Search
-pub mod Fields
-pub mod Entries
+pub mod Levels

@@ -2,57 +2,72 @@
 
 ghost use Rattle.std.specs.Prelude.{◌≡◌, ℕ, false, length, map, min, IfOk, IsTrue};
 ghost use Rattle.graph_model.specs.Graph.{Graph, has_vertex};
-ghost use Rattle.graph_model.specs.Rows.{AreRowsOf};
 ghost use Rattle.graph_model.specs.Tables.{IsBfs};
-ghost use Rattle.kernel_bfs.specs.Entries.{AreEntries};
+ghost use Rattle.graph_image.specs.Building.{AreStorable, AreEnded};
+ghost use Rattle.graph_image.specs.Images.{IsImageOf};
+ghost use Rattle.kernel_bfs.specs.Levels.{value_of};
 
-use crate::index::Index;
-use crate::search::Search;
-use graph_model::{Entry, KernelRefusal, NoMemory, Row, Table, Value};
-use std::alloc::{AllocError, Global};
+use crate::levels::{UNREACHED, search};
+use graph_image::{Image, KernelRefusal, NoMemory, Table, Value, table_of};
+use graph_model::NO_WALK;
+use std::alloc::Global;
+use std::thread::Threads;
 
 /// Breadth-first search from a root: each vertex in rising order, with the least number of arcs of a
 /// walk that leads there from the root, or NO_WALK (LDBC Graphalytics, BFS). No clause speaks of
 /// want of memory.
-pub fn run(alloc: Global, rows: &[Row], root: u64) -> Result<Table, KernelRefusal>
-    requires { (g : Graph) × AreRowsOf rows.now g }
-    ensures table { IfOk result (λ table. (g : Graph) → AreRowsOf rows.now g → IsTrue (has_vertex g root) × IsBfs g root table) }
-    ensures no_root { result ≡ Err KernelRefusal.NoRoot → (g : Graph) → AreRowsOf rows.now g → has_vertex g root ≡ false }
+pub fn run<R: Threads + Sync>(
+    rt: &R,
+    alloc: Global,
+    image: &Image,
+    root: u64,
+) -> Result<Table, KernelRefusal>
+    ensures table { IfOk result (λ table. (g : Graph) → IsImageOf image.now g
+        → IsTrue (has_vertex g root) × IsBfs g root table) }
+    ensures no_root { result ≡ Err KernelRefusal.NoRoot → (g : Graph) → IsImageOf image.now g
+        → has_vertex g root ≡ false }
 {
-    let index = Index::of(alloc, rows)?;
-    let Some(place) = index.place_of(root) else {
+    let Some(place) = image.position(root) else {
         return Err(KernelRefusal::NoRoot);
     };
-    let distances = Search::new(alloc, &index, place)?.distances();
-    let entries = entries_of(alloc, index.vertices(), distances.as_slice())?;
-    Ok(Table::from_vec(entries))
+    let distances = search(rt, alloc, image, place)?;
+    let values = values_of(alloc, distances.as_slice())?;
+    let table = table_of(alloc, image, values.as_slice())?;
+    Ok(table)
 }
 
-/// A line for each vertex.
-fn entries_of(alloc: Global, vertices: &[u64], distances: &[u64]) -> Result<Vec<Entry>, NoMemory>
-    requires { length distances.now ≡ length vertices.now }
-    ensures { IfOk result (λ entries. AreEntries vertices.now distances.now entries.items) }
+/// The values that stand for distances.
+fn values_of(alloc: Global, distances: &[u32]) -> Result<Vec<Value>, NoMemory>
+    ensures { IfOk result (λ values. values.items ≡ map value_of distances.now) }
 {
-    let mut entries = Vec::with_capacity(alloc, vertices.len())?;
-    'places: for i in 0..vertices.len() {
-        entries.push(Entry {
-            vertex: vertices[i],
-            value: Value::Number { n: distances[i] },
-        })?;
-    }
-    Ok(entries)
+    let values = distances
+        .iter()
+        .map(|distance| {
+            if *distance == UNREACHED {
+                Value::Number { n: NO_WALK }
+            } else {
+                Value::Number {
+                    n: *distance as u64,
+                }
+            }
+        })
+        .collect(alloc)?;
+    Ok(values)
 }
 
 #[cfg(test)]
 mod tests {
     use super::*;
-    use graph_model::{Key, NO_WALK};
+    use graph_image::Builder;
+    use graph_model::{Key, Row};
+    use std::alloc::AllocError;
     use std::process::Abort;
     use std::test::Fail;
 
     /// The rows of these keys, where each arc has the weight 1.
     fn rows_of(alloc: Global, keys: &[(u64, u64)]) -> Result<Vec<Row>, AllocError>
-        ensures { IfOk result (λ rows. rows.items ≡ map (λ k. record { key = record { src = k.0; second = k.1 }; weight = min k.1 1 }) keys.now) }
+        ensures { IfOk result (λ rows. rows.items
+            ≡ map (λ k. record { key = record { src = k.0; second = k.1 }; weight = min k.1 1 }) keys.now) }
     {
         keys.iter()
             .map(|key| Row {
@@ -65,18 +80,23 @@ mod tests {
             .collect(alloc)
     }
 
-    /// Asserts that a search gives these distances; none where the root isn't a vertex.
-    fn check(
-        rt: &impl Abort,
+    /// Asserts that a search over the image of the rows gives these distances; none where the root isn't
+    /// a vertex.
+    fn check<R: Threads + Sync + Abort>(
+        rt: &R,
         alloc: Global,
         rows: &[Row],
         root: u64,
         want: &[(u64, u64)],
     ) -> Result<(), Fail>
-        requires { (g : Graph) × AreRowsOf rows.now g }
+        requires storable { AreStorable rows.now }
+        requires ended { AreEnded rows.now }
     {
+        let mut builder = Builder::new(alloc);
+        builder.push(rows)?;
+        let image = builder.finish()?;
         let mut found = Vec::new(alloc);
-        match run(alloc, rows, root) {
+        match run(rt, alloc, &image, root) {
             Ok(table) => {
                 for entry in table.as_slice() {
                     if let Value::Number { n } = entry.value {
@@ -108,17 +128,6 @@ mod tests {
             ],
         )?;
         let one_way = rows_of(alloc, &[(1, 0), (1, 3), (2, 0), (2, 4), (3, 0), (3, 2)])?;
-        let far_apart = rows_of(
-            alloc,
-            &[
-                (5, 0),
-                (5, 1000001),
-                (1000000, 0),
-                (1000000, 9223372036854775807),
-                (9223372036854775806, 0),
-                (9223372036854775806, 6),
-            ],
-        )?;
         check(
             &rt,
             alloc,
@@ -127,13 +136,6 @@ mod tests {
             &[(1, 0), (2, 1), (3, 2), (4, NO_WALK)],
         )?;
         check(&rt, alloc, &path, 9, &[])?;
-        check(&rt, alloc, &one_way, 2, &[(1, 2), (2, 0), (3, 1)])?;
-        check(
-            &rt,
-            alloc,
-            &far_apart,
-            1000000,
-            &[(5, 2), (1000000, 0), (9223372036854775806, 1)],
-        )
+        check(&rt, alloc, &one_way, 2, &[(1, 2), (2, 0), (3, 1)])
     }
 }

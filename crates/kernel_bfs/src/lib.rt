@@ -1,12 +1,15 @@
-//! Breadth-first search over the rows of a graph (LDBC Graphalytics, BFS).
+//! Breadth-first search over the image of a graph (LDBC Graphalytics, BFS).
 //!
-//! 1. A vertex is known by its place among all vertices, in rising order of id.
-//! 2. Just the reached places stand in the queue, in the order of their distances.
-//! 3. The links of the places before the head of the queue have been followed.
+//! 1. Rounds go level by level: the frontier has just the places whose distance is the level.
+//! 2. A round gives each place that a link leads to from the frontier, and that had no distance, the
+//!    next distance. Top-down it follows the arcs out of the frontier, on one thread; bottom-up each
+//!    place without a distance looks at the arcs into it, on several. Both have the same contract.
+//! 3. Each round but the last reaches a place, so the level stays below the number of places.
 #![tactic(auto)]
 
-mod index;
+mod bottom_up;
 mod kernel;
-mod search;
+mod levels;
+mod top_down;
 
 pub use kernel::run;

@@ -143,6 +143,9 @@ request_within words.Weight values within = (within.vertex, within.target)
 request_within words.Neighbours values within = within.vertex
 request_within words.Count values within = tt
 request_within words.Bfs values within = within.vertex
+request_within words.Wcc values within = tt
+request_within words.Cdlp values within = within.rounds
+request_within words.Sssp values within = within.vertex
 
 -- a line that may stand where it does leaves a transaction open, or none, as a script asks
 opens : (word : Word) (began : Option ℕ) (number : ℕ) (values : Values) → place_fault word (is_some began) ≡ None
@@ -179,6 +182,9 @@ asked taken kinds fields file all counted none =
 asks : (taken : List (List ℕ)) (word : Word) (fields : List (List ℕ)) → count_fault (kinds_of word) (length fields) ≡ None → fields_fault taken (kinds_of word) fields ≡ None
     → All (IsNewName taken) (file_of (request (command_of word (with_values no_values (kinds_of word) fields))))
 asks taken words.Bfs fields counted none = asked taken (kinds_of words.Bfs) fields refl refl counted none
+asks taken words.Wcc fields counted none = asked taken (kinds_of words.Wcc) fields refl refl counted none
+asks taken words.Cdlp fields counted none = asked taken (kinds_of words.Cdlp) fields refl refl counted none
+asks taken words.Sssp fields counted none = asked taken (kinds_of words.Sssp) fields refl refl counted none
 asks taken word fields counted none = All-nil (IsNewName taken)
 
 -- what holds of the command of a line

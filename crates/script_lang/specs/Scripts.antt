@@ -34,6 +34,9 @@ command_of words.Weight values = commands.Weight values.vertex values.target
 command_of words.Neighbours values = commands.Neighbours values.vertex
 command_of words.Count values = commands.Count
 command_of words.Bfs values = commands.Bfs values.vertex values.file
+command_of words.Wcc values = commands.Wcc values.file
+command_of words.Cdlp values = commands.Cdlp values.rounds values.file
+command_of words.Sssp values = commands.Sssp values.vertex values.file
 
 -- too few or too many fields
 abbrev pub count_fault : List FieldKind → ℕ → Option ScriptWhat

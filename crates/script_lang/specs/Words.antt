@@ -22,6 +22,9 @@ word_text words.Weight = codes "weight"
 word_text words.Neighbours = codes "neighbours"
 word_text words.Count = codes "count"
 word_text words.Bfs = codes "bfs"
+word_text words.Wcc = codes "wcc"
+word_text words.Cdlp = codes "cdlp"
+word_text words.Sssp = codes "sssp"
 
 -- the fields behind each word, from left to right
 abbrev pub kinds_of : Word → List FieldKind
@@ -37,6 +40,9 @@ kinds_of words.Weight = Vertex ∷ Target ∷ []
 kinds_of words.Neighbours = Vertex ∷ []
 kinds_of words.Count = []
 kinds_of words.Bfs = Vertex ∷ File ∷ []
+kinds_of words.Wcc = File ∷ []
+kinds_of words.Cdlp = Rounds ∷ File ∷ []
+kinds_of words.Sssp = Vertex ∷ File ∷ []
 
 -- whether a line has to have such a field
 abbrev pub is_needed : FieldKind → Bool

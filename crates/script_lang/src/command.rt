@@ -23,8 +23,8 @@ pub(crate) fn command_of(
         vertex: u,
         target: v,
         weight,
+        rounds,
         file,
-        ..
     } = arguments;
     Ok(match word {
         Word::Begin => Command::Begin,
@@ -39,6 +39,17 @@ pub(crate) fn command_of(
         Word::Neighbours => Command::Neighbours { v: u },
         Word::Count => Command::Count,
         Word::Bfs => Command::Bfs {
+            root: u,
+            file: copy_name(alloc, file)?,
+        },
+        Word::Wcc => Command::Wcc {
+            file: copy_name(alloc, file)?,
+        },
+        Word::Cdlp => Command::Cdlp {
+            rounds,
+            file: copy_name(alloc, file)?,
+        },
+        Word::Sssp => Command::Sssp {
             root: u,
             file: copy_name(alloc, file)?,
         },

@@ -26,4 +26,4 @@ pub use refusal::{ScheduleRefusal, ScheduleWhat, ScriptRefusal, ScriptWhat};
 pub use report::write_report;
 pub use schedule::{Schedule, read_schedule};
 pub use script::read_script;
-pub use word::{Word, words_are_read};
+pub use word::words_are_read;

@@ -88,7 +88,7 @@ mod tests {
             ),
             ("foo", "line 1: not a command"),
             (" # begin\n", "line 1: not a command"),
-            ("begin\nwcc a\ncommit\n", "line 2: not a command"),
+            ("begin\nfastbfs a\ncommit\n", "line 2: not a command"),
             ("\n\nvertex\n", "line 3: missing field"),
             ("begin\nset 1 2\ncommit\n", "line 2: missing field"),
             ("begin 5\n", "line 1: extra field"),

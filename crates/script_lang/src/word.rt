@@ -6,7 +6,7 @@ ghost use Rattle.script_lang.specs.Words.{word_text, kinds_of, is_needed, is_beg
 
 /// The first field of a line, which says what the line does.
 #[derive(Clone, Copy, Debug, PartialEq, Eq)]
-pub enum Word {
+pub(crate) enum Word {
     Begin,
     Commit,
     Abort,
@@ -19,6 +19,9 @@ pub enum Word {
     Neighbours,
     Count,
     Bfs,
+    Wcc,
+    Cdlp,
+    Sssp,
 }
 
 /// What a field behind the word says.
@@ -36,7 +39,7 @@ pub(crate) enum FieldKind {
 }
 
 /// All words.
-pub(crate) const WORDS: [Word; 12] = [
+pub(crate) const WORDS: [Word; 15] = [
     Word::Begin,
     Word::Commit,
     Word::Abort,
@@ -49,6 +52,9 @@ pub(crate) const WORDS: [Word; 12] = [
     Word::Neighbours,
     Word::Count,
     Word::Bfs,
+    Word::Wcc,
+    Word::Cdlp,
+    Word::Sssp,
 ];
 
 /// The word that a field is, if it is one.
@@ -76,6 +82,9 @@ impl Word {
             Word::Neighbours => b"neighbours",
             Word::Count => b"count",
             Word::Bfs => b"bfs",
+            Word::Wcc => b"wcc",
+            Word::Cdlp => b"cdlp",
+            Word::Sssp => b"sssp",
         }
     }
 
@@ -100,6 +109,9 @@ impl Word {
             Word::Neighbours => &[FieldKind::Vertex],
             Word::Count => &[],
             Word::Bfs => &[FieldKind::Vertex, FieldKind::File],
+            Word::Wcc => &[FieldKind::File],
+            Word::Cdlp => &[FieldKind::Rounds, FieldKind::File],
+            Word::Sssp => &[FieldKind::Vertex, FieldKind::File],
         }
     }
 

@@ -21,9 +21,9 @@ fn main(rt: HostRuntime) -> ExitCode {
     let _standard = fill_standard(&rt);
     let alloc = rt.alloc();
     let words = words(&rt, alloc);
-    let mut desk = StdDesk::new(alloc, rt);
+    let mut desk = StdDesk::new(alloc, &rt);
     ExitCode::from(match words {
-        Ok(words) => teseo(alloc, &words, &mut desk, &OpenGate),
+        Ok(words) => teseo(&rt, alloc, &words, &mut desk, &OpenGate),
         Err(outcome) => end_with(&mut desk, outcome),
     })
 }

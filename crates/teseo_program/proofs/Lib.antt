@@ -8,4 +8,3 @@ mod PreparedLemmas
 mod LawLemmas
 mod OutcomeLemmas
 mod RunLemmas
-mod OfferedLemmas

@@ -24,7 +24,6 @@ use Rattle.txn_manager.specs.declared.config.Config.{Config}
 use Rattle.plain_core.specs.Passes.{new_pass}
 use Rattle.plain_core.specs.Plain.{new_core, newest_graph, edges_of}
 use Rattle.graph_load.specs.Loading.{HasBegunNothing, IsNew, loaded}
-use Rattle.job_runner.specs.Kernels.{AreOffered}
 use Rattle.job_runner.specs.Lines.{file_of}
 use Rattle.job_runner.specs.Progress.{Progress}
 use Rattle.job_runner.specs.Runs.{new_jobs, IsUnused, AreNew, outputs_of, Ends}
@@ -122,7 +121,7 @@ inside [] k cs e = cc
 inside (s ∷ scripts) zero cs e = omega arith
 inside (s ∷ scripts) (suc k) cs e = omega (arith, inside scripts k cs e)
 
-module _ (inputs : Inputs) (config : Config) (is : IsConfig inputs.scripts config) (undirected : inputs.kind ≡ Undirected) (given : AreInputs inputs) (offered : AllByRecursion AreOffered inputs.scripts) where
+module _ (inputs : Inputs) (config : Config) (is : IsConfig inputs.scripts config) (undirected : inputs.kind ≡ Undirected) (given : AreInputs inputs) where
   first : PassState
   first = record (new_pass config.txns_per_pass) { begun = 1; made = inputs.load ∷ [] }
 
@@ -151,7 +150,6 @@ module _ (inputs : Inputs) (config : Config) (is : IsConfig inputs.scripts confi
   unfolding first others core
   new_of = record {
     given = given;
-    offered = offered;
     kind = is.kind ∙ sym undirected;
     journal = journals_agree inputs.load;
     loaded = append-nil inputs.load;

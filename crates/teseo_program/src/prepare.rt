@@ -19,6 +19,7 @@ use graph_model::{MAX_SOURCE_BYTES, NoMemory};
 use graphalytics_io::{Text, files_are_loadable, load_is_legal};
 use items::Items;
 use std::alloc::Global;
+use std::thread::Threads;
 
 /// The outputs in the order in which they are written, the summary that is said at the end, and whether a report has a
 /// line `full`.
@@ -30,7 +31,8 @@ pub struct Prepared {
 }
 
 /// Reads and parses the sources, runs the scripts, and makes all texts. Creates nothing.
-pub fn prepare<D: Desk>(
+pub fn prepare<R: Threads + Sync, D: Desk>(
+    rt: &R,
     alloc: Global,
     desk: &mut D,
     line: &CommandLine<'_>,
@@ -47,12 +49,17 @@ pub fn prepare<D: Desk>(
         Ok(input) => input,
         Err(stop) => return Err(Outcome::from(stop)),
     };
-    let prepared = make(alloc, line, input)?;
+    let prepared = make(rt, alloc, line, input)?;
     Ok(prepared)
 }
 
 /// Runs the scripts on the graph of the sources, and makes the texts of what that leaves.
-fn make(alloc: Global, line: &CommandLine<'_>, input: Input) -> Result<Prepared, NoMemory>
+fn make<R: Threads + Sync>(
+    rt: &R,
+    alloc: Global,
+    line: &CommandLine<'_>,
+    input: Input,
+) -> Result<Prepared, NoMemory>
     requires words { (words : List (List ℕ)) × TakesWords words (run_names line.now) }
     requires accepted { (texts : Texts) × IsAccepted (run_names line.now) texts (meaning_of input) }
     requires runnable { AreRunnable (taken_names (run_names line.now)) input.scripts }
@@ -63,7 +70,7 @@ fn make(alloc: Global, line: &CommandLine<'_>, input: Input) -> Result<Prepared,
 {
     files_are_loadable();
     load_is_legal();
-    let run = run_scripts(alloc, input)?;
+    let run = run_scripts(rt, alloc, input)?;
     let commits = run.journal.len() as u64;
     let summary = summary_of(alloc, commits, run.vertices, run.edges)?;
     let outputs = outputs_of(alloc, line.journal, line.scripts, &run)?;

@@ -15,14 +15,21 @@ use crate::say::say_outcome;
 use command_line::{CommandLine, take_words};
 use desk_io::{Desk, Gate, Output, ReadStop, write_all};
 use std::alloc::Global;
+use std::thread::Threads;
 
 /// Runs `teseo` on the words behind its name, and answers the exit status. The gate is for runs with
 /// several threads, and not called yet.
-pub fn teseo<D: Desk, G: Gate>(alloc: Global, words: &[String], desk: &mut D, _gate: &G) -> u8
+pub fn teseo<R: Threads + Sync, D: Desk, G: Gate>(
+    rt: &R,
+    alloc: Global,
+    words: &[String],
+    desk: &mut D,
+    _gate: &G,
+) -> u8
     ensures { (outcome : Outcome) × (result ≡ status_of outcome)
         × IsOutcome outcome (map string_bytes words.now) (D.files desk.old) (D.files desk.new) }
 {
-    outcome_of(alloc, words, desk).status()
+    outcome_of(rt, alloc, words, desk).status()
 }
 
 /// Ends a call that has no words to run, as where one of them isn't text: says the outcome, and answers
@@ -36,11 +43,16 @@ pub fn end_with<D: Desk>(desk: &mut D, outcome: Outcome) -> u8
 }
 
 /// Runs the words to their end.
-fn outcome_of<D: Desk>(alloc: Global, words: &[String], desk: &mut D) -> Outcome
+fn outcome_of<R: Threads + Sync, D: Desk>(
+    rt: &R,
+    alloc: Global,
+    words: &[String],
+    desk: &mut D,
+) -> Outcome
     ensures { IsOutcome result (map string_bytes words.now) (D.files desk.old) (D.files desk.new) }
 {
     match take_words(words) {
-        Some(line) => run(alloc, desk, &line),
+        Some(line) => run(rt, alloc, desk, &line),
         None => {
             say_outcome(desk, "", &[], Outcome::BadWords);
             Outcome::BadWords
@@ -49,11 +61,16 @@ fn outcome_of<D: Desk>(alloc: Global, words: &[String], desk: &mut D) -> Outcome
 }
 
 /// Runs the scripts that the command line names.
-fn run<D: Desk>(alloc: Global, desk: &mut D, line: &CommandLine<'_>) -> Outcome
+fn run<R: Threads + Sync, D: Desk>(
+    rt: &R,
+    alloc: Global,
+    desk: &mut D,
+    line: &CommandLine<'_>,
+) -> Outcome
     requires { (words : List (List ℕ)) × TakesWords words (run_names line.now) }
     ensures { IsRunOutcome result (run_names line.now) (D.files desk.old) (D.files desk.new) }
 {
-    match prepare(alloc, desk, line) {
+    match prepare(rt, alloc, desk, line) {
         Ok(prepared) => {
             let outcome = write(desk, &prepared);
             let outputs = prepared.outputs.as_slice();

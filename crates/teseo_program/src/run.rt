@@ -5,7 +5,6 @@
 //! 3. The engine may have as many leaves as there can be, so the load always finds its places.
 
 ghost use Rattle.std.specs.Prelude.{◌≡◌, ◌≤◌, ◌+◌, ◌<◌, ℕ, List, cond, length, All, IfOk, OnOk, false};
-ghost use Rattle.std.specs.List.{AllByRecursion};
 ghost use Rattle.graph_model.specs.declared.limits.TheConstants.{MAX_LEAVES, MAX_SCRIPTS, MAX_BEGINS};
 ghost use Rattle.graph_model.specs.declared.write.Kind.TheVariants.{Undirected};
 ghost use Rattle.graphalytics_io.specs.Load.{load_of, IsLoadable};
@@ -17,7 +16,6 @@ ghost use Rattle.run_model.specs.Run.{IsRun};
 ghost use Rattle.run_model.specs.Stepped.{IsStepped};
 ghost use Rattle.txn_manager.specs.Config.{too_large};
 ghost use Rattle.plain_core.specs.Plain.{new_core};
-ghost use Rattle.job_runner.specs.Kernels.{AreOffered};
 ghost use Rattle.job_runner.specs.Runs.{new_jobs};
 ghost use Rattle.teseo_program.specs.Input.{inputs_of};
 ghost use Rattle.teseo_program.specs.Parsing.{meaning_of};
@@ -32,6 +30,7 @@ use job_runner::{Job, Jobs, run_stepped};
 use plain_core::PlainCore;
 use run_model::{Command, Script, stepped_runs_are_runs};
 use std::alloc::Global;
+use std::thread::Threads;
 use txn_manager::{Config, StoreRefusal};
 
 /// What the run of the scripts leaves: the journal, the scripts with their answers and tables, and how many vertices and
@@ -45,11 +44,14 @@ pub struct RunResult {
 }
 
 /// Loads the graph, and runs the scripts on it by their turns.
-pub fn run_scripts(alloc: Global, input: Input) -> Result<RunResult, NoMemory>
+pub fn run_scripts<R: Threads + Sync>(
+    rt: &R,
+    alloc: Global,
+    input: Input,
+) -> Result<RunResult, NoMemory>
     requires inputs { AreInputs (inputs_of Undirected (meaning_of input)) }
     requires loadable { IsLoadable input.ids input.edges }
     requires fits { Fits input.ids input.edges }
-    requires offered { AllByRecursion AreOffered input.scripts }
     requires listed { All (λ job. job ≤ length input.scripts) input.schedule }
     ensures run { IfOk result (λ r. IsRun (inputs_of Undirected (meaning_of input)) MAX_LEAVES (run_outputs r)) }
     ensures stepped { IfOk result (λ r. IsStepped (inputs_of Undirected (meaning_of input)) MAX_LEAVES input.schedule (run_outputs r)) }
@@ -60,7 +62,7 @@ pub fn run_scripts(alloc: Global, input: Input) -> Result<RunResult, NoMemory>
     let mut engine = new_engine(alloc, config)?;
     load(&mut engine, &input.ids, &input.edges)?;
     let mut jobs = jobs_of(alloc, input.scripts)?;
-    run_stepped(&mut engine, &mut jobs, input.schedule.as_slice())?;
+    run_stepped(rt, &mut engine, &mut jobs, input.schedule.as_slice())?;
     let totals = engine.totals();
     Ok(RunResult {
         journal: engine.into_journal(),

@@ -39,7 +39,7 @@ fn each_call_of_the_desk_fails_once(rt: HostRuntime) -> Result<(), Fail> {
     let alloc = rt.alloc();
     for (call, end) in CALLS {
         let mut desk = desk_with(alloc, PATH.0, &[call])?;
-        let found = end_of(alloc, &mut desk, PATH.1, end)?;
+        let found = end_of(&rt, alloc, &mut desk, PATH.1, end)?;
         assert_eq!(rt;
             found.as_str(),
             text_of_end(alloc, end)?.as_str(),

@@ -63,7 +63,7 @@ fn words_that_are_refused(rt: HostRuntime) -> Result<(), Fail> {
     let want = text_of_end(alloc, REFUSED)?;
     for (fault, words) in CASES {
         let mut desk = desk_with(alloc, PATH.0, &[])?;
-        let found = end_of_words(alloc, &mut desk, words, REFUSED)?;
+        let found = end_of_words(&rt, alloc, &mut desk, words, REFUSED)?;
         assert_eq!(rt; found.as_str(), want.as_str(), "with {fault}");
     }
     Ok(())
@@ -87,7 +87,7 @@ fn there_are_sixty_scripts_at_most(rt: HostRuntime) -> Result<(), Fail> {
             name.push_str("x")?;
         }
         let mut desk = desk_with(alloc, &[("v", ""), ("e", "")], &[])?;
-        let found = end_of_words(alloc, &mut desk, words.as_str(), end)?;
+        let found = end_of_words(&rt, alloc, &mut desk, words.as_str(), end)?;
         assert_eq!(rt;
             found.as_str(),
             text_of_end(alloc, end)?.as_str(),

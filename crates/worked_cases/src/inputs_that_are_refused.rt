@@ -86,7 +86,7 @@ fn sources_that_are_refused(rt: HostRuntime) -> Result<(), Fail> {
     for (run, said) in REFUSED {
         let end: End = (1, said, run.0.len(), &[]);
         let mut desk = desk_with(alloc, run.0, &[])?;
-        let found = end_of(alloc, &mut desk, run.1, end)?;
+        let found = end_of(&rt, alloc, &mut desk, run.1, end)?;
         assert_eq!(rt; found.as_str(), text_of_end(alloc, end)?.as_str());
     }
     Ok(())
@@ -111,7 +111,7 @@ fn sources_that_are_not_there(rt: HostRuntime) -> Result<(), Fail> {
                 desk.put(name, b"not accepted")?;
             }
         }
-        let found = end_of(alloc, &mut desk, "--schedule t s1", end)?;
+        let found = end_of(&rt, alloc, &mut desk, "--schedule t s1", end)?;
         assert_eq!(rt; found.as_str(), text_of_end(alloc, end)?.as_str());
     }
     Ok(())

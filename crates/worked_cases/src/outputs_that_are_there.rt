@@ -39,7 +39,7 @@ fn an_output_that_is_there_is_replaced_whole(rt: HostRuntime) -> Result<(), Fail
     for (script, older, end) in RUNS {
         let mut desk = desk_with(alloc, &[V, E, script], &[])?;
         desk.put(older, OLDER.as_bytes())?;
-        let found = end_of(alloc, &mut desk, "s1", end)?;
+        let found = end_of(&rt, alloc, &mut desk, "s1", end)?;
         assert_eq!(rt;
             found.as_str(),
             text_of_end(alloc, end)?.as_str(),

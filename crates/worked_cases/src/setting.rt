@@ -2,6 +2,7 @@
 
 use desk_io::{MemoryDesk, OpenGate};
 use std::alloc::{AllocError, Global};
+use std::thread::Threads;
 use teseo_program::teseo;
 
 /// A file: its name and its text.
@@ -56,7 +57,8 @@ pub fn desk_with(alloc: Global, files: &[File], failing: &[u64]) -> Result<Memor
 
 /// Runs the words behind those of the graph and the journal, and gives the end as text, with those files
 /// that the wanted end has.
-pub fn end_of(
+pub fn end_of<R: Threads + Sync>(
+    rt: &R,
     alloc: Global,
     desk: &mut MemoryDesk,
     words: &str,
@@ -64,18 +66,19 @@ pub fn end_of(
 ) -> Result<String, AllocError> {
     let mut line = String::from_str(alloc, GRAPH_WORDS)?;
     line.push_str(words)?;
-    end_of_words(alloc, desk, line.as_str(), wanted)
+    end_of_words(rt, alloc, desk, line.as_str(), wanted)
 }
 
 /// The same for all the words of a line.
-pub fn end_of_words(
+pub fn end_of_words<R: Threads + Sync>(
+    rt: &R,
     alloc: Global,
     desk: &mut MemoryDesk,
     line: &str,
     wanted: End,
 ) -> Result<String, AllocError> {
     let words = split(alloc, line)?;
-    let status = teseo(alloc, &words, desk, &OpenGate);
+    let status = teseo(rt, alloc, &words, desk, &OpenGate);
     let mut text = first_line(alloc, status, text_of(desk.said()), desk.file_count())?;
     for file in wanted.3 {
         push_file(&mut text, (file.0, text_of(desk.get(file.0))))?;

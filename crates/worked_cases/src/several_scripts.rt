@@ -154,7 +154,7 @@ fn scripts_take_their_turns(rt: HostRuntime) -> Result<(), Fail> {
     let alloc = rt.alloc();
     for (run, end) in RUNS {
         let mut desk = desk_with(alloc, run.0, &[])?;
-        let found = end_of(alloc, &mut desk, run.1, end)?;
+        let found = end_of(&rt, alloc, &mut desk, run.1, end)?;
         assert_eq!(rt; found.as_str(), text_of_end(alloc, end)?.as_str());
     }
     Ok(())

@@ -1,7 +1,7 @@
 //! Runs of one script to the end, each with all that it writes.
 
 use crate::setting::{
-    E, End, File, JOURNAL, PATH, Run, SEARCH, SUMMARY, V, WHOLE, desk_with, end_of, text_of_end,
+    E, End, File, JOURNAL, PATH, REPORT, Run, SEARCH, SUMMARY, V, WHOLE, desk_with, end_of, text_of_end,
 };
 use std::test::Fail;
 
@@ -13,7 +13,7 @@ const WITH_AN_EDGE: File = (
 );
 
 /// Runs, and how each ends.
-const RUNS: [(Run, End); 9] = [
+const RUNS: [(Run, End); 12] = [
     (PATH, WHOLE),
     // a root that is no vertex: there is no result
     (
@@ -39,6 +39,65 @@ const RUNS: [(Run, End); 9] = [
                 ("j", ""),
                 ("s1.report", "begin 1.1 start 0\nno vertex 1\ncommit -\n"),
             ],
+        ),
+    ),
+    // components of nothing: the result is there and empty
+    (
+        (
+            &[
+                ("v", ""),
+                ("e", ""),
+                ("s1", "begin\nwcc o\ncommit\n"),
+            ],
+            "s1",
+        ),
+        (
+            0,
+            "commits 0 vertices 0 edges 0 undo 0 retired 0\n",
+            6,
+            &[
+                ("j", ""),
+                ("s1.report", "begin 1.1 start 0\ntable 0\ncommit -\n"),
+                ("o", ""),
+            ],
+        ),
+    ),
+    // two kernels of one transaction, on a star: the centre takes the least of two labels that it meets once each
+    (
+        (
+            &[
+                ("v", "1\n2\n3\n"),
+                ("e", "1 2\n1 3\n"),
+                ("s1", "begin\ncdlp 1 o\nwcc p\ncommit\n"),
+            ],
+            "s1",
+        ),
+        (
+            0,
+            "commits 1 vertices 3 edges 2 undo 0 retired 0\n",
+            7,
+            &[
+                (
+                    "j",
+                    "commit 1 start 0 by 0.1\nvertex 1\nvertex 2\nvertex 3\nedge 1 2 1\nedge 1 3 1\n",
+                ),
+                (
+                    "s1.report",
+                    "begin 1.1 start 1\ntable 3\ntable 3\ncommit -\n",
+                ),
+                ("o", "1 2\n2 1\n3 1\n"),
+                ("p", "1 1\n2 1\n3 1\n"),
+            ],
+        ),
+    ),
+    // least weights on the path: no walk leads to the vertex apart
+    (
+        (&[V, E, ("s1", "begin\nsssp 1 o\ncommit\n")], "s1"),
+        (
+            0,
+            SUMMARY,
+            6,
+            &[JOURNAL, REPORT, ("o", "1 0\n2 1\n3 2\n4 infinity\n")],
         ),
     ),
     // an edge between the least id and the greatest
@@ -177,7 +236,7 @@ fn runs_end_with_all_that_they_write(rt: HostRuntime) -> Result<(), Fail> {
     let alloc = rt.alloc();
     for (run, end) in RUNS {
         let mut desk = desk_with(alloc, run.0, &[])?;
-        let found = end_of(alloc, &mut desk, run.1, end)?;
+        let found = end_of(&rt, alloc, &mut desk, run.1, end)?;
         assert_eq!(rt; found.as_str(), text_of_end(alloc, end)?.as_str());
     }
     Ok(())

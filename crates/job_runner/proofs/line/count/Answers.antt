@@ -20,6 +20,6 @@ returns-clause-takes g c =
       last = ends.1;
       does = subst (λ given. DoesLine old false (ToRead Counts) given new) (sym c.plain.ensures)
           (read_does old c.requires.selected Counts c.into_counts-answer.result new c.requires.phase_is
-          (c.into_counts-answer.ensures n ends.0.result ∙ (λ i. counted (kind i) n (ends.0.counted i - n)) ∙ counts_are old.kind (view_here old) (here_rows old c.requires.valid c.requires.phase_is))
+          (c.into_counts-answer.ensures n ends.0.result ∙ (λ i. counted (kind i) n (ends.0.counted i - n)) ∙ counts_are old.kind (view_here old) (here_rows old c.requires.valid c.requires.phase_is).rows)
           c.in_ok-scan.ensures.core);
     }

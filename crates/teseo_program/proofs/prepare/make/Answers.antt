@@ -6,38 +6,34 @@ use Rattle.teseo_program.specs.Parsing.{meaning_of}
 use Rattle.teseo_program.specs.Running.{run_outputs}
 use Rattle.teseo_program.proofs.PreparedLemmas.{loadable, are_inputs, job_count, are_printable, are_apart, same_summary}
 use Rattle.teseo_program.proofs.RunLemmas.{files_fit}
-use Rattle.teseo_program.proofs.OfferedLemmas.{all_offered}
 use Rattle.teseo_program.proofs.prepare.make.Goals as goal
 
 pub run_scripts-requires-clause-inputs : goal.run_scripts-requires-clause-inputs
-run_scripts-requires-clause-inputs c =
+run_scripts-requires-clause-inputs g c κs within =
     are_inputs c.load_is_legal.ensures c.files_are_loadable.ensures (run_names c.args.line.now) c.requires.words.0 c.requires.words.1 c.requires.accepted.0 (meaning_of c.args.input)
     c.requires.accepted.1 c.requires.runnable c.requires.count
 
 pub run_scripts-requires-clause-loadable : goal.run_scripts-requires-clause-loadable
-run_scripts-requires-clause-loadable c =
+run_scripts-requires-clause-loadable g c κs within =
     loadable c.load_is_legal.ensures c.files_are_loadable.ensures (run_names c.args.line.now) c.requires.words.0 c.requires.words.1 c.requires.accepted.0 (meaning_of c.args.input)
     c.requires.accepted.1 c.requires.runnable c.requires.count
 
 pub run_scripts-requires-clause-fits : goal.run_scripts-requires-clause-fits
-run_scripts-requires-clause-fits c = files_fit (run_names c.args.line.now) c.requires.accepted.0 (meaning_of c.args.input) c.requires.accepted.1
-
-pub run_scripts-requires-clause-offered : goal.run_scripts-requires-clause-offered
-run_scripts-requires-clause-offered c = all_offered _ _ c.args.input.scripts c.requires.accepted.1.scripts
+run_scripts-requires-clause-fits g c κs within = files_fit (run_names c.args.line.now) c.requires.accepted.0 (meaning_of c.args.input) c.requires.accepted.1
 
 pub outputs_of-requires-clause-count : goal.outputs_of-requires-clause-count
-outputs_of-requires-clause-count c =
+outputs_of-requires-clause-count g c =
     job_count c.load_is_legal.ensures c.files_are_loadable.ensures (run_names c.args.line.now) c.requires.words.0 c.requires.words.1 c.requires.accepted.0 (meaning_of c.args.input)
     c.requires.accepted.1 c.requires.runnable c.requires.count c.in_ok-run.run' c.in_ok-run.ensures.run
     ∙ length-map c.args.line.now.scripts.now string_bytes
 
 pub outputs_of-requires-clause-names : goal.outputs_of-requires-clause-names
-outputs_of-requires-clause-names c =
+outputs_of-requires-clause-names g c =
     are_printable c.load_is_legal.ensures c.files_are_loadable.ensures (run_names c.args.line.now) c.requires.words.0 c.requires.words.1 c.requires.accepted.0 (meaning_of c.args.input)
     c.requires.accepted.1 c.requires.runnable c.requires.count c.in_ok-run.run' c.in_ok-run.ensures.run
 
 pub returns-clause-made : goal.returns-clause-made
-returns-clause-made c = record {
+returns-clause-made g c = record {
   outputs = run_outputs c.in_ok-run.run';
   run = c.in_ok-run.ensures.run;
   stepped = c.in_ok-run.ensures.stepped;
@@ -47,6 +43,6 @@ returns-clause-made c = record {
 }
 
 pub returns-clause-apart : goal.returns-clause-apart
-returns-clause-apart c =
+returns-clause-apart g c =
     are_apart c.load_is_legal.ensures c.files_are_loadable.ensures (run_names c.args.line.now) c.requires.words.0 c.requires.words.1 c.requires.accepted.0 (meaning_of c.args.input)
     c.requires.accepted.1 c.requires.runnable c.requires.count c.in_ok-run.run' c.in_ok-run.ensures.run c.in_ok-outputs.outputs c.in_ok-outputs.ensures

@@ -10,8 +10,8 @@ use Rattle.job_runner.proofs.JobLemmas.{may_here, took_here}
 use Rattle.job_runner.proofs.job.Job.take_turn.Goals as goal
 use Rattle.job_runner.proofs.job.Job.take_turn.Goals.{in-Some+in-Targets-3, in-Some+in-Rows-3, in-Some+in-Vertices-3, in-None-3}
 
-pub take_line-requires : goal.take_line-requires
-take_line-requires g c =
+pub take_line-requires-after_bounds : goal.take_line-requires-after_bounds
+take_line-requires-after_bounds g c κs within =
     let job = c.args.self.now in
     let old = g.E.StepEngine.core c.args.engine.now in
     let command = c.index-as_slice-len.result in

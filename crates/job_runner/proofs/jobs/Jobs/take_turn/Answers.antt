@@ -34,7 +34,7 @@ returns-then-has_ended-clause-goes g c =
     subst (λ xs. Goes jobs c.args.number (slice_set xs k job)) (sym fields) (stays_over core jobs k job there c.args.number number over)
 
 pub turn-requires-clause-ready : goal.turn-requires-clause-ready
-turn-requires-clause-ready g c =
+turn-requires-clause-ready g c κs within =
     let core = g.E.StepEngine.core c.args.engine.now in
     let jobs = c.args.self.now in
     let k = c.args.number - 1 in

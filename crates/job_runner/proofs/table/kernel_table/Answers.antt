@@ -1,0 +1,13 @@
+use Rattle.std.proofs.Common.{◌≡◌, length, sym, subst}
+use Rattle.run_model.specs.declared.answer.Answer.TheVariants as answers
+use Rattle.run_model.specs.Answering.{kernel_answer, IsKernelTable}
+use Rattle.job_runner.specs.Kernels.{kernel_of}
+use Rattle.job_runner.proofs.TableLemmas.{labels_of_kind}
+use Rattle.job_runner.proofs.table.kernel_table.Goals as goal
+
+pub returns-in-Cdlp-clause-table : goal.returns-in-Cdlp-clause-table
+returns-in-Cdlp-clause-table g c = λ graph are.
+    let table = c.in_ok-run-in-Cdlp.field-0 in
+    let image = c.in_ok-image.ensures graph are in
+    subst (λ k. (kernel_answer graph (kernel_of k) ≡ answers.Table (length table)) × IsKernelTable c.args.kind graph (kernel_of k) table) (sym c.in-Cdlp.is)
+        (labels_of_kind c.args.kind graph c.in-Cdlp.rounds table are.symmetric (c.in_ok-run-in-Cdlp.ensures.directed graph image) (c.in_ok-run-in-Cdlp.ensures.undirected graph image))
