@@ -1,7 +1,8 @@
 //! Runs of one script to the end, each with all that it writes.
 
 use crate::setting::{
-    E, End, File, JOURNAL, PATH, REPORT, Run, SEARCH, SUMMARY, V, WHOLE, desk_with, end_of, text_of_end,
+    E, End, File, JOURNAL, PATH, REPORT, Run, SEARCH, SUMMARY, V, WHOLE, desk_with, end_of,
+    text_of_end,
 };
 use std::test::Fail;
 
@@ -13,7 +14,7 @@ const WITH_AN_EDGE: File = (
 );
 
 /// Runs, and how each ends.
-const RUNS: [(Run, End); 12] = [
+const RUNS: [(Run, End); 13] = [
     (PATH, WHOLE),
     // a root that is no vertex: there is no result
     (
@@ -44,11 +45,7 @@ const RUNS: [(Run, End); 12] = [
     // components of nothing: the result is there and empty
     (
         (
-            &[
-                ("v", ""),
-                ("e", ""),
-                ("s1", "begin\nwcc o\ncommit\n"),
-            ],
+            &[("v", ""), ("e", ""), ("s1", "begin\nwcc o\ncommit\n")],
             "s1",
         ),
         (
@@ -90,14 +87,35 @@ const RUNS: [(Run, End); 12] = [
             ],
         ),
     ),
-    // least weights on the path: no walk leads to the vertex apart
+    // least weights, one of which the transaction has set: no walk leads to the vertex apart
     (
-        (&[V, E, ("s1", "begin\nsssp 1 o\ncommit\n")], "s1"),
+        (
+            &[V, E, ("s1", "begin\nset 1 2 5\nsssp 1 o\ncommit\n")],
+            "s1",
+        ),
+        (
+            0,
+            "commits 2 vertices 4 edges 2 undo 0 retired 0\n",
+            6,
+            &[
+                (
+                    "j",
+                    "commit 1 start 0 by 0.1\nvertex 1\nvertex 2\nvertex 3\nvertex 4\nedge 1 2 1\nedge 2 3 1\n\
+                     commit 2 start 1 by 1.1\nset 1 2 5\n",
+                ),
+                ("s1.report", "begin 1.1 start 1\nok\ntable 4\ncommit 2\n"),
+                ("o", "1 0\n2 5\n3 6\n4 infinity\n"),
+            ],
+        ),
+    ),
+    // no round of labels
+    (
+        (&[V, E, ("s1", "begin\ncdlp 0 o\ncommit\n")], "s1"),
         (
             0,
             SUMMARY,
             6,
-            &[JOURNAL, REPORT, ("o", "1 0\n2 1\n3 2\n4 infinity\n")],
+            &[JOURNAL, REPORT, ("o", "1 1\n2 2\n3 3\n4 4\n")],
         ),
     ),
     // an edge between the least id and the greatest
