@@ -1,7 +1,8 @@
 //! Runs of one script to the end, each with all that it writes.
 
 use crate::setting::{
-    E, End, File, JOURNAL, PATH, REPORT, Run, SEARCH, SUMMARY, V, WHOLE, desk_with, end_of, text_of_end,
+    E, End, File, JOURNAL, PATH, REPORT, Run, SEARCH, SUMMARY, V, WHOLE, desk_with, end_of,
+    text_of_end,
 };
 use std::test::Fail;
 
@@ -44,11 +45,7 @@ const RUNS: [(Run, End); 12] = [
     // components of nothing: the result is there and empty
     (
         (
-            &[
-                ("v", ""),
-                ("e", ""),
-                ("s1", "begin\nwcc o\ncommit\n"),
-            ],
+            &[("v", ""), ("e", ""), ("s1", "begin\nwcc o\ncommit\n")],
             "s1",
         ),
         (
