@@ -76,7 +76,14 @@ pub fn take_line<R: Threads + Sync, E: StepEngine>(
         }
         Command::Wcc { file } => return run_kernel(rt, alloc, engine, Kernel::Wcc, file, scan),
         Command::Cdlp { rounds, file } => {
-            return run_kernel(rt, alloc, engine, Kernel::Cdlp { rounds: *rounds }, file, scan);
+            return run_kernel(
+                rt,
+                alloc,
+                engine,
+                Kernel::Cdlp { rounds: *rounds },
+                file,
+                scan,
+            );
         }
         Command::Sssp { root, file } => {
             return run_kernel(rt, alloc, engine, Kernel::Sssp { root: *root }, file, scan);

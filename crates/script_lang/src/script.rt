@@ -86,6 +86,10 @@ mod tests {
                 "begin\nbfs 0000000000000000000000012 #\ncommit",
                 "begin/bfs 12 #/commit/",
             ),
+            (
+                "begin\nwcc p\ncdlp 1000000 q\nsssp 3 r\ncommit",
+                "begin/wcc p/cdlp 1000000 q/sssp 3 r/commit/",
+            ),
             ("foo", "line 1: not a command"),
             (" # begin\n", "line 1: not a command"),
             ("begin\nfastbfs a\ncommit\n", "line 2: not a command"),
@@ -114,6 +118,7 @@ mod tests {
                 "begin\nbfs 9223372036854775807 \x7f\n",
                 "line 2: id too large",
             ),
+            ("begin\ncdlp 1000001 a\n", "line 2: rounds too large"),
             ("begin\nbfs 1 \x7f\n", "line 2: bad name"),
             ("begin\nbfs 1 j\n", "line 2: name twice"),
             ("begin\nbfs 1 o\n", "line 2: name twice"),
@@ -162,7 +167,18 @@ mod tests {
                 let name = String::from_utf8_lossy(alloc, file.as_slice())?;
                 format!(in alloc; "bfs {root} {name}")?
             }
-            _ => format!(in alloc; "another command")?,
+            Command::Wcc { file } => {
+                let name = String::from_utf8_lossy(alloc, file.as_slice())?;
+                format!(in alloc; "wcc {name}")?
+            }
+            Command::Cdlp { rounds, file } => {
+                let name = String::from_utf8_lossy(alloc, file.as_slice())?;
+                format!(in alloc; "cdlp {rounds} {name}")?
+            }
+            Command::Sssp { root, file } => {
+                let name = String::from_utf8_lossy(alloc, file.as_slice())?;
+                format!(in alloc; "sssp {root} {name}")?
+            }
         };
         Ok(said)
     }

@@ -10,4 +10,4 @@ returns-in-Cdlp-clause-table g c = λ graph are.
     let table = c.in_ok-run-in-Cdlp.field-0 in
     let image = c.in_ok-image.ensures graph are in
     subst (λ k. (kernel_answer graph (kernel_of k) ≡ answers.Table (length table)) × IsKernelTable c.args.kind graph (kernel_of k) table) (sym c.in-Cdlp.is)
-        (labels_of_kind c.args.kind graph c.in-Cdlp.rounds table are.symmetric (c.in_ok-run-in-Cdlp.ensures.directed graph image) (c.in_ok-run-in-Cdlp.ensures.undirected graph image))
+    (labels_of_kind c.args.kind graph c.in-Cdlp.rounds table are.symmetric (c.in_ok-run-in-Cdlp.ensures.directed graph image) (c.in_ok-run-in-Cdlp.ensures.undirected graph image))
