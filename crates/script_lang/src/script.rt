@@ -123,7 +123,6 @@ mod tests {
             ("begin\nbfs 1 j\n", "line 2: name twice"),
             ("begin\nbfs 1 o\n", "line 2: name twice"),
             ("begin\nwcc a\nwcc a\ncommit\n", "line 3: name twice"),
-            ("begin\ncdlp 1000001 a\n", "line 2: rounds too large"),
             ("begin\nbfs 1 a\ncommit\n", "begin/bfs 1 a/commit/"),
             ("\nbegin\ncount\n# end\n", "line 2: not ended"),
             ("begin\ncount 1\n", "line 2: extra field"),
