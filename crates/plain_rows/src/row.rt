@@ -8,19 +8,17 @@ ghost use Rattle.graph_model.specs.Transactions.{has_name};
 
 use crate::reader::{Reader, combined};
 use graph_model::{Cause, NoMemory, TxnName};
-use smallvec::SmallVec;
 use std::alloc::Global;
 use std::marker::Model;
 use store_model::Version;
 
-/// The versions of a key, over none at all: nothing is ever pruned. Most rows have one version and at most one
-/// touch, and those take no memory of their own.
+/// The versions of a key, over none at all: nothing is ever pruned.
 #[derive(Drop)]
 pub struct Row {
     /// Oldest first.
-    pairs: SmallVec<Version, 1>,
+    pairs: Vec<Version>,
     /// The newest name stands last.
-    touches: SmallVec<TxnName, 1>,
+    touches: Vec<TxnName>,
 }
 
 impl Model for Row {
@@ -42,8 +40,8 @@ impl Row {
         ensures { result ≡ no_versions }
     {
         Row {
-            pairs: SmallVec::new(alloc),
-            touches: SmallVec::new(alloc),
+            pairs: Vec::new(alloc),
+            touches: Vec::new(alloc),
         }
     }
 
@@ -55,11 +53,14 @@ impl Row {
         !self.pairs.is_empty() || !self.touches.is_empty()
     }
 
-    /// Puts a pair in front.
+    /// Puts a pair in front. Most rows have one, so the first takes room for itself alone.
     pub fn put(&mut self, by: TxnName, value: Option<u64>) -> Result<(), NoMemory>
         ensures ok { OnOk result (self.new ≡ write by value self.old) }
         ensures err { OnErr result (self.new ≡ self.old) }
     {
+        if self.pairs.is_empty() {
+            self.pairs.reserve_exact(1)?;
+        }
         self.pairs.push(Version { by, value })?;
         Ok(())
     }
@@ -92,6 +93,9 @@ impl Row {
         ensures ok { OnOk result (self.new ≡ touch by self.old) }
         ensures err { OnErr result (self.new ≡ self.old) }
     {
+        if self.touches.is_empty() {
+            self.touches.reserve_exact(1)?;
+        }
         self.touches.push(by)?;
         Ok(())
     }
@@ -101,9 +105,8 @@ impl Row {
         ensures { self.new ≡ untouch by self.old }
     {
         self.touches.retain(
-            |name: &mut TxnName| -> bool
-                ensures answer { result ≡ not (same_name by name.old) }
-                ensures unchanged { name.new ≡ name.old }
+            |name: &TxnName| -> bool
+                ensures { result ≡ not (same_name by name.now) }
             { by != *name },
         );
     }
@@ -112,7 +115,7 @@ impl Row {
     pub fn newest_value(&self) -> Option<u64>
         ensures { result ≡ newest_value self.now }
     {
-        self.pairs.as_slice().last().and_then(|version| version.value)
+        self.pairs.last().and_then(|version| version.value)
     }
 
     /// The reader's value.
@@ -134,7 +137,7 @@ impl Row {
     pub fn cause(&self, reader: &Reader) -> Option<Cause>
         ensures { result ≡ cause_for reader.now (newest self.now) }
     {
-        match self.pairs.as_slice().last() {
+        match self.pairs.last() {
             Some(version) => reader.cause(version.by),
             None => None,
         }
