@@ -1,0 +1,19 @@
+use Rattle.std.proofs.Common.{◌+◌, ◌/◌, ◌<◌, ◌∙◌, sym, arith}
+use Rattle.gap_segment.proofs.FencedLemmas.{halved_start, halved_up, halved_down, halved_end}
+use Rattle.gap_segment.proofs.segment.place_in.Goals as goal
+
+pub halves-init : goal.halves-init
+halves-init c = halved_start _ _
+
+pub halves-preserved-then-is_below : goal.halves-preserved-then-is_below
+halves-preserved-then-is_below c =
+    let inside : c.halves.place + c.halves.count / 2 < c.halves.place + c.halves.count = omega arith in
+    halved_up _ _ c.halves.place c.halves.count (c.halves.place + c.halves.count / 2) _ c.requires c.halves.invariant inside (sym c.is_below.ensures ∙ c.if-is_below.true) _ _ (omega arith) (omega arith)
+
+pub halves-preserved : goal.halves-preserved
+halves-preserved c =
+    let inside : c.halves.place + c.halves.count / 2 < c.halves.place + c.halves.count = omega arith in
+    halved_down _ _ c.halves.place c.halves.count (c.halves.place + c.halves.count / 2) _ c.requires c.halves.invariant inside (sym c.is_below.ensures ∙ c.if-is_below.false) (c.halves.count / 2) (omega arith) (omega arith)
+
+pub returns : goal.returns
+returns c = halved_end _ _ _ _ c.halves.invariant (omega arith)

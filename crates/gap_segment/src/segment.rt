@@ -1,0 +1,257 @@
+//! Rows in one block of memory, sorted by key.
+//!
+//! 1. Keys strictly rise, from the low fence key on and below the high one.
+//! 2. There is room for 32 rows at any time.
+
+ghost use Rattle.std.specs.Prelude.{◌≡◌, ◌==◌, ◌+◌, ◌-◌, ◌<◌, ◌≤◌, true, false, [], ◌++◌, length, take, drop, insert, remove, slice_get, IfOk, Some};
+ghost use Rattle.std.specs.Vec.{vec_capacity};
+ghost use Rattle.graph_model.specs.Rows.{is_below, is_between};
+ghost use Rattle.graph_model.specs.declared.limits.TheConstants.{SEGMENT_ROWS};
+ghost use Rattle.gap_segment.specs.Fenced.{AreFenced, AreSorted, AreWithin, IsPlaceOf, IsGapFor, IsFound, rows_between, with_weight, first_key_or, front_of, back_of, joined, nothing_at};
+
+use graph_model::{Key, NoMemory, Row, SEGMENT_ROWS};
+use std::alloc::Global;
+use std::marker::Model;
+
+/// At most 32 rows between a low fence key, which a row may have, and a high one, which none has.
+#[derive(Drop)]
+pub struct Segment {
+    low: Key,
+    high: Key,
+    rows: Vec<Row>,
+}
+
+impl Model for Segment {
+    ghost use Rattle.std.specs.Prelude.{◌≤◌, length};
+    ghost use Rattle.std.specs.Vec.{vec_capacity};
+    ghost use Rattle.gap_segment.specs.Fenced.{FencedRows, AreFenced};
+
+    ghost Value = { FencedRows };
+
+    ghost view = { λ s. record { low = s.low; high = s.high; rows = s.rows.items } };
+
+    ghost invariant = { λ s. AreFenced (record { low = s.low; high = s.high; rows = s.rows.items })
+        × (length s.rows.items ≤ 32) × (32 ≤ vec_capacity s.rows) };
+}
+
+impl Segment {
+    /// No rows between these fence keys. Takes the memory of all rows that it will ever have.
+    pub fn new(alloc: Global, low: Key, high: Key) -> Result<Segment, NoMemory>
+        requires { is_below high low ≡ false }
+        ensures { IfOk result (λ s. s ≡ record { low = low; high = high; rows = [] }) }
+    {
+        let rows = Vec::with_capacity(alloc, SEGMENT_ROWS)?;
+        Ok(Segment { low, high, rows })
+    }
+
+    /// The low fence key. A row may have it.
+    pub fn low(&self) -> Key
+        ensures { result ≡ self.now.low }
+    {
+        self.low
+    }
+
+    /// The high fence key. Each row is below it.
+    pub fn high(&self) -> Key
+        ensures { result ≡ self.now.high }
+    {
+        self.high
+    }
+
+    pub fn len(&self) -> usize
+        ensures len { result ≡ length self.now.rows }
+        ensures small { result ≤ SEGMENT_ROWS }
+    {
+        self.rows.len()
+    }
+
+    pub fn is_empty(&self) -> bool
+        ensures { result ≡ (length self.now.rows == 0) }
+    {
+        self.rows.is_empty()
+    }
+
+    /// Lends all rows. What holds of each segment is a clause of this call.
+    pub fn rows(&self) -> &[Row]
+        ensures rows { result.now ≡ self.now.rows }
+        ensures fenced { AreFenced self.now }
+    {
+        self.rows.as_slice()
+    }
+
+    /// The place of the key's row, or the one where it would stand.
+    pub fn find(&self, key: Key) -> Result<usize, usize>
+        ensures { IsFound self.now.rows key result }
+    {
+        find_in(self.rows.as_slice(), key)
+    }
+
+    /// Puts a row at the place where it has to stand.
+    pub fn insert_at(&mut self, place: usize, row: Row)
+        requires room { length self.old.rows < SEGMENT_ROWS }
+        requires within { is_between self.old.low self.old.high row.key ≡ true }
+        requires gap { IsGapFor self.old.rows row.key place }
+        ensures { self.new ≡ record self.old { rows = insert self.old.rows place row } }
+    {
+        match self.rows.insert(place, row) {
+            Ok(()) => {}
+            Err(_) => unreachable!(),
+        }
+    }
+
+    /// Takes the row at the place away.
+    pub fn remove_at(&mut self, place: usize) -> Row
+        requires { place < length self.old.rows }
+        ensures row { slice_get self.old.rows place ≡ Some result }
+        ensures removed { self.new ≡ record self.old { rows = remove self.old.rows place } }
+    {
+        self.rows.remove(place)
+    }
+
+    /// Gives the row at the place another weight.
+    pub fn set_at(&mut self, place: usize, weight: u64)
+        requires { place < length self.old.rows }
+        ensures { self.new ≡ record self.old { rows = with_weight self.old.rows place weight } }
+    {
+        self.rows[place].weight = weight;
+    }
+
+    /// Lends the rows of a key range. None is copied.
+    pub fn run(&self, from: Key, until: Key) -> &[Row]
+        ensures { result.now ≡ rows_between from until self.now.rows }
+    {
+        run_in(self.rows.as_slice(), from, until)
+    }
+
+    /// Moves the rows from the place on into an empty segment. The fence key between both is that of
+    /// the first moved row, or the high one where none is moved.
+    pub fn split_off(&mut self, place: usize, right: &mut Segment)
+        requires place { place ≤ length self.old.rows }
+        requires empty { right.old.rows ≡ [] }
+        ensures stayed { self.new ≡ front_of self.old place }
+        ensures moved { right.new ≡ back_of self.old place }
+    {
+        let (_, moved) = self.rows.as_slice().split_at(place);
+        let cut = first_key(moved, self.high);
+        copy_rows(&mut right.rows, moved);
+        right.low = cut;
+        right.high = self.high;
+        self.rows.truncate(place);
+        self.high = cut;
+    }
+
+    /// Moves all rows of the next segment to the end of this one, which gets its range too. The other is
+    /// left empty at its high fence key.
+    pub fn append(&mut self, right: &mut Segment)
+        requires neighbours { self.old.high ≡ right.old.low }
+        requires room { length self.old.rows + length right.old.rows ≤ SEGMENT_ROWS }
+        ensures gained { self.new ≡ joined self.old right.old }
+        ensures emptied { right.new ≡ nothing_at right.old.high }
+    {
+        self.high = right.high;
+        copy_rows(&mut self.rows, right.rows.as_slice());
+        right.rows.clear();
+        right.low = right.high;
+    }
+
+    /// Sets both fence keys.
+    pub fn set_fences(&mut self, low: Key, high: Key)
+        requires fences { is_below high low ≡ false }
+        requires within { AreWithin low high self.old.rows }
+        ensures { self.new ≡ record self.old { low = low; high = high } }
+    {
+        self.low = low;
+        self.high = high;
+    }
+}
+
+/// Puts the rows at the end, within the vector's room.
+fn copy_rows(rows: &mut Vec<Row>, more: &[Row])
+    requires { length rows.old.items + length more.now ≤ vec_capacity rows.old }
+    ensures rows { rows.new.items ≡ rows.old.items ++ more.now }
+    ensures capacity { vec_capacity rows.old ≤ vec_capacity rows.new }
+{
+    match rows.extend_from_slice(more) {
+        Ok(()) => {}
+        Err(_) => unreachable!(),
+    }
+}
+
+/// The key of the first row, or the other key where there is none.
+fn first_key(rows: &[Row], other: Key) -> Key
+    ensures { result ≡ first_key_or rows.now other }
+{
+    match rows {
+        [first, ..] => first.key,
+        [] => other,
+    }
+}
+
+/// Looks the key up by halves.
+fn find_in(rows: &[Row], key: Key) -> Result<usize, usize>
+    requires { AreSorted rows.now }
+    ensures { IsFound rows.now key result }
+{
+    let place = place_in(rows, key);
+    match rows.get(place) {
+        Some(row) if row.key == key => Ok(place),
+        _ => Err(place),
+    }
+}
+
+/// How many rows are below the key, found by halves.
+fn place_in(rows: &[Row], key: Key) -> usize
+    requires { AreSorted rows.now }
+    ensures { IsPlaceOf rows.now key result }
+{
+    let mut place = 0;
+    let mut count = rows.len();
+    'halves: while count > 0 {
+        let half = count / 2;
+        if rows[place + half].key.is_below(key) {
+            place += half + 1;
+            count -= half + 1;
+        } else {
+            count = half;
+        }
+    }
+    place
+}
+
+/// The rows of a key range, as a part of the slice.
+fn run_in(rows: &[Row], from: Key, until: Key) -> &[Row]
+    requires { AreSorted rows.now }
+    ensures { result.now ≡ rows_between from until rows.now }
+{
+    let (_, behind) = rows.split_at(cut_in(rows, from));
+    let (run, _) = behind.split_at(cut_in(behind, until));
+    run
+}
+
+/// How many rows are below the key, which is mostly below all of them or above.
+fn cut_in(rows: &[Row], key: Key) -> usize
+    requires { AreSorted rows.now }
+    ensures { IsPlaceOf rows.now key result }
+{
+    match rows {
+        [first, ..] if !first.key.is_below(key) => 0,
+        [.., last] if last.key.is_below(key) => rows.len(),
+        _ => place_in(rows, key),
+    }
+}
+
+#[cfg(test)]
+mod tests {
+    use super::*;
+    use std::test::Fail;
+
+    #[test]
+    fn a_segment_is_made_with_ample_memory(rt: HostRuntime) -> Result<(), Fail> {
+        let low = Key { src: 1, second: 0 };
+        let high = Key { src: 9, second: 0 };
+        let segment = Segment::new(rt.alloc(), low, high)?;
+        assert_eq!(rt; segment.len(), 0, "a new segment");
+        assert_eq!(rt; segment.high(), high, "its high fence key");
+        Ok(())
+    }
+}

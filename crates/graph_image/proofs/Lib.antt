@@ -1,0 +1,9 @@
+pub mod Lists
+pub mod PlaceLemmas
+pub mod GroupLemmas
+pub mod BuildLemmas
+pub mod EntryLemmas
+pub mod ImageLemmas
+pub mod PathLemmas
+pub mod LiteralGraphs
+pub mod GivenLemmas

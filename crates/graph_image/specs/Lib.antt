@@ -1,0 +1,6 @@
+pub mod Images
+pub mod Edges
+pub mod Building
+pub mod Fields
+pub mod Paths
+pub mod Entries

@@ -1,0 +1,209 @@
+//! Rows in, an image out.
+//!
+//! 1. The keys of the rows rise, so the sources do, and each new source is the last.
+//! 2. A row keeps the place of its source among the sources.
+
+ghost use Rattle.std.specs.Prelude.{◌≡◌, ◌+◌, ◌<◌, ◌≤◌, [], ◌∷◌, ◌++◌, length, map, IfOk, OnOk, OnErr};
+ghost use Rattle.graph_model.specs.Graph.{Graph};
+ghost use Rattle.graph_model.specs.Rows.{AreRowsOf};
+ghost use Rattle.graph_image.specs.Images.{IdsRise, IsImageOf};
+ghost use Rattle.graph_image.specs.Edges.{AreEdges};
+ghost use Rattle.graph_image.specs.Building.{AreStorable, AreEnded, shown, IsBuilt, Appends, HavePlaces, AreEdgesOf};
+
+use crate::adjacency::Adjacency;
+use crate::edge::{Edge, Side};
+use crate::image::{Image, image_of};
+use crate::place::place_of;
+use graph_model::{NoMemory, Row};
+use items::RoomyItems;
+use std::alloc::Global;
+use std::marker::Model;
+
+/// A row, with the place of its source in place of the source.
+#[derive(Clone, Copy, Debug, PartialEq, Eq)]
+pub struct PlacedRow {
+    pub second: u64,
+    pub source: u32,
+    pub weight: u32,
+}
+
+/// The rows that were pushed so far.
+#[derive(Drop)]
+pub struct Builder {
+    alloc: Global,
+    /// The sources of the rows, each once.
+    sources: RoomyItems<u64>,
+    rows: RoomyItems<PlacedRow>,
+}
+
+impl Model for Builder {
+    ghost use Rattle.std.specs.Prelude.{List, map};
+    ghost use Rattle.graph_model.specs.declared.row.Row.{Row};
+    ghost use Rattle.graph_image.specs.Building.{shown, IsBuilt};
+
+    ghost Value = { List Row };
+
+    ghost view = { λ b. map (shown b.sources.items) b.rows.items };
+
+    ghost invariant = { λ b. IsBuilt b.sources.items b.rows.items };
+}
+
+impl Builder {
+    /// No rows. Takes no memory.
+    pub fn new(alloc: Global) -> Builder
+        ensures { result ≡ [] }
+    {
+        Builder {
+            alloc,
+            sources: RoomyItems::new(alloc),
+            rows: RoomyItems::new(alloc),
+        }
+    }
+
+    /// Appends rows.
+    pub fn push(&mut self, rows: &[Row]) -> Result<(), NoMemory>
+        requires { AreStorable (self.old ++ rows.now) }
+        ensures ok { OnOk result (self.new ≡ self.old ++ rows.now) }
+        ensures err { OnErr result (self.new ≡ self.old) }
+    {
+        self.sources.reserve(rows.len())?;
+        self.rows.reserve(rows.len())?;
+        'rows: for i in 0..rows.len() {
+            append(&mut self.sources, &mut self.rows, rows[i]);
+        }
+        Ok(())
+    }
+
+    /// The image of the graph whose rows these are.
+    pub fn finish(self) -> Result<Image, NoMemory>
+        requires { AreEnded self }
+        ensures { IfOk result (λ image. (g : Graph) → AreRowsOf self g → IsImageOf image g) }
+    {
+        let alloc = self.alloc;
+        let vertices = self.sources.into_items().into_vec();
+        let edges = edges_of(alloc, vertices.as_slice(), self.rows.as_slice())?;
+        let count = vertices.len();
+        let out = Adjacency::of(alloc, Side::Out, count, edges.as_slice())?;
+        let into = Adjacency::of(alloc, Side::Into, count, edges.as_slice())?;
+        Ok(image_of(vertices, out, into))
+    }
+}
+
+/// Appends a row, with its source if that is new. There has to be room for both.
+fn append(sources: &mut RoomyItems<u64>, rows: &mut RoomyItems<PlacedRow>, row: Row)
+    requires built { IsBuilt sources.old.items rows.old.items }
+    requires storable { AreStorable (map (shown sources.old.items) rows.old.items ++ row ∷ []) }
+    requires room { (0 < sources.old.spare) × (0 < rows.old.spare) }
+    ensures appended { Appends sources.old.items rows.old.items row sources.new.items rows.new.items }
+    ensures room { (sources.old.spare ≤ sources.new.spare + 1) × (rows.old.spare ≤ rows.new.spare + 1) }
+{
+    let count = sources.len();
+    if count == 0 || sources.as_slice()[count - 1] != row.key.src {
+        sources.push_within(row.key.src);
+    }
+    rows.push_within(PlacedRow {
+        second: row.key.second,
+        source: (sources.len() - 1) as u32,
+        weight: row.weight as u32,
+    });
+}
+
+/// The edges of the rows, in their order.
+fn edges_of(alloc: Global, sources: &[u64], rows: &[PlacedRow]) -> Result<Vec<Edge>, NoMemory>
+    requires built { IsBuilt sources.now rows.now }
+    requires targets { HavePlaces sources.now rows.now }
+    ensures edges { IfOk result (λ edges. AreEdgesOf sources.now rows.now (length rows.now) edges.items) }
+    ensures within { IfOk result (λ edges. AreEdges (length sources.now) edges.items) }
+{
+    let mut edges = Vec::new(alloc);
+    'rows: for i in 0..rows.len() {
+        let row = rows[i];
+        if row.second != 0 {
+            if let Some(to) = place_of(sources, row.second - 1) {
+                edges.push(Edge {
+                    from: row.source,
+                    to: to as u32,
+                    weight: row.weight,
+                })?;
+            }
+        }
+    }
+    Ok(edges)
+}
+
+#[cfg(test)]
+mod tests {
+    use super::*;
+    use graph_model::Key;
+    use std::process::Abort;
+    use std::test::Fail;
+
+    /// The row of these three numbers.
+    const fn row(src: u64, second: u64, weight: u64) -> Row
+        ensures { result ≡ record { key = record { src = src; second = second }; weight = weight } }
+    {
+        Row {
+            key: Key { src, second },
+            weight,
+        }
+    }
+
+    /// Asserts that the image of the rows, which are pushed in two pieces, has these arcs out of its places
+    /// and into them: the place, the other place, the weight.
+    fn check(
+        rt: &impl Abort,
+        alloc: Global,
+        rows: &[Row],
+        out: &[(usize, u32, u32)],
+        into: &[(usize, u32, u32)],
+    ) -> Result<Image, Fail>
+        requires storable { AreStorable rows.now }
+        requires ended { AreEnded rows.now }
+    {
+        let mut builder = Builder::new(alloc);
+        let (first, second) = rows.split_at(rows.len() / 2);
+        builder.push(first)?;
+        builder.push(second)?;
+        let image = builder.finish()?;
+        let lent = &image;
+        let mut found_out = Vec::new(alloc);
+        let mut found_into = Vec::new(alloc);
+        for place in 0..lent.len() {
+            for arc in lent.out(place) {
+                found_out.push((place, arc.other, arc.weight))?;
+            }
+            for arc in lent.into(place) {
+                found_into.push((place, arc.other, arc.weight))?;
+            }
+        }
+        assert_eq!(rt; found_out.as_slice(), out, "out");
+        assert_eq!(rt; found_into.as_slice(), into, "into");
+        Ok(image)
+    }
+
+    #[test]
+    fn places_have_the_arcs_out_of_them_and_into_them(rt: HostRuntime) -> Result<(), Fail> {
+        let alloc = rt.alloc();
+        let one_way = [row(1, 0, 0), row(1, 3, 4), row(2, 0, 0)];
+        let image = check(&rt, alloc, &one_way, &[(0, 1, 4)], &[(1, 0, 4)])?;
+        assert_eq!(&rt; image.position(3), None, "3 is no vertex");
+        assert_eq!(&rt; image.position(2), Some(1), "2 is the second");
+        let far_apart = [
+            row(5, 0, 0),
+            row(5, 8, 2),
+            row(5, 901, 3),
+            row(7, 0, 0),
+            row(900, 0, 0),
+            row(900, 6, 4294967295),
+            row(900, 8, 1),
+        ];
+        check(
+            &rt,
+            alloc,
+            &far_apart,
+            &[(0, 1, 2), (0, 2, 3), (2, 0, 4294967295), (2, 1, 1)],
+            &[(0, 2, 4294967295), (1, 0, 2), (1, 2, 1), (2, 0, 3)],
+        )?;
+        Ok(())
+    }
+}

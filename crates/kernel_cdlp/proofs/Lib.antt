@@ -1,0 +1,4 @@
+pub mod FrequencyLemmas
+pub mod PartLemmas
+pub mod RisingLemmas
+pub mod RoundLemmas

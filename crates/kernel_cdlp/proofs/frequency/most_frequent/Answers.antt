@@ -1,0 +1,9 @@
+use Rattle.std.proofs.lemmas.List.Sorted.{IsNonDecreasingBy-from_sort}
+use Rattle.kernel_cdlp.proofs.FrequencyLemmas.{reordered}
+use Rattle.kernel_cdlp.proofs.frequency.most_frequent.Goals as goal
+
+pub longest_run-requires : goal.longest_run-requires
+longest_run-requires c = λ i j le below. IsNonDecreasingBy-from_sort (λ x. x) c.sort_unstable.new.self c.sort_unstable.ensures.sorted i j 0 le below
+
+pub returns : goal.returns
+returns c = reordered c.args.default c.longest_run.result c.args.values.now c.sort_unstable.new.self c.sort_unstable.ensures.permutation c.sort_unstable.ensures.len c.longest_run.ensures

@@ -1,0 +1,3 @@
+pub mod Frequency
+pub mod Rounds
+pub mod Parts

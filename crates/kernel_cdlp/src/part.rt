@@ -1,0 +1,93 @@
+//! Parts of the places.
+
+ghost use Rattle.std.specs.Prelude.{◌≡◌, ◌+◌, ◌<◌, ◌≤◌, length, IfOk};
+ghost use Rattle.graph_image.specs.Images.{arcs_at};
+ghost use Rattle.kernel_cdlp.specs.Rounds.{AreBelow, IsNextLabel};
+ghost use Rattle.kernel_cdlp.specs.Parts.{IsPart, IsRelabelled, AreParts};
+
+use crate::frequency::{meet, most_frequent};
+use graph_image::{Image, NoMemory};
+use std::alloc::Global;
+
+/// A part has about so many arcs: enough to be worth a thread, and few enough to share out evenly.
+const PART_ARCS: usize = 65536;
+
+/// Places behind each other, with what a round needs for them.
+#[derive(Drop)]
+pub struct Part {
+    /// The first of the places.
+    pub first: usize,
+    /// The label of each after the round.
+    pub labels: Vec<u32>,
+    /// Room for the labels that one of them meets.
+    pub met: Vec<u32>,
+}
+
+impl Part {
+    /// Gives each place of the part its label after a round.
+    pub fn relabel(&mut self, image: &Image, labels: &[u32])
+        requires part { IsPart image.now self.old }
+        requires labels { AreBelow (length image.now.vertices) labels.now }
+        ensures { IsRelabelled image.now labels.now self.old self.new }
+    {
+        'places: for k in 0..self.labels.len() {
+            let label = next_label(image, labels, self.first + k, self.met.as_mut_slice());
+            self.labels[k] = label;
+        }
+    }
+}
+
+/// The parts of all places.
+pub fn parts_of(alloc: Global, image: &Image) -> Result<Vec<Part>, NoMemory>
+    ensures { IfOk result (λ parts. AreParts image.now (length image.now.vertices) parts.items) }
+{
+    let mut parts = Vec::new(alloc);
+    let mut first = 0;
+    'parts: while first < image.len() {
+        let part = part_from(alloc, image, first)?;
+        let next = first + part.labels.len();
+        parts.push(part)?;
+        first = next;
+    }
+    Ok(parts)
+}
+
+/// The part that begins with a place.
+fn part_from(alloc: Global, image: &Image, first: usize) -> Result<Part, NoMemory>
+    requires { first < length image.now.vertices }
+    ensures first { IfOk result (λ part. part.first ≡ first) }
+    ensures some { IfOk result (λ part. 0 < length part.labels.items) }
+    ensures part { IfOk result (IsPart image.now) }
+{
+    let places = image.len();
+    let mut count = 0usize;
+    let mut arcs = 0usize;
+    let mut room = 0usize;
+    'places: while first + count < places && arcs < PART_ARCS {
+        let here = image.out(first + count).len() + image.into(first + count).len();
+        arcs = arcs.saturating_add(here + 1);
+        room = room.max(here);
+        count += 1;
+    }
+    let labels = vec![in alloc; 0u32; count]?;
+    let met = vec![in alloc; 0u32; room]?;
+    Ok(Part { first, labels, met })
+}
+
+/// The label of a place after a round. Where its arcs in are those out, it reads these alone: each label
+/// would stand twice as often.
+fn next_label(image: &Image, labels: &[u32], place: usize, met: &mut [u32]) -> u32
+    requires place { place < length image.now.vertices }
+    requires labels { AreBelow (length image.now.vertices) labels.now }
+    requires room { length (arcs_at image.now.out place) + length (arcs_at image.now.into place) ≤ length met.old }
+    ensures { IsNextLabel image.now labels.now place result }
+{
+    let out = image.out(place);
+    let into = image.into(place);
+    meet(out, labels, met, 0);
+    if out == into {
+        return most_frequent(&mut met[..out.len()], labels[place]);
+    }
+    meet(into, labels, met, out.len());
+    most_frequent(&mut met[..out.len() + into.len()], labels[place])
+}

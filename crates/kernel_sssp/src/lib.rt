@@ -1,0 +1,12 @@
+//! Least weights of walks from a root, over the image of a graph (LDBC Graphalytics, SSSP).
+//!
+//! 1. A place with a weight has a path of this weight from the root.
+//! 2. The arcs out of each place that doesn't wait lead nowhere at a lesser weight than what is known.
+//! 3. Each place that waits stands in the queue, which has two parts: near places are followed first, so
+//!    that few places are followed twice. In which part a place stands changes no weight.
+#![tactic(auto)]
+
+mod kernel;
+mod search;
+
+pub use kernel::run;

@@ -1,0 +1,7 @@
+pub mod LinkLemmas
+pub mod ChainLemmas
+pub mod ListLemmas
+pub mod CountLemmas
+pub mod SiftLemmas
+pub mod StampLemmas
+pub mod VersionLemmas

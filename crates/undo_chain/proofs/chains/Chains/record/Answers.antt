@@ -1,0 +1,11 @@
+use Rattle.std.proofs.Common.{◌≡◌, sym, subst, Some}
+use Rattle.undo_chain.specs.Chains.{ChainMap, record_at}
+use Rattle.undo_chain.specs.Links.{AreLinked}
+use Rattle.undo_chain.proofs.LinkLemmas.{list_step}
+use Rattle.undo_chain.proofs.chains.Chains.record.Goals as goal
+
+pub returns-clause-list : goal.returns-clause-list
+returns-clause-list c =
+    let is = subst (λ (m : ChainMap). AreLinked m.slots) c.self.view_is c.self.invariant in
+    let at = subst (λ (m : ChainMap). record_at m.slots c.args.key ≡ Some c.in-Some.undo.now) c.self.view_is (sym c.in-Some.ensures) in
+    list_step c.args.self.now.slots is c.args.key c.in-Some.undo.now at

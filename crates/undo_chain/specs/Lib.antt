@@ -1,0 +1,6 @@
+pub mod Records
+pub mod Chains
+pub mod States
+pub mod Links
+pub mod Walks
+pub mod Laws

@@ -1,0 +1,16 @@
+//! One undo record.
+
+use graph_model::TxnName;
+
+/// What takes one write of a row back. Of a touch `older` is none, and isn't read.
+#[derive(Clone, Copy, Debug, PartialEq, Eq)]
+pub struct Undo {
+    /// Who wrote.
+    pub by: TxnName,
+    /// The writer's commit stamp, once it was written here.
+    pub stamp: Option<u64>,
+    /// The row's value before the write.
+    pub older: Option<u64>,
+    /// The next older record of the list.
+    pub next: Option<usize>,
+}
