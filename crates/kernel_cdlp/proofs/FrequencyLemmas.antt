@@ -1,17 +1,15 @@
 -- The value that stands most often: by the runs of a sorted list, in any order, and through a function.
-use Rattle.std.proofs.Common.{◌≡◌, ℕ, zero, suc, ◌+◌, ◌<◌, ◌≤◌, ⊎_elim, inl, inr, List, [], ◌∷◌, ◌++◌, Bool, true, cond, ◌==◌, map, length, take, get_or, slice_get, Some, set, refl, sym, ap, ◌∙◌, subst, arith}
+use Rattle.std.proofs.Common.{◌≡◌, ℕ, zero, suc, ◌+◌, ◌<◌, ◌≤◌, ⊎_elim, inl, inr, List, [], ◌∷◌, ◌++◌, Bool, true, cond, ◌==◌, map, length, take, get_or, slice_get, Some, refl, sym, ap, ◌∙◌, subst, arith}
 use Rattle.std.specs.Prelude.{IsPermutation, ◌&&◌, ◌⊎◌, nat_le, min}
 use Rattle.std.specs.List.{filter, list_all}
 use Rattle.std.proofs.lemmas.Bool.{cases_lt, cases_eq, cases_order, eq-eqb, ne_eqb, le-leb, leb-true, and_parts}
-use Rattle.std.proofs.lemmas.List.{take_all, take_more_set, map_more, append_assoc, append-nil, length-take}
-use Rattle.std.proofs.lemmas.Option.{same_Some, none-some, get_or_from_slice_get}
+use Rattle.std.proofs.lemmas.List.{take_all, length-take}
+use Rattle.std.proofs.lemmas.Option.{same_Some, none-some}
 use Rattle.std.proofs.lemmas.List.Sums.{sum_by-cons, sum_by-append, sum_by_more, count_by-le-length}
 use Rattle.std.proofs.lemmas.List.Sorted.{sum_by-IsPermutation}
 use Rattle.graph_model.specs.Labels.{times, is_most_frequent, least_of, least_or, most_frequent}
-use Rattle.graph_image.specs.declared.edge.Arc.{Arc}
 use Rattle.graph_image.proofs.Lists.{get_map, get_filter, filter_get}
 use Rattle.kernel_cdlp.specs.Frequency.{IsMostFrequentOr}
-use Rattle.kernel_cdlp.specs.Rounds.{labels_met}
 
 -- ---- how often a value stands
 
@@ -43,16 +41,6 @@ pub record IsCounted (default : ℕ) (xs : List ℕ) (i last run best most : ℕ
   pub chosen : 0 < i → (times (take i xs) best ≡ most) × ((y : ℕ) → times (take i xs) y ≡ most → best ≤ y) × (0 < most)
   pub none : i ≡ 0 → (best ≡ default) × (most ≡ 0)
 
-pub counted_none : (default : ℕ) (xs : List ℕ) → IsCounted default xs 0 0 0 default 0
-counted_none default xs = record {
-  stood = refl;
-  above = λ y less. refl;
-  low = λ j le below. omega arith;
-  highest = λ y. omega arith;
-  chosen = λ some. absurd (omega arith);
-  none = λ same. (refl, refl);
-}
-
 module _ (default : ℕ) (xs : List ℕ) (rising : (i j : ℕ) → i ≤ j → j < length xs → get_or xs i 0 ≤ get_or xs j 0)
     (i last run best most : ℕ) (counted : IsCounted default xs i last run best most) (x : ℕ) (x_is : x ≡ get_or xs i 0) (within : i < length xs) where
   more : (y : ℕ) → times (take (i + 1) xs) y ≡ times (take i xs) y + cond (x == y) 1 0
@@ -76,9 +64,6 @@ module _ (default : ℕ) (xs : List ℕ) (rising : (i j : ℕ) → i ≤ j → j
   again same = counted.stood ∙ ap (times (take i xs)) (sym same)
 
   module _ (before : ℕ) (before_is : before ≡ times (take i xs) x) where
-    pub run_fits : before + 1 ≤ length xs
-    run_fits = let few = times_few xs i x in omega arith
-
     run_is : before + 1 ≡ times (take (i + 1) xs) x
     run_is = ap (λ n. n + 1) before_is ∙ sym here
 
@@ -199,12 +184,6 @@ stands_at (x ∷ xs) y some = ⊎_elim
     (λ other. let n = times_there x xs y other in let rest = stands_at xs y (omega arith) in (suc rest.0, rest.1))
     (cases_eq x y)
 
--- and the other way
-pub at_stands : (xs : List ℕ) (i y : ℕ) → slice_get xs i ≡ Some y → 0 < times xs y
-at_stands [] i y at = absurd (none-some y at)
-at_stands (x ∷ xs) zero y at = let n = times_here x xs in let same = same_Some x y at in subst (λ z. 0 < times (x ∷ xs) z) same (omega arith)
-at_stands (x ∷ xs) (suc i) y at = let rest = at_stands xs i y at in let n = times_cons x xs y in omega arith
-
 -- under a function that keeps the values apart, each image stands as often as its value
 times_map : (f : ℕ → ℕ) (xs : List ℕ) (y : ℕ) → ((i x : ℕ) → slice_get xs i ≡ Some x → f x ≡ f y → x ≡ y) → times (map f xs) (f y) ≡ times xs y
 times_map f [] y apart = refl
@@ -290,21 +269,3 @@ is_most_frequent_of default x (z ∷ zs) is =
     let no_fewer : times xs x ≤ times xs y = leb-true (times xs x) (times xs y) (passes_at (λ w. nat_le (times xs w) (times xs y)) xs at.0 x kept.passes at.1) in
     let no_more = is.most y in
     is.least y (omega arith))
-
--- ---- labels that are met
-
-pub met_none : (labels met : List ℕ) (arcs : List Arc) (count : ℕ) → take (count + 0) met ≡ take count met ++ labels_met labels (take 0 arcs)
-met_none labels met arcs count = ap (λ n. take n met) (let same : count + 0 ≡ count = omega arith in same) ∙ sym (append-nil (take count met))
-
--- one more
-pub met_more : (labels old met : List ℕ) (arcs : List Arc) (count i x : ℕ) (a : Arc) → take (count + i) met ≡ take count old ++ labels_met labels (take i arcs)
-    → i < length arcs → count + i < length met → slice_get arcs i ≡ Some a → x ≡ get_or labels a.other 0
-    → take (count + (i + 1)) (set met (count + i) x) ≡ take count old ++ labels_met labels (take (i + 1) arcs)
-met_more labels old met arcs count i x a so_far within room at is =
-    let on : count + (i + 1) ≡ count + i + 1 = omega arith in
-    let arc : get_or arcs i a ≡ a = get_or_from_slice_get arcs i a a at in
-    ap (λ n. take n (set met (count + i) x)) on
-    ∙ take_more_set met (count + i) x room
-    ∙ ap (λ l. l ++ x ∷ []) so_far
-    ∙ append_assoc (take count old) (labels_met labels (take i arcs)) (x ∷ [])
-    ∙ ap (λ l. take count old ++ l) (ap (λ y. labels_met labels (take i arcs) ++ y ∷ []) (is ∙ ap (λ (b : Arc). get_or labels b.other 0) (sym arc)) ∙ sym (map_more (λ (b : Arc). get_or labels b.other 0) arcs i a within))

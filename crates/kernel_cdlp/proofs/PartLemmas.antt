@@ -1,21 +1,14 @@
 -- Parts lie behind each other, and a round leaves them where they are.
-use Rattle.std.proofs.Common.{◌≡◌, ℕ, zero, suc, ◌+◌, ◌-◌, ◌<◌, ◌≤◌, ⊎_elim, List, [], ◌∷◌, ◌++◌, length, take, set, slice_get, Some, refl, sym, ap, ◌∙◌, subst, arith}
+use Rattle.std.proofs.Common.{◌≡◌, ℕ, zero, suc, ◌+◌, ◌-◌, ◌<◌, ◌≤◌, ⊎_elim, List, [], ◌∷◌, ◌++◌, length, take, slice_get, Some, refl, sym, ap, ◌∙◌, subst, arith}
 use Rattle.std.specs.Prelude.{slice_index}
-use Rattle.std.proofs.lemmas.Bool.{cases_lt, cases_eq}
-use Rattle.std.proofs.lemmas.List.{length_push, length-append, length-set, get_or_append_left, get_or-append_right, get_or-set_same, get_or-set_other}
-use Rattle.std.proofs.lemmas.Option.{none-some, slice_get_within}
+use Rattle.std.proofs.lemmas.Bool.{cases_lt}
+use Rattle.std.proofs.lemmas.List.{length_push, length-append, get_or_append_left, get_or-append_right}
+use Rattle.std.proofs.lemmas.Option.{slice_get_within}
 use Rattle.graph_image.specs.Images.{Places, arcs_at}
 use Rattle.graph_image.proofs.Lists.{get_push_cases, get_within}
 use Rattle.kernel_cdlp.specs.declared.part.Part.{Part}
 use Rattle.kernel_cdlp.specs.Rounds.{IsNextLabel, IsRound}
 use Rattle.kernel_cdlp.specs.Parts.{places_in, IsPart, IsRelabelled, Meets, AreParts, AreRelabelled}
-
-pub parts_none : (image : Places) → AreParts image 0 []
-parts_none image = record {
-  each = λ i part at. absurd (none-some part at);
-  start = record { next = λ part at. absurd (none-some part at); end = λ same. refl };
-  step = λ i part at. absurd (none-some part at);
-}
 
 -- one more part behind the others
 pub parts_more : (image : Places) (n : ℕ) (parts : List Part) (part : Part) → AreParts image n parts → IsPart image part → part.first ≡ n → AreParts image (n + places_in part) (parts ++ part ∷ [])
@@ -78,9 +71,6 @@ pub record AreJoined (image : Places) (old : List ℕ) (parts : List Part) (i : 
   pub meets : Meets (length image.vertices) parts i (length labels)
   pub each : (p : ℕ) → p < length labels → IsNextLabel image old p (slice_index labels p)
 
-pub joined_none : (image : Places) (old : List ℕ) (parts : List Part) → AreParts image (length image.vertices) parts → AreJoined image old parts 0 []
-joined_none image old parts are = record { meets = are.start; each = λ p below. absurd (omega arith) }
-
 -- those of one more
 pub joined_more : (image : Places) (old : List ℕ) (parts : List Part) (i : ℕ) (labels : List ℕ) (part : Part) → AreParts image (length image.vertices) parts → AreRelabelled image old parts
     → AreJoined image old parts i labels → slice_get parts i ≡ Some part → AreJoined image old parts (i + 1) (labels ++ part.labels.items)
@@ -114,31 +104,6 @@ pub record IsRelabelling (image : Places) (labels : List ℕ) (old new : Part) (
   pub count : places_in new ≡ places_in old
   pub each : (j : ℕ) → j < k → IsNextLabel image labels (new.first + j) (slice_index new.labels.items j)
 
-pub relabelling_none : (image : Places) (labels : List ℕ) (part : Part) → IsPart image part → IsRelabelling image labels part part 0
-relabelling_none image labels part is = record { part = is; first = refl; count = refl; each = λ j below. absurd (omega arith) }
-
-pub relabelling_more : (image : Places) (labels : List ℕ) (old part new : Part) (k x : ℕ) → IsRelabelling image labels old part k → k < places_in part → IsNextLabel image labels (part.first + k) x
-    → new.first ≡ part.first → new.labels.items ≡ set part.labels.items k x → length new.met.items ≡ length part.met.items → IsRelabelling image labels old new (k + 1)
-relabelling_more image labels old part new k x before within next first items room =
-    let count : places_in new ≡ places_in part = ap length items ∙ length-set part.labels.items k x in
-    record {
-      part = record {
-        within = (let w = before.part.within in omega arith);
-        room = λ j below. (let r = before.part.room j (omega arith) in
-            let same = ap (λ f. length (arcs_at image.out (f + j)) + length (arcs_at image.into (f + j))) first in omega arith);
-      };
-      first = first ∙ before.first;
-      count = count ∙ before.count;
-      each = λ j below. subst (λ f. IsNextLabel image labels (f + j) (slice_index new.labels.items j)) (sym first) (subst (λ l. IsNextLabel image labels (part.first + j) (slice_index l j)) (sym items) (⊎_elim
-          (λ same. subst (λ i. IsNextLabel image labels (part.first + i) (slice_index (set part.labels.items k x) i)) (sym same)
-          (subst (IsNextLabel image labels (part.first + k)) (sym (get_or-set_same part.labels.items k x 0 within)) next))
-          (λ other. subst (IsNextLabel image labels (part.first + j)) (sym (get_or-set_other part.labels.items k j x 0 other)) (before.each j (omega arith)))
-          (cases_eq j k)));
-    }
-
-pub relabelling_all : (image : Places) (labels : List ℕ) (old new : Part) (k : ℕ) → IsRelabelling image labels old new k → places_in new ≤ k → IsRelabelled image labels old new
-relabelling_all image labels old new k before all = record { part = before.part; first = before.first; count = before.count; each = λ j below. before.each j (omega arith) }
-
 -- ---- how far a part goes
 
 -- the first so many places from there on meet at most so many labels each
@@ -146,14 +111,3 @@ pub record IsMeasured (image : Places) (first count arcs room : ℕ) : Type 0 wh
   pub within : first + count ≤ length image.vertices
   pub fits : (k : ℕ) → k < count → length (arcs_at image.out (first + k)) + length (arcs_at image.into (first + k)) ≤ room
   pub some : count ≡ 0 → arcs ≡ 0
-
-pub measured_more : (image : Places) (first count arcs room arcs_later room_later here : ℕ) → IsMeasured image first count arcs room → first + count < length image.vertices
-    → here ≡ length (arcs_at image.out (first + count)) + length (arcs_at image.into (first + count)) → room ≤ room_later → here ≤ room_later → IsMeasured image first (count + 1) arcs_later room_later
-measured_more image first count arcs room arcs_later room_later here before within here_is wider enough = record {
-  within = omega arith;
-  fits = λ k below. ⊎_elim
-      (λ same. let e = ap (λ j. length (arcs_at image.out (first + j)) + length (arcs_at image.into (first + j))) same in omega arith)
-      (λ other. let r = before.fits k (omega arith) in omega arith)
-      (cases_eq k count);
-  some = λ none. absurd (omega arith);
-}

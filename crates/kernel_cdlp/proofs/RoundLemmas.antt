@@ -93,9 +93,6 @@ labels_first g vertices p v at =
 
 module _ (image : Places) (g : Graph) (is : IsImageOf image g) (rounds : ℕ) (old new : List ℕ) (below : AreBelow (length image.vertices) old)
     (labels : AreLabels g image.vertices rounds old) (round : IsRound image old new) where
-  id_of : ℕ → ℕ
-  id_of p = slice_index image.vertices p
-
   -- the ids of the labels that are met are the labels of the vertices at the other ends
   ids_of_met : (arcs : List Arc) → AreWithin (length image.vertices) arcs
       → map (λ p. slice_index image.vertices p) (labels_met old arcs) ≡ map (label Directed g rounds) (ids_met image.vertices arcs)

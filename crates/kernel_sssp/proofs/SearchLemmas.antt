@@ -30,9 +30,6 @@ same_flag t f = let both : true ≡ false = sym t ∙ f in absurd cc
 -- ---- the start
 
 module _ (image : Places) (root : ℕ) (few : length image.vertices < 2 ^ 32) (below : root < length image.vertices) (s : Search) (start : IsStart (length image.vertices) root s) where
-  n : ℕ
-  n = length image.vertices
-
   long : length (replicate (length image.vertices) UNREACHED) ≡ length image.vertices
   long = length-replicate (length image.vertices) UNREACHED
 
@@ -229,9 +226,6 @@ module _ (image : Places) (old new : Search) (is : IsSearch image old) (p k : �
   sum_reached same = (let f = sum_fits in absurd (omega arith))
 
   module _ (less : slice_index old.distances.items p + a.weight < slice_index old.distances.items a.other) (lowered : IsLowered a.other (slice_index old.distances.items p + a.weight) old new) where
-    sum : ℕ
-    sum = slice_index old.distances.items p + a.weight
-
     q_in : a.other < length old.distances.items
     q_in = let c = is.count in omega arith
 
@@ -395,17 +389,10 @@ pub record IsFollowing (image : Places) (place i from : ℕ) (old s : Search) : 
   pub root_is : s.root ≡ old.root
   pub less : work s ≤ work old
 
-pub following_none : (image : Places) (place from : ℕ) (s : Search) → IsSearch image s → AreRelaxedBut image place 0 s → slice_index s.distances.items place ≡ from → IsFollowing image place 0 from s s
-following_none image place from s is relaxed here = record { search = is; relaxed = relaxed; here = here; root_is = refl; less = omega arith }
-
 module _ (image : Places) (place i from : ℕ) (old s : Search) (so_far : IsFollowing image place i from old s) (within : place < length image.vertices) (from_reached : from ≡ UNREACHED → ⊥)
     (a : Arc) (at : slice_get (arcs_at image.out place) i ≡ Some a) (a_within : a.other < length image.vertices) (light : a.weight ≤ MAX_WEIGHT) where
   place_reached : slice_index s.distances.items place ≡ UNREACHED → ⊥
   place_reached none = from_reached (sym so_far.here ∙ none)
-
-  -- the sum is a weight
-  pub following_fits : from + a.weight < UNREACHED
-  following_fits = subst (λ d. d + a.weight < UNREACHED) so_far.here (sum_fits image s s so_far.search place i a within place_reached at a_within light)
 
   -- after an arc that leads nowhere at a lesser weight
   pub following_kept : slice_index s.distances.items a.other ≤ from + a.weight → IsFollowing image place (i + 1) from old s
