@@ -1,0 +1,4 @@
+pub mod Draws
+pub mod Kept
+pub mod Texts
+pub mod Laws

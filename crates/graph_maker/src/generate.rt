@@ -1,0 +1,108 @@
+//! Graphs from their seeds.
+
+ghost use Rattle.std.specs.Prelude.{◌≡◌, ◌<◌, ℕ, length, IfOk};
+ghost use Rattle.graph_maker.specs.Draws.{draw, pairs_of};
+ghost use Rattle.graph_maker.specs.Texts.{vertex_text, edge_text};
+
+use crate::kept::Kept;
+use crate::pair::Pair;
+use crate::texts::{edge_lines, vertex_lines};
+use graphalytics_io::Text;
+use items::NoMemory;
+use rand_core::SeedableRng;
+use rand_core::utils::NextWord;
+use rand_xoshiro::SplitMix64;
+use std::alloc::Global;
+
+/// The files of a generated graph.
+#[derive(Drop)]
+pub struct MadeGraph {
+    /// The ids from 1, a line each.
+    pub vertices: Text,
+    /// An edge a line, its first end first.
+    pub edges: Text,
+    /// How many edges there are.
+    pub kept: usize,
+}
+
+/// Makes the files of a graph with so many vertices and at most so many edges: at most two pairs are drawn for each edge
+/// that is wanted, and those are kept whose ends differ and that didn't stand before in either order.
+pub fn make_graph(
+    alloc: Global,
+    seed: u64,
+    vertices: u32,
+    edges: u32,
+) -> Result<MadeGraph, NoMemory>
+    requires { 0 < vertices }
+    ensures vertices { IfOk result (λ made. made.vertices ≡ vertex_text vertices) }
+    ensures edges { IfOk result (λ made. made.edges ≡ edge_text seed vertices edges) }
+    ensures kept { IfOk result (λ made. made.kept ≡ length (pairs_of seed vertices edges)) }
+{
+    let pairs = draw_pairs(alloc, seed, vertices, edges)?;
+    Ok(MadeGraph {
+        vertices: vertex_lines(alloc, vertices)?,
+        edges: edge_lines(alloc, pairs.as_slice())?,
+        kept: pairs.len(),
+    })
+}
+
+/// Draws pairs until as many are kept as are wanted, or two for each of them were drawn.
+fn draw_pairs(alloc: Global, seed: u64, vertices: u32, edges: u32) -> Result<Kept, NoMemory>
+    requires { 0 < vertices }
+    ensures { IfOk result (λ pairs. pairs ≡ pairs_of seed vertices edges) }
+{
+    let mut generator = SplitMix64::from_seed(seed.to_le_bytes());
+    let mut kept = Kept::new(alloc);
+    let mut draws = 2 * u64::from(edges);
+    'draws: while draws > 0 && kept.len() < edges as usize {
+        draws -= 1;
+        kept.offer(draw(&mut generator, vertices))?;
+    }
+    Ok(kept)
+}
+
+/// Draws a pair of vertices.
+fn draw(generator: &mut SplitMix64, vertices: u32) -> Pair
+    requires { 0 < vertices }
+    ensures { (result, generator.new) ≡ draw vertices generator.old }
+{
+    let count = u64::from(vertices);
+    let first = generator.next_word();
+    let second = generator.next_word();
+    Pair {
+        first: 1 + first % count,
+        second: 1 + second % count,
+    }
+}
+
+#[cfg(test)]
+mod tests {
+    use super::*;
+    use std::test::Fail;
+
+    /// The first row is the paper's. The others were reckoned apart, in Python: loops, pairs that come again in the same
+    /// order and in the other, fewer edges than wanted, the greatest seed.
+    #[test]
+    fn graphs_are_those_of_the_words_of_their_seeds(rt: HostRuntime) -> Result<(), Fail> {
+        let cases = [
+            (0, 4, 0, "1\n2\n3\n4\n"),
+            (0, 10, 2, "1\n2\n3\n4\n5\n6\n7\n8\n9\n10\n6 1\n10 5\n"),
+            (0, 2, 3, "1\n2\n2 1\n"),
+            (1, 3, 3, "1\n2\n3\n3 2\n1 3\n1 2\n"),
+            (7, 3, 4, "1\n2\n3\n2 1\n"),
+            (
+                18446744073709551615,
+                4,
+                5,
+                "1\n2\n3\n4\n1 2\n2 3\n3 4\n2 4\n",
+            ),
+        ];
+        for (seed, vertices, edges, want) in cases {
+            let made = make_graph(rt.alloc(), seed, vertices, edges)?;
+            let mut texts = made.vertices;
+            texts.push_bytes(made.edges.as_slice())?;
+            assert_eq!(rt; texts.as_slice(), want.as_bytes());
+        }
+        Ok(())
+    }
+}

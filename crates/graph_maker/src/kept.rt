@@ -1,0 +1,72 @@
+//! The pairs that are kept, and whether one stood before.
+
+ghost use Rattle.std.specs.Prelude.{◌≡◌, [], length, OnOk, OnErr};
+ghost use Rattle.graph_maker.specs.Draws.{kept_behind};
+
+use crate::pair::Pair;
+use items::NoMemory;
+use std::alloc::Global;
+use std::collections::HashSet;
+use std::marker::Model;
+
+/// Pairs in the order in which they were drawn, with the set of their ends.
+#[derive(Drop)]
+pub struct Kept {
+    pairs: Vec<Pair>,
+    /// The lesser end first.
+    ends: HashSet<Pair>,
+}
+
+impl Model for Kept {
+    ghost use Rattle.std.specs.Prelude.{List};
+    ghost use Rattle.std.specs.HashSet.{contains};
+    ghost use Rattle.graph_maker.specs.declared.pair.Pair.{Pair};
+    ghost use Rattle.graph_maker.specs.Kept.{same_pair, HasEndsOf};
+
+    ghost Value = { List Pair };
+
+    ghost view = { λ k. k.pairs.items };
+
+    ghost invariant = { λ k. HasEndsOf (contains same_pair k.ends) k.pairs.items };
+}
+
+impl Kept {
+    /// None. Takes no memory.
+    pub fn new(alloc: Global) -> Kept
+        ensures { result ≡ [] }
+    {
+        Kept {
+            pairs: Vec::new(alloc),
+            ends: HashSet::new(alloc),
+        }
+    }
+
+    /// How many there are.
+    pub fn len(&self) -> usize
+        ensures { result ≡ length self.now }
+    {
+        self.pairs.len()
+    }
+
+    /// Lends the pairs in their order.
+    pub fn as_slice(&self) -> &[Pair]
+        ensures { result.now ≡ self.now }
+    {
+        self.pairs.as_slice()
+    }
+
+    /// Keeps a pair, unless it is passed over.
+    pub fn offer(&mut self, pair: Pair) -> Result<(), NoMemory>
+        ensures ok { OnOk result (self.new ≡ kept_behind self.old pair) }
+        ensures err { OnErr result (self.new ≡ self.old) }
+    {
+        if pair.is_loop() {
+            return Ok(());
+        }
+        self.pairs.reserve(1)?;
+        if self.ends.insert(pair.in_order())? {
+            self.pairs.push_reserved(pair);
+        }
+        Ok(())
+    }
+}

@@ -1,0 +1,35 @@
+//! Pairs of vertices.
+
+ghost use Rattle.std.specs.Prelude.{◌≡◌, ◌==◌, cond, nat_le};
+
+/// Two vertices in the order in which they were drawn: a line of the edge file.
+#[derive(Clone, Copy, Debug, PartialEq, Eq, Hash)]
+pub struct Pair {
+    pub first: u64,
+    pub second: u64,
+}
+
+impl Pair {
+    ghost use Rattle.graph_maker.specs.Kept.{in_order};
+
+    /// Whether it leads from a vertex to itself.
+    pub(crate) fn is_loop(self) -> bool
+        ensures { result ≡ (self.first == self.second) }
+    {
+        self.first == self.second
+    }
+
+    /// The same ends with the lesser one first.
+    pub(crate) fn in_order(self) -> Pair
+        ensures { result ≡ in_order self }
+    {
+        if self.first <= self.second {
+            self
+        } else {
+            Pair {
+                first: self.second,
+                second: self.first,
+            }
+        }
+    }
+}
