@@ -18,8 +18,8 @@ use graph_model::{NoMemory, Table};
 use graphalytics_io::{Text, write_table};
 use items::Items;
 use job_runner::NamedTable;
+use report_lang::{write_journal, write_report};
 use run_model::{Answer, Name};
-use script_lang::{write_journal, write_report};
 use std::alloc::Global;
 
 /// The journal, the reports and the kernel files, in the order in which they are written.
