@@ -11,9 +11,13 @@ pub record RunNames : Type 0 where
   pub schedule : Option (List ℕ)
   pub scripts : List (List ℕ)
 
+-- the sources behind the graph files: the scripts, and the schedule if there is one
+abbrev pub scripts_and_schedule : RunNames → List (List ℕ)
+scripts_and_schedule names = names.scripts ++ option_to_list names.schedule
+
 -- the sources, in the order in which they are read
 abbrev pub source_names : RunNames → List (List ℕ)
-source_names names = names.vertices ∷ names.edges ∷ (names.scripts ++ option_to_list names.schedule)
+source_names names = names.vertices ∷ names.edges ∷ scripts_and_schedule names
 
 -- the report of a script has the script's name with `.report` behind it
 abbrev pub report_name : List ℕ → List ℕ
@@ -21,6 +25,10 @@ report_name script = script ++ codes ".report"
 
 abbrev pub report_names : RunNames → List (List ℕ)
 report_names names = map report_name names.scripts
+
+-- the scripts, and then their reports
+abbrev pub scripts_and_reports : RunNames → List (List ℕ)
+scripts_and_reports names = names.scripts ++ report_names names
 
 -- a schedule is an option with its word, before the scripts
 abbrev pub schedule_and_scripts : Option (List ℕ) → List (List ℕ) → List (List ℕ)

@@ -1,8 +1,7 @@
 //! The names that the words of a run give.
 
-ghost use Rattle.std.specs.Prelude.{◌≡◌, ◌+◌, ◌<◌, [], ◌++◌, map, length, get_or, option_to_list, IfOk};
-ghost use Rattle.std.specs.String.{string_bytes};
-ghost use Rattle.command_line.specs.Words.{taken_names, source_names, report_name, report_names};
+ghost use Rattle.std.specs.Prelude.{◌≡◌, ◌+◌, ◌<◌, [], map, length, get_or, IfOk};
+ghost use Rattle.command_line.specs.Words.{taken_names, source_names, scripts_and_schedule, scripts_and_reports};
 ghost use Rattle.command_line.specs.Lines.{run_names, taken_name, name_at};
 
 use crate::names::TakenName;
@@ -49,7 +48,7 @@ impl<'a> CommandLine<'a> {
 
     /// The name at a place among the scripts and the schedule, or an empty one.
     fn script_or_schedule(&self, place: usize) -> &'a str
-        ensures { result.now ≡ get_or (map string_bytes self.now.scripts.now ++ option_to_list (run_names self.now).schedule) place [] }
+        ensures { result.now ≡ get_or (scripts_and_schedule (run_names self.now)) place [] }
     {
         let count = self.scripts.len();
         if place < count {
@@ -100,7 +99,7 @@ impl<'a> CommandLine<'a> {
     /// The name at a place among the scripts and their reports.
     fn script_or_report(&self, place: usize) -> TakenName<'a>
         requires { place < length self.now.scripts.now + length self.now.scripts.now }
-        ensures { taken_name result ≡ get_or (map string_bytes self.now.scripts.now ++ report_names (run_names self.now)) place [] }
+        ensures { taken_name result ≡ get_or (scripts_and_reports (run_names self.now)) place [] }
     {
         let count = self.scripts.len();
         if place < count {

@@ -67,7 +67,8 @@ fn split_words(words: &[String]) -> Option<CommandLine<'_>>
 
 /// The schedule, if the words begin with one, and the scripts behind it.
 fn split_schedule(words: &[String]) -> (Option<&str>, &[String])
-    ensures parts { map string_bytes words.now ≡ schedule_and_scripts (option_map (λ s. s.now) result.0) (map string_bytes result.1.now) }
+    ensures parts { map string_bytes words.now
+        ≡ schedule_and_scripts (option_map (λ s. s.now) result.0) (map string_bytes result.1.now) }
     ensures none { result.0 ≡ None → (schedule : List ℕ) (scripts : List (List ℕ))
         → map string_bytes words.now ≢ schedule_and_scripts (Some schedule) scripts }
 {

@@ -69,6 +69,10 @@ pub record IsNext (core : Core) (load ws : List Write) (w : Write) (before : Cor
   pub parts : load ≡ ws ++ w ∷ rest
   pub made : before ≡ loading core ws
 
+-- some load of a new engine is under way, and this write is its next
+abbrev pub IsNextOfALoad : Write → Core → Type 0
+IsNextOfALoad w before = (core : Core) × (load : List Write) × (ws : List Write) × IsNext core load ws w before
+
 -- the next write is made, or the load is refused and the journal is as empty as it was
 abbrev pub GoesOn : Core → List Write → List Write → Result (Unit {0}) LoadRefusal → Core → Type 0
 GoesOn core load ws (Ok u) after = after ≡ loading core ws

@@ -4,7 +4,7 @@ ghost use Rattle.std.specs.Prelude.{◌≡◌, [], ◌∷◌, ◌++◌, List, Is
 ghost use Rattle.graph_model.specs.declared.write.Write.{Write};
 ghost use Rattle.graph_model.specs.OwnerCalls.{Core};
 ghost use Rattle.graphalytics_io.specs.Load.{load_of};
-ghost use Rattle.graph_load.specs.Loading.{IsNew, IsLoad, IsLoadRefusal, IsNext, IsAdd, GoesOn, IsWantOfPlace, KeepsOn, loaded};
+ghost use Rattle.graph_load.specs.Loading.{IsNew, IsLoad, IsLoadRefusal, IsNext, IsNextOfALoad, IsAdd, GoesOn, IsWantOfPlace, KeepsOn, loaded};
 
 use crate::refusal::LoadRefusal;
 use graph_model::{BeginRefusal, Ids, Refusal, StepEngine, Write};
@@ -44,7 +44,7 @@ pub fn load_graph<E: StepEngine>(
 
 /// Makes the next write of the load, a vertex or an edge.
 fn write_next<E: StepEngine>(engine: &mut E, write: Write) -> Result<(), LoadRefusal>
-    requires next { (core : Core) × (load : List Write) × (ws : List Write) × IsNext core load ws write (E.core engine.old) }
+    requires next { IsNextOfALoad write (E.core engine.old) }
     requires adds { IsAdd write }
     ensures { (core : Core) (load ws : List Write) → IsNext core load ws write (E.core engine.old)
         → GoesOn core load (ws ++ write ∷ []) result (E.core engine.new) }

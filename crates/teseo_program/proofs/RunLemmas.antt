@@ -4,6 +4,7 @@ use Rattle.std.specs.Prelude.{Bool, cond, slice_get, Some, unwrap_or}
 use Rattle.std.specs.List.{AllByRecursion}
 use Rattle.std.proofs.lemmas.List.{append-nil}
 use Rattle.std.proofs.lemmas.List.Elements.{All-tail, All-head}
+use Rattle.std.proofs.lemmas.Option.{slice_get_within}
 use Rattle.graph_model.specs.declared.limits.TheConstants.{MAX_LEAVES}
 use Rattle.graph_model.specs.declared.write.Write.{Write}
 use Rattle.graph_model.specs.declared.write.Write.TheVariants.{AddVertex}
@@ -94,9 +95,6 @@ module _ (scripts : List (List Command)) (config : Config) (is : IsConfig script
 
 -- ---- behind the load
 
-state_of_pass : List PassState → ℕ → PassState
-state_of_pass passes k = unwrap_or (slice_get passes k) no_pass
-
 -- one of some passes that have begun nothing has begun nothing, nor has a pass that isn't there
 unused_at : (allowed n k : ℕ) → IsUnused (unwrap_or (slice_get (replicate n (new_pass allowed)) k) no_pass)
 unused_at allowed zero k = record { made = refl; closed = refl; own = refl; begun = refl }
@@ -115,11 +113,6 @@ count_new allowed (suc n) = ap suc (count_new allowed n)
 journals_agree : (load : List Write) → journal_of load ≡ load_journal load
 journals_agree [] = refl
 journals_agree (w ∷ ws) = refl
-
-inside : (scripts : List (List Command)) (k : ℕ) (cs : List Command) → slice_get scripts k ≡ Some cs → k < length scripts
-inside [] k cs e = cc
-inside (s ∷ scripts) zero cs e = omega arith
-inside (s ∷ scripts) (suc k) cs e = omega (arith, inside scripts k cs e)
 
 module _ (inputs : Inputs) (config : Config) (is : IsConfig inputs.scripts config) (undirected : inputs.kind ≡ Undirected) (given : AreInputs inputs) where
   first : PassState
@@ -155,7 +148,7 @@ module _ (inputs : Inputs) (config : Config) (is : IsConfig inputs.scripts confi
     loaded = append-nil inputs.load;
     closed = refl;
     unused = unused_at config.txns_per_pass (length inputs.scripts);
-    room = λ k cs at. subst (λ n. begun_by 0 cs ≤ n) (sym (allowed_at config.txns_per_pass (length inputs.scripts) k (inside inputs.scripts k cs at))) (is.begins k cs at);
+    room = λ k cs at. subst (λ n. begun_by 0 cs ≤ n) (sym (allowed_at config.txns_per_pass (length inputs.scripts) k (slice_get_within inputs.scripts k cs at))) (is.begins k cs at);
     jobs_are = refl;
     passes = omega (arith, new_jobs_count 1 inputs.scripts, count_new config.txns_per_pass (length inputs.scripts));
   }

@@ -31,6 +31,8 @@ pub record HasNoFault (old new : Files) : Type 0 where
 -- a run whose words and sources are accepted, and that meets no fault, is done, or finds no place for a row, or
 -- wants memory
 abbrev pub AcceptedRunsEndWell : Type 0
-AcceptedRunsEndWell = (outcome : Outcome) (words : List (List ℕ)) (names : RunNames) (sources : List (List ℕ)) (m : Meaning)
-    (old new : Files) → TakesWords words names → AreTold names old sources → IsAccepted names (texts_of names sources) m
-    → HasNoFault old new → IsOutcome outcome words old new → (outcome ≡ Done) ⊎ ((outcome ≡ Full) ⊎ (status_of outcome ≡ 3))
+AcceptedRunsEndWell =
+    (outcome : Outcome) (words : List (List ℕ)) (names : RunNames) (sources : List (List ℕ)) (m : Meaning)
+    (old new : Files) → TakesWords words names → AreTold names old sources
+    → IsAccepted names (texts_of names sources) m → HasNoFault old new → IsOutcome outcome words old new
+    → (outcome ≡ Done) ⊎ ((outcome ≡ Full) ⊎ (status_of outcome ≡ 3))

@@ -97,6 +97,11 @@ pub record OnlySays (text : List ℕ) (old new : Files) : Type 0 where
   pub rest : new ≡ record old { said = new.said }
   pub says : IfSome new.said (λ all. IfSome old.said (λ before. all ≡ before ++ text))
 
+-- how the run ended was said, with the name of the source or output that this blames, or with the summary
+abbrev pub SaysOutcome : RunNames → List NamedText → List ℕ → Outcome → Files → Files → Type 0
+SaysOutcome names outputs summary outcome old new =
+    OnlySays (said_text (blamed (source_names names) (names_of outputs) outcome) summary outcome) old new
+
 -- ---- the causes
 
 -- what a run gives, the texts of it, each with its name, and the summary
@@ -172,7 +177,7 @@ pub record IsRunOutcome (outcome : Outcome) (names : RunNames) (old new : Files)
   -- the files before the outcome was said
   pub before : Files
   pub cause : IsCause outcome names made old before
-  pub says : OnlySays (said_text (blamed (source_names names) (names_of made.outputs) outcome) made.summary outcome) before new
+  pub says : SaysOutcome names made.outputs made.summary outcome before new
 
 -- how a call ends: by its words first
 abbrev pub IsOutcome : Outcome → List (List ℕ) → Files → Files → Type 0

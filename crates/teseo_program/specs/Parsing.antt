@@ -16,7 +16,7 @@ use Rattle.teseo_program.specs.declared.input.Input.{Input}
 use Rattle.teseo_program.specs.declared.fault.SourceFault.TheVariants as faults
 use Rattle.teseo_program.specs.declared.fault.ParseStop.{ParseStop}
 use Rattle.teseo_program.specs.declared.fault.ParseStop.TheVariants as stops
-use Rattle.teseo_program.specs.Input.{Meaning, Texts, HasScheduleFault, IsFaultBehind, IsNotAccepted}
+use Rattle.teseo_program.specs.Input.{Meaning, Texts, texts_of, IsSchedule, IsAccepted, HasScheduleFault, IsFaultBehind, IsNotAccepted}
 
 -- the parsed sources
 abbrev pub meaning_of : Input → Meaning
@@ -26,6 +26,14 @@ meaning_of input =
 -- what was read, one text for each source
 abbrev pub AreTexts : RunNames → List (List ℕ) → Type 0
 AreTexts names sources = length sources ≡ length (source_names names)
+
+-- what was read is accepted, and is this input
+abbrev pub IsInputOf : RunNames → List (List ℕ) → Input → Type 0
+IsInputOf names sources input = IsAccepted names (texts_of names sources) (meaning_of input)
+
+-- these are the entries of the schedule that was read
+abbrev pub AreEntriesOf : RunNames → List (List ℕ) → List ℕ → Type 0
+AreEntriesOf names sources entries = IsSchedule (length names.scripts) (texts_of names sources).schedule entries
 
 -- each script can be run where these names and the files of those before it are taken
 abbrev pub AreRunnable : List (List ℕ) → List (List Command) → Type 0
@@ -54,6 +62,10 @@ IsScriptStop taken texts stops.NoMemory = Unit {0}
 abbrev pub IsScheduleStop : ℕ → Option (List ℕ) → ParseStop → Type 0
 IsScheduleStop jobs schedule (stops.NotAccepted place fault) = (place ≡ jobs + 2) × HasScheduleFault jobs schedule fault
 IsScheduleStop jobs schedule stops.NoMemory = Unit {0}
+
+-- the fault is that of the schedule that was read
+abbrev pub IsScheduleStopOf : RunNames → List (List ℕ) → ParseStop → Type 0
+IsScheduleStopOf names sources stop = IsScheduleStop (length names.scripts) (texts_of names sources).schedule stop
 
 abbrev pub IsParseStop : RunNames → Texts → ParseStop → Type 0
 IsParseStop names texts (stops.NotAccepted place fault) = IsNotAccepted names texts place fault

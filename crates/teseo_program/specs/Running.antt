@@ -7,17 +7,23 @@ use Rattle.graph_model.specs.declared.write.Kind.TheVariants.{Undirected}
 use Rattle.graph_model.specs.Inserted.{inserted}
 use Rattle.graph_model.specs.Graph.{vertices_of}
 use Rattle.graph_model.specs.History.{graph_at}
+use Rattle.graph_model.specs.OwnerCalls.{Core}
 use Rattle.graphalytics_io.specs.declared.edges.Edge.{Edge}
 use Rattle.graphalytics_io.specs.Load.{load_of}
 use Rattle.run_model.specs.declared.command.Command.{Command}
 use Rattle.run_model.specs.Requests.{begun_by}
 use Rattle.run_model.specs.Answering.{edges_in}
 use Rattle.run_model.specs.Inputs.{Outputs}
+use Rattle.run_model.specs.Stepped.{IsStepped}
 use Rattle.script_lang.specs.FieldFaults.{IsNameByte}
 use Rattle.txn_manager.specs.declared.config.Config.{Config}
+use Rattle.plain_core.specs.Plain.{new_core}
 use Rattle.job_runner.specs.Lines.{file_of}
 use Rattle.job_runner.specs.Progress.{Progress}
+use Rattle.teseo_program.specs.declared.input.Input.{Input}
 use Rattle.teseo_program.specs.declared.run.RunResult.{RunResult}
+use Rattle.teseo_program.specs.Input.{inputs_of}
+use Rattle.teseo_program.specs.Parsing.{meaning_of}
 
 -- the journal, the reports and the kernel files
 abbrev pub run_outputs : RunResult → Outputs
@@ -26,6 +32,10 @@ run_outputs r = record {
   reports = map (λ job. job.answers) r.jobs;
   files = map (λ job. map file_of job.tables) r.jobs;
 }
+
+-- what was left is a run of this input by the turns of its schedule
+abbrev pub IsSteppedRun : Input → RunResult → Type 0
+IsSteppedRun input r = IsStepped (inputs_of Undirected (meaning_of input)) MAX_LEAVES input.schedule (run_outputs r)
 
 -- the names of all kernel files are printable ASCII
 abbrev pub HavePrintableNames : List Progress → Type 0
@@ -44,7 +54,8 @@ Fits ids edges = inserted Undirected (load_of ids edges) < SPLIT_ROWS * MAX_LEAV
 
 -- no script begins more transactions
 abbrev pub MayBegin : List (List Command) → ℕ → Type 0
-MayBegin scripts most = (k : ℕ) (commands : List Command) → slice_get scripts k ≡ Some commands → begun_by 0 commands ≤ most
+MayBegin scripts most =
+    (k : ℕ) (commands : List Command) → slice_get scripts k ≡ Some commands → begun_by 0 commands ≤ most
 
 -- a pass for each script, and one for the load
 pub record IsConfig (scripts : List (List Command)) (config : Config) : Type 0 where
@@ -53,3 +64,8 @@ pub record IsConfig (scripts : List (List Command)) (config : Config) : Type 0 w
   pub passes : config.passes ≡ suc (length scripts)
   pub begins : MayBegin scripts config.txns_per_pass
   pub some : 0 < config.txns_per_pass
+
+-- the engine of some scripts before its first call
+abbrev pub IsNewEngine : Core → Type 0
+IsNewEngine core =
+    (scripts : List (List Command)) × (config : Config) × IsConfig scripts config × (core ≡ new_core config)

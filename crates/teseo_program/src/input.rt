@@ -10,8 +10,8 @@ ghost use Rattle.graphalytics_io.specs.VertexFile.{IsVertexFile};
 ghost use Rattle.graphalytics_io.specs.EdgeFile.{IsEdgeFile};
 ghost use Rattle.command_line.specs.Words.{taken_names};
 ghost use Rattle.command_line.specs.Lines.{run_names, taken_name};
-ghost use Rattle.teseo_program.specs.Input.{texts_of, AreScripts, IsSchedule, IsAccepted};
-ghost use Rattle.teseo_program.specs.Parsing.{AreTexts, meaning_of, AreRunnable, IsParseStop, IsVertexStop, IsEdgeStop, IsScriptStop, IsScheduleStop, stop_of_script};
+ghost use Rattle.teseo_program.specs.Input.{texts_of, AreScripts};
+ghost use Rattle.teseo_program.specs.Parsing.{AreTexts, IsInputOf, AreEntriesOf, AreRunnable, IsParseStop, IsVertexStop, IsEdgeStop, IsScriptStop, IsScheduleStopOf, stop_of_script};
 
 use crate::fault::{ParseStop, SourceFault};
 use command_line::{CommandLine, TakenName};
@@ -40,7 +40,7 @@ pub fn parse_sources(
 ) -> Result<Input, ParseStop>
     requires few { length line.now.scripts.now ≤ MAX_SCRIPTS }
     requires texts { AreTexts (run_names line.now) sources.now }
-    ensures accepted { IfOk result (λ input. IsAccepted (run_names line.now) (texts_of (run_names line.now) sources.now) (meaning_of input)) }
+    ensures accepted { IfOk result (IsInputOf (run_names line.now) sources.now) }
     ensures runnable { IfOk result (λ input. AreRunnable (taken_names (run_names line.now)) input.scripts) }
     ensures count { IfOk result (λ input. length input.scripts ≡ length (run_names line.now).scripts) }
     ensures listed { IfOk result (λ input. All (λ job. job ≤ length input.scripts) input.schedule) }
@@ -133,9 +133,9 @@ fn parse_schedule(
 ) -> Result<Schedule, ParseStop>
     requires few { length line.now.scripts.now ≤ MAX_SCRIPTS }
     requires texts { AreTexts (run_names line.now) texts.now }
-    ensures ok { IfOk result (IsSchedule (length (run_names line.now).scripts) (texts_of (run_names line.now) texts.now).schedule) }
+    ensures ok { IfOk result (AreEntriesOf (run_names line.now) texts.now) }
     ensures listed { IfOk result (All (λ job. job ≤ length (run_names line.now).scripts)) }
-    ensures refused { IfErr result (IsScheduleStop (length (run_names line.now).scripts) (texts_of (run_names line.now) texts.now).schedule) }
+    ensures refused { IfErr result (IsScheduleStopOf (run_names line.now) texts.now) }
 {
     let count = line.scripts.len();
     if line.schedule.is_none() {

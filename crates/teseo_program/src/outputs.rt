@@ -4,7 +4,7 @@ ghost use Rattle.std.specs.Prelude.{◌≡◌, ◌++◌, map, length, All, IfOk,
 ghost use Rattle.std.specs.List.{AllByRecursion, list_any};
 ghost use Rattle.std.specs.String.{string_bytes};
 ghost use Rattle.graph_model.specs.TableText.{table_text};
-ghost use Rattle.run_model.specs.Texts.{journal_text, report_text};
+ghost use Rattle.run_model.specs.Texts.{report_text};
 ghost use Rattle.script_lang.specs.FieldFaults.{IsNameByte};
 ghost use Rattle.job_runner.specs.Lines.{file_of};
 ghost use Rattle.command_line.specs.Words.{report_name};
@@ -18,8 +18,8 @@ use graph_model::{NoMemory, Table};
 use graphalytics_io::{Text, write_table};
 use items::Items;
 use job_runner::NamedTable;
+use report_lang::{write_journal, write_report};
 use run_model::{Answer, Name};
-use script_lang::{write_journal, write_report};
 use std::alloc::Global;
 
 /// The journal, the reports and the kernel files, in the order in which they are written.
@@ -60,7 +60,8 @@ fn output_of(alloc: Global, name: &str, text: Text) -> Result<Output, NoMemory>
 
 /// The report of a script under its name.
 fn report_output(alloc: Global, script: &str, answers: &[Answer]) -> Result<Output, NoMemory>
-    ensures { IfOk result (λ output. output ≡ record { name = report_name script.now; text = report_text answers.now }) }
+    ensures { IfOk result (λ output. output
+        ≡ record { name = report_name script.now; text = report_text answers.now }) }
 {
     let mut name = String::from_str(alloc, script)?;
     name.push_str(".report")?;

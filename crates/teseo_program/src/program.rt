@@ -7,7 +7,7 @@ ghost use Rattle.command_line.specs.Words.{TakesWords, source_names};
 ghost use Rattle.command_line.specs.Lines.{run_names, name_at};
 ghost use Rattle.teseo_program.specs.declared.outcome.Outcome.{Outcome};
 ghost use Rattle.teseo_program.specs.Prepared.{NamesAreApart, Writes};
-ghost use Rattle.teseo_program.specs.Outcomes.{status_of, said_text, blamed, OnlySays, IsOutcome, IsRunOutcome};
+ghost use Rattle.teseo_program.specs.Outcomes.{status_of, said_text, blamed, OnlySays, SaysOutcome, IsOutcome, IsRunOutcome};
 
 use crate::outcome::Outcome;
 use crate::prepare::{Prepared, prepare};
@@ -104,8 +104,7 @@ fn say<D: Desk>(
     summary: &[u8],
     outcome: Outcome,
 )
-    ensures { OnlySays (said_text (blamed (source_names (run_names line.now)) (names_of outputs.now) outcome) summary.now outcome)
-        (D.files desk.old) (D.files desk.new) }
+    ensures { SaysOutcome (run_names line.now) outputs.now summary.now outcome (D.files desk.old) (D.files desk.new) }
 {
     match outcome {
         Outcome::NotWritten(stop) => {

@@ -4,22 +4,20 @@
 //! 2. Script k uses pass k of the engine, and the load and the service use pass 0.
 //! 3. The engine may have as many leaves as there can be, so the load always finds its places.
 
-ghost use Rattle.std.specs.Prelude.{◌≡◌, ◌≤◌, ◌+◌, ◌<◌, ℕ, List, cond, length, All, IfOk, OnOk, false};
+ghost use Rattle.std.specs.Prelude.{◌≡◌, ◌≤◌, ◌+◌, ◌<◌, ℕ, cond, length, All, IfOk, OnOk, false};
 ghost use Rattle.graph_model.specs.declared.limits.TheConstants.{MAX_LEAVES, MAX_SCRIPTS, MAX_BEGINS};
 ghost use Rattle.graph_model.specs.declared.write.Kind.TheVariants.{Undirected};
 ghost use Rattle.graphalytics_io.specs.Load.{load_of, IsLoadable};
 ghost use Rattle.graph_load.specs.Loading.{IsLoad, loaded};
-ghost use Rattle.run_model.specs.declared.command.Command.{Command};
 ghost use Rattle.run_model.specs.Inputs.{AreInputs};
 ghost use Rattle.run_model.specs.Requests.{request, next_txn, begun_by};
 ghost use Rattle.run_model.specs.Run.{IsRun};
-ghost use Rattle.run_model.specs.Stepped.{IsStepped};
 ghost use Rattle.txn_manager.specs.Config.{too_large};
 ghost use Rattle.plain_core.specs.Plain.{new_core};
 ghost use Rattle.job_runner.specs.Runs.{new_jobs};
 ghost use Rattle.teseo_program.specs.Input.{inputs_of};
 ghost use Rattle.teseo_program.specs.Parsing.{meaning_of};
-ghost use Rattle.teseo_program.specs.Running.{run_outputs, HasCounts, Fits, MayBegin, IsConfig};
+ghost use Rattle.teseo_program.specs.Running.{run_outputs, HasCounts, IsSteppedRun, Fits, MayBegin, IsConfig, IsNewEngine};
 
 use crate::input::Input;
 use graph_load::{LoadRefusal, load_graph};
@@ -33,8 +31,8 @@ use std::alloc::Global;
 use std::thread::Threads;
 use txn_manager::{Config, StoreRefusal};
 
-/// What the run of the scripts leaves: the journal, the scripts with their answers and tables, and how many vertices and
-/// edges the newest graph has.
+/// What the run of the scripts leaves: the journal, the scripts with their answers and tables, and how many
+/// vertices and edges the newest graph has.
 #[derive(Drop)]
 pub struct RunResult {
     pub journal: Journal,
@@ -54,7 +52,7 @@ pub fn run_scripts<R: Threads + Sync>(
     requires fits { Fits input.ids input.edges }
     requires listed { All (λ job. job ≤ length input.scripts) input.schedule }
     ensures run { IfOk result (λ r. IsRun (inputs_of Undirected (meaning_of input)) MAX_LEAVES (run_outputs r)) }
-    ensures stepped { IfOk result (λ r. IsStepped (inputs_of Undirected (meaning_of input)) MAX_LEAVES input.schedule (run_outputs r)) }
+    ensures stepped { IfOk result (IsSteppedRun input) }
     ensures counts { IfOk result (HasCounts Undirected) }
 {
     stepped_runs_are_runs();
@@ -127,7 +125,7 @@ fn new_engine(alloc: Global, config: Config) -> Result<PlainCore, NoMemory>
 
 /// Loads the graph into a new engine with as many leaves as there may be.
 fn load(engine: &mut PlainCore, ids: &Ids, edges: &Edges) -> Result<(), NoMemory>
-    requires new { (scripts : List (List Command)) × (config : Config) × IsConfig scripts config × (engine.old ≡ new_core config) }
+    requires new { IsNewEngine engine.old }
     requires load { IsLoad engine.old (load_of ids.now edges.now) }
     requires fits { Fits ids.now edges.now }
     ensures { OnOk result (engine.new ≡ loaded engine.old (load_of ids.now edges.now)) }

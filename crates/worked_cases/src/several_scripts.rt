@@ -85,7 +85,8 @@ const RUNS: [(Run, End); 5] = [
                 ),
                 (
                     "s1.report",
-                    "begin 1.1 start 1\nvertices 4 edges 2\ncommit -\nbegin 1.2 start 2\nvertices 4 edges 3\ncommit -\n",
+                    "begin 1.1 start 1\nvertices 4 edges 2\ncommit -\n\
+                     begin 1.2 start 2\nvertices 4 edges 3\ncommit -\n",
                 ),
                 ("s2.report", "begin 2.1 start 1\nok\ncommit 2\n"),
             ],

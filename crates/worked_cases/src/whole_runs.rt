@@ -190,7 +190,8 @@ const RUNS: [(Run, End); 13] = [
                 E,
                 (
                     "s1",
-                    "begin\nedge 1 1\nedge 2 1\nset 1 3 5\nedge 1 9\nvertex 4\nunvertex 2\ndrop 1 3\nedge 3 4 7\ncommit\n",
+                    "begin\nedge 1 1\nedge 2 1\nset 1 3 5\nedge 1 9\nvertex 4\n\
+                     unvertex 2\ndrop 1 3\nedge 3 4 7\ncommit\n",
                 ),
             ],
             "s1",
@@ -207,7 +208,8 @@ const RUNS: [(Run, End); 13] = [
                 ),
                 (
                     "s1.report",
-                    "begin 1.1 start 1\nself loop\nexists\nno edge\nno vertex 9\nexists\nhas edges\nno edge\nok\ncommit 2\n",
+                    "begin 1.1 start 1\nself loop\nexists\nno edge\nno vertex 9\nexists\n\
+                     has edges\nno edge\nok\ncommit 2\n",
                 ),
             ],
         ),
@@ -237,7 +239,8 @@ const RUNS: [(Run, End); 13] = [
                 ),
                 (
                     "s1.report",
-                    "begin 1.1 start 1\nneighbours 2 1 3\nok\nok\nneighbours 0\nok\nno vertex 2\nvertices 3 edges 0\ncommit 2\n",
+                    "begin 1.1 start 1\nneighbours 2 1 3\nok\nok\nneighbours 0\n\
+                     ok\nno vertex 2\nvertices 3 edges 0\ncommit 2\n",
                 ),
             ],
         ),

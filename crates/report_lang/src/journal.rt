@@ -114,8 +114,14 @@ mod tests {
         let mut text = Text::new(rt.alloc());
         text.push_bytes(b"# ")?;
         write_journal(&journal, &mut text)?;
-        let want: &[u8] =
-            b"# commit 1 start 0 by 0.1\nvertex 9223372036854775806\nedge 9223372036854775806 0 4294967295\ncommit 3 start 2 by 7.12\nset 9223372036854775806 0 0\ndrop 0 9223372036854775806\nunvertex 0\n";
+        let want: &[u8] = b"\
+            # commit 1 start 0 by 0.1\n\
+            vertex 9223372036854775806\n\
+            edge 9223372036854775806 0 4294967295\n\
+            commit 3 start 2 by 7.12\n\
+            set 9223372036854775806 0 0\n\
+            drop 0 9223372036854775806\n\
+            unvertex 0\n";
         assert_eq!(rt; text.as_slice(), want);
         Ok(())
     }

@@ -160,8 +160,27 @@ mod tests {
         let mut text = Text::new(rt.alloc());
         text.push_bytes(b"# ")?;
         write_report(lines.as_slice(), &mut text)?;
-        let want: &[u8] =
-            b"# begin 12.1 start 40\nok\nexists\nself loop\nno vertex 9223372036854775806\nno edge\nhas edges\nconflict later 41\nconflict open 3.4294967295\nfull\nweight 0\nnone\nneighbours 2 7 20\nneighbours 0\nvertices 10 edges 100\ntable 10\ncommit 42\ncommit -\naborted\nskipped\n";
+        let want: &[u8] = b"\
+            # begin 12.1 start 40\n\
+            ok\n\
+            exists\n\
+            self loop\n\
+            no vertex 9223372036854775806\n\
+            no edge\n\
+            has edges\n\
+            conflict later 41\n\
+            conflict open 3.4294967295\n\
+            full\n\
+            weight 0\n\
+            none\n\
+            neighbours 2 7 20\n\
+            neighbours 0\n\
+            vertices 10 edges 100\n\
+            table 10\n\
+            commit 42\n\
+            commit -\n\
+            aborted\n\
+            skipped\n";
         assert_eq!(rt; text.as_slice(), want);
         Ok(())
     }
