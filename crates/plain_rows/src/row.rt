@@ -8,17 +8,19 @@ ghost use Rattle.graph_model.specs.Transactions.{has_name};
 
 use crate::reader::{Reader, combined};
 use graph_model::{Cause, NoMemory, TxnName};
+use smallvec::SmallVec;
 use std::alloc::Global;
 use std::marker::Model;
 use store_model::Version;
 
-/// The versions of a key, over none at all: nothing is ever pruned.
+/// The versions of a key, over none at all: nothing is ever pruned. Most rows have one version and one touch at most,
+/// and keep them in themselves.
 #[derive(Drop)]
 pub struct Row {
     /// Oldest first.
-    pairs: Vec<Version>,
+    pairs: SmallVec<Version, 1>,
     /// The newest name stands last.
-    touches: Vec<TxnName>,
+    touches: SmallVec<TxnName, 1>,
 }
 
 impl Model for Row {
@@ -40,8 +42,8 @@ impl Row {
         ensures { result ≡ no_versions }
     {
         Row {
-            pairs: Vec::new(alloc),
-            touches: Vec::new(alloc),
+            pairs: SmallVec::new(alloc),
+            touches: SmallVec::new(alloc),
         }
     }
 
@@ -53,14 +55,11 @@ impl Row {
         !self.pairs.is_empty() || !self.touches.is_empty()
     }
 
-    /// Puts a pair in front. Most rows have one, so the first takes room for itself alone.
+    /// Puts a pair in front.
     pub fn put(&mut self, by: TxnName, value: Option<u64>) -> Result<(), NoMemory>
         ensures ok { OnOk result (self.new ≡ write by value self.old) }
         ensures err { OnErr result (self.new ≡ self.old) }
     {
-        if self.pairs.is_empty() {
-            self.pairs.reserve_exact(1)?;
-        }
         self.pairs.push(Version { by, value })?;
         Ok(())
     }
@@ -93,9 +92,6 @@ impl Row {
         ensures ok { OnOk result (self.new ≡ touch by self.old) }
         ensures err { OnErr result (self.new ≡ self.old) }
     {
-        if self.touches.is_empty() {
-            self.touches.reserve_exact(1)?;
-        }
         self.touches.push(by)?;
         Ok(())
     }
@@ -105,8 +101,9 @@ impl Row {
         ensures { self.new ≡ untouch by self.old }
     {
         self.touches.retain(
-            |name: &TxnName| -> bool
-                ensures { result ≡ not (same_name by name.now) }
+            |name: &mut TxnName| -> bool
+                ensures kept { result ≡ not (same_name by name.old) }
+                ensures same { name.new ≡ name.old }
             { by != *name },
         );
     }
