@@ -6,9 +6,9 @@ ghost use Rattle.store_model.specs.Versions.{no_versions, write, undo, touch, un
 ghost use Rattle.graph_model.specs.Conflict.{same_name};
 ghost use Rattle.graph_model.specs.Transactions.{has_name};
 
+use crate::few::Few;
 use crate::reader::{Reader, combined};
 use graph_model::{Cause, NoMemory, TxnName};
-use smallvec::SmallVec;
 use std::alloc::Global;
 use std::marker::Model;
 use store_model::Version;
@@ -18,9 +18,9 @@ use store_model::Version;
 #[derive(Drop)]
 pub struct Row {
     /// Oldest first.
-    pairs: SmallVec<Version, 1>,
+    pairs: Few<Version>,
     /// The newest name stands last.
-    touches: SmallVec<TxnName, 1>,
+    touches: Few<TxnName>,
 }
 
 impl Model for Row {
@@ -29,7 +29,7 @@ impl Model for Row {
 
     ghost Value = { Versions };
 
-    ghost view = { λ r. record { pairs = reverse r.pairs.items; oldest = None; touches = r.touches.items } };
+    ghost view = { λ r. record { pairs = reverse r.pairs; oldest = None; touches = r.touches } };
 }
 
 impl Row {
@@ -42,8 +42,8 @@ impl Row {
         ensures { result ≡ no_versions }
     {
         Row {
-            pairs: SmallVec::new(alloc),
-            touches: SmallVec::new(alloc),
+            pairs: Few::new(alloc),
+            touches: Few::new(alloc),
         }
     }
 
@@ -52,7 +52,7 @@ impl Row {
         ensures held { result ≡ is_held self.now }
         ensures none { result ≡ false → self.now ≡ no_versions }
     {
-        !self.pairs.is_empty() || !self.touches.is_empty()
+        !self.pairs.as_slice().is_empty() || !self.touches.as_slice().is_empty()
     }
 
     /// Puts a pair in front.
@@ -76,10 +76,11 @@ impl Row {
     pub fn is_touched(&self, by: TxnName) -> bool
         ensures { result ≡ has_name self.now.touches by }
     {
-        let mut left = self.touches.len();
+        let touches = self.touches.as_slice();
+        let mut left = touches.len();
         'names: while left > 0 {
             left -= 1;
-            if by == self.touches[left] {
+            if by == touches[left] {
                 return true;
             }
         }
@@ -100,29 +101,28 @@ impl Row {
     pub fn take_touch(&mut self, by: TxnName)
         ensures { self.new ≡ untouch by self.old }
     {
-        self.touches.retain(
-            |name: &mut TxnName| -> bool
-                ensures kept { result ≡ not (same_name by name.old) }
-                ensures same { name.new ≡ name.old }
-            { by != *name },
-        );
+        self.touches.remove(by);
     }
 
     /// The newest value, whoever wrote it.
     pub fn newest_value(&self) -> Option<u64>
         ensures { result ≡ newest_value self.now }
     {
-        self.pairs.last().and_then(|version| version.value)
+        self.pairs
+            .as_slice()
+            .last()
+            .and_then(|version| version.value)
     }
 
     /// The reader's value.
     pub fn value(&self, reader: &Reader) -> Option<u64>
         ensures { result ≡ value_for reader.now self.now }
     {
-        let mut left = self.pairs.len();
+        let pairs = self.pairs.as_slice();
+        let mut left = pairs.len();
         'pairs: while left > 0 {
             left -= 1;
-            let version = self.pairs[left];
+            let version = pairs[left];
             if reader.sees(version.by) {
                 return version.value;
             }
@@ -134,7 +134,7 @@ impl Row {
     pub fn cause(&self, reader: &Reader) -> Option<Cause>
         ensures { result ≡ cause_for reader.now (newest self.now) }
     {
-        match self.pairs.last() {
+        match self.pairs.as_slice().last() {
             Some(version) => reader.cause(version.by),
             None => None,
         }
