@@ -3,3 +3,4 @@ pub mod Readers
 pub mod Laying
 pub mod Checks
 pub mod Seen
+pub mod Few

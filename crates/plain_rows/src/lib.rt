@@ -8,6 +8,7 @@
 
 mod check;
 mod count;
+mod few;
 mod lay;
 mod map;
 mod reader;

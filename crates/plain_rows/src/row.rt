@@ -6,19 +6,21 @@ ghost use Rattle.store_model.specs.Versions.{no_versions, write, undo, touch, un
 ghost use Rattle.graph_model.specs.Conflict.{same_name};
 ghost use Rattle.graph_model.specs.Transactions.{has_name};
 
+use crate::few::Few;
 use crate::reader::{Reader, combined};
 use graph_model::{Cause, NoMemory, TxnName};
 use std::alloc::Global;
 use std::marker::Model;
 use store_model::Version;
 
-/// The versions of a key, over none at all: nothing is ever pruned.
+/// The versions of a key, over none at all: nothing is ever pruned. Most rows have one version and one touch at most,
+/// and keep them in themselves.
 #[derive(Drop)]
 pub struct Row {
     /// Oldest first.
-    pairs: Vec<Version>,
+    pairs: Few<Version>,
     /// The newest name stands last.
-    touches: Vec<TxnName>,
+    touches: Few<TxnName>,
 }
 
 impl Model for Row {
@@ -27,7 +29,7 @@ impl Model for Row {
 
     ghost Value = { Versions };
 
-    ghost view = { λ r. record { pairs = reverse r.pairs.items; oldest = None; touches = r.touches.items } };
+    ghost view = { λ r. record { pairs = reverse r.pairs; oldest = None; touches = r.touches } };
 }
 
 impl Row {
@@ -40,8 +42,8 @@ impl Row {
         ensures { result ≡ no_versions }
     {
         Row {
-            pairs: Vec::new(alloc),
-            touches: Vec::new(alloc),
+            pairs: Few::new(alloc),
+            touches: Few::new(alloc),
         }
     }
 
@@ -50,17 +52,14 @@ impl Row {
         ensures held { result ≡ is_held self.now }
         ensures none { result ≡ false → self.now ≡ no_versions }
     {
-        !self.pairs.is_empty() || !self.touches.is_empty()
+        !self.pairs.as_slice().is_empty() || !self.touches.as_slice().is_empty()
     }
 
-    /// Puts a pair in front. Most rows have one, so the first takes room for itself alone.
+    /// Puts a pair in front.
     pub fn put(&mut self, by: TxnName, value: Option<u64>) -> Result<(), NoMemory>
         ensures ok { OnOk result (self.new ≡ write by value self.old) }
         ensures err { OnErr result (self.new ≡ self.old) }
     {
-        if self.pairs.is_empty() {
-            self.pairs.reserve_exact(1)?;
-        }
         self.pairs.push(Version { by, value })?;
         Ok(())
     }
@@ -77,10 +76,11 @@ impl Row {
     pub fn is_touched(&self, by: TxnName) -> bool
         ensures { result ≡ has_name self.now.touches by }
     {
-        let mut left = self.touches.len();
+        let touches = self.touches.as_slice();
+        let mut left = touches.len();
         'names: while left > 0 {
             left -= 1;
-            if by == self.touches[left] {
+            if by == touches[left] {
                 return true;
             }
         }
@@ -93,9 +93,6 @@ impl Row {
         ensures ok { OnOk result (self.new ≡ touch by self.old) }
         ensures err { OnErr result (self.new ≡ self.old) }
     {
-        if self.touches.is_empty() {
-            self.touches.reserve_exact(1)?;
-        }
         self.touches.push(by)?;
         Ok(())
     }
@@ -104,28 +101,28 @@ impl Row {
     pub fn take_touch(&mut self, by: TxnName)
         ensures { self.new ≡ untouch by self.old }
     {
-        self.touches.retain(
-            |name: &TxnName| -> bool
-                ensures { result ≡ not (same_name by name.now) }
-            { by != *name },
-        );
+        self.touches.remove(by);
     }
 
     /// The newest value, whoever wrote it.
     pub fn newest_value(&self) -> Option<u64>
         ensures { result ≡ newest_value self.now }
     {
-        self.pairs.last().and_then(|version| version.value)
+        self.pairs
+            .as_slice()
+            .last()
+            .and_then(|version| version.value)
     }
 
     /// The reader's value.
     pub fn value(&self, reader: &Reader) -> Option<u64>
         ensures { result ≡ value_for reader.now self.now }
     {
-        let mut left = self.pairs.len();
+        let pairs = self.pairs.as_slice();
+        let mut left = pairs.len();
         'pairs: while left > 0 {
             left -= 1;
-            let version = self.pairs[left];
+            let version = pairs[left];
             if reader.sees(version.by) {
                 return version.value;
             }
@@ -137,7 +134,7 @@ impl Row {
     pub fn cause(&self, reader: &Reader) -> Option<Cause>
         ensures { result ≡ cause_for reader.now (newest self.now) }
     {
-        match self.pairs.last() {
+        match self.pairs.as_slice().last() {
             Some(version) => reader.cause(version.by),
             None => None,
         }

@@ -4,8 +4,8 @@ use Rattle.plain_rows.proofs.row.Row.is_touched.Given as goal
 
 abbrev pub invariant-names : goal.invariant-names
 invariant-names l =
-    (l.left ≤ length l.self-inside.touches.items)
-    × (has_name l.self-inside.touches.items l.by ≡ has_name (take l.left l.self-inside.touches.items) l.by)
+    (l.left ≤ length l.touches)
+    × (has_name l.touches l.by ≡ has_name (take l.left l.touches) l.by)
 
 abbrev pub decreases-names : goal.decreases-names
 decreases-names l = l.left

@@ -5,9 +5,9 @@ use Rattle.plain_rows.proofs.row.Row.value.Given as goal
 
 abbrev pub invariant-pairs : goal.invariant-pairs
 invariant-pairs l =
-    (l.left ≤ length l.self-inside.pairs.items)
-    × (first_seen (sees_for l.reader) (reverse l.self-inside.pairs.items) None
-    ≡ first_seen (sees_for l.reader) (reverse (take l.left l.self-inside.pairs.items)) None)
+    (l.left ≤ length l.pairs)
+    × (first_seen (sees_for l.reader) (reverse l.pairs) None
+    ≡ first_seen (sees_for l.reader) (reverse (take l.left l.pairs)) None)
 
 abbrev pub decreases-pairs : goal.decreases-pairs
 decreases-pairs l = l.left
