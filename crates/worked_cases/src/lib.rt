@@ -1,4 +1,5 @@
-//! Worked cases of the top call, from the words to the written files, on a desk in memory.
+//! Worked cases of the top call, from the words to the written files, on a desk in memory; and of the reading of
+//! scripts and schedules.
 //!
 //! The expected texts were worked out by hand, and never taken from a run.
 #![tactic(auto)]
@@ -11,6 +12,8 @@ mod faulty_words;
 mod inputs_that_are_refused;
 #[cfg(test)]
 mod outputs_that_are_there;
+#[cfg(test)]
+mod scripts_and_schedules;
 #[cfg(test)]
 mod setting;
 #[cfg(test)]
