@@ -8,7 +8,7 @@ use Rattle.std.proofs.lemmas.Option.{same_Some, none-some, slice_get_within, sli
 use Rattle.graph_model.specs.declared.row.Key.{Key}
 use Rattle.graph_model.specs.declared.row.Row.{Row}
 use Rattle.graph_model.specs.Rows.{is_below}
-use Rattle.graph_image.specs.declared.builder.PlacedRow.{PlacedRow}
+use Rattle.graph_image.specs.declared.placed_row.PlacedRow.{PlacedRow}
 use Rattle.graph_image.specs.declared.edge.Edge.{Edge}
 use Rattle.graph_image.specs.Images.{IdsRise}
 use Rattle.graph_image.specs.Edges.{AreEdges}

@@ -1,6 +1,6 @@
 -- The image of a graph is made of its rows; and what an image says of a graph.
 use Rattle.std.proofs.Common.{◌≡◌, ℕ, ◌+◌, ◌-◌, ◌<◌, ⊎_elim, List, [], ◌∷◌, Bool, true, false, cond, ◌==◌, map, length, get_or, slice_get, Option, Some, None, is_some, refl, sym, ap, ◌∙◌, subst, arith}
-use Rattle.std.specs.Prelude.{slice_index}
+use Rattle.std.specs.Prelude.{slice_index, unwrap_or, IfSome, IfNone}
 use Rattle.std.specs.List.{list_any}
 use Rattle.std.specs.Prelude.{◌||◌}
 use Rattle.std.specs.Ordering.{nat_cmp, eq_by_cmp}
@@ -16,17 +16,18 @@ use Rattle.graph_model.specs.Graph.{Graph, has_vertex, has_arc, weight_of, verti
 use Rattle.graph_model.specs.Rows.{AreRowsOf, value_at, vertex_key, arc_key}
 use Rattle.graph_model.proofs.RowLemmas.{has_source, row_is, row_at}
 use Rattle.graph_model.proofs.ItemLemmas.{sorted_items}
-use Rattle.graph_image.specs.declared.builder.PlacedRow.{PlacedRow}
+use Rattle.graph_image.specs.declared.placed_row.PlacedRow.{PlacedRow}
 use Rattle.graph_image.specs.declared.edge.Arc.{Arc}
 use Rattle.graph_image.specs.declared.edge.Edge.{Edge}
 use Rattle.graph_image.specs.declared.edge.Side.TheVariants.{Out, Into}
 use Rattle.graph_image.specs.Images.{Listed, arcs_at, Places, LeadsBy, Leads, AreArcs, IsImageOf}
-use Rattle.graph_image.specs.Edges.{group, IsGrouped}
-use Rattle.graph_image.specs.Building.{shown, IsBuilt, AreEdgesOf}
+use Rattle.graph_image.specs.Edges.{group, IsMirrored}
+use Rattle.graph_image.specs.Building.{shown, IsBuilt, AreEdgesOf, HaveArcsOf}
 use Rattle.graph_image.proofs.Lists.{get_map, map_get}
 use Rattle.graph_image.proofs.PlaceLemmas.{same_place}
 use Rattle.graph_image.proofs.GroupLemmas.{get_group, get_group_pair, group_get}
 use Rattle.graph_image.proofs.BuildLemmas.{source_at}
+use Rattle.graph_image.proofs.MirrorLemmas.{mirrored_into}
 
 -- a listed number is one of the list
 pub any_at : (xs : List ℕ) (v p : ℕ) → slice_get xs p ≡ Some v → list_any (λ x. x == v) xs ≡ true
@@ -157,29 +158,42 @@ module _ (sources : List ℕ) (rows : List PlacedRow) (built : IsBuilt sources r
           (there.0, there.1 ∙ (λ i. Some (record { other = edge.3 i; weight = edge.5 i })));
     }
 
-    -- the groups of the edges are the image
-    pub image_right : (out into : Listed) → IsGrouped Out (length sources) edges out → IsGrouped Into (length sources) edges into
-        → IsImageOf (record { vertices = sources; out = out; into = into }) g
-    image_right out into out_grouped into_grouped = record {
-      vertices = sources_are;
-      ids = built.ids;
-      ends = are.ends;
-      out = λ p below. subst (AreArcs (λ q weight. LeadsBy g sources p q weight)) (sym (out_grouped.each p below)) (out_are p);
-      into = λ p below. subst (AreArcs (λ q weight. LeadsBy g sources q p weight)) (sym (into_grouped.each p below)) (into_are p);
-    }
+  -- the arcs of the rows are those out of each place
+  pub outs_right : (out : Listed) → HaveArcsOf Out sources rows out → (p : ℕ) → p < length sources → AreArcs (λ q weight. LeadsBy g sources p q weight) (arcs_at out p)
+  outs_right out has p below = subst (AreArcs (λ q weight. LeadsBy g sources p q weight)) (sym (has.2.each p below)) (out_are has.0 has.1 p)
+
+  -- and those into it
+  pub intos_right : (into : Listed) → HaveArcsOf Into sources rows into → (p : ℕ) → p < length sources → AreArcs (λ q weight. LeadsBy g sources q p weight) (arcs_at into p)
+  intos_right into has p below = subst (AreArcs (λ q weight. LeadsBy g sources q p weight)) (sym (has.2.each p below)) (into_are has.0 has.1 p)
+
+  -- where there are none of their own into each place, those out of it serve
+  into_right : (out : Listed) (into : Option Listed) → HaveArcsOf Out sources rows out → IfSome into (HaveArcsOf Into sources rows) → IfNone into (IsMirrored (length sources) out)
+      → (p : ℕ) → p < length sources → AreArcs (λ q weight. LeadsBy g sources q p weight) (arcs_at (unwrap_or into out) p)
+  into_right out None has some none = mirrored_into g sources out none (outs_right out has)
+  into_right out (Some into) has some none = intos_right into some
+
+  -- the arcs of the rows are the image
+  pub image_right : (out : Listed) (into : Option Listed) → HaveArcsOf Out sources rows out → IfSome into (HaveArcsOf Into sources rows) → IfNone into (IsMirrored (length sources) out)
+      → IsImageOf (record { vertices = sources; out = out; into = unwrap_or into out }) g
+  image_right out into has some none = record {
+    vertices = sources_are;
+    ids = built.ids;
+    ends = are.ends;
+    out = outs_right out has;
+    into = into_right out into has some none;
+  }
 
 -- the same by what the code has at the end
 pub finished : (sources : List ℕ) (rows : List PlacedRow) → IsBuilt sources rows → (seen : List ℕ) (seen_rows : List PlacedRow) → seen ≡ sources → seen_rows ≡ rows
-    → (edges edges_out edges_into : List Edge) → AreEdgesOf seen seen_rows (length seen_rows) edges → edges_out ≡ edges → edges_into ≡ edges → (count : ℕ) → count ≡ length sources
-    → (out into : Listed) → IsGrouped Out count edges_out out → IsGrouped Into count edges_into into
-    → (vertices : List ℕ) → vertices ≡ sources → (image : Places) → image ≡ record { vertices = vertices; out = out; into = into }
+    → (out : Listed) (into : Option Listed) → HaveArcsOf Out seen seen_rows out → IfSome into (HaveArcsOf Into seen seen_rows) → IfNone into (IsMirrored (length seen) out)
+    → (vertices : List ℕ) → vertices ≡ sources → (image : Places) → image ≡ record { vertices = vertices; out = out; into = unwrap_or into out }
     → (given : List Row) → map (shown sources) rows ≡ given → (g : Graph) → AreRowsOf given g → IsImageOf image g
-finished sources rows built seen seen_rows seen_is rows_are edges edges_out edges_into listed out_edges into_edges count count_is out into out_grouped into_grouped vertices vertices_are image image_is given given_is g are =
-    let here : AreEdgesOf sources rows (length rows) edges = subst (λ rs. AreEdgesOf sources rs (length rs) edges) rows_are (subst (λ ss. AreEdgesOf ss seen_rows (length seen_rows) edges) seen_is listed) in
-    let out_here : IsGrouped Out (length sources) edges out = subst (λ n. IsGrouped Out n edges out) count_is (subst (λ es. IsGrouped Out count es out) out_edges out_grouped) in
-    let into_here : IsGrouped Into (length sources) edges into = subst (λ n. IsGrouped Into n edges into) count_is (subst (λ es. IsGrouped Into count es into) into_edges into_grouped) in
-    let right = image_right sources rows built g (subst (λ rs. AreRowsOf rs g) (sym given_is) are) edges here out into out_here into_here in
-    subst (λ x. IsImageOf x g) (sym image_is) (subst (λ vs. IsImageOf (record { vertices = vs; out = out; into = into }) g) (sym vertices_are) right)
+finished sources rows built seen seen_rows seen_is rows_are out into has some none vertices vertices_are image image_is given given_is g are =
+    let has_here : HaveArcsOf Out sources rows out = subst (λ rs. HaveArcsOf Out sources rs out) rows_are (subst (λ ss. HaveArcsOf Out ss seen_rows out) seen_is has) in
+    let some_here : IfSome into (HaveArcsOf Into sources rows) = subst (λ rs. IfSome into (HaveArcsOf Into sources rs)) rows_are (subst (λ ss. IfSome into (HaveArcsOf Into ss seen_rows)) seen_is some) in
+    let none_here : IfNone into (IsMirrored (length sources) out) = subst (λ ss. IfNone into (IsMirrored (length ss) out)) seen_is none in
+    let right = image_right sources rows built g (subst (λ rs. AreRowsOf rs g) (sym given_is) are) out into has_here some_here none_here in
+    subst (λ x. IsImageOf x g) (sym image_is) (subst (λ vs. IsImageOf (record { vertices = vs; out = out; into = unwrap_or into out }) g) (sym vertices_are) right)
 
 -- ---- what an image says of a graph
 

@@ -2,6 +2,8 @@ pub mod Lists
 pub mod PlaceLemmas
 pub mod GroupLemmas
 pub mod BuildLemmas
+pub mod LayLemmas
+pub mod MirrorLemmas
 pub mod EntryLemmas
 pub mod ImageLemmas
 pub mod PathLemmas

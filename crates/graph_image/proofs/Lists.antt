@@ -1,9 +1,8 @@
 -- Elements of lists, of their parts, and of what is left of them by a test.
 use Rattle.std.proofs.Common.{◌≡◌, ℕ, zero, suc, ◌+◌, ◌-◌, ◌<◌, ◌≤◌, ◌⊎◌, inl, inr, ⊎_elim, List, [], ◌∷◌, ◌++◌, Bool, true, false, cond, map, length, take, drop, get_or, slice_get, slice_set, Some, refl, sym, ap, ◌∙◌, subst, arith}
-use Rattle.std.specs.Prelude.{slice_range, count_by, nat_le, ◌==◌, ◌&&◌}
+use Rattle.std.specs.Prelude.{slice_range, count_by, nat_le, ◌==◌}
 use Rattle.std.specs.List.{filter}
-use Rattle.std.specs.Cmp.Lexicographic.{pointwise}
-use Rattle.std.proofs.lemmas.Bool.{cases_lt, and_parts}
+use Rattle.std.proofs.lemmas.Bool.{cases_lt, cases_order, eq-eqb, ne_eqb}
 use Rattle.std.proofs.lemmas.Bool.Decides.{nat_tests}
 use Rattle.std.proofs.lemmas.List.{length-drop, take_more_set}
 use Rattle.std.proofs.lemmas.List.Sums.{count_by_more_yes, sum_by-cons, sum_by-take-le}
@@ -32,6 +31,11 @@ get_push_cases [] y zero x is = inr (refl, same_Some y x is)
 get_push_cases [] y (suc k) x is = absurd (none-some x is)
 get_push_cases (z ∷ xs) y zero x is = inl is
 get_push_cases (z ∷ xs) y (suc k) x is = ⊎_elim (λ old. inl old) (λ new. inr (ap suc new.0, new.1)) (get_push_cases xs y k x is)
+
+-- in a list of one there is no other
+pub only_one : {X : Type 0} (y : X) (k : ℕ) (x : X) → slice_get (y ∷ []) k ≡ Some x → y ≡ x
+only_one y zero x is = same_Some y x is
+only_one y (suc k) x is = absurd (none-some x is)
 
 -- below the length there is an element
 pub get_within : {X : Type 0} (xs : List X) (k : ℕ) → k < length xs → (x : X) × (slice_get xs k ≡ Some x)
@@ -152,6 +156,51 @@ range_set_end xs a at y from within =
     let room : at - a < length (drop a xs) = (let count = length-drop a xs in omega arith) in
     ap (λ n. take n (drop a (slice_set xs at y))) width ∙ ap (take (at - a + 1)) (drop_set_behind a xs at y from) ∙ take_more_set (drop a xs) (at - a) y room
 
+-- ---- elements of a part
+
+drop_get : {X : Type 0} (a : ℕ) (xs : List X) (k : ℕ) → slice_get (drop a xs) k ≡ slice_get xs (a + k)
+drop_get zero xs k = ap (slice_get xs) (let e : k ≡ 0 + k = omega arith in e)
+drop_get (suc a) [] k = refl
+drop_get (suc a) (x ∷ xs) k = drop_get a xs k ∙ ap (slice_get (x ∷ xs)) (let e : suc (a + k) ≡ suc a + k = omega arith in e)
+
+take_get : {X : Type 0} (n : ℕ) (xs : List X) (k : ℕ) → k < n → slice_get (take n xs) k ≡ slice_get xs k
+take_get zero xs k less = absurd (omega arith)
+take_get (suc n) [] k less = refl
+take_get (suc n) (x ∷ xs) zero less = refl
+take_get (suc n) (x ∷ xs) (suc k) less = take_get n xs k (omega arith)
+
+take_within : {X : Type 0} (n : ℕ) (xs : List X) (k : ℕ) (x : X) → slice_get (take n xs) k ≡ Some x → k < n
+take_within zero xs k x at = absurd (none-some x at)
+take_within (suc n) [] k x at = absurd (none-some x at)
+take_within (suc n) (y ∷ xs) zero x at = omega arith
+take_within (suc n) (y ∷ xs) (suc k) x at = let rest = take_within n xs k x at in omega arith
+
+-- what stands in a part stands in the list
+pub range_get : {X : Type 0} (xs : List X) (a b k : ℕ) (x : X) → slice_get (slice_range xs a b) k ≡ Some x → (a + k < b) × (slice_get xs (a + k) ≡ Some x)
+range_get xs a b k x at =
+    let low = take_within (b - a) (drop a xs) k x at in
+    (omega arith, sym (take_get (b - a) (drop a xs) k low ∙ drop_get a xs k) ∙ at)
+
+-- and the other way
+pub get_range : {X : Type 0} (xs : List X) (a b j : ℕ) (x : X) → a ≤ j → j < b → slice_get xs j ≡ Some x → slice_get (slice_range xs a b) (j - a) ≡ Some x
+get_range xs a b j x low high at =
+    let back : a + (j - a) ≡ j = omega arith in
+    take_get (b - a) (drop a xs) (j - a) (omega arith) ∙ drop_get a xs (j - a) ∙ ap (slice_get xs) back ∙ at
+
+take_map : {X Y : Type 0} (f : X → Y) (n : ℕ) (xs : List X) → take n (map f xs) ≡ map f (take n xs)
+take_map f zero xs = refl
+take_map f (suc n) [] = refl
+take_map f (suc n) (x ∷ xs) = ap (λ ys. f x ∷ ys) (take_map f n xs)
+
+drop_map : {X Y : Type 0} (f : X → Y) (n : ℕ) (xs : List X) → drop n (map f xs) ≡ map f (drop n xs)
+drop_map f zero xs = refl
+drop_map f (suc n) [] = refl
+drop_map f (suc n) (x ∷ xs) = drop_map f n xs
+
+-- a part of an image is the image of the part
+pub range_map : {X Y : Type 0} (f : X → Y) (xs : List X) (a b : ℕ) → slice_range (map f xs) a b ≡ map f (slice_range xs a b)
+range_map f xs a b = ap (take (b - a)) (drop_map f a xs) ∙ take_map f (b - a) (drop a xs)
+
 -- ---- how many of a list pass a test
 
 step_none : (k a : ℕ) → a ≡ 0 → cond (nat_le (suc k) 0) 1 0 + a ≡ 0
@@ -172,6 +221,37 @@ count_take_less p i xs d within passes =
     let more = count_by_more_yes p xs i d within passes in
     let rest = count_take_le p (i + 1) xs in
     omega arith
+
+step_high : (k p a : ℕ) → p ≤ k → a ≡ 0 → cond (nat_le (suc k) p) 1 0 + a ≡ 0
+step_high k p a high is = grind (arith, nat_tests)
+
+step_low : (k p a b : ℕ) → k < p → a ≡ b → cond (nat_le (suc k) p) 1 0 + a ≡ suc b
+step_low k p a b low is = grind (arith, nat_tests)
+
+-- the part with one key, after one more in front
+range_step : {X : Type 0} (x : X) (xs kept : List X) (k p a b : ℕ) → slice_range xs a b ≡ kept → (p ≤ k → a ≡ 0) → (suc p ≤ k → b ≡ 0)
+    → slice_range (x ∷ xs) (cond (nat_le (suc k) p) 1 0 + a) (cond (nat_le (suc k) (suc p)) 1 0 + b) ≡ cond (k == p) (x ∷ kept) kept
+range_step x xs kept k p a b rest none none_next = ⊎_elim
+    (λ same.
+    let yes : (k == p) ≡ true = eq-eqb k p same in
+    let low : cond (nat_le (suc k) p) 1 0 + a ≡ 0 = step_high k p a (omega arith) (none (omega arith)) in
+    let high : cond (nat_le (suc k) (suc p)) 1 0 + b ≡ suc b = step_low k (suc p) b b (omega arith) refl in
+    let width : suc b - 0 ≡ suc (b - 0) = omega arith in
+    (λ i. slice_range (x ∷ xs) (low i) (high i)) ∙ ap (λ n. take n (x ∷ xs)) width ∙ ap (λ ys. x ∷ ys) (ap (λ n. slice_range xs n b) (sym (none (omega arith))) ∙ rest) ∙ sym (ap (λ t. cond t (x ∷ kept) kept) yes))
+    (⊎_elim
+    (λ less.
+    let no : (k == p) ≡ false = ne_eqb k p (λ same. absurd (omega arith)) in
+    let low : cond (nat_le (suc k) p) 1 0 + a ≡ suc a = step_low k p a a less refl in
+    let high : cond (nat_le (suc k) (suc p)) 1 0 + b ≡ suc b = step_low k (suc p) b b (omega arith) refl in
+    let width : suc b - suc a ≡ b - a = omega arith in
+    (λ i. slice_range (x ∷ xs) (low i) (high i)) ∙ ap (λ n. take n (drop a xs)) width ∙ rest ∙ sym (ap (λ t. cond t (x ∷ kept) kept) no))
+    (λ more.
+    let no : (k == p) ≡ false = ne_eqb k p (λ same. absurd (omega arith)) in
+    let low : cond (nat_le (suc k) p) 1 0 + a ≡ 0 = step_high k p a (omega arith) (none (omega arith)) in
+    let high : cond (nat_le (suc k) (suc p)) 1 0 + b ≡ 0 = step_high k (suc p) b (omega arith) (none_next (omega arith)) in
+    let nothing : kept ≡ [] = sym rest ∙ (λ i. slice_range xs (none (omega arith) i) (none_next (omega arith) i)) in
+    (λ i. slice_range (x ∷ xs) (low i) (high i)) ∙ sym nothing ∙ sym (ap (λ t. cond t (x ∷ kept) kept) no)))
+    (cases_order k p)
 
 module _ {X : Type 0} (key : X → ℕ) where
   -- none is below 0
@@ -199,23 +279,41 @@ module _ {X : Type 0} (key : X → ℕ) where
       let step = step_rise (key x) p q _ _ le rest in
       subst (λ n. n ≤ count_by (λ y. nat_le (suc (key y)) q) (x ∷ xs)) (sym a) (subst (λ n. cond (nat_le (suc (key x)) p) 1 0 + count_by (λ y. nat_le (suc (key y)) p) xs ≤ n) (sym b) step)
 
+  -- where all are at p or above, none is below it
+  pub below_at_least : (p : ℕ) (xs : List X) → ((i : ℕ) (x : X) → slice_get xs i ≡ Some x → p ≤ key x) → count_by (λ x. nat_le (suc (key x)) p) xs ≡ 0
+  below_at_least p [] high = refl
+  below_at_least p (x ∷ xs) high =
+      let here = high 0 x refl in
+      sum_by-cons (λ y. cond (nat_le (suc (key y)) p) 1 0) x xs ∙ step_high (key x) p _ here (below_at_least p xs (λ i y at. high (suc i) y at))
+
+  -- where all are below p, all are
+  pub below_whole : (p : ℕ) (xs : List X) → ((i : ℕ) (x : X) → slice_get xs i ≡ Some x → key x < p) → count_by (λ x. nat_le (suc (key x)) p) xs ≡ length xs
+  below_whole p [] low = refl
+  below_whole p (x ∷ xs) low =
+      let here = low 0 x refl in
+      sum_by-cons (λ y. cond (nat_le (suc (key y)) p) 1 0) x xs ∙ step_low (key x) p _ _ here (below_whole p xs (λ i y at. low (suc i) y at))
+
+  -- one more at p or above it leaves the number of those below p
+  pub below_push : (p : ℕ) (xs : List X) (y : X) → p ≤ key y → count_by (λ x. nat_le (suc (key x)) p) (xs ++ y ∷ []) ≡ count_by (λ x. nat_le (suc (key x)) p) xs
+  below_push p [] y high = below_at_least p (y ∷ []) (λ i x at. subst (λ z. p ≤ key z) (only_one y i x at) high)
+  below_push p (x ∷ xs) y high =
+      sum_by-cons (λ z. cond (nat_le (suc (key z)) p) 1 0) x (xs ++ y ∷ []) ∙ ap (λ n. cond (nat_le (suc (key x)) p) 1 0 + n) (below_push p xs y high)
+      ∙ sym (sum_by-cons (λ z. cond (nat_le (suc (key z)) p) 1 0) x xs)
+
+  -- in a list whose keys never fall, those of one key stand behind those of lower keys
+  pub range_of_key : (p : ℕ) (xs : List X) → ((i j : ℕ) (x y : X) → i < j → slice_get xs i ≡ Some x → slice_get xs j ≡ Some y → key x ≤ key y)
+      → slice_range xs (count_by (λ x. nat_le (suc (key x)) p) xs) (count_by (λ x. nat_le (suc (key x)) (suc p)) xs) ≡ filter (λ x. key x == p) xs
+  range_of_key p [] rise = refl
+  range_of_key p (x ∷ xs) rise =
+      let rest = range_of_key p xs (λ i j y z less at_i at_j. rise (suc i) (suc j) y z (omega arith) at_i at_j) in
+      let low = sum_by-cons (λ y. cond (nat_le (suc (key y)) p) 1 0) x xs in
+      let high = sum_by-cons (λ y. cond (nat_le (suc (key y)) (suc p)) 1 0) x xs in
+      let over : (q : ℕ) → q ≤ key x → count_by (λ y. nat_le (suc (key y)) q) xs ≡ 0 = λ q le. below_at_least q xs (λ i y at. (let step = rise 0 (suc i) x y (omega arith) refl at in omega arith)) in
+      (λ i. slice_range (x ∷ xs) (low i) (high i)) ∙ range_step x xs (filter (λ y. key y == p) xs) (key x) p _ _ rest (over p) (over (suc p))
+
 -- ---- equal lists
 
 -- functions that agree on a list have one image of it
 pub map_same : {X Y : Type 0} (f h : X → Y) (xs : List X) → ((i : ℕ) (x : X) → slice_get xs i ≡ Some x → f x ≡ h x) → map f xs ≡ map h xs
 map_same f h [] same = refl
 map_same f h (x ∷ xs) same = (λ j. same 0 x refl j ∷ map_same f h xs (λ i y at. same (suc i) y at) j)
-
--- where a test of elements tells that they are equal, the test of lists does
-pub same_items : {X : Type 0} (test : X → X → Bool) → ((x y : X) → test x y ≡ true → x ≡ y) → (xs ys : List X) → pointwise test xs ys ≡ true → xs ≡ ys
-same_items test tells [] [] is = refl
-same_items test tells [] (y ∷ ys) is = absurd (let both : false ≡ true = is in cc)
-same_items test tells (x ∷ xs) [] is = absurd (let both : false ≡ true = is in cc)
-same_items test tells (x ∷ xs) (y ∷ ys) is =
-    let parts = and_parts (test x y) (pointwise test xs ys) is in
-    (λ j. tells x y parts.0 j ∷ same_items test tells xs ys parts.1 j)
-
--- a test that holds of each element and itself holds of a list and itself
-pub items_same : {X : Type 0} (test : X → X → Bool) → ((x : X) → test x x ≡ true) → (xs : List X) → pointwise test xs xs ≡ true
-items_same test holds [] = refl
-items_same test holds (x ∷ xs) = (λ i. holds x i && items_same test holds xs i)

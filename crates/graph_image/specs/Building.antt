@@ -3,9 +3,11 @@ use Rattle.std.specs.Prelude.{◌≡◌, ℕ, ◌++◌, [], ◌∷◌, ◌-◌, 
 use Rattle.graph_model.specs.declared.limits.TheConstants.{MAX_WEIGHT}
 use Rattle.graph_model.specs.declared.row.Row.{Row}
 use Rattle.graph_model.specs.Rows.{vertex_key, is_below}
-use Rattle.graph_image.specs.declared.builder.PlacedRow.{PlacedRow}
+use Rattle.graph_image.specs.declared.placed_row.PlacedRow.{PlacedRow}
 use Rattle.graph_image.specs.declared.edge.Edge.{Edge}
-use Rattle.graph_image.specs.Images.{IdsRise}
+use Rattle.graph_image.specs.declared.edge.Side.{Side}
+use Rattle.graph_image.specs.Images.{IdsRise, Listed}
+use Rattle.graph_image.specs.Edges.{IsGrouped}
 
 -- keys rise, weights are within their limit, and there are fewer rows than 2^32
 pub record AreStorable (rows : List Row) : Type 0 where
@@ -74,3 +76,8 @@ pub record AreEdgesOf (sources : List ℕ) (rows : List PlacedRow) (n : ℕ) (ed
   pub tos : (k l : ℕ) (e f : Edge) → k < l → slice_get edges k ≡ Some e → slice_get edges l ≡ Some f
       → e.from ≡ f.from → e.to < f.to
   pub count : length edges ≤ n
+
+-- at each place stand the arcs of the rows that have it on this side, in the order of the rows
+abbrev pub HaveArcsOf : Side → List ℕ → List PlacedRow → Listed → Type 0
+HaveArcsOf side sources rows listed =
+    (edges : List Edge) × AreEdgesOf sources rows (length rows) edges × IsGrouped side (length sources) edges listed

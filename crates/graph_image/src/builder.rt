@@ -3,29 +3,22 @@
 //! 1. The keys of the rows rise, so the sources do, and each new source is the last.
 //! 2. A row keeps the place of its source among the sources.
 
-ghost use Rattle.std.specs.Prelude.{◌≡◌, ◌+◌, ◌<◌, ◌≤◌, [], ◌∷◌, ◌++◌, length, map, IfOk, OnOk, OnErr};
+ghost use Rattle.std.specs.Prelude.{◌≡◌, ◌+◌, ◌<◌, ◌≤◌, ◌^◌, [], ◌∷◌, ◌++◌, length, map, IfOk, IfSome, IfNone, OnOk, OnErr};
 ghost use Rattle.graph_model.specs.Graph.{Graph};
 ghost use Rattle.graph_model.specs.Rows.{AreRowsOf};
 ghost use Rattle.graph_image.specs.Images.{IdsRise, IsImageOf};
-ghost use Rattle.graph_image.specs.Edges.{AreEdges};
-ghost use Rattle.graph_image.specs.Building.{AreStorable, AreEnded, shown, IsBuilt, Appends, HavePlaces, AreEdgesOf};
+ghost use Rattle.graph_image.specs.Edges.{AreEdges, IsListed, IsMirrored};
+ghost use Rattle.graph_image.specs.Building.{AreStorable, AreEnded, shown, IsBuilt, Appends, HavePlaces, AreEdgesOf, HaveArcsOf};
+ghost use Rattle.graph_image.specs.declared.edge.Side.TheVariants.{Into};
 
 use crate::adjacency::Adjacency;
 use crate::edge::{Edge, Side};
 use crate::image::{Image, image_of};
-use crate::place::place_of;
+use crate::placed_row::{PlacedRow, edge_of};
 use graph_model::{NoMemory, Row};
 use items::RoomyItems;
 use std::alloc::Global;
 use std::marker::Model;
-
-/// A row, with the place of its source in place of the source.
-#[derive(Clone, Copy, Debug, PartialEq, Eq)]
-pub struct PlacedRow {
-    pub second: u64,
-    pub source: u32,
-    pub weight: u32,
-}
 
 /// The rows that were pushed so far.
 #[derive(Drop)]
@@ -81,10 +74,9 @@ impl Builder {
     {
         let alloc = self.alloc;
         let vertices = self.sources.into_items().into_vec();
-        let edges = edges_of(alloc, vertices.as_slice(), self.rows.as_slice())?;
-        let count = vertices.len();
-        let out = Adjacency::of(alloc, Side::Out, count, edges.as_slice())?;
-        let into = Adjacency::of(alloc, Side::Into, count, edges.as_slice())?;
+        let rows = self.rows.as_slice();
+        let out = Adjacency::of_rows(alloc, vertices.as_slice(), rows)?;
+        let into = into_of(alloc, vertices.as_slice(), rows, &out)?;
         Ok(image_of(vertices, out, into))
     }
 }
@@ -108,6 +100,30 @@ fn append(sources: &mut RoomyItems<u64>, rows: &mut RoomyItems<PlacedRow>, row: 
     });
 }
 
+/// The arcs into each place. None where the arcs out of it serve, since each goes the other way as well.
+fn into_of(
+    alloc: Global,
+    sources: &[u64],
+    rows: &[PlacedRow],
+    out: &Adjacency,
+) -> Result<Option<Adjacency>, NoMemory>
+    requires built { IsBuilt sources.now rows.now }
+    requires targets { HavePlaces sources.now rows.now }
+    requires listed { IsListed (length sources.now) out.now }
+    requires few { length out.now.arcs < 2 ^ 32 }
+    ensures arcs { IfOk result (λ into. IfSome into (HaveArcsOf Into sources.now rows.now)) }
+    ensures listed { IfOk result (λ into. IfSome into (IsListed (length sources.now))) }
+    ensures mirrored { IfOk result (λ into. IfNone into (IsMirrored (length sources.now) out.now)) }
+{
+    let count = sources.len();
+    if out.is_mirrored(alloc, count)? {
+        return Ok(None);
+    }
+    let edges = edges_of(alloc, sources, rows)?;
+    let into = Adjacency::of(alloc, Side::Into, count, edges.as_slice())?;
+    Ok(Some(into))
+}
+
 /// The edges of the rows, in their order.
 fn edges_of(alloc: Global, sources: &[u64], rows: &[PlacedRow]) -> Result<Vec<Edge>, NoMemory>
     requires built { IsBuilt sources.now rows.now }
@@ -115,17 +131,10 @@ fn edges_of(alloc: Global, sources: &[u64], rows: &[PlacedRow]) -> Result<Vec<Ed
     ensures edges { IfOk result (λ edges. AreEdgesOf sources.now rows.now (length rows.now) edges.items) }
     ensures within { IfOk result (λ edges. AreEdges (length sources.now) edges.items) }
 {
-    let mut edges = Vec::new(alloc);
+    let mut edges = Vec::with_capacity(alloc, rows.len())?;
     'rows: for i in 0..rows.len() {
-        let row = rows[i];
-        if row.second != 0 {
-            if let Some(to) = place_of(sources, row.second - 1) {
-                edges.push(Edge {
-                    from: row.source,
-                    to: to as u32,
-                    weight: row.weight,
-                })?;
-            }
+        if let Some(edge) = edge_of(sources, rows[i]) {
+            edges.push(edge)?;
         }
     }
     Ok(edges)
@@ -184,8 +193,9 @@ mod tests {
     #[test]
     fn places_have_the_arcs_out_of_them_and_into_them(rt: HostRuntime) -> Result<(), Fail> {
         let alloc = rt.alloc();
-        let one_way = [row(1, 0, 0), row(1, 3, 4), row(2, 0, 0)];
-        let image = check(&rt, alloc, &one_way, &[(0, 1, 4)], &[(1, 0, 4)])?;
+        let both_ways = [row(1, 0, 0), row(1, 3, 4), row(2, 0, 0), row(2, 2, 4)];
+        let arcs = [(0, 1, 4), (1, 0, 4)];
+        let image = check(&rt, alloc, &both_ways, &arcs, &arcs)?;
         assert_eq!(&rt; image.position(3), None, "3 is no vertex");
         assert_eq!(&rt; image.position(2), Some(1), "2 is the second");
         let far_apart = [

@@ -1,6 +1,6 @@
 //! The image.
 
-ghost use Rattle.std.specs.Prelude.{◌≡◌, ℕ, ◌<◌, ◌^◌, ◌==◌, length, slice_get, Some, IfSome, IfNone};
+ghost use Rattle.std.specs.Prelude.{◌≡◌, ℕ, ◌<◌, ◌^◌, ◌==◌, length, slice_get, unwrap_or, Some, IfSome, IfNone};
 ghost use Rattle.graph_image.specs.Images.{IdsRise, AreWithin, arcs_at, Listed};
 ghost use Rattle.graph_image.specs.Edges.{IsListed};
 ghost use Rattle.graph_image.specs.Fields.{IsImage};
@@ -87,15 +87,14 @@ impl Image {
     }
 }
 
-/// An image of these lists. One array serves where both have the same arcs.
-pub fn image_of(vertices: Vec<u64>, out: Adjacency, into: Adjacency) -> Image
+/// An image of these lists. The arcs out serve where there are none of their own for the arcs in.
+pub fn image_of(vertices: Vec<u64>, out: Adjacency, into: Option<Adjacency>) -> Image
     requires ids { IdsRise vertices.items }
     requires few { length vertices.items < 2 ^ 32 }
     requires out { IsListed (length vertices.items) out }
-    requires into { IsListed (length vertices.items) into }
-    ensures { result ≡ record { vertices = vertices.items; out = out; into = into } }
+    requires into { IfSome into (IsListed (length vertices.items)) }
+    ensures { result ≡ record { vertices = vertices.items; out = out; into = unwrap_or into out } }
 {
-    let into = if out.is_same(&into) { None } else { Some(into) };
     Image {
         vertices,
         out,

@@ -11,6 +11,7 @@ mod builder;
 mod edge;
 mod image;
 mod place;
+mod placed_row;
 mod table;
 
 pub use builder::Builder;

@@ -1,3 +1,4 @@
+mod ArcLemmas
 pub mod FrequencyLemmas
 pub mod PartLemmas
 pub mod RisingLemmas

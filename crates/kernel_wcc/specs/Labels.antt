@@ -1,29 +1,15 @@
--- Labels by place, and what a round makes of them.
-use Rattle.std.specs.Prelude.{◌≡◌, ℕ, ◌<◌, ◌≤◌, List, length, map, min, slice_get, slice_index, Some}
+-- Labels by place, and what joining two places makes of them.
+use Rattle.std.specs.Prelude.{◌≡◌, ℕ, ◌<◌, ◌≤◌, ◌⊎◌, List, length, slice_get, slice_index, Some}
 use Rattle.graph_model.specs.declared.table.Value.{Value}
 use Rattle.graph_model.specs.declared.table.Value.TheVariants.{Number}
-use Rattle.graph_model.specs.Labels.{least_of}
+use Rattle.graph_model.specs.Graph.{Graph}
 use Rattle.graph_image.specs.declared.edge.Arc.{Arc}
-use Rattle.graph_image.specs.Images.{Places, arcs_at}
+use Rattle.graph_image.specs.Images.{Places, arcs_at, Leads, IsImageOf}
 use Rattle.graph_image.specs.Paths.{HasTrail}
 
 -- a label as the table has it: the id at that place
 abbrev pub value_of : List ℕ → ℕ → Value
 value_of vertices label = Number (slice_index vertices label)
-
--- the least of a label and those at the other ends of the arcs
-abbrev pub least_label : List ℕ → ℕ → List Arc → ℕ
-least_label labels start arcs = least_of start (map (λ a. slice_index labels a.other) arcs)
-
--- the lower of a label and the label of the place that it names
-abbrev pub shortcut : List ℕ → ℕ → ℕ
-shortcut labels label = min label (slice_index labels label)
-
--- the label of a place after a round
-abbrev pub next_label : Places → List ℕ → ℕ → ℕ
-next_label image labels p =
-    shortcut labels
-    (least_label labels (least_label labels (slice_index labels p) (arcs_at image.out p)) (arcs_at image.into p))
 
 -- no label is above its place
 abbrev pub AreLow : List ℕ → Type 0
@@ -34,10 +20,45 @@ pub record IsFirst (n : ℕ) (labels : List ℕ) : Type 0 where
   pub count : length labels ≡ n
   pub each : (p : ℕ) → p < n → slice_get labels p ≡ Some p
 
--- each place has its label after the round
-pub record IsRound (image : Places) (old new : List ℕ) : Type 0 where
+-- ---- what labels join
+
+-- a trail joins the two places
+abbrev pub Joins : (ℕ → ℕ → Type 0) → ℕ → ℕ → Type 0
+Joins Link p q = (cs : List ℕ) × HasTrail Link p cs q
+
+-- a trail leads from each place to its label
+abbrev pub AreReached : (ℕ → ℕ → Type 0) → List ℕ → Type 0
+AreReached Link labels = (p label : ℕ) → slice_get labels p ≡ Some label → Joins Link p label
+
+-- f is equal at each place and at its label: so it is equal at all places that labels join
+abbrev pub Follows : (ℕ → ℕ) → List ℕ → Type 0
+Follows f labels = (p : ℕ) → p < length labels → f p ≡ f (slice_index labels p)
+
+-- p has the label q, or these are a and b
+abbrev pub IsLabelOr : List ℕ → ℕ → ℕ → ℕ → ℕ → Type 0
+IsLabelOr labels a b p q = (slice_get labels p ≡ Some q) ⊎ ((p ≡ a) × (q ≡ b))
+
+-- the labels join what the labels before joined, and a and b; and nothing else
+pub record IsJoined (old : List ℕ) (a b : ℕ) (new : List ℕ) : Type 0 where
   pub count : length new ≡ length old
-  pub each : (p : ℕ) → p < length old → slice_index new p ≡ next_label image old p
+  pub low : AreLow new
+  pub kept : (f : ℕ → ℕ) → Follows f new → Follows f old × (f a ≡ f b)
+  pub reached : AreReached (IsLabelOr old a b) new
+
+-- The labels join the ends of the arcs out of the places before p, and of the first j out of p; and nothing that
+-- no trail joins.
+pub record AreMerged (image : Places) (p j : ℕ) (labels : List ℕ) : Type 0 where
+  pub count : length labels ≡ length image.vertices
+  pub low : AreLow labels
+  pub kept : (f : ℕ → ℕ) → Follows f labels → (q k : ℕ) (a : Arc) → ((q < p) ⊎ ((q ≡ p) × (k < j)))
+      → slice_get (arcs_at image.out q) k ≡ Some a → f q ≡ f a.other
+  pub reached : (g : Graph) → IsImageOf image g → AreReached (Leads g image.vertices) labels
+
+-- each place has the label of its label before, and keeps its own if that was itself
+pub record IsSettled (old new : List ℕ) : Type 0 where
+  pub count : length new ≡ length old
+  pub each : (p : ℕ) → p < length old → slice_index new p ≡ slice_index new (slice_index old p)
+  pub roots : (p : ℕ) → p < length old → slice_index old p ≡ p → slice_index new p ≡ p
 
 -- a trail leads from each place to its label, and no trail leads from it to a lower place
 pub record AreComponents (Link : ℕ → ℕ → Type 0) (labels : List ℕ) : Type 0 where

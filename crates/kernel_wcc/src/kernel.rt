@@ -13,14 +13,15 @@ use std::alloc::Global;
 use std::thread::Threads;
 
 /// Weakly connected components: each vertex in rising order, with the least id of a vertex of its
-/// component, where the direction of arcs doesn't count (LDBC Graphalytics, WCC). No clause speaks of
-/// want of memory.
-pub fn run<R: Threads + Sync>(rt: &R, alloc: Global, image: &Image) -> Result<Table, NoMemory>
+/// component, where the direction of arcs doesn't count (LDBC Graphalytics, WCC). It runs on one thread.
+/// No clause speaks of want of memory.
+pub fn run<R: Threads + Sync>(_rt: &R, alloc: Global, image: &Image) -> Result<Table, NoMemory>
     ensures { IfOk result (λ table. (g : Graph) → IsImageOf image.now g → IsWcc g table) }
 {
-    let labels = components(rt, alloc, image)?;
+    let labels = components(alloc, image)?;
     let values = values_of(alloc, image.vertices(), labels.as_slice())?;
-    table_of(alloc, image, values.as_slice())
+    let table = table_of(alloc, image, values.as_slice())?;
+    Ok(table)
 }
 
 /// The ids of the labels.

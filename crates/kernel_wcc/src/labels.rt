@@ -1,25 +1,15 @@
-//! Labels, round by round.
+//! Labels that sink until each names the least place of its component.
 
-ghost use Rattle.std.specs.Prelude.{◌≡◌, ℕ, ◌<◌, ◌≤◌, length, slice_index, IfOk};
+ghost use Rattle.std.specs.Prelude.{◌≡◌, ℕ, ◌+◌, ◌<◌, ◌^◌, length, IfOk};
 ghost use Rattle.graph_model.specs.Graph.{Graph};
-ghost use Rattle.graph_image.specs.Images.{IsImageOf, AreWithin, Leads};
-ghost use Rattle.kernel_wcc.specs.Labels.{least_label, next_label, AreLow, IsFirst, IsRound, AreComponents};
+ghost use Rattle.graph_image.specs.Images.{IsImageOf, Leads};
+ghost use Rattle.kernel_wcc.specs.Labels.{AreLow, IsFirst, IsJoined, AreMerged, IsSettled, AreComponents};
 
-use graph_image::{Arc, Image, NoMemory};
-use rayon::prelude::*;
+use graph_image::{Image, NoMemory};
 use std::alloc::Global;
-use std::mem;
-use std::thread::Threads;
-
-/// An image of fewer places isn't worth a thread.
-const SMALL: usize = 16384;
 
 /// The label of each place: the least place of its component.
-pub fn components<R: Threads + Sync>(
-    rt: &R,
-    alloc: Global,
-    image: &Image,
-) -> Result<Vec<u32>, NoMemory>
+pub fn components(alloc: Global, image: &Image) -> Result<Vec<u32>, NoMemory>
     ensures count { IfOk result (λ labels. length labels.items ≡ length image.now.vertices) }
     ensures low { IfOk result (λ labels. AreLow labels.items) }
     ensures components { IfOk result (λ labels. (g : Graph) → IsImageOf image.now g
@@ -27,14 +17,11 @@ pub fn components<R: Threads + Sync>(
 {
     let count = image.len();
     let mut labels = first_labels(alloc, count)?;
-    let mut later = Vec::from_slice(alloc, labels.as_slice())?;
-    'rounds: loop {
-        round(rt, image, &labels, &mut later);
-        if later == labels {
-            return Ok(labels);
-        }
-        mem::swap(&mut labels, &mut later);
+    'places: for place in 0..count {
+        merge(image, place, &mut labels);
     }
+    settle(&mut labels);
+    Ok(labels)
 }
 
 /// Each place as its own label.
@@ -49,63 +36,56 @@ fn first_labels(alloc: Global, count: usize) -> Result<Vec<u32>, NoMemory>
     Ok(labels)
 }
 
-/// A round over all places: on several threads, unless they are few.
-fn round<R: Threads + Sync>(rt: &R, image: &Image, labels: &Vec<u32>, later: &mut Vec<u32>)
-    requires low { AreLow labels.now.items }
-    requires count { length labels.now.items ≡ length image.now.vertices }
-    requires later { length later.old.items ≡ length labels.now.items }
-    ensures { IsRound image.now labels.now.items later.new.items }
+/// Joins a place with the other ends of the arcs out of it.
+fn merge(image: &Image, place: usize, labels: &mut Vec<u32>)
+    requires place { (place < length image.now.vertices) × (place < 2 ^ 32) }
+    requires merged { AreMerged image.now place 0 labels.old.items }
+    ensures { AreMerged image.now (place + 1) 0 labels.new.items }
 {
-    if labels.len() >= SMALL {
-        round_split(rt, image, labels, later);
-        return;
-    }
-    'places: for place in 0..labels.len() {
-        later[place] = next_label(image, labels.as_slice(), place);
-    }
-}
-
-/// A round on several threads.
-fn round_split<R: Threads + Sync>(rt: &R, image: &Image, labels: &Vec<u32>, later: &mut Vec<u32>)
-    requires low { AreLow labels.now.items }
-    requires count { length labels.now.items ≡ length image.now.vertices }
-    requires later { length later.old.items ≡ length labels.now.items }
-    ensures { IsRound image.now labels.now.items later.new.items }
-{
-    let labels = labels.as_slice();
-    par_for_each_mut(
-        rt,
-        later.as_mut_slice(),
-        |place: usize, label: &mut u32|
-            requires { (place < length image.now.vertices) × (length labels.now ≡ length image.now.vertices)
-                × AreLow labels.now }
-            ensures { label.new ≡ next_label image.entry.now labels.entry.now place }
-        {
-            *label = next_label(image, labels, place);
-        },
-    );
-}
-
-/// The label of a place after a round.
-fn next_label(image: &Image, labels: &[u32], place: usize) -> u32
-    requires within { place < length image.now.vertices }
-    requires count { length labels.now ≡ length image.now.vertices }
-    requires low { AreLow labels.now }
-    ensures { result ≡ next_label image.now labels.now place }
-{
-    let by_out = least_label(image.out(place), labels, labels[place]);
-    let by_into = least_label(image.into(place), labels, by_out);
-    by_into.min(labels[by_into as usize])
-}
-
-/// The least of a label and those at the other ends of the arcs.
-fn least_label(arcs: &[Arc], labels: &[u32], start: u32) -> u32
-    requires { AreWithin (length labels.now) arcs.now }
-    ensures { result ≡ least_label labels.now start arcs.now }
-{
-    let mut least = start;
+    let arcs = image.out(place);
     'arcs: for i in 0..arcs.len() {
-        least = least.min(labels[arcs[i].other as usize]);
+        join(place as u32, arcs[i].other, labels);
     }
-    least
+}
+
+/// Lets the labels of two places lead to one place. Of the two labels the higher is replaced by the lower,
+/// and the place that it named is joined next, unless the place was its own label.
+fn join(a: u32, b: u32, labels: &mut Vec<u32>)
+    requires low { AreLow labels.old.items }
+    requires within { (a < length labels.old.items) × (b < length labels.old.items) }
+    ensures { IsJoined labels.old.items a b labels.new.items }
+{
+    let mut left = a;
+    let mut right = b;
+    'steps: loop {
+        let of_left = labels[left as usize];
+        let of_right = labels[right as usize];
+        if of_left == of_right {
+            return;
+        }
+        if of_left < of_right {
+            labels[right as usize] = of_left;
+            if right == of_right {
+                return;
+            }
+            right = of_right;
+        } else {
+            labels[left as usize] = of_right;
+            if left == of_left {
+                return;
+            }
+            left = of_left;
+        }
+    }
+}
+
+/// Gives each place the label where its labels lead to: that of its label, which is settled before it.
+fn settle(labels: &mut Vec<u32>)
+    requires { AreLow labels.old.items }
+    ensures { IsSettled labels.old.items labels.new.items }
+{
+    'places: for place in 0..labels.len() {
+        let label = labels[place];
+        labels[place] = labels[label as usize];
+    }
 }

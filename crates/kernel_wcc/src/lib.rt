@@ -1,9 +1,9 @@
 //! Weakly connected components over the image of a graph (LDBC Graphalytics, WCC).
 //!
 //! 1. Each place has a label: a place of its component that isn't above it. At first that is itself.
-//! 2. A round gives each place the least of its own label and those at the other ends of its arcs, and
-//!    goes on from there to the label of the place that this names. So labels only sink.
-//! 3. Where a round changes nothing, the label of a place is the least place of its component.
+//! 2. For each arc the labels of its ends are made to lead to one place, by labels that only sink.
+//! 3. When all arcs are joined, the label where the labels of a place lead to is the least place of its
+//!    component.
 #![tactic(auto)]
 
 mod kernel;

@@ -1,6 +1,5 @@
 use Rattle.std.proofs.Common.{sym, ◌∙◌}
-use Rattle.graph_image.proofs.Lists.{same_items}
-use Rattle.graph_image.proofs.GroupLemmas.{same_arc}
+use Rattle.kernel_cdlp.proofs.ArcLemmas.{same_items, same_arc}
 use Rattle.kernel_cdlp.proofs.RoundLemmas.{next_once, next_both}
 use Rattle.kernel_cdlp.proofs.part.next_label.Goals as goal
 
