@@ -1,0 +1,5 @@
+pub mod Faults
+pub mod Weights
+pub mod VertexFiles
+pub mod EdgeFiles
+pub mod Kept

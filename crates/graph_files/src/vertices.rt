@@ -1,0 +1,94 @@
+//! Vertex files.
+
+ghost use Rattle.std.specs.Prelude.{◌≡◌, [], ◌∷◌, ◌++◌, Ok, IfOk, IfErr};
+ghost use Rattle.graph_files.specs.Faults.{IsRefused};
+ghost use Rattle.graph_files.specs.VertexFiles.{id_of, vertex_of, vertices_of};
+ghost use Rattle.graph_files.specs.Kept.{IsSetOf};
+
+use crate::refusal::{Fault, ReadRefusal, What};
+use graph_model::{Ids, MAX_ID};
+use graphalytics_io::{Fields, NumberFault, field_lines, read_number};
+use items::NoMemory;
+use std::alloc::Global;
+use std::collections::BTreeSet;
+
+/// Reads the ids of a vertex file, at most `limit` of them.
+pub fn read_vertices(alloc: Global, text: &[u8], limit: u64) -> Result<Ids, ReadRefusal>
+    ensures ok { IfOk result (λ ids. vertices_of limit text.now ≡ Ok ids) }
+    ensures fault { IfErr result (λ refusal. IsRefused (vertices_of limit text.now) refusal) }
+{
+    let mut reading = Reading::new(alloc);
+    let mut lines = field_lines(text);
+    'lines: while let Some(line) = lines.next() {
+        let number = line.number;
+        match reading.check(line.fields, limit) {
+            Ok(id) => reading = reading.with(id)?,
+            Err(what) => return Err(ReadRefusal::Fault(Fault { line: number, what })),
+        }
+    }
+    let Reading { ids, .. } = reading;
+    Ok(ids)
+}
+
+/// The ids of the lines so far.
+#[derive(Drop)]
+struct Reading {
+    ids: Ids,
+    sorted: BTreeSet<u64>,
+    ghost same: { IsSetOf sorted ids },
+}
+
+impl Reading {
+    ghost use Rattle.std.specs.Prelude.{◌≡◌};
+
+    fn new(alloc: Global) -> Reading
+        ensures { result.ids ≡ [] }
+    {
+        Reading {
+            ids: Ids::new(alloc),
+            sorted: BTreeSet::new(alloc),
+        }
+    }
+
+    /// The id of the next line.
+    fn check(&self, fields: Fields<'_>, limit: u64) -> Result<u64, What>
+        ensures { result ≡ vertex_of limit self.now.ids fields.entry }
+    {
+        let mut fields = fields;
+        let Some(field) = fields.next() else {
+            return Err(What::MissingField)
+        };
+        if fields.next().is_some() {
+            return Err(What::ExtraField);
+        }
+        let id = read_id(field)?;
+        if self.sorted.contains(&id) {
+            return Err(What::DuplicateVertex);
+        }
+        if limit <= self.ids.len() as u64 {
+            return Err(What::TooManyRows);
+        }
+        Ok(id)
+    }
+
+    /// The same with an id behind the others.
+    fn with(self, id: u64) -> Result<Reading, NoMemory>
+        ensures { IfOk result (λ reading. reading.ids ≡ self.ids ++ id ∷ []) }
+    {
+        let Reading { mut ids, mut sorted } = self;
+        ids.push(id)?;
+        sorted.insert(id)?;
+        Ok(Reading { ids, sorted })
+    }
+}
+
+/// Reads an id.
+pub(crate) fn read_id(field: &[u8]) -> Result<u64, What>
+    ensures { result ≡ id_of field.now }
+{
+    match read_number(field, MAX_ID) {
+        Ok(id) => Ok(id),
+        Err(NumberFault::NotANumber) => Err(What::NotANumber),
+        Err(NumberFault::TooLarge) => Err(What::IdTooLarge),
+    }
+}
