@@ -75,7 +75,10 @@ impl Reading {
     fn with(self, id: u64) -> Result<Reading, NoMemory>
         ensures { IfOk result (λ reading. reading.ids ≡ self.ids ++ id ∷ []) }
     {
-        let Reading { mut ids, mut sorted } = self;
+        let Reading {
+            mut ids,
+            mut sorted,
+        } = self;
         ids.push(id)?;
         sorted.insert(id)?;
         Ok(Reading { ids, sorted })
@@ -90,5 +93,49 @@ pub(crate) fn read_id(field: &[u8]) -> Result<u64, What>
         Ok(id) => Ok(id),
         Err(NumberFault::NotANumber) => Err(What::NotANumber),
         Err(NumberFault::TooLarge) => Err(What::IdTooLarge),
+    }
+}
+
+#[cfg(test)]
+mod tests {
+    use super::*;
+    use std::test::Fail;
+
+    #[test]
+    fn a_vertex_file_is_read_or_its_first_fault_said(rt: HostRuntime) -> Result<(), Fail> {
+        for (text, limit, want) in [
+            ("", 0, ""),
+            ("\n# 1\n \t\r\n", 0, ""),
+            ("3\n1\n2", 3, "3 1 2 "),
+            (" 007\t\r\n\n0\r", 2, "7 0 "),
+            ("9223372036854775806\n", 1, "9223372036854775806 "),
+            ("1 x\n", 9, "line 1: extra field"),
+            ("x\n", 9, "line 1: not a number"),
+            (" # 1\n", 9, "line 1: extra field"),
+            ("1\r\r\n", 9, "line 1: not a number"),
+            ("9223372036854775807", 9, "line 1: id too large"),
+            ("1\n#\n01\nx\n", 9, "line 3: duplicate vertex"),
+            ("1\n2\n3\n", 2, "line 3: too many rows"),
+            ("1\n2\n1\n", 2, "line 3: duplicate vertex"),
+        ] {
+            let got = said_ids(rt.alloc(), text, limit)?;
+            assert_eq!(rt; got.as_str(), want, "of {text}");
+        }
+        Ok(())
+    }
+
+    /// The ids that are read, each with a blank behind it, or the refusal.
+    fn said_ids(alloc: Global, text: &str, limit: u64) -> Result<String, Fail> {
+        let mut said = String::new(alloc);
+        match read_vertices(alloc, text.as_bytes(), limit) {
+            Ok(ids) => {
+                for id in ids.as_slice() {
+                    let one = format!(in alloc; "{id} ")?;
+                    said.push_str(one.as_str())?;
+                }
+            }
+            Err(refusal) => return Ok(format!(in alloc; "{refusal}")?),
+        }
+        Ok(said)
     }
 }

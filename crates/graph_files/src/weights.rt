@@ -50,7 +50,11 @@ fn units_of(whole: &[u8], zeros: u8, fraction: &[u8], missing: u8) -> Option<u64
         (λ units. (units ≡ number_of whole.now * 10 ^ zeros + number_of fraction.now * 10 ^ missing) × (units ≤ MAX_WEIGHT)) }
 {
     let units = scaled(whole, zeros)? + scaled(fraction, missing)?;
-    if units <= MAX_WEIGHT { Some(units) } else { None }
+    if units <= MAX_WEIGHT {
+        Some(units)
+    } else {
+        None
+    }
 }
 
 /// What stands before the first point of a field, and what stands behind it.
@@ -100,7 +104,11 @@ fn scaled(digits: &[u8], zeros: u8) -> Option<u64>
         (λ units. (units ≡ number_of digits.now * 10 ^ zeros) × (units ≤ MAX_WEIGHT)) }
 {
     let units = value_of(digits)?.checked_mul(power_of_ten(zeros))?;
-    if units <= MAX_WEIGHT { Some(units) } else { None }
+    if units <= MAX_WEIGHT {
+        Some(units)
+    } else {
+        None
+    }
 }
 
 /// The number of some digits, or of none, up to the greatest weight.
