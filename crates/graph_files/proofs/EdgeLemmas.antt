@@ -10,13 +10,14 @@ use Rattle.graph_files.specs.declared.refusal.What.TheVariants.{UnknownVertex, S
 use Rattle.graph_files.specs.declared.refusal.Fault.{Fault}
 use Rattle.graph_files.specs.declared.weights.Weights.{Weights}
 use Rattle.graph_files.specs.declared.weights.Weights.TheVariants.{Ones, Units}
-use Rattle.graph_files.specs.declared.edges.Listing.{Listing}
-use Rattle.graph_files.specs.declared.edges.Listing.TheVariants.{First, Second}
+use Rattle.graph_files.specs.declared.listings.Listing.{Listing}
+use Rattle.graph_files.specs.declared.listings.Listing.TheVariants.{First, Second}
 use Rattle.graph_files.specs.Faults.{then_check, then_lines}
 use Rattle.graph_files.specs.Weights.{decimal_of}
 use Rattle.graph_files.specs.VertexFiles.{id_of, is_among}
 use Rattle.graph_files.specs.EdgeFiles.{ends_of, edge_with, edge_of, weighted, listed_weight, Rules, Before, listing_of, behind, read_line, edges_behind}
-use Rattle.graph_files.specs.Kept.{IsMapOf}
+use Rattle.graph_files.specs.declared.checks.Checks.{Checks}
+use Rattle.graph_files.specs.Kept.{IsMapOf, IsCheckedBy}
 
 -- ids among which the same are found give the same edges
 module _ (known ids : List ℕ) (same : (v : ℕ) → is_among known v ≡ is_among ids v) where
@@ -102,3 +103,8 @@ pub behind_is : (before : Before) (edge : Edge) (listing : Listing) (edges : Lis
     → ◌≡◌ {A = Before} (record { listings = before.listings ++ edge ∷ []; edges = edges }) (behind before edge listing)
 behind_is before edge First edges same = λ i. record { listings = before.listings ++ edge ∷ []; edges = same i }
 behind_is before edge Second edges same = λ i. record { listings = before.listings ++ edge ∷ []; edges = same i }
+
+-- what a line stands for by itself, by what it is checked against
+pub checked_edge : (rules : Rules) (checks : Checks) (fields : List (List ℕ)) (found : Result Edge What) → IsCheckedBy rules checks → edge_of checks.known checks.weights fields ≡ found → edge_of rules.ids rules.weights fields ≡ found
+checked_edge rules checks fields found checked is =
+    ap (λ w. edge_of rules.ids w fields) checked.weights ∙ sym (same_edge checks.known rules.ids checked.ids checks.weights fields) ∙ is

@@ -1,3 +1,5 @@
 pub mod WeightLemmas
 pub mod KnownLemmas
 pub mod EdgeLemmas
+pub mod DistinctLemmas
+pub mod UnrepeatedLemmas

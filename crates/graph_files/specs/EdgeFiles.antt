@@ -10,8 +10,8 @@ use Rattle.graph_files.specs.declared.refusal.What.TheVariants.{DuplicateEdge, U
 use Rattle.graph_files.specs.declared.refusal.Fault.{Fault}
 use Rattle.graph_files.specs.declared.weights.Weights.{Weights}
 use Rattle.graph_files.specs.declared.weights.Weights.TheVariants.{Ones, Units}
-use Rattle.graph_files.specs.declared.edges.Listing.{Listing}
-use Rattle.graph_files.specs.declared.edges.Listing.TheVariants.{First, Second}
+use Rattle.graph_files.specs.declared.listings.Listing.{Listing}
+use Rattle.graph_files.specs.declared.listings.Listing.TheVariants.{First, Second}
 use Rattle.graph_files.specs.Faults.{then_check, then_lines}
 use Rattle.graph_files.specs.Weights.{decimal_of}
 use Rattle.graph_files.specs.VertexFiles.{id_of, is_among}

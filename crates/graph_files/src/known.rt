@@ -1,8 +1,9 @@
-//! Which ids a graph has.
+//! Which ids a graph has, and where each stands among them.
 
-ghost use Rattle.std.specs.Prelude.{◌≡◌, ℕ, IfOk};
+ghost use Rattle.std.specs.Prelude.{◌≡◌, ℕ, true, false, IfOk, IfSome, MatchOption, Some};
 ghost use Rattle.std.specs.List.Sorted.{IsNonDecreasing};
 ghost use Rattle.graph_files.specs.VertexFiles.{is_among};
+ghost use Rattle.graph_files.specs.Kept.{StartsDense, place_of};
 
 use items::NoMemory;
 use std::alloc::Global;
@@ -12,7 +13,11 @@ use std::marker::Model;
 #[derive(Drop)]
 pub(crate) struct Known {
     sorted: Vec<u64>,
+    /// How many ids at the front have no gap between them. A look-up among these reads no memory, which is what files
+    /// with the ids 1 to n need.
+    dense: usize,
     ghost rises: { IsNonDecreasing sorted.items },
+    ghost starts: { StartsDense sorted.items dense },
 }
 
 impl Model for Known {
@@ -30,12 +35,71 @@ impl Known {
     {
         let mut sorted = Vec::from_slice(alloc, ids)?;
         sorted.sort_unstable();
-        Ok(Known { sorted })
+        let dense = dense_front(sorted.as_slice());
+        Ok(Known { sorted, dense })
     }
 
-    pub(crate) fn contains(&self, id: u64) -> bool
-        ensures { result ≡ is_among self.now id }
+    /// The first place of an id.
+    pub(crate) fn find(&self, id: u64) -> Option<usize>
+        ensures place { result ≡ place_of self.now id }
+        ensures among { MatchOption result (is_among self.now id ≡ false) (λ _. is_among self.now id ≡ true) }
     {
-        self.sorted.binary_search(&id).is_ok()
+        match self.find_dense(id) {
+            Some(place) => Some(place),
+            None => self.search(id),
+        }
     }
+
+    /// The first place of an id, where it stands among those at the front that have no gap between them.
+    fn find_dense(&self, id: u64) -> Option<usize>
+        ensures { IfSome result (λ place. place_of self.now id ≡ Some place) }
+    {
+        if self.sorted.is_empty() {
+            return None;
+        }
+        let least = self.sorted[0];
+        if least <= id && id - least < self.dense as u64 {
+            Some((id - least) as usize)
+        } else {
+            None
+        }
+    }
+
+    /// The first place of an id, by a binary search.
+    fn search(&self, id: u64) -> Option<usize>
+        ensures { result ≡ place_of self.now id }
+    {
+        match self.sorted.binary_search(&id) {
+            Err(_) => None,
+            Ok(place) => {
+                if place == 0 {
+                    return Some(place);
+                }
+                if self.sorted[place - 1] < id {
+                    return Some(place);
+                }
+                first_place(self.sorted.as_slice(), id)
+            }
+        }
+    }
+}
+
+/// The first place of an id that may stand at several.
+fn first_place(ids: &[u64], id: u64) -> Option<usize>
+    ensures { result ≡ place_of ids.now id }
+{
+    ids.iter().position(|known| *known == id)
+}
+
+/// How many numbers at the front have no gap between them.
+fn dense_front(sorted: &[u64]) -> usize
+    requires { IsNonDecreasing sorted.now }
+    ensures { StartsDense sorted.now result }
+{
+    'places: for i in 0..sorted.len() {
+        if sorted[i] - sorted[0] != i as u64 {
+            return i;
+        }
+    }
+    sorted.len()
 }

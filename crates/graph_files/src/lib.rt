@@ -6,10 +6,14 @@
 //! 3. A text is lent: nothing of it is copied but what it stands for.
 #![tactic(auto)]
 
+mod checks;
+mod distinct;
 mod edges;
 mod ends;
 mod known;
+mod listings;
 mod refusal;
+mod unrepeated;
 mod vertices;
 mod weights;
 
