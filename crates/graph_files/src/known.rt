@@ -1,10 +1,11 @@
 //! Which ids a graph has, and where each stands among them.
 
-ghost use Rattle.std.specs.Prelude.{◌≡◌, ℕ, true, false, IfOk, IfSome, MatchOption, Some};
+ghost use Rattle.std.specs.Prelude.{◌≡◌, ◌<◌, ℕ, length, slice_index, true, false, IfOk, IfSome, MatchOption, Some};
 ghost use Rattle.std.specs.List.Sorted.{IsNonDecreasing};
 ghost use Rattle.graph_files.specs.VertexFiles.{is_among};
 ghost use Rattle.graph_files.specs.Kept.{StartsDense, place_of};
 
+use crate::hints::Hints;
 use items::NoMemory;
 use std::alloc::Global;
 use std::marker::Model;
@@ -16,6 +17,8 @@ pub(crate) struct Known {
     /// How many ids at the front have no gap between them. A look-up among these reads no memory, which is what files
     /// with the ids 1 to n need.
     dense: usize,
+    /// Where to look for the others.
+    hints: Hints,
     ghost rises: { IsNonDecreasing sorted.items },
     ghost starts: { StartsDense sorted.items dense },
 }
@@ -36,7 +39,12 @@ impl Known {
         let mut sorted = Vec::from_slice(alloc, ids)?;
         sorted.sort_unstable();
         let dense = dense_front(sorted.as_slice());
-        Ok(Known { sorted, dense })
+        let hints = Hints::of(alloc, &sorted[dense..])?;
+        Ok(Known {
+            sorted,
+            dense,
+            hints,
+        })
     }
 
     /// The first place of an id.
@@ -46,7 +54,10 @@ impl Known {
     {
         match self.find_dense(id) {
             Some(place) => Some(place),
-            None => self.search(id),
+            None => match self.find_near(id) {
+                Some(place) => Some(place),
+                None => self.search(id),
+            },
         }
     }
 
@@ -65,21 +76,47 @@ impl Known {
         }
     }
 
+    /// The first place of an id, where the hints lead to it.
+    fn find_near(&self, id: u64) -> Option<usize>
+        ensures { IfSome result (λ place. place_of self.now id ≡ Some place) }
+    {
+        let (from, below) = self.hints.around(id)?;
+        if self.sorted.len() - self.dense < below || below < from {
+            return None;
+        }
+        let from = self.dense + from;
+        let below = self.dense + below;
+        match self.sorted[from..below].binary_search(&id) {
+            Ok(place) => self.as_first(from + place, id),
+            Err(_) => None,
+        }
+    }
+
+    /// A place at which an id stands, where it doesn't stand before it.
+    fn as_first(&self, place: usize, id: u64) -> Option<usize>
+        requires within { place < length self.now }
+        requires here { slice_index self.now place ≡ id }
+        ensures { IfSome result (λ place. place_of self.now id ≡ Some place) }
+    {
+        if place == 0 {
+            return Some(place);
+        }
+        if self.sorted[place - 1] < id {
+            return Some(place);
+        }
+        None
+    }
+
     /// The first place of an id, by a binary search.
     fn search(&self, id: u64) -> Option<usize>
         ensures { result ≡ place_of self.now id }
     {
         match self.sorted.binary_search(&id) {
             Err(_) => None,
-            Ok(place) => {
-                if place == 0 {
-                    return Some(place);
-                }
-                if self.sorted[place - 1] < id {
-                    return Some(place);
-                }
-                first_place(self.sorted.as_slice(), id)
-            }
+            Ok(place) => match self.as_first(place, id) {
+                Some(place) => Some(place),
+                None => first_place(self.sorted.as_slice(), id),
+            },
         }
     }
 }

@@ -10,6 +10,7 @@ mod checks;
 mod distinct;
 mod edges;
 mod ends;
+mod hints;
 mod known;
 mod listings;
 mod refusal;
