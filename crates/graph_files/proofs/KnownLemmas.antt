@@ -72,7 +72,7 @@ place_dense ids count id least dense is low near =
     (λ k below here. omega (arith, dense.each k (omega arith)))
 
 -- and an id that is among the ids is at some place
-at_among : (ids : List ℕ) (v : ℕ) → is_among ids v ≡ true → Contains ids v
+pub at_among : (ids : List ℕ) (v : ℕ) → is_among ids v ≡ true → Contains ids v
 at_among [] v there = absurd (cc)
 at_among (id ∷ ids) v there = elim (id == v) as (λ s. (id == v) ≡ s → (s || is_among ids v) ≡ true → Contains (id ∷ ids) v) [
   | true ↦ λ same rest. (0, omega arith, is same)

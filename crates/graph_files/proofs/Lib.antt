@@ -3,3 +3,5 @@ pub mod KnownLemmas
 pub mod EdgeLemmas
 pub mod DistinctLemmas
 pub mod UnrepeatedLemmas
+pub mod LoadLemmas
+pub mod FileLemmas

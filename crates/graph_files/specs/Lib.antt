@@ -3,3 +3,5 @@ pub mod Weights
 pub mod VertexFiles
 pub mod EdgeFiles
 pub mod Kept
+pub mod Load
+pub mod Laws

@@ -12,6 +12,7 @@ mod edges;
 mod ends;
 mod hints;
 mod known;
+mod laws;
 mod listings;
 mod refusal;
 mod unrepeated;
@@ -19,6 +20,7 @@ mod vertices;
 mod weights;
 
 pub use edges::read_edges;
+pub use laws::{files_are_loadable, load_is_its_graph, load_is_legal};
 pub use refusal::{Fault, ReadRefusal, What};
 pub use vertices::read_vertices;
 pub use weights::Weights;
