@@ -23,7 +23,7 @@ use Rattle.graph_files.specs.declared.listings.Listing.{Listing}
 use Rattle.graph_files.specs.declared.listings.Listing.TheVariants.{First, Second}
 use Rattle.graph_files.specs.Faults.{then_check, then_lines}
 use Rattle.graph_files.specs.Weights.{decimal_of, is_decimal, is_in_units, units_of}
-use Rattle.graph_files.specs.VertexFiles.{as_id, id_of, is_among, new_id, vertex_of, ids_behind, vertices_of}
+use Rattle.graph_files.specs.VertexFiles.{as_id, id_of, line_id, is_among, new_id, vertex_of, ids_behind, vertices_of}
 use Rattle.graph_files.specs.EdgeFiles.{joined, ends_of, weighted, edge_with, edge_of, listed_weight, is_repeated, is_reversed, arcs_of, Rules, Before, listing_of, behind, read_line, edges_behind, edges_of}
 use Rattle.graph_files.specs.Load.{ends_by, IsLoadable}
 use Rattle.graph_files.proofs.KnownLemmas.{among_at, at_among}
@@ -41,6 +41,11 @@ id_within field id is = cases (is_number field) (nat_le (number_of field) MAX_ID
     cases true true small is = let same : number_of field ≡ id = cc in subst (λ n. n ≤ MAX_ID) same (fits (number_of field) small)
     cases true false small is = absurd (cc)
     cases false t small is = absurd (cc)
+
+line_within : (fields : List (List ℕ)) (id : ℕ) → line_id fields ≡ Ok id → id ≤ MAX_ID
+line_within [] id is = absurd (cc)
+line_within (field ∷ []) id is = id_within field id is
+line_within (field ∷ extra ∷ fields) id is = absurd (cc)
 
 -- ids that differ, within their limit, and not too many
 record AreIds (limit : ℕ) (ids : List ℕ) : Type 0 where
@@ -69,12 +74,10 @@ module _ (limit : ℕ) where
       cases false false new below is = let same : n ≡ id = cc in subst (λ m. AreIds limit (before ++ m ∷ [])) same (ids_push before n are within new (room (length before) below))
 
   id_read : (before : List ℕ) (fields : List (List ℕ)) (id : ℕ) → AreIds limit before → vertex_of limit before fields ≡ Ok id → AreIds limit (before ++ id ∷ [])
-  id_read before [] id are is = absurd (cc)
-  id_read before (field ∷ extra ∷ fields) id are is = absurd (cc)
-  id_read before (field ∷ []) id are is = cases (id_of field) refl is
+  id_read before fields id are is = cases (line_id fields) refl is
     where
-      cases : (r : Result ℕ What) → id_of field ≡ r → then_check r (new_id limit before) ≡ Ok id → AreIds limit (before ++ id ∷ [])
-      cases (Ok n) read is = id_checked before n id are (id_within field n read) is
+      cases : (r : Result ℕ What) → line_id fields ≡ r → then_check r (new_id limit before) ≡ Ok id → AreIds limit (before ++ id ∷ [])
+      cases (Ok n) read is = id_checked before n id are (line_within fields n read) is
       cases (Err what) read is = absurd (cc)
 
   ids_read : (lines : List FieldLine) (before ids : List ℕ) → AreIds limit before → ids_behind limit before lines ≡ Ok ids → AreIds limit ids

@@ -32,11 +32,15 @@ new_id limit before id =
     cond (is_among before id) (Err DuplicateVertex)
     (cond (nat_le limit (length before)) (Err TooManyRows) (Ok id))
 
--- the id of a line behind the ids of the lines before it, or the line's fault; no line is without fields
+-- the id of a line, or its fault, whatever the lines before it; no line is without fields
+abbrev pub line_id : List (List ℕ) → Result ℕ What
+line_id [] = Err MissingField
+line_id (field ∷ []) = id_of field
+line_id (field ∷ extra ∷ fields) = Err ExtraField
+
+-- the id of a line behind the ids of the lines before it, or the line's fault
 abbrev pub vertex_of : ℕ → List ℕ → List (List ℕ) → Result ℕ What
-vertex_of limit before [] = Err MissingField
-vertex_of limit before (field ∷ []) = then_check (id_of field) (new_id limit before)
-vertex_of limit before (field ∷ extra ∷ fields) = Err ExtraField
+vertex_of limit before fields = then_check (line_id fields) (new_id limit before)
 
 -- the ids of lines behind those of the lines before them, or the fault of the first line that has one
 abbrev pub ids_behind : ℕ → List ℕ → List FieldLine → Result (List ℕ) Fault

@@ -1,10 +1,11 @@
 //! Vertex files.
 
-ghost use Rattle.std.specs.Prelude.{◌≡◌, [], ◌∷◌, ◌++◌, Ok, IfOk, IfErr};
+ghost use Rattle.std.specs.Prelude.{◌≡◌, [], ◌∷◌, ◌++◌, Ok, IfOk, IfErr, IfSome};
 ghost use Rattle.graph_files.specs.Faults.{IsRefused};
-ghost use Rattle.graph_files.specs.VertexFiles.{id_of, vertex_of, vertices_of};
+ghost use Rattle.graph_files.specs.VertexFiles.{id_of, line_id, vertex_of, vertices_of};
 ghost use Rattle.graph_files.specs.Kept.{IsSetOf};
 
+use crate::distinct::are_distinct;
 use crate::refusal::{Fault, ReadRefusal, What};
 use graph_model::{Ids, MAX_ID};
 use graphalytics_io::{Fields, NumberFault, field_lines, read_number};
@@ -12,8 +13,42 @@ use items::NoMemory;
 use std::alloc::Global;
 use std::collections::BTreeSet;
 
-/// Reads the ids of a vertex file, at most `limit` of them.
+/// Reads the ids of a vertex file, at most `limit` of them. A file in which no id stands twice is gone over once; any
+/// other once more.
 pub fn read_vertices(alloc: Global, text: &[u8], limit: u64) -> Result<Ids, ReadRefusal>
+    ensures ok { IfOk result (λ ids. vertices_of limit text.now ≡ Ok ids) }
+    ensures fault { IfErr result (λ refusal. IsRefused (vertices_of limit text.now) refusal) }
+{
+    if let Some(ids) = read_unrepeated(alloc, text, limit)? {
+        return Ok(ids);
+    }
+    read_each(alloc, text, limit)
+}
+
+/// Reads the ids where no line has a fault and no id stands twice. Else it may give nothing.
+fn read_unrepeated(alloc: Global, text: &[u8], limit: u64) -> Result<Option<Ids>, NoMemory>
+    ensures { IfOk result (λ found. IfSome found (λ ids. vertices_of limit text.now ≡ Ok ids)) }
+{
+    let mut ids = Ids::new(alloc);
+    let mut lines = field_lines(text);
+    'lines: while let Some(line) = lines.next() {
+        let Ok(id) = read_line_id(line.fields) else {
+            return Ok(None)
+        };
+        if limit <= ids.len() as u64 {
+            return Ok(None);
+        }
+        ids.push(id)?;
+    }
+    if are_distinct(Vec::from_slice(alloc, ids.as_slice())?) {
+        Ok(Some(ids))
+    } else {
+        Ok(None)
+    }
+}
+
+/// Reads the ids of a vertex file, each behind those before it, up to its first fault.
+fn read_each(alloc: Global, text: &[u8], limit: u64) -> Result<Ids, ReadRefusal>
     ensures ok { IfOk result (λ ids. vertices_of limit text.now ≡ Ok ids) }
     ensures fault { IfErr result (λ refusal. IsRefused (vertices_of limit text.now) refusal) }
 {
@@ -54,14 +89,7 @@ impl Reading {
     fn check(&self, fields: Fields<'_>, limit: u64) -> Result<u64, What>
         ensures { result ≡ vertex_of limit self.now.ids fields.entry }
     {
-        let mut fields = fields;
-        let Some(field) = fields.next() else {
-            return Err(What::MissingField)
-        };
-        if fields.next().is_some() {
-            return Err(What::ExtraField);
-        }
-        let id = read_id(field)?;
+        let id = read_line_id(fields)?;
         if self.sorted.contains(&id) {
             return Err(What::DuplicateVertex);
         }
@@ -83,6 +111,20 @@ impl Reading {
         sorted.insert(id)?;
         Ok(Reading { ids, sorted })
     }
+}
+
+/// Reads the id of a line.
+fn read_line_id(fields: Fields<'_>) -> Result<u64, What>
+    ensures { result ≡ line_id fields.entry }
+{
+    let mut fields = fields;
+    let Some(field) = fields.next() else {
+        return Err(What::MissingField)
+    };
+    if fields.next().is_some() {
+        return Err(What::ExtraField);
+    }
+    read_id(field)
 }
 
 /// Reads an id.
