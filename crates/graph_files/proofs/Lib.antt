@@ -1,0 +1,7 @@
+pub mod WeightLemmas
+pub mod KnownLemmas
+pub mod EdgeLemmas
+pub mod DistinctLemmas
+pub mod UnrepeatedLemmas
+pub mod LoadLemmas
+pub mod FileLemmas

@@ -1,0 +1,7 @@
+pub mod Faults
+pub mod Weights
+pub mod VertexFiles
+pub mod EdgeFiles
+pub mod Kept
+pub mod Load
+pub mod Laws

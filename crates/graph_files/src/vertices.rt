@@ -1,0 +1,183 @@
+//! Vertex files.
+
+ghost use Rattle.std.specs.Prelude.{◌≡◌, [], ◌∷◌, ◌++◌, Ok, IfOk, IfErr, IfSome};
+ghost use Rattle.graph_files.specs.Faults.{IsRefused};
+ghost use Rattle.graph_files.specs.VertexFiles.{id_of, line_id, vertex_of, vertices_of};
+ghost use Rattle.graph_files.specs.Kept.{IsSetOf};
+
+use crate::distinct::are_distinct;
+use crate::refusal::{Fault, ReadRefusal, What};
+use graph_model::{Ids, MAX_ID};
+use graphalytics_io::{Fields, NumberFault, field_lines, read_number};
+use items::NoMemory;
+use std::alloc::Global;
+use std::collections::BTreeSet;
+
+/// Reads the ids of a vertex file, at most `limit` of them. A file in which no id stands twice is gone over once; any
+/// other once more.
+pub fn read_vertices(alloc: Global, text: &[u8], limit: u64) -> Result<Ids, ReadRefusal>
+    ensures ok { IfOk result (λ ids. vertices_of limit text.now ≡ Ok ids) }
+    ensures fault { IfErr result (λ refusal. IsRefused (vertices_of limit text.now) refusal) }
+{
+    if let Some(ids) = read_unrepeated(alloc, text, limit)? {
+        return Ok(ids);
+    }
+    read_each(alloc, text, limit)
+}
+
+/// Reads the ids where no line has a fault and no id stands twice. Else it may give nothing.
+fn read_unrepeated(alloc: Global, text: &[u8], limit: u64) -> Result<Option<Ids>, NoMemory>
+    ensures { IfOk result (λ found. IfSome found (λ ids. vertices_of limit text.now ≡ Ok ids)) }
+{
+    let mut ids = Ids::new(alloc);
+    let mut lines = field_lines(text);
+    'lines: while let Some(line) = lines.next() {
+        let Ok(id) = read_line_id(line.fields) else {
+            return Ok(None)
+        };
+        if limit <= ids.len() as u64 {
+            return Ok(None);
+        }
+        ids.push(id)?;
+    }
+    if are_distinct(Vec::from_slice(alloc, ids.as_slice())?) {
+        Ok(Some(ids))
+    } else {
+        Ok(None)
+    }
+}
+
+/// Reads the ids of a vertex file, each behind those before it, up to its first fault.
+fn read_each(alloc: Global, text: &[u8], limit: u64) -> Result<Ids, ReadRefusal>
+    ensures ok { IfOk result (λ ids. vertices_of limit text.now ≡ Ok ids) }
+    ensures fault { IfErr result (λ refusal. IsRefused (vertices_of limit text.now) refusal) }
+{
+    let mut reading = Reading::new(alloc);
+    let mut lines = field_lines(text);
+    'lines: while let Some(line) = lines.next() {
+        let number = line.number;
+        match reading.check(line.fields, limit) {
+            Ok(id) => reading = reading.with(id)?,
+            Err(what) => return Err(ReadRefusal::Fault(Fault { line: number, what })),
+        }
+    }
+    let Reading { ids, .. } = reading;
+    Ok(ids)
+}
+
+/// The ids of the lines so far.
+#[derive(Drop)]
+struct Reading {
+    ids: Ids,
+    sorted: BTreeSet<u64>,
+    ghost same: { IsSetOf sorted ids },
+}
+
+impl Reading {
+    ghost use Rattle.std.specs.Prelude.{◌≡◌};
+
+    fn new(alloc: Global) -> Reading
+        ensures { result.ids ≡ [] }
+    {
+        Reading {
+            ids: Ids::new(alloc),
+            sorted: BTreeSet::new(alloc),
+        }
+    }
+
+    /// The id of the next line.
+    fn check(&self, fields: Fields<'_>, limit: u64) -> Result<u64, What>
+        ensures { result ≡ vertex_of limit self.now.ids fields.entry }
+    {
+        let id = read_line_id(fields)?;
+        if self.sorted.contains(&id) {
+            return Err(What::DuplicateVertex);
+        }
+        if limit <= self.ids.len() as u64 {
+            return Err(What::TooManyRows);
+        }
+        Ok(id)
+    }
+
+    /// The same with an id behind the others.
+    fn with(self, id: u64) -> Result<Reading, NoMemory>
+        ensures { IfOk result (λ reading. reading.ids ≡ self.ids ++ id ∷ []) }
+    {
+        let Reading {
+            mut ids,
+            mut sorted,
+        } = self;
+        ids.push(id)?;
+        sorted.insert(id)?;
+        Ok(Reading { ids, sorted })
+    }
+}
+
+/// Reads the id of a line.
+fn read_line_id(fields: Fields<'_>) -> Result<u64, What>
+    ensures { result ≡ line_id fields.entry }
+{
+    let mut fields = fields;
+    let Some(field) = fields.next() else {
+        return Err(What::MissingField)
+    };
+    if fields.next().is_some() {
+        return Err(What::ExtraField);
+    }
+    read_id(field)
+}
+
+/// Reads an id.
+pub(crate) fn read_id(field: &[u8]) -> Result<u64, What>
+    ensures { result ≡ id_of field.now }
+{
+    match read_number(field, MAX_ID) {
+        Ok(id) => Ok(id),
+        Err(NumberFault::NotANumber) => Err(What::NotANumber),
+        Err(NumberFault::TooLarge) => Err(What::IdTooLarge),
+    }
+}
+
+#[cfg(test)]
+mod tests {
+    use super::*;
+    use std::test::Fail;
+
+    #[test]
+    fn a_vertex_file_is_read_or_its_first_fault_said(rt: HostRuntime) -> Result<(), Fail> {
+        for (text, limit, want) in [
+            ("", 0, ""),
+            ("\n# 1\n \t\r\n", 0, ""),
+            ("3\n1\n2", 3, "3 1 2 "),
+            (" 007\t\r\n\n0\r", 2, "7 0 "),
+            ("9223372036854775806\n", 1, "9223372036854775806 "),
+            ("1 x\n", 9, "line 1: extra field"),
+            ("x\n", 9, "line 1: not a number"),
+            (" # 1\n", 9, "line 1: extra field"),
+            ("1\r\r\n", 9, "line 1: not a number"),
+            ("9223372036854775807", 9, "line 1: id too large"),
+            ("1\n#\n01\nx\n", 9, "line 3: duplicate vertex"),
+            ("1\n2\n3\n", 2, "line 3: too many rows"),
+            ("1\n2\n1\n", 2, "line 3: duplicate vertex"),
+        ] {
+            let got = said_ids(rt.alloc(), text, limit)?;
+            assert_eq!(rt; got.as_str(), want, "of {text}");
+        }
+        Ok(())
+    }
+
+    /// The ids that are read, each with a blank behind it, or the refusal.
+    fn said_ids(alloc: Global, text: &str, limit: u64) -> Result<String, Fail> {
+        let mut said = String::new(alloc);
+        match read_vertices(alloc, text.as_bytes(), limit) {
+            Ok(ids) => {
+                for id in ids.as_slice() {
+                    let one = format!(in alloc; "{id} ")?;
+                    said.push_str(one.as_str())?;
+                }
+            }
+            Err(refusal) => return Ok(format!(in alloc; "{refusal}")?),
+        }
+        Ok(said)
+    }
+}
