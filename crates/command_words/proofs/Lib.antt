@@ -1,0 +1,4 @@
+pub mod AppLemmas
+pub mod NameLemmas
+pub mod NumberLemmas
+pub mod WordLemmas

@@ -1,0 +1,4 @@
+pub mod App
+pub mod Numbers
+pub mod Words
+pub mod Views
