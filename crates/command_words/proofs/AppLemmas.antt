@@ -1,12 +1,13 @@
 -- What the builder's calls make of the command as data.
-use Rattle.std.proofs.Common.{◌≡◌, List, ap, ap₂, refl, sym, ◌∙◌, true, false, Option, Some, ℕ}
-use Rattle.clap.specs.Words.{AddsArg, AddsSubcommand, App, Rule, Shape, Text, app_of, is_simple, is_simple_and_free, rule_of, shape_of, with_rule, with_subcommand}
-use Rattle.clap.specs.Simple.{app_of_fields, on_top}
+use Rattle.std.proofs.Common.{◌≡◌, List, ap, ap₂, refl, ◌∙◌, true, false}
+use Rattle.clap.specs.Words.{AddsArg, AddsSubcommand, App, Rule, Shape, Text, app_of, built, fault_of, is_simple, is_simple_and_free, rule_of, shape_of, takes, with_rule, with_subcommand}
 use Rattle.clap.specs.declared.builder.arg.Arg.{Arg}
 use Rattle.clap.specs.declared.builder.command.Command.{Command}
 use Rattle.clap.proofs.OnLiterals.{clap_on_literals}
 use Rattle.clap.proofs.SimpleLemmas.{plain_fields}
-use Rattle.command_words.specs.App.{option_rule, flag_rule, scripts_rule, teseo_app}
+use Rattle.std.specs.List.{list_all}
+use Rattle.command_words.proofs.TakesLaw.{is_none, is_open, takes_agrees}
+use Rattle.command_words.specs.App.{teseo_app}
 use Rattle.command_words.specs.Views.{leaf_app}
 
 -- one more argument is one more rule
@@ -28,3 +29,15 @@ teseo_is_simple = refl
 pub teseo_is_free : is_simple_and_free teseo_app ≡ true
 unfolding clap_on_literals teseo_app
 teseo_is_free = refl
+
+top_is_open : is_open (built teseo_app).top ≡ true
+unfolding clap_on_literals teseo_app
+top_is_open = refl
+
+subs_are_open : list_all is_open (built teseo_app).subs ≡ true
+unfolding clap_on_literals teseo_app
+subs_are_open = refl
+
+-- and the words that it takes are those at which no fault comes
+pub teseo_takes : (words : List Text) → is_none (fault_of teseo_app words) ≡ takes teseo_app words
+teseo_takes words = takes_agrees teseo_app words teseo_is_simple top_is_open subs_are_open

@@ -1,8 +1,8 @@
 -- Names by their places, and names that differ.
 use Rattle.std.proofs.Common.{◌≡◌, ℕ, zero, suc, ◌+◌, ◌-◌, ◌<◌, ◌≤◌, List, [], ◌∷◌, ◌++◌, length, get_or, map, refl, sym, ◌∙◌, ap, subst, arith, eq-or-lt_of_le, inl, inr}
-use Rattle.std.specs.Prelude.{true, false, ◌≢◌}
+use Rattle.std.specs.Prelude.{true, ◌≢◌}
 use Rattle.std.specs.Str.{bytes_eq}
-use Rattle.std.proofs.lemmas.List.{get_or-map, length-map, get_or_append_left, get_or-append-add}
+use Rattle.std.proofs.lemmas.List.{get_or-map, length-map, get_or-append-add}
 use Rattle.std.proofs.lemmas.Slice.Eq.{bytes_eq-Decides}
 use Rattle.command_words.specs.Words.{report_name}
 
@@ -16,18 +16,12 @@ up_to P low j below here b above lt = elim (eq-or-lt_of_le (let le : b ≤ j = o
 
 -- ---- names by their places
 
+-- an element behind the first three
 pub three_behind : {X : Type 0} (a b c : X) (xs : List X) (n : ℕ) (d : X) → get_or (a ∷ b ∷ c ∷ xs) (n + 3) d ≡ get_or xs n d
 three_behind a b c xs n d = let e : n + 3 ≡ suc (suc (suc n)) = omega arith in ap (λ m. get_or (a ∷ b ∷ c ∷ xs) m d) e
 
-pub one_behind : {X : Type 0} (a : X) (xs : List X) (n : ℕ) (d : X) → 0 < n → get_or (a ∷ xs) n d ≡ get_or xs (n - 1) d
-one_behind a xs zero d some = absurd (omega arith)
-one_behind a xs (suc n) d some = let e : suc n - 1 ≡ n = omega arith in ap (λ m. get_or xs m d) (sym e)
-
 module _ {X : Type 0} (text : X → List ℕ) (xs : List X) (place : ℕ) (e : X) where
-  -- a script's name, and behind all scripts the name of a report
-  pub script_at : place < length xs → get_or (map text xs ++ map report_name (map text xs)) place [] ≡ text (get_or xs place e)
-  script_at lt = get_or_append_left (map text xs) (map report_name (map text xs)) [] place (omega (arith, length-map xs text)) ∙ get_or-map text xs place e [] lt
-
+  -- behind the scripts' names stand those of their reports
   pub report_at : length xs ≤ place → place < length xs + length xs
       → get_or (map text xs ++ map report_name (map text xs)) place [] ≡ report_name (text (get_or xs (place - length xs) e))
   report_at low high =

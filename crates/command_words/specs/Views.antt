@@ -1,6 +1,6 @@
 -- What the code's types stand for.
-use Rattle.std.specs.Prelude.{◌≡◌, ⊤, ℕ, List, [], map, option_map}
-use Rattle.clap.specs.Words.{App, Row, Shape, Text, fault_of, found_of, kind_of, rows_of, subcommand_of, subcommand_rows_of}
+use Rattle.std.specs.Prelude.{◌≡◌, ⊤, true, List, [], map, option_map}
+use Rattle.clap.specs.Words.{App, Row, Shape, Text, found_of, kind_of, rows_of, subcommand_of, subcommand_rows_of, takes}
 use Rattle.clap.specs.declared.error.Error.{Error}
 use Rattle.clap.specs.declared.error.kind.ErrorKind.TheVariants.{OutOfMemory}
 use Rattle.clap.specs.declared.parser.matches.ArgMatches.{ArgMatches}
@@ -64,7 +64,7 @@ RefusesWords words = Refuses ((request : Request) × IsTaken words request)
 
 -- clap takes the words, and found for the subcommand what its definition says
 pub record IsFound (words : List Text) (matches : ArgMatches) : Type 0 where
-  pub faultless : fault_of teseo_app words ≡ []
+  pub by_clap : takes teseo_app words ≡ true
   pub subcommand : subcommand_rows_of matches ≡ subcommand_of teseo_app words
 
 -- the bytes of a name

@@ -1,9 +1,9 @@
 -- Which words are taken, and as what.
-use Rattle.std.specs.Prelude.{◌≡◌, ◌≢◌, ◌≤◌, ◌∷◌, ◌++◌, ℕ, Bool, true, List, [], map, length, codes, AllPairs, Option, Some, None, IsTrue, ◌↔◌, option_to_list}
-use Rattle.clap.specs.Words.{Row, Text, all_of, fault_of, first_of, subcommand_of}
+use Rattle.std.specs.Prelude.{◌≡◌, ◌≢◌, ◌≤◌, ◌∷◌, ◌++◌, ℕ, Bool, true, List, map, length, codes, AllPairs, Option, Some, IsTrue, ◌↔◌, option_to_list}
+use Rattle.clap.specs.Words.{Row, Text, all_of, first_of, subcommand_of, takes}
 use Rattle.graph_model.specs.declared.limits.TheConstants.{MAX_SCRIPTS}
 use Rattle.command_words.specs.App.{teseo_app}
-use Rattle.command_words.specs.Numbers.{IsNumber}
+use Rattle.command_words.specs.Numbers.{HasNumber, IsOptionalNumber}
 
 -- what the words of `run` ask for
 pub record RunRequest : Type 0 where
@@ -34,17 +34,12 @@ report_name script = script ++ codes ".report"
 
 -- the names that the words of `run` give: the two graph files, the journal, the schedule and the scripts
 abbrev pub given_names : RunRequest → List Text
-given_names request = request.vertices ∷ request.edges ∷ request.journal ∷ (option_to_list request.schedule ++ request.scripts)
+given_names request =
+    request.vertices ∷ request.edges ∷ request.journal ∷ (option_to_list request.schedule ++ request.scripts)
 
 -- the names that are taken before any script line is read: those that the words give, and the reports'
 abbrev pub taken_names : RunRequest → List Text
 taken_names request = given_names request ++ map report_name request.scripts
-
--- an option that may be left out, and whose text is a number
-abbrev pub IsOptionalNumber : ℕ → ℕ → Option Text → Option ℕ → Type 0
-IsOptionalNumber least most None value = value ≡ None
-IsOptionalNumber least most (Some text) None = ⊥
-IsOptionalNumber least most (Some text) (Some value) = IsNumber least most text value
 
 -- what clap found for the arguments of `run` gives this request. Clap gives a flag the text `true` where it is used
 pub record GivesRun (rows : List Row) (request : RunRequest) : Type 0 where
@@ -57,16 +52,12 @@ pub record GivesRun (rows : List Row) (request : RunRequest) : Type 0 where
   pub schedule : first_of (codes "schedule") rows ≡ request.schedule
   pub scripts : all_of (codes "script") rows ≡ Some request.scripts
 
--- and the request passes the checks: there are at most 60 scripts, and no two of the names and of the reports' are equal
+-- and the request passes the checks: there are at most 60 scripts, and no two of the names and of the reports' are
+-- equal
 pub record IsRun (rows : List Row) (request : RunRequest) : Type 0 where
   pub given : GivesRun rows request
   pub count : length request.scripts ≤ MAX_SCRIPTS
   pub distinct : AllPairs (λ a b. a ≢ b) (taken_names request)
-
--- an option whose text is a number
-abbrev pub HasNumber : ℕ → ℕ → Option Text → ℕ → Type 0
-HasNumber least most None value = ⊥
-HasNumber least most (Some text) value = IsNumber least most text value
 
 -- what clap found for the arguments of `make` gives this request
 pub record GivesMake (rows : List Row) (request : MakeRequest) : Type 0 where
@@ -86,10 +77,9 @@ abbrev pub IsGiven : Text → List Row → Request → Type 0
 IsGiven name rows (run request) = (name ≡ codes "run") × IsRun rows request
 IsGiven name rows (make request) = (name ≡ codes "make") × IsMake rows request
 
--- the words are taken, as this request: clap takes them, which is that it has no fault to answer, and what it found
--- for the subcommand gives the request
+-- the words are taken, as this request: clap takes them, and what it found for the subcommand gives the request
 pub record IsTaken (words : List Text) (request : Request) : Type 0 where
-  pub faultless : fault_of teseo_app words ≡ []
+  pub by_clap : takes teseo_app words ≡ true
   pub name : Text
   pub rows : List Row
   pub found : subcommand_of teseo_app words ≡ Some (name, rows)

@@ -82,7 +82,8 @@ impl<'a> RunWords<'a> {
     /// The name at a place among the scripts and their reports.
     fn script_or_report(&self, place: usize) -> TakenName<'a>
         requires { place < length self.now.scripts.items + length self.now.scripts.items }
-        ensures { taken_name result ≡ get_or ((run_request self.now).scripts ++ map report_name (run_request self.now).scripts) place [] }
+        ensures { taken_name result
+            ≡ get_or ((run_request self.now).scripts ++ map report_name (run_request self.now).scripts) place [] }
     {
         let count = self.scripts.len();
         if place < count {

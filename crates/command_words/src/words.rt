@@ -3,12 +3,14 @@
 //! 1. Clap's definitions say what it finds; the checks here are of what it found.
 //! 2. What is found gives one request at most, so a check that fails refuses the words.
 
-ghost use Rattle.std.specs.Prelude.{◌≡◌, ℕ, [], map, option_map, codes, IsTrue, ◌↔◌, Option, Some, None, IfOk, IfErr};
+ghost use Rattle.std.specs.Prelude.{◌≡◌, ℕ, true, map, option_map, codes, IsTrue, ◌↔◌, Option, Some, None, IfOk, IfErr};
 ghost use Rattle.std.specs.String.{string_bytes};
-ghost use Rattle.clap.specs.Words.{all_of, fault_of, first_of, subcommand_rows_of};
+ghost use Rattle.clap.specs.Words.{all_of, first_of, subcommand_rows_of, takes};
 ghost use Rattle.command_words.specs.App.{teseo_app};
-ghost use Rattle.command_words.specs.Words.{RunRequest, MakeRequest, IsTaken, GivesRun, IsRun, GivesMake, IsMake, HasNumber, IsOptionalNumber};
-ghost use Rattle.command_words.specs.Views.{run_request, make_request, request_of, rows_in, IsFound, Refuses, RefusesWords};
+ghost use Rattle.command_words.specs.Words.{RunRequest, MakeRequest, IsTaken, GivesRun, IsRun, GivesMake, IsMake};
+ghost use Rattle.command_words.specs.Numbers.{HasNumber, IsOptionalNumber};
+ghost use Rattle.command_words.specs.Views.{run_request, make_request, request_of, rows_in};
+ghost use Rattle.command_words.specs.Views.{IsFound, Refuses, RefusesWords};
 
 use crate::app::teseo_command;
 use crate::command::{Command, MakeWords, RunWords};
@@ -17,6 +19,18 @@ use crate::refusal::WordsRefusal;
 use clap::ArgMatches;
 use graph_model::MAX_SCRIPTS;
 use std::alloc::Global;
+
+/// How many digits of a weight may stand behind the point.
+const MAX_WEIGHT_DIGITS: u64 = 9;
+
+/// How few vertices may be made.
+const MIN_MADE_VERTICES: u64 = 2;
+
+/// How many vertices may be made.
+const MAX_MADE_VERTICES: u64 = 1000000;
+
+/// How many edges may be made.
+const MAX_MADE_EDGES: u64 = 3000000;
 
 /// What the words ask for, the words behind the program's name.
 pub fn read_words<'a>(alloc: Global, words: &'a [String]) -> Result<Command<'a>, WordsRefusal>
@@ -39,7 +53,7 @@ pub fn read_words<'a>(alloc: Global, words: &'a [String]) -> Result<Command<'a>,
 /// What clap finds in the words.
 fn parse_words<'a>(alloc: Global, words: &'a [String]) -> Result<ArgMatches<'a>, WordsRefusal>
     ensures found { IfOk result (IsFound (map string_bytes words.entry.now)) }
-    ensures refused { IfErr result (Refuses (fault_of teseo_app (map string_bytes words.entry.now) ≡ [])) }
+    ensures refused { IfErr result (Refuses (takes teseo_app (map string_bytes words.entry.now) ≡ true)) }
 {
     let command = teseo_command(alloc)?;
     Ok(command.try_get_matches_from(words)?)
@@ -107,8 +121,8 @@ fn given_make<'a>(found: &ArgMatches<'a>) -> Result<MakeWords<'a>, WordsRefusal>
     ensures refused { IfErr result (Refuses ((request : MakeRequest) × GivesMake (rows_in found.now) request)) }
 {
     let seed = number_in(found, "seed", 0, u64::MAX)?;
-    let vertices = number_in(found, "vertices", 2, 1000000)?;
-    let edges = number_in(found, "edges", 0, 3000000)?;
+    let vertices = number_in(found, "vertices", MIN_MADE_VERTICES, MAX_MADE_VERTICES)?;
+    let edges = number_in(found, "edges", 0, MAX_MADE_EDGES)?;
     let out = text_in(found, "out")?;
     let edges_out = text_in(found, "edges-out")?;
     Ok(MakeWords {
@@ -151,7 +165,8 @@ fn is_used(found: &ArgMatches<'_>, name: &str) -> bool
 /// The number of an option that has to be given.
 fn number_in(found: &ArgMatches<'_>, name: &str, least: u64, most: u64) -> Result<u64, WordsRefusal>
     ensures given { IfOk result (HasNumber least most (first_of name.now (rows_in found.now))) }
-    ensures refused { IfErr result (λ _. (number : ℕ) → HasNumber least most (first_of name.now (rows_in found.now)) number → ⊥) }
+    ensures refused { IfErr result (λ _. (number : ℕ)
+        → HasNumber least most (first_of name.now (rows_in found.now)) number → ⊥) }
 {
     let text = text_in(found, name)?;
     match read_number(text, least, most) {
@@ -163,12 +178,13 @@ fn number_in(found: &ArgMatches<'_>, name: &str, least: u64, most: u64) -> Resul
 /// How many digits of a weight stand behind the point, where the edges have weights.
 fn weights_in(found: &ArgMatches<'_>) -> Result<Option<u8>, WordsRefusal>
     ensures given { IfOk result (IsOptionalNumber 0 9 (first_of (codes "weights") (rows_in found.now))) }
-    ensures refused { IfErr result (λ _. (digits : Option ℕ) → IsOptionalNumber 0 9 (first_of (codes "weights") (rows_in found.now)) digits → ⊥) }
+    ensures refused { IfErr result (λ _. (digits : Option ℕ)
+        → IsOptionalNumber 0 9 (first_of (codes "weights") (rows_in found.now)) digits → ⊥) }
 {
     let Some(text) = optional_text(found, "weights") else {
         return Ok(None)
     };
-    match read_number(text, 0, 9) {
+    match read_number(text, 0, MAX_WEIGHT_DIGITS) {
         Some(digits) => Ok(Some(digits as u8)),
         None => Err(WordsRefusal::BadWords),
     }
@@ -176,8 +192,10 @@ fn weights_in(found: &ArgMatches<'_>) -> Result<Option<u8>, WordsRefusal>
 
 /// The names of the scripts.
 fn scripts_in<'a>(alloc: Global, found: &ArgMatches<'a>) -> Result<Vec<&'a str>, WordsRefusal>
-    ensures given { IfOk result (λ scripts. all_of (codes "script") (rows_in found.now) ≡ Some (map (λ name. name.now) scripts.items)) }
-    ensures refused { IfErr result (Refuses ((scripts : _) × (all_of (codes "script") (rows_in found.now) ≡ Some scripts))) }
+    ensures given { IfOk result (λ scripts.
+        all_of (codes "script") (rows_in found.now) ≡ Some (map (λ name. name.now) scripts.items)) }
+    ensures refused { IfErr result (Refuses ((scripts : _)
+        × (all_of (codes "script") (rows_in found.now) ≡ Some scripts))) }
 {
     let Some(names) = found.get_raw("script") else {
         return Err(WordsRefusal::BadWords)

@@ -1,4 +1,3 @@
-use Rattle.std.proofs.Common.{◌≡◌}
 use Rattle.std.proofs.lemmas.Result.{IfOk-weaker}
 use Rattle.command_words.proofs.AppLemmas.{one_more}
 use Rattle.command_words.proofs.app.run_command.Goals as goal

@@ -1,6 +1,6 @@
-use Rattle.std.proofs.Common.{rules, ◌≡◌, refl, sym, codes, ap, true, false, [], ◌∙◌}
+use Rattle.std.proofs.Common.{◌≡◌, refl, codes, ap, true, [], ◌∙◌}
 use Rattle.std.proofs.lemmas.Result.{IfOk-weaker}
-use Rattle.clap.specs.Words.{App, Shape, app_of, new_app}
+use Rattle.clap.specs.Words.{App, app_of, new_app}
 use Rattle.clap.specs.Simple.{app_of_fields, new_shape, on_top}
 use Rattle.command_words.specs.App.{teseo_app}
 use Rattle.command_words.proofs.AppLemmas.{one_below}
