@@ -1,0 +1,5 @@
+pub mod AppLemmas
+pub mod NameLemmas
+pub mod NumberLemmas
+pub mod TakesLaw
+pub mod WordLemmas

@@ -1,0 +1,5 @@
+pub mod App
+pub mod Numbers
+pub mod Words
+pub mod Laws
+pub mod Views

@@ -1,0 +1,110 @@
+//! What the words ask for.
+
+ghost use Rattle.std.specs.Prelude.{◌≡◌, ◌≢◌, ◌↔◌, ◌+◌, ◌<◌, [], ◌++◌, map, length, get_or, AllPairs, IsTrue};
+ghost use Rattle.command_words.specs.Words.{taken_names, report_name};
+ghost use Rattle.command_words.specs.Views.{run_request, taken_name};
+
+use crate::names::TakenName;
+
+/// What the words ask for.
+#[derive(Debug, Drop)]
+pub enum Command<'a> {
+    Run(RunWords<'a>),
+    Make(MakeWords<'a>),
+}
+
+/// The words of `run`.
+#[derive(Debug, Drop)]
+pub struct RunWords<'a> {
+    pub vertices: &'a str,
+    pub edges: &'a str,
+    pub journal: &'a str,
+    pub is_directed: bool,
+    /// How many digits of a weight stand behind the point, 0 to 9, where the edges have weights.
+    pub weights: Option<u8>,
+    /// Whether further digits of a weight are dropped.
+    pub is_cut: bool,
+    pub schedule: Option<&'a str>,
+    /// The names of the scripts, in the order of the words.
+    pub scripts: Vec<&'a str>,
+}
+
+/// The words of `make`.
+#[derive(Clone, Copy, Debug)]
+pub struct MakeWords<'a> {
+    pub seed: u64,
+    pub vertices: u32,
+    pub edges: u32,
+    /// The name of the vertex file.
+    pub out: &'a str,
+    /// The name of the edge file.
+    pub edges_out: &'a str,
+}
+
+impl<'a> RunWords<'a> {
+    /// How many names are taken before any script line is read.
+    pub fn taken_len(&self) -> usize
+        ensures { result ≡ length (taken_names (run_request self.now)) }
+    {
+        let schedules = match self.schedule {
+            Some(_) => 1,
+            None => 0,
+        };
+        let scripts = self.scripts.as_slice().len();
+        3 + schedules + scripts + scripts
+    }
+
+    /// The name at a place among those that are taken before any script line is read.
+    pub fn taken(&self, place: usize) -> TakenName<'a>
+        requires { place < length (taken_names (run_request self.now)) }
+        ensures { taken_name result ≡ get_or (taken_names (run_request self.now)) place [] }
+    {
+        match place {
+            0 => TakenName::Given(self.vertices),
+            1 => TakenName::Given(self.edges),
+            2 => TakenName::Given(self.journal),
+            _ => self.taken_behind_journal(place - 3),
+        }
+    }
+
+    /// The name at a place among the schedule, the scripts and their reports.
+    fn taken_behind_journal(&self, place: usize) -> TakenName<'a>
+        requires { place + 3 < length (taken_names (run_request self.now)) }
+        ensures { taken_name result ≡ get_or (taken_names (run_request self.now)) (place + 3) [] }
+    {
+        match self.schedule {
+            None => self.script_or_report(place),
+            Some(schedule) if place == 0 => TakenName::Given(schedule),
+            Some(_) => self.script_or_report(place - 1),
+        }
+    }
+
+    /// The name at a place among the scripts and their reports.
+    fn script_or_report(&self, place: usize) -> TakenName<'a>
+        requires { place < length self.now.scripts.items + length self.now.scripts.items }
+        ensures { taken_name result
+            ≡ get_or ((run_request self.now).scripts ++ map report_name (run_request self.now).scripts) place [] }
+    {
+        let count = self.scripts.len();
+        if place < count {
+            TakenName::Given(self.scripts[place])
+        } else {
+            TakenName::ReportOf(self.scripts[place - count])
+        }
+    }
+
+    /// Whether the names that are taken are pairwise different.
+    pub(crate) fn has_distinct_names(&self) -> bool
+        ensures { IsTrue result ↔ AllPairs (λ a b. a ≢ b) (taken_names (run_request self.now)) }
+    {
+        let count = self.taken_len();
+        'firsts: for i in 0..count {
+            'seconds: for j in i + 1..count {
+                if self.taken(i).is(self.taken(j)) {
+                    return false;
+                }
+            }
+        }
+        true
+    }
+}

@@ -1,0 +1,32 @@
+//! Words that are numbers.
+
+ghost use Rattle.std.specs.Prelude.{◌≡◌, ℕ, IfSome, IfNone, IsTrue, ◌↔◌, Some, slice_get};
+ghost use Rattle.command_words.specs.Numbers.{IsNumber};
+
+/// How many digits a number may have.
+const MAX_DIGITS: usize = 20;
+
+/// The number that the text is: 1 to 20 ASCII digits with a value in the range. Takes no memory.
+pub(crate) fn read_number(text: &str, least: u64, most: u64) -> Option<u64>
+    ensures number { IfSome result (IsNumber least most text.now) }
+    ensures none { IfNone result ((number : ℕ) → IsNumber least most text.now number → ⊥) }
+{
+    if text.len() > MAX_DIGITS {
+        return None;
+    }
+    if has_plus(text) {
+        return None;
+    }
+    let number = text.parse::<u64>().ok()?;
+    if number < least || number > most {
+        return None;
+    }
+    Some(number)
+}
+
+/// Whether a plus stands first.
+fn has_plus(text: &str) -> bool
+    ensures { IsTrue result ↔ (slice_get text.now 0 ≡ Some 43) }
+{
+    text.as_bytes().first() == Some(&b'+')
+}
