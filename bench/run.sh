@@ -1,11 +1,13 @@
 #!/usr/bin/env bash
 # Builds the program, runs the whole command on graphs of three sizes and two kinds, and prints a table. Then it runs
-# many scripts of short transactions, and prints a second one. All inputs are made from a seed in a temporary folder,
-# which is removed at the end. RUNS=N and SEED=N change how often each is run (3), and which inputs they are (1).
+# many scripts of short transactions, and prints a second one, and at last the image and the kernels by themselves, and
+# prints a third. All inputs are made from a seed in a temporary folder, which is removed at the end. RUNS=N and SEED=N
+# change how often each is run (3), and which inputs they are (1). ONLY=kernels leaves out all but the third table.
 set -euo pipefail
 
 top=$(cd "$(dirname "$0")/.." && pwd)
 program=$top/crates/teseo/out/teseo
+kernels=$top/crates/kernel_bench/out/kernel_bench
 runs=${RUNS:-3}
 seed=${SEED:-1}
 
@@ -74,31 +76,71 @@ measure_transactions() {
         "$(load)"
 }
 
-make -s -C "$top" build >/dev/null
+# The least and the greatest time of each part, in milliseconds, of the lines that kernel_bench prints, by name.
+bounds() {
+    sort -k 1,1 -k 2,2n | awk '
+        $1 != name { if (name != "") print name, least / 1000, most / 1000; name = $1; least = $2 }
+        { most = $2 }
+        END { print name, least / 1000, most / 1000 }'
+}
+
+# Prints the third table's rows: the image and the kernels on one core, and on all.
+measure_kernels() {
+    local vertices=1000000
+    local edges=$((vertices * 7 / 2))
+    taskset -c 0 "$kernels" "$vertices" "$edges" "$seed" "$runs" | bounds >one_core
+    "$kernels" "$vertices" "$edges" "$seed" "$runs" | bounds >all_cores
+    join one_core all_cores | while read -r name one_best one_worst all_best all_worst; do
+        printf '| %-5s | %9.0f | %10.0f | %9.0f | %10.0f |\n' "$name" "$one_best" "$one_worst" "$all_best" "$all_worst"
+    done
+}
+
+# Prints the first two tables.
+print_runs() {
+    local vertices kind scripts
+    echo '| Kind      | Vertices |    Edges |   Best |  Worst | Processor | Memory | ns row |  Load |'
+    echo '|-----------|---------:|---------:|-------:|-------:|----------:|-------:|-------:|------:|'
+    for vertices in 1000 100000 1000000; do
+        for kind in random power-law; do
+            measure "$kind" "$vertices" $((vertices * 7 / 2))
+        done
+    done
+    echo
+    echo "Best and Worst are seconds of the whole command by the clock, Processor is the least seconds of processor time"
+    echo "of a run, Memory is the peak in MiB, ns row is Best in nanoseconds for each row of the store (one for a vertex,"
+    echo "and one for each direction of an edge), and Load is that of the last minute when the runs ended."
+    echo
+    echo '| Scripts | Transactions |   Best |  Worst | Processor | Memory | Graph  | a second |  Load |'
+    echo '|--------:|-------------:|-------:|-------:|----------:|-------:|-------:|---------:|------:|'
+    for scripts in 1 60; do
+        measure_transactions "$scripts" 10000
+    done
+    echo
+    echo "Each script has so many transactions of one edge each, which take their lines in turn with those of the other"
+    echo "scripts. Graph is the best time of a run with one empty transaction on the same graph; a second is the"
+    echo "number of all transactions by what is left of Best without it, with the scripts' reading and their reports."
+    echo
+}
+
+# Builds the program, unless the kernels alone are wanted, and what times the kernels. `rt run` builds a program only
+# to run it; with no words it does nothing.
+build() {
+    [ "${ONLY:-}" = kernels ] || make -s -C "$top" build >/dev/null
+    (cd "$top/crates/kernel_bench" && rt run >/dev/null 2>&1)
+}
+
+build
 work=$(mktemp -d)
 trap 'rm -rf "$work"' EXIT
 cd "$work"
 
 echo "$(getconf _NPROCESSORS_ONLN) cores, load $(load); $runs runs of each, seed $seed"
 echo
-echo '| Kind      | Vertices |    Edges |   Best |  Worst | Processor | Memory | ns row |  Load |'
-echo '|-----------|---------:|---------:|-------:|-------:|----------:|-------:|-------:|------:|'
-for vertices in 1000 100000 1000000; do
-    for kind in random power-law; do
-        measure "$kind" "$vertices" $((vertices * 7 / 2))
-    done
-done
+[ "${ONLY:-}" = kernels ] || print_runs
+echo '| Part  | One, best | One, worst | All, best | All, worst |'
+echo '|-------|----------:|-----------:|----------:|-----------:|'
+measure_kernels
 echo
-echo "Best and Worst are seconds of the whole command by the clock, Processor is the least seconds of processor time"
-echo "of a run, Memory is the peak in MiB, ns row is Best in nanoseconds for each row of the store (one for a vertex,"
-echo "and one for each direction of an edge), and Load is that of the last minute when the runs ended."
-echo
-echo '| Scripts | Transactions |   Best |  Worst | Processor | Memory | Graph  | a second |  Load |'
-echo '|--------:|-------------:|-------:|-------:|----------:|-------:|-------:|---------:|------:|'
-for scripts in 1 60; do
-    measure_transactions "$scripts" 10000
-done
-echo
-echo "Each script has so many transactions of one edge each, which take their lines in turn with those of the other"
-echo "scripts. Graph is the best time of a run with one empty transaction on the same graph; a second is the"
-echo "number of all transactions by what is left of Best without it, with the scripts' reading and their reports."
+echo "Milliseconds on a power-law graph of 1,000,000 vertices and 3,500,000 weighted edges, from rows in memory to the"
+echo "table in memory: on one core, and on all. image is made from the rows, bfs and sssp begin at the heaviest vertex,"
+echo "cdlp has ten rounds. Load is $(load) now."

@@ -6,7 +6,7 @@ use Rattle.std.proofs.lemmas.Option.{same_Some, none-some, slice_get_within}
 use Rattle.graph_model.specs.declared.limits.TheConstants.{MAX_WEIGHT}
 use Rattle.graph_model.specs.declared.row.Key.{Key}
 use Rattle.graph_model.specs.declared.row.Row.{Row}
-use Rattle.graph_model.specs.Rows.{is_below, vertex_key}
+use Rattle.graph_model.specs.Rows.{is_below}
 use Rattle.graph_image.specs.Building.{AreStorable, AreEnded, HasVertexRow}
 use Rattle.graph_image.proofs.Lists.{below_cases, get_push_cases, get_within}
 

@@ -135,7 +135,8 @@ mod tests {
             1,
             &[(1, 0), (2, 1), (3, 2), (4, NO_WALK)],
         )?;
-        check(&rt, alloc, &path, 9, &[])?;
+        let one_arc = rows_of(alloc, &[(1, 0), (1, 3), (2, 0)])?;
+        check(&rt, alloc, &one_arc, 3, &[])?;
         check(&rt, alloc, &one_way, 2, &[(1, 2), (2, 0), (3, 1)])
     }
 }

@@ -1,5 +1,5 @@
 -- Arcs that are told to be the same.
-use Rattle.std.proofs.Common.{◌≡◌, List, [], ◌∷◌, Bool, false, true, ap}
+use Rattle.std.proofs.Common.{◌≡◌, List, [], ◌∷◌, Bool, false, true}
 use Rattle.std.specs.Prelude.{◌==◌, ◌&&◌}
 use Rattle.std.specs.Cmp.Lexicographic.{pointwise}
 use Rattle.std.proofs.lemmas.Bool.{and_parts, eqb-true}

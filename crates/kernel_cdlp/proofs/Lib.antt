@@ -1,5 +1,6 @@
 mod ArcLemmas
 pub mod FrequencyLemmas
+pub mod KeptLemmas
 pub mod PartLemmas
 pub mod RisingLemmas
 pub mod RoundLemmas

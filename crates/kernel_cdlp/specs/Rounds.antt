@@ -1,5 +1,5 @@
 -- Rounds of labels over places. A label is a place.
-use Rattle.std.specs.Prelude.{◌≡◌, ℕ, ◌<◌, ◌++◌, List, map, length, slice_index, slice_get, Some}
+use Rattle.std.specs.Prelude.{◌≡◌, ℕ, ◌<◌, ◌++◌, Bool, false, List, map, length, slice_index, slice_get, Some}
 use Rattle.graph_model.specs.declared.write.Kind.TheVariants.{Directed}
 use Rattle.graph_model.specs.declared.table.Value.{Value}
 use Rattle.graph_model.specs.declared.table.Value.TheVariants.{Number}
@@ -23,6 +23,26 @@ pub record IsNextLabel (image : Places) (labels : List ℕ) (p x : ℕ) : Type 0
 pub record IsRound (image : Places) (old new : List ℕ) : Type 0 where
   pub count : length new ≡ length image.vertices
   pub each : (p : ℕ) → p < length image.vertices → IsNextLabel image old p (slice_index new p)
+
+-- ---- labels that stay
+
+-- none of the labels at the other ends of the arcs has changed
+abbrev pub HaveNotChanged : List Bool → List Arc → Type 0
+HaveNotChanged changed arcs = (k : ℕ) (a : Arc) → slice_get arcs k ≡ Some a → slice_get changed a.other ≡ Some false
+
+-- none of the labels that p meets has changed
+abbrev pub IsQuiet : Places → List Bool → ℕ → Type 0
+IsQuiet image changed p = HaveNotChanged changed (arcs_at image.out p) × HaveNotChanged changed (arcs_at image.into p)
+
+-- a place none of whose labels met has changed in the round before has its next label already
+pub record IsKept (image : Places) (labels : List ℕ) (changed : List Bool) : Type 0 where
+  pub count : length changed ≡ length image.vertices
+  pub each : (p : ℕ) → p < length image.vertices → IsQuiet image changed p → IsNextLabel image labels p (slice_index labels p)
+
+-- a place that isn't marked has the label that it had before
+pub record AreMarked (before after : List ℕ) (changed : List Bool) : Type 0 where
+  pub count : length changed ≡ length after
+  pub each : (p : ℕ) → slice_get changed p ≡ Some false → slice_index after p ≡ slice_index before p
 
 -- there is a label for each of n places, and each label is one of them
 pub record AreBelow (n : ℕ) (labels : List ℕ) : Type 0 where

@@ -1,12 +1,12 @@
 //! Parts of the places.
 
-ghost use Rattle.std.specs.Prelude.{◌≡◌, ◌+◌, ◌<◌, ◌≤◌, length, IfOk};
-ghost use Rattle.graph_image.specs.Images.{arcs_at};
-ghost use Rattle.kernel_cdlp.specs.Rounds.{AreBelow, IsNextLabel};
+ghost use Rattle.std.specs.Prelude.{◌≡◌, ◌+◌, ◌<◌, ◌≤◌, length, IfOk, IsTrue};
+ghost use Rattle.graph_image.specs.Images.{arcs_at, AreWithin};
+ghost use Rattle.kernel_cdlp.specs.Rounds.{AreBelow, IsNextLabel, HaveNotChanged, IsQuiet, IsKept};
 ghost use Rattle.kernel_cdlp.specs.Parts.{IsPart, IsRelabelled, AreParts};
 
 use crate::frequency::{meet, most_frequent};
-use graph_image::{Image, NoMemory};
+use graph_image::{Arc, Image, NoMemory};
 use std::alloc::Global;
 
 /// A part has about so many arcs: enough to be worth a thread, and few enough to share out evenly.
@@ -25,13 +25,15 @@ pub struct Part {
 
 impl Part {
     /// Gives each place of the part its label after a round.
-    pub fn relabel(&mut self, image: &Image, labels: &[u32])
+    pub fn relabel(&mut self, image: &Image, labels: &[u32], changed: &[bool])
         requires part { IsPart image.now self.old }
         requires labels { AreBelow (length image.now.vertices) labels.now }
+        requires kept { IsKept image.now labels.now changed.now }
         ensures { IsRelabelled image.now labels.now self.old self.new }
     {
         'places: for k in 0..self.labels.len() {
-            let label = next_label(image, labels, self.first + k, self.met.as_mut_slice());
+            let place = self.first + k;
+            let label = next_label(image, labels, changed, place, self.met.as_mut_slice());
             self.labels[k] = label;
         }
     }
@@ -74,14 +76,40 @@ fn part_from(alloc: Global, image: &Image, first: usize) -> Result<Part, NoMemor
     Ok(Part { first, labels, met })
 }
 
+/// Whether none of the labels that a place meets has changed.
+fn is_quiet(image: &Image, changed: &[bool], place: usize) -> bool
+    requires place { place < length image.now.vertices }
+    requires count { length changed.now ≡ length image.now.vertices }
+    ensures { IsTrue result → IsQuiet image.now changed.now place }
+{
+    have_not_changed(image.out(place), changed) && have_not_changed(image.into(place), changed)
+}
+
+/// Whether none of the labels at the other ends of the arcs has changed.
+fn have_not_changed(arcs: &[Arc], changed: &[bool]) -> bool
+    requires { AreWithin (length changed.now) arcs.now }
+    ensures { IsTrue result → HaveNotChanged changed.now arcs.now }
+{
+    'arcs: for i in 0..arcs.len() {
+        if changed[arcs[i].other as usize] {
+            return false;
+        }
+    }
+    true
+}
+
 /// The label of a place after a round. Where its arcs in are those out, it reads these alone: each label
 /// would stand twice as often.
-fn next_label(image: &Image, labels: &[u32], place: usize, met: &mut [u32]) -> u32
+fn next_label(image: &Image, labels: &[u32], changed: &[bool], place: usize, met: &mut [u32]) -> u32
     requires place { place < length image.now.vertices }
     requires labels { AreBelow (length image.now.vertices) labels.now }
+    requires kept { IsKept image.now labels.now changed.now }
     requires room { length (arcs_at image.now.out place) + length (arcs_at image.now.into place) ≤ length met.old }
     ensures { IsNextLabel image.now labels.now place result }
 {
+    if is_quiet(image, changed, place) {
+        return labels[place];
+    }
     let out = image.out(place);
     let into = image.into(place);
     meet(out, labels, met, 0);

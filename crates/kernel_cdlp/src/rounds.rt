@@ -4,7 +4,7 @@ ghost use Rattle.std.specs.Prelude.{◌≡◌, ◌<◌, ◌^◌, length, IfOk, O
 ghost use Rattle.std.specs.List.{range_with_len};
 ghost use Rattle.graph_model.specs.Graph.{Graph};
 ghost use Rattle.graph_image.specs.Images.{IsImageOf};
-ghost use Rattle.kernel_cdlp.specs.Rounds.{AreBelow, AreLabels, IsRound};
+ghost use Rattle.kernel_cdlp.specs.Rounds.{AreBelow, AreLabels, IsRound, IsKept, AreMarked};
 ghost use Rattle.kernel_cdlp.specs.Parts.{IsPart, IsRelabelled, AreParts, AreRelabelled};
 
 use crate::part::{Part, parts_of};
@@ -24,10 +24,16 @@ pub fn labels_after<R: Threads + Sync>(
     ensures labels { IfOk result (λ labels. (g : Graph) → IsImageOf image.now g
         → AreLabels g image.now.vertices rounds labels.items) }
 {
-    let mut labels = first_labels(alloc, image.len())?;
+    let count = image.len();
+    let mut labels = first_labels(alloc, count)?;
+    let mut before = Vec::with_capacity(alloc, count)?;
+    let mut changed = vec![in alloc; true; count]?;
     let mut parts = parts_of(alloc, image)?;
     'rounds: for _round in 0..rounds {
-        round(rt, image, &mut parts, &mut labels)?;
+        before.clear();
+        before.extend_from_slice(labels.as_slice())?;
+        round(rt, image, &mut parts, &mut labels, changed.as_slice())?;
+        mark(before.as_slice(), labels.as_slice(), &mut changed);
     }
     Ok(labels)
 }
@@ -44,19 +50,32 @@ fn first_labels(alloc: Global, count: usize) -> Result<Vec<u32>, NoMemory>
     Ok(labels)
 }
 
+/// Marks the places whose labels differ.
+fn mark(before: &[u32], after: &[u32], changed: &mut Vec<bool>)
+    requires before { length before.now ≡ length after.now }
+    requires count { length changed.old.items ≡ length after.now }
+    ensures { AreMarked before.now after.now changed.new.items }
+{
+    'places: for place in 0..after.len() {
+        changed[place] = after[place] != before[place];
+    }
+}
+
 /// A round: the parts side by side, and then their labels behind each other.
 fn round<R: Threads + Sync>(
     rt: &R,
     image: &Image,
     parts: &mut Vec<Part>,
     labels: &mut Vec<u32>,
+    changed: &[bool],
 ) -> Result<(), NoMemory>
     requires parts { AreParts image.now (length image.now.vertices) parts.old.items }
     requires labels { AreBelow (length image.now.vertices) labels.old.items }
+    requires kept { IsKept image.now labels.old.items changed.now }
     ensures parts { AreParts image.now (length image.now.vertices) parts.new.items }
     ensures ok { OnOk result (IsRound image.now labels.old.items labels.new.items) }
 {
-    relabel_each(rt, image, labels.as_slice(), parts.as_mut_slice());
+    relabel_each(rt, image, labels.as_slice(), changed, parts.as_mut_slice());
     labels.clear();
     'parts: for i in 0..parts.len() {
         labels.extend_from_slice(parts[i].labels.as_slice())?;
@@ -65,9 +84,16 @@ fn round<R: Threads + Sync>(
 }
 
 /// Gives the places of each part their labels.
-fn relabel_each<R: Threads + Sync>(rt: &R, image: &Image, labels: &[u32], parts: &mut [Part])
+fn relabel_each<R: Threads + Sync>(
+    rt: &R,
+    image: &Image,
+    labels: &[u32],
+    changed: &[bool],
+    parts: &mut [Part],
+)
     requires parts { AreParts image.now (length image.now.vertices) parts.old }
     requires labels { AreBelow (length image.now.vertices) labels.now }
+    requires kept { IsKept image.now labels.now changed.now }
     ensures parts { AreParts image.now (length image.now.vertices) parts.new }
     ensures labels { AreRelabelled image.now labels.now parts.new }
 {
@@ -75,8 +101,9 @@ fn relabel_each<R: Threads + Sync>(rt: &R, image: &Image, labels: &[u32], parts:
         rt,
         parts,
         |_place: usize, part: &mut Part|
-            requires { IsPart image.now part.old × AreBelow (length image.now.vertices) labels.now }
+            requires { IsPart image.now part.old × AreBelow (length image.now.vertices) labels.now
+                × IsKept image.now labels.now changed.now }
             ensures { IsRelabelled image.entry.now labels.entry.now part.old part.new }
-        { part.relabel(image, labels) },
+        { part.relabel(image, labels, changed) },
     );
 }

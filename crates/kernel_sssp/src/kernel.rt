@@ -156,6 +156,7 @@ mod tests {
         check(&rt, alloc, &both_ways, 1, &by_two)?;
         let one_way = [row(1, 0, 0), row(1, 3, 4), row(2, 0, 0)];
         let image = check(&rt, alloc, &one_way, 1, &[reached(1, 0), reached(2, 4)])?;
+        assert_eq!(&rt; image.position(3), None, "3 is no vertex");
         let no_vertex = run(&rt, alloc, &image, 3).err();
         assert_eq!(&rt; no_vertex, Some(KernelRefusal::NoRoot), "from 3");
         Ok(())

@@ -1,4 +1,4 @@
-use Rattle.std.proofs.Common.{◌≡◌, ◌-◌, ◌<◌, rules, slice_get, Some, get_or, sym, ap, ◌∙◌, subst, arith}
+use Rattle.std.proofs.Common.{slice_get, sym, ap, ◌∙◌, arith}
 use Rattle.std.proofs.lemmas.Option.{slice_get-get_or}
 use Rattle.kernel_bench.proofs.CheckLemmas.{end_more, all_ended}
 use Rattle.kernel_bench.proofs.checks.are_ended.Goals as goal

@@ -3,6 +3,9 @@ use Rattle.kernel_cdlp.proofs.ArcLemmas.{same_items, same_arc}
 use Rattle.kernel_cdlp.proofs.RoundLemmas.{next_once, next_both}
 use Rattle.kernel_cdlp.proofs.part.next_label.Goals as goal
 
+pub returns-then-is_quiet : goal.returns-then-is_quiet
+returns-then-is_quiet c = c.requires.kept.each c.args.place c.requires.place (c.is_quiet.ensures c.if-is_quiet.true)
+
 pub returns-then-eq : goal.returns-then-eq
 returns-then-eq c =
     let same = same_items _ same_arc c.out-out.result.now c.into-into.result.now (sym c.eq.ensures ∙ c.if-eq.true) in
