@@ -1,3 +1,4 @@
+pub mod BuildLemmas
 pub mod ScanLemmas
 pub mod CoreLemmas
 pub mod LineLemmas

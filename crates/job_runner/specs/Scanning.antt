@@ -10,6 +10,7 @@ use Rattle.run_model.specs.declared.answer.Answer.TheVariants as answers
 use Rattle.graph_model.specs.Graph.{Graph}
 use Rattle.graph_model.specs.Rows.{rows, all_rows}
 use Rattle.graph_model.specs.Scans.{rows_left}
+use Rattle.graph_image.specs.Building.{AreStorable}
 use Rattle.run_model.specs.Requests.{Query, WeightOf, NeighboursOf, Counts, Request, ToBegin, ToCommit, ToAbort, ToWrite, ToRead, ToRun}
 use Rattle.job_runner.specs.declared.scan.Scan.{Scan}
 use Rattle.job_runner.specs.declared.scan.ScanResult.{ScanResult}
@@ -36,6 +37,12 @@ abbrev pub vertices_in : ScanResult → ℕ
 vertices_in (Targets ids) = 0
 vertices_in (Vertices count) = count
 vertices_in (Rows kept) = 0
+
+-- so many rows with these: those for an image may be pushed, where there are places for so many
+abbrev pub FitIn : ScanResult → List Row → ℕ → Type 0
+FitIn (Targets ids) more count = Unit {0}
+FitIn (Vertices n) more count = Unit {0}
+FitIn (Rows kept) more count = count < 2 ^ 32 → AreStorable (kept ++ more)
 
 -- `neighbours` keeps the targets, `count` the number of vertices
 abbrev pub IsQueryResult : Query → List Row → ScanResult → Type 0

@@ -7,7 +7,8 @@
 
 ghost use Rattle.std.specs.Prelude.{◌≡◌, ◌<◌, ◌≤◌, false, Some, None, length, IsSome, IfSome, IfOk, OnErr, List};
 ghost use Rattle.graph_model.specs.declared.limits.TheConstants.{MAX_ID};
-ghost use Rattle.graph_model.specs.OwnerCalls.{current, with_current, ended_pass, WritesHere};
+ghost use Rattle.graph_model.specs.Account.{IsValid};
+ghost use Rattle.graph_model.specs.OwnerCalls.{account_here, current, with_current, ended_pass, WritesHere};
 ghost use Rattle.graph_model.specs.Graph.{Graph};
 ghost use Rattle.graph_model.specs.Refused.{IsWithinLimits};
 ghost use Rattle.run_model.specs.declared.answer.Answer.TheVariants as answers;
@@ -21,7 +22,8 @@ use crate::answering::{LineAnswer, LineTurn};
 use crate::phase::Phase;
 use crate::scan::Scan;
 use crate::table::{Kernel, NamedTable, copy_of, kernel_table};
-use graph_model::{BeginRefusal, KernelRefusal, Kind, NoMemory, Refusal, Row, StepEngine, Write};
+use graph_image::Builder;
+use graph_model::{BeginRefusal, KernelRefusal, Kind, NoMemory, Refusal, StepEngine, Write};
 use run_model::{Answer, Command, Name};
 use std::alloc::Global;
 use std::thread::Threads;
@@ -223,6 +225,7 @@ fn advance<E: StepEngine>(
     before: Option<Scan>,
     fresh: Scan,
 ) -> Result<Scan, NoMemory>
+    requires valid { IsValid (account_here (E.core engine.old)) }
     requires current { IsSome (current (E.core engine.old)).start }
     requires scans { (r : Request) × IfSome before (IsScan (view_here (E.core engine.old)) r)
         × IsScan (view_here (E.core engine.old)) r fresh }
@@ -300,7 +303,7 @@ fn run_kernel<R: Threads + Sync, E: StepEngine>(
         return Ok(LineTurn::Scanning { scan });
     }
     let rows = scan.into_rows();
-    let given = answer_kernel(rt, alloc, engine.kind(), kernel, file, rows.as_slice())?;
+    let given = answer_kernel(rt, alloc, engine.kind(), kernel, file, rows)?;
     Ok(LineTurn::Answering { given })
 }
 
@@ -311,10 +314,10 @@ fn answer_kernel<R: Threads + Sync>(
     kind: Kind,
     kernel: Kernel,
     file: &Name,
-    rows: &[Row],
+    rows: Builder,
 ) -> Result<LineAnswer, NoMemory>
-    requires { (g : Graph) × AreKernelRows kind rows.now g }
-    ensures { IfOk result (λ given. (g : Graph) → AreKernelRows kind rows.now g
+    requires { (g : Graph) × AreKernelRows kind rows g }
+    ensures { IfOk result (λ given. (g : Graph) → AreKernelRows kind rows g
         → AnswersKernel kind g (kernel_of kernel) file.now given) }
 {
     match kernel_table(rt, alloc, kind, kernel, rows) {

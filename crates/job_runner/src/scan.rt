@@ -1,21 +1,23 @@
 //! Scans under way.
 //!
 //! 1. Each turn but the last gives a full portion of rows, so the number of rows tells the turns.
-//! 2. `neighbours` keeps targets, `count` a number, and a kernel the rows: no list is made that the line
-//!    doesn't answer with, but for the kernel's.
-//! 3. More rows than a number counts can't be held in memory, and are answered as want of it.
+//! 2. `neighbours` keeps targets, `count` a number, and a kernel the rows, in the builder of its image: no list
+//!    is made that the line doesn't answer with.
+//! 3. More rows than a number counts can't be held in memory, and are answered as want of it. So are more rows
+//!    for a kernel than an image has places for.
 
 ghost use Rattle.std.specs.Prelude.{◌≡◌, ℕ, List, ◌+◌, ◌-◌, ◌^◌, ◌<◌, ◌≤◌, ◌++◌, false, map, length, count_by, IsSome, OnOk};
 ghost use Rattle.graph_model.specs.declared.row.Row.{Row};
 ghost use Rattle.graph_model.specs.declared.limits.TheConstants.{MAX_ID};
 ghost use Rattle.graph_model.specs.Graph.{Graph};
-ghost use Rattle.graph_model.specs.OwnerCalls.{current};
+ghost use Rattle.graph_model.specs.Account.{IsValid};
+ghost use Rattle.graph_model.specs.OwnerCalls.{current, account_here};
 ghost use Rattle.run_model.specs.Requests.{Kernel, Request, NeighboursOf, Counts, ToRead, ToRun};
-ghost use Rattle.job_runner.specs.Scanning.{is_vertex, target_of, with_rows, vertices_in, counted, fresh_scan, IsScan, ScansOn};
+ghost use Rattle.job_runner.specs.Scanning.{is_vertex, target_of, with_rows, vertices_in, counted, fresh_scan, FitIn, IsScan, ScansOn};
 ghost use Rattle.job_runner.specs.Lines.{view_here};
 
+use graph_image::Builder;
 use graph_model::{Cursor, Ids, Key, Kind, NoMemory, Row, Rows64, StepEngine};
-use items::Items;
 use run_model::Answer;
 use std::alloc::Global;
 
@@ -26,20 +28,26 @@ pub enum ScanResult {
     Targets { ids: Ids },
     /// The number of vertices.
     Vertices { count: u64 },
-    /// The rows as they are.
-    Rows { rows: Items<Row> },
+    /// The rows, on their way into an image.
+    Rows { rows: Builder },
 }
 
 impl ScanResult {
-    /// Takes these rows in.
-    fn take_in(&mut self, given: &[Row]) -> Result<(), NoMemory>
-        requires { vertices_in self.old + length given.now < 2 ^ 64 }
+    /// Takes these rows in, with which there are so many.
+    fn take_in(&mut self, given: &[Row], count: u64) -> Result<(), NoMemory>
+        requires counted { vertices_in self.old + length given.now < 2 ^ 64 }
+        requires fit { FitIn self.old given.now count }
         ensures { OnOk result (self.new ≡ with_rows self.old given.now) }
     {
         match self {
             ScanResult::Targets { ids } => push_targets(ids, given)?,
             ScanResult::Vertices { count } => *count += count_vertices(given),
-            ScanResult::Rows { rows } => push_rows(rows, given)?,
+            ScanResult::Rows { rows } => {
+                if count > u32::MAX as u64 {
+                    return Err(NoMemory);
+                }
+                rows.push(given)?;
+            }
         }
         Ok(())
     }
@@ -51,16 +59,6 @@ fn push_targets(ids: &mut Ids, given: &[Row]) -> Result<(), NoMemory>
 {
     'arcs: for row in given {
         ids.push(row.key.second.saturating_sub(1))?;
-    }
-    Ok(())
-}
-
-/// Appends rows.
-fn push_rows(rows: &mut Items<Row>, given: &[Row]) -> Result<(), NoMemory>
-    ensures { OnOk result (rows.new ≡ rows.old ++ given.now) }
-{
-    'rows: for row in given {
-        rows.push(*row)?;
     }
     Ok(())
 }
@@ -112,7 +110,7 @@ impl Scan {
         ensures empty { result.rows ≡ 0 }
         ensures scan { (g : Graph) (kernel : Kernel) (file : List ℕ) → IsScan g (ToRun kernel file) result }
     {
-        let rows = Items::new(alloc);
+        let rows = Builder::new(alloc);
         Scan::begin(Key::of_vertex(0), Key::end(), ScanResult::Rows { rows })
     }
 
@@ -134,8 +132,8 @@ impl Scan {
     /// Takes one turn of the scan.
     pub fn step<E: StepEngine>(&mut self, engine: &mut E) -> Result<(), NoMemory>
         requires current { IsSome (current (E.core engine.old)).start }
-        requires going { self.old.cursor.done ≡ false }
-        requires bounded { vertices_in self.old.result ≤ self.old.rows }
+        requires valid { IsValid (account_here (E.core engine.old)) }
+        requires scan { (r : Request) × IsScan (view_here (E.core engine.old)) r self.old }
         ensures ok { OnOk result ((r : Request) → IsScan (view_here (E.core engine.old)) r self.old
             → ScansOn (view_here (E.core engine.old)) r self.old self.new) }
         ensures core { E.core engine.new ≡ E.core engine.old }
@@ -147,7 +145,7 @@ impl Scan {
             return Err(NoMemory);
         };
         self.rows = count;
-        self.result.take_in(given)
+        self.result.take_in(given, count)
     }
 
     /// The targets that it has kept.
@@ -163,7 +161,7 @@ impl Scan {
     }
 
     /// The rows that it has kept.
-    pub fn into_rows(self) -> Items<Row>
+    pub fn into_rows(self) -> Builder
         requires { (rows : List Row) × (self.result ≡ ScanResult.Rows rows) }
         ensures { self.result ≡ ScanResult.Rows result }
     {

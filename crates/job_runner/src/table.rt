@@ -8,7 +8,7 @@ ghost use Rattle.run_model.specs.Answering.{kernel_answer, IsKernelTable};
 ghost use Rattle.job_runner.specs.Kernels.{kernel_of, root_of, AreKernelRows};
 
 use graph_image::{Builder, Image};
-use graph_model::{KernelRefusal, Kind, NoMemory, Row, Table};
+use graph_model::{KernelRefusal, Kind, NoMemory, Table};
 use items::RoomyItems;
 use kernel_bfs::run as breadth_first_search;
 use kernel_cdlp::run as communities;
@@ -51,22 +51,22 @@ pub struct NamedTable {
 /// The tables of a job, in the order of its lines.
 pub type Tables = RoomyItems<NamedTable>;
 
-/// Runs a kernel on the rows of a graph.
+/// Runs a kernel on the rows of a graph, which are on their way into its image.
 pub fn kernel_table<R: Threads + Sync>(
     rt: &R,
     alloc: Global,
     kind: Kind,
     kernel: Kernel,
-    rows: &[Row],
+    rows: Builder,
 ) -> Result<Table, KernelRefusal>
-    requires { (g : Graph) × AreKernelRows kind rows.now g }
-    ensures table { IfOk result (λ table. (g : Graph) → AreKernelRows kind rows.now g
+    requires { (g : Graph) × AreKernelRows kind rows g }
+    ensures table { IfOk result (λ table. (g : Graph) → AreKernelRows kind rows g
         → (kernel_answer g (kernel_of kernel) ≡ answers.Table (length table))
         × IsKernelTable kind g (kernel_of kernel) table) }
-    ensures no_root { result ≡ Err KernelRefusal.NoRoot → (g : Graph) → AreKernelRows kind rows.now g
+    ensures no_root { result ≡ Err KernelRefusal.NoRoot → (g : Graph) → AreKernelRows kind rows g
         → kernel_answer g (kernel_of kernel) ≡ answers.NoVertex (root_of kernel) }
 {
-    let image = image_of(alloc, kind, rows)?;
+    let image = image_of(kind, rows)?;
     match kernel {
         Kernel::Bfs { root } => breadth_first_search(rt, alloc, &image, root),
         Kernel::Wcc => Ok(components(rt, alloc, &image)?),
@@ -75,17 +75,12 @@ pub fn kernel_table<R: Threads + Sync>(
     }
 }
 
-/// The image of the graph of these rows. More rows than an image has places for are want of memory.
-fn image_of(alloc: Global, kind: Kind, rows: &[Row]) -> Result<Image, NoMemory>
-    requires { (g : Graph) × AreKernelRows kind rows.now g }
-    ensures { IfOk result (λ image. (g : Graph) → AreKernelRows kind rows.now g → IsImageOf image g) }
+/// The image of the graph of these rows.
+fn image_of(kind: Kind, rows: Builder) -> Result<Image, NoMemory>
+    requires { (g : Graph) × AreKernelRows kind rows g }
+    ensures { IfOk result (λ image. (g : Graph) → AreKernelRows kind rows g → IsImageOf image g) }
 {
-    if rows.len() > u32::MAX as usize {
-        return Err(NoMemory);
-    }
-    let mut builder = Builder::new(alloc);
-    builder.push(rows)?;
-    builder.finish()
+    rows.finish()
 }
 
 /// A copy of a name.

@@ -1,4 +1,4 @@
-use Rattle.std.proofs.Common.{◌≡◌, cond, sym, subst, ap, ◌∙◌}
+use Rattle.std.proofs.Common.{◌≡◌, cond, refl, sym, subst, ap, ◌∙◌}
 use Rattle.std.specs.Prelude.{None}
 use Rattle.run_model.specs.AnsweredLines.{effect}
 use Rattle.run_model.specs.Requests.{ToRun}
@@ -15,8 +15,8 @@ answer_kernel-requires-after_bounds g c κs within =
     let old = g.E.StepEngine.core c.args.engine.now in
     let ends = (c.in_ok-scan.ensures.advances (ToRun (kernel_of c.args.kernel) c.args.file.now) c.requires.scans (c.of_rows.ensures.scan (view_here old) (kernel_of c.args.kernel) c.args.file.now)).rest (not_false _ c.if-not-scan.false) in
     let kind : c.kind.result ≡ old.kind = c.kind.ensures ∙ ap (λ a. a.kind) (g.met.E.StepEngine.accounts c.advance.new.engine) ∙ ap (λ x. x.kind) c.in_ok-scan.ensures.core in
-    let rows : AreKernelRows c.kind.result c.as_slice.result.now (view_here old) = subst (λ k. AreKernelRows k c.as_slice.result.now (view_here old)) (sym kind)
-    (kept_rows old c.requires.valid c.requires.phase_is c.in_ok-scan.scan.result ends.0.result c.into_rows-rows.result c.as_slice.result.now c.into_rows-rows.ensures c.as_slice.ensures) in
+    let rows : AreKernelRows c.kind.result c.into_rows-rows.result (view_here old) = subst (λ k. AreKernelRows k c.into_rows-rows.result (view_here old)) (sym kind)
+    (kept_rows old c.requires.valid c.requires.phase_is c.in_ok-scan.scan.result ends.0.result c.into_rows-rows.result c.into_rows-rows.result c.into_rows-rows.ensures refl) in
     (view_here old, rows)
 
 pub returns-clause-takes : goal.returns-clause-takes
@@ -27,8 +27,8 @@ returns-clause-takes g c =
     let file = c.args.file.now in
     let ends = (c.in_ok-scan.ensures.advances (ToRun kernel file) c.requires.scans (c.of_rows.ensures.scan (view_here old) kernel file)).rest (not_false _ c.if-not-scan.false) in
     let kind : c.kind.result ≡ old.kind = c.kind.ensures ∙ ap (λ a. a.kind) (g.met.E.StepEngine.accounts c.advance.new.engine) ∙ ap (λ x. x.kind) c.in_ok-scan.ensures.core in
-    let rows : AreKernelRows c.kind.result c.as_slice.result.now (view_here old) = subst (λ k. AreKernelRows k c.as_slice.result.now (view_here old)) (sym kind)
-    (kept_rows old c.requires.valid c.requires.phase_is c.in_ok-scan.scan.result ends.0.result c.into_rows-rows.result c.as_slice.result.now c.into_rows-rows.ensures c.as_slice.ensures) in
+    let rows : AreKernelRows c.kind.result c.into_rows-rows.result (view_here old) = subst (λ k. AreKernelRows k c.into_rows-rows.result (view_here old)) (sym kind)
+    (kept_rows old c.requires.valid c.requires.phase_is c.in_ok-scan.scan.result ends.0.result c.into_rows-rows.result c.into_rows-rows.result c.into_rows-rows.ensures refl) in
     let answers : AnswersKernel c.kind.result (view_here old) kernel file c.in_ok-given.given = c.in_ok-given.ensures (view_here old) rows in
     record {
       last = ends.1;

@@ -1,9 +1,17 @@
-use Rattle.std.proofs.Common.{◌≡◌, length, sym, subst}
+use Rattle.std.proofs.Common.{◌≡◌, ◌∙◌, length, ap, sym, subst}
+use Rattle.std.proofs.lemmas.List.{length-map}
 use Rattle.run_model.specs.declared.answer.Answer.TheVariants as answers
 use Rattle.run_model.specs.Answering.{kernel_answer, IsKernelTable}
 use Rattle.job_runner.specs.Kernels.{kernel_of}
 use Rattle.job_runner.proofs.TableLemmas.{labels_of_kind}
 use Rattle.job_runner.proofs.table.kernel_table.Goals as goal
+
+pub returns-in-Wcc-clause-table : goal.returns-in-Wcc-clause-table
+returns-in-Wcc-clause-table g c = λ graph are.
+    let table = c.in_ok-run-in-Wcc.field-0 in
+    let wcc = c.in_ok-run-in-Wcc.ensures graph (c.in_ok-image.ensures graph are) in
+    subst (λ k. (kernel_answer graph (kernel_of k) ≡ answers.Table (length table)) × IsKernelTable c.args.kind graph (kernel_of k) table) (sym c.in-Wcc.is)
+    (ap answers.Table (sym (ap length wcc.vertices) ∙ length-map table _), wcc)
 
 pub returns-in-Cdlp-clause-table : goal.returns-in-Cdlp-clause-table
 returns-in-Cdlp-clause-table g c = λ graph are.

@@ -1,11 +1,26 @@
 use Rattle.std.proofs.Common.{◌≡◌, ◌∙◌, ◌+◌, ◌<◌, ◌^◌, ap, sym, length, subst}
 use Rattle.std.proofs.lemmas.Result.{on_ok_weaker}
-use Rattle.graph_model.specs.Scans.{ScansBy}
-use Rattle.job_runner.specs.Scanning.{with_rows}
+use Rattle.graph_model.specs.Scans.{rows_left, ScansBy}
+use Rattle.job_runner.specs.Scanning.{with_rows, FitIn}
 use Rattle.job_runner.specs.Lines.{view_here}
 use Rattle.job_runner.proofs.CoreLemmas.{view_is}
+use Rattle.job_runner.proofs.ViewLemmas.{here_rows}
+use Rattle.job_runner.proofs.BuildLemmas.{fits}
 use Rattle.job_runner.proofs.ScanLemmas.{step_is}
 use Rattle.job_runner.proofs.scan.Scan.step.Goals as goal
+
+pub take_in-requires-clause-fit : goal.take_in-requires-clause-fit
+take_in-requires-clause-fit g c =
+    let core = g.E.StepEngine.core c.args.engine.now in
+    let old = c.args.self.now in
+    let given = c.as_slice-given.ensures in
+    let by : ScansBy (view_here core) old.cursor c.scan_step.new.cursor c.scan_step.new.rows =
+    view_is (λ x. ScansBy x old.cursor c.scan_step.new.cursor c.scan_step.new.rows) core _ (g.met.E.StepEngine.accounts c.args.engine.now) c.requires.current c.scan_step.ensures.answer in
+    let count : c.in-Some.count ≡ old.rows + length c.scan_step.new.rows = c.in-Some.ensures.1 ∙ ap (λ xs. old.rows + length xs) given in
+    let scan = c.requires.scan.1 in
+    let are = here_rows core c.requires.valid c.requires.current in
+    subst (λ more. FitIn old.result more c.in-Some.count) (sym given) (fits (view_here core) are.rows are.bounded c.requires.scan.0 scan.given c.scan_step.new.rows (rows_left (view_here core) old.cursor) c.in-Some.count old.result scan.result scan.whole by.gave
+    (count ∙ ap (λ n. n + length c.scan_step.new.rows) scan.counted))
 
 pub returns-clause-ok : goal.returns-clause-ok
 returns-clause-ok g c =
