@@ -93,7 +93,8 @@ abbrev pub listing_of : Rules → Before → Edge → Result Listing What
 listing_of rules before edge =
     cond (is_repeated rules.kind before.listings edge) (Err DuplicateEdge)
     (cond (is_reversed rules.kind before.listings edge) (Ok Second)
-    (cond (nat_lt rules.limit (length rules.ids + arcs_of rules.kind * (length before.edges + 1))) (Err TooManyRows) (Ok First)))
+    (cond (nat_lt rules.limit (length rules.ids + arcs_of rules.kind * (length before.edges + 1)))
+    (Err TooManyRows) (Ok First)))
 
 -- what is known behind a line that lists an edge
 abbrev pub behind : Before → Edge → Listing → Before

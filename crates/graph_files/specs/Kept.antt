@@ -53,7 +53,8 @@ pair_of Undirected source target = (min source target * 2 ^ 32 % 2 ^ 64 + max so
 
 -- the number of an edge
 abbrev pub pair_in : Kind → List ℕ → Edge → ℕ
-pair_in kind ids edge = pair_of kind (position_or_len (λ id. id == edge.u) ids) (position_or_len (λ id. id == edge.v) ids)
+pair_in kind ids edge =
+    pair_of kind (position_or_len (λ id. id == edge.u) ids) (position_or_len (λ id. id == edge.v) ids)
 
 -- the rules of a file, and what its lines are checked against
 pub record IsCheckedBy (rules : Rules) (checks : Checks) : Type 0 where

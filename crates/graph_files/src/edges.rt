@@ -15,8 +15,8 @@ use graph_model::{Ids, Kind};
 use graphalytics_io::Edges;
 use std::alloc::Global;
 
-/// Reads the edges of an edge file over these ids: with the ids, at most `limit` rows, one for each vertex and each arc.
-/// A file in which no edge is listed twice is gone over once; any other once more.
+/// Reads the edges of an edge file over these ids. With the ids they have at most `limit` rows, one for each vertex and
+/// each arc. A file in which no edge is listed twice is gone over once; any other once more.
 pub fn read_edges(
     alloc: Global,
     text: &[u8],
@@ -28,8 +28,8 @@ pub fn read_edges(
     requires { AreReadable weights }
     ensures ok { IfOk result (λ edges.
         edges_of (record { ids = ids.now; kind = kind; weights = weights; limit = limit }) text.now ≡ Ok edges) }
-    ensures fault { IfErr result (λ refusal.
-        IsRefused (edges_of (record { ids = ids.now; kind = kind; weights = weights; limit = limit }) text.now) refusal) }
+    ensures fault { IfErr result (λ refusal. IsRefused
+        (edges_of (record { ids = ids.now; kind = kind; weights = weights; limit = limit }) text.now) refusal) }
 {
     let checks = Checks {
         known: Known::of(alloc, ids.as_slice())?,
@@ -126,8 +126,8 @@ mod tests {
         Ok(())
     }
 
-    /// The edges that are read over the ids 1, 2 and 3, each as `1-2:7` for the weight 7, with a blank behind it, or the
-    /// refusal.
+    /// The edges that are read over the ids 1, 2 and 3, each as `1-2:7` for the weight 7, with a blank behind it, or
+    /// the refusal.
     fn said_edges(
         alloc: Global,
         text: &str,

@@ -1,7 +1,7 @@
-//! The vertex and edge files of LDBC Graphalytics in their usual form: comments, blank lines, runs of blanks and carriage
+//! The vertex and edge files of LDBC Graphalytics in their usual form: comments, blank lines, runs of blanks, carriage
 //! returns, directed and undirected graphs, decimal weights. A file that is refused is refused for its first fault.
 //!
-//! 1. What a text stands for, or its first fault, is one function of the text, defined apart from the loops that read it.
+//! 1. What a text stands for, or its first fault, is one function of the text, defined apart from the code that reads.
 //! 2. A line is checked after the lines before it, and the first check that it fails is its fault.
 //! 3. A text is lent: nothing of it is copied but what it stands for.
 #![tactic(auto)]

@@ -36,7 +36,8 @@ pub(crate) fn read_listings(
     checks: &Checks,
 ) -> Result<Edges, ReadRefusal>
     requires { AreReadable checks.now.weights }
-    ensures ok { IfOk result (λ edges. (rules : Rules) → IsCheckedBy rules checks.now → edges_of rules text.now ≡ Ok edges) }
+    ensures ok { IfOk result (λ edges. (rules : Rules) → IsCheckedBy rules checks.now
+        → edges_of rules text.now ≡ Ok edges) }
     ensures fault { IfErr result (λ refusal. (rules : Rules) → IsCheckedBy rules checks.now
         → IsRefused (edges_of rules text.now) refusal) }
 {
@@ -81,7 +82,8 @@ impl Reading {
 
     /// How the next line lists this edge.
     fn check(&self, checks: &Checks, edge: &Edge) -> Result<Listing, What>
-        ensures listing { (rules : Rules) (listings : List Edge) → IsCheckedBy rules checks.now → IsMapOf self.now.listed listings
+        ensures listing { (rules : Rules) (listings : List Edge) → IsCheckedBy rules checks.now
+            → IsMapOf self.now.listed listings
             → result ≡ listing_of rules (record { listings = listings; edges = self.now.edges }) edge.now }
         ensures new { OnOk result (get arc_cmp self.now.listed (edge.now.u, edge.now.v) ≡ None) }
     {

@@ -47,7 +47,8 @@ fn units_of(whole: &[u8], zeros: u8, fraction: &[u8], missing: u8) -> Option<u64
     requires zeros { zeros ≤ 9 }
     requires missing { missing ≤ 9 }
     ensures { MatchOption result (MAX_WEIGHT < number_of whole.now * 10 ^ zeros + number_of fraction.now * 10 ^ missing)
-        (λ units. (units ≡ number_of whole.now * 10 ^ zeros + number_of fraction.now * 10 ^ missing) × (units ≤ MAX_WEIGHT)) }
+        (λ units. (units ≡ number_of whole.now * 10 ^ zeros + number_of fraction.now * 10 ^ missing)
+        × (units ≤ MAX_WEIGHT)) }
 {
     let units = scaled(whole, zeros)? + scaled(fraction, missing)?;
     if units <= MAX_WEIGHT {
