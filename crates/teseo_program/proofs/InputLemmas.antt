@@ -12,14 +12,14 @@ use Rattle.script_lang.specs.Runnable.{IsRunnable}
 use Rattle.std.proofs.Math.Seq.{take-suc}
 use Rattle.graph_model.specs.declared.limits.TheConstants.{MAX_LOAD_ROWS}
 use Rattle.graphalytics_io.specs.declared.edges.Edge.{Edge}
-use Rattle.graphalytics_io.specs.VertexFile.{IsVertexFile}
-use Rattle.graphalytics_io.specs.EdgeFile.{IsEdgeFile}
+use Rattle.graph_files.specs.VertexFiles.{vertices_of}
+use Rattle.graph_files.specs.EdgeFiles.{edges_of}
 use Rattle.command_line.specs.Words.{RunNames, taken_names}
 use Rattle.teseo_program.specs.declared.fault.SourceFault.{SourceFault}
 use Rattle.teseo_program.specs.declared.fault.SourceFault.TheVariants as faults
 use Rattle.teseo_program.specs.declared.fault.ParseStop.{ParseStop}
 use Rattle.teseo_program.specs.declared.fault.ParseStop.TheVariants as stops
-use Rattle.teseo_program.specs.Input.{Texts, texts_of, AreScripts, HasScheduleFault, HasScriptFault, IsFaultBehind, IsNotAccepted}
+use Rattle.teseo_program.specs.Input.{Texts, texts_of, rules_of, AreScripts, HasScheduleFault, HasScriptFault, IsFaultBehind, IsNotAccepted}
 use Rattle.teseo_program.specs.Parsing.{AreTexts, AreRunnable, IsScriptStop, IsScheduleStop, IsParseStop, stop_of_script}
 
 -- the names taken behind scripts: their files stand behind those of before
@@ -91,7 +91,7 @@ length_take (suc n) (x ∷ xs) le = let rest = length_take n xs (omega arith) in
 -- ---- why nothing was parsed
 
 module _ (names : RunNames) (texts : Texts) (ids : List ℕ) (edges : List Edge)
-    (vertices_are : IsVertexFile texts.vertices MAX_LOAD_ROWS ids) (edges_are : IsEdgeFile texts.edges ids MAX_LOAD_ROWS edges) where
+    (vertices_are : vertices_of MAX_LOAD_ROWS texts.vertices ≡ Ok ids) (edges_are : edges_of (rules_of names ids) texts.edges ≡ Ok edges) where
   behind_files : (place k : ℕ) (fault : SourceFault) → place ≡ k + 2
       → IsFaultBehind (length names.scripts) (taken_names names) texts.scripts texts.schedule k fault → IsNotAccepted names texts place fault
   behind_files place k fault at is =

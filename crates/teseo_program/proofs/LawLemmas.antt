@@ -8,9 +8,9 @@ use Rattle.desk_io.specs.Sources.{IsRead, AreRead, IsReadStop}
 use Rattle.desk_io.specs.declared.sources.ReadStop.{ReadStop}
 use Rattle.desk_io.specs.declared.sources.ReadStop.TheVariants as reads
 use Rattle.run_model.specs.declared.command.Command.{Command}
-use Rattle.graphalytics_io.specs.VertexFile.{IsIdLine, IsVertexFile}
-use Rattle.graphalytics_io.specs.EdgeFile.{IsEdgeFile}
-use Rattle.graphalytics_io.proofs.LinesLemmas.{one_list, ids_exact}
+use Rattle.graph_files.specs.declared.refusal.Fault.{Fault}
+use Rattle.graph_files.specs.VertexFiles.{vertices_of}
+use Rattle.graph_files.specs.EdgeFiles.{edges_of}
 use Rattle.script_lang.specs.declared.refusal.ScriptRefusal.{ScriptRefusal}
 use Rattle.script_lang.specs.declared.refusal.ScriptRefusal.TheVariants as script_refusals
 use Rattle.script_lang.specs.declared.refusal.ScheduleRefusal.{ScheduleRefusal}
@@ -22,7 +22,7 @@ use Rattle.teseo_program.specs.declared.fault.SourceFault.{SourceFault}
 use Rattle.teseo_program.specs.declared.fault.SourceFault.TheVariants as faults
 use Rattle.teseo_program.specs.declared.outcome.Outcome.{Outcome}
 use Rattle.teseo_program.specs.declared.outcome.Outcome.TheVariants.{Done, Full, BadWords, NotRead, NotAccepted, NoMemory, NotWritten}
-use Rattle.teseo_program.specs.Input.{Meaning, Texts, texts_of, AreScripts, IsSchedule, IsAccepted, IsFaultBehind, IsNotAccepted}
+use Rattle.teseo_program.specs.Input.{Meaning, Texts, texts_of, rules_of, HasGraphFault, AreScripts, IsSchedule, IsAccepted, IsFaultBehind, IsNotAccepted}
 use Rattle.teseo_program.specs.Outcomes.{status_of, IsRunOutcome}
 use Rattle.teseo_program.specs.Laws.{IsTold, AreTold, Stands, HasNoFault, AcceptedRunsEndWell}
 
@@ -65,13 +65,13 @@ read_told files (n ∷ names) (t ∷ texts) (r ∷ read) told are =
 no_fault_behind : (jobs : ℕ) (taken : List (List ℕ)) (texts : List (List ℕ)) (schedule : Option (List ℕ)) (scripts : List (List Command)) (entries : List ℕ)
     → AreScripts taken texts scripts → IsSchedule jobs schedule entries → (place : ℕ) (fault : SourceFault) → IsFaultBehind jobs taken texts schedule place fault → ⊥
 no_fault_behind jobs taken [] None scripts entries are is zero fault has = has
-no_fault_behind jobs taken [] (Some text) scripts entries are is zero faults.NotAccepted has = has
+no_fault_behind jobs taken [] (Some text) scripts entries are is zero (faults.Graph fault) has = has
 no_fault_behind jobs taken [] (Some text) scripts entries are is zero (faults.Script line what) has = has
 no_fault_behind jobs taken [] (Some text) scripts entries are is zero (faults.Schedule line what) has =
     let no : ◌≡◌ {A = Result (List ℕ) ScheduleRefusal} (Ok entries) (Err (schedule_refusals.Fault line what)) = sym is ∙ has in cc
 no_fault_behind jobs taken [] schedule scripts entries are is (suc place) fault has = has
 no_fault_behind jobs taken (text ∷ texts) schedule [] entries are is place fault has = are
-no_fault_behind jobs taken (text ∷ texts) schedule (s ∷ scripts) entries are is zero faults.NotAccepted has = has
+no_fault_behind jobs taken (text ∷ texts) schedule (s ∷ scripts) entries are is zero (faults.Graph fault) has = has
 no_fault_behind jobs taken (text ∷ texts) schedule (s ∷ scripts) entries are is zero (faults.Script line what) has =
     let no : ◌≡◌ {A = Result (List Command) ScriptRefusal} (Ok s) (Err (script_refusals.Fault line what)) = sym are.0 ∙ has in cc
 no_fault_behind jobs taken (text ∷ texts) schedule (s ∷ scripts) entries are is zero (faults.Schedule line what) has = has
@@ -81,14 +81,21 @@ no_fault_behind jobs taken (text ∷ texts) schedule (s ∷ scripts) entries are
     no_fault_behind jobs (taken ++ files_of s) texts schedule scripts entries are.1 is place fault
     (subst (λ script. IsFaultBehind jobs (taken ++ files_of script) texts schedule place fault) (sym same) has)
 
+-- a file that stands for something has no fault
+no_graph_fault : {X : Type 0} (meaning : Result X Fault) (x : X) → meaning ≡ Ok x → (fault : SourceFault) → HasGraphFault meaning fault → ⊥
+no_graph_fault {X} meaning x is (faults.Graph fault) has = let no : ◌≡◌ {A = Result X Fault} (Ok x) (Err fault) = sym is ∙ has in cc
+no_graph_fault meaning x is (faults.Script line what) has = has
+no_graph_fault meaning x is (faults.Schedule line what) has = has
+
 module _ (names : RunNames) (texts : Texts) (m : Meaning) (accepted : IsAccepted names texts m) where
-  same_ids : (ids : List ℕ) → IsVertexFile texts.vertices MAX_LOAD_ROWS ids → m.ids ≡ ids
-  same_ids ids other = one_list IsIdLine ids_exact texts.vertices m.ids ids accepted.vertices.spelled other.spelled
+  same_ids : (ids : List ℕ) → vertices_of MAX_LOAD_ROWS texts.vertices ≡ Ok ids → m.ids ≡ ids
+  same_ids ids is = let one : ◌≡◌ {A = Result (List ℕ) Fault} (Ok m.ids) (Ok ids) = sym accepted.vertices ∙ is in cc
 
   none_refused : (place : ℕ) (fault : SourceFault) → IsNotAccepted names texts place fault → ⊥
-  none_refused zero fault (is, refused) = refused m.ids accepted.vertices
-  none_refused (suc zero) fault (is, (ids, vertices_are, refused)) =
-      refused m.edges (subst (λ xs. IsEdgeFile texts.edges xs MAX_LOAD_ROWS m.edges) (same_ids ids vertices_are) accepted.edges)
+  none_refused zero fault has = no_graph_fault (vertices_of MAX_LOAD_ROWS texts.vertices) m.ids accepted.vertices fault has
+  none_refused (suc zero) fault (ids, is, has) =
+      no_graph_fault (edges_of (rules_of names m.ids) texts.edges) m.edges accepted.edges fault
+      (subst (λ xs. HasGraphFault (edges_of (rules_of names xs) texts.edges) fault) (sym (same_ids ids is)) has)
   none_refused (suc (suc place)) fault (ids, edges, vertices_are, edges_are, refused) =
       no_fault_behind (length names.scripts) (taken_names names) texts.scripts texts.schedule m.scripts m.schedule accepted.scripts accepted.schedule place fault refused
 

@@ -5,13 +5,10 @@ use Rattle.std.specs.List.{AllByRecursion, flat_map}
 use Rattle.std.proofs.lemmas.List.{length-map}
 use Rattle.std.proofs.lemmas.List.Elements.{All-append}
 use Rattle.graph_model.specs.declared.limits.TheConstants.{MAX_SCRIPTS, MAX_BEGINS, MAX_LEAVES, MAX_SOURCE_BYTES}
-use Rattle.graph_model.specs.declared.write.Kind.TheVariants.{Undirected}
-use Rattle.graph_model.specs.declared.write.Write.{Write}
-use Rattle.graph_model.specs.Graph.{empty_graph}
-use Rattle.graph_model.specs.Legal.{IsLegal}
-use Rattle.graph_model.specs.Refused.{AllAllowed, IsWithinLimits}
-use Rattle.graphalytics_io.specs.Load.{load_of, journal_of, IsLoadable}
-use Rattle.graphalytics_io.specs.Laws.{LoadIsLegal, FilesAreLoadable}
+use Rattle.graph_model.specs.declared.limits.TheConstants.{MAX_LOAD_ROWS}
+use Rattle.graph_model.specs.declared.write.Kind.{Kind}
+use Rattle.graph_files.specs.Load.{IsLoadable}
+use Rattle.graph_files.specs.Laws.{LoadIsAllowed, LoadIsWithinLimits, FilesAreLoadable}
 use Rattle.run_model.specs.declared.command.Command.{Command}
 use Rattle.run_model.specs.Requests.{begun_by, IsScript}
 use Rattle.run_model.specs.Inputs.{AreInputs}
@@ -27,7 +24,7 @@ use Rattle.teseo_program.specs.declared.fault.ParseStop.{ParseStop}
 use Rattle.teseo_program.specs.declared.fault.ParseStop.TheVariants as parses
 use Rattle.teseo_program.specs.declared.outcome.Outcome.{Outcome}
 use Rattle.teseo_program.specs.declared.prepare.Prepared.{Prepared}
-use Rattle.teseo_program.specs.Input.{Meaning, Texts, texts_of, IsAccepted, inputs_of}
+use Rattle.teseo_program.specs.Input.{Meaning, Texts, texts_of, kind_of, rules_of, IsAccepted, inputs_of}
 use Rattle.teseo_program.specs.Parsing.{AreRunnable, IsParseStop}
 use Rattle.teseo_program.specs.Outcomes.{outcome_of_parse}
 use Rattle.teseo_program.specs.Prepared.{IsUnprepared, IsPreparedOf, IsMadeOf}
@@ -39,13 +36,6 @@ use Rattle.teseo_program.proofs.SinkLemmas.{printable_names, sinks_apart}
 
 -- ---- what can be run
 
--- the load is allowed, since its journal is legal
-load_allowed : (load : List Write) → IsLegal Undirected (journal_of load) → AllAllowed Undirected empty_graph load × AllByRecursion IsWithinLimits load
-load_allowed [] legal = (tt, tt)
-load_allowed (w ∷ ws) legal =
-    let first = legal.each 0 (record { stamp = 1; start = 0; by = record { job = 0; number = 1 }; writes = w ∷ ws }) refl in
-    (first.allowed, first.within)
-
 runnable_at : (taken : List (List ℕ)) (scripts : List (List Command)) → AreRunnable taken scripts → (k : ℕ) (script : List Command) → slice_get scripts k ≡ Some script
     → IsScript (Some false) script × (begun_by 0 script ≤ MAX_BEGINS)
 runnable_at taken [] can k script at = cc
@@ -54,18 +44,17 @@ runnable_at taken (s ∷ scripts) can zero script at =
     subst (λ cs. IsScript (Some false) cs × (begun_by 0 cs ≤ MAX_BEGINS)) here (can.0.transactions, can.0.begins)
 runnable_at taken (s ∷ scripts) can (suc k) script at = runnable_at (taken ++ files_of s) scripts can.1 k script at
 
-module _ (legal : LoadIsLegal) (files : FilesAreLoadable) (names : RunNames) (words : List (List ℕ)) (takes : TakesWords words names) (texts : Texts) (m : Meaning)
+module _ (allows : LoadIsAllowed) (limits : LoadIsWithinLimits) (files : FilesAreLoadable) (names : RunNames) (words : List (List ℕ)) (takes : TakesWords words names) (texts : Texts) (m : Meaning)
     (accepted : IsAccepted names texts m) (can : AreRunnable (taken_names names) m.scripts) (count : length m.scripts ≡ length names.scripts) where
-  pub loadable : IsLoadable m.ids m.edges
-  loadable = files texts.vertices texts.edges m.ids m.edges _ _ accepted.vertices accepted.edges
+  loadable : IsLoadable (kind_of names) m.ids m.edges
+  loadable = files texts.vertices texts.edges m.ids MAX_LOAD_ROWS (rules_of names m.ids) m.edges accepted.vertices refl accepted.edges
 
-  pub are_inputs : AreInputs (inputs_of Undirected m)
+  pub are_inputs : AreInputs (inputs_of (kind_of names) m)
   are_inputs =
-      let allowed = load_allowed (load_of m.ids m.edges) (legal m.ids m.edges loadable) in
       let few : length m.scripts ≤ MAX_SCRIPTS = omega (arith, count, takes.count) in
       record {
-        allowed = allowed.0;
-        within = allowed.1;
+        allowed = allows (kind_of names) m.ids m.edges loadable;
+        within = limits (kind_of names) m.ids m.edges loadable;
         count = few;
         scripts = λ k cs at. (runnable_at (taken_names names) m.scripts can k cs at).0;
         begins = λ k cs at. (runnable_at (taken_names names) m.scripts can k cs at).1;
@@ -73,14 +62,14 @@ module _ (legal : LoadIsLegal) (files : FilesAreLoadable) (names : RunNames) (wo
 
   -- ---- what a run of them leaves
 
-  module _ (r : RunResult) (run : IsRun (inputs_of Undirected m) MAX_LEAVES (run_outputs r)) where
+  module _ (r : RunResult) (run : IsRun (inputs_of (kind_of names) m) MAX_LEAVES (run_outputs r)) where
     pub job_count : length r.jobs ≡ length names.scripts
     job_count = sym (length-map r.jobs (λ job. job.answers)) ∙ run.reported ∙ count
 
     pub are_printable : HavePrintableNames r.jobs
     are_printable = printable_names r.jobs
         (sub_all (λ name. All IsNameByte name) (flat_map names_in (run_outputs r).files) (flat_map files_of m.scripts)
-        (files_of_run (inputs_of Undirected m) MAX_LEAVES (run_outputs r) run) (all_printable (taken_names names) m.scripts can))
+        (files_of_run (inputs_of (kind_of names) m) MAX_LEAVES (run_outputs r) run) (all_printable (taken_names names) m.scripts can))
       where
         all_printable : (taken : List (List ℕ)) (scripts : List (List Command)) → AreRunnable taken scripts → All (λ name. All IsNameByte name) (flat_map files_of scripts)
         all_printable taken [] can = λ k d inside. absurd (omega arith)
@@ -91,12 +80,12 @@ module _ (legal : LoadIsLegal) (files : FilesAreLoadable) (names : RunNames) (wo
     are_apart outputs is = subst (λ os. AllPairs (λ a b. a ≢ b) (names_of os)) (sym is)
         (sinks_apart names.journal (report_names names) (given_names names) (taken_names names) (flat_map files_of m.scripts) (run_outputs r) refl
         (sub_behind (names.vertices ∷ names.edges ∷ []) (names.journal ∷ []) (names.journal ∷ (option_to_list names.schedule ++ names.scripts)) (inl (refl, tt)))
-        (files_of_run (inputs_of Undirected m) MAX_LEAVES (run_outputs r) run)
+        (files_of_run (inputs_of (kind_of names) m) MAX_LEAVES (run_outputs r) run)
         (files_apart (taken_names names) m.scripts takes.distinct can))
 
 -- the summary has the counts of the journal's graph
-pub same_summary : (r : RunResult) → HasCounts Undirected r → (commits : ℕ) → commits ≡ length r.journal → summary_line commits r.vertices r.edges ≡ summary_text Undirected (run_outputs r)
-same_summary r has commits is = λ i. summary_line (is i) (has.vertices i) (has.edges i)
+pub same_summary : (kind : Kind) (r : RunResult) → HasCounts kind r → (commits : ℕ) → commits ≡ length r.journal → summary_line commits r.vertices r.edges ≡ summary_text kind (run_outputs r)
+same_summary kind r has commits is = λ i. summary_line (is i) (has.vertices i) (has.edges i)
 
 -- ---- before the first output
 

@@ -5,16 +5,19 @@ use Rattle.std.specs.List.{AllByRecursion}
 use Rattle.std.proofs.lemmas.List.{append-nil}
 use Rattle.std.proofs.lemmas.List.Elements.{All-tail, All-head}
 use Rattle.std.proofs.lemmas.Option.{slice_get_within}
-use Rattle.graph_model.specs.declared.limits.TheConstants.{MAX_LEAVES}
+use Rattle.graph_model.specs.declared.limits.TheConstants.{MAX_LEAVES, MAX_LOAD_ROWS}
 use Rattle.graph_model.specs.declared.write.Write.{Write}
 use Rattle.graph_model.specs.declared.write.Write.TheVariants.{AddVertex}
-use Rattle.graph_model.specs.declared.write.Kind.TheVariants.{Undirected}
+use Rattle.graph_model.specs.declared.write.Kind.{Kind}
+use Rattle.graph_model.specs.declared.write.Kind.TheVariants.{Directed, Undirected}
 use Rattle.graph_model.specs.Graph.{vertices_of}
 use Rattle.graph_model.specs.History.{graph_at}
 use Rattle.graph_model.specs.Inserted.{inserted, inserted_by}
 use Rattle.graph_model.specs.OwnerCalls.{PassState, Core, no_pass}
 use Rattle.graphalytics_io.specs.declared.edges.Edge.{Edge}
 use Rattle.graphalytics_io.specs.Load.{load_of, added_edge, journal_of}
+use Rattle.graph_files.specs.EdgeFiles.{arcs_of}
+use Rattle.graph_files.specs.Laws.{FilesAreWithinLimits}
 use Rattle.run_model.specs.declared.command.Command.{Command}
 use Rattle.run_model.specs.Requests.{Request, ToBegin, ToCommit, ToAbort, ToWrite, ToRead, ToRun, request, next_txn, begun_by}
 use Rattle.run_model.specs.Inputs.{Inputs, AreInputs}
@@ -30,7 +33,7 @@ use Rattle.job_runner.specs.Progress.{Progress}
 use Rattle.job_runner.specs.Runs.{new_jobs, IsUnused, AreNew, outputs_of, Ends}
 use Rattle.command_line.specs.Words.{RunNames}
 use Rattle.teseo_program.specs.declared.run.RunResult.{RunResult}
-use Rattle.teseo_program.specs.Input.{Meaning, Texts, IsAccepted}
+use Rattle.teseo_program.specs.Input.{Meaning, Texts, kind_of, rules_of, IsAccepted}
 use Rattle.teseo_program.specs.Running.{run_outputs, HasCounts, Fits, IsConfig}
 
 -- ---- transactions that a script begins
@@ -78,7 +81,7 @@ each_new : (allowed n : ℕ) → AllByRecursion HasBegunNothing (replicate n (ne
 each_new allowed zero = tt
 each_new allowed (suc n) = (record { begun = refl; made = refl; start = refl; own = refl }, each_new allowed n)
 
-module _ (scripts : List (List Command)) (config : Config) (is : IsConfig scripts config) where
+module _ (kind : Kind) (scripts : List (List Command)) (config : Config) (is : IsConfig kind scripts config) where
   passes_are : (new_core config).passes ≡ new_pass config.txns_per_pass ∷ replicate (length scripts) (new_pass config.txns_per_pass)
   passes_are = ap (λ n. replicate n (new_pass config.txns_per_pass)) is.passes
 
@@ -114,7 +117,7 @@ journals_agree : (load : List Write) → journal_of load ≡ load_journal load
 journals_agree [] = refl
 journals_agree (w ∷ ws) = refl
 
-module _ (inputs : Inputs) (config : Config) (is : IsConfig inputs.scripts config) (undirected : inputs.kind ≡ Undirected) (given : AreInputs inputs) where
+module _ (inputs : Inputs) (config : Config) (is : IsConfig inputs.kind inputs.scripts config) (given : AreInputs inputs) where
   first : PassState
   first = record (new_pass config.txns_per_pass) { begun = 1; made = inputs.load ∷ [] }
 
@@ -131,7 +134,7 @@ module _ (inputs : Inputs) (config : Config) (is : IsConfig inputs.scripts confi
     kind = config.kind;
     leaves = config.leaves;
     journal = journal_of inputs.load;
-    passes = loaded_passes (passes_are inputs.scripts config is i);
+    passes = loaded_passes (passes_are inputs.kind inputs.scripts config is i);
     selected = 0;
     served = 0;
   }
@@ -143,7 +146,7 @@ module _ (inputs : Inputs) (config : Config) (is : IsConfig inputs.scripts confi
   unfolding first others core
   new_of = record {
     given = given;
-    kind = is.kind ∙ sym undirected;
+    kind = is.kind_is;
     journal = journals_agree inputs.load;
     loaded = append-nil inputs.load;
     closed = refl;
@@ -178,13 +181,13 @@ stepped_of inputs schedule listed engine new jobs r ends same leaves journal job
     subst (λ o. IsStepped inputs MAX_LEAVES schedule o) (λ i. record { journal = sym journal i; reports = map (λ job. job.answers) (sym jobs_are i); files = map (λ job. map file_of job.tables) (sym jobs_are i) })
     (subst (λ n. IsStepped inputs n schedule (outputs_of new jobs)) leaves (subst (λ turns. IsStepped inputs engine.leaves turns (outputs_of new jobs)) same ends.run))
 
-pub counts_of : (new : Core) (r : RunResult) → new.kind ≡ Undirected → r.journal ≡ new.journal → r.vertices ≡ length (vertices_of (newest_graph new)) → r.edges ≡ edges_of new.kind (newest_graph new) → HasCounts Undirected r
-counts_of new r kind journal vertices edges = record {
+pub counts_of : (asked : Kind) (new : Core) (r : RunResult) → new.kind ≡ asked → r.journal ≡ new.journal → r.vertices ≡ length (vertices_of (newest_graph new)) → r.edges ≡ edges_of new.kind (newest_graph new) → HasCounts asked r
+counts_of asked new r kind journal vertices edges = record {
   vertices = vertices ∙ ap (λ g. length (vertices_of g)) graphs_agree;
   edges = edges ∙ (λ i. edges_of (kind i) (graphs_agree i));
 }
   where
-    graphs_agree : newest_graph new ≡ graph_at Undirected r.journal (length r.journal)
+    graphs_agree : newest_graph new ≡ graph_at asked r.journal (length r.journal)
     graphs_agree = λ i. graph_at (kind i) (sym journal i) (length (sym journal i))
 
 -- ---- what the code asks for
@@ -195,14 +198,24 @@ all_at P [] all i x e = cc
 all_at P (y ∷ ys) all zero x e = let same : y ≡ x = cc in subst P same (All-head P y ys all)
 all_at P (y ∷ ys) all (suc i) x e = all_at P ys (All-tail P y ys all) i x e
 
-edge_rows : (edges : List Edge) → inserted Undirected (map added_edge edges) ≡ 2 * length edges
-edge_rows [] = refl
-edge_rows (edge ∷ edges) = sum_cons (inserted_by Undirected) (added_edge edge) (map added_edge edges) ∙ omega (arith, edge_rows edges)
+edge_rows : (kind : Kind) (edges : List Edge) → inserted kind (map added_edge edges) ≡ arcs_of kind * length edges
+edge_rows Directed [] = refl
+edge_rows Undirected [] = refl
+edge_rows Directed (edge ∷ edges) = sum_cons (inserted_by Directed) (added_edge edge) (map added_edge edges) ∙ omega (arith, edge_rows Directed edges)
+edge_rows Undirected (edge ∷ edges) = sum_cons (inserted_by Undirected) (added_edge edge) (map added_edge edges) ∙ omega (arith, edge_rows Undirected edges)
 
-load_rows : (ids : List ℕ) (edges : List Edge) → inserted Undirected (load_of ids edges) ≡ length ids + 2 * length edges
-load_rows [] edges = omega (arith, edge_rows edges)
-load_rows (v ∷ ids) edges = sum_cons (inserted_by Undirected) (AddVertex v) (load_of ids edges) ∙ omega (arith, load_rows ids edges)
+load_rows : (kind : Kind) (ids : List ℕ) (edges : List Edge) (rows : ℕ) → inserted kind (map added_edge edges) ≡ rows → inserted kind (load_of ids edges) ≡ length ids + rows
+load_rows kind [] edges rows is = omega (arith, is)
+load_rows kind (v ∷ ids) edges rows is = sum_cons (inserted_by kind) (AddVertex v) (load_of ids edges) ∙ omega (arith, load_rows kind ids edges rows is)
+
+few_fit : (kind : Kind) (ids : List ℕ) (edges : List Edge) → length ids ≤ MAX_LOAD_ROWS → (0 < length edges → length ids + arcs_of kind * length edges ≤ MAX_LOAD_ROWS) → Fits kind ids edges
+few_fit Directed ids [] few all = omega (arith, load_rows Directed ids [] _ (edge_rows Directed []), few)
+few_fit Undirected ids [] few all = omega (arith, load_rows Undirected ids [] _ (edge_rows Undirected []), few)
+few_fit Directed ids (edge ∷ edges) few all = omega (arith, load_rows Directed ids (edge ∷ edges) _ (edge_rows Directed (edge ∷ edges)), all (omega arith))
+few_fit Undirected ids (edge ∷ edges) few all = omega (arith, load_rows Undirected ids (edge ∷ edges) _ (edge_rows Undirected (edge ∷ edges)), all (omega arith))
 
 -- accepted files have so few rows that the load always finds its places
-pub files_fit : (names : RunNames) (texts : Texts) (m : Meaning) → IsAccepted names texts m → Fits m.ids m.edges
-files_fit names texts m accepted = omega (arith, load_rows m.ids m.edges, accepted.edges.rows)
+pub files_fit : FilesAreWithinLimits → (names : RunNames) (texts : Texts) (m : Meaning) → IsAccepted names texts m → Fits (kind_of names) m.ids m.edges
+files_fit within names texts m accepted =
+    let limits = within texts.vertices texts.edges m.ids MAX_LOAD_ROWS (rules_of names m.ids) m.edges accepted.vertices refl accepted.edges in
+    few_fit (kind_of names) m.ids m.edges limits.0 limits.1

@@ -1,13 +1,17 @@
 -- What the sources stand for, and why they are refused.
-use Rattle.std.specs.Prelude.{◌≡◌, ℕ, zero, suc, ◌+◌, cond, List, [], ◌∷◌, ◌++◌, length, get_or, take, drop, Option, Some, None, is_some, Ok, Err}
+use Rattle.std.specs.Prelude.{◌≡◌, ℕ, zero, suc, ◌+◌, cond, List, [], ◌∷◌, ◌++◌, length, get_or, take, drop, Option, Some, None, is_some, Result, Ok, Err}
 use Rattle.graph_model.specs.declared.limits.TheConstants.{MAX_LOAD_ROWS}
 use Rattle.graph_model.specs.declared.write.Kind.{Kind}
+use Rattle.graph_model.specs.declared.write.Kind.TheVariants.{Undirected}
 use Rattle.run_model.specs.declared.command.Command.{Command}
 use Rattle.run_model.specs.Inputs.{Inputs}
 use Rattle.graphalytics_io.specs.declared.edges.Edge.{Edge}
-use Rattle.graphalytics_io.specs.VertexFile.{IsVertexFile}
-use Rattle.graphalytics_io.specs.EdgeFile.{IsEdgeFile}
 use Rattle.graphalytics_io.specs.Load.{load_of}
+use Rattle.graph_files.specs.declared.refusal.Fault.{Fault}
+use Rattle.graph_files.specs.declared.weights.Weights.{Weights}
+use Rattle.graph_files.specs.declared.weights.Weights.TheVariants.{Ones}
+use Rattle.graph_files.specs.VertexFiles.{vertices_of}
+use Rattle.graph_files.specs.EdgeFiles.{Rules, edges_of}
 use Rattle.script_lang.specs.declared.refusal.ScriptRefusal.TheVariants as scripts
 use Rattle.script_lang.specs.declared.refusal.ScheduleRefusal.TheVariants as schedules
 use Rattle.script_lang.specs.Scripts.{files_of, script_of}
@@ -39,6 +43,19 @@ pub record Meaning : Type 0 where
   pub scripts : List (List Command)
   pub schedule : List ℕ
 
+-- the kind of the graph: no word changes it yet
+abbrev pub kind_of : RunNames → Kind
+kind_of names = Undirected
+
+-- what its weights are: no word changes that yet
+abbrev pub weights_of : RunNames → Weights
+weights_of names = Ones
+
+-- what the edge file is read by, where the vertex file stands for these ids
+abbrev pub rules_of : RunNames → List ℕ → Rules
+rules_of names ids =
+    record { ids = ids; kind = kind_of names; weights = weights_of names; limit = MAX_LOAD_ROWS }
+
 -- each text is a script, where these names and the files of the scripts before it are taken
 abbrev pub AreScripts : List (List ℕ) → List (List ℕ) → List (List Command) → Type 0
 AreScripts taken [] scripts = scripts ≡ []
@@ -53,21 +70,27 @@ IsSchedule jobs (Some text) schedule = schedule_of jobs text ≡ Ok schedule
 
 -- the sources are accepted, and stand for this
 pub record IsAccepted (names : RunNames) (texts : Texts) (m : Meaning) : Type 0 where
-  pub vertices : IsVertexFile texts.vertices MAX_LOAD_ROWS m.ids
-  pub edges : IsEdgeFile texts.edges m.ids MAX_LOAD_ROWS m.edges
+  pub vertices : vertices_of MAX_LOAD_ROWS texts.vertices ≡ Ok m.ids
+  pub edges : edges_of (rules_of names m.ids) texts.edges ≡ Ok m.edges
   pub scripts : AreScripts (taken_names names) texts.scripts m.scripts
   pub schedule : IsSchedule (length names.scripts) texts.schedule m.schedule
+
+-- what a graph file stands for is this fault
+abbrev pub HasGraphFault : {X : Type 0} → Result X Fault → SourceFault → Type 0
+HasGraphFault meaning (faults.Graph fault) = meaning ≡ Err fault
+HasGraphFault meaning (faults.Script line what) = ⊥
+HasGraphFault meaning (faults.Schedule line what) = ⊥
 
 -- the schedule has this fault
 abbrev pub HasScheduleFault : ℕ → Option (List ℕ) → SourceFault → Type 0
 HasScheduleFault jobs None fault = ⊥
-HasScheduleFault jobs (Some text) faults.NotAccepted = ⊥
+HasScheduleFault jobs (Some text) (faults.Graph fault) = ⊥
 HasScheduleFault jobs (Some text) (faults.Script line what) = ⊥
 HasScheduleFault jobs (Some text) (faults.Schedule line what) = schedule_of jobs text ≡ Err (schedules.Fault line what)
 
 -- the text is no script, and this is its first fault
 abbrev pub HasScriptFault : List (List ℕ) → List ℕ → SourceFault → Type 0
-HasScriptFault taken text faults.NotAccepted = ⊥
+HasScriptFault taken text (faults.Graph fault) = ⊥
 HasScriptFault taken text (faults.Script line what) = script_of taken text ≡ Err (scripts.Fault line what)
 HasScriptFault taken text (faults.Schedule line what) = ⊥
 
@@ -82,14 +105,13 @@ IsFaultBehind jobs taken (text ∷ texts) schedule (suc place) fault =
 
 -- the source at this place has this fault, and those before it have none
 abbrev pub IsNotAccepted : RunNames → Texts → ℕ → SourceFault → Type 0
-IsNotAccepted names texts zero fault =
-    (fault ≡ faults.NotAccepted) × ((ids : List ℕ) → IsVertexFile texts.vertices MAX_LOAD_ROWS ids → ⊥)
+IsNotAccepted names texts zero fault = HasGraphFault (vertices_of MAX_LOAD_ROWS texts.vertices) fault
 IsNotAccepted names texts (suc zero) fault =
-    (fault ≡ faults.NotAccepted) × ((ids : List ℕ) × IsVertexFile texts.vertices MAX_LOAD_ROWS ids
-    × ((edges : List Edge) → IsEdgeFile texts.edges ids MAX_LOAD_ROWS edges → ⊥))
+    (ids : List ℕ) × (vertices_of MAX_LOAD_ROWS texts.vertices ≡ Ok ids)
+    × HasGraphFault (edges_of (rules_of names ids) texts.edges) fault
 IsNotAccepted names texts (suc (suc place)) fault =
-    (ids : List ℕ) × (edges : List Edge) × IsVertexFile texts.vertices MAX_LOAD_ROWS ids
-    × IsEdgeFile texts.edges ids MAX_LOAD_ROWS edges
+    (ids : List ℕ) × (edges : List Edge) × (vertices_of MAX_LOAD_ROWS texts.vertices ≡ Ok ids)
+    × (edges_of (rules_of names ids) texts.edges ≡ Ok edges)
     × IsFaultBehind (length names.scripts) (taken_names names) texts.scripts texts.schedule place fault
 
 -- the inputs of the run

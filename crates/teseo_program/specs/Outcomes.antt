@@ -1,7 +1,6 @@
 -- How a run may end: for each outcome its cause, what it leaves, and what is said.
 use Rattle.std.specs.Prelude.{◌≡◌, ℕ, Bool, true, false, List, [], ◌∷◌, ◌++◌, codes, IfSome, decimal}
 use Rattle.std.specs.List.{list_any}
-use Rattle.graph_model.specs.declared.write.Kind.TheVariants.{Undirected}
 use Rattle.graph_model.specs.declared.limits.TheConstants.{MAX_SOURCE_BYTES, MAX_LEAVES}
 use Rattle.run_model.specs.declared.answer.Answer.{Answer}
 use Rattle.run_model.specs.declared.answer.Answer.TheVariants as answers
@@ -13,6 +12,7 @@ use Rattle.desk_io.specs.Sources.{AreRead, IsReadStop}
 use Rattle.desk_io.specs.Outputs.{NamedText, names_of, WritesAll, FailsAtPlace}
 use Rattle.desk_io.specs.declared.sources.ReadStop.{ReadStop}
 use Rattle.desk_io.specs.declared.sources.ReadStop.TheVariants as reads
+use Rattle.graph_files.specs.Faults as graph_faults
 use Rattle.script_lang.specs.Faults.{what_text, schedule_what_text}
 use Rattle.command_line.specs.Words.{RunNames, TakesWords, source_names, report_names}
 use Rattle.command_line.specs.Lines.{name_at}
@@ -22,7 +22,7 @@ use Rattle.teseo_program.specs.declared.fault.ParseStop.{ParseStop}
 use Rattle.teseo_program.specs.declared.fault.ParseStop.TheVariants as parses
 use Rattle.teseo_program.specs.declared.outcome.Outcome.{Outcome}
 use Rattle.teseo_program.specs.declared.outcome.Outcome.TheVariants.{Done, Full, BadWords, NotRead, NotAccepted, NoMemory, NotWritten}
-use Rattle.teseo_program.specs.Input.{Meaning, Texts, texts_of, IsAccepted, IsNotAccepted, inputs_of}
+use Rattle.teseo_program.specs.Input.{Meaning, Texts, texts_of, kind_of, IsAccepted, IsNotAccepted, inputs_of}
 use Rattle.teseo_program.specs.Sinks.{sinks_of, summary_text}
 
 -- ---- the status
@@ -78,7 +78,7 @@ abbrev pub line_text : List ℕ → ℕ → List ℕ → List ℕ
 line_text name line what = name ++ codes " line " ++ decimal line ++ codes ": " ++ what ++ 10 ∷ []
 
 abbrev pub fault_text : List ℕ → SourceFault → List ℕ
-fault_text name faults.NotAccepted = text_line name (codes ": not accepted")
+fault_text name (faults.Graph fault) = line_text name fault.line (graph_faults.what_text fault.what)
 fault_text name (faults.Script line what) = line_text name line (what_text what)
 fault_text name (faults.Schedule line what) = line_text name line (schedule_what_text what)
 
@@ -137,10 +137,10 @@ shows_full o = list_any (list_any is_full) o.reports
 pub record IsOfTexts (names : RunNames) (texts : Texts) (made : Made) : Type 0 where
   pub m : Meaning
   pub accepted : IsAccepted names texts m
-  pub run : IsRun (inputs_of Undirected m) MAX_LEAVES made.run
-  pub stepped : IsStepped (inputs_of Undirected m) MAX_LEAVES m.schedule made.run
+  pub run : IsRun (inputs_of (kind_of names) m) MAX_LEAVES made.run
+  pub stepped : IsStepped (inputs_of (kind_of names) m) MAX_LEAVES m.schedule made.run
   pub outputs_are : made.outputs ≡ sinks_of names.journal (report_names names) made.run
-  pub summary_is : made.summary ≡ summary_text Undirected made.run
+  pub summary_is : made.summary ≡ summary_text (kind_of names) made.run
 
 -- what is held under the sources' names was read whole, and what was made is a run of it
 pub record AreOfRun (names : RunNames) (files : Files) (made : Made) : Type 0 where

@@ -1,10 +1,7 @@
 -- What the sources stand for, as the code has it.
-use Rattle.std.specs.Prelude.{◌≡◌, ℕ, ◌+◌, List, [], ◌∷◌, ◌++◌, length, Option}
-use Rattle.graph_model.specs.declared.limits.TheConstants.{MAX_LOAD_ROWS}
+use Rattle.std.specs.Prelude.{◌≡◌, ℕ, ◌+◌, List, [], ◌∷◌, ◌++◌, length, Option, Result}
 use Rattle.run_model.specs.declared.command.Command.{Command}
-use Rattle.graphalytics_io.specs.declared.edges.Edge.{Edge}
-use Rattle.graphalytics_io.specs.VertexFile.{IsVertexFile}
-use Rattle.graphalytics_io.specs.EdgeFile.{IsEdgeFile}
+use Rattle.graph_files.specs.declared.refusal.Fault.{Fault}
 use Rattle.script_lang.specs.declared.refusal.ScriptRefusal.{ScriptRefusal}
 use Rattle.script_lang.specs.declared.refusal.ScriptRefusal.TheVariants as scripts
 use Rattle.script_lang.specs.declared.refusal.ScheduleRefusal.{ScheduleRefusal}
@@ -16,7 +13,7 @@ use Rattle.teseo_program.specs.declared.input.Input.{Input}
 use Rattle.teseo_program.specs.declared.fault.SourceFault.TheVariants as faults
 use Rattle.teseo_program.specs.declared.fault.ParseStop.{ParseStop}
 use Rattle.teseo_program.specs.declared.fault.ParseStop.TheVariants as stops
-use Rattle.teseo_program.specs.Input.{Meaning, Texts, texts_of, IsSchedule, IsAccepted, HasScheduleFault, IsFaultBehind, IsNotAccepted}
+use Rattle.teseo_program.specs.Input.{Meaning, Texts, texts_of, IsSchedule, IsAccepted, HasGraphFault, HasScheduleFault, IsFaultBehind, IsNotAccepted}
 
 -- the parsed sources
 abbrev pub meaning_of : Input → Meaning
@@ -42,15 +39,10 @@ AreRunnable taken (script ∷ scripts) = IsRunnable taken script × AreRunnable 
 
 -- ---- why nothing was parsed
 
-abbrev pub IsVertexStop : List ℕ → ParseStop → Type 0
-IsVertexStop text (stops.NotAccepted place fault) =
-    (place ≡ 0) × (fault ≡ faults.NotAccepted) × ((ids : List ℕ) → IsVertexFile text MAX_LOAD_ROWS ids → ⊥)
-IsVertexStop text stops.NoMemory = Unit {0}
-
-abbrev pub IsEdgeStop : List ℕ → List ℕ → ParseStop → Type 0
-IsEdgeStop text ids (stops.NotAccepted place fault) =
-    (place ≡ 1) × (fault ≡ faults.NotAccepted) × ((edges : List Edge) → IsEdgeFile text ids MAX_LOAD_ROWS edges → ⊥)
-IsEdgeStop text ids stops.NoMemory = Unit {0}
+-- the fault is that of the graph file at this place, which stands for this
+abbrev pub IsGraphStop : {X : Type 0} → ℕ → Result X Fault → ParseStop → Type 0
+IsGraphStop at meaning (stops.NotAccepted place fault) = (place ≡ at) × HasGraphFault meaning fault
+IsGraphStop at meaning stops.NoMemory = Unit {0}
 
 -- the fault is that of a script, whatever schedule comes behind
 abbrev pub IsScriptStop : List (List ℕ) → List (List ℕ) → ParseStop → Type 0

@@ -1,6 +1,5 @@
 -- What is made before the first output is created, and why nothing is.
 use Rattle.std.specs.Prelude.{◌≡◌, ◌≢◌, Bool, true, false, List, AllPairs}
-use Rattle.graph_model.specs.declared.write.Kind.TheVariants.{Undirected}
 use Rattle.graph_model.specs.declared.limits.TheConstants.{MAX_SOURCE_BYTES, MAX_LEAVES}
 use Rattle.run_model.specs.Inputs.{Outputs}
 use Rattle.run_model.specs.Run.{IsRun}
@@ -12,7 +11,7 @@ use Rattle.command_line.specs.Words.{RunNames, source_names, report_names}
 use Rattle.teseo_program.specs.declared.outcome.Outcome.{Outcome}
 use Rattle.teseo_program.specs.declared.outcome.Outcome.TheVariants.{Done, Full, BadWords, NotRead, NotAccepted, NoMemory, NotWritten}
 use Rattle.teseo_program.specs.declared.prepare.Prepared.{Prepared}
-use Rattle.teseo_program.specs.Input.{Meaning, inputs_of}
+use Rattle.teseo_program.specs.Input.{Meaning, kind_of, inputs_of}
 use Rattle.teseo_program.specs.Sinks.{sinks_of, summary_text}
 use Rattle.teseo_program.specs.Outcomes.{Made, shows_full, AreOfRun, IsRefusedAt}
 
@@ -42,10 +41,10 @@ pub record IsPreparedOf (names : RunNames) (files : Files) (p : Prepared) : Type
 -- of a run of what the sources stand for
 pub record IsMadeOf (names : RunNames) (m : Meaning) (p : Prepared) : Type 0 where
   pub outputs : Outputs
-  pub run : IsRun (inputs_of Undirected m) MAX_LEAVES outputs
-  pub stepped : IsStepped (inputs_of Undirected m) MAX_LEAVES m.schedule outputs
+  pub run : IsRun (inputs_of (kind_of names) m) MAX_LEAVES outputs
+  pub stepped : IsStepped (inputs_of (kind_of names) m) MAX_LEAVES m.schedule outputs
   pub outputs_are : p.outputs ≡ sinks_of names.journal (report_names names) outputs
-  pub summary_is : p.summary ≡ summary_text Undirected outputs
+  pub summary_is : p.summary ≡ summary_text (kind_of names) outputs
   pub full : shows_full outputs ≡ p.is_full
 
 -- the outputs have names that differ

@@ -3,7 +3,6 @@ use Rattle.std.specs.Prelude.{◌≡◌, ℕ, suc, ◌*◌, ◌<◌, ◌≤◌, 
 use Rattle.std.specs.List.{AllByRecursion}
 use Rattle.graph_model.specs.declared.limits.TheConstants.{SPLIT_ROWS, MAX_LEAVES}
 use Rattle.graph_model.specs.declared.write.Kind.{Kind}
-use Rattle.graph_model.specs.declared.write.Kind.TheVariants.{Undirected}
 use Rattle.graph_model.specs.Inserted.{inserted}
 use Rattle.graph_model.specs.Graph.{vertices_of}
 use Rattle.graph_model.specs.History.{graph_at}
@@ -34,8 +33,8 @@ run_outputs r = record {
 }
 
 -- what was left is a run of this input by the turns of its schedule
-abbrev pub IsSteppedRun : Input → RunResult → Type 0
-IsSteppedRun input r = IsStepped (inputs_of Undirected (meaning_of input)) MAX_LEAVES input.schedule (run_outputs r)
+abbrev pub IsSteppedRun : Kind → Input → RunResult → Type 0
+IsSteppedRun kind input r = IsStepped (inputs_of kind (meaning_of input)) MAX_LEAVES input.schedule (run_outputs r)
 
 -- the names of all kernel files are printable ASCII
 abbrev pub HavePrintableNames : List Progress → Type 0
@@ -49,8 +48,8 @@ pub record HasCounts (kind : Kind) (r : RunResult) : Type 0 where
 -- ---- the engine
 
 -- the rows of the load fill no store of as many leaves as there may be
-abbrev pub Fits : List ℕ → List Edge → Type 0
-Fits ids edges = inserted Undirected (load_of ids edges) < SPLIT_ROWS * MAX_LEAVES
+abbrev pub Fits : Kind → List ℕ → List Edge → Type 0
+Fits kind ids edges = inserted kind (load_of ids edges) < SPLIT_ROWS * MAX_LEAVES
 
 -- no script begins more transactions
 abbrev pub MayBegin : List (List Command) → ℕ → Type 0
@@ -58,8 +57,8 @@ MayBegin scripts most =
     (k : ℕ) (commands : List Command) → slice_get scripts k ≡ Some commands → begun_by 0 commands ≤ most
 
 -- a pass for each script, and one for the load
-pub record IsConfig (scripts : List (List Command)) (config : Config) : Type 0 where
-  pub kind : config.kind ≡ Undirected
+pub record IsConfig (kind : Kind) (scripts : List (List Command)) (config : Config) : Type 0 where
+  pub kind_is : config.kind ≡ kind
   pub leaves : config.leaves ≡ MAX_LEAVES
   pub passes : config.passes ≡ suc (length scripts)
   pub begins : MayBegin scripts config.txns_per_pass
@@ -68,4 +67,5 @@ pub record IsConfig (scripts : List (List Command)) (config : Config) : Type 0 w
 -- the engine of some scripts before its first call
 abbrev pub IsNewEngine : Core → Type 0
 IsNewEngine core =
-    (scripts : List (List Command)) × (config : Config) × IsConfig scripts config × (core ≡ new_core config)
+    (kind : Kind) × (scripts : List (List Command)) × (config : Config) × IsConfig kind scripts config
+    × (core ≡ new_core config)

@@ -2,14 +2,15 @@
 
 ghost use Rattle.std.specs.Prelude.{◌≡◌};
 
+use graph_files::Fault;
 use graph_model::NoMemory;
 use script_lang::{ScheduleWhat, ScriptWhat};
 
 /// What is wrong with a source.
 #[derive(Clone, Copy, Debug, PartialEq, Eq)]
 pub enum SourceFault {
-    /// A vertex file or an edge file isn't of its form.
-    NotAccepted,
+    /// The first faulty line of a vertex file or of an edge file.
+    Graph(Fault),
     /// The first faulty line of a script.
     Script { line: u64, what: ScriptWhat },
     /// The first faulty line of a schedule.

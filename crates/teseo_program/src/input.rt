@@ -4,20 +4,21 @@
 //!    is named.
 //! 2. The names that a script may not use grow by the files of each script, in order.
 
-ghost use Rattle.std.specs.Prelude.{◌≡◌, ◌≤◌, length, All, IfOk, IfErr};
+ghost use Rattle.std.specs.Prelude.{◌≡◌, ◌≤◌, length, All, Ok, IfOk, IfErr};
 ghost use Rattle.graph_model.specs.declared.limits.TheConstants.{MAX_LOAD_ROWS, MAX_SCRIPTS};
-ghost use Rattle.graphalytics_io.specs.VertexFile.{IsVertexFile};
-ghost use Rattle.graphalytics_io.specs.EdgeFile.{IsEdgeFile};
+ghost use Rattle.graph_files.specs.VertexFiles.{vertices_of};
+ghost use Rattle.graph_files.specs.EdgeFiles.{edges_of};
 ghost use Rattle.command_line.specs.Words.{taken_names};
 ghost use Rattle.command_line.specs.Lines.{run_names, taken_name};
-ghost use Rattle.teseo_program.specs.Input.{texts_of, AreScripts};
-ghost use Rattle.teseo_program.specs.Parsing.{AreTexts, IsInputOf, AreEntriesOf, AreRunnable, IsParseStop, IsVertexStop, IsEdgeStop, IsScriptStop, IsScheduleStopOf, stop_of_script};
+ghost use Rattle.teseo_program.specs.Input.{texts_of, rules_of, AreScripts};
+ghost use Rattle.teseo_program.specs.Parsing.{AreTexts, IsInputOf, AreEntriesOf, AreRunnable, IsParseStop, IsGraphStop, IsScriptStop, IsScheduleStopOf, stop_of_script};
 
 use crate::fault::{ParseStop, SourceFault};
 use command_line::{CommandLine, TakenName};
 use desk_io::{Bytes, Sources};
-use graph_model::{Ids, MAX_LOAD_ROWS, NoMemory};
-use graphalytics_io::{Edges, ReadRefusal, read_edges, read_vertices};
+use graph_files::{ReadRefusal, Weights, read_edges, read_vertices};
+use graph_model::{Ids, Kind, MAX_LOAD_ROWS, NoMemory};
+use graphalytics_io::Edges;
 use items::Items;
 use run_model::{Name, Script};
 use script_lang::{Names, Schedule, ScheduleRefusal, ScriptRefusal, read_schedule, read_script};
@@ -48,7 +49,7 @@ pub fn parse_sources(
 {
     let texts = sources.as_slice();
     let ids = parse_vertices(alloc, texts[0].as_slice())?;
-    let edges = parse_edges(alloc, texts[1].as_slice(), &ids)?;
+    let edges = parse_edges(alloc, texts[1].as_slice(), &ids, line)?;
     let mut taken = names_taken(alloc, line)?;
     let count = line.scripts.len();
     let scripts = parse_scripts(alloc, &texts[2..count + 2], &mut taken)?;
@@ -63,29 +64,41 @@ pub fn parse_sources(
 
 /// Parses the vertex file, the first source.
 fn parse_vertices(alloc: Global, text: &[u8]) -> Result<Ids, ParseStop>
-    ensures ok { IfOk result (IsVertexFile text.now MAX_LOAD_ROWS) }
-    ensures refused { IfErr result (IsVertexStop text.now) }
+    ensures ok { IfOk result (λ ids. vertices_of MAX_LOAD_ROWS text.now ≡ Ok ids) }
+    ensures refused { IfErr result (IsGraphStop 0 (vertices_of MAX_LOAD_ROWS text.now)) }
 {
     match read_vertices(alloc, text, MAX_LOAD_ROWS) {
         Ok(ids) => Ok(ids),
-        Err(ReadRefusal::NotAccepted) => Err(ParseStop::NotAccepted {
+        Err(ReadRefusal::Fault(fault)) => Err(ParseStop::NotAccepted {
             place: 0,
-            fault: SourceFault::NotAccepted,
+            fault: SourceFault::Graph(fault),
         }),
         Err(ReadRefusal::NoMemory) => Err(ParseStop::NoMemory),
     }
 }
 
 /// Parses the edge file, the second source.
-fn parse_edges(alloc: Global, text: &[u8], ids: &Ids) -> Result<Edges, ParseStop>
-    ensures ok { IfOk result (IsEdgeFile text.now ids.now MAX_LOAD_ROWS) }
-    ensures refused { IfErr result (IsEdgeStop text.now ids.now) }
+fn parse_edges(
+    alloc: Global,
+    text: &[u8],
+    ids: &Ids,
+    line: &CommandLine<'_>,
+) -> Result<Edges, ParseStop>
+    ensures ok { IfOk result (λ edges. edges_of (rules_of (run_names line.now) ids.now) text.now ≡ Ok edges) }
+    ensures refused { IfErr result (IsGraphStop 1 (edges_of (rules_of (run_names line.now) ids.now) text.now)) }
 {
-    match read_edges(alloc, text, ids, MAX_LOAD_ROWS) {
+    match read_edges(
+        alloc,
+        text,
+        ids,
+        Kind::Undirected,
+        Weights::Ones,
+        MAX_LOAD_ROWS,
+    ) {
         Ok(edges) => Ok(edges),
-        Err(ReadRefusal::NotAccepted) => Err(ParseStop::NotAccepted {
+        Err(ReadRefusal::Fault(fault)) => Err(ParseStop::NotAccepted {
             place: 1,
-            fault: SourceFault::NotAccepted,
+            fault: SourceFault::Graph(fault),
         }),
         Err(ReadRefusal::NoMemory) => Err(ParseStop::NoMemory),
     }

@@ -12,7 +12,7 @@ use graph_model::NoMemory;
 /// |---|---|---|
 /// | `Done` | 0 | the summary |
 /// | `NotRead` too long | 1 | `NAME: too long` |
-/// | `NotAccepted` | 1 | `NAME: not accepted`, or of a script or a schedule `NAME line L: TEXT` |
+/// | `NotAccepted` | 1 | `NAME line L: TEXT` |
 /// | `BadWords` | 2 | `bad words` |
 /// | `NoMemory`, `NotRead` for want of memory | 3 | `no memory` |
 /// | `NotRead` by a fault | 4 | `read failed NAME` |

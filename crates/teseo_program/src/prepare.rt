@@ -15,8 +15,9 @@ use crate::outputs::{is_full, outputs_of, summary_of};
 use crate::run::run_scripts;
 use command_line::CommandLine;
 use desk_io::{Desk, Output, read_all};
-use graph_model::{MAX_SOURCE_BYTES, NoMemory};
-use graphalytics_io::{Text, files_are_loadable, load_is_legal};
+use graph_files::{files_are_loadable, load_is_legal};
+use graph_model::{Kind, MAX_SOURCE_BYTES, NoMemory};
+use graphalytics_io::Text;
 use items::Items;
 use std::alloc::Global;
 use std::thread::Threads;
@@ -70,7 +71,7 @@ fn make<R: Threads + Sync>(
 {
     files_are_loadable();
     load_is_legal();
-    let run = run_scripts(rt, alloc, input)?;
+    let run = run_scripts(rt, alloc, Kind::Undirected, input)?;
     let commits = run.journal.len() as u64;
     let summary = summary_of(alloc, commits, run.vertices, run.edges)?;
     let outputs = outputs_of(alloc, line.journal, line.scripts, &run)?;

@@ -6,8 +6,7 @@
 
 ghost use Rattle.std.specs.Prelude.{◌≡◌, ◌≤◌, ◌+◌, ◌<◌, ℕ, cond, length, All, IfOk, OnOk, false};
 ghost use Rattle.graph_model.specs.declared.limits.TheConstants.{MAX_LEAVES, MAX_SCRIPTS, MAX_BEGINS};
-ghost use Rattle.graph_model.specs.declared.write.Kind.TheVariants.{Undirected};
-ghost use Rattle.graphalytics_io.specs.Load.{load_of, IsLoadable};
+ghost use Rattle.graphalytics_io.specs.Load.{load_of};
 ghost use Rattle.graph_load.specs.Loading.{IsLoad, loaded};
 ghost use Rattle.run_model.specs.Inputs.{AreInputs};
 ghost use Rattle.run_model.specs.Requests.{request, next_txn, begun_by};
@@ -45,18 +44,18 @@ pub struct RunResult {
 pub fn run_scripts<R: Threads + Sync>(
     rt: &R,
     alloc: Global,
+    kind: Kind,
     input: Input,
 ) -> Result<RunResult, NoMemory>
-    requires inputs { AreInputs (inputs_of Undirected (meaning_of input)) }
-    requires loadable { IsLoadable input.ids input.edges }
-    requires fits { Fits input.ids input.edges }
+    requires inputs { AreInputs (inputs_of kind (meaning_of input)) }
+    requires fits { Fits kind input.ids input.edges }
     requires listed { All (λ job. job ≤ length input.scripts) input.schedule }
-    ensures run { IfOk result (λ r. IsRun (inputs_of Undirected (meaning_of input)) MAX_LEAVES (run_outputs r)) }
-    ensures stepped { IfOk result (IsSteppedRun input) }
-    ensures counts { IfOk result (HasCounts Undirected) }
+    ensures run { IfOk result (λ r. IsRun (inputs_of kind (meaning_of input)) MAX_LEAVES (run_outputs r)) }
+    ensures stepped { IfOk result (IsSteppedRun kind input) }
+    ensures counts { IfOk result (HasCounts kind) }
 {
     stepped_runs_are_runs();
-    let config = config_of(input.scripts.as_slice());
+    let config = config_of(kind, input.scripts.as_slice());
     let mut engine = new_engine(alloc, config)?;
     load(&mut engine, &input.ids, &input.edges)?;
     let mut jobs = jobs_of(alloc, input.scripts)?;
@@ -72,10 +71,10 @@ pub fn run_scripts<R: Threads + Sync>(
 
 /// What the engine of these scripts is made with: a pass for each, and one for the load. Each may begin as
 /// many transactions as the script with most of them.
-fn config_of(scripts: &[Script]) -> Config
+fn config_of(kind: Kind, scripts: &[Script]) -> Config
     requires count { length scripts.now ≤ MAX_SCRIPTS }
     requires begins { MayBegin scripts.now MAX_BEGINS }
-    ensures config { IsConfig scripts.now result }
+    ensures config { IsConfig kind scripts.now result }
     ensures fits { too_large result ≡ false }
 {
     let mut most = 1;
@@ -83,7 +82,7 @@ fn config_of(scripts: &[Script]) -> Config
         most = most.max(begins(script.as_slice()));
     }
     Config {
-        kind: Kind::Undirected,
+        kind,
         leaves: MAX_LEAVES,
         passes: scripts.len() as u32 + 1,
         txns_per_pass: most,
@@ -127,7 +126,7 @@ fn new_engine(alloc: Global, config: Config) -> Result<PlainCore, NoMemory>
 fn load(engine: &mut PlainCore, ids: &Ids, edges: &Edges) -> Result<(), NoMemory>
     requires new { IsNewEngine engine.old }
     requires load { IsLoad engine.old (load_of ids.now edges.now) }
-    requires fits { Fits ids.now edges.now }
+    requires fits { Fits engine.old.kind ids.now edges.now }
     ensures { OnOk result (engine.new ≡ loaded engine.old (load_of ids.now edges.now)) }
 {
     match load_graph(engine, ids, edges) {

@@ -40,7 +40,7 @@ fn say_fault<D: Desk>(desk: &mut D, name: &str, fault: SourceFault)
     ensures { OnlySays (fault_text name.now fault) (D.files desk.old) (D.files desk.new) }
 {
     match fault {
-        SourceFault::NotAccepted => say_line(desk, name.as_bytes(), b": not accepted"),
+        SourceFault::Graph(fault) => say_line_fault(desk, name, fault.line, fault.what.text()),
         SourceFault::Script { line, what } => say_line_fault(desk, name, line, what.text()),
         SourceFault::Schedule { line, what } => say_line_fault(desk, name, line, what.text()),
     }

@@ -6,14 +6,14 @@ use std::test::Fail;
 
 /// Sources that are refused, and what is said of the first that is.
 const REFUSED: [(Run, &str); 14] = [
-    // one of each reader: a missing last line feed, an unknown vertex, a line of no transaction, no job
+    // one of each reader: an id twice, an unknown vertex, a line of no transaction, no job
     (
-        (&[("v", "1\n2\n3\n4"), E, SEARCH], "s1"),
-        "v: not accepted\n",
+        (&[("v", "1\n# 2\n\n1\n"), E, SEARCH], "s1"),
+        "v line 4: duplicate vertex\n",
     ),
     (
         (&[V, ("e", "1 2\n2 5\n"), SEARCH], "s1"),
-        "e: not accepted\n",
+        "e line 2: unknown vertex\n",
     ),
     (
         (&[V, E, ("s1", "vertex 5\n")], "s1"),
@@ -26,11 +26,11 @@ const REFUSED: [(Run, &str); 14] = [
     // numbers that would wrap to ids that are there
     (
         (&[("v", "2\n3\n18446744073709551617\n"), E, SEARCH], "s1"),
-        "v: not accepted\n",
+        "v line 3: id too large\n",
     ),
     (
         (&[V, ("e", "1 18446744073709551618\n"), SEARCH], "s1"),
-        "e: not accepted\n",
+        "e line 1: id too large\n",
     ),
     (
         (
@@ -64,12 +64,12 @@ const REFUSED: [(Run, &str); 14] = [
     ),
     // of several faulty ones the first is named
     (
-        (&[("v", "1"), E, ("s1", "begin")], "s1"),
-        "v: not accepted\n",
+        (&[("v", "x"), E, ("s1", "begin")], "s1"),
+        "v line 1: not a number\n",
     ),
     (
         (&[V, ("e", "1"), ("s1", "begin")], "s1"),
-        "e: not accepted\n",
+        "e line 1: missing field\n",
     ),
     (
         (

@@ -1,9 +1,10 @@
-use Rattle.std.proofs.Common.{◌≤◌, get_or, length, ◌∙◌, ap, sym, subst, arith}
+use Rattle.std.proofs.Common.{◌≡◌, ◌≤◌, get_or, length, ◌∙◌, ap, sym, subst, arith}
+use Rattle.std.specs.Prelude.{Ok}
 use Rattle.std.specs.String.{string_bytes}
 use Rattle.graph_model.specs.declared.limits.TheConstants.{MAX_LOAD_ROWS}
-use Rattle.graphalytics_io.specs.VertexFile.{IsVertexFile}
-use Rattle.graphalytics_io.specs.EdgeFile.{IsEdgeFile}
-use Rattle.teseo_program.specs.Input.{texts_of, AreScripts}
+use Rattle.graph_files.specs.VertexFiles.{vertices_of}
+use Rattle.graph_files.specs.EdgeFiles.{edges_of}
+use Rattle.teseo_program.specs.Input.{texts_of, rules_of, AreScripts}
 use Rattle.command_line.specs.Lines.{run_names}
 use Rattle.teseo_program.specs.Parsing.{IsScriptStop, IsScheduleStop}
 use Rattle.teseo_program.proofs.InputLemmas.{script_stop, schedule_stop, handed_on, text_is, script_texts, script_count, one_script_each}
@@ -16,8 +17,8 @@ returns-in_err-scripts-clause-refused c =
     let second = text_is c.args.sources.now c.as_slice-texts.result.now 1 _ c.index-texts-1.result c.as_slice-texts.ensures (omega (arith, c.requires.texts)) (c.as_slice-2.ensures ∙ c.index-texts-1.is) in
     handed_on _ _ _ c.from_residual-in_err-scripts.ensures.1
     (script_stop names (texts_of names c.args.sources.now) c.in_ok-ids.ids c.in_ok-edges.edges
-    (subst (λ t. IsVertexFile t MAX_LOAD_ROWS c.in_ok-ids.ids) first c.in_ok-ids.ensures.ok)
-    (subst (λ t. IsEdgeFile t c.in_ok-ids.ids MAX_LOAD_ROWS c.in_ok-edges.edges) second c.in_ok-edges.ensures.ok)
+    (subst (λ t. vertices_of MAX_LOAD_ROWS t ≡ Ok c.in_ok-ids.ids) first c.in_ok-ids.ensures.ok)
+    (subst (λ t. edges_of (rules_of names c.in_ok-ids.ids) t ≡ Ok c.in_ok-edges.edges) second c.in_ok-edges.ensures.ok)
     _ (subst (λ ns. IsScriptStop ns (texts_of names c.args.sources.now).scripts c.in_err-scripts.field-0.0) c.in_ok-taken.ensures
     (subst (λ ts. IsScriptStop c.in_ok-taken.taken ts c.in_err-scripts.field-0.0)
     (script_texts string_bytes c.args.line.now.scripts.now c.as_slice-texts.result.now c.args.sources.now c.as_slice-texts.ensures) c.in_err-scripts.ensures.refused)))
@@ -29,8 +30,8 @@ returns-in_err-schedule-clause-refused c =
     let second = text_is c.args.sources.now c.as_slice-texts.result.now 1 _ c.index-texts-1.result c.as_slice-texts.ensures (omega (arith, c.requires.texts)) (c.as_slice-2.ensures ∙ c.index-texts-1.is) in
     handed_on _ _ _ c.from_residual-in_err-schedule.ensures.1
     (schedule_stop names (texts_of names c.args.sources.now) c.in_ok-ids.ids c.in_ok-edges.edges
-    (subst (λ t. IsVertexFile t MAX_LOAD_ROWS c.in_ok-ids.ids) first c.in_ok-ids.ensures.ok)
-    (subst (λ t. IsEdgeFile t c.in_ok-ids.ids MAX_LOAD_ROWS c.in_ok-edges.edges) second c.in_ok-edges.ensures.ok)
+    (subst (λ t. vertices_of MAX_LOAD_ROWS t ≡ Ok c.in_ok-ids.ids) first c.in_ok-ids.ensures.ok)
+    (subst (λ t. edges_of (rules_of names c.in_ok-ids.ids) t ≡ Ok c.in_ok-edges.edges) second c.in_ok-edges.ensures.ok)
     c.in_ok-scripts.scripts
     (subst (λ ns. AreScripts ns (texts_of names c.args.sources.now).scripts c.in_ok-scripts.scripts) c.in_ok-taken.ensures
     (subst (λ ts. AreScripts c.in_ok-taken.taken ts c.in_ok-scripts.scripts)

@@ -4,32 +4,27 @@ use Rattle.std.proofs.lemmas.List.{length-map}
 use Rattle.command_line.specs.Lines.{run_names}
 use Rattle.teseo_program.specs.Parsing.{meaning_of}
 use Rattle.teseo_program.specs.Running.{run_outputs}
-use Rattle.teseo_program.proofs.PreparedLemmas.{loadable, are_inputs, job_count, are_printable, are_apart, same_summary}
+use Rattle.teseo_program.proofs.PreparedLemmas.{are_inputs, job_count, are_printable, are_apart, same_summary}
 use Rattle.teseo_program.proofs.RunLemmas.{files_fit}
 use Rattle.teseo_program.proofs.prepare.make.Goals as goal
 
 pub run_scripts-requires-clause-inputs : goal.run_scripts-requires-clause-inputs
 run_scripts-requires-clause-inputs g c κs within =
-    are_inputs c.load_is_legal.ensures c.files_are_loadable.ensures (run_names c.args.line.now) c.requires.words.0 c.requires.words.1 c.requires.accepted.0 (meaning_of c.args.input)
-    c.requires.accepted.1 c.requires.runnable c.requires.count
-
-pub run_scripts-requires-clause-loadable : goal.run_scripts-requires-clause-loadable
-run_scripts-requires-clause-loadable g c κs within =
-    loadable c.load_is_legal.ensures c.files_are_loadable.ensures (run_names c.args.line.now) c.requires.words.0 c.requires.words.1 c.requires.accepted.0 (meaning_of c.args.input)
+    are_inputs c.load_is_legal.ensures.allowed c.load_is_legal.ensures.within c.files_are_loadable.ensures.loadable (run_names c.args.line.now) c.requires.words.0 c.requires.words.1 c.requires.accepted.0 (meaning_of c.args.input)
     c.requires.accepted.1 c.requires.runnable c.requires.count
 
 pub run_scripts-requires-clause-fits : goal.run_scripts-requires-clause-fits
-run_scripts-requires-clause-fits g c κs within = files_fit (run_names c.args.line.now) c.requires.accepted.0 (meaning_of c.args.input) c.requires.accepted.1
+run_scripts-requires-clause-fits g c κs within = files_fit c.files_are_loadable.ensures.within (run_names c.args.line.now) c.requires.accepted.0 (meaning_of c.args.input) c.requires.accepted.1
 
 pub outputs_of-requires-clause-count : goal.outputs_of-requires-clause-count
 outputs_of-requires-clause-count g c =
-    job_count c.load_is_legal.ensures c.files_are_loadable.ensures (run_names c.args.line.now) c.requires.words.0 c.requires.words.1 c.requires.accepted.0 (meaning_of c.args.input)
+    job_count c.load_is_legal.ensures.allowed c.load_is_legal.ensures.within c.files_are_loadable.ensures.loadable (run_names c.args.line.now) c.requires.words.0 c.requires.words.1 c.requires.accepted.0 (meaning_of c.args.input)
     c.requires.accepted.1 c.requires.runnable c.requires.count c.in_ok-run.run' c.in_ok-run.ensures.run
     ∙ length-map c.args.line.now.scripts.now string_bytes
 
 pub outputs_of-requires-clause-names : goal.outputs_of-requires-clause-names
 outputs_of-requires-clause-names g c =
-    are_printable c.load_is_legal.ensures c.files_are_loadable.ensures (run_names c.args.line.now) c.requires.words.0 c.requires.words.1 c.requires.accepted.0 (meaning_of c.args.input)
+    are_printable c.load_is_legal.ensures.allowed c.load_is_legal.ensures.within c.files_are_loadable.ensures.loadable (run_names c.args.line.now) c.requires.words.0 c.requires.words.1 c.requires.accepted.0 (meaning_of c.args.input)
     c.requires.accepted.1 c.requires.runnable c.requires.count c.in_ok-run.run' c.in_ok-run.ensures.run
 
 pub returns-clause-made : goal.returns-clause-made
@@ -38,11 +33,11 @@ returns-clause-made g c = record {
   run = c.in_ok-run.ensures.run;
   stepped = c.in_ok-run.ensures.stepped;
   outputs_are = c.in_ok-outputs.ensures;
-  summary_is = c.in_ok-summary.ensures ∙ same_summary c.in_ok-run.run' c.in_ok-run.ensures.counts _ c.len-commits.ensures;
+  summary_is = c.in_ok-summary.ensures ∙ same_summary _ c.in_ok-run.run' c.in_ok-run.ensures.counts _ c.len-commits.ensures;
   full = sym c.is_full-is_full.ensures;
 }
 
 pub returns-clause-apart : goal.returns-clause-apart
 returns-clause-apart g c =
-    are_apart c.load_is_legal.ensures c.files_are_loadable.ensures (run_names c.args.line.now) c.requires.words.0 c.requires.words.1 c.requires.accepted.0 (meaning_of c.args.input)
+    are_apart c.load_is_legal.ensures.allowed c.load_is_legal.ensures.within c.files_are_loadable.ensures.loadable (run_names c.args.line.now) c.requires.words.0 c.requires.words.1 c.requires.accepted.0 (meaning_of c.args.input)
     c.requires.accepted.1 c.requires.runnable c.requires.count c.in_ok-run.run' c.in_ok-run.ensures.run c.in_ok-outputs.outputs c.in_ok-outputs.ensures
