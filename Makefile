@@ -1,6 +1,8 @@
 # The toolchain's command `rt` must be on PATH.
 
 PREFIX ?= /usr/local
+MANUALS = $(PREFIX)/share/man/man1
+COMPLETIONS = $(PREFIX)/share/bash-completion/completions
 PROGRAM = crates/teseo/out/teseo
 ARCHIVE = teseo-$(shell git rev-parse --short HEAD).tar.gz
 
@@ -9,8 +11,8 @@ ARCHIVE = teseo-$(shell git rev-parse --short HEAD).tar.gz
 help:
 	@echo 'make demo       runs the example, checked and not proved, in half a minute'
 	@echo 'make build      proves and builds the program: 6 to 20 minutes the first time'
-	@echo 'make install    builds, and puts teseo into PREFIX/bin (PREFIX=$(PREFIX))'
-	@echo 'make uninstall  removes it from there'
+	@echo 'make install    builds, and puts teseo, its manual page and its completion below PREFIX ($(PREFIX))'
+	@echo 'make uninstall  removes them from there'
 	@echo 'make test       the gate: proves every crate from nothing, and runs all tests (an hour)'
 	@echo 'make bench      builds, and prints a table of times and of memory (some minutes)'
 	@echo 'make dist       packs the last commit into teseo-COMMIT.tar.gz'
@@ -24,11 +26,13 @@ build:
 	@.ci/build
 
 install: build
-	install -d $(DESTDIR)$(PREFIX)/bin
+	install -d $(DESTDIR)$(PREFIX)/bin $(DESTDIR)$(MANUALS) $(DESTDIR)$(COMPLETIONS)
 	install -m 755 $(PROGRAM) $(DESTDIR)$(PREFIX)/bin/teseo
+	install -m 644 docs/teseo.1 $(DESTDIR)$(MANUALS)/teseo.1
+	install -m 644 docs/teseo.bash $(DESTDIR)$(COMPLETIONS)/teseo
 
 uninstall:
-	rm -f $(DESTDIR)$(PREFIX)/bin/teseo
+	rm -f $(DESTDIR)$(PREFIX)/bin/teseo $(DESTDIR)$(MANUALS)/teseo.1 $(DESTDIR)$(COMPLETIONS)/teseo
 
 test:
 	.ci/run

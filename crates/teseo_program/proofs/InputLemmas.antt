@@ -14,12 +14,13 @@ use Rattle.graph_model.specs.declared.limits.TheConstants.{MAX_LOAD_ROWS}
 use Rattle.graphalytics_io.specs.declared.edges.Edge.{Edge}
 use Rattle.graph_files.specs.VertexFiles.{vertices_of}
 use Rattle.graph_files.specs.EdgeFiles.{edges_of}
-use Rattle.command_line.specs.Words.{RunNames, taken_names}
+use Rattle.command_words.specs.Words.{RunRequest, taken_names}
+use Rattle.teseo_program.specs.Requests.{rules_of}
 use Rattle.teseo_program.specs.declared.fault.SourceFault.{SourceFault}
 use Rattle.teseo_program.specs.declared.fault.SourceFault.TheVariants as faults
 use Rattle.teseo_program.specs.declared.fault.ParseStop.{ParseStop}
 use Rattle.teseo_program.specs.declared.fault.ParseStop.TheVariants as stops
-use Rattle.teseo_program.specs.Input.{Texts, texts_of, rules_of, AreScripts, HasScheduleFault, HasScriptFault, IsFaultBehind, IsNotAccepted}
+use Rattle.teseo_program.specs.Input.{Texts, texts_of, AreScripts, HasScheduleFault, HasScriptFault, IsFaultBehind, IsNotAccepted}
 use Rattle.teseo_program.specs.Parsing.{AreTexts, AreRunnable, IsScriptStop, IsScheduleStop, IsParseStop, stop_of_script}
 
 -- the names taken behind scripts: their files stand behind those of before
@@ -90,26 +91,26 @@ length_take (suc n) (x ∷ xs) le = let rest = length_take n xs (omega arith) in
 
 -- ---- why nothing was parsed
 
-module _ (names : RunNames) (texts : Texts) (ids : List ℕ) (edges : List Edge)
-    (vertices_are : vertices_of MAX_LOAD_ROWS texts.vertices ≡ Ok ids) (edges_are : edges_of (rules_of names ids) texts.edges ≡ Ok edges) where
+module _ (request : RunRequest) (texts : Texts) (ids : List ℕ) (edges : List Edge)
+    (vertices_are : vertices_of MAX_LOAD_ROWS texts.vertices ≡ Ok ids) (edges_are : edges_of (rules_of request ids) texts.edges ≡ Ok edges) where
   behind_files : (place k : ℕ) (fault : SourceFault) → place ≡ k + 2
-      → IsFaultBehind (length names.scripts) (taken_names names) texts.scripts texts.schedule k fault → IsNotAccepted names texts place fault
+      → IsFaultBehind (length request.scripts) (taken_names request) texts.scripts texts.schedule k fault → IsNotAccepted request texts place fault
   behind_files place k fault at is =
       let two : place ≡ suc (suc k) = omega arith in
-      subst (λ n. IsNotAccepted names texts n fault) (sym two) (ids, edges, vertices_are, edges_are, is)
+      subst (λ n. IsNotAccepted request texts n fault) (sym two) (ids, edges, vertices_are, edges_are, is)
 
   -- a script has a fault
-  pub script_stop : (stop : ParseStop) → IsScriptStop (taken_names names) texts.scripts stop → IsParseStop names texts stop
-  script_stop (stops.NotAccepted place fault) (k, at, is) = behind_files place k fault at (is (length names.scripts) texts.schedule)
+  pub script_stop : (stop : ParseStop) → IsScriptStop (taken_names request) texts.scripts stop → IsParseStop request texts stop
+  script_stop (stops.NotAccepted place fault) (k, at, is) = behind_files place k fault at (is (length request.scripts) texts.schedule)
   script_stop stops.NoMemory is = tt
 
   -- all scripts are right, and the schedule has a fault
-  pub schedule_stop : (scripts : List (List Command)) → AreScripts (taken_names names) texts.scripts scripts → length texts.scripts ≡ length names.scripts
-      → (stop : ParseStop) → IsScheduleStop (length names.scripts) texts.schedule stop → IsParseStop names texts stop
+  pub schedule_stop : (scripts : List (List Command)) → AreScripts (taken_names request) texts.scripts scripts → length texts.scripts ≡ length request.scripts
+      → (stop : ParseStop) → IsScheduleStop (length request.scripts) texts.schedule stop → IsParseStop request texts stop
   schedule_stop scripts are count (stops.NotAccepted place fault) (at, is) =
       let behind : place ≡ length texts.scripts + 2 = omega (arith, count) in
       behind_files place (length texts.scripts) fault behind
-      (schedule_behind (length names.scripts) (taken_names names) texts.scripts scripts texts.schedule fault are is)
+      (schedule_behind (length request.scripts) (taken_names request) texts.scripts scripts texts.schedule fault are is)
   schedule_stop scripts are count stops.NoMemory is = tt
 
 -- ---- one script more, as it is read
@@ -171,17 +172,17 @@ pub text_is : (sources lent : List (List ℕ)) (i : ℕ) (text d : List ℕ) →
 text_is sources lent i text d same lt at = at ∙ ap (λ xs. get_or xs i d) same ∙ any_default sources i d [] lt
 
 -- the scripts among the texts
-pub script_texts : {X : Type 0} (text : X → List ℕ) (xs : List X) (lent sources : List (List ℕ)) → lent ≡ sources
-    → take (length xs + 2 - 2) (drop 2 lent) ≡ take (length (map text xs)) (drop 2 sources)
-script_texts text xs lent sources same =
-    let count : length xs + 2 - 2 ≡ length (map text xs) = omega (arith, length-map xs text) in
-    ap (λ n. take n (drop 2 lent)) count ∙ ap (λ ts. take (length (map text xs)) (drop 2 ts)) same
+pub script_texts : (scripts : List (List ℕ)) (n : ℕ) (lent sources : List (List ℕ)) → n ≡ length scripts → lent ≡ sources
+    → take (n + 2 - 2) (drop 2 lent) ≡ take (length scripts) (drop 2 sources)
+script_texts scripts n lent sources is same =
+    let count : n + 2 - 2 ≡ length scripts = omega (arith, is) in
+    ap (λ n. take n (drop 2 lent)) count ∙ ap (λ ts. take (length scripts) (drop 2 ts)) same
 
 -- and there is one for each script
-pub script_count : (names : RunNames) (sources : List (List ℕ)) → AreTexts names sources → length (texts_of names sources).scripts ≡ length names.scripts
-script_count names sources are =
-    let rest = length-append names.scripts (option_to_list names.schedule) in
-    length_take (length names.scripts) (drop 2 sources) (omega (arith, are, rest, length-drop 2 sources))
+pub script_count : (request : RunRequest) (sources : List (List ℕ)) → AreTexts request sources → length (texts_of request sources).scripts ≡ length request.scripts
+script_count request sources are =
+    let rest = length-append request.scripts (option_to_list request.schedule) in
+    length_take (length request.scripts) (drop 2 sources) (omega (arith, are, rest, length-drop 2 sources))
 
 pub one_script_each : (taken : List (List ℕ)) (texts : List (List ℕ)) (scripts : List (List Command)) → AreScripts taken texts scripts → length scripts ≡ length texts
 one_script_each taken [] scripts are = ap length are

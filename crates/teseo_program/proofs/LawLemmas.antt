@@ -16,15 +16,16 @@ use Rattle.script_lang.specs.declared.refusal.ScriptRefusal.TheVariants as scrip
 use Rattle.script_lang.specs.declared.refusal.ScheduleRefusal.{ScheduleRefusal}
 use Rattle.script_lang.specs.declared.refusal.ScheduleRefusal.TheVariants as schedule_refusals
 use Rattle.script_lang.specs.Scripts.{files_of}
-use Rattle.command_line.specs.Words.{RunNames, TakesWords, source_names, taken_names}
-use Rattle.command_line.proofs.WordLemmas.{taken_once}
+use Rattle.command_words.specs.Words.{RunRequest, MakeRequest, Request, run, make, IsTaken, taken_names}
+use Rattle.command_words.proofs.WordLemmas.{taken_once}
+use Rattle.teseo_program.specs.Requests.{source_names, rules_of}
 use Rattle.teseo_program.specs.declared.fault.SourceFault.{SourceFault}
 use Rattle.teseo_program.specs.declared.fault.SourceFault.TheVariants as faults
 use Rattle.teseo_program.specs.declared.outcome.Outcome.{Outcome}
 use Rattle.teseo_program.specs.declared.outcome.Outcome.TheVariants.{Done, Full, BadWords, NotRead, NotAccepted, NoMemory, NotWritten}
-use Rattle.teseo_program.specs.Input.{Meaning, Texts, texts_of, rules_of, HasGraphFault, AreScripts, IsSchedule, IsAccepted, IsFaultBehind, IsNotAccepted}
-use Rattle.teseo_program.specs.Outcomes.{status_of, IsRunOutcome}
-use Rattle.teseo_program.specs.Laws.{IsTold, AreTold, Stands, HasNoFault, AcceptedRunsEndWell}
+use Rattle.teseo_program.specs.Input.{Meaning, Texts, texts_of, HasGraphFault, AreScripts, IsSchedule, IsAccepted, IsFaultBehind, IsNotAccepted}
+use Rattle.teseo_program.specs.Outcomes.{status_of, IsRunOutcome, IsMakeOutcome, Ends}
+use Rattle.teseo_program.specs.Laws.{IsTold, AreTold, Stands, HasNoFault, AcceptedRunsEndWell, GraphsAreMade}
 
 stands_still : (before now : ℕ) → Stands before now → Rose before now → ⊥
 stands_still before now stands (inl more) = let same : now ≡ before = stands.same in let below : before < 2 ^ 64 - 1 = stands.below in omega arith
@@ -87,53 +88,79 @@ no_graph_fault {X} meaning x is (faults.Graph fault) has = let no : ◌≡◌ {A
 no_graph_fault meaning x is (faults.Script line what) has = has
 no_graph_fault meaning x is (faults.Schedule line what) has = has
 
-module _ (names : RunNames) (texts : Texts) (m : Meaning) (accepted : IsAccepted names texts m) where
+module _ (request : RunRequest) (texts : Texts) (m : Meaning) (accepted : IsAccepted request texts m) where
   same_ids : (ids : List ℕ) → vertices_of MAX_LOAD_ROWS texts.vertices ≡ Ok ids → m.ids ≡ ids
   same_ids ids is = let one : ◌≡◌ {A = Result (List ℕ) Fault} (Ok m.ids) (Ok ids) = sym accepted.vertices ∙ is in cc
 
-  none_refused : (place : ℕ) (fault : SourceFault) → IsNotAccepted names texts place fault → ⊥
+  none_refused : (place : ℕ) (fault : SourceFault) → IsNotAccepted request texts place fault → ⊥
   none_refused zero fault has = no_graph_fault (vertices_of MAX_LOAD_ROWS texts.vertices) m.ids accepted.vertices fault has
   none_refused (suc zero) fault (ids, is, has) =
-      no_graph_fault (edges_of (rules_of names m.ids) texts.edges) m.edges accepted.edges fault
-      (subst (λ xs. HasGraphFault (edges_of (rules_of names xs) texts.edges) fault) (sym (same_ids ids is)) has)
+      no_graph_fault (edges_of (rules_of request m.ids) texts.edges) m.edges accepted.edges fault
+      (subst (λ xs. HasGraphFault (edges_of (rules_of request xs) texts.edges) fault) (sym (same_ids ids is)) has)
   none_refused (suc (suc place)) fault (ids, edges, vertices_are, edges_are, refused) =
-      no_fault_behind (length names.scripts) (taken_names names) texts.scripts texts.schedule m.scripts m.schedule accepted.scripts accepted.schedule place fault refused
+      no_fault_behind (length request.scripts) (taken_names request) texts.scripts texts.schedule m.scripts m.schedule accepted.scripts accepted.schedule place fault refused
 
-module _ (names : RunNames) (sources : List (List ℕ)) (m : Meaning) (old new : Files) (told : AreTold names old sources) (accepted : IsAccepted names (texts_of names sources) m) (no_fault : HasNoFault old new) where
-  stop_ends_well : (stop : ReadStop) (before : Files) → IsReadStop MAX_SOURCE_BYTES (source_names names) old before stop → before.read_faults ≡ new.read_faults → status_of (NotRead stop) ≡ 3
+module _ (request : RunRequest) (sources : List (List ℕ)) (m : Meaning) (old new : Files) (told : AreTold request old sources) (accepted : IsAccepted request (texts_of request sources) m) (no_fault : HasNoFault old new) where
+  stop_ends_well : (stop : ReadStop) (before : Files) → IsReadStop MAX_SOURCE_BYTES (source_names request) old before stop → before.read_faults ≡ new.read_faults → status_of (NotRead stop) ≡ 3
   stop_ends_well (reads.Fault place) before (name, at, fails) same =
       absurd (stands_still old.read_faults new.read_faults no_fault.reads (subst (Rose old.read_faults) same fails.rose))
   stop_ends_well (reads.TooLong place) before (name, at, long, rest) same =
-      let is = told_at old (source_names names) sources told place name at.name_there in
+      let is = told_at old (source_names request) sources told place name at.name_there in
       absurd (not_too_long old name is.0 is.1 long)
   stop_ends_well reads.NoMemory before stop same = refl
 
-  pub run_ends_well : (outcome : Outcome) → IsRunOutcome outcome names old new → (outcome ≡ Done) ⊎ ((outcome ≡ Full) ⊎ (status_of outcome ≡ 3))
+  pub run_ends_well : (outcome : Outcome) → IsRunOutcome outcome request old new → (outcome ≡ Done) ⊎ ((outcome ≡ Full) ⊎ (status_of outcome ≡ 3))
   run_ends_well Done is = inl refl
   run_ends_well Full is = inr (inl refl)
   run_ends_well BadWords is = absurd is.cause
   run_ends_well (NotRead stop) is = inr (inr (stop_ends_well stop is.before is.cause (sym (ap (λ f. f.read_faults) is.says.rest))))
   run_ends_well (NotAccepted place fault) is =
       let cause = is.cause in
-      let one : cause.0.0 ≡ sources = read_told old (source_names names) sources cause.0.0 told cause.0.1 in
-      absurd (none_refused names (texts_of names sources) m accepted place fault (subst (λ read. IsNotAccepted names (texts_of names read) place fault) one cause.0.2))
+      let one : cause.0.0 ≡ sources = read_told old (source_names request) sources cause.0.0 told cause.0.1 in
+      absurd (none_refused request (texts_of request sources) m accepted place fault (subst (λ read. IsNotAccepted request (texts_of request read) place fault) one cause.0.2))
   run_ends_well NoMemory is = inr (inr refl)
   run_ends_well (NotWritten stop) is =
       let kept : new.write_faults ≡ is.before.write_faults = ap (λ f. f.write_faults) is.says.rest in
       absurd (stands_still old.write_faults new.write_faults no_fault.writes (subst (Rose old.write_faults) (sym kept) is.cause.1.2.rose))
 
-taken_ends : (outcome : Outcome) (words : List (List ℕ)) (names other : RunNames) (old new : Files) → TakesWords words names → TakesWords words other → IsRunOutcome outcome other old new → IsRunOutcome outcome names old new
-taken_ends outcome words names other old new takes also = subst (λ ns. IsRunOutcome outcome ns old new) (taken_once words other names also takes)
+-- words ask for one thing, so the call ends as that does
+asked_ends : (outcome : Outcome) (words : List (List ℕ)) (request other : Request) (old new : Files) → IsTaken words request → IsTaken words other → Ends outcome other old new → Ends outcome request old new
+asked_ends outcome words request other old new taken also = subst (λ asked. Ends outcome asked old new) (taken_once words other request also taken)
 
 -- an accepted run without a fault is done, or finds no place, or wants memory
 pub end_well : AcceptedRunsEndWell
-end_well BadWords words names sources m old new takes told accepted no_fault (never, says) = absurd (never names takes)
-end_well Done words names sources m old new takes told accepted no_fault ends = inl refl
-end_well Full words names sources m old new takes told accepted no_fault ends = inr (inl refl)
-end_well NoMemory words names sources m old new takes told accepted no_fault ends = inr (inr refl)
-end_well (NotRead stop) words names sources m old new takes told accepted no_fault (other, also, ends) =
-    run_ends_well names sources m old new told accepted no_fault (NotRead stop) (taken_ends (NotRead stop) words names other old new takes also ends)
-end_well (NotAccepted place fault) words names sources m old new takes told accepted no_fault (other, also, ends) =
-    run_ends_well names sources m old new told accepted no_fault (NotAccepted place fault) (taken_ends (NotAccepted place fault) words names other old new takes also ends)
-end_well (NotWritten stop) words names sources m old new takes told accepted no_fault (other, also, ends) =
-    run_ends_well names sources m old new told accepted no_fault (NotWritten stop) (taken_ends (NotWritten stop) words names other old new takes also ends)
+end_well BadWords words request sources m old new taken told accepted no_fault (never, says) = absurd (never (run request) taken)
+end_well Done words request sources m old new taken told accepted no_fault ends = inl refl
+end_well Full words request sources m old new taken told accepted no_fault ends = inr (inl refl)
+end_well NoMemory words request sources m old new taken told accepted no_fault ends = inr (inr refl)
+end_well (NotRead stop) words request sources m old new taken told accepted no_fault (other, also, ends) =
+    run_ends_well request sources m old new told accepted no_fault (NotRead stop) (asked_ends (NotRead stop) words (run request) other old new taken also ends)
+end_well (NotAccepted place fault) words request sources m old new taken told accepted no_fault (other, also, ends) =
+    run_ends_well request sources m old new told accepted no_fault (NotAccepted place fault) (asked_ends (NotAccepted place fault) words (run request) other old new taken also ends)
+end_well (NotWritten stop) words request sources m old new taken told accepted no_fault (other, also, ends) =
+    run_ends_well request sources m old new told accepted no_fault (NotWritten stop) (asked_ends (NotWritten stop) words (run request) other old new taken also ends)
+
+graph_ends_well : (outcome : Outcome) (request : MakeRequest) (old new : Files) → HasNoFault old new → IsMakeOutcome outcome request old new → (outcome ≡ Done) ⊎ (status_of outcome ≡ 3)
+graph_ends_well Done request old new no_fault is = inl refl
+graph_ends_well Full request old new no_fault is = absurd is.cause
+graph_ends_well BadWords request old new no_fault is = absurd is.cause
+graph_ends_well (NotRead stop) request old new no_fault is = absurd is.cause
+graph_ends_well (NotAccepted place fault) request old new no_fault is = absurd is.cause
+graph_ends_well NoMemory request old new no_fault is = inr refl
+graph_ends_well (NotWritten stop) request old new no_fault is =
+    let kept : new.write_faults ≡ is.before.write_faults = ap (λ f. f.write_faults) is.says.rest in
+    absurd (stands_still old.write_faults new.write_faults no_fault.writes (subst (Rose old.write_faults) (sym kept) is.cause.2.rose))
+
+-- a graph is made without a fault, or memory is wanted
+pub graphs_made : GraphsAreMade
+graphs_made BadWords words request old new taken no_fault (never, says) = absurd (never (make request) taken)
+graphs_made NoMemory words request old new taken no_fault says = inr refl
+graphs_made Done words request old new taken no_fault ends = inl refl
+graphs_made Full words request old new taken no_fault (other, also, ends) =
+    graph_ends_well Full request old new no_fault (asked_ends Full words (make request) other old new taken also ends)
+graphs_made (NotRead stop) words request old new taken no_fault (other, also, ends) =
+    graph_ends_well (NotRead stop) request old new no_fault (asked_ends (NotRead stop) words (make request) other old new taken also ends)
+graphs_made (NotAccepted place fault) words request old new taken no_fault (other, also, ends) =
+    graph_ends_well (NotAccepted place fault) request old new no_fault (asked_ends (NotAccepted place fault) words (make request) other old new taken also ends)
+graphs_made (NotWritten stop) words request old new taken no_fault (other, also, ends) =
+    graph_ends_well (NotWritten stop) request old new no_fault (asked_ends (NotWritten stop) words (make request) other old new taken also ends)

@@ -1,3 +1,4 @@
+mod RequestLemmas
 mod InputLemmas
 mod SublistLemmas
 mod FileLemmas

@@ -1,44 +1,57 @@
--- A run ends as its outputs are written, or as its preparation stopped.
-use Rattle.std.proofs.Common.{◌≡◌, ℕ, List, [], ◌∙◌, subst}
+-- A call ends as its outputs are written, or as its preparation stopped.
+use Rattle.std.proofs.Common.{◌≡◌, ℕ, List, [], sym, ◌∙◌, subst, true, false}
 use Rattle.desk_io.specs.Files.{Files}
-use Rattle.desk_io.specs.Outputs.{NamedText, names_of}
-use Rattle.command_line.specs.Words.{RunNames, source_names}
+use Rattle.desk_io.specs.Outputs.{names_of, WritesAll, FailsAtPlace}
+use Rattle.command_words.specs.declared.refusal.WordsRefusal.{WordsRefusal}
+use Rattle.command_words.specs.declared.refusal.WordsRefusal.TheVariants as word_refusals
+use Rattle.command_words.specs.Words.{RunRequest, MakeRequest, Request, run, make, IsTaken}
+use Rattle.command_words.specs.Views.{RefusesWords}
 use Rattle.teseo_program.specs.declared.outcome.Outcome.{Outcome}
 use Rattle.teseo_program.specs.declared.outcome.Outcome.TheVariants.{Done, Full, BadWords, NotRead, NotAccepted, NoMemory, NotWritten}
 use Rattle.teseo_program.specs.declared.prepare.Prepared.{Prepared}
-use Rattle.teseo_program.specs.Prepared.{IsUnprepared, IsPreparedOf, Writes, made_of}
-use Rattle.teseo_program.specs.Outcomes.{Made, IsCause, OnlySays, said_text, blamed, IsRunOutcome}
+use Rattle.teseo_program.specs.Requests.{source_names}
+use Rattle.teseo_program.specs.Prepared.{IsUnprepared, IsPreparedOf, IsMadeGraph, Writes, IsWritten, made_of}
+use Rattle.teseo_program.specs.Outcomes.{Made, IsCause, OnlySays, SaysOutcome, said_text, blamed, outcome_of_words, IsRunOutcome, IsMakeCause, IsMakeOutcome, Ends, IsOutcome}
 
-module _ (names : RunNames) (old : Files) where
-  -- ---- what was prepared is written
+-- ---- a run
 
-  module _ (p : Prepared) (of_run : IsPreparedOf names old p) (before : Files) where
-    written_cause : (outcome : Outcome) → Writes p.is_full p.outputs outcome old before → IsCause outcome names (made_of of_run.run p) old before
-    written_cause Done writes = record { of_run = of_run.of_run; shows = of_run.full ∙ writes.0; writes = writes.1 }
-    written_cause Full writes = record { of_run = of_run.of_run; shows = of_run.full ∙ writes.0; writes = writes.1 }
-    written_cause BadWords writes = writes
-    written_cause (NotRead stop) writes = absurd writes
-    written_cause (NotAccepted place fault) writes = absurd writes
-    written_cause NoMemory writes = absurd writes
-    written_cause (NotWritten stop) writes = (of_run.of_run, writes)
+module _ (request : RunRequest) (old : Files) where
+  module _ (p : Prepared) (of_run : IsPreparedOf request old p) where
+    written_cause : (before : Files) (outcome : Outcome) → Writes p.is_full p.outputs outcome old before → IsCause outcome request (made_of of_run.run p) old before
+    written_cause before Done writes = record { of_run = of_run.of_run; shows = of_run.full ∙ writes.0; writes = writes.1 }
+    written_cause before Full writes = record { of_run = of_run.of_run; shows = of_run.full ∙ writes.0; writes = writes.1 }
+    written_cause before BadWords writes = writes
+    written_cause before (NotRead stop) writes = absurd writes
+    written_cause before (NotAccepted place fault) writes = absurd writes
+    written_cause before NoMemory writes = absurd writes
+    written_cause before (NotWritten stop) writes = (of_run.of_run, writes)
 
-    -- what is said is said of the outputs and the summary, as they are lent
-    pub written_ends : (outcome : Outcome) (kept new : Files) (outputs : List NamedText) (summary : List ℕ) → kept ≡ old → outputs ≡ p.outputs → summary ≡ p.summary
-        → Writes p.is_full p.outputs outcome kept before
-        → OnlySays (said_text (blamed (source_names names) (names_of outputs) outcome) summary outcome) before new → IsRunOutcome outcome names old new
-    written_ends outcome kept new outputs summary same outputs_are summary_is writes says = record {
-      made = made_of of_run.run p;
-      before = before;
-      cause = written_cause outcome (subst (λ files. Writes p.is_full p.outputs outcome files before) same writes);
-      says = subst (λ text. OnlySays text before new) (λ i. said_text (blamed (source_names names) (names_of (outputs_are i)) outcome) (summary_is i) outcome) says;
-    }
+    -- no source is blamed where outputs are written
+    written_says : (before new : Files) (outcome : Outcome) → Writes p.is_full p.outputs outcome old before
+        → OnlySays (said_text (blamed [] (names_of p.outputs) outcome) p.summary outcome) before new → SaysOutcome request p.outputs p.summary outcome before new
+    written_says before new Done writes says = says
+    written_says before new Full writes says = says
+    written_says before new BadWords writes says = says
+    written_says before new (NotRead stop) writes says = absurd writes
+    written_says before new (NotAccepted place fault) writes says = absurd writes
+    written_says before new NoMemory writes says = says
+    written_says before new (NotWritten stop) writes says = says
 
-  -- ---- nothing was prepared
+    -- what was prepared of a run is written
+    pub written_ends : (outcome : Outcome) (kept new : Files) → kept ≡ old → IsWritten p outcome kept new → IsRunOutcome outcome request old new
+    written_ends outcome kept new same written =
+        let writes : Writes p.is_full p.outputs outcome old written.before = subst (λ files. Writes p.is_full p.outputs outcome files written.before) same written.writes in
+        record {
+          made = made_of of_run.run p;
+          before = written.before;
+          cause = written_cause written.before outcome writes;
+          says = written_says written.before new outcome writes written.says;
+        }
 
   nothing : Made
   nothing = record { run = record { journal = []; reports = []; files = [] }; outputs = []; summary = [] }
 
-  unprepared_cause : (before : Files) (outcome : Outcome) → IsUnprepared names old before outcome → IsCause outcome names nothing old before
+  unprepared_cause : (before : Files) (outcome : Outcome) → IsUnprepared request old before outcome → IsCause outcome request nothing old before
   unprepared_cause before Done stopped = absurd stopped
   unprepared_cause before Full stopped = absurd stopped
   unprepared_cause before BadWords stopped = stopped
@@ -47,8 +60,53 @@ module _ (names : RunNames) (old : Files) where
   unprepared_cause before NoMemory stopped = stopped
   unprepared_cause before (NotWritten stop) stopped = absurd stopped
 
-  pub unprepared_ends : (outcome : Outcome) (before new : Files) → IsUnprepared names old before outcome
-      → OnlySays (said_text (blamed (source_names names) [] outcome) [] outcome) before new → IsRunOutcome outcome names old new
+  -- nothing was prepared
+  pub unprepared_ends : (outcome : Outcome) (before new : Files) (name : List ℕ) → IsUnprepared request old before outcome → name ≡ blamed (source_names request) [] outcome
+      → OnlySays (said_text name [] outcome) before new → IsRunOutcome outcome request old new
   unfolding nothing
-  unprepared_ends outcome before new stopped says =
-      record { made = nothing; before = before; cause = unprepared_cause before outcome stopped; says = says }
+  unprepared_ends outcome before new name stopped is says = record {
+    made = nothing;
+    before = before;
+    cause = unprepared_cause before outcome stopped;
+    says = subst (λ blame. OnlySays (said_text blame [] outcome) before new) is says;
+  }
+
+-- ---- a graph that is made
+
+module _ (request : MakeRequest) (p : Prepared) (made : IsMadeGraph request p) where
+  graph_cause : (old before : Files) (outcome : Outcome) → Writes p.is_full p.outputs outcome old before → IsMakeCause outcome request old before
+  graph_cause old before Done writes = subst (λ outputs. WritesAll outputs old before) made.outputs_are writes.1
+  graph_cause old before Full writes = let no : true ≡ false = sym writes.0 ∙ made.never_full in cc
+  graph_cause old before BadWords writes = writes
+  graph_cause old before (NotRead stop) writes = writes
+  graph_cause old before (NotAccepted place fault) writes = writes
+  graph_cause old before NoMemory writes = absurd writes
+  graph_cause old before (NotWritten stop) writes = subst (λ outputs. FailsAtPlace outputs stop.place old before) made.outputs_are writes
+
+  -- what was prepared of a graph is written
+  pub graph_ends : (outcome : Outcome) (old new : Files) → IsWritten p outcome old new → IsMakeOutcome outcome request old new
+  graph_ends outcome old new written = record {
+    before = written.before;
+    cause = graph_cause old written.before outcome written.writes;
+    says = subst (λ text. OnlySays text written.before new) (λ i. said_text (blamed [] (names_of (made.outputs_are i)) outcome) (made.summary_is i) outcome) written.says;
+  }
+
+-- ---- a call
+
+-- a call whose words are taken ends as its request does
+pub taken_ends : (outcome : Outcome) (words : List (List ℕ)) (request : Request) (old new : Files) → IsTaken words request → Ends outcome request old new → IsOutcome outcome words old new
+taken_ends Done words request old new taken ends = (request, taken, ends)
+taken_ends Full words request old new taken ends = (request, taken, ends)
+taken_ends BadWords words (run request) old new taken ends = absurd ends.cause
+taken_ends BadWords words (make request) old new taken ends = absurd ends.cause
+taken_ends (NotRead stop) words request old new taken ends = (request, taken, ends)
+taken_ends (NotAccepted place fault) words request old new taken ends = (request, taken, ends)
+taken_ends NoMemory words (run request) old new taken ends = subst (λ files. OnlySays (said_text [] [] NoMemory) files new) ends.cause ends.says
+taken_ends NoMemory words (make request) old new taken ends = subst (λ files. OnlySays (said_text [] [] NoMemory) files new) ends.cause ends.says
+taken_ends (NotWritten stop) words request old new taken ends = (request, taken, ends)
+
+-- and one whose words are refused says so alone
+pub refused_ends : (refusal : WordsRefusal) (words : List (List ℕ)) (old new : Files) → RefusesWords words refusal
+    → OnlySays (said_text [] [] (outcome_of_words refusal)) old new → IsOutcome (outcome_of_words refusal) words old new
+refused_ends word_refusals.BadWords words old new never says = (λ request taken. never (request, taken), says)
+refused_ends word_refusals.NoMemory words old new never says = says

@@ -31,9 +31,10 @@ use Rattle.graph_load.specs.Loading.{HasBegunNothing, IsNew, loaded}
 use Rattle.job_runner.specs.Lines.{file_of}
 use Rattle.job_runner.specs.Progress.{Progress}
 use Rattle.job_runner.specs.Runs.{new_jobs, IsUnused, AreNew, outputs_of, Ends}
-use Rattle.command_line.specs.Words.{RunNames}
+use Rattle.command_words.specs.Words.{RunRequest}
+use Rattle.teseo_program.specs.Requests.{kind_of, rules_of}
 use Rattle.teseo_program.specs.declared.run.RunResult.{RunResult}
-use Rattle.teseo_program.specs.Input.{Meaning, Texts, kind_of, rules_of, IsAccepted}
+use Rattle.teseo_program.specs.Input.{Meaning, Texts, IsAccepted}
 use Rattle.teseo_program.specs.Running.{run_outputs, HasCounts, Fits, IsConfig}
 
 -- ---- transactions that a script begins
@@ -215,7 +216,7 @@ few_fit Directed ids (edge ∷ edges) few all = omega (arith, load_rows Directed
 few_fit Undirected ids (edge ∷ edges) few all = omega (arith, load_rows Undirected ids (edge ∷ edges) _ (edge_rows Undirected (edge ∷ edges)), all (omega arith))
 
 -- accepted files have so few rows that the load always finds its places
-pub files_fit : FilesAreWithinLimits → (names : RunNames) (texts : Texts) (m : Meaning) → IsAccepted names texts m → Fits (kind_of names) m.ids m.edges
-files_fit within names texts m accepted =
-    let limits = within texts.vertices texts.edges m.ids MAX_LOAD_ROWS (rules_of names m.ids) m.edges accepted.vertices refl accepted.edges in
-    few_fit (kind_of names) m.ids m.edges limits.0 limits.1
+pub files_fit : FilesAreWithinLimits → (request : RunRequest) (texts : Texts) (m : Meaning) → IsAccepted request texts m → (kind : Kind) → kind ≡ kind_of request → Fits kind m.ids m.edges
+files_fit within request texts m accepted kind is =
+    let limits = within texts.vertices texts.edges m.ids MAX_LOAD_ROWS (rules_of request m.ids) m.edges accepted.vertices refl accepted.edges in
+    subst (λ k. Fits k m.ids m.edges) (sym is) (few_fit (kind_of request) m.ids m.edges limits.0 limits.1)

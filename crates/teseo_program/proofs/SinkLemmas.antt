@@ -30,26 +30,26 @@ any_at p f (x ∷ xs) (suc i) d lt is = ap (λ t. p (f x) || t) (any_at p f xs i
 -- ---- reports
 
 -- one report more
-reports_more : {X Y : Type 0} (f : List ℕ → List ℕ) (text : X → List ℕ) (g : Y → List Answer) (xs : List X) (ys : List Y) (k : ℕ) (d : X) (e : Y)
-    → k < length xs → length ys ≡ length xs
-    → report_outputs (map f (map text (take k xs))) (map g (take k ys)) ++ record { name = f (text (get_or xs k d)); text = report_text (g (get_or ys k e)) } ∷ []
-    ≡ report_outputs (map f (map text (take (suc k) xs))) (map g (take (suc k) ys))
-reports_more f text g [] ys k d e lt same = absurd (omega arith)
-reports_more f text g (x ∷ xs) [] k d e lt same = absurd (omega (arith, same))
-reports_more f text g (x ∷ xs) (y ∷ ys) zero d e lt same = refl
-reports_more f text g (x ∷ xs) (y ∷ ys) (suc k) d e lt same =
-    ap (λ rest. record { name = f (text x); text = report_text (g y) } ∷ rest) (reports_more f text g xs ys k d e (omega arith) (omega (arith, same)))
+reports_more : {Y : Type 0} (f : List ℕ → List ℕ) (g : Y → List Answer) (names : List (List ℕ)) (ys : List Y) (k : ℕ) (d : List ℕ) (e : Y)
+    → k < length names → length ys ≡ length names
+    → report_outputs (map f (take k names)) (map g (take k ys)) ++ record { name = f (get_or names k d); text = report_text (g (get_or ys k e)) } ∷ []
+    ≡ report_outputs (map f (take (suc k) names)) (map g (take (suc k) ys))
+reports_more f g [] ys k d e lt same = absurd (omega arith)
+reports_more f g (name ∷ names) [] k d e lt same = absurd (omega (arith, same))
+reports_more f g (name ∷ names) (y ∷ ys) zero d e lt same = refl
+reports_more f g (name ∷ names) (y ∷ ys) (suc k) d e lt same =
+    ap (λ rest. record { name = f name; text = report_text (g y) } ∷ rest) (reports_more f g names ys k d e (omega arith) (omega (arith, same)))
 
 -- the reports so far stand behind the journal, and one more behind them
-pub report_pushed : {X Y : Type 0} (f : List ℕ → List ℕ) (text : X → List ℕ) (g : Y → List Answer) (xs : List X) (ys : List Y) (k : ℕ) (d : X) (e : Y)
-    (first : NamedText) (old new : List NamedText) (item : NamedText) → k < length xs → length ys ≡ length xs
-    → old ≡ first ∷ report_outputs (map f (map text (take k xs))) (map g (take k ys)) → item ≡ record { name = f (text (get_or xs k d)); text = report_text (g (get_or ys k e)) }
-    → new ≡ old ++ item ∷ [] → new ≡ first ∷ report_outputs (map f (map text (take (k + 1) xs))) (map g (take (k + 1) ys))
-report_pushed f text g xs ys k d e first old new item lt same before is more =
+pub report_pushed : {Y : Type 0} (f : List ℕ → List ℕ) (g : Y → List Answer) (names : List (List ℕ)) (ys : List Y) (k : ℕ) (d : List ℕ) (e : Y)
+    (first : NamedText) (old new : List NamedText) (item : NamedText) → k < length names → length ys ≡ length names
+    → old ≡ first ∷ report_outputs (map f (take k names)) (map g (take k ys)) → item ≡ record { name = f (get_or names k d); text = report_text (g (get_or ys k e)) }
+    → new ≡ old ++ item ∷ [] → new ≡ first ∷ report_outputs (map f (take (k + 1) names)) (map g (take (k + 1) ys))
+report_pushed f g names ys k d e first old new item lt same before is more =
     let next : suc k ≡ k + 1 = omega arith in
-    more ∙ ap (λ os. os ++ item ∷ []) before ∙ ap (λ o. first ∷ (report_outputs (map f (map text (take k xs))) (map g (take k ys)) ++ o ∷ [])) is
-    ∙ ap (λ os. first ∷ os) (reports_more f text g xs ys k d e lt same)
-    ∙ ap (λ n. first ∷ report_outputs (map f (map text (take n xs))) (map g (take n ys))) next
+    more ∙ ap (λ os. os ++ item ∷ []) before ∙ ap (λ o. first ∷ (report_outputs (map f (take k names)) (map g (take k ys)) ++ o ∷ [])) is
+    ∙ ap (λ os. first ∷ os) (reports_more f g names ys k d e lt same)
+    ∙ ap (λ n. first ∷ report_outputs (map f (take n names)) (map g (take n ys))) next
 
 -- ---- results
 

@@ -2,21 +2,19 @@
 use Rattle.std.specs.Prelude.{◌≡◌, ℕ, zero, suc, ◌+◌, cond, List, [], ◌∷◌, ◌++◌, length, get_or, take, drop, Option, Some, None, is_some, Result, Ok, Err}
 use Rattle.graph_model.specs.declared.limits.TheConstants.{MAX_LOAD_ROWS}
 use Rattle.graph_model.specs.declared.write.Kind.{Kind}
-use Rattle.graph_model.specs.declared.write.Kind.TheVariants.{Undirected}
 use Rattle.run_model.specs.declared.command.Command.{Command}
 use Rattle.run_model.specs.Inputs.{Inputs}
 use Rattle.graphalytics_io.specs.declared.edges.Edge.{Edge}
 use Rattle.graphalytics_io.specs.Load.{load_of}
 use Rattle.graph_files.specs.declared.refusal.Fault.{Fault}
-use Rattle.graph_files.specs.declared.weights.Weights.{Weights}
-use Rattle.graph_files.specs.declared.weights.Weights.TheVariants.{Ones}
 use Rattle.graph_files.specs.VertexFiles.{vertices_of}
-use Rattle.graph_files.specs.EdgeFiles.{Rules, edges_of}
+use Rattle.graph_files.specs.EdgeFiles.{edges_of}
 use Rattle.script_lang.specs.declared.refusal.ScriptRefusal.TheVariants as scripts
 use Rattle.script_lang.specs.declared.refusal.ScheduleRefusal.TheVariants as schedules
 use Rattle.script_lang.specs.Scripts.{files_of, script_of}
 use Rattle.script_lang.specs.Schedules.{schedule_of}
-use Rattle.command_line.specs.Words.{RunNames, taken_names}
+use Rattle.command_words.specs.Words.{RunRequest, taken_names}
+use Rattle.teseo_program.specs.Requests.{rules_of}
 use Rattle.teseo_program.specs.declared.fault.SourceFault.{SourceFault}
 use Rattle.teseo_program.specs.declared.fault.SourceFault.TheVariants as faults
 
@@ -28,12 +26,12 @@ pub record Texts : Type 0 where
   pub schedule : Option (List ℕ)
 
 -- what was read under the names of the sources, each by what it is the text of
-abbrev pub texts_of : RunNames → List (List ℕ) → Texts
-texts_of names sources = record {
+abbrev pub texts_of : RunRequest → List (List ℕ) → Texts
+texts_of request sources = record {
   vertices = get_or sources 0 [];
   edges = get_or sources 1 [];
-  scripts = take (length names.scripts) (drop 2 sources);
-  schedule = cond (is_some names.schedule) (Some (get_or sources (length names.scripts + 2) [])) None;
+  scripts = take (length request.scripts) (drop 2 sources);
+  schedule = cond (is_some request.schedule) (Some (get_or sources (length request.scripts + 2) [])) None;
 }
 
 -- what the sources stand for
@@ -42,19 +40,6 @@ pub record Meaning : Type 0 where
   pub edges : List Edge
   pub scripts : List (List Command)
   pub schedule : List ℕ
-
--- the kind of the graph: no word changes it yet
-abbrev pub kind_of : RunNames → Kind
-kind_of names = Undirected
-
--- what its weights are: no word changes that yet
-abbrev pub weights_of : RunNames → Weights
-weights_of names = Ones
-
--- what the edge file is read by, where the vertex file stands for these ids
-abbrev pub rules_of : RunNames → List ℕ → Rules
-rules_of names ids =
-    record { ids = ids; kind = kind_of names; weights = weights_of names; limit = MAX_LOAD_ROWS }
 
 -- each text is a script, where these names and the files of the scripts before it are taken
 abbrev pub AreScripts : List (List ℕ) → List (List ℕ) → List (List Command) → Type 0
@@ -69,11 +54,11 @@ IsSchedule jobs None schedule = schedule ≡ []
 IsSchedule jobs (Some text) schedule = schedule_of jobs text ≡ Ok schedule
 
 -- the sources are accepted, and stand for this
-pub record IsAccepted (names : RunNames) (texts : Texts) (m : Meaning) : Type 0 where
+pub record IsAccepted (request : RunRequest) (texts : Texts) (m : Meaning) : Type 0 where
   pub vertices : vertices_of MAX_LOAD_ROWS texts.vertices ≡ Ok m.ids
-  pub edges : edges_of (rules_of names m.ids) texts.edges ≡ Ok m.edges
-  pub scripts : AreScripts (taken_names names) texts.scripts m.scripts
-  pub schedule : IsSchedule (length names.scripts) texts.schedule m.schedule
+  pub edges : edges_of (rules_of request m.ids) texts.edges ≡ Ok m.edges
+  pub scripts : AreScripts (taken_names request) texts.scripts m.scripts
+  pub schedule : IsSchedule (length request.scripts) texts.schedule m.schedule
 
 -- what a graph file stands for is this fault
 abbrev pub HasGraphFault : {X : Type 0} → Result X Fault → SourceFault → Type 0
@@ -104,15 +89,15 @@ IsFaultBehind jobs taken (text ∷ texts) schedule (suc place) fault =
     × IsFaultBehind jobs (taken ++ files_of script) texts schedule place fault
 
 -- the source at this place has this fault, and those before it have none
-abbrev pub IsNotAccepted : RunNames → Texts → ℕ → SourceFault → Type 0
-IsNotAccepted names texts zero fault = HasGraphFault (vertices_of MAX_LOAD_ROWS texts.vertices) fault
-IsNotAccepted names texts (suc zero) fault =
+abbrev pub IsNotAccepted : RunRequest → Texts → ℕ → SourceFault → Type 0
+IsNotAccepted request texts zero fault = HasGraphFault (vertices_of MAX_LOAD_ROWS texts.vertices) fault
+IsNotAccepted request texts (suc zero) fault =
     (ids : List ℕ) × (vertices_of MAX_LOAD_ROWS texts.vertices ≡ Ok ids)
-    × HasGraphFault (edges_of (rules_of names ids) texts.edges) fault
-IsNotAccepted names texts (suc (suc place)) fault =
+    × HasGraphFault (edges_of (rules_of request ids) texts.edges) fault
+IsNotAccepted request texts (suc (suc place)) fault =
     (ids : List ℕ) × (edges : List Edge) × (vertices_of MAX_LOAD_ROWS texts.vertices ≡ Ok ids)
-    × (edges_of (rules_of names ids) texts.edges ≡ Ok edges)
-    × IsFaultBehind (length names.scripts) (taken_names names) texts.scripts texts.schedule place fault
+    × (edges_of (rules_of request ids) texts.edges ≡ Ok edges)
+    × IsFaultBehind (length request.scripts) (taken_names request) texts.scripts texts.schedule place fault
 
 -- the inputs of the run
 abbrev pub inputs_of : Kind → Meaning → Inputs

@@ -5,7 +5,8 @@ use Rattle.graph_model.specs.declared.limits.TheConstants.{MAX_SOURCE_BYTES}
 use Rattle.desk_io.specs.Files.{Files}
 use Rattle.teseo_program.specs.declared.outcome.Outcome.{Outcome}
 use Rattle.teseo_program.specs.declared.outcome.Outcome.TheVariants.{Done, Full}
-use Rattle.command_line.specs.Words.{RunNames, TakesWords, source_names}
+use Rattle.command_words.specs.Words.{RunRequest, MakeRequest, run, make, IsTaken}
+use Rattle.teseo_program.specs.Requests.{source_names}
 use Rattle.teseo_program.specs.Input.{Meaning, texts_of, IsAccepted}
 use Rattle.teseo_program.specs.Outcomes.{status_of, IsOutcome}
 
@@ -15,8 +16,8 @@ pub record IsTold (files : Files) (name bytes : List ℕ) : Type 0 where
   pub short : length bytes ≤ MAX_SOURCE_BYTES
 
 -- the desk holds these sources
-abbrev pub AreTold : RunNames → Files → List (List ℕ) → Type 0
-AreTold names files sources = AllZip (IsTold files) (source_names names) sources
+abbrev pub AreTold : RunRequest → Files → List (List ℕ) → Type 0
+AreTold request files sources = AllZip (IsTold files) (source_names request) sources
 
 -- a count of faults stands still, below its last value
 pub record Stands (before now : ℕ) : Type 0 where
@@ -32,7 +33,14 @@ pub record HasNoFault (old new : Files) : Type 0 where
 -- wants memory
 abbrev pub AcceptedRunsEndWell : Type 0
 AcceptedRunsEndWell =
-    (outcome : Outcome) (words : List (List ℕ)) (names : RunNames) (sources : List (List ℕ)) (m : Meaning)
-    (old new : Files) → TakesWords words names → AreTold names old sources
-    → IsAccepted names (texts_of names sources) m → HasNoFault old new → IsOutcome outcome words old new
+    (outcome : Outcome) (words : List (List ℕ)) (request : RunRequest) (sources : List (List ℕ)) (m : Meaning)
+    (old new : Files) → IsTaken words (run request) → AreTold request old sources
+    → IsAccepted request (texts_of request sources) m → HasNoFault old new → IsOutcome outcome words old new
     → (outcome ≡ Done) ⊎ ((outcome ≡ Full) ⊎ (status_of outcome ≡ 3))
+
+-- a graph that is asked for is made and written, if no fault is met, or memory is wanted
+abbrev pub GraphsAreMade : Type 0
+GraphsAreMade =
+    (outcome : Outcome) (words : List (List ℕ)) (request : MakeRequest) (old new : Files)
+    → IsTaken words (make request) → HasNoFault old new → IsOutcome outcome words old new
+    → (outcome ≡ Done) ⊎ (status_of outcome ≡ 3)

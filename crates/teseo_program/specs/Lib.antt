@@ -1,7 +1,9 @@
+pub mod Requests
 pub mod Input
 pub mod Parsing
 pub mod Sinks
 pub mod Outcomes
 pub mod Prepared
+pub mod MadeGraphs
 pub mod Running
 pub mod Laws

@@ -14,16 +14,19 @@ use Rattle.desk_io.specs.declared.sources.ReadStop.{ReadStop}
 use Rattle.desk_io.specs.declared.sources.ReadStop.TheVariants as reads
 use Rattle.graph_files.specs.Faults as graph_faults
 use Rattle.script_lang.specs.Faults.{what_text, schedule_what_text}
-use Rattle.command_line.specs.Words.{RunNames, TakesWords, source_names, report_names}
-use Rattle.command_line.specs.Lines.{name_at}
+use Rattle.command_words.specs.declared.refusal.WordsRefusal.{WordsRefusal}
+use Rattle.command_words.specs.declared.refusal.WordsRefusal.TheVariants as word_refusals
+use Rattle.command_words.specs.Words.{RunRequest, MakeRequest, Request, run, make, IsTaken}
+use Rattle.teseo_program.specs.Requests.{source_names, report_names, name_at, kind_of}
 use Rattle.teseo_program.specs.declared.fault.SourceFault.{SourceFault}
 use Rattle.teseo_program.specs.declared.fault.SourceFault.TheVariants as faults
 use Rattle.teseo_program.specs.declared.fault.ParseStop.{ParseStop}
 use Rattle.teseo_program.specs.declared.fault.ParseStop.TheVariants as parses
 use Rattle.teseo_program.specs.declared.outcome.Outcome.{Outcome}
 use Rattle.teseo_program.specs.declared.outcome.Outcome.TheVariants.{Done, Full, BadWords, NotRead, NotAccepted, NoMemory, NotWritten}
-use Rattle.teseo_program.specs.Input.{Meaning, Texts, texts_of, kind_of, IsAccepted, IsNotAccepted, inputs_of}
+use Rattle.teseo_program.specs.Input.{Meaning, Texts, texts_of, IsAccepted, IsNotAccepted, inputs_of}
 use Rattle.teseo_program.specs.Sinks.{sinks_of, summary_text}
+use Rattle.teseo_program.specs.MadeGraphs.{graph_outputs, made_text}
 
 -- ---- the status
 
@@ -46,6 +49,11 @@ status_of (NotWritten stop) = 5
 abbrev pub outcome_of_parse : ParseStop → Outcome
 outcome_of_parse (parses.NotAccepted place fault) = NotAccepted place fault
 outcome_of_parse parses.NoMemory = NoMemory
+
+-- why the words weren't read is how the call ends
+abbrev pub outcome_of_words : WordsRefusal → Outcome
+outcome_of_words word_refusals.BadWords = BadWords
+outcome_of_words word_refusals.NoMemory = NoMemory
 
 -- ---- what is said
 
@@ -98,9 +106,9 @@ pub record OnlySays (text : List ℕ) (old new : Files) : Type 0 where
   pub says : IfSome new.said (λ all. IfSome old.said (λ before. all ≡ before ++ text))
 
 -- how the run ended was said, with the name of the source or output that this blames, or with the summary
-abbrev pub SaysOutcome : RunNames → List NamedText → List ℕ → Outcome → Files → Files → Type 0
-SaysOutcome names outputs summary outcome old new =
-    OnlySays (said_text (blamed (source_names names) (names_of outputs) outcome) summary outcome) old new
+abbrev pub SaysOutcome : RunRequest → List NamedText → List ℕ → Outcome → Files → Files → Type 0
+SaysOutcome request outputs summary outcome old new =
+    OnlySays (said_text (blamed (source_names request) (names_of outputs) outcome) summary outcome) old new
 
 -- ---- the causes
 
@@ -134,62 +142,88 @@ abbrev pub shows_full : Outputs → Bool
 shows_full o = list_any (list_any is_full) o.reports
 
 -- what was made is a run of what these texts mean, by the turns that the schedule gives
-pub record IsOfTexts (names : RunNames) (texts : Texts) (made : Made) : Type 0 where
+pub record IsOfTexts (request : RunRequest) (texts : Texts) (made : Made) : Type 0 where
   pub m : Meaning
-  pub accepted : IsAccepted names texts m
-  pub run : IsRun (inputs_of (kind_of names) m) MAX_LEAVES made.run
-  pub stepped : IsStepped (inputs_of (kind_of names) m) MAX_LEAVES m.schedule made.run
-  pub outputs_are : made.outputs ≡ sinks_of names.journal (report_names names) made.run
-  pub summary_is : made.summary ≡ summary_text (kind_of names) made.run
+  pub accepted : IsAccepted request texts m
+  pub run : IsRun (inputs_of (kind_of request) m) MAX_LEAVES made.run
+  pub stepped : IsStepped (inputs_of (kind_of request) m) MAX_LEAVES m.schedule made.run
+  pub outputs_are : made.outputs ≡ sinks_of request.journal (report_names request) made.run
+  pub summary_is : made.summary ≡ summary_text (kind_of request) made.run
 
 -- what is held under the sources' names was read whole, and what was made is a run of it
-pub record AreOfRun (names : RunNames) (files : Files) (made : Made) : Type 0 where
+pub record AreOfRun (request : RunRequest) (files : Files) (made : Made) : Type 0 where
   pub sources : List (List ℕ)
-  pub read : AreRead MAX_SOURCE_BYTES files (source_names names) sources
-  pub of_texts : IsOfTexts names (texts_of names sources) made
+  pub read : AreRead MAX_SOURCE_BYTES files (source_names request) sources
+  pub of_texts : IsOfTexts request (texts_of request sources) made
 
 -- all sources were read, and the one at the place is the first with a fault
-abbrev pub IsRefusedAt : RunNames → Files → ℕ → SourceFault → Type 0
-IsRefusedAt names files place fault =
-    (sources : List (List ℕ)) × AreRead MAX_SOURCE_BYTES files (source_names names) sources
-    × IsNotAccepted names (texts_of names sources) place fault
+abbrev pub IsRefusedAt : RunRequest → Files → ℕ → SourceFault → Type 0
+IsRefusedAt request files place fault =
+    (sources : List (List ℕ)) × AreRead MAX_SOURCE_BYTES files (source_names request) sources
+    × IsNotAccepted request (texts_of request sources) place fault
 
 -- all is written of a run whose reports show `full`, or don't
-pub record IsWhole (is_full : Bool) (names : RunNames) (made : Made) (old new : Files) : Type 0 where
-  pub of_run : AreOfRun names old made
+pub record IsWhole (is_full : Bool) (request : RunRequest) (made : Made) (old new : Files) : Type 0 where
+  pub of_run : AreOfRun request old made
   pub shows : shows_full made.run ≡ is_full
   pub writes : WritesAll made.outputs old new
 
 -- what led to an outcome whose words are taken, and what it leaves before it is said
-abbrev pub IsCause : Outcome → RunNames → Made → Files → Files → Type 0
-IsCause Done names made old new = IsWhole false names made old new
-IsCause Full names made old new = IsWhole true names made old new
-IsCause BadWords names made old new = ⊥
-IsCause (NotRead stop) names made old new = IsReadStop MAX_SOURCE_BYTES (source_names names) old new stop
-IsCause (NotAccepted place fault) names made old new = IsRefusedAt names old place fault × (new ≡ old)
-IsCause NoMemory names made old new = new ≡ old
-IsCause (NotWritten stop) names made old new = AreOfRun names old made × FailsAtPlace made.outputs stop.place old new
+abbrev pub IsCause : Outcome → RunRequest → Made → Files → Files → Type 0
+IsCause Done request made old new = IsWhole false request made old new
+IsCause Full request made old new = IsWhole true request made old new
+IsCause BadWords request made old new = ⊥
+IsCause (NotRead stop) request made old new = IsReadStop MAX_SOURCE_BYTES (source_names request) old new stop
+IsCause (NotAccepted place fault) request made old new = IsRefusedAt request old place fault × (new ≡ old)
+IsCause NoMemory request made old new = new ≡ old
+IsCause (NotWritten stop) request made old new = AreOfRun request old made × FailsAtPlace made.outputs stop.place old new
 
 -- how a run ends whose words are taken: its cause, and then what is said
-pub record IsRunOutcome (outcome : Outcome) (names : RunNames) (old new : Files) : Type 0 where
+pub record IsRunOutcome (outcome : Outcome) (request : RunRequest) (old new : Files) : Type 0 where
   -- what was made, where it came to that
   pub made : Made
   -- the files before the outcome was said
   pub before : Files
-  pub cause : IsCause outcome names made old before
-  pub says : SaysOutcome names made.outputs made.summary outcome before new
+  pub cause : IsCause outcome request made old before
+  pub says : SaysOutcome request made.outputs made.summary outcome before new
 
--- how a call ends: by its words first
+-- ---- the end of `make`
+
+-- what led to an outcome of `make`, and what it leaves before it is said
+abbrev pub IsMakeCause : Outcome → MakeRequest → Files → Files → Type 0
+IsMakeCause Done request old new = WritesAll (graph_outputs request) old new
+IsMakeCause Full request old new = ⊥
+IsMakeCause BadWords request old new = ⊥
+IsMakeCause (NotRead stop) request old new = ⊥
+IsMakeCause (NotAccepted place fault) request old new = ⊥
+IsMakeCause NoMemory request old new = new ≡ old
+IsMakeCause (NotWritten stop) request old new = FailsAtPlace (graph_outputs request) stop.place old new
+
+-- how `make` ends: its cause, and then what is said
+pub record IsMakeOutcome (outcome : Outcome) (request : MakeRequest) (old new : Files) : Type 0 where
+  -- the files before the outcome was said
+  pub before : Files
+  pub cause : IsMakeCause outcome request old before
+  pub says : OnlySays (said_text (blamed [] (names_of (graph_outputs request)) outcome) (made_text request) outcome) before new
+
+-- ---- the end of a call
+
+-- how a call ends that asks for this
+abbrev pub Ends : Outcome → Request → Files → Files → Type 0
+Ends outcome (run request) old new = IsRunOutcome outcome request old new
+Ends outcome (make request) old new = IsMakeOutcome outcome request old new
+
+-- how a call ends whose words are taken
+abbrev pub TakenEnds : Outcome → List (List ℕ) → Files → Files → Type 0
+TakenEnds outcome words old new = (request : Request) × IsTaken words request × Ends outcome request old new
+
+-- how a call ends: by its words first. Memory for the words may be refused before they are taken
 abbrev pub IsOutcome : Outcome → List (List ℕ) → Files → Files → Type 0
 IsOutcome BadWords words old new =
-    ((names : RunNames) → TakesWords words names → ⊥) × OnlySays (said_text [] [] BadWords) old new
-IsOutcome Done words old new = (names : RunNames) × TakesWords words names × IsRunOutcome Done names old new
-IsOutcome Full words old new = (names : RunNames) × TakesWords words names × IsRunOutcome Full names old new
-IsOutcome (NotRead stop) words old new =
-    (names : RunNames) × TakesWords words names × IsRunOutcome (NotRead stop) names old new
-IsOutcome (NotAccepted place fault) words old new =
-    (names : RunNames) × TakesWords words names × IsRunOutcome (NotAccepted place fault) names old new
-IsOutcome NoMemory words old new =
-    (names : RunNames) × TakesWords words names × IsRunOutcome NoMemory names old new
-IsOutcome (NotWritten stop) words old new =
-    (names : RunNames) × TakesWords words names × IsRunOutcome (NotWritten stop) names old new
+    ((request : Request) → IsTaken words request → ⊥) × OnlySays (said_text [] [] BadWords) old new
+IsOutcome NoMemory words old new = OnlySays (said_text [] [] NoMemory) old new
+IsOutcome Done words old new = TakenEnds Done words old new
+IsOutcome Full words old new = TakenEnds Full words old new
+IsOutcome (NotRead stop) words old new = TakenEnds (NotRead stop) words old new
+IsOutcome (NotAccepted place fault) words old new = TakenEnds (NotAccepted place fault) words old new
+IsOutcome (NotWritten stop) words old new = TakenEnds (NotWritten stop) words old new

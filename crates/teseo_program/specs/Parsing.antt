@@ -8,7 +8,8 @@ use Rattle.script_lang.specs.declared.refusal.ScheduleRefusal.{ScheduleRefusal}
 use Rattle.script_lang.specs.declared.refusal.ScheduleRefusal.TheVariants as schedules
 use Rattle.script_lang.specs.Scripts.{files_of}
 use Rattle.script_lang.specs.Runnable.{IsRunnable}
-use Rattle.command_line.specs.Words.{RunNames, source_names}
+use Rattle.command_words.specs.Words.{RunRequest}
+use Rattle.teseo_program.specs.Requests.{source_names}
 use Rattle.teseo_program.specs.declared.input.Input.{Input}
 use Rattle.teseo_program.specs.declared.fault.SourceFault.TheVariants as faults
 use Rattle.teseo_program.specs.declared.fault.ParseStop.{ParseStop}
@@ -21,16 +22,16 @@ meaning_of input =
     record { ids = input.ids; edges = input.edges; scripts = input.scripts; schedule = input.schedule }
 
 -- what was read, one text for each source
-abbrev pub AreTexts : RunNames → List (List ℕ) → Type 0
-AreTexts names sources = length sources ≡ length (source_names names)
+abbrev pub AreTexts : RunRequest → List (List ℕ) → Type 0
+AreTexts request sources = length sources ≡ length (source_names request)
 
 -- what was read is accepted, and is this input
-abbrev pub IsInputOf : RunNames → List (List ℕ) → Input → Type 0
-IsInputOf names sources input = IsAccepted names (texts_of names sources) (meaning_of input)
+abbrev pub IsInputOf : RunRequest → List (List ℕ) → Input → Type 0
+IsInputOf request sources input = IsAccepted request (texts_of request sources) (meaning_of input)
 
 -- these are the entries of the schedule that was read
-abbrev pub AreEntriesOf : RunNames → List (List ℕ) → List ℕ → Type 0
-AreEntriesOf names sources entries = IsSchedule (length names.scripts) (texts_of names sources).schedule entries
+abbrev pub AreEntriesOf : RunRequest → List (List ℕ) → List ℕ → Type 0
+AreEntriesOf request sources entries = IsSchedule (length request.scripts) (texts_of request sources).schedule entries
 
 -- each script can be run where these names and the files of those before it are taken
 abbrev pub AreRunnable : List (List ℕ) → List (List Command) → Type 0
@@ -56,12 +57,12 @@ IsScheduleStop jobs schedule (stops.NotAccepted place fault) = (place ≡ jobs +
 IsScheduleStop jobs schedule stops.NoMemory = Unit {0}
 
 -- the fault is that of the schedule that was read
-abbrev pub IsScheduleStopOf : RunNames → List (List ℕ) → ParseStop → Type 0
-IsScheduleStopOf names sources stop = IsScheduleStop (length names.scripts) (texts_of names sources).schedule stop
+abbrev pub IsScheduleStopOf : RunRequest → List (List ℕ) → ParseStop → Type 0
+IsScheduleStopOf request sources stop = IsScheduleStop (length request.scripts) (texts_of request sources).schedule stop
 
-abbrev pub IsParseStop : RunNames → Texts → ParseStop → Type 0
-IsParseStop names texts (stops.NotAccepted place fault) = IsNotAccepted names texts place fault
-IsParseStop names texts stops.NoMemory = Unit {0}
+abbrev pub IsParseStop : RunRequest → Texts → ParseStop → Type 0
+IsParseStop request texts (stops.NotAccepted place fault) = IsNotAccepted request texts place fault
+IsParseStop request texts stops.NoMemory = Unit {0}
 
 -- the stop at the source at this place, a script or the schedule
 abbrev pub stop_of_script : ℕ → ScriptRefusal → ParseStop

@@ -1,5 +1,5 @@
 -- What is made before the first output is created, and why nothing is.
-use Rattle.std.specs.Prelude.{◌≡◌, ◌≢◌, Bool, true, false, List, AllPairs}
+use Rattle.std.specs.Prelude.{◌≡◌, ◌≢◌, Bool, true, false, List, [], AllPairs}
 use Rattle.graph_model.specs.declared.limits.TheConstants.{MAX_SOURCE_BYTES, MAX_LEAVES}
 use Rattle.run_model.specs.Inputs.{Outputs}
 use Rattle.run_model.specs.Run.{IsRun}
@@ -7,25 +7,27 @@ use Rattle.run_model.specs.Stepped.{IsStepped}
 use Rattle.desk_io.specs.Outputs.{NamedText, names_of, WritesAll, FailsAtPlace}
 use Rattle.desk_io.specs.Files.{Files}
 use Rattle.desk_io.specs.Sources.{IsReadStop}
-use Rattle.command_line.specs.Words.{RunNames, source_names, report_names}
+use Rattle.command_words.specs.Words.{RunRequest, MakeRequest}
+use Rattle.teseo_program.specs.Requests.{source_names, report_names, kind_of}
 use Rattle.teseo_program.specs.declared.outcome.Outcome.{Outcome}
 use Rattle.teseo_program.specs.declared.outcome.Outcome.TheVariants.{Done, Full, BadWords, NotRead, NotAccepted, NoMemory, NotWritten}
 use Rattle.teseo_program.specs.declared.prepare.Prepared.{Prepared}
-use Rattle.teseo_program.specs.Input.{Meaning, kind_of, inputs_of}
+use Rattle.teseo_program.specs.Input.{Meaning, inputs_of}
 use Rattle.teseo_program.specs.Sinks.{sinks_of, summary_text}
-use Rattle.teseo_program.specs.Outcomes.{Made, shows_full, AreOfRun, IsRefusedAt}
+use Rattle.teseo_program.specs.MadeGraphs.{graph_outputs, made_text}
+use Rattle.teseo_program.specs.Outcomes.{Made, shows_full, AreOfRun, IsRefusedAt, OnlySays, said_text, blamed}
 
 -- ---- why nothing was made
 
 -- and what that leaves
-abbrev pub IsUnprepared : RunNames → Files → Files → Outcome → Type 0
-IsUnprepared names old new (NotRead stop) = IsReadStop MAX_SOURCE_BYTES (source_names names) old new stop
-IsUnprepared names old new (NotAccepted place fault) = IsRefusedAt names old place fault × (new ≡ old)
-IsUnprepared names old new NoMemory = new ≡ old
-IsUnprepared names old new Done = ⊥
-IsUnprepared names old new Full = ⊥
-IsUnprepared names old new BadWords = ⊥
-IsUnprepared names old new (NotWritten stop) = ⊥
+abbrev pub IsUnprepared : RunRequest → Files → Files → Outcome → Type 0
+IsUnprepared request old new (NotRead stop) = IsReadStop MAX_SOURCE_BYTES (source_names request) old new stop
+IsUnprepared request old new (NotAccepted place fault) = IsRefusedAt request old place fault × (new ≡ old)
+IsUnprepared request old new NoMemory = new ≡ old
+IsUnprepared request old new Done = ⊥
+IsUnprepared request old new Full = ⊥
+IsUnprepared request old new BadWords = ⊥
+IsUnprepared request old new (NotWritten stop) = ⊥
 
 -- ---- what was made
 
@@ -33,19 +35,25 @@ abbrev pub made_of : Outputs → Prepared → Made
 made_of run p = record { run = run; outputs = p.outputs; summary = p.summary }
 
 -- of a run of these files
-pub record IsPreparedOf (names : RunNames) (files : Files) (p : Prepared) : Type 0 where
+pub record IsPreparedOf (request : RunRequest) (files : Files) (p : Prepared) : Type 0 where
   pub run : Outputs
-  pub of_run : AreOfRun names files (made_of run p)
+  pub of_run : AreOfRun request files (made_of run p)
   pub full : shows_full run ≡ p.is_full
 
 -- of a run of what the sources stand for
-pub record IsMadeOf (names : RunNames) (m : Meaning) (p : Prepared) : Type 0 where
+pub record IsMadeOf (request : RunRequest) (m : Meaning) (p : Prepared) : Type 0 where
   pub outputs : Outputs
-  pub run : IsRun (inputs_of (kind_of names) m) MAX_LEAVES outputs
-  pub stepped : IsStepped (inputs_of (kind_of names) m) MAX_LEAVES m.schedule outputs
-  pub outputs_are : p.outputs ≡ sinks_of names.journal (report_names names) outputs
-  pub summary_is : p.summary ≡ summary_text (kind_of names) outputs
+  pub run : IsRun (inputs_of (kind_of request) m) MAX_LEAVES outputs
+  pub stepped : IsStepped (inputs_of (kind_of request) m) MAX_LEAVES m.schedule outputs
+  pub outputs_are : p.outputs ≡ sinks_of request.journal (report_names request) outputs
+  pub summary_is : p.summary ≡ summary_text (kind_of request) outputs
   pub full : shows_full outputs ≡ p.is_full
+
+-- the texts of a graph were made
+pub record IsMadeGraph (request : MakeRequest) (p : Prepared) : Type 0 where
+  pub outputs_are : p.outputs ≡ graph_outputs request
+  pub summary_is : p.summary ≡ made_text request
+  pub never_full : p.is_full ≡ false
 
 -- the outputs have names that differ
 abbrev pub NamesAreApart : Prepared → Type 0
@@ -60,3 +68,10 @@ Writes is_full outputs (NotRead stop) old new = ⊥
 Writes is_full outputs (NotAccepted place fault) old new = ⊥
 Writes is_full outputs NoMemory old new = ⊥
 Writes is_full outputs (NotWritten stop) old new = FailsAtPlace outputs stop.place old new
+
+-- the outputs are written, and how that went is said
+pub record IsWritten (p : Prepared) (outcome : Outcome) (old new : Files) : Type 0 where
+  -- the files before the outcome was said
+  pub before : Files
+  pub writes : Writes p.is_full p.outputs outcome old before
+  pub says : OnlySays (said_text (blamed [] (names_of p.outputs) outcome) p.summary outcome) before new

@@ -8,16 +8,19 @@ ghost use Rattle.std.specs.Prelude.{◌≡◌, ◌≤◌, length, All, Ok, IfOk,
 ghost use Rattle.graph_model.specs.declared.limits.TheConstants.{MAX_LOAD_ROWS, MAX_SCRIPTS};
 ghost use Rattle.graph_files.specs.VertexFiles.{vertices_of};
 ghost use Rattle.graph_files.specs.EdgeFiles.{edges_of};
-ghost use Rattle.command_line.specs.Words.{taken_names};
-ghost use Rattle.command_line.specs.Lines.{run_names, taken_name};
-ghost use Rattle.teseo_program.specs.Input.{texts_of, rules_of, AreScripts};
+ghost use Rattle.command_words.specs.Words.{taken_names};
+ghost use Rattle.command_words.specs.Views.{run_request, taken_name};
+ghost use Rattle.graph_files.specs.Weights.{AreReadable};
+ghost use Rattle.teseo_program.specs.Requests.{weights_of, rules_of};
+ghost use Rattle.teseo_program.specs.Input.{texts_of, AreScripts};
 ghost use Rattle.teseo_program.specs.Parsing.{AreTexts, IsInputOf, AreEntriesOf, AreRunnable, IsParseStop, IsGraphStop, IsScriptStop, IsScheduleStopOf, stop_of_script};
 
 use crate::fault::{ParseStop, SourceFault};
-use command_line::{CommandLine, TakenName};
+use crate::request::{kind_of, script_count, weights_of};
+use command_words::{RunWords, TakenName};
 use desk_io::{Bytes, Sources};
-use graph_files::{ReadRefusal, Weights, read_edges, read_vertices};
-use graph_model::{Ids, Kind, MAX_LOAD_ROWS, NoMemory};
+use graph_files::{ReadRefusal, read_edges, read_vertices};
+use graph_model::{Ids, MAX_LOAD_ROWS, NoMemory};
 use graphalytics_io::Edges;
 use items::Items;
 use run_model::{Name, Script};
@@ -37,23 +40,24 @@ pub struct Input {
 pub fn parse_sources(
     alloc: Global,
     sources: &Sources,
-    line: &CommandLine<'_>,
+    words: &RunWords<'_>,
 ) -> Result<Input, ParseStop>
-    requires few { length line.now.scripts.now ≤ MAX_SCRIPTS }
-    requires texts { AreTexts (run_names line.now) sources.now }
-    ensures accepted { IfOk result (IsInputOf (run_names line.now) sources.now) }
-    ensures runnable { IfOk result (λ input. AreRunnable (taken_names (run_names line.now)) input.scripts) }
-    ensures count { IfOk result (λ input. length input.scripts ≡ length (run_names line.now).scripts) }
+    requires few { length (run_request words.now).scripts ≤ MAX_SCRIPTS }
+    requires texts { AreTexts (run_request words.now) sources.now }
+    requires readable { AreReadable (weights_of (run_request words.now)) }
+    ensures accepted { IfOk result (IsInputOf (run_request words.now) sources.now) }
+    ensures runnable { IfOk result (λ input. AreRunnable (taken_names (run_request words.now)) input.scripts) }
+    ensures count { IfOk result (λ input. length input.scripts ≡ length (run_request words.now).scripts) }
     ensures listed { IfOk result (λ input. All (λ job. job ≤ length input.scripts) input.schedule) }
-    ensures refused { IfErr result (IsParseStop (run_names line.now) (texts_of (run_names line.now) sources.now)) }
+    ensures refused { IfErr result (IsParseStop (run_request words.now) (texts_of (run_request words.now) sources.now)) }
 {
     let texts = sources.as_slice();
     let ids = parse_vertices(alloc, texts[0].as_slice())?;
-    let edges = parse_edges(alloc, texts[1].as_slice(), &ids, line)?;
-    let mut taken = names_taken(alloc, line)?;
-    let count = line.scripts.len();
+    let edges = parse_edges(alloc, texts[1].as_slice(), &ids, words)?;
+    let mut taken = names_taken(alloc, words)?;
+    let count = script_count(words);
     let scripts = parse_scripts(alloc, &texts[2..count + 2], &mut taken)?;
-    let schedule = parse_schedule(alloc, texts, line)?;
+    let schedule = parse_schedule(alloc, texts, words)?;
     Ok(Input {
         ids,
         edges,
@@ -82,17 +86,18 @@ fn parse_edges(
     alloc: Global,
     text: &[u8],
     ids: &Ids,
-    line: &CommandLine<'_>,
+    words: &RunWords<'_>,
 ) -> Result<Edges, ParseStop>
-    ensures ok { IfOk result (λ edges. edges_of (rules_of (run_names line.now) ids.now) text.now ≡ Ok edges) }
-    ensures refused { IfErr result (IsGraphStop 1 (edges_of (rules_of (run_names line.now) ids.now) text.now)) }
+    requires { AreReadable (weights_of (run_request words.now)) }
+    ensures ok { IfOk result (λ edges. edges_of (rules_of (run_request words.now) ids.now) text.now ≡ Ok edges) }
+    ensures refused { IfErr result (IsGraphStop 1 (edges_of (rules_of (run_request words.now) ids.now) text.now)) }
 {
     match read_edges(
         alloc,
         text,
         ids,
-        Kind::Undirected,
-        Weights::Ones,
+        kind_of(words),
+        weights_of(words),
         MAX_LOAD_ROWS,
     ) {
         Ok(edges) => Ok(edges),
@@ -142,16 +147,16 @@ fn script_stop(place: usize, refusal: ScriptRefusal) -> ParseStop
 fn parse_schedule(
     alloc: Global,
     texts: &[Bytes],
-    line: &CommandLine<'_>,
+    words: &RunWords<'_>,
 ) -> Result<Schedule, ParseStop>
-    requires few { length line.now.scripts.now ≤ MAX_SCRIPTS }
-    requires texts { AreTexts (run_names line.now) texts.now }
-    ensures ok { IfOk result (AreEntriesOf (run_names line.now) texts.now) }
-    ensures listed { IfOk result (All (λ job. job ≤ length (run_names line.now).scripts)) }
-    ensures refused { IfErr result (IsScheduleStopOf (run_names line.now) texts.now) }
+    requires few { length (run_request words.now).scripts ≤ MAX_SCRIPTS }
+    requires texts { AreTexts (run_request words.now) texts.now }
+    ensures ok { IfOk result (AreEntriesOf (run_request words.now) texts.now) }
+    ensures listed { IfOk result (All (λ job. job ≤ length (run_request words.now).scripts)) }
+    ensures refused { IfErr result (IsScheduleStopOf (run_request words.now) texts.now) }
 {
-    let count = line.scripts.len();
-    if line.schedule.is_none() {
+    let count = script_count(words);
+    if words.schedule.is_none() {
         return Ok(Schedule::new(alloc));
     }
     match read_schedule(alloc, texts[count + 2].as_slice(), count as u32) {
@@ -165,12 +170,12 @@ fn parse_schedule(
 }
 
 /// The names that a script may not give a file, before the first script is read.
-fn names_taken(alloc: Global, line: &CommandLine<'_>) -> Result<Names, NoMemory>
-    ensures { IfOk result (λ taken. taken ≡ taken_names (run_names line.now)) }
+fn names_taken(alloc: Global, words: &RunWords<'_>) -> Result<Names, NoMemory>
+    ensures { IfOk result (λ taken. taken ≡ taken_names (run_request words.now)) }
 {
     let mut taken = Names::new(alloc);
-    'places: for place in 0..line.taken_len() {
-        taken.push(name_of(alloc, line.taken(place))?)?;
+    'places: for place in 0..words.taken_len() {
+        taken.push(name_of(alloc, words.taken(place))?)?;
     }
     Ok(taken)
 }

@@ -1,6 +1,6 @@
 //! The top call: from the words to the written files.
 //!
-//! 1. All sources are read before any of them is parsed, and all are parsed before the first script runs.
+//! 1. All sources of a run are read before any of them is parsed, and all are parsed before the first script runs.
 //! 2. All texts are made before the first output is created.
 //! 3. What is said is said last, piece by piece, so that saying it takes no memory.
 #![tactic(auto)]
@@ -8,14 +8,16 @@
 mod fault;
 mod input;
 mod laws;
+mod make;
 mod outcome;
 mod outputs;
 mod prepare;
 mod program;
+mod request;
 mod run;
 mod say;
 
 pub use fault::{ParseStop, SourceFault};
-pub use laws::accepted_runs_end_well;
+pub use laws::{accepted_runs_end_well, graphs_are_made};
 pub use outcome::Outcome;
 pub use program::{end_with, teseo};

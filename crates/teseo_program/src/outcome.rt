@@ -1,16 +1,17 @@
-//! How a run ends.
+//! How a call ends.
 
 ghost use Rattle.std.specs.Prelude.{◌≡◌};
 
 use crate::fault::{ParseStop, SourceFault};
+use command_words::WordsRefusal;
 use desk_io::{ReadStop, WriteStop};
 use graph_model::NoMemory;
 
-/// How a run ends, each with its exit status and what is said.
+/// How a call ends, each with its exit status and what is said.
 ///
 /// | Outcome | Status | Said |
 /// |---|---|---|
-/// | `Done` | 0 | the summary |
+/// | `Done` | 0 | the summary, or what was made |
 /// | `NotRead` too long | 1 | `NAME: too long` |
 /// | `NotAccepted` | 1 | `NAME line L: TEXT` |
 /// | `BadWords` | 2 | `bad words` |
@@ -19,7 +20,8 @@ use graph_model::NoMemory;
 /// | `NotWritten` | 5 | `write failed NAME` |
 /// | `Full` | 6 | the summary |
 ///
-/// A place is that of a source, or of an output, among those that the run reads or writes, from 0.
+/// A place is that of a source, or of an output, among those that the call reads or writes, from 0. `make` ends as
+/// `Done`, `NoMemory` or `NotWritten`.
 #[derive(Clone, Copy, Debug, PartialEq, Eq)]
 pub enum Outcome {
     Done,
@@ -49,6 +51,19 @@ impl Outcome {
             Outcome::NoMemory => 3,
             Outcome::NotWritten(_) => 5,
             Outcome::Full => 6,
+        }
+    }
+}
+
+impl From<WordsRefusal> for Outcome {
+    ghost use Rattle.teseo_program.specs.Outcomes.{outcome_of_words};
+
+    ghost from_gives = { λ refusal outcome. outcome ≡ outcome_of_words refusal };
+
+    fn from(refusal: WordsRefusal) -> Outcome {
+        match refusal {
+            WordsRefusal::BadWords => Outcome::BadWords,
+            WordsRefusal::NoMemory => Outcome::NoMemory,
         }
     }
 }

@@ -2,17 +2,20 @@
 
 ghost use Rattle.std.specs.Prelude.{◌≡◌, ◌++◌, map, length, All, IfOk, OnOk};
 ghost use Rattle.std.specs.List.{AllByRecursion, list_any};
-ghost use Rattle.std.specs.String.{string_bytes};
 ghost use Rattle.graph_model.specs.TableText.{table_text};
 ghost use Rattle.run_model.specs.Texts.{report_text};
 ghost use Rattle.script_lang.specs.FieldFaults.{IsNameByte};
 ghost use Rattle.job_runner.specs.Lines.{file_of};
-ghost use Rattle.command_line.specs.Words.{report_name};
+ghost use Rattle.command_words.specs.Words.{report_name};
+ghost use Rattle.command_words.specs.Views.{run_request};
+ghost use Rattle.teseo_program.specs.Requests.{report_names};
 ghost use Rattle.teseo_program.specs.Outcomes.{is_full, shows_full};
 ghost use Rattle.teseo_program.specs.Sinks.{summary_line, sinks_of, file_output};
 ghost use Rattle.teseo_program.specs.Running.{run_outputs, HavePrintableNames};
 
+use crate::request::script_at;
 use crate::run::RunResult;
+use command_words::RunWords;
 use desk_io::Output;
 use graph_model::{NoMemory, Table};
 use graphalytics_io::{Text, write_table};
@@ -25,22 +28,22 @@ use std::alloc::Global;
 /// The journal, the reports and the kernel files, in the order in which they are written.
 pub fn outputs_of(
     alloc: Global,
-    journal: &str,
-    scripts: &[String],
+    words: &RunWords<'_>,
     run: &RunResult,
 ) -> Result<Items<Output>, NoMemory>
-    requires count { length run.now.jobs ≡ length scripts.now }
+    requires count { length run.now.jobs ≡ length (run_request words.now).scripts }
     requires names { HavePrintableNames run.now.jobs }
     ensures { IfOk result (λ outputs. outputs
-        ≡ sinks_of journal.now (map report_name (map string_bytes scripts.now)) (run_outputs run.now)) }
+        ≡ sinks_of (run_request words.now).journal (report_names (run_request words.now)) (run_outputs run.now)) }
 {
     let mut outputs = Items::new(alloc);
     let mut text = Text::new(alloc);
     write_journal(&run.journal, &mut text)?;
-    outputs.push(output_of(alloc, journal, text)?)?;
+    outputs.push(output_of(alloc, words.journal, text)?)?;
     let jobs = run.jobs.as_slice();
-    'reports: for k in 0..scripts.len() {
-        outputs.push(report_output(alloc, scripts[k].as_str(), jobs[k].answers())?)?;
+    'reports: for k in 0..jobs.len() {
+        let script = script_at(words, k);
+        outputs.push(report_output(alloc, script, jobs[k].answers())?)?;
     }
     'jobs: for job in jobs {
         push_results(alloc, job.tables(), &mut outputs)?;
@@ -49,7 +52,7 @@ pub fn outputs_of(
 }
 
 /// A text under a name.
-fn output_of(alloc: Global, name: &str, text: Text) -> Result<Output, NoMemory>
+pub fn output_of(alloc: Global, name: &str, text: Text) -> Result<Output, NoMemory>
     ensures { IfOk result (λ output. output ≡ record { name = name.now; text = text }) }
 {
     Ok(Output::new(

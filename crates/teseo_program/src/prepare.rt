@@ -1,9 +1,10 @@
 //! All that comes before the first output is created: the sources are read and parsed, the scripts run,
 //! and the texts are made.
 
-ghost use Rattle.std.specs.Prelude.{◌≡◌, ◌≤◌, ℕ, List, length, All, IfOk, IfErr, OnOk};
-ghost use Rattle.command_line.specs.Words.{TakesWords, taken_names};
-ghost use Rattle.command_line.specs.Lines.{run_names};
+ghost use Rattle.std.specs.Prelude.{◌≡◌, ◌≤◌, length, All, IfOk, IfErr, OnOk};
+ghost use Rattle.command_words.specs.Words.{taken_names};
+ghost use Rattle.command_words.specs.Views.{run_request};
+ghost use Rattle.teseo_program.specs.Requests.{IsAsked, kind_of};
 ghost use Rattle.teseo_program.specs.Input.{Texts, IsAccepted};
 ghost use Rattle.teseo_program.specs.Parsing.{meaning_of, AreRunnable};
 ghost use Rattle.teseo_program.specs.Prepared.{IsUnprepared, IsPreparedOf, IsMadeOf, NamesAreApart};
@@ -12,11 +13,12 @@ use crate::fault::ParseStop;
 use crate::input::{Input, parse_sources};
 use crate::outcome::Outcome;
 use crate::outputs::{is_full, outputs_of, summary_of};
+use crate::request::{kind_of, sources_of};
 use crate::run::run_scripts;
-use command_line::CommandLine;
+use command_words::RunWords;
 use desk_io::{Desk, Output, read_all};
 use graph_files::{files_are_loadable, load_is_legal};
-use graph_model::{Kind, MAX_SOURCE_BYTES, NoMemory};
+use graph_model::{MAX_SOURCE_BYTES, NoMemory};
 use graphalytics_io::Text;
 use items::Items;
 use std::alloc::Global;
@@ -36,21 +38,21 @@ pub fn prepare<R: Threads + Sync, D: Desk>(
     rt: &R,
     alloc: Global,
     desk: &mut D,
-    line: &CommandLine<'_>,
+    words: &RunWords<'_>,
 ) -> Result<Prepared, Outcome>
-    requires { (words : List (List ℕ)) × TakesWords words (run_names line.now) }
-    ensures prepared { IfOk result (IsPreparedOf (run_names line.now) (D.files desk.old)) }
+    requires { IsAsked (run_request words.now) }
+    ensures prepared { IfOk result (IsPreparedOf (run_request words.now) (D.files desk.old)) }
     ensures apart { IfOk result NamesAreApart }
     ensures ok { OnOk result (D.files desk.new ≡ D.files desk.old) }
-    ensures refused { IfErr result (IsUnprepared (run_names line.now) (D.files desk.old) (D.files desk.new)) }
+    ensures refused { IfErr result (IsUnprepared (run_request words.now) (D.files desk.old) (D.files desk.new)) }
 {
-    let names = line.sources(alloc)?;
+    let names = sources_of(alloc, words)?;
     let sources = read_all(alloc, desk, &names, MAX_SOURCE_BYTES)?;
-    let input = match parse_sources(alloc, &sources, line) {
+    let input = match parse_sources(alloc, &sources, words) {
         Ok(input) => input,
         Err(stop) => return Err(Outcome::from(stop)),
     };
-    let prepared = make(rt, alloc, line, input)?;
+    let prepared = make(rt, alloc, words, input)?;
     Ok(prepared)
 }
 
@@ -58,23 +60,23 @@ pub fn prepare<R: Threads + Sync, D: Desk>(
 fn make<R: Threads + Sync>(
     rt: &R,
     alloc: Global,
-    line: &CommandLine<'_>,
+    words: &RunWords<'_>,
     input: Input,
 ) -> Result<Prepared, NoMemory>
-    requires words { (words : List (List ℕ)) × TakesWords words (run_names line.now) }
-    requires accepted { (texts : Texts) × IsAccepted (run_names line.now) texts (meaning_of input) }
-    requires runnable { AreRunnable (taken_names (run_names line.now)) input.scripts }
-    requires count { length input.scripts ≡ length (run_names line.now).scripts }
+    requires asked { IsAsked (run_request words.now) }
+    requires accepted { (texts : Texts) × IsAccepted (run_request words.now) texts (meaning_of input) }
+    requires runnable { AreRunnable (taken_names (run_request words.now)) input.scripts }
+    requires count { length input.scripts ≡ length (run_request words.now).scripts }
     requires listed { All (λ job. job ≤ length input.scripts) input.schedule }
-    ensures made { IfOk result (IsMadeOf (run_names line.now) (meaning_of input)) }
+    ensures made { IfOk result (IsMadeOf (run_request words.now) (meaning_of input)) }
     ensures apart { IfOk result NamesAreApart }
 {
     files_are_loadable();
     load_is_legal();
-    let run = run_scripts(rt, alloc, Kind::Undirected, input)?;
+    let run = run_scripts(rt, alloc, kind_of(words), input)?;
     let commits = run.journal.len() as u64;
     let summary = summary_of(alloc, commits, run.vertices, run.edges)?;
-    let outputs = outputs_of(alloc, line.journal, line.scripts, &run)?;
+    let outputs = outputs_of(alloc, words, &run)?;
     let is_full = is_full(&run);
     Ok(Prepared {
         outputs,

@@ -1,19 +1,23 @@
 //! The top call.
 
-ghost use Rattle.std.specs.Prelude.{◌≡◌, ℕ, List, [], map};
+ghost use Rattle.std.specs.Prelude.{◌≡◌, ◌≢◌, ◌<◌, [], map};
 ghost use Rattle.std.specs.String.{string_bytes};
 ghost use Rattle.desk_io.specs.Outputs.{names_of};
-ghost use Rattle.command_line.specs.Words.{TakesWords, source_names};
-ghost use Rattle.command_line.specs.Lines.{run_names, name_at};
+ghost use Rattle.command_words.specs.Views.{run_request, make_request};
 ghost use Rattle.teseo_program.specs.declared.outcome.Outcome.{Outcome};
-ghost use Rattle.teseo_program.specs.Prepared.{NamesAreApart, Writes};
-ghost use Rattle.teseo_program.specs.Outcomes.{status_of, said_text, blamed, OnlySays, SaysOutcome, IsOutcome, IsRunOutcome};
+ghost use Rattle.teseo_program.specs.Requests.{IsAsked, source_names};
+ghost use Rattle.teseo_program.specs.Prepared.{NamesAreApart, Writes, IsWritten};
+ghost use Rattle.teseo_program.specs.Outcomes.{status_of, said_text, blamed, OnlySays, IsOutcome, IsRunOutcome, IsMakeOutcome};
 
+use crate::make::prepare_graph;
 use crate::outcome::Outcome;
 use crate::prepare::{Prepared, prepare};
+use crate::request::source_at;
 use crate::say::say_outcome;
-use command_line::{CommandLine, take_words};
+use command_words::{Command, MakeWords, RunWords, read_words};
 use desk_io::{Desk, Gate, Output, ReadStop, write_all};
+use graph_model::NoMemory;
+use items::Items;
 use std::alloc::Global;
 use std::thread::Threads;
 
@@ -51,37 +55,64 @@ fn outcome_of<R: Threads + Sync, D: Desk>(
 ) -> Outcome
     ensures { IsOutcome result (map string_bytes words.now) (D.files desk.old) (D.files desk.new) }
 {
-    match take_words(words) {
-        Some(line) => run(rt, alloc, desk, &line),
-        None => {
-            say_outcome(desk, "", &[], Outcome::BadWords);
-            Outcome::BadWords
+    match read_words(alloc, words) {
+        Ok(Command::Run(words)) => run(rt, alloc, desk, &words),
+        Ok(Command::Make(words)) => make(alloc, desk, &words),
+        Err(refusal) => {
+            let outcome = Outcome::from(refusal);
+            say_outcome(desk, "", &[], outcome);
+            outcome
         }
     }
 }
 
-/// Runs the scripts that the command line names.
+/// Runs the scripts that the words name.
 fn run<R: Threads + Sync, D: Desk>(
     rt: &R,
     alloc: Global,
     desk: &mut D,
-    line: &CommandLine<'_>,
+    words: &RunWords<'_>,
 ) -> Outcome
-    requires { (words : List (List ℕ)) × TakesWords words (run_names line.now) }
-    ensures { IsRunOutcome result (run_names line.now) (D.files desk.old) (D.files desk.new) }
+    requires { IsAsked (run_request words.now) }
+    ensures { IsRunOutcome result (run_request words.now) (D.files desk.old) (D.files desk.new) }
 {
-    match prepare(rt, alloc, desk, line) {
-        Ok(prepared) => {
-            let outcome = write(desk, &prepared);
-            let outputs = prepared.outputs.as_slice();
-            say(desk, line, outputs, prepared.summary.as_slice(), outcome);
-            outcome
-        }
+    match prepare(rt, alloc, desk, words) {
+        Ok(prepared) => write_and_say(desk, &prepared),
         Err(outcome) => {
-            say(desk, line, &[], &[], outcome);
+            say_outcome(desk, blamed_source(words, outcome), &[], outcome);
             outcome
         }
     }
+}
+
+/// Makes a graph, and writes its two files.
+fn make<D: Desk>(alloc: Global, desk: &mut D, words: &MakeWords<'_>) -> Outcome
+    requires some { 0 < words.now.vertices }
+    requires apart { words.now.out.now ≢ words.now.edges_out.now }
+    ensures { IsMakeOutcome result (make_request words.now) (D.files desk.old) (D.files desk.new) }
+{
+    match prepare_graph(alloc, words) {
+        Ok(prepared) => write_and_say(desk, &prepared),
+        Err(NoMemory) => {
+            say_outcome(desk, "", &[], Outcome::NoMemory);
+            Outcome::NoMemory
+        }
+    }
+}
+
+/// Writes the outputs, says how that went, and answers it.
+fn write_and_say<D: Desk>(desk: &mut D, prepared: &Prepared) -> Outcome
+    requires { NamesAreApart prepared.now }
+    ensures { IsWritten prepared.now result (D.files desk.old) (D.files desk.new) }
+{
+    let outcome = write(desk, prepared);
+    say_outcome(
+        desk,
+        blamed_output(&prepared.outputs, outcome),
+        prepared.summary.as_slice(),
+        outcome,
+    );
+    outcome
 }
 
 /// Writes the outputs, and answers how that went.
@@ -96,42 +127,27 @@ fn write<D: Desk>(desk: &mut D, prepared: &Prepared) -> Outcome
     }
 }
 
-/// Says how the run ended, with the name that this blames.
-fn say<D: Desk>(
-    desk: &mut D,
-    line: &CommandLine<'_>,
-    outputs: &[Output],
-    summary: &[u8],
-    outcome: Outcome,
-)
-    ensures { SaysOutcome (run_names line.now) outputs.now summary.now outcome (D.files desk.old) (D.files desk.new) }
-{
-    match outcome {
-        Outcome::NotWritten(stop) => {
-            say_outcome(desk, output_at(outputs, stop.place), summary, outcome);
-        }
-        _ => say_outcome(desk, blamed_source(line, outcome), summary, outcome),
-    }
-}
-
 /// The name of the source that an outcome blames, or an empty one.
-fn blamed_source<'a>(line: &CommandLine<'a>, outcome: Outcome) -> &'a str
-    ensures { result.now ≡ blamed (source_names (run_names line.now)) [] outcome }
+fn blamed_source<'a>(words: &RunWords<'a>, outcome: Outcome) -> &'a str
+    ensures { result.now ≡ blamed (source_names (run_request words.now)) [] outcome }
 {
     match outcome {
-        Outcome::NotRead(ReadStop::Fault { place }) => line.source(place),
-        Outcome::NotRead(ReadStop::TooLong { place }) => line.source(place),
-        Outcome::NotAccepted { place, .. } => line.source(place),
+        Outcome::NotRead(ReadStop::Fault { place }) => source_at(words, place),
+        Outcome::NotRead(ReadStop::TooLong { place }) => source_at(words, place),
+        Outcome::NotAccepted { place, .. } => source_at(words, place),
         _ => "",
     }
 }
 
-/// The name of the output at a place, or an empty one where there is no such place.
-fn output_at(outputs: &[Output], place: usize) -> &str
-    ensures { result.now ≡ name_at (names_of outputs.now) place }
+/// The name of the output that an outcome blames, or an empty one.
+fn blamed_output(outputs: &Items<Output>, outcome: Outcome) -> &str
+    ensures { result.now ≡ blamed [] (names_of outputs.now) outcome }
 {
-    match outputs.get(place) {
-        Some(output) => output.name(),
-        None => "",
+    match outcome {
+        Outcome::NotWritten(stop) => match outputs.as_slice().get(stop.place) {
+            Some(output) => output.name(),
+            None => "",
+        },
+        _ => "",
     }
 }

@@ -1,6 +1,7 @@
-//! Words that are not those of a run.
+//! Words that are taken in any order, and words that are not taken. What clap makes of words is in the tests of
+//! `command_words`; here stand the ends of calls.
 
-use crate::setting::{End, PATH, desk_with, end_of_words, text_of_end};
+use crate::setting::{End, PATH, WHOLE, desk_with, end_of_words, text_of_end};
 use std::test::Fail;
 
 /// The files stay as they are.
@@ -10,17 +11,9 @@ const REFUSED: End = (2, "bad words\n", 3, &[]);
 const GRAPH: &str = "run --vertices v --edges e --journal j ";
 
 /// What the fault is, and words with that fault alone.
-const CASES: [(&str, &str); 14] = [
+const CASES: [(&str, &str); 16] = [
     ("no words", ""),
     ("no journal", "run --vertices v --edges e s1"),
-    (
-        "the edges first",
-        "run --edges e --vertices v --journal j s1",
-    ),
-    (
-        "the script first",
-        "run s1 --vertices v --edges e --journal j",
-    ),
     (
         "another command",
         "walk --vertices v --edges e --journal j s1",
@@ -48,14 +41,52 @@ const CASES: [(&str, &str); 14] = [
         "run --vertices v --edges e --journal j --schedule t",
     ),
     (
-        "the schedule behind a script",
-        "run --vertices v --edges e --journal j s1 --schedule t",
-    ),
-    (
         "the schedule as the journal",
         "run --vertices v --edges e --journal j --schedule j s1",
     ),
+    (
+        "the journal twice",
+        "run --vertices v --edges e --journal j --journal k s1",
+    ),
+    (
+        "ten digits of a weight",
+        "run --vertices v --edges e --journal j --weights 10 s1",
+    ),
+    ("a request for help", "run --help"),
+    (
+        "a graph of one vertex",
+        "make --seed 0 --vertices 1 --edges 0 --out a --edges-out b",
+    ),
+    (
+        "one file for two outputs",
+        "make --seed 0 --vertices 2 --edges 0 --out a --edges-out a",
+    ),
 ];
+
+/// Words in another order, and how the call ends.
+const ORDERS: [(&str, End); 3] = [
+    ("run --edges e --vertices v --journal j s1", WHOLE),
+    ("run s1 --vertices v --edges e --journal j", WHOLE),
+    (
+        "run --vertices v --edges e --journal j s1 --schedule t",
+        (4, "read failed t\n", 3, &[]),
+    ),
+];
+
+#[test]
+fn options_stand_in_any_order(rt: HostRuntime) -> Result<(), Fail> {
+    let alloc = rt.alloc();
+    for (words, end) in ORDERS {
+        let mut desk = desk_with(alloc, PATH.0, &[])?;
+        let found = end_of_words(&rt, alloc, &mut desk, words, end)?;
+        assert_eq!(rt;
+            found.as_str(),
+            text_of_end(alloc, end)?.as_str(),
+            "{words}"
+        );
+    }
+    Ok(())
+}
 
 #[test]
 fn words_that_are_refused(rt: HostRuntime) -> Result<(), Fail> {

@@ -5,7 +5,7 @@ use crate::setting::{E, End, File, Run, SEARCH, V, desk_with, end_of, text_of_en
 use std::test::Fail;
 
 /// Sources that are refused, and what is said of the first that is.
-const REFUSED: [(Run, &str); 14] = [
+const REFUSED: [(Run, &str); 17] = [
     // one of each reader: an id twice, an unknown vertex, a line of no transaction, no job
     (
         (&[("v", "1\n# 2\n\n1\n"), E, SEARCH], "s1"),
@@ -22,6 +22,22 @@ const REFUSED: [(Run, &str); 14] = [
     (
         (&[V, E, SEARCH, ("t", "1\n2\n")], "--schedule t s1"),
         "t line 2: no such job\n",
+    ),
+    // a line without its second end, a vertex that isn't there, a weight with a digit too many
+    (
+        (&[V, ("e", "1 2\n1\n"), SEARCH], "s1"),
+        "e line 2: missing field\n",
+    ),
+    (
+        (&[V, ("e", "1 7\n"), SEARCH], "s1"),
+        "e line 1: unknown vertex\n",
+    ),
+    (
+        (
+            &[V, ("e", "1 2 0.5\n2 3 1\n1 3 0.55\n"), SEARCH],
+            "--weights 1 s1",
+        ),
+        "e line 3: weight too fine\n",
     ),
     // numbers that would wrap to ids that are there
     (

@@ -11,6 +11,8 @@ mod faulty_words;
 #[cfg(test)]
 mod inputs_that_are_refused;
 #[cfg(test)]
+mod made_graphs;
+#[cfg(test)]
 mod outputs_that_are_there;
 #[cfg(test)]
 mod scripts_and_schedules;

@@ -1,7 +1,7 @@
 //! Runs of one script to the end, each with all that it writes.
 
 use crate::setting::{
-    E, End, File, JOURNAL, PATH, REPORT, Run, SEARCH, SUMMARY, V, WHOLE, desk_with, end_of,
+    E, End, File, JOURNAL, PATH, REPORT, RESULT, Run, SEARCH, SUMMARY, V, WHOLE, desk_with, end_of,
     text_of_end,
 };
 use std::test::Fail;
@@ -13,8 +13,11 @@ const WITH_AN_EDGE: File = (
      commit 2 start 1 by 1.1\nedge 1 4 1\n",
 );
 
+/// The least weights of walks from the path's first vertex.
+const LEAST_WEIGHTS: File = ("s1", "begin\nsssp 1 o\ncommit\n");
+
 /// Runs, and how each ends.
-const RUNS: [(Run, End); 13] = [
+const RUNS: [(Run, End); 18] = [
     (PATH, WHOLE),
     // a root that is no vertex: there is no result
     (
@@ -249,6 +252,93 @@ const RUNS: [(Run, End); 13] = [
     (
         (&[V, E, ("s1", "")], "s1"),
         (0, SUMMARY, 5, &[JOURNAL, ("s1.report", "")]),
+    ),
+    // arcs with directions: vertex 1 meets label 3 twice and label 2 once
+    (
+        (
+            &[
+                ("v", "1\n2\n3\n"),
+                ("e", "3 1\n1 3\n2 1\n"),
+                ("s1", "begin\ncdlp 1 o\ncommit\n"),
+            ],
+            "--directed s1",
+        ),
+        (
+            0,
+            "commits 1 vertices 3 edges 3 undo 0 retired 0\n",
+            6,
+            &[
+                (
+                    "j",
+                    "commit 1 start 0 by 0.1\nvertex 1\nvertex 2\nvertex 3\nedge 3 1 1\nedge 1 3 1\nedge 2 1 1\n",
+                ),
+                ("s1.report", "begin 1.1 start 1\ntable 3\ncommit -\n"),
+                ("o", "1 3\n2 1\n3 1\n"),
+            ],
+        ),
+    ),
+    // weights in tenths
+    (
+        (
+            &[V, ("e", "1 2 0.5\n2 3 1\n"), LEAST_WEIGHTS],
+            "--weights 1 s1",
+        ),
+        (
+            0,
+            SUMMARY,
+            6,
+            &[
+                (
+                    "j",
+                    "commit 1 start 0 by 0.1\nvertex 1\nvertex 2\nvertex 3\nvertex 4\nedge 1 2 5\nedge 2 3 10\n",
+                ),
+                REPORT,
+                ("o", "1 0\n2 5\n3 15\n4 infinity\n"),
+            ],
+        ),
+    ),
+    // and a weight with one digit more, which is cut
+    (
+        (
+            &[V, ("e", "1 2 0.5\n2 3 1\n1 3 0.55\n"), LEAST_WEIGHTS],
+            "s1 --cut --weights 1",
+        ),
+        (
+            0,
+            "commits 1 vertices 4 edges 3 undo 0 retired 0\n",
+            6,
+            &[
+                (
+                    "j",
+                    "commit 1 start 0 by 0.1\nvertex 1\nvertex 2\nvertex 3\nvertex 4\n\
+                     edge 1 2 5\nedge 2 3 10\nedge 1 3 5\n",
+                ),
+                REPORT,
+                ("o", "1 0\n2 5\n3 5\n4 infinity\n"),
+            ],
+        ),
+    ),
+    // without weights a third field isn't read
+    ((&[V, ("e", "1 2 x\n2 3\n"), SEARCH], "--cut s1"), WHOLE),
+    // a comment, carriage returns, a tab, more than one blank, an edge listed both ways, no last line feed
+    (
+        (
+            &[V, ("e", "# graph\r\n1\t2\r\n2  1\r\n\r\n 3 2"), SEARCH],
+            "s1",
+        ),
+        (
+            0,
+            SUMMARY,
+            6,
+            &[
+                (
+                    "j",
+                    "commit 1 start 0 by 0.1\nvertex 1\nvertex 2\nvertex 3\nvertex 4\nedge 1 2 1\nedge 3 2 1\n",
+                ),
+                REPORT,
+                RESULT,
+            ],
+        ),
     ),
 ];
 

@@ -1,43 +1,37 @@
-use Rattle.std.proofs.Common.{◌∙◌, sym}
-use Rattle.std.specs.String.{string_bytes}
-use Rattle.std.proofs.lemmas.List.{length-map}
-use Rattle.command_line.specs.Lines.{run_names}
+use Rattle.std.proofs.Common.{sym}
+use Rattle.command_words.specs.Views.{run_request}
 use Rattle.teseo_program.specs.Parsing.{meaning_of}
 use Rattle.teseo_program.specs.Running.{run_outputs}
-use Rattle.teseo_program.proofs.PreparedLemmas.{are_inputs, job_count, are_printable, are_apart, same_summary}
+use Rattle.teseo_program.proofs.PreparedLemmas.{are_inputs, job_count, are_printable, are_apart, made_from}
 use Rattle.teseo_program.proofs.RunLemmas.{files_fit}
 use Rattle.teseo_program.proofs.prepare.make.Goals as goal
 
 pub run_scripts-requires-clause-inputs : goal.run_scripts-requires-clause-inputs
 run_scripts-requires-clause-inputs g c κs within =
-    are_inputs c.load_is_legal.ensures.allowed c.load_is_legal.ensures.within c.files_are_loadable.ensures.loadable (run_names c.args.line.now) c.requires.words.0 c.requires.words.1 c.requires.accepted.0 (meaning_of c.args.input)
-    c.requires.accepted.1 c.requires.runnable c.requires.count
+    are_inputs c.load_is_legal.ensures.allowed c.load_is_legal.ensures.within c.files_are_loadable.ensures.loadable (run_request c.args.words.now) c.requires.asked c.requires.accepted.0 (meaning_of c.args.input)
+    c.requires.accepted.1 c.requires.runnable c.requires.count c.kind_of.result c.kind_of.ensures
 
 pub run_scripts-requires-clause-fits : goal.run_scripts-requires-clause-fits
-run_scripts-requires-clause-fits g c κs within = files_fit c.files_are_loadable.ensures.within (run_names c.args.line.now) c.requires.accepted.0 (meaning_of c.args.input) c.requires.accepted.1
+run_scripts-requires-clause-fits g c κs within = files_fit c.files_are_loadable.ensures.within (run_request c.args.words.now) c.requires.accepted.0 (meaning_of c.args.input) c.requires.accepted.1 c.kind_of.result c.kind_of.ensures
 
 pub outputs_of-requires-clause-count : goal.outputs_of-requires-clause-count
 outputs_of-requires-clause-count g c =
-    job_count c.load_is_legal.ensures.allowed c.load_is_legal.ensures.within c.files_are_loadable.ensures.loadable (run_names c.args.line.now) c.requires.words.0 c.requires.words.1 c.requires.accepted.0 (meaning_of c.args.input)
-    c.requires.accepted.1 c.requires.runnable c.requires.count c.in_ok-run.run' c.in_ok-run.ensures.run
-    ∙ length-map c.args.line.now.scripts.now string_bytes
+    job_count c.load_is_legal.ensures.allowed c.load_is_legal.ensures.within c.files_are_loadable.ensures.loadable (run_request c.args.words.now) c.requires.asked c.requires.accepted.0 (meaning_of c.args.input)
+    c.requires.accepted.1 c.requires.runnable c.requires.count c.kind_of.result c.kind_of.ensures c.in_ok-run.run' c.in_ok-run.ensures.run
 
 pub outputs_of-requires-clause-names : goal.outputs_of-requires-clause-names
 outputs_of-requires-clause-names g c =
-    are_printable c.load_is_legal.ensures.allowed c.load_is_legal.ensures.within c.files_are_loadable.ensures.loadable (run_names c.args.line.now) c.requires.words.0 c.requires.words.1 c.requires.accepted.0 (meaning_of c.args.input)
-    c.requires.accepted.1 c.requires.runnable c.requires.count c.in_ok-run.run' c.in_ok-run.ensures.run
+    are_printable c.load_is_legal.ensures.allowed c.load_is_legal.ensures.within c.files_are_loadable.ensures.loadable (run_request c.args.words.now) c.requires.asked c.requires.accepted.0 (meaning_of c.args.input)
+    c.requires.accepted.1 c.requires.runnable c.requires.count c.kind_of.result c.kind_of.ensures c.in_ok-run.run' c.in_ok-run.ensures.run
 
 pub returns-clause-made : goal.returns-clause-made
-returns-clause-made g c = record {
-  outputs = run_outputs c.in_ok-run.run';
-  run = c.in_ok-run.ensures.run;
-  stepped = c.in_ok-run.ensures.stepped;
-  outputs_are = c.in_ok-outputs.ensures;
-  summary_is = c.in_ok-summary.ensures ∙ same_summary _ c.in_ok-run.run' c.in_ok-run.ensures.counts _ c.len-commits.ensures;
-  full = sym c.is_full-is_full.ensures;
-}
+returns-clause-made g c =
+    made_from (run_request c.args.words.now) (meaning_of c.args.input) _ c.in_ok-run.run' c.kind_of.result _ c.kind_of.ensures c.in_ok-run.ensures.run c.in_ok-run.ensures.stepped
+    c.in_ok-run.ensures.counts c.len-commits.ensures
+    c.in_ok-outputs.ensures c.in_ok-summary.ensures (sym c.is_full-is_full.ensures)
 
 pub returns-clause-apart : goal.returns-clause-apart
 returns-clause-apart g c =
-    are_apart c.load_is_legal.ensures.allowed c.load_is_legal.ensures.within c.files_are_loadable.ensures.loadable (run_names c.args.line.now) c.requires.words.0 c.requires.words.1 c.requires.accepted.0 (meaning_of c.args.input)
-    c.requires.accepted.1 c.requires.runnable c.requires.count c.in_ok-run.run' c.in_ok-run.ensures.run c.in_ok-outputs.outputs c.in_ok-outputs.ensures
+    are_apart c.load_is_legal.ensures.allowed c.load_is_legal.ensures.within c.files_are_loadable.ensures.loadable (run_request c.args.words.now) c.requires.asked c.requires.accepted.0 (meaning_of c.args.input)
+    c.requires.accepted.1 c.requires.runnable c.requires.count c.kind_of.result c.kind_of.ensures c.in_ok-run.run' c.in_ok-run.ensures.run c.in_ok-outputs.outputs
+    c.in_ok-outputs.ensures
