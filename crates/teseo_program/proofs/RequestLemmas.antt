@@ -1,5 +1,5 @@
 -- What is known of a request that words are taken as.
-use Rattle.std.proofs.Common.{◌≡◌, ◌≢◌, ℕ, ◌<◌, ◌≤◌, List, length, arith, AllPairs}
+use Rattle.std.proofs.Common.{◌≢◌, ℕ, ◌<◌, ◌≤◌, List, length, arith, AllPairs}
 use Rattle.std.specs.Prelude.{Bool, Option, None, Some}
 use Rattle.graph_model.specs.declared.limits.TheConstants.{MAX_SCRIPTS}
 use Rattle.graph_files.specs.Weights.{AreReadable}

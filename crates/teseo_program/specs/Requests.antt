@@ -7,7 +7,7 @@ use Rattle.graph_model.specs.declared.write.Kind.TheVariants.{Directed, Undirect
 use Rattle.graph_files.specs.declared.weights.Weights.{Weights}
 use Rattle.graph_files.specs.declared.weights.Weights.TheVariants.{Ones, Units}
 use Rattle.graph_files.specs.EdgeFiles.{Rules}
-use Rattle.command_words.specs.Words.{RunRequest, Request, run, IsTaken, report_name}
+use Rattle.command_words.specs.Words.{RunRequest, run, IsTaken, report_name}
 
 -- some words are taken as this request
 abbrev pub IsAsked : RunRequest → Type 0

@@ -1,7 +1,6 @@
 use Rattle.std.proofs.Common.{sym}
 use Rattle.command_words.specs.Views.{run_request}
 use Rattle.teseo_program.specs.Parsing.{meaning_of}
-use Rattle.teseo_program.specs.Running.{run_outputs}
 use Rattle.teseo_program.proofs.PreparedLemmas.{are_inputs, job_count, are_printable, are_apart, made_from}
 use Rattle.teseo_program.proofs.RunLemmas.{files_fit}
 use Rattle.teseo_program.proofs.prepare.make.Goals as goal
