@@ -176,7 +176,8 @@ IsCause BadWords request made old new = ⊥
 IsCause (NotRead stop) request made old new = IsReadStop MAX_SOURCE_BYTES (source_names request) old new stop
 IsCause (NotAccepted place fault) request made old new = IsRefusedAt request old place fault × (new ≡ old)
 IsCause NoMemory request made old new = new ≡ old
-IsCause (NotWritten stop) request made old new = AreOfRun request old made × FailsAtPlace made.outputs stop.place old new
+IsCause (NotWritten stop) request made old new =
+    AreOfRun request old made × FailsAtPlace made.outputs stop.place old new
 
 -- how a run ends whose words are taken: its cause, and then what is said
 pub record IsRunOutcome (outcome : Outcome) (request : RunRequest) (old new : Files) : Type 0 where
@@ -204,7 +205,8 @@ pub record IsMakeOutcome (outcome : Outcome) (request : MakeRequest) (old new : 
   -- the files before the outcome was said
   pub before : Files
   pub cause : IsMakeCause outcome request old before
-  pub says : OnlySays (said_text (blamed [] (names_of (graph_outputs request)) outcome) (made_text request) outcome) before new
+  pub says : OnlySays
+      (said_text (blamed [] (names_of (graph_outputs request)) outcome) (made_text request) outcome) before new
 
 -- ---- the end of a call
 

@@ -49,7 +49,8 @@ pub fn parse_sources(
     ensures runnable { IfOk result (λ input. AreRunnable (taken_names (run_request words.now)) input.scripts) }
     ensures count { IfOk result (λ input. length input.scripts ≡ length (run_request words.now).scripts) }
     ensures listed { IfOk result (λ input. All (λ job. job ≤ length input.scripts) input.schedule) }
-    ensures refused { IfErr result (IsParseStop (run_request words.now) (texts_of (run_request words.now) sources.now)) }
+    ensures refused { IfErr result
+        (IsParseStop (run_request words.now) (texts_of (run_request words.now) sources.now)) }
 {
     let texts = sources.as_slice();
     let ids = parse_vertices(alloc, texts[0].as_slice())?;
