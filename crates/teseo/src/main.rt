@@ -1,4 +1,4 @@
-//! The program `teseo`: runs a script on a graph, over real files.
+//! The program `teseo`: runs scripts on a graph, or makes one, over real files.
 //!
 //! 1. The descriptors of standard input, output and error are open before any file is, so that no
 //!    output can take the place of one that was closed.
