@@ -1,8 +1,8 @@
 #!/usr/bin/env bash
-# Builds the program, runs the whole command on graphs of three sizes and two kinds, and prints a table. Then it runs
-# many scripts of short transactions, and prints a second one, and at last the image and the kernels by themselves, and
-# prints a third. All inputs are made from a seed in a temporary folder, which is removed at the end. RUNS=N and SEED=N
-# change how often each is run (3), and which inputs they are (1). ONLY=kernels leaves out all but the third table.
+# Builds the program, runs the whole command on graphs of three sizes and two kinds, and prints a table. Then come a table
+# of what it takes to read and load a graph with weights, one of many scripts of short transactions, and one of the image
+# and the kernels by themselves. All inputs are made from a seed in a temporary folder, which is removed at the end. RUNS=N
+# and SEED=N change how often each is run (3), and which inputs they are (1). ONLY=kernels leaves out all but the last table.
 set -euo pipefail
 
 top=$(cd "$(dirname "$0")/.." && pwd)
@@ -11,11 +11,21 @@ kernels=$top/crates/kernel_bench/out/kernel_bench
 runs=${RUNS:-3}
 seed=${SEED:-1}
 
-# Makes graph.v, graph.e and the script `search` in the folder that it is called in.
+# Makes graph.v, graph.e and the script `search` in the folder that it is called in. Random graphs are made by `teseo`.
 make_inputs() {
     local kind=$1 vertices=$2 edges=$3
-    python3 "$top/bench/generate.py" --kind "$kind" --vertices "$vertices" --edges "$edges" --seed "$seed" --out graph
+    if [ "$kind" = random ]; then
+        "$program" make --seed "$seed" --vertices "$vertices" --edges "$edges" --out graph.v --edges-out graph.e >said || fail
+    else
+        python3 "$top/bench/generate.py" --kind "$kind" --vertices "$vertices" --edges "$edges" --seed "$seed" --out graph
+    fi
     printf 'begin\nbfs 1 distances\ncommit\n' >search
+}
+
+# How many edges a graph of a kind has: `teseo make` makes 3,000,000 at most.
+edges_of() {
+    local kind=$1 vertices=$2
+    if [ "$kind" = random ]; then echo $((vertices * 3)); else echo $((vertices * 7 / 2)); fi
 }
 
 # Whether the last run left what a run on such a graph leaves.
@@ -56,11 +66,26 @@ measure() {
         "$worst" "$processor" "$memory" "$(nanoseconds_a_row "$best" "$rows")" "$(load)"
 }
 
-# Prints the second table's row: so many scripts of so many transactions, by rotation, on a graph of 100,000 vertices.
+# Prints the table's row of reading: a graph of 1,000,000 vertices and 3,000,000 edges with weights, each id so many times
+# what it is, and one transaction without a line.
+measure_reading() {
+    local ids=$1 spread=$2 vertices=1000000 best worst processor memory
+    make_inputs random "$vertices" $((vertices * 3))
+    awk -v spread="$spread" '{ printf "%.0f\n", $1 * spread }' graph.v >read.v
+    awk -v spread="$spread" '{ printf "%.0f %.0f %d.%02d\n", $1 * spread, $2 * spread, NR % 1000, NR % 100 }' graph.e >read.e
+    printf 'begin\ncommit\n' >none
+    read -r best worst processor memory < <(python3 "$top/bench/measure.py" --runs "$runs" --remove journal -- \
+        "$program" run --vertices read.v --edges read.e --weights 2 --journal journal none 2>said)
+    [ -n "$memory" ] || fail
+    printf '| %-6s | %6d | %6s | %6s | %9s | %6d | %5s |\n' "$ids" "$(($(stat -c %s read.v read.e | paste -sd+) >> 20))" \
+        "$best" "$worst" "$processor" "$memory" "$(load)"
+}
+
+# Prints the table's row of transactions: so many scripts of so many transactions, by rotation, on a graph of 100,000 vertices.
 # The run of one empty transaction on the same graph is what the load and the texts of it take.
 measure_transactions() {
     local scripts=$1 transactions=$2 vertices=100000 names load_best best worst processor memory
-    make_inputs random "$vertices" $((vertices * 7 / 2))
+    make_inputs random "$vertices" $((vertices * 3))
     python3 "$top/bench/scripts.py" --scripts "$scripts" --transactions "$transactions" --vertices "$vertices" \
         --seed "$seed" --out short
     printf 'begin\ncommit\n' >none
@@ -84,7 +109,7 @@ bounds() {
         END { print name, least / 1000, most / 1000 }'
 }
 
-# Prints the third table's rows: the image and the kernels on one core, and on all.
+# Prints the last table's rows: the image and the kernels on one core, and on all.
 measure_kernels() {
     local vertices=1000000
     local edges=$((vertices * 7 / 2))
@@ -95,20 +120,27 @@ measure_kernels() {
     done
 }
 
-# Prints the first two tables.
+# Prints all tables but the last.
 print_runs() {
     local vertices kind scripts
     echo '| Kind      | Vertices |    Edges |   Best |  Worst | Processor | Memory | ns row |  Load |'
     echo '|-----------|---------:|---------:|-------:|-------:|----------:|-------:|-------:|------:|'
     for vertices in 1000 100000 1000000; do
         for kind in random power-law; do
-            measure "$kind" "$vertices" $((vertices * 7 / 2))
+            measure "$kind" "$vertices" "$(edges_of "$kind" "$vertices")"
         done
     done
     echo
     echo "Best and Worst are seconds of the whole command by the clock, Processor is the least seconds of processor time"
     echo "of a run, Memory is the peak in MiB, ns row is Best in nanoseconds for each row of the store (one for a vertex,"
     echo "and one for each direction of an edge), and Load is that of the last minute when the runs ended."
+    echo
+    echo '| Ids    |    MiB |   Best |  Worst | Processor | Memory |  Load |'
+    echo '|--------|-------:|-------:|-------:|----------:|-------:|------:|'
+    measure_reading dense 1
+    measure_reading sparse 7919
+    echo
+    echo "A graph of 1,000,000 vertices and 3,000,000 edges with weights is read and loaded, and one transaction has no line."
     echo
     echo '| Scripts | Transactions |   Best |  Worst | Processor | Memory | Graph  | a second |  Load |'
     echo '|--------:|-------------:|-------:|-------:|----------:|-------:|-------:|---------:|------:|'

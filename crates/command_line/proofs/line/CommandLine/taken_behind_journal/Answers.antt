@@ -1,6 +1,0 @@
-use Rattle.std.proofs.Common.{[], ◌∙◌, sym}
-use Rattle.command_line.proofs.WordLemmas.{three_behind}
-use Rattle.command_line.proofs.line.CommandLine.taken_behind_journal.Goals as goal
-
-pub returns-in-None : goal.returns-in-None
-returns-in-None c = rw c.in-None.is (c.script_or_report.ensures ∙ sym (three_behind _ _ _ _ c.args.place []))
