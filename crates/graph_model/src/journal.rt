@@ -8,7 +8,7 @@ use items::{Items, RoomyItems};
 
 /// A transaction's name: the number of its script or pass, and its own number there, from 1. The
 /// load is `0.1`.
-#[derive(Clone, Copy, Debug, Default, PartialEq, Eq)]
+#[derive(Clone, Copy, Debug, PartialEq, Eq)]
 pub struct TxnName {
     pub job: u32,
     pub number: u32,
