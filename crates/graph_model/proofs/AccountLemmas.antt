@@ -1,6 +1,8 @@
 -- What each call keeps of a valid account; and that a scan that is done has given all.
 use Rattle.std.proofs.Common.{◌≡◌, ℕ, zero, suc, ◌+◌, ◌<◌, ◌≤◌, List, [], ◌∷◌, ◌++◌, length, take, refl, sym, ◌∙◌, ap, subst, arith, length-append}
-use Rattle.std.specs.Prelude.{true, Option, Some, None, Result, Ok, Err, IfSome, IfNone}
+use Rattle.std.specs.Prelude.{Bool, true, false, Option, Some, None, Result, Ok, Err, IfSome, IfNone}
+use Rattle.std.specs.List.{flat_map}
+use Rattle.std.proofs.lemmas.List.{append-nil}
 use Rattle.graph_model.specs.declared.write.Write.{Write}
 use Rattle.graph_model.specs.declared.journal.Begun.{Begun}
 use Rattle.graph_model.specs.declared.journal.Commit.{Commit}
@@ -18,9 +20,11 @@ use Rattle.graph_model.specs.History.{graph_at}
 use Rattle.graph_model.specs.Legal.{IsLegal}
 use Rattle.graph_model.specs.Account.{Account, IsOpenTxn, IsValid}
 use Rattle.graph_model.specs.AccountSteps.{view_of, GoesOn, ReadsBy, begun_at, BeginsBy, last_with, with_write, with_cause, WritesAt, WritesBy, ended, CommitsBy, AbortsBy}
+use Rattle.graph_model.specs.AccountLaws.{ScansToTheEnd}
 use Rattle.graph_model.specs.Scans.{rows_left, ScansBy}
 use Rattle.graph_model.proofs.HistoryLemmas.{all_more, allowed_more}
 use Rattle.graph_model.proofs.LegalLemmas.{graph_at-append}
+use Rattle.graph_model.proofs.TestLemmas.{never}
 
 -- ---- the last list
 
@@ -155,3 +159,19 @@ short_is_whole (suc n) (x ∷ xs) short = ap (λ ys. x ∷ ys) (short_is_whole n
 pub done_is_whole : (g : Graph) (old new : Cursor) (given : List Row) → ScansBy g old new given → new.done ≡ true → given ≡ rows_left g old
 done_is_whole g old new given is done =
     is.gave ∙ short_is_whole _ (rows_left g old) (let short = is.ended done in subst (λ xs. length xs < 64) is.gave short)
+
+-- the portions of a scan are the rows that were left
+pub portions_are_rows : (g : Graph) (cursor : Cursor) (portions : List (List Row)) → cursor.done ≡ false
+    → ScansToTheEnd g cursor portions → flat_map (λ given. given) portions ≡ rows_left g cursor
+portions_are_rows g cursor [] going done = never cursor.done done going
+portions_are_rows g cursor (given ∷ portions) going (begun, (next, step, rest)) = by_end next.done refl (λ going_on. portions_are_rows g next portions going_on rest)
+  where
+    -- none comes behind a scan that is done
+    none_behind : (portions : List (List Row)) → next.done ≡ true → ScansToTheEnd g next portions → flat_map (λ (rows : List Row). rows) portions ≡ []
+    none_behind [] done rest = refl
+    none_behind (more ∷ portions) done rest = never next.done done rest.0
+
+    by_end : (done : Bool) → next.done ≡ done → (next.done ≡ false → flat_map (λ (rows : List Row). rows) portions ≡ rows_left g next)
+        → given ++ flat_map (λ (rows : List Row). rows) portions ≡ rows_left g cursor
+    by_end true done more = ap (λ rows. given ++ rows) (none_behind portions done rest) ∙ append-nil given ∙ done_is_whole g cursor next given step done
+    by_end false going_on more = ap (λ rows. given ++ rows) (more going_on) ∙ (step.goes_on going_on).1

@@ -202,6 +202,7 @@ row_lists = record {
   range = rows_at load_graph load_marks load_arcs load_entries (arc_key 2 1) (arc_key 3 2);
   first_key_in = refl;
   last_key_out = refl;
+  least_in = refl;
   greatest_in = refl;
   all_of_it = record { listed = refl; ends = sound_graphs.ends; within = (all_bounded Undirected empty_graph load load_within empty_bounded).ids };
   none_of_it = λ are. no_rows _ _ (are.listed ∙ rows_at load_graph load_marks load_arcs load_entries first_key end_key);

@@ -1,6 +1,6 @@
 -- The worked examples of journals, and of what transactions see and meet.
 use Rattle.std.proofs.Common.{◌≡◌, ℕ, ◌≤◌, List, [], ◌∷◌, ◌++◌, refl, sym, ◌∙◌, ap, arith}
-use Rattle.std.specs.Prelude.{false, ◌==◌, None, IsTrue}
+use Rattle.std.specs.Prelude.{false, ◌==◌, None, IsTrue, slice_get}
 use Rattle.graph_model.specs.declared.write.Kind.TheVariants.{Undirected}
 use Rattle.graph_model.specs.declared.write.Write.{Write}
 use Rattle.graph_model.specs.declared.write.Write.TheVariants.{AddVertex, DropVertex, AddEdge, SetEdge, DropEdge}
@@ -11,8 +11,10 @@ use Rattle.graph_model.specs.Graph.{empty_graph}
 use Rattle.graph_model.specs.Refused.{refused, IsWithinLimits}
 use Rattle.graph_model.specs.History.{graph_at}
 use Rattle.graph_model.specs.Legal.{have_clash, IsLegal}
+use Rattle.graph_model.specs.AccountSteps.{HasCommit}
 use Rattle.graph_model.specs.Examples.{load}
-use Rattle.graph_model.specs.JournalExamples.{name, commit, journal, then_commit, LegalExamples, IllegalExamples, ViewExamples, AccountExamples}
+use Rattle.graph_model.specs.JournalExamples.{name, commit, journal, then_commit, account, LegalExamples, IllegalExamples, ViewExamples, AccountExamples, BeginExamples, CommitExamples}
+use Rattle.graph_model.proofs.PlaceLemmas.{some_eq}
 use Rattle.graph_model.proofs.TestLemmas.{self_eq}
 use Rattle.graph_model.proofs.EntryLemmas.{Arcs, HasEntries, refused_at, entries_made, empty_entries, made_weight, made_vertex, all_allowed}
 use Rattle.graph_model.proofs.HistoryLemmas.{each_item}
@@ -152,3 +154,63 @@ accounts = record {
   too_heavy = λ is. omega (arith, is.current.within.0.2);
   seen_not_legal = λ is. overlapping is.legal;
 }
+
+-- ---- begins and commits
+
+pub begins : BeginExamples
+begins = record {
+  at_what_is_seen = record { room = omega arith; by = refl; from = omega arith; until = omega arith; opened = record { seen = ([], refl); others = refl } };
+  at_more = record { room = omega arith; by = refl; from = omega arith; until = omega arith; opened = record { seen = (commit 3 2 (name 2 1) (SetEdge 2 1 8 ∷ []) ∷ [], refl); others = refl } };
+  not_before_what_was_seen = λ is. omega (arith, is.from);
+  not_behind_what_is_seen = λ is. omega (arith, is.until);
+  not_by_a_used_number = λ is. let number : ◌≡◌ {A = ℕ} 2 3 = ap (λ (n : TxnName). n.number) is.by in omega (arith, number);
+  not_without_a_number_left = λ is. omega (arith, is.room);
+}
+
+-- of three commits the one with the last stamp is the third
+third_is : (start stamp : ℕ) (by : TxnName) (writes : List Write) (has : HasCommit account start 3 (then_commit 3 stamp by writes)) → has.commit ≡ commit 3 stamp by writes
+third_is start stamp by writes has =
+    let place : has.place ≡ 2 = omega (arith, has.stamped) in
+    some_eq has.commit (commit 3 stamp by writes) (sym has.at ∙ ap (λ i. slice_get (then_commit 3 stamp by writes) i) place)
+
+pub commits : CommitExamples
+commits = record {
+  commits = (
+    λ start began. record {
+      wrote = omega arith;
+      place = 2;
+      commit = commit 3 1 (name 2 2) account.own;
+      at = refl;
+      stamped = refl;
+      begun = some_eq 1 start began;
+      by = refl;
+      writes = refl;
+    },
+    record { seen = (commit 3 1 (name 2 2) account.own ∷ [], refl); others = refl },
+  );
+  not_by_another_pass = λ is.
+      let has = is.0 1 refl in
+      let job : ◌≡◌ {A = ℕ} 3 2 = ap (λ (c : Commit). c.by.job) (sym (third_is 1 1 (name 3 1) account.own has)) ∙ ap (λ (n : TxnName). n.job) has.by in
+      omega (arith, job);
+  not_by_another_number = λ is.
+      let has = is.0 1 refl in
+      let number : ◌≡◌ {A = ℕ} 1 2 = ap (λ (c : Commit). c.by.number) (sym (third_is 1 1 (name 2 1) account.own has)) ∙ ap (λ (n : TxnName). n.number) has.by in
+      omega (arith, number);
+  not_from_another_start = λ is.
+      let has = is.0 1 refl in
+      let start : ◌≡◌ {A = ℕ} 2 1 = ap (λ (c : Commit). c.start) (sym (third_is 1 2 (name 2 2) account.own has)) ∙ has.begun in
+      omega (arith, start);
+  not_of_other_writes = λ is.
+      let has = is.0 1 refl in
+      other_target (ap (λ (c : Commit). c.writes) (sym (third_is 1 1 (name 2 2) (AddEdge 1 3 1 ∷ []) has)) ∙ has.writes);
+  not_at_another_stamp = λ is.
+      let has = is.0 1 refl in
+      let place : has.place ≡ 1 = omega (arith, has.stamped) in
+      let second = some_eq has.commit (commit 2 1 (name 1 1) (SetEdge 1 2 9 ∷ [])) (sym has.at ∙ ap (λ i. slice_get (then_commit 3 1 (name 2 2) account.own) i) place) in
+      let job : ◌≡◌ {A = ℕ} 1 2 = ap (λ (c : Commit). c.by.job) (sym second) ∙ ap (λ (n : TxnName). n.job) has.by in
+      omega (arith, job);
+  not_without_a_stamp = λ is. no_writes _ _ is.0;
+}
+  where
+    other_target : AddEdge 1 3 1 ∷ [] ≡ AddEdge 1 4 1 ∷ [] → ⊥
+    other_target same = let target : ◌≡◌ {A = ℕ} 3 4 = cc in omega (arith, target)

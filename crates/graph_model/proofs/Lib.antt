@@ -27,5 +27,6 @@ pub mod StampLemmas
 pub mod PassLemmas
 pub mod OwnerLemmas
 pub mod JournalExampleLemmas
+pub mod OwnerExampleLemmas
 pub mod WitnessLemmas
 pub mod KernelExampleLemmas

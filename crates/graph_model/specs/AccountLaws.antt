@@ -1,5 +1,6 @@
 -- Laws of accounts and of scans. Each is the contract of a function in `laws`.
-use Rattle.std.specs.Prelude.{◌≡◌, ℕ, true, List, Option, Some, None, Result}
+use Rattle.std.specs.Prelude.{◌≡◌, ℕ, true, false, List, [], ◌∷◌, Option, Some, None, Result}
+use Rattle.std.specs.List.{flat_map}
 use Rattle.graph_model.specs.declared.write.Write.{Write}
 use Rattle.graph_model.specs.declared.journal.Begun.{Begun}
 use Rattle.graph_model.specs.declared.row.Row.{Row}
@@ -39,3 +40,14 @@ EndKeepsValid = (stamp : Option ℕ) → KeepsValid (λ old new. CommitsBy old s
 abbrev pub DoneScanIsWhole : Type 0
 DoneScanIsWhole = (g : Graph) (old new : Cursor) (given : List Row) → ScansBy g old new given
     → new.done ≡ true → given ≡ rows_left g old
+
+-- a scan to its end, by its portions: each step goes on from where the one before it stopped
+abbrev pub ScansToTheEnd : Graph → Cursor → List (List Row) → Type 0
+ScansToTheEnd g cursor [] = cursor.done ≡ true
+ScansToTheEnd g cursor (given ∷ portions) =
+    (cursor.done ≡ false) × ((next : Cursor) × ScansBy g cursor next given × ScansToTheEnd g next portions)
+
+-- the portions, one behind the other, are the rows that were left: none is left out, and none is given again
+abbrev pub PortionsAreTheRows : Type 0
+PortionsAreTheRows = (g : Graph) (cursor : Cursor) (portions : List (List Row)) → cursor.done ≡ false
+    → ScansToTheEnd g cursor portions → flat_map (λ given. given) portions ≡ rows_left g cursor

@@ -9,7 +9,8 @@ use Rattle.graph_model.specs.declared.row.Cursor.{Cursor}
 use Rattle.graph_model.specs.Items.{clash}
 use Rattle.graph_model.specs.Graph.{Graph, empty_graph, has_vertex, vertices_of, weight_of, apply, apply_all, HasBothEnds, IsSymmetric, HasNoLoops, IsBounded}
 use Rattle.graph_model.specs.Refused.{refused, AllAllowed, IsWithinLimits}
-use Rattle.graph_model.specs.Inserted.{inserted}
+use Rattle.graph_model.specs.Effects.{any_writes, any_touches}
+use Rattle.graph_model.specs.Inserted.{inserted, inserts}
 use Rattle.graph_model.specs.Scans.{ScansBy}
 use Rattle.graph_model.specs.Rows.{vertex_key, arc_key, first_key, end_key, is_between, rows, all_rows, AreRowsOf}
 
@@ -124,6 +125,22 @@ pub record EffectExamples : Type 0 where
   pub arc_dropped : weight_of (apply Directed arrows (DropEdge 1 3)) 1 3 ≡ None
   pub way_back_stays : weight_of (apply Directed arrows (DropEdge 1 3)) 3 1 ≡ Some 1
 
+-- a vertex, and an edge to it
+abbrev pub new_end : List Write
+new_end = AddVertex 5 ∷ AddEdge 1 5 7 ∷ []
+
+-- which rows writes write, and which they need and leave as they are
+pub record TouchExamples : Type 0 where
+  pub vertex_written : any_writes Undirected new_end (vertex_key 5) ≡ true
+  pub way_back_written : any_writes Undirected new_end (arc_key 5 1) ≡ true
+  pub not_back : any_writes Directed new_end (arc_key 5 1) ≡ false
+  pub end_not_written : any_writes Undirected new_end (vertex_key 1) ≡ false
+  -- an added edge touches both of its ends, and nothing else
+  pub source_touched : any_touches new_end (vertex_key 1) ≡ true
+  pub target_touched : any_touches new_end (vertex_key 5) ≡ true
+  pub other_vertex_not_touched : any_touches new_end (vertex_key 2) ≡ false
+  pub arc_not_touched : any_touches new_end (arc_key 1 5) ≡ false
+
 -- what sound graphs have, and graphs that lack it
 pub record SoundExamples : Type 0 where
   pub ends : HasBothEnds load_graph
@@ -141,6 +158,12 @@ pub record CountExamples : Type 0 where
   pub undirected : inserted Undirected load ≡ 8
   pub directed : inserted Directed load ≡ 6
   pub nothing : inserted Undirected (SetEdge 1 2 9 ∷ DropEdge 1 2 ∷ DropVertex 4 ∷ []) ≡ 0
+  -- an added vertex or edge wants a place, and no other write does
+  pub vertex_wants_a_place : inserts (AddVertex 5) ≡ true
+  pub edge_wants_a_place : inserts (AddEdge 1 4 1) ≡ true
+  pub weight_wants_none : inserts (SetEdge 1 2 9) ≡ false
+  pub no_edge_wants_none : inserts (DropEdge 1 2) ≡ false
+  pub no_vertex_wants_none : inserts (DropVertex 4) ≡ false
 
 -- the rows of a graph, and of ranges
 pub record RowExamples : Type 0 where
@@ -158,6 +181,8 @@ pub record RowExamples : Type 0 where
       ∷ record { key = vertex_key 3; weight = 0 } ∷ []
   pub first_key_in : is_between (vertex_key 2) (vertex_key 3) (vertex_key 2) ≡ true
   pub last_key_out : is_between (vertex_key 2) (vertex_key 3) (vertex_key 3) ≡ false
+  -- all rows are those of the least key, those of the greatest, and those between
+  pub least_in : is_between first_key end_key (vertex_key 0) ≡ true
   pub greatest_in : is_between first_key end_key
       (arc_key 9223372036854775806 9223372036854775806) ≡ true
   pub all_of_it : AreRowsOf (all_rows load_graph) load_graph

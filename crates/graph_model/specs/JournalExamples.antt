@@ -1,18 +1,20 @@
 -- Worked examples of journals, and of what transactions see and meet.
-use Rattle.std.specs.Prelude.{◌≡◌, ℕ, true, false, List, [], ◌∷◌, ◌++◌, Some, None, Option}
+use Rattle.std.specs.Prelude.{◌≡◌, ℕ, true, false, List, [], ◌∷◌, ◌++◌, Some, None, Option, Result, Ok}
 use Rattle.graph_model.specs.declared.write.Kind.TheVariants.{Undirected}
 use Rattle.graph_model.specs.declared.write.Write.{Write}
 use Rattle.graph_model.specs.declared.write.Write.TheVariants.{AddVertex, DropVertex, AddEdge, SetEdge, DropEdge}
+use Rattle.graph_model.specs.declared.journal.Begun.{Begun}
 use Rattle.graph_model.specs.declared.journal.Commit.{Commit}
 use Rattle.graph_model.specs.declared.journal.TxnName.{TxnName}
 use Rattle.graph_model.specs.declared.refusal.Cause.{Cause}
 use Rattle.graph_model.specs.declared.refusal.Cause.TheVariants.{Later, Holder}
+use Rattle.graph_model.specs.declared.refusal.BeginRefusal.{BeginRefusal}
 use Rattle.graph_model.specs.Graph.{has_vertex, weight_of}
 use Rattle.graph_model.specs.History.{view}
 use Rattle.graph_model.specs.Legal.{IsLegal}
 use Rattle.graph_model.specs.Conflict.{later, OpenTxn, least_job, holder, greatest, newest_later, conflict}
 use Rattle.graph_model.specs.Account.{Account, IsValid}
-use Rattle.graph_model.specs.AccountSteps.{name_of, begun_at, with_write, with_cause, ended}
+use Rattle.graph_model.specs.AccountSteps.{name_of, begun_at, BeginsBy, with_write, with_cause, ended, CommitsBy}
 use Rattle.graph_model.specs.Examples.{load}
 
 -- the transaction of this number of this script
@@ -165,3 +167,36 @@ pub record StepExamples : Type 0 where
     sighted = record { by = name 3 1; write = SetEdge 1 2 5; start = 1 } ∷ [];
   }
   pub met_later : with_cause account 1 (SetEdge 1 2 5) (Later 2) ≡ account
+
+-- the pass when its second transaction has ended
+abbrev pub idle : Account
+idle = ended account
+
+-- what `begin` answers its third transaction
+abbrev pub begun : ℕ → Result Begun BeginRefusal
+begun start = Ok (record { by = name 2 3; start = start })
+
+-- what `begin` may answer where two commits were seen
+pub record BeginExamples : Type 0 where
+  pub at_what_is_seen : BeginsBy idle (begun 2) (begun_at idle 2)
+  -- a third commit may have been seen on the way
+  pub at_more : BeginsBy idle (begun 3) (record (begun_at idle 3) { seen = set_twice })
+  pub not_before_what_was_seen : BeginsBy idle (begun 1) (begun_at idle 1) → ⊥
+  pub not_behind_what_is_seen : BeginsBy idle (begun 3) (begun_at idle 3) → ⊥
+  pub not_by_a_used_number : BeginsBy idle (Ok (record { by = name 2 2; start = 2 })) (begun_at idle 2) → ⊥
+  pub not_without_a_number_left : BeginsBy (record idle { allowed = 2 }) (begun 2)
+      (begun_at (record idle { allowed = 2 }) 2) → ⊥
+
+-- the pass when a third commit was seen behind its open transaction
+abbrev pub committed : ℕ → TxnName → List Write → Account
+committed start by writes = record idle { seen = then_commit 3 start by writes }
+
+-- what `commit` may answer the open transaction
+pub record CommitExamples : Type 0 where
+  pub commits : CommitsBy account (Some 3) (committed 1 (name 2 2) account.own)
+  pub not_by_another_pass : CommitsBy account (Some 3) (committed 1 (name 3 1) account.own) → ⊥
+  pub not_by_another_number : CommitsBy account (Some 3) (committed 1 (name 2 1) account.own) → ⊥
+  pub not_from_another_start : CommitsBy account (Some 3) (committed 2 (name 2 2) account.own) → ⊥
+  pub not_of_other_writes : CommitsBy account (Some 3) (committed 1 (name 2 2) (AddEdge 1 3 1 ∷ [])) → ⊥
+  pub not_at_another_stamp : CommitsBy account (Some 2) (committed 1 (name 2 2) account.own) → ⊥
+  pub not_without_a_stamp : CommitsBy account None (committed 1 (name 2 2) account.own) → ⊥

@@ -28,4 +28,5 @@ pub mod RowLaws
 pub mod KernelLaws
 pub mod Examples
 pub mod JournalExamples
+pub mod OwnerExamples
 pub mod KernelExamples

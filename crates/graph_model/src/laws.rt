@@ -3,13 +3,13 @@
 //! Each is a function whose contract is the law: it takes nothing, does nothing, and is proved. The
 //! name in a clause is a definition in `specs/`, in the file that its `ghost use` line names.
 
-ghost use Rattle.graph_model.specs.Examples.{ClashExamples, RefusalExamples, AllowedExamples, LimitExamples, EffectExamples, SoundExamples, CountExamples, RowExamples, ScanExamples};
-ghost use Rattle.graph_model.specs.JournalExamples.{LegalExamples, IllegalExamples, ViewExamples, ConflictExamples, AccountExamples, StepExamples};
+ghost use Rattle.graph_model.specs.Examples.{ClashExamples, RefusalExamples, AllowedExamples, LimitExamples, EffectExamples, TouchExamples, SoundExamples, CountExamples, RowExamples, ScanExamples};
+ghost use Rattle.graph_model.specs.JournalExamples.{LegalExamples, IllegalExamples, ViewExamples, ConflictExamples, AccountExamples, StepExamples, BeginExamples, CommitExamples};
 ghost use Rattle.graph_model.specs.KernelExamples.{SearchExamples, PathExamples, ComponentExamples, LabelExamples, TextExamples};
 ghost use Rattle.graph_model.specs.WriteLaws.{KeepsBothEnds, KeepsSymmetric, WritesCommute, StaysAllowed, ClashIsSymmetric, ListsCommute, ListsStayAllowed, WriteByKey, WritesByKey, TouchesAreOfVertices, ClashIsByRow};
 ghost use Rattle.graph_model.specs.JournalLaws.{PrefixIsLegal, LegalHasBothEnds, PrefixHasItsGraphs, NoCommitIsLegal, OneCommitMore, CommitsAreSerial, EndsFollow, StartIsEnough, ViewIsSymmetric, ViewIsBounded, ViewHasNoLoops, ViewHasBothEnds};
 ghost use Rattle.graph_model.specs.ConflictLaws.{NoConflict, NamesLeastJob, NamesNewest};
-ghost use Rattle.graph_model.specs.AccountLaws.{BeginKeepsValid, WriteKeepsValid, ReadKeepsValid, EndKeepsValid, DoneScanIsWhole};
+ghost use Rattle.graph_model.specs.AccountLaws.{BeginKeepsValid, WriteKeepsValid, ReadKeepsValid, EndKeepsValid, DoneScanIsWhole, PortionsAreTheRows};
 ghost use Rattle.graph_model.specs.RowLaws.{RowsRise, RowsAreOfTheGraph, RowsAreComplete, RangesAdjoin};
 ghost use Rattle.graph_model.specs.KernelLaws.{RootIsNearest, OneDistance, OneLeastWeight, ArcAddsOne, ArcAddsItsWeight, NoWalkIsNone, WalksReach, ReachesIsWalk, ReachesByIsWalk, ReachesWithinIsWalk, ComponentIsNotAbove, OneComponent, ArcJoinsComponents, LeastIsItsComponent, FirstLabelIsTheVertex, LonelyKeepsItsLabel, TwiceIsOnce, OneTable};
 
@@ -92,9 +92,10 @@ pub fn rows_are_of_the_graph()
     ensures adjoin { RangesAdjoin }
 {}
 
-/// A scan that is done has given all rows that were left.
+/// A scan that is done has given all rows that were left, and from its beginning each row once.
 pub fn scans_end_with_the_last_row()
-    ensures { DoneScanIsWhole }
+    ensures done { DoneScanIsWhole }
+    ensures portions { PortionsAreTheRows }
 {}
 
 /// The root has 0, a vertex has one least length and one least weight, an arc adds at most one or
@@ -144,13 +145,14 @@ pub fn examples_hold()
     ensures allowed { AllowedExamples }
     ensures limits { LimitExamples }
     ensures effects { EffectExamples }
+    ensures touches { TouchExamples }
     ensures sound { SoundExamples }
     ensures counts { CountExamples }
     ensures rows { RowExamples }
     ensures scans { ScanExamples }
 {}
 
-/// Worked examples of journals, and of what transactions see and meet.
+/// Worked examples of journals, of what transactions see and meet, and of what an account allows.
 pub fn journal_examples_hold()
     ensures legal { LegalExamples }
     ensures illegal { IllegalExamples }
@@ -158,6 +160,8 @@ pub fn journal_examples_hold()
     ensures conflicts { ConflictExamples }
     ensures accounts { AccountExamples }
     ensures steps { StepExamples }
+    ensures begins { BeginExamples }
+    ensures commits { CommitExamples }
 {}
 
 /// Worked examples of the kernels' tables on small graphs.

@@ -3,6 +3,7 @@
 
 ghost use Rattle.std.specs.Prelude.{◌≡◌, ◌+◌, None, OnOk};
 ghost use Rattle.graph_model.specs.OwnerLaws.{OneOwnerBegins, OneOwnerWrites, OneOwnerReads, OneOwnerCommits, OneOwnerAborts, OneOwnerServes};
+ghost use Rattle.graph_model.specs.OwnerExamples.{OwnerWriteExamples, FullExamples, ServiceExamples};
 
 use crate::engine::StepEngine;
 use crate::refusal::BeginRefusal;
@@ -16,6 +17,13 @@ pub fn one_owner_meets_the_account()
     ensures commit { OneOwnerCommits }
     ensures abort { OneOwnerAborts }
     ensures serve { OneOwnerServes }
+{}
+
+/// Worked examples of the exact calls, with values reckoned by hand.
+pub fn owner_examples_hold()
+    ensures writes { OwnerWriteExamples }
+    ensures full { FullExamples }
+    ensures service { ServiceExamples }
 {}
 
 /// Begins a transaction and takes it back. The journal is as it was, and a number of the pass is used up

@@ -1,5 +1,8 @@
-use Rattle.graph_model.proofs.AccountLemmas.{done_is_whole}
+use Rattle.graph_model.proofs.AccountLemmas.{done_is_whole, portions_are_rows}
 use Rattle.graph_model.proofs.laws.scans_end_with_the_last_row.Goals as goal
 
-pub returns : goal.returns
-returns c = done_is_whole
+pub returns-clause-done : goal.returns-clause-done
+returns-clause-done c = done_is_whole
+
+pub returns-clause-portions : goal.returns-clause-portions
+returns-clause-portions c = portions_are_rows

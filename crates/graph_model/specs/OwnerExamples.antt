@@ -1,0 +1,87 @@
+-- Worked examples of the exact calls of one owner.
+use Rattle.std.specs.Prelude.{◌≡◌, ℕ, true, false, List, [], ◌∷◌, replicate, Ok, Err, Some, None}
+use Rattle.graph_model.specs.declared.write.Kind.TheVariants.{Undirected}
+use Rattle.graph_model.specs.declared.write.Write.{Write}
+use Rattle.graph_model.specs.declared.write.Write.TheVariants.{AddVertex, SetEdge}
+use Rattle.graph_model.specs.declared.refusal.Cause.TheVariants.{Later, Holder}
+use Rattle.graph_model.specs.declared.refusal.Refusal.TheVariants as refusals
+use Rattle.graph_model.specs.Account.{Sighting}
+use Rattle.graph_model.specs.OwnerCalls.{PassState, Core, current, with_current, written_pass, WritesHere, one_more, ServesHere}
+use Rattle.graph_model.specs.Examples.{load}
+use Rattle.graph_model.specs.JournalExamples.{name, journal, account}
+
+-- a pass whose one transaction has made these writes and has ended
+abbrev pub closed_pass : List Write → PassState
+closed_pass ws = record {
+  made = ws ∷ [];
+  sighted = [];
+  start = None;
+  own = [];
+  filled = false;
+  begun = 1;
+  allowed = 5;
+}
+
+-- the passes behind the load: one has set an edge and committed, one has begun before that and added an edge, one has
+-- begun behind it and set another
+abbrev pub later_passes : List PassState
+later_passes =
+    closed_pass (SetEdge 1 2 9 ∷ [])
+    ∷ record (closed_pass []) { made = account.made; start = Some 1; own = account.own; begun = 2 }
+    ∷ record (closed_pass (SetEdge 2 3 8 ∷ [])) { start = Some 2; own = SetEdge 2 3 8 ∷ [] } ∷ []
+
+-- an owner of these passes and of the load's, with the third one selected
+abbrev pub core : Core
+core = record {
+  kind = Undirected;
+  leaves = 4;
+  journal = journal;
+  passes = closed_pass load ∷ later_passes;
+  selected = 2;
+  served = 7;
+}
+
+-- the owner when the selected pass has noted these
+abbrev pub with_sighted : List Sighting → Core
+with_sighted sighted = with_current core (record (current core) { sighted = sighted })
+
+-- the selected pass has made the write
+abbrev pub Makes : Write → Type 0
+Makes w = WritesHere core w (Ok tt) (with_current core (written_pass core w))
+
+-- who is met by a write, and what becomes of it
+pub record OwnerWriteExamples : Type 0 where
+  pub free : Makes (AddVertex 5)
+  pub free_edge : Makes (SetEdge 1 4 5)
+  -- the edge from 1 to 2 was set by a later commit, the one from 2 to 3 by a transaction that is open
+  pub not_through_a_commit : Makes (SetEdge 1 2 5) → ⊥
+  pub not_through_an_open_write : Makes (SetEdge 2 3 5) → ⊥
+  pub commit_named : WritesHere core (SetEdge 1 2 5) (Err (refusals.Conflict (Later 2))) core
+  pub holder_named : WritesHere core (SetEdge 2 3 5) (Err (refusals.Conflict (Holder (name 3 1))))
+      (with_sighted (record { by = name 3 1; write = SetEdge 2 3 5; start = 1 } ∷ []))
+  pub not_named_for_another_edge : WritesHere core (SetEdge 1 2 5) (Err (refusals.Conflict (Holder (name 3 1))))
+      (with_sighted (record { by = name 3 1; write = SetEdge 1 2 5; start = 1 } ∷ [])) → ⊥
+
+-- one leaf, and so many rows that the load may have inserted; the edge of the selected pass is two rows more
+abbrev pub with_rows : ℕ → Core
+with_rows count = record core { leaves = 1; passes = closed_pass (replicate count (AddVertex 1)) ∷ later_passes }
+
+-- the selected pass finds no place for a write
+abbrev pub FindsNoPlace : Core → Write → Type 0
+FindsNoPlace old w =
+    WritesHere old w (Err (refusals.Full old.leaves)) (with_current old (record (current old) { filled = true }))
+
+-- a store may be full from 103 inserted rows a leaf on: here it has one leaf with 103 and with 102, and four with ten
+pub record FullExamples : Type 0 where
+  pub filled : FindsNoPlace (with_rows 101) (AddVertex 5)
+  pub not_one_row_before : FindsNoPlace (with_rows 100) (AddVertex 5) → ⊥
+  pub not_in_four_leaves : FindsNoPlace core (AddVertex 5) → ⊥
+  pub not_for_a_weight : FindsNoPlace (with_rows 101) (SetEdge 1 4 5) → ⊥
+
+-- a turn of the service is counted
+pub record ServiceExamples : Type 0 where
+  pub counted : ServesHere core (record core { served = 8 })
+  pub not_uncounted : ServesHere core core → ⊥
+  pub first : one_more 0 ≡ 1
+  pub last : one_more 18446744073709551614 ≡ 18446744073709551615
+  pub not_above : one_more 18446744073709551615 ≡ 18446744073709551615
