@@ -12,8 +12,8 @@ pub record IsEdge (vertices : ℕ) (pair : Pair) : Type 0 where
   pub second_to : pair.second ≤ vertices
   pub apart : pair.first ≢ pair.second
 
--- each pair is an edge of the graph, no edge comes twice in whatever order of its ends, and there are at most as many as are
--- wanted
+-- each pair is an edge of the graph, no edge comes twice in whatever order of its ends, and there are at most as
+-- many as are wanted
 pub record AreEdgesOf (vertices wanted : ℕ) (pairs : List Pair) : Type 0 where
   pub edges : All (IsEdge vertices) pairs
   pub distinct : IsDistinct have_same_ends pairs

@@ -25,8 +25,8 @@ pub struct MadeGraph {
     pub kept: usize,
 }
 
-/// Makes the files of a graph with so many vertices and at most so many edges: at most two pairs are drawn for each edge
-/// that is wanted, and those are kept whose ends differ and that didn't stand before in either order.
+/// Makes the files of a graph with so many vertices and at most so many edges: at most two pairs are drawn for each
+/// edge that is wanted, and those are kept whose ends differ and that didn't stand before in either order.
 pub fn make_graph(
     alloc: Global,
     seed: u64,
@@ -80,7 +80,7 @@ mod tests {
     use super::*;
     use std::test::Fail;
 
-    /// The first row is the paper's. The others were reckoned apart, in Python: loops, pairs that come again in the same
+    /// The first row has no edges. The others were reckoned apart, in Python: loops, pairs that come again in the same
     /// order and in the other, fewer edges than wanted, the greatest seed.
     #[test]
     fn graphs_are_those_of_the_words_of_their_seeds(rt: HostRuntime) -> Result<(), Fail> {

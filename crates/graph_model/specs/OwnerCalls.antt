@@ -106,7 +106,10 @@ begun_pass core = record (current core) {
 abbrev pub BeginsHere : Core → Result Begun BeginRefusal → Core → Type 0
 BeginsHere old (Ok begun) new =
     ((current old).begun < (current old).allowed)
-    × (begun ≡ record { by = record { job = old.selected; number = (current old).begun + 1 }; start = length old.journal })
+    × (begun ≡ record {
+      by = record { job = old.selected; number = (current old).begun + 1 };
+      start = length old.journal;
+    })
     × (new ≡ with_current old (begun_pass old))
 BeginsHere old (Err begin_refusals.TxnsUsed) new = ((current old).allowed ≤ (current old).begun) × (new ≡ old)
 BeginsHere old (Err begin_refusals.NoMemory) new = new ≡ old
@@ -135,7 +138,9 @@ RefusesHere old start w refusals.NoEdge new = RefusedHere old start w refusals.N
 RefusesHere old start w refusals.HasEdges new = RefusedHere old start w refusals.HasEdges new
 RefusesHere old start w (refusals.Conflict cause) new =
     (refused (view_of (account_here old) start) w ≡ None) × (conflict_here old start w ≡ Some cause)
-    × (new ≡ with_current old (record (current old) { sighted = (with_cause (account_here old) start w cause).sighted }))
+    × (new ≡ with_current old (record (current old) {
+      sighted = (with_cause (account_here old) start w cause).sighted;
+    }))
 RefusesHere old start w (refusals.Full leaves) new =
     (refused (view_of (account_here old) start) w ≡ None) × (conflict_here old start w ≡ None)
     × (inserts w ≡ true) × (leaves ≡ old.leaves) × (SPLIT_ROWS * leaves ≤ inserted_here old)

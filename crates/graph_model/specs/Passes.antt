@@ -29,4 +29,5 @@ listed_if (Some t) by rest = record { by = by; writes = t.writes } ∷ rest
 abbrev pub open_txns_of : {S : Type 0} → (S → ℕ) → (S → Option Running) → ℕ → List S → List OpenTxn
 open_txns_of number current from [] = []
 open_txns_of number current from (state ∷ states) =
-    listed_if (current state) (record { job = from; number = number state }) (open_txns_of number current (from + 1) states)
+    listed_if (current state) (record { job = from; number = number state })
+    (open_txns_of number current (from + 1) states)

@@ -91,19 +91,24 @@ StampStays =
 
 -- ---- passes, over any type of their states
 
+-- where a pass comes to another state, what is open changes at this name alone
+abbrev pub OpenChanges : {S : Type 0} → TxnName → (S → ℕ) → (S → Option Running) → (ℕ → S) → ℕ → S → Type 0
+OpenChanges by number current pass p to =
+    Changes by (of_latest number current None pass) (of_latest number current None (revised pass p to)) (current to)
+
 -- a step of a pass with an open transaction that goes on, or ends, changes that transaction alone
 abbrev pub LatestChanges : Type 0 → Type 0
 LatestChanges S =
     (number : S → ℕ) (current : S → Option Running) (pass : ℕ → S) (p : ℕ) (state : S)
     → (number state ≡ number (pass p)) ⊎ (current state ≡ None)
-    → Changes (latest_name number pass p) (of_latest number current None pass) (of_latest number current None (revised pass p state)) (current state)
+    → OpenChanges (latest_name number pass p) number current pass p state
 
 -- a begin on a pass where none is open changes the next transaction alone
 abbrev pub NextBegins : Type 0 → Type 0
 NextBegins S =
     (number : S → ℕ) (current : S → Option Running) (pass : ℕ → S) (p : ℕ) (state : S)
     → current (pass p) ≡ None
-    → Changes (record { job = p; number = number state }) (of_latest number current None pass) (of_latest number current None (revised pass p state)) (current state)
+    → OpenChanges (record { job = p; number = number state }) number current pass p state
 
 -- of passes in a list, the list of the open transactions has exactly these
 abbrev pub OpenAreListed : Type 0 → Type 0
@@ -116,4 +121,5 @@ OpenAreListed S =
 abbrev pub ListIsRevised : Type 0 → Type 0
 ListIsRevised S =
     (other : S) (from : ℕ) (states : List S) (i : ℕ) (state : S) → i < length states
-    → (q : ℕ) → state_in other from (slice_set states i state) q ≡ revised (state_in other from states) (from + i) state q
+    → (q : ℕ)
+    → state_in other from (slice_set states i state) q ≡ revised (state_in other from states) (from + i) state q

@@ -62,10 +62,12 @@ pub record IsRunning (kind : Kind) (journal : List Commit) (horizon : ℕ) (by :
   pub allowed : AllAllowed kind (graph_at kind journal t.start) t.writes
   pub within : AllByRecursion IsWithinLimits t.writes
   pub unnamed : HasNotCommitted journal by
-  pub before : (i : ℕ) (c : Commit) → slice_get journal i ≡ Some c → t.start < c.stamp → have_clash kind c.writes t.writes ≡ false
+  pub before : (i : ℕ) (c : Commit) → slice_get journal i ≡ Some c → t.start < c.stamp
+      → have_clash kind c.writes t.writes ≡ false
 
 -- the journal is legal, and no two open transactions hold writes that clash
-pub record AreTransactions (kind : Kind) (journal : List Commit) (running : TxnName → Option Running) (horizon : ℕ) : Type 0 where
+pub record AreTransactions (kind : Kind) (journal : List Commit) (running : TxnName → Option Running) (horizon : ℕ)
+    : Type 0 where
   pub legal : IsLegal kind journal
   pub behind : horizon ≤ length journal
   pub each : (by : TxnName) (t : Running) → running by ≡ Some t → IsRunning kind journal horizon by t
@@ -73,6 +75,8 @@ pub record AreTransactions (kind : Kind) (journal : List Commit) (running : TxnN
 
 -- the list has exactly the open transactions, no two of one job
 pub record IsListed (txns : List OpenTxn) (running : TxnName → Option Running) : Type 0 where
-  pub sound : (i : ℕ) (x : OpenTxn) → slice_get txns i ≡ Some x → (t : Running) × (running x.by ≡ Some t) × (t.writes ≡ x.writes)
-  pub complete : (by : TxnName) (t : Running) → running by ≡ Some t → (i : ℕ) × (slice_get txns i ≡ Some (record { by = by; writes = t.writes }))
+  pub sound : (i : ℕ) (x : OpenTxn) → slice_get txns i ≡ Some x
+      → (t : Running) × (running x.by ≡ Some t) × (t.writes ≡ x.writes)
+  pub complete : (by : TxnName) (t : Running) → running by ≡ Some t
+      → (i : ℕ) × (slice_get txns i ≡ Some (record { by = by; writes = t.writes }))
   pub jobs : (a b : TxnName) (t u : Running) → running a ≡ Some t → running b ≡ Some u → a.job ≡ b.job → a ≡ b

@@ -175,5 +175,6 @@ pub trait StepEngine: VertexEngine {
 
     ghost aborts_here: { (s t : Self) → Self.did_abort s t → AbortsHere (core s) (core t) };
 
-    ghost serves_here: { (s t : Self) (r : Result Bool NoMemory) → Self.did_serve s r t → ServesHere (core s) (core t) };
+    ghost serves_here: { (s t : Self) (r : Result Bool NoMemory) → Self.did_serve s r t
+        → ServesHere (core s) (core t) };
 }

@@ -34,10 +34,14 @@ HaveNotChanged changed arcs = (k : ℕ) (a : Arc) → slice_get arcs k ≡ Some 
 abbrev pub IsQuiet : Places → List Bool → ℕ → Type 0
 IsQuiet image changed p = HaveNotChanged changed (arcs_at image.out p) × HaveNotChanged changed (arcs_at image.into p)
 
+-- p has the label that a round would give it
+abbrev pub HasNextLabel : Places → List ℕ → ℕ → Type 0
+HasNextLabel image labels p = IsNextLabel image labels p (slice_index labels p)
+
 -- a place none of whose labels met has changed in the round before has its next label already
 pub record IsKept (image : Places) (labels : List ℕ) (changed : List Bool) : Type 0 where
   pub count : length changed ≡ length image.vertices
-  pub each : (p : ℕ) → p < length image.vertices → IsQuiet image changed p → IsNextLabel image labels p (slice_index labels p)
+  pub each : (p : ℕ) → p < length image.vertices → IsQuiet image changed p → HasNextLabel image labels p
 
 -- a place that isn't marked has the label that it had before
 pub record AreMarked (before after : List ℕ) (changed : List Bool) : Type 0 where

@@ -76,21 +76,25 @@ pub record ReadExamples : Type 0 where
   pub at_end : read (stamp_in journal) 2 reader arc_row ≡ Some 9
   -- what is open is seen by its own writer alone
   pub own : read (stamp_in journal) 1 writer arc_row ≡ Some 7
-  pub removed : read (stamp_in journal) 2 writer (after_write Directed writer (DropEdge 1 2) (arc_key 1 2) arc_row) ≡ None
+  pub removed : read (stamp_in journal) 2 writer
+      (after_write Directed writer (DropEdge 1 2) (arc_key 1 2) arc_row) ≡ None
 
 pub record PruneExamples : Type 0 where
   -- nothing had committed by stamp 0
   pub keeps : prune (stamp_in journal) 0 arc_row ≡ arc_row
   -- the load's pair goes, and its value is the oldest from then on
-  pub drops_one : prune (stamp_in journal) 1 arc_row ≡ row (pair writer (Some 7) ∷ pair setter (Some 9) ∷ []) (Some 5) []
+  pub drops_one : prune (stamp_in journal) 1 arc_row
+      ≡ row (pair writer (Some 7) ∷ pair setter (Some 9) ∷ []) (Some 5) []
   -- a pair goes with all that is older, and the open transaction's stays
   pub drops_two : prune (stamp_in journal) 2 arc_row ≡ row (pair writer (Some 7) ∷ []) (Some 9) []
-  pub touches : prune (stamp_in journal) 1 (row [] (Some 0) (load ∷ setter ∷ writer ∷ [])) ≡ row [] (Some 0) (setter ∷ writer ∷ [])
+  pub touches : prune (stamp_in journal) 1 (row [] (Some 0) (load ∷ setter ∷ writer ∷ []))
+      ≡ row [] (Some 0) (setter ∷ writer ∷ [])
 
 -- what a write is answered where nothing but the vertex 2 has a row, and only the writer is open
 abbrev pub answer : ℕ → TxnName → Write → Versions → Option Cause
 answer start own w vs =
-    check (λ n. same_name n writer) (stamp_in journal) start own (looked w (λ k. cond (same_key k (vertex_key 2)) vs no_versions))
+    check (λ n. same_name n writer) (stamp_in journal) start own
+    (looked w (λ k. cond (same_key k (vertex_key 2)) vs no_versions))
 
 pub record CheckExamples : Type 0 where
   -- a removal meets a touch: of an open transaction, of a later commit, of one that its snapshot sees
@@ -98,7 +102,8 @@ pub record CheckExamples : Type 0 where
   pub touch_later : answer 1 reader (DropVertex 2) (row [] (Some 0) (setter ∷ [])) ≡ Some (Later 2)
   pub touch_seen : answer 2 reader (DropVertex 2) (row [] (Some 0) (setter ∷ [])) ≡ None
   -- an edge that is added meets a removal of its end, also below a newer pair
-  pub drop_later : answer 1 reader (AddEdge 1 2 5) (row (pair load (Some 0) ∷ pair setter None ∷ []) (Some 0) []) ≡ Some (Later 2)
+  pub drop_later : answer 1 reader (AddEdge 1 2 5) (row (pair load (Some 0) ∷ pair setter None ∷ []) (Some 0) [])
+      ≡ Some (Later 2)
   -- one that is set doesn't look at its ends
   pub not_set : answer 1 reader (SetEdge 1 2 5) (row (pair setter None ∷ []) (Some 0) []) ≡ None
   -- nobody meets itself
@@ -110,7 +115,8 @@ pub record CheckExamples : Type 0 where
 
 -- the setter's pair in a record without stamp, on the weight 5
 abbrev pub arc_records : StampedVersions
-arc_records = record { pairs = record { by = setter; stamp = None; value = Some 9 } ∷ []; oldest = Some 5; touches = [] }
+arc_records =
+    record { pairs = record { by = setter; stamp = None; value = Some 9 } ∷ []; oldest = Some 5; touches = [] }
 
 pub record StampExamples : Type 0 where
   -- a record without stamp is read by what is known of its writer, one with a stamp by that alone

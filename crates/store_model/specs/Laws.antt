@@ -48,7 +48,8 @@ ValueAtEnd =
     (touching : TxnName → Key → Bool) (horizon : ℕ) (contents : Key → Versions)
     → IsStore kind journal running own touching horizon contents
     → ((by : TxnName) → own by ≡ []) → (k : Key)
-    → first_seen (λ by. true) (contents k).pairs (contents k).oldest ≡ value_at (graph_at kind journal (length journal)) k
+    → first_seen (λ by. true) (contents k).pairs (contents k).oldest
+    ≡ value_at (graph_at kind journal (length journal)) k
 
 -- ---- begun
 
@@ -283,7 +284,8 @@ CheckAllows =
 abbrev pub CheckByParts : Type 0
 CheckByParts =
     (is_live : TxnName → Bool) (stamps : TxnName → Option ℕ) (start : ℕ) (own : TxnName) (xs ys : List TxnName)
-    → check is_live stamps start own (xs ++ ys) ≡ combine (check is_live stamps start own xs) (check is_live stamps start own ys)
+    → check is_live stamps start own (xs ++ ys)
+    ≡ combine (check is_live stamps start own xs) (check is_live stamps start own ys)
 
 -- Whoever reads rows and doesn't know who is open: where a write looks at none but writers that its snapshot
 -- sees, it meets nobody.

@@ -46,7 +46,8 @@ stamped_front seen [] = []
 stamped_front seen (p ∷ ps) = cond (seen p) [] (p ∷ stamped_front seen ps)
 
 abbrev pub read_stamped : (TxnName → Option ℕ) → ℕ → TxnName → StampedVersions → Option ℕ
-read_stamped stamps start own r = first_stamped (λ p. same_name p.by own || reached (known stamps p) start) r.pairs r.oldest
+read_stamped stamps start own r =
+    first_stamped (λ p. same_name p.by own || reached (known stamps p) start) r.pairs r.oldest
 
 abbrev pub prune_stamped : (TxnName → Option ℕ) → ℕ → StampedVersions → StampedVersions
 prune_stamped stamps horizon r = record {
@@ -70,4 +71,5 @@ abbrev pub stamp_one : TxnName → ℕ → Stamped → Stamped
 stamp_one by stamp p = cond (same_name p.by by) (record { by = p.by; stamp = Some stamp; value = p.value }) p
 
 abbrev pub stamp : TxnName → ℕ → StampedVersions → StampedVersions
-stamp by c r = record { pairs = map (stamp_one by c) r.pairs; oldest = r.oldest; touches = map (stamp_one by c) r.touches }
+stamp by c r =
+    record { pairs = map (stamp_one by c) r.pairs; oldest = r.oldest; touches = map (stamp_one by c) r.touches }
