@@ -12,7 +12,6 @@ use Rattle.graph_model.proofs.TestLemmas.{never, self_eq}
 use Rattle.graphalytics_io.specs.declared.edges.Edge.{Edge}
 use Rattle.graphalytics_io.specs.declared.lines.FieldLine.{FieldLine}
 use Rattle.graphalytics_io.specs.declared.number.NumberFault.TheVariants as numbers
-use Rattle.graphalytics_io.specs.EdgeFile.{HasKnownEnds}
 use Rattle.graphalytics_io.specs.FieldLines.{field_lines}
 use Rattle.graphalytics_io.specs.Numbers.{is_number, number_of}
 use Rattle.graph_files.specs.declared.refusal.What.{What}
@@ -25,7 +24,7 @@ use Rattle.graph_files.specs.Faults.{then_check, then_lines}
 use Rattle.graph_files.specs.Weights.{decimal_of, is_decimal, is_in_units, units_of}
 use Rattle.graph_files.specs.VertexFiles.{as_id, id_of, line_id, is_among, new_id, vertex_of, ids_behind, vertices_of}
 use Rattle.graph_files.specs.EdgeFiles.{joined, ends_of, weighted, edge_with, edge_of, listed_weight, is_repeated, is_reversed, arcs_of, Rules, Before, listing_of, behind, read_line, edges_behind, edges_of}
-use Rattle.graph_files.specs.Load.{ends_by, IsLoadable}
+use Rattle.graph_files.specs.Load.{ends_by, HasKnownEnds, IsLoadable}
 use Rattle.graph_files.proofs.KnownLemmas.{among_at, at_among}
 
 -- ---- vertices

@@ -1,12 +1,15 @@
 -- What ids and edges make of the empty graph, for both kinds of graph.
-use Rattle.std.specs.Prelude.{◌≢◌, ℕ, ◌≤◌, min, max, List, All, AllPairs}
+use Rattle.std.specs.Prelude.{◌≢◌, ℕ, ◌≤◌, min, max, List, All, AllPairs, Contains}
 use Rattle.graph_model.specs.declared.limits.TheConstants.{MAX_ID, MAX_WEIGHT}
 use Rattle.graph_model.specs.declared.write.Kind.{Kind}
 use Rattle.graph_model.specs.declared.write.Kind.TheVariants.{Directed, Undirected}
 use Rattle.graph_model.specs.declared.write.Write.{Write}
 use Rattle.graph_model.specs.Graph.{Graph, empty_graph, apply_all}
 use Rattle.graphalytics_io.specs.declared.edges.Edge.{Edge}
-use Rattle.graphalytics_io.specs.EdgeFile.{HasKnownEnds}
+
+-- both ends are among the ids
+abbrev pub HasKnownEnds : List ℕ → Edge → Type 0
+HasKnownEnds ids edge = Contains ids edge.u × Contains ids edge.v
 
 -- an edge's two ends, the lesser first where directions don't count
 abbrev pub ends_by : Kind → Edge → ℕ × ℕ

@@ -1,9 +1,2 @@
-pub mod FieldLemmas
 pub mod FieldsLemmas
 pub mod NumberLemmas
-pub mod LinesLemmas
-pub mod DuplicatesLemmas
-pub mod EdgeFileLemmas
-pub mod KnownLemmas
-pub mod LoadLemmas
-pub mod MadeLemmas

@@ -1,4 +1,4 @@
--- Texts that are cut into lines, and lines into fields, in the lenient form of LDBC Graphalytics.
+-- Texts that are cut into lines, and lines into fields.
 use Rattle.std.specs.Prelude.{ℕ, ◌-◌, ◌==◌, ◌||◌, Bool, true, false, cond, List, [], ◌∷◌, length, take, slice_index}
 use Rattle.std.specs.List.{onto_first, slice_split, filter}
 

@@ -1,12 +1,5 @@
-pub mod Lines
 pub mod Fields
 pub mod FieldLines
 pub mod Numbers
-pub mod VertexFile
-pub mod EdgeFile
 pub mod Load
-pub mod Laws
-pub mod Answers
 pub mod Appends
-pub mod Known
-pub mod Duplicates

@@ -1,4 +1,4 @@
-//! The fields of a line, in the lenient form: blanks may stand at both ends of a line, and any count between fields.
+//! The fields of a line: blanks may stand at both ends of a line, and any count between fields.
 //!
 //! A field is lent from the line, so taking it copies nothing and needs no memory.
 

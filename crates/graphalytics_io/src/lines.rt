@@ -1,4 +1,4 @@
-//! The lines of a text that say something, in the lenient form.
+//! The lines of a text that say something.
 //!
 //! 1. Each line is counted, also those that are passed over: comments, and lines that have only blanks.
 //! 2. The number of the line that was read last and the bytes that are left are together at most the bytes of the

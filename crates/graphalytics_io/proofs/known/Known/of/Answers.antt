@@ -1,9 +1,0 @@
-use Rattle.std.proofs.Common.{ℕ}
-use Rattle.std.proofs.lemmas.List.Sorted.{IsNonDecreasingBy-from_sort}
-use Rattle.graphalytics_io.proofs.known.Known.of.Goals as goal
-
-pub dense_front-dense-requires : goal.dense_front-dense-requires
-dense_front-dense-requires c = rw c.as_slice.ensures.value (IsNonDecreasingBy-from_sort (λ (x : ℕ). x) _ c.sort_unstable.ensures.sorted)
-
-pub invariant_of-result : goal.invariant_of-result
-invariant_of-result c = (IsNonDecreasingBy-from_sort (λ (x : ℕ). x) _ c.sort_unstable.ensures.sorted, (rw c.as_slice.ensures.value at c.dense_front-dense.ensures, tt))
