@@ -19,6 +19,7 @@ pub mod Tables
 pub mod TableText
 pub mod OwnerCalls
 pub mod OwnerLaws
+pub mod Loading
 pub mod TransactionLaws
 pub mod WriteLaws
 pub mod JournalLaws

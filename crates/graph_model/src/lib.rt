@@ -11,6 +11,7 @@ mod ids;
 mod journal;
 mod laws;
 mod limits;
+mod load;
 mod owner;
 mod refusal;
 mod row;
@@ -36,6 +37,7 @@ pub use limits::{
     MAX_SCRIPTS, MAX_SOURCE_BYTES, MAX_THREADS, MAX_TXNS_PER_PASS, MAX_WEIGHT, NO_WALK, SCAN_ROWS,
     SEGMENT_ROWS, SPLIT_ROWS,
 };
+pub use load::{LoadEngine, LoadRefusal};
 pub use owner::{begin_and_abort, one_owner_meets_the_account, owner_examples_hold};
 pub use refusal::{BeginRefusal, Cause, Refusal};
 pub use row::{Cursor, Key, Row, Rows64};

@@ -16,3 +16,4 @@ pub mod CellLemmas
 pub mod SeenLemmas
 pub mod StampedLemmas
 pub mod ExampleLemmas
+pub mod LoadLemmas

@@ -1,6 +1,7 @@
 -- What a store keeps through each kind of change, and what reads and checks get out of it. Each law is the
 -- contract of a function in `laws`; none speaks of a struct.
 use Rattle.std.specs.Prelude.{◌≡◌, ◌⊎◌, ℕ, ◌<◌, ◌≤◌, Bool, true, false, List, [], ◌∷◌, ◌++◌, length, slice_get, slice_set, Option, Some, None, is_some}
+use Rattle.std.specs.List.{AllByRecursion}
 use Rattle.graph_model.specs.declared.write.Kind.{Kind}
 use Rattle.graph_model.specs.declared.write.Write.{Write}
 use Rattle.graph_model.specs.declared.row.Key.{Key}
@@ -10,13 +11,14 @@ use Rattle.graph_model.specs.Conflict.{OpenTxn, same_name, meets, conflict}
 use Rattle.graph_model.specs.ConflictLaws.{NoLater}
 use Rattle.graph_model.specs.Effects.{any_writes, any_touches}
 use Rattle.graph_model.specs.History.{graph_at, view}
-use Rattle.graph_model.specs.Refused.{refused, IsWithinLimits}
+use Rattle.graph_model.specs.Graph.{empty_graph}
+use Rattle.graph_model.specs.Refused.{refused, AllAllowed, IsWithinLimits}
 use Rattle.graph_model.specs.Rows.{value_at, is_between}
 use Rattle.graph_model.specs.Transactions.{Running, Changes, own_of, commit_of, stamp_in, has_name, HasNotCommitted, MeetsNoHolder, IsListed}
 use Rattle.store_model.specs.declared.versions.Versions.{Versions}
 use Rattle.store_model.specs.Versions.{no_versions, first_seen, sees, read, prune, IsPruned}
-use Rattle.store_model.specs.Layers.{row_key, after_write, undone}
-use Rattle.store_model.specs.Store.{IsStore, IsPlainStore, MeetsNobody, Lays, TakesBack, Settles}
+use Rattle.store_model.specs.Layers.{row_key, after_write, laid, undone}
+use Rattle.store_model.specs.Store.{alone, IsStore, IsPlainStore, MeetsNobody, Lays, TakesBack, Settles}
 use Rattle.store_model.specs.Check.{writers, looked, check, combine, IsCommitted, IsReached, MayWrite}
 use Rattle.store_model.specs.Cells.{Cell, all_cells, contents_in, AreCells}
 
@@ -116,6 +118,12 @@ OwnerWritten =
     → MeetsNoHolder kind running by w → NoLater kind journal t.start w
     → ((k : Key) → contents' k ≡ after_write kind by w k (contents k))
     → IsPlainStore kind journal running' horizon contents'
+
+-- Before the first commit, one transaction lays writes that the empty graph allows one behind the other.
+abbrev pub OwnerLoaded : Type 0
+OwnerLoaded =
+    (kind : Kind) (by : TxnName) (load : List Write) → AllAllowed kind empty_graph load → AllByRecursion IsWithinLimits load
+    → IsPlainStore kind [] (alone by load) 0 (λ k. laid kind by load k no_versions)
 
 -- ---- committed
 

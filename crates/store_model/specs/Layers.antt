@@ -29,6 +29,11 @@ after_write kind by w k vs =
     let written : Versions = cond (writes_at kind w k) (write by (value_left w) vs) vs in
     cond (touches_at w k) (touch by written) written
 
+-- and after a list of its writes, one behind the other
+abbrev pub laid : Kind → TxnName → List Write → Key → Versions → Versions
+laid kind by [] k vs = vs
+laid kind by (w ∷ ws) k vs = laid kind by ws k (after_write kind by w k vs)
+
 -- a key's versions before the newest write of a transaction
 abbrev pub before_write : Kind → TxnName → Write → Key → Versions → Versions
 before_write kind by w k vs =

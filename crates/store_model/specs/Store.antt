@@ -1,5 +1,5 @@
 -- The store relation: rows of versions hold the journal's graphs, and on them what open transactions wrote.
-use Rattle.std.specs.Prelude.{◌≡◌, ℕ, ◌≤◌, Bool, true, false, ◌&&◌, ◌||◌, cond, List, [], ◌∷◌, ◌++◌, drop, slice_get, Option, Some}
+use Rattle.std.specs.Prelude.{◌≡◌, ℕ, ◌≤◌, Bool, true, false, ◌&&◌, ◌||◌, cond, List, [], ◌∷◌, ◌++◌, drop, slice_get, Option, Some, None}
 use Rattle.graph_model.specs.declared.write.Kind.{Kind}
 use Rattle.graph_model.specs.declared.write.Write.{Write}
 use Rattle.graph_model.specs.declared.row.Key.{Key}
@@ -62,6 +62,10 @@ pub record IsStore (kind : Kind) (journal : List Commit) (running : TxnName → 
 -- where the writes of each open transaction touch
 abbrev pub touching_of : (TxnName → Option Running) → TxnName → Key → Bool
 touching_of running by k = any_touches (own_of running by) k
+
+-- one transaction is open that began on the empty journal, and no other is
+abbrev pub alone : TxnName → List Write → TxnName → Option Running
+alone by writes q = cond (same_name q by) (Some (record { start = 0; writes = writes })) None
 
 -- the store of one owner: between its calls nothing is laid but the writes of open transactions
 abbrev pub IsPlainStore : Kind → List Commit → (TxnName → Option Running) → ℕ → (Key → Versions) → Type 0

@@ -2,7 +2,7 @@
 //! function whose contract is the law. A store of any kind cites them, and no store proves them again.
 
 ghost use Rattle.store_model.specs.Examples.{LayerExamples, ReadExamples, PruneExamples, CheckExamples, StampExamples, CellExamples, StoreExample};
-ghost use Rattle.store_model.specs.Laws.{ValueAtStamp, ValueOfView, ValueAtEnd, StoreNew, StoreBegun, OwnerBegun, StoreStopped, StoreWritten, OwnerWritten, StoreCommitted, OwnerCommitted, StoreUndone, OwnerAborted, StorePruned, RowSettled, StoreSame, OwnerMoved, WriterOfPair, WriterOfTouch, LookedOpen, LookedCommitted, LookedLate, CheckIsConflict, CheckAllows, CheckByParts, SeenAllows, SeenByRow, ContentsRouted, CellChanged};
+ghost use Rattle.store_model.specs.Laws.{ValueAtStamp, ValueOfView, ValueAtEnd, StoreNew, StoreBegun, OwnerBegun, StoreStopped, StoreWritten, OwnerWritten, OwnerLoaded, StoreCommitted, OwnerCommitted, StoreUndone, OwnerAborted, StorePruned, RowSettled, StoreSame, OwnerMoved, WriterOfPair, WriterOfTouch, LookedOpen, LookedCommitted, LookedLate, CheckIsConflict, CheckAllows, CheckByParts, SeenAllows, SeenByRow, ContentsRouted, CellChanged};
 ghost use Rattle.store_model.specs.RowLaws.{OwnWriteIsSeen, OtherWriteIsNotSeen, UndoTakesBack, TouchIsNotRead, PruneKeepsValues, ReadForgetsStamps, PruneForgetsStamps, StampKeepsVersions, StampsStayRight};
 
 /// What reads, writes and prunes do to one row.
@@ -38,10 +38,11 @@ pub fn begins_keep_stores()
     ensures stopped { StoreStopped }
 {}
 
-/// A write that its view allows and that meets nobody.
+/// A write that its view allows and that meets nobody; and all writes of a load.
 pub fn writes_keep_stores()
     ensures written { StoreWritten }
     ensures owner { OwnerWritten }
+    ensures loaded { OwnerLoaded }
 {}
 
 /// A commit changes no row.
