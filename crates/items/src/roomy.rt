@@ -33,6 +33,15 @@ impl<T> RoomyItems<T> {
         }
     }
 
+    /// The items of a list, with the room that it has. Takes no memory.
+    pub fn from_items(list: Items<T>) -> RoomyItems<T>
+        ensures { result.items ≡ list }
+    {
+        RoomyItems {
+            items: list.into_vec(),
+        }
+    }
+
     /// The items as a list that only grows with memory. Takes no memory.
     pub fn into_items(self) -> Items<T>
         ensures { result ≡ self.items }
