@@ -1,5 +1,5 @@
 use Rattle.std.proofs.Common.{sym, subst}
-use Rattle.graph_load.specs.Loading.{IsNew}
+use Rattle.graph_model.specs.Loading.{IsNew}
 use Rattle.teseo_program.proofs.RunLemmas.{is_new}
 use Rattle.teseo_program.proofs.run.load.Goals as goal
 
