@@ -5,9 +5,12 @@
 //! 3. The engine may have as many leaves as there can be, so the load always finds its places.
 
 ghost use Rattle.std.specs.Prelude.{◌≡◌, ◌≤◌, ◌+◌, ◌<◌, ℕ, cond, length, All, IfOk, OnOk, false};
+ghost use Rattle.std.specs.List.{AllByRecursion};
 ghost use Rattle.graph_model.specs.declared.limits.TheConstants.{MAX_LEAVES, MAX_SCRIPTS, MAX_BEGINS};
 ghost use Rattle.graphalytics_io.specs.Load.{load_of};
-ghost use Rattle.graph_model.specs.Loading.{IsLoad, loaded};
+ghost use Rattle.graph_model.specs.Graph.{empty_graph};
+ghost use Rattle.graph_model.specs.Loading.{loaded};
+ghost use Rattle.graph_model.specs.Refused.{AllAllowed, IsWithinLimits};
 ghost use Rattle.run_model.specs.Inputs.{AreInputs};
 ghost use Rattle.run_model.specs.Requests.{request, next_txn, begun_by};
 ghost use Rattle.run_model.specs.Run.{IsRun};
@@ -130,7 +133,8 @@ fn load(
     edges: &Edges,
 ) -> Result<(), NoMemory>
     requires new { IsNewEngine engine.old }
-    requires load { IsLoad engine.old (load_of ids.now edges.now) }
+    requires allowed { AllAllowed engine.old.kind empty_graph (load_of ids.now edges.now) }
+    requires within { AllByRecursion IsWithinLimits (load_of ids.now edges.now) }
     requires fits { Fits engine.old.kind ids.now edges.now }
     ensures { OnOk result (engine.new ≡ loaded engine.old (load_of ids.now edges.now)) }
 {
