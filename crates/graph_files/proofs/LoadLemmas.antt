@@ -20,7 +20,8 @@ use Rattle.graph_model.specs.Legal.{IsLegal, IsLegalCommit}
 use Rattle.graph_model.proofs.GraphLemmas.{covers, has_vertex-apply, weight-apply}
 use Rattle.graph_model.proofs.WriteLemmas.{keeps_ends}
 use Rattle.graphalytics_io.specs.declared.edges.Edge.{Edge}
-use Rattle.graphalytics_io.specs.Load.{added_edge, load_of, journal_of}
+use Rattle.graph_model.specs.Loading.{journal_of}
+use Rattle.graphalytics_io.specs.Load.{added_edge, load_of}
 use Rattle.graph_files.specs.Load.{ends_by, IsLoadable, graph_of}
 
 -- of pairs, those of the first item with each later one

@@ -6,9 +6,10 @@ use Rattle.graph_model.specs.declared.write.Write.{Write}
 use Rattle.graph_model.specs.Graph.{empty_graph}
 use Rattle.graph_model.specs.Refused.{AllAllowed, IsWithinLimits}
 use Rattle.graph_model.specs.History.{graph_at}
+use Rattle.graph_model.specs.Loading.{journal_of}
 use Rattle.graph_model.specs.Legal.{IsLegal}
 use Rattle.graphalytics_io.specs.declared.edges.Edge.{Edge}
-use Rattle.graphalytics_io.specs.Load.{load_of, journal_of}
+use Rattle.graphalytics_io.specs.Load.{load_of}
 use Rattle.graph_files.specs.VertexFiles.{vertices_of}
 use Rattle.graph_files.specs.EdgeFiles.{Rules, arcs_of, edges_of}
 use Rattle.graph_files.specs.Load.{IsLoadable, graph_of}

@@ -32,7 +32,7 @@ use Rattle.plain_core.proofs.CountLemmas.{part, total_set, part_begun, part_writ
 use Rattle.plain_core.proofs.OpenLemmas.{pass_set, here_changes, next_changes, same_running, tied_set, here_running, here_closed, same_open, here_listed}
 
 -- what a pass has, after the selected one has another state
-by_pass : (core : Core) (chosen : IsChosen core) (state : PassState) (P : PassState → Type 0) → P state → ((p : ℕ) → P (pass_at core p)) → (p : ℕ) → P (pass_at (with_current core state) p)
+pub by_pass : (core : Core) (chosen : IsChosen core) (state : PassState) (P : PassState → Type 0) → P state → ((p : ℕ) → P (pass_at core p)) → (p : ℕ) → P (pass_at (with_current core state) p)
 by_pass core chosen state P here others p = subst P (sym (pass_set core chosen state p)) (cases (p == core.selected))
   where
     cases : (t : Bool) → P (cond t state (pass_at core p))
@@ -40,7 +40,7 @@ by_pass core chosen state P here others p = subst P (sym (pass_set core chosen s
     cases false = others p
 
 -- the rows that may have been inserted, after that
-counted_set : (core : Core) (chosen : IsChosen core) (state : PassState) → inserted_here (with_current core state) + part core.kind (current core).made ≡ inserted_here core + part core.kind state.made
+pub counted_set : (core : Core) (chosen : IsChosen core) (state : PassState) → inserted_here (with_current core state) + part core.kind (current core).made ≡ inserted_here core + part core.kind state.made
 counted_set core chosen state = total_set core.kind core.passes core.selected state chosen
 
 module _ (core : Core) (m : Manager) (rows : List (Key × Versions)) (is : IsPlain core m rows) where
@@ -76,7 +76,7 @@ module _ (core : Core) (m : Manager) (rows : List (Key × Versions)) (is : IsPla
   -- ---- calls that change no transaction
 
   -- the manager has the same transactions still, where the selected pass has
-  tied_same : (state : PassState) → state.begun ≡ (current core).begun → state.start ≡ (current core).start → state.allowed ≡ (current core).allowed → AreTied (with_current core state) m
+  pub tied_same : (state : PassState) → state.begun ≡ (current core).begun → state.start ≡ (current core).start → state.allowed ≡ (current core).allowed → AreTied (with_current core state) m
   tied_same state begun start allowed = record {
     journal = is.tied.journal;
     count = is.tied.count ∙ sym (length-set core.passes core.selected state);

@@ -35,6 +35,10 @@ with_begin s start begun = record s { start = Some start; own = []; begun = begu
 abbrev pub with_one_write : PassState → Write → PassState
 with_one_write s w = record s { own = s.own ++ w ∷ []; made = last_with s.made w }
 
+-- the first transaction has made all writes of a load
+abbrev pub with_load : PassState → List Write → PassState
+with_load s load = record s { own = load; made = load ∷ [] }
+
 abbrev pub with_end : PassState → PassState
 with_end s = record s { start = None; own = [] }
 

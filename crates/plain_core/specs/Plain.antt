@@ -1,21 +1,26 @@
 -- An engine of one owner over rows: which transactions are open, and what the engine keeps.
-use Rattle.std.specs.Prelude.{◌≡◌, ℕ, ◌<◌, ◌≤◌, ◌/◌, List, [], map, length, replicate, Option, Some, None}
+use Rattle.std.specs.Prelude.{◌≡◌, ℕ, ◌<◌, ◌≤◌, ◌/◌, List, [], ◌∷◌, map, length, replicate, Option, Some, None}
 use Rattle.std.specs.FinMap as fin_map
 use Rattle.graph_model.specs.declared.limits.TheConstants.{MAX_LEAVES}
 use Rattle.graph_model.specs.declared.write.Kind.{Kind}
 use Rattle.graph_model.specs.declared.write.Kind.TheVariants.{Directed, Undirected}
+use Rattle.graph_model.specs.declared.write.Write.{Write}
 use Rattle.graph_model.specs.declared.row.Key.{Key}
 use Rattle.graph_model.specs.declared.journal.TxnName.{TxnName}
 use Rattle.graph_model.specs.Graph.{Graph}
 use Rattle.graph_model.specs.History.{graph_at}
-use Rattle.graph_model.specs.OwnerCalls.{PassState, Core, pass_at, running_of, inserted_here}
+use Rattle.graph_model.specs.Inserted.{inserted}
+use Rattle.graph_model.specs.Loading.{IsNew, IsLoad}
+use Rattle.graph_model.specs.OwnerCalls.{PassState, Core, pass_at, current, with_current, running_of, inserted_here}
 use Rattle.graph_model.specs.OwnerLaws.{IsChosen}
 use Rattle.graph_model.specs.Passes.{of_latest}
 use Rattle.graph_model.specs.Transactions.{Running}
 use Rattle.txn_manager.specs.declared.config.Config.{Config}
 use Rattle.txn_manager.specs.Manager.{Manager, PassTxns, txns_of}
 use Rattle.store_model.specs.declared.versions.Versions.{Versions}
+use Rattle.store_model.specs.Layers.{laid}
 use Rattle.store_model.specs.Store.{IsPlainStore}
+use Rattle.store_model.specs.Versions.{no_versions}
 use Rattle.plain_rows.specs.Rows.{contents_of}
 use Rattle.plain_core.specs.Passes.{RoomyPass, new_pass}
 
@@ -83,3 +88,17 @@ edges_of Undirected g = fin_map.len g.arcs / 2
 -- the graph of the whole journal
 abbrev pub newest_graph : Core → Graph
 newest_graph core = graph_at core.kind core.journal (length core.journal)
+
+-- the engine while its first transaction is open and has made these writes
+abbrev pub loading : Core → List Write → Core
+loading core ws =
+    with_current core (record (current core) { start = Some 0; own = ws; begun = 1; made = ws ∷ [] })
+
+-- the engine has begun the transaction of a load, and nothing else
+abbrev pub HasBegunLoad : List Write → Core → Type 0
+HasBegunLoad load begun = (core : Core) × IsNew core × IsLoad core load × (begun ≡ loading core [])
+
+-- rows as the load's writes leave them
+pub record HasLoad (kind : Kind) (load : List Write) (rows : List (Key × Versions)) : Type 0 where
+  pub contents : (k : Key) → contents_of rows k ≡ laid kind (record { job = 0; number = 1 }) load k no_versions
+  pub len : length rows ≤ inserted kind load

@@ -8,8 +8,8 @@ ghost use Rattle.graph_model.proofs.OwnerLemmas.{begins_by, writes_by, reads_by,
 
 use crate::plain::PlainCore;
 use graph_model::{
-    BeginRefusal, Begun, Cursor, Engine, Kind, NoMemory, Refusal, Rows64, StepEngine, VertexEngine,
-    Write,
+    BeginRefusal, Begun, Cursor, Engine, Kind, LoadEngine, LoadRefusal, NoMemory, Refusal, Rows64,
+    StepEngine, VertexEngine, Write, Writes,
 };
 
 impl Engine for PlainCore {
@@ -121,6 +121,12 @@ impl StepEngine for PlainCore {
     ghost aborts_here = { λ s t did. did.here };
 
     ghost serves_here = { λ s t r did. did.here };
+}
+
+impl LoadEngine for PlainCore {
+    fn load(&mut self, load: Writes) -> Result<(), LoadRefusal> {
+        self.load_here(load)
+    }
 }
 
 #[cfg(test)]

@@ -4,8 +4,8 @@
 //!    the other stays with the pass.
 //! 2. An open transaction has its place among the ended ones, so its end takes no memory.
 
-ghost use Rattle.std.specs.Prelude.{◌≡◌, ◌<◌, None, IsSome, true, OnOk};
-ghost use Rattle.plain_core.specs.Passes.{new_pass, with_begin, with_one_write, with_end, Notes};
+ghost use Rattle.std.specs.Prelude.{◌≡◌, ◌<◌, [], ◌∷◌, None, IsSome, true, OnOk};
+ghost use Rattle.plain_core.specs.Passes.{new_pass, with_begin, with_one_write, with_load, with_end, Notes};
 
 use graph_model::{Begun, Cause, NoMemory, Refusal, RoomyWrites, TxnName, Write, Writes};
 use items::RoomyItems;
@@ -132,6 +132,18 @@ impl Pass {
     {
         self.own.push_within(write);
         self.copy.push_within(write);
+    }
+
+    /// Notes all writes of the pass's first transaction, which has made none so far. They come in two copies, so it
+    /// takes no memory.
+    pub fn note_load(&mut self, load: Writes, copy: Writes)
+        requires current { IsSome self.old.state.start }
+        requires first { self.old.state.made ≡ [] ∷ [] }
+        requires same { copy ≡ load }
+        ensures { self.new.state ≡ with_load self.old.state load }
+    {
+        self.own = RoomyItems::from_items(load);
+        self.copy = RoomyItems::from_items(copy);
     }
 
     /// Notes what a refused write has met, and answers the refusal. Where memory is wanted for the note,

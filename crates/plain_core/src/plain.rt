@@ -1,27 +1,31 @@
 //! The engine over an ordered map of rows.
 
-ghost use Rattle.std.specs.Prelude.{◌≡◌, ◌+◌, ◌<◌, ◌≤◌, ℕ, None, Some, IsSome, IfOk, IfErr, OnOk, OnErr, Err, length, replicate, ◌↔◌, true, false};
+ghost use Rattle.std.specs.Prelude.{◌≡◌, [], ◌+◌, ◌<◌, ◌≤◌, ℕ, None, Some, IsSome, IfOk, IfErr, OnOk, OnErr, Err, length, replicate, ◌↔◌, true, false};
 ghost use Rattle.graph_model.specs.declared.write.Write.{Write};
 ghost use Rattle.graph_model.specs.declared.limits.TheConstants.{MAX_ID};
 ghost use Rattle.graph_model.specs.AccountSteps.{view_of};
-ghost use Rattle.graph_model.specs.Graph.{has_vertex, weight_of, vertices_of};
-ghost use Rattle.graph_model.specs.OwnerCalls.{current, account_here};
+ghost use Rattle.std.specs.List.{AllByRecursion};
+ghost use Rattle.graph_model.specs.Graph.{empty_graph, has_vertex, weight_of, vertices_of};
+ghost use Rattle.graph_model.specs.Loading.{IsNew, IsLoad, IsAdd, IsLoadRefusal, loaded};
+ghost use Rattle.graph_model.specs.OwnerCalls.{current, with_current, account_here};
 ghost use Rattle.graph_model.specs.OwnerLaws.{DidBegin, DidWrite, DidRead, DidCommit, DidAbort, DidServe};
-ghost use Rattle.graph_model.specs.Refused.{IsWithinLimits};
+ghost use Rattle.graph_model.specs.Refused.{AllAllowed, IsWithinLimits};
 ghost use Rattle.graph_model.specs.Scans.{ScansBy};
 ghost use Rattle.txn_manager.specs.Config.{too_large};
 ghost use Rattle.txn_manager.specs.declared.config.StoreRefusal.TheVariants.{TooLarge};
 ghost use Rattle.graph_model.specs.Inserted.{inserts};
 ghost use Rattle.graph_model.specs.declared.refusal.Refusal.TheVariants as refusals;
 ghost use Rattle.plain_rows.specs.Laying.{MayLay, Stays};
-ghost use Rattle.plain_core.specs.Passes.{Laid, new_pass};
-ghost use Rattle.plain_core.specs.Plain.{new_core, states_of, NoneOpen, newest_graph, edges_of};
+ghost use Rattle.plain_core.specs.Passes.{Laid, new_pass, with_load};
+ghost use Rattle.plain_core.specs.Plain.{new_core, states_of, NoneOpen, newest_graph, edges_of, HasBegunLoad, HasLoad};
 
 use crate::pass::Pass;
 use graph_model::{
-    BeginRefusal, Begun, Cursor, Journal, Key, Kind, NoMemory, Refusal, Rows64, TxnName, Write,
+    BeginRefusal, Begun, Cursor, Journal, Key, Kind, LoadRefusal, NoMemory, Refusal, Rows64,
+    TxnName, Write, Writes,
 };
-use plain_rows::{Reader, RowMap, Touched};
+use items::Items;
+use plain_rows::{Reader, RowMap, Touched, has_room_for};
 use std::alloc::Global;
 use std::marker::Model;
 use txn_manager::{Config, StoreRefusal, Totals, TxnManager};
@@ -226,6 +230,43 @@ impl PlainCore {
         Some(self.manager.push_commit(by, writes))
     }
 
+    /// Makes the writes of a load as the engine's first transaction, and commits it. All memory is taken before
+    /// anything changes, but for the room of the transaction and for what the rows were.
+    pub(crate) fn load_here(&mut self, load: Writes) -> Result<(), LoadRefusal>
+        requires new { IsNew self.old }
+        requires load { IsLoad self.old load }
+        ensures loaded { OnOk result (self.new ≡ loaded self.old load) }
+        ensures refused { IfErr result (IsLoadRefusal self.old load) }
+        ensures err { OnErr result (self.new.journal ≡ []) }
+    {
+        if !has_room_for(self.kind, load.as_slice()) {
+            return Err(LoadRefusal::Full {
+                leaves: self.leaves,
+            });
+        }
+        let rows = load_rows(self.alloc, self.kind, load.as_slice())?;
+        let copy = copy_of(self.alloc, &load)?;
+        match self.begin_here() {
+            Ok(_) => {}
+            Err(BeginRefusal::TxnsUsed) => unreachable!(),
+            Err(BeginRefusal::NoMemory) => return Err(LoadRefusal::NoMemory),
+        }
+        self.take_load(rows, load, copy);
+        let _stamp = self.commit_here();
+        Ok(())
+    }
+
+    /// Takes the rows of a load for its own, whose transaction is open and has made no write. Takes no memory.
+    fn take_load(&mut self, rows: RowMap, load: Writes, copy: Writes)
+        requires begun { HasBegunLoad load self.old }
+        requires rows { HasLoad self.old.kind load rows }
+        requires copy { copy ≡ load }
+        ensures { self.new ≡ with_current self.old (with_load (current self.old) load) }
+    {
+        self.passes[self.selected as usize].note_load(load, copy);
+        self.rows = rows;
+    }
+
     /// Takes the writes of the open transaction back and ends it.
     pub(crate) fn abort_here(&mut self)
         requires { IsSome (current self.old).start }
@@ -247,6 +288,24 @@ fn new_passes(alloc: Global, count: u32, allowed: u32) -> Result<Vec<Pass>, NoMe
         passes.push(Pass::new(alloc, allowed))?;
     }
     Ok(passes)
+}
+
+/// The rows that the writes of a load leave.
+fn load_rows(alloc: Global, kind: Kind, load: &[Write]) -> Result<RowMap, NoMemory>
+    requires adds { AllByRecursion IsAdd load.now }
+    requires within { AllByRecursion IsWithinLimits load.now }
+    requires allowed { AllAllowed kind empty_graph load.now }
+    ensures { IfOk result (HasLoad kind load.now) }
+{
+    RowMap::filled(alloc, kind, TxnName { job: 0, number: 1 }, load)
+}
+
+/// A second list of the same writes.
+fn copy_of(alloc: Global, writes: &Writes) -> Result<Writes, NoMemory>
+    ensures { IfOk result (λ copy. copy ≡ writes.now) }
+{
+    let copy = Vec::from_slice(alloc, writes.as_slice())?;
+    Ok(Items::from_vec(copy))
 }
 
 /// The name of a pass's latest transaction.

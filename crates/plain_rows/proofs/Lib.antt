@@ -1,6 +1,7 @@
 pub mod RowLemmas
 pub mod MapLemmas
 pub mod LayLemmas
+pub mod FillLemmas
 pub mod SeenLemmas
 pub mod CheckLemmas
 pub mod ArcLemmas

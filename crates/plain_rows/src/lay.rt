@@ -81,7 +81,12 @@ impl RowMap {
     }
 
     /// Touches an end of an edge, unless its transaction has touched it before.
-    fn touch_end(&mut self, key: Key, by: TxnName, is_touched: bool) -> Result<(), NoMemory>
+    pub(crate) fn touch_end(
+        &mut self,
+        key: Key,
+        by: TxnName,
+        is_touched: bool,
+    ) -> Result<(), NoMemory>
         requires there { is_there self.old key ≡ true }
         requires touched { is_touched ≡ has_name (contents_of self.old key).touches by }
         ensures ok { OnOk result ((q : Key) → contents_of self.new q

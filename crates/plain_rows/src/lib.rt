@@ -9,6 +9,7 @@
 mod check;
 mod count;
 mod few;
+mod fill;
 mod lay;
 mod map;
 mod reader;
@@ -20,5 +21,5 @@ pub use count::Counts;
 pub use lay::Touched;
 pub use map::RowMap;
 pub use reader::Reader;
-pub use room::MAX_KEYS;
+pub use room::{MAX_KEYS, has_room_for};
 pub use row::Row;

@@ -1,8 +1,9 @@
-//! Room for the rows of a write.
+//! Room for the rows of a write, or of a load.
 
 ghost use Rattle.std.specs.Prelude.{◌≡◌, ◌+◌, ◌≤◌, nat_le, not, length, count_by, if◌then◌else◌};
 ghost use Rattle.graph_model.specs.declared.limits.TheConstants.{MAX_ID};
 ghost use Rattle.graph_model.specs.Effects.{arc_keys};
+ghost use Rattle.graph_model.specs.Inserted.{inserted, inserted_by};
 ghost use Rattle.graph_model.specs.Refused.{IsWithinLimits};
 ghost use Rattle.plain_rows.specs.declared.room.TheConstants.{MAX_KEYS};
 ghost use Rattle.plain_rows.specs.Rows.{is_there, missing};
@@ -12,6 +13,39 @@ use graph_model::{Key, Kind, Write};
 
 /// How many keys may have a row: as many rows as the greatest number of leaves has room for.
 pub const MAX_KEYS: usize = 33554432;
+
+/// Whether the writes of a load insert no more rows than keys may have one.
+pub fn has_room_for(kind: Kind, load: &[Write]) -> bool
+    ensures { result ≡ nat_le (inserted kind load.now) MAX_KEYS }
+{
+    let mut room = MAX_KEYS;
+    'writes: for write in load {
+        let rows = inserted_by(kind, *write);
+        if room < rows {
+            return false;
+        }
+        room -= rows;
+    }
+    true
+}
+
+/// The most rows that a write inserts.
+fn inserted_by(kind: Kind, write: Write) -> usize
+    ensures { result ≡ inserted_by kind write }
+{
+    match write {
+        Write::AddVertex { v: _ } => 1,
+        Write::AddEdge {
+            u: _,
+            v: _,
+            weight: _,
+        } => match kind {
+            Kind::Directed => 1,
+            Kind::Undirected => 2,
+        },
+        _ => 0,
+    }
+}
 
 impl RowMap {
     /// Whether a write leaves no more keys with a row than there may be.

@@ -13,9 +13,10 @@ use Rattle.graph_model.specs.declared.write.Kind.TheVariants.{Directed, Undirect
 use Rattle.graph_model.specs.Graph.{vertices_of}
 use Rattle.graph_model.specs.History.{graph_at}
 use Rattle.graph_model.specs.Inserted.{inserted, inserted_by}
+use Rattle.graph_model.specs.Loading.{HasBegunNothing, IsNew, IsAdd, journal_of, loaded}
 use Rattle.graph_model.specs.OwnerCalls.{PassState, Core, no_pass}
 use Rattle.graphalytics_io.specs.declared.edges.Edge.{Edge}
-use Rattle.graphalytics_io.specs.Load.{load_of, added_edge, journal_of}
+use Rattle.graphalytics_io.specs.Load.{load_of, added_edge}
 use Rattle.graph_files.specs.EdgeFiles.{arcs_of}
 use Rattle.graph_files.specs.Laws.{FilesAreWithinLimits}
 use Rattle.run_model.specs.declared.command.Command.{Command}
@@ -27,7 +28,6 @@ use Rattle.run_model.proofs.SetLemmas.{sum_cons}
 use Rattle.txn_manager.specs.declared.config.Config.{Config}
 use Rattle.plain_core.specs.Passes.{new_pass}
 use Rattle.plain_core.specs.Plain.{new_core, newest_graph, edges_of}
-use Rattle.graph_load.specs.Loading.{HasBegunNothing, IsNew, loaded}
 use Rattle.job_runner.specs.Lines.{file_of}
 use Rattle.job_runner.specs.Progress.{Progress}
 use Rattle.job_runner.specs.Runs.{new_jobs, IsUnused, AreNew, outputs_of, Ends}
@@ -192,6 +192,12 @@ counts_of asked new r kind journal vertices edges = record {
     graphs_agree = λ i. graph_at (kind i) (sym journal i) (length (sym journal i))
 
 -- ---- what the code asks for
+
+-- a load of files adds vertices and edges
+pub load_adds : (ids : List ℕ) (edges : List Edge) → AllByRecursion IsAdd (load_of ids edges)
+load_adds [] [] = tt
+load_adds [] (edge ∷ edges) = (tt, load_adds [] edges)
+load_adds (v ∷ ids) edges = (tt, load_adds ids edges)
 
 -- each item of a list, by its place
 pub all_at : {X : Type 0} (P : X → Type 0) (xs : List X) → All P xs → (i : ℕ) (x : X) → slice_get xs i ≡ Some x → P x

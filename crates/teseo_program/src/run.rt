@@ -5,9 +5,12 @@
 //! 3. The engine may have as many leaves as there can be, so the load always finds its places.
 
 ghost use Rattle.std.specs.Prelude.{◌≡◌, ◌≤◌, ◌+◌, ◌<◌, ℕ, cond, length, All, IfOk, OnOk, false};
+ghost use Rattle.std.specs.List.{AllByRecursion};
 ghost use Rattle.graph_model.specs.declared.limits.TheConstants.{MAX_LEAVES, MAX_SCRIPTS, MAX_BEGINS};
 ghost use Rattle.graphalytics_io.specs.Load.{load_of};
-ghost use Rattle.graph_load.specs.Loading.{IsLoad, loaded};
+ghost use Rattle.graph_model.specs.Graph.{empty_graph};
+ghost use Rattle.graph_model.specs.Loading.{loaded};
+ghost use Rattle.graph_model.specs.Refused.{AllAllowed, IsWithinLimits};
 ghost use Rattle.run_model.specs.Inputs.{AreInputs};
 ghost use Rattle.run_model.specs.Requests.{request, next_txn, begun_by};
 ghost use Rattle.run_model.specs.Run.{IsRun};
@@ -19,8 +22,8 @@ ghost use Rattle.teseo_program.specs.Parsing.{meaning_of};
 ghost use Rattle.teseo_program.specs.Running.{run_outputs, HasCounts, IsSteppedRun, Fits, MayBegin, IsConfig, IsNewEngine};
 
 use crate::input::Input;
-use graph_load::{LoadRefusal, load_graph};
-use graph_model::{Ids, Journal, Kind, MAX_LEAVES, NoMemory};
+use graph_load::load_graph;
+use graph_model::{Ids, Journal, Kind, LoadRefusal, MAX_LEAVES, NoMemory};
 use graphalytics_io::Edges;
 use items::Items;
 use job_runner::{Job, Jobs, run_stepped};
@@ -57,7 +60,7 @@ pub fn run_scripts<R: Threads + Sync>(
     stepped_runs_are_runs();
     let config = config_of(kind, input.scripts.as_slice());
     let mut engine = new_engine(alloc, config)?;
-    load(&mut engine, &input.ids, &input.edges)?;
+    load(alloc, &mut engine, &input.ids, &input.edges)?;
     let mut jobs = jobs_of(alloc, input.scripts)?;
     run_stepped(rt, &mut engine, &mut jobs, input.schedule.as_slice())?;
     let totals = engine.totals();
@@ -123,13 +126,19 @@ fn new_engine(alloc: Global, config: Config) -> Result<PlainCore, NoMemory>
 }
 
 /// Loads the graph into a new engine with as many leaves as there may be.
-fn load(engine: &mut PlainCore, ids: &Ids, edges: &Edges) -> Result<(), NoMemory>
+fn load(
+    alloc: Global,
+    engine: &mut PlainCore,
+    ids: &Ids,
+    edges: &Edges,
+) -> Result<(), NoMemory>
     requires new { IsNewEngine engine.old }
-    requires load { IsLoad engine.old (load_of ids.now edges.now) }
+    requires allowed { AllAllowed engine.old.kind empty_graph (load_of ids.now edges.now) }
+    requires within { AllByRecursion IsWithinLimits (load_of ids.now edges.now) }
     requires fits { Fits engine.old.kind ids.now edges.now }
     ensures { OnOk result (engine.new ≡ loaded engine.old (load_of ids.now edges.now)) }
 {
-    match load_graph(engine, ids, edges) {
+    match load_graph(alloc, engine, ids, edges) {
         Ok(()) => Ok(()),
         Err(LoadRefusal::Full { leaves: _ }) => unreachable!(),
         Err(LoadRefusal::NoMemory) => Err(NoMemory),
