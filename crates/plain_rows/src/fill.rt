@@ -76,7 +76,8 @@ impl RowMap {
     /// Puts the version of a step, if it has one, in front of those of its key.
     fn put_step(&mut self, by: TxnName, step: Step) -> Result<(), NoMemory>
         ensures ok { OnOk result ((q : Key) → contents_of self.new q
-            ≡ cond (same_key q step.key) (with_version by step.value (contents_of self.old q)) (contents_of self.old q)) }
+            ≡ cond (same_key q step.key) (with_version by step.value (contents_of self.old q))
+            (contents_of self.old q)) }
         ensures len { OnOk result (length self.new ≤ length self.old + cond (lays step) 1 0) }
     {
         match step.value {
@@ -87,9 +88,11 @@ impl RowMap {
 
     /// Touches the vertices that the steps touch. Steps of one source that stand together cost one search.
     fn touch_all(&mut self, by: TxnName, steps: &[Step]) -> Result<(), NoMemory>
-        requires there { All (λ s. touches_source s ≡ true → is_there self.old (vertex_key s.key.src) ≡ true) steps.now }
+        requires there { All (λ s. touches_source s ≡ true → is_there self.old (vertex_key s.key.src) ≡ true)
+            steps.now }
         ensures ok { OnOk result ((q : Key) → contents_of self.new q
-            ≡ cond (list_any (λ s. touches_row s q) steps.now) (touch by (contents_of self.old q)) (contents_of self.old q)) }
+            ≡ cond (list_any (λ s. touches_row s q) steps.now) (touch by (contents_of self.old q))
+            (contents_of self.old q)) }
         ensures len { OnOk result (length self.new ≡ length self.old) }
     {
         let mut last = None;
