@@ -1,11 +1,11 @@
 -- The set of the ends of the pairs kept.
 use Rattle.std.proofs.Common.{◌≡◌, ℕ, ◌==◌, Bool, true, false, List, [], ◌∷◌, ◌++◌, cond, sym, ◌∙◌, ap, refl, arith}
-use Rattle.std.specs.Prelude.{nat_le, not, ◌&&◌, ◌||◌}
+use Rattle.std.specs.Prelude.{not, ◌||◌}
 use Rattle.std.specs.List.{list_any}
 use Rattle.std.proofs.lemmas.List.Folds.{list_any-append}
 use Rattle.std.proofs.lemmas.Bool.Decides.{nat_tests}
 use Rattle.graph_maker.specs.declared.pair.Pair.{Pair}
-use Rattle.graph_maker.specs.Draws.{have_same_ends, is_passed_over, kept_behind}
+use Rattle.graph_maker.specs.Draws.{have_same_ends, kept_behind}
 use Rattle.graph_maker.specs.Kept.{in_order, same_pair, HasEndsOf}
 
 -- two pairs have the same ends just where they are the same with the lesser end first

@@ -1,5 +1,5 @@
 -- The pairs of a generated graph, as a function of the seed, the number of vertices and the number of pairs wanted.
-use Rattle.std.specs.Prelude.{ℕ, zero, suc, ◌+◌, ◌*◌, ◌%◌, ◌==◌, ◌≤◌, nat_le, Bool, cond, ◌&&◌, ◌||◌, List, [], ◌∷◌, ◌++◌, length}
+use Rattle.std.specs.Prelude.{ℕ, zero, suc, ◌+◌, ◌*◌, ◌%◌, ◌==◌, nat_le, Bool, cond, ◌&&◌, ◌||◌, List, [], ◌∷◌, ◌++◌, length}
 use Rattle.std.specs.List.{list_any}
 use Rattle.rand_xoshiro.specs.SplitMix64.{mix_u64}
 use Rattle.graph_maker.specs.declared.pair.Pair.{Pair}

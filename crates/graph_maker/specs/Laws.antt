@@ -1,5 +1,5 @@
 -- What the pairs of a generated graph are.
-use Rattle.std.specs.Prelude.{◌≡◌, ◌≢◌, ℕ, ◌≤◌, ◌<◌, false, List, length, All}
+use Rattle.std.specs.Prelude.{◌≢◌, ℕ, ◌≤◌, ◌<◌, List, length, All}
 use Rattle.std.specs.List.{IsDistinct}
 use Rattle.graph_maker.specs.declared.pair.Pair.{Pair}
 use Rattle.graph_maker.specs.Draws.{have_same_ends, pairs_of}

@@ -1,23 +1,27 @@
--- The worked examples of journals, and of what transactions see and meet.
-use Rattle.std.proofs.Common.{◌≡◌, ℕ, ◌≤◌, List, [], ◌∷◌, ◌++◌, refl, sym, ◌∙◌, ap, arith}
-use Rattle.std.specs.Prelude.{false, ◌==◌, None, IsTrue, slice_get}
+-- The worked examples of journals, of what transactions see and meet, and of accounts.
+use Rattle.std.proofs.Common.{◌≡◌, ℕ, ◌≤◌, List, [], ◌∷◌, ◌++◌, refl, sym, ◌∙◌, ap, arith, zero, suc, ◌<◌}
+use Rattle.std.specs.Prelude.{Result, Ok, Err, get_or, true, false, ◌==◌, None, IsTrue, slice_get}
 use Rattle.graph_model.specs.declared.write.Kind.TheVariants.{Undirected}
 use Rattle.graph_model.specs.declared.write.Write.{Write}
 use Rattle.graph_model.specs.declared.write.Write.TheVariants.{AddVertex, DropVertex, AddEdge, SetEdge, DropEdge}
 use Rattle.graph_model.specs.declared.journal.Commit.{Commit}
 use Rattle.graph_model.specs.declared.journal.TxnName.{TxnName}
-use Rattle.graph_model.specs.declared.refusal.Refusal.TheVariants.{SelfLoop, NoVertex}
+use Rattle.graph_model.specs.declared.refusal.Cause.TheVariants.{Later, Holder}
+use Rattle.graph_model.specs.declared.refusal.Refusal.{Refusal}
+use Rattle.graph_model.specs.declared.refusal.Refusal.TheVariants.{SelfLoop, NoVertex, VertexExists, Conflict, Full}
 use Rattle.graph_model.specs.Graph.{empty_graph}
 use Rattle.graph_model.specs.Refused.{refused, IsWithinLimits}
 use Rattle.graph_model.specs.History.{graph_at}
 use Rattle.graph_model.specs.Legal.{have_clash, IsLegal}
-use Rattle.graph_model.specs.AccountSteps.{HasCommit}
+use Rattle.graph_model.specs.Account.{Account}
+use Rattle.graph_model.specs.AccountSteps.{view_of, with_write, with_cause, WritesAt, WritesBy, HasCommit}
 use Rattle.graph_model.specs.Examples.{load}
-use Rattle.graph_model.specs.JournalExamples.{name, commit, journal, then_commit, account, LegalExamples, IllegalExamples, ViewExamples, AccountExamples, BeginExamples, CommitExamples}
+use Rattle.graph_model.specs.JournalExamples.{name, commit, journal, then_commit, account, LegalExamples, IllegalExamples, ViewExamples, AccountExamples, BeginExamples, WriteExamples, CommitExamples}
 use Rattle.graph_model.proofs.PlaceLemmas.{some_eq}
 use Rattle.graph_model.proofs.TestLemmas.{self_eq}
-use Rattle.graph_model.proofs.EntryLemmas.{Arcs, HasEntries, refused_at, entries_made, empty_entries, made_weight, made_vertex, all_allowed}
+use Rattle.graph_model.proofs.EntryLemmas.{Arcs, HasEntries, refusal_in, refused_at, entries_made, empty_entries, made_weight, made_vertex, all_allowed}
 use Rattle.graph_model.proofs.HistoryLemmas.{each_item}
+use Rattle.graph_model.proofs.OwnerLemmas.{at_start}
 use Rattle.graph_model.proofs.SerialLemmas.{no_commit_legal, legal_more}
 use Rattle.graph_model.proofs.ExampleLemmas.{load_marks, load_within, by_load, some_none, true_false}
 
@@ -155,7 +159,7 @@ accounts = record {
   seen_not_legal = λ is. overlapping is.legal;
 }
 
--- ---- begins and commits
+-- ---- begins
 
 pub begins : BeginExamples
 begins = record {
@@ -165,7 +169,55 @@ begins = record {
   not_behind_what_is_seen = λ is. omega (arith, is.until);
   not_by_a_used_number = λ is. let number : ◌≡◌ {A = ℕ} 2 3 = ap (λ (n : TxnName). n.number) is.by in omega (arith, number);
   not_without_a_number_left = λ is. omega (arith, is.room);
+  all_used = (omega arith, record { seen = ([], refl); others = refl });
+  not_all_used = λ is. omega (arith, is.0);
 }
+
+-- ---- writes
+
+-- the arcs that the open transaction sees: those of the load, and of its own edge
+abbrev seen_arcs : Arcs
+seen_arcs = ((1, 2), 1) ∷ ((1, 4), 1) ∷ ((2, 1), 1) ∷ ((2, 3), 1) ∷ ((3, 2), 1) ∷ ((4, 1), 1) ∷ []
+
+-- what its view refuses
+pub by_view : (w : Write) → refused (view_of account 1) w ≡ refusal_in load_marks seen_arcs w
+by_view w = refused_at (view_of account 1) load_marks seen_arcs (entries_made Undirected (load ++ AddEdge 1 4 1 ∷ [])) w
+
+-- what is true at the start of the open transaction is what it is answered
+answered : (w : Write) (result : Result (Unit {0}) Refusal) (new : Account) → WritesAt account 1 w result new → WritesBy account w result new
+answered w result new at = at_start account w result new 1 refl at
+
+-- what is in a list of one
+only_one : (y x k : ℕ) → k < 1 → get_or (y ∷ []) k x ≡ x → y ≡ x
+only_one y x zero lt e = e
+only_one y x (suc k) lt e = absurd (omega arith)
+
+pub writes : WriteExamples
+writes = record {
+  made = answered (SetEdge 1 4 5) (Ok tt) (with_write account (SetEdge 1 4 5))
+      (by_view (SetEdge 1 4 5), record { seen = ([], refl); others = refl });
+  loop_not_made = λ is. some_none SelfLoop (is 1 refl).0;
+  loop_refused = answered (SetEdge 2 2 5) (Err SelfLoop) account (refl, record { seen = ([], refl); others = refl });
+  no_loop_not_refused = λ is. some_none SelfLoop (sym (is 1 refl).0 ∙ by_view (SetEdge 1 4 5));
+  met_a_commit = answered (SetEdge 1 2 5) (Err (Conflict (Later 2))) account
+      (by_view (SetEdge 1 2 5), (0, omega arith, refl), record { seen = ([], refl); others = refl });
+  met_a_holder = answered (SetEdge 1 2 5) (Err (Conflict (Holder (name 3 1)))) (with_cause account 1 (SetEdge 1 2 5) (Holder (name 3 1)))
+      (by_view (SetEdge 1 2 5), (λ same. let job : ◌≡◌ {A = ℕ} 3 2 = same in omega (arith, job)), record { seen = ([], refl); others = refl });
+  not_one_that_it_sees = λ is.
+      let named = (is 1 refl).1 in
+      let stamp : ◌≡◌ {A = ℕ} 2 1 = only_one 2 1 named.0 named.1 named.2 in
+      omega (arith, stamp);
+  not_one_that_is_apart = λ is. let named = (is 1 refl).1 in let none : named.0 < 0 = named.1 in omega (arith, none);
+  not_its_own_pass = λ is. (is 1 refl).1 refl;
+  loop_meets_nobody = λ is. some_none SelfLoop (is 1 refl).0;
+  full = answered (AddVertex 5) (Err (Full 4)) (record account { filled = true })
+      (by_view (AddVertex 5), refl, refl, record { seen = ([], refl); others = refl });
+  not_full_for_a_weight = λ is. true_false (sym (is 1 refl).1);
+  not_full_for_what_is_there = λ is. some_none VertexExists (sym (by_view (AddVertex 4)) ∙ (is 1 refl).0);
+  not_full_with_other_leaves = λ is. omega (arith, (is 1 refl).2);
+}
+
+-- ---- commits
 
 -- of three commits the one with the last stamp is the third
 third_is : (start stamp : ℕ) (by : TxnName) (writes : List Write) (has : HasCommit account start 3 (then_commit 3 stamp by writes)) → has.commit ≡ commit 3 stamp by writes

@@ -139,7 +139,7 @@ refuses_by s t start w (refusals.Full leaves) chosen (allowed, met, inserts, lea
 refuses_by s t start w refusals.NoMemory chosen is = (stays s t is, ap (λ (c : Core). c.served) is)
 
 -- the open transaction has one start
-at_start : (old : Account) (w : Write) (r : Result (Unit {0}) Refusal) (new : Account) (start : ℕ) → old.start ≡ Some start → WritesAt old start w r new → WritesBy old w r new
+pub at_start : (old : Account) (w : Write) (r : Result (Unit {0}) Refusal) (new : Account) (start : ℕ) → old.start ≡ Some start → WritesAt old start w r new → WritesBy old w r new
 at_start old w r new start began at = λ other also. subst (λ n. WritesAt old n w r new) (some_eq start other (sym began ∙ also)) at
 
 writes_from : (s t : Core) (w : Write) (r : Result (Unit {0}) Refusal) → IsChosen s → WritesHere s w r t → WritesBy (account_here s) w r (account_here t) × (t.served ≡ s.served)

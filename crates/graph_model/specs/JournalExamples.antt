@@ -1,5 +1,5 @@
 -- Worked examples of journals, and of what transactions see and meet.
-use Rattle.std.specs.Prelude.{◌≡◌, ℕ, true, false, List, [], ◌∷◌, ◌++◌, Some, None, Option, Result, Ok}
+use Rattle.std.specs.Prelude.{◌≡◌, ℕ, true, false, List, [], ◌∷◌, ◌++◌, Some, None, Option, Result, Ok, Err}
 use Rattle.graph_model.specs.declared.write.Kind.TheVariants.{Undirected}
 use Rattle.graph_model.specs.declared.write.Write.{Write}
 use Rattle.graph_model.specs.declared.write.Write.TheVariants.{AddVertex, DropVertex, AddEdge, SetEdge, DropEdge}
@@ -8,13 +8,16 @@ use Rattle.graph_model.specs.declared.journal.Commit.{Commit}
 use Rattle.graph_model.specs.declared.journal.TxnName.{TxnName}
 use Rattle.graph_model.specs.declared.refusal.Cause.{Cause}
 use Rattle.graph_model.specs.declared.refusal.Cause.TheVariants.{Later, Holder}
+use Rattle.graph_model.specs.declared.refusal.Refusal.{Refusal}
+use Rattle.graph_model.specs.declared.refusal.Refusal.TheVariants.{SelfLoop, Conflict, Full}
 use Rattle.graph_model.specs.declared.refusal.BeginRefusal.{BeginRefusal}
+use Rattle.graph_model.specs.declared.refusal.BeginRefusal.TheVariants.{TxnsUsed}
 use Rattle.graph_model.specs.Graph.{has_vertex, weight_of}
 use Rattle.graph_model.specs.History.{view}
 use Rattle.graph_model.specs.Legal.{IsLegal}
 use Rattle.graph_model.specs.Conflict.{later, OpenTxn, least_job, holder, greatest, newest_later, conflict}
 use Rattle.graph_model.specs.Account.{Account, IsValid}
-use Rattle.graph_model.specs.AccountSteps.{name_of, begun_at, BeginsBy, with_write, with_cause, ended, CommitsBy}
+use Rattle.graph_model.specs.AccountSteps.{name_of, begun_at, BeginsBy, with_write, with_cause, WritesBy, ended, CommitsBy}
 use Rattle.graph_model.specs.Examples.{load}
 
 -- the transaction of this number of this script
@@ -186,6 +189,43 @@ pub record BeginExamples : Type 0 where
   pub not_by_a_used_number : BeginsBy idle (Ok (record { by = name 2 2; start = 2 })) (begun_at idle 2) → ⊥
   pub not_without_a_number_left : BeginsBy (record idle { allowed = 2 }) (begun 2)
       (begun_at (record idle { allowed = 2 }) 2) → ⊥
+  pub all_used : BeginsBy (record idle { allowed = 2 }) (Err TxnsUsed) (record idle { allowed = 2 })
+  pub not_all_used : BeginsBy idle (Err TxnsUsed) idle → ⊥
+
+-- the open transaction makes the write
+abbrev pub IsMade : Write → Type 0
+IsMade w = WritesBy account w (Ok tt) (with_write account w)
+
+-- it is refused, and nothing changes
+abbrev pub IsRefused : Write → Refusal → Type 0
+IsRefused w refusal = WritesBy account w (Err refusal) account
+
+-- it is answered a conflict, and what it met is noted
+abbrev pub HasMet : Write → Cause → Type 0
+HasMet w cause = WritesBy account w (Err (Conflict cause)) (with_cause account 1 w cause)
+
+-- it is answered that the store is full, with so many leaves
+abbrev pub FindsFull : Write → ℕ → Type 0
+FindsFull w leaves = WritesBy account w (Err (Full leaves)) (record account { filled = true })
+
+-- what a write may be answered where the first commit is seen and the second one is later
+pub record WriteExamples : Type 0 where
+  pub made : IsMade (SetEdge 1 4 5)
+  pub loop_not_made : IsMade (SetEdge 2 2 5) → ⊥
+  pub loop_refused : IsRefused (SetEdge 2 2 5) SelfLoop
+  pub no_loop_not_refused : IsRefused (SetEdge 1 4 5) SelfLoop → ⊥
+  -- a conflict is with a later commit that clashes, or with a transaction of another pass
+  pub met_a_commit : HasMet (SetEdge 1 2 5) (Later 2)
+  pub met_a_holder : HasMet (SetEdge 1 2 5) (Holder (name 3 1))
+  pub not_one_that_it_sees : HasMet (SetEdge 1 2 5) (Later 1) → ⊥
+  pub not_one_that_is_apart : HasMet (SetEdge 2 3 5) (Later 2) → ⊥
+  pub not_its_own_pass : HasMet (SetEdge 1 2 5) (Holder (name 2 1)) → ⊥
+  pub loop_meets_nobody : HasMet (SetEdge 2 2 5) (Holder (name 3 1)) → ⊥
+  -- and a full store finds no place for what wants one
+  pub full : FindsFull (AddVertex 5) 4
+  pub not_full_for_a_weight : FindsFull (SetEdge 1 4 5) 4 → ⊥
+  pub not_full_for_what_is_there : FindsFull (AddVertex 4) 4 → ⊥
+  pub not_full_with_other_leaves : FindsFull (AddVertex 5) 5 → ⊥
 
 -- the pass when a third commit was seen behind its open transaction
 abbrev pub committed : ℕ → TxnName → List Write → Account

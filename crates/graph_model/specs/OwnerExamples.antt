@@ -22,13 +22,17 @@ closed_pass ws = record {
   allowed = 5;
 }
 
+-- what one transaction has written so far, and not committed
+abbrev pub open_writes : List Write
+open_writes = SetEdge 2 3 8 ∷ AddVertex 6 ∷ []
+
 -- the passes behind the load: one has set an edge and committed, one has begun before that and added an edge, one has
--- begun behind it and set another
+-- begun behind it and made the open writes
 abbrev pub later_passes : List PassState
 later_passes =
     closed_pass (SetEdge 1 2 9 ∷ [])
     ∷ record (closed_pass []) { made = account.made; start = Some 1; own = account.own; begun = 2 }
-    ∷ record (closed_pass (SetEdge 2 3 8 ∷ [])) { start = Some 2; own = SetEdge 2 3 8 ∷ [] } ∷ []
+    ∷ record (closed_pass open_writes) { start = Some 2; own = open_writes } ∷ []
 
 -- an owner of these passes and of the load's, with the third one selected
 abbrev pub core : Core
@@ -62,7 +66,7 @@ pub record OwnerWriteExamples : Type 0 where
   pub not_named_for_another_edge : WritesHere core (SetEdge 1 2 5) (Err (refusals.Conflict (Holder (name 3 1))))
       (with_sighted (record { by = name 3 1; write = SetEdge 1 2 5; start = 1 } ∷ [])) → ⊥
 
--- one leaf, and so many rows that the load may have inserted; the edge of the selected pass is two rows more
+-- one leaf, and so many rows that the load may have inserted; the later passes' edge and vertex are three rows more
 abbrev pub with_rows : ℕ → Core
 with_rows count = record core { leaves = 1; passes = closed_pass (replicate count (AddVertex 1)) ∷ later_passes }
 
@@ -71,12 +75,13 @@ abbrev pub FindsNoPlace : Core → Write → Type 0
 FindsNoPlace old w =
     WritesHere old w (Err (refusals.Full old.leaves)) (with_current old (record (current old) { filled = true }))
 
--- a store may be full from 103 inserted rows a leaf on: here it has one leaf with 103 and with 102, and four with ten
+-- a store may be full from 103 inserted rows a leaf on: here it has one leaf with 103 and with 102, and four with 11
 pub record FullExamples : Type 0 where
-  pub filled : FindsNoPlace (with_rows 101) (AddVertex 5)
-  pub not_one_row_before : FindsNoPlace (with_rows 100) (AddVertex 5) → ⊥
+  pub filled : FindsNoPlace (with_rows 100) (AddVertex 5)
+  pub not_one_row_before : FindsNoPlace (with_rows 99) (AddVertex 5) → ⊥
   pub not_in_four_leaves : FindsNoPlace core (AddVertex 5) → ⊥
-  pub not_for_a_weight : FindsNoPlace (with_rows 101) (SetEdge 1 4 5) → ⊥
+  pub not_for_a_weight : FindsNoPlace (with_rows 100) (SetEdge 1 4 5) → ⊥
+  pub not_before_a_conflict : FindsNoPlace (with_rows 100) (AddVertex 6) → ⊥
 
 -- a turn of the service is counted
 pub record ServiceExamples : Type 0 where

@@ -4,7 +4,7 @@
 //! name in a clause is a definition in `specs/`, in the file that its `ghost use` line names.
 
 ghost use Rattle.graph_model.specs.Examples.{ClashExamples, RefusalExamples, AllowedExamples, LimitExamples, EffectExamples, TouchExamples, SoundExamples, CountExamples, RowExamples, ScanExamples};
-ghost use Rattle.graph_model.specs.JournalExamples.{LegalExamples, IllegalExamples, ViewExamples, ConflictExamples, AccountExamples, StepExamples, BeginExamples, CommitExamples};
+ghost use Rattle.graph_model.specs.JournalExamples.{LegalExamples, IllegalExamples, ViewExamples, ConflictExamples, AccountExamples, StepExamples, BeginExamples, WriteExamples, CommitExamples};
 ghost use Rattle.graph_model.specs.KernelExamples.{SearchExamples, PathExamples, ComponentExamples, LabelExamples, TextExamples};
 ghost use Rattle.graph_model.specs.WriteLaws.{KeepsBothEnds, KeepsSymmetric, WritesCommute, StaysAllowed, ClashIsSymmetric, ListsCommute, ListsStayAllowed, WriteByKey, WritesByKey, TouchesAreOfVertices, ClashIsByRow};
 ghost use Rattle.graph_model.specs.JournalLaws.{PrefixIsLegal, LegalHasBothEnds, PrefixHasItsGraphs, NoCommitIsLegal, OneCommitMore, CommitsAreSerial, EndsFollow, StartIsEnough, ViewIsSymmetric, ViewIsBounded, ViewHasNoLoops, ViewHasBothEnds};
@@ -161,6 +161,7 @@ pub fn journal_examples_hold()
     ensures accounts { AccountExamples }
     ensures steps { StepExamples }
     ensures begins { BeginExamples }
+    ensures writes { WriteExamples }
     ensures commits { CommitExamples }
 {}
 

@@ -123,7 +123,8 @@ impl Rows64 {
     }
 
     pub fn len(&self) -> usize
-        ensures { result ≡ length self.now }
+        ensures len { result ≡ length self.now }
+        ensures few { result ≤ 64 }
     {
         self.len
     }

@@ -1,5 +1,5 @@
-//! What the files of LDBC Graphalytics have in common: lines of fields, numbers, and edges with their load. Result files
-//! are written here too.
+//! What the files of LDBC Graphalytics have in common: lines of fields, numbers, and edges with their load.
+//! Result files are written here too.
 //!
 //! 1. A text is read once, from left to right, and is lent: nothing of it is copied but what it spells.
 //! 2. Each line is counted, also one that says nothing, so a fault can be told by its line.

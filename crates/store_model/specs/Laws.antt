@@ -122,7 +122,8 @@ OwnerWritten =
 -- Before the first commit, one transaction lays writes that the empty graph allows one behind the other.
 abbrev pub OwnerLoaded : Type 0
 OwnerLoaded =
-    (kind : Kind) (by : TxnName) (load : List Write) → AllAllowed kind empty_graph load → AllByRecursion IsWithinLimits load
+    (kind : Kind) (by : TxnName) (load : List Write)
+    → AllAllowed kind empty_graph load → AllByRecursion IsWithinLimits load
     → IsPlainStore kind [] (alone by load) 0 (λ k. laid kind by load k no_versions)
 
 -- ---- committed

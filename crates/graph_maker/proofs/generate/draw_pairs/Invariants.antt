@@ -1,4 +1,4 @@
-use Rattle.std.proofs.Common.{◌≡◌, ◌≤◌, ◌*◌}
+use Rattle.std.proofs.Common.{◌≡◌}
 use Rattle.graph_maker.specs.Draws.{drawn, pairs_of}
 use Rattle.graph_maker.proofs.generate.draw_pairs.Given as goal
 

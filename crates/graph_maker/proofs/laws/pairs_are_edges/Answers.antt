@@ -1,4 +1,4 @@
-use Rattle.std.proofs.Common.{ℕ, ◌*◌, []}
+use Rattle.std.proofs.Common.{◌*◌, []}
 use Rattle.graph_maker.proofs.LawLemmas.{drawn_are_edges, none_are_edges}
 use Rattle.graph_maker.proofs.laws.pairs_are_edges.Goals as goal
 

@@ -1,4 +1,4 @@
-use Rattle.std.proofs.Common.{rules, arith}
+use Rattle.std.proofs.Common.{arith}
 use Rattle.std.proofs.lemmas.Grind.{common_steps}
 use Rattle.graph_maker.proofs.DrawLemmas.{next_id}
 use Rattle.graph_maker.proofs.texts.vertex_lines.Goals as goal

@@ -1,5 +1,4 @@
-use Rattle.std.proofs.Common.{rules, arith, ◌∙◌, ap, sym, cond, true, []}
-use Rattle.std.specs.Prelude.{◌∷◌, ◌++◌}
+use Rattle.std.proofs.Common.{rules, ◌∙◌, ap, cond, true}
 use Rattle.std.specs.HashSet.{contains}
 use Rattle.graph_maker.specs.Kept.{same_pair}
 use Rattle.graph_maker.proofs.KeptLemmas.{one_more, kept_so}
