@@ -88,8 +88,8 @@ impl RowMap {
 
     /// Touches the vertices that the steps touch. Steps of one source that stand together cost one search.
     fn touch_all(&mut self, by: TxnName, steps: &[Step]) -> Result<(), NoMemory>
-        requires there { All (λ s. touches_source s ≡ true
-            → is_there self.old (vertex_key s.key.src) ≡ true) steps.now }
+        requires there { All (λ s. touches_source s ≡ true → is_there self.old (vertex_key s.key.src) ≡ true)
+            steps.now }
         ensures ok { OnOk result ((q : Key) → contents_of self.new q
             ≡ cond (list_any (λ s. touches_row s q) steps.now) (touch by (contents_of self.old q))
             (contents_of self.old q)) }

@@ -126,12 +126,7 @@ fn new_engine(alloc: Global, config: Config) -> Result<PlainCore, NoMemory>
 }
 
 /// Loads the graph into a new engine with as many leaves as there may be.
-fn load(
-    alloc: Global,
-    engine: &mut PlainCore,
-    ids: &Ids,
-    edges: &Edges,
-) -> Result<(), NoMemory>
+fn load(alloc: Global, engine: &mut PlainCore, ids: &Ids, edges: &Edges) -> Result<(), NoMemory>
     requires new { IsNewEngine engine.old }
     requires allowed { AllAllowed engine.old.kind empty_graph (load_of ids.now edges.now) }
     requires within { AllByRecursion IsWithinLimits (load_of ids.now edges.now) }
