@@ -230,8 +230,8 @@ impl PlainCore {
         Some(self.manager.push_commit(by, writes))
     }
 
-    /// Makes the writes of a load as the engine's first transaction, and commits it. All memory is taken before
-    /// anything changes, but for the room of the transaction and for what the rows were.
+    /// Makes the writes of a load as the engine's first transaction, and commits it. What takes memory comes before
+    /// the first change.
     pub(crate) fn load_here(&mut self, load: Writes) -> Result<(), LoadRefusal>
         requires new { IsNew self.old }
         requires load { IsLoad self.old load }
