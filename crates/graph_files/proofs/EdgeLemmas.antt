@@ -19,18 +19,18 @@ use Rattle.graph_files.specs.EdgeFiles.{ends_of, edge_with, edge_of, weighted, l
 use Rattle.graph_files.specs.declared.checks.Checks.{Checks}
 use Rattle.graph_files.specs.Kept.{IsMapOf, IsCheckedBy}
 
--- ids among which the same are found give the same edges
-module _ (known ids : List ℕ) (same : (v : ℕ) → is_among known v ≡ is_among ids v) where
-  same_ends : (source target : List ℕ) → ends_of known source target ≡ ends_of ids source target
+-- where the same ids are known, lines give the same edges
+module _ (known others : ℕ → Bool) (same : (v : ℕ) → known v ≡ others v) where
+  same_ends : (source target : List ℕ) → ends_of known source target ≡ ends_of others source target
   same_ends source target = λ i. then_check (id_of source) (λ u. then_check (id_of target) (λ v.
       cond (u == v) (Err SelfLoop) (cond (not (same u i)) (Err UnknownVertex) (cond (not (same v i)) (Err UnknownVertex) (Ok (u, v))))))
 
-  same_with : (weights : Weights) (source target : List ℕ) (third : Option (List ℕ)) → edge_with known weights source target third ≡ edge_with ids weights source target third
+  same_with : (weights : Weights) (source target : List ℕ) (third : Option (List ℕ)) → edge_with known weights source target third ≡ edge_with others weights source target third
   same_with Ones source target third = ap (λ ends. weighted ends (Ok 1)) (same_ends source target)
   same_with (Units digits cut) source target None = refl
   same_with (Units digits cut) source target (Some field) = ap (λ ends. weighted ends (decimal_of digits cut field)) (same_ends source target)
 
-  pub same_edge : (weights : Weights) (fields : List (List ℕ)) → edge_of known weights fields ≡ edge_of ids weights fields
+  pub same_edge : (weights : Weights) (fields : List (List ℕ)) → edge_of known weights fields ≡ edge_of others weights fields
   same_edge weights [] = refl
   same_edge weights (source ∷ []) = refl
   same_edge weights (source ∷ target ∷ []) = same_with weights source target None
@@ -83,10 +83,10 @@ module _ (rules : Rules) (before : Before) (lines : List FieldLine) (line : Fiel
   line_is = ap (λ more. edges_behind rules before more) (sym next) ∙ so_far
 
   -- a line that is faulty by itself gives the file's fault
-  pub line_refused : (what : What) → edge_of rules.ids rules.weights line.fields ≡ Err what → all ≡ Err (record { line = line.number; what = what })
+  pub line_refused : (what : What) → edge_of (is_among rules.ids) rules.weights line.fields ≡ Err what → all ≡ Err (record { line = line.number; what = what })
   line_refused what is = sym line_is ∙ ap (λ (found : Result Edge What). then_lines line.number (then_check found (λ edge. then_check (listing_of rules before edge) (λ listing. Ok (behind before edge listing)))) (λ after. edges_behind rules after rest)) is
 
-  module _ (edge : Edge) (is : edge_of rules.ids rules.weights line.fields ≡ Ok edge) where
+  module _ (edge : Edge) (is : edge_of (is_among rules.ids) rules.weights line.fields ≡ Ok edge) where
     edge_is : then_lines line.number (then_check (listing_of rules before edge) (λ listing. Ok (behind before edge listing))) (λ after. edges_behind rules after rest) ≡ all
     edge_is = ap (λ (found : Result Edge What). then_lines line.number (then_check found (λ edge. then_check (listing_of rules before edge) (λ listing. Ok (behind before edge listing)))) (λ after. edges_behind rules after rest)) (sym is) ∙ line_is
 
@@ -105,6 +105,7 @@ behind_is before edge First edges same = λ i. record { listings = before.listin
 behind_is before edge Second edges same = λ i. record { listings = before.listings ++ edge ∷ []; edges = same i }
 
 -- what a line stands for by itself, by what it is checked against
-pub checked_edge : (rules : Rules) (checks : Checks) (fields : List (List ℕ)) (found : Result Edge What) → IsCheckedBy rules checks → edge_of checks.known checks.weights fields ≡ found → edge_of rules.ids rules.weights fields ≡ found
+pub checked_edge : (rules : Rules) (checks : Checks) (fields : List (List ℕ)) (found : Result Edge What) → IsCheckedBy rules checks → edge_of (is_among checks.known) checks.weights fields ≡ found → edge_of (is_among rules.ids) rules.weights fields ≡ found
 checked_edge rules checks fields found checked is =
-    ap (λ w. edge_of rules.ids w fields) checked.weights ∙ sym (same_edge checks.known rules.ids checked.ids checks.weights fields) ∙ is
+    ap (λ w. edge_of (is_among rules.ids) w fields) checked.weights
+    ∙ sym (same_edge (is_among checks.known) (is_among rules.ids) checked.ids checks.weights fields) ∙ is

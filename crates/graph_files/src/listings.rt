@@ -46,8 +46,8 @@ pub(crate) fn read_listings(
     'lines: while let Some(line) = lines.next() {
         let number = line.number;
         match read_edge(line.fields, &checks.known, checks.weights) {
-            Ok(placed) => match reading.check(checks, &placed.edge) {
-                Ok(listing) => reading = reading.with(placed.edge, listing)?,
+            Ok(edge) => match reading.check(checks, &edge) {
+                Ok(listing) => reading = reading.with(edge, listing)?,
                 Err(what) => return Err(ReadRefusal::Fault(Fault { line: number, what })),
             },
             Err(what) => return Err(ReadRefusal::Fault(Fault { line: number, what })),

@@ -1,17 +1,19 @@
 //! Edge files in which no line has a fault and no edge is listed twice, as almost all are: no line has to be compared
 //! with those before it.
 //!
-//! The ends of each edge make one number, from their places among the ids. Where these numbers differ, so do the edges.
+//! All lines are read before an end is looked up, so that many look-ups wait for memory side by side.
 
 ghost use Rattle.std.specs.Prelude.{◌≡◌, Ok, IfOk, IfSome};
+ghost use Rattle.graphalytics_io.specs.FieldLines.{field_lines};
 ghost use Rattle.graph_files.specs.Weights.{AreReadable};
-ghost use Rattle.graph_files.specs.EdgeFiles.{Rules, edges_of};
-ghost use Rattle.graph_files.specs.Kept.{IsCheckedBy, pair_of};
+ghost use Rattle.graph_files.specs.EdgeFiles.{Rules, edge_of, edges_of};
+ghost use Rattle.graph_files.specs.Kept.{IsCheckedBy, AreListed, every_id};
 
 use crate::checks::Checks;
 use crate::distinct::are_distinct;
-use crate::ends::read_edge;
-use graph_model::Kind;
+use crate::ends::{EveryId, read_edge};
+use crate::numbers::numbers_of;
+use crate::weights::Weights;
 use graphalytics_io::{Edges, field_lines};
 use items::NoMemory;
 use std::alloc::Global;
@@ -27,35 +29,35 @@ pub(crate) fn read_unrepeated(
     ensures { IfOk result (λ found. IfSome found (λ edges. (rules : Rules) → IsCheckedBy rules checks.now
         → edges_of rules text.now ≡ Ok edges)) }
 {
-    let mut edges = Edges::new(alloc);
-    let mut pairs = Vec::new(alloc);
-    let mut lines = field_lines(text);
-    'lines: while let Some(line) = lines.next() {
-        let Ok(placed) = read_edge(line.fields, &checks.known, checks.weights) else {
-            return Ok(None)
-        };
-        if checks.most <= edges.len() as u64 {
-            return Ok(None);
-        }
-        edges.push(placed.edge)?;
-        pairs.push(pair_of(checks.kind, placed.source, placed.target))?;
+    let Some(edges) = read_each(alloc, text, checks.weights)? else {
+        return Ok(None)
+    };
+    if checks.most < edges.len() as u64 {
+        return Ok(None);
     }
-    if are_distinct(pairs) {
+    let Some(numbers) = numbers_of(alloc, edges.as_slice(), &checks.known, checks.kind)? else {
+        return Ok(None)
+    };
+    if are_distinct(numbers) {
         Ok(Some(edges))
     } else {
         Ok(None)
     }
 }
 
-/// A number for the places of an edge's ends: the same for both directions where they don't count.
-fn pair_of(kind: Kind, source: usize, target: usize) -> u64
-    ensures { result ≡ pair_of kind source target }
+/// Reads each line by itself, with all ids taken as known, where none has a fault.
+fn read_each(alloc: Global, text: &[u8], weights: Weights) -> Result<Option<Edges>, NoMemory>
+    requires { AreReadable weights }
+    ensures { IfOk result (λ found. IfSome found
+        (AreListed (edge_of every_id weights) (field_lines text.now))) }
 {
-    let (first, second) = match kind {
-        Kind::Directed => (source, target),
-        Kind::Undirected => (source.min(target), source.max(target)),
-    };
-    (first as u64)
-        .wrapping_mul(4294967296)
-        .wrapping_add(second as u64)
+    let mut edges = Edges::new(alloc);
+    let mut lines = field_lines(text);
+    'lines: while let Some(line) = lines.next() {
+        let Ok(edge) = read_edge(line.fields, &EveryId, weights) else {
+            return Ok(None)
+        };
+        edges.push(edge)?;
+    }
+    Ok(Some(edges))
 }

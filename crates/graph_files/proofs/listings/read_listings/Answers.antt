@@ -5,22 +5,22 @@ use Rattle.graph_files.proofs.listings.read_listings.Goals as goal
 
 pub lines-preserved : goal.lines-preserved
 lines-preserved c = record {
-  listings = c.lines.invariant.listings ++ c.in-Ok.placed.edge ∷ [];
+  listings = c.lines.invariant.listings ++ c.in-Ok.edge ∷ [];
   listed = c.in_ok-reading-in-Ok-check.ensures.listed c.lines.invariant.listings c.lines.invariant.listed;
   read = λ rules checked.
       let before : Before = record { listings = c.lines.invariant.listings; edges = c.lines.reading.edges } in
       let listing = c.in-Ok-check.ensures.listing rules c.lines.invariant.listings checked c.lines.invariant.listed in
-      ap (λ (after : Before). edges_behind rules after c.next.new.self) (behind_is before c.in-Ok.placed.edge c.in-Ok-check.listing _ (c.in_ok-reading-in-Ok-check.ensures.edges c.lines.invariant.listings))
-      ∙ line_read rules before c.lines.lines c.in-Some.line _ _ c.in-Some.ensures (c.lines.invariant.read rules checked) c.in-Ok.placed.edge (checked_edge rules c.args.checks.now c.in-Some.line.fields _ checked (sym c.in-Ok.ensures.edge)) c.in-Ok-check.listing (sym listing);
+      ap (λ (after : Before). edges_behind rules after c.next.new.self) (behind_is before c.in-Ok.edge c.in-Ok-check.listing _ (c.in_ok-reading-in-Ok-check.ensures.edges c.lines.invariant.listings))
+      ∙ line_read rules before c.lines.lines c.in-Some.line _ _ c.in-Some.ensures (c.lines.invariant.read rules checked) c.in-Ok.edge (checked_edge rules c.args.checks.now c.in-Some.line.fields _ checked (sym c.in-Ok.ensures)) c.in-Ok-check.listing (sym listing);
 }
 
 pub returns-in-Err-check-clause-fault : goal.returns-in-Err-check-clause-fault
 returns-in-Err-check-clause-fault c = λ rules checked.
     let before : Before = record { listings = c.lines.invariant.listings; edges = c.lines.reading.edges } in
     let listing = c.in-Err-check.ensures.listing rules c.lines.invariant.listings checked c.lines.invariant.listed in
-    listing_refused rules before c.lines.lines c.in-Some.line _ _ c.in-Some.ensures (c.lines.invariant.read rules checked) c.in-Ok.placed.edge (checked_edge rules c.args.checks.now c.in-Some.line.fields _ checked (sym c.in-Ok.ensures.edge)) c.in-Err-check.what (sym listing)
+    listing_refused rules before c.lines.lines c.in-Some.line _ _ c.in-Some.ensures (c.lines.invariant.read rules checked) c.in-Ok.edge (checked_edge rules c.args.checks.now c.in-Some.line.fields _ checked (sym c.in-Ok.ensures)) c.in-Err-check.what (sym listing)
 
 pub returns-in-Err-clause-fault : goal.returns-in-Err-clause-fault
 returns-in-Err-clause-fault c = λ rules checked.
     let before : Before = record { listings = c.lines.invariant.listings; edges = c.lines.reading.edges } in
-    line_refused rules before c.lines.lines c.in-Some.line _ _ c.in-Some.ensures (c.lines.invariant.read rules checked) c.in-Err.what (checked_edge rules c.args.checks.now c.in-Some.line.fields _ checked (sym c.in-Err.ensures.edge))
+    line_refused rules before c.lines.lines c.in-Some.line _ _ c.in-Some.ensures (c.lines.invariant.read rules checked) c.in-Err.what (checked_edge rules c.args.checks.now c.in-Some.line.fields _ checked (sym c.in-Err.ensures))
