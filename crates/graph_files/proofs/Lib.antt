@@ -4,5 +4,6 @@ pub mod EdgeLemmas
 pub mod DistinctLemmas
 pub mod NumberLemmas
 pub mod UnrepeatedLemmas
+pub mod SecondLemmas
 pub mod LoadLemmas
 pub mod FileLemmas

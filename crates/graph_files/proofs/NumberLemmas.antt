@@ -1,6 +1,6 @@
 -- Numbers of edges.
-use Rattle.std.proofs.Common.{◌≡◌, ℕ, ◌+◌, ◌<◌, ◌≤◌, true, List, [], ◌∷◌, ◌++◌, length, get_or, map, take, sym, subst, ap, ◌∙◌, arith, All, refl}
-use Rattle.std.proofs.lemmas.List.{map_more, take_more, take_all}
+use Rattle.std.proofs.Common.{◌≡◌, ℕ, ◌+◌, ◌<◌, ◌≤◌, true, List, [], ◌∷◌, ◌++◌, length, get_or, take, sym, subst, ap, ◌∙◌, arith, All}
+use Rattle.std.proofs.lemmas.List.{map_more, take_more, length-map, length-take}
 use Rattle.std.proofs.lemmas.List.Elements.{All-nil, All-push}
 use Rattle.graph_model.specs.declared.write.Kind.{Kind}
 use Rattle.graphalytics_io.specs.declared.edges.Edge.{Edge}
@@ -28,6 +28,8 @@ module _ (kind : Kind) (ids : List ℕ) where
     each = pushed ∙ (λ j. so_far.each j ++ is j ∷ []) ∙ sym (map_more (pair_in kind ids) edges i d inside);
   }
 
-  -- once each edge has its number, all have
-  pub all_numbers : (edges : List Edge) (i : ℕ) (numbers : List ℕ) → length edges ≤ i → AreNumbers kind ids (take i edges) numbers → AreNumbers kind ids edges numbers
-  all_numbers edges i numbers end so_far = subst (λ es. AreNumbers kind ids es numbers) (take_all i edges end) so_far
+  -- the edges that have numbers are as many as these
+  pub numbers_end : (edges : List Edge) (i n : ℕ) (numbers : List ℕ) → i ≤ length edges → n ≡ length numbers → AreNumbers kind ids (take i edges) numbers → AreNumbers kind ids (take n edges) numbers
+  numbers_end edges i n numbers inside long so_far =
+      let same : i ≡ n = omega (arith, long, ap length so_far.each, length-map (take i edges) (pair_in kind ids), length-take i edges) in
+      subst (λ k. AreNumbers kind ids (take k edges) numbers) same so_far

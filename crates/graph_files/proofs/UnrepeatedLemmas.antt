@@ -20,7 +20,8 @@ use Rattle.graph_files.specs.Faults.{then_check, then_lines}
 use Rattle.graph_files.specs.VertexFiles.{id_of, is_among, new_id, line_id, vertex_of, ids_behind}
 use Rattle.graph_files.specs.EdgeFiles.{joined, ends_of, weighted, edge_with, edge_of, listed_weight, is_repeated, is_reversed, is_other, arcs_of, Rules, listing_of, edges_behind}
 use Rattle.graph_files.specs.declared.checks.Checks.{Checks}
-use Rattle.graph_files.specs.Kept.{every_id, AreListed, pair_of, pair_in, AreNumbers, IsCheckedBy}
+use Rattle.graph_files.specs.declared.faultless.Front.{Front}
+use Rattle.graph_files.specs.Kept.{every_id, AreListed, pair_of, pair_in, AreNumbers, IsCheckedBy, IsFront, AreNew}
 use Rattle.graph_files.proofs.DistinctLemmas.{same_number, earlier_differ}
 use Rattle.graph_files.proofs.EdgeLemmas.{line_read}
 
@@ -131,11 +132,11 @@ unlisted f n u v tells (x ∷ before) apart = other ((x.u == u) && (x.v == v)) r
         never _ (ap (λ m. m == n) (tells x (eq_of _ _ ends.0) (eq_of _ _ ends.1)) ∙ self_eq n) apart.0
     other false here rest = rest
 
-abbrev first_place : List ℕ → ℕ → ℕ
+abbrev pub first_place : List ℕ → ℕ → ℕ
 first_place ids v = position_or_len (λ id. id == v) ids
 
 -- both directions have one number where they don't count
-turned : (a b : ℕ) → pair_of Undirected a b ≡ pair_of Undirected b a
+pub turned : (a b : ℕ) → pair_of Undirected a b ≡ pair_of Undirected b a
 turned a b = λ i. (least i * 2 ^ 32 % 2 ^ 64 + greatest i) % 2 ^ 64
   where
     least : min a b ≡ min b a
@@ -158,20 +159,21 @@ room_for Undirected limit ids count room = let fits : ids + 2 * (count + 1) ≤ 
 
 module _ (known : List ℕ) (rules : Rules) where
   -- an edge whose number is new is listed for the first time
-  first_listing : (kind : Kind) → rules.kind ≡ kind → (before : List Edge) (edge : Edge) → AllByRecursion (λ x. (pair_in kind known x == pair_in kind known edge) ≡ false) before
-      → length before + 1 ≤ (rules.limit - length rules.ids) / arcs_of kind → listing_of rules (record { listings = before; edges = before }) edge ≡ Ok First
-  first_listing Directed is before edge new room =
+  pub first_listing : (kind : Kind) → rules.kind ≡ kind → (before edges : List Edge) (edge : Edge) → AllByRecursion (λ x. (pair_in kind known x == pair_in kind known edge) ≡ false) before
+      → length edges + 1 ≤ (rules.limit - length rules.ids) / arcs_of kind → listing_of rules (record { listings = before; edges = edges }) edge ≡ Ok First
+  first_listing Directed is before edges edge new room =
       let absent = unlisted (pair_in Directed known) (pair_in Directed known edge) edge.u edge.v (λ x u v i. pair_of Directed (first_place known (u i)) (first_place known (v i))) before new in
-      passes (is_repeated rules.kind before edge) (is_reversed rules.kind before edge) (nat_lt rules.limit (length rules.ids + arcs_of rules.kind * (length before + 1)))
+      passes (is_repeated rules.kind before edge) (is_reversed rules.kind before edge) (nat_lt rules.limit (length rules.ids + arcs_of rules.kind * (length edges + 1)))
       (ap (λ k. is_repeated k before edge) is ∙ ap is_some absent) (ap (λ k. is_reversed k before edge) is)
-      (ap (λ k. nat_lt rules.limit (length rules.ids + arcs_of k * (length before + 1))) is ∙ room_for Directed rules.limit (length rules.ids) (length before) room)
-  first_listing Undirected is before edge new room =
+      (ap (λ k. nat_lt rules.limit (length rules.ids + arcs_of k * (length edges + 1))) is ∙ room_for Directed rules.limit (length rules.ids) (length edges) room)
+  first_listing Undirected is before edges edge new room =
       let absent = unlisted (pair_in Undirected known) (pair_in Undirected known edge) edge.u edge.v (λ x u v i. pair_of Undirected (first_place known (u i)) (first_place known (v i))) before new in
-      let absent_back = unlisted (pair_in Undirected known) (pair_in Undirected known edge) edge.v edge.u
+      let absent_back =
+      unlisted (pair_in Undirected known) (pair_in Undirected known edge) edge.v edge.u
       (λ x u v. (λ i. pair_of Undirected (first_place known (u i)) (first_place known (v i))) ∙ turned (first_place known edge.v) (first_place known edge.u)) before new in
-      passes (is_repeated rules.kind before edge) (is_reversed rules.kind before edge) (nat_lt rules.limit (length rules.ids + arcs_of rules.kind * (length before + 1)))
+      passes (is_repeated rules.kind before edge) (is_reversed rules.kind before edge) (nat_lt rules.limit (length rules.ids + arcs_of rules.kind * (length edges + 1)))
       (ap (λ k. is_repeated k before edge) is ∙ (λ i. is_some (absent i) || is_other (absent_back i) edge.weight)) (ap (λ k. is_reversed k before edge) is ∙ ap is_some absent_back)
-      (ap (λ k. nat_lt rules.limit (length rules.ids + arcs_of k * (length before + 1))) is ∙ room_for Undirected rules.limit (length rules.ids) (length before) room)
+      (ap (λ k. nat_lt rules.limit (length rules.ids + arcs_of k * (length edges + 1))) is ∙ room_for Undirected rules.limit (length rules.ids) (length edges) room)
 
   -- lines that list edges with different numbers list each for the first time
   pub all_first : (kind : Kind) → rules.kind ≡ kind → (lines : List FieldLine) (edges before : List Edge) → AreListed (edge_of (is_among rules.ids) rules.weights) lines edges
@@ -182,21 +184,65 @@ module _ (known : List ℕ) (rules : Rules) where
   all_first kind is (line ∷ lines) [] before listed distinct room = absurd listed
   all_first kind is (line ∷ lines) (edge ∷ edges) before listed distinct room =
       let next = append_assoc before (edge ∷ []) edges in
-      let first = first_listing kind is before edge (earlier_differ (pair_in kind known) before edge edges distinct) (omega (arith, room)) in
+      let first = first_listing kind is before before edge (earlier_differ (pair_in kind known) before edge edges distinct) (omega (arith, room)) in
       let one = line_read rules (record { listings = before; edges = before }) (line ∷ lines) line lines _ refl refl edge listed.0 First first in
       let rest = all_first kind is lines edges (before ++ edge ∷ []) listed.1 (subst (λ es. IsDistinct same_number (map (pair_in kind known) es)) (sym next) distinct) (omega (arith, room, length_push before edge)) in
       sym one ∙ rest ∙ ap Ok next
 
--- the same, by what the lines are checked against
-pub checked_first : (rules : Rules) (checks : Checks) (lines : List FieldLine) (edges : List Edge) (numbers : List ℕ)
-    → IsCheckedBy rules checks → AreListed (edge_of every_id checks.weights) lines edges
-    → AreNumbers checks.kind checks.known edges numbers → IsDistinct same_number numbers → length edges ≤ checks.most
-    → edges_behind rules (record { listings = []; edges = [] }) lines ≡ Ok edges
-checked_first rules checks lines edges numbers checked listed numbered distinct few =
-    let known = subst (λ w. AreListed (edge_of every_id w) lines edges) (sym checked.weights) listed in
-    let own =
-    listed_known (is_among rules.ids) rules.weights lines edges known
-    (λ k d inside. sym (checked.ids (get_or edges k d).u) ∙ numbered.sources k d inside)
-    (λ k d inside. sym (checked.ids (get_or edges k d).v) ∙ numbered.targets k d inside) in
-    let room = subst (λ k. length edges ≤ (rules.limit - length rules.ids) / arcs_of k) checked.kind (subst (λ n. length edges ≤ n) checked.most few) in
-    all_first checks.known rules checks.kind checked.kind lines edges [] own (subst (IsDistinct same_number) numbered.each distinct) (omega (arith, room))
+-- lines whose ends are known are those of the file, by what they are checked against
+module _ (rules : Rules) (checks : Checks) (lines : List FieldLine) (edges : List Edge) (checked : IsCheckedBy rules checks)
+    (listed : AreListed (edge_of every_id checks.weights) lines edges) where
+  known_lines : All (λ edge. is_among checks.known edge.u ≡ true) edges → All (λ edge. is_among checks.known edge.v ≡ true) edges
+      → AreListed (edge_of (is_among rules.ids) rules.weights) lines edges
+  known_lines sources targets =
+      listed_known (is_among rules.ids) rules.weights lines edges
+      (subst (λ w. AreListed (edge_of every_id w) lines edges) (sym checked.weights) listed)
+      (λ k d inside. sym (checked.ids (get_or edges k d).u) ∙ sources k d inside)
+      (λ k d inside. sym (checked.ids (get_or edges k d).v) ∙ targets k d inside)
+
+  pub checked_lines : (numbers : List ℕ) → AreNumbers checks.kind checks.known edges numbers → AreListed (edge_of (is_among rules.ids) rules.weights) lines edges
+  checked_lines numbers numbered = known_lines numbered.sources numbered.targets
+
+  -- where none is listed twice, they list each edge for the first time
+  pub checked_first : AreNew checks.kind checks.known checks.most edges → edges_behind rules (record { listings = []; edges = [] }) lines ≡ Ok edges
+  checked_first new =
+      let room = subst (λ k. length edges ≤ (rules.limit - length rules.ids) / arcs_of k) checked.kind (subst (λ n. length edges ≤ n) checked.most new.few) in
+      all_first checks.known rules checks.kind checked.kind lines edges [] (known_lines new.sources new.targets) new.differ (omega (arith, room))
+
+-- so where no other lines stand behind them, the file has these edges
+pub whole_new : (rules : Rules) (checks : Checks) (all : List FieldLine) (front : Front) → IsCheckedBy rules checks → IsFront (edge_of every_id checks.weights) all front
+    → front.is_whole ≡ true → AreNew checks.kind checks.known checks.most front.edges → edges_behind rules (record { listings = []; edges = [] }) all ≡ Ok front.edges
+whole_new rules checks all front checked is whole new =
+    let lines : all ≡ is.lines = is.parts ∙ ap (λ rest. is.lines ++ rest) (is.whole whole) ∙ append-nil is.lines in
+    ap (edges_behind rules (record { listings = []; edges = [] })) lines ∙ checked_first rules checks is.lines front.edges checked is.listed new
+
+-- ---- the lines at the front
+
+listed_push : {X : Type 0} (item : List (List ℕ) → Result X What) (lines : List FieldLine) (xs : List X) (line : FieldLine) (x : X) → AreListed item lines xs → item line.fields ≡ Ok x
+    → AreListed item (lines ++ line ∷ []) (xs ++ x ∷ [])
+listed_push item [] [] line x listed is = (is, tt)
+listed_push item [] (y ∷ xs) line x listed is = absurd listed
+listed_push item (l ∷ lines) [] line x listed is = absurd listed
+listed_push item (l ∷ lines) (y ∷ xs) line x listed is = (listed.0, listed_push item lines xs line x listed.1 is)
+
+-- the lines so far have these edges, and these are left
+pub record ReadTo (item : List (List ℕ) → Result Edge What) (all : List FieldLine) (edges : List Edge) (left : List FieldLine) : Type 0 where
+  pub lines : List FieldLine
+  pub parts : all ≡ lines ++ left
+  pub listed : AreListed item lines edges
+
+module _ (item : List (List ℕ) → Result Edge What) (all : List FieldLine) where
+  pub read_none : (edges : List Edge) → edges ≡ [] → ReadTo item all edges all
+  read_none edges none = record { lines = []; parts = refl; listed = subst (λ es. AreListed item [] es) (sym none) tt }
+
+  pub read_more : (edges more : List Edge) (left rest : List FieldLine) (line : FieldLine) (edge : Edge) → ReadTo item all edges left → left ≡ line ∷ rest → item line.fields ≡ Ok edge
+      → more ≡ edges ++ edge ∷ [] → ReadTo item all more rest
+  read_more edges more left rest line edge so_far next is pushed = record {
+    lines = so_far.lines ++ line ∷ [];
+    parts = so_far.parts ∙ ap (λ ls. so_far.lines ++ ls) next ∙ sym (append_assoc so_far.lines (line ∷ []) rest);
+    listed = subst (λ es. AreListed item (so_far.lines ++ line ∷ []) es) (sym pushed) (listed_push item so_far.lines edges line edge so_far.listed is);
+  }
+
+  pub read_front : (edges : List Edge) (left : List FieldLine) (is_whole : Bool) → ReadTo item all edges left → (is_whole ≡ true → left ≡ [])
+      → IsFront item all (record { edges = edges; is_whole = is_whole })
+  read_front edges left is_whole so_far whole = record { lines = so_far.lines; rest = left; parts = so_far.parts; listed = so_far.listed; whole = whole }

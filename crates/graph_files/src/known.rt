@@ -1,6 +1,7 @@
 //! Which ids a graph has, and where each stands among them.
 
-ghost use Rattle.std.specs.Prelude.{◌≡◌, ◌<◌, ℕ, length, slice_index, true, false, All, IfOk, IfSome, MatchOption, Some};
+ghost use Rattle.std.specs.Prelude.{◌≡◌, ◌<◌, ℕ, length, slice_index, true, false, All};
+ghost use Rattle.std.specs.Prelude.{IfOk, IfSome, MatchOption, Some};
 ghost use Rattle.std.specs.List.Sorted.{IsNonDecreasing};
 ghost use Rattle.graph_files.specs.VertexFiles.{is_among};
 ghost use Rattle.graph_files.specs.Kept.{StartsDense, place_of, IsRight};

@@ -10,13 +10,14 @@ mod checks;
 mod distinct;
 mod edges;
 mod ends;
+mod faultless;
 mod known;
 mod laws;
 mod listings;
 mod numbers;
 mod refusal;
+mod seconds;
 mod slots;
-mod unrepeated;
 mod vertices;
 mod weights;
 

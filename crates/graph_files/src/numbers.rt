@@ -2,7 +2,8 @@
 //!
 //! The number of an edge is made of the places of its ends among the ids. Where numbers differ, so do the edges.
 
-ghost use Rattle.std.specs.Prelude.{◌≡◌, true, IfOk, IfSome};
+ghost use Rattle.std.specs.Prelude.{◌≡◌, ◌≤◌, true, length, take, IfOk, IfSome};
+ghost use Rattle.std.specs.Vec.{vec_len};
 ghost use Rattle.graph_files.specs.VertexFiles.{is_among};
 ghost use Rattle.graph_files.specs.Kept.{AreNumbers, pair_in, pair_of};
 
@@ -12,24 +13,25 @@ use graphalytics_io::Edge;
 use items::NoMemory;
 use std::alloc::Global;
 
-/// The number of each edge, if all ends are known.
+/// The number of each edge, up to the first of which an end isn't known.
 pub(crate) fn numbers_of(
     alloc: Global,
     edges: &[Edge],
     known: &Known,
     kind: Kind,
-) -> Result<Option<Vec<u64>>, NoMemory>
-    ensures { IfOk result (λ found. IfSome found (λ numbers.
-        AreNumbers kind known.now edges.now numbers.items)) }
+) -> Result<Vec<u64>, NoMemory>
+    ensures few { IfOk result (λ numbers. vec_len numbers ≤ length edges.now) }
+    ensures numbers { IfOk result (λ numbers.
+        AreNumbers kind known.now (take (vec_len numbers) edges.now) numbers.items) }
 {
     let mut numbers = Vec::with_capacity(alloc, edges.len())?;
     'edges: for edge in edges {
         let Some(number) = number_of(edge, known, kind) else {
-            return Ok(None)
+            return Ok(numbers)
         };
         numbers.push(number)?;
     }
-    Ok(Some(numbers))
+    Ok(numbers)
 }
 
 /// The number of an edge, if both ends are known.
