@@ -1,8 +1,7 @@
 -- Edge files that are read line by line.
-use Rattle.std.proofs.Common.{◌≡◌, ℕ, ◌==◌, Bool, true, false, ◌&&◌, not, cond, List, [], ◌∷◌, ◌++◌, Option, Some, None, Result, Ok, Err, refl, sym, ap, ◌∙◌, arith}
-use Rattle.std.proofs.lemmas.Bool.Decides.{nat_tests}
-use Rattle.std.specs.BTreeMap.{BTreeMap, get, is_at}
-use Rattle.graph_model.specs.Graph.{arc_cmp}
+use Rattle.std.proofs.Common.{◌≡◌, ℕ, ◌==◌, Bool, true, false, ◌&&◌, not, cond, List, [], ◌∷◌, ◌++◌, Option, Some, None, Result, Ok, Err, refl, sym, ap, ◌∙◌, arith, ◌+◌, ◌<◌, ◌≤◌, length, take, drop, get_or, zero, suc}
+use Rattle.std.specs.Option.{MatchOption}
+use Rattle.std.proofs.lemmas.List.{take_more, take_all, take-append-drop, drop_more}
 use Rattle.graphalytics_io.specs.declared.edges.Edge.{Edge}
 use Rattle.graphalytics_io.specs.declared.lines.FieldLine.{FieldLine}
 use Rattle.graph_files.specs.declared.refusal.What.{What}
@@ -17,20 +16,20 @@ use Rattle.graph_files.specs.Weights.{decimal_of}
 use Rattle.graph_files.specs.VertexFiles.{id_of, is_among}
 use Rattle.graph_files.specs.EdgeFiles.{ends_of, edge_with, edge_of, weighted, listed_weight, Rules, Before, listing_of, behind, read_line, edges_behind}
 use Rattle.graph_files.specs.declared.checks.Checks.{Checks}
-use Rattle.graph_files.specs.Kept.{IsMapOf, IsCheckedBy}
+use Rattle.graph_files.specs.Kept.{IsCheckedBy}
 
--- ids among which the same are found give the same edges
-module _ (known ids : List ℕ) (same : (v : ℕ) → is_among known v ≡ is_among ids v) where
-  same_ends : (source target : List ℕ) → ends_of known source target ≡ ends_of ids source target
+-- where the same ids are known, lines give the same edges
+module _ (known others : ℕ → Bool) (same : (v : ℕ) → known v ≡ others v) where
+  same_ends : (source target : List ℕ) → ends_of known source target ≡ ends_of others source target
   same_ends source target = λ i. then_check (id_of source) (λ u. then_check (id_of target) (λ v.
       cond (u == v) (Err SelfLoop) (cond (not (same u i)) (Err UnknownVertex) (cond (not (same v i)) (Err UnknownVertex) (Ok (u, v))))))
 
-  same_with : (weights : Weights) (source target : List ℕ) (third : Option (List ℕ)) → edge_with known weights source target third ≡ edge_with ids weights source target third
+  same_with : (weights : Weights) (source target : List ℕ) (third : Option (List ℕ)) → edge_with known weights source target third ≡ edge_with others weights source target third
   same_with Ones source target third = ap (λ ends. weighted ends (Ok 1)) (same_ends source target)
   same_with (Units digits cut) source target None = refl
   same_with (Units digits cut) source target (Some field) = ap (λ ends. weighted ends (decimal_of digits cut field)) (same_ends source target)
 
-  pub same_edge : (weights : Weights) (fields : List (List ℕ)) → edge_of known weights fields ≡ edge_of ids weights fields
+  pub same_edge : (weights : Weights) (fields : List (List ℕ)) → edge_of known weights fields ≡ edge_of others weights fields
   same_edge weights [] = refl
   same_edge weights (source ∷ []) = refl
   same_edge weights (source ∷ target ∷ []) = same_with weights source target None
@@ -40,42 +39,50 @@ module _ (known ids : List ℕ) (same : (v : ℕ) → is_among known v ≡ is_am
 abbrev has_ends : ℕ → ℕ → Edge → Bool
 has_ends u v edge = (edge.u == u) && (edge.v == v)
 
--- an edge with the ends of another has its ends, and no others
-module _ (x edge : Edge) (u v : ℕ) where
-  other_ends : has_ends u v x ≡ true → has_ends edge.u edge.v x ≡ false → has_ends u v edge ≡ false
-  other_ends here apart = grind (arith, nat_tests, here, apart)
+module _ (u v : ℕ) (x : Edge) where
+  unlisted_push : (listings : List Edge) → listed_weight listings u v ≡ None → has_ends u v x ≡ false → listed_weight (listings ++ x ∷ []) u v ≡ None
+  unlisted_push [] none other = ap (λ t. cond t (Some x.weight) None) other
+  unlisted_push (y ∷ listings) none other = step (has_ends u v y) none (λ rest. unlisted_push listings rest other)
+    where
+      step : (t : Bool) → cond t (Some y.weight) (listed_weight listings u v) ≡ None
+          → (listed_weight listings u v ≡ None → listed_weight (listings ++ x ∷ []) u v ≡ None) → cond t (Some y.weight) (listed_weight (listings ++ x ∷ []) u v) ≡ None
+      step true none more = absurd (cc)
+      step false none more = more none
 
--- what has to be shown of the listings with one more edge, where it wasn't listed
-abbrev IsPushed : List Edge → Edge → ℕ → ℕ → Type 0
-IsPushed listings edge u v = listed_weight listings edge.u edge.v ≡ None → listed_weight (listings ++ edge ∷ []) u v ≡ cond (has_ends u v edge) (Some edge.weight) (listed_weight listings u v)
+  listed_behind : (listings others : List Edge) → listed_weight listings u v ≡ None → has_ends u v x ≡ true → listed_weight (listings ++ x ∷ others) u v ≡ Some x.weight
+  listed_behind [] others none here = ap (λ t. cond t (Some x.weight) (listed_weight others u v)) here
+  listed_behind (y ∷ listings) others none here = step (has_ends u v y) none (λ rest. listed_behind listings others rest here)
+    where
+      step : (t : Bool) → cond t (Some y.weight) (listed_weight listings u v) ≡ None
+          → (listed_weight listings u v ≡ None → listed_weight (listings ++ x ∷ others) u v ≡ Some x.weight) → cond t (Some y.weight) (listed_weight (listings ++ x ∷ others) u v) ≡ Some x.weight
+      step true none more = absurd (cc)
+      step false none more = more none
 
--- the weights that are listed, with one more edge that wasn't
-pub listed_push : (listings : List Edge) (edge : Edge) (u v : ℕ) → listed_weight listings edge.u edge.v ≡ None → listed_weight (listings ++ edge ∷ []) u v ≡ cond (has_ends u v edge) (Some edge.weight) (listed_weight listings u v)
-listed_push [] edge u v new = refl
-listed_push (x ∷ listings) edge u v new = first (has_ends edge.u edge.v x) refl new (listed_push listings edge u v)
-  where
-    here : (s : Bool) → has_ends u v x ≡ s → has_ends edge.u edge.v x ≡ false → listed_weight listings edge.u edge.v ≡ None → IsPushed listings edge u v
-        → cond s (Some x.weight) (listed_weight (listings ++ edge ∷ []) u v) ≡ cond (has_ends u v edge) (Some edge.weight) (cond s (Some x.weight) (listed_weight listings u v))
-    here true is apart rest more = ap (λ t. cond t (Some edge.weight) (Some x.weight)) (sym (other_ends x edge u v is apart))
-    here false is apart rest more = more rest
+module _ (listings : List Edge) (i u v : ℕ) (d : Edge) (inside : i < length listings) (none : listed_weight (take i listings) u v ≡ None) where
+  -- an edge that the listings before a place don't have isn't listed with one more that hasn't its ends
+  pub unlisted_more : has_ends u v (get_or listings i d) ≡ false → listed_weight (take (i + 1) listings) u v ≡ None
+  unlisted_more other = ap (λ es. listed_weight es u v) (take_more listings i d inside) ∙ unlisted_push u v (get_or listings i d) (take i listings) none other
 
-    first : (s : Bool) → has_ends edge.u edge.v x ≡ s → cond s (Some x.weight) (listed_weight listings edge.u edge.v) ≡ None → IsPushed listings edge u v
-        → listed_weight ((x ∷ listings) ++ edge ∷ []) u v ≡ cond (has_ends u v edge) (Some edge.weight) (listed_weight (x ∷ listings) u v)
-    first true is new more = absurd (cc)
-    first false is new more = here (has_ends u v x) refl is new more
+  -- and is listed with the weight of the listing at this place where that has its ends
+  pub listed_at : has_ends u v (get_or listings i d) ≡ true → Some (get_or listings i d).weight ≡ listed_weight listings u v
+  listed_at here =
+      let parts = sym (take-append-drop i listings) ∙ ap (λ es. take i listings ++ es) (drop_more listings i d inside) in
+      sym (ap (λ es. listed_weight es u v) parts ∙ listed_behind u v (get_or listings i d) (take i listings) (drop (i + 1) listings) none here)
 
--- a look-up at the ends of an edge
-ends_tie : (a b u v : ℕ) → is_at (arc_cmp (a, b)) (u, v) ≡ ((a == u) && (b == v))
-ends_tie a b u v = grind (arith, nat_tests)
+-- no listing has an edge that those before the end don't have
+pub listed_nowhere : (listings : List Edge) (i u v : ℕ) → length listings ≤ i → listed_weight (take i listings) u v ≡ None → None ≡ listed_weight listings u v
+listed_nowhere listings i u v end none = sym (ap (λ es. listed_weight es u v) (sym (take_all i listings end)) ∙ none)
 
--- the map with one more edge
-pub map_push : (old new : BTreeMap (ℕ × ℕ) ℕ) (listings : List Edge) (edge : Edge)
-    → ((q : ℕ × ℕ) → get arc_cmp new q ≡ cond (is_at (arc_cmp (edge.u, edge.v)) q) (Some edge.weight) (get arc_cmp old q))
-    → get arc_cmp old (edge.u, edge.v) ≡ None → IsMapOf old listings → IsMapOf new (listings ++ edge ∷ [])
-map_push old new listings edge step absent is u v =
-    step (u, v) ∙ ap (λ t. cond t (Some edge.weight) (get arc_cmp old (u, v))) (ends_tie edge.u edge.v u v)
-    ∙ ap (cond (has_ends u v edge) (Some edge.weight)) (is u v)
-    ∙ sym (listed_push listings edge u v (sym (is edge.u edge.v) ∙ absent))
+-- what is behind one element more
+behind_one : {X : Type 0} (n : ℕ) (all : List X) → drop (n + 1) all ≡ drop 1 (drop n all)
+behind_one zero all = refl
+behind_one (suc n) [] = let more : suc n + 1 ≡ suc (n + 1) = omega arith in rw more refl
+behind_one (suc n) (x ∷ all) = let more : suc n + 1 ≡ suc (n + 1) = omega arith in rw more (behind_one n all)
+
+-- one element more is skipped
+pub skip_one : {X : Type 0} (n : ℕ) (all old new : List X) (r : Option X) → old ≡ drop n all → MatchOption r ((old ≡ []) × (new ≡ [])) (λ x. old ≡ x ∷ new) → new ≡ drop (n + 1) all
+skip_one n all old new None so_far gone = gone.1 ∙ ap (drop 1) (sym gone.0 ∙ so_far) ∙ sym (behind_one n all)
+skip_one n all old new (Some x) so_far next = ap (drop 1) (sym next ∙ so_far) ∙ sym (behind_one n all)
 
 module _ (rules : Rules) (before : Before) (lines : List FieldLine) (line : FieldLine) (rest : List FieldLine) (all : Result (List Edge) Fault)
     (next : lines ≡ line ∷ rest) (so_far : edges_behind rules before lines ≡ all) where
@@ -83,10 +90,10 @@ module _ (rules : Rules) (before : Before) (lines : List FieldLine) (line : Fiel
   line_is = ap (λ more. edges_behind rules before more) (sym next) ∙ so_far
 
   -- a line that is faulty by itself gives the file's fault
-  pub line_refused : (what : What) → edge_of rules.ids rules.weights line.fields ≡ Err what → all ≡ Err (record { line = line.number; what = what })
+  pub line_refused : (what : What) → edge_of (is_among rules.ids) rules.weights line.fields ≡ Err what → all ≡ Err (record { line = line.number; what = what })
   line_refused what is = sym line_is ∙ ap (λ (found : Result Edge What). then_lines line.number (then_check found (λ edge. then_check (listing_of rules before edge) (λ listing. Ok (behind before edge listing)))) (λ after. edges_behind rules after rest)) is
 
-  module _ (edge : Edge) (is : edge_of rules.ids rules.weights line.fields ≡ Ok edge) where
+  module _ (edge : Edge) (is : edge_of (is_among rules.ids) rules.weights line.fields ≡ Ok edge) where
     edge_is : then_lines line.number (then_check (listing_of rules before edge) (λ listing. Ok (behind before edge listing))) (λ after. edges_behind rules after rest) ≡ all
     edge_is = ap (λ (found : Result Edge What). then_lines line.number (then_check found (λ edge. then_check (listing_of rules before edge) (λ listing. Ok (behind before edge listing)))) (λ after. edges_behind rules after rest)) (sym is) ∙ line_is
 
@@ -99,12 +106,13 @@ module _ (rules : Rules) (before : Before) (lines : List FieldLine) (line : Fiel
     line_read listing found = ap (λ (found : Result Listing What). then_lines line.number (then_check found (λ listing. Ok (behind before edge listing))) (λ after. edges_behind rules after rest)) (sym found) ∙ edge_is
 
 -- what is known behind a line, by its edges without second listings
-pub behind_is : (before : Before) (edge : Edge) (listing : Listing) (edges : List Edge) → edges ≡ (behind before edge listing).edges
-    → ◌≡◌ {A = Before} (record { listings = before.listings ++ edge ∷ []; edges = edges }) (behind before edge listing)
-behind_is before edge First edges same = λ i. record { listings = before.listings ++ edge ∷ []; edges = same i }
-behind_is before edge Second edges same = λ i. record { listings = before.listings ++ edge ∷ []; edges = same i }
+pub behind_is : (before : Before) (edge : Edge) (listing : Listing) (listings edges : List Edge) → listings ≡ before.listings ++ edge ∷ [] → edges ≡ (behind before edge listing).edges
+    → ◌≡◌ {A = Before} (record { listings = listings; edges = edges }) (behind before edge listing)
+behind_is before edge First listings edges listed same = λ i. record { listings = listed i; edges = same i }
+behind_is before edge Second listings edges listed same = λ i. record { listings = listed i; edges = same i }
 
 -- what a line stands for by itself, by what it is checked against
-pub checked_edge : (rules : Rules) (checks : Checks) (fields : List (List ℕ)) (found : Result Edge What) → IsCheckedBy rules checks → edge_of checks.known checks.weights fields ≡ found → edge_of rules.ids rules.weights fields ≡ found
+pub checked_edge : (rules : Rules) (checks : Checks) (fields : List (List ℕ)) (found : Result Edge What) → IsCheckedBy rules checks → edge_of (is_among checks.known) checks.weights fields ≡ found → edge_of (is_among rules.ids) rules.weights fields ≡ found
 checked_edge rules checks fields found checked is =
-    ap (λ w. edge_of rules.ids w fields) checked.weights ∙ sym (same_edge checks.known rules.ids checked.ids checks.weights fields) ∙ is
+    ap (λ w. edge_of (is_among rules.ids) w fields) checked.weights
+    ∙ sym (same_edge (is_among checks.known) (is_among rules.ids) checked.ids checks.weights fields) ∙ is

@@ -107,7 +107,7 @@ record IsSound (ids : List ℕ) (edge : Edge) : Type 0 where
 abbrev AreJoined : List ℕ → ℕ × ℕ → Type 0
 AreJoined ids ends = (ends.0 ≢ ends.1) × (is_among ids ends.0 ≡ true) × (is_among ids ends.1 ≡ true)
 
-joined_are : (ids : List ℕ) (u v : ℕ) (ends : ℕ × ℕ) → joined ids u v ≡ Ok ends → AreJoined ids ends
+joined_are : (ids : List ℕ) (u v : ℕ) (ends : ℕ × ℕ) → joined (is_among ids) u v ≡ Ok ends → AreJoined ids ends
 joined_are ids u v ends is = cases (u == v) (is_among ids u) (is_among ids v) refl refl refl is
   where
     differ : (a b : ℕ) → (a == b) ≡ false → a ≢ b
@@ -119,10 +119,10 @@ joined_are ids u v ends is = cases (u == v) (is_among ids u) (is_among ids v) re
     cases false true false loop first second is = absurd (cc)
     cases false true true loop first second is = let same : ◌≡◌ {A = ℕ × ℕ} (u, v) ends = cc in subst (AreJoined ids) same (differ u v loop, first, second)
 
-ends_are : (ids source target : List ℕ) (ends : ℕ × ℕ) → ends_of ids source target ≡ Ok ends → AreJoined ids ends
+ends_are : (ids source target : List ℕ) (ends : ℕ × ℕ) → ends_of (is_among ids) source target ≡ Ok ends → AreJoined ids ends
 ends_are ids source target ends is = first (id_of source) (id_of target) is
   where
-    first : (r s : Result ℕ What) → then_check r (λ u. then_check s (λ v. joined ids u v)) ≡ Ok ends → AreJoined ids ends
+    first : (r s : Result ℕ What) → then_check r (λ u. then_check s (λ v. joined (is_among ids) u v)) ≡ Ok ends → AreJoined ids ends
     first (Err what) s is = absurd (cc)
     first (Ok u) (Err what) is = absurd (cc)
     first (Ok u) (Ok v) is = joined_are ids u v ends is
@@ -148,15 +148,15 @@ module _ (ids : List ℕ) where
       let same : ◌≡◌ {A = Edge} (record { u = p.0; v = p.1; weight = w }) edge = cc in
       subst (IsSound ids) same (record { known = (at_among ids p.0 join.1, at_among ids p.1 join.2); no_loop = join.0; weight = fits w refl })
 
-  with_sound : (weights : Weights) (source target : List ℕ) (third : Option (List ℕ)) (edge : Edge) → edge_with ids weights source target third ≡ Ok edge → IsSound ids edge
-  with_sound Ones source target third edge is = weighted_sound (ends_of ids source target) (Ok 1) edge (ends_are ids source target) (λ w same. one w same) is
+  with_sound : (weights : Weights) (source target : List ℕ) (third : Option (List ℕ)) (edge : Edge) → edge_with (is_among ids) weights source target third ≡ Ok edge → IsSound ids edge
+  with_sound Ones source target third edge is = weighted_sound (ends_of (is_among ids) source target) (Ok 1) edge (ends_are ids source target) (λ w same. one w same) is
     where
       one : (w : ℕ) → ◌≡◌ {A = Result ℕ What} (Ok 1) (Ok w) → w ≤ MAX_WEIGHT
       one w same = let is : 1 ≡ w = cc in omega (arith, is)
   with_sound (Units digits cut) source target None edge is = absurd (cc)
-  with_sound (Units digits cut) source target (Some field) edge is = weighted_sound (ends_of ids source target) (decimal_of digits cut field) edge (ends_are ids source target) (decimal_within digits cut field) is
+  with_sound (Units digits cut) source target (Some field) edge is = weighted_sound (ends_of (is_among ids) source target) (decimal_of digits cut field) edge (ends_are ids source target) (decimal_within digits cut field) is
 
-  edge_sound : (weights : Weights) (fields : List (List ℕ)) (edge : Edge) → edge_of ids weights fields ≡ Ok edge → IsSound ids edge
+  edge_sound : (weights : Weights) (fields : List (List ℕ)) (edge : Edge) → edge_of (is_among ids) weights fields ≡ Ok edge → IsSound ids edge
   edge_sound weights [] edge is = absurd (cc)
   edge_sound weights (source ∷ []) edge is = absurd (cc)
   edge_sound weights (source ∷ target ∷ []) edge is = with_sound weights source target None edge is
@@ -249,13 +249,13 @@ module _ (rules : Rules) where
       cases Second false false false first back fits is = absurd (cc)
 
   line_keeps : (before after : Before) (fields : List (List ℕ)) → AreEdges rules before → read_line rules before fields ≡ Ok after → AreEdges rules after
-  line_keeps before after fields are is = cases (edge_of rules.ids rules.weights fields) refl is
+  line_keeps before after fields are is = cases (edge_of (is_among rules.ids) rules.weights fields) refl is
     where
       second : (edge : Edge) → IsSound rules.ids edge → (r : Result Listing What) → listing_of rules before edge ≡ r → then_check r (λ listing. Ok (behind before edge listing)) ≡ Ok after → AreEdges rules after
       second edge sound (Ok listing) found is = let same : ◌≡◌ {A = Before} (behind before edge listing) after = cc in subst (AreEdges rules) same (edges_push before edge listing are sound found)
       second edge sound (Err what) found is = absurd (cc)
 
-      cases : (r : Result Edge What) → edge_of rules.ids rules.weights fields ≡ r → then_check r (λ edge. then_check (listing_of rules before edge) (λ listing. Ok (behind before edge listing))) ≡ Ok after → AreEdges rules after
+      cases : (r : Result Edge What) → edge_of (is_among rules.ids) rules.weights fields ≡ r → then_check r (λ edge. then_check (listing_of rules before edge) (λ listing. Ok (behind before edge listing))) ≡ Ok after → AreEdges rules after
       cases (Ok edge) found is = second edge (edge_sound rules.ids rules.weights fields edge found) (listing_of rules before edge) refl is
       cases (Err what) found is = absurd (cc)
 

@@ -1,7 +1,8 @@
 -- Look-ups of ids.
-use Rattle.std.proofs.Common.{◌≡◌, ◌≢◌, ℕ, ◌<◌, ◌≤◌, ◌-◌, Bool, true, false, ◌||◌, ◌==◌, List, [], ◌∷◌, Option, Some, None, cond, nat_lt, length, get_or, zero, suc, inl, inr, arith, refl, sym, ap, ◌∙◌, Contains}
+use Rattle.std.proofs.Common.{◌≡◌, ◌≢◌, ℕ, ◌<◌, ◌≤◌, ◌-◌, Bool, true, false, ◌||◌, ◌==◌, List, [], ◌∷◌, Option, Some, None, cond, nat_lt, length, get_or, zero, suc, inl, inr, arith, refl, sym, ap, subst, ◌∙◌, All, Contains}
 use Rattle.std.specs.List.Sorted.{IsPermutation, IsNonDecreasing}
 use Rattle.std.specs.List.{position_or_len}
+use Rattle.std.specs.Bool.{OnTrue}
 use Rattle.std.specs.Option.{MatchOption}
 use Rattle.std.proofs.lemmas.Bool.{cases_lt}
 use Rattle.std.proofs.lemmas.List.{get_or_default, get_or_read}
@@ -11,7 +12,9 @@ use Rattle.std.proofs.lemmas.List.Sums.{position_or_len_is, fails_before_first}
 use Rattle.std.proofs.lemmas.List.Quantifiers.{position-Some}
 use Rattle.graph_model.proofs.TestLemmas.{eq_of, self_eq, never}
 use Rattle.graph_files.specs.VertexFiles.{is_among}
-use Rattle.graph_files.specs.Kept.{StartsDense, place_of}
+use Rattle.graph_files.specs.declared.slots.Slot.{Slot}
+use Rattle.graph_files.specs.declared.slots.TheConstants.{NOWHERE}
+use Rattle.graph_files.specs.Kept.{StartsDense, place_of, IsRight}
 
 -- an id at some place is among the ids
 pub among_at : (ids : List ℕ) (i v : ℕ) → i < length ids → get_or ids i 0 ≡ v → is_among ids v ≡ true
@@ -114,12 +117,25 @@ among_place ids v None is = elim (is_among ids v) as (λ s. is_among ids v ≡ s
         beyond : (n k : ℕ) → nat_lt n (length ids) ≡ false → k < length ids → k < n
         beyond n k e inside = grind (arith, nat_tests, e)
 
-module _ (xs : List ℕ) (x i : ℕ) (found : (i < length xs) × (get_or xs i 0 ≡ x)) where
-  -- a search in sorted ids that finds the first
-  pub searched_front : i ≡ 0 → place_of xs x ≡ Some i
-  searched_front front = place_at xs x i found.0 found.1 (λ k below here. omega arith)
+module _ (xs : List ℕ) (i : ℕ) (inside : i < length xs) where
+  -- in a sorted list an id at the front stands there first
+  pub first_front : i ≡ 0 → place_of xs (get_or xs i 0) ≡ Some i
+  first_front front = place_at xs (get_or xs i 0) i inside refl (λ k below here. omega arith)
 
-  pub searched_first : IsNonDecreasing xs → 0 < i → (before : ℕ) → before ≡ get_or xs (i - 1) before → before < x → place_of xs x ≡ Some i
-  searched_first up some before is below =
-      let read : before ≡ get_or xs (i - 1) 0 = get_or_read xs (i - 1) before (omega (arith, found)) is 0 in
-      place_at xs x i found.0 found.1 (λ k earlier here. omega (arith, read, up k (i - 1) 0 (omega arith) (omega (arith, found))))
+  -- and so does one that is above the one before it
+  pub first_above : IsNonDecreasing xs → i ≢ 0 → OnTrue (nat_lt (get_or xs (i - 1) 0) (get_or xs i 0)) (place_of xs (get_or xs i 0) ≡ Some i)
+  first_above up some = above (nat_lt (get_or xs (i - 1) 0) (get_or xs i 0)) refl
+    where
+      less : (m n : ℕ) → nat_lt m n ≡ true → m < n
+      less m n is = grind (arith, nat_tests, is)
+
+      above : (t : Bool) → nat_lt (get_or xs (i - 1) 0) (get_or xs i 0) ≡ t → OnTrue t (place_of xs (get_or xs i 0) ≡ Some i)
+      above true is = place_at xs (get_or xs i 0) i inside refl (λ k earlier here.
+          omega (arith, here, less _ _ is, up k (i - 1) 0 (omega (arith, some)) (omega arith)))
+      above false is = tt
+
+-- a slot that has an id has its first place
+pub right_slot : (ids : List ℕ) (slots : List Slot) (at id : ℕ) (slot : Slot) → All (IsRight ids) slots → at < length slots → slot ≡ get_or slots at slot
+    → slot.id ≡ id → slot.place ≢ NOWHERE → place_of ids id ≡ Some slot.place
+right_slot ids slots at id slot right inside is same filled =
+    ap (place_of ids) (sym same) ∙ subst (IsRight ids) (sym is) (right at slot inside) filled

@@ -16,17 +16,17 @@ use Rattle.graph_files.specs.Faults.{then_check, then_lines}
 use Rattle.graph_files.specs.Weights.{decimal_of}
 use Rattle.graph_files.specs.VertexFiles.{id_of, is_among}
 
--- two ids may be the ends of an edge where they differ and both are among the ids
-abbrev pub joined : List ℕ → ℕ → ℕ → Result (ℕ × ℕ) What
-joined ids u v =
+-- two ids may be the ends of an edge where they differ and both are known
+abbrev pub joined : (ℕ → Bool) → ℕ → ℕ → Result (ℕ × ℕ) What
+joined known u v =
     cond (u == v) (Err SelfLoop)
-    (cond (not (is_among ids u)) (Err UnknownVertex)
-    (cond (not (is_among ids v)) (Err UnknownVertex) (Ok (u, v))))
+    (cond (not (known u)) (Err UnknownVertex)
+    (cond (not (known v)) (Err UnknownVertex) (Ok (u, v))))
 
 -- the source and the target of an edge, or the fault of their fields
-abbrev pub ends_of : List ℕ → List ℕ → List ℕ → Result (ℕ × ℕ) What
-ends_of ids source target =
-    then_check (id_of source) (λ u. then_check (id_of target) (λ v. joined ids u v))
+abbrev pub ends_of : (ℕ → Bool) → List ℕ → List ℕ → Result (ℕ × ℕ) What
+ends_of known source target =
+    then_check (id_of source) (λ u. then_check (id_of target) (λ v. joined known u v))
 
 -- an edge by its ends and its weight
 abbrev pub weighted : Result (ℕ × ℕ) What → Result ℕ What → Result Edge What
@@ -34,19 +34,19 @@ weighted ends weight =
     then_check ends (λ e. then_check weight (λ w. Ok (record { u = e.0; v = e.1; weight = w })))
 
 -- an edge by the fields of its ends, and by a third field where there is one; it is read where there are weights
-abbrev pub edge_with : List ℕ → Weights → List ℕ → List ℕ → Option (List ℕ) → Result Edge What
-edge_with ids Ones source target third = weighted (ends_of ids source target) (Ok 1)
-edge_with ids (Units digits cut) source target None = Err MissingField
-edge_with ids (Units digits cut) source target (Some field) =
-    weighted (ends_of ids source target) (decimal_of digits cut field)
+abbrev pub edge_with : (ℕ → Bool) → Weights → List ℕ → List ℕ → Option (List ℕ) → Result Edge What
+edge_with known Ones source target third = weighted (ends_of known source target) (Ok 1)
+edge_with known (Units digits cut) source target None = Err MissingField
+edge_with known (Units digits cut) source target (Some field) =
+    weighted (ends_of known source target) (decimal_of digits cut field)
 
--- the edge of a line, or its fault, whatever the lines before it
-abbrev pub edge_of : List ℕ → Weights → List (List ℕ) → Result Edge What
-edge_of ids weights [] = Err MissingField
-edge_of ids weights (source ∷ []) = Err MissingField
-edge_of ids weights (source ∷ target ∷ []) = edge_with ids weights source target None
-edge_of ids weights (source ∷ target ∷ third ∷ []) = edge_with ids weights source target (Some third)
-edge_of ids weights (source ∷ target ∷ third ∷ extra ∷ fields) = Err ExtraField
+-- the edge of a line, or its fault, by the ids that are known, whatever the lines before it
+abbrev pub edge_of : (ℕ → Bool) → Weights → List (List ℕ) → Result Edge What
+edge_of known weights [] = Err MissingField
+edge_of known weights (source ∷ []) = Err MissingField
+edge_of known weights (source ∷ target ∷ []) = edge_with known weights source target None
+edge_of known weights (source ∷ target ∷ third ∷ []) = edge_with known weights source target (Some third)
+edge_of known weights (source ∷ target ∷ third ∷ extra ∷ fields) = Err ExtraField
 
 -- the weight with which an edge from u to v is listed, if it is
 abbrev pub listed_weight : List Edge → ℕ → ℕ → Option ℕ
@@ -104,7 +104,7 @@ behind before edge Second = record { listings = before.listings ++ edge ∷ []; 
 -- what is known behind a line, or the line's fault
 abbrev pub read_line : Rules → Before → List (List ℕ) → Result Before What
 read_line rules before fields =
-    then_check (edge_of rules.ids rules.weights fields)
+    then_check (edge_of (is_among rules.ids) rules.weights fields)
     (λ edge. then_check (listing_of rules before edge) (λ listing. Ok (behind before edge listing)))
 
 -- the edges of lines behind those of the lines before them, or the fault of the first line that has one

@@ -1,27 +1,24 @@
 -- What is kept of the lines so far, for looking things up.
-use Rattle.std.specs.Prelude.{◌≡◌, ℕ, ◌==◌, ◌*◌, ◌+◌, ◌-◌, ◌/◌, ◌^◌, ◌%◌, ◌<◌, ◌≤◌, min, max, List, length, slice_index, Option, Some, Result, Ok, Err}
-use Rattle.std.specs.List.{position, position_or_len}
+use Rattle.std.specs.Prelude.{◌≡◌, ◌≢◌, ℕ, ◌==◌, ◌*◌, ◌+◌, ◌-◌, ◌/◌, ◌^◌, ◌%◌, ◌<◌, ◌≤◌, min, max, Bool, true, List, [], ◌∷◌, ◌++◌, length, map, drop, All, slice_index, Option, Some, Result, Ok}
+use Rattle.std.specs.List.{position, position_or_len, IsDistinct}
 use Rattle.std.specs.BTreeSet.{BTreeSet, contains}
-use Rattle.std.specs.BTreeMap.{BTreeMap, get}
 use Rattle.std.specs.Ordering.{nat_cmp}
-use Rattle.graph_model.specs.Graph.{arc_cmp}
 use Rattle.graphalytics_io.specs.declared.edges.Edge.{Edge}
+use Rattle.graphalytics_io.specs.declared.lines.FieldLine.{FieldLine}
 use Rattle.graph_model.specs.declared.write.Kind.{Kind}
 use Rattle.graph_model.specs.declared.write.Kind.TheVariants.{Directed, Undirected}
 use Rattle.graph_files.specs.declared.checks.Checks.{Checks}
-use Rattle.graph_files.specs.declared.ends.Ends.{Ends}
-use Rattle.graph_files.specs.declared.ends.Placed.{Placed}
+use Rattle.graph_files.specs.declared.faultless.Front.{Front}
+use Rattle.graph_files.specs.declared.listings.Reading.{Reading}
 use Rattle.graph_files.specs.declared.refusal.What.{What}
+use Rattle.graph_files.specs.declared.slots.Slot.{Slot}
+use Rattle.graph_files.specs.declared.slots.TheConstants.{NOWHERE}
 use Rattle.graph_files.specs.VertexFiles.{is_among}
-use Rattle.graph_files.specs.EdgeFiles.{listed_weight, arcs_of, Rules}
+use Rattle.graph_files.specs.EdgeFiles.{arcs_of, Rules, edges_behind}
 
 -- the set has these ids
 abbrev pub IsSetOf : BTreeSet ℕ → List ℕ → Type 0
 IsSetOf set ids = (v : ℕ) → contains nat_cmp set v ≡ is_among ids v
-
--- the map has the weight of each edge that is listed
-abbrev pub IsMapOf : BTreeMap (ℕ × ℕ) ℕ → List Edge → Type 0
-IsMapOf weights listings = (u v : ℕ) → get arc_cmp weights (u, v) ≡ listed_weight listings u v
 
 -- the first ids, so many, have no gap between them
 pub record StartsDense (ids : List ℕ) (count : ℕ) : Type 0 where
@@ -32,19 +29,20 @@ pub record StartsDense (ids : List ℕ) (count : ℕ) : Type 0 where
 abbrev pub place_of : List ℕ → ℕ → Option ℕ
 place_of ids v = position (λ id. id == v) ids
 
--- the ends alone
-abbrev pub ends_in : Result Ends What → Result (ℕ × ℕ) What
-ends_in (Ok ends) = Ok (ends.u, ends.v)
-ends_in (Err what) = Err what
+-- a slot is empty, or has the first place of its id
+abbrev pub IsRight : List ℕ → Slot → Type 0
+IsRight ids slot = slot.place ≢ NOWHERE → place_of ids slot.id ≡ Some slot.place
 
--- the edge alone
-abbrev pub edge_in : Result Placed What → Result Edge What
-edge_in (Ok placed) = Ok placed.edge
-edge_in (Err what) = Err what
+-- every id is known
+abbrev pub every_id : ℕ → Bool
+every_id id = true
 
--- these are the places of an edge's ends
-abbrev pub ArePlaces : List ℕ → ℕ → ℕ → ℕ → ℕ → Type 0
-ArePlaces ids u v source target = (place_of ids u ≡ Some source) × (place_of ids v ≡ Some target)
+-- the lines have these items, each checked by itself alone
+abbrev pub AreListed : {X : Type 0} → (List (List ℕ) → Result X What) → List FieldLine → List X → Type 0
+AreListed item [] [] = Unit {0}
+AreListed item [] (x ∷ xs) = ⊥
+AreListed item (line ∷ lines) [] = ⊥
+AreListed item (line ∷ lines) (x ∷ xs) = (item line.fields ≡ Ok x) × AreListed item lines xs
 
 -- a number for the places of an edge's ends: the same for both directions where they don't count
 abbrev pub pair_of : Kind → ℕ → ℕ → ℕ
@@ -55,6 +53,34 @@ pair_of Undirected source target = (min source target * 2 ^ 32 % 2 ^ 64 + max so
 abbrev pub pair_in : Kind → List ℕ → Edge → ℕ
 pair_in kind ids edge =
     pair_of kind (position_or_len (λ id. id == edge.u) ids) (position_or_len (λ id. id == edge.v) ids)
+
+-- these are the numbers of edges between the ids
+pub record AreNumbers (kind : Kind) (ids : List ℕ) (edges : List Edge) (numbers : List ℕ) : Type 0 where
+  pub sources : All (λ edge. is_among ids edge.u ≡ true) edges
+  pub targets : All (λ edge. is_among ids edge.v ≡ true) edges
+  pub each : numbers ≡ map (pair_in kind ids) edges
+
+-- the lines at the front have these edges, each by itself, and where it is whole these are all lines
+pub record IsFront (item : List (List ℕ) → Result Edge What) (all : List FieldLine) (front : Front) : Type 0 where
+  pub lines : List FieldLine
+  pub rest : List FieldLine
+  pub parts : all ≡ lines ++ rest
+  pub listed : AreListed item lines front.edges
+  pub whole : front.is_whole ≡ true → rest ≡ []
+
+-- edges between the ids, of which none is listed twice, at most so many
+pub record AreNew (kind : Kind) (ids : List ℕ) (most : ℕ) (edges : List Edge) : Type 0 where
+  pub sources : All (λ edge. is_among ids edge.u ≡ true) edges
+  pub targets : All (λ edge. is_among ids edge.v ≡ true) edges
+  pub differ : IsDistinct (λ (x y : ℕ). x == y) (map (pair_in kind ids) edges)
+  pub few : length edges ≤ most
+
+-- the lines stand for what those behind the listings so far stand for
+abbrev pub GoesOn : Rules → List FieldLine → Reading → Type 0
+GoesOn rules lines reading =
+    edges_behind rules (record { listings = []; edges = [] }) lines
+    ≡ edges_behind rules (record { listings = reading.listings; edges = reading.edges })
+    (drop (length reading.listings) lines)
 
 -- the rules of a file, and what its lines are checked against
 pub record IsCheckedBy (rules : Rules) (checks : Checks) : Type 0 where

@@ -3,20 +3,21 @@
 ghost use Rattle.std.specs.Prelude.{◌≡◌, Ok, IfOk, IfErr};
 ghost use Rattle.graph_files.specs.Weights.{AreReadable};
 ghost use Rattle.graph_files.specs.Faults.{IsRefused};
-ghost use Rattle.graph_files.specs.EdgeFiles.{arcs_of, edges_of};
+ghost use Rattle.graph_files.specs.EdgeFiles.{Rules, arcs_of, edges_of};
+ghost use Rattle.graph_files.specs.Kept.{IsCheckedBy};
 
 use crate::checks::Checks;
+use crate::faultless::{Front, are_new, faultless_front, read_front};
 use crate::known::Known;
-use crate::listings::read_listings;
+use crate::listings::read_rest;
 use crate::refusal::ReadRefusal;
-use crate::unrepeated::read_unrepeated;
 use crate::weights::Weights;
 use graph_model::{Ids, Kind};
 use graphalytics_io::Edges;
 use std::alloc::Global;
 
 /// Reads the edges of an edge file over these ids. With the ids they have at most `limit` rows, one for each vertex and
-/// each arc. A file in which no edge is listed twice is gone over once; any other once more.
+/// each arc. The text is gone over once where no line has a fault and no edge is listed twice, and else once more.
 pub fn read_edges(
     alloc: Global,
     text: &[u8],
@@ -37,10 +38,23 @@ pub fn read_edges(
         weights,
         most: limit.saturating_sub(ids.len() as u64) / arcs_of(kind),
     };
-    if let Some(edges) = read_unrepeated(alloc, text, &checks)? {
+    read_checked(alloc, text, &checks)
+}
+
+/// Reads the edges of an edge file by what its lines are checked against.
+fn read_checked(alloc: Global, text: &[u8], checks: &Checks) -> Result<Edges, ReadRefusal>
+    requires { AreReadable checks.now.weights }
+    ensures ok { IfOk result (λ edges. (rules : Rules) → IsCheckedBy rules checks.now
+        → edges_of rules text.now ≡ Ok edges) }
+    ensures fault { IfErr result (λ refusal. (rules : Rules) → IsCheckedBy rules checks.now
+        → IsRefused (edges_of rules text.now) refusal) }
+{
+    let Front { edges, is_whole } = read_front(alloc, text, checks.weights)?;
+    if is_whole && are_new(alloc, edges.as_slice(), checks)? {
         return Ok(edges);
     }
-    read_listings(alloc, text, &checks)
+    let reading = faultless_front(alloc, edges, checks)?;
+    read_rest(text, checks, reading)
 }
 
 /// How many arcs an edge is.
@@ -86,6 +100,24 @@ mod tests {
             ("1 2\n2 1\n1 3", UNDIRECTED, 6, "line 3: too many rows"),
             ("1 2\n1 2", DIRECTED, 4, "line 2: duplicate edge"),
             ("\n1 2", DIRECTED, 2, "line 2: too many rows"),
+            (
+                "1 2\n3 1\n2 1\n3 2\n1 3",
+                UNDIRECTED,
+                9,
+                "1-2:1 3-1:1 3-2:1 ",
+            ),
+            (
+                "1 2\n3 1\n2 1\n1 3\n3 1",
+                UNDIRECTED,
+                9,
+                "line 5: duplicate edge",
+            ),
+            (
+                "1 2\n2 1\n1 4\n1 2",
+                UNDIRECTED,
+                9,
+                "line 3: unknown vertex",
+            ),
         ] {
             let got = said_edges(rt.alloc(), text, kind, Weights::Ones, limit)?;
             assert_eq!(rt; got.as_str(), want, "of {text}");

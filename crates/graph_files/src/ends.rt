@@ -1,61 +1,43 @@
 //! A line of an edge file by itself: its fields, its ends and its weight.
 
-ghost use Rattle.std.specs.Prelude.{◌≡◌, IfOk};
+ghost use Rattle.std.specs.Prelude.{◌≡◌, ℕ, Bool};
 ghost use Rattle.std.specs.Option.{option_copied};
 ghost use Rattle.graph_files.specs.Weights.{AreReadable};
 ghost use Rattle.graph_files.specs.EdgeFiles.{ends_of, edge_with, edge_of};
-ghost use Rattle.graph_files.specs.Kept.{ends_in, edge_in, ArePlaces};
+ghost use Rattle.graph_files.specs.Kept.{every_id};
 
-use crate::known::Known;
 use crate::refusal::What;
 use crate::vertices::read_id;
 use crate::weights::{Weights, read_decimal};
 use graphalytics_io::{Edge, Fields};
 
-/// The ends of an edge, with their places among the known ids.
-#[derive(Clone, Copy, Debug)]
-pub struct Ends {
-    pub u: u64,
-    pub v: u64,
-    pub source: usize,
-    pub target: usize,
+/// Which ids an edge may join.
+pub(crate) trait KnownIds {
+    ghost knows: { Self → ℕ → Bool };
+
+    fn knows(&self, id: u64) -> bool
+        ensures { result ≡ knows self.now id };
 }
 
-/// An edge, with the places of its ends among the known ids.
-#[derive(Clone, Copy, Debug)]
-pub struct Placed {
-    pub edge: Edge,
-    pub source: usize,
-    pub target: usize,
-}
+/// All ids. What is read with these is looked up later.
+pub(crate) struct EveryId;
 
-impl Ends {
-    /// An edge between these ends.
-    fn with_weight(self, weight: u64) -> Placed
-        ensures edge { result.edge ≡ record { u = self.u; v = self.v; weight = weight } }
-        ensures source { result.source ≡ self.source }
-        ensures target { result.target ≡ self.target }
-    {
-        let Ends {
-            u,
-            v,
-            source,
-            target,
-        } = self;
-        Placed {
-            edge: Edge { u, v, weight },
-            source,
-            target,
-        }
+impl KnownIds for EveryId {
+    ghost knows = { λ _. every_id };
+
+    fn knows(&self, _id: u64) -> bool {
+        true
     }
 }
 
 /// Reads the edge of a line.
-pub(crate) fn read_edge(fields: Fields<'_>, known: &Known, weights: Weights) -> Result<Placed, What>
+pub(crate) fn read_edge<K: KnownIds>(
+    fields: Fields<'_>,
+    known: &K,
+    weights: Weights,
+) -> Result<Edge, What>
     requires { AreReadable weights }
-    ensures edge { edge_in result ≡ edge_of known.now weights fields.entry }
-    ensures places { IfOk result (λ placed.
-        ArePlaces known.now placed.edge.u placed.edge.v placed.source placed.target) }
+    ensures { result ≡ edge_of (K.knows known.now) weights fields.entry }
 {
     let mut fields = fields;
     let Some(source) = fields.next() else {
@@ -72,53 +54,41 @@ pub(crate) fn read_edge(fields: Fields<'_>, known: &Known, weights: Weights) -> 
 }
 
 /// Reads an edge from its fields.
-fn edge_with(
-    known: &Known,
+fn edge_with<K: KnownIds>(
+    known: &K,
     weights: Weights,
     source: &[u8],
     target: &[u8],
     third: Option<&[u8]>,
-) -> Result<Placed, What>
+) -> Result<Edge, What>
     requires { AreReadable weights }
-    ensures edge { edge_in result
-        ≡ edge_with known.now weights source.now target.now (option_copied third.entry) }
-    ensures places { IfOk result (λ placed.
-        ArePlaces known.now placed.edge.u placed.edge.v placed.source placed.target) }
+    ensures { result ≡ edge_with (K.knows known.now) weights source.now target.now (option_copied third.entry) }
 {
     match (weights, third) {
         (Weights::Ones, _) => {
-            let ends = read_ends(known, source, target)?;
-            Ok(ends.with_weight(1))
+            let (u, v) = read_ends(known, source, target)?;
+            Ok(Edge { u, v, weight: 1 })
         }
         (Weights::Units { .. }, None) => Err(What::MissingField),
         (Weights::Units { digits, cut }, Some(field)) => {
-            let ends = read_ends(known, source, target)?;
+            let (u, v) = read_ends(known, source, target)?;
             let weight = read_decimal(field, digits, cut)?;
-            Ok(ends.with_weight(weight))
+            Ok(Edge { u, v, weight })
         }
     }
 }
 
 /// Reads the ends of an edge.
-fn read_ends(known: &Known, source: &[u8], target: &[u8]) -> Result<Ends, What>
-    ensures ends { ends_in result ≡ ends_of known.now source.now target.now }
-    ensures places { IfOk result (λ ends. ArePlaces known.now ends.u ends.v ends.source ends.target) }
+fn read_ends<K: KnownIds>(known: &K, source: &[u8], target: &[u8]) -> Result<(u64, u64), What>
+    ensures { result ≡ ends_of (K.knows known.now) source.now target.now }
 {
     let u = read_id(source)?;
     let v = read_id(target)?;
     if u == v {
         return Err(What::SelfLoop);
     }
-    let Some(source) = known.find(u) else {
-        return Err(What::UnknownVertex)
-    };
-    let Some(target) = known.find(v) else {
-        return Err(What::UnknownVertex)
-    };
-    Ok(Ends {
-        u,
-        v,
-        source,
-        target,
-    })
+    if !known.knows(u) || !known.knows(v) {
+        return Err(What::UnknownVertex);
+    }
+    Ok((u, v))
 }

@@ -1,11 +1,13 @@
 //! Which ids a graph has, and where each stands among them.
 
-ghost use Rattle.std.specs.Prelude.{◌≡◌, ◌<◌, ℕ, length, slice_index, true, false, IfOk, IfSome, MatchOption, Some};
+ghost use Rattle.std.specs.Prelude.{◌≡◌, ◌<◌, ℕ, length, slice_index, true, false, All};
+ghost use Rattle.std.specs.Prelude.{IfOk, IfSome, MatchOption, Some};
 ghost use Rattle.std.specs.List.Sorted.{IsNonDecreasing};
 ghost use Rattle.graph_files.specs.VertexFiles.{is_among};
-ghost use Rattle.graph_files.specs.Kept.{StartsDense, place_of};
+ghost use Rattle.graph_files.specs.Kept.{StartsDense, place_of, IsRight};
 
-use crate::hints::Hints;
+use crate::ends::KnownIds;
+use crate::slots::{Slots, stands_first};
 use items::NoMemory;
 use std::alloc::Global;
 use std::marker::Model;
@@ -17,10 +19,11 @@ pub(crate) struct Known {
     /// How many ids at the front have no gap between them. A look-up among these reads no memory, which is what files
     /// with the ids 1 to n need.
     dense: usize,
-    /// Where to look for the others.
-    hints: Hints,
+    /// Where most of the others stand.
+    slots: Slots,
     ghost rises: { IsNonDecreasing sorted.items },
     ghost starts: { StartsDense sorted.items dense },
+    ghost right: { All (IsRight sorted.items) slots },
 }
 
 impl Model for Known {
@@ -31,6 +34,14 @@ impl Model for Known {
     ghost view = { λ known. known.sorted.items };
 }
 
+impl KnownIds for Known {
+    ghost knows = { is_among };
+
+    fn knows(&self, id: u64) -> bool {
+        self.find(id).is_some()
+    }
+}
+
 impl Known {
     /// Sorts a copy of the ids.
     pub(crate) fn of(alloc: Global, ids: &[u64]) -> Result<Known, NoMemory>
@@ -39,11 +50,11 @@ impl Known {
         let mut sorted = Vec::from_slice(alloc, ids)?;
         sorted.sort_unstable();
         let dense = dense_front(sorted.as_slice());
-        let hints = Hints::of(alloc, &sorted[dense..])?;
+        let slots = Slots::of(alloc, sorted.as_slice(), dense)?;
         Ok(Known {
             sorted,
             dense,
-            hints,
+            slots,
         })
     }
 
@@ -54,7 +65,7 @@ impl Known {
     {
         match self.find_dense(id) {
             Some(place) => Some(place),
-            None => match self.find_near(id) {
+            None => match self.slots.find(id) {
                 Some(place) => Some(place),
                 None => self.search(id),
             },
@@ -76,35 +87,17 @@ impl Known {
         }
     }
 
-    /// The first place of an id, where the hints lead to it.
-    fn find_near(&self, id: u64) -> Option<usize>
-        ensures { IfSome result (λ place. place_of self.now id ≡ Some place) }
-    {
-        let (from, below) = self.hints.around(id)?;
-        if self.sorted.len() - self.dense < below || below < from {
-            return None;
-        }
-        let from = self.dense + from;
-        let below = self.dense + below;
-        match self.sorted[from..below].binary_search(&id) {
-            Ok(place) => self.as_first(from + place, id),
-            Err(_) => None,
-        }
-    }
-
     /// A place at which an id stands, where it doesn't stand before it.
     fn as_first(&self, place: usize, id: u64) -> Option<usize>
         requires within { place < length self.now }
         requires here { slice_index self.now place ≡ id }
         ensures { IfSome result (λ place. place_of self.now id ≡ Some place) }
     {
-        if place == 0 {
-            return Some(place);
+        if stands_first(self.sorted.as_slice(), place) {
+            Some(place)
+        } else {
+            None
         }
-        if self.sorted[place - 1] < id {
-            return Some(place);
-        }
-        None
     }
 
     /// The first place of an id, by a binary search.

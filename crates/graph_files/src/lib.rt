@@ -10,12 +10,14 @@ mod checks;
 mod distinct;
 mod edges;
 mod ends;
-mod hints;
+mod faultless;
 mod known;
 mod laws;
 mod listings;
+mod numbers;
 mod refusal;
-mod unrepeated;
+mod seconds;
+mod slots;
 mod vertices;
 mod weights;
 

@@ -1,24 +1,21 @@
-//! Edge files whose lines are each compared with those before it.
+//! Edge files from some line on, where each line is compared with all lines before it.
 //!
-//! The map of what is listed has each line's edge in the direction of its line, second listings too.
+//! That takes long for many lines, but is only done from a line on that most likely has a fault, so that it ends there.
 
-ghost use Rattle.std.specs.Prelude.{◌≡◌, ◌/◌, [], ◌∷◌, ◌++◌, length, None, Ok, Err, IfOk, IfErr, OnOk};
-ghost use Rattle.std.specs.BTreeMap.{get};
-ghost use Rattle.graph_model.specs.Graph.{arc_cmp};
-ghost use Rattle.graphalytics_io.specs.declared.edges.Edge.{Edge};
+ghost use Rattle.std.specs.Prelude.{◌≡◌, ◌==◌, ◌&&◌, ◌++◌, ◌∷◌, [], drop, Ok, IfOk, IfErr};
+ghost use Rattle.graphalytics_io.specs.FieldLines.{field_lines};
 ghost use Rattle.graph_files.specs.Weights.{AreReadable};
 ghost use Rattle.graph_files.specs.Faults.{IsRefused};
-ghost use Rattle.graph_files.specs.EdgeFiles.{Rules, listing_of, behind, edges_of};
-ghost use Rattle.graph_files.specs.Kept.{IsMapOf, IsCheckedBy};
+ghost use Rattle.graph_files.specs.EdgeFiles.{Rules, listed_weight, listing_of, behind, edges_of};
+ghost use Rattle.graph_files.specs.Kept.{IsCheckedBy, GoesOn};
 
 use crate::checks::Checks;
 use crate::ends::read_edge;
 use crate::refusal::{Fault, ReadRefusal, What};
 use graph_model::Kind;
-use graphalytics_io::{Edge, Edges, field_lines};
+use graphalytics_io::{Edge, Edges, FieldLines, field_lines};
 use items::NoMemory;
 use std::alloc::Global;
-use std::collections::BTreeMap;
 
 /// How a line lists an edge.
 #[derive(Clone, Copy, Debug, PartialEq, Eq)]
@@ -29,25 +26,35 @@ pub enum Listing {
     Second,
 }
 
-/// Reads the edges of an edge file, line by line, up to its first fault.
-pub(crate) fn read_listings(
-    alloc: Global,
+/// What is kept of the lines so far.
+#[derive(Drop)]
+pub struct Reading {
+    /// The edge of each line.
+    pub listings: Edges,
+    /// The edges without second listings.
+    pub edges: Edges,
+}
+
+/// Reads the edges of an edge file behind the lines so far, line by line, up to the first fault.
+pub(crate) fn read_rest(
     text: &[u8],
     checks: &Checks,
+    reading: Reading,
 ) -> Result<Edges, ReadRefusal>
-    requires { AreReadable checks.now.weights }
+    requires readable { AreReadable checks.now.weights }
+    requires so_far { (rules : Rules) → IsCheckedBy rules checks.now → GoesOn rules (field_lines text.now) reading }
     ensures ok { IfOk result (λ edges. (rules : Rules) → IsCheckedBy rules checks.now
         → edges_of rules text.now ≡ Ok edges) }
     ensures fault { IfErr result (λ refusal. (rules : Rules) → IsCheckedBy rules checks.now
         → IsRefused (edges_of rules text.now) refusal) }
 {
-    let mut reading = Reading::new(alloc);
-    let mut lines = field_lines(text);
+    let mut reading = reading;
+    let mut lines = lines_behind(text, reading.listings.len());
     'lines: while let Some(line) = lines.next() {
         let number = line.number;
         match read_edge(line.fields, &checks.known, checks.weights) {
-            Ok(placed) => match reading.check(checks, &placed.edge) {
-                Ok(listing) => reading = reading.with(placed.edge, listing)?,
+            Ok(edge) => match reading.check(checks, &edge) {
+                Ok(listing) => reading = reading.with(edge, listing)?,
                 Err(what) => return Err(ReadRefusal::Fault(Fault { line: number, what })),
             },
             Err(what) => return Err(ReadRefusal::Fault(Fault { line: number, what })),
@@ -57,42 +64,41 @@ pub(crate) fn read_listings(
     Ok(edges)
 }
 
-/// What is kept of the lines so far.
-#[derive(Drop)]
-struct Reading {
-    /// The weight of each edge that is listed, by its source and target.
-    listed: BTreeMap<(u64, u64), u64>,
-    /// The edges without second listings.
-    edges: Edges,
+/// The lines of a text behind the first, so many.
+fn lines_behind(text: &[u8], count: usize) -> FieldLines<'_>
+    ensures { result ≡ drop count (field_lines text.now) }
+{
+    let mut lines = field_lines(text);
+    'skipped: for _line in 0..count {
+        let _ = lines.next();
+    }
+    lines
 }
 
 impl Reading {
-    ghost use Rattle.std.specs.Prelude.{◌≡◌, List, Err};
-    ghost use Rattle.graphalytics_io.specs.declared.edges.Edge.{Edge};
+    ghost use Rattle.std.specs.Prelude.{◌≡◌, [], ◌++◌, ◌∷◌, Err};
 
-    fn new(alloc: Global) -> Reading
+    pub(crate) fn new(alloc: Global) -> Reading
+        ensures listings { result.listings ≡ [] }
         ensures edges { result.edges ≡ [] }
-        ensures listed { IsMapOf result.listed [] }
     {
         Reading {
-            listed: BTreeMap::new(alloc),
+            listings: Edges::new(alloc),
             edges: Edges::new(alloc),
         }
     }
 
     /// How the next line lists this edge.
     fn check(&self, checks: &Checks, edge: &Edge) -> Result<Listing, What>
-        ensures listing { (rules : Rules) (listings : List Edge) → IsCheckedBy rules checks.now
-            → IsMapOf self.now.listed listings
-            → result ≡ listing_of rules (record { listings = listings; edges = self.now.edges }) edge.now }
-        ensures new { OnOk result (get arc_cmp self.now.listed (edge.now.u, edge.now.v) ≡ None) }
+        ensures { (rules : Rules) → IsCheckedBy rules checks.now → result ≡ listing_of rules
+            (record { listings = self.now.listings; edges = self.now.edges }) edge.now }
     {
-        if self.listed.contains_key(&(edge.u, edge.v)) {
+        if weight_of(self.listings.as_slice(), edge.u, edge.v).is_some() {
             return Err(What::DuplicateEdge);
         }
         if let Kind::Undirected = checks.kind {
-            if let Some(weight) = self.listed.get(&(edge.v, edge.u)) {
-                return if *weight == edge.weight {
+            if let Some(weight) = weight_of(self.listings.as_slice(), edge.v, edge.u) {
+                return if weight == edge.weight {
                     Ok(Listing::Second)
                 } else {
                     Err(What::DuplicateEdge)
@@ -107,20 +113,36 @@ impl Reading {
 
     /// The same behind a line that lists an edge.
     fn with(self, edge: Edge, listing: Listing) -> Result<Reading, NoMemory>
-        requires { get arc_cmp self.listed (edge.u, edge.v) ≡ None }
-        ensures edges { IfOk result (λ reading. (listings : List Edge)
-            → reading.edges ≡ (behind (record { listings = listings; edges = self.edges }) edge listing).edges) }
-        ensures listed { IfOk result (λ reading. (listings : List Edge) → IsMapOf self.listed listings
-            → IsMapOf reading.listed (listings ++ edge ∷ [])) }
+        ensures listings { IfOk result (λ reading. reading.listings ≡ self.listings ++ edge ∷ []) }
+        ensures edges { IfOk result (λ reading. reading.edges
+            ≡ (behind (record { listings = self.listings; edges = self.edges }) edge listing).edges) }
     {
         let Reading {
-            mut listed,
+            mut listings,
             mut edges,
         } = self;
-        listed.insert((edge.u, edge.v), edge.weight)?;
+        listings.push(edge)?;
         if let Listing::First = listing {
             edges.push(edge)?;
         }
-        Ok(Reading { listed, edges })
+        Ok(Reading { listings, edges })
     }
+}
+
+/// The weight with which an edge is listed, if it is.
+fn weight_of(listings: &[Edge], u: u64, v: u64) -> Option<u64>
+    ensures { result ≡ listed_weight listings.now u v }
+{
+    'listings: for i in 0..listings.len() {
+        if has_ends(&listings[i], u, v) {
+            return Some(listings[i].weight);
+        }
+    }
+    None
+}
+
+fn has_ends(edge: &Edge, u: u64, v: u64) -> bool
+    ensures { result ≡ ((edge.now.u == u) && (edge.now.v == v)) }
+{
+    edge.u == u && edge.v == v
 }

@@ -1,0 +1,104 @@
+//! How far an edge file has no fault, told without comparing each line with those before it.
+//!
+//! 1. All lines are read before an end is looked up, so that many look-ups wait for memory side by side.
+//! 2. Where the numbers of all edges differ, each is listed once. Where not, second listings are looked for; the edges'
+//!    numbers are made again for that, since sorting has moved them.
+
+ghost use Rattle.std.specs.Prelude.{ℕ, List, ◌≡◌, ◌≤◌, ◌++◌, length, take, IfOk};
+ghost use Rattle.std.specs.Bool.{OnTrue};
+ghost use Rattle.graphalytics_io.specs.declared.lines.FieldLine.{FieldLine};
+ghost use Rattle.graphalytics_io.specs.FieldLines.{field_lines};
+ghost use Rattle.graph_files.specs.Weights.{AreReadable};
+ghost use Rattle.graph_files.specs.EdgeFiles.{Rules, edge_of};
+ghost use Rattle.graph_files.specs.Kept.{IsCheckedBy, AreListed, IsFront, AreNew, GoesOn, every_id};
+
+use crate::checks::Checks;
+use crate::distinct::are_distinct;
+use crate::ends::{EveryId, read_edge};
+use crate::listings::Reading;
+use crate::numbers::numbers_of;
+use crate::seconds::{Parts, parts_of};
+use crate::weights::Weights;
+use graphalytics_io::{Edge, Edges, field_lines};
+use items::NoMemory;
+use std::alloc::Global;
+
+/// The edges of the lines before the first that has a fault by itself, with all ids taken as known.
+#[derive(Drop)]
+pub struct Front {
+    pub edges: Edges,
+    /// No line has a fault.
+    pub is_whole: bool,
+}
+
+/// Reads each line by itself, up to the first that has a fault.
+pub(crate) fn read_front(alloc: Global, text: &[u8], weights: Weights) -> Result<Front, NoMemory>
+    requires { AreReadable weights }
+    ensures { IfOk result (λ front. IsFront (edge_of every_id weights) (field_lines text.now) front) }
+{
+    let mut edges = Edges::new(alloc);
+    let mut lines = field_lines(text);
+    'lines: while let Some(line) = lines.next() {
+        let Ok(edge) = read_edge(line.fields, &EveryId, weights) else {
+            return Ok(Front {
+                edges,
+                is_whole: false,
+            })
+        };
+        edges.push(edge)?;
+    }
+    Ok(Front {
+        edges,
+        is_whole: true,
+    })
+}
+
+/// Whether all ends are known, no edge is listed twice, and there are not too many.
+pub(crate) fn are_new(alloc: Global, edges: &[Edge], checks: &Checks) -> Result<bool, NoMemory>
+    ensures { IfOk result (λ new. OnTrue new
+        (AreNew checks.now.kind checks.now.known checks.now.most edges.now)) }
+{
+    let numbers = numbers_of(alloc, edges, &checks.known, checks.kind)?;
+    if numbers.len() < edges.len() || checks.most < edges.len() as u64 {
+        return Ok(false);
+    }
+    Ok(are_distinct(numbers))
+}
+
+/// What is kept of the lines before the first that has a fault, where the lines at the front have these edges by
+/// themselves. How far that is, is told by the numbers. Were they to tell it wrongly, nothing would be kept.
+pub(crate) fn faultless_front(
+    alloc: Global,
+    edges: Edges,
+    checks: &Checks,
+) -> Result<Reading, NoMemory>
+    ensures { IfOk result (λ reading. (rules : Rules) (front rest : List FieldLine) → IsCheckedBy rules checks.now
+        → AreListed (edge_of every_id checks.now.weights) front edges → GoesOn rules (front ++ rest) reading) }
+{
+    let numbers = numbers_of(alloc, edges.as_slice(), &checks.known, checks.kind)?;
+    let edges = first_of(edges, numbers.len());
+    let (parts, count) = parts_of(alloc, edges.as_slice(), numbers.as_slice(), checks)?;
+    let listings = first_of(edges, count);
+    let Parts {
+        kept,
+        kept_numbers,
+        second_numbers,
+    } = parts;
+    if are_distinct(kept_numbers) && are_distinct(second_numbers) {
+        Ok(Reading {
+            listings,
+            edges: kept,
+        })
+    } else {
+        Ok(Reading::new(alloc))
+    }
+}
+
+/// The first edges, so many.
+fn first_of(edges: Edges, count: usize) -> Edges
+    ensures { result ≡ take count edges }
+{
+    let mut edges = edges.into_vec();
+    edges.truncate(count);
+    Edges::from_vec(edges)
+}
