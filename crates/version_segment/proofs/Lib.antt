@@ -1,0 +1,6 @@
+pub mod KeyedLemmas
+pub mod HeadLemmas
+pub mod ListLemmas
+pub mod PartLemmas
+pub mod VersionLemmas
+pub mod ChangeLemmas

@@ -1,0 +1,95 @@
+-- Rows with their versions, between fence keys, and what the calls do to them.
+use Rattle.std.specs.Prelude.{◌≡◌, ℕ, ◌+◌, Bool, true, false, ◌&&◌, not, cond, is_some, List, [], ◌∷◌, ◌++◌, length, drop, Option, Some, None}
+use Rattle.std.specs.List.{list_any, filter}
+use Rattle.std.specs.Ordering.{eq_by_cmp}
+use Rattle.std.specs.FinMap.Entries.{find, put, where_key}
+use Rattle.graph_model.specs.declared.row.Key.{Key}
+use Rattle.graph_model.specs.declared.journal.TxnName.{TxnName}
+use Rattle.graph_model.specs.Conflict.{same_name}
+use Rattle.graph_model.specs.Rows.{key_cmp}
+use Rattle.store_model.specs.Stamped.{Stamped, StampedVersions}
+
+-- Rows between a low fence key, which a row may have, and a high one, which none has; and how many more
+-- records can be put with no memory taken.
+pub record VersionedRows : Type 0 where
+  pub low : Key
+  pub high : Key
+  pub rows : List (Key × StampedVersions)
+  pub spare : ℕ
+
+-- ---- the versions of a key
+
+-- those of a key that has no row
+abbrev pub nothing : StampedVersions
+nothing = record { pairs = []; oldest = None; touches = [] }
+
+abbrev pub or_nothing : Option StampedVersions → StampedVersions
+or_nothing None = nothing
+or_nothing (Some versions) = versions
+
+abbrev pub versions_at : VersionedRows → Key → StampedVersions
+versions_at s key = or_nothing (find key_cmp key s.rows)
+
+abbrev pub has_row : VersionedRows → Key → Bool
+has_row s key = is_some (find key_cmp key s.rows)
+
+-- so many records stand in a row
+abbrev pub records_in : StampedVersions → ℕ
+records_in versions = length versions.pairs + length versions.touches
+
+-- ---- one key changes
+
+abbrev pub is_empty : {X : Type 0} → List X → Bool
+is_empty [] = true
+is_empty (x ∷ xs) = false
+
+-- neither a value nor a record
+abbrev pub is_nothing : StampedVersions → Bool
+is_nothing versions = is_empty versions.pairs && (is_empty versions.touches && not (is_some versions.oldest))
+
+-- the rows, of which the one with this key has these versions; where they are nothing it isn't there
+abbrev pub with_versions : Key → StampedVersions → List (Key × StampedVersions) → List (Key × StampedVersions)
+with_versions key versions rows =
+    cond (is_nothing versions) (where_key key_cmp (λ q. not (eq_by_cmp key_cmp key q)) rows) (put key_cmp key versions rows)
+
+-- the versions of one key are these now, and nothing else has changed
+pub record ChangesKey (old new : VersionedRows) (key : Key) (versions : StampedVersions) : Type 0 where
+  pub low : new.low ≡ old.low
+  pub high : new.high ≡ old.high
+  pub rows : new.rows ≡ with_versions key versions old.rows
+
+-- only the room for records has changed
+pub record IsSameSegment (old new : VersionedRows) : Type 0 where
+  pub low : new.low ≡ old.low
+  pub high : new.high ≡ old.high
+  pub rows : new.rows ≡ old.rows
+
+-- ---- what a call makes of the versions
+
+-- a record just made; of a touch the value isn't read
+abbrev pub new_record : TxnName → Option ℕ → Stamped
+new_record by value = record { by = by; stamp = None; value = value }
+
+-- a write puts a pair in front
+abbrev pub written : TxnName → Option ℕ → StampedVersions → StampedVersions
+written by value versions = record versions { pairs = new_record by value ∷ versions.pairs }
+
+-- an undo takes the front pair away
+abbrev pub undone : StampedVersions → StampedVersions
+undone versions = record versions { pairs = drop 1 versions.pairs }
+
+abbrev pub has_record : TxnName → List Stamped → Bool
+has_record by records = list_any (λ p. same_name p.by by) records
+
+-- a writer's touch stands among the touches once
+abbrev pub touched : TxnName → StampedVersions → StampedVersions
+touched by versions =
+    record versions { touches = cond (has_record by versions.touches) versions.touches (versions.touches ++ new_record by None ∷ []) }
+
+abbrev pub untouched : TxnName → StampedVersions → StampedVersions
+untouched by versions = record versions { touches = filter (λ p. not (same_name p.by by)) versions.touches }
+
+-- the writer of the newest pair
+abbrev pub newest_writer : List Stamped → Option TxnName
+newest_writer [] = None
+newest_writer (p ∷ ps) = Some p.by

@@ -1,0 +1,211 @@
+//! Rows with their versions, between fence keys.
+
+ghost use Rattle.std.specs.Prelude.{◌≡◌, ◌+◌, ◌-◌, ◌<◌, ◌≤◌, ◌==◌, true, false, [], ◌∷◌, Some, length, slice_get, IfOk, OnOk, OnErr, IsOk, IsSomeAnd};
+ghost use Rattle.graph_model.specs.declared.limits.TheConstants.{SEGMENT_ROWS};
+ghost use Rattle.graph_model.specs.Rows.{is_below, is_between};
+ghost use Rattle.store_model.specs.Stamped.{read_stamped, stamp};
+ghost use Rattle.undo_chain.specs.Records.{new_record};
+ghost use Rattle.undo_chain.specs.Chains.{list_at, IsHeadOf, ChangesOneList};
+ghost use Rattle.undo_chain.specs.States.{Grows};
+ghost use Rattle.version_segment.specs.Rows.{versions_at, has_row, records_in, ChangesKey, IsSameSegment, written, undone, touched, untouched, newest_writer};
+
+use crate::found::{FoundRow, find_row, insert_row, set_row};
+use crate::heads::HeadMap;
+use gap_segment::Segment;
+use graph_model::{Key, NoMemory, SEGMENT_ROWS, TxnName};
+use std::alloc::Global;
+use std::marker::Model;
+use undo_chain::Chains;
+
+/// At most 32 rows with their versions, between a low fence key, which a row may have, and a high one, which
+/// none has.
+#[derive(Drop)]
+pub struct VersionSegment {
+    pub(crate) rows: Segment,
+    pub(crate) heads: HeadMap,
+    pub(crate) chains: Chains,
+}
+
+impl Model for VersionSegment {
+    ghost use Rattle.version_segment.specs.Rows.{VersionedRows};
+    ghost use Rattle.version_segment.specs.Parts.{view_of, AreParts};
+
+    ghost Value = { VersionedRows };
+
+    ghost view = { λ s. view_of s.rows s.heads s.chains };
+
+    ghost invariant = { λ s. AreParts s.rows s.heads.entries s.chains };
+}
+
+impl VersionSegment {
+    /// No rows between these fence keys. Takes the memory of all rows, and none for records.
+    pub fn new(alloc: Global, low: Key, high: Key) -> Result<VersionSegment, NoMemory>
+        requires { is_below high low ≡ false }
+        ensures low { IfOk result (λ s. s.low ≡ low) }
+        ensures high { IfOk result (λ s. s.high ≡ high) }
+        ensures rows { IfOk result (λ s. s.rows ≡ []) }
+    {
+        let rows = Segment::new(alloc, low, high)?;
+        Ok(VersionSegment {
+            rows,
+            heads: HeadMap::new(alloc),
+            chains: Chains::new(alloc),
+        })
+    }
+
+    /// The low fence key. A row may have it.
+    pub fn low(&self) -> Key
+        ensures { result ≡ self.now.low }
+    {
+        self.rows.low()
+    }
+
+    /// The high fence key. Each row is below it.
+    pub fn high(&self) -> Key
+        ensures { result ≡ self.now.high }
+    {
+        self.rows.high()
+    }
+
+    pub fn len(&self) -> usize
+        ensures { result ≡ length self.now.rows }
+    {
+        self.rows.len()
+    }
+
+    pub fn is_empty(&self) -> bool
+        ensures { result ≡ (length self.now.rows == 0) }
+    {
+        self.rows.is_empty()
+    }
+
+    /// How many more rows there is room for.
+    pub fn room(&self) -> usize
+        ensures { result + length self.now.rows ≡ SEGMENT_ROWS }
+    {
+        SEGMENT_ROWS - self.rows.len()
+    }
+
+    /// Makes room for so many more records. Takes no memory where there is room already.
+    pub fn reserve_records(&mut self, records: usize) -> Result<(), NoMemory>
+        ensures ok { OnOk result (records ≤ self.new.spare) }
+        ensures room { records ≤ self.old.spare → IsOk result }
+        ensures kept { IsSameSegment self.old self.new }
+        ensures spare { self.old.spare ≤ self.new.spare }
+    {
+        self.chains.reserve(records)?;
+        self.heads.reserve(records)?;
+        Ok(())
+    }
+
+    /// Makes room for four writes or touches.
+    pub fn reserve(&mut self) -> Result<(), NoMemory>
+        ensures ok { OnOk result (4 ≤ self.new.spare) }
+        ensures room { 4 ≤ self.old.spare → IsOk result }
+        ensures kept { IsSameSegment self.old self.new }
+        ensures spare { self.old.spare ≤ self.new.spare }
+    {
+        self.reserve_records(4)
+    }
+
+    /// Writes a value, or removes the one that is there, where nobody stands against it.
+    pub fn write(&mut self, key: Key, value: Option<u64>, by: TxnName)
+        requires within { is_between self.old.low self.old.high key ≡ true }
+        requires spare { 0 < self.old.spare }
+        requires room { has_row self.old key ≡ false → length self.old.rows < SEGMENT_ROWS }
+        ensures written { ChangesKey self.old self.new key (written by value (versions_at self.old key)) }
+        ensures spare { self.old.spare ≤ self.new.spare + 1 }
+    {
+        match find_row(&self.rows, &self.heads, key) {
+            Ok(row) => {
+                let undos = put_record(&mut self.chains, row.undos, by, row.value);
+                let row = FoundRow {
+                    value,
+                    undos: Some(undos),
+                    ..row
+                };
+                set_row(&mut self.rows, &mut self.heads, key, row);
+            }
+            Err(place) => {
+                let undos = put_record(&mut self.chains, None, by, None);
+                let row = FoundRow {
+                    place,
+                    value,
+                    undos: Some(undos),
+                    touches: None,
+                };
+                insert_row(&mut self.rows, &mut self.heads, key, row);
+            }
+        }
+    }
+
+    /// Takes the newest write of a row back, which is this writer's.
+    pub fn undo(&mut self, key: Key, by: TxnName)
+        requires { newest_writer (versions_at self.old key).pairs ≡ Some by }
+        ensures undone { ChangesKey self.old self.new key (undone (versions_at self.old key)) }
+        ensures spare { self.old.spare ≤ self.new.spare }
+    {
+        let _ = by;
+        let Ok(row) = find_row(&self.rows, &self.heads, key) else {
+            unreachable!()
+        };
+        let Some(head) = row.undos else {
+            unreachable!()
+        };
+        let (value, undos) = self.chains.undo(head);
+        let row = FoundRow {
+            value,
+            undos,
+            ..row
+        };
+        set_row(&mut self.rows, &mut self.heads, key, row);
+    }
+
+    /// Notes that a transaction adds an edge at the row's vertex.
+    pub fn touch(&mut self, key: Key, by: TxnName)
+        requires row { has_row self.old key ≡ true }
+        requires spare { 0 < self.old.spare }
+        ensures touched { ChangesKey self.old self.new key (touched by (versions_at self.old key)) }
+        ensures spare { self.old.spare ≤ self.new.spare + 1 }
+    {
+        let Ok(row) = find_row(&self.rows, &self.heads, key) else {
+            unreachable!()
+        };
+        let Ok(touches) = self.chains.touch(row.touches, by) else {
+            unreachable!()
+        };
+        let row = FoundRow {
+            touches: Some(touches),
+            ..row
+        };
+        set_row(&mut self.rows, &mut self.heads, key, row);
+    }
+
+    /// Takes a transaction's touch of a row away, if there is one.
+    pub fn untouch(&mut self, key: Key, by: TxnName)
+        requires { has_row self.old key ≡ true }
+        ensures untouched { ChangesKey self.old self.new key (untouched by (versions_at self.old key)) }
+        ensures spare { self.old.spare ≤ self.new.spare }
+    {
+        let Ok(row) = find_row(&self.rows, &self.heads, key) else {
+            unreachable!()
+        };
+        let touches = self.chains.untouch(row.touches, by);
+        let row = FoundRow { touches, ..row };
+        set_row(&mut self.rows, &mut self.heads, key, row);
+    }
+}
+
+/// Puts a record in front of a list, where there is room for it.
+fn put_record(chains: &mut Chains, head: Option<usize>, by: TxnName, older: Option<u64>) -> usize
+    requires head { IsHeadOf chains.old head }
+    requires room { 0 < chains.old.spare }
+    ensures list { list_at chains.new (Some result) ≡ new_record by older ∷ list_at chains.old head }
+    ensures others { ChangesOneList chains.old chains.new head (Some result) }
+    ensures spare { chains.old.spare ≤ chains.new.spare + 1 }
+{
+    match chains.push(head, by, older) {
+        Ok(key) => key,
+        Err(_) => unreachable!(),
+    }
+}
