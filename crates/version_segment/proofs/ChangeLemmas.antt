@@ -1,8 +1,9 @@
 -- One row of a segment changes, as contracts see it.
-use Rattle.std.proofs.Common.{◌≡◌, ℕ, ◌+◌, ◌<◌, ◌≤◌, List, length, arith, refl, sym, ◌∙◌, ap, subst, Some, None}
-use Rattle.std.specs.Prelude.{true, false, not, min, cond, is_some, insert, slice_get, Option, IsSomeAnd}
+use Rattle.std.proofs.Common.{◌≡◌, ℕ, zero, suc, ◌+◌, ◌<◌, ◌≤◌, List, [], ◌∷◌, length, get_or, arith, refl, sym, ◌∙◌, ap, subst, Some, None}
+use Rattle.std.specs.Prelude.{Bool, true, false, not, min, cond, is_some, insert, slice_get, Option, IsSomeAnd}
 use Rattle.std.specs.Ordering.{eq_by_cmp}
 use Rattle.std.proofs.lemmas.List.{length-map}
+use Rattle.std.specs.FinMap.Entries.{find, where_key}
 use Rattle.graph_model.specs.declared.row.Key.{Key}
 use Rattle.graph_model.specs.declared.row.Row.{Row}
 use Rattle.graph_model.specs.Rows.{key_cmp, is_between}
@@ -15,7 +16,7 @@ use Rattle.version_segment.specs.declared.found.FoundRow.{FoundRow}
 use Rattle.version_segment.specs.Rows.{nothing, or_nothing, is_empty, versions_at, has_row, ChangesKey, with_versions}
 use Rattle.version_segment.specs.Heads.{HeadTable, heads_at, settled_heads}
 use Rattle.version_segment.specs.Lists.{ChangesRow}
-use Rattle.version_segment.specs.Parts.{of_lists, value_in, view_of, AreParts, IsRow, is_changed, heads_of, with_value, new_row}
+use Rattle.version_segment.specs.Parts.{of_lists, value_in, versions_in, versioned, view_of, AreParts, IsRow, is_changed, heads_of, with_value, new_row}
 use Rattle.version_segment.proofs.HeadLemmas.{found_at, index_below}
 use Rattle.version_segment.proofs.ListLemmas.{row_start, row_empty, undos_change}
 use Rattle.version_segment.proofs.PartLemmas.{list_there, versions_there, versions_gap, set_versions, insert_versions, set_parts, insert_parts}
@@ -152,3 +153,39 @@ spare_stays a b a' b' p q = omega (arith, p, q)
 
 pub spare_one : (a b a' b' : ℕ) → a ≤ a' + 1 → b ≤ b' + 1 → min a b ≤ min a' b' + 1
 spare_one a b a' b' p q = omega (arith, p, q)
+
+-- ---- nothing changes
+
+without_none : (k : Key) (es : List (Key × StampedVersions)) → find key_cmp k es ≡ None → where_key key_cmp (λ q. not (eq_by_cmp key_cmp k q)) es ≡ es
+without_none k [] e = refl
+without_none k (x ∷ es) e = go (eq_by_cmp key_cmp k x.0) (without_none k es) e
+  where
+    go : (t : Bool) → (find key_cmp k es ≡ None → where_key key_cmp (λ q. not (eq_by_cmp key_cmp k q)) es ≡ es) → cond t (Some x.1) (find key_cmp k es) ≡ None
+        → cond (not t) (x ∷ where_key key_cmp (λ q. not (eq_by_cmp key_cmp k q)) es) (where_key key_cmp (λ q. not (eq_by_cmp key_cmp k q)) es) ≡ x ∷ es
+    go true rest f = cc
+    go false rest f = ap (λ ys. x ∷ ys) (rest f)
+
+-- a key with no row keeps having none
+pub no_change : (rows : FencedRows) (heads : HeadTable) (c : ChainMap) (k : Key) → AreParts rows heads.entries c → (place : ℕ) → IsGapFor rows.rows k place
+    → (f : StampedVersions → StampedVersions) → f nothing ≡ nothing → ChangesKey (view_of rows heads c) (view_of rows heads c) k (f (versions_at (view_of rows heads c) k))
+no_change rows heads c k is place gap f e = record {
+  low = refl;
+  high = refl;
+  rows = sym (ap (λ vs. with_versions k vs (view_of rows heads c).rows) (ap f (no_versions rows heads c k is place gap) ∙ e) ∙ without_none k (view_of rows heads c).rows (versions_gap rows heads.entries c k is place gap));
+}
+
+-- ---- the row at a place
+
+pub entry_at : (heads : List ChangedRow) (c : ChainMap) (rows : List Row) (place : ℕ) (d : Row) → place < length rows
+    → slice_get (versioned c heads rows) place ≡ Some ((get_or rows place d).key, versions_in c (heads_at heads (get_or rows place d).key) (get_or rows place d).weight)
+entry_at heads c [] place d lt = absurd (omega arith)
+entry_at heads c (r ∷ rs) zero d lt = refl
+entry_at heads c (r ∷ rs) (suc place) d lt = entry_at heads c rs place d (omega arith)
+
+-- a segment that is seen without rows has none
+pub no_rows : (rows : FencedRows) (heads : HeadTable) (c : ChainMap) → (view_of rows heads c).rows ≡ [] → rows.rows ≡ []
+no_rows rows heads c e = go rows.rows (sym (row_count rows heads c) ∙ ap length e)
+  where
+    go : (rs : List Row) → length rs ≡ 0 → rs ≡ []
+    go [] f = refl
+    go (r ∷ rs) f = absurd (omega arith)

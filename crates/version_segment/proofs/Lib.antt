@@ -4,3 +4,4 @@ pub mod ListLemmas
 pub mod PartLemmas
 pub mod VersionLemmas
 pub mod ChangeLemmas
+pub mod WalkLemmas

@@ -3,19 +3,22 @@
 ghost use Rattle.std.specs.Prelude.{◌≡◌, ◌+◌, ◌-◌, ◌<◌, ◌≤◌, ◌==◌, true, false, [], ◌∷◌, Some, length, slice_get, IfOk, OnOk, OnErr, IsOk, IsSomeAnd};
 ghost use Rattle.graph_model.specs.declared.limits.TheConstants.{SEGMENT_ROWS};
 ghost use Rattle.graph_model.specs.Rows.{is_below, is_between};
-ghost use Rattle.store_model.specs.Stamped.{read_stamped, stamp};
+ghost use Rattle.store_model.specs.Stamped as stamped_versions;
+ghost use Rattle.store_model.specs.Stamped.{read_stamped};
+ghost use Rattle.version_segment.specs.Checks.{IsNamed, IsChecked, cause_in, newest_of, newest_and_touches, drops_of};
 ghost use Rattle.undo_chain.specs.Records.{new_record};
 ghost use Rattle.undo_chain.specs.Chains.{list_at, IsHeadOf, ChangesOneList};
 ghost use Rattle.undo_chain.specs.States.{Grows};
 ghost use Rattle.version_segment.specs.Rows.{versions_at, has_row, records_in, ChangesKey, IsSameSegment, written, undone, touched, untouched, newest_writer};
 
+use crate::checks::{combined, drop_cause, newest_cause, touch_cause};
 use crate::found::{FoundRow, find_row, insert_row, set_row};
 use crate::heads::HeadMap;
 use gap_segment::Segment;
-use graph_model::{Key, NoMemory, SEGMENT_ROWS, TxnName};
+use graph_model::{Cause, Key, NoMemory, SEGMENT_ROWS, TxnName};
 use std::alloc::Global;
 use std::marker::Model;
-use undo_chain::Chains;
+use undo_chain::{Chains, Snapshot, States};
 
 /// At most 32 rows with their versions, between a low fence key, which a row may have, and a high one, which
 /// none has.
@@ -108,6 +111,105 @@ impl VersionSegment {
         self.reserve_records(4)
     }
 
+    /// The key of the row at a place.
+    pub fn key_at(&self, place: usize) -> Key
+        requires { place < length self.now.rows }
+        ensures { IsSomeAnd (slice_get self.now.rows place) (λ row. result ≡ row.0) }
+    {
+        self.rows.rows()[place].key
+    }
+
+    /// How many undo records and touches the row at a place has.
+    pub fn records_at(&self, place: usize) -> usize
+        requires { place < length self.now.rows }
+        ensures { IsSomeAnd (slice_get self.now.rows place) (λ row. result ≡ records_in row.1) }
+    {
+        let heads = self.heads.get(self.rows.rows()[place].key);
+        self.chains.records_in_both(heads.undos, heads.touches)
+    }
+
+    /// Sets both fence keys of a segment that has no row.
+    pub fn place_at(&mut self, at: Key)
+        requires { self.old.rows ≡ [] }
+        ensures { self.new ≡ record self.old { low = at; high = at } }
+    {
+        self.rows.set_fences(at, at);
+    }
+
+    /// The value of a key for a snapshot.
+    pub fn read<S: States>(&self, key: Key, snapshot: &Snapshot, states: &mut S) -> Option<u64>
+        requires known { snapshot.now.start ≤ (S.knowledge states.old).known }
+        requires named { IsNamed (S.knowledge states.old).names (versions_at self.now key) }
+        ensures value { result ≡ read_stamped (S.knowledge states.old).stamps snapshot.now.start snapshot.now.own
+            (versions_at self.now key) }
+        ensures grows { Grows (S.knowledge states.old) (S.knowledge states.new) }
+    {
+        match find_row(&self.rows, &self.heads, key) {
+            Ok(row) => self.chains.value_at(row.undos, row.value, snapshot, states),
+            Err(_) => None,
+        }
+    }
+
+    /// Who stands against a write of a key's value: the newest writer.
+    pub fn check<S: States>(
+        &self,
+        key: Key,
+        snapshot: &Snapshot,
+        states: &mut S,
+    ) -> Result<(), Cause>
+        requires { IsNamed (S.knowledge states.old).names (versions_at self.now key) }
+        ensures checked { IsChecked (S.knowledge states.old) (S.knowledge states.new) snapshot.now
+            (newest_of (versions_at self.now key)) (cause_in result) }
+        ensures grows { Grows (S.knowledge states.old) (S.knowledge states.new) }
+    {
+        match find_row(&self.rows, &self.heads, key) {
+            Ok(row) => unless_met(newest_cause(&self.chains, row.undos, snapshot, states)),
+            Err(_) => Ok(()),
+        }
+    }
+
+    /// Who stands against the removal of a key's vertex: the newest writer, and those who have added an edge there.
+    pub fn check_drop<S: States>(
+        &self,
+        key: Key,
+        snapshot: &Snapshot,
+        states: &mut S,
+    ) -> Result<(), Cause>
+        requires { IsNamed (S.knowledge states.old).names (versions_at self.now key) }
+        ensures checked { IsChecked (S.knowledge states.old) (S.knowledge states.new) snapshot.now
+            (newest_and_touches (versions_at self.now key)) (cause_in result) }
+        ensures grows { Grows (S.knowledge states.old) (S.knowledge states.new) }
+    {
+        match find_row(&self.rows, &self.heads, key) {
+            Ok(row) => {
+                let newest = newest_cause(&self.chains, row.undos, snapshot, states);
+                let touches = touch_cause(&self.chains, row.touches, snapshot, states);
+                unless_met(combined(newest, touches))
+            }
+            Err(_) => Ok(()),
+        }
+    }
+
+    /// Who stands against an edge at a key's vertex: those who have removed it.
+    pub fn check_end<S: States>(
+        &self,
+        key: Key,
+        snapshot: &Snapshot,
+        states: &mut S,
+    ) -> Result<(), Cause>
+        requires { IsNamed (S.knowledge states.old).names (versions_at self.now key) }
+        ensures checked { IsChecked (S.knowledge states.old) (S.knowledge states.new) snapshot.now
+            (drops_of (versions_at self.now key)) (cause_in result) }
+        ensures grows { Grows (S.knowledge states.old) (S.knowledge states.new) }
+    {
+        match find_row(&self.rows, &self.heads, key) {
+            Ok(row) => {
+                unless_met(drop_cause(&self.chains, row.undos, row.value, snapshot, states))
+            }
+            Err(_) => Ok(()),
+        }
+    }
+
     /// Writes a value, or removes the one that is there, where nobody stands against it.
     pub fn write(&mut self, key: Key, value: Option<u64>, by: TxnName)
         requires within { is_between self.old.low self.old.high key ≡ true }
@@ -193,6 +295,28 @@ impl VersionSegment {
         let touches = self.chains.untouch(row.touches, by);
         let row = FoundRow { touches, ..row };
         set_row(&mut self.rows, &mut self.heads, key, row);
+    }
+
+    /// Gives the records and touches of a writer in one row its commit stamp, if the row is there.
+    pub fn stamp(&mut self, key: Key, by: TxnName, stamp: u64)
+        ensures stamped { ChangesKey self.old self.new key (stamped_versions.stamp by stamp (versions_at self.old key)) }
+        ensures spare { self.old.spare ≤ self.new.spare }
+    {
+        if let Ok(row) = find_row(&self.rows, &self.heads, key) {
+            self.chains.stamp(row.undos, by, stamp);
+            self.chains.stamp(row.touches, by, stamp);
+            set_row(&mut self.rows, &mut self.heads, key, row);
+        }
+    }
+}
+
+/// A write may be made unless somebody stands against it.
+fn unless_met(cause: Option<Cause>) -> Result<(), Cause>
+    ensures { cause_in result ≡ cause }
+{
+    match cause {
+        Some(cause) => Err(cause),
+        None => Ok(()),
     }
 }
 
