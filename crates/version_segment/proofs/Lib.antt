@@ -5,3 +5,5 @@ pub mod PartLemmas
 pub mod VersionLemmas
 pub mod ChangeLemmas
 pub mod WalkLemmas
+pub mod PruneLemmas
+pub mod RunLemmas

@@ -3,6 +3,7 @@ use Rattle.std.specs.Prelude.{◌≡◌, ℕ, Bool, true, false, nat_lt, cond, L
 use Rattle.std.specs.List.{AllByRecursion, filter}
 use Rattle.std.specs.declared.result.Result.{Result}
 use Rattle.std.specs.declared.result.Result.TheVariants.{Ok, Err}
+use Rattle.graph_model.specs.declared.row.Key.{Key}
 use Rattle.graph_model.specs.declared.journal.TxnName.{TxnName}
 use Rattle.graph_model.specs.declared.state.State.{State}
 use Rattle.graph_model.specs.declared.state.State.TheVariants.{Live, Committed, Aborted}
@@ -24,6 +25,9 @@ AreNamedIn names ps = AllByRecursion (λ p. p.stamp ≡ None → has_name names 
 pub record IsNamed (names : List TxnName) (versions : StampedVersions) : Type 0 where
   pub pairs : AreNamedIn names versions.pairs
   pub touches : AreNamedIn names versions.touches
+
+abbrev pub AreNamedRows : List TxnName → List (Key × StampedVersions) → Type 0
+AreNamedRows names rows = AllByRecursion (λ row. IsNamed names row.1) rows
 
 -- ---- one writer
 

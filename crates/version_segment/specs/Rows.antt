@@ -6,8 +6,10 @@ use Rattle.std.specs.FinMap.Entries.{find, put, where_key}
 use Rattle.graph_model.specs.declared.row.Key.{Key}
 use Rattle.graph_model.specs.declared.journal.TxnName.{TxnName}
 use Rattle.graph_model.specs.Conflict.{same_name}
-use Rattle.graph_model.specs.Rows.{key_cmp}
-use Rattle.store_model.specs.Stamped.{Stamped, StampedVersions}
+use Rattle.graph_model.specs.declared.row.Row.{Row}
+use Rattle.graph_model.specs.Rows.{key_cmp, is_between}
+use Rattle.undo_chain.specs.declared.states.Snapshot.{Snapshot}
+use Rattle.store_model.specs.Stamped.{Stamped, StampedVersions, read_stamped, prune_stamped}
 
 -- Rows between a low fence key, which a row may have, and a high one, which none has; and how many more
 -- records can be put with no memory taken.
@@ -93,3 +95,44 @@ untouched by versions = record versions { touches = filter (λ p. not (same_name
 abbrev pub newest_writer : List Stamped → Option TxnName
 newest_writer [] = None
 newest_writer (p ∷ ps) = Some p.by
+
+-- ---- all rows
+
+-- so many records stand in the rows
+abbrev pub all_records : List (Key × StampedVersions) → ℕ
+all_records [] = 0
+all_records (row ∷ rows) = records_in row.1 + all_records rows
+
+-- a row before others, unless nothing is left of it
+abbrev pub unless_nothing : Key → StampedVersions → List (Key × StampedVersions) → List (Key × StampedVersions)
+unless_nothing key versions rows = cond (is_nothing versions) rows ((key, versions) ∷ rows)
+
+-- each row is pruned
+abbrev pub pruned_rows : (TxnName → Option ℕ) → ℕ → List (Key × StampedVersions) → List (Key × StampedVersions)
+pruned_rows stamps horizon [] = []
+pruned_rows stamps horizon (row ∷ rows) =
+    unless_nothing row.0 (prune_stamped stamps horizon row.1) (pruned_rows stamps horizon rows)
+
+-- all rows are pruned, and nothing else has changed
+pub record PrunesRows (stamps : TxnName → Option ℕ) (horizon : ℕ) (old new : VersionedRows) : Type 0 where
+  pub low : new.low ≡ old.low
+  pub high : new.high ≡ old.high
+  pub rows : new.rows ≡ pruned_rows stamps horizon old.rows
+
+-- a row with this value before others, if it has one
+abbrev pub with_row : Key → Option ℕ → List Row → List Row
+with_row key None rows = rows
+with_row key (Some weight) rows = record { key = key; weight = weight } ∷ rows
+
+-- the rows that have a value, by a reading of versions
+abbrev pub rows_read : (StampedVersions → Option ℕ) → List (Key × StampedVersions) → List Row
+rows_read read [] = []
+rows_read read (row ∷ rows) = with_row row.0 (read row.1) (rows_read read rows)
+
+-- the rows of a key range
+abbrev pub range_of : Key → Key → List (Key × StampedVersions) → List (Key × StampedVersions)
+range_of from until rows = filter (λ row. is_between from until row.0) rows
+
+-- the rows of a key range for a snapshot
+abbrev pub rows_at : (TxnName → Option ℕ) → Snapshot → Key → Key → VersionedRows → List Row
+rows_at stamps snapshot from until s = rows_read (read_stamped stamps snapshot.start snapshot.own) (range_of from until s.rows)

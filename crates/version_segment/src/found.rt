@@ -9,12 +9,16 @@ ghost use Rattle.graph_model.specs.declared.row.Key.{Key};
 ghost use Rattle.graph_model.specs.declared.limits.TheConstants.{SEGMENT_ROWS};
 ghost use Rattle.graph_model.specs.Rows.{key_cmp, is_between};
 ghost use Rattle.gap_segment.specs.Fenced.{IsFound, IsGapFor};
+ghost use Rattle.undo_chain.specs.States.{Grows};
+ghost use Rattle.version_segment.specs.Checks.{AreNamedRows};
 ghost use Rattle.version_segment.specs.Heads.{heads_at, settled_heads};
-ghost use Rattle.version_segment.specs.Parts.{IsRow, IsRowFound, is_changed, heads_of, with_value, new_row};
+ghost use Rattle.version_segment.specs.Walks.{row_of, PrunesRow};
+ghost use Rattle.version_segment.specs.Parts.{AreParts, versioned, IsRow, IsRowFound, is_changed, heads_of, with_value, new_row, value_in};
 
 use crate::heads::{HeadMap, Heads};
 use gap_segment::Segment;
 use graph_model::{Key, Row};
+use undo_chain::{Chains, States};
 
 /// Where a row stands, its newest value, and where its records and its touches begin.
 #[derive(Clone, Copy, Debug, PartialEq, Eq)]
@@ -45,10 +49,17 @@ pub(crate) fn row_at(rows: &Segment, heads: &HeadMap, key: Key, place: usize) ->
     let heads = heads.get(key);
     FoundRow {
         place,
-        value: if heads.has_value { Some(weight) } else { None },
+        value: value_in(heads, weight),
         undos: heads.undos,
         touches: heads.touches,
     }
+}
+
+/// The newest value of a row with this weight.
+pub(crate) fn value_in(heads: Heads, weight: u64) -> Option<u64>
+    ensures { result ≡ value_in heads weight }
+{
+    if heads.has_value { Some(weight) } else { None }
 }
 
 /// Gives a row its newest value and its lists, or takes it away where nothing is left of it.
@@ -91,6 +102,37 @@ pub(crate) fn insert_row(rows: &mut Segment, heads: &mut HeadMap, key: Key, row:
     };
     rows.insert_at(row.place, Row { key, weight });
     heads.put(key, heads_of(row));
+}
+
+/// Takes the records of a row away that nobody can see from the horizon on, and the row itself where nothing is
+/// left of it.
+pub(crate) fn prune_row<S: States>(
+    rows: &mut Segment,
+    heads: &mut HeadMap,
+    chains: &mut Chains,
+    place: usize,
+    horizon: u64,
+    states: &mut S,
+)
+    requires parts { AreParts rows.old heads.old.entries chains.old }
+    requires place { place < length rows.old.rows }
+    requires known { horizon ≤ (S.knowledge states.old).known }
+    requires named { AreNamedRows (S.knowledge states.old).names
+        (row_of (versioned chains.old heads.old.entries rows.old.rows) place) }
+    ensures pruned { PrunesRow (S.knowledge states.old).stamps horizon place rows.old rows.new heads.old heads.new
+        chains.old chains.new }
+    ensures grows { Grows (S.knowledge states.old) (S.knowledge states.new) }
+{
+    let key = rows.rows()[place].key;
+    let row = row_at(rows, heads, key, place);
+    let undos = chains.prune(row.undos, horizon, states);
+    let touches = chains.prune_touches(row.touches, horizon, states);
+    let row = FoundRow {
+        undos,
+        touches,
+        ..row
+    };
+    set_row(rows, heads, key, row);
 }
 
 /// What the changed rows say of a row.

@@ -6,11 +6,13 @@
 //! 3. A row without value, records and touches isn't there.
 #![tactic(auto)]
 
+mod buffer;
 mod checks;
 mod found;
 mod heads;
 mod segment;
 
+pub use buffer::Rows32;
 pub use found::FoundRow;
 pub use heads::{ChangedRow, Heads};
 pub use segment::VersionSegment;

@@ -5,17 +5,18 @@ ghost use Rattle.graph_model.specs.declared.limits.TheConstants.{SEGMENT_ROWS};
 ghost use Rattle.graph_model.specs.Rows.{is_below, is_between};
 ghost use Rattle.store_model.specs.Stamped as stamped_versions;
 ghost use Rattle.store_model.specs.Stamped.{read_stamped};
-ghost use Rattle.version_segment.specs.Checks.{IsNamed, IsChecked, cause_in, newest_of, newest_and_touches, drops_of};
+ghost use Rattle.version_segment.specs.Checks.{IsNamed, AreNamedRows, IsChecked, cause_in, newest_of, newest_and_touches, drops_of};
 ghost use Rattle.undo_chain.specs.Records.{new_record};
 ghost use Rattle.undo_chain.specs.Chains.{list_at, IsHeadOf, ChangesOneList};
 ghost use Rattle.undo_chain.specs.States.{Grows};
-ghost use Rattle.version_segment.specs.Rows.{versions_at, has_row, records_in, ChangesKey, IsSameSegment, written, undone, touched, untouched, newest_writer};
+ghost use Rattle.version_segment.specs.Rows.{versions_at, has_row, records_in, rows_at, all_records, PrunesRows, ChangesKey, IsSameSegment, written, undone, touched, untouched, newest_writer};
 
+use crate::buffer::Rows32;
 use crate::checks::{combined, drop_cause, newest_cause, touch_cause};
-use crate::found::{FoundRow, find_row, insert_row, set_row};
+use crate::found::{FoundRow, find_row, insert_row, prune_row, set_row, value_in};
 use crate::heads::HeadMap;
 use gap_segment::Segment;
-use graph_model::{Cause, Key, NoMemory, SEGMENT_ROWS, TxnName};
+use graph_model::{Cause, Key, NoMemory, Row, SEGMENT_ROWS, TxnName};
 use std::alloc::Global;
 use std::marker::Model;
 use undo_chain::{Chains, Snapshot, States};
@@ -148,6 +149,36 @@ impl VersionSegment {
             Ok(row) => self.chains.value_at(row.undos, row.value, snapshot, states),
             Err(_) => None,
         }
+    }
+
+    /// The rows of a key range for a snapshot. Where all rows of the range are settled they are lent as they stand,
+    /// else the buffer is filled and lent.
+    pub fn run_at<'a, S: States>(
+        &'a self,
+        from: Key,
+        until: Key,
+        snapshot: &Snapshot,
+        states: &mut S,
+        buffer: &'a mut Rows32,
+    ) -> &'a [Row]
+        requires known { snapshot.now.start ≤ (S.knowledge states.old).known }
+        requires named { AreNamedRows (S.knowledge states.old).names self.now.rows }
+        ensures rows { result.now ≡ rows_at (S.knowledge states.old).stamps snapshot.now from until self.now }
+        ensures grows { Grows (S.knowledge states.old) (S.knowledge states.new) }
+    {
+        let run = self.rows.run(from, until);
+        if self.heads.are_settled(from, until) {
+            return run;
+        }
+        let _most = self.rows.len();
+        buffer.clear();
+        'rows: for row in run {
+            let heads = self.heads.get(row.key);
+            let base = value_in(heads, row.weight);
+            let value = self.chains.value_at(heads.undos, base, snapshot, states);
+            buffer.push_value(row.key, value);
+        }
+        buffer.as_slice()
     }
 
     /// Who stands against a write of a key's value: the newest writer.
@@ -307,6 +338,31 @@ impl VersionSegment {
             self.chains.stamp(row.touches, by, stamp);
             set_row(&mut self.rows, &mut self.heads, key, row);
         }
+    }
+
+    /// Takes away what nobody can see from the horizon on, in all rows, and answers how many records went.
+    pub fn prune<S: States>(&mut self, horizon: u64, states: &mut S) -> usize
+        requires known { horizon ≤ (S.knowledge states.old).known }
+        requires named { AreNamedRows (S.knowledge states.old).names self.old.rows }
+        ensures pruned { PrunesRows (S.knowledge states.old).stamps horizon self.old self.new }
+        ensures went { result + all_records self.new.rows ≡ all_records self.old.rows }
+        ensures grows { Grows (S.knowledge states.old) (S.knowledge states.new) }
+        ensures spare { self.old.spare ≤ self.new.spare }
+    {
+        let spare = self.chains.spare();
+        let mut place = self.rows.len();
+        'rows: while place > 0 {
+            place -= 1;
+            prune_row(
+                &mut self.rows,
+                &mut self.heads,
+                &mut self.chains,
+                place,
+                horizon,
+                states,
+            );
+        }
+        self.chains.spare() - spare
     }
 }
 
