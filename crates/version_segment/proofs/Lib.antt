@@ -7,3 +7,4 @@ pub mod ChangeLemmas
 pub mod WalkLemmas
 pub mod PruneLemmas
 pub mod RunLemmas
+pub mod MoveLemmas

@@ -1,10 +1,12 @@
 -- What the parts of a segment stand for. Only the crate itself speaks of it.
-use Rattle.std.specs.Prelude.{◌≡◌, ℕ, Bool, true, false, ◌||◌, not, cond, is_some, min, List, [], ◌∷◌, ◌++◌, remove, slice_get, IsSomeAnd, Option, Some, None}
+use Rattle.std.specs.Prelude.{◌≡◌, ℕ, Bool, true, false, ◌||◌, not, cond, is_some, min, length, ◌+◌, ◌≤◌, List, [], ◌∷◌, ◌++◌, remove, slice_get, IsSomeAnd, Option, Some, None}
+use Rattle.std.specs.Ordering.{eq_by_cmp}
 use Rattle.std.specs.Option.{unwrap_or}
 use Rattle.std.specs.declared.result.Result.{Result}
 use Rattle.std.specs.declared.result.Result.TheVariants.{Ok, Err}
 use Rattle.graph_model.specs.declared.row.Key.{Key}
 use Rattle.graph_model.specs.declared.row.Row.{Row}
+use Rattle.graph_model.specs.Rows.{key_cmp}
 use Rattle.store_model.specs.Stamped.{Stamped, StampedVersions}
 use Rattle.gap_segment.specs.Fenced.{FencedRows, AreFenced, IsGapFor, with_weight}
 use Rattle.undo_chain.specs.Records.{UndoRecord, pairs_of, oldest_of}
@@ -85,3 +87,27 @@ with_value rows place None false = remove rows place
 -- the row that is put; where it has no value its weight isn't read
 abbrev pub new_row : Key → FoundRow → Row
 new_row key row = record { key = key; weight = unwrap_or row.value 0 }
+
+-- ---- a row that moves
+
+-- so many records it has
+abbrev pub records_at_key : ChainMap → Heads → ℕ
+records_at_key c h = length (list_at c h.undos) + length (list_at c h.touches)
+
+-- the versions of one row stand in other parts now, and those of all other rows are as they were
+pub record HandsRow (key : Key) (from_heads from_heads' : HeadTable) (from from' : ChainMap) (to_heads to_heads' : HeadTable)
+    (to to' : ChainMap) : Type 0 where
+  pub from_lists : AreLists from' (heads_at from_heads'.entries)
+  pub to_lists : AreLists to' (heads_at to_heads'.entries)
+  pub from_others : (q : Key) (weight : ℕ) → eq_by_cmp key_cmp q key ≡ false
+      → versions_in from' (heads_at from_heads'.entries q) weight ≡ versions_in from (heads_at from_heads.entries q) weight
+  pub to_others : (q : Key) (weight : ℕ) → eq_by_cmp key_cmp q key ≡ false
+      → versions_in to' (heads_at to_heads'.entries q) weight ≡ versions_in to (heads_at to_heads.entries q) weight
+  pub moved : (weight : ℕ)
+      → versions_in to' (heads_at to_heads'.entries key) weight ≡ versions_in from (heads_at from_heads.entries key) weight
+  pub from_rest : ((q : Key) → HasRest (heads_at from_heads.entries q)) → (q : Key) → HasRest (heads_at from_heads'.entries q)
+  pub to_rest : ((q : Key) → HasRest (heads_at to_heads.entries q)) → (q : Key) → HasRest (heads_at to_heads'.entries q)
+  pub from_spare : from.spare ≤ from'.spare
+  pub from_entry : from_heads.spare ≤ from_heads'.spare
+  pub to_spare : to.spare ≤ to'.spare + records_at_key from (heads_at from_heads.entries key)
+  pub to_entry : to_heads.spare ≤ to_heads'.spare + records_at_key from (heads_at from_heads.entries key)

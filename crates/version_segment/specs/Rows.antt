@@ -1,5 +1,5 @@
 -- Rows with their versions, between fence keys, and what the calls do to them.
-use Rattle.std.specs.Prelude.{◌≡◌, ℕ, ◌+◌, Bool, true, false, ◌&&◌, not, cond, is_some, List, [], ◌∷◌, ◌++◌, length, drop, Option, Some, None}
+use Rattle.std.specs.Prelude.{◌≡◌, ℕ, ◌+◌, Bool, true, false, ◌&&◌, not, cond, is_some, List, [], ◌∷◌, ◌++◌, length, take, drop, Option, Some, None}
 use Rattle.std.specs.List.{list_any, filter}
 use Rattle.std.specs.Ordering.{eq_by_cmp}
 use Rattle.std.specs.FinMap.Entries.{find, put, where_key}
@@ -136,3 +136,19 @@ range_of from until rows = filter (λ row. is_between from until row.0) rows
 -- the rows of a key range for a snapshot
 abbrev pub rows_at : (TxnName → Option ℕ) → Snapshot → Key → Key → VersionedRows → List Row
 rows_at stamps snapshot from until s = rows_read (read_stamped stamps snapshot.start snapshot.own) (range_of from until s.rows)
+
+-- ---- two neighbours
+
+-- the key of the first row, or the other key where there is none
+abbrev pub first_key_of : List (Key × StampedVersions) → Key → Key
+first_key_of [] other = other
+first_key_of (row ∷ rows) other = row.0
+
+-- the left one has the first so many rows of both, and the right one the others, with all their versions
+pub record SharesRows (left right left' right' : VersionedRows) (count : ℕ) : Type 0 where
+  pub left_rows : left'.rows ≡ take count (left.rows ++ right.rows)
+  pub right_rows : right'.rows ≡ drop count (left.rows ++ right.rows)
+  pub low : left'.low ≡ left.low
+  pub high : right'.high ≡ right.high
+  pub left_cut : left'.high ≡ first_key_of right'.rows right'.high
+  pub right_cut : right'.low ≡ first_key_of right'.rows right'.high

@@ -10,6 +10,7 @@ mod buffer;
 mod checks;
 mod found;
 mod heads;
+mod moves;
 mod segment;
 
 pub use buffer::Rows32;
