@@ -8,3 +8,5 @@ pub mod WalkLemmas
 pub mod PruneLemmas
 pub mod RunLemmas
 pub mod MoveLemmas
+pub mod SegmentLemmas
+pub mod LawLemmas

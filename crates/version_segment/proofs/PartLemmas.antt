@@ -59,7 +59,7 @@ empty_pairs value [] = refl
 empty_pairs value (u ∷ us) = refl
 
 -- what is nothing has neither a value nor records
-nothing_of : (value : Option ℕ) (us ts : List UndoRecord) → is_nothing (of_lists value us ts) ≡ (is_empty us && (is_empty ts && not (is_some value)))
+pub nothing_of : (value : Option ℕ) (us ts : List UndoRecord) → is_nothing (of_lists value us ts) ≡ (is_empty us && (is_empty ts && not (is_some value)))
 nothing_of value [] ts = ap (λ t. t && not (is_some value)) (empty_touches ts)
 nothing_of value (u ∷ us) ts = refl
 

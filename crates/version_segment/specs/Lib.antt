@@ -5,3 +5,4 @@ pub mod Heads
 pub mod Lists
 pub mod Parts
 pub mod Walks
+pub mod Laws

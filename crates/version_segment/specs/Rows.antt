@@ -1,13 +1,15 @@
 -- Rows with their versions, between fence keys, and what the calls do to them.
-use Rattle.std.specs.Prelude.{◌≡◌, ℕ, ◌+◌, Bool, true, false, ◌&&◌, not, cond, is_some, List, [], ◌∷◌, ◌++◌, length, take, drop, Option, Some, None}
-use Rattle.std.specs.List.{list_any, filter}
+use Rattle.std.specs.Prelude.{◌≡◌, ℕ, ◌+◌, ◌≤◌, Bool, true, false, ◌&&◌, not, cond, is_some, List, [], ◌∷◌, ◌++◌, length, take, drop, Option, Some, None}
+use Rattle.std.specs.List.{AllByRecursion, list_any, filter}
 use Rattle.std.specs.Ordering.{eq_by_cmp}
 use Rattle.std.specs.FinMap.Entries.{find, put, where_key}
 use Rattle.graph_model.specs.declared.row.Key.{Key}
 use Rattle.graph_model.specs.declared.journal.TxnName.{TxnName}
 use Rattle.graph_model.specs.Conflict.{same_name}
 use Rattle.graph_model.specs.declared.row.Row.{Row}
-use Rattle.graph_model.specs.Rows.{key_cmp, is_between}
+use Rattle.graph_model.specs.Rows.{key_cmp, is_below, is_between}
+use Rattle.graph_model.specs.declared.limits.TheConstants.{SEGMENT_ROWS}
+use Rattle.version_segment.specs.Keyed.{RisesBy}
 use Rattle.undo_chain.specs.declared.states.Snapshot.{Snapshot}
 use Rattle.store_model.specs.Stamped.{Stamped, StampedVersions, read_stamped, prune_stamped}
 
@@ -39,7 +41,7 @@ has_row s key = is_some (find key_cmp key s.rows)
 abbrev pub records_in : StampedVersions → ℕ
 records_in versions = length versions.pairs + length versions.touches
 
--- ---- one key changes
+-- ---- what holds of each segment
 
 abbrev pub is_empty : {X : Type 0} → List X → Bool
 is_empty [] = true
@@ -48,6 +50,16 @@ is_empty (x ∷ xs) = false
 -- neither a value nor a record
 abbrev pub is_nothing : StampedVersions → Bool
 is_nothing versions = is_empty versions.pairs && (is_empty versions.touches && not (is_some versions.oldest))
+
+-- keys strictly rise between the fence keys, no row is nothing, and there are 32 at most
+pub record IsSegment (s : VersionedRows) : Type 0 where
+  pub fences : is_below s.high s.low ≡ false
+  pub rising : RisesBy (λ row. row.0) s.rows
+  pub within : AllByRecursion (λ row. is_between s.low s.high row.0 ≡ true) s.rows
+  pub something : AllByRecursion (λ row. is_nothing row.1 ≡ false) s.rows
+  pub small : length s.rows ≤ SEGMENT_ROWS
+
+-- ---- one key changes
 
 -- the rows, of which the one with this key has these versions; where they are nothing it isn't there
 abbrev pub with_versions : Key → StampedVersions → List (Key × StampedVersions) → List (Key × StampedVersions)

@@ -10,10 +10,14 @@ mod buffer;
 mod checks;
 mod found;
 mod heads;
+mod laws;
 mod moves;
 mod segment;
 
 pub use buffer::Rows32;
 pub use found::FoundRow;
 pub use heads::{ChangedRow, Heads};
+pub use laws::{
+    changes_are_by_key, changes_are_of_versions, checks_are_by_names, segments_are_cells,
+};
 pub use segment::VersionSegment;

@@ -9,7 +9,7 @@ ghost use Rattle.version_segment.specs.Checks.{IsNamed, AreNamedRows, IsChecked,
 ghost use Rattle.undo_chain.specs.Records.{new_record};
 ghost use Rattle.undo_chain.specs.Chains.{list_at, IsHeadOf, ChangesOneList};
 ghost use Rattle.undo_chain.specs.States.{Grows};
-ghost use Rattle.version_segment.specs.Rows.{versions_at, has_row, records_in, rows_at, all_records, PrunesRows, ChangesKey, IsSameSegment, written, undone, touched, untouched, newest_writer};
+ghost use Rattle.version_segment.specs.Rows.{versions_at, has_row, records_in, rows_at, all_records, PrunesRows, ChangesKey, IsSegment, IsSameSegment, written, undone, touched, untouched, newest_writer};
 
 use crate::buffer::Rows32;
 use crate::checks::{combined, drop_cause, newest_cause, touch_cause};
@@ -71,8 +71,10 @@ impl VersionSegment {
         self.rows.high()
     }
 
+    /// How many rows there are. What holds of each segment is a clause of this call.
     pub fn len(&self) -> usize
-        ensures { result ≡ length self.now.rows }
+        ensures len { result ≡ length self.now.rows }
+        ensures sound { IsSegment self.now }
     {
         self.rows.len()
     }
