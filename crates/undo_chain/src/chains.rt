@@ -193,7 +193,8 @@ impl Chains {
         ensures list { list_at self.new result ≡ without_touch by (list_at self.old head) }
         ensures others { ChangesOneList self.old self.new head result }
         ensures spare { self.old.spare ≤ self.new.spare }
-        ensures freed { self.new.spare + length (list_at self.new result) ≡ self.old.spare + length (list_at self.old head) }
+        ensures freed { self.new.spare + length (list_at self.new result)
+            ≡ self.old.spare + length (list_at self.old head) }
     {
         if !self.has_writer(head, by) {
             return head;
@@ -226,7 +227,8 @@ impl Chains {
         ensures others { ChangesOneList self.old self.new head result }
         ensures grows { Grows (S.knowledge states.old) (S.knowledge states.new) }
         ensures spare { self.old.spare ≤ self.new.spare }
-        ensures freed { self.new.spare + length (list_at self.new result) ≡ self.old.spare + length (list_at self.old head) }
+        ensures freed { self.new.spare + length (list_at self.new result)
+            ≡ self.old.spare + length (list_at self.old head) }
     {
         if !self.has_settled(head, horizon, states) {
             return head;
@@ -259,7 +261,8 @@ impl Chains {
         ensures others { ChangesOneList self.old self.new head result }
         ensures grows { Grows (S.knowledge states.old) (S.knowledge states.new) }
         ensures spare { self.old.spare ≤ self.new.spare }
-        ensures freed { self.new.spare + length (list_at self.new result) ≡ self.old.spare + length (list_at self.old head) }
+        ensures freed { self.new.spare + length (list_at self.new result)
+            ≡ self.old.spare + length (list_at self.old head) }
     {
         if !self.has_settled(head, horizon, states) {
             return head;

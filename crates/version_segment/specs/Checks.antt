@@ -63,7 +63,8 @@ blocked_by snapshot (p ∷ ps) [] = None
 blocked_by snapshot (p ∷ ps) (state ∷ states) = combine (blocked snapshot p.by state) (blocked_by snapshot ps states)
 
 -- what these records say against a write
-pub record IsChecked (old new : Knowledge) (snapshot : Snapshot) (ps : List Stamped) (cause : Option Cause) : Type 0 where
+pub record IsChecked (old new : Knowledge) (snapshot : Snapshot) (ps : List Stamped) (cause : Option Cause)
+    : Type 0 where
   pub states : List State
   pub each : AreStatesOf old new snapshot.own ps states
   pub is : cause ≡ blocked_by snapshot ps states

@@ -17,7 +17,8 @@ use Rattle.version_segment.specs.Rows.{VersionedRows, IsSegment, versions_at, Ch
 -- ---- one row
 
 abbrev pub WrittenIsWrite : Type 0
-WrittenIsWrite = (by : TxnName) (value : Option ℕ) (vs : StampedVersions) → forget_row (written by value vs) ≡ write by value (forget_row vs)
+WrittenIsWrite = (by : TxnName) (value : Option ℕ) (vs : StampedVersions)
+    → forget_row (written by value vs) ≡ write by value (forget_row vs)
 
 abbrev pub UndoneIsUndo : Type 0
 UndoneIsUndo = (vs : StampedVersions) → forget_row (undone vs) ≡ undo (forget_row vs)
@@ -36,7 +37,8 @@ pub record ChangesKeepStamps (stamps : TxnName → Option ℕ) (vs : StampedVers
   pub untouch : (by : TxnName) → IsStamped stamps (untouched by vs)
 
 abbrev pub StampsStayRight : Type 0
-StampsStayRight = (stamps : TxnName → Option ℕ) (vs : StampedVersions) → IsStamped stamps vs → ChangesKeepStamps stamps vs
+StampsStayRight = (stamps : TxnName → Option ℕ) (vs : StampedVersions)
+    → IsStamped stamps vs → ChangesKeepStamps stamps vs
 
 -- ---- all rows
 
@@ -47,7 +49,8 @@ KeyChanged = (old new : VersionedRows) (key : Key) (vs : StampedVersions) → Ch
 
 -- a prune prunes the versions of each key
 abbrev pub KeysPruned : Type 0
-KeysPruned = (stamps : TxnName → Option ℕ) (horizon : ℕ) (old new : VersionedRows) → IsSegment old → PrunesRows stamps horizon old new
+KeysPruned = (stamps : TxnName → Option ℕ) (horizon : ℕ) (old new : VersionedRows)
+    → IsSegment old → PrunesRows stamps horizon old new
     → (q : Key) → versions_at new q ≡ prune_stamped stamps horizon (versions_at old q)
 
 -- a move keeps the rows of both, with all their versions
@@ -80,6 +83,7 @@ AreFit is_live stamps (p ∷ ps) [] = ⊥
 
 -- for such states the answer is that of the check over names
 abbrev pub BlockedIsCheck : Type 0
-BlockedIsCheck = (is_live : TxnName → Bool) (stamps : TxnName → Option ℕ) (snapshot : Snapshot) (ps : List Stamped) (states : List State)
+BlockedIsCheck = (is_live : TxnName → Bool) (stamps : TxnName → Option ℕ) (snapshot : Snapshot)
+    (ps : List Stamped) (states : List State)
     → AreFit is_live stamps ps states
     → blocked_by snapshot ps states ≡ check is_live stamps snapshot.start snapshot.own (map (λ p. p.by) ps)

@@ -62,7 +62,8 @@ view_of rows heads c = record {
 
 -- a row's place, its newest value and its lists
 pub record IsRow (rows : List Row) (heads : List ChangedRow) (key : Key) (row : FoundRow) : Type 0 where
-  pub at : IsSomeAnd (slice_get rows row.place) (λ r. (r.key ≡ key) × (row.value ≡ value_in (heads_at heads key) r.weight))
+  pub at : IsSomeAnd (slice_get rows row.place)
+      (λ r. (r.key ≡ key) × (row.value ≡ value_in (heads_at heads key) r.weight))
   pub undos : row.undos ≡ (heads_at heads key).undos
   pub touches : row.touches ≡ (heads_at heads key).touches
 
@@ -76,7 +77,8 @@ abbrev pub is_changed : FoundRow → Bool
 is_changed row = is_some row.undos || is_some row.touches
 
 abbrev pub heads_of : FoundRow → Heads
-heads_of row = record { has_value = is_some row.value || not (is_changed row); undos = row.undos; touches = row.touches }
+heads_of row =
+    record { has_value = is_some row.value || not (is_changed row); undos = row.undos; touches = row.touches }
 
 -- the rows, where one at a place has this value; without value and records it goes
 abbrev pub with_value : List Row → ℕ → Option ℕ → Bool → List Row
@@ -95,17 +97,20 @@ abbrev pub records_at_key : ChainMap → Heads → ℕ
 records_at_key c h = length (list_at c h.undos) + length (list_at c h.touches)
 
 -- the versions of one row stand in other parts now, and those of all other rows are as they were
-pub record HandsRow (key : Key) (from_heads from_heads' : HeadTable) (from from' : ChainMap) (to_heads to_heads' : HeadTable)
-    (to to' : ChainMap) : Type 0 where
+pub record HandsRow (key : Key) (from_heads from_heads' : HeadTable) (from from' : ChainMap)
+    (to_heads to_heads' : HeadTable) (to to' : ChainMap) : Type 0 where
   pub from_lists : AreLists from' (heads_at from_heads'.entries)
   pub to_lists : AreLists to' (heads_at to_heads'.entries)
   pub from_others : (q : Key) (weight : ℕ) → eq_by_cmp key_cmp q key ≡ false
-      → versions_in from' (heads_at from_heads'.entries q) weight ≡ versions_in from (heads_at from_heads.entries q) weight
+      → versions_in from' (heads_at from_heads'.entries q) weight
+      ≡ versions_in from (heads_at from_heads.entries q) weight
   pub to_others : (q : Key) (weight : ℕ) → eq_by_cmp key_cmp q key ≡ false
       → versions_in to' (heads_at to_heads'.entries q) weight ≡ versions_in to (heads_at to_heads.entries q) weight
   pub moved : (weight : ℕ)
-      → versions_in to' (heads_at to_heads'.entries key) weight ≡ versions_in from (heads_at from_heads.entries key) weight
-  pub from_rest : ((q : Key) → HasRest (heads_at from_heads.entries q)) → (q : Key) → HasRest (heads_at from_heads'.entries q)
+      → versions_in to' (heads_at to_heads'.entries key) weight
+      ≡ versions_in from (heads_at from_heads.entries key) weight
+  pub from_rest : ((q : Key) → HasRest (heads_at from_heads.entries q))
+      → (q : Key) → HasRest (heads_at from_heads'.entries q)
   pub to_rest : ((q : Key) → HasRest (heads_at to_heads.entries q)) → (q : Key) → HasRest (heads_at to_heads'.entries q)
   pub from_spare : from.spare ≤ from'.spare
   pub from_entry : from_heads.spare ≤ from_heads'.spare

@@ -64,7 +64,8 @@ pub record IsSegment (s : VersionedRows) : Type 0 where
 -- the rows, of which the one with this key has these versions; where they are nothing it isn't there
 abbrev pub with_versions : Key → StampedVersions → List (Key × StampedVersions) → List (Key × StampedVersions)
 with_versions key versions rows =
-    cond (is_nothing versions) (where_key key_cmp (λ q. not (eq_by_cmp key_cmp key q)) rows) (put key_cmp key versions rows)
+    cond (is_nothing versions) (where_key key_cmp (λ q. not (eq_by_cmp key_cmp key q)) rows)
+    (put key_cmp key versions rows)
 
 -- the versions of one key are these now, and nothing else has changed
 pub record ChangesKey (old new : VersionedRows) (key : Key) (versions : StampedVersions) : Type 0 where
@@ -98,7 +99,9 @@ has_record by records = list_any (λ p. same_name p.by by) records
 -- a writer's touch stands among the touches once
 abbrev pub touched : TxnName → StampedVersions → StampedVersions
 touched by versions =
-    record versions { touches = cond (has_record by versions.touches) versions.touches (versions.touches ++ new_record by None ∷ []) }
+    record versions {
+      touches = cond (has_record by versions.touches) versions.touches (versions.touches ++ new_record by None ∷ []);
+    }
 
 abbrev pub untouched : TxnName → StampedVersions → StampedVersions
 untouched by versions = record versions { touches = filter (λ p. not (same_name p.by by)) versions.touches }
@@ -147,7 +150,8 @@ range_of from until rows = filter (λ row. is_between from until row.0) rows
 
 -- the rows of a key range for a snapshot
 abbrev pub rows_at : (TxnName → Option ℕ) → Snapshot → Key → Key → VersionedRows → List Row
-rows_at stamps snapshot from until s = rows_read (read_stamped stamps snapshot.start snapshot.own) (range_of from until s.rows)
+rows_at stamps snapshot from until s =
+    rows_read (read_stamped stamps snapshot.start snapshot.own) (range_of from until s.rows)
 
 -- ---- two neighbours
 

@@ -28,8 +28,8 @@ pub record IsOneChecked (old new : Knowledge) (snapshot : Snapshot) (undo : Undo
   pub is : cause ≡ blocked snapshot undo.by state
 
 -- the touches before the link have been asked for; they are the last of the row's
-pub record IsTouchWalk (c : ChainMap) (old now : Knowledge) (snapshot : Snapshot) (head link : Option ℕ) (cause : Option Cause)
-    : Type 0 where
+pub record IsTouchWalk (c : ChainMap) (old now : Knowledge) (snapshot : Snapshot) (head link : Option ℕ)
+    (cause : Option Cause) : Type 0 where
   pub is_link : IsLinkOf c link
   pub asked : IsAsked c old now link
   pub done : List Stamped
@@ -52,38 +52,42 @@ row_of rows place = take 1 (drop place rows)
 
 -- the row at the place is pruned, and nothing else has changed
 abbrev pub with_pruned : (TxnName → Option ℕ) → ℕ → ℕ → List (Key × StampedVersions) → List (Key × StampedVersions)
-with_pruned stamps horizon place rows = take place rows ++ (pruned_rows stamps horizon (row_of rows place) ++ drop (suc place) rows)
+with_pruned stamps horizon place rows =
+    take place rows ++ (pruned_rows stamps horizon (row_of rows place) ++ drop (suc place) rows)
 
 -- the parts after one row is pruned
-pub record PrunesRow (stamps : TxnName → Option ℕ) (horizon place : ℕ) (rows rows' : FencedRows) (heads heads' : HeadTable)
-    (c c' : ChainMap) : Type 0 where
+pub record PrunesRow (stamps : TxnName → Option ℕ) (horizon place : ℕ) (rows rows' : FencedRows)
+    (heads heads' : HeadTable) (c c' : ChainMap) : Type 0 where
   pub parts : AreParts rows' heads'.entries c'
   pub low : rows'.low ≡ rows.low
   pub high : rows'.high ≡ rows.high
-  pub pruned : versioned c' heads'.entries rows'.rows ≡ with_pruned stamps horizon place (versioned c heads.entries rows.rows)
+  pub pruned : versioned c' heads'.entries rows'.rows
+      ≡ with_pruned stamps horizon place (versioned c heads.entries rows.rows)
   pub spare : heads.spare ≤ heads'.spare
   pub room : c.spare ≤ c'.spare
   pub freed : c'.spare + all_records (pruned_rows stamps horizon (row_of (versioned c heads.entries rows.rows) place))
       ≡ c.spare + all_records (row_of (versioned c heads.entries rows.rows) place)
 
 -- the rows from the place on are pruned
-pub record ArePruned (stamps : TxnName → Option ℕ) (horizon place : ℕ) (rows rows' : FencedRows) (heads heads' : HeadTable)
-    (c c' : ChainMap) : Type 0 where
+pub record ArePruned (stamps : TxnName → Option ℕ) (horizon place : ℕ) (rows rows' : FencedRows)
+    (heads heads' : HeadTable) (c c' : ChainMap) : Type 0 where
   pub parts : AreParts rows' heads'.entries c'
   pub low : rows'.low ≡ rows.low
   pub high : rows'.high ≡ rows.high
   pub within : place ≤ length rows.rows
   pub pruned : versioned c' heads'.entries rows'.rows
-      ≡ take place (versioned c heads.entries rows.rows) ++ pruned_rows stamps horizon (drop place (versioned c heads.entries rows.rows))
+      ≡ take place (versioned c heads.entries rows.rows)
+      ++ pruned_rows stamps horizon (drop place (versioned c heads.entries rows.rows))
   pub spare : heads.spare ≤ heads'.spare
   pub room : c.spare ≤ c'.spare
   pub freed : c'.spare + all_records (pruned_rows stamps horizon (drop place (versioned c heads.entries rows.rows)))
       ≡ c.spare + all_records (drop place (versioned c heads.entries rows.rows))
 
 -- the rows of a run up to the place have been read
-pub record IsFilled (c : ChainMap) (heads : List ChangedRow) (old now : Knowledge) (snapshot : Snapshot) (run : List Row) (place : ℕ)
-    (buffer : List Row) : Type 0 where
-  pub rows : buffer ≡ rows_read (read_stamped old.stamps snapshot.start snapshot.own) (versioned c heads (take place run))
+pub record IsFilled (c : ChainMap) (heads : List ChangedRow) (old now : Knowledge) (snapshot : Snapshot) (run : List Row)
+    (place : ℕ) (buffer : List Row) : Type 0 where
+  pub rows : buffer
+      ≡ rows_read (read_stamped old.stamps snapshot.start snapshot.own) (versioned c heads (take place run))
   pub grows : Grows old now
 
 -- so many rows have moved to the right, the last ones first

@@ -332,7 +332,8 @@ impl VersionSegment {
 
     /// Gives the records and touches of a writer in one row its commit stamp, if the row is there.
     pub fn stamp(&mut self, key: Key, by: TxnName, stamp: u64)
-        ensures stamped { ChangesKey self.old self.new key (stamped_versions.stamp by stamp (versions_at self.old key)) }
+        ensures stamped { ChangesKey self.old self.new key
+            (stamped_versions.stamp by stamp (versions_at self.old key)) }
         ensures spare { self.old.spare ≤ self.new.spare }
     {
         if let Ok(row) = find_row(&self.rows, &self.heads, key) {
@@ -389,5 +390,96 @@ fn put_record(chains: &mut Chains, head: Option<usize>, by: TxnName, older: Opti
     match chains.push(head, by, older) {
         Ok(key) => key,
         Err(_) => unreachable!(),
+    }
+}
+
+#[cfg(test)]
+mod tests {
+    use super::*;
+    use graph_model::State;
+    use std::test::Fail;
+
+    /// One transaction may be asked for. It committed as the third.
+    #[derive(Drop)]
+    struct Done {
+        by: TxnName,
+    }
+
+    impl States for Done {
+        ghost use Rattle.std.specs.Prelude.{[], ◌∷◌, true, Some};
+
+        ghost knowledge = { λ s. record {
+          known = 18446744073709551615;
+          stamps = λ by. Some 3;
+          names = s.by ∷ [];
+          vouched = λ by state. true;
+        } };
+
+        fn state(&mut self, _by: TxnName) -> State {
+            State::Committed { stamp: 3 }
+        }
+    }
+
+    /// One transaction may be asked for. It is open.
+    #[derive(Drop)]
+    struct Open {
+        by: TxnName,
+    }
+
+    impl States for Open {
+        ghost use Rattle.std.specs.Prelude.{[], ◌∷◌, true, None};
+
+        ghost knowledge = { λ s. record {
+          known = 18446744073709551615;
+          stamps = λ by. None;
+          names = s.by ∷ [];
+          vouched = λ by state. true;
+        } };
+
+        fn state(&mut self, _by: TxnName) -> State {
+            State::Live
+        }
+    }
+
+    const FIRST: TxnName = TxnName { job: 1, number: 1 };
+
+    const SECOND: TxnName = TxnName { job: 2, number: 1 };
+
+    const READER: Snapshot = Snapshot {
+        start: 3,
+        own: TxnName { job: 3, number: 1 },
+    };
+
+    const LOW: Key = Key { src: 0, second: 0 };
+
+    const HIGH: Key = Key { src: 9, second: 0 };
+
+    const VERTEX: Key = Key { src: 1, second: 0 };
+
+    const ARC: Key = Key { src: 1, second: 3 };
+
+    #[test]
+    fn an_open_write_is_not_read_by_others(rt: HostRuntime) -> Result<(), Fail> {
+        let mut segment = VersionSegment::new(rt.alloc(), LOW, HIGH)?;
+        segment.reserve()?;
+        segment.write(VERTEX, Some(0), FIRST);
+        segment.write(ARC, Some(7), FIRST);
+        let went = segment.prune(3, &mut Done { by: FIRST });
+        assert_eq!(rt; went, 2, "records that went");
+        segment.write(ARC, Some(9), SECOND);
+        let mut buffer = Rows32::new();
+        let run = segment.run_at(LOW, HIGH, &READER, &mut Open { by: SECOND }, &mut buffer);
+        let want = [
+            Row {
+                key: VERTEX,
+                weight: 0,
+            },
+            Row {
+                key: ARC,
+                weight: 7,
+            },
+        ];
+        assert_eq!(rt; run, &want[..], "the rows of the range");
+        Ok(())
     }
 }
