@@ -11,7 +11,7 @@ use Rattle.undo_chain.proofs.ListLemmas.{one_start, one_chain, two_start, two_ch
 
 -- nothing is taken out yet
 pub sift_start : (c : ChainMap) (keep : List UndoRecord → List UndoRecord) (head : Option ℕ) → IsHeadOf c head → IsSifted c c keep head head None
-sift_start c keep head at = record { lists = two_start c head None at tt (λ key e f. no_key key f); same = refl }
+sift_start c keep head at = record { lists = two_start c head None at tt (λ key e f. no_key key f); same = refl; room = omega arith }
 
 module _ (old now later : ChainMap) (keep : List UndoRecord → List UndoRecord) (head rest kept : Option ℕ) (key : ℕ) (is : IsSifted old now keep head rest kept) (at : rest ≡ Some key) where
   lists_at : ChangesTwoLists old now head None (Some key) kept
@@ -35,13 +35,17 @@ module _ (old now later : ChainMap) (keep : List UndoRecord → List UndoRecord)
             ∙ ap (upside_down (list_at now kept)) (sym (keeps h.undo (list_at later rest') taken))
             ∙ ap (λ us. upside_down (list_at now kept) (keep us)) (sym taken)
             ∙ is.same;
+        room =
+            let one : length (list_at now rest) ≡ suc (length (list_at later rest')) = ap length taken in
+            let more : length (list_at later kept') ≡ suc (length (list_at now kept)) = ap length h.given in
+            omega (arith, is.room, h.room);
       }
 
   -- a record goes
-  pub sift_drop : (rest' : Option ℕ) (u : UndoRecord) → list_at now (Some key) ≡ u ∷ list_at later rest' → ChangesOneList now later (Some key) rest' → now.spare ≤ later.spare → keep (u ∷ list_at later rest') ≡ keep (list_at later rest')
+  pub sift_drop : (rest' : Option ℕ) (u : UndoRecord) → list_at now (Some key) ≡ u ∷ list_at later rest' → ChangesOneList now later (Some key) rest' → later.spare ≡ now.spare + 1 → keep (u ∷ list_at later rest') ≡ keep (list_at later rest')
       → IsSifted old later keep head rest' kept
   sift_drop rest' u taken changes spare drops =
-      let two = beside now later (Some key) rest' kept changes lists_at.onto_head sift_apart spare in
+      let two = beside now later (Some key) rest' kept changes lists_at.onto_head sift_apart (omega arith) in
       let stays = changes.others kept lists_at.onto_head sift_apart in
       record {
         lists = two_chain old now later head None (Some key) kept rest' kept lists_at two;
@@ -50,6 +54,10 @@ module _ (old now later : ChainMap) (keep : List UndoRecord → List UndoRecord)
             ∙ ap (upside_down (list_at now kept)) (sym drops)
             ∙ ap (λ us. upside_down (list_at now kept) (keep us)) (sym (at_link now rest key _ at taken))
             ∙ is.same;
+        room =
+            let one : length (list_at now rest) ≡ suc (length (list_at later rest')) = ap length (at_link now rest key _ at taken) in
+            let same_kept : length (list_at later kept) ≡ length (list_at now kept) = ap length stays.list in
+            omega (arith, is.room);
       }
 
   -- what is left goes as a whole
@@ -60,6 +68,24 @@ module _ (old now later : ChainMap) (keep : List UndoRecord → List UndoRecord)
   sift_cut_list changes ends =
       ap (λ us. upside_down us []) (changes.others kept lists_at.onto_head sift_apart).list
       ∙ ap (upside_down (list_at now kept)) (sym ends) ∙ is.same
+
+  -- and gives its room back
+  pub sift_cut_room : ChangesOneList now later (Some key) None → later.spare ≡ now.spare + length (list_at now (Some key)) → later.spare + length (list_at later kept) ≡ old.spare + length (list_at old head)
+  sift_cut_room changes spare =
+      let same_kept : length (list_at later kept) ≡ length (list_at now kept) = ap length (changes.others kept lists_at.onto_head sift_apart).list in
+      let same_rest : length (list_at now rest) ≡ length (list_at now (Some key)) = ap (λ q. length (list_at now q)) at in
+      omega (arith, is.room)
+
+-- a list turned round is as long
+pub length-upside_down : (us vs : List UndoRecord) → length (upside_down us vs) ≡ length us + length vs
+length-upside_down [] vs = omega arith
+length-upside_down (u ∷ us) vs = let rest : length (upside_down us (u ∷ vs)) ≡ length us + suc (length vs) = length-upside_down us (u ∷ vs) in omega (arith, rest)
+
+-- when all records have been looked at, those that are gone have given their room back
+pub sift_room : (old now : ChainMap) (keep : List UndoRecord → List UndoRecord) (head rest kept : Option ℕ) → IsSifted old now keep head rest kept → rest ≡ None → now.spare + length (list_at now kept) ≡ old.spare + length (list_at old head)
+sift_room old now keep head rest kept is e =
+    let none : length (list_at now rest) ≡ 0 = ap length (none_left now rest e) in
+    omega (arith, is.room)
 
 -- all records have been looked at
 pub sift_end : (old now : ChainMap) (keep : List UndoRecord → List UndoRecord) (head rest kept : Option ℕ) → IsSifted old now keep head rest kept → rest ≡ None → keep [] ≡ [] → upside_down (list_at now kept) [] ≡ keep (list_at old head)

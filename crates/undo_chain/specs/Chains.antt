@@ -86,3 +86,4 @@ pub record HandsOver (old new : ChainMap) (from onto from' onto' : Option ℕ) :
   pub taken : list_at old from ≡ undo ∷ list_at new from'
   pub given : list_at new onto' ≡ undo ∷ list_at old onto
   pub lists : ChangesTwoLists old new from onto from' onto'
+  pub room : new.spare ≡ old.spare

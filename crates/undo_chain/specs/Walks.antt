@@ -38,6 +38,7 @@ pub record IsSifted (old now : ChainMap) (keep : List UndoRecord → List UndoRe
     : Type 0 where
   pub lists : ChangesTwoLists old now head None rest kept
   pub same : upside_down (list_at now kept) (keep (list_at now rest)) ≡ keep (list_at old head)
+  pub room : now.spare + (length (list_at now rest) + length (list_at now kept)) ≡ old.spare + length (list_at old head)
 
 -- the records before the rest stand in the other map, upside down
 pub record IsMoved (old now : ChainMap) (to_old to : ChainMap) (head rest moved : Option ℕ) : Type 0 where

@@ -62,6 +62,13 @@ impl Chains {
         Ok(())
     }
 
+    /// How many more records there is room for.
+    pub fn spare(&self) -> usize
+        ensures { result ≡ self.now.spare }
+    {
+        self.records.capacity() - self.records.len()
+    }
+
     /// How many records a list has.
     pub fn records(&self, head: Option<usize>) -> usize
         requires { IsHeadOf self.now head }
@@ -76,6 +83,17 @@ impl Chains {
             }
         }
         most
+    }
+
+    /// How many records two lists have together.
+    pub fn records_in_both(&self, one: Option<usize>, other: Option<usize>) -> usize
+        requires one { IsHeadOf self.now one }
+        requires other { IsHeadOf self.now other }
+        requires apart { AreApart one other }
+        ensures { result ≡ length (list_at self.now one) + length (list_at self.now other) }
+    {
+        let _most = self.records.len();
+        self.records(one) + self.records(other)
     }
 
     /// The writer of the newest record.
@@ -175,6 +193,7 @@ impl Chains {
         ensures list { list_at self.new result ≡ without_touch by (list_at self.old head) }
         ensures others { ChangesOneList self.old self.new head result }
         ensures spare { self.old.spare ≤ self.new.spare }
+        ensures freed { self.new.spare + length (list_at self.new result) ≡ self.old.spare + length (list_at self.old head) }
     {
         if !self.has_writer(head, by) {
             return head;
@@ -207,6 +226,7 @@ impl Chains {
         ensures others { ChangesOneList self.old self.new head result }
         ensures grows { Grows (S.knowledge states.old) (S.knowledge states.new) }
         ensures spare { self.old.spare ≤ self.new.spare }
+        ensures freed { self.new.spare + length (list_at self.new result) ≡ self.old.spare + length (list_at self.old head) }
     {
         if !self.has_settled(head, horizon, states) {
             return head;
@@ -239,6 +259,7 @@ impl Chains {
         ensures others { ChangesOneList self.old self.new head result }
         ensures grows { Grows (S.knowledge states.old) (S.knowledge states.new) }
         ensures spare { self.old.spare ≤ self.new.spare }
+        ensures freed { self.new.spare + length (list_at self.new result) ≡ self.old.spare + length (list_at self.old head) }
     {
         if !self.has_settled(head, horizon, states) {
             return head;
@@ -323,8 +344,8 @@ impl Chains {
         self.records[key].stamp = Some(stamp);
     }
 
-    /// The record at a key.
-    fn record(&self, key: usize) -> Undo
+    /// The record at a key: a head, or the next one of a list.
+    pub fn record(&self, key: usize) -> Undo
         requires { IsSome (record_at self.now.slots key) }
         ensures record { record_at self.now.slots key ≡ Some result }
         ensures list { list_at self.now (Some key) ≡ unlinked result ∷ list_at self.now result.next }
@@ -391,6 +412,7 @@ impl Chains {
         requires apart { AreApart from onto }
         ensures list { list_at self.new result ≡ upside_down (list_at self.old from) (list_at self.old onto) }
         ensures others { ChangesTwoLists self.old self.new from onto None result }
+        ensures spare { self.new.spare ≡ self.old.spare }
     {
         let mut from = from;
         let mut onto = onto;
@@ -404,7 +426,7 @@ impl Chains {
     fn clear(&mut self, head: Option<usize>)
         requires { IsHeadOf self.old head }
         ensures others { ChangesOneList self.old self.new head None }
-        ensures spare { self.old.spare ≤ self.new.spare }
+        ensures spare { self.new.spare ≡ self.old.spare + length (list_at self.old head) }
     {
         let mut rest = head;
         'drop_all: while let Some(key) = rest {

@@ -12,4 +12,5 @@ hand-preserved c =
       two_chain _ _ _ _ _ _ _ _ _ so_far c.hand_over.ensures.lists,
       ap (upside_down (list_at c.hand_over.new.self c.hand_over.result.0)) c.hand_over.ensures.given
           ∙ sym (ap (λ us. upside_down us (list_at c.hand.self c.hand.onto)) taken) ∙ c.hand.invariant.1,
+      c.hand_over.ensures.room ∙ c.hand.invariant.2,
     )

@@ -1,8 +1,9 @@
-use Rattle.std.proofs.Common.{◌∙◌, sym, ap}
+use Rattle.std.proofs.Common.{◌∙◌, sym, ap, ◌≡◌, ◌+◌, [], length, arith}
 use Rattle.undo_chain.specs.Records.{is_settled}
 use Rattle.undo_chain.specs.Chains.{unlinked}
+use Rattle.undo_chain.specs.Chains.{list_at}
 use Rattle.undo_chain.proofs.ListLemmas.{at_link, settled_first, asked_on}
-use Rattle.undo_chain.proofs.SiftLemmas.{front_stays, front_keeps, sift_keep, sift_cut, sift_rest, sift_done, same_first}
+use Rattle.undo_chain.proofs.SiftLemmas.{front_stays, front_keeps, sift_keep, sift_room, length-upside_down, sift_cut, sift_cut_room, sift_rest, sift_done, same_first}
 use Rattle.undo_chain.proofs.chains.Chains.prune.Goals as goal
 
 pub returns-then-not-has_settled-clause-list : goal.returns-then-not-has_settled-clause-list
@@ -21,7 +22,19 @@ keep-preserved g c =
 
 pub returns-then-is_settled_by-clause-others : goal.returns-then-is_settled_by-clause-others
 returns-then-is_settled_by-clause-others g c =
-    sift_done _ _ _ _ _ _ (sift_cut _ _ _ _ _ _ _ _ c.keep.invariant.0 c.in-Some.is c.clear.ensures.others c.clear.ensures.spare) c.pour.ensures.others
+    sift_done _ _ _ _ _ _ (sift_cut _ _ _ _ _ _ _ _ c.keep.invariant.0 c.in-Some.is c.clear.ensures.others (omega (arith, c.clear.ensures.spare))) c.pour.ensures.others
 
 pub returns-clause-others : goal.returns-clause-others
 returns-clause-others g c = sift_done _ _ _ _ _ _ (sift_rest _ _ _ _ _ _ c.keep.invariant.0 c.in_default.is) c.pour-2.ensures.others
+
+pub returns-then-is_settled_by-clause-freed : goal.returns-then-is_settled_by-clause-freed
+returns-then-is_settled_by-clause-freed g c =
+    let all : c.clear.new.self.spare + length (list_at c.clear.new.self c.keep.kept) ≡ c.args.self.now.spare + length (list_at c.args.self.now c.args.head) = sift_cut_room _ _ _ _ _ _ _ _ c.keep.invariant.0 c.in-Some.is c.clear.ensures.others c.clear.ensures.spare in
+    let turned : length (list_at c.pour.new.self c.pour.result) ≡ length (list_at c.clear.new.self c.keep.kept) + 0 = ap length c.pour.ensures.list ∙ length-upside_down _ [] in
+    omega (arith, all, turned, c.pour.ensures.spare)
+
+pub returns-clause-freed : goal.returns-clause-freed
+returns-clause-freed g c =
+    let all : c.keep.self.spare + length (list_at c.keep.self c.keep.kept) ≡ c.args.self.now.spare + length (list_at c.args.self.now c.args.head) = sift_room _ _ _ _ _ _ c.keep.invariant.0 c.in_default.is in
+    let turned : length (list_at c.pour-2.new.self c.pour-2.result) ≡ length (list_at c.keep.self c.keep.kept) + 0 = ap length c.pour-2.ensures.list ∙ length-upside_down _ [] in
+    omega (arith, all, turned, c.pour-2.ensures.spare)

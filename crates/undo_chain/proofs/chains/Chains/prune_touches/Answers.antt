@@ -1,8 +1,9 @@
-use Rattle.std.proofs.Common.{◌∙◌, sym, ap, arith}
+use Rattle.std.proofs.Common.{◌∙◌, sym, ap, arith, ◌≡◌, ◌+◌, [], length}
 use Rattle.undo_chain.specs.Records.{is_settled}
 use Rattle.undo_chain.specs.Chains.{unlinked}
+use Rattle.undo_chain.specs.Chains.{list_at}
 use Rattle.undo_chain.proofs.ListLemmas.{at_link, settled_first, asked_on}
-use Rattle.undo_chain.proofs.SiftLemmas.{filter_stays, filter_keeps, filter_drops, sift_keep, sift_drop, sift_rest, sift_done, same_first}
+use Rattle.undo_chain.proofs.SiftLemmas.{filter_stays, filter_keeps, filter_drops, sift_keep, sift_room, length-upside_down, sift_drop, sift_rest, sift_done, same_first}
 use Rattle.undo_chain.proofs.chains.Chains.prune_touches.Goals as goal
 
 pub returns-then-not-has_settled-clause-list : goal.returns-then-not-has_settled-clause-list
@@ -31,3 +32,9 @@ sift-preserved g c =
 
 pub returns-clause-others : goal.returns-clause-others
 returns-clause-others g c = sift_done _ _ _ _ _ _ (sift_rest _ _ _ _ _ _ c.sift.invariant.0 c.in_default.is) c.pour.ensures.others
+
+pub returns-clause-freed : goal.returns-clause-freed
+returns-clause-freed g c =
+    let all : c.sift.self.spare + length (list_at c.sift.self c.sift.kept) ≡ c.args.self.now.spare + length (list_at c.args.self.now c.args.head) = sift_room _ _ _ _ _ _ c.sift.invariant.0 c.in_default.is in
+    let turned : length (list_at c.pour.new.self c.pour.result) ≡ length (list_at c.sift.self c.sift.kept) + 0 = ap length c.pour.ensures.list ∙ length-upside_down _ [] in
+    omega (arith, all, turned, c.pour.ensures.spare)

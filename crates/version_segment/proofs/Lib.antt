@@ -1,0 +1,12 @@
+pub mod KeyedLemmas
+pub mod HeadLemmas
+pub mod ListLemmas
+pub mod PartLemmas
+pub mod VersionLemmas
+pub mod ChangeLemmas
+pub mod WalkLemmas
+pub mod PruneLemmas
+pub mod RunLemmas
+pub mod MoveLemmas
+pub mod SegmentLemmas
+pub mod LawLemmas

@@ -1,0 +1,12 @@
+use Rattle.undo_chain.specs.States.{Grows}
+use Rattle.version_segment.specs.Walks.{ArePruned}
+use Rattle.version_segment.proofs.segment.VersionSegment.prune.Given as goal
+
+abbrev pub invariant-rows : goal.invariant-rows
+invariant-rows g l =
+    ArePruned (g.S.States.knowledge l.initial.states).stamps l.horizon l.place l.initial.self-inside.rows l.self-inside.rows
+    l.initial.self-inside.heads l.self-inside.heads l.initial.self-inside.chains l.self-inside.chains
+    × Grows (g.S.States.knowledge l.initial.states) (g.S.States.knowledge l.states)
+
+abbrev pub decreases-rows : goal.decreases-rows
+decreases-rows g l = l.place

@@ -1,0 +1,23 @@
+//! Segments of versioned rows.
+//!
+//! 1. A row has its newest value in the segment. Only a changed row has more memory: its undo records and
+//!    touches, and an entry that says where they begin.
+//! 2. A call that is given a key changes the versions of that key alone.
+//! 3. A row without value, records and touches isn't there.
+#![tactic(auto)]
+
+mod buffer;
+mod checks;
+mod found;
+mod heads;
+mod laws;
+mod moves;
+mod segment;
+
+pub use buffer::Rows32;
+pub use found::FoundRow;
+pub use heads::{ChangedRow, Heads};
+pub use laws::{
+    changes_are_by_key, changes_are_of_versions, checks_are_by_names, segments_are_cells,
+};
+pub use segment::VersionSegment;
