@@ -1,0 +1,4 @@
+pub mod PathLemmas
+pub mod ListLemmas
+pub mod BranchLemmas
+pub mod SearchLemmas

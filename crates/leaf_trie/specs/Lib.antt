@@ -1,0 +1,5 @@
+pub mod Path
+pub mod Starts
+pub mod Subtree
+pub mod Nodes
+pub mod Falls

@@ -1,0 +1,75 @@
+-- The nodes of the trie.
+use Rattle.std.specs.Prelude.{ℕ, ◌≡◌, ◌≢◌, ◌+◌, ◌<◌, ◌≤◌, ◌==◌, List, [], ◌∷◌, ◌++◌, Option, Some, None, length, take, drop, get_or, slice_get, Bool, true, false}
+use Rattle.std.specs.List.{AllByRecursion}
+use Rattle.graph_model.specs.declared.row.Key.{Key}
+use Rattle.leaf_trie.specs.declared.start.LeafStart.{LeafStart}
+use Rattle.leaf_trie.specs.declared.branch.Branch.{Branch}
+use Rattle.leaf_trie.specs.declared.branch.Node.{Node}
+use Rattle.leaf_trie.specs.declared.branch.Node.TheVariants.{End, Few, Many}
+use Rattle.leaf_trie.specs.Path.{number, head, digit}
+use Rattle.leaf_trie.specs.Starts.{last_leaf, Puts, Takes}
+
+-- the leaves below branches, one branch after another
+abbrev pub all_starts : List Branch → List LeafStart
+all_starts [] = []
+all_starts (b ∷ bs) = b.starts ++ all_starts bs
+
+abbrev pub children_of : Node → List Branch
+children_of (End low) = []
+children_of (Few branches) = branches.items
+children_of (Many wide) = wide.value.branches.items
+
+-- the leaves below a node; at the end of a path it is the one that stands beside it
+abbrev pub starts_of : ℕ → Node → List LeafStart
+starts_of leaf (End low) = record { low = low; leaf = leaf } ∷ []
+starts_of leaf (Few branches) = all_starts branches.items
+starts_of leaf (Many wide) = all_starts wide.value.branches.items
+
+-- a child is at this level, has leaves, and its byte is theirs
+pub record IsChild (level least : ℕ) (b : Branch) : Type 0 where
+  pub depth : b.level ≡ level
+  pub from : least ≤ b.byte
+  pub some : 0 < length b.starts
+  pub here : AllByRecursion (λ s. digit level s.low ≡ b.byte) b.starts
+
+-- bytes rise from child to child
+abbrev pub AreChildren : ℕ → ℕ → List Branch → Type 0
+AreChildren level least [] = Unit {0}
+AreChildren level least (b ∷ bs) = IsChild level least b × AreChildren level (b.byte + 1) bs
+
+-- the branch at the place has the byte
+pub record HasBranch (branches : List Branch) (place byte : ℕ) (branch : Branch) : Type 0 where
+  pub there : slice_get branches place ≡ Some branch
+  pub same : branch.byte ≡ byte
+
+-- there is no branch at the place, or it has another byte
+abbrev pub HasNoBranch : List Branch → ℕ → ℕ → Type 0
+HasNoBranch branches place byte = (branch : Branch) → slice_get branches place ≡ Some branch → branch.byte ≢ byte
+
+-- so many branches have lesser bytes, and stand before the others
+pub record IsRank (branches : List Branch) (byte rank : ℕ) : Type 0 where
+  pub within : rank ≤ length branches
+  pub below : AllByRecursion (λ b. b.byte < byte) (take rank branches)
+  pub from : AllByRecursion (λ b. byte ≤ b.byte) (drop rank branches)
+
+-- each place has the rank of its byte
+pub record HasRanks (places : List ℕ) (branches : List Branch) : Type 0 where
+  pub wide : length places ≡ 256
+  pub ranks : (byte : ℕ) → byte < 256 → IsRank branches byte (get_or places byte 0)
+
+pub record IsInner (above : ℕ) (branches : List Branch) : Type 0 where
+  pub level : ℕ
+  pub is : above ≡ level + 1
+  pub top : above ≤ 16
+  pub some : 0 < length branches
+  pub children : AreChildren level 0 branches
+
+abbrev pub IsNode : ℕ → Node → Type 0
+IsNode level (End low) = level ≡ 0
+IsNode level (Few branches) = IsInner level branches.items × (length branches.items ≤ 16)
+IsNode level (Many wide) = IsInner level wide.value.branches.items × HasRanks wide.value.places wide.value.branches.items
+
+-- what stands beside a node: its last leaf, and whether that is its only one
+pub record IsSummary (starts : List LeafStart) (last : ℕ) (is_single : Bool) : Type 0 where
+  pub ends : last_leaf starts ≡ Some last
+  pub alone : is_single ≡ (length starts == 1)

@@ -1,0 +1,169 @@
+//! Subtrees of the trie.
+//!
+//! 1. A subtree at level n has read all bytes of its keys but the last n. Its children are one level below it, and
+//!    their bytes rise.
+//! 2. Beside each child stand its last leaf, and whether that is its only one.
+//! 3. After a refused call a subtree has the same leaves.
+
+ghost use Rattle.std.specs.Prelude.{◌≡◌, ◌≢◌, ◌+◌, ◌<◌, ◌≤◌, ◌==◌, [], ◌∷◌, IfOk, IfSome, IfNone, Some, None, ℕ, length, take};
+ghost use Rattle.leaf_trie.specs.Path.{number, digit};
+ghost use Rattle.leaf_trie.specs.Starts.{or_else, last_leaf, AreCandidates, ShareHead};
+ghost use Rattle.leaf_trie.specs.Nodes.{IsNode, IsRank, HasRanks, HasBranch, HasNoBranch, AreChildren, all_starts, children_of};
+
+use graph_model::Key;
+use std::alloc::{AllocError, Global};
+use std::marker::Model;
+
+use crate::path::byte_of;
+use crate::start::{Candidates, LeafStart};
+
+/// A subtree, with the byte that leads to it.
+#[cycle(trie)]
+#[derive(Drop)]
+pub struct Branch {
+    byte: u8,
+    level: u8,
+    is_single: bool,
+    last: u32,
+    node: Node,
+}
+
+/// Children are in the order of their bytes.
+#[cycle(trie)]
+#[derive(Drop)]
+enum Node {
+    /// All bytes are read; the least key of the leaf is that of these bytes.
+    End(Key),
+    /// At most 16 children.
+    Few(Vec<Branch>),
+    /// More, or so many once.
+    Many(Box<Wide>),
+}
+
+/// Children with 256 places, each of which says how many children have lesser bytes.
+#[cycle(trie)]
+#[derive(Drop)]
+struct Wide {
+    places: [u8; 256],
+    branches: Vec<Branch>,
+}
+
+impl Model for Branch {
+    ghost use Rattle.leaf_trie.specs.Subtree.{Subtree};
+
+    ghost Value = { Subtree };
+
+    ghost use Rattle.leaf_trie.specs.Nodes.{starts_of, IsNode, IsSummary};
+
+    ghost view = { λ b. record { byte = b.byte; level = b.level; starts = starts_of b.last b.node } };
+
+    ghost invariant = { λ b. IsNode b.level b.node × IsSummary (starts_of b.last b.node) b.last b.is_single };
+
+    ghost size = { λ s. s.level };
+
+    ghost use Rattle.leaf_trie.specs.Falls.{level_falls};
+
+    ghost size_decreases = { λ b h. level_falls b.level b.node h.0 };
+}
+
+impl Branch {
+    fn byte(&self) -> u8
+        ensures { result ≡ self.now.byte }
+    {
+        self.byte
+    }
+
+    /// The last leaf.
+    fn last(&self) -> u32
+        ensures { last_leaf self.now.starts ≡ Some result }
+    {
+        self.last
+    }
+
+    /// Whether there is one leaf alone.
+    fn is_single(&self) -> bool
+        ensures { result ≡ (length self.now.starts == 1) }
+    {
+        self.is_single
+    }
+
+    /// The leaves whose ranges may hold the key, below this node or else `earlier`.
+    pub fn search(&self, key: Key, earlier: Option<u32>) -> Candidates
+        requires { ShareHead self.now.level key self.now.starts }
+        ensures { AreCandidates key earlier self.now.starts result }
+    {
+        if self.is_single {
+            return Candidates {
+                at: Some(self.last),
+                before: earlier,
+            };
+        }
+        let byte = byte_of(key, self.level - 1);
+        let branches = self.node.branches();
+        let place = self.node.rank(byte);
+        let before = last_before(branches, place, earlier);
+        match branch_at(branches, place, byte) {
+            Some(branch) => branch.search(key, before),
+            None => Candidates { at: None, before },
+        }
+    }
+}
+
+impl Node {
+    fn branches(&self) -> &[Branch]
+        ensures { result.now ≡ children_of self.now }
+    {
+        match self {
+            Node::End(_) => &[],
+            Node::Few(branches) => branches.as_slice(),
+            Node::Many(wide) => wide.branches.as_slice(),
+        }
+    }
+
+    /// How many children have lesser bytes.
+    fn rank(&self, byte: u8) -> usize
+        ensures { (level : ℕ) → IsNode (level + 1) self.now → IsRank (children_of self.now) byte result }
+    {
+        match self {
+            Node::End(_) => 0,
+            Node::Few(branches) => rank_among(branches, byte),
+            Node::Many(wide) => wide.places[byte as usize] as usize,
+        }
+    }
+}
+
+/// How many of the branches have lesser bytes, counted one by one.
+fn rank_among(branches: &Vec<Branch>, byte: u8) -> usize
+    ensures { (level least : ℕ) → AreChildren level least branches.now.items → IsRank branches.now.items byte result }
+{
+    for place in 0..branches.len() {
+        if byte <= branches[place].byte() {
+            return place;
+        }
+    }
+    branches.len()
+}
+
+/// The last leaf of the branches before the place, or the earlier one where there are none.
+fn last_before(branches: &[Branch], place: usize, earlier: Option<u32>) -> Option<u32>
+    requires { place ≤ length branches.now }
+    ensures { result ≡ or_else (last_leaf (all_starts (take place branches.now))) earlier }
+{
+    if place == 0 {
+        earlier
+    } else {
+        Some(branches[place - 1].last())
+    }
+}
+
+/// The branch at the place, if it has the byte.
+fn branch_at(branches: &[Branch], place: usize, byte: u8) -> Option<&Branch>
+    ensures some { IfSome result (λ b. HasBranch branches.now place byte b.now) }
+    ensures none { IfNone result (HasNoBranch branches.now place byte) }
+{
+    if place < branches.len() && branches[place].byte() == byte {
+        Some(&branches[place])
+    } else {
+        None
+    }
+}
