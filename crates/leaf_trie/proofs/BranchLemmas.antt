@@ -1,13 +1,14 @@
 -- Branches in the order of their bytes, and the leaves below them.
-use Rattle.std.proofs.Common.{◌≡◌, ◌≢◌, ℕ, zero, suc, ◌+◌, ◌-◌, ◌<◌, ◌≤◌, ◌==◌, List, [], ◌∷◌, ◌++◌, Option, Some, None, Bool, true, false, length, take, drop, refl, sym, ◌∙◌, ap, subst, arith, append_assoc}
+use Rattle.std.proofs.Common.{◌≡◌, ◌≢◌, ℕ, zero, suc, ◌+◌, ◌-◌, ◌<◌, ◌≤◌, ◌==◌, List, [], ◌∷◌, ◌++◌, Option, Some, None, Bool, true, false, length, take, drop, refl, sym, ◌∙◌, ap, subst, arith, append_assoc, get_or, set, get_or-set_other, get_or-set_same, below_more}
 use Rattle.std.specs.Prelude.{slice_get}
 use Rattle.std.specs.List.{AllByRecursion}
 use Rattle.leaf_trie.specs.Subtree.{Subtree}
 use Rattle.leaf_trie.specs.declared.start.LeafStart.{LeafStart}
 use Rattle.leaf_trie.specs.declared.branch.Branch.{Branch}
 use Rattle.leaf_trie.specs.Path.{digit}
-use Rattle.leaf_trie.specs.Nodes.{all_starts, IsChild, AreChildren, IsRank}
-use Rattle.leaf_trie.proofs.ListLemmas.{all_map, all_append, drop_at, there_within}
+use Rattle.leaf_trie.specs.Starts.{last_leaf}
+use Rattle.leaf_trie.specs.Nodes.{all_starts, IsChild, AreChildren, IsRank, IsInner, IsSummary}
+use Rattle.leaf_trie.proofs.ListLemmas.{all_map, all_append, drop_at, there_within, append_none}
 
 pub starts_append : (bs cs : List Branch) → all_starts (bs ++ cs) ≡ all_starts bs ++ all_starts cs
 starts_append [] cs = refl
@@ -60,3 +61,45 @@ rank_at level least byte i bs b h below e le =
     let k = children_at level least i bs b h e in
     let rest : AllByRecursion (λ (c : Branch). byte ≤ c.byte) (b ∷ drop (suc i) bs) = (le, all_map _ _ (λ (c : Branch) more. omega (arith, more, le)) (drop (suc i) bs) (children_bytes level (b.byte + 1) (drop (suc i) bs) k.1)) in
     record { within = let lt = there_within bs i b e in omega (arith, lt); below = below; from = subst (AllByRecursion (λ (c : Branch). byte ≤ c.byte)) (sym (drop_at bs i b e)) rest }
+
+-- a rank is at most its byte, since bytes rise
+pub rank_small : (level least byte i : ℕ) (bs : List Branch) → AreChildren level least bs → AllByRecursion (λ (c : Branch). c.byte < byte) (take i bs) → i ≤ length bs → least ≤ byte → i + least ≤ byte
+rank_small level least byte zero bs h below le from = omega (arith, from)
+rank_small level least byte (suc i) [] h below le from = absurd (omega (arith, le))
+rank_small level least byte (suc i) (b ∷ bs) h below le from =
+    let up = below.0 in
+    let low = h.0.from in
+    let rest = rank_small level (b.byte + 1) byte i bs h.1 below.1 (omega (arith, le)) (omega (arith, up)) in
+    omega (arith, rest, low)
+
+-- branches below a byte are below the next one
+pub below_next : (byte : ℕ) (bs : List Branch) → AllByRecursion (λ (c : Branch). c.byte < byte) bs → AllByRecursion (λ (c : Branch). c.byte < byte + 1) bs
+below_next byte bs h = all_map _ _ (λ (c : Branch) less. omega (arith, less)) bs h
+
+-- one more place has its rank
+pub ranks_more : (bs : List Branch) (places : List ℕ) (n rank : ℕ) → n < length places → ((k : ℕ) → k < n → IsRank bs k (get_or places k 0)) → IsRank bs n rank → (k : ℕ) → k < n + 1 → IsRank bs k (get_or (set places n rank) k 0)
+ranks_more bs places n rank within before here =
+    below_more _ _
+    (λ k lt. let ne : k ≢ n = omega (arith, lt) in rw get_or-set_other (before k lt))
+    (rw get_or-set_same here)
+
+-- a node with one child has that child's leaves
+pub record Over (level last : ℕ) (is_single : Bool) (bs : List Branch) (child : Branch) : Type 0 where
+  pub inner : IsInner (level + 1) bs
+  pub few : length bs ≤ 16
+  pub summary : IsSummary (all_starts bs) last is_single
+  pub starts : all_starts bs ≡ child.starts
+
+pub over_child : (level last : ℕ) (is_single : Bool) (bs : List Branch) (child : Branch) → bs ≡ child ∷ [] → child.level ≡ level → level < 16 → 0 < length child.starts → AllByRecursion (λ (s : LeafStart). digit child.level s.low ≡ child.byte) child.starts
+    → last_leaf child.starts ≡ Some last → is_single ≡ (length child.starts == 1) → Over level last is_single bs child
+over_child level last is_single bs child is depth low some here ends alone =
+    let starts : all_starts bs ≡ child.starts = ap all_starts is ∙ append_none child.starts in
+    record {
+      inner = record {
+        level = level; is = refl; top = omega (arith, low); some = rw is (omega arith);
+        children = rw is (record { depth = depth; from = omega arith; some = some; here = subst (λ n. AllByRecursion (λ (s : LeafStart). digit n s.low ≡ child.byte) child.starts) depth here }, tt)
+      };
+      few = rw is (omega arith);
+      summary = rw starts (record { ends = ends; alone = alone });
+      starts = starts
+    }

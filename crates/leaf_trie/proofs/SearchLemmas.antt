@@ -12,6 +12,7 @@ use Rattle.leaf_trie.specs.declared.branch.Node.TheVariants.{End, Few, Many}
 use Rattle.leaf_trie.specs.Path.{number, head, digit}
 use Rattle.leaf_trie.specs.Starts.{or_else, last_leaf, AreBelow, AreAbove, ShareHead, AreCandidates}
 use Rattle.leaf_trie.specs.Nodes.{all_starts, children_of, starts_of, IsNode, IsInner, IsSummary, AreChildren, IsRank, HasBranch, HasNoBranch}
+use Rattle.std.proofs.Math.Seq.{take-length}
 use Rattle.leaf_trie.proofs.PathLemmas.{digit_less, digit_same}
 use Rattle.leaf_trie.proofs.ListLemmas.{all_map, all_both, all_append, all_front, all_back, cut, cut_at, take_at, drop_at, append_none}
 use Rattle.leaf_trie.proofs.BranchLemmas.{starts_append, children_take, children_drop, children_at, children_raise, children_bytes, starts_under, starts_from}
@@ -174,3 +175,8 @@ at_branches b node level key bs a share is =
       children = rw is a.children;
       share = subst (λ n. ShareHead n key (all_starts bs)) a.above (subst (ShareHead b.level key) starts share)
     }
+
+-- the last leaf of all is that of the last branch
+pub last_end : (bs : List Branch) (i leaf : ℕ) (b : Branch) → length bs ≡ i + 1 → slice_get bs i ≡ Some b → last_leaf b.starts ≡ Some leaf → last_leaf (all_starts bs) ≡ Some leaf
+last_end bs i leaf b e there last =
+    sym (last_at bs (length bs) i leaf b None e there last ∙ or_else_none _ ∙ ap (λ cs. last_leaf (all_starts cs)) (take-length bs))

@@ -42,6 +42,9 @@ pub record HasBranch (branches : List Branch) (place byte : ℕ) (branch : Branc
   pub there : slice_get branches place ≡ Some branch
   pub same : branch.byte ≡ byte
 
+abbrev pub HasSomeBranch : List Branch → ℕ → ℕ → Type 0
+HasSomeBranch branches place byte = (branch : Branch) × HasBranch branches place byte branch
+
 -- there is no branch at the place, or it has another byte
 abbrev pub HasNoBranch : List Branch → ℕ → ℕ → Type 0
 HasNoBranch branches place byte = (branch : Branch) → slice_get branches place ≡ Some branch → branch.byte ≢ byte

@@ -5,10 +5,11 @@
 //! 2. Beside each child stand its last leaf, and whether that is its only one.
 //! 3. After a refused call a subtree has the same leaves.
 
-ghost use Rattle.std.specs.Prelude.{◌≡◌, ◌≢◌, ◌+◌, ◌<◌, ◌≤◌, ◌==◌, [], ◌∷◌, IfOk, IfSome, IfNone, Some, None, ℕ, length, take};
+ghost use Rattle.std.specs.Prelude.{◌≡◌, ◌≢◌, ◌+◌, ◌<◌, ◌≤◌, ◌==◌, [], ◌∷◌, IfOk, IfSome, IfNone, MatchBool, Some, None, ℕ, length, take};
+ghost use Rattle.std.specs.List.{AllByRecursion};
 ghost use Rattle.leaf_trie.specs.Path.{number, digit};
 ghost use Rattle.leaf_trie.specs.Starts.{or_else, last_leaf, AreCandidates, ShareHead};
-ghost use Rattle.leaf_trie.specs.Nodes.{IsNode, IsRank, HasRanks, HasBranch, HasNoBranch, AreChildren, all_starts, children_of};
+ghost use Rattle.leaf_trie.specs.Nodes.{IsNode, IsRank, HasRanks, HasBranch, HasSomeBranch, HasNoBranch, AreChildren, all_starts, children_of};
 
 use graph_model::Key;
 use std::alloc::{AllocError, Global};
@@ -73,6 +74,12 @@ impl Branch {
         self.byte
     }
 
+    fn level(&self) -> u8
+        ensures { result ≡ self.now.level }
+    {
+        self.level
+    }
+
     /// The last leaf.
     fn last(&self) -> u32
         ensures { last_leaf self.now.starts ≡ Some result }
@@ -132,11 +139,20 @@ impl Node {
     }
 }
 
-/// How many of the branches have lesser bytes, counted one by one.
+/// How many of the branches have lesser bytes.
 fn rank_among(branches: &Vec<Branch>, byte: u8) -> usize
     ensures { (level least : ℕ) → AreChildren level least branches.now.items → IsRank branches.now.items byte result }
 {
-    for place in 0..branches.len() {
+    rank_from(branches, 0, byte)
+}
+
+/// How many of the branches have lesser bytes, counted one by one from a place before which all have.
+fn rank_from(branches: &Vec<Branch>, from: usize, byte: u8) -> usize
+    requires within { from ≤ length branches.now.items }
+    requires below { AllByRecursion (λ b. b.byte < byte) (take from branches.now.items) }
+    ensures { (level least : ℕ) → AreChildren level least branches.now.items → IsRank branches.now.items byte result }
+{
+    for place in from..branches.len() {
         if byte <= branches[place].byte() {
             return place;
         }
@@ -166,4 +182,88 @@ fn branch_at(branches: &[Branch], place: usize, byte: u8) -> Option<&Branch>
     } else {
         None
     }
+}
+
+/// Whether the branch at the place has the byte.
+fn has_byte(branches: &Vec<Branch>, place: usize, byte: u8) -> bool
+    ensures { MatchBool result (HasSomeBranch branches.now.items place byte) (HasNoBranch branches.now.items place byte) }
+{
+    match branch_at(branches.as_slice(), place, byte) {
+        Some(_) => true,
+        None => false,
+    }
+}
+
+/// For each byte, how many of the branches have lesser bytes.
+fn ranks_of(branches: &Vec<Branch>) -> [u8; 256]
+    requires { (level : ℕ) × AreChildren level 0 branches.now.items }
+    ensures { HasRanks result branches.now.items }
+{
+    let mut places = [0; 256];
+    let mut rank = 0;
+    'bytes: for byte in 0..256usize {
+        rank = rank_from(branches, rank, byte as u8);
+        places[byte] = rank as u8;
+    }
+    places
+}
+
+/// The last leaf below the branches.
+fn last_of(branches: &[Branch]) -> u32
+    requires { 0 < length branches.now }
+    ensures { last_leaf (all_starts branches.now) ≡ Some result }
+{
+    branches[branches.len() - 1].last()
+}
+
+/// A leaf whose key has no bytes left.
+fn end_of(start: LeafStart) -> Branch
+    ensures level { result.level ≡ 0 }
+    ensures byte { result.byte ≡ digit 0 start.low }
+    ensures starts { result.starts ≡ start ∷ [] }
+{
+    Branch {
+        byte: byte_of(start.low, 0),
+        level: 0,
+        is_single: true,
+        last: start.leaf,
+        node: Node::End(start.low),
+    }
+}
+
+/// A subtree with one child.
+fn over(alloc: Global, byte: u8, child: Branch) -> Result<Branch, AllocError>
+    requires low { child.level < 16 }
+    requires some { 0 < length child.starts }
+    requires here { AllByRecursion (λ s. digit child.level s.low ≡ child.byte) child.starts }
+    ensures level { IfOk result (λ b. b.level ≡ child.level + 1) }
+    ensures byte { IfOk result (λ b. b.byte ≡ byte) }
+    ensures starts { IfOk result (λ b. b.starts ≡ child.starts) }
+{
+    let level = child.level() + 1;
+    let is_single = child.is_single();
+    let last = child.last();
+    let mut branches = Vec::with_capacity(alloc, 1)?;
+    branches.push(child)?;
+    Ok(Branch {
+        byte,
+        level,
+        is_single,
+        last,
+        node: Node::Few(branches),
+    })
+}
+
+/// The subtrees from this level down to a leaf.
+fn chain(alloc: Global, level: u8, start: LeafStart) -> Result<Branch, AllocError>
+    requires { level < 16 }
+    ensures level { IfOk result (λ b. b.level ≡ level) }
+    ensures byte { IfOk result (λ b. b.byte ≡ digit level start.low) }
+    ensures starts { IfOk result (λ b. b.starts ≡ start ∷ []) }
+{
+    let mut top = end_of(start);
+    'up: for below in 0..level {
+        top = over(alloc, byte_of(start.low, below + 1), top)?;
+    }
+    Ok(top)
 }

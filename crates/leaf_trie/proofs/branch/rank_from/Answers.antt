@@ -1,7 +1,7 @@
 use Rattle.std.proofs.Common.{◌≡◌, ◌<◌, ◌≤◌, length, refl, arith}
 use Rattle.std.proofs.lemmas.Option.{slice_get_read}
 use Rattle.leaf_trie.proofs.BranchLemmas.{rank_at}
-use Rattle.leaf_trie.proofs.branch.rank_among.Goals as goal
+use Rattle.leaf_trie.proofs.branch.rank_from.Goals as goal
 
 pub returns-then-byte : goal.returns-then-byte
 returns-then-byte c = λ level least children.
