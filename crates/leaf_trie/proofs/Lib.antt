@@ -2,3 +2,4 @@ pub mod PathLemmas
 pub mod ListLemmas
 pub mod BranchLemmas
 pub mod SearchLemmas
+pub mod EditLemmas

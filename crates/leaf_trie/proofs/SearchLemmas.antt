@@ -51,10 +51,10 @@ pub record AtInner (b : Subtree) (node : Node) (level : ℕ) : Type 0 where
   pub starts : b.starts ≡ all_starts (children_of node)
   pub children : AreChildren level 0 (children_of node)
 
-pub at_inner : (b : Subtree) (byte level last : ℕ) (is_single : Bool) (node : Node) → (let s : Subtree = record { byte = byte; level = level; starts = starts_of last node } in s ≡ b)
-    → IsNode level node → IsSummary (starts_of last node) last is_single → is_single ≡ false → AtInner b node (level - 1)
-at_inner b byte level last is_single (End low) view is sum more = let e = sym sum.alone ∙ more in cc e
-at_inner b byte level last is_single (Few bs) view is sum more =
+pub above_end : (b : Subtree) (byte level last : ℕ) (node : Node) → (let s : Subtree = record { byte = byte; level = level; starts = starts_of last node } in s ≡ b)
+    → IsNode level node → ((low : Key) → node ≡ End low → ⊥) → AtInner b node (level - 1)
+above_end b byte level last (End low) view is inner = absurd (inner low refl)
+above_end b byte level last (Few bs) view is inner =
     let up : level ≡ level - 1 + 1 = omega (arith, is.0.is) in
     let same : is.0.level ≡ level - 1 = omega (arith, is.0.is) in
     record {
@@ -64,7 +64,7 @@ at_inner b byte level last is_single (Few bs) view is sum more =
       starts = sym (ap (λ (s : Subtree). s.starts) view);
       children = subst (λ n. AreChildren n 0 bs.items) same is.0.children
     }
-at_inner b byte level last is_single (Many w) view is sum more =
+above_end b byte level last (Many w) view is inner =
     let up : level ≡ level - 1 + 1 = omega (arith, is.0.is) in
     let same : is.0.level ≡ level - 1 = omega (arith, is.0.is) in
     record {
@@ -74,6 +74,13 @@ at_inner b byte level last is_single (Many w) view is sum more =
       starts = sym (ap (λ (s : Subtree). s.starts) view);
       children = subst (λ n. AreChildren n 0 w.value.branches.items) same is.0.children
     }
+
+pub at_inner : (b : Subtree) (byte level last : ℕ) (is_single : Bool) (node : Node) → (let s : Subtree = record { byte = byte; level = level; starts = starts_of last node } in s ≡ b)
+    → IsNode level node → IsSummary (starts_of last node) last is_single → is_single ≡ false → AtInner b node (level - 1)
+at_inner b byte level last is_single node view is sum more =
+    above_end b byte level last node view is (λ low end.
+      let one : IsSummary (starts_of last (End low)) last is_single = subst (λ n. IsSummary (starts_of last n) last is_single) end sum in
+      let e = sym one.alone ∙ more in cc e)
 
 -- below a place lie leaves below the key
 pub front_below : (level byte place : ℕ) (key : Key) (bs : List Branch) → AreChildren level 0 bs → ShareHead (level + 1) key (all_starts bs) → byte ≡ digit level key → IsRank bs byte place → AreBelow key (all_starts (take place bs))
@@ -131,6 +138,20 @@ found_below level place key bs b earlier before found d last c =
     regroup : (a b c d e : List LeafStart) → a ++ ((b ++ (c ++ d)) ++ e) ≡ (a ++ b) ++ (c ++ (d ++ e))
     regroup a b c d e = simp append_assoc
 
+first_dropped : (bs : List Branch) (i : ℕ) (b : Branch) → slice_get (drop i bs) 0 ≡ Some b → slice_get bs i ≡ Some b
+first_dropped [] zero b e = e
+first_dropped [] (suc i) b e = cc
+first_dropped (x ∷ xs) zero b e = e
+first_dropped (x ∷ xs) (suc i) b e = first_dropped xs i b e
+
+-- where no branch has a byte, those from its rank on are above it
+pub gap : (level byte place : ℕ) (bs : List Branch) → AreChildren level 0 bs → IsRank bs byte place → HasNoBranch bs place byte → AreChildren level (byte + 1) (drop place bs)
+gap level byte place bs h rank no_branch = raised (drop place bs) (children_drop level 0 place bs h) rank.from (λ b e. no_branch b (first_dropped bs place b e))
+  where
+    raised : (cs : List Branch) → AreChildren level 0 cs → AllByRecursion (λ (b : Branch). byte ≤ b.byte) cs → ((b : Branch) → slice_get cs 0 ≡ Some b → b.byte ≢ byte) → AreChildren level (byte + 1) cs
+    raised [] h from other = tt
+    raised (c ∷ cs) h from other = (record { depth = h.0.depth; from = (let ne = other c refl in let low = from.0 in omega (arith, ne, low)); some = h.0.some; here = h.0.here }, h.1)
+
 -- where no branch has the key's byte there is no candidate but the last leaf before
 pub found_none : (level byte place : ℕ) (key : Key) (bs : List Branch) (earlier before : Option ℕ) → AreChildren level 0 bs → ShareHead (level + 1) key (all_starts bs) → byte ≡ digit level key → IsRank bs byte place → HasNoBranch bs place byte
     → before ≡ or_else (last_leaf (all_starts (take place bs))) earlier → AreCandidates key earlier (all_starts bs) (record { at = None; before = before })
@@ -147,17 +168,6 @@ found_none level byte place key bs earlier before h share same rank no_branch la
       at = refl;
       before = last
     }
-  where
-    raised : (level least m : ℕ) (cs : List Branch) → AreChildren level least cs → AllByRecursion (λ (b : Branch). m ≤ b.byte) cs → ((b : Branch) → slice_get cs 0 ≡ Some b → b.byte ≢ m) → AreChildren level (m + 1) cs
-    raised level least m [] h from other = tt
-    raised level least m (c ∷ cs) h from other = (record { depth = h.0.depth; from = (let ne = other c refl in let low = from.0 in omega (arith, ne, low)); some = h.0.some; here = h.0.here }, h.1)
-    first_dropped : (bs : List Branch) (i : ℕ) (b : Branch) → slice_get (drop i bs) 0 ≡ Some b → slice_get bs i ≡ Some b
-    first_dropped [] zero b e = e
-    first_dropped [] (suc i) b e = cc
-    first_dropped (x ∷ xs) zero b e = e
-    first_dropped (x ∷ xs) (suc i) b e = first_dropped xs i b e
-    gap : (level byte place : ℕ) (bs : List Branch) → AreChildren level 0 bs → IsRank bs byte place → HasNoBranch bs place byte → AreChildren level (byte + 1) (drop place bs)
-    gap level byte place bs h rank no_branch = raised level 0 byte (drop place bs) (children_drop level 0 place bs h) rank.from (λ b e. no_branch b (first_dropped bs place b e))
 
 -- the same of a list of its branches, for a key that shares what was read above
 pub record AtBranches (b : Subtree) (level : ℕ) (key : Key) (bs : List Branch) : Type 0 where

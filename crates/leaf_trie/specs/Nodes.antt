@@ -1,5 +1,6 @@
 -- The nodes of the trie.
-use Rattle.std.specs.Prelude.{ℕ, ◌≡◌, ◌≢◌, ◌+◌, ◌<◌, ◌≤◌, ◌==◌, List, [], ◌∷◌, ◌++◌, Option, Some, None, length, take, drop, get_or, slice_get, Bool, true, false}
+use Rattle.std.specs.Prelude.{ℕ, ◌≡◌, ◌≢◌, ◌+◌, ◌<◌, ◌≤◌, ◌==◌, List, [], ◌∷◌, ◌++◌, Option, Some, None, length, take, drop, get_or, slice_get, map, Bool, true, false, Result, Ok, Err}
+use Rattle.std.specs.declared.alloc.AllocError.{AllocError}
 use Rattle.std.specs.List.{AllByRecursion}
 use Rattle.graph_model.specs.declared.row.Key.{Key}
 use Rattle.leaf_trie.specs.declared.start.LeafStart.{LeafStart}
@@ -76,3 +77,38 @@ IsNode level (Many wide) = IsInner level wide.value.branches.items × HasRanks w
 pub record IsSummary (starts : List LeafStart) (last : ℕ) (is_single : Bool) : Type 0 where
   pub ends : last_leaf starts ≡ Some last
   pub alone : is_single ≡ (length starts == 1)
+
+abbrev pub bytes_of : List Branch → List ℕ
+bytes_of branches = map (λ b. b.byte) branches
+
+-- a leaf was put below the branches
+pub record PutsBelow (level : ℕ) (start : LeafStart) (old new : List Branch) : Type 0 where
+  pub children : AreChildren level 0 new
+  pub puts : Puts start (all_starts old) (all_starts new)
+
+-- it got a branch of its own, at a place that had none with its byte, or stands below one that was there; or nothing changed
+abbrev pub PutsAmong : ℕ → ℕ → LeafStart → List Branch → List Branch → Result Bool AllocError → Type 0
+PutsAmong level place start old new (Ok true) = PutsBelow level start old new × HasNoBranch old place (digit level start.low) × (length new ≡ length old + 1)
+PutsAmong level place start old new (Ok false) = PutsBelow level start old new × (bytes_of new ≡ bytes_of old)
+PutsAmong level place start old new (Err e) = new ≡ old
+
+-- a leaf was put below the node, or it has the same leaves
+abbrev pub PutsInNode : ℕ → LeafStart → Node → Node → Result (Unit {0}) AllocError → Type 0
+PutsInNode level start old new (Ok done) = IsNode (level + 1) new × Puts start (all_starts (children_of old)) (all_starts (children_of new))
+PutsInNode level start old new (Err e) = IsNode (level + 1) new × (all_starts (children_of new) ≡ all_starts (children_of old))
+
+-- a leaf was put into the subtree
+pub record PutsInto (start : LeafStart) (old new : Branch) : Type 0 where
+  pub byte : new.byte ≡ old.byte
+  pub level : new.level ≡ old.level
+  pub puts : Puts start old.starts new.starts
+
+abbrev pub PutsOrKeeps : LeafStart → Branch → Branch → Result (Unit {0}) AllocError → Type 0
+PutsOrKeeps start old new (Ok done) = PutsInto start old new
+PutsOrKeeps start old new (Err e) = new ≡ old
+
+-- a list of children may get one more
+abbrev pub HasRoom : ℕ → ℕ → Node → Type 0
+HasRoom place byte (End low) = Unit {0}
+HasRoom place byte (Few branches) = HasNoBranch branches.items place byte → length branches.items < 16
+HasRoom place byte (Many wide) = Unit {0}

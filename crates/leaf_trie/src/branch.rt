@@ -5,15 +5,16 @@
 //! 2. Beside each child stand its last leaf, and whether that is its only one.
 //! 3. After a refused call a subtree has the same leaves.
 
-ghost use Rattle.std.specs.Prelude.{◌≡◌, ◌≢◌, ◌+◌, ◌<◌, ◌≤◌, ◌==◌, [], ◌∷◌, IfOk, IfSome, IfNone, MatchBool, Some, None, ℕ, length, take};
+ghost use Rattle.std.specs.Prelude.{◌≡◌, ◌≢◌, ◌+◌, ◌<◌, ◌≤◌, ◌==◌, [], ◌∷◌, IfOk, OnOk, IfSome, IfNone, MatchBool, Some, None, ℕ, length, take};
 ghost use Rattle.std.specs.List.{AllByRecursion};
 ghost use Rattle.leaf_trie.specs.Path.{number, digit};
-ghost use Rattle.leaf_trie.specs.Starts.{or_else, last_leaf, AreCandidates, ShareHead};
-ghost use Rattle.leaf_trie.specs.Nodes.{IsNode, IsRank, HasRanks, HasBranch, HasSomeBranch, HasNoBranch, AreChildren, all_starts, children_of};
+ghost use Rattle.leaf_trie.specs.Starts.{or_else, last_leaf, AreCandidates, Lacks, ShareHead};
+ghost use Rattle.leaf_trie.specs.Nodes.{IsNode, IsRank, HasRanks, HasBranch, HasSomeBranch, HasNoBranch, AreChildren, HasRoom, PutsAmong, PutsInNode, PutsOrKeeps, all_starts, children_of};
 
 use graph_model::Key;
 use std::alloc::{AllocError, Global};
 use std::marker::Model;
+use std::mem;
 
 use crate::path::byte_of;
 use crate::start::{Candidates, LeafStart};
@@ -116,7 +117,89 @@ impl Branch {
     }
 }
 
+impl Branch {
+    /// Puts a leaf at its place.
+    #[cycle(insertion)]
+    pub fn insert(&mut self, alloc: Global, start: LeafStart) -> Result<(), AllocError>
+        requires share { ShareHead self.old.level start.low self.old.starts }
+        requires absent { Lacks start.low self.old.starts }
+        ensures { PutsOrKeeps start self.old self.new result }
+    {
+        let level = self.level - 1;
+        self.node.put(alloc, level, start)?;
+        self.last = last_of(self.node.branches());
+        self.is_single = false;
+        Ok(())
+    }
+}
+
 impl Node {
+    /// Puts a leaf below this node, whose children are at the level.
+    #[cycle(insertion)]
+    fn put(&mut self, alloc: Global, level: u8, start: LeafStart) -> Result<(), AllocError>
+        requires low { level < 16 }
+        requires node { IsNode (level + 1) self.old }
+        requires share { ShareHead (level + 1) start.low (all_starts (children_of self.old)) }
+        requires absent { Lacks start.low (all_starts (children_of self.old)) }
+        ensures { PutsInNode level start self.old self.new result }
+    {
+        let byte = byte_of(start.low, level);
+        let place = self.rank(byte);
+        self.make_room(alloc, place, byte)?;
+        self.put_at(alloc, level, place, start)
+    }
+
+    /// The same, where the rank of its byte is known and there is room for one more child.
+    #[cycle(insertion)]
+    fn put_at(&mut self, alloc: Global, level: u8, place: usize, start: LeafStart) -> Result<(), AllocError>
+        requires low { level < 16 }
+        requires node { IsNode (level + 1) self.old }
+        requires rank { IsRank (children_of self.old) (digit level start.low) place }
+        requires room { HasRoom place (digit level start.low) self.old }
+        requires share { ShareHead (level + 1) start.low (all_starts (children_of self.old)) }
+        requires absent { Lacks start.low (all_starts (children_of self.old)) }
+        ensures { PutsInNode level start self.old self.new result }
+    {
+        match self {
+            Node::End(_) => unreachable!(),
+            Node::Few(branches) => {
+                put_among(branches, alloc, level, place, start)?;
+                Ok(())
+            }
+            Node::Many(wide) => {
+                if put_among(&mut wide.branches, alloc, level, place, start)? {
+                    wide.places = ranks_of(&wide.branches);
+                }
+                Ok(())
+            }
+        }
+    }
+
+    /// Gives a list of 16 children places, if none of them has the byte.
+    fn make_room(&mut self, alloc: Global, place: usize, byte: u8) -> Result<(), AllocError>
+        requires { (level : ℕ) × IsNode (level + 1) self.old }
+        ensures children { children_of self.new ≡ children_of self.old }
+        ensures node { (level : ℕ) → IsNode (level + 1) self.old → IsNode (level + 1) self.new }
+        ensures room { OnOk result (HasRoom place byte self.new) }
+    {
+        match self {
+            Node::Few(branches) if branches.len() == 16 && !has_byte(branches, place, byte) => {
+                let places = ranks_of(branches);
+                let mut wide = Box::new(
+                    alloc,
+                    Wide {
+                        places,
+                        branches: Vec::new(alloc),
+                    },
+                )?;
+                mem::swap(&mut wide.branches, branches);
+                *self = Node::Many(wide);
+                Ok(())
+            }
+            _ => Ok(()),
+        }
+    }
+
     fn branches(&self) -> &[Branch]
         ensures { result.now ≡ children_of self.now }
     {
@@ -181,6 +264,28 @@ fn branch_at(branches: &[Branch], place: usize, byte: u8) -> Option<&Branch>
         Some(&branches[place])
     } else {
         None
+    }
+}
+
+/// Puts a leaf below the branch of its byte, or below one of its own where there is none, and answers which: true is a
+/// branch of its own.
+#[cycle(insertion)]
+fn put_among(branches: &mut Vec<Branch>, alloc: Global, level: u8, place: usize, start: LeafStart) -> Result<bool, AllocError>
+    requires low { level < 16 }
+    requires children { AreChildren level 0 branches.old.items }
+    requires rank { IsRank branches.old.items (digit level start.low) place }
+    requires share { ShareHead (level + 1) start.low (all_starts branches.old.items) }
+    requires absent { Lacks start.low (all_starts branches.old.items) }
+    ensures { PutsAmong level place start branches.old.items branches.new.items result }
+{
+    if has_byte(branches, place, byte_of(start.low, level)) {
+        branches[place].insert(alloc, start)?;
+        Ok(false)
+    } else {
+        let branch = chain(alloc, level, start)?;
+        branches.reserve_exact(1)?;
+        branches.insert(place, branch)?;
+        Ok(true)
     }
 }
 
