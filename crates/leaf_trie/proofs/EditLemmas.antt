@@ -56,7 +56,8 @@ bytes_set [] i b d e same = refl
 bytes_set (c ∷ cs) zero b d e same = let here : c ≡ b = cc in ap (λ n. n ∷ bytes_of cs) (same ∙ ap (λ (x : Branch). x.byte) (sym here))
 bytes_set (c ∷ cs) (suc i) b d e same = ap (λ ns. c.byte ∷ ns) (bytes_set cs i b d e same)
 
-same_length : (bs cs : List Branch) → bytes_of cs ≡ bytes_of bs → length cs ≡ length bs
+-- equal bytes are of equally many branches
+pub same_length : (bs cs : List Branch) → bytes_of cs ≡ bytes_of bs → length cs ≡ length bs
 same_length [] [] e = refl
 same_length [] (c ∷ cs) e = cc
 same_length (b ∷ bs) [] e = cc
@@ -190,5 +191,3 @@ wide_puts level place start places old new true e h p = cc
 wide_puts level place start places old new false e h p =
     ((inner_again level old new h.0 (put_some level start old new p.0) p.0.children, record { wide = h.1.wide; ranks = λ byte lt. rank_same old new byte _ p.1 (h.1.ranks byte lt) }), p.0.puts)
 
-pub length_insert : (bs : List Branch) (i : ℕ) (b : Branch) → i ≤ length bs → length (insert bs i b) ≡ length bs + 1
-length_insert bs i b le = omega (arith, length-append (take i bs) (b ∷ drop i bs), ap length (cut bs i), length-append (take i bs) (drop i bs))

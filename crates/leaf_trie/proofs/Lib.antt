@@ -3,3 +3,4 @@ pub mod ListLemmas
 pub mod BranchLemmas
 pub mod SearchLemmas
 pub mod EditLemmas
+pub mod RemovalLemmas

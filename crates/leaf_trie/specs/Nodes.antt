@@ -1,5 +1,5 @@
 -- The nodes of the trie.
-use Rattle.std.specs.Prelude.{ℕ, ◌≡◌, ◌≢◌, ◌+◌, ◌<◌, ◌≤◌, ◌==◌, List, [], ◌∷◌, ◌++◌, Option, Some, None, length, take, drop, get_or, slice_get, map, Bool, true, false, Result, Ok, Err}
+use Rattle.std.specs.Prelude.{ℕ, zero, suc, ◌≡◌, ◌≢◌, ◌+◌, ◌<◌, ◌≤◌, ◌==◌, List, [], ◌∷◌, ◌++◌, Option, Some, None, length, take, drop, get_or, slice_get, map, Bool, true, false, Result, Ok, Err}
 use Rattle.std.specs.declared.alloc.AllocError.{AllocError}
 use Rattle.std.specs.List.{AllByRecursion}
 use Rattle.graph_model.specs.declared.row.Key.{Key}
@@ -8,7 +8,7 @@ use Rattle.leaf_trie.specs.declared.branch.Branch.{Branch}
 use Rattle.leaf_trie.specs.declared.branch.Node.{Node}
 use Rattle.leaf_trie.specs.declared.branch.Node.TheVariants.{End, Few, Many}
 use Rattle.leaf_trie.specs.Path.{number, head, digit}
-use Rattle.leaf_trie.specs.Starts.{last_leaf, Puts, Takes}
+use Rattle.leaf_trie.specs.Starts.{last_leaf, IsThere, ShareHead, Puts, Takes}
 
 -- the leaves below branches, one branch after another
 abbrev pub all_starts : List Branch → List LeafStart
@@ -112,3 +112,38 @@ abbrev pub HasRoom : ℕ → ℕ → Node → Type 0
 HasRoom place byte (End low) = Unit {0}
 HasRoom place byte (Few branches) = HasNoBranch branches.items place byte → length branches.items < 16
 HasRoom place byte (Many wide) = Unit {0}
+
+-- below the branch at the place stands a leaf that begins at the key
+pub record CanTake (branches : List Branch) (place : ℕ) (key : Key) : Type 0 where
+  pub level : ℕ
+  pub children : AreChildren level 0 branches
+  pub rank : IsRank branches (digit level key) place
+  pub share : ShareHead (level + 1) key (all_starts branches)
+  pub there : IsThere key (all_starts branches)
+
+-- a leaf that begins at the key was taken away below the branches
+pub record TakesBelow (key : Key) (old new : List Branch) : Type 0 where
+  pub children : (level : ℕ) → AreChildren level 0 old → AreChildren level 0 new
+  pub takes : Takes key (all_starts old) (all_starts new)
+
+-- its branch went with it, or has others
+abbrev pub TakesAmong : Key → List Branch → List Branch → Bool → Type 0
+TakesAmong key old new true = TakesBelow key old new × (length new ≤ length old)
+TakesAmong key old new false = TakesBelow key old new × (bytes_of new ≡ bytes_of old)
+
+-- a leaf that begins at the key was taken out of the subtree
+pub record TakesFrom (key : Key) (old new : Branch) : Type 0 where
+  pub byte : new.byte ≡ old.byte
+  pub level : new.level ≡ old.level
+  pub takes : Takes key old.starts new.starts
+
+-- the leaf is the only one and stays, or others are left
+abbrev pub TakesOrIsAlone : Key → Branch → Branch → Bool → Type 0
+TakesOrIsAlone key old new true = (new ≡ old) × (length old.starts ≡ 1)
+TakesOrIsAlone key old new false = TakesFrom key old new × (0 < length new.starts)
+
+-- the level of the branch at the place
+abbrev pub level_at : List Branch → ℕ → ℕ
+level_at [] place = 0
+level_at (b ∷ bs) zero = b.level
+level_at (b ∷ bs) (suc place) = level_at bs place

@@ -1,5 +1,5 @@
 -- Leaves in the order of their least keys.
-use Rattle.std.specs.Prelude.{ℕ, ◌≡◌, ◌≢◌, ◌<◌, List, [], ◌∷◌, ◌++◌, Option, Some, None, option_map, option_to_list}
+use Rattle.std.specs.Prelude.{ℕ, ◌≡◌, ◌≢◌, ◌<◌, ◌⊎◌, List, [], ◌∷◌, ◌++◌, Option, Some, None, option_map, option_to_list}
 use Rattle.std.specs.List.{AllByRecursion}
 use Rattle.graph_model.specs.declared.row.Key.{Key}
 use Rattle.leaf_trie.specs.declared.start.LeafStart.{LeafStart}
@@ -29,6 +29,11 @@ ShareHead level key starts = AllByRecursion (λ s. head level s.low ≡ head lev
 -- none of them begins at the key
 abbrev pub Lacks : Key → List LeafStart → Type 0
 Lacks key starts = AllByRecursion (λ s. number s.low ≢ number key) starts
+
+-- one of them begins at the key
+abbrev pub IsThere : Key → List LeafStart → Type 0
+IsThere key [] = ⊥
+IsThere key (s ∷ ss) = (number s.low ≡ number key) ⊎ IsThere key ss
 
 -- of those that don't begin below the key, at most one doesn't begin above it for certain; the last one below, or an earlier one, stands before it
 pub record AreCandidates (key : Key) (earlier : Option ℕ) (starts : List LeafStart) (found : Candidates) : Type 0 where

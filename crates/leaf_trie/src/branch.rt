@@ -8,8 +8,8 @@
 ghost use Rattle.std.specs.Prelude.{◌≡◌, ◌≢◌, ◌+◌, ◌<◌, ◌≤◌, ◌==◌, [], ◌∷◌, IfOk, OnOk, IfSome, IfNone, MatchBool, Some, None, ℕ, length, take};
 ghost use Rattle.std.specs.List.{AllByRecursion};
 ghost use Rattle.leaf_trie.specs.Path.{number, digit};
-ghost use Rattle.leaf_trie.specs.Starts.{or_else, last_leaf, AreCandidates, Lacks, ShareHead};
-ghost use Rattle.leaf_trie.specs.Nodes.{IsNode, IsRank, HasRanks, HasBranch, HasSomeBranch, HasNoBranch, AreChildren, HasRoom, PutsAmong, PutsInNode, PutsOrKeeps, all_starts, children_of};
+ghost use Rattle.leaf_trie.specs.Starts.{or_else, last_leaf, AreCandidates, IsThere, Lacks, ShareHead, Takes};
+ghost use Rattle.leaf_trie.specs.Nodes.{IsNode, IsRank, HasRanks, HasBranch, HasSomeBranch, HasNoBranch, AreChildren, CanTake, HasRoom, TakesAmong, TakesOrIsAlone, PutsAmong, PutsInNode, PutsOrKeeps, all_starts, children_of};
 
 use graph_model::Key;
 use std::alloc::{AllocError, Global};
@@ -133,6 +133,25 @@ impl Branch {
     }
 }
 
+impl Branch {
+    /// Takes the leaf that begins at the key away, unless it is the only one. Answers whether it is.
+    #[cycle(removal)]
+    pub fn remove(&mut self, low: Key) -> bool
+        requires share { ShareHead self.old.level low self.old.starts }
+        requires there { IsThere low self.old.starts }
+        ensures { TakesOrIsAlone low self.old self.new result }
+    {
+        if self.is_single {
+            return true;
+        }
+        let level = self.level - 1;
+        self.node.remove(level, low);
+        self.last = last_of(self.node.branches());
+        self.is_single = is_single_of(self.node.branches());
+        false
+    }
+}
+
 impl Node {
     /// Puts a leaf below this node, whose children are at the level.
     #[cycle(insertion)]
@@ -197,6 +216,31 @@ impl Node {
                 Ok(())
             }
             _ => Ok(()),
+        }
+    }
+
+    /// Takes a leaf away below this node, whose children are at the level, and which has more than one leaf.
+    #[cycle(removal)]
+    fn remove(&mut self, level: u8, low: Key)
+        requires low { level < 16 }
+        requires node { IsNode (level + 1) self.old }
+        requires more { 2 ≤ length (all_starts (children_of self.old)) }
+        requires share { ShareHead (level + 1) low (all_starts (children_of self.old)) }
+        requires there { IsThere low (all_starts (children_of self.old)) }
+        ensures node { IsNode (level + 1) self.new }
+        ensures takes { Takes low (all_starts (children_of self.old)) (all_starts (children_of self.new)) }
+    {
+        let place = self.rank(byte_of(low, level));
+        match self {
+            Node::End(_) => unreachable!(),
+            Node::Few(branches) => {
+                remove_among(branches, place, low);
+            }
+            Node::Many(wide) => {
+                if remove_among(&mut wide.branches, place, low) {
+                    wide.places = ranks_of(&wide.branches);
+                }
+            }
         }
     }
 
@@ -289,6 +333,20 @@ fn put_among(branches: &mut Vec<Branch>, alloc: Global, level: u8, place: usize,
     }
 }
 
+/// Takes a leaf away below the branch at the place. Answers whether the branch went with it.
+#[cycle(removal)]
+fn remove_among(branches: &mut Vec<Branch>, place: usize, low: Key) -> bool
+    requires { CanTake branches.old.items place low }
+    ensures { TakesAmong low branches.old.items branches.new.items result }
+{
+    if branches[place].remove(low) {
+        branches.remove(place);
+        true
+    } else {
+        false
+    }
+}
+
 /// Whether the branch at the place has the byte.
 fn has_byte(branches: &Vec<Branch>, place: usize, byte: u8) -> bool
     ensures { MatchBool result (HasSomeBranch branches.now.items place byte) (HasNoBranch branches.now.items place byte) }
@@ -319,6 +377,14 @@ fn last_of(branches: &[Branch]) -> u32
     ensures { last_leaf (all_starts branches.now) ≡ Some result }
 {
     branches[branches.len() - 1].last()
+}
+
+/// Whether there is one leaf alone below the branches.
+fn is_single_of(branches: &[Branch]) -> bool
+    requires { (level : ℕ) × AreChildren level 0 branches.now }
+    ensures { result ≡ (length (all_starts branches.now) == 1) }
+{
+    branches.len() == 1 && branches[0].is_single()
 }
 
 /// A leaf whose key has no bytes left.

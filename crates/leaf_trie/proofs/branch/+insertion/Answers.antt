@@ -5,10 +5,11 @@ use Rattle.leaf_trie.specs.Starts.{last_leaf, Lacks, ShareHead, Puts}
 use Rattle.std.specs.Prelude.{insert}
 use Rattle.leaf_trie.specs.Nodes.{IsNode, IsRank, AreChildren, HasNoBranch, HasRoom, all_starts, children_of, starts_of, IsSummary}
 use Rattle.leaf_trie.proofs.SearchLemmas.{at_branches, descends}
-use Rattle.leaf_trie.proofs.EditLemmas.{at_put, starts_inner, inner_some, inner_children, kept_summary, put_summary, puts_in_branch, puts_branch, rank_same, lacks_in_branch, has_there, bytes_set, few_puts, wide_puts, length_insert}
+use Rattle.leaf_trie.proofs.EditLemmas.{at_put, starts_inner, inner_some, inner_children, kept_summary, put_summary, puts_in_branch, puts_branch, rank_same, lacks_in_branch, has_there, bytes_set, few_puts, wide_puts}
 use Rattle.leaf_trie.specs.declared.branch.Node.TheVariants.{Few, Many}
 use Rattle.leaf_trie.proofs.ListLemmas.{there_within}
 use Rattle.std.proofs.lemmas.Option.{slice_get_read}
+use Rattle.std.proofs.lemmas.List.Edits.{length-insert}
 use Rattle.std.proofs.lemmas.Result.{err_from_is_err_and}
 use Rattle.leaf_trie.proofs.branch.+insertion.Goals as goal
 
@@ -141,4 +142,4 @@ put_among-returns-in_ok-insert-2 t c =
     let rank = subst (λ n. IsRank bs n c.args.place) (sym c.byte_of.ensures) c.requires.rank in
     let p = puts_branch c.args.level c.byte_of.result c.args.place c.args.start bs c.in_ok-branch.branch c.requires.children c.requires.share rank c.if-has_byte.ensures c.byte_of.ensures
         c.in_ok-branch.ensures.level c.in_ok-branch.ensures.byte c.in_ok-branch.ensures.starts in
-    (rw is p, subst (λ n. HasNoBranch bs c.args.place n) c.byte_of.ensures c.if-has_byte.ensures, rw is (length_insert bs c.args.place c.in_ok-branch.branch rank.within))
+    (rw is p, subst (λ n. HasNoBranch bs c.args.place n) c.byte_of.ensures c.if-has_byte.ensures, rw is (length-insert bs c.args.place c.in_ok-branch.branch rank.within))
