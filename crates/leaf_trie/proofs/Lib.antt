@@ -4,3 +4,4 @@ pub mod BranchLemmas
 pub mod SearchLemmas
 pub mod EditLemmas
 pub mod RemovalLemmas
+pub mod KeyLemmas

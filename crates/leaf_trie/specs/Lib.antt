@@ -3,3 +3,4 @@ pub mod Starts
 pub mod Subtree
 pub mod Nodes
 pub mod Falls
+pub mod Leaves

@@ -438,3 +438,12 @@ fn chain(alloc: Global, level: u8, start: LeafStart) -> Result<Branch, AllocErro
     }
     Ok(top)
 }
+
+/// All 16 levels over one leaf.
+pub fn whole(alloc: Global, start: LeafStart) -> Result<Branch, AllocError>
+    ensures level { IfOk result (λ b. b.level ≡ 16) }
+    ensures starts { IfOk result (λ b. b.starts ≡ start ∷ []) }
+{
+    let below = chain(alloc, 15, start)?;
+    over(alloc, 0, below)
+}

@@ -8,5 +8,7 @@
 mod branch;
 mod path;
 mod start;
+mod trie;
 
 pub use start::{Candidates, LeafStart};
+pub use trie::LeafTrie;
