@@ -1,0 +1,98 @@
+-- What the calls need of an index and do to it.
+use Rattle.std.specs.Prelude.{ℕ, zero, suc, ◌≡◌, ◌+◌, ◌-◌, ◌<◌, ◌≤◌, Bool, true, false, not, cond, List, [], ◌∷◌, ◌++◌, Option, Some, None, map, take, drop, length, nat_lt}
+use Rattle.std.specs.List.{filter, range_with_len}
+use Rattle.graph_model.specs.declared.row.Key.{Key}
+use Rattle.graph_model.specs.Rows.{is_below, first_key, end_key}
+use Rattle.leaf_index.specs.declared.route.Retired.{Retired}
+use Rattle.leaf_index.specs.declared.route.LeafRange.{LeafRange}
+use Rattle.leaf_index.specs.Index.{Entry, Index, NotAbove, BeginAbove, AreSorted, AreCuts, IsTaken, IsFloor, end_of}
+
+-- leaf 0 has the whole key range, all of it in its first segment, and the others are free
+abbrev pub new_index : ℕ → Index
+new_index leaves = record {
+  leaves = leaves;
+  entries = record { low = first_key; leaf = 0; cuts = first_key ∷ end_key ∷ end_key ∷ end_key ∷ end_key ∷ end_key ∷ end_key ∷ end_key ∷ [] } ∷ [];
+  free = range_with_len 1 (leaves - 1);
+  retired = []
+}
+
+-- an entry may be put behind the one whose range holds its key: none of that one's cuts is above the key, and its own go up to the end of that range
+pub record CanAdd (low : Key) (cuts : List Key) (entries : List Entry) : Type 0 where
+  pub front : List Entry
+  pub before : Entry
+  pub back : List Entry
+  pub is : entries ≡ front ++ before ∷ back
+  pub begins : is_below before.low low ≡ true
+  pub above : BeginAbove low back
+  pub older : AreSorted before.cuts low
+  pub newer : AreCuts low cuts (end_of back)
+
+-- an entry was put between those that begin below it and those that begin above
+pub record AddsEntry (entry : Entry) (old new : List Entry) : Type 0 where
+  pub front : List Entry
+  pub back : List Entry
+  pub was : old ≡ front ++ back
+  pub is : new ≡ front ++ entry ∷ back
+
+-- an entry other than the first begins at the key
+pub record CanDrop (low : Key) (entries : List Entry) : Type 0 where
+  pub front : List Entry
+  pub before : Entry
+  pub dropped : Entry
+  pub back : List Entry
+  pub is : entries ≡ front ++ before ∷ dropped ∷ back
+  pub same : dropped.low ≡ low
+
+-- the entry that begins at the key is gone
+pub record DropsEntry (low : Key) (old new : List Entry) : Type 0 where
+  pub front : List Entry
+  pub dropped : Entry
+  pub back : List Entry
+  pub was : old ≡ front ++ dropped ∷ back
+  pub is : new ≡ front ++ back
+  pub same : dropped.low ≡ low
+
+-- the entry that begins at the key may have these cuts
+pub record CanCut (low : Key) (cuts : List Key) (entries : List Entry) : Type 0 where
+  pub front : List Entry
+  pub entry : Entry
+  pub back : List Entry
+  pub is : entries ≡ front ++ entry ∷ back
+  pub same : entry.low ≡ low
+  pub fit : AreCuts low cuts (end_of back)
+
+-- it has them
+pub record SetsCuts (low : Key) (cuts : List Key) (old new : List Entry) : Type 0 where
+  pub front : List Entry
+  pub entry : Entry
+  pub back : List Entry
+  pub was : old ≡ front ++ entry ∷ back
+  pub is : new ≡ front ++ record entry { cuts = cuts } ∷ back
+  pub same : entry.low ≡ low
+
+-- the last free leaf is taken, or there is none
+abbrev pub TakesFree : Index → Index → Option ℕ → Type 0
+TakesFree old new None = (old.free ≡ []) × (new ≡ old)
+TakesFree old new (Some leaf) = (old ≡ record new { free = new.free ++ leaf ∷ [] }) × IsTaken new leaf
+
+-- of retired leaves, those with a stamp below the given one, and the others
+abbrev pub freed_of : ℕ → List Retired → List ℕ
+freed_of until retired = map (λ r. r.leaf) (filter (λ r. nat_lt r.stamp until) retired)
+
+abbrev pub kept_of : ℕ → List Retired → List Retired
+kept_of until retired = filter (λ r. not (nat_lt r.stamp until)) retired
+
+-- of the first retired leaves, those with a stamp below the given one are free, in their order
+abbrev pub freed : ℕ → ℕ → Index → Index
+freed until upto index = record index {
+  free = index.free ++ freed_of until (take upto index.retired);
+  retired = kept_of until (take upto index.retired) ++ drop upto index.retired
+}
+
+-- the leaf whose range holds the key, with its range
+pub record IsLeafRange (key : Key) (entries : List Entry) (range : LeafRange) : Type 0 where
+  pub entry : Entry
+  pub floor : IsFloor key entries entry
+  pub leaf : range.leaf ≡ entry.leaf
+  pub low : range.low ≡ entry.low
+  pub high : range.high ≡ end_of floor.back

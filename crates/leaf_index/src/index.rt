@@ -1,0 +1,98 @@
+//! The index over a trie.
+//!
+//! 1. What the trie doesn't need lies in a table by the numbers of leaves: cuts, and the end of a live leaf's range.
+//! 2. Both lists of leaves have room for all leaves from the start.
+
+ghost use Rattle.std.specs.Prelude.{◌≡◌, ◌<◌, ◌≤◌, ◌+◌, [], ◌∷◌, ◌++◌, IfOk, IfSome, OnOk, OnErr, length, take, ℕ};
+ghost use Rattle.std.specs.Vec.{vec_capacity};
+ghost use Rattle.graph_model.specs.Rows.{end_key, first_key};
+ghost use Rattle.graph_model.specs.declared.limits.TheConstants.{MAX_LEAVES};
+ghost use Rattle.leaf_index.specs.Index.{IsIndex, IsRoute, IsTaken};
+ghost use Rattle.leaf_index.specs.Slots.{HaveSlots, IsFloorStart, begin_or};
+ghost use Rattle.leaf_index.specs.Calls.{AddsEntry, CanAdd, CanCut, CanDrop, DropsEntry, IsLeafRange, SetsCuts, TakesFree, freed, freed_of, new_index};
+
+use graph_model::{Key, NoMemory};
+use leaf_trie::{LeafStart, LeafTrie};
+use std::alloc::Global;
+use std::marker::Model;
+
+use crate::route::{LeafRange, Retired, Route};
+use crate::slot::{Slot, high_of, segment_of};
+
+/// The leaves of a store. Those that are live have ranges of keys that follow each other.
+#[derive(Drop)]
+pub struct LeafIndex {
+    trie: LeafTrie,
+    slots: Vec<Slot>,
+    free: Vec<u32>,
+    retired: Vec<Retired>,
+}
+
+impl Model for LeafIndex {
+    ghost use Rattle.std.specs.Prelude.{◌≡◌, ◌≤◌, length};
+    ghost use Rattle.std.specs.Vec.{vec_capacity};
+    ghost use Rattle.graph_model.specs.Rows.{end_key};
+    ghost use Rattle.leaf_index.specs.Index.{Index, IsIndex};
+
+    ghost Value = { Index };
+
+    ghost use Rattle.leaf_index.specs.Slots.{HaveSlots, entries_of};
+
+    ghost view = { λ i. record {
+        leaves = length i.slots.items;
+        entries = entries_of i.slots.items i.trie;
+        free = i.free.items;
+        retired = i.retired.items;
+    } };
+
+    ghost invariant = { λ i. IsIndex (record {
+        leaves = length i.slots.items;
+        entries = entries_of i.slots.items i.trie;
+        free = i.free.items;
+        retired = i.retired.items;
+    }) × HaveSlots i.slots.items end_key i.trie
+        × (length i.slots.items ≤ 131072)
+        × (length i.slots.items ≤ vec_capacity i.free)
+        × (length i.slots.items ≤ vec_capacity i.retired) };
+}
+
+/// The last leaf that does not begin above the key.
+fn floor_of(trie: &LeafTrie, slots: &Vec<Slot>, key: Key) -> u32
+    requires first { begin_or trie.now end_key ≡ first_key }
+    requires slots { HaveSlots slots.now.items end_key trie.now }
+    ensures { IsFloorStart key trie.now result }
+{
+    let found = trie.search(key);
+    match found.at {
+        Some(leaf) if !key.is_below(slots[leaf as usize].cuts[0]) => leaf,
+        _ => match found.before {
+            Some(leaf) => leaf,
+            None => unreachable!(),
+        },
+    }
+}
+
+impl LeafIndex {
+    /// How many leaves there are, in use or not. What holds of each index is a clause of this call.
+    pub fn leaves(&self) -> u32
+        ensures leaves { result ≡ self.now.leaves }
+        ensures index { IsIndex self.now }
+    {
+        self.slots.len() as u32
+    }
+
+    /// The cell whose range holds the key. It does as long as the index doesn't change, so a caller may keep the
+    /// answer for further keys that `Route::holds`.
+    pub fn route(&self, key: Key) -> Route
+        ensures { IsRoute key self.now.entries result }
+    {
+        let leaf = floor_of(&self.trie, &self.slots, key);
+        let slot = &self.slots[leaf as usize];
+        let segment = segment_of(&slot.cuts, key);
+        Route {
+            cell: 8 * leaf + segment as u32,
+            low: slot.cuts[segment],
+            high: high_of(slot, segment),
+        }
+    }
+}
