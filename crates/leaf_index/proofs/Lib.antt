@@ -1,2 +1,4 @@
 pub mod OrderLemmas
+pub mod CountLemmas
 pub mod SlotLemmas
+pub mod IndexLemmas

@@ -15,8 +15,11 @@ use Rattle.leaf_trie.specs.Starts.{or_else, last_leaf}
 use Rattle.leaf_trie.specs.Leaves.{Finds, BeginAbove as StartAbove, BeginBelow as StartBelow}
 use Rattle.leaf_trie.proofs.ListLemmas.{all_back}
 use Rattle.leaf_index.specs.declared.slot.Slot.{Slot}
-use Rattle.leaf_index.specs.Slots.{HasSlot, HaveSlots, IsFloorStart, begin_or, cuts_or_none, entry_of, entries_of}
-use Rattle.leaf_index.specs.Index.{Entry, BeginAbove, IsFloor, IsRoute, IsSegment, end_of}
+use Rattle.leaf_index.specs.Slots.{HasSlot, HaveSlots, IsBeforeStart, BeginsBefore, IsFloorStart, IsRange, begin_or, cuts_or_none, entry_of, entries_of}
+use Rattle.leaf_index.specs.Calls.{BeginsBelow, IsLeafRange, IsRangeOf}
+use Rattle.leaf_index.specs.declared.route.LeafRange.{LeafRange}
+use Rattle.std.specs.List.{AllByRecursion}
+use Rattle.leaf_index.specs.Index.{Entry, BeginAbove, IsFloor, IsRoute, IsSegment, NotAbove, end_of}
 use Rattle.leaf_index.specs.declared.route.Route.{Route}
 use Rattle.leaf_index.proofs.OrderLemmas.{below_flip}
 
@@ -220,4 +223,74 @@ route_of slots key starts entries leaf segment now route view have f there seg c
       cell = cell ∙ ap (λ n. 8 * n + segment) (sym f.same);
       low = ap (λ ks. slice_get ks segment) cuts ∙ low;
       high = high ∙ ap (λ ks. unwrap_or (slice_get ks (segment + 1)) now.high) (sym cuts) ∙ ap (unwrap_or (slice_get (cuts_or_none (slice_get slots f.start.leaf)) (segment + 1))) ends
+    }
+
+-- ---- the leaf before a key
+
+not_above_of : (key : Key) (ss : List LeafStart) → StartAbove key ss → AllByRecursion (λ (s : LeafStart). NotAbove key s.low) ss
+not_above_of key [] h = tt
+not_above_of key (s ∷ ss) h = (below_flip key s.low h.0, not_above_of key ss h.1)
+
+pub candidate_before : (key : Key) (starts : List LeafStart) (leaf : ℕ) → (m : Candidate key starts leaf) → is_below m.start.low key ≡ true → BeginsBefore key starts leaf
+candidate_before key starts leaf m below = record { front = m.front; start = m.start; back = m.back; is = m.is; same = m.same; below = below; rest = not_above_of key m.back m.above }
+
+before_found : (key : Key) (starts front rest : List LeafStart) (o : Option ℕ) → starts ≡ front ++ rest → StartBelow key front → AllByRecursion (λ (s : LeafStart). NotAbove key s.low) rest → o ≡ last_leaf front → IsBeforeStart key starts o
+before_found key starts front rest None is below above e =
+    subst (AllByRecursion (λ (s : LeafStart). NotAbove key s.low)) (sym (is ∙ ap (λ xs. xs ++ rest) (none_last front (sym e)))) above
+before_found key starts front rest (Some leaf) is below above e =
+    let l = last_of front leaf (sym e) in
+    record {
+      front = l.init; start = l.start; back = rest;
+      is = is ∙ ap (λ xs. xs ++ rest) l.is ∙ append_assoc l.init (l.start ∷ []) rest;
+      same = l.same;
+      below = (all_back (λ s. is_below s.low key ≡ true) l.init (l.start ∷ []) (subst (StartBelow key) l.is below)).0;
+      rest = above
+    }
+
+pub before_none : (key : Key) (starts : List LeafStart) (found : Candidates) → Finds key starts found → found.at ≡ None → IsBeforeStart key starts found.before
+before_none key starts found f e = let b = beyond_none key starts found f e in before_found key starts b.front b.back found.before b.is b.below (not_above_of key b.back b.above) b.before
+
+pub before_some : (slots : List Slot) (key : Key) (starts : List LeafStart) (found : Candidates) (leaf : ℕ) (now : Slot) (none : Key) → HaveSlots slots end_key starts → Finds key starts found → found.at ≡ Some leaf → slice_get slots leaf ≡ Some now
+    → is_below (get_or now.cuts 0 none) key ≡ false → IsBeforeStart key starts found.before
+before_some slots key starts found leaf now none have f e there not_below = of_middle f.middle f.is (sym f.at ∙ e)
+  where
+    of_middle : (middle : Option LeafStart) → starts ≡ f.front ++ (option_to_list middle ++ f.back) → option_map (λ s. s.leaf) middle ≡ Some leaf → IsBeforeStart key starts found.before
+    of_middle None is e = cc
+    of_middle (Some s) is e =
+        let h = slot_at slots end_key f.front s f.back (subst (HaveSlots slots end_key) is have) in
+        let low = read_as now.cuts 0 s.low none (low_read slots s leaf (begin_or f.back end_key) now h (same_some e) there) in
+        before_found key starts f.front (s ∷ f.back) found.before is f.below (ap (λ k. is_below k key) (sym low) ∙ not_below, not_above_of key f.back f.above) f.before
+
+-- ---- ranges
+
+pub range_of_slot : (slots : List Slot) (s : LeafStart) (back : List LeafStart) (leaf : ℕ) (range : LeafRange) → HasSlot slots s (begin_or back end_key) → s.leaf ≡ leaf → IsRange slots leaf range → IsRangeOf (entry_of slots s) (entries_of slots back) range
+range_of_slot slots s back leaf range h same r =
+    let slot = slot_read slots s leaf (begin_or back end_key) r.slot h same r.there in
+    record {
+      leaf = r.same ∙ sym same;
+      low = same_some (sym r.low ∙ low_read slots s leaf (begin_or back end_key) r.slot h same r.there);
+      high = r.high ∙ sym (ap (λ (x : Slot). x.high) slot) ∙ h.ends ∙ sym (end_begin slots back)
+    }
+
+pub floor_range : (slots : List Slot) (key : Key) (starts : List LeafStart) (entries : List Entry) (leaf : ℕ) (range : LeafRange) → entries_of slots starts ≡ entries → HaveSlots slots end_key starts → IsFloorStart key starts leaf → IsRange slots leaf range → IsLeafRange key entries range
+unfolding floor_entry
+floor_range slots key starts entries leaf range view have f r =
+    let h = slot_at slots end_key f.front f.start f.back (subst (HaveSlots slots end_key) f.is have) in
+    record { entry = entry_of slots f.start; floor = floor_entry slots key starts entries leaf view f; range_is = range_of_slot slots f.start f.back leaf range h f.same r }
+
+entries_not_above : (slots : List Slot) (key : Key) (ss : List LeafStart) → AllByRecursion (λ (s : LeafStart). NotAbove key s.low) ss → AllByRecursion (λ (e : Entry). NotAbove key e.low) (entries_of slots ss)
+entries_not_above slots key [] h = tt
+entries_not_above slots key (s ∷ ss) h = (h.0, entries_not_above slots key ss h.1)
+
+pub none_before : (slots : List Slot) (key : Key) (starts : List LeafStart) (entries : List Entry) → entries_of slots starts ≡ entries → AllByRecursion (λ (s : LeafStart). NotAbove key s.low) starts → AllByRecursion (λ (e : Entry). NotAbove key e.low) entries
+none_before slots key starts entries view h = subst (AllByRecursion (λ (e : Entry). NotAbove key e.low)) view (entries_not_above slots key starts h)
+
+pub before_range : (slots : List Slot) (key : Key) (starts : List LeafStart) (entries : List Entry) (leaf : ℕ) (range : LeafRange) → entries_of slots starts ≡ entries → HaveSlots slots end_key starts → BeginsBefore key starts leaf → IsRange slots leaf range → BeginsBelow key entries range
+before_range slots key starts entries leaf range view have b r =
+    let h = slot_at slots end_key b.front b.start b.back (subst (HaveSlots slots end_key) b.is have) in
+    record {
+      front = entries_of slots b.front; entry = entry_of slots b.start; back = entries_of slots b.back;
+      is = sym view ∙ ap (entries_of slots) b.is ∙ entries_append slots b.front (b.start ∷ b.back);
+      below = b.below; rest = entries_not_above slots key b.back b.rest;
+      range_is = range_of_slot slots b.start b.back leaf range h b.same r
     }

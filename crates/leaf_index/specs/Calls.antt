@@ -1,6 +1,6 @@
 -- What the calls need of an index and do to it.
 use Rattle.std.specs.Prelude.{ℕ, zero, suc, ◌≡◌, ◌+◌, ◌-◌, ◌<◌, ◌≤◌, Bool, true, false, not, cond, List, [], ◌∷◌, ◌++◌, Option, Some, None, map, take, drop, length, nat_lt}
-use Rattle.std.specs.List.{filter, range_with_len}
+use Rattle.std.specs.List.{AllByRecursion, filter, range_with_len}
 use Rattle.graph_model.specs.declared.row.Key.{Key}
 use Rattle.graph_model.specs.Rows.{is_below, first_key, end_key}
 use Rattle.leaf_index.specs.declared.route.Retired.{Retired}
@@ -89,10 +89,29 @@ freed until upto index = record index {
   retired = kept_of until (take upto index.retired) ++ drop upto index.retired
 }
 
+-- the range of an entry that stands before these
+pub record IsRangeOf (entry : Entry) (back : List Entry) (range : LeafRange) : Type 0 where
+  pub leaf : range.leaf ≡ entry.leaf
+  pub low : range.low ≡ entry.low
+  pub high : range.high ≡ end_of back
+
 -- the leaf whose range holds the key, with its range
 pub record IsLeafRange (key : Key) (entries : List Entry) (range : LeafRange) : Type 0 where
   pub entry : Entry
   pub floor : IsFloor key entries entry
-  pub leaf : range.leaf ≡ entry.leaf
-  pub low : range.low ≡ entry.low
-  pub high : range.high ≡ end_of floor.back
+  pub range_is : IsRangeOf entry floor.back range
+
+-- the last leaf that begins below the key, with its range
+pub record BeginsBelow (key : Key) (entries : List Entry) (range : LeafRange) : Type 0 where
+  pub front : List Entry
+  pub entry : Entry
+  pub back : List Entry
+  pub is : entries ≡ front ++ entry ∷ back
+  pub below : is_below entry.low key ≡ true
+  pub rest : AllByRecursion (λ e. NotAbove key e.low) back
+  pub range_is : IsRangeOf entry back range
+
+-- or none begins below it
+abbrev pub IsLeafBefore : Key → List Entry → Option LeafRange → Type 0
+IsLeafBefore key entries None = AllByRecursion (λ e. NotAbove key e.low) entries
+IsLeafBefore key entries (Some range) = BeginsBelow key entries range

@@ -8,8 +8,8 @@ ghost use Rattle.std.specs.Vec.{vec_capacity};
 ghost use Rattle.graph_model.specs.Rows.{end_key, first_key};
 ghost use Rattle.graph_model.specs.declared.limits.TheConstants.{MAX_LEAVES};
 ghost use Rattle.leaf_index.specs.Index.{IsIndex, IsRoute, IsTaken};
-ghost use Rattle.leaf_index.specs.Slots.{HaveSlots, IsFloorStart, begin_or};
-ghost use Rattle.leaf_index.specs.Calls.{AddsEntry, CanAdd, CanCut, CanDrop, DropsEntry, IsLeafRange, SetsCuts, TakesFree, freed, freed_of, new_index};
+ghost use Rattle.leaf_index.specs.Slots.{HasSlot, HaveSlots, IsBeforeStart, IsFloorStart, IsRange, begin_or};
+ghost use Rattle.leaf_index.specs.Calls.{AddsEntry, CanAdd, CanCut, CanDrop, DropsEntry, IsLeafBefore, IsLeafRange, SetsCuts, TakesFree, freed, freed_of, new_index};
 
 use graph_model::{Key, NoMemory};
 use leaf_trie::{LeafStart, LeafTrie};
@@ -29,14 +29,13 @@ pub struct LeafIndex {
 }
 
 impl Model for LeafIndex {
-    ghost use Rattle.std.specs.Prelude.{◌≡◌, ◌≤◌, length};
+    ghost use Rattle.std.specs.Prelude.{◌≤◌, length};
     ghost use Rattle.std.specs.Vec.{vec_capacity};
-    ghost use Rattle.graph_model.specs.Rows.{end_key};
-    ghost use Rattle.leaf_index.specs.Index.{Index, IsIndex};
+    ghost use Rattle.leaf_index.specs.Index.{Index};
 
     ghost Value = { Index };
 
-    ghost use Rattle.leaf_index.specs.Slots.{HaveSlots, entries_of};
+    ghost use Rattle.leaf_index.specs.Slots.{IsKept, entries_of};
 
     ghost view = { λ i. record {
         leaves = length i.slots.items;
@@ -45,13 +44,7 @@ impl Model for LeafIndex {
         retired = i.retired.items;
     } };
 
-    ghost invariant = { λ i. IsIndex (record {
-        leaves = length i.slots.items;
-        entries = entries_of i.slots.items i.trie;
-        free = i.free.items;
-        retired = i.retired.items;
-    }) × HaveSlots i.slots.items end_key i.trie
-        × (length i.slots.items ≤ 131072)
+    ghost invariant = { λ i. IsKept i.slots.items i.trie i.free.items i.retired.items
         × (length i.slots.items ≤ vec_capacity i.free)
         × (length i.slots.items ≤ vec_capacity i.retired) };
 }
@@ -72,6 +65,31 @@ fn floor_of(trie: &LeafTrie, slots: &Vec<Slot>, key: Key) -> u32
     }
 }
 
+/// The last leaf that begins below the key.
+fn before_of(trie: &LeafTrie, slots: &Vec<Slot>, key: Key) -> Option<u32>
+    requires { HaveSlots slots.now.items end_key trie.now }
+    ensures { IsBeforeStart key trie.now result }
+{
+    let found = trie.search(key);
+    match found.at {
+        Some(leaf) if slots[leaf as usize].cuts[0].is_below(key) => Some(leaf),
+        _ => found.before,
+    }
+}
+
+/// The range of a live leaf.
+fn range_of(slots: &Vec<Slot>, leaf: u32) -> LeafRange
+    requires { (start : _) × (high : _) × HasSlot slots.now.items start high × (start.leaf ≡ leaf) }
+    ensures { IsRange slots.now.items leaf result }
+{
+    let slot = &slots[leaf as usize];
+    LeafRange {
+        leaf,
+        low: slot.cuts[0],
+        high: slot.high,
+    }
+}
+
 impl LeafIndex {
     /// How many leaves there are, in use or not. What holds of each index is a clause of this call.
     pub fn leaves(&self) -> u32
@@ -79,6 +97,53 @@ impl LeafIndex {
         ensures index { IsIndex self.now }
     {
         self.slots.len() as u32
+    }
+
+    /// The leaf whose range holds the key. The next leaf is that of the range's high key, unless that is `Key::END`.
+    pub fn leaf_at(&self, key: Key) -> LeafRange
+        ensures { IsLeafRange key self.now.entries result }
+    {
+        let leaf = floor_of(&self.trie, &self.slots, key);
+        range_of(&self.slots, leaf)
+    }
+
+    /// The last leaf that begins below the key, so the one before a leaf that begins at it.
+    pub fn leaf_before(&self, key: Key) -> Option<LeafRange>
+        ensures { IsLeafBefore key self.now.entries result }
+    {
+        match before_of(&self.trie, &self.slots, key) {
+            Some(leaf) => Some(range_of(&self.slots, leaf)),
+            None => None,
+        }
+    }
+
+    /// Takes a free leaf, if there is one.
+    pub fn take_free(&mut self) -> Option<u32>
+        ensures { TakesFree self.old self.new result }
+    {
+        self.free.pop()
+    }
+
+    /// Puts a taken leaf among those that are free.
+    pub fn give_back(&mut self, leaf: u32)
+        requires { IsTaken self.old leaf }
+        ensures { self.new ≡ record self.old { free = self.old.free ++ leaf ∷ [] } }
+    {
+        match self.free.push(leaf) {
+            Ok(()) => {}
+            Err(_) => unreachable!(),
+        }
+    }
+
+    /// Puts a taken leaf last among those that are retired.
+    pub fn retire(&mut self, leaf: u32, stamp: u64)
+        requires { IsTaken self.old leaf }
+        ensures { self.new ≡ record self.old { retired = self.old.retired ++ record { leaf = leaf; stamp = stamp } ∷ [] } }
+    {
+        match self.retired.push(Retired { leaf, stamp }) {
+            Ok(()) => {}
+            Err(_) => unreachable!(),
+        }
     }
 
     /// The cell whose range holds the key. It does as long as the index doesn't change, so a caller may keep the
