@@ -7,7 +7,7 @@ use Rattle.std.proofs.lemmas.List.Sums.{sum_by-cons, sum_by-append}
 use Rattle.std.proofs.lemmas.Map.Keys.{IsDistinct-cons}
 use Rattle.std.proofs.lemmas.Map.Steps.{length-le_from_distinct_below}
 
-abbrev worth : Bool → ℕ
+abbrev pub worth : Bool → ℕ
 worth t = cond t 1 0
 
 module _ {X : Type 0} where

@@ -74,7 +74,7 @@ more_at : {X : Type 0} (f : X → ℕ) (q : ℕ) (xs : List X) (x : X) → count
 more_at f q xs x = omega (arith, count_append (λ y. f y == q) xs (x ∷ []), count_cons (λ y. f y == q) x [])
 
 -- a leaf that stood nowhere may stand once
-once_more : (n leaf q before after : ℕ) → leaf < n → (leaf ≡ q → before ≡ 0) → before ≤ cond (nat_lt q n) 1 0 → after ≡ before + cond (leaf == q) 1 0 → after ≤ cond (nat_lt q n) 1 0
+pub once_more : (n leaf q before after : ℕ) → leaf < n → (leaf ≡ q → before ≡ 0) → before ≤ cond (nat_lt q n) 1 0 → after ≡ before + cond (leaf == q) 1 0 → after ≤ cond (nat_lt q n) 1 0
 once_more n leaf q before after lt none le e = by_test (leaf == q) refl e
   where
     by_test : (t : Bool) → (leaf == q) ≡ t → after ≡ before + cond t 1 0 → after ≤ cond (nat_lt q n) 1 0

@@ -2,3 +2,4 @@ pub mod OrderLemmas
 pub mod CountLemmas
 pub mod SlotLemmas
 pub mod IndexLemmas
+pub mod ChangeLemmas

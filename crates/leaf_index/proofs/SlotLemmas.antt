@@ -294,3 +294,6 @@ before_range slots key starts entries leaf range view have b r =
       below = b.below; rest = entries_not_above slots key b.back b.rest;
       range_is = range_of_slot slots b.start b.back leaf range h b.same r
     }
+
+pub floor_within : (slots : List Slot) (key : Key) (starts : List LeafStart) (leaf : ℕ) → HaveSlots slots end_key starts → IsFloorStart key starts leaf → leaf < length slots
+floor_within slots key starts leaf have f = slot_within slots f.start leaf (begin_or f.back end_key) (slot_at slots end_key f.front f.start f.back (subst (HaveSlots slots end_key) f.is have)) f.same

@@ -117,6 +117,17 @@ impl LeafIndex {
         }
     }
 
+    /// Gives the leaf that begins at the key these cuts, one for each of its segments.
+    pub fn set_separators(&mut self, low: Key, cuts: [Key; 8])
+        requires { CanCut low cuts self.old.entries }
+        ensures entries { SetsCuts low cuts self.old.entries self.new.entries }
+        ensures others { self.new ≡ record self.old { entries = self.new.entries } }
+    {
+        let leaf = floor_of(&self.trie, &self.slots, low);
+        let high = self.slots[leaf as usize].high;
+        self.slots[leaf as usize] = Slot { cuts, high };
+    }
+
     /// Takes a free leaf, if there is one.
     pub fn take_free(&mut self) -> Option<u32>
         ensures { TakesFree self.old self.new result }

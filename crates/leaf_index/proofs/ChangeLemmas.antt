@@ -1,0 +1,207 @@
+-- What becomes of the table where the slot of a leaf changes, and of the leaves where one is put in or taken out.
+use Rattle.std.proofs.Common.{◌≡◌, ◌≢◌, ℕ, zero, suc, ◌+◌, ◌-◌, ◌<◌, ◌≤◌, ◌==◌, Bool, true, false, not, cond, nat_lt, eqb, List, [], ◌∷◌, ◌++◌, Option, Some, None, length, map, count_by, set, refl, sym, ◌∙◌, ap, subst, arith, eqb-true, eq-eqb, append_assoc, length-append}
+use Rattle.std.proofs.Math.ListN.{length-set}
+use Rattle.std.specs.Prelude.{slice_get}
+use Rattle.std.specs.List.{AllByRecursion}
+use Rattle.graph_model.specs.declared.row.Key.{Key}
+use Rattle.graph_model.specs.Rows.{is_below, first_key, end_key}
+use Rattle.leaf_trie.specs.declared.start.LeafStart.{LeafStart}
+use Rattle.leaf_trie.specs.Leaves.{Inserts, Removes, BeginAbove as StartAbove, BeginBelow as StartBelow}
+use Rattle.leaf_trie.proofs.ListLemmas.{all_map, all_append, all_front, all_back}
+use Rattle.leaf_index.specs.declared.slot.Slot.{Slot}
+use Rattle.leaf_index.specs.declared.route.Retired.{Retired}
+use Rattle.leaf_index.specs.Index.{Entry, Index, AreCuts, AreSorted, NotAbove, IsTaken, end_of, first_or}
+use Rattle.leaf_index.specs.Slots.{HasSlot, HaveSlots, AreRisingStarts, StandOnce, IsKept, IsFloorStart, BeginsBefore, begin_or, cuts_or_none, entry_of, entries_of, times}
+use Rattle.leaf_index.specs.Calls.{CanAdd, AddsEntry, CanDrop, DropsEntry, CanCut, SetsCuts}
+use Rattle.leaf_index.proofs.OrderLemmas.{below_self, below_flip, below_chain, upto_chain, below_up}
+use Rattle.leaf_index.proofs.CountLemmas.{count_cons, count_append, none_counted, at_most_one, worth}
+use Rattle.leaf_index.proofs.SlotLemmas.{end_begin, entries_append, slot_at, slot_read, same_some, within_there}
+use Rattle.leaf_index.proofs.IndexLemmas.{Unused, once_more}
+
+-- ---- a slot of the table
+
+pub get_set_same : (slots : List Slot) (leaf : ℕ) (x : Slot) → leaf < length slots → slice_get (set slots leaf x) leaf ≡ Some x
+get_set_same [] leaf x lt = absurd (omega (arith, lt))
+get_set_same (y ∷ ys) zero x lt = refl
+get_set_same (y ∷ ys) (suc leaf) x lt = get_set_same ys leaf x (omega (arith, lt))
+
+pub get_set_other : (slots : List Slot) (leaf i : ℕ) (x : Slot) → i ≢ leaf → slice_get (set slots leaf x) i ≡ slice_get slots i
+get_set_other [] leaf i x ne = refl
+get_set_other (y ∷ ys) zero zero x ne = absurd (ne refl)
+get_set_other (y ∷ ys) zero (suc i) x ne = refl
+get_set_other (y ∷ ys) (suc leaf) zero x ne = refl
+get_set_other (y ∷ ys) (suc leaf) (suc i) x ne = get_set_other ys leaf i x (λ e. ne (ap suc e))
+
+-- none of the leaves has this number
+abbrev pub Apart : ℕ → List LeafStart → Type 0
+Apart leaf starts = AllByRecursion (λ s. s.leaf ≢ leaf) starts
+
+pub entries_kept : (slots : List Slot) (leaf : ℕ) (x : Slot) (ss : List LeafStart) → Apart leaf ss → entries_of (set slots leaf x) ss ≡ entries_of slots ss
+entries_kept slots leaf x [] h = refl
+entries_kept slots leaf x (s ∷ ss) h =
+    let cuts : cuts_or_none (slice_get (set slots leaf x) s.leaf) ≡ cuts_or_none (slice_get slots s.leaf) = ap cuts_or_none (get_set_other slots leaf s.leaf x h.0) in
+    let first : entry_of (set slots leaf x) s ≡ entry_of slots s = λ i. record { low = s.low; leaf = s.leaf; cuts = cuts i } in
+    (λ i. first i ∷ entries_kept slots leaf x ss h.1 i)
+
+pub slots_kept : (slots : List Slot) (leaf : ℕ) (x : Slot) (high : Key) (ss : List LeafStart) → Apart leaf ss → HaveSlots slots high ss → HaveSlots (set slots leaf x) high ss
+slots_kept slots leaf x high [] h k = tt
+slots_kept slots leaf x high (s ∷ ss) h k =
+    (record { slot = k.0.slot; there = get_set_other slots leaf s.leaf x h.0 ∙ k.0.there; ends = k.0.ends; cuts = k.0.cuts }, slots_kept slots leaf x high ss h.1 k.1)
+
+pub have_join : (slots : List Slot) (high : Key) (front back : List LeafStart) → HaveSlots slots (begin_or back high) front → HaveSlots slots high back → HaveSlots slots high (front ++ back)
+have_join slots high [] back h k = k
+have_join slots high (s ∷ front) back h k = (subst (HasSlot slots s) (begins front) h.0, have_join slots high front back h.1 k)
+  where
+    begins : (front : List LeafStart) → begin_or front (begin_or back high) ≡ begin_or (front ++ back) high
+    begins [] = refl
+    begins (f ∷ fs) = refl
+
+pub have_front : (slots : List Slot) (high : Key) (front back : List LeafStart) → HaveSlots slots high (front ++ back) → HaveSlots slots (begin_or back high) front
+have_front slots high [] back h = tt
+have_front slots high (s ∷ front) back h = (subst (HasSlot slots s) (begins front) h.0, have_front slots high front back h.1)
+  where
+    begins : (front : List LeafStart) → begin_or (front ++ back) high ≡ begin_or front (begin_or back high)
+    begins [] = refl
+    begins (f ∷ fs) = refl
+
+pub have_back : (slots : List Slot) (high : Key) (front back : List LeafStart) → HaveSlots slots high (front ++ back) → HaveSlots slots high back
+have_back slots high [] back h = h
+have_back slots high (s ∷ front) back h = have_back slots high front back h.1
+
+-- a leaf that stands among others stands there alone
+pub stands_alone : (n : ℕ) (front : List LeafStart) (s : LeafStart) (back : List LeafStart) (free : List ℕ) (retired : List Retired) → StandOnce n (front ++ s ∷ back) free retired → Apart s.leaf front × Apart s.leaf back
+stands_alone n front s back free retired once =
+    let p : LeafStart → Bool = λ r. r.leaf == s.leaf in
+    let parts = count_append p front (s ∷ back) in
+    let here = count_cons p s back in
+    let one = ap worth (eq-eqb s.leaf s.leaf refl) in
+    let all = once s.leaf in
+    let top = at_most_one s.leaf n in
+    (none_counted (λ (r : LeafStart). r.leaf) s.leaf front (omega (arith, parts, here, one, all, top)), none_counted (λ (r : LeafStart). r.leaf) s.leaf back (omega (arith, parts, here, one, all, top)))
+
+pub absent : (n : ℕ) (starts : List LeafStart) (free : List ℕ) (retired : List Retired) (leaf : ℕ) → times leaf starts free retired ≡ 0 → Apart leaf starts
+absent n starts free retired leaf e = none_counted (λ (r : LeafStart). r.leaf) leaf starts (omega (arith, e))
+
+-- ---- one place in a list
+
+-- the last item of a list that passes a test is at one place
+pub record Same (front : List LeafStart) (s : LeafStart) (back front' : List LeafStart) (t : LeafStart) (back' : List LeafStart) : Type 0 where
+  pub fronts : front ≡ front'
+  pub starts : s ≡ t
+  pub backs : back ≡ back'
+
+pub one_last : (p : LeafStart → Bool) (front : List LeafStart) (s : LeafStart) (back front' : List LeafStart) (t : LeafStart) (back' : List LeafStart) → front ++ s ∷ back ≡ front' ++ t ∷ back' → p s ≡ true → AllByRecursion (λ x. p x ≡ false) back
+    → p t ≡ true → AllByRecursion (λ x. p x ≡ false) back' → Same front s back front' t back'
+one_last p [] s back [] t back' e ps rest pt rest' = record { fronts = refl; starts = cc; backs = cc }
+one_last p [] s back (g ∷ front') t back' e ps rest pt rest' =
+    let is : back ≡ front' ++ t ∷ back' = cc in
+    let fails = (all_back (λ x. p x ≡ false) front' (t ∷ back') (subst (AllByRecursion (λ x. p x ≡ false)) is rest)).0 in cc
+one_last p (f ∷ front) s back [] t back' e ps rest pt rest' =
+    let is : front ++ s ∷ back ≡ back' = cc in
+    let fails = (all_back (λ x. p x ≡ false) front (s ∷ back) (subst (AllByRecursion (λ x. p x ≡ false)) (sym is) rest')).0 in cc
+one_last p (f ∷ front) s back (g ∷ front') t back' e ps rest pt rest' =
+    let k = one_last p front s back front' t back' (cc) ps rest pt rest' in
+    let first : f ≡ g = cc in
+    record { fronts = λ i. first i ∷ k.fronts i; starts = k.starts; backs = k.backs }
+
+-- ---- entries are of leaves
+
+pub record Split (slots : List Slot) (starts : List LeafStart) (front : List Entry) (e : Entry) (back : List Entry) : Type 0 where
+  pub before : List LeafStart
+  pub start : LeafStart
+  pub behind : List LeafStart
+  pub is : starts ≡ before ++ start ∷ behind
+  pub fronts : entries_of slots before ≡ front
+  pub entry : entry_of slots start ≡ e
+  pub backs : entries_of slots behind ≡ back
+
+pub split : (slots : List Slot) (starts : List LeafStart) (front : List Entry) (e : Entry) (back : List Entry) → entries_of slots starts ≡ front ++ e ∷ back → Split slots starts front e back
+split slots [] [] e back is = cc
+split slots [] (g ∷ front) e back is = cc
+split slots (s ∷ ss) [] e back is = record { before = []; start = s; behind = ss; is = refl; fronts = refl; entry = first_same is; backs = rest_same is }
+  where
+    first_same : {x y : Entry} {xs ys : List Entry} → x ∷ xs ≡ y ∷ ys → x ≡ y
+    first_same p = cc
+    rest_same : {x y : Entry} {xs ys : List Entry} → x ∷ xs ≡ y ∷ ys → xs ≡ ys
+    rest_same p = cc
+split slots (s ∷ ss) (g ∷ front) e back is =
+    let k = split slots ss front e back (rest_same is) in
+    record { before = s ∷ k.before; start = k.start; behind = k.behind; is = ap (λ xs. s ∷ xs) k.is; fronts = (λ i. first_same is i ∷ k.fronts i); entry = k.entry; backs = k.backs }
+  where
+    first_same : {x y : Entry} {xs ys : List Entry} → x ∷ xs ≡ y ∷ ys → x ≡ y
+    first_same p = cc
+    rest_same : {x y : Entry} {xs ys : List Entry} → x ∷ xs ≡ y ∷ ys → xs ≡ ys
+    rest_same p = cc
+
+-- ---- the order of leaves
+
+pub rising_behind : (front : List LeafStart) (s : LeafStart) (back : List LeafStart) → AreRisingStarts (front ++ s ∷ back) → StartAbove s.low back
+rising_behind [] s back h = h.0
+rising_behind (f ∷ front) s back h = rising_behind front s back h.1
+
+above_passed : (key : Key) (ss : List LeafStart) → StartAbove key ss → AllByRecursion (λ (s : LeafStart). not (is_below key s.low) ≡ false) ss
+above_passed key [] h = tt
+above_passed key (s ∷ ss) h = (ap not h.0, above_passed key ss h.1)
+
+-- a leaf that begins at the key is the last one that does not begin above it
+pub floor_is : (key : Key) (starts : List LeafStart) (leaf : ℕ) (front : List LeafStart) (s : LeafStart) (back : List LeafStart) → (f : IsFloorStart key starts leaf) → starts ≡ front ++ s ∷ back → NotAbove s.low key → StartAbove key back → Same f.front f.start f.back front s back
+floor_is key starts leaf front s back f is from above =
+    one_last (λ (x : LeafStart). not (is_below key x.low)) f.front f.start f.back front s back (sym f.is ∙ is) (ap not f.from) (above_passed key f.back f.above) (ap not from) (above_passed key back above)
+
+-- ---- other cuts
+
+-- one leaf has another slot
+pub record Changed (slots new : List Slot) (starts : List LeafStart) (free : List ℕ) (retired : List Retired) (front : List LeafStart) (s : LeafStart) (x : Slot) (back : List LeafStart) : Type 0 where
+  pub kept : IsKept new starts free retired
+  pub entries : entries_of new starts ≡ entries_of slots front ++ record { low = s.low; leaf = s.leaf; cuts = x.cuts } ∷ entries_of slots back
+  pub count : length new ≡ length slots
+
+pub changed : (slots : List Slot) (starts : List LeafStart) (free : List ℕ) (retired : List Retired) (front : List LeafStart) (s : LeafStart) (x : Slot) (back : List LeafStart) → IsKept slots starts free retired → starts ≡ front ++ s ∷ back
+    → x.high ≡ begin_or back end_key → AreCuts s.low x.cuts (begin_or back end_key) → Changed slots (set slots s.leaf x) starts free retired front s x back
+changed slots starts free retired front s x back k is ends cuts =
+    let new = set slots s.leaf x in
+    let count = length-set slots s.leaf x in
+    let have : HaveSlots slots end_key (front ++ s ∷ back) = subst (HaveSlots slots end_key) is k.have in
+    let h = slot_at slots end_key front s back have in
+    let there = get_set_same slots s.leaf x (within_there slots s.leaf h.slot h.there) in
+    let apart = stands_alone (length slots) front s back free retired (subst (λ ss. StandOnce (length slots) ss free retired) is k.once) in
+    let here : HasSlot new s (begin_or back end_key) = record { slot = x; there = there; ends = ends; cuts = cuts } in
+    let now : HaveSlots new end_key (front ++ s ∷ back) =
+        have_join new end_key front (s ∷ back) (slots_kept slots s.leaf x s.low front apart.0 (have_front slots end_key front (s ∷ back) have))
+        (here, slots_kept slots s.leaf x end_key back apart.1 (have_back slots end_key front (s ∷ back) have).1) in
+    let one : entry_of new s ≡ record { low = s.low; leaf = s.leaf; cuts = x.cuts } = (λ i. record { low = s.low; leaf = s.leaf; cuts = cuts_or_none (there i) }) in
+    record {
+      kept = record { first = k.first; rising = k.rising; have = subst (HaveSlots new end_key) (sym is) now; once = λ q. omega (arith, k.once q, cond_same q count); few = omega (arith, k.few, count) };
+      entries = ap (entries_of new) is ∙ entries_append new front (s ∷ back) ∙ (λ i. entries_kept slots s.leaf x front apart.0 i ++ one i ∷ entries_kept slots s.leaf x back apart.1 i);
+      count = count
+    }
+  where
+    cond_same : (q : ℕ) → length (set slots s.leaf x) ≡ length slots → worth (nat_lt q (length (set slots s.leaf x))) ≡ worth (nat_lt q (length slots))
+    cond_same q e = ap (λ n. worth (nat_lt q n)) e
+
+-- an index whose entry has other cuts
+pub record CutChanged (starts : List LeafStart) (free : List ℕ) (retired : List Retired) (low : Key) (cuts : List Key) (slots new : List Slot) (entries : List Entry) : Type 0 where
+  pub kept : IsKept new starts free retired
+  pub sets : SetsCuts low cuts entries (entries_of new starts)
+  pub count : length new ≡ length slots
+
+pub cut_changed : (slots : List Slot) (starts : List LeafStart) (free : List ℕ) (retired : List Retired) (entries : List Entry) (low : Key) (cuts : List Key) (leaf : ℕ) (now : Slot) → entries_of slots starts ≡ entries → IsKept slots starts free retired
+    → CanCut low cuts entries → IsFloorStart low starts leaf → slice_get slots leaf ≡ Some now → CutChanged starts free retired low cuts slots (set slots leaf (record { cuts = cuts; high = now.high })) entries
+cut_changed slots starts free retired entries low cuts leaf now view k can f there =
+    let sp = split slots starts can.front can.entry can.back (view ∙ can.is) in
+    let s = sp.start in
+    let begins : s.low ≡ low = ap (λ (e : Entry). e.low) sp.entry ∙ can.same in
+    let from : NotAbove s.low low = subst (λ x. NotAbove x low) (sym begins) (below_self low) in
+    let above : StartAbove low sp.behind = subst (λ x. StartAbove x sp.behind) begins (rising_behind sp.before s sp.behind (subst AreRisingStarts sp.is k.rising)) in
+    let same = floor_is low starts leaf sp.before s sp.behind f sp.is from above in
+    let number : s.leaf ≡ leaf = ap (λ (x : LeafStart). x.leaf) (sym same.starts) ∙ f.same in
+    let h = slot_at slots end_key sp.before s sp.behind (subst (HaveSlots slots end_key) sp.is k.have) in
+    let high : now.high ≡ begin_or sp.behind end_key = ap (λ (x : Slot). x.high) (sym (slot_read slots s leaf (begin_or sp.behind end_key) now h number there)) ∙ h.ends in
+    let ends : end_of can.back ≡ begin_or sp.behind end_key = ap end_of (sym sp.backs) ∙ end_begin slots sp.behind in
+    let fit : AreCuts s.low cuts (begin_or sp.behind end_key) = subst (λ x. AreCuts x cuts (begin_or sp.behind end_key)) (sym begins) (subst (AreCuts low cuts) ends can.fit) in
+    let x : Slot = record { cuts = cuts; high = now.high } in
+    let c = changed slots starts free retired sp.before s x sp.behind k sp.is high fit in
+    let is : entries_of (set slots s.leaf x) starts ≡ can.front ++ record { low = can.entry.low; leaf = can.entry.leaf; cuts = cuts } ∷ can.back =
+        c.entries ∙ (λ i. sp.fronts i ++ record { low = (sp.entry i).low; leaf = (sp.entry i).leaf; cuts = cuts } ∷ sp.backs i) in
+    subst (λ n. CutChanged starts free retired low cuts slots (set slots n x) entries) number
+    (record { kept = c.kept; sets = record { front = can.front; entry = can.entry; back = can.back; was = can.is; is = is; same = can.same }; count = c.count })
