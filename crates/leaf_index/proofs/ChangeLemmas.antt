@@ -6,11 +6,11 @@ use Rattle.std.specs.List.{AllByRecursion}
 use Rattle.graph_model.specs.declared.row.Key.{Key}
 use Rattle.graph_model.specs.Rows.{is_below, first_key, end_key}
 use Rattle.leaf_trie.specs.declared.start.LeafStart.{LeafStart}
-use Rattle.leaf_trie.specs.Leaves.{Inserts, Removes, BeginAbove as StartAbove, BeginBelow as StartBelow}
+use Rattle.leaf_trie.specs.Leaves.{Inserts, NoneBegins, OneBegins, Removes, BeginAbove as StartAbove, BeginBelow as StartBelow}
 use Rattle.leaf_trie.proofs.ListLemmas.{all_map, all_append, all_front, all_back}
 use Rattle.leaf_index.specs.declared.slot.Slot.{Slot}
 use Rattle.leaf_index.specs.declared.route.Retired.{Retired}
-use Rattle.leaf_index.specs.Index.{Entry, Index, AreCuts, AreSorted, NotAbove, IsTaken, end_of, first_or}
+use Rattle.leaf_index.specs.Index.{Entry, Index, AreCuts, AreSorted, BeginAbove, NotAbove, IsTaken, end_of, first_or}
 use Rattle.leaf_index.specs.Slots.{HasSlot, HaveSlots, AreRisingStarts, StandOnce, IsKept, IsFloorStart, BeginsBefore, begin_or, cuts_or_none, entry_of, entries_of, times}
 use Rattle.leaf_index.specs.Calls.{CanAdd, AddsEntry, CanDrop, DropsEntry, CanCut, SetsCuts}
 use Rattle.leaf_index.proofs.OrderLemmas.{below_self, below_flip, below_chain, upto_chain, below_up}
@@ -205,3 +205,137 @@ cut_changed slots starts free retired entries low cuts leaf now view k can f the
         c.entries ∙ (λ i. sp.fronts i ++ record { low = (sp.entry i).low; leaf = (sp.entry i).leaf; cuts = cuts } ∷ sp.backs i) in
     subst (λ n. CutChanged starts free retired low cuts slots (set slots n x) entries) number
     (record { kept = c.kept; sets = record { front = can.front; entry = can.entry; back = can.back; was = can.is; is = is; same = can.same }; count = c.count })
+
+-- ---- one leaf more
+
+starts_above : (slots : List Slot) (key : Key) (ss : List LeafStart) → BeginAbove key (entries_of slots ss) → StartAbove key ss
+starts_above slots key [] h = tt
+starts_above slots key (s ∷ ss) h = (h.0, starts_above slots key ss h.1)
+
+-- where those below a key end, the last one below it is at the end of them
+cut_behind : (key : Key) (front back before : List LeafStart) (p : LeafStart) (behind : List LeafStart) → front ++ back ≡ before ++ p ∷ behind → StartBelow key front → StartAbove key back → is_below p.low key ≡ true → StartAbove key behind
+    → (front ≡ before ++ p ∷ []) × (back ≡ behind)
+cut_behind key [] back before p behind e below above here rest =
+    let over = (all_back (λ (s : LeafStart). is_below key s.low ≡ true) before (p ∷ behind) (subst (StartAbove key) e above)).0 in
+    absurd (clash (below_flip p.low key here) over)
+  where
+    clash : {t : Bool} → t ≡ false → t ≡ true → ⊥
+    clash e f = cc
+cut_behind key (x ∷ []) back [] p behind e below above here rest = ((let same : x ≡ p = cc in ap (λ y. y ∷ []) same), cc)
+cut_behind key (x ∷ y ∷ front) back [] p behind e below above here rest =
+    let is : y ∷ (front ++ back) ≡ behind = cc in
+    let over = (subst (StartAbove key) (sym is) rest).0 in
+    absurd (clash (below_flip y.low key below.1.0) over)
+  where
+    clash : {t : Bool} → t ≡ false → t ≡ true → ⊥
+    clash e f = cc
+cut_behind key (x ∷ front) back (b ∷ before) p behind e below above here rest =
+    let k = cut_behind key front back before p behind (cc) below.1 above here rest in
+    let same : x ≡ b = cc in
+    ((λ i. same i ∷ k.0 i), k.1)
+
+rising_more : (front : List LeafStart) (s : LeafStart) (back : List LeafStart) → AreRisingStarts (front ++ back) → StartBelow s.low front → StartAbove s.low back → AreRisingStarts (front ++ s ∷ back)
+rising_more [] s back h below above = (above, h)
+rising_more (f ∷ front) s back h below above =
+    (all_append (λ (r : LeafStart). is_below f.low r.low ≡ true) front (s ∷ back) (all_front _ front back h.0) (below.0, all_back _ front back h.0), rising_more front s back h.1 below.1 above)
+
+begin_same : (front : List LeafStart) (p : LeafStart) (xs ys : List LeafStart) (high : Key) → begin_or (front ++ p ∷ xs) high ≡ begin_or (front ++ p ∷ ys) high
+begin_same [] p xs ys high = refl
+begin_same (f ∷ front) p xs ys high = refl
+
+count_more : (leaf : ℕ) (front : List LeafStart) (s : LeafStart) (back : List LeafStart) → count_by (λ (r : LeafStart). r.leaf == leaf) (front ++ s ∷ back) ≡ count_by (λ (r : LeafStart). r.leaf == leaf) (front ++ back) + worth (s.leaf == leaf)
+count_more leaf front s back =
+    let p : LeafStart → Bool = λ r. r.leaf == leaf in
+    omega (arith, count_append p front (s ∷ back), count_cons p s back, count_append p front back)
+
+-- an index with one entry more
+pub record AddChanged (starts : List LeafStart) (free : List ℕ) (retired : List Retired) (entry : Entry) (slots new : List Slot) (entries : List Entry) : Type 0 where
+  pub kept : IsKept new starts free retired
+  pub adds : AddsEntry entry entries (entries_of new starts)
+  pub count : length new ≡ length slots
+
+pub add_changed : (slots : List Slot) (starts after : List LeafStart) (free : List ℕ) (retired : List Retired) (entries : List Entry) (low : Key) (leaf : ℕ) (cuts : List Key) (before : ℕ) (now : Slot) → entries_of slots starts ≡ entries
+    → IsKept slots starts free retired → Unused slots starts free retired leaf → CanAdd low cuts entries → IsFloorStart low starts before → slice_get slots before ≡ Some now → Inserts (record { low = low; leaf = leaf }) starts after
+    → AddChanged after free retired (record { low = low; leaf = leaf; cuts = cuts }) slots (set (set slots before (record { cuts = now.cuts; high = low })) leaf (record { cuts = cuts; high = now.high })) entries
+add_changed slots starts after free retired entries low leaf cuts before now view k unused can f there ins =
+    let sp = split slots starts can.front can.before can.back (view ∙ can.is) in
+    let p = sp.start in
+    let s : LeafStart = record { low = low; leaf = leaf } in
+    let below : is_below p.low low ≡ true = subst (λ (e : Entry). is_below e.low low ≡ true) (sym sp.entry) can.begins in
+    let above : StartAbove low sp.behind = starts_above slots low sp.behind (subst (BeginAbove low) (sym sp.backs) can.above) in
+    let same = floor_is low starts before sp.before p sp.behind f sp.is (below_flip p.low low below) above in
+    let number : p.leaf ≡ before = ap (λ (x : LeafStart). x.leaf) (sym same.starts) ∙ f.same in
+    let parts = cut_behind low ins.front ins.back sp.before p sp.behind (sym ins.was ∙ sp.is) ins.below ins.above below above in
+    let is : after ≡ sp.before ++ p ∷ s ∷ sp.behind = ins.is ∙ (λ i. parts.0 i ++ s ∷ parts.1 i) ∙ append_assoc sp.before (p ∷ []) (s ∷ sp.behind) in
+    let have : HaveSlots slots end_key (sp.before ++ p ∷ sp.behind) = subst (HaveSlots slots end_key) sp.is k.have in
+    let h = slot_at slots end_key sp.before p sp.behind have in
+    let lt = within_there slots p.leaf h.slot h.there in
+    let slot = slot_read slots p before (begin_or sp.behind end_key) now h number there in
+    let alone = stands_alone (length slots) sp.before p sp.behind free retired (subst (λ ss. StandOnce (length slots) ss free retired) sp.is k.once) in
+    let apart : Apart leaf (sp.before ++ p ∷ sp.behind) = subst (Apart leaf) sp.is (absent (length slots) starts free retired leaf unused.unused) in
+    let apart_front = all_front (λ (r : LeafStart). r.leaf ≢ leaf) sp.before (p ∷ sp.behind) apart in
+    let apart_back = all_back (λ (r : LeafStart). r.leaf ≢ leaf) sp.before (p ∷ sp.behind) apart in
+    let x : Slot = record { cuts = now.cuts; high = low } in
+    let y : Slot = record { cuts = cuts; high = now.high } in
+    let one = set slots p.leaf x in
+    let new = set one leaf y in
+    let count : length new ≡ length slots = length-set one leaf y ∙ length-set slots p.leaf x in
+    let there_p : slice_get new p.leaf ≡ Some x = get_set_other one leaf p.leaf y apart_back.0 ∙ get_set_same slots p.leaf x lt in
+    let there_s : slice_get new leaf ≡ Some y = get_set_same one leaf y (omega (arith, unused.exists, length-set slots p.leaf x)) in
+    let older : can.before.cuts ≡ now.cuts = ap (λ (e : Entry). e.cuts) (sym sp.entry) ∙ ap cuts_or_none h.there ∙ ap (λ (z : Slot). z.cuts) slot in
+    let had = subst (λ (z : Slot). AreCuts p.low z.cuts (begin_or sp.behind end_key)) slot h.cuts in
+    let cuts_p : AreCuts p.low now.cuts low = record { count = had.count; begin = had.begin; sorted = subst (λ ks. AreSorted ks low) older can.older } in
+    let ends : now.high ≡ begin_or sp.behind end_key = ap (λ (z : Slot). z.high) (sym slot) ∙ h.ends in
+    let ends' : end_of can.back ≡ begin_or sp.behind end_key = ap end_of (sym sp.backs) ∙ end_begin slots sp.behind in
+    let has_p : HasSlot new p low = record { slot = x; there = there_p; ends = refl; cuts = cuts_p } in
+    let has_s : HasSlot new s (begin_or sp.behind end_key) = record { slot = y; there = there_s; ends = ends; cuts = subst (AreCuts low cuts) ends' can.newer } in
+    let front_kept = slots_kept one leaf y p.low sp.before apart_front (slots_kept slots p.leaf x p.low sp.before alone.0 (have_front slots end_key sp.before (p ∷ sp.behind) have)) in
+    let back_kept = slots_kept one leaf y end_key sp.behind apart_back.1 (slots_kept slots p.leaf x end_key sp.behind alone.1 (have_back slots end_key sp.before (p ∷ sp.behind) have).1) in
+    let now_have : HaveSlots new end_key (sp.before ++ p ∷ s ∷ sp.behind) = have_join new end_key sp.before (p ∷ s ∷ sp.behind) front_kept (has_p, (has_s, back_kept)) in
+    let rises : AreRisingStarts (ins.front ++ s ∷ ins.back) = rising_more ins.front s ins.back (subst AreRisingStarts ins.was k.rising) ins.below ins.above in
+    let first : begin_or after end_key ≡ first_key = ap (λ ss. begin_or ss end_key) is ∙ begin_same sp.before p (s ∷ sp.behind) sp.behind end_key ∙ ap (λ ss. begin_or ss end_key) (sym sp.is) ∙ k.first in
+    let entry_p : entry_of new p ≡ can.before = (λ i. record { low = p.low; leaf = p.leaf; cuts = cuts_or_none (there_p i) }) ∙ ap (λ ks. let e : Entry = record { low = p.low; leaf = p.leaf; cuts = ks } in e) (sym (ap cuts_or_none h.there ∙ ap (λ (z : Slot). z.cuts) slot)) ∙ sp.entry in
+    let entry_s : entry_of new s ≡ record { low = low; leaf = leaf; cuts = cuts } = (λ i. record { low = low; leaf = leaf; cuts = cuts_or_none (there_s i) }) in
+    let fronts : entries_of new sp.before ≡ can.front = entries_kept one leaf y sp.before apart_front ∙ entries_kept slots p.leaf x sp.before alone.0 ∙ sp.fronts in
+    let backs : entries_of new sp.behind ≡ can.back = entries_kept one leaf y sp.behind apart_back.1 ∙ entries_kept slots p.leaf x sp.behind alone.1 ∙ sp.backs in
+    let e : Entry = record { low = low; leaf = leaf; cuts = cuts } in
+    let entries_new : entries_of new after ≡ (can.front ++ can.before ∷ []) ++ e ∷ can.back =
+        ap (entries_of new) is ∙ entries_append new sp.before (p ∷ s ∷ sp.behind) ∙ (λ i. fronts i ++ entry_p i ∷ entry_s i ∷ backs i) ∙ sym (append_assoc can.front (can.before ∷ []) (e ∷ can.back)) in
+    let result : AddChanged after free retired e slots new entries = record {
+      kept = record {
+        first = first;
+        rising = subst AreRisingStarts (sym ins.is) rises;
+        have = subst (HaveSlots new end_key) (sym is) now_have;
+        once = λ q.
+          let was = ap (λ ss. count_by (λ (r : LeafStart). r.leaf == q) ss) ins.was in
+          let become = ap (λ ss. count_by (λ (r : LeafStart). r.leaf == q) ss) ins.is in
+          let more = count_more q ins.front s ins.back in
+          let le = once_more (length slots) leaf q (times q starts free retired) (times q after free retired) unused.exists (λ e. subst (λ m. times m starts free retired ≡ 0) e unused.unused) (k.once q) (omega (arith, was, become, more)) in
+          subst (λ n. times q after free retired ≤ worth (nat_lt q n)) (sym count) le;
+        few = omega (arith, k.few, count)
+      };
+      adds = record { front = can.front ++ can.before ∷ []; back = can.back; was = can.is ∙ sym (append_assoc can.front (can.before ∷ []) can.back); is = entries_new };
+      count = count
+    } in
+    subst (λ n. AddChanged after free retired e slots (set (set slots n x) leaf y) entries) number result
+
+apart_keys : (a b : Key) → is_below a b ≡ true → a ≢ b
+apart_keys a b below same = let self = below_self b in let here : is_below b b ≡ true = subst (λ k. is_below k b ≡ true) same below in cc
+
+none_above : (key : Key) (ss : List LeafStart) → StartAbove key ss → NoneBegins key ss
+none_above key [] h = tt
+none_above key (s ∷ ss) h = ((λ e. apart_keys key s.low h.0 (sym e)), none_above key ss h.1)
+
+-- no leaf begins at a key between two of them
+none_begins : (key : Key) (front : List LeafStart) (p : LeafStart) (back : List LeafStart) → AreRisingStarts (front ++ p ∷ back) → is_below p.low key ≡ true → StartAbove key back → NoneBegins key (front ++ p ∷ back)
+none_begins key [] p back h below above = (apart_keys p.low key below, none_above key back above)
+none_begins key (f ∷ front) p back h below above =
+    let less = (all_back (λ (s : LeafStart). is_below f.low s.low ≡ true) front (p ∷ back) h.0).0 in
+    (apart_keys f.low key (below_chain f.low p.low key less below), none_begins key front p back h.1 below above)
+
+pub none_at : (slots : List Slot) (starts : List LeafStart) (free : List ℕ) (retired : List Retired) (entries : List Entry) (low : Key) (cuts : List Key) → entries_of slots starts ≡ entries → IsKept slots starts free retired → CanAdd low cuts entries → NoneBegins low starts
+none_at slots starts free retired entries low cuts view k can =
+    let sp = split slots starts can.front can.before can.back (view ∙ can.is) in
+    let below : is_below sp.start.low low ≡ true = subst (λ (e : Entry). is_below e.low low ≡ true) (sym sp.entry) can.begins in
+    let above : StartAbove low sp.behind = starts_above slots low sp.behind (subst (BeginAbove low) (sym sp.backs) can.above) in
+    subst (NoneBegins low) (sym sp.is) (none_begins low sp.before sp.start sp.behind (subst AreRisingStarts sp.is k.rising) below above)

@@ -117,6 +117,22 @@ impl LeafIndex {
         }
     }
 
+    /// Gives a taken leaf the range from the key to the end of the range that has it now.
+    pub fn add_leaf(&mut self, alloc: Global, low: Key, leaf: u32, cuts: [Key; 8]) -> Result<(), NoMemory>
+        requires taken { IsTaken self.old leaf }
+        requires place { CanAdd low cuts self.old.entries }
+        ensures ok { OnOk result (AddsEntry (record { low = low; leaf = leaf; cuts = cuts }) self.old.entries self.new.entries) }
+        ensures others { self.new ≡ record self.old { entries = self.new.entries } }
+        ensures err { OnErr result (self.new ≡ self.old) }
+    {
+        let before = floor_of(&self.trie, &self.slots, low);
+        self.trie.insert(alloc, LeafStart { low, leaf })?;
+        let high = self.slots[before as usize].high;
+        self.slots[before as usize].high = low;
+        self.slots[leaf as usize] = Slot { cuts, high };
+        Ok(())
+    }
+
     /// Gives the leaf that begins at the key these cuts, one for each of its segments.
     pub fn set_separators(&mut self, low: Key, cuts: [Key; 8])
         requires { CanCut low cuts self.old.entries }
