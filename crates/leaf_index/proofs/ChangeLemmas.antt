@@ -339,3 +339,141 @@ none_at slots starts free retired entries low cuts view k can =
     let below : is_below sp.start.low low ≡ true = subst (λ (e : Entry). is_below e.low low ≡ true) (sym sp.entry) can.begins in
     let above : StartAbove low sp.behind = starts_above slots low sp.behind (subst (BeginAbove low) (sym sp.backs) can.above) in
     subst (NoneBegins low) (sym sp.is) (none_begins low sp.before sp.start sp.behind (subst AreRisingStarts sp.is k.rising) below above)
+
+-- ---- one leaf less
+
+sorted_up : (ks : List Key) (high end : Key) → AreSorted ks high → NotAbove high end → AreSorted ks end
+sorted_up [] high end h le = tt
+sorted_up (k ∷ []) high end h le = (upto_chain k high end h.0 le, tt)
+sorted_up (k ∷ l ∷ ls) high end h le = (h.0, sorted_up (l ∷ ls) high end h.1 le)
+
+sorted_span : (k : Key) (ks : List Key) (high : Key) → AreSorted (k ∷ ks) high → NotAbove k high
+sorted_span k [] high h = h.0
+sorted_span k (l ∷ ls) high h = upto_chain k l high h.0 (sorted_span l ls high h.1)
+
+-- no range ends below its begin
+cuts_span : (low : Key) (cuts : List Key) (high : Key) → AreCuts low cuts high → NotAbove low high
+cuts_span low [] high h = let e = h.begin in cc
+cuts_span low (k ∷ ks) high h = let same : k ≡ low = same_some h.begin in subst (λ x. NotAbove x high) same (sorted_span k ks high h.sorted)
+
+rising_less : (front : List LeafStart) (s : LeafStart) (back : List LeafStart) → AreRisingStarts (front ++ s ∷ back) → AreRisingStarts (front ++ back)
+rising_less [] s back h = h.1
+rising_less (f ∷ front) s back h =
+    (all_append (λ (r : LeafStart). is_below f.low r.low ≡ true) front back (all_front _ front (s ∷ back) h.0) (all_back (λ (r : LeafStart). is_below f.low r.low ≡ true) front (s ∷ back) h.0).1, rising_less front s back h.1)
+
+none_below : (key : Key) (ss : List LeafStart) → StartAbove key ss → AllByRecursion (λ (s : LeafStart). is_below s.low key ≡ false) ss
+none_below key [] h = tt
+none_below key (s ∷ ss) h = (below_flip key s.low h.0, none_below key ss h.1)
+
+-- the leaf that is dropped, with the one before it
+pub record Neighbours (slots : List Slot) (starts : List LeafStart) (low : Key) (entries : List Entry) (can : CanDrop low entries) : Type 0 where
+  pub before : List LeafStart
+  pub p : LeafStart
+  pub d : LeafStart
+  pub behind : List LeafStart
+  pub is : starts ≡ before ++ p ∷ d ∷ behind
+  pub fronts : entries_of slots before ≡ can.front
+  pub entry_p : entry_of slots p ≡ can.before
+  pub entry_d : entry_of slots d ≡ can.dropped
+  pub backs : entries_of slots behind ≡ can.back
+  pub begins : d.low ≡ low
+  pub below : is_below p.low low ≡ true
+  pub above : StartAbove low behind
+
+pub neighbours : (slots : List Slot) (starts : List LeafStart) (free : List ℕ) (retired : List Retired) (entries : List Entry) (low : Key) → entries_of slots starts ≡ entries → IsKept slots starts free retired → (can : CanDrop low entries) → Neighbours slots starts low entries can
+neighbours slots starts free retired entries low view k can =
+    let sp = split slots starts can.front can.before (can.dropped ∷ can.back) (view ∙ can.is) in
+    let sq = split slots sp.behind [] can.dropped can.back sp.backs in
+    let none : sq.before ≡ [] = no_entries sq.before sq.fronts in
+    let rest : sp.behind ≡ sq.start ∷ sq.behind = sq.is ∙ ap (λ xs. xs ++ sq.start ∷ sq.behind) none in
+    let is : starts ≡ sp.before ++ sp.start ∷ sq.start ∷ sq.behind = sp.is ∙ ap (λ xs. sp.before ++ sp.start ∷ xs) rest in
+    let begins : sq.start.low ≡ low = ap (λ (e : Entry). e.low) sq.entry ∙ can.same in
+    let rising = subst AreRisingStarts is k.rising in
+    let behind_p = rising_behind sp.before sp.start (sq.start ∷ sq.behind) rising in
+    let behind_d = rising_behind (sp.before ++ sp.start ∷ []) sq.start sq.behind (subst AreRisingStarts (sym (append_assoc sp.before (sp.start ∷ []) (sq.start ∷ sq.behind))) rising) in
+    record {
+      before = sp.before; p = sp.start; d = sq.start; behind = sq.behind; is = is; fronts = sp.fronts; entry_p = sp.entry; entry_d = sq.entry; backs = sq.backs; begins = begins;
+      below = subst (λ x. is_below sp.start.low x ≡ true) begins behind_p.0;
+      above = subst (λ x. StartAbove x sq.behind) begins behind_d
+    }
+  where
+    no_entries : (ss : List LeafStart) → entries_of slots ss ≡ [] → ss ≡ []
+    no_entries [] e = refl
+    no_entries (s ∷ ss) e = cc
+
+pub one_begins : (slots : List Slot) (starts : List LeafStart) (low : Key) (entries : List Entry) (can : CanDrop low entries) → (n : Neighbours slots starts low entries can) → OneBegins low starts
+one_begins slots starts low entries can n = record { front = n.before ++ n.p ∷ []; start = n.d; back = n.behind; is = n.is ∙ sym (append_assoc n.before (n.p ∷ []) (n.d ∷ n.behind)); low = n.begins }
+
+pub two_there : (slots : List Slot) (starts : List LeafStart) (low : Key) (entries : List Entry) (can : CanDrop low entries) → (n : Neighbours slots starts low entries can) → 2 ≤ length starts
+two_there slots starts low entries can n = omega (arith, ap length n.is, length-append n.before (n.p ∷ n.d ∷ n.behind))
+
+pub before_there : (slots : List Slot) (starts : List LeafStart) (low : Key) (entries : List Entry) (can : CanDrop low entries) → (n : Neighbours slots starts low entries can) → AllByRecursion (λ (s : LeafStart). NotAbove low s.low) starts → ⊥
+before_there slots starts low entries can n all =
+    let at = (all_back (λ (s : LeafStart). NotAbove low s.low) n.before (n.p ∷ n.d ∷ n.behind) (subst (AllByRecursion (λ (s : LeafStart). NotAbove low s.low)) n.is all)).0 in
+    clash at n.below
+  where
+    clash : {t : Bool} → t ≡ false → t ≡ true → ⊥
+    clash e f = cc
+
+pub record DropChanged (starts : List LeafStart) (free : List ℕ) (retired : List Retired) (low : Key) (slots new : List Slot) (entries : List Entry) : Type 0 where
+  pub kept : IsKept new starts free retired
+  pub drops : DropsEntry low entries (entries_of new starts)
+  pub count : length new ≡ length slots
+
+pub drop_changed : (slots : List Slot) (starts after : List LeafStart) (free : List ℕ) (retired : List Retired) (entries : List Entry) (low : Key) (dropped before : ℕ) (gone now : Slot) → IsKept slots starts free retired → (can : CanDrop low entries)
+    → (n : Neighbours slots starts low entries can) → IsFloorStart low starts dropped → slice_get slots dropped ≡ Some gone → BeginsBefore low starts before → slice_get slots before ≡ Some now → Removes low starts after
+    → DropChanged after free retired low slots (set slots before (record { cuts = now.cuts; high = gone.high })) entries
+drop_changed slots starts after free retired entries low dropped before gone now k can n f there_gone b there_now rem =
+    let p = n.p in
+    let d = n.d in
+    let grouped : starts ≡ (n.before ++ p ∷ []) ++ d ∷ n.behind = n.is ∙ sym (append_assoc n.before (p ∷ []) (d ∷ n.behind)) in
+    let from : NotAbove d.low low = subst (λ x. NotAbove x low) (sym n.begins) (below_self low) in
+    let same_d = floor_is low starts dropped (n.before ++ p ∷ []) d n.behind f grouped from n.above in
+    let number_d : d.leaf ≡ dropped = ap (λ (x : LeafStart). x.leaf) (sym same_d.starts) ∙ f.same in
+    let rest : AllByRecursion (λ (s : LeafStart). is_below s.low low ≡ false) (d ∷ n.behind) = (subst (λ x. is_below x low ≡ false) (sym n.begins) (below_self low), none_below low n.behind n.above) in
+    let same_p = one_last (λ (x : LeafStart). is_below x.low low) b.front b.start b.back n.before p (d ∷ n.behind) (sym b.is ∙ n.is) b.below b.rest n.below rest in
+    let number_p : p.leaf ≡ before = ap (λ (x : LeafStart). x.leaf) (sym same_p.starts) ∙ b.same in
+    let removed_above : StartAbove low rem.back = subst (λ x. StartAbove x rem.back) rem.low (rising_behind rem.front rem.start rem.back (subst AreRisingStarts rem.was k.rising)) in
+    let removed_from : NotAbove rem.start.low low = subst (λ x. NotAbove x low) (sym rem.low) (below_self low) in
+    let gone_is = one_last (λ (x : LeafStart). not (is_below low x.low)) rem.front rem.start rem.back (n.before ++ p ∷ []) d n.behind (sym rem.was ∙ grouped) (ap not removed_from) (above_passed low rem.back removed_above) (ap not from) (above_passed low n.behind n.above) in
+    let is : after ≡ n.before ++ p ∷ n.behind = rem.is ∙ (λ i. gone_is.fronts i ++ gone_is.backs i) ∙ append_assoc n.before (p ∷ []) n.behind in
+    let have : HaveSlots slots end_key (n.before ++ p ∷ d ∷ n.behind) = subst (HaveSlots slots end_key) n.is k.have in
+    let h = slot_at slots end_key n.before p (d ∷ n.behind) have in
+    let g = (have_back slots end_key n.before (p ∷ d ∷ n.behind) have).1.0 in
+    let slot_p = slot_read slots p before d.low now h number_p there_now in
+    let slot_d = slot_read slots d dropped (begin_or n.behind end_key) gone g number_d there_gone in
+    let alone = stands_alone (length slots) n.before p (d ∷ n.behind) free retired (subst (λ ss. StandOnce (length slots) ss free retired) n.is k.once) in
+    let x : Slot = record { cuts = now.cuts; high = gone.high } in
+    let new = set slots p.leaf x in
+    let count = length-set slots p.leaf x in
+    let there : slice_get new p.leaf ≡ Some x = get_set_same slots p.leaf x (within_there slots p.leaf h.slot h.there) in
+    let ends : gone.high ≡ begin_or n.behind end_key = ap (λ (z : Slot). z.high) (sym slot_d) ∙ g.ends in
+    let had = subst (λ (z : Slot). AreCuts p.low z.cuts d.low) slot_p h.cuts in
+    let cuts : AreCuts p.low now.cuts (begin_or n.behind end_key) = record { count = had.count; begin = had.begin; sorted = sorted_up now.cuts d.low (begin_or n.behind end_key) had.sorted (cuts_span d.low g.slot.cuts (begin_or n.behind end_key) g.cuts) } in
+    let here : HasSlot new p (begin_or n.behind end_key) = record { slot = x; there = there; ends = ends; cuts = cuts } in
+    let front_kept = slots_kept slots p.leaf x p.low n.before alone.0 (have_front slots end_key n.before (p ∷ d ∷ n.behind) have) in
+    let back_kept = slots_kept slots p.leaf x end_key n.behind alone.1.1 (have_back slots end_key n.before (p ∷ d ∷ n.behind) have).1.1 in
+    let now_have : HaveSlots new end_key (n.before ++ p ∷ n.behind) = have_join new end_key n.before (p ∷ n.behind) front_kept (here, back_kept) in
+    let entry : entry_of new p ≡ can.before =
+        (λ i. record { low = p.low; leaf = p.leaf; cuts = cuts_or_none (there i) }) ∙ ap (λ ks. let e : Entry = record { low = p.low; leaf = p.leaf; cuts = ks } in e) (sym (ap cuts_or_none h.there ∙ ap (λ (z : Slot). z.cuts) slot_p)) ∙ n.entry_p in
+    let fronts : entries_of new n.before ≡ can.front = entries_kept slots p.leaf x n.before alone.0 ∙ n.fronts in
+    let backs : entries_of new n.behind ≡ can.back = entries_kept slots p.leaf x n.behind alone.1.1 ∙ n.backs in
+    let entries_new : entries_of new after ≡ (can.front ++ can.before ∷ []) ++ can.back =
+        ap (entries_of new) is ∙ entries_append new n.before (p ∷ n.behind) ∙ (λ i. fronts i ++ entry i ∷ backs i) ∙ sym (append_assoc can.front (can.before ∷ []) can.back) in
+    let result : DropChanged after free retired low slots new entries = record {
+      kept = record {
+        first = ap (λ ss. begin_or ss end_key) is ∙ begin_same n.before p n.behind (d ∷ n.behind) end_key ∙ ap (λ ss. begin_or ss end_key) (sym n.is) ∙ k.first;
+        rising = subst AreRisingStarts (sym rem.is) (rising_less rem.front rem.start rem.back (subst AreRisingStarts rem.was k.rising));
+        have = subst (HaveSlots new end_key) (sym is) now_have;
+        once = λ q.
+          let was = ap (λ ss. count_by (λ (r : LeafStart). r.leaf == q) ss) rem.was in
+          let become = ap (λ ss. count_by (λ (r : LeafStart). r.leaf == q) ss) rem.is in
+          let more = count_more q rem.front rem.start rem.back in
+          let le : times q after free retired ≤ worth (nat_lt q (length slots)) = omega (arith, was, become, more, k.once q) in
+          subst (λ m. times q after free retired ≤ worth (nat_lt q m)) (sym count) le;
+        few = omega (arith, k.few, count)
+      };
+      drops = record { front = can.front ++ can.before ∷ []; dropped = can.dropped; back = can.back; was = can.is ∙ sym (append_assoc can.front (can.before ∷ []) (can.dropped ∷ can.back)); is = entries_new; same = can.same };
+      count = count
+    } in
+    subst (λ m. DropChanged after free retired low slots (set slots m x) entries) number_p result

@@ -297,3 +297,6 @@ before_range slots key starts entries leaf range view have b r =
 
 pub floor_within : (slots : List Slot) (key : Key) (starts : List LeafStart) (leaf : ℕ) → HaveSlots slots end_key starts → IsFloorStart key starts leaf → leaf < length slots
 floor_within slots key starts leaf have f = slot_within slots f.start leaf (begin_or f.back end_key) (slot_at slots end_key f.front f.start f.back (subst (HaveSlots slots end_key) f.is have)) f.same
+
+pub before_within : (slots : List Slot) (key : Key) (starts : List LeafStart) (leaf : ℕ) → HaveSlots slots end_key starts → BeginsBefore key starts leaf → leaf < length slots
+before_within slots key starts leaf have b = slot_within slots b.start leaf (begin_or b.back end_key) (slot_at slots end_key b.front b.start b.back (subst (HaveSlots slots end_key) b.is have)) b.same

@@ -19,6 +19,10 @@ abbrev pub cuts_or_none : Option Slot → List Key
 cuts_or_none None = []
 cuts_or_none (Some slot) = slot.cuts
 
+-- all keys in the first segment
+abbrev pub whole_slot : Slot
+whole_slot = record { cuts = first_key ∷ end_key ∷ end_key ∷ end_key ∷ end_key ∷ end_key ∷ end_key ∷ end_key ∷ []; high = end_key }
+
 -- a leaf's entry, from what stands by its number
 abbrev pub entry_of : List Slot → LeafStart → Entry
 entry_of slots start = record { low = start.low; leaf = start.leaf; cuts = cuts_or_none (slice_get slots start.leaf) }

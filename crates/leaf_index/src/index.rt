@@ -3,12 +3,13 @@
 //! 1. What the trie doesn't need lies in a table by the numbers of leaves: cuts, and the end of a live leaf's range.
 //! 2. Both lists of leaves have room for all leaves from the start.
 
-ghost use Rattle.std.specs.Prelude.{◌≡◌, ◌<◌, ◌≤◌, ◌+◌, [], ◌∷◌, ◌++◌, IfOk, IfSome, OnOk, OnErr, length, take, ℕ};
+ghost use Rattle.std.specs.Prelude.{◌≡◌, ◌<◌, ◌≤◌, ◌+◌, [], ◌∷◌, ◌++◌, IfOk, IfSome, OnOk, OnErr, length, replicate, take, ◌-◌};
+ghost use Rattle.std.specs.List.{range_with_len};
 ghost use Rattle.std.specs.Vec.{vec_capacity};
 ghost use Rattle.graph_model.specs.Rows.{end_key, first_key};
 ghost use Rattle.graph_model.specs.declared.limits.TheConstants.{MAX_LEAVES};
 ghost use Rattle.leaf_index.specs.Index.{IsIndex, IsRoute, IsTaken};
-ghost use Rattle.leaf_index.specs.Slots.{HasSlot, HaveSlots, IsBeforeStart, IsFloorStart, IsRange, begin_or};
+ghost use Rattle.leaf_index.specs.Slots.{HasSlot, HaveSlots, IsBeforeStart, IsFloorStart, IsRange, begin_or, whole_slot};
 ghost use Rattle.leaf_index.specs.Calls.{AddsEntry, CanAdd, CanCut, CanDrop, DropsEntry, IsLeafBefore, IsLeafRange, SetsCuts, TakesFree, freed, freed_of, new_index};
 
 use graph_model::{Key, NoMemory};
@@ -47,6 +48,36 @@ impl Model for LeafIndex {
     ghost invariant = { λ i. IsKept i.slots.items i.trie i.free.items i.retired.items
         × (length i.slots.items ≤ vec_capacity i.free)
         × (length i.slots.items ≤ vec_capacity i.retired) };
+}
+
+/// So many slots of the whole key range, all of it in the first segment.
+fn whole_slots(alloc: Global, leaves: u32) -> Result<Vec<Slot>, NoMemory>
+    ensures { IfOk result (λ v. v.items ≡ replicate leaves whole_slot) }
+{
+    let low = Key { src: 0, second: 0 };
+    let end = Key::END;
+    let whole = Slot {
+        cuts: [low, end, end, end, end, end, end, end],
+        high: end,
+    };
+    let mut slots = Vec::with_capacity(alloc, leaves as usize)?;
+    'fill: for _leaf in 0..leaves {
+        slots.push(whole)?;
+    }
+    Ok(slots)
+}
+
+/// All leaves but the first, in a list with room for all.
+fn free_leaves(alloc: Global, leaves: u32) -> Result<Vec<u32>, NoMemory>
+    requires { 1 ≤ leaves }
+    ensures leaves { IfOk result (λ v. v.items ≡ range_with_len 1 (leaves - 1)) }
+    ensures room { IfOk result (λ v. leaves ≤ vec_capacity v) }
+{
+    let mut free = Vec::with_capacity(alloc, leaves as usize)?;
+    'fill: for leaf in 1..leaves {
+        free.push(leaf)?;
+    }
+    Ok(free)
 }
 
 /// The last leaf that does not begin above the key.
@@ -91,6 +122,25 @@ fn range_of(slots: &Vec<Slot>, leaf: u32) -> LeafRange
 }
 
 impl LeafIndex {
+    /// Leaf 0 has the whole key range, and the others are free. Takes the memory of both lists and of all cuts.
+    pub fn new(alloc: Global, leaves: u32) -> Result<LeafIndex, NoMemory>
+        requires some { 1 ≤ leaves }
+        requires few { leaves ≤ MAX_LEAVES }
+        ensures { IfOk result (λ i. i ≡ new_index leaves) }
+    {
+        let low = Key { src: 0, second: 0 };
+        let trie = LeafTrie::new(alloc, LeafStart { low, leaf: 0 })?;
+        let slots = whole_slots(alloc, leaves)?;
+        let free = free_leaves(alloc, leaves)?;
+        let retired = Vec::with_capacity(alloc, leaves as usize)?;
+        Ok(LeafIndex {
+            trie,
+            slots,
+            free,
+            retired,
+        })
+    }
+
     /// How many leaves there are, in use or not. What holds of each index is a clause of this call.
     pub fn leaves(&self) -> u32
         ensures leaves { result ≡ self.now.leaves }
@@ -131,6 +181,21 @@ impl LeafIndex {
         self.slots[before as usize].high = low;
         self.slots[leaf as usize] = Slot { cuts, high };
         Ok(())
+    }
+
+    /// Gives the range of the leaf that begins at the key to the leaf before it.
+    pub fn drop_leaf(&mut self, low: Key)
+        requires { CanDrop low self.old.entries }
+        ensures entries { DropsEntry low self.old.entries self.new.entries }
+        ensures others { self.new ≡ record self.old { entries = self.new.entries } }
+    {
+        let dropped = floor_of(&self.trie, &self.slots, low);
+        let Some(before) = before_of(&self.trie, &self.slots, low) else {
+            unreachable!();
+        };
+        self.trie.remove(low);
+        let high = self.slots[dropped as usize].high;
+        self.slots[before as usize].high = high;
     }
 
     /// Gives the leaf that begins at the key these cuts, one for each of its segments.
