@@ -51,6 +51,15 @@ counted q (x ∷ xs) e = by_test (eqb q x) refl e (counted q xs)
     by_test true t f rest = let same = eqb-true q x t in let parts = count_cons (λ y. y == q) x xs in let one = ap worth (eq-eqb x q (sym same)) in omega (arith, parts, one)
     by_test false t f rest = let parts = count_cons (λ y. y == q) x xs in omega (arith, parts, rest f)
 
+-- numbers below n that stand once at most are at most n
+pub at_most : (xs : List ℕ) (n : ℕ) → ((q : ℕ) → count_by (λ x. x == q) xs ≤ cond (nat_lt q n) 1 0) → length xs ≤ n
+at_most xs n once = length-le_from_distinct_below xs n (once_distinct xs (λ q. omega (arith, once q, small q))) (λ q any. exists q (omega (arith, once q, counted q xs any)))
+  where
+    small : (q : ℕ) → cond (nat_lt q n) 1 0 ≤ 1
+    small q = grind (arith, nat_tests)
+    exists : (q : ℕ) → 1 ≤ cond (nat_lt q n) 1 0 → q < n
+    exists q h = grind (arith, nat_tests)
+
 -- numbers below n that stand once at most, with one of them missing, are fewer than n
 pub fewer : (xs : List ℕ) (n missing : ℕ) → ((q : ℕ) → count_by (λ x. x == q) xs ≤ cond (nat_lt q n) 1 0) → count_by (λ x. x == missing) xs ≡ 0 → missing < n → length xs < n
 fewer xs n missing once none lt = length-le_from_distinct_below (missing ∷ xs) n (once_distinct (missing ∷ xs) (λ q. one q)) (λ q any. below q (counted q (missing ∷ xs) any))

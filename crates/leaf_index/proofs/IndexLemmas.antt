@@ -1,7 +1,8 @@
 -- What an index keeps, and what becomes of it as leaves change their lists.
-use Rattle.std.proofs.Common.{◌≡◌, ◌≢◌, ℕ, zero, suc, ◌+◌, ◌-◌, ◌<◌, ◌≤◌, ◌==◌, Bool, true, false, cond, nat_lt, eqb, List, [], ◌∷◌, ◌++◌, Option, Some, None, length, map, count_by, refl, sym, ◌∙◌, ap, subst, arith, eqb-true, eq-eqb, append_assoc}
+use Rattle.std.proofs.Common.{◌≡◌, ◌≢◌, ℕ, zero, suc, ◌+◌, ◌-◌, ◌<◌, ◌≤◌, ◌==◌, Bool, true, false, not, cond, nat_lt, eqb, List, [], ◌∷◌, ◌++◌, Option, Some, None, length, map, take, drop, count_by, replicate, length-append, refl, sym, ◌∙◌, ap, subst, arith, eqb-true, eq-eqb, append_assoc}
 use Rattle.std.specs.Prelude.{slice_get, option_to_list, MatchOption}
-use Rattle.std.specs.List.{AllByRecursion}
+use Rattle.std.specs.List.{AllByRecursion, filter, range_with_len}
+use Rattle.std.proofs.lemmas.List.{length-replicate, take-append-drop}
 use Rattle.graph_model.specs.declared.row.Key.{Key}
 use Rattle.graph_model.specs.Rows.{is_below, first_key, end_key}
 use Rattle.leaf_trie.specs.declared.start.LeafStart.{LeafStart}
@@ -9,9 +10,9 @@ use Rattle.leaf_trie.specs.Leaves.{BeginAbove as StartAbove, BeginBelow as Start
 use Rattle.leaf_index.specs.declared.slot.Slot.{Slot}
 use Rattle.leaf_index.specs.declared.route.Retired.{Retired}
 use Rattle.leaf_index.specs.Index.{Entry, Index, AreCuts, AreRising, HaveCuts, IsIndex, IsTaken, end_of, uses}
-use Rattle.leaf_index.specs.Slots.{HasSlot, HaveSlots, AreRisingStarts, StandOnce, IsKept, begin_or, cuts_or_none, entry_of, entries_of, times}
-use Rattle.leaf_index.specs.Calls.{TakesFree}
-use Rattle.leaf_index.proofs.CountLemmas.{count_cons, count_append, count_map, fewer, existing, at_most_one, one_below}
+use Rattle.leaf_index.specs.Slots.{HasSlot, HaveSlots, AreRisingStarts, StandOnce, IsKept, begin_or, cuts_or_none, entry_of, entries_of, times, whole_slot}
+use Rattle.leaf_index.specs.Calls.{TakesFree, freed_of, kept_of}
+use Rattle.leaf_index.proofs.CountLemmas.{count_cons, count_append, count_map, fewer, at_most, existing, at_most_one, one_below, worth}
 use Rattle.leaf_index.proofs.SlotLemmas.{end_begin, entries_above}
 
 -- what contracts see of an index
@@ -134,3 +135,86 @@ none_left (Some x) A B h e = cc
 pub empty_of : (xs : List ℕ) → length xs ≡ 0 → xs ≡ []
 empty_of [] e = refl
 empty_of (x ∷ xs) e = absurd (omega (arith, e))
+
+-- ---- a new index
+
+pub range_more : (from count next : ℕ) → next ≡ from + count → range_with_len from (count + 1) ≡ range_with_len from count ++ next ∷ []
+range_more from zero next e = let same : next ≡ from = omega (arith, e) in ap (λ n. n ∷ []) (sym same)
+range_more from (suc count) next e = let up : suc count + 1 ≡ suc (count + 1) = omega arith in ap (range_with_len from) up ∙ ap (λ ns. from ∷ ns) (range_more (from + 1) count next (omega (arith, e)))
+
+-- a number stands once in a range, and not before its begin
+count_range : (from count q : ℕ) → (count_by (λ n. n == q) (range_with_len from count) ≤ worth (nat_lt q (from + count))) × (q < from → count_by (λ n. n == q) (range_with_len from count) ≡ 0)
+count_range from zero q = (omega arith, λ lt. refl)
+count_range from (suc count) q =
+    let rest = count_range (from + 1) count q in
+    let parts = count_cons (λ n. n == q) from (range_with_len (from + 1) count) in
+    by_test (from == q) refl rest parts
+  where
+    by_test : (t : Bool) → (from == q) ≡ t → (count_by (λ n. n == q) (range_with_len (from + 1) count) ≤ worth (nat_lt q (from + 1 + count))) × (q < from + 1 → count_by (λ n. n == q) (range_with_len (from + 1) count) ≡ 0)
+      → count_by (λ n. n == q) (from ∷ range_with_len (from + 1) count) ≡ worth (from == q) + count_by (λ n. n == q) (range_with_len (from + 1) count)
+      → (count_by (λ n. n == q) (from ∷ range_with_len (from + 1) count) ≤ worth (nat_lt q (from + suc count))) × (q < from → count_by (λ n. n == q) (from ∷ range_with_len (from + 1) count) ≡ 0)
+    by_test true t rest parts =
+        let same = eqb-true from q t in
+        let value = ap worth t in
+        let none = rest.1 (omega (arith, same)) in
+        (omega (arith, parts, value, none, one_below q (from + suc count) (omega (arith, same))), λ lt. absurd (omega (arith, lt, same)))
+    by_test false t rest parts =
+        let value = ap worth t in
+        let up : from + 1 + count ≡ from + suc count = omega arith in
+        let le : count_by (λ n. n == q) (range_with_len (from + 1) count) ≤ worth (nat_lt q (from + suc count)) = subst (λ m. count_by (λ n. n == q) (range_with_len (from + 1) count) ≤ worth (nat_lt q m)) up rest.0 in
+        (omega (arith, parts, value, le), λ lt. omega (arith, parts, value, rest.1 (omega (arith, lt))))
+
+pub kept_new : (leaves : ℕ) → 1 ≤ leaves → leaves ≤ 131072 → IsKept (replicate leaves whole_slot) (record { low = first_key; leaf = 0 } ∷ []) (range_with_len 1 (leaves - 1)) []
+kept_new leaves some few =
+    let wide : length (replicate leaves whole_slot) ≡ leaves = length-replicate leaves whole_slot in
+    record {
+      first = refl;
+      rising = (tt, tt);
+      have = (record { slot = whole_slot; there = first_there leaves some; ends = refl; cuts = record { count = refl; begin = refl; sorted = (refl, (refl, (refl, (refl, (refl, (refl, (refl, (refl, tt)))))))) } }, tt);
+      once = λ q. subst (λ n. times q (record { low = first_key; leaf = 0 } ∷ []) (range_with_len 1 (leaves - 1)) [] ≤ worth (nat_lt q n)) (sym wide) (let le = once q (0 == q) refl in omega (arith, le));
+      few = omega (arith, wide, few)
+    }
+  where
+    first_there : (n : ℕ) → 1 ≤ n → slice_get (replicate n whole_slot) 0 ≡ Some whole_slot
+    first_there zero le = absurd (omega (arith, le))
+    first_there (suc n) le = refl
+    once : (q : ℕ) (t : Bool) → (0 == q) ≡ t → worth t + count_by (λ f. f == q) (range_with_len 1 (leaves - 1)) ≤ worth (nat_lt q leaves)
+    once q true t = let same = eqb-true 0 q t in let none = (count_range 1 (leaves - 1) q).1 (omega (arith, same)) in omega (arith, none, one_below q leaves (omega (arith, same, some)))
+    once q false t =
+        let up : 1 + (leaves - 1) ≡ leaves = omega (arith, some) in
+        let le : count_by (λ f. f == q) (range_with_len 1 (leaves - 1)) ≤ worth (nat_lt q leaves) = subst (λ n. count_by (λ f. f == q) (range_with_len 1 (leaves - 1)) ≤ worth (nat_lt q n)) up (count_range 1 (leaves - 1) q).0 in
+        omega (arith, le)
+
+-- ---- both lists together
+
+-- no more leaves are free or retired than there are
+pub both_fit : (slots : List Slot) (starts : List LeafStart) (free : List ℕ) (retired : List Retired) → IsKept slots starts free retired → length free + length retired ≤ length slots
+both_fit slots starts free retired k =
+    let numbers = map (λ (r : Retired). r.leaf) retired in
+    let fit = at_most (free ++ numbers) (length slots) (λ q. omega (arith, k.once q, count_append (λ f. f == q) free numbers, count_map (λ (r : Retired). r.leaf) q retired)) in
+    omega (arith, fit, length-append free numbers, length_numbers retired)
+
+-- ---- retired leaves that are freed
+
+count_filter : (p : Retired → Bool) (q : ℕ) (rs : List Retired) → count_by (λ n. n == q) (map (λ (r : Retired). r.leaf) (filter p rs)) + count_by (λ (r : Retired). r.leaf == q) (filter (λ r. not (p r)) rs) ≡ count_by (λ (r : Retired). r.leaf == q) rs
+count_filter p q [] = omega arith
+count_filter p q (r ∷ rs) = by_test (p r) refl (count_filter p q rs)
+  where
+    by_test : (t : Bool) → p r ≡ t → count_by (λ n. n == q) (map (λ (s : Retired). s.leaf) (filter p rs)) + count_by (λ (s : Retired). s.leaf == q) (filter (λ s. not (p s)) rs) ≡ count_by (λ (s : Retired). s.leaf == q) rs
+      → count_by (λ n. n == q) (map (λ (s : Retired). s.leaf) (cond t (r ∷ filter p rs) (filter p rs))) + count_by (λ (s : Retired). s.leaf == q) (cond (not t) (r ∷ filter (λ s. not (p s)) rs) (filter (λ s. not (p s)) rs)) ≡ count_by (λ (s : Retired). s.leaf == q) (r ∷ rs)
+    by_test true t rest = let here = count_cons (λ n. n == q) r.leaf (map (λ (s : Retired). s.leaf) (filter p rs)) in let whole = count_cons (λ (s : Retired). s.leaf == q) r rs in omega (arith, here, whole, rest)
+    by_test false t rest = let here = count_cons (λ (s : Retired). s.leaf == q) r (filter (λ s. not (p s)) rs) in let whole = count_cons (λ (s : Retired). s.leaf == q) r rs in omega (arith, here, whole, rest)
+
+-- each leaf stands as often as before
+pub kept_freed : (slots : List Slot) (starts : List LeafStart) (free new_free : List ℕ) (retired new_retired : List Retired) (until upto : ℕ) → IsKept slots starts free retired → new_free ≡ free ++ freed_of until (take upto retired)
+    → new_retired ≡ kept_of until (take upto retired) ++ drop upto retired → IsKept slots starts new_free new_retired
+kept_freed slots starts free new_free retired new_retired until upto k is_free is_retired =
+    record {
+      first = k.first; rising = k.rising; have = k.have; few = k.few;
+      once = λ q.
+        let frees = ap (λ fs. count_by (λ f. f == q) fs) is_free ∙ count_append (λ f. f == q) free (freed_of until (take upto retired)) in
+        let rest = ap (λ rs. count_by (λ (r : Retired). r.leaf == q) rs) is_retired ∙ count_append (λ (r : Retired). r.leaf == q) (kept_of until (take upto retired)) (drop upto retired) in
+        let parts = count_filter (λ r. nat_lt r.stamp until) q (take upto retired) in
+        let whole = ap (λ rs. count_by (λ (r : Retired). r.leaf == q) rs) (sym (take-append-drop upto retired)) ∙ count_append (λ (r : Retired). r.leaf == q) (take upto retired) (drop upto retired) in
+        omega (arith, frees, rest, parts, whole, k.once q)
+    }

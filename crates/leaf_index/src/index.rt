@@ -17,6 +17,7 @@ use leaf_trie::{LeafStart, LeafTrie};
 use std::alloc::Global;
 use std::marker::Model;
 
+use crate::release::release;
 use crate::route::{LeafRange, Retired, Route};
 use crate::slot::{Slot, high_of, segment_of};
 
@@ -236,6 +237,14 @@ impl LeafIndex {
             Ok(()) => {}
             Err(_) => unreachable!(),
         }
+    }
+
+    /// Frees those among the first retired leaves whose stamps are below the given one, and answers how many.
+    pub fn free_retired(&mut self, until: u64, upto: usize) -> u32
+        ensures freed { self.new ≡ freed until upto self.old }
+        ensures count { result ≡ length (freed_of until (take upto self.old.retired)) }
+    {
+        release(&mut self.free, &mut self.retired, until, upto)
     }
 
     /// The cell whose range holds the key. It does as long as the index doesn't change, so a caller may keep the

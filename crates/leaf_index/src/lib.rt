@@ -7,6 +7,7 @@
 #![tactic(auto)]
 
 mod index;
+mod release;
 mod route;
 mod slot;
 
