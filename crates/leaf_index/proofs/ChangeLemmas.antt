@@ -12,7 +12,7 @@ use Rattle.leaf_index.specs.declared.slot.Slot.{Slot}
 use Rattle.leaf_index.specs.declared.route.Retired.{Retired}
 use Rattle.leaf_index.specs.Index.{Entry, Index, AreCuts, AreSorted, BeginAbove, NotAbove, IsTaken, end_of, first_or}
 use Rattle.leaf_index.specs.Slots.{HasSlot, HaveSlots, AreRisingStarts, StandOnce, IsKept, IsFloorStart, BeginsBefore, begin_or, cuts_or_none, entry_of, entries_of, times}
-use Rattle.leaf_index.specs.Calls.{CanAdd, AddsEntry, CanDrop, DropsEntry, CanCut, SetsCuts}
+use Rattle.leaf_index.specs.Calls.{CanAdd, CanDrop, CanCut, with_cuts, with_leaf, without_leaf}
 use Rattle.leaf_index.proofs.OrderLemmas.{below_self, below_flip, below_chain, upto_chain, below_up}
 use Rattle.leaf_index.proofs.CountLemmas.{count_cons, count_append, none_counted, at_most_one, worth}
 use Rattle.leaf_index.proofs.SlotLemmas.{end_begin, entries_append, slot_at, slot_read, same_some, within_there}
@@ -179,14 +179,14 @@ changed slots starts free retired front s x back k is ends cuts =
     cond_same : (q : ℕ) → length (set slots s.leaf x) ≡ length slots → worth (nat_lt q (length (set slots s.leaf x))) ≡ worth (nat_lt q (length slots))
     cond_same q e = ap (λ n. worth (nat_lt q n)) e
 
--- an index whose entry has other cuts
-pub record CutChanged (starts : List LeafStart) (free : List ℕ) (retired : List Retired) (low : Key) (cuts : List Key) (slots new : List Slot) (entries : List Entry) : Type 0 where
+-- what the index is then
+pub record CutChanged (starts : List LeafStart) (free : List ℕ) (retired : List Retired) (slots new : List Slot) (entries : List Entry) : Type 0 where
   pub kept : IsKept new starts free retired
-  pub sets : SetsCuts low cuts entries (entries_of new starts)
+  pub sets : entries_of new starts ≡ entries
   pub count : length new ≡ length slots
 
 pub cut_changed : (slots : List Slot) (starts : List LeafStart) (free : List ℕ) (retired : List Retired) (entries : List Entry) (low : Key) (cuts : List Key) (leaf : ℕ) (now : Slot) → entries_of slots starts ≡ entries → IsKept slots starts free retired
-    → CanCut low cuts entries → IsFloorStart low starts leaf → slice_get slots leaf ≡ Some now → CutChanged starts free retired low cuts slots (set slots leaf (record { cuts = cuts; high = now.high })) entries
+    → (can : CanCut low cuts entries) → IsFloorStart low starts leaf → slice_get slots leaf ≡ Some now → CutChanged starts free retired slots (set slots leaf (record { cuts = cuts; high = now.high })) (with_cuts low cuts entries can)
 cut_changed slots starts free retired entries low cuts leaf now view k can f there =
     let sp = split slots starts can.front can.entry can.back (view ∙ can.is) in
     let s = sp.start in
@@ -203,8 +203,7 @@ cut_changed slots starts free retired entries low cuts leaf now view k can f the
     let c = changed slots starts free retired sp.before s x sp.behind k sp.is high fit in
     let is : entries_of (set slots s.leaf x) starts ≡ can.front ++ record { low = can.entry.low; leaf = can.entry.leaf; cuts = cuts } ∷ can.back =
         c.entries ∙ (λ i. sp.fronts i ++ record { low = (sp.entry i).low; leaf = (sp.entry i).leaf; cuts = cuts } ∷ sp.backs i) in
-    subst (λ n. CutChanged starts free retired low cuts slots (set slots n x) entries) number
-    (record { kept = c.kept; sets = record { front = can.front; entry = can.entry; back = can.back; was = can.is; is = is; same = can.same }; count = c.count })
+    subst (λ n. CutChanged starts free retired slots (set slots n x) (with_cuts low cuts entries can)) number (record { kept = c.kept; sets = is; count = c.count })
 
 -- ---- one leaf more
 
@@ -248,15 +247,15 @@ count_more leaf front s back =
     let p : LeafStart → Bool = λ r. r.leaf == leaf in
     omega (arith, count_append p front (s ∷ back), count_cons p s back, count_append p front back)
 
--- an index with one entry more
-pub record AddChanged (starts : List LeafStart) (free : List ℕ) (retired : List Retired) (entry : Entry) (slots new : List Slot) (entries : List Entry) : Type 0 where
+-- what the index is then
+pub record AddChanged (starts : List LeafStart) (free : List ℕ) (retired : List Retired) (slots new : List Slot) (entries : List Entry) : Type 0 where
   pub kept : IsKept new starts free retired
-  pub adds : AddsEntry entry entries (entries_of new starts)
+  pub adds : entries_of new starts ≡ entries
   pub count : length new ≡ length slots
 
 pub add_changed : (slots : List Slot) (starts after : List LeafStart) (free : List ℕ) (retired : List Retired) (entries : List Entry) (low : Key) (leaf : ℕ) (cuts : List Key) (before : ℕ) (now : Slot) → entries_of slots starts ≡ entries
-    → IsKept slots starts free retired → Unused slots starts free retired leaf → CanAdd low cuts entries → IsFloorStart low starts before → slice_get slots before ≡ Some now → Inserts (record { low = low; leaf = leaf }) starts after
-    → AddChanged after free retired (record { low = low; leaf = leaf; cuts = cuts }) slots (set (set slots before (record { cuts = now.cuts; high = low })) leaf (record { cuts = cuts; high = now.high })) entries
+    → IsKept slots starts free retired → Unused slots starts free retired leaf → (can : CanAdd low cuts entries) → IsFloorStart low starts before → slice_get slots before ≡ Some now → Inserts (record { low = low; leaf = leaf }) starts after
+    → AddChanged after free retired slots (set (set slots before (record { cuts = now.cuts; high = low })) leaf (record { cuts = cuts; high = now.high })) (with_leaf low leaf cuts entries can)
 add_changed slots starts after free retired entries low leaf cuts before now view k unused can f there ins =
     let sp = split slots starts can.front can.before can.back (view ∙ can.is) in
     let p = sp.start in
@@ -301,7 +300,7 @@ add_changed slots starts after free retired entries low leaf cuts before now vie
     let e : Entry = record { low = low; leaf = leaf; cuts = cuts } in
     let entries_new : entries_of new after ≡ (can.front ++ can.before ∷ []) ++ e ∷ can.back =
         ap (entries_of new) is ∙ entries_append new sp.before (p ∷ s ∷ sp.behind) ∙ (λ i. fronts i ++ entry_p i ∷ entry_s i ∷ backs i) ∙ sym (append_assoc can.front (can.before ∷ []) (e ∷ can.back)) in
-    let result : AddChanged after free retired e slots new entries = record {
+    let result : AddChanged after free retired slots new (with_leaf low leaf cuts entries can) = record {
       kept = record {
         first = first;
         rising = subst AreRisingStarts (sym ins.is) rises;
@@ -314,10 +313,10 @@ add_changed slots starts after free retired entries low leaf cuts before now vie
           subst (λ n. times q after free retired ≤ worth (nat_lt q n)) (sym count) le;
         few = omega (arith, k.few, count)
       };
-      adds = record { front = can.front ++ can.before ∷ []; back = can.back; was = can.is ∙ sym (append_assoc can.front (can.before ∷ []) can.back); is = entries_new };
+      adds = entries_new;
       count = count
     } in
-    subst (λ n. AddChanged after free retired e slots (set (set slots n x) leaf y) entries) number result
+    subst (λ n. AddChanged after free retired slots (set (set slots n x) leaf y) (with_leaf low leaf cuts entries can)) number result
 
 apart_keys : (a b : Key) → is_below a b ≡ true → a ≢ b
 apart_keys a b below same = let self = below_self b in let here : is_below b b ≡ true = subst (λ k. is_below k b ≡ true) same below in cc
@@ -415,14 +414,14 @@ before_there slots starts low entries can n all =
     clash : {t : Bool} → t ≡ false → t ≡ true → ⊥
     clash e f = cc
 
-pub record DropChanged (starts : List LeafStart) (free : List ℕ) (retired : List Retired) (low : Key) (slots new : List Slot) (entries : List Entry) : Type 0 where
+pub record DropChanged (starts : List LeafStart) (free : List ℕ) (retired : List Retired) (slots new : List Slot) (entries : List Entry) : Type 0 where
   pub kept : IsKept new starts free retired
-  pub drops : DropsEntry low entries (entries_of new starts)
+  pub drops : entries_of new starts ≡ entries
   pub count : length new ≡ length slots
 
 pub drop_changed : (slots : List Slot) (starts after : List LeafStart) (free : List ℕ) (retired : List Retired) (entries : List Entry) (low : Key) (dropped before : ℕ) (gone now : Slot) → IsKept slots starts free retired → (can : CanDrop low entries)
     → (n : Neighbours slots starts low entries can) → IsFloorStart low starts dropped → slice_get slots dropped ≡ Some gone → BeginsBefore low starts before → slice_get slots before ≡ Some now → Removes low starts after
-    → DropChanged after free retired low slots (set slots before (record { cuts = now.cuts; high = gone.high })) entries
+    → DropChanged after free retired slots (set slots before (record { cuts = now.cuts; high = gone.high })) (without_leaf low entries can)
 drop_changed slots starts after free retired entries low dropped before gone now k can n f there_gone b there_now rem =
     let p = n.p in
     let d = n.d in
@@ -460,7 +459,7 @@ drop_changed slots starts after free retired entries low dropped before gone now
     let backs : entries_of new n.behind ≡ can.back = entries_kept slots p.leaf x n.behind alone.1.1 ∙ n.backs in
     let entries_new : entries_of new after ≡ (can.front ++ can.before ∷ []) ++ can.back =
         ap (entries_of new) is ∙ entries_append new n.before (p ∷ n.behind) ∙ (λ i. fronts i ++ entry i ∷ backs i) ∙ sym (append_assoc can.front (can.before ∷ []) can.back) in
-    let result : DropChanged after free retired low slots new entries = record {
+    let result : DropChanged after free retired slots new (without_leaf low entries can) = record {
       kept = record {
         first = ap (λ ss. begin_or ss end_key) is ∙ begin_same n.before p n.behind (d ∷ n.behind) end_key ∙ ap (λ ss. begin_or ss end_key) (sym n.is) ∙ k.first;
         rising = subst AreRisingStarts (sym rem.is) (rising_less rem.front rem.start rem.back (subst AreRisingStarts rem.was k.rising));
@@ -473,7 +472,7 @@ drop_changed slots starts after free retired entries low dropped before gone now
           subst (λ m. times q after free retired ≤ worth (nat_lt q m)) (sym count) le;
         few = omega (arith, k.few, count)
       };
-      drops = record { front = can.front ++ can.before ∷ []; dropped = can.dropped; back = can.back; was = can.is ∙ sym (append_assoc can.front (can.before ∷ []) (can.dropped ∷ can.back)); is = entries_new; same = can.same };
+      drops = entries_new;
       count = count
     } in
-    subst (λ m. DropChanged after free retired low slots (set slots m x) entries) number_p result
+    subst (λ m. DropChanged after free retired slots (set slots m x) (without_leaf low entries can)) number_p result

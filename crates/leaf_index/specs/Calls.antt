@@ -27,12 +27,9 @@ pub record CanAdd (low : Key) (cuts : List Key) (entries : List Entry) : Type 0 
   pub older : AreSorted before.cuts low
   pub newer : AreCuts low cuts (end_of back)
 
--- an entry was put between those that begin below it and those that begin above
-pub record AddsEntry (entry : Entry) (old new : List Entry) : Type 0 where
-  pub front : List Entry
-  pub back : List Entry
-  pub was : old ≡ front ++ back
-  pub is : new ≡ front ++ entry ∷ back
+-- it stands behind that one
+abbrev pub with_leaf : (low : Key) (leaf : ℕ) (cuts : List Key) (entries : List Entry) → CanAdd low cuts entries → List Entry
+with_leaf low leaf cuts entries can = (can.front ++ can.before ∷ []) ++ record { low = low; leaf = leaf; cuts = cuts } ∷ can.back
 
 -- an entry other than the first begins at the key
 pub record CanDrop (low : Key) (entries : List Entry) : Type 0 where
@@ -43,14 +40,9 @@ pub record CanDrop (low : Key) (entries : List Entry) : Type 0 where
   pub is : entries ≡ front ++ before ∷ dropped ∷ back
   pub same : dropped.low ≡ low
 
--- the entry that begins at the key is gone
-pub record DropsEntry (low : Key) (old new : List Entry) : Type 0 where
-  pub front : List Entry
-  pub dropped : Entry
-  pub back : List Entry
-  pub was : old ≡ front ++ dropped ∷ back
-  pub is : new ≡ front ++ back
-  pub same : dropped.low ≡ low
+-- it is gone
+abbrev pub without_leaf : (low : Key) (entries : List Entry) → CanDrop low entries → List Entry
+without_leaf low entries can = (can.front ++ can.before ∷ []) ++ can.back
 
 -- the entry that begins at the key may have these cuts
 pub record CanCut (low : Key) (cuts : List Key) (entries : List Entry) : Type 0 where
@@ -62,13 +54,8 @@ pub record CanCut (low : Key) (cuts : List Key) (entries : List Entry) : Type 0 
   pub fit : AreCuts low cuts (end_of back)
 
 -- it has them
-pub record SetsCuts (low : Key) (cuts : List Key) (old new : List Entry) : Type 0 where
-  pub front : List Entry
-  pub entry : Entry
-  pub back : List Entry
-  pub was : old ≡ front ++ entry ∷ back
-  pub is : new ≡ front ++ record entry { cuts = cuts } ∷ back
-  pub same : entry.low ≡ low
+abbrev pub with_cuts : (low : Key) (cuts : List Key) (entries : List Entry) → CanCut low cuts entries → List Entry
+with_cuts low cuts entries can = can.front ++ record can.entry { cuts = cuts } ∷ can.back
 
 -- the last free leaf is taken, or there is none
 abbrev pub TakesFree : Index → Index → Option ℕ → Type 0

@@ -10,7 +10,7 @@ ghost use Rattle.graph_model.specs.Rows.{end_key, first_key};
 ghost use Rattle.graph_model.specs.declared.limits.TheConstants.{MAX_LEAVES};
 ghost use Rattle.leaf_index.specs.Index.{IsIndex, IsRoute, IsTaken};
 ghost use Rattle.leaf_index.specs.Slots.{HasSlot, HaveSlots, IsBeforeStart, IsFloorStart, IsRange, begin_or, whole_slot};
-ghost use Rattle.leaf_index.specs.Calls.{AddsEntry, CanAdd, CanCut, CanDrop, DropsEntry, IsLeafBefore, IsLeafRange, SetsCuts, TakesFree, freed, freed_of, new_index};
+ghost use Rattle.leaf_index.specs.Calls.{CanAdd, CanCut, CanDrop, IsLeafBefore, IsLeafRange, TakesFree, freed, freed_of, new_index, with_cuts, with_leaf, without_leaf};
 
 use graph_model::{Key, NoMemory};
 use leaf_trie::{LeafStart, LeafTrie};
@@ -172,7 +172,7 @@ impl LeafIndex {
     pub fn add_leaf(&mut self, alloc: Global, low: Key, leaf: u32, cuts: [Key; 8]) -> Result<(), NoMemory>
         requires taken { IsTaken self.old leaf }
         requires place { CanAdd low cuts self.old.entries }
-        ensures ok { OnOk result (AddsEntry (record { low = low; leaf = leaf; cuts = cuts }) self.old.entries self.new.entries) }
+        ensures ok { OnOk result ((can : CanAdd low cuts self.old.entries) → self.new.entries ≡ with_leaf low leaf cuts self.old.entries can) }
         ensures others { self.new ≡ record self.old { entries = self.new.entries } }
         ensures err { OnErr result (self.new ≡ self.old) }
     {
@@ -187,7 +187,7 @@ impl LeafIndex {
     /// Gives the range of the leaf that begins at the key to the leaf before it.
     pub fn drop_leaf(&mut self, low: Key)
         requires { CanDrop low self.old.entries }
-        ensures entries { DropsEntry low self.old.entries self.new.entries }
+        ensures entries { (can : CanDrop low self.old.entries) → self.new.entries ≡ without_leaf low self.old.entries can }
         ensures others { self.new ≡ record self.old { entries = self.new.entries } }
     {
         let dropped = floor_of(&self.trie, &self.slots, low);
@@ -202,7 +202,7 @@ impl LeafIndex {
     /// Gives the leaf that begins at the key these cuts, one for each of its segments.
     pub fn set_separators(&mut self, low: Key, cuts: [Key; 8])
         requires { CanCut low cuts self.old.entries }
-        ensures entries { SetsCuts low cuts self.old.entries self.new.entries }
+        ensures entries { (can : CanCut low cuts self.old.entries) → self.new.entries ≡ with_cuts low cuts self.old.entries can }
         ensures others { self.new ≡ record self.old { entries = self.new.entries } }
     {
         let leaf = floor_of(&self.trie, &self.slots, low);
