@@ -1,0 +1,62 @@
+//! The even division of rows among segments.
+
+ghost use Rattle.std.specs.Prelude.{◌≡◌, ◌≤◌, sum};
+ghost use Rattle.density_tree.specs.Division.{evenly};
+
+use std::marker::Model;
+
+/// At most eight numbers, one for each segment.
+#[derive(Drop)]
+pub struct Counts {
+    counts: [u32; 8],
+    len: usize,
+}
+
+impl Model for Counts {
+    ghost use Rattle.std.specs.Prelude.{◌≡◌, ◌≤◌, List, ℕ, length, take};
+
+    ghost Value = { List ℕ };
+
+    ghost view = { λ c. take c.len c.counts };
+
+    ghost invariant = { λ c. (c.len ≤ 8) × (length c.counts ≡ 8) };
+}
+
+impl Counts {
+    pub fn as_slice(&self) -> &[u32]
+        ensures { result.now ≡ self.now }
+    {
+        &self.counts[..self.len]
+    }
+}
+
+/// Divides rows among segments: each gets as many, and the first ones one more where they don't divide evenly.
+pub fn spread_counts(rows: u32, segs: u32) -> Counts
+    requires some { 1 ≤ segs }
+    requires few { segs ≤ 8 }
+    ensures even { result ≡ evenly rows segs }
+    ensures all { sum result ≡ rows }
+{
+    let (share, more) = (rows / segs, rows % segs);
+    let mut counts = [0; 8];
+    'segments: for seg in 0..segs {
+        counts[seg as usize] = if seg < more { share + 1 } else { share };
+    }
+    Counts {
+        counts,
+        len: segs as usize,
+    }
+}
+
+#[cfg(test)]
+mod tests {
+    use super::*;
+
+    #[test]
+    fn the_last_of_eight_segments_gets_one_less(rt: HostRuntime) {
+        assert_eq!(rt;
+            spread_counts(175, 8).as_slice(),
+            [22, 22, 22, 22, 22, 22, 22, 21].as_slice()
+        );
+    }
+}
