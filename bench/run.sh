@@ -1,13 +1,15 @@
 #!/usr/bin/env bash
 # Builds the program, runs the whole command on graphs of three sizes and two kinds, and prints a table. Then come a table
-# of what it takes to read and load a graph with weights, one of many scripts of short transactions, and one of the image
-# and the kernels by themselves. All inputs are made from a seed in a temporary folder, which is removed at the end. RUNS=N
-# and SEED=N change how often each is run (3), and which inputs they are (1). ONLY=kernels leaves out all but the last table.
+# of what it takes to read and load a graph with weights, one of many scripts of short transactions, one of the image and
+# the kernels by themselves, and one of the parts of the store over leaves. All inputs are made from a seed in a temporary
+# folder, which is removed at the end. RUNS=N and SEED=N change how often each is run (3), and which inputs they are (1).
+# ONLY=kernels and ONLY=segments print one of the last two tables alone.
 set -euo pipefail
 
 top=$(cd "$(dirname "$0")/.." && pwd)
 program=$top/crates/teseo/out/teseo
 kernels=$top/crates/kernel_bench/out/kernel_bench
+segments=$top/crates/store_bench/out/store_bench
 runs=${RUNS:-3}
 seed=${SEED:-1}
 
@@ -109,18 +111,38 @@ bounds() {
         END { print name, least / 1000, most / 1000 }'
 }
 
-# Prints the last table's rows: the image and the kernels on one core, and on all.
-measure_kernels() {
+# Prints the table of the image and the kernels, on one core and on all.
+print_kernels() {
     local vertices=1000000
     local edges=$((vertices * 7 / 2))
+    echo '| Part  | One, best | One, worst | All, best | All, worst |'
+    echo '|-------|----------:|-----------:|----------:|-----------:|'
     taskset -c 0 "$kernels" "$vertices" "$edges" "$seed" "$runs" | bounds >one_core
     "$kernels" "$vertices" "$edges" "$seed" "$runs" | bounds >all_cores
     join one_core all_cores | while read -r name one_best one_worst all_best all_worst; do
         printf '| %-5s | %9.0f | %10.0f | %9.0f | %10.0f |\n' "$name" "$one_best" "$one_worst" "$all_best" "$all_worst"
     done
+    echo
+    echo "Milliseconds on a power-law graph of 1,000,000 vertices and 3,500,000 weighted edges, from rows in memory to the"
+    echo "table in memory: on one core, and on all. image is made from the rows, bfs and sssp begin at the heaviest vertex,"
+    echo "cdlp has ten rounds. Load is $(load) now."
+    echo
 }
 
-# Prints all tables but the last.
+# Prints the table of the parts of the store over leaves, in the order in which store_bench has them.
+print_segments() {
+    echo '| Part               | ns a call |'
+    echo '|--------------------|----------:|'
+    "$segments" "$seed" "$runs" | awk '
+        !($1 in least) { names[++parts] = $1; least[$1] = $2 }
+        $2 + 0 < least[$1] + 0 { least[$1] = $2 }
+        END { for (part = 1; part <= parts; part++) printf "| %-18s | %9s |\n", names[part], least[names[part]] }'
+    echo
+    echo "Nanoseconds of a call in the best round of all runs. What a part does is told in crates/store_bench/README.md."
+    echo "Load is $(load) now."
+}
+
+# Prints the tables of whole runs.
 print_runs() {
     local vertices kind scripts
     echo '| Kind      | Vertices |    Edges |   Best |  Worst | Processor | Memory | ns row |  Load |'
@@ -154,11 +176,16 @@ print_runs() {
     echo
 }
 
-# Builds the program, unless the kernels alone are wanted, and what times the kernels. `rt run` builds a program only
-# to run it; with no words it does nothing.
+# Whether this part of the tables is wanted.
+is_wanted() {
+    [ -z "${ONLY:-}" ] || [ "$ONLY" = "$1" ]
+}
+
+# Builds what the wanted tables need. `rt run` builds a program only to run it; with no words these do nothing.
 build() {
-    [ "${ONLY:-}" = kernels ] || make -s -C "$top" build >/dev/null
-    (cd "$top/crates/kernel_bench" && rt run >/dev/null 2>&1)
+    if is_wanted runs; then make -s -C "$top" build >/dev/null; fi
+    if is_wanted kernels; then (cd "$top/crates/kernel_bench" && rt run >/dev/null 2>&1); fi
+    if is_wanted segments; then (cd "$top/crates/store_bench" && rt run >/dev/null 2>&1); fi
 }
 
 build
@@ -168,11 +195,6 @@ cd "$work"
 
 echo "$(getconf _NPROCESSORS_ONLN) cores, load $(load); $runs runs of each, seed $seed"
 echo
-[ "${ONLY:-}" = kernels ] || print_runs
-echo '| Part  | One, best | One, worst | All, best | All, worst |'
-echo '|-------|----------:|-----------:|----------:|-----------:|'
-measure_kernels
-echo
-echo "Milliseconds on a power-law graph of 1,000,000 vertices and 3,500,000 weighted edges, from rows in memory to the"
-echo "table in memory: on one core, and on all. image is made from the rows, bfs and sssp begin at the heaviest vertex,"
-echo "cdlp has ten rounds. Load is $(load) now."
+if is_wanted runs; then print_runs; fi
+if is_wanted kernels; then print_kernels; fi
+if is_wanted segments; then print_segments; fi

@@ -1,5 +1,5 @@
 -- Sorted rows: what stands where, and what stays sorted.
-use Rattle.std.proofs.Common.{◌≡◌, ◌≢◌, ℕ, zero, suc, ◌+◌, ◌-◌, ◌<◌, ◌≤◌, List, [], ◌∷◌, ◌++◌, length, take, drop, get_or, set, refl, sym, ◌∙◌, ap, arith}
+use Rattle.std.proofs.Common.{◌≡◌, ◌≢◌, ◌⊎◌, inl, inr, ℕ, zero, suc, ◌+◌, ◌-◌, ◌*◌, ◌/◌, ◌<◌, ◌≤◌, List, [], ◌∷◌, ◌++◌, length, take, drop, get_or, set, refl, sym, ◌∙◌, ap, arith}
 use Rattle.std.specs.Prelude.{Bool, true, false, ◌&&◌, not, cond, insert, remove, slice_get, Some}
 use Rattle.std.specs.List.{filter, AllByRecursion}
 use Rattle.std.proofs.lemmas.List.{take-append-drop, drop-drop}
@@ -31,6 +31,12 @@ module _ {X : Type 0} where
   all_drop P zero xs h = h
   all_drop P (suc n) [] h = tt
   all_drop P (suc n) (x ∷ xs) h = all_drop P n xs h.1
+
+  pub all_middle : (P : X → Type 0) (a b : ℕ) (xs : List X) → AllByRecursion P (take b xs) → AllByRecursion P (take (b - a) (drop a xs))
+  all_middle P zero b xs h = let e : b - 0 ≡ b = omega arith in rw e h
+  all_middle P (suc a) zero xs h = let e : 0 - suc a ≡ 0 = omega arith in rw e tt
+  all_middle P (suc a) (suc b) [] h = all_take P (suc b - suc a) [] tt
+  all_middle P (suc a) (suc b) (x ∷ xs) h = let e : suc b - suc a ≡ b - a = omega arith in rw e (all_middle P a b xs h.1)
 
   pub all_append : (P : X → Type 0) (xs ys : List X) → AllByRecursion P xs → AllByRecursion P ys → AllByRecursion P (xs ++ ys)
   all_append P [] ys h k = k
@@ -74,78 +80,114 @@ module _ {X : Type 0} where
       append_none [] = refl
       append_none (y ∷ ys) = ap (λ zs. y ∷ zs) (append_none ys)
 
--- ---- looking up by halves
+-- ---- looking up by quarters
 
--- in sorted rows, all up to a row below the key are below it
-front_below : (key : Key) (rows : List Row) (i : ℕ) (d : Row) → AreSorted rows → i < length rows → is_below (get_or rows i d).key key ≡ true → AreBelow key (take (suc i) rows)
+-- how many rows at the front are below the key
+abbrev pub front_count : Key → List Row → ℕ
+front_count key [] = 0
+front_count key (r ∷ rs) = cond (is_below r.key key) (suc (front_count key rs)) 0
+
+-- in sorted rows, a row below the key is among them
+front_below : (key : Key) (rows : List Row) (i : ℕ) (d : Row) → AreSorted rows → i < length rows → is_below (get_or rows i d).key key ≡ true → i < front_count key rows
 front_below key [] i d sorted lt h = absurd (omega arith)
-front_below key (r ∷ rs) zero d sorted lt h = (h, tt)
+front_below key (r ∷ rs) zero d sorted lt h = rw h (omega arith)
 front_below key (r ∷ rs) (suc i) d sorted lt h =
     let low : i < length rs = omega arith in
-    (below_chain r.key (get_or rs i d).key key (all_at _ rs i d sorted.0 low) h, front_below key rs i d sorted.1 low h)
+    let more = front_below key rs i d sorted.1 low h in
+    rw (below_chain r.key (get_or rs i d).key key (all_at _ rs i d sorted.0 low) h) (omega (arith, more))
 
--- and all from a row on that isn't below it are not
-back_not_below : (key : Key) (rows : List Row) (i : ℕ) (d : Row) → AreSorted rows → i < length rows → is_below (get_or rows i d).key key ≡ false → AreNotBelow key (drop i rows)
-back_not_below key [] i d sorted lt h = absurd (omega arith)
-back_not_below key (r ∷ rs) zero d sorted lt h =
-    (h, all_map (λ q. is_below r.key q.key ≡ true) (λ q. is_below q.key key ≡ false) (λ q above. not_below_chain r.key q.key key h above) rs sorted.0)
-back_not_below key (r ∷ rs) (suc i) d sorted lt h = back_not_below key rs i d sorted.1 (omega arith) h
+-- and one that isn't below it is not
+behind_front : (key : Key) (rows : List Row) (i : ℕ) (d : Row) → AreSorted rows → i < length rows → is_below (get_or rows i d).key key ≡ false → front_count key rows ≤ i
+behind_front key [] i d sorted lt h = absurd (omega arith)
+behind_front key (r ∷ rs) zero d sorted lt h = rw h (omega arith)
+behind_front key (r ∷ rs) (suc i) d sorted lt h =
+    let more = behind_front key rs i d sorted.1 (omega arith) h in
+    elim (is_below r.key key) as (λ t. cond t (suc (front_count key rs)) 0 ≤ suc i) [ true ↦ omega (arith, more) | false ↦ omega arith ]
 
--- the row before a place isn't below the key, so the place is among those before it
-pub record IsHalved (rows : List Row) (key : Key) (place count : ℕ) : Type 0 where
+-- so the key's place is behind them
+pub front_is_place : (key : Key) (rows : List Row) → AreSorted rows → IsPlaceOf rows key (front_count key rows)
+front_is_place key [] sorted = record { within = omega arith; before = tt; behind = tt }
+front_is_place key (r ∷ rs) sorted =
+    elim (is_below r.key key) as (λ t. is_below r.key key ≡ t → IsPlaceOf (r ∷ rs) key (cond t (suc (front_count key rs)) 0)) [
+      | true ↦ λ h. (let rest = front_is_place key rs sorted.1 in record { within = omega (arith, rest.within); before = (h, rest.before); behind = rest.behind })
+      | false ↦ λ h. record {
+        within = omega arith;
+        before = tt;
+        behind = (h, all_map (λ q. is_below r.key q.key ≡ true) (λ q. is_below q.key key ≡ false) (λ q above. not_below_chain r.key q.key key h above) rs sorted.0);
+      }
+    ] refl
+
+-- what a look at a row tells of the place: it is behind the row, or not
+abbrev pub Tells : List Row → Key → ℕ → ℕ → Type 0
+Tells rows key i one = ((one ≡ 1) × (i < front_count key rows)) ⊎ ((one ≡ 0) × (front_count key rows ≤ i))
+
+pub tells : (rows : List Row) (key : Key) (i one : ℕ) (d : Row) → AreSorted rows → i < length rows → one ≡ cond (is_below (get_or rows i d).key key) 1 0 → Tells rows key i one
+tells rows key i one d sorted lt is =
+    elim (is_below (get_or rows i d).key key) as (λ t. is_below (get_or rows i d).key key ≡ t → one ≡ cond t 1 0 → Tells rows key i one) [
+      | true ↦ λ h e. inl (e, front_below key rows i d sorted lt h)
+      | false ↦ λ h e. inr (e, behind_front key rows i d sorted lt h)
+    ] refl is
+
+-- the place is this one, or up to so many behind it
+pub record IsNarrowed (rows : List Row) (key : Key) (place count : ℕ) : Type 0 where
   pub within : place + count ≤ length rows
-  pub before : AreBelow key (take place rows)
-  pub behind : AreNotBelow key (drop (place + count) rows)
+  pub low : place ≤ front_count key rows
+  pub high : front_count key rows ≤ place + count
 
-pub halved_start : (rows : List Row) (key : Key) → IsHalved rows key 0 (length rows)
-halved_start rows key = record { within = omega arith; before = tt; behind = rest rows }
+pub narrowed_start : (rows : List Row) (key : Key) → AreSorted rows → IsNarrowed rows key 0 (length rows)
+narrowed_start rows key sorted = let is = front_is_place key rows sorted in record { within = omega arith; low = omega arith; high = omega (arith, is.within) }
+
+-- three looks leave one quarter, and what is over
+pub narrowed_quarter : (rows : List Row) (key : Key) (place count first second third : ℕ) (d e f : Row) → AreSorted rows → IsNarrowed rows key place count → 4 ≤ count
+    → first ≡ cond (is_below (get_or rows (place + count / 4 - 1) d).key key) 1 0
+    → second ≡ cond (is_below (get_or rows (place + 2 * (count / 4) - 1) e).key key) 1 0
+    → third ≡ cond (is_below (get_or rows (place + 3 * (count / 4) - 1) f).key key) 1 0
+    → IsNarrowed rows key (place + (first + second + third) * (count / 4)) (count - 3 * (count / 4))
+narrowed_quarter rows key place count first second third d e f sorted h four one two three =
+    by_looks
+    (tells rows key (place + count / 4 - 1) first d sorted (omega (arith, h.within)) one)
+    (tells rows key (place + 2 * (count / 4) - 1) second e sorted (omega (arith, h.within)) two)
+    (tells rows key (place + 3 * (count / 4) - 1) third f sorted (omega (arith, h.within)) three)
   where
-    rest : (rs : List Row) → AreNotBelow key (drop (0 + length rs) rs)
-    rest rs = let e : 0 + length rs ≡ length rs = omega arith in rw e (rest_all rs)
-      where
-        rest_all : (qs : List Row) → AreNotBelow key (drop (length qs) qs)
-        rest_all [] = tt
-        rest_all (q ∷ qs) = rest_all qs
+    to : (k : ℕ) → first + second + third ≡ k → place + k * (count / 4) + (count - 3 * (count / 4)) ≤ length rows → place + k * (count / 4) ≤ front_count key rows
+        → front_count key rows ≤ place + k * (count / 4) + (count - 3 * (count / 4)) → IsNarrowed rows key (place + (first + second + third) * (count / 4)) (count - 3 * (count / 4))
+    to k e within low high = rw e (record { within = within; low = low; high = high })
 
--- a row below the key, and all before it
-pub halved_up : (rows : List Row) (key : Key) (place count i : ℕ) (d : Row) → AreSorted rows → IsHalved rows key place count → i < place + count → is_below (get_or rows i d).key key ≡ true
-    → (p n : ℕ) → p ≡ i + 1 → p + n ≡ place + count → IsHalved rows key p n
-halved_up rows key place count i d sorted h lt below p n ep en =
-    let inside : i < length rows = omega (arith, h.within) in
-    let e : p ≡ suc i = omega arith in
-    record { within = omega (arith, h.within); before = rw e (front_below key rows i d sorted inside below); behind = rw en h.behind }
+    by_looks : Tells rows key (place + count / 4 - 1) first → Tells rows key (place + 2 * (count / 4) - 1) second → Tells rows key (place + 3 * (count / 4) - 1) third
+        → IsNarrowed rows key (place + (first + second + third) * (count / 4)) (count - 3 * (count / 4))
+    by_looks (inl a) (inl b) (inl c) = to 3 (omega (arith, a.0, b.0, c.0)) (omega (arith, h.within)) (omega (arith, c.1)) (omega (arith, h.high))
+    by_looks (inl a) (inl b) (inr c) = to 2 (omega (arith, a.0, b.0, c.0)) (omega (arith, h.within)) (omega (arith, b.1)) (omega (arith, c.1))
+    by_looks (inl a) (inr b) (inr c) = to 1 (omega (arith, a.0, b.0, c.0)) (omega (arith, h.within)) (omega (arith, a.1)) (omega (arith, b.1))
+    by_looks (inr a) (inr b) (inr c) = to 0 (omega (arith, a.0, b.0, c.0)) (omega (arith, h.within)) (omega (arith, h.low)) (omega (arith, a.1))
+    by_looks (inl a) (inr b) (inl c) = absurd (omega (arith, b.1, c.1))
+    by_looks (inr a) (inl b) c = absurd (omega (arith, a.1, b.1))
+    by_looks (inr a) (inr b) (inl c) = absurd (omega (arith, b.1, c.1))
 
--- a row that isn't below the key, and all behind it
-pub halved_down : (rows : List Row) (key : Key) (place count i : ℕ) (d : Row) → AreSorted rows → IsHalved rows key place count → i < place + count → is_below (get_or rows i d).key key ≡ false
-    → (n : ℕ) → n ≤ count → i ≤ place + n → IsHalved rows key place n
-halved_down rows key place count i d sorted h lt below n le far =
-    let inside : i < length rows = omega (arith, h.within) in
-    let e : place + n ≡ i + (place + n - i) = omega arith in
-    record {
-      within = omega (arith, h.within);
-      before = h.before;
-      behind = rw e (rw (← drop-drop (place + n - i) i rows) (all_drop _ (place + n - i) (drop i rows) (back_not_below key rows i d sorted inside below)));
-    }
+-- of the rows before this one so many are below the key
+pub record IsCounted (rows : List Row) (key : Key) (i found : ℕ) : Type 0 where
+  pub below : i ≤ front_count key rows → found ≡ i
+  pub behind : front_count key rows ≤ i → found ≡ front_count key rows
 
-pub halved_end : (rows : List Row) (key : Key) (place count : ℕ) → IsHalved rows key place count → count ≡ 0 → IsPlaceOf rows key place
-halved_end rows key place count h e =
-    let f : place + count ≡ place = omega arith in
-    record { within = omega (arith, h.within); before = h.before; behind = rw f at h.behind }
+pub counted_on : (rows : List Row) (key : Key) (i found one : ℕ) → IsCounted rows key i found → Tells rows key i one → IsCounted rows key (i + 1) (found + one)
+counted_on rows key i found one h (inl a) =
+    let same = h.below (omega (arith, a.1)) in
+    record { below = λ le. omega (arith, a.0, same); behind = λ le. omega (arith, a.0, a.1, same, le) }
+counted_on rows key i found one h (inr a) =
+    let same = h.behind a.1 in
+    record { below = λ le. absurd (omega (arith, a.1, le)); behind = λ le. omega (arith, a.0, same) }
 
 -- where the first row isn't below the key, none is
 pub none_below : (rows : List Row) (key : Key) (d : Row) → AreSorted rows → 0 < length rows → is_below (get_or rows 0 d).key key ≡ false → IsPlaceOf rows key 0
-none_below rows key d sorted lt h = record { within = omega arith; before = tt; behind = back_not_below key rows 0 d sorted lt h }
+none_below rows key d sorted lt h =
+    let none : 0 ≡ front_count key rows = omega (arith, behind_front key rows 0 d sorted lt h) in
+    rw none (front_is_place key rows sorted)
 
 -- where the last row is below the key, all are
 pub all_below : (rows : List Row) (key : Key) (d : Row) (last : ℕ) → AreSorted rows → suc last ≡ length rows → is_below (get_or rows last d).key key ≡ true → IsPlaceOf rows key (length rows)
 all_below rows key d last sorted e h =
-    let lt : last < length rows = omega arith in
-    let none : drop (length rows) rows ≡ [] = drop_all rows in
-    record { within = omega arith; before = rw (← e) (front_below key rows last d sorted lt h); behind = rw none tt }
-  where
-    drop_all : (rs : List Row) → drop (length rs) rs ≡ []
-    drop_all [] = refl
-    drop_all (r ∷ rs) = drop_all rs
+    let is = front_is_place key rows sorted in
+    let all : length rows ≡ front_count key rows = omega (arith, is.within, front_below key rows last d sorted (omega arith) h) in
+    rw all is
 
 -- a row that stands where the key would isn't the key's, so all behind are above it
 pub gap_of_place : (rows : List Row) (key : Key) (place : ℕ) → AreSorted rows → IsPlaceOf rows key place → ((d : Row) → place < length rows → (get_or rows place d).key ≢ key) → IsGapFor rows key place
@@ -161,10 +203,10 @@ gap_of_place rows key place sorted is other = record { within = is.within; befor
 
 -- ---- the rows of a key range
 
--- they begin at the place of the one key, and end at that of the other among those behind it
-pub between_places : (rows : List Row) (from until : Key) (a n : ℕ) → IsPlaceOf rows from a → IsPlaceOf (drop a rows) until n → take n (drop a rows) ≡ rows_between from until rows
-between_places rows from until a n first last =
-    sym (filter_middle (λ r. is_between from until r.key) rows a n none all rest)
+-- they stand between the places of both keys
+pub between_places : (rows : List Row) (from until : Key) (a b : ℕ) → IsPlaceOf rows from a → IsPlaceOf rows until b → take (b - a) (drop a rows) ≡ rows_between from until rows
+between_places rows from until a b first last =
+    sym (filter_middle (λ r. is_between from until r.key) rows a (b - a) none all rest)
   where
     none : AllByRecursion (λ r. is_between from until r.key ≡ false) (take a rows)
     none = all_map (λ r. is_below r.key from ≡ true) (λ r. is_between from until r.key ≡ false) (λ r h. λ i. not (h i) && is_below r.key until) (take a rows) first.before
@@ -176,12 +218,14 @@ between_places rows from until a n first last =
         never true = refl
         never false = refl
 
-    rest : AllByRecursion (λ r. is_between from until r.key ≡ false) (drop (a + n) rows)
-    rest = rw (← drop-drop n a rows) (all_map (λ r. is_below r.key until ≡ false) (λ r. is_between from until r.key ≡ false) outside (drop n (drop a rows)) last.behind)
+    rest : AllByRecursion (λ r. is_between from until r.key ≡ false) (drop (a + (b - a)) rows)
+    rest =
+        let e : a + (b - a) ≡ b + (a - b) = omega arith in
+        rw e (rw (← drop-drop (a - b) b rows) (all_map (λ r. is_below r.key until ≡ false) (λ r. is_between from until r.key ≡ false) outside (drop (a - b) (drop b rows)) (all_drop _ (a - b) (drop b rows) last.behind)))
 
-    all : AllByRecursion (λ r. is_between from until r.key ≡ true) (take n (drop a rows))
-    all = all_both (λ r. is_below r.key from ≡ false) (λ r. is_below r.key until ≡ true) (λ r. is_between from until r.key ≡ true) (λ r p q. between_of from until r.key p q) (take n (drop a rows))
-        (all_take _ n (drop a rows) first.behind) last.before
+    all : AllByRecursion (λ r. is_between from until r.key ≡ true) (take (b - a) (drop a rows))
+    all = all_both (λ r. is_below r.key from ≡ false) (λ r. is_below r.key until ≡ true) (λ r. is_between from until r.key ≡ true) (λ r p q. between_of from until r.key p q) (take (b - a) (drop a rows))
+        (all_take _ (b - a) (drop a rows) first.behind) (all_middle _ a b rows last.before)
 
 -- ---- what stays sorted
 

@@ -3,7 +3,7 @@
 //! 1. Keys strictly rise, from the low fence key on and below the high one.
 //! 2. There is room for 32 rows at any time.
 
-ghost use Rattle.std.specs.Prelude.{◌≡◌, ◌==◌, ◌+◌, ◌-◌, ◌<◌, ◌≤◌, true, false, [], ◌++◌, length, take, drop, insert, remove, slice_get, IfOk, Some};
+ghost use Rattle.std.specs.Prelude.{◌≡◌, ◌==◌, ◌+◌, ◌-◌, ◌*◌, ◌^◌, ◌<◌, ◌≤◌, if◌then◌else◌, true, false, [], ◌++◌, length, take, drop, insert, remove, slice_get, IfOk, Some};
 ghost use Rattle.std.specs.Vec.{vec_capacity};
 ghost use Rattle.graph_model.specs.Rows.{is_below, is_between};
 ghost use Rattle.graph_model.specs.declared.limits.TheConstants.{SEGMENT_ROWS};
@@ -199,23 +199,48 @@ fn find_in(rows: &[Row], key: Key) -> Result<usize, usize>
     }
 }
 
-/// How many rows are below the key, found by halves.
+/// How many rows are below the key. Each step looks at the last rows of three quarters at once, and adds up what
+/// it finds. There is no branch on a key, since every other one would be foretold wrongly.
 fn place_in(rows: &[Row], key: Key) -> usize
     requires { AreSorted rows.now }
     ensures { IsPlaceOf rows.now key result }
 {
     let mut place = 0;
     let mut count = rows.len();
-    'halves: while count > 0 {
-        let half = count / 2;
-        if rows[place + half].key.is_below(key) {
-            place += half + 1;
-            count -= half + 1;
-        } else {
-            count = half;
-        }
+    'quarters: while count >= 4 {
+        let quarter = count / 4;
+        let first = one_if_below(rows[place + quarter - 1].key, key);
+        let second = one_if_below(rows[place + 2 * quarter - 1].key, key);
+        let third = one_if_below(rows[place + 3 * quarter - 1].key, key);
+        place += (first + second + third) * quarter;
+        count -= 3 * quarter;
     }
-    place
+    let mut found = place;
+    'rest: for i in place..place + count {
+        found += one_if_below(rows[i].key, key);
+    }
+    found
+}
+
+/// One where the first key is below the second, and else nothing.
+fn one_if_below(low: Key, high: Key) -> usize
+    ensures { result ≡ (if is_below low high then 1 else 0) }
+{
+    is_below(low, high) as usize
+}
+
+/// Whether the first key is below the second, found without a branch on their parts.
+fn is_below(low: Key, high: Key) -> bool
+    ensures { result ≡ is_below low high }
+{
+    number_of(low) < number_of(high)
+}
+
+/// The key as one number, which is in the same order.
+fn number_of(key: Key) -> u128
+    ensures { result ≡ key.src * 2 ^ 64 + key.second }
+{
+    u128::from(key.src) * 18446744073709551616 + u128::from(key.second)
 }
 
 /// The rows of a key range, as a part of the slice.
@@ -223,9 +248,9 @@ fn run_in(rows: &[Row], from: Key, until: Key) -> &[Row]
     requires { AreSorted rows.now }
     ensures { result.now ≡ rows_between from until rows.now }
 {
-    let (_, behind) = rows.split_at(cut_in(rows, from));
-    let (run, _) = behind.split_at(cut_in(behind, until));
-    run
+    let first = cut_in(rows, from);
+    let end = cut_in(rows, until);
+    &rows[first..end.max(first)]
 }
 
 /// How many rows are below the key, which is mostly below all of them or above.
@@ -234,8 +259,8 @@ fn cut_in(rows: &[Row], key: Key) -> usize
     ensures { IsPlaceOf rows.now key result }
 {
     match rows {
-        [first, ..] if !first.key.is_below(key) => 0,
-        [.., last] if last.key.is_below(key) => rows.len(),
+        [first, ..] if !is_below(first.key, key) => 0,
+        [.., last] if is_below(last.key, key) => rows.len(),
         _ => place_in(rows, key),
     }
 }

@@ -1,19 +1,20 @@
-use Rattle.std.proofs.Common.{◌+◌, ◌/◌, ◌<◌, ◌∙◌, sym, arith}
-use Rattle.gap_segment.proofs.FencedLemmas.{halved_start, halved_up, halved_down, halved_end}
+use Rattle.std.proofs.Common.{arith}
+use Rattle.gap_segment.proofs.FencedLemmas.{narrowed_start, narrowed_quarter, counted_on, tells, front_is_place}
 use Rattle.gap_segment.proofs.segment.place_in.Goals as goal
 
-pub halves-init : goal.halves-init
-halves-init c = halved_start _ _
+pub quarters-init : goal.quarters-init
+quarters-init c = narrowed_start _ _ c.requires
 
-pub halves-preserved-then-is_below : goal.halves-preserved-then-is_below
-halves-preserved-then-is_below c =
-    let inside : c.halves.place + c.halves.count / 2 < c.halves.place + c.halves.count = omega arith in
-    halved_up _ _ c.halves.place c.halves.count (c.halves.place + c.halves.count / 2) _ c.requires c.halves.invariant inside (sym c.is_below.ensures ∙ c.if-is_below.true) _ _ (omega arith) (omega arith)
+pub overflow_add-place-in-quarters-5 : goal.overflow_add-place-in-quarters-5
+overflow_add-place-in-quarters-5 c =
+    let narrowed = narrowed_quarter _ _ c.quarters.place c.quarters.count _ _ _ _ _ _ c.requires c.quarters.invariant c.quarters-test.true c.one_if_below-first.ensures c.one_if_below-second.ensures c.one_if_below-third.ensures in
+    omega (arith, narrowed.within, c.well_formed)
 
-pub halves-preserved : goal.halves-preserved
-halves-preserved c =
-    let inside : c.halves.place + c.halves.count / 2 < c.halves.place + c.halves.count = omega arith in
-    halved_down _ _ c.halves.place c.halves.count (c.halves.place + c.halves.count / 2) _ c.requires c.halves.invariant inside (sym c.is_below.ensures ∙ c.if-is_below.false) (c.halves.count / 2) (omega arith) (omega arith)
+pub quarters-preserved : goal.quarters-preserved
+quarters-preserved c = narrowed_quarter _ _ c.quarters.place c.quarters.count _ _ _ _ _ _ c.requires c.quarters.invariant c.quarters-test.true c.one_if_below-first.ensures c.one_if_below-second.ensures c.one_if_below-third.ensures
+
+pub rest-preserved : goal.rest-preserved
+rest-preserved c = counted_on _ _ c.rest.i c.rest.found _ c.rest.invariant (tells _ _ _ _ _ c.requires (omega (arith, c.rest-test.true, c.quarters.invariant.within)) c.one_if_below-found.ensures)
 
 pub returns : goal.returns
-returns c = halved_end _ _ _ _ c.halves.invariant (omega arith)
+returns c = rw (c.rest.invariant.behind (omega (arith, c.rest-test.false, c.quarters.invariant.high))) (front_is_place _ _ c.requires)

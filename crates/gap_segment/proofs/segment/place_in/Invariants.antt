@@ -1,8 +1,13 @@
-use Rattle.gap_segment.proofs.FencedLemmas.{IsHalved}
+use Rattle.gap_segment.proofs.FencedLemmas.{IsNarrowed, IsCounted}
 use Rattle.gap_segment.proofs.segment.place_in.Given as goal
 
-abbrev pub invariant-halves : goal.invariant-halves
-invariant-halves l = IsHalved l.rows l.key l.place l.count
+-- the place is the key's, or among those behind it
+abbrev pub invariant-quarters : goal.invariant-quarters
+invariant-quarters l = IsNarrowed l.rows l.key l.place l.count
 
-abbrev pub decreases-halves : goal.decreases-halves
-decreases-halves l = l.count
+abbrev pub decreases-quarters : goal.decreases-quarters
+decreases-quarters l = l.count
+
+-- those that were looked at are counted
+abbrev pub invariant-rest : goal.invariant-rest
+invariant-rest l = IsCounted l.rows l.key l.i l.found

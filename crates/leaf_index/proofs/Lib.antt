@@ -1,0 +1,6 @@
+pub mod OrderLemmas
+pub mod CountLemmas
+pub mod SlotLemmas
+pub mod IndexLemmas
+pub mod ChangeLemmas
+pub mod ReleaseLemmas

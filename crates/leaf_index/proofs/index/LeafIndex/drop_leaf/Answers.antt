@@ -1,0 +1,45 @@
+use Rattle.std.proofs.Common.{◌≡◌, length, refl, ap, arith}
+use Rattle.std.proofs.lemmas.Option.{slice_get_read}
+use Rattle.leaf_index.specs.Index.{Index}
+use Rattle.leaf_index.proofs.SlotLemmas.{floor_within, before_within}
+use Rattle.leaf_index.proofs.ChangeLemmas.{neighbours, one_begins, two_there, before_there, drop_changed}
+use Rattle.leaf_index.proofs.index.LeafIndex.drop_leaf.Goals as goal
+
+pub unreachable-requires : goal.unreachable-requires
+unreachable-requires c =
+    let n = neighbours c.self.inside.slots.items c.self.inside.trie _ _ _ c.args.low (ap (λ (i : Index). i.entries) c.self.view_is) c.self.invariant.0 c.requires in
+    before_there c.self.inside.slots.items c.self.inside.trie c.args.low _ c.requires n c.in_default.ensures
+
+pub remove-requires-clause-there : goal.remove-requires-clause-there
+remove-requires-clause-there c =
+    let n = neighbours c.self.inside.slots.items c.self.inside.trie _ _ _ c.args.low (ap (λ (i : Index). i.entries) c.self.view_is) c.self.invariant.0 c.requires in
+    one_begins c.self.inside.slots.items c.self.inside.trie c.args.low _ c.requires n
+
+pub remove-requires-clause-more : goal.remove-requires-clause-more
+remove-requires-clause-more c =
+    let n = neighbours c.self.inside.slots.items c.self.inside.trie _ _ _ c.args.low (ap (λ (i : Index). i.entries) c.self.view_is) c.self.invariant.0 c.requires in
+    two_there c.self.inside.slots.items c.self.inside.trie c.args.low _ c.requires n
+
+pub index-requires : goal.index-requires
+index-requires c = omega (arith, floor_within c.self.inside.slots.items _ _ c.floor_of-dropped.result c.self.invariant.0.have c.floor_of-dropped.ensures)
+
+pub index_mut-requires : goal.index_mut-requires
+index_mut-requires c = omega (arith, before_within c.self.inside.slots.items _ _ c.in-Some.before c.self.invariant.0.have c.in-Some.ensures)
+
+pub invariant_of-self : goal.invariant_of-self
+invariant_of-self c =
+    let slots = c.self.inside.slots.items in
+    let n = neighbours slots c.self.inside.trie _ _ _ c.args.low (ap (λ (i : Index). i.entries) c.self.view_is) c.self.invariant.0 c.requires in
+    let gone = slice_get_read slots _ c.floor_of-dropped.result c.index.result.now refl (floor_within slots _ _ c.floor_of-dropped.result c.self.invariant.0.have c.floor_of-dropped.ensures) c.index.ensures in
+    let now = slice_get_read slots _ c.in-Some.before c.index_mut.result.now refl (before_within slots _ _ c.in-Some.before c.self.invariant.0.have c.in-Some.ensures) c.index_mut.ensures.value in
+    let x = drop_changed slots _ c.remove.new.self _ _ _ c.args.low c.floor_of-dropped.result c.in-Some.before c.index.result.now c.index_mut.result.now c.self.invariant.0 c.requires n c.floor_of-dropped.ensures gone c.in-Some.ensures now c.remove.ensures in
+    (x.kept, omega (arith, x.count, c.self.invariant.1), omega (arith, x.count, c.self.invariant.2))
+
+pub returns-clause-entries : goal.returns-clause-entries
+returns-clause-entries c = λ can.
+    let slots = c.self.inside.slots.items in
+    let n = neighbours slots c.self.inside.trie _ _ _ c.args.low (ap (λ (i : Index). i.entries) c.self.view_is) c.self.invariant.0 can in
+    let gone = slice_get_read slots _ c.floor_of-dropped.result c.index.result.now refl (floor_within slots _ _ c.floor_of-dropped.result c.self.invariant.0.have c.floor_of-dropped.ensures) c.index.ensures in
+    let now = slice_get_read slots _ c.in-Some.before c.index_mut.result.now refl (before_within slots _ _ c.in-Some.before c.self.invariant.0.have c.in-Some.ensures) c.index_mut.ensures.value in
+    let x = drop_changed slots _ c.remove.new.self _ _ _ c.args.low c.floor_of-dropped.result c.in-Some.before c.index.result.now c.index_mut.result.now c.self.invariant.0 can n c.floor_of-dropped.ensures gone c.in-Some.ensures now c.remove.ensures in
+    x.drops

@@ -1,0 +1,264 @@
+//! The index over a trie.
+//!
+//! 1. What the trie doesn't need lies in a table by the numbers of leaves: cuts, and the end of a live leaf's range.
+//! 2. Both lists of leaves have room for all leaves from the start.
+
+ghost use Rattle.std.specs.Prelude.{◌≡◌, ◌<◌, ◌≤◌, ◌+◌, [], ◌∷◌, ◌++◌, IfOk, IfSome, OnOk, OnErr, length, replicate, take, ◌-◌};
+ghost use Rattle.std.specs.List.{range_with_len};
+ghost use Rattle.std.specs.Vec.{vec_capacity};
+ghost use Rattle.graph_model.specs.Rows.{end_key, first_key};
+ghost use Rattle.graph_model.specs.declared.limits.TheConstants.{MAX_LEAVES};
+ghost use Rattle.leaf_index.specs.Index.{IsIndex, IsRoute, IsTaken};
+ghost use Rattle.leaf_index.specs.Slots.{HasSlot, HaveSlots, IsBeforeStart, IsFloorStart, IsRange, begin_or, whole_slot};
+ghost use Rattle.leaf_index.specs.Calls.{CanAdd, CanCut, CanDrop, IsLeafBefore, IsLeafRange, TakesFree, freed, freed_of, new_index, with_cuts, with_leaf, without_leaf};
+
+use graph_model::{Key, NoMemory};
+use leaf_trie::{LeafStart, LeafTrie};
+use std::alloc::Global;
+use std::marker::Model;
+
+use crate::release::release;
+use crate::route::{LeafRange, Retired, Route};
+use crate::slot::{Slot, high_of, segment_of};
+
+/// The leaves of a store. Those that are live have ranges of keys that follow each other.
+#[derive(Drop)]
+pub struct LeafIndex {
+    trie: LeafTrie,
+    slots: Vec<Slot>,
+    free: Vec<u32>,
+    retired: Vec<Retired>,
+}
+
+impl Model for LeafIndex {
+    ghost use Rattle.std.specs.Prelude.{◌≤◌, length};
+    ghost use Rattle.std.specs.Vec.{vec_capacity};
+    ghost use Rattle.leaf_index.specs.Index.{Index};
+
+    ghost Value = { Index };
+
+    ghost use Rattle.leaf_index.specs.Slots.{IsKept, entries_of};
+
+    ghost view = { λ i. record {
+        leaves = length i.slots.items;
+        entries = entries_of i.slots.items i.trie;
+        free = i.free.items;
+        retired = i.retired.items;
+    } };
+
+    ghost invariant = { λ i. IsKept i.slots.items i.trie i.free.items i.retired.items
+        × (length i.slots.items ≤ vec_capacity i.free)
+        × (length i.slots.items ≤ vec_capacity i.retired) };
+}
+
+/// So many slots of the whole key range, all of it in the first segment.
+fn whole_slots(alloc: Global, leaves: u32) -> Result<Vec<Slot>, NoMemory>
+    ensures { IfOk result (λ v. v.items ≡ replicate leaves whole_slot) }
+{
+    let low = Key { src: 0, second: 0 };
+    let end = Key::END;
+    let whole = Slot {
+        cuts: [low, end, end, end, end, end, end, end],
+        high: end,
+    };
+    let mut slots = Vec::with_capacity(alloc, leaves as usize)?;
+    'fill: for _leaf in 0..leaves {
+        slots.push(whole)?;
+    }
+    Ok(slots)
+}
+
+/// All leaves but the first, in a list with room for all.
+fn free_leaves(alloc: Global, leaves: u32) -> Result<Vec<u32>, NoMemory>
+    requires { 1 ≤ leaves }
+    ensures leaves { IfOk result (λ v. v.items ≡ range_with_len 1 (leaves - 1)) }
+    ensures room { IfOk result (λ v. leaves ≤ vec_capacity v) }
+{
+    let mut free = Vec::with_capacity(alloc, leaves as usize)?;
+    'fill: for leaf in 1..leaves {
+        free.push(leaf)?;
+    }
+    Ok(free)
+}
+
+/// The last leaf that does not begin above the key.
+fn floor_of(trie: &LeafTrie, slots: &Vec<Slot>, key: Key) -> u32
+    requires first { begin_or trie.now end_key ≡ first_key }
+    requires slots { HaveSlots slots.now.items end_key trie.now }
+    ensures { IsFloorStart key trie.now result }
+{
+    let found = trie.search(key);
+    match found.at {
+        Some(leaf) if !key.is_below(slots[leaf as usize].cuts[0]) => leaf,
+        _ => match found.before {
+            Some(leaf) => leaf,
+            None => unreachable!(),
+        },
+    }
+}
+
+/// The last leaf that begins below the key.
+fn before_of(trie: &LeafTrie, slots: &Vec<Slot>, key: Key) -> Option<u32>
+    requires { HaveSlots slots.now.items end_key trie.now }
+    ensures { IsBeforeStart key trie.now result }
+{
+    let found = trie.search(key);
+    match found.at {
+        Some(leaf) if slots[leaf as usize].cuts[0].is_below(key) => Some(leaf),
+        _ => found.before,
+    }
+}
+
+/// The range of a live leaf.
+fn range_of(slots: &Vec<Slot>, leaf: u32) -> LeafRange
+    requires { (start : _) × (high : _) × HasSlot slots.now.items start high × (start.leaf ≡ leaf) }
+    ensures { IsRange slots.now.items leaf result }
+{
+    let slot = &slots[leaf as usize];
+    LeafRange {
+        leaf,
+        low: slot.cuts[0],
+        high: slot.high,
+    }
+}
+
+impl LeafIndex {
+    /// Leaf 0 has the whole key range, and the others are free. Takes the memory of both lists and of all cuts.
+    pub fn new(alloc: Global, leaves: u32) -> Result<LeafIndex, NoMemory>
+        requires some { 1 ≤ leaves }
+        requires few { leaves ≤ MAX_LEAVES }
+        ensures { IfOk result (λ i. i ≡ new_index leaves) }
+    {
+        let low = Key { src: 0, second: 0 };
+        let trie = LeafTrie::new(alloc, LeafStart { low, leaf: 0 })?;
+        let slots = whole_slots(alloc, leaves)?;
+        let free = free_leaves(alloc, leaves)?;
+        let retired = Vec::with_capacity(alloc, leaves as usize)?;
+        Ok(LeafIndex {
+            trie,
+            slots,
+            free,
+            retired,
+        })
+    }
+
+    /// How many leaves there are, in use or not. What holds of each index is a clause of this call.
+    pub fn leaves(&self) -> u32
+        ensures leaves { result ≡ self.now.leaves }
+        ensures index { IsIndex self.now }
+    {
+        self.slots.len() as u32
+    }
+
+    /// The leaf whose range holds the key. The next leaf is that of the range's high key, unless that is `Key::END`.
+    pub fn leaf_at(&self, key: Key) -> LeafRange
+        ensures { IsLeafRange key self.now.entries result }
+    {
+        let leaf = floor_of(&self.trie, &self.slots, key);
+        range_of(&self.slots, leaf)
+    }
+
+    /// The last leaf that begins below the key, so the one before a leaf that begins at it.
+    pub fn leaf_before(&self, key: Key) -> Option<LeafRange>
+        ensures { IsLeafBefore key self.now.entries result }
+    {
+        match before_of(&self.trie, &self.slots, key) {
+            Some(leaf) => Some(range_of(&self.slots, leaf)),
+            None => None,
+        }
+    }
+
+    /// Gives a taken leaf the range from the key to the end of the range that has it now.
+    pub fn add_leaf(&mut self, alloc: Global, low: Key, leaf: u32, cuts: [Key; 8]) -> Result<(), NoMemory>
+        requires taken { IsTaken self.old leaf }
+        requires place { CanAdd low cuts self.old.entries }
+        ensures ok { OnOk result ((can : CanAdd low cuts self.old.entries) → self.new.entries ≡ with_leaf low leaf cuts self.old.entries can) }
+        ensures others { self.new ≡ record self.old { entries = self.new.entries } }
+        ensures err { OnErr result (self.new ≡ self.old) }
+    {
+        let before = floor_of(&self.trie, &self.slots, low);
+        self.trie.insert(alloc, LeafStart { low, leaf })?;
+        let high = self.slots[before as usize].high;
+        self.slots[before as usize].high = low;
+        self.slots[leaf as usize] = Slot { cuts, high };
+        Ok(())
+    }
+
+    /// Gives the range of the leaf that begins at the key to the leaf before it.
+    pub fn drop_leaf(&mut self, low: Key)
+        requires { CanDrop low self.old.entries }
+        ensures entries { (can : CanDrop low self.old.entries) → self.new.entries ≡ without_leaf low self.old.entries can }
+        ensures others { self.new ≡ record self.old { entries = self.new.entries } }
+    {
+        let dropped = floor_of(&self.trie, &self.slots, low);
+        let Some(before) = before_of(&self.trie, &self.slots, low) else {
+            unreachable!();
+        };
+        self.trie.remove(low);
+        let high = self.slots[dropped as usize].high;
+        self.slots[before as usize].high = high;
+    }
+
+    /// Gives the leaf that begins at the key these cuts, one for each of its segments.
+    pub fn set_separators(&mut self, low: Key, cuts: [Key; 8])
+        requires { CanCut low cuts self.old.entries }
+        ensures entries { (can : CanCut low cuts self.old.entries) → self.new.entries ≡ with_cuts low cuts self.old.entries can }
+        ensures others { self.new ≡ record self.old { entries = self.new.entries } }
+    {
+        let leaf = floor_of(&self.trie, &self.slots, low);
+        let high = self.slots[leaf as usize].high;
+        self.slots[leaf as usize] = Slot { cuts, high };
+    }
+
+    /// Takes a free leaf, if there is one.
+    pub fn take_free(&mut self) -> Option<u32>
+        ensures { TakesFree self.old self.new result }
+    {
+        self.free.pop()
+    }
+
+    /// Puts a taken leaf among those that are free.
+    pub fn give_back(&mut self, leaf: u32)
+        requires { IsTaken self.old leaf }
+        ensures { self.new ≡ record self.old { free = self.old.free ++ leaf ∷ [] } }
+    {
+        match self.free.push(leaf) {
+            Ok(()) => {}
+            Err(_) => unreachable!(),
+        }
+    }
+
+    /// Puts a taken leaf last among those that are retired.
+    pub fn retire(&mut self, leaf: u32, stamp: u64)
+        requires { IsTaken self.old leaf }
+        ensures { self.new ≡ record self.old { retired = self.old.retired ++ record { leaf = leaf; stamp = stamp } ∷ [] } }
+    {
+        match self.retired.push(Retired { leaf, stamp }) {
+            Ok(()) => {}
+            Err(_) => unreachable!(),
+        }
+    }
+
+    /// Frees those among the first retired leaves whose stamps are below the given one, and answers how many.
+    pub fn free_retired(&mut self, until: u64, upto: usize) -> u32
+        ensures freed { self.new ≡ freed until upto self.old }
+        ensures count { result ≡ length (freed_of until (take upto self.old.retired)) }
+    {
+        release(&mut self.free, &mut self.retired, until, upto)
+    }
+
+    /// The cell whose range holds the key. It does as long as the index doesn't change, so a caller may keep the
+    /// answer for further keys that `Route::holds`.
+    pub fn route(&self, key: Key) -> Route
+        ensures { IsRoute key self.now.entries result }
+    {
+        let leaf = floor_of(&self.trie, &self.slots, key);
+        let slot = &self.slots[leaf as usize];
+        let segment = segment_of(&slot.cuts, key);
+        Route {
+            cell: 8 * leaf + segment as u32,
+            low: slot.cuts[segment],
+            high: high_of(slot, segment),
+        }
+    }
+}

@@ -1,0 +1,38 @@
+//! What stands by the number of a leaf.
+
+ghost use Rattle.std.specs.Prelude.{◌≡◌, ◌+◌, ◌<◌, false, Some, slice_get, unwrap_or};
+ghost use Rattle.graph_model.specs.Rows.{is_below};
+ghost use Rattle.leaf_index.specs.Index.{IsSegment, NotAbove};
+
+use graph_model::{Key, LEAF_SEGMENTS};
+
+/// The least keys of a leaf's segments, and the end of its range. Of a leaf that isn't live it says nothing.
+#[derive(Clone, Copy, Debug, PartialEq, Eq)]
+pub struct Slot {
+    pub cuts: [Key; 8],
+    pub high: Key,
+}
+
+/// The last segment whose cut is not above the key.
+pub fn segment_of(cuts: &[Key; 8], key: Key) -> usize
+    requires { (low : _) × (slice_get cuts.now 0 ≡ Some low) × NotAbove low key }
+    ensures { IsSegment cuts.now key result }
+{
+    let mut segment = LEAF_SEGMENTS - 1;
+    'down: while segment > 0 && key.is_below(cuts[segment]) {
+        segment -= 1;
+    }
+    segment
+}
+
+/// Where the segment's range ends.
+pub fn high_of(slot: &Slot, segment: usize) -> Key
+    requires { segment < 8 }
+    ensures { result ≡ unwrap_or (slice_get slot.now.cuts (segment + 1)) slot.now.high }
+{
+    if segment + 1 < LEAF_SEGMENTS {
+        slot.cuts[segment + 1]
+    } else {
+        slot.high
+    }
+}
