@@ -122,6 +122,7 @@ split slots (s ∷ ss) [] e back is = record { before = []; start = s; behind = 
   where
     first_same : {x y : Entry} {xs ys : List Entry} → x ∷ xs ≡ y ∷ ys → x ≡ y
     first_same p = cc
+
     rest_same : {x y : Entry} {xs ys : List Entry} → x ∷ xs ≡ y ∷ ys → xs ≡ ys
     rest_same p = cc
 split slots (s ∷ ss) (g ∷ front) e back is =
@@ -130,6 +131,7 @@ split slots (s ∷ ss) (g ∷ front) e back is =
   where
     first_same : {x y : Entry} {xs ys : List Entry} → x ∷ xs ≡ y ∷ ys → x ≡ y
     first_same p = cc
+
     rest_same : {x y : Entry} {xs ys : List Entry} → x ∷ xs ≡ y ∷ ys → xs ≡ ys
     rest_same p = cc
 
@@ -167,13 +169,13 @@ changed slots starts free retired front s x back k is ends cuts =
     let apart = stands_alone (length slots) front s back free retired (subst (λ ss. StandOnce (length slots) ss free retired) is k.once) in
     let here : HasSlot new s (begin_or back end_key) = record { slot = x; there = there; ends = ends; cuts = cuts } in
     let now : HaveSlots new end_key (front ++ s ∷ back) =
-        have_join new end_key front (s ∷ back) (slots_kept slots s.leaf x s.low front apart.0 (have_front slots end_key front (s ∷ back) have))
-        (here, slots_kept slots s.leaf x end_key back apart.1 (have_back slots end_key front (s ∷ back) have).1) in
+    have_join new end_key front (s ∷ back) (slots_kept slots s.leaf x s.low front apart.0 (have_front slots end_key front (s ∷ back) have))
+    (here, slots_kept slots s.leaf x end_key back apart.1 (have_back slots end_key front (s ∷ back) have).1) in
     let one : entry_of new s ≡ record { low = s.low; leaf = s.leaf; cuts = x.cuts } = (λ i. record { low = s.low; leaf = s.leaf; cuts = cuts_or_none (there i) }) in
     record {
       kept = record { first = k.first; rising = k.rising; have = subst (HaveSlots new end_key) (sym is) now; once = λ q. omega (arith, k.once q, cond_same q count); few = omega (arith, k.few, count) };
       entries = ap (entries_of new) is ∙ entries_append new front (s ∷ back) ∙ (λ i. entries_kept slots s.leaf x front apart.0 i ++ one i ∷ entries_kept slots s.leaf x back apart.1 i);
-      count = count
+      count = count;
     }
   where
     cond_same : (q : ℕ) → length (set slots s.leaf x) ≡ length slots → worth (nat_lt q (length (set slots s.leaf x))) ≡ worth (nat_lt q (length slots))
@@ -202,7 +204,7 @@ cut_changed slots starts free retired entries low cuts leaf now view k can f the
     let x : Slot = record { cuts = cuts; high = now.high } in
     let c = changed slots starts free retired sp.before s x sp.behind k sp.is high fit in
     let is : entries_of (set slots s.leaf x) starts ≡ can.front ++ record { low = can.entry.low; leaf = can.entry.leaf; cuts = cuts } ∷ can.back =
-        c.entries ∙ (λ i. sp.fronts i ++ record { low = (sp.entry i).low; leaf = (sp.entry i).leaf; cuts = cuts } ∷ sp.backs i) in
+    c.entries ∙ (λ i. sp.fronts i ++ record { low = (sp.entry i).low; leaf = (sp.entry i).leaf; cuts = cuts } ∷ sp.backs i) in
     subst (λ n. CutChanged starts free retired slots (set slots n x) (with_cuts low cuts entries can)) number (record { kept = c.kept; sets = is; count = c.count })
 
 -- ---- one leaf more
@@ -299,22 +301,22 @@ add_changed slots starts after free retired entries low leaf cuts before now vie
     let backs : entries_of new sp.behind ≡ can.back = entries_kept one leaf y sp.behind apart_back.1 ∙ entries_kept slots p.leaf x sp.behind alone.1 ∙ sp.backs in
     let e : Entry = record { low = low; leaf = leaf; cuts = cuts } in
     let entries_new : entries_of new after ≡ (can.front ++ can.before ∷ []) ++ e ∷ can.back =
-        ap (entries_of new) is ∙ entries_append new sp.before (p ∷ s ∷ sp.behind) ∙ (λ i. fronts i ++ entry_p i ∷ entry_s i ∷ backs i) ∙ sym (append_assoc can.front (can.before ∷ []) (e ∷ can.back)) in
+    ap (entries_of new) is ∙ entries_append new sp.before (p ∷ s ∷ sp.behind) ∙ (λ i. fronts i ++ entry_p i ∷ entry_s i ∷ backs i) ∙ sym (append_assoc can.front (can.before ∷ []) (e ∷ can.back)) in
     let result : AddChanged after free retired slots new (with_leaf low leaf cuts entries can) = record {
       kept = record {
         first = first;
         rising = subst AreRisingStarts (sym ins.is) rises;
         have = subst (HaveSlots new end_key) (sym is) now_have;
         once = λ q.
-          let was = ap (λ ss. count_by (λ (r : LeafStart). r.leaf == q) ss) ins.was in
-          let become = ap (λ ss. count_by (λ (r : LeafStart). r.leaf == q) ss) ins.is in
-          let more = count_more q ins.front s ins.back in
-          let le = once_more (length slots) leaf q (times q starts free retired) (times q after free retired) unused.exists (λ e. subst (λ m. times m starts free retired ≡ 0) e unused.unused) (k.once q) (omega (arith, was, become, more)) in
-          subst (λ n. times q after free retired ≤ worth (nat_lt q n)) (sym count) le;
-        few = omega (arith, k.few, count)
+            let was = ap (λ ss. count_by (λ (r : LeafStart). r.leaf == q) ss) ins.was in
+            let become = ap (λ ss. count_by (λ (r : LeafStart). r.leaf == q) ss) ins.is in
+            let more = count_more q ins.front s ins.back in
+            let le = once_more (length slots) leaf q (times q starts free retired) (times q after free retired) unused.exists (λ e. subst (λ m. times m starts free retired ≡ 0) e unused.unused) (k.once q) (omega (arith, was, become, more)) in
+            subst (λ n. times q after free retired ≤ worth (nat_lt q n)) (sym count) le;
+        few = omega (arith, k.few, count);
       };
       adds = entries_new;
-      count = count
+      count = count;
     } in
     subst (λ n. AddChanged after free retired slots (set (set slots n x) leaf y) (with_leaf low leaf cuts entries can)) number result
 
@@ -391,9 +393,18 @@ neighbours slots starts free retired entries low view k can =
     let behind_p = rising_behind sp.before sp.start (sq.start ∷ sq.behind) rising in
     let behind_d = rising_behind (sp.before ++ sp.start ∷ []) sq.start sq.behind (subst AreRisingStarts (sym (append_assoc sp.before (sp.start ∷ []) (sq.start ∷ sq.behind))) rising) in
     record {
-      before = sp.before; p = sp.start; d = sq.start; behind = sq.behind; is = is; fronts = sp.fronts; entry_p = sp.entry; entry_d = sq.entry; backs = sq.backs; begins = begins;
+      before = sp.before;
+      p = sp.start;
+      d = sq.start;
+      behind = sq.behind;
+      is = is;
+      fronts = sp.fronts;
+      entry_p = sp.entry;
+      entry_d = sq.entry;
+      backs = sq.backs;
+      begins = begins;
       below = subst (λ x. is_below sp.start.low x ≡ true) begins behind_p.0;
-      above = subst (λ x. StartAbove x sq.behind) begins behind_d
+      above = subst (λ x. StartAbove x sq.behind) begins behind_d;
     }
   where
     no_entries : (ss : List LeafStart) → entries_of slots ss ≡ [] → ss ≡ []
@@ -454,25 +465,25 @@ drop_changed slots starts after free retired entries low dropped before gone now
     let back_kept = slots_kept slots p.leaf x end_key n.behind alone.1.1 (have_back slots end_key n.before (p ∷ d ∷ n.behind) have).1.1 in
     let now_have : HaveSlots new end_key (n.before ++ p ∷ n.behind) = have_join new end_key n.before (p ∷ n.behind) front_kept (here, back_kept) in
     let entry : entry_of new p ≡ can.before =
-        (λ i. record { low = p.low; leaf = p.leaf; cuts = cuts_or_none (there i) }) ∙ ap (λ ks. let e : Entry = record { low = p.low; leaf = p.leaf; cuts = ks } in e) (sym (ap cuts_or_none h.there ∙ ap (λ (z : Slot). z.cuts) slot_p)) ∙ n.entry_p in
+    (λ i. record { low = p.low; leaf = p.leaf; cuts = cuts_or_none (there i) }) ∙ ap (λ ks. let e : Entry = record { low = p.low; leaf = p.leaf; cuts = ks } in e) (sym (ap cuts_or_none h.there ∙ ap (λ (z : Slot). z.cuts) slot_p)) ∙ n.entry_p in
     let fronts : entries_of new n.before ≡ can.front = entries_kept slots p.leaf x n.before alone.0 ∙ n.fronts in
     let backs : entries_of new n.behind ≡ can.back = entries_kept slots p.leaf x n.behind alone.1.1 ∙ n.backs in
     let entries_new : entries_of new after ≡ (can.front ++ can.before ∷ []) ++ can.back =
-        ap (entries_of new) is ∙ entries_append new n.before (p ∷ n.behind) ∙ (λ i. fronts i ++ entry i ∷ backs i) ∙ sym (append_assoc can.front (can.before ∷ []) can.back) in
+    ap (entries_of new) is ∙ entries_append new n.before (p ∷ n.behind) ∙ (λ i. fronts i ++ entry i ∷ backs i) ∙ sym (append_assoc can.front (can.before ∷ []) can.back) in
     let result : DropChanged after free retired slots new (without_leaf low entries can) = record {
       kept = record {
         first = ap (λ ss. begin_or ss end_key) is ∙ begin_same n.before p n.behind (d ∷ n.behind) end_key ∙ ap (λ ss. begin_or ss end_key) (sym n.is) ∙ k.first;
         rising = subst AreRisingStarts (sym rem.is) (rising_less rem.front rem.start rem.back (subst AreRisingStarts rem.was k.rising));
         have = subst (HaveSlots new end_key) (sym is) now_have;
         once = λ q.
-          let was = ap (λ ss. count_by (λ (r : LeafStart). r.leaf == q) ss) rem.was in
-          let become = ap (λ ss. count_by (λ (r : LeafStart). r.leaf == q) ss) rem.is in
-          let more = count_more q rem.front rem.start rem.back in
-          let le : times q after free retired ≤ worth (nat_lt q (length slots)) = omega (arith, was, become, more, k.once q) in
-          subst (λ m. times q after free retired ≤ worth (nat_lt q m)) (sym count) le;
-        few = omega (arith, k.few, count)
+            let was = ap (λ ss. count_by (λ (r : LeafStart). r.leaf == q) ss) rem.was in
+            let become = ap (λ ss. count_by (λ (r : LeafStart). r.leaf == q) ss) rem.is in
+            let more = count_more q rem.front rem.start rem.back in
+            let le : times q after free retired ≤ worth (nat_lt q (length slots)) = omega (arith, was, become, more, k.once q) in
+            subst (λ m. times q after free retired ≤ worth (nat_lt q m)) (sym count) le;
+        few = omega (arith, k.few, count);
       };
       drops = entries_new;
-      count = count
+      count = count;
     } in
     subst (λ m. DropChanged after free retired slots (set slots m x) (without_leaf low entries can)) number_p result

@@ -35,9 +35,10 @@ count_map f n (x ∷ xs) = count_cons (λ y. y == n) (f x) (map f xs) ∙ ap (λ
 once_distinct : (xs : List ℕ) → ((n : ℕ) → count_by (λ x. x == n) xs ≤ 1) → IsDistinct eqb xs
 unfolding IsDistinct
 once_distinct [] h = tt
-once_distinct (x ∷ xs) h =
-    (apart xs (none_counted (λ y. y) x xs (let parts = count_cons (λ y. y == x) x xs in let one = ap worth (eq-eqb x x refl) in omega (arith, h x, parts, one))),
-    once_distinct xs (λ n. omega (arith, h n, count_cons (λ y. y == n) x xs)))
+once_distinct (x ∷ xs) h = (
+  apart xs (none_counted (λ y. y) x xs (let parts = count_cons (λ y. y == x) x xs in let one = ap worth (eq-eqb x x refl) in omega (arith, h x, parts, one))),
+  once_distinct xs (λ n. omega (arith, h n, count_cons (λ y. y == n) x xs)),
+)
   where
     apart : (ys : List ℕ) → AllByRecursion (λ y. y ≢ x) ys → AllByRecursion (λ y. eqb x y ≡ false) ys
     apart [] h = tt
@@ -57,6 +58,7 @@ at_most xs n once = length-le_from_distinct_below xs n (once_distinct xs (λ q. 
   where
     small : (q : ℕ) → cond (nat_lt q n) 1 0 ≤ 1
     small q = grind (arith, nat_tests)
+
     exists : (q : ℕ) → 1 ≤ cond (nat_lt q n) 1 0 → q < n
     exists q h = grind (arith, nat_tests)
 
@@ -66,14 +68,17 @@ fewer xs n missing once none lt = length-le_from_distinct_below (missing ∷ xs)
   where
     small : (q : ℕ) → cond (nat_lt q n) 1 0 ≤ 1
     small q = grind (arith, nat_tests)
+
     one : (q : ℕ) → count_by (λ x. x == q) (missing ∷ xs) ≤ 1
     one q = by_test (missing == q) refl
       where
         by_test : (t : Bool) → (missing == q) ≡ t → count_by (λ x. x == q) (missing ∷ xs) ≤ 1
         by_test true t = let same : missing ≡ q = eqb-true missing q t in let here = subst (λ m. count_by (λ x. x == m) xs ≡ 0) same none in let parts = count_cons (λ y. y == q) missing xs in let v = ap worth t in omega (arith, parts, here, v)
         by_test false t = let parts = count_cons (λ y. y == q) missing xs in let v = ap worth t in omega (arith, parts, v, once q, small q)
+
     exists : (q : ℕ) → 1 ≤ cond (nat_lt q n) 1 0 → q < n
     exists q h = grind (arith, nat_tests)
+
     below : (q : ℕ) → 1 ≤ count_by (λ x. x == q) (missing ∷ xs) → q < n
     below q h = by_test (missing == q) refl
       where

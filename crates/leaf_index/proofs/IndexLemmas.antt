@@ -44,7 +44,7 @@ kept_index slots starts free retired k =
       first = end_begin slots starts ∙ k.first;
       rising = rising_entries slots starts k.rising;
       cuts = cuts_of_slots slots starts k.have;
-      once = λ leaf. omega (arith, uses_times slots starts free retired leaf, k.once leaf)
+      once = λ leaf. omega (arith, uses_times slots starts free retired leaf, k.once leaf);
     }
 
 pub record Unused (slots : List Slot) (starts : List LeafStart) (free : List ℕ) (retired : List Retired) (leaf : ℕ) : Type 0 where
@@ -85,38 +85,47 @@ once_more n leaf q before after lt none le e = by_test (leaf == q) refl e
 pub given_back : (slots : List Slot) (starts : List LeafStart) (free : List ℕ) (retired : List Retired) (leaf : ℕ) (new : List ℕ) → IsKept slots starts free retired → Unused slots starts free retired leaf → new ≡ free ++ leaf ∷ [] → IsKept slots starts new retired
 given_back slots starts free retired leaf new k u is =
     record {
-      first = k.first; rising = k.rising; have = k.have; few = k.few;
+      first = k.first;
+      rising = k.rising;
+      have = k.have;
+      few = k.few;
       once = λ q. once_more (length slots) leaf q (times q starts free retired) (times q starts new retired) u.exists (λ e. subst (λ m. times m starts free retired ≡ 0) e u.unused) (k.once q)
-        (let more = ap (λ fs. count_by (λ f. f == q) fs) is ∙ more_at (λ f. f) q free leaf in omega (arith, more))
+          (let more = ap (λ fs. count_by (λ f. f == q) fs) is ∙ more_at (λ f. f) q free leaf in omega (arith, more));
     }
 
 pub retired_more : (slots : List Slot) (starts : List LeafStart) (free : List ℕ) (retired : List Retired) (one : Retired) (new : List Retired) → IsKept slots starts free retired → Unused slots starts free retired one.leaf → new ≡ retired ++ one ∷ [] → IsKept slots starts free new
 retired_more slots starts free retired one new k u is =
     record {
-      first = k.first; rising = k.rising; have = k.have; few = k.few;
+      first = k.first;
+      rising = k.rising;
+      have = k.have;
+      few = k.few;
       once = λ q. once_more (length slots) one.leaf q (times q starts free retired) (times q starts free new) u.exists (λ e. subst (λ m. times m starts free retired ≡ 0) e u.unused) (k.once q)
-        (let more = ap (λ rs. count_by (λ (r : Retired). r.leaf == q) rs) is ∙ more_at (λ (r : Retired). r.leaf) q retired one in omega (arith, more))
+          (let more = ap (λ rs. count_by (λ (r : Retired). r.leaf == q) rs) is ∙ more_at (λ (r : Retired). r.leaf) q retired one in omega (arith, more));
     }
 
 -- the leaf that is taken stands nowhere any more
 pub taken : (slots : List Slot) (starts : List LeafStart) (free new : List ℕ) (retired : List Retired) (leaf : ℕ) → IsKept slots starts free retired → free ≡ new ++ leaf ∷ [] → IsTaken (seen slots starts new retired) leaf
 taken slots starts free new retired leaf k is =
     let here : times leaf starts free retired ≡ times leaf starts new retired + 1 =
-        let more = ap (λ fs. count_by (λ f. f == leaf) fs) is ∙ more_at (λ f. f) leaf new leaf in
-        let one : ℕ → ℕ = λ n. n in
-        let self : (leaf == leaf) ≡ true = eq-eqb leaf leaf refl in
-        let value = ap (λ t. one (cond t 1 0)) self in
-        omega (arith, more, value) in
+    let more = ap (λ fs. count_by (λ f. f == leaf) fs) is ∙ more_at (λ f. f) leaf new leaf in
+    let one : ℕ → ℕ = λ n. n in
+    let self : (leaf == leaf) ≡ true = eq-eqb leaf leaf refl in
+    let value = ap (λ t. one (cond t 1 0)) self in
+    omega (arith, more, value) in
     record {
       exists = existing leaf (length slots) (omega (arith, here, k.once leaf));
-      unused = omega (arith, here, k.once leaf, at_most_one leaf (length slots), uses_times slots starts new retired leaf)
+      unused = omega (arith, here, k.once leaf, at_most_one leaf (length slots), uses_times slots starts new retired leaf);
     }
 
 pub fewer_free : (slots : List Slot) (starts : List LeafStart) (free new : List ℕ) (retired : List Retired) (o : Option ℕ) → IsKept slots starts free retired → free ≡ new ++ option_to_list o → IsKept slots starts new retired
 fewer_free slots starts free new retired o k is =
     record {
-      first = k.first; rising = k.rising; have = k.have; few = k.few;
-      once = λ q. let parts = ap (λ fs. count_by (λ f. f == q) fs) is ∙ count_append (λ f. f == q) new (option_to_list o) in omega (arith, parts, k.once q)
+      first = k.first;
+      rising = k.rising;
+      have = k.have;
+      few = k.few;
+      once = λ q. let parts = ap (λ fs. count_by (λ f. f == q) fs) is ∙ count_append (λ f. f == q) new (option_to_list o) in omega (arith, parts, k.once q);
     }
 
 pub takes_free : (slots : List Slot) (starts : List LeafStart) (free new : List ℕ) (retired : List Retired) (index : Index) (o : Option ℕ) → seen slots starts free retired ≡ index → IsKept slots starts free retired → free ≡ new ++ option_to_list o → (o ≡ None → new ≡ [])
@@ -151,8 +160,8 @@ count_range from (suc count) q =
     by_test (from == q) refl rest parts
   where
     by_test : (t : Bool) → (from == q) ≡ t → (count_by (λ n. n == q) (range_with_len (from + 1) count) ≤ worth (nat_lt q (from + 1 + count))) × (q < from + 1 → count_by (λ n. n == q) (range_with_len (from + 1) count) ≡ 0)
-      → count_by (λ n. n == q) (from ∷ range_with_len (from + 1) count) ≡ worth (from == q) + count_by (λ n. n == q) (range_with_len (from + 1) count)
-      → (count_by (λ n. n == q) (from ∷ range_with_len (from + 1) count) ≤ worth (nat_lt q (from + suc count))) × (q < from → count_by (λ n. n == q) (from ∷ range_with_len (from + 1) count) ≡ 0)
+        → count_by (λ n. n == q) (from ∷ range_with_len (from + 1) count) ≡ worth (from == q) + count_by (λ n. n == q) (range_with_len (from + 1) count)
+        → (count_by (λ n. n == q) (from ∷ range_with_len (from + 1) count) ≤ worth (nat_lt q (from + suc count))) × (q < from → count_by (λ n. n == q) (from ∷ range_with_len (from + 1) count) ≡ 0)
     by_test true t rest parts =
         let same = eqb-true from q t in
         let value = ap worth t in
@@ -172,12 +181,13 @@ kept_new leaves some few =
       rising = (tt, tt);
       have = (record { slot = whole_slot; there = first_there leaves some; ends = refl; cuts = record { count = refl; begin = refl; sorted = (refl, (refl, (refl, (refl, (refl, (refl, (refl, (refl, tt)))))))) } }, tt);
       once = λ q. subst (λ n. times q (record { low = first_key; leaf = 0 } ∷ []) (range_with_len 1 (leaves - 1)) [] ≤ worth (nat_lt q n)) (sym wide) (let le = once q (0 == q) refl in omega (arith, le));
-      few = omega (arith, wide, few)
+      few = omega (arith, wide, few);
     }
   where
     first_there : (n : ℕ) → 1 ≤ n → slice_get (replicate n whole_slot) 0 ≡ Some whole_slot
     first_there zero le = absurd (omega (arith, le))
     first_there (suc n) le = refl
+
     once : (q : ℕ) (t : Bool) → (0 == q) ≡ t → worth t + count_by (λ f. f == q) (range_with_len 1 (leaves - 1)) ≤ worth (nat_lt q leaves)
     once q true t = let same = eqb-true 0 q t in let none = (count_range 1 (leaves - 1) q).1 (omega (arith, same)) in omega (arith, none, one_below q leaves (omega (arith, same, some)))
     once q false t =
@@ -201,7 +211,7 @@ count_filter p q [] = omega arith
 count_filter p q (r ∷ rs) = by_test (p r) refl (count_filter p q rs)
   where
     by_test : (t : Bool) → p r ≡ t → count_by (λ n. n == q) (map (λ (s : Retired). s.leaf) (filter p rs)) + count_by (λ (s : Retired). s.leaf == q) (filter (λ s. not (p s)) rs) ≡ count_by (λ (s : Retired). s.leaf == q) rs
-      → count_by (λ n. n == q) (map (λ (s : Retired). s.leaf) (cond t (r ∷ filter p rs) (filter p rs))) + count_by (λ (s : Retired). s.leaf == q) (cond (not t) (r ∷ filter (λ s. not (p s)) rs) (filter (λ s. not (p s)) rs)) ≡ count_by (λ (s : Retired). s.leaf == q) (r ∷ rs)
+        → count_by (λ n. n == q) (map (λ (s : Retired). s.leaf) (cond t (r ∷ filter p rs) (filter p rs))) + count_by (λ (s : Retired). s.leaf == q) (cond (not t) (r ∷ filter (λ s. not (p s)) rs) (filter (λ s. not (p s)) rs)) ≡ count_by (λ (s : Retired). s.leaf == q) (r ∷ rs)
     by_test true t rest = let here = count_cons (λ n. n == q) r.leaf (map (λ (s : Retired). s.leaf) (filter p rs)) in let whole = count_cons (λ (s : Retired). s.leaf == q) r rs in omega (arith, here, whole, rest)
     by_test false t rest = let here = count_cons (λ (s : Retired). s.leaf == q) r (filter (λ s. not (p s)) rs) in let whole = count_cons (λ (s : Retired). s.leaf == q) r rs in omega (arith, here, whole, rest)
 
@@ -210,11 +220,14 @@ pub kept_freed : (slots : List Slot) (starts : List LeafStart) (free new_free : 
     → new_retired ≡ kept_of until (take upto retired) ++ drop upto retired → IsKept slots starts new_free new_retired
 kept_freed slots starts free new_free retired new_retired until upto k is_free is_retired =
     record {
-      first = k.first; rising = k.rising; have = k.have; few = k.few;
+      first = k.first;
+      rising = k.rising;
+      have = k.have;
+      few = k.few;
       once = λ q.
-        let frees = ap (λ fs. count_by (λ f. f == q) fs) is_free ∙ count_append (λ f. f == q) free (freed_of until (take upto retired)) in
-        let rest = ap (λ rs. count_by (λ (r : Retired). r.leaf == q) rs) is_retired ∙ count_append (λ (r : Retired). r.leaf == q) (kept_of until (take upto retired)) (drop upto retired) in
-        let parts = count_filter (λ r. nat_lt r.stamp until) q (take upto retired) in
-        let whole = ap (λ rs. count_by (λ (r : Retired). r.leaf == q) rs) (sym (take-append-drop upto retired)) ∙ count_append (λ (r : Retired). r.leaf == q) (take upto retired) (drop upto retired) in
-        omega (arith, frees, rest, parts, whole, k.once q)
+          let frees = ap (λ fs. count_by (λ f. f == q) fs) is_free ∙ count_append (λ f. f == q) free (freed_of until (take upto retired)) in
+          let rest = ap (λ rs. count_by (λ (r : Retired). r.leaf == q) rs) is_retired ∙ count_append (λ (r : Retired). r.leaf == q) (kept_of until (take upto retired)) (drop upto retired) in
+          let parts = count_filter (λ r. nat_lt r.stamp until) q (take upto retired) in
+          let whole = ap (λ rs. count_by (λ (r : Retired). r.leaf == q) rs) (sym (take-append-drop upto retired)) ∙ count_append (λ (r : Retired). r.leaf == q) (take upto retired) (drop upto retired) in
+          omega (arith, frees, rest, parts, whole, k.once q);
     }

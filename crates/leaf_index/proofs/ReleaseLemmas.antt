@@ -63,7 +63,7 @@ looked until upto place seen x due count is = by_place (nat_lt place upto) (nat_
         record {
           freed = ap (freed_of until) all ∙ freed_append until seen (x ∷ []) ∙ (λ i. freed_of until (sym all' i) ++ (one_freed until x t f ∙ ap (λ b. cond b (x.leaf ∷ []) []) (sym is)) i);
           kept = (λ i. kept_of until (all i) ++ none i) ∙ append_none (kept_of until (seen ++ x ∷ [])) ∙ filter-append (λ r. not (nat_lt r.stamp until)) seen (x ∷ [])
-            ∙ (λ i. (sym (append_none (kept_of until seen)) ∙ (λ j. kept_of until (sym all' j) ++ sym none' j)) i ++ (one_kept until x t f ∙ ap (λ b. cond b [] (x ∷ [])) (sym is)) i)
+              ∙ (λ i. (sym (append_none (kept_of until seen)) ∙ (λ j. kept_of until (sym all' j) ++ sym none' j)) i ++ (one_kept until x t f ∙ ap (λ b. cond b [] (x ∷ [])) (sym is)) i);
         }
     by_place false t e f is =
         let le : upto ≤ place = by_le e in
@@ -71,7 +71,7 @@ looked until upto place seen x due count is = by_place (nat_lt place upto) (nat_
         let back = drop-append-le upto seen (x ∷ []) (omega (arith, le, count)) in
         record {
           freed = ap (freed_of until) front ∙ sym (append_none (freed_of until (take upto seen))) ∙ ap (λ b. freed_of until (take upto seen) ++ cond b (x.leaf ∷ []) []) (sym is);
-          kept = (λ i. kept_of until (front i) ++ back i) ∙ sym (append_assoc (kept_of until (take upto seen)) (drop upto seen) (x ∷ [])) ∙ ap (λ b. kept_so until upto seen ++ cond b [] (x ∷ [])) (sym is)
+          kept = (λ i. kept_of until (front i) ++ back i) ∙ sym (append_assoc (kept_of until (take upto seen)) (drop upto seen) (x ∷ [])) ∙ ap (λ b. kept_so until upto seen ++ cond b [] (x ∷ [])) (sym is);
         }
       where
         by_le : nat_lt place upto ≡ false → upto ≤ place
@@ -86,6 +86,7 @@ item_left xs ys place x e there = from_drop ys place x (ap (λ zs. slice_get zs 
     to_drop [] (suc i) x e = cc
     to_drop (y ∷ ys) zero x e = e
     to_drop (y ∷ ys) (suc i) x e = to_drop ys i x e
+
     from_drop : {X : Type 0} (xs : List X) (i : ℕ) (x : X) → slice_get (drop i xs) 0 ≡ Some x → slice_get xs i ≡ Some x
     from_drop [] zero x e = e
     from_drop [] (suc i) x e = cc

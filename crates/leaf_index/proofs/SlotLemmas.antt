@@ -141,6 +141,7 @@ last_of (s ∷ r ∷ ss) leaf e =
         by_rest : (o : Option ℕ) → (o ≡ None → ⊥) → or_else o (Some r.leaf) ≡ None → ⊥
         by_rest None never e = never refl
         by_rest (Some x) never e = cc
+
     more : (o : Option ℕ) → (o ≡ None → ⊥) → or_else o (Some s.leaf) ≡ Some leaf → o ≡ Some leaf
     more None never e = absurd (never refl)
     more (Some x) never e = e
@@ -157,11 +158,13 @@ pub floor_before : (key : Key) (starts : List LeafStart) (found : Candidates) (l
 floor_before key starts found leaf b e =
     let l = last_of b.front leaf (sym b.before ∙ e) in
     record {
-      front = l.init; start = l.start; back = b.back;
+      front = l.init;
+      start = l.start;
+      back = b.back;
       is = b.is ∙ ap (λ xs. xs ++ b.back) l.is ∙ append_assoc l.init (l.start ∷ []) b.back;
       same = l.same;
       from = below_flip l.start.low key (all_back (λ s. is_below s.low key ≡ true) l.init (l.start ∷ []) (subst (StartBelow key) l.is b.below)).0;
-      above = b.above
+      above = b.above;
     }
 
 -- no key is below the first one
@@ -200,10 +203,11 @@ entries_above slots key (s ∷ back) h = (h.0, entries_above slots key back h.1)
 pub floor_entry : (slots : List Slot) (key : Key) (starts : List LeafStart) (entries : List Entry) (leaf : ℕ) → entries_of slots starts ≡ entries → (f : IsFloorStart key starts leaf) → IsFloor key entries (entry_of slots f.start)
 floor_entry slots key starts entries leaf view f =
     record {
-      front = entries_of slots f.front; back = entries_of slots f.back;
+      front = entries_of slots f.front;
+      back = entries_of slots f.back;
       is = sym view ∙ ap (entries_of slots) f.is ∙ entries_append slots f.front (f.start ∷ f.back);
       from = f.from;
-      above = entries_above slots key f.back f.above
+      above = entries_above slots key f.back f.above;
     }
 
 -- the cell of a segment of that leaf is the key's route
@@ -222,7 +226,7 @@ route_of slots key starts entries leaf segment now route view have f there seg c
       last = subst (λ ks. IsSegment ks key segment) (sym cuts) seg;
       cell = cell ∙ ap (λ n. 8 * n + segment) (sym f.same);
       low = ap (λ ks. slice_get ks segment) cuts ∙ low;
-      high = high ∙ ap (λ ks. unwrap_or (slice_get ks (segment + 1)) now.high) (sym cuts) ∙ ap (unwrap_or (slice_get (cuts_or_none (slice_get slots f.start.leaf)) (segment + 1))) ends
+      high = high ∙ ap (λ ks. unwrap_or (slice_get ks (segment + 1)) now.high) (sym cuts) ∙ ap (unwrap_or (slice_get (cuts_or_none (slice_get slots f.start.leaf)) (segment + 1))) ends;
     }
 
 -- ---- the leaf before a key
@@ -240,11 +244,13 @@ before_found key starts front rest None is below above e =
 before_found key starts front rest (Some leaf) is below above e =
     let l = last_of front leaf (sym e) in
     record {
-      front = l.init; start = l.start; back = rest;
+      front = l.init;
+      start = l.start;
+      back = rest;
       is = is ∙ ap (λ xs. xs ++ rest) l.is ∙ append_assoc l.init (l.start ∷ []) rest;
       same = l.same;
       below = (all_back (λ s. is_below s.low key ≡ true) l.init (l.start ∷ []) (subst (StartBelow key) l.is below)).0;
-      rest = above
+      rest = above;
     }
 
 pub before_none : (key : Key) (starts : List LeafStart) (found : Candidates) → Finds key starts found → found.at ≡ None → IsBeforeStart key starts found.before
@@ -269,7 +275,7 @@ range_of_slot slots s back leaf range h same r =
     record {
       leaf = r.same ∙ sym same;
       low = same_some (sym r.low ∙ low_read slots s leaf (begin_or back end_key) r.slot h same r.there);
-      high = r.high ∙ sym (ap (λ (x : Slot). x.high) slot) ∙ h.ends ∙ sym (end_begin slots back)
+      high = r.high ∙ sym (ap (λ (x : Slot). x.high) slot) ∙ h.ends ∙ sym (end_begin slots back);
     }
 
 pub floor_range : (slots : List Slot) (key : Key) (starts : List LeafStart) (entries : List Entry) (leaf : ℕ) (range : LeafRange) → entries_of slots starts ≡ entries → HaveSlots slots end_key starts → IsFloorStart key starts leaf → IsRange slots leaf range → IsLeafRange key entries range
@@ -289,10 +295,13 @@ pub before_range : (slots : List Slot) (key : Key) (starts : List LeafStart) (en
 before_range slots key starts entries leaf range view have b r =
     let h = slot_at slots end_key b.front b.start b.back (subst (HaveSlots slots end_key) b.is have) in
     record {
-      front = entries_of slots b.front; entry = entry_of slots b.start; back = entries_of slots b.back;
+      front = entries_of slots b.front;
+      entry = entry_of slots b.start;
+      back = entries_of slots b.back;
       is = sym view ∙ ap (entries_of slots) b.is ∙ entries_append slots b.front (b.start ∷ b.back);
-      below = b.below; rest = entries_not_above slots key b.back b.rest;
-      range_is = range_of_slot slots b.start b.back leaf range h b.same r
+      below = b.below;
+      rest = entries_not_above slots key b.back b.rest;
+      range_is = range_of_slot slots b.start b.back leaf range h b.same r;
     }
 
 pub floor_within : (slots : List Slot) (key : Key) (starts : List LeafStart) (leaf : ℕ) → HaveSlots slots end_key starts → IsFloorStart key starts leaf → leaf < length slots

@@ -13,7 +13,7 @@ new_index leaves = record {
   leaves = leaves;
   entries = record { low = first_key; leaf = 0; cuts = first_key ∷ end_key ∷ end_key ∷ end_key ∷ end_key ∷ end_key ∷ end_key ∷ end_key ∷ [] } ∷ [];
   free = range_with_len 1 (leaves - 1);
-  retired = []
+  retired = [];
 }
 
 -- an entry may be put behind the one whose range holds its key: none of that one's cuts is above the key, and its own go up to the end of that range
@@ -73,7 +73,7 @@ kept_of until retired = filter (λ r. not (nat_lt r.stamp until)) retired
 abbrev pub freed : ℕ → ℕ → Index → Index
 freed until upto index = record index {
   free = index.free ++ freed_of until (take upto index.retired);
-  retired = kept_of until (take upto index.retired) ++ drop upto index.retired
+  retired = kept_of until (take upto index.retired) ++ drop upto index.retired;
 }
 
 -- the range of an entry that stands before these

@@ -12,14 +12,13 @@ ghost use Rattle.leaf_index.specs.Index.{IsIndex, IsRoute, IsTaken};
 ghost use Rattle.leaf_index.specs.Slots.{HasSlot, HaveSlots, IsBeforeStart, IsFloorStart, IsRange, begin_or, whole_slot};
 ghost use Rattle.leaf_index.specs.Calls.{CanAdd, CanCut, CanDrop, IsLeafBefore, IsLeafRange, TakesFree, freed, freed_of, new_index, with_cuts, with_leaf, without_leaf};
 
+use crate::release::release;
+use crate::route::{LeafRange, Retired, Route};
+use crate::slot::{Slot, high_of, segment_of};
 use graph_model::{Key, NoMemory};
 use leaf_trie::{LeafStart, LeafTrie};
 use std::alloc::Global;
 use std::marker::Model;
-
-use crate::release::release;
-use crate::route::{LeafRange, Retired, Route};
-use crate::slot::{Slot, high_of, segment_of};
 
 /// The leaves of a store. Those that are live have ranges of keys that follow each other.
 #[derive(Drop)]
@@ -40,10 +39,10 @@ impl Model for LeafIndex {
     ghost use Rattle.leaf_index.specs.Slots.{IsKept, entries_of};
 
     ghost view = { λ i. record {
-        leaves = length i.slots.items;
-        entries = entries_of i.slots.items i.trie;
-        free = i.free.items;
-        retired = i.retired.items;
+      leaves = length i.slots.items;
+      entries = entries_of i.slots.items i.trie;
+      free = i.free.items;
+      retired = i.retired.items;
     } };
 
     ghost invariant = { λ i. IsKept i.slots.items i.trie i.free.items i.retired.items
@@ -169,7 +168,13 @@ impl LeafIndex {
     }
 
     /// Gives a taken leaf the range from the key to the end of the range that has it now.
-    pub fn add_leaf(&mut self, alloc: Global, low: Key, leaf: u32, cuts: [Key; 8]) -> Result<(), NoMemory>
+    pub fn add_leaf(
+        &mut self,
+        alloc: Global,
+        low: Key,
+        leaf: u32,
+        cuts: [Key; 8],
+    ) -> Result<(), NoMemory>
         requires taken { IsTaken self.old leaf }
         requires place { CanAdd low cuts self.old.entries }
         ensures ok { OnOk result ((can : CanAdd low cuts self.old.entries) → self.new.entries ≡ with_leaf low leaf cuts self.old.entries can) }
@@ -260,5 +265,52 @@ impl LeafIndex {
             low: slot.cuts[segment],
             high: high_of(slot, segment),
         }
+    }
+}
+
+#[cfg(test)]
+mod tests {
+    use super::*;
+    use std::test::Fail;
+
+    const FIRST: Key = Key { src: 0, second: 0 };
+
+    const MIDDLE: Key = Key {
+        src: 100,
+        second: 0,
+    };
+
+    #[test]
+    fn the_first_leaf_is_never_free(rt: HostRuntime) -> Result<(), Fail> {
+        let mut one = LeafIndex::new(rt.alloc(), 1)?;
+        assert_eq!(rt; one.take_free(), None, "of one leaf");
+        let mut two = LeafIndex::new(rt.alloc(), 2)?;
+        let taken = (two.take_free(), two.take_free());
+        assert_eq!(rt; taken, (Some(1), None), "of two leaves");
+        Ok(())
+    }
+
+    #[test]
+    fn a_key_is_routed_to_the_last_cut_that_is_not_above_it(rt: HostRuntime) -> Result<(), Fail> {
+        let mut index = LeafIndex::new(rt.alloc(), 2)?;
+        let end = Key::END;
+        index.set_separators(
+            FIRST,
+            [
+                FIRST, MIDDLE, MIDDLE, MIDDLE, MIDDLE, MIDDLE, MIDDLE, MIDDLE,
+            ],
+        );
+        if let Some(leaf) = index.take_free() {
+            index.add_leaf(
+                rt.alloc(),
+                MIDDLE,
+                leaf,
+                [MIDDLE, end, end, end, end, end, end, end],
+            )?;
+        }
+        for (key, cell) in [(Key { src: 99, second: 5 }, 0), (MIDDLE, 8)] {
+            assert_eq!(rt; index.route(key).cell, cell, "the cell of {key:?}");
+        }
+        Ok(())
     }
 }

@@ -96,10 +96,13 @@ over_child level last is_single bs child is depth low some here ends alone =
     let starts : all_starts bs ≡ child.starts = ap all_starts is ∙ append_none child.starts in
     record {
       inner = record {
-        level = level; is = refl; top = omega (arith, low); some = rw is (omega arith);
-        children = rw is (record { depth = depth; from = omega arith; some = some; here = subst (λ n. AllByRecursion (λ (s : LeafStart). digit n s.low ≡ child.byte) child.starts) depth here }, tt)
+        level = level;
+        is = refl;
+        top = omega (arith, low);
+        some = rw is (omega arith);
+        children = rw is (record { depth = depth; from = omega arith; some = some; here = subst (λ n. AllByRecursion (λ (s : LeafStart). digit n s.low ≡ child.byte) child.starts) depth here }, tt);
       };
       few = rw is (omega arith);
       summary = rw starts (record { ends = ends; alone = alone });
-      starts = starts
+      starts = starts;
     }

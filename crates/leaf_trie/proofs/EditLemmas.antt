@@ -35,7 +35,7 @@ puts_between start front old new back below above p =
       was = ap (λ ss. front ++ (ss ++ back)) p.was ∙ grouped front p.front p.back back;
       is = ap (λ ss. front ++ (ss ++ back)) p.is ∙ grouped front p.front (start ∷ p.back) back;
       below = all_append _ front p.front below p.below;
-      above = all_append _ p.back back p.above above
+      above = all_append _ p.back back p.above above;
     }
   where
     grouped : (a b c d : List LeafStart) → a ++ ((b ++ c) ++ d) ≡ (a ++ b) ++ (c ++ d)
@@ -73,6 +73,7 @@ rank_same bs cs byte i e r = record { within = omega (arith, r.within, same_leng
     below [] (c ∷ cs) (suc i) e h = cc
     below (b ∷ bs) [] (suc i) e h = tt
     below (b ∷ bs) (c ∷ cs) (suc i) e h = (let same : c.byte ≡ b.byte = cc in subst (λ n. n < byte) (sym same) h.0, below bs cs i (cc) h.1)
+
     from : (bs cs : List Branch) (i : ℕ) → bytes_of cs ≡ bytes_of bs → AllByRecursion (λ (b : Branch). byte ≤ b.byte) (drop i bs) → AllByRecursion (λ (b : Branch). byte ≤ b.byte) (drop i cs)
     from [] [] zero e h = tt
     from [] (c ∷ cs) zero e h = cc
@@ -94,12 +95,12 @@ puts_in_branch level byte place start bs b d h rank has same way p =
       depth = p.level ∙ k.0.depth;
       from = (let e : d.byte ≡ byte = p.byte ∙ has.same in omega (arith, e));
       some = (let n = puts_more start b.starts d.starts p.puts in omega (arith, n));
-      here = subst (λ n. AllByRecursion (λ (s : LeafStart). digit level s.low ≡ n) d.starts) (sym p.byte) digits
+      here = subst (λ n. AllByRecursion (λ (s : LeafStart). digit level s.low ≡ n) d.starts) (sym p.byte) digits;
     } in
     let rest : AreChildren level (d.byte + 1) (drop (suc place) bs) = subst (λ n. AreChildren level (n + 1) (drop (suc place) bs)) (sym p.byte) k.1 in
     record {
       children = rw parts (children_join level 0 byte (take place bs) (d ∷ drop (suc place) bs) (children_take level 0 place bs h) rank.below (omega arith) (child, rest));
-      puts = rw (parts, starts_append (take place bs) (d ∷ drop (suc place) bs), way.is) (puts_between start (all_starts (take place bs)) b.starts d.starts (all_starts (drop (suc place) bs)) way.below way.above p.puts)
+      puts = rw (parts, starts_append (take place bs) (d ∷ drop (suc place) bs), way.is) (puts_between start (all_starts (take place bs)) b.starts d.starts (all_starts (drop (suc place) bs)) way.below way.above p.puts);
     }
 
 -- a leaf put below a branch of its own
@@ -115,7 +116,7 @@ puts_branch level byte place start bs d h share rank no_branch same depth byte_i
     record {
       children = children_join level 0 byte (take place bs) (d ∷ drop place bs) (children_take level 0 place bs h) rank.below (omega arith) (child, subst (λ n. AreChildren level (n + 1) (drop place bs)) (sym e) behind);
       puts = rw (starts_append (take place bs) (d ∷ drop place bs), parts)
-        (puts_between start (all_starts (take place bs)) [] d.starts (all_starts (drop place bs)) (front_below level byte place start.low bs h share same rank) (back_above level byte start.low (drop place bs) behind heads same) lone)
+          (puts_between start (all_starts (take place bs)) [] d.starts (all_starts (drop place bs)) (front_below level byte place start.low bs h share same rank) (back_above level byte start.low (drop place bs) behind heads same) lone);
     }
 
 -- an inner node's leaves are those of its children
@@ -154,12 +155,12 @@ pub at_put : (b : Subtree) (byte level last : ℕ) (node : Node) (key : Key) →
     → IsNode level node → ShareHead b.level key b.starts → Lacks key b.starts → AtInner b node (level - 1)
 at_put b byte level last node key view is share absent =
     above_end b byte level last node view is (λ low end.
-      let ground_level : level ≡ 0 = subst (IsNode level) end is in
-      let at : b.level ≡ 0 = sym (ap (λ (s : Subtree). s.level) view) ∙ ground_level in
-      let only : b.starts ≡ record { low = low; leaf = last } ∷ [] = sym (ap (λ (s : Subtree). s.starts) view) ∙ ap (starts_of last) end in
-      let heads : head b.level low ≡ head b.level key = (subst (ShareHead b.level key) only share).0 in
-      let numbers : number low ≡ number key = sym (head_zero low) ∙ subst (λ n. head n low ≡ head n key) at heads ∙ head_zero key in
-      (subst (Lacks key) only absent).0 numbers)
+    let ground_level : level ≡ 0 = subst (IsNode level) end is in
+    let at : b.level ≡ 0 = sym (ap (λ (s : Subtree). s.level) view) ∙ ground_level in
+    let only : b.starts ≡ record { low = low; leaf = last } ∷ [] = sym (ap (λ (s : Subtree). s.starts) view) ∙ ap (starts_of last) end in
+    let heads : head b.level low ≡ head b.level key = (subst (ShareHead b.level key) only share).0 in
+    let numbers : number low ≡ number key = sym (head_zero low) ∙ subst (λ n. head n low ≡ head n key) at heads ∙ head_zero key in
+    (subst (Lacks key) only absent).0 numbers)
 
 pub lacks_in_branch : (level place : ℕ) (key : Key) (bs : List Branch) (b : Branch) → Descends level place key bs b → Lacks key (all_starts bs) → Lacks key b.starts
 lacks_in_branch level place key bs b way absent = all_front _ b.starts _ (all_back _ (all_starts (take place bs)) _ (subst (Lacks key) way.is absent))
@@ -190,4 +191,3 @@ pub wide_puts : (level place : ℕ) (start : LeafStart) (places : List ℕ) (old
 wide_puts level place start places old new true e h p = cc
 wide_puts level place start places old new false e h p =
     ((inner_again level old new h.0 (put_some level start old new p.0) p.0.children, record { wide = h.1.wide; ranks = λ byte lt. rank_same old new byte _ p.1 (h.1.ranks byte lt) }), p.0.puts)
-

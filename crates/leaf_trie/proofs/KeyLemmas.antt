@@ -22,6 +22,7 @@ below_parts s t u v small small' less = by_source (nat_cmp s u) refl
     by_other Less e same = refl
     by_other Equal e same = absurd (let tie = ranked t v Equal e in omega (arith, tie, less, same))
     by_other Greater e same = absurd (let over = ranked t v Greater e in omega (arith, over, less, same))
+
     by_source : (r : Ordering) → r ≡ nat_cmp s u → is_lt (ordering_then r (nat_cmp t v)) ≡ true
     by_source Less e = refl
     by_source Equal e = by_other (nat_cmp t v) refl (ranked s u Equal e)
@@ -60,11 +61,14 @@ pub finds : (key : Key) (starts : List LeafStart) (found : Candidates) → IsKey
 finds key starts found k all c =
     let parts = subst AreKeys c.is all in
     record {
-      front = c.front; middle = c.middle; back = c.back; is = c.is;
+      front = c.front;
+      middle = c.middle;
+      back = c.back;
+      is = c.is;
       below = begin_below key c.front k (all_front _ c.front _ parts) c.below;
       above = begin_above key c.back k (all_back _ _ c.back (all_back _ c.front _ parts)) c.above;
       at = c.at;
-      before = c.before ∙ or_none (last_leaf c.front)
+      before = c.before ∙ or_none (last_leaf c.front);
     }
 
 pub lacks : (key : Key) (starts : List LeafStart) → IsKey key → AreKeys starts → NoneBegins key starts → Lacks key starts
@@ -74,9 +78,12 @@ pub inserts : (start : LeafStart) (old new : List LeafStart) → IsKey start.low
 inserts start old new k all p =
     let parts = subst AreKeys p.was all in
     record {
-      front = p.front; back = p.back; was = p.was; is = p.is;
+      front = p.front;
+      back = p.back;
+      was = p.was;
+      is = p.is;
       below = begin_below start.low p.front k (all_front _ p.front _ parts) p.below;
-      above = begin_above start.low p.back k (all_back _ p.front _ parts) p.above
+      above = begin_above start.low p.back k (all_back _ p.front _ parts) p.above;
     }
 
 pub keys_put : (start : LeafStart) (old new : List LeafStart) → IsKey start.low → AreKeys old → Puts start old new → AreKeys new

@@ -48,12 +48,14 @@ branch_there level byte place key bs h share same rank there = decide (slice_get
         let heads = all_back _ (all_starts (take place bs)) _ (subst (ShareHead (level + 1) key) parts share) in
         let above = back_above level byte key (drop place bs) (gap level byte place bs h rank no_branch) heads same in
         elim (there_parts key (all_starts (take place bs)) (all_starts (drop place bs)) (subst (IsThere key) parts there)) [ inl k ↦ not_below key _ (front_below level byte place key bs h share same rank) k | inr k ↦ not_above key _ above k ]
+
     by_byte : (b : Branch) (found : Bool) → slice_get bs place ≡ Some b → eqb b.byte byte ≡ found → HasSomeBranch bs place byte
     by_byte b true e t = (b, record { there = e; same = eqb-true b.byte byte t })
     by_byte b false e t = absurd (missing (λ d e' is. let one : b ≡ d = same_some (sym e ∙ e') in let yes : eqb b.byte byte ≡ true = ap (λ (x : Branch). eqb x.byte byte) one ∙ eq-eqb d.byte byte is in cc))
       where
         same_some : {X : Type 0} {x y : X} → Some x ≡ Some y → x ≡ y
         same_some e = cc
+
     decide : (o : Option Branch) → slice_get bs place ≡ o → HasSomeBranch bs place byte
     decide None e = absurd (missing (λ d e' is. cc))
     decide (Some b) e = by_byte b (eqb b.byte byte) e refl
@@ -71,7 +73,7 @@ takes_between key front old new back t =
       back = t.back ++ back;
       was = ap (λ ss. front ++ (ss ++ back)) t.was ∙ grouped front t.front (t.taken ∷ t.back) back;
       is = ap (λ ss. front ++ (ss ++ back)) t.is ∙ grouped front t.front t.back back;
-      same = t.same
+      same = t.same;
     }
   where
     grouped : (a b c d : List LeafStart) → a ++ ((b ++ c) ++ d) ≡ (a ++ b) ++ (c ++ d)
@@ -117,12 +119,12 @@ takes_in_branch bs place level key b d a t some =
     let parts = set_at bs place b d a.has.there in
     record {
       children = λ m h.
-        let k = children_at m 0 place bs b h a.has.there in
-        let digits = all_takes (λ s. digit m s.low ≡ b.byte) key b.starts d.starts k.0.here t.takes in
-        let child : IsChild m b.byte d = record { depth = t.level ∙ k.0.depth; from = (let e = t.byte in omega (arith, e)); some = some; here = subst (λ n. AllByRecursion (λ (s : LeafStart). digit m s.low ≡ n) d.starts) (sym t.byte) digits } in
-        let rest : AreChildren m (d.byte + 1) (drop (suc place) bs) = subst (λ n. AreChildren m (n + 1) (drop (suc place) bs)) (sym t.byte) k.1 in
-        rw parts (children_join m 0 b.byte (take place bs) (d ∷ drop (suc place) bs) (children_take m 0 place bs h) (before_at m 0 place bs b h a.has.there) (omega arith) (child, rest));
-      takes = rw (parts, starts_append (take place bs) (d ∷ drop (suc place) bs), a.way.is) (takes_between key _ b.starts d.starts _ t.takes)
+          let k = children_at m 0 place bs b h a.has.there in
+          let digits = all_takes (λ s. digit m s.low ≡ b.byte) key b.starts d.starts k.0.here t.takes in
+          let child : IsChild m b.byte d = record { depth = t.level ∙ k.0.depth; from = (let e = t.byte in omega (arith, e)); some = some; here = subst (λ n. AllByRecursion (λ (s : LeafStart). digit m s.low ≡ n) d.starts) (sym t.byte) digits } in
+          let rest : AreChildren m (d.byte + 1) (drop (suc place) bs) = subst (λ n. AreChildren m (n + 1) (drop (suc place) bs)) (sym t.byte) k.1 in
+          rw parts (children_join m 0 b.byte (take place bs) (d ∷ drop (suc place) bs) (children_take m 0 place bs h) (before_at m 0 place bs b h a.has.there) (omega arith) (child, rest));
+      takes = rw (parts, starts_append (take place bs) (d ∷ drop (suc place) bs), a.way.is) (takes_between key _ b.starts d.starts _ t.takes);
     }
 
 -- the branch goes with its only leaf
@@ -130,9 +132,9 @@ pub takes_branch : (bs : List Branch) (place level : ℕ) (key : Key) (b : Branc
 takes_branch bs place level key b a one =
     record {
       children = λ m h.
-        let k = children_at m 0 place bs b h a.has.there in
-        children_join m 0 b.byte (take place bs) (drop (suc place) bs) (children_take m 0 place bs h) (before_at m 0 place bs b h a.has.there) (omega arith) (children_lower m b.byte (b.byte + 1) (drop (suc place) bs) (omega arith) k.1);
-      takes = rw (starts_append (take place bs) (drop (suc place) bs), a.way.is) (takes_only key _ _ b.starts one a.there)
+          let k = children_at m 0 place bs b h a.has.there in
+          children_join m 0 b.byte (take place bs) (drop (suc place) bs) (children_take m 0 place bs h) (before_at m 0 place bs b h a.has.there) (omega arith) (children_lower m b.byte (b.byte + 1) (drop (suc place) bs) (omega arith) k.1);
+      takes = rw (starts_append (take place bs) (drop (suc place) bs), a.way.is) (takes_only key _ _ b.starts one a.there);
     }
 
 pub place_within : (bs : List Branch) (place : ℕ) (key : Key) → CanTake bs place key → place < length bs

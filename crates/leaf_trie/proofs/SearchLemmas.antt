@@ -34,7 +34,7 @@ pub last_at : (bs : List Branch) (place i leaf : ℕ) (b : Branch) (earlier : Op
 last_at bs place i leaf b earlier e there last =
     let next : place ≡ suc i = omega (arith, e) in
     let parts : all_starts (take place bs) ≡ all_starts (take i bs) ++ b.starts =
-        ap (λ n. all_starts (take n bs)) next ∙ ap all_starts (take_at bs i b there) ∙ starts_append (take i bs) (b ∷ []) ∙ ap (λ ss. all_starts (take i bs) ++ ss) (append_none b.starts) in
+    ap (λ n. all_starts (take n bs)) next ∙ ap all_starts (take_at bs i b there) ∙ starts_append (take i bs) (b ∷ []) ∙ ap (λ ss. all_starts (take i bs) ++ ss) (append_none b.starts) in
     sym (ap (λ ss. or_else (last_leaf ss) earlier) parts ∙ ap (λ o. or_else o earlier) (last_append (all_starts (take i bs)) b.starts ∙ ap (λ o. or_else o (last_leaf (all_starts (take i bs)))) last))
 
 -- one leaf alone is the only candidate
@@ -62,7 +62,7 @@ above_end b byte level last (Few bs) view is inner =
       low = omega (arith, is.0.is, is.0.top);
       inner = subst (λ n. IsNode n (Few bs)) up is;
       starts = sym (ap (λ (s : Subtree). s.starts) view);
-      children = subst (λ n. AreChildren n 0 bs.items) same is.0.children
+      children = subst (λ n. AreChildren n 0 bs.items) same is.0.children;
     }
 above_end b byte level last (Many w) view is inner =
     let up : level ≡ level - 1 + 1 = omega (arith, is.0.is) in
@@ -72,15 +72,15 @@ above_end b byte level last (Many w) view is inner =
       low = omega (arith, is.0.is, is.0.top);
       inner = subst (λ n. IsNode n (Many w)) up is;
       starts = sym (ap (λ (s : Subtree). s.starts) view);
-      children = subst (λ n. AreChildren n 0 w.value.branches.items) same is.0.children
+      children = subst (λ n. AreChildren n 0 w.value.branches.items) same is.0.children;
     }
 
 pub at_inner : (b : Subtree) (byte level last : ℕ) (is_single : Bool) (node : Node) → (let s : Subtree = record { byte = byte; level = level; starts = starts_of last node } in s ≡ b)
     → IsNode level node → IsSummary (starts_of last node) last is_single → is_single ≡ false → AtInner b node (level - 1)
 at_inner b byte level last is_single node view is sum more =
     above_end b byte level last node view is (λ low end.
-      let one : IsSummary (starts_of last (End low)) last is_single = subst (λ n. IsSummary (starts_of last n) last is_single) end sum in
-      let e = sym one.alone ∙ more in cc e)
+    let one : IsSummary (starts_of last (End low)) last is_single = subst (λ n. IsSummary (starts_of last n) last is_single) end sum in
+    let e = sym one.alone ∙ more in cc e)
 
 -- below a place lie leaves below the key
 pub front_below : (level byte place : ℕ) (key : Key) (bs : List Branch) → AreChildren level 0 bs → ShareHead (level + 1) key (all_starts bs) → byte ≡ digit level key → IsRank bs byte place → AreBelow key (all_starts (take place bs))
@@ -115,7 +115,7 @@ descends level byte place key bs b h share same rank has =
       below = front_below level byte place key bs h share same rank;
       above = back_above level byte key (drop (suc place) bs) (subst (λ m. AreChildren level (m + 1) (drop (suc place) bs)) has.same k.1) (all_back _ b.starts _ back) same;
       share = all_map _ _ (λ s p. digit_same (level + 1) level s.low key refl p.0 (p.1 ∙ has.same ∙ same)) b.starts (all_both _ _ b.starts (all_front _ b.starts _ back) k.0.here);
-      depth = k.0.depth
+      depth = k.0.depth;
     }
 
 -- what the search below the branch finds is what the search finds
@@ -132,7 +132,7 @@ found_below level place key bs b earlier before found d last c =
       below = all_append _ front c.front d.below c.below;
       above = all_append _ c.back back c.above d.above;
       at = c.at;
-      before = c.before ∙ ap (or_else (last_leaf c.front)) last ∙ sym (or_else_assoc (last_leaf c.front) (last_leaf front) earlier) ∙ ap (λ o. or_else o earlier) (sym (last_append front c.front))
+      before = c.before ∙ ap (or_else (last_leaf c.front)) last ∙ sym (or_else_assoc (last_leaf c.front) (last_leaf front) earlier) ∙ ap (λ o. or_else o earlier) (sym (last_append front c.front));
     }
   where
     regroup : (a b c d e : List LeafStart) → a ++ ((b ++ (c ++ d)) ++ e) ≡ (a ++ b) ++ (c ++ (d ++ e))
@@ -166,7 +166,7 @@ found_none level byte place key bs earlier before h share same rank no_branch la
       below = front_below level byte place key bs h share same rank;
       above = back_above level byte key (drop place bs) (gap level byte place bs h rank no_branch) heads same;
       at = refl;
-      before = last
+      before = last;
     }
 
 -- the same of a list of its branches, for a key that shares what was read above
@@ -183,7 +183,7 @@ at_branches b node level key bs a share is =
       above = a.above;
       starts = starts;
       children = rw is a.children;
-      share = subst (λ n. ShareHead n key (all_starts bs)) a.above (subst (ShareHead b.level key) starts share)
+      share = subst (λ n. ShareHead n key (all_starts bs)) a.above (subst (ShareHead b.level key) starts share);
     }
 
 -- the last leaf of all is that of the last branch

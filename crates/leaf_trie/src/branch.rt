@@ -11,13 +11,12 @@ ghost use Rattle.leaf_trie.specs.Path.{number, digit};
 ghost use Rattle.leaf_trie.specs.Starts.{or_else, last_leaf, AreCandidates, IsThere, Lacks, ShareHead, Takes};
 ghost use Rattle.leaf_trie.specs.Nodes.{IsNode, IsRank, HasRanks, HasBranch, HasSomeBranch, HasNoBranch, AreChildren, CanTake, HasRoom, TakesAmong, TakesOrIsAlone, PutsAmong, PutsInNode, PutsOrKeeps, all_starts, children_of};
 
+use crate::path::byte_of;
+use crate::start::{Candidates, LeafStart};
 use graph_model::Key;
 use std::alloc::{AllocError, Global};
 use std::marker::Model;
 use std::mem;
-
-use crate::path::byte_of;
-use crate::start::{Candidates, LeafStart};
 
 /// A subtree, with the byte that leads to it.
 #[cycle(trie)]
@@ -95,24 +94,28 @@ impl Branch {
         self.is_single
     }
 
-    /// The leaves whose ranges may hold the key, below this node or else `earlier`.
-    pub fn search(&self, key: Key, earlier: Option<u32>) -> Candidates
+    /// The leaves whose ranges may hold the key.
+    pub fn search(&self, key: Key) -> Candidates
         requires { ShareHead self.now.level key self.now.starts }
-        ensures { AreCandidates key earlier self.now.starts result }
+        ensures { AreCandidates key None self.now.starts result }
     {
-        if self.is_single {
-            return Candidates {
-                at: Some(self.last),
-                before: earlier,
-            };
-        }
-        let byte = byte_of(key, self.level - 1);
-        let branches = self.node.branches();
-        let place = self.node.rank(byte);
-        let before = last_before(branches, place, earlier);
-        match branch_at(branches, place, byte) {
-            Some(branch) => branch.search(key, before),
-            None => Candidates { at: None, before },
+        let mut branch = self;
+        let mut before = None;
+        'down: loop {
+            if branch.is_single {
+                return Candidates {
+                    at: Some(branch.last),
+                    before,
+                };
+            }
+            let byte = byte_of(key, branch.level - 1);
+            let branches = branch.node.branches();
+            let place = branch.node.rank(byte);
+            before = last_before(branches, place, before);
+            match branch_at(branches, place, byte) {
+                Some(child) => branch = child,
+                None => return Candidates { at: None, before },
+            }
         }
     }
 }
@@ -170,7 +173,13 @@ impl Node {
 
     /// The same, where the rank of its byte is known and there is room for one more child.
     #[cycle(insertion)]
-    fn put_at(&mut self, alloc: Global, level: u8, place: usize, start: LeafStart) -> Result<(), AllocError>
+    fn put_at(
+        &mut self,
+        alloc: Global,
+        level: u8,
+        place: usize,
+        start: LeafStart,
+    ) -> Result<(), AllocError>
         requires low { level < 16 }
         requires node { IsNode (level + 1) self.old }
         requires rank { IsRank (children_of self.old) (digit level start.low) place }
@@ -311,10 +320,28 @@ fn branch_at(branches: &[Branch], place: usize, byte: u8) -> Option<&Branch>
     }
 }
 
+#[cfg(test)]
+impl Branch {
+    /// How many places the node has, and how many children.
+    pub fn shape(&self) -> (usize, usize) {
+        match &self.node {
+            Node::End(_) => (0, 0),
+            Node::Few(branches) => (0, branches.len()),
+            Node::Many(wide) => (wide.places.len(), wide.branches.len()),
+        }
+    }
+}
+
 /// Puts a leaf below the branch of its byte, or below one of its own where there is none, and answers which: true is a
 /// branch of its own.
 #[cycle(insertion)]
-fn put_among(branches: &mut Vec<Branch>, alloc: Global, level: u8, place: usize, start: LeafStart) -> Result<bool, AllocError>
+fn put_among(
+    branches: &mut Vec<Branch>,
+    alloc: Global,
+    level: u8,
+    place: usize,
+    start: LeafStart,
+) -> Result<bool, AllocError>
     requires low { level < 16 }
     requires children { AreChildren level 0 branches.old.items }
     requires rank { IsRank branches.old.items (digit level start.low) place }

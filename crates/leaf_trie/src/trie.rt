@@ -1,14 +1,13 @@
 //! All leaves of a store.
 
-ghost use Rattle.std.specs.Prelude.{◌≡◌, ◌<◌, ◌≤◌, [], ◌∷◌, ◌++◌, IfOk, OnOk, OnErr, length};
+ghost use Rattle.std.specs.Prelude.{◌≡◌, ◌*◌, ◌-◌, ◌≤◌, [], ◌∷◌, IfOk, OnOk, OnErr, length};
 ghost use Rattle.leaf_trie.specs.Leaves.{AreKeys, Finds, Inserts, NoneBegins, OneBegins, Removes};
-
-use graph_model::{Key, NoMemory};
-use std::alloc::Global;
-use std::marker::Model;
 
 use crate::branch::{Branch, whole};
 use crate::start::{Candidates, LeafStart};
+use graph_model::{Key, NoMemory};
+use std::alloc::Global;
+use std::marker::Model;
 
 /// Leaves by their least keys, of which no two are equal. There is always one leaf.
 #[derive(Drop)]
@@ -55,7 +54,7 @@ impl LeafTrie {
     fn search_at(&self, src: u64, second: u64) -> Candidates
         ensures { Finds (record { src = src; second = second }) self.now result }
     {
-        self.root.search(Key { src, second }, None)
+        self.root.search(Key { src, second })
     }
 
     /// Puts a leaf at its place.
@@ -94,5 +93,72 @@ impl LeafTrie {
         if self.root.remove(Key { src, second }) {
             unreachable!();
         }
+    }
+}
+
+#[cfg(test)]
+mod tests {
+    use super::*;
+    use std::test::Fail;
+
+    /// The least key with this first byte.
+    const STEP: u64 = 72057594037927936;
+
+    /// A leaf for each first byte below the given one.
+    fn filled(alloc: Global, bytes: u32) -> Result<LeafTrie, NoMemory>
+        requires some { 2 ≤ bytes }
+        requires few { bytes ≤ 100 }
+        ensures last { IfOk result (λ t. OneBegins (record { src = STEP * (bytes - 1); second = 0 }) t) }
+        ensures more { IfOk result (λ t. 2 ≤ length t) }
+    {
+        let low = Key { src: 0, second: 0 };
+        let mut trie = LeafTrie::new(alloc, LeafStart { low, leaf: 0 })?;
+        'fill: for byte in 1..bytes {
+            let src = STEP * u64::from(byte);
+            trie.insert(
+                alloc,
+                LeafStart {
+                    low: Key { src, second: 0 },
+                    leaf: byte,
+                },
+            )?;
+        }
+        Ok(trie)
+    }
+
+    #[test]
+    fn a_node_has_256_places_from_17_children_on(rt: HostRuntime) -> Result<(), Fail> {
+        for (bytes, want) in [(16, (0, 16)), (17, (256, 17))] {
+            let trie = filled(rt.alloc(), bytes)?;
+            assert_eq!(rt; trie.root.shape(), want, "{bytes} children");
+            let last = Key {
+                src: STEP * u64::from(bytes) - 1,
+                second: 0,
+            };
+            assert_eq!(rt;
+                trie.search(last).at,
+                Some(bytes - 1),
+                "the last of {bytes} leaves"
+            );
+        }
+        Ok(())
+    }
+
+    #[test]
+    fn a_node_that_falls_back_to_16_children_keeps_its_places(rt: HostRuntime) -> Result<(), Fail> {
+        let mut trie = filled(rt.alloc(), 17)?;
+        let last = Key {
+            src: STEP * 16,
+            second: 0,
+        };
+        trie.remove(last);
+        assert_eq!(rt; trie.root.shape(), (256, 16), "after the removal");
+        let found = trie.search(last);
+        assert_eq!(rt;
+            (found.at, found.before),
+            (None, Some(15)),
+            "the removed leaf"
+        );
+        Ok(())
     }
 }

@@ -9,5 +9,5 @@ fill-preserved c =
     let next : c.fill.leaf ≡ 1 + (c.fill.leaf - 1) = omega (arith, c.fill.auto) in
     record {
       items = c.in_ok-push.ensures.items ∙ ap (λ ns. ns ++ c.fill.leaf ∷ []) c.fill.invariant.items ∙ sym (range_more 1 (c.fill.leaf - 1) c.fill.leaf next) ∙ ap (range_with_len 1) up;
-      room = omega (arith, c.fill.invariant.room, c.in_ok-push.ensures.capacity)
+      room = omega (arith, c.fill.invariant.room, c.in_ok-push.ensures.capacity);
     }

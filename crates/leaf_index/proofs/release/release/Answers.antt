@@ -35,7 +35,7 @@ retired-preserved c =
             small = omega (arith, w.count-is, k.small);
             same_length = rw w.retired-is k.same_length;
             free_capacity = rw w.free-is (omega (arith, k.free_capacity, w.in-Ok.ensures.capacity));
-            retired_capacity = rw w.retired-is k.retired_capacity
+            retired_capacity = rw w.retired-is k.retired_capacity;
           }
       | else-is_due w ↦
           let step = looked c.args.until c.args.upto place (take place olds) c.index-one.result.now false count (sym w.if-is_due.false ∙ c.is_due.ensures) in
@@ -50,6 +50,6 @@ retired-preserved c =
             small = omega (arith, w.count-is, k.small);
             same_length = rw w.retired-is (length-set rs c.retired.kept c.index-one.result.now ∙ k.same_length);
             free_capacity = rw w.free-is k.free_capacity;
-            retired_capacity = rw w.retired-is k.retired_capacity
+            retired_capacity = rw w.retired-is k.retired_capacity;
           }
     ]

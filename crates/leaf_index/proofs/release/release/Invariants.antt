@@ -13,5 +13,5 @@ invariant-retired l = record {
   small : l.count ≤ l.place;
   same_length : length l.retired.items ≡ length l.fn.retired.items;
   free_capacity : vec_capacity l.fn.free ≤ vec_capacity l.free;
-  retired_capacity : vec_capacity l.fn.retired ≤ vec_capacity l.retired
+  retired_capacity : vec_capacity l.fn.retired ≤ vec_capacity l.retired;
 }

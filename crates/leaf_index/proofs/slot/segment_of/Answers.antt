@@ -7,7 +7,7 @@ down-preserved c =
     let lt : c.down.segment < length c.args.cuts.now = omega (arith, c.told-cuts, c.down.invariant.within) in
     record {
       within = omega (arith, c.down.invariant.within);
-      later = later_more c.args.cuts.now c.args.key c.down.segment _ (read_there c.args.cuts.now c.down.segment _ lt) (sym c.if-is_below.ensures) c.down.invariant.later
+      later = later_more c.args.cuts.now c.args.key c.down.segment _ (read_there c.args.cuts.now c.down.segment _ lt) (sym c.if-is_below.ensures) c.down.invariant.later;
     }
 
 pub returns-else-is_below : goal.returns-else-is_below
@@ -18,5 +18,5 @@ returns-else-is_below c =
       cut = _;
       there = read_there c.args.cuts.now c.down.segment _ lt;
       from = sym c.if-is_below.ensures;
-      later = c.down.invariant.later
+      later = c.down.invariant.later;
     }

@@ -7,7 +7,7 @@ use Rattle.leaf_index.proofs.slot.segment_of.Given as goal
 abbrev pub invariant-down : goal.invariant-down
 invariant-down l = record {
   within : l.segment < 8;
-  later : (s : ℕ) (k : Key) → l.segment < s → slice_get l.cuts s ≡ Some k → is_below l.key k ≡ true
+  later : (s : ℕ) (k : Key) → l.segment < s → slice_get l.cuts s ≡ Some k → is_below l.key k ≡ true;
 }
 
 abbrev pub decreases-down : goal.decreases-down

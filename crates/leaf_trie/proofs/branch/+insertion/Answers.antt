@@ -51,9 +51,10 @@ Branch::insert-invariant_of-self-2 t c =
     let same : c.self.inside.level ≡ c.args.self.now.level = ap (λ (s : Subtree). s.level) c.self.view_is in
     let up : c.self.inside.level - 1 + 1 ≡ c.self.inside.level = omega (arith, a.above, same) in
     let some : last_leaf (all_starts (children_of c.self.inside.node)) ≡ Some c.self.inside.last = ap last_leaf (sym (starts_inner c.self.inside.last _ c.self.inside.node a.inner)) ∙ c.self.invariant.1.ends in
-    let ends : last_leaf (all_starts (children_of c.put.new.self)) ≡ Some c.last_of-self-inside.result = ap (λ bs. last_leaf (all_starts bs)) (sym c.branches.ensures) ∙ c.last_of-self-inside.ensures in
-    (subst (λ n. IsNode n c.put.new.self) up c.in_ok-put.ensures.0,
-    rw (starts_inner c.last_of-self-inside.result _ c.put.new.self c.in_ok-put.ensures.0) (put_summary _ c.args.start _ _ c.self.inside.last some c.in_ok-put.ensures.1 ends))
+    let ends : last_leaf (all_starts (children_of c.put.new.self)) ≡ Some c.last_of-self-inside.result = ap (λ bs. last_leaf (all_starts bs)) (sym c.branches.ensures) ∙ c.last_of-self-inside.ensures in (
+      subst (λ n. IsNode n c.put.new.self) up c.in_ok-put.ensures.0,
+      rw (starts_inner c.last_of-self-inside.result _ c.put.new.self c.in_ok-put.ensures.0) (put_summary _ c.args.start _ _ c.self.inside.last some c.in_ok-put.ensures.1 ends),
+    )
 
 pub Branch::insert-returns : goal.Branch::insert-returns
 Branch::insert-returns t c =
@@ -61,7 +62,7 @@ Branch::insert-returns t c =
     record {
       byte = ap (λ (s : Subtree). s.byte) c.self.view_is;
       level = ap (λ (s : Subtree). s.level) c.self.view_is;
-      puts = rw (a.starts, starts_inner c.last_of-self-inside.result _ c.put.new.self c.in_ok-put.ensures.0) c.in_ok-put.ensures.1
+      puts = rw (a.starts, starts_inner c.last_of-self-inside.result _ c.put.new.self c.in_ok-put.ensures.0) c.in_ok-put.ensures.1;
     }
 
 pub Node::put-returns-in_err-make_room : goal.Node::put-returns-in_err-make_room
@@ -103,14 +104,14 @@ pub Node::put_at-returns-in_ok-put_among-in-Few : goal.Node::put_at-returns-in_o
 Node::put_at-returns-in_ok-put_among-in-Few t c =
     rw c.in-Few.is
     (few_puts c.args.level c.args.place c.args.start c.in-Few.branches.items c.put_among.new.branches.items c.in_ok-put_among-in-Few.field-0 (subst (IsNode (c.args.level + 1)) c.in-Few.is c.requires.node)
-      (subst (HasRoom c.args.place (digit c.args.level c.args.start.low)) c.in-Few.is c.requires.room) c.in_ok-put_among-in-Few.ensures)
+    (subst (HasRoom c.args.place (digit c.args.level c.args.start.low)) c.in-Few.is c.requires.room) c.in_ok-put_among-in-Few.ensures)
 
 pub Node::put_at-returns-else-branch : goal.Node::put_at-returns-else-branch
 Node::put_at-returns-else-branch t c =
     let e : c.deref_mut.result.now ≡ c.in-Many.wide.value = c.deref_mut.ensures.value in
     rw (c.in-Many.is, ← e)
     (wide_puts c.args.level c.args.place c.args.start c.deref_mut.result.now.places c.deref_mut.result.now.branches.items c.put_among-in-Many.new.branches.items c.in_ok-put_among-in-Many.field-0 c.if-branch.false
-      (rw e (subst (IsNode (c.args.level + 1)) c.in-Many.is c.requires.node)) c.in_ok-put_among-in-Many.ensures)
+    (rw e (subst (IsNode (c.args.level + 1)) c.in-Many.is c.requires.node)) c.in_ok-put_among-in-Many.ensures)
 
 pub put_among-insert-requires : goal.put_among-insert-requires
 put_among-insert-requires t c =
@@ -138,8 +139,8 @@ pub put_among-returns-in_ok-insert-2 : goal.put_among-returns-in_ok-insert-2
 put_among-returns-in_ok-insert-2 t c =
     let bs = c.args.branches.now.items in
     let is : c.insert-else-has_byte.new.self.items ≡ insert bs c.args.place c.in_ok-branch.branch =
-        c.in_ok-insert-2.ensures.items ∙ ap (λ xs. insert xs c.args.place c.in_ok-branch.branch) c.in_ok-reserve_exact.ensures.items in
+    c.in_ok-insert-2.ensures.items ∙ ap (λ xs. insert xs c.args.place c.in_ok-branch.branch) c.in_ok-reserve_exact.ensures.items in
     let rank = subst (λ n. IsRank bs n c.args.place) (sym c.byte_of.ensures) c.requires.rank in
     let p = puts_branch c.args.level c.byte_of.result c.args.place c.args.start bs c.in_ok-branch.branch c.requires.children c.requires.share rank c.if-has_byte.ensures c.byte_of.ensures
-        c.in_ok-branch.ensures.level c.in_ok-branch.ensures.byte c.in_ok-branch.ensures.starts in
+    c.in_ok-branch.ensures.level c.in_ok-branch.ensures.byte c.in_ok-branch.ensures.starts in
     (rw is p, subst (λ n. HasNoBranch bs c.args.place n) c.byte_of.ensures c.if-has_byte.ensures, rw is (length-insert bs c.args.place c.in_ok-branch.branch rank.within))

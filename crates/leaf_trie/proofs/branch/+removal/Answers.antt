@@ -19,7 +19,7 @@ Node::remove-remove_among-requires t c =
       children = inner_children c.args.level (Few c.in-Few.branches) (subst (IsNode (c.args.level + 1)) c.in-Few.is c.requires.node);
       rank = subst (λ n. IsRank (children_of n) (digit c.args.level c.args.low) c.rank-place.result) c.in-Few.is rank;
       share = subst (λ n. ShareHead (c.args.level + 1) c.args.low (all_starts (children_of n))) c.in-Few.is c.requires.share;
-      there = subst (λ n. IsThere c.args.low (all_starts (children_of n))) c.in-Few.is c.requires.there
+      there = subst (λ n. IsThere c.args.low (all_starts (children_of n))) c.in-Few.is c.requires.there;
     } in
     let depth = depth_there bs c.rank-place.result c.args.low can in
     search (rules, depth, can)

@@ -6,5 +6,5 @@ abbrev pub invariant-up : goal.invariant-up
 invariant-up l = record {
   level : l.top.level ≡ l.below;
   byte : l.top.byte ≡ digit l.below l.start.low;
-  starts : l.top.starts ≡ l.start ∷ []
+  starts : l.top.starts ≡ l.start ∷ [];
 }

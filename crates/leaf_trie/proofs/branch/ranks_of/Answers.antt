@@ -18,5 +18,5 @@ bytes-preserved c =
       within = rank.within;
       below = below_next _ _ rank.below;
       wide = length-set c.bytes.places c.bytes.byte c.rank_from-rank.result ∙ c.bytes.invariant.wide;
-      ranks = ranks_more bs c.bytes.places c.bytes.byte c.rank_from-rank.result lt c.bytes.invariant.ranks rank
+      ranks = ranks_more bs c.bytes.places c.bytes.byte c.rank_from-rank.result lt c.bytes.invariant.ranks rank;
     }

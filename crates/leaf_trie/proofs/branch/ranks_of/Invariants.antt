@@ -9,5 +9,5 @@ invariant-bytes l = record {
   within : l.rank ≤ length l.branches.items;
   below : AllByRecursion (λ (b : Branch). b.byte < l.byte) (take l.rank l.branches.items);
   wide : length l.places ≡ 256;
-  ranks : (byte : ℕ) → byte < l.byte → IsRank l.branches.items byte (get_or l.places byte 0)
+  ranks : (byte : ℕ) → byte < l.byte → IsRank l.branches.items byte (get_or l.places byte 0);
 }
