@@ -1,12 +1,13 @@
 -- One row of a segment changes, as contracts see it.
 use Rattle.std.proofs.Common.{◌≡◌, ℕ, zero, suc, ◌+◌, ◌<◌, ◌≤◌, List, [], ◌∷◌, length, get_or, arith, refl, sym, ◌∙◌, ap, subst, Some, None}
-use Rattle.std.specs.Prelude.{Bool, true, false, not, min, cond, is_some, insert, slice_get, Option, IsSomeAnd}
+use Rattle.std.specs.Prelude.{Bool, true, false, not, min, cond, is_some, insert, slice_get, Option, IsSomeAnd, ◌==◌}
 use Rattle.std.specs.Ordering.{eq_by_cmp}
 use Rattle.std.proofs.lemmas.List.{length-map}
 use Rattle.std.specs.FinMap.Entries.{find, where_key}
 use Rattle.graph_model.specs.declared.row.Key.{Key}
 use Rattle.graph_model.specs.declared.row.Row.{Row}
 use Rattle.graph_model.specs.Rows.{key_cmp, is_between}
+use Rattle.graph_model.proofs.TestLemmas.{eq_of}
 use Rattle.store_model.specs.Stamped.{StampedVersions}
 use Rattle.gap_segment.specs.Fenced.{FencedRows, IsGapFor}
 use Rattle.undo_chain.specs.Chains.{ChainMap, list_at, IsHeadOf, ChangesOneList}
@@ -189,3 +190,15 @@ no_rows rows heads c e = go rows.rows (sym (row_count rows heads c) ∙ ap lengt
     go : (rs : List Row) → length rs ≡ 0 → rs ≡ []
     go [] f = refl
     go (r ∷ rs) f = absurd (omega arith)
+
+-- where no row is changed, no list counts
+pub settled_rows : (heads heads' : List ChangedRow) (c c' : ChainMap) (rows : List Row) → heads ≡ [] → heads' ≡ [] → versioned c' heads' rows ≡ versioned c heads rows
+settled_rows heads heads' c c' rows e f = ap (λ hs. versioned c' hs rows) f ∙ go rows ∙ sym (ap (λ hs. versioned c hs rows) e)
+  where
+    go : (rs : List Row) → versioned c' [] rs ≡ versioned c [] rs
+    go [] = refl
+    go (r ∷ rs) = ap (λ es. (r.key, versions_in c settled_heads r.weight) ∷ es) (go rs)
+
+pub none_changed : (heads : List ChangedRow) → (length heads == 0) ≡ true → heads ≡ []
+none_changed [] e = refl
+none_changed (h ∷ hs) e = let none : length (h ∷ hs) ≡ 0 = eq_of (length (h ∷ hs)) 0 e in absurd (omega (arith, none))

@@ -3,7 +3,7 @@
 //! 1. Keys strictly rise.
 //! 2. A row that isn't named here is settled: it has its value, and no records.
 
-ghost use Rattle.std.specs.Prelude.{◌≡◌, ◌⊎◌, ◌+◌, ◌<◌, ◌≤◌, true, [], length, insert, cond, OnOk, IsOk};
+ghost use Rattle.std.specs.Prelude.{◌≡◌, ◌==◌, ◌⊎◌, ◌+◌, ◌<◌, ◌≤◌, true, [], length, insert, cond, OnOk, IsOk};
 ghost use Rattle.std.specs.Vec.{vec_capacity};
 ghost use Rattle.std.specs.Ordering.{eq_by_cmp};
 ghost use Rattle.graph_model.specs.declared.row.Key.{Key};
@@ -75,6 +75,13 @@ impl HeadMap {
         HeadMap {
             rows: Vec::new(alloc),
         }
+    }
+
+    /// Whether all rows are settled.
+    pub(crate) fn is_empty(&self) -> bool
+        ensures { result ≡ (length self.now.entries == 0) }
+    {
+        self.rows.is_empty()
     }
 
     /// Makes room for so many more rows. Takes no memory where there is room already.

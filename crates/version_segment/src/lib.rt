@@ -15,8 +15,6 @@ mod moves;
 mod segment;
 
 pub use buffer::Rows32;
-pub use found::FoundRow;
-pub use heads::{ChangedRow, Heads};
 pub use laws::{
     changes_are_by_key, changes_are_of_versions, checks_are_by_names, segments_are_cells,
 };

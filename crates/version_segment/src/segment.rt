@@ -243,6 +243,16 @@ impl VersionSegment {
         }
     }
 
+    /// Gives the memory of spare records back, where all rows are settled.
+    pub fn release(&mut self, alloc: Global)
+        ensures { IsSameSegment self.old self.new }
+    {
+        if self.heads.is_empty() {
+            self.heads = HeadMap::new(alloc);
+            self.chains = Chains::new(alloc);
+        }
+    }
+
     /// Writes a value, or removes the one that is there, where nobody stands against it.
     pub fn write(&mut self, key: Key, value: Option<u64>, by: TxnName)
         requires within { is_between self.old.low self.old.high key ≡ true }
@@ -274,7 +284,7 @@ impl VersionSegment {
         }
     }
 
-    /// Takes the newest write of a row back, which is this writer's.
+    /// Takes the newest write of a row back. Whose it is, only the contract reads.
     pub fn undo(&mut self, key: Key, by: TxnName)
         requires { newest_writer (versions_at self.old key).pairs ≡ Some by }
         ensures undone { ChangesKey self.old self.new key (undone (versions_at self.old key)) }
