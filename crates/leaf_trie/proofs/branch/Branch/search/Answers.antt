@@ -36,7 +36,7 @@ down-preserved c =
     let d = descends _ _ _ c.args.key _ _ a.children a.share c.byte_of-byte.ensures rank c.in-Some.ensures.some in
     record {
       share = rw d.depth d.share;
-      leads = λ found h. c.down.invariant.leads found (rw a.starts (found_below _ _ c.args.key _ _ c.down.before _ found d c.last_before-before.ensures h))
+      leads = λ found h. c.down.invariant.leads found (rw a.starts (found_below _ _ c.args.key _ _ c.down.before _ found d c.last_before-before.ensures h));
     }
 
 pub returns-in-None : goal.returns-in-None

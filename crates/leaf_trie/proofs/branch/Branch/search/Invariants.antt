@@ -7,7 +7,7 @@ use Rattle.leaf_trie.proofs.branch.Branch.search.Given as goal
 abbrev pub invariant-down : goal.invariant-down
 invariant-down l = record {
   share : ShareHead l.branch.level l.key l.branch.starts;
-  leads : (found : Candidates) → AreCandidates l.key l.before l.branch.starts found → AreCandidates l.key None l.self.starts found
+  leads : (found : Candidates) → AreCandidates l.key l.before l.branch.starts found → AreCandidates l.key None l.self.starts found;
 }
 
 abbrev pub decreases-down : goal.decreases-down

@@ -37,7 +37,7 @@ fill-preserved c =
     record {
       below = under_more start (72057594037927936 * (c.fill.byte + 1)) c.fill.trie c.insert.new.self i (omega (arith, c.from-src.ensures)) under;
       last = record { front = i.front; start = start; back = i.back; is = i.is; low = (λ j. record { src = 72057594037927936 * same j; second = 0 }) };
-      count = omega (arith, one_more start c.fill.trie c.insert.new.self i, c.fill.invariant.count)
+      count = omega (arith, one_more start c.fill.trie c.insert.new.self i, c.fill.invariant.count);
     }
 
 pub fill-init : goal.fill-init
@@ -45,5 +45,5 @@ fill-init c =
     rw c.in_ok-trie.ensures (record {
       below = (omega arith, tt);
       last = record { front = []; start = record { low = record { src = 0; second = 0 }; leaf = 0 }; back = []; is = refl; low = refl };
-      count = refl
+      count = refl;
     })

@@ -8,5 +8,5 @@ abbrev pub invariant-fill : goal.invariant-fill
 invariant-fill l = record {
   below : AllByRecursion (λ (s : LeafStart). s.low.src < 72057594037927936 * l.byte) l.trie;
   last : OneBegins (record { src = 72057594037927936 * (l.byte - 1); second = 0 }) l.trie;
-  count : length l.trie ≡ l.byte
+  count : length l.trie ≡ l.byte;
 }
