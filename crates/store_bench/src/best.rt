@@ -3,6 +3,12 @@
 use anyhow::Result;
 use std::time::Duration;
 
+/// How many calls a round has, and how many rounds there are of them. A round takes some milliseconds, so most are
+/// not interrupted.
+pub const CALLS: u64 = 50_000;
+
+pub const ROUNDS: u64 = 40;
+
 /// The least that a call took in one of the rounds so far, in picoseconds, and the sum of what all calls gave.
 #[derive(Clone, Copy)]
 pub struct Best {

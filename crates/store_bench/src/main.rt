@@ -1,12 +1,13 @@
 //! Times the parts of the store over leaves.
 //!
 //! 1. Called with two numbers, a seed and how many runs, it prints a line for each part in each run: its name,
-//!    the nanoseconds that a call took in the best of forty rounds, and the sum of what all calls gave. Called
-//!    with no words it does nothing.
-//! 2. The sums are printed so that no call is left out. Each run draws the same numbers, so it has the same sums.
+//!    the nanoseconds that a call took in the best round, and the sum of what all calls gave. Called with no
+//!    words it does nothing.
+//! 2. The sums are printed so that no call is left out. Each run draws the same numbers, so its sums are the same.
 #![tactic(auto)]
 
 mod best;
+mod leaves;
 mod random;
 mod segments;
 
@@ -20,7 +21,9 @@ fn main(rt: HostRuntime) -> Result<()> {
     let alloc = rt.alloc();
     let [seed, runs] = numbers(&rt, alloc)?;
     for _run in 0..runs {
-        segments::time(&rt, alloc, &mut Random::new(seed))?;
+        let mut random = Random::new(seed);
+        segments::time(&rt, alloc, &mut random)?;
+        leaves::time(&rt, alloc, &mut random)?;
     }
     Ok(())
 }

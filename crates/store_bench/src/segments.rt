@@ -4,8 +4,8 @@
 //!    segment are of other vertices.
 //! 2. Which segment a call is made on, and with which key, is drawn anew for each call.
 
-use crate::best::Best;
-use crate::random::Random;
+use crate::best::{Best, CALLS, ROUNDS};
+use crate::random::{Random, drawn_order};
 use anyhow::Result;
 use gap_segment::Segment;
 use graph_model::{Key, NoMemory, Row, SEGMENT_ROWS};
@@ -18,12 +18,6 @@ const FEW: u64 = 512;
 
 /// So many take three times a last cache of 36 MiB.
 const MANY: u64 = 131072;
-
-/// How many calls a round has, and how many rounds there are of them. A round takes some milliseconds, so most are
-/// not interrupted.
-const CALLS: u64 = 50_000;
-
-const ROUNDS: u64 = 40;
 
 /// How many rows a full segment has, and how many one has in the mean.
 const FULL: u64 = 32;
@@ -106,19 +100,6 @@ fn rows_in(segments: &[Segment]) -> u64 {
         rows = rows.wrapping_add(segment.len() as u64);
     }
     rows
-}
-
-/// The numbers below the count, which is at most 65,536, in an order that is drawn.
-fn drawn_order(alloc: Global, count: u64, random: &mut Random) -> Result<Vec<u64>, NoMemory> {
-    let mut order = Vec::new(alloc);
-    for n in 0..count {
-        order.push(random.draw() << 16 | n)?;
-    }
-    order.sort_unstable();
-    for n in order.iter_mut() {
-        *n %= 65536;
-    }
-    Ok(order)
 }
 
 /// Makes a call again and again, on a segment that is drawn and with the place of one of its rows.
