@@ -1,5 +1,5 @@
 -- Leaves that are marked as put in.
-use Rattle.std.specs.Prelude.{◌≡◌, ◌⊎◌, ℕ, ◌*◌, Bool, true, false, List}
+use Rattle.std.specs.Prelude.{◌≡◌, ◌⊎◌, ◌*◌, Bool, true, false, List}
 use Rattle.std.proofs.Common.{get_or}
 use Rattle.std.specs.List.{AllByRecursion}
 use Rattle.leaf_trie.specs.declared.start.LeafStart.{LeafStart}
