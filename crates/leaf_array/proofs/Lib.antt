@@ -1,0 +1,6 @@
+pub mod SegmentLemmas
+pub mod DivideLemmas
+pub mod CountLemmas
+pub mod LeafLemmas
+pub mod PairLemmas
+pub mod NewLeafLemmas

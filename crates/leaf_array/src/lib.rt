@@ -1,0 +1,16 @@
+//! Leaves: eight version segments, one behind the other, and moves of rows within a leaf and between two.
+//!
+//! 1. Each segment ends where the next one begins.
+//! 2. A call that moves rows keeps them all, in the order of their keys, with their versions.
+//! 3. Memory is taken before anything moves. After want of memory only the room for records has changed.
+#![tactic(auto)]
+
+mod counting;
+mod leaf;
+mod neighbours;
+mod pairs;
+mod window;
+
+pub use leaf::Leaf;
+pub use pairs::split_leaf;
+pub use window::spread;

@@ -1,0 +1,89 @@
+//! The rows of a window, divided anew among its segments.
+
+ghost use Rattle.std.specs.Prelude.{◌≡◌, ◌+◌, ◌*◌, ◌≤◌, length, OnOk, OnErr, IsOk};
+ghost use Rattle.density_tree.specs.Division.{evenly};
+ghost use Rattle.leaf_array.specs.Leaves.{IsLeaf, IsWindow, SpreadsWindow, window_of};
+ghost use Rattle.leaf_array.specs.Segments.{rows_of, records_of, AreChained, AreSame, HaveRoom, IsDivided};
+
+use crate::counting::{records_in, reserve, rows_in};
+use crate::leaf::Leaf;
+use crate::neighbours::divide;
+use density_tree::{Window, spread_counts};
+use graph_model::NoMemory;
+use version_segment::VersionSegment;
+
+/// Divides the rows of a window evenly among its segments.
+pub fn spread(leaf: &mut Leaf, window: Window) -> Result<(), NoMemory>
+    requires leaf { IsLeaf leaf.old.segments }
+    requires window { IsWindow window }
+    ensures ok { OnOk result (SpreadsWindow window leaf.old.segments leaf.new.segments) }
+    ensures err { OnErr result (AreSame leaf.old.segments leaf.new.segments) }
+    ensures settled { records_of (window_of window leaf.old.segments) ≡ 0 → IsOk result }
+{
+    let (_, behind) = leaf.segments.split_at_mut(window.first);
+    let (segments, _) = behind.split_at_mut(window.len);
+    spread_all(segments)
+}
+
+/// Divides the rows evenly among all segments.
+fn spread_all(segments: &mut [VersionSegment]) -> Result<(), NoMemory>
+    requires chained { AreChained segments.old }
+    requires some { 1 ≤ length segments.old }
+    requires few { length segments.old ≤ 8 }
+    ensures ok { OnOk result (IsDivided segments.old segments.new
+        (evenly (length (rows_of segments.old)) (length segments.old))) }
+    ensures err { OnErr result (AreSame segments.old segments.new) }
+    ensures settled { records_of segments.old ≡ 0 → IsOk result }
+{
+    reserve_for(segments, segments.len())?;
+    divide_evenly(segments);
+    Ok(())
+}
+
+/// Divides the rows evenly among segments that have room for the records.
+pub(crate) fn divide_evenly(segments: &mut [VersionSegment])
+    requires chained { AreChained segments.old }
+    requires some { 1 ≤ length segments.old }
+    requires few { length segments.old ≤ 8 }
+    requires spare { HaveRoom (length segments.old * records_of segments.old) segments.old }
+    ensures { IsDivided segments.old segments.new
+        (evenly (length (rows_of segments.old)) (length segments.old)) }
+{
+    let rows = rows_in(segments);
+    let counts = spread_counts(rows as u32, segments.len() as u32);
+    divide(segments, counts.as_slice());
+}
+
+/// Makes room in each segment for all records of all segments, so many times.
+fn reserve_for(segments: &mut [VersionSegment], times: usize) -> Result<(), NoMemory>
+    ensures ok { OnOk result (HaveRoom (times * records_of segments.old) segments.new) }
+    ensures same { AreSame segments.old segments.new }
+    ensures settled { records_of segments.old ≡ 0 → IsOk result }
+{
+    let records = records_in(segments).ok_or(NoMemory)?;
+    let room = records.checked_mul(times).ok_or(NoMemory)?;
+    reserve(segments, room)
+}
+
+#[cfg(test)]
+mod tests {
+    use super::*;
+    use graph_model::Key;
+    use std::test::Fail;
+
+    #[test]
+    fn a_leaf_is_made_and_spread_with_ample_memory(rt: HostRuntime) -> Result<(), Fail> {
+        let low = Key { src: 1, second: 0 };
+        let high = Key { src: 9, second: 0 };
+        let mut leaf = Leaf::new(rt.alloc(), low, high)?;
+        spread(&mut leaf, Window { first: 0, len: 8 })?;
+        for (place, want) in [(0, low), (1, high), (7, high)] {
+            assert_eq!(rt;
+                leaf.segments[place].low(),
+                want,
+                "where segment {place} begins"
+            );
+        }
+        Ok(())
+    }
+}
