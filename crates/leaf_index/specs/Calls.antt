@@ -11,12 +11,17 @@ use Rattle.leaf_index.specs.Index.{Entry, Index, NotAbove, BeginAbove, AreSorted
 abbrev pub new_index : ℕ → Index
 new_index leaves = record {
   leaves = leaves;
-  entries = record { low = first_key; leaf = 0; cuts = first_key ∷ end_key ∷ end_key ∷ end_key ∷ end_key ∷ end_key ∷ end_key ∷ end_key ∷ [] } ∷ [];
+  entries = record {
+    low = first_key;
+    leaf = 0;
+    cuts = first_key ∷ end_key ∷ end_key ∷ end_key ∷ end_key ∷ end_key ∷ end_key ∷ end_key ∷ [];
+  } ∷ [];
   free = range_with_len 1 (leaves - 1);
   retired = [];
 }
 
--- an entry may be put behind the one whose range holds its key: none of that one's cuts is above the key, and its own go up to the end of that range
+-- an entry may be put behind the one whose range holds its key: none of that one's cuts is above the key, and its
+-- own go up to the end of that range
 pub record CanAdd (low : Key) (cuts : List Key) (entries : List Entry) : Type 0 where
   pub front : List Entry
   pub before : Entry
@@ -28,8 +33,10 @@ pub record CanAdd (low : Key) (cuts : List Key) (entries : List Entry) : Type 0 
   pub newer : AreCuts low cuts (end_of back)
 
 -- it stands behind that one
-abbrev pub with_leaf : (low : Key) (leaf : ℕ) (cuts : List Key) (entries : List Entry) → CanAdd low cuts entries → List Entry
-with_leaf low leaf cuts entries can = (can.front ++ can.before ∷ []) ++ record { low = low; leaf = leaf; cuts = cuts } ∷ can.back
+abbrev pub with_leaf : (low : Key) (leaf : ℕ) (cuts : List Key) (entries : List Entry)
+    → CanAdd low cuts entries → List Entry
+with_leaf low leaf cuts entries can =
+    (can.front ++ can.before ∷ []) ++ record { low = low; leaf = leaf; cuts = cuts } ∷ can.back
 
 -- an entry other than the first begins at the key
 pub record CanDrop (low : Key) (entries : List Entry) : Type 0 where

@@ -13,7 +13,8 @@ pub record Entry : Type 0 where
   pub leaf : ℕ
   pub cuts : List Key
 
--- how many leaves there are, the live ones in the order of their keys, and the lists of those that are free and that are retired
+-- how many leaves there are, the live ones in the order of their keys, and the lists of those that are free and
+-- that are retired
 pub record Index : Type 0 where
   pub leaves : ℕ
   pub entries : List Entry
@@ -61,7 +62,9 @@ AreRising (e ∷ es) = BeginAbove e.low es × AreRising es
 
 -- how often a leaf stands among the live, the free and the retired ones
 abbrev pub uses : Index → ℕ → ℕ
-uses index leaf = count_by (λ e. e.leaf == leaf) index.entries + count_by (λ f. f == leaf) index.free + count_by (λ r. r.leaf == leaf) index.retired
+uses index leaf =
+    count_by (λ e. e.leaf == leaf) index.entries + count_by (λ f. f == leaf) index.free
+    + count_by (λ r. r.leaf == leaf) index.retired
 
 -- a leaf stands at most once among them, and one that doesn't exist never does
 abbrev pub AreOnce : Index → Type 0

@@ -21,7 +21,10 @@ cuts_or_none (Some slot) = slot.cuts
 
 -- all keys in the first segment
 abbrev pub whole_slot : Slot
-whole_slot = record { cuts = first_key ∷ end_key ∷ end_key ∷ end_key ∷ end_key ∷ end_key ∷ end_key ∷ end_key ∷ []; high = end_key }
+whole_slot = record {
+  cuts = first_key ∷ end_key ∷ end_key ∷ end_key ∷ end_key ∷ end_key ∷ end_key ∷ end_key ∷ [];
+  high = end_key;
+}
 
 -- a leaf's entry, from what stands by its number
 abbrev pub entry_of : List Slot → LeafStart → Entry
@@ -49,7 +52,8 @@ AreRisingStarts (s ∷ ss) = StartAbove s.low ss × AreRisingStarts ss
 
 -- how often a leaf stands among the live, the free and the retired ones
 abbrev pub times : ℕ → List LeafStart → List ℕ → List Retired → ℕ
-times leaf starts free retired = count_by (λ s. s.leaf == leaf) starts + count_by (λ f. f == leaf) free + count_by (λ r. r.leaf == leaf) retired
+times leaf starts free retired =
+    count_by (λ s. s.leaf == leaf) starts + count_by (λ f. f == leaf) free + count_by (λ r. r.leaf == leaf) retired
 
 -- at most once, and never where it doesn't exist
 abbrev pub StandOnce : ℕ → List LeafStart → List ℕ → List Retired → Type 0

@@ -177,7 +177,8 @@ impl LeafIndex {
     ) -> Result<(), NoMemory>
         requires taken { IsTaken self.old leaf }
         requires place { CanAdd low cuts self.old.entries }
-        ensures ok { OnOk result ((can : CanAdd low cuts self.old.entries) → self.new.entries ≡ with_leaf low leaf cuts self.old.entries can) }
+        ensures ok { OnOk result ((can : CanAdd low cuts self.old.entries)
+            → self.new.entries ≡ with_leaf low leaf cuts self.old.entries can) }
         ensures others { self.new ≡ record self.old { entries = self.new.entries } }
         ensures err { OnErr result (self.new ≡ self.old) }
     {
@@ -192,7 +193,8 @@ impl LeafIndex {
     /// Gives the range of the leaf that begins at the key to the leaf before it.
     pub fn drop_leaf(&mut self, low: Key)
         requires { CanDrop low self.old.entries }
-        ensures entries { (can : CanDrop low self.old.entries) → self.new.entries ≡ without_leaf low self.old.entries can }
+        ensures entries { (can : CanDrop low self.old.entries)
+            → self.new.entries ≡ without_leaf low self.old.entries can }
         ensures others { self.new ≡ record self.old { entries = self.new.entries } }
     {
         let dropped = floor_of(&self.trie, &self.slots, low);
@@ -207,7 +209,8 @@ impl LeafIndex {
     /// Gives the leaf that begins at the key these cuts, one for each of its segments.
     pub fn set_separators(&mut self, low: Key, cuts: [Key; 8])
         requires { CanCut low cuts self.old.entries }
-        ensures entries { (can : CanCut low cuts self.old.entries) → self.new.entries ≡ with_cuts low cuts self.old.entries can }
+        ensures entries { (can : CanCut low cuts self.old.entries)
+            → self.new.entries ≡ with_cuts low cuts self.old.entries can }
         ensures others { self.new ≡ record self.old { entries = self.new.entries } }
     {
         let leaf = floor_of(&self.trie, &self.slots, low);
@@ -236,7 +239,8 @@ impl LeafIndex {
     /// Puts a taken leaf last among those that are retired.
     pub fn retire(&mut self, leaf: u32, stamp: u64)
         requires { IsTaken self.old leaf }
-        ensures { self.new ≡ record self.old { retired = self.old.retired ++ record { leaf = leaf; stamp = stamp } ∷ [] } }
+        ensures { self.new
+            ≡ record self.old { retired = self.old.retired ++ record { leaf = leaf; stamp = stamp } ∷ [] } }
     {
         match self.retired.push(Retired { leaf, stamp }) {
             Ok(()) => {}

@@ -9,7 +9,8 @@ use Rattle.leaf_trie.specs.declared.branch.Branch.TheDeep.{deep-Node}
 use Rattle.leaf_trie.specs.declared.branch.Branch.TheView.{size}
 use Rattle.leaf_trie.specs.Nodes.{IsNode, AreChildren}
 
-children_fall : (level least : ℕ) (bs : List Branch) → AreChildren level least bs → most (λ b. size b + 1) bs ≤ level + 1
+children_fall : (level least : ℕ) (bs : List Branch) → AreChildren level least bs
+    → most (λ b. size b + 1) bs ≤ level + 1
 children_fall level least [] h = omega arith
 children_fall level least (b ∷ bs) h = omega (arith, h.0.depth, children_fall level (b.byte + 1) bs h.1)
 

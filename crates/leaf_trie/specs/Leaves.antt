@@ -35,7 +35,8 @@ pub record OneBegins (key : Key) (starts : List LeafStart) : Type 0 where
   pub is : starts ≡ front ++ start ∷ back
   pub low : start.low ≡ key
 
--- at most one leaf is a candidate at the key; all before it begin below the key, and the last of these is the other candidate; all behind it begin above the key
+-- at most one leaf is a candidate at the key; all before it begin below the key, and the last of these is the other
+-- candidate; all behind it begin above the key
 pub record Finds (key : Key) (starts : List LeafStart) (found : Candidates) : Type 0 where
   pub front : List LeafStart
   pub middle : Option LeafStart

@@ -71,7 +71,8 @@ pub record IsInner (above : ℕ) (branches : List Branch) : Type 0 where
 abbrev pub IsNode : ℕ → Node → Type 0
 IsNode level (End low) = level ≡ 0
 IsNode level (Few branches) = IsInner level branches.items × (length branches.items ≤ 16)
-IsNode level (Many wide) = IsInner level wide.value.branches.items × HasRanks wide.value.places wide.value.branches.items
+IsNode level (Many wide) =
+    IsInner level wide.value.branches.items × HasRanks wide.value.places wide.value.branches.items
 
 -- what stands beside a node: its last leaf, and whether that is its only one
 pub record IsSummary (starts : List LeafStart) (last : ℕ) (is_single : Bool) : Type 0 where
@@ -86,16 +87,20 @@ pub record PutsBelow (level : ℕ) (start : LeafStart) (old new : List Branch) :
   pub children : AreChildren level 0 new
   pub puts : Puts start (all_starts old) (all_starts new)
 
--- it got a branch of its own, at a place that had none with its byte, or stands below one that was there; or nothing changed
+-- it got a branch of its own, at a place that had none with its byte, or stands below one that was there; or nothing
+-- changed
 abbrev pub PutsAmong : ℕ → ℕ → LeafStart → List Branch → List Branch → Result Bool AllocError → Type 0
-PutsAmong level place start old new (Ok true) = PutsBelow level start old new × HasNoBranch old place (digit level start.low) × (length new ≡ length old + 1)
+PutsAmong level place start old new (Ok true) =
+    PutsBelow level start old new × HasNoBranch old place (digit level start.low) × (length new ≡ length old + 1)
 PutsAmong level place start old new (Ok false) = PutsBelow level start old new × (bytes_of new ≡ bytes_of old)
 PutsAmong level place start old new (Err e) = new ≡ old
 
 -- a leaf was put below the node, or it has the same leaves
 abbrev pub PutsInNode : ℕ → LeafStart → Node → Node → Result (Unit {0}) AllocError → Type 0
-PutsInNode level start old new (Ok done) = IsNode (level + 1) new × Puts start (all_starts (children_of old)) (all_starts (children_of new))
-PutsInNode level start old new (Err e) = IsNode (level + 1) new × (all_starts (children_of new) ≡ all_starts (children_of old))
+PutsInNode level start old new (Ok done) =
+    IsNode (level + 1) new × Puts start (all_starts (children_of old)) (all_starts (children_of new))
+PutsInNode level start old new (Err e) =
+    IsNode (level + 1) new × (all_starts (children_of new) ≡ all_starts (children_of old))
 
 -- a leaf was put into the subtree
 pub record PutsInto (start : LeafStart) (old new : Branch) : Type 0 where

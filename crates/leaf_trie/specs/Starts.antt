@@ -35,7 +35,8 @@ abbrev pub IsThere : Key → List LeafStart → Type 0
 IsThere key [] = ⊥
 IsThere key (s ∷ ss) = (number s.low ≡ number key) ⊎ IsThere key ss
 
--- of those that don't begin below the key, at most one doesn't begin above it for certain; the last one below, or an earlier one, stands before it
+-- of those that don't begin below the key, at most one doesn't begin above it for certain; the last one below, or an
+-- earlier one, stands before it
 pub record AreCandidates (key : Key) (earlier : Option ℕ) (starts : List LeafStart) (found : Candidates) : Type 0 where
   pub front : List LeafStart
   pub middle : Option LeafStart

@@ -376,7 +376,8 @@ fn remove_among(branches: &mut Vec<Branch>, place: usize, low: Key) -> bool
 
 /// Whether the branch at the place has the byte.
 fn has_byte(branches: &Vec<Branch>, place: usize, byte: u8) -> bool
-    ensures { MatchBool result (HasSomeBranch branches.now.items place byte) (HasNoBranch branches.now.items place byte) }
+    ensures { MatchBool result (HasSomeBranch branches.now.items place byte)
+        (HasNoBranch branches.now.items place byte) }
 {
     match branch_at(branches.as_slice(), place, byte) {
         Some(_) => true,

@@ -68,7 +68,8 @@ impl LeafTrie {
 
     fn insert_at(&mut self, alloc: Global, src: u64, second: u64, leaf: u32) -> Result<(), NoMemory>
         requires { NoneBegins (record { src = src; second = second }) self.old }
-        ensures ok { OnOk result (Inserts (record { low = record { src = src; second = second }; leaf = leaf }) self.old self.new) }
+        ensures ok { OnOk result (Inserts (record { low = record { src = src; second = second }; leaf = leaf })
+            self.old self.new) }
         ensures err { OnErr result (self.new ≡ self.old) }
     {
         let low = Key { src, second };

@@ -84,8 +84,8 @@ pub record ArePruned (stamps : TxnName → Option ℕ) (horizon place : ℕ) (ro
       ≡ c.spare + all_records (drop place (versioned c heads.entries rows.rows))
 
 -- the rows of a run up to the place have been read
-pub record IsFilled (c : ChainMap) (heads : List ChangedRow) (old now : Knowledge) (snapshot : Snapshot) (run : List Row)
-    (place : ℕ) (buffer : List Row) : Type 0 where
+pub record IsFilled (c : ChainMap) (heads : List ChangedRow) (old now : Knowledge) (snapshot : Snapshot)
+    (run : List Row) (place : ℕ) (buffer : List Row) : Type 0 where
   pub rows : buffer
       ≡ rows_read (read_stamped old.stamps snapshot.start snapshot.own) (versioned c heads (take place run))
   pub grows : Grows old now
