@@ -3,4 +3,5 @@ pub mod DivideLemmas
 pub mod CountLemmas
 pub mod LeafLemmas
 pub mod PairLemmas
+pub mod MergeLemmas
 pub mod NewLeafLemmas

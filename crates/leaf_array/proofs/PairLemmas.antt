@@ -45,20 +45,20 @@ room-rest records (x ∷ xs) ys has = room-rest records xs ys has.1
 
 -- ---- fence keys
 
-high-append : (xs ys : List VersionedRows) (other : Key) → high_or (xs ++ ys) other ≡ high_or ys (high_or xs other)
+pub high-append : (xs ys : List VersionedRows) (other : Key) → high_or (xs ++ ys) other ≡ high_or ys (high_or xs other)
 high-append [] ys other = refl
 high-append (x ∷ xs) ys other = high-append xs ys x.high
 
 -- segments have fence keys of their own
-some-low : (xs ys : List VersionedRows) (n : ℕ) (other : Key) → length xs ≡ suc n → low_or (xs ++ ys) other ≡ low_or xs other
+pub some-low : (xs ys : List VersionedRows) (n : ℕ) (other : Key) → length xs ≡ suc n → low_or (xs ++ ys) other ≡ low_or xs other
 some-low [] ys n other some = absurd (omega (arith, some))
 some-low (x ∷ xs) ys n other some = refl
 
-any-low : (xs : List VersionedRows) (n : ℕ) (one other : Key) → length xs ≡ suc n → low_or xs one ≡ low_or xs other
+pub any-low : (xs : List VersionedRows) (n : ℕ) (one other : Key) → length xs ≡ suc n → low_or xs one ≡ low_or xs other
 any-low [] n one other some = absurd (omega (arith, some))
 any-low (x ∷ xs) n one other some = refl
 
-any-high : (xs : List VersionedRows) (n : ℕ) (one other : Key) → length xs ≡ suc n → high_or xs one ≡ high_or xs other
+pub any-high : (xs : List VersionedRows) (n : ℕ) (one other : Key) → length xs ≡ suc n → high_or xs one ≡ high_or xs other
 any-high [] n one other some = absurd (omega (arith, some))
 any-high (x ∷ xs) n one other some = refl
 
@@ -86,7 +86,7 @@ high-read xs outs x high is four at read = λ other.
 
 -- ---- segments that are empty at a key
 
-placed-length : (at : Key) (ss ts : List VersionedRows) → IsPlaced at ss ts → length ts ≡ length ss
+pub placed-length : (at : Key) (ss ts : List VersionedRows) → IsPlaced at ss ts → length ts ≡ length ss
 placed-length at [] [] placed = refl
 placed-length at (s ∷ ss) (t ∷ ts) placed = omega (arith, placed-length at ss ts placed.1)
 placed-length at [] (t ∷ ts) placed = absurd placed
@@ -98,14 +98,14 @@ placed-rows at (s ∷ ss) (t ∷ ts) placed = ap₂ (λ xs ys. xs ++ ys) (ap (λ
 placed-rows at [] (t ∷ ts) placed = absurd placed
 placed-rows at (s ∷ ss) [] placed = absurd placed
 
-placed-room : (records : ℕ) (at : Key) (ss ts : List VersionedRows) → IsPlaced at ss ts → HaveRoom records ss → HaveRoom records ts
+pub placed-room : (records : ℕ) (at : Key) (ss ts : List VersionedRows) → IsPlaced at ss ts → HaveRoom records ss → HaveRoom records ts
 placed-room records at [] [] placed has = tt
 placed-room records at (s ∷ ss) (t ∷ ts) placed has =
     (omega (arith, has.0, ap (λ x. x.spare) placed.0), placed-room records at ss ts placed.1 has.1)
 placed-room records at [] (t ∷ ts) placed has = absurd placed
 placed-room records at (s ∷ ss) [] placed has = absurd placed
 
-placed-follow : (at : Key) (ss ts : List VersionedRows) → IsPlaced at ss ts → Follow at ts
+pub placed-follow : (at : Key) (ss ts : List VersionedRows) → IsPlaced at ss ts → Follow at ts
 placed-follow at [] [] placed = tt
 placed-follow at (s ∷ ss) (t ∷ ts) placed =
     (ap (λ x. x.low) placed.0, subst (λ k. Follow k ts) (sym (ap (λ x. x.high) placed.0)) (placed-follow at ss ts placed.1))

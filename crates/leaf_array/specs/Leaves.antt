@@ -85,3 +85,24 @@ pub record Splits (old left right : List VersionedRows) (key : Key) : Type 0 whe
   pub high : (other : Key) → high_or right other ≡ high_or old other
   pub left_begins : AllByRecursion BeginsAtRow (drop 1 left)
   pub right_begins : AllByRecursion BeginsAtRow (drop 1 right)
+
+-- The last four segments have no rows, and all but the first begin with their first row.
+pub record IsPacked (ss : List VersionedRows) : Type 0 where
+  pub leaf : IsLeaf ss
+  pub empty : rows_of (drop 4 ss) ≡ []
+  pub begins : AllByRecursion BeginsAtRow (drop 1 ss)
+
+-- The left one of two neighbours has all rows and the whole range now; the right one is empty at the end.
+pub record TakesAll (left right left' right' : List VersionedRows) : Type 0 where
+  pub left_leaf : IsLeaf left'
+  pub right_leaf : IsLeaf right'
+  pub rows : rows_of left' ≡ rows_of left ++ rows_of right
+  pub low : (other : Key) → low_or left' other ≡ low_or left other
+  pub high : (other : Key) → high_or left' other ≡ high_or right other
+  pub empty : (other : Key) → AllByRecursion (IsEmpty (high_or right other) (high_or right other)) right'
+
+-- All rows have come to the left one of two neighbours, and they are divided evenly there.
+pub record Merges (left right left' right' : List VersionedRows) : Type 0 where
+  pub takes : TakesAll left right left' right'
+  pub shares : counts_of left' ≡ evenly (length (rows_of left) + length (rows_of right)) 8
+  pub begins : AllByRecursion BeginsAtRow (drop 1 left')

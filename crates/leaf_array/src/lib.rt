@@ -12,5 +12,5 @@ mod pairs;
 mod window;
 
 pub use leaf::Leaf;
-pub use pairs::split_leaf;
+pub use pairs::{merge_leaves, split_leaf};
 pub use window::spread;

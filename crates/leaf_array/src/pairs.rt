@@ -6,8 +6,9 @@
 ghost use Rattle.std.specs.Prelude.{◌≡◌, ◌+◌, ◌-◌, ◌*◌, ◌/◌, ◌≤◌, ◌++◌, [], length, sum, OnOk, OnErr, IfOk, IsOk};
 ghost use Rattle.std.specs.List.{AllByRecursion};
 ghost use Rattle.density_tree.specs.Division.{evenly};
-ghost use Rattle.leaf_array.specs.Leaves.{IsLeaf, Splits, GivesHalf, IsPlaced, KeepRoom};
-ghost use Rattle.leaf_array.specs.Segments.{rows_of, records_of, counts_of, low_or, high_or, AreChained, AreSame, HaveRoom, IsDivided};
+ghost use Rattle.graph_model.specs.declared.row.Key.{Key};
+ghost use Rattle.leaf_array.specs.Leaves.{IsLeaf, IsPacked, Splits, GivesHalf, Merges, TakesAll, IsPlaced, KeepRoom};
+ghost use Rattle.leaf_array.specs.Segments.{rows_of, records_of, counts_of, low_or, high_or, AreChained, AreSame, HaveRoom, UseRoom, KeepsRows, IsDivided};
 
 use crate::counting::{records_in, reserve, rows_in};
 use crate::leaf::Leaf;
@@ -37,6 +38,25 @@ pub fn split_leaf(left: &mut Leaf, right: &mut Leaf) -> Result<Key, NoMemory>
     divide_evenly(&mut left.segments);
     divide_evenly(&mut right.segments);
     Ok(key)
+}
+
+/// Moves all rows of the right one of two neighbours to the left one, which has the whole range then.
+pub fn merge_leaves(left: &mut Leaf, right: &mut Leaf) -> Result<(), NoMemory>
+    requires left { IsLeaf left.old.segments }
+    requires right { IsLeaf right.old.segments }
+    requires neighbours { (other : Key) → high_or left.old.segments other ≡ low_or right.old.segments other }
+    requires few { length (rows_of left.old.segments) + length (rows_of right.old.segments) ≤ 104 }
+    ensures ok { OnOk result (Merges left.old.segments right.old.segments left.new.segments right.new.segments) }
+    ensures left { OnErr result (AreSame left.old.segments left.new.segments) }
+    ensures right { OnErr result (AreSame right.old.segments right.new.segments) }
+    ensures settled { records_of left.old.segments ≡ 0 → records_of right.old.segments ≡ 0 → IsOk result }
+{
+    reserve_both(&mut left.segments, &mut right.segments)?;
+    pack(&mut left.segments);
+    pack(&mut right.segments);
+    take_all(&mut left.segments, &mut right.segments);
+    divide_evenly(&mut left.segments);
+    Ok(())
 }
 
 /// Makes room in each segment for all records of two leaves, as often as their rows are divided.
@@ -85,6 +105,36 @@ fn give_half(left: &mut [VersionSegment], right: &mut [VersionSegment]) -> Key
     place_all(moved, low);
     place_all(free, high);
     low
+}
+
+/// Brings all rows of a leaf to its first four segments.
+fn pack(segments: &mut [VersionSegment])
+    requires leaf { IsLeaf segments.old }
+    requires few { length (rows_of segments.old) ≤ 128 }
+    requires spare { HaveRoom (length segments.old * records_of segments.old) segments.old }
+    ensures keeps { KeepsRows segments.old segments.new }
+    ensures packed { IsPacked segments.new }
+    ensures used { UseRoom (length segments.old * records_of segments.old) segments.old segments.new }
+{
+    let rows = rows_in(segments);
+    divide(segments, &halves(rows, 0));
+}
+
+/// Exchanges the last four segments of the left one of two packed neighbours with the first four of the right one,
+/// and puts all segments that have no rows at the end.
+fn take_all(left: &mut [VersionSegment], right: &mut [VersionSegment])
+    requires left { IsPacked left.old }
+    requires right { IsPacked right.old }
+    requires neighbours { (other : Key) → high_or left.old other ≡ low_or right.old other }
+    ensures takes { TakesAll left.old right.old left.new right.new }
+    ensures room { KeepRoom left.old right.old left.new right.new }
+{
+    let (_, free) = left.split_at_mut(4);
+    let (moved, rest) = right.split_at_mut(4);
+    let high = rest[3].high();
+    free.swap_with_slice(moved);
+    place_all(moved, high);
+    place_all(rest, high);
 }
 
 /// Sets all fence keys of segments without rows.
