@@ -1,5 +1,5 @@
 -- Two leaves, all rows of which come to the left one.
-use Rattle.std.proofs.Common.{ap₂, ℕ, ◌≡◌, ◌+◌, ◌*◌, List, [], ◌∷◌, ◌++◌, length, take, drop, refl, sym, ap, ◌∙◌, subst, arith}
+use Rattle.std.proofs.Common.{ap₂, ℕ, ◌≡◌, ◌+◌, ◌*◌, List, [], ◌∷◌, ◌++◌, length, take, drop, get_or, refl, sym, ap, ◌∙◌, subst, arith}
 use Rattle.std.proofs.Math.Seq.{drop-append_seam}
 use Rattle.std.proofs.lemmas.List.{append-nil, length-append, nil_from_length}
 use Rattle.std.specs.List.{AllByRecursion}
@@ -7,7 +7,7 @@ use Rattle.graph_model.specs.declared.row.Key.{Key}
 use Rattle.version_segment.specs.Rows.{VersionedRows, all_records, first_key_of}
 use Rattle.density_tree.specs.Division.{evenly}
 use Rattle.leaf_array.specs.Segments.{rows_of, records_of, low_or, high_or, AreChained, AreSame, BeginsAtRow, HaveRoom, UseRoom, KeepsRows, IsDivided}
-use Rattle.leaf_array.specs.Leaves.{IsLeaf, IsEmpty, IsPacked, IsPlaced, KeepRoom, TakesAll, Merges}
+use Rattle.leaf_array.specs.Leaves.{IsLeaf, IsEmpty, IsEmptyFrom, IsPacked, IsPlaced, KeepRoom, TakesAll, Merges}
 use Rattle.leaf_array.proofs.SegmentLemmas.{records-append, fewer-room}
 use Rattle.leaf_array.proofs.CountLemmas.{same-rows, same-length, same-low, same-high, same-chained}
 use Rattle.leaf_array.proofs.LeafLemmas.{Follow, follow-of, follow-chained, follow-front, follow-behind, follow-both, own-low, no_key}
@@ -180,3 +180,17 @@ module _ (old_left old_right ready_left ready_right packed_left packed_right : L
     shares = shares.shares ∙ ap₂ evenly (ap length (all-rows left right takes) ∙ length-append (rows_of old_left) (rows_of old_right)) takes.left_leaf.segments;
     begins = shares.begins;
   }
+
+-- ---- new leaves
+
+-- a leaf without rows begins and ends where it was made
+new-low : (low high : Key) (ss : List VersionedRows) → IsEmptyFrom low high ss → (other : Key) → low_or ss other ≡ low
+new-low low high [] new other = absurd (omega (arith, new.leaf.segments))
+new-low low high (s ∷ ss) new other = ap (λ lows. get_or lows 0 low) new.lows
+
+new-high : (low high : Key) (ss : List VersionedRows) → IsEmptyFrom low high ss → (other : Key) → high_or ss other ≡ high
+new-high low high ss new other = any-high ss 7 other low new.leaf.segments ∙ new.ends
+
+-- two that were made side by side are neighbours
+pub new-neighbours : (low between high : Key) (ss ts : List VersionedRows) → IsEmptyFrom low between ss → IsEmptyFrom between high ts → (other : Key) → high_or ss other ≡ low_or ts other
+new-neighbours low between high ss ts left right other = new-high low between ss left other ∙ sym (new-low between high ts right other)
