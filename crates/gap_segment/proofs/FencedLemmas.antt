@@ -9,7 +9,7 @@ use Rattle.graph_model.specs.declared.row.Row.{Row}
 use Rattle.graph_model.specs.Rows.{is_below, is_between}
 use Rattle.graph_model.proofs.PlaceLemmas.{drop_cut}
 use Rattle.gap_segment.specs.Fenced.{FencedRows, AreBelow, AreNotBelow, AreAbove, AreSorted, AreWithin, AreFenced, IsPlaceOf, IsGapFor, rows_between, with_weight, first_key_or}
-use Rattle.gap_segment.proofs.KeyLemmas.{below_chain, below_flip, below_self, below_up, upto_chain, above_of_not, not_below_chain, between_parts, between_of}
+use Rattle.graph_model.proofs.KeyLemmas.{below_chain, below_flip, below_self, below_up, upto_chain, above_of_not, not_below_chain, between_parts, between_of}
 
 -- ---- what holds of all rows of a list
 

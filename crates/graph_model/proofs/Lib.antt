@@ -1,5 +1,6 @@
 pub mod TestLemmas
 pub mod OrderLemmas
+pub mod KeyLemmas
 pub mod WalkLemmas
 pub mod PathLemmas
 pub mod GraphLemmas

@@ -1,4 +1,3 @@
-pub mod OrderLemmas
 pub mod CountLemmas
 pub mod SlotLemmas
 pub mod IndexLemmas

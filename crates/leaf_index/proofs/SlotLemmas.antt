@@ -21,7 +21,7 @@ use Rattle.leaf_index.specs.declared.route.LeafRange.{LeafRange}
 use Rattle.std.specs.List.{AllByRecursion}
 use Rattle.leaf_index.specs.Index.{Entry, BeginAbove, IsFloor, IsRoute, IsSegment, NotAbove, end_of}
 use Rattle.leaf_index.specs.declared.route.Route.{Route}
-use Rattle.leaf_index.proofs.OrderLemmas.{below_flip}
+use Rattle.graph_model.proofs.KeyLemmas.{below_flip}
 
 module _ {X : Type 0} where
   pub read_there : (xs : List X) (i : ℕ) (d : X) → i < length xs → slice_get xs i ≡ Some (get_or xs i d)

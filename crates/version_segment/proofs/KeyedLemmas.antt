@@ -12,16 +12,11 @@ use Rattle.graph_model.specs.declared.row.Key.{Key}
 use Rattle.graph_model.specs.Rows.{key_cmp, is_below}
 use Rattle.graph_model.proofs.OrderLemmas.{keys_total, keys_exact}
 use Rattle.graph_model.proofs.PlaceLemmas.{some_eq}
-use Rattle.gap_segment.proofs.KeyLemmas.{below_chain, above_of_not, not_below_chain}
+use Rattle.graph_model.proofs.KeyLemmas.{less_of, below_chain, above_of_not, not_below_chain}
 use Rattle.gap_segment.proofs.FencedLemmas.{all_map, all_drop, all_insert, all_remove, all_at}
 use Rattle.version_segment.specs.Keyed.{entries_by, RisesBy, IsPlaceBy, IsGapBy}
 
 -- ---- the order of two keys
-
-less_of : (r : Ordering) → is_lt r ≡ true → r ≡ Less
-less_of Less e = refl
-less_of Equal e = cc
-less_of Greater e = cc
 
 pub order_below : (a b : Key) → is_below a b ≡ true → key_cmp a b ≡ Less
 order_below a b e = less_of _ e

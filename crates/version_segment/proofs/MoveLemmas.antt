@@ -10,7 +10,7 @@ use Rattle.graph_model.specs.Rows.{key_cmp, is_below, is_between}
 use Rattle.graph_model.proofs.PlaceLemmas.{some_eq}
 use Rattle.store_model.specs.Stamped.{StampedVersions}
 use Rattle.gap_segment.specs.Fenced.{FencedRows, AreBelow, AreAbove, AreSorted, AreWithin, AreFenced, IsGapFor, first_key_or}
-use Rattle.gap_segment.proofs.KeyLemmas.{between_parts}
+use Rattle.graph_model.proofs.KeyLemmas.{between_parts}
 use Rattle.gap_segment.proofs.FencedLemmas.{fenced_front, fenced_back, fenced_append, all_map}
 use Rattle.undo_chain.specs.Chains.{ChainMap, list_at, IsHeadOf, ChangesOneList}
 use Rattle.version_segment.specs.declared.heads.Heads.{Heads}

@@ -2,7 +2,7 @@ use Rattle.std.proofs.Common.{◌∙◌, sym, ap, arith}
 use Rattle.graph_model.specs.declared.row.Row.{Row}
 use Rattle.graph_model.proofs.TestLemmas.{never}
 use Rattle.gap_segment.proofs.FencedLemmas.{gap_of_place}
-use Rattle.gap_segment.proofs.KeyLemmas.{same_key_test}
+use Rattle.graph_model.proofs.KeyLemmas.{same_key_test}
 use Rattle.gap_segment.proofs.segment.find_in.Goals as goal
 
 pub returns-in_default : goal.returns-in_default

@@ -1,6 +1,6 @@
 use Rattle.std.proofs.Common.{◌∙◌, sym, ap, arith}
 use Rattle.graph_model.proofs.TestLemmas.{never}
-use Rattle.gap_segment.proofs.KeyLemmas.{same_key_test}
+use Rattle.graph_model.proofs.KeyLemmas.{same_key_test}
 use Rattle.version_segment.specs.declared.heads.ChangedRow.{ChangedRow}
 use Rattle.version_segment.specs.Heads.{row_key}
 use Rattle.version_segment.proofs.KeyedLemmas.{gap_of_place}

@@ -1,7 +1,7 @@
 use Rattle.std.proofs.Common.{◌∙◌, ap, sym, subst, List}
 use Rattle.graph_model.specs.declared.row.Row.{Row}
 use Rattle.gap_segment.specs.Fenced.{FencedRows, AreWithin}
-use Rattle.gap_segment.proofs.KeyLemmas.{below_self}
+use Rattle.graph_model.proofs.KeyLemmas.{below_self}
 use Rattle.version_segment.specs.Rows.{VersionedRows}
 use Rattle.version_segment.specs.Parts.{AreParts}
 use Rattle.version_segment.proofs.ChangeLemmas.{no_rows}

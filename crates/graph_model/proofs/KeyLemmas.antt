@@ -10,7 +10,7 @@ use Rattle.graph_model.specs.Rows.{key_cmp, is_below, is_between}
 use Rattle.graph_model.proofs.TestLemmas.{self_eq}
 use Rattle.graph_model.proofs.OrderLemmas.{keys_total, keys_exact}
 
-less_of : (r : Ordering) → is_lt r ≡ true → r ≡ Less
+pub less_of : (r : Ordering) → is_lt r ≡ true → r ≡ Less
 less_of Less e = refl
 less_of Equal e = cc
 less_of Greater e = cc
