@@ -4,7 +4,6 @@ use Rattle.std.specs.Prelude.{Option, Bool, true, false, cond, ◌||◌}
 use Rattle.std.specs.List.{list_any}
 use Rattle.graph_model.specs.declared.journal.TxnName.{TxnName}
 use Rattle.graph_model.specs.Conflict.{same_name}
-use Rattle.graph_model.specs.Transactions.{has_name}
 use Rattle.undo_chain.specs.declared.states.Snapshot.{Snapshot}
 use Rattle.undo_chain.specs.States.{Knowledge, Grows, AreNamed}
 use Rattle.undo_chain.specs.Walks.{IsSearch, IsAsked, IsRead, IsCount}
@@ -146,8 +145,8 @@ module _ (c d : ChainMap) (old now : Knowledge) (link next : Option ℕ) (u : Un
   here = subst (AreNamed old.names) at is.named
 
   -- the record's writer may be asked for
-  pub asked_here : u.stamp ≡ None → has_name now.names u.by ≡ true
-  asked_here e = ap (λ names. has_name names u.by) is.grows.names ∙ here.0 e
+  pub asked_here : u.stamp ≡ None → now.names u.by ≡ true
+  asked_here e = ap (λ (names : TxnName → Bool). names u.by) is.grows.names ∙ here.0 e
 
   pub asked_on : (later : Knowledge) → Grows now later → IsAsked d old later next
   asked_on later g = record { named = here.1; grows = grows_chain old now later is.grows g }

@@ -4,7 +4,6 @@ use Rattle.std.specs.List.{AllByRecursion}
 use Rattle.graph_model.specs.declared.journal.TxnName.{TxnName}
 use Rattle.graph_model.specs.declared.state.State.{State}
 use Rattle.graph_model.specs.declared.state.State.TheVariants.{Live, Committed, Aborted}
-use Rattle.graph_model.specs.Transactions.{has_name}
 use Rattle.undo_chain.specs.Records.{UndoRecord}
 
 -- What is known of transactions: all stamps up to a number, and the answers that were given for names.
@@ -12,7 +11,7 @@ pub record Knowledge : Type 0 where
   pub known : ℕ
   pub stamps : TxnName → Option ℕ
   -- whom it may be asked for
-  pub names : List TxnName
+  pub names : TxnName → Bool
   pub vouched : TxnName → State → Bool
 
 -- a stamp up to the number is answered as it is; for another transaction none of these is answered
@@ -30,5 +29,5 @@ pub record Grows (old new : Knowledge) : Type 0 where
   pub vouched : (by : TxnName) (state : State) → old.vouched by state ≡ true → new.vouched by state ≡ true
 
 -- whoever wrote a record without a stamp may be asked for
-abbrev pub AreNamed : List TxnName → List UndoRecord → Type 0
-AreNamed names us = AllByRecursion (λ u. u.stamp ≡ None → has_name names u.by ≡ true) us
+abbrev pub AreNamed : (TxnName → Bool) → List UndoRecord → Type 0
+AreNamed names us = AllByRecursion (λ u. u.stamp ≡ None → names u.by ≡ true) us

@@ -5,7 +5,6 @@
 
 ghost use Rattle.std.specs.Prelude.{◌≡◌, ◌+◌, ◌≤◌, ◌<◌, ◌==◌, true, [], ◌∷◌, length, map, Some, None, OnOk, OnErr, IfOk, IsOk, IsSome};
 ghost use Rattle.std.specs.List.{list_any};
-ghost use Rattle.graph_model.specs.Transactions.{has_name};
 ghost use Rattle.undo_chain.specs.Records.{new_record, newest_of, value_of, TakesNewest, is_settled, has_writer, with_touch, without_touch, open_touches, unsettled_front, stamped_by, upside_down};
 ghost use Rattle.undo_chain.specs.States.{Grows, AreNamed};
 ghost use Rattle.undo_chain.specs.Walks.{Restamps};
@@ -441,7 +440,7 @@ impl Chains {
 /// Whether a record's writer had committed by then.
 fn is_settled_by<S: States>(undo: &Undo, then: u64, states: &mut S) -> bool
     requires known { then ≤ (S.knowledge states.old).known }
-    requires named { undo.now.stamp ≡ None → has_name (S.knowledge states.old).names undo.now.by ≡ true }
+    requires named { undo.now.stamp ≡ None → (S.knowledge states.old).names undo.now.by ≡ true }
     ensures settled { result ≡ is_settled (S.knowledge states.old).stamps then (unlinked undo.now) }
     ensures grows { Grows (S.knowledge states.old) (S.knowledge states.new) }
 {
@@ -467,12 +466,12 @@ mod tests {
     }
 
     impl States for Told {
-        ghost use Rattle.std.specs.Prelude.{[], ◌∷◌, true, Some};
+        ghost use Rattle.std.specs.Prelude.{true, Some};
 
         ghost knowledge = { λ s. record {
           known = 18446744073709551615;
           stamps = λ by. Some 3;
-          names = s.by ∷ [];
+          names = λ by. true;
           vouched = λ by state. true;
         } };
 

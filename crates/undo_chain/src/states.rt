@@ -1,7 +1,6 @@
 //! Where transactions stand.
 
 ghost use Rattle.std.specs.Prelude.{◌≡◌, ◌≤◌, true};
-ghost use Rattle.graph_model.specs.Transactions.{has_name};
 ghost use Rattle.undo_chain.specs.States.{Knowledge, IsAnswer, Grows};
 
 use graph_model::{State, TxnName};
@@ -19,7 +18,7 @@ pub trait States {
 
     /// Where a transaction stands. One that commits meanwhile has a stamp above those that are known.
     fn state(&mut self, by: TxnName) -> State
-        requires { has_name (knowledge self.old).names by ≡ true }
+        requires { (knowledge self.old).names by ≡ true }
         ensures answer { IsAnswer (knowledge self.old) by result }
         ensures vouched { (knowledge self.new).vouched by result ≡ true }
         ensures grows { Grows (knowledge self.old) (knowledge self.new) };

@@ -193,7 +193,7 @@ module _ (rows : FencedRows) (heads : HeadTable) (c : ChainMap) (k : Key) (is : 
   pub row_alone : row_of old_rows place ≡ (k, old_row) ∷ []
   row_alone = row_at_place old_rows place (k, old_row) row_there
 
-  pub row_named : (names : List TxnName) → AreNamedRows names (row_of old_rows place) → IsNamed names old_row
+  pub row_named : (names : TxnName → Bool) → AreNamedRows names (row_of old_rows place) → IsNamed names old_row
   row_named names h = (subst (AreNamedRows names) row_alone h).0
 
   module _ (c1 c2 : ChainMap) (undos touches : Option ℕ) (stamps : TxnName → Option ℕ) (horizon : ℕ)
@@ -318,9 +318,9 @@ module _ (stamps : TxnName → Option ℕ) (horizon : ℕ) (rows : FencedRows) (
         let t : length (take (suc i) all_rows) ≡ min (suc i) (length all_rows) = length-take (suc i) all_rows in
         omega (arith, n, m, k, t, inside)
 
-    pub next_named : (names names1 : List TxnName) → names1 ≡ names → AreNamedRows names all_rows → AreNamedRows names1 (row_of now_rows i)
+    pub next_named : (names names1 : TxnName → Bool) → names1 ≡ names → AreNamedRows names all_rows → AreNamedRows names1 (row_of now_rows i)
     next_named names names1 e h =
-        subst (λ (ns : List TxnName). AreNamedRows ns (row_of now_rows i)) (sym e)
+        subst (λ (ns : TxnName → Bool). AreNamedRows ns (row_of now_rows i)) (sym e)
         (subst (AreNamedRows names) (sym same_row) (all_take _ 1 (drop i all_rows) (all_drop _ i all_rows h)))
 
     pub pruned_next : (rows2 : FencedRows) (heads2 : HeadTable) (c2 : ChainMap) (stamps1 : TxnName → Option ℕ) → stamps1 ≡ stamps

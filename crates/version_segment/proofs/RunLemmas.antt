@@ -84,7 +84,7 @@ fewer_between from until (r ∷ rs) = go (is_between from until r.key) (fewer_be
     go false e = omega (arith, e)
 
 -- whoever is named for all rows is named for each row of the range
-pub named_between : (c : ChainMap) (heads : List ChangedRow) (names : List TxnName) (from until : Key) (rows : List Row) → AreNamedRows names (versioned c heads rows)
+pub named_between : (c : ChainMap) (heads : List ChangedRow) (names : TxnName → Bool) (from until : Key) (rows : List Row) → AreNamedRows names (versioned c heads rows)
     → AllByRecursion (λ r. IsNamed names (versions_in c (heads_at heads r.key) r.weight)) (rows_between from until rows)
 named_between c heads names from until [] h = tt
 named_between c heads names from until (r ∷ rs) h = go (is_between from until r.key) (named_between c heads names from until rs h.1)
@@ -128,7 +128,7 @@ module _ (rows : FencedRows) (heads : HeadTable) (c : ChainMap) (old : Knowledge
     pub filled_named : AreNamedRows old.names (versioned c heads.entries rows.rows) → AreNamed now.names (list_at c (heads_at heads.entries row.key).undos)
     filled_named named =
         let here = all_at _ run i d (named_between c heads.entries old.names from until rows.rows named) below in
-        subst (λ (names : List TxnName). AreNamed names (list_at c (heads_at heads.entries row.key).undos)) (sym is.grows.names)
+        subst (λ (names : TxnName → Bool). AreNamed names (list_at c (heads_at heads.entries row.key).undos)) (sym is.grows.names)
         (named_pairs old.names (value_in (heads_at heads.entries row.key) row.weight) (list_at c (heads_at heads.entries row.key).undos) here.pairs)
 
     -- a row that was read

@@ -6,7 +6,6 @@ use Rattle.graph_model.specs.declared.state.State.{State}
 use Rattle.graph_model.specs.declared.state.State.TheVariants.{Live, Committed, Aborted}
 use Rattle.graph_model.specs.declared.refusal.Cause.{Cause}
 use Rattle.graph_model.specs.declared.refusal.Cause.TheVariants.{Later, Holder}
-use Rattle.graph_model.specs.Transactions.{has_name}
 use Rattle.store_model.specs.Check.{combine}
 use Rattle.store_model.specs.Stamped.{Stamped}
 use Rattle.store_model.proofs.CombineLemmas.{combine-assoc}
@@ -179,15 +178,15 @@ module _ (c : ChainMap) (old : Knowledge) (snapshot : Snapshot) (base : Option �
 
 -- ---- whom one may ask for
 
-pub named_pairs : (names : List TxnName) (value : Option ℕ) (us : List UndoRecord) → AreNamedIn names (pairs_of value us) → AreNamed names us
+pub named_pairs : (names : TxnName → Bool) (value : Option ℕ) (us : List UndoRecord) → AreNamedIn names (pairs_of value us) → AreNamed names us
 named_pairs names value [] h = tt
 named_pairs names value (u ∷ us) h = (h.0, named_pairs names u.older us h.1)
 
-pub named_touches : (names : List TxnName) (us : List UndoRecord) → AreNamedIn names (touches_of us) → AreNamed names us
+pub named_touches : (names : TxnName → Bool) (us : List UndoRecord) → AreNamedIn names (touches_of us) → AreNamed names us
 named_touches names [] h = tt
 named_touches names (u ∷ us) h = let p = split (touches_of us) _ h in (p.1, named_touches names us p.0)
   where
-    split : (ps : List Stamped) (p : Stamped) → AreNamedIn names (ps ++ p ∷ []) → AreNamedIn names ps × (p.stamp ≡ None → has_name names p.by ≡ true)
+    split : (ps : List Stamped) (p : Stamped) → AreNamedIn names (ps ++ p ∷ []) → AreNamedIn names ps × (p.stamp ≡ None → names p.by ≡ true)
     split [] p k = (tt, k.0)
     split (q ∷ qs) p k = let r = split qs p k.1 in ((k.0, r.0), r.1)
 

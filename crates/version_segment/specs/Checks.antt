@@ -10,7 +10,6 @@ use Rattle.graph_model.specs.declared.state.State.TheVariants.{Live, Committed, 
 use Rattle.graph_model.specs.declared.refusal.Cause.{Cause}
 use Rattle.graph_model.specs.declared.refusal.Cause.TheVariants.{Later, Holder}
 use Rattle.graph_model.specs.Conflict.{same_name}
-use Rattle.graph_model.specs.Transactions.{has_name}
 use Rattle.store_model.specs.Check.{combine, no_value}
 use Rattle.store_model.specs.Stamped.{Stamped, StampedVersions}
 use Rattle.undo_chain.specs.declared.states.Snapshot.{Snapshot}
@@ -19,14 +18,14 @@ use Rattle.undo_chain.specs.States.{Knowledge, IsAnswer}
 -- ---- whom one may ask for
 
 -- the writers of records without a stamp may be asked for
-abbrev pub AreNamedIn : List TxnName → List Stamped → Type 0
-AreNamedIn names ps = AllByRecursion (λ p. p.stamp ≡ None → has_name names p.by ≡ true) ps
+abbrev pub AreNamedIn : (TxnName → Bool) → List Stamped → Type 0
+AreNamedIn names ps = AllByRecursion (λ p. p.stamp ≡ None → names p.by ≡ true) ps
 
-pub record IsNamed (names : List TxnName) (versions : StampedVersions) : Type 0 where
+pub record IsNamed (names : TxnName → Bool) (versions : StampedVersions) : Type 0 where
   pub pairs : AreNamedIn names versions.pairs
   pub touches : AreNamedIn names versions.touches
 
-abbrev pub AreNamedRows : List TxnName → List (Key × StampedVersions) → Type 0
+abbrev pub AreNamedRows : (TxnName → Bool) → List (Key × StampedVersions) → Type 0
 AreNamedRows names rows = AllByRecursion (λ row. IsNamed names row.1) rows
 
 -- ---- one writer

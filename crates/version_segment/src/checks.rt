@@ -2,7 +2,6 @@
 
 ghost use Rattle.std.specs.Prelude.{◌≡◌, ℕ, take, None, true, Option};
 ghost use Rattle.graph_model.specs.Conflict.{same_name};
-ghost use Rattle.graph_model.specs.Transactions.{has_name};
 ghost use Rattle.store_model.specs.Check.{combine};
 ghost use Rattle.undo_chain.specs.Records.{pairs_of};
 ghost use Rattle.undo_chain.specs.States.{Grows, AreNamed};
@@ -86,7 +85,7 @@ pub(crate) fn drop_cause<S: States>(
 
 /// What a record's writer says against a write.
 fn cause_of<S: States>(undo: &Undo, snapshot: &Snapshot, states: &mut S) -> Option<Cause>
-    requires { undo.now.stamp ≡ None → has_name (S.knowledge states.old).names undo.now.by ≡ true }
+    requires { undo.now.stamp ≡ None → (S.knowledge states.old).names undo.now.by ≡ true }
     ensures checked { IsOneChecked (S.knowledge states.old) (S.knowledge states.new) snapshot.now undo.now result }
     ensures grows { Grows (S.knowledge states.old) (S.knowledge states.new) }
 {
@@ -99,7 +98,7 @@ fn cause_of<S: States>(undo: &Undo, snapshot: &Snapshot, states: &mut S) -> Opti
 
 /// Where a record's writer stands. Whoever asks is open.
 fn state_of<S: States>(undo: &Undo, own: TxnName, states: &mut S) -> State
-    requires { undo.now.stamp ≡ None → has_name (S.knowledge states.old).names undo.now.by ≡ true }
+    requires { undo.now.stamp ≡ None → (S.knowledge states.old).names undo.now.by ≡ true }
     ensures state { IsStateBy (S.knowledge states.old) (S.knowledge states.new)
         (same_name undo.now.by own) undo.now.stamp undo.now.by result }
     ensures grows { Grows (S.knowledge states.old) (S.knowledge states.new) }

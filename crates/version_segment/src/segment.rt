@@ -416,12 +416,12 @@ mod tests {
     }
 
     impl States for Done {
-        ghost use Rattle.std.specs.Prelude.{[], ◌∷◌, true, Some};
+        ghost use Rattle.std.specs.Prelude.{true, Some};
 
         ghost knowledge = { λ s. record {
           known = 18446744073709551615;
           stamps = λ by. Some 3;
-          names = s.by ∷ [];
+          names = λ by. true;
           vouched = λ by state. true;
         } };
 
@@ -437,12 +437,12 @@ mod tests {
     }
 
     impl States for Open {
-        ghost use Rattle.std.specs.Prelude.{[], ◌∷◌, true, None};
+        ghost use Rattle.std.specs.Prelude.{true, None};
 
         ghost knowledge = { λ s. record {
           known = 18446744073709551615;
           stamps = λ by. None;
-          names = s.by ∷ [];
+          names = λ by. true;
           vouched = λ by state. true;
         } };
 

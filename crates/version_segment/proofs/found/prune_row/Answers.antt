@@ -1,4 +1,4 @@
-use Rattle.std.proofs.Common.{◌≡◌, ℕ, sym, subst, inr, List, arith}
+use Rattle.std.proofs.Common.{◌≡◌, ℕ, sym, subst, inr, List, arith, Bool}
 use Rattle.graph_model.specs.declared.journal.TxnName.{TxnName}
 use Rattle.std.specs.Prelude.{Option}
 use Rattle.undo_chain.specs.States.{AreNamed}
@@ -19,7 +19,7 @@ prune_touches-touches-requires-clause-named g c =
     let named = named_touches _ (list_at c.args.chains.now c.row_at-row.result.touches) (row_named c.args.rows.now c.args.heads.now c.args.chains.now _ c.requires.parts _ c.row_at-row.ensures.row _ c.row_at-row.ensures.place _ c.requires.named).touches in
     let stay = undos_leave_touches _ _ _ _ _ _ _ (row_begin _ c.args.heads.now _ _ c.requires.parts _ c.row_at-row.ensures.row) _ c.prune-undos.ensures.others in
     subst (λ (us : List UndoRecord). AreNamed (g.S.States.knowledge c.prune-undos.new.states).names us) (sym stay)
-    (subst (λ (names : List TxnName). AreNamed names (list_at c.args.chains.now c.row_at-row.result.touches)) (sym c.prune-undos.ensures.grows.names) named)
+    (subst (λ (names : TxnName → Bool). AreNamed names (list_at c.args.chains.now c.row_at-row.result.touches)) (sym c.prune-undos.ensures.grows.names) named)
 
 pub set_row-requires-clause-room : goal.set_row-requires-clause-room
 set_row-requires-clause-room g c =

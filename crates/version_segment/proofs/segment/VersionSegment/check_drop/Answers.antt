@@ -1,4 +1,4 @@
-use Rattle.std.proofs.Common.{◌∙◌, ap, sym, subst, None, List}
+use Rattle.std.proofs.Common.{◌∙◌, ap, sym, subst, None, List, Bool}
 use Rattle.graph_model.specs.declared.journal.TxnName.{TxnName}
 use Rattle.version_segment.specs.Rows.{VersionedRows, versions_at}
 use Rattle.version_segment.specs.Checks.{AreNamedIn, IsNamed, IsChecked, cause_in, newest_and_touches}
@@ -17,7 +17,7 @@ pub touch_cause-touches-requires-clause-named : goal.touch_cause-touches-require
 touch_cause-touches-requires-clause-named g c =
     let found = ap (λ (s : VersionedRows). versions_at s c.args.key) (sym c.self.view_is) ∙ versions_now _ c.self.inside.heads c.self.inside.chains _ c.self.invariant _ c.in-Ok.ensures in
     let touches = list_at c.self.inside.chains c.in-Ok.row.touches in
-    named_touches _ touches (subst (λ (names : List TxnName). AreNamedIn names (touches_of touches)) (sym c.newest_cause-newest.ensures.grows.names) (subst (IsNamed (g.S.States.knowledge c.args.states.now).names) found c.requires).touches)
+    named_touches _ touches (subst (λ (names : TxnName → Bool). AreNamedIn names (touches_of touches)) (sym c.newest_cause-newest.ensures.grows.names) (subst (IsNamed (g.S.States.knowledge c.args.states.now).names) found c.requires).touches)
 
 pub returns-in-Ok-clause-checked : goal.returns-in-Ok-clause-checked
 returns-in-Ok-clause-checked g c =
