@@ -1,6 +1,7 @@
 # The toolchain's command `rt` must be on PATH.
 
 PREFIX ?= /usr/local
+EXAMPLE ?= first
 MANUALS = $(PREFIX)/share/man/man1
 COMPLETIONS = $(PREFIX)/share/bash-completion/completions
 PROGRAM = crates/teseo/out/teseo
@@ -9,7 +10,8 @@ ARCHIVE = teseo-$(shell git rev-parse --short HEAD).tar.gz
 .PHONY: help demo build install uninstall test bench dist clean
 
 help:
-	@echo 'make demo       runs the example, checked and not proved, in half a minute'
+	@echo 'make demo       runs an example, checked and not proved, in half a minute: EXAMPLE=first'
+	@echo '                or fraud, routes, network, conflict, kernels'
 	@echo 'make build      proves and builds the program: 6 to 20 minutes the first time'
 	@echo 'make install    builds, and puts teseo, its manual page and its completion below PREFIX ($(PREFIX))'
 	@echo 'make uninstall  removes them from there'
@@ -19,7 +21,7 @@ help:
 	@echo 'make clean      removes all that was built'
 
 demo:
-	@examples/first/demo.sh
+	@examples/demo.sh $(EXAMPLE)
 
 build:
 	@echo 'Proving and building takes 6 to 20 minutes the first time, and seconds where nothing changed.'

@@ -1,0 +1,36 @@
+#!/usr/bin/env bash
+# Runs an example with `rt try` in a temporary folder, shows what the run says and the first lines of what it writes, and
+# compares all of it with what is stored.
+#
+#     demo.sh EXAMPLE
+#
+# EXAMPLE is a folder beside this file with a run.sh and an expected/.
+set -euo pipefail
+examples=$(cd "$(dirname "$0")" && pwd)
+example=$1
+work=$(mktemp -d)
+trap 'rm -rf "$work"' EXIT
+mkdir "$work/outputs"
+
+[ -x "$examples/$example/run.sh" ] || {
+    echo "There is no example $example. There are: $(cd "$examples" && echo */run.sh | sed 's|/run.sh||g')"
+    exit 1
+}
+echo "This runs the checked build and not the proved one (that is 'make build'). Compiling takes half a minute or more."
+cd "$examples/../crates/teseo"
+"$examples/$example/run.sh" "$work/outputs" rt try -- 2>"$work/told" || {
+    cat "$work/outputs/"*said "$work/told"
+    exit 1
+}
+
+cd "$work/outputs"
+for output in *said *.report $(ls | grep -v -e 'said$' -e '\.report$'); do
+    lines=$(wc -l <"$output")
+    printf '\n== %s\n' "$output"
+    head -n 5 "$output"
+    [ "$lines" -le 5 ] || echo ".. $lines lines"
+done
+
+echo
+diff -r "$examples/$example/expected" "$work/outputs"
+echo "All of it is what examples/$example/expected has. The page is examples/$example/README.md."
