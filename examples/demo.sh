@@ -6,6 +6,7 @@
 #
 # EXAMPLE is a folder beside this file with a run.sh and an expected/.
 set -euo pipefail
+shopt -s extglob
 examples=$(cd "$(dirname "$0")" && pwd)
 example=$1
 work=$(mktemp -d)
@@ -24,7 +25,7 @@ cd "$examples/../crates/teseo"
 }
 
 cd "$work/outputs"
-for output in *said *.report $(ls | grep -v -e 'said$' -e '\.report$'); do
+for output in *said *.report !(*said|*.report); do
     lines=$(wc -l <"$output")
     printf '\n== %s\n' "$output"
     head -n 5 "$output"
