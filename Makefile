@@ -47,4 +47,4 @@ dist:
 	@echo $(ARCHIVE)
 
 clean:
-	rm -rf crates/*/out teseo-*.tar.gz
+	rm -rf crates/*/out examples/handoff/*/out teseo-*.tar.gz
