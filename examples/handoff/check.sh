@@ -1,6 +1,6 @@
 #!/usr/bin/env bash
 # Compares far with teseo, byte by byte, on made graphs and on small odd ones, on 1, 2 and 4 processes; and tries fold
-# on the journals of these runs, and on spoiled ones.
+# on the journals of these runs, of two that change the graph, and on spoiled ones.
 #
 #     check.sh [TESEO]
 #
@@ -40,17 +40,19 @@ compare() {
     }
 }
 
+# The lines of `$lines`, with a folder before the name of each result.
+kernels_into() {
+    local line
+    while read -r line; do echo "${line% *} $1/${line##* }"; done <<<"$lines"
+}
+
 # Runs the kernels of `$lines`, of which each result has its own name, by teseo and by far, in the case's folder with
 # its files v and e. Behind the name stand the options of both.
 try_case() {
-    local name=$1 processes line before=$differing
+    local name=$1 processes before=$differing
     shift
     mkdir -p "$name"/near
-    {
-        echo begin
-        while read -r line; do echo "${line% *} near/${line##* }"; done <<<"$lines"
-        echo abort
-    } >"$name/script"
+    { echo begin && kernels_into near && echo abort; } >"$name/script"
     (cd "$name" && "$teseo" run --vertices v --edges e --journal journal "$@" script) >"$name/said" || {
         echo "$name: teseo says $(cat "$name/said")"
         differing=$((differing + 1))
@@ -58,7 +60,7 @@ try_case() {
     }
     for processes in 1 2 4; do
         mkdir "$name/on$processes"
-        mapfile -t words < <(while read -r line; do echo "${line% *} on$processes/${line##* }"; done <<<"$lines")
+        mapfile -t words < <(kernels_into "on$processes")
         (cd "$name" && mpirun --oversubscribe -n $processes "$here/far/out/far" "$@" v e "${words[@]}") \
             >"$name/told" 2>&1 || { echo "$name: far on $processes:" && cat "$name/told"; }
         for result in "$name"/near/*; do
@@ -101,6 +103,41 @@ small_case() {
     printf '%s' "$3" | tr / '\n' >"$1/e"
 }
 
+# Writes of each kind for the edges of a made graph, in many small transactions.
+changes_of() {
+    awk '{ new = 5000 + NR; other = 9000 + NR }
+         NR % 3 == 0 { print "begin\ndrop", $1, $2, "\ncommit" }
+         NR % 5 == 0 { print "begin\nset", $1, $2, NR, "\ncommit" }
+         NR % 7 == 0 { print "begin\nvertex", new, "\nedge", $1, new, "\nedge", new, $2, NR, "\ncommit" }
+         NR % 8 == 0 { print "begin\nvertex", other, "\ncommit\nbegin\nunvertex", other, "\ncommit" }
+         NR % 14 == 0 { print "begin\ndrop", $1, new, "\ndrop", new, $2, "\nunvertex", new, "\ncommit" }' "$1"
+}
+
+# Changes a made graph by a script, and folds the journal up to the load and to its end: the kernels give there what
+# they gave in the run, before the changes and behind them.
+try_changes() {
+    local name=$1 before=$differing stage
+    shift
+    mkdir "$name/before" "$name/behind"
+    {
+        echo begin && kernels_into before && echo abort
+        changes_of "$name/made"
+        echo begin && kernels_into behind && echo abort
+    } >"$name/script"
+    (cd "$name" && "$teseo" run --vertices v --edges e --journal journal "$@" script) >"$name/said"
+    for stage in before behind; do
+        mkdir -p "$name/$stage-again/$stage"
+        { echo begin && kernels_into $stage && echo abort; } >"$name/$stage-again/script"
+        upto=() && [ $stage = behind ] || upto=(--upto 1)
+        "$here/fold/out/fold" "$name/journal" "$name/$stage-again/v" "$name/$stage-again/e" "$@" "${upto[@]}" >/dev/null
+        (cd "$name/$stage-again" && "$teseo" run --vertices v --edges e --journal journal "$@" script) >/dev/null
+        for result in "$name/$stage"/*; do
+            compare "$result" "$name/$stage-again/$stage/$(basename "$result")" "$name, folded $stage"
+        done
+    done
+    echo "$name ($*): $(sed 's/ undo.*//' "$name/said"), $((differing - before)) differ"
+}
+
 # A journal that fold must refuse: what stands behind its first five lines, and the fault.
 try_spoiled() {
     local said
@@ -126,6 +163,12 @@ try_made_graphs() {
             try_case "made-$count" $options
         done
     done
+}
+
+try_changed_graphs() {
+    lines=$'bfs 1 hops\nsssp 1 ways\nwcc parts\ncdlp 10 groups'
+    make_case changed-1 4 200 500 && try_changes changed-1 --weights 1
+    make_case changed-2 4 200 500 && try_changes changed-2 --directed --weights 1
 }
 
 try_small_graphs() {
@@ -171,6 +214,7 @@ try_spoiled_journals() {
 look_for_packages
 make -s -C "$here/fold" && make -s -C "$here/far" || exit 1
 cd "$work" || exit 1
+try_changed_graphs
 try_made_graphs
 try_small_graphs
 try_spoiled_journals
