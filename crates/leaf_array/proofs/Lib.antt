@@ -6,3 +6,4 @@ pub mod PairLemmas
 pub mod MergeLemmas
 pub mod NewLeafLemmas
 mod EightLemmas
+pub mod StayLemmas

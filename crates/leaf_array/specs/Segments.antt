@@ -47,6 +47,11 @@ AreChained (s ∷ ss) = (low_or ss s.high ≡ s.high) × AreChained ss
 abbrev pub BeginsAtRow : VersionedRows → Type 0
 BeginsAtRow s = s.low ≡ first_key_of s.rows s.high
 
+-- both fence keys are as they were
+pub record KeepsFences (old new : VersionedRows) : Type 0 where
+  pub low : new.low ≡ old.low
+  pub high : new.high ≡ old.high
+
 -- the range of the segment at the place holds the key
 abbrev pub HoldsKey : List VersionedRows → Key → ℕ → Type 0
 HoldsKey ss key place = IsSomeAnd (slice_get ss place) (λ s. is_between s.low s.high key ≡ true)

@@ -4,7 +4,7 @@
 //! 2. All writers have committed, so a prune settles all rows.
 
 ghost use Rattle.std.specs.Prelude.{◌≡◌};
-ghost use Rattle.store_bench.specs.Whole.{AreSameFences};
+ghost use Rattle.leaf_array.specs.Segments.{KeepsFences};
 
 use crate::best::{Best, CALLS, ROUNDS};
 use crate::known::Known;
@@ -55,7 +55,7 @@ fn segments_of(alloc: Global, rows: u64) -> Result<Vec<VersionSegment>, NoMemory
 
 /// Writes a row's value where the segment may have its key and has room.
 pub(crate) fn write(segment: &mut VersionSegment, key: Key, value: u64) -> Result<(), NoMemory>
-    ensures { AreSameFences segment.old segment.new }
+    ensures { KeepsFences segment.old segment.new }
 {
     segment.reserve()?;
     let is_within = !key.is_below(segment.low()) && key.is_below(segment.high());
@@ -67,7 +67,7 @@ pub(crate) fn write(segment: &mut VersionSegment, key: Key, value: u64) -> Resul
 
 /// Takes all records of a segment away.
 pub(crate) fn settle(segment: &mut VersionSegment) -> usize
-    ensures { AreSameFences segment.old segment.new }
+    ensures { KeepsFences segment.old segment.new }
 {
     segment.prune(9, &mut Known {})
 }
