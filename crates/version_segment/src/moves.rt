@@ -79,7 +79,8 @@ fn hand_all(
     requires sorted { AreSorted rows.now }
     requires room { all_records (versioned from.old from_heads.old.entries rows.now) ≤ to.old.spare }
     requires entry { all_records (versioned from.old from_heads.old.entries rows.now) ≤ to_heads.old.spare }
-    ensures { HandsRows rows.now from_heads.old from_heads.new from.old from.new to_heads.old to_heads.new to.old to.new }
+    ensures { HandsRows rows.now from_heads.old from_heads.new from.old from.new
+        to_heads.old to_heads.new to.old to.new }
 {
     if !(from_heads.is_empty() && to_heads.is_empty()) {
         hand_each(from_heads, from, to_heads, to, rows);
@@ -100,7 +101,8 @@ fn hand_each(
     requires sorted { AreSorted rows.now }
     requires room { all_records (versioned from.old from_heads.old.entries rows.now) ≤ to.old.spare }
     requires entry { all_records (versioned from.old from_heads.old.entries rows.now) ≤ to_heads.old.spare }
-    ensures { HandsRows rows.now from_heads.old from_heads.new from.old from.new to_heads.old to_heads.new to.old to.new }
+    ensures { HandsRows rows.now from_heads.old from_heads.new from.old from.new
+        to_heads.old to_heads.new to.old to.new }
 {
     let Some((first, rest)) = rows.split_first() else {
         return;
