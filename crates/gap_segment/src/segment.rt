@@ -154,6 +154,23 @@ impl Segment {
         right.low = right.high;
     }
 
+    /// Moves rows between two neighbours at once, so that this one has the first so many of both. The fence key
+    /// between them is that of the other one's first row, or the high one where it has none.
+    pub fn share(&mut self, right: &mut Segment, count: usize)
+        requires neighbours { self.old.high ≡ right.old.low }
+        requires count { count ≤ length self.old.rows + length right.old.rows }
+        requires room { length self.old.rows < count → count ≤ SEGMENT_ROWS }
+        requires right_room { count < length self.old.rows
+            → length self.old.rows + length right.old.rows ≤ count + SEGMENT_ROWS }
+        ensures left { self.new ≡ front_of (joined self.old right.old) count }
+        ensures right { right.new ≡ back_of (joined self.old right.old) count }
+    {
+        share_rows(&mut self.rows, &mut right.rows, count);
+        let cut = first_key(right.rows.as_slice(), right.high);
+        right.low = cut;
+        self.high = right.low;
+    }
+
     /// Sets both fence keys.
     pub fn set_fences(&mut self, low: Key, high: Key)
         requires fences { is_below high low ≡ false }
@@ -163,6 +180,57 @@ impl Segment {
         self.low = low;
         self.high = high;
     }
+}
+
+/// Divides the rows of both anew, so that the left one has the first so many.
+fn share_rows(left: &mut Vec<Row>, right: &mut Vec<Row>, count: usize)
+    requires count { count ≤ length left.old.items + length right.old.items }
+    requires room { length left.old.items < count → count ≤ vec_capacity left.old }
+    requires right_room { count < length left.old.items
+        → length left.old.items + length right.old.items ≤ count + vec_capacity right.old }
+    ensures left { left.new.items ≡ take count (left.old.items ++ right.old.items) }
+    ensures right { right.new.items ≡ drop count (left.old.items ++ right.old.items) }
+    ensures left_capacity { vec_capacity left.old ≤ vec_capacity left.new }
+    ensures right_capacity { vec_capacity right.old ≤ vec_capacity right.new }
+{
+    let has = left.len();
+    if count < has {
+        give_rows(left, right, count);
+    } else {
+        take_rows(left, right, count - has);
+    }
+}
+
+/// Moves the rows from a place on to the front of others, which have room for them.
+fn give_rows(left: &mut Vec<Row>, right: &mut Vec<Row>, place: usize)
+    requires place { place ≤ length left.old.items }
+    requires room { length left.old.items + length right.old.items ≤ place + vec_capacity right.old }
+    ensures left { left.new.items ≡ take place left.old.items }
+    ensures right { right.new.items ≡ drop place left.old.items ++ right.old.items }
+    ensures left_capacity { vec_capacity left.old ≤ vec_capacity left.new }
+    ensures right_capacity { vec_capacity right.old ≤ vec_capacity right.new }
+{
+    let (_, moved) = left.as_slice().split_at(place);
+    let count = moved.len();
+    copy_rows(right, moved);
+    right.rotate_right(count);
+    left.truncate(place);
+}
+
+/// Moves the first rows of others to the end of these, which have room for them.
+fn take_rows(left: &mut Vec<Row>, right: &mut Vec<Row>, count: usize)
+    requires count { count ≤ length right.old.items }
+    requires room { length left.old.items + count ≤ vec_capacity left.old }
+    ensures left { left.new.items ≡ left.old.items ++ take count right.old.items }
+    ensures right { right.new.items ≡ drop count right.old.items }
+    ensures left_capacity { vec_capacity left.old ≤ vec_capacity left.new }
+    ensures right_capacity { vec_capacity right.old ≤ vec_capacity right.new }
+{
+    let (moved, rest) = right.as_slice().split_at(count);
+    let left_over = rest.len();
+    copy_rows(left, moved);
+    right.rotate_left(count);
+    right.truncate(left_over);
 }
 
 /// Puts the rows at the end, within the vector's room.

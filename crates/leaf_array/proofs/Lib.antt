@@ -5,3 +5,5 @@ pub mod LeafLemmas
 pub mod PairLemmas
 pub mod MergeLemmas
 pub mod NewLeafLemmas
+mod EightLemmas
+pub mod StayLemmas

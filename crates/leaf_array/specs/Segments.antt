@@ -1,7 +1,8 @@
 -- Segments behind one another, as plain lists.
-use Rattle.std.specs.Prelude.{◌≡◌, ℕ, ◌+◌, ◌≤◌, List, [], ◌∷◌, ◌++◌, length, map, drop}
+use Rattle.std.specs.Prelude.{◌≡◌, ℕ, ◌+◌, ◌≤◌, true, List, [], ◌∷◌, ◌++◌, length, map, drop, slice_get, IsSomeAnd}
 use Rattle.std.specs.List.{AllByRecursion}
 use Rattle.graph_model.specs.declared.row.Key.{Key}
+use Rattle.graph_model.specs.Rows.{is_between}
 use Rattle.store_model.specs.Stamped.{StampedVersions}
 use Rattle.version_segment.specs.Rows.{VersionedRows, IsSameSegment, all_records, first_key_of}
 
@@ -45,6 +46,15 @@ AreChained (s ∷ ss) = (low_or ss s.high ≡ s.high) × AreChained ss
 -- a segment begins with its first row, or where it has none at its end
 abbrev pub BeginsAtRow : VersionedRows → Type 0
 BeginsAtRow s = s.low ≡ first_key_of s.rows s.high
+
+-- both fence keys are as they were
+pub record KeepsFences (old new : VersionedRows) : Type 0 where
+  pub low : new.low ≡ old.low
+  pub high : new.high ≡ old.high
+
+-- the range of the segment at the place holds the key
+abbrev pub HoldsKey : List VersionedRows → Key → ℕ → Type 0
+HoldsKey ss key place = IsSomeAnd (slice_get ss place) (λ s. is_between s.low s.high key ≡ true)
 
 -- ---- room for records
 

@@ -1,8 +1,10 @@
 //! Leaves.
 
-ghost use Rattle.std.specs.Prelude.{◌≡◌, ◌++◌, false, IfOk};
-ghost use Rattle.graph_model.specs.Rows.{is_below};
-ghost use Rattle.leaf_array.specs.Leaves.{IsEmpty, AreFourEmpty, IsEmptyFrom};
+ghost use Rattle.std.specs.Prelude.{◌≡◌, ◌<◌, ◌++◌, true, false, length, IfOk};
+ghost use Rattle.graph_model.specs.Rows.{is_below, is_between};
+ghost use Rattle.version_segment.specs.Rows.{VersionedRows};
+ghost use Rattle.leaf_array.specs.Segments.{AreChained, counts_of, lows_of, low_or, high_or, HoldsKey};
+ghost use Rattle.leaf_array.specs.Leaves.{IsLeaf, IsEmpty, AreFourEmpty, IsEmptyFrom};
 
 use graph_model::{Key, LEAF_SEGMENTS, NoMemory};
 use std::alloc::Global;
@@ -25,6 +27,76 @@ impl Leaf {
         Ok(Leaf {
             segments: joined(front, back),
         })
+    }
+
+    /// How many rows each segment has, as the windows of density are found by.
+    pub fn counts(&self) -> [u8; LEAF_SEGMENTS]
+        requires { IsLeaf self.now.segments }
+        ensures { result ≡ counts_of self.now.segments }
+    {
+        let [first, second, third, fourth, fifth, sixth, seventh, eighth] = &self.segments;
+        [
+            count(first),
+            count(second),
+            count(third),
+            count(fourth),
+            count(fifth),
+            count(sixth),
+            count(seventh),
+            count(eighth),
+        ]
+    }
+
+    /// Where each segment begins, as the index of leaves keeps it.
+    pub fn cuts(&self) -> [Key; LEAF_SEGMENTS]
+        requires { IsLeaf self.now.segments }
+        ensures { result ≡ lows_of self.now.segments }
+    {
+        let [first, second, third, fourth, fifth, sixth, seventh, eighth] = &self.segments;
+        [
+            first.low(),
+            second.low(),
+            third.low(),
+            fourth.low(),
+            fifth.low(),
+            sixth.low(),
+            seventh.low(),
+            eighth.low(),
+        ]
+    }
+
+    /// The segment whose range holds a key of the leaf's range.
+    pub fn segment(&self, key: Key) -> usize
+        requires leaf { IsLeaf self.now.segments }
+        requires from { is_below key (low_or self.now.segments key) ≡ false }
+        requires until { is_below key (high_or self.now.segments key) ≡ true }
+        ensures { HoldsKey self.now.segments key result }
+    {
+        segment_in(&self.segments, key)
+    }
+}
+
+/// How many rows a segment has.
+fn count(segment: &VersionSegment) -> u8
+    ensures { result ≡ length segment.now.rows }
+{
+    segment.len() as u8
+}
+
+/// The segment whose range holds the key, which is the first one that ends above it.
+fn segment_in(segments: &[VersionSegment], key: Key) -> usize
+    requires chained { AreChained segments.now }
+    requires from { is_below key (low_or segments.now key) ≡ false }
+    requires until { is_below key (high_or segments.now key) ≡ true }
+    ensures { HoldsKey segments.now key result }
+{
+    let Some((first, rest)) = segments.split_first() else {
+        return 0;
+    };
+    if key.is_below(first.high()) {
+        0
+    } else {
+        segment_in(rest, key) + 1
     }
 }
 

@@ -10,6 +10,8 @@ mod leaf;
 mod neighbours;
 mod pairs;
 mod window;
+#[cfg(test)]
+mod worked;
 
 pub use leaf::Leaf;
 pub use pairs::{merge_leaves, split_leaf};

@@ -148,32 +148,3 @@ fn place_all(segments: &mut [VersionSegment], at: Key)
     first.place_at(at);
     place_all(rest, at);
 }
-
-#[cfg(test)]
-mod tests {
-    use super::*;
-    use std::test::Fail;
-
-    #[test]
-    fn two_neighbours_are_merged_with_ample_memory(rt: HostRuntime) -> Result<(), Fail> {
-        let low = Key { src: 1, second: 0 };
-        let between = Key { src: 5, second: 0 };
-        let high = Key { src: 9, second: 0 };
-        let mut left = Leaf::new(rt.alloc(), low, between)?;
-        let mut right = Leaf::new(rt.alloc(), between, high)?;
-        merge_leaves(&mut left, &mut right)?;
-        for (place, want) in [(0, low), (1, high), (7, high)] {
-            assert_eq!(rt;
-                left.segments[place].low(),
-                want,
-                "where segment {place} of the left leaf begins"
-            );
-        }
-        assert_eq!(rt;
-            right.segments[0].low(),
-            high,
-            "where the right leaf begins"
-        );
-        Ok(())
-    }
-}

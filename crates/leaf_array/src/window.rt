@@ -64,26 +64,3 @@ fn reserve_for(segments: &mut [VersionSegment], times: usize) -> Result<(), NoMe
     let room = records.checked_mul(times).ok_or(NoMemory)?;
     reserve(segments, room)
 }
-
-#[cfg(test)]
-mod tests {
-    use super::*;
-    use graph_model::Key;
-    use std::test::Fail;
-
-    #[test]
-    fn a_leaf_is_made_and_spread_with_ample_memory(rt: HostRuntime) -> Result<(), Fail> {
-        let low = Key { src: 1, second: 0 };
-        let high = Key { src: 9, second: 0 };
-        let mut leaf = Leaf::new(rt.alloc(), low, high)?;
-        spread(&mut leaf, Window { first: 0, len: 8 })?;
-        for (place, want) in [(0, low), (1, high), (7, high)] {
-            assert_eq!(rt;
-                leaf.segments[place].low(),
-                want,
-                "where segment {place} begins"
-            );
-        }
-        Ok(())
-    }
-}

@@ -1,5 +1,5 @@
 -- What becomes of the table where the slot of a leaf changes, and of the leaves where one is put in or taken out.
-use Rattle.std.proofs.Common.{◌≡◌, ◌≢◌, ℕ, zero, suc, ◌+◌, ◌-◌, ◌<◌, ◌≤◌, ◌==◌, Bool, true, false, not, cond, nat_lt, eqb, List, [], ◌∷◌, ◌++◌, Option, Some, None, length, map, count_by, set, refl, sym, ◌∙◌, ap, subst, arith, eqb-true, eq-eqb, append_assoc, length-append}
+use Rattle.std.proofs.Common.{◌≡◌, ◌≢◌, ℕ, zero, suc, ◌+◌, ◌<◌, ◌≤◌, ◌==◌, Bool, true, false, not, nat_lt, List, [], ◌∷◌, ◌++◌, Some, length, count_by, set, refl, sym, ◌∙◌, ap, subst, arith, eq-eqb, append_assoc, length-append}
 use Rattle.std.proofs.Math.ListN.{length-set}
 use Rattle.std.specs.Prelude.{slice_get}
 use Rattle.std.specs.List.{AllByRecursion}
@@ -7,13 +7,13 @@ use Rattle.graph_model.specs.declared.row.Key.{Key}
 use Rattle.graph_model.specs.Rows.{is_below, first_key, end_key}
 use Rattle.leaf_trie.specs.declared.start.LeafStart.{LeafStart}
 use Rattle.leaf_trie.specs.Leaves.{Inserts, NoneBegins, OneBegins, Removes, BeginAbove as StartAbove, BeginBelow as StartBelow}
-use Rattle.leaf_trie.proofs.ListLemmas.{all_map, all_append, all_front, all_back}
+use Rattle.leaf_trie.proofs.ListLemmas.{all_append, all_front, all_back}
 use Rattle.leaf_index.specs.declared.slot.Slot.{Slot}
 use Rattle.leaf_index.specs.declared.route.Retired.{Retired}
-use Rattle.leaf_index.specs.Index.{Entry, Index, AreCuts, AreSorted, BeginAbove, NotAbove, IsTaken, end_of, first_or}
+use Rattle.leaf_index.specs.Index.{Entry, AreCuts, AreSorted, BeginAbove, NotAbove, end_of}
 use Rattle.leaf_index.specs.Slots.{HasSlot, HaveSlots, AreRisingStarts, StandOnce, IsKept, IsFloorStart, BeginsBefore, begin_or, cuts_or_none, entry_of, entries_of, times}
 use Rattle.leaf_index.specs.Calls.{CanAdd, CanDrop, CanCut, with_cuts, with_leaf, without_leaf}
-use Rattle.graph_model.proofs.KeyLemmas.{below_self, below_flip, below_chain, upto_chain, below_up}
+use Rattle.graph_model.proofs.KeyLemmas.{below_self, below_flip, below_chain, upto_chain}
 use Rattle.leaf_index.proofs.CountLemmas.{count_cons, count_append, none_counted, at_most_one, worth}
 use Rattle.leaf_index.proofs.SlotLemmas.{end_begin, entries_append, slot_at, slot_read, same_some, within_there}
 use Rattle.leaf_index.proofs.IndexLemmas.{Unused, once_more}
@@ -146,9 +146,9 @@ above_passed key [] h = tt
 above_passed key (s ∷ ss) h = (ap not h.0, above_passed key ss h.1)
 
 -- a leaf that begins at the key is the last one that does not begin above it
-pub floor_is : (key : Key) (starts : List LeafStart) (leaf : ℕ) (front : List LeafStart) (s : LeafStart) (back : List LeafStart) → (f : IsFloorStart key starts leaf) → starts ≡ front ++ s ∷ back → NotAbove s.low key → StartAbove key back → Same f.front f.start f.back front s back
+pub floor_is : (key : Key) (starts : List LeafStart) (leaf : ℕ) (front : List LeafStart) (s : LeafStart) (back : List LeafStart) → (f : IsFloorStart key starts leaf) → starts ≡ front ++ s ∷ back → NotAbove s.low key → StartAbove key back → Same f.last.front f.start f.last.back front s back
 floor_is key starts leaf front s back f is from above =
-    one_last (λ (x : LeafStart). not (is_below key x.low)) f.front f.start f.back front s back (sym f.is ∙ is) (ap not f.from) (above_passed key f.back f.above) (ap not from) (above_passed key back above)
+    one_last (λ (x : LeafStart). not (is_below key x.low)) f.last.front f.start f.last.back front s back (sym f.last.is ∙ is) (ap not f.last.from) (above_passed key f.last.back f.last.above) (ap not from) (above_passed key back above)
 
 -- ---- other cuts
 
@@ -441,7 +441,7 @@ drop_changed slots starts after free retired entries low dropped before gone now
     let same_d = floor_is low starts dropped (n.before ++ p ∷ []) d n.behind f grouped from n.above in
     let number_d : d.leaf ≡ dropped = ap (λ (x : LeafStart). x.leaf) (sym same_d.starts) ∙ f.same in
     let rest : AllByRecursion (λ (s : LeafStart). is_below s.low low ≡ false) (d ∷ n.behind) = (subst (λ x. is_below x low ≡ false) (sym n.begins) (below_self low), none_below low n.behind n.above) in
-    let same_p = one_last (λ (x : LeafStart). is_below x.low low) b.front b.start b.back n.before p (d ∷ n.behind) (sym b.is ∙ n.is) b.below b.rest n.below rest in
+    let same_p = one_last (λ (x : LeafStart). is_below x.low low) b.last.front b.start b.last.back n.before p (d ∷ n.behind) (sym b.last.is ∙ n.is) b.last.below b.last.rest n.below rest in
     let number_p : p.leaf ≡ before = ap (λ (x : LeafStart). x.leaf) (sym same_p.starts) ∙ b.same in
     let removed_above : StartAbove low rem.back = subst (λ x. StartAbove x rem.back) rem.low (rising_behind rem.front rem.start rem.back (subst AreRisingStarts rem.was k.rising)) in
     let removed_from : NotAbove rem.start.low low = subst (λ x. NotAbove x low) (sym rem.low) (below_self low) in

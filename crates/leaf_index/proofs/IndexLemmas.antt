@@ -1,17 +1,16 @@
 -- What an index keeps, and what becomes of it as leaves change their lists.
-use Rattle.std.proofs.Common.{◌≡◌, ◌≢◌, ℕ, zero, suc, ◌+◌, ◌-◌, ◌<◌, ◌≤◌, ◌==◌, Bool, true, false, not, cond, nat_lt, eqb, List, [], ◌∷◌, ◌++◌, Option, Some, None, length, map, take, drop, count_by, replicate, length-append, refl, sym, ◌∙◌, ap, subst, arith, eqb-true, eq-eqb, append_assoc}
+use Rattle.std.proofs.Common.{◌≡◌, ℕ, zero, suc, ◌+◌, ◌-◌, ◌<◌, ◌≤◌, ◌==◌, Bool, true, false, not, cond, nat_lt, List, [], ◌∷◌, ◌++◌, Option, Some, None, length, map, take, drop, count_by, replicate, length-append, refl, sym, ◌∙◌, ap, subst, arith, eqb-true, eq-eqb}
 use Rattle.std.specs.Prelude.{slice_get, option_to_list, MatchOption}
-use Rattle.std.specs.List.{AllByRecursion, filter, range_with_len}
+use Rattle.std.specs.List.{filter, range_with_len}
 use Rattle.std.proofs.lemmas.List.{length-replicate, take-append-drop}
 use Rattle.graph_model.specs.declared.row.Key.{Key}
-use Rattle.graph_model.specs.Rows.{is_below, first_key, end_key}
+use Rattle.graph_model.specs.Rows.{first_key, end_key}
 use Rattle.leaf_trie.specs.declared.start.LeafStart.{LeafStart}
-use Rattle.leaf_trie.specs.Leaves.{BeginAbove as StartAbove, BeginBelow as StartBelow}
 use Rattle.leaf_index.specs.declared.slot.Slot.{Slot}
 use Rattle.leaf_index.specs.declared.route.Retired.{Retired}
-use Rattle.leaf_index.specs.Index.{Entry, Index, AreCuts, AreRising, HaveCuts, IsIndex, IsTaken, end_of, uses}
-use Rattle.leaf_index.specs.Slots.{HasSlot, HaveSlots, AreRisingStarts, StandOnce, IsKept, begin_or, cuts_or_none, entry_of, entries_of, times, whole_slot}
-use Rattle.leaf_index.specs.Calls.{TakesFree, freed_of, kept_of}
+use Rattle.leaf_index.specs.Index.{Entry, Index, AreCuts, AreRising, HaveCuts, IsIndex, IsTaken, uses}
+use Rattle.leaf_index.specs.Slots.{HaveSlots, AreRisingStarts, IsKept, begin_or, cuts_or_none, entry_of, entries_of, times, whole_slot}
+use Rattle.leaf_index.specs.Calls.{CanDrop, TakesFree, freed_of, kept_of, without_leaf}
 use Rattle.leaf_index.proofs.CountLemmas.{count_cons, count_append, count_map, fewer, at_most, existing, at_most_one, one_below, worth}
 use Rattle.leaf_index.proofs.SlotLemmas.{end_begin, entries_above}
 
@@ -230,4 +229,26 @@ kept_freed slots starts free new_free retired new_retired until upto k is_free i
           let parts = count_filter (λ r. nat_lt r.stamp until) q (take upto retired) in
           let whole = ap (λ rs. count_by (λ (r : Retired). r.leaf == q) rs) (sym (take-append-drop upto retired)) ∙ count_append (λ (r : Retired). r.leaf == q) (take upto retired) (drop upto retired) in
           omega (arith, frees, rest, parts, whole, k.once q);
+    }
+
+-- an entry that is gone leaves its leaf taken
+pub dropped_taken : (old new : Index) (low : Key) (can : CanDrop low old.entries) → IsIndex old → new.leaves ≡ old.leaves → new.free ≡ old.free → new.retired ≡ old.retired → new.entries ≡ without_leaf low old.entries can
+    → IsTaken new can.dropped.leaf
+dropped_taken old new low can index leaves same_free same_retired gone =
+    let leaf = can.dropped.leaf in
+    let among : Entry → Bool = λ e. e.leaf == leaf in
+    let before = ap (count_by among) can.is in
+    let before_parts = count_append among can.front (can.before ∷ can.dropped ∷ can.back) in
+    let first = count_cons among can.before (can.dropped ∷ can.back) in
+    let second = count_cons among can.dropped can.back in
+    let after = ap (count_by among) gone in
+    let after_parts = count_append among (can.front ++ can.before ∷ []) can.back in
+    let front_parts = count_append among can.front (can.before ∷ []) in
+    let last = count_cons among can.before [] in
+    let one = ap worth (eq-eqb leaf leaf refl) in
+    let free = ap (count_by (λ f. f == leaf)) same_free in
+    let retired = ap (count_by (λ (r : Retired). r.leaf == leaf)) same_retired in
+    record {
+      exists = existing leaf new.leaves (subst (λ n. 1 ≤ worth (nat_lt leaf n)) (sym leaves) (omega (arith, index.once leaf, before, before_parts, first, second, one)));
+      unused = omega (arith, index.once leaf, at_most_one leaf old.leaves, before, before_parts, first, second, after, after_parts, front_parts, last, one, free, retired);
     }

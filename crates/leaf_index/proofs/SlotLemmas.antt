@@ -1,5 +1,5 @@
 -- Slots of leaves, and where a key's leaf stands among them.
-use Rattle.std.proofs.Common.{◌≡◌, ◌≢◌, ℕ, zero, suc, ◌+◌, ◌-◌, ◌<◌, ◌≤◌, Bool, true, false, eqb, List, [], ◌∷◌, ◌++◌, Option, Some, None, length, map, get_or, refl, sym, ◌∙◌, ap, subst, arith, append_assoc}
+use Rattle.std.proofs.Common.{◌≡◌, ◌≢◌, ℕ, zero, suc, ◌+◌, ◌-◌, ◌<◌, Bool, true, false, eqb, List, [], ◌∷◌, ◌++◌, Option, Some, None, length, get_or, refl, sym, ◌∙◌, ap, subst, arith, append_assoc}
 use Rattle.std.specs.Prelude.{slice_get, unwrap_or, ◌*◌}
 use Rattle.std.proofs.lemmas.Bool.{eqb-true, eq-eqb}
 use Rattle.graph_model.specs.declared.row.Key.{Key}
@@ -158,13 +158,15 @@ pub floor_before : (key : Key) (starts : List LeafStart) (found : Candidates) (l
 floor_before key starts found leaf b e =
     let l = last_of b.front leaf (sym b.before ∙ e) in
     record {
-      front = l.init;
       start = l.start;
-      back = b.back;
-      is = b.is ∙ ap (λ xs. xs ++ b.back) l.is ∙ append_assoc l.init (l.start ∷ []) b.back;
       same = l.same;
-      from = below_flip l.start.low key (all_back (λ s. is_below s.low key ≡ true) l.init (l.start ∷ []) (subst (StartBelow key) l.is b.below)).0;
-      above = b.above;
+      last = record {
+        front = l.init;
+        back = b.back;
+        is = b.is ∙ ap (λ xs. xs ++ b.back) l.is ∙ append_assoc l.init (l.start ∷ []) b.back;
+        from = below_flip l.start.low key (all_back (λ s. is_below s.low key ≡ true) l.init (l.start ∷ []) (subst (StartBelow key) l.is b.below)).0;
+        above = b.above;
+      };
     }
 
 -- no key is below the first one
@@ -203,11 +205,11 @@ entries_above slots key (s ∷ back) h = (h.0, entries_above slots key back h.1)
 pub floor_entry : (slots : List Slot) (key : Key) (starts : List LeafStart) (entries : List Entry) (leaf : ℕ) → entries_of slots starts ≡ entries → (f : IsFloorStart key starts leaf) → IsFloor key entries (entry_of slots f.start)
 floor_entry slots key starts entries leaf view f =
     record {
-      front = entries_of slots f.front;
-      back = entries_of slots f.back;
-      is = sym view ∙ ap (entries_of slots) f.is ∙ entries_append slots f.front (f.start ∷ f.back);
-      from = f.from;
-      above = entries_above slots key f.back f.above;
+      front = entries_of slots f.last.front;
+      back = entries_of slots f.last.back;
+      is = sym view ∙ ap (entries_of slots) f.last.is ∙ entries_append slots f.last.front (f.start ∷ f.last.back);
+      from = f.last.from;
+      above = entries_above slots key f.last.back f.last.above;
     }
 
 -- the cell of a segment of that leaf is the key's route
@@ -215,10 +217,10 @@ pub route_of : (slots : List Slot) (key : Key) (starts : List LeafStart) (entrie
     → slice_get slots leaf ≡ Some now → IsSegment now.cuts key segment → route.cell ≡ 8 * leaf + segment → slice_get now.cuts segment ≡ Some route.low → route.high ≡ unwrap_or (slice_get now.cuts (segment + 1)) now.high → IsRoute key entries route
 unfolding floor_entry
 route_of slots key starts entries leaf segment now route view have f there seg cell low high =
-    let h = slot_at slots end_key f.front f.start f.back (subst (HaveSlots slots end_key) f.is have) in
-    let same = slot_read slots f.start leaf (begin_or f.back end_key) now h f.same there in
+    let h = slot_at slots end_key f.last.front f.start f.last.back (subst (HaveSlots slots end_key) f.last.is have) in
+    let same = slot_read slots f.start leaf (begin_or f.last.back end_key) now h f.same there in
     let cuts : cuts_or_none (slice_get slots f.start.leaf) ≡ now.cuts = ap cuts_or_none h.there ∙ ap (λ (x : Slot). x.cuts) same in
-    let ends : now.high ≡ end_of (entries_of slots f.back) = sym (ap (λ (x : Slot). x.high) same) ∙ h.ends ∙ sym (end_begin slots f.back) in
+    let ends : now.high ≡ end_of (entries_of slots f.last.back) = sym (ap (λ (x : Slot). x.high) same) ∙ h.ends ∙ sym (end_begin slots f.last.back) in
     record {
       entry = entry_of slots f.start;
       floor = floor_entry slots key starts entries leaf view f;
@@ -236,7 +238,7 @@ not_above_of key [] h = tt
 not_above_of key (s ∷ ss) h = (below_flip key s.low h.0, not_above_of key ss h.1)
 
 pub candidate_before : (key : Key) (starts : List LeafStart) (leaf : ℕ) → (m : Candidate key starts leaf) → is_below m.start.low key ≡ true → BeginsBefore key starts leaf
-candidate_before key starts leaf m below = record { front = m.front; start = m.start; back = m.back; is = m.is; same = m.same; below = below; rest = not_above_of key m.back m.above }
+candidate_before key starts leaf m below = record { start = m.start; same = m.same; last = record { front = m.front; back = m.back; is = m.is; below = below; rest = not_above_of key m.back m.above } }
 
 before_found : (key : Key) (starts front rest : List LeafStart) (o : Option ℕ) → starts ≡ front ++ rest → StartBelow key front → AllByRecursion (λ (s : LeafStart). NotAbove key s.low) rest → o ≡ last_leaf front → IsBeforeStart key starts o
 before_found key starts front rest None is below above e =
@@ -244,13 +246,15 @@ before_found key starts front rest None is below above e =
 before_found key starts front rest (Some leaf) is below above e =
     let l = last_of front leaf (sym e) in
     record {
-      front = l.init;
       start = l.start;
-      back = rest;
-      is = is ∙ ap (λ xs. xs ++ rest) l.is ∙ append_assoc l.init (l.start ∷ []) rest;
       same = l.same;
-      below = (all_back (λ s. is_below s.low key ≡ true) l.init (l.start ∷ []) (subst (StartBelow key) l.is below)).0;
-      rest = above;
+      last = record {
+        front = l.init;
+        back = rest;
+        is = is ∙ ap (λ xs. xs ++ rest) l.is ∙ append_assoc l.init (l.start ∷ []) rest;
+        below = (all_back (λ s. is_below s.low key ≡ true) l.init (l.start ∷ []) (subst (StartBelow key) l.is below)).0;
+        rest = above;
+      };
     }
 
 pub before_none : (key : Key) (starts : List LeafStart) (found : Candidates) → Finds key starts found → found.at ≡ None → IsBeforeStart key starts found.before
@@ -281,8 +285,8 @@ range_of_slot slots s back leaf range h same r =
 pub floor_range : (slots : List Slot) (key : Key) (starts : List LeafStart) (entries : List Entry) (leaf : ℕ) (range : LeafRange) → entries_of slots starts ≡ entries → HaveSlots slots end_key starts → IsFloorStart key starts leaf → IsRange slots leaf range → IsLeafRange key entries range
 unfolding floor_entry
 floor_range slots key starts entries leaf range view have f r =
-    let h = slot_at slots end_key f.front f.start f.back (subst (HaveSlots slots end_key) f.is have) in
-    record { entry = entry_of slots f.start; floor = floor_entry slots key starts entries leaf view f; range_is = range_of_slot slots f.start f.back leaf range h f.same r }
+    let h = slot_at slots end_key f.last.front f.start f.last.back (subst (HaveSlots slots end_key) f.last.is have) in
+    record { entry = entry_of slots f.start; floor = floor_entry slots key starts entries leaf view f; range_is = range_of_slot slots f.start f.last.back leaf range h f.same r }
 
 entries_not_above : (slots : List Slot) (key : Key) (ss : List LeafStart) → AllByRecursion (λ (s : LeafStart). NotAbove key s.low) ss → AllByRecursion (λ (e : Entry). NotAbove key e.low) (entries_of slots ss)
 entries_not_above slots key [] h = tt
@@ -293,19 +297,21 @@ none_before slots key starts entries view h = subst (AllByRecursion (λ (e : Ent
 
 pub before_range : (slots : List Slot) (key : Key) (starts : List LeafStart) (entries : List Entry) (leaf : ℕ) (range : LeafRange) → entries_of slots starts ≡ entries → HaveSlots slots end_key starts → BeginsBefore key starts leaf → IsRange slots leaf range → BeginsBelow key entries range
 before_range slots key starts entries leaf range view have b r =
-    let h = slot_at slots end_key b.front b.start b.back (subst (HaveSlots slots end_key) b.is have) in
+    let h = slot_at slots end_key b.last.front b.start b.last.back (subst (HaveSlots slots end_key) b.last.is have) in
     record {
-      front = entries_of slots b.front;
       entry = entry_of slots b.start;
-      back = entries_of slots b.back;
-      is = sym view ∙ ap (entries_of slots) b.is ∙ entries_append slots b.front (b.start ∷ b.back);
-      below = b.below;
-      rest = entries_not_above slots key b.back b.rest;
-      range_is = range_of_slot slots b.start b.back leaf range h b.same r;
+      last = record {
+        front = entries_of slots b.last.front;
+        back = entries_of slots b.last.back;
+        is = sym view ∙ ap (entries_of slots) b.last.is ∙ entries_append slots b.last.front (b.start ∷ b.last.back);
+        below = b.last.below;
+        rest = entries_not_above slots key b.last.back b.last.rest;
+      };
+      range_is = range_of_slot slots b.start b.last.back leaf range h b.same r;
     }
 
 pub floor_within : (slots : List Slot) (key : Key) (starts : List LeafStart) (leaf : ℕ) → HaveSlots slots end_key starts → IsFloorStart key starts leaf → leaf < length slots
-floor_within slots key starts leaf have f = slot_within slots f.start leaf (begin_or f.back end_key) (slot_at slots end_key f.front f.start f.back (subst (HaveSlots slots end_key) f.is have)) f.same
+floor_within slots key starts leaf have f = slot_within slots f.start leaf (begin_or f.last.back end_key) (slot_at slots end_key f.last.front f.start f.last.back (subst (HaveSlots slots end_key) f.last.is have)) f.same
 
 pub before_within : (slots : List Slot) (key : Key) (starts : List LeafStart) (leaf : ℕ) → HaveSlots slots end_key starts → BeginsBefore key starts leaf → leaf < length slots
-before_within slots key starts leaf have b = slot_within slots b.start leaf (begin_or b.back end_key) (slot_at slots end_key b.front b.start b.back (subst (HaveSlots slots end_key) b.is have)) b.same
+before_within slots key starts leaf have b = slot_within slots b.start leaf (begin_or b.last.back end_key) (slot_at slots end_key b.last.front b.start b.last.back (subst (HaveSlots slots end_key) b.last.is have)) b.same

@@ -1,11 +1,11 @@
 -- What the calls need of an index and do to it.
-use Rattle.std.specs.Prelude.{ℕ, zero, suc, ◌≡◌, ◌+◌, ◌-◌, ◌<◌, ◌≤◌, Bool, true, false, not, cond, List, [], ◌∷◌, ◌++◌, Option, Some, None, map, take, drop, length, nat_lt}
+use Rattle.std.specs.Prelude.{ℕ, ◌≡◌, ◌-◌, true, not, List, [], ◌∷◌, ◌++◌, Option, Some, None, map, take, drop, nat_lt}
 use Rattle.std.specs.List.{AllByRecursion, filter, range_with_len}
 use Rattle.graph_model.specs.declared.row.Key.{Key}
 use Rattle.graph_model.specs.Rows.{is_below, first_key, end_key}
 use Rattle.leaf_index.specs.declared.route.Retired.{Retired}
 use Rattle.leaf_index.specs.declared.route.LeafRange.{LeafRange}
-use Rattle.leaf_index.specs.Index.{Entry, Index, NotAbove, BeginAbove, AreSorted, AreCuts, IsTaken, IsFloor, end_of}
+use Rattle.leaf_index.specs.Index.{Entry, Index, NotAbove, BeginAbove, AreSorted, AreCuts, IsTaken, IsFloor, IsLastBelow, end_of}
 
 -- leaf 0 has the whole key range, all of it in its first segment, and the others are free
 abbrev pub new_index : ℕ → Index
@@ -97,13 +97,9 @@ pub record IsLeafRange (key : Key) (entries : List Entry) (range : LeafRange) : 
 
 -- the last leaf that begins below the key, with its range
 pub record BeginsBelow (key : Key) (entries : List Entry) (range : LeafRange) : Type 0 where
-  pub front : List Entry
   pub entry : Entry
-  pub back : List Entry
-  pub is : entries ≡ front ++ entry ∷ back
-  pub below : is_below entry.low key ≡ true
-  pub rest : AllByRecursion (λ e. NotAbove key e.low) back
-  pub range_is : IsRangeOf entry back range
+  pub last : IsLastBelow (λ e. e.low) key entries entry
+  pub range_is : IsRangeOf entry last.back range
 
 -- or none begins below it
 abbrev pub IsLeafBefore : Key → List Entry → Option LeafRange → Type 0

@@ -1,10 +1,9 @@
 -- An index of leaves, as contracts see it.
-use Rattle.std.specs.Prelude.{ℕ, ◌≡◌, ◌≢◌, ◌+◌, ◌*◌, ◌<◌, ◌≤◌, ◌==◌, Bool, true, false, cond, List, [], ◌∷◌, ◌++◌, Option, Some, None, slice_get, length, count_by, unwrap_or, nat_lt, IfSome}
+use Rattle.std.specs.Prelude.{ℕ, ◌≡◌, ◌+◌, ◌*◌, ◌<◌, ◌≤◌, ◌==◌, true, false, cond, List, [], ◌∷◌, ◌++◌, Some, slice_get, length, count_by, unwrap_or, nat_lt}
 use Rattle.std.specs.List.{AllByRecursion}
 use Rattle.graph_model.specs.declared.row.Key.{Key}
 use Rattle.graph_model.specs.Rows.{is_below, first_key, end_key}
 use Rattle.leaf_index.specs.declared.route.Route.{Route}
-use Rattle.leaf_index.specs.declared.route.LeafRange.{LeafRange}
 use Rattle.leaf_index.specs.declared.route.Retired.{Retired}
 
 -- a live leaf: its least key, and the least keys of its segments
@@ -60,11 +59,14 @@ abbrev pub AreRising : List Entry → Type 0
 AreRising [] = Unit {0}
 AreRising (e ∷ es) = BeginAbove e.low es × AreRising es
 
--- how often a leaf stands among the live, the free and the retired ones
+-- how often a leaf stands among these, the free and the retired ones
+abbrev pub times_among : {X : Type 0} → (X → ℕ) → List X → List ℕ → List Retired → ℕ → ℕ
+times_among number live free retired leaf =
+    count_by (λ x. number x == leaf) live + count_by (λ f. f == leaf) free + count_by (λ r. r.leaf == leaf) retired
+
+-- how often it stands among the live, the free and the retired ones
 abbrev pub uses : Index → ℕ → ℕ
-uses index leaf =
-    count_by (λ e. e.leaf == leaf) index.entries + count_by (λ f. f == leaf) index.free
-    + count_by (λ r. r.leaf == leaf) index.retired
+uses index leaf = times_among (λ e. e.leaf) index.entries index.free index.retired leaf
 
 -- a leaf stands at most once among them, and one that doesn't exist never does
 abbrev pub AreOnce : Index → Type 0
@@ -90,13 +92,24 @@ pub record IsSegment (cuts : List Key) (key : Key) (segment : ℕ) : Type 0 wher
   pub from : NotAbove cut key
   pub later : (s : ℕ) (k : Key) → segment < s → slice_get cuts s ≡ Some k → is_below key k ≡ true
 
--- the last entry that does not begin above the key, between those before and behind it
-pub record IsFloor (key : Key) (entries : List Entry) (entry : Entry) : Type 0 where
-  pub front : List Entry
-  pub back : List Entry
-  pub is : entries ≡ front ++ entry ∷ back
-  pub from : NotAbove entry.low key
-  pub above : BeginAbove key back
+-- the last of these that does not begin above the key, between those before and behind it
+pub record IsLastFrom {X : Type 0} (low : X → Key) (key : Key) (xs : List X) (x : X) : Type 0 where
+  pub front : List X
+  pub back : List X
+  pub is : xs ≡ front ++ x ∷ back
+  pub from : NotAbove (low x) key
+  pub above : AllByRecursion (λ y. is_below key (low y) ≡ true) back
+
+-- the last of these that begins below the key
+pub record IsLastBelow {X : Type 0} (low : X → Key) (key : Key) (xs : List X) (x : X) : Type 0 where
+  pub front : List X
+  pub back : List X
+  pub is : xs ≡ front ++ x ∷ back
+  pub below : is_below (low x) key ≡ true
+  pub rest : AllByRecursion (λ y. NotAbove key (low y)) back
+
+abbrev pub IsFloor : Key → List Entry → Entry → Type 0
+IsFloor key entries entry = IsLastFrom (λ e. e.low) key entries entry
 
 -- the cell of the last cut that is not above the key, up to the next cut or the end of the leaf's range
 pub record IsRoute (key : Key) (entries : List Entry) (route : Route) : Type 0 where

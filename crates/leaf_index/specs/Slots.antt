@@ -1,14 +1,14 @@
 -- What stands by the numbers of live leaves.
-use Rattle.std.specs.Prelude.{ℕ, ◌≡◌, ◌+◌, ◌<◌, ◌≤◌, ◌==◌, true, cond, nat_lt, count_by, List, [], ◌∷◌, ◌++◌, Option, Some, None, map, slice_get, length}
+use Rattle.std.specs.Prelude.{ℕ, ◌≡◌, ◌≤◌, cond, nat_lt, List, [], ◌∷◌, Option, Some, None, map, slice_get, length}
 use Rattle.graph_model.specs.declared.row.Key.{Key}
-use Rattle.graph_model.specs.Rows.{is_below, first_key, end_key}
+use Rattle.graph_model.specs.Rows.{first_key, end_key}
 use Rattle.leaf_trie.specs.declared.start.LeafStart.{LeafStart}
 use Rattle.leaf_trie.specs.Leaves.{BeginAbove as StartAbove}
 use Rattle.leaf_index.specs.declared.slot.Slot.{Slot}
 use Rattle.std.specs.List.{AllByRecursion}
 use Rattle.leaf_index.specs.declared.route.Retired.{Retired}
 use Rattle.leaf_index.specs.declared.route.LeafRange.{LeafRange}
-use Rattle.leaf_index.specs.Index.{Entry, AreCuts, NotAbove}
+use Rattle.leaf_index.specs.Index.{Entry, AreCuts, IsLastBelow, IsLastFrom, NotAbove, times_among}
 
 -- where the first of these leaves begins, or else the given end
 abbrev pub begin_or : List LeafStart → Key → Key
@@ -52,8 +52,7 @@ AreRisingStarts (s ∷ ss) = StartAbove s.low ss × AreRisingStarts ss
 
 -- how often a leaf stands among the live, the free and the retired ones
 abbrev pub times : ℕ → List LeafStart → List ℕ → List Retired → ℕ
-times leaf starts free retired =
-    count_by (λ s. s.leaf == leaf) starts + count_by (λ f. f == leaf) free + count_by (λ r. r.leaf == leaf) retired
+times leaf starts free retired = times_among (λ s. s.leaf) starts free retired leaf
 
 -- at most once, and never where it doesn't exist
 abbrev pub StandOnce : ℕ → List LeafStart → List ℕ → List Retired → Type 0
@@ -67,30 +66,22 @@ pub record IsKept (slots : List Slot) (starts : List LeafStart) (free : List ℕ
   pub once : StandOnce (length slots) starts free retired
   pub few : length slots ≤ 131072
 
--- the leaf begins below the key, and none behind it does
+-- the last leaf that begins below the key
 pub record BeginsBefore (key : Key) (starts : List LeafStart) (leaf : ℕ) : Type 0 where
-  pub front : List LeafStart
   pub start : LeafStart
-  pub back : List LeafStart
-  pub is : starts ≡ front ++ start ∷ back
   pub same : start.leaf ≡ leaf
-  pub below : is_below start.low key ≡ true
-  pub rest : AllByRecursion (λ s. NotAbove key s.low) back
+  pub last : IsLastBelow (λ s. s.low) key starts start
 
--- the last leaf that begins below the key, or none does
+-- it, or none does
 abbrev pub IsBeforeStart : Key → List LeafStart → Option ℕ → Type 0
 IsBeforeStart key starts None = AllByRecursion (λ s. NotAbove key s.low) starts
 IsBeforeStart key starts (Some leaf) = BeginsBefore key starts leaf
 
--- the last leaf that does not begin above the key, between those before and behind it
+-- the last leaf that does not begin above the key
 pub record IsFloorStart (key : Key) (starts : List LeafStart) (leaf : ℕ) : Type 0 where
-  pub front : List LeafStart
   pub start : LeafStart
-  pub back : List LeafStart
-  pub is : starts ≡ front ++ start ∷ back
   pub same : start.leaf ≡ leaf
-  pub from : NotAbove start.low key
-  pub above : StartAbove key back
+  pub last : IsLastFrom (λ s. s.low) key starts start
 
 -- the range from the first cut of the leaf's slot to its end
 pub record IsRange (slots : List Slot) (leaf : ℕ) (range : LeafRange) : Type 0 where

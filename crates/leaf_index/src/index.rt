@@ -195,6 +195,7 @@ impl LeafIndex {
         requires { CanDrop low self.old.entries }
         ensures entries { (can : CanDrop low self.old.entries)
             → self.new.entries ≡ without_leaf low self.old.entries can }
+        ensures taken { (can : CanDrop low self.old.entries) → IsTaken self.new can.dropped.leaf }
         ensures others { self.new ≡ record self.old { entries = self.new.entries } }
     {
         let dropped = floor_of(&self.trie, &self.slots, low);

@@ -7,9 +7,12 @@
 #![tactic(auto)]
 
 mod best;
+mod known;
 mod leaves;
 mod random;
+mod rows;
 mod segments;
+mod spreads;
 
 use anyhow::Result;
 use random::Random;
@@ -23,6 +26,8 @@ fn main(rt: HostRuntime) -> Result<()> {
     for _run in 0..runs {
         let mut random = Random::new(seed);
         segments::time(&rt, alloc, &mut random)?;
+        rows::time(&rt, alloc, &mut random)?;
+        spreads::time(&rt, alloc, &mut random)?;
         leaves::time(&rt, alloc, &mut random)?;
     }
     Ok(())

@@ -14,15 +14,15 @@ use std::rt::Clock;
 use std::time::Instant;
 
 /// So many segments take less than half of a second cache of 1 MiB.
-const FEW: u64 = 512;
+pub(crate) const FEW: u64 = 512;
 
 /// So many take three times a last cache of 36 MiB.
 const MANY: u64 = 131072;
 
 /// How many rows a full segment has, and how many one has in the mean.
-const FULL: u64 = 32;
+pub(crate) const FULL: u64 = 32;
 
-const USUAL: u64 = 20;
+pub(crate) const USUAL: u64 = 20;
 
 /// Times each part, and prints a line for each.
 pub fn time<R: Clock + Print>(rt: &R, alloc: Global, random: &mut Random) -> Result<()> {
@@ -51,7 +51,7 @@ fn segments_of(alloc: Global, segments: u64, rows: u64) -> Result<Vec<Segment>, 
 }
 
 /// The row at a place of a full segment.
-fn row(segment: u64, place: u64) -> Row {
+pub(crate) fn row(segment: u64, place: u64) -> Row {
     let vertex = segment.wrapping_mul(4).wrapping_add(place / 8);
     Row {
         key: Key {

@@ -4,3 +4,4 @@ pub mod States
 pub mod Links
 pub mod Walks
 pub mod Laws
+pub mod Packed

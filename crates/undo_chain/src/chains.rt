@@ -10,6 +10,7 @@ ghost use Rattle.undo_chain.specs.States.{Grows, AreNamed};
 ghost use Rattle.undo_chain.specs.Walks.{Restamps};
 ghost use Rattle.undo_chain.specs.Chains.{ChainMap, record_at, unlinked, list_at, IsHead, IsHeadOf, IsLinkOf, AreApart, ChangesOneList, ChangesTwoLists, HandsOver};
 
+use crate::packed::PackedUndo;
 use crate::states::{Snapshot, States};
 use crate::undo::Undo;
 use graph_model::{NoMemory, State, TxnName};
@@ -20,7 +21,7 @@ use std::marker::Model;
 /// The undo records of one segment.
 #[derive(Drop)]
 pub struct Chains {
-    records: Slab<Undo>,
+    records: Slab<PackedUndo>,
 }
 
 impl Model for Chains {
@@ -91,6 +92,7 @@ impl Chains {
         requires apart { AreApart one other }
         ensures { result ≡ length (list_at self.now one) + length (list_at self.now other) }
     {
+        // Nobody reads it: that the slab's number of records fits is why the sum below does.
         let _most = self.records.len();
         self.records(one) + self.records(other)
     }
@@ -325,7 +327,8 @@ impl Chains {
         ensures others { ChangesOneList self.old self.new head (Some result) }
         ensures spare { self.old.spare ≡ self.new.spare + 1 }
     {
-        self.records.insert_reserved(Undo { next: head, ..undo })
+        self.records
+            .insert_reserved(PackedUndo::new(Undo { next: head, ..undo }))
     }
 
     /// Takes the first record of a list away.
@@ -335,7 +338,7 @@ impl Chains {
         ensures others { ChangesOneList self.old self.new (Some head) result.next }
         ensures spare { self.new.spare ≡ self.old.spare + 1 }
     {
-        self.records.remove(head)
+        self.records.remove(head).undo()
     }
 
     /// Gives the record at a key this stamp.
@@ -343,7 +346,7 @@ impl Chains {
         requires { IsSome (record_at self.old.slots key) }
         ensures { Restamps self.old self.new key stamp }
     {
-        self.records[key].stamp = Some(stamp);
+        self.records[key].set_stamp(stamp);
     }
 
     /// The record at a key: a head, or the next one of a list.
@@ -354,7 +357,7 @@ impl Chains {
         ensures next { IsLinkOf self.now result.next }
     {
         match self.records.get(key) {
-            Some(undo) => *undo,
+            Some(packed) => packed.undo(),
             None => unreachable!(),
         }
     }

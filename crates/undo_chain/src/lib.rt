@@ -7,6 +7,7 @@
 
 mod chains;
 mod laws;
+mod packed;
 mod states;
 mod undo;
 

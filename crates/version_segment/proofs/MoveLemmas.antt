@@ -1,16 +1,15 @@
 -- Rows that move to a neighbour, with their versions.
-use Rattle.std.proofs.Common.{◌≡◌, ◌⊎◌, inl, inr, ℕ, zero, suc, ◌+◌, ◌-◌, ◌<◌, ◌≤◌, List, [], ◌∷◌, ◌++◌, length, length-append, length-take, length-drop, take, drop, refl, sym, ◌∙◌, ap, subst, arith, Some, None}
-use Rattle.std.specs.Prelude.{Bool, true, false, ◌&&◌, ◌||◌, not, cond, is_some, min, insert, remove, slice_get, Option}
+use Rattle.std.proofs.Common.{◌≡◌, ◌⊎◌, inl, inr, ℕ, zero, suc, ◌+◌, ◌-◌, ◌<◌, ◌≤◌, List, [], ◌∷◌, ◌++◌, length, take, drop, refl, sym, ◌∙◌, ap, subst, arith, Some, None}
+use Rattle.std.specs.Prelude.{Bool, true, false, ◌&&◌, ◌||◌, not, cond, is_some, Option}
 use Rattle.std.specs.List.{AllByRecursion}
 use Rattle.std.specs.Ordering.{eq_by_cmp}
-use Rattle.std.proofs.lemmas.List.{take-append-drop}
+use Rattle.std.proofs.lemmas.List.{take-append-drop, take-append-le, drop-append-le}
+use Rattle.std.proofs.Math.Seq.{take-append-add, drop-append-add}
 use Rattle.graph_model.specs.declared.row.Key.{Key}
 use Rattle.graph_model.specs.declared.row.Row.{Row}
-use Rattle.graph_model.specs.Rows.{key_cmp, is_below, is_between}
-use Rattle.graph_model.proofs.PlaceLemmas.{some_eq}
+use Rattle.graph_model.specs.Rows.{key_cmp, is_below}
 use Rattle.store_model.specs.Stamped.{StampedVersions}
-use Rattle.gap_segment.specs.Fenced.{FencedRows, AreBelow, AreAbove, AreSorted, AreWithin, AreFenced, IsGapFor, first_key_or}
-use Rattle.graph_model.proofs.KeyLemmas.{between_parts}
+use Rattle.gap_segment.specs.Fenced.{FencedRows, AreBelow, AreAbove, AreSorted, AreFenced, first_key_or, front_of, back_of, joined}
 use Rattle.gap_segment.proofs.FencedLemmas.{fenced_front, fenced_back, fenced_append, all_map}
 use Rattle.undo_chain.specs.Chains.{ChainMap, list_at, IsHeadOf, ChangesOneList}
 use Rattle.version_segment.specs.declared.heads.Heads.{Heads}
@@ -18,15 +17,13 @@ use Rattle.version_segment.specs.declared.heads.ChangedRow.{ChangedRow}
 use Rattle.version_segment.specs.Rows.{VersionedRows, is_empty, records_in, all_records, first_key_of, SharesRows}
 use Rattle.version_segment.specs.Heads.{HeadTable, heads_at, settled_heads, is_settled}
 use Rattle.version_segment.specs.Lists.{AreLists, ChangesRow, HasRest}
-use Rattle.version_segment.specs.Parts.{versioned, versions_in, value_in, of_lists, view_of, AreParts, records_at_key, HandsRow}
-use Rattle.version_segment.specs.Walks.{row_of, IsMovingRight, IsMovingLeft}
+use Rattle.version_segment.specs.Parts.{versioned, versions_in, value_in, of_lists, view_of, AreParts, records_at_key, HandsRow, HandsRows, IsElsewhere}
 use Rattle.version_segment.proofs.KeyedLemmas.{below_untied, above_untied}
 use Rattle.version_segment.proofs.HeadLemmas.{settled_of}
 use Rattle.version_segment.proofs.ListLemmas.{row_start, row_empty, undos_change, undos_leave_touches, touches_change, touches_leave_undos, heads_here, heads_else, row_end}
 use Rattle.version_segment.proofs.PartLemmas.{list_there}
 use Rattle.version_segment.proofs.VersionLemmas.{records_of_lists}
 use Rattle.version_segment.proofs.ChangeLemmas.{row_count}
-use Rattle.version_segment.proofs.PruneLemmas.{records_from, take_all, drop_all}
 
 -- ---- the lists of one row
 
@@ -184,61 +181,9 @@ module _ (c c1 c2 d d1 d2 : ChainMap) (f g : Key → Heads) (k : Key) (h : Heads
 -- ---- lists of two neighbours
 
 module _ {X : Type 0} where
-  pub take_front : (xs ys : List X) (n : ℕ) → n ≤ length xs → take n (xs ++ ys) ≡ take n xs
-  take_front xs ys zero le = refl
-  take_front [] ys (suc n) le = absurd (omega (arith, le))
-  take_front (x ∷ xs) ys (suc n) le = ap (λ zs. x ∷ zs) (take_front xs ys n (omega (arith, le)))
-
-  pub drop_front : (xs ys : List X) (n : ℕ) → n ≤ length xs → drop n (xs ++ ys) ≡ drop n xs ++ ys
-  drop_front xs ys zero le = refl
-  drop_front [] ys (suc n) le = absurd (omega (arith, le))
-  drop_front (x ∷ xs) ys (suc n) le = drop_front xs ys n (omega (arith, le))
-
-  pub take_one_more : (xs ys : List X) (y : X) (n : ℕ) → n ≡ suc (length xs) → take n (xs ++ y ∷ ys) ≡ xs ++ y ∷ []
-  take_one_more [] ys y n e = ap (λ m. take m (y ∷ ys)) e
-  take_one_more (x ∷ xs) ys y zero e = absurd (omega (arith, e))
-  take_one_more (x ∷ xs) ys y (suc n) e = ap (λ zs. x ∷ zs) (take_one_more xs ys y n (omega (arith, e)))
-
-  pub drop_one_more : (xs ys : List X) (y : X) (n : ℕ) → n ≡ suc (length xs) → drop n (xs ++ y ∷ ys) ≡ ys
-  drop_one_more [] ys y n e = ap (λ m. drop m (y ∷ ys)) e
-  drop_one_more (x ∷ xs) ys y zero e = absurd (omega (arith, e))
-  drop_one_more (x ∷ xs) ys y (suc n) e = drop_one_more xs ys y n (omega (arith, e))
-
-  pub append_none : (xs : List X) → xs ++ [] ≡ xs
-  append_none [] = refl
-  append_none (x ∷ xs) = ap (λ ys. x ∷ ys) (append_none xs)
-
-  pub front_all : (P : X → Type 0) (xs ys : List X) → AllByRecursion P (xs ++ ys) → AllByRecursion P xs
-  front_all P [] ys h = tt
-  front_all P (x ∷ xs) ys h = (h.0, front_all P xs ys h.1)
-
-  pub back_all : (P : X → Type 0) (xs ys : List X) → AllByRecursion P (xs ++ ys) → AllByRecursion P ys
+  back_all : (P : X → Type 0) (xs ys : List X) → AllByRecursion P (xs ++ ys) → AllByRecursion P ys
   back_all P [] ys h = h
   back_all P (x ∷ xs) ys h = back_all P xs ys h.1
-
-  -- the last of a list
-  pub last_alone : (xs : List X) (n : ℕ) (x : X) → slice_get xs n ≡ Some x → suc n ≡ length xs → drop n xs ≡ x ∷ []
-  last_alone [] zero x at e = cc
-  last_alone [] (suc n) x at e = cc
-  last_alone (y ∷ []) zero x at e = ap (λ z. z ∷ []) (some_eq y x at)
-  last_alone (y ∷ z ∷ ys) zero x at e = absurd (omega (arith, e))
-  last_alone (y ∷ ys) (suc n) x at e = last_alone ys n x at (omega (arith, e))
-
-  pub remove_last : (xs : List X) (n : ℕ) → suc n ≡ length xs → remove xs n ≡ take n xs
-  remove_last [] n e = absurd (omega (arith, e))
-  remove_last (x ∷ []) zero e = refl
-  remove_last (x ∷ y ∷ xs) zero e = absurd (omega (arith, e))
-  remove_last (x ∷ xs) (suc n) e = ap (λ ys. x ∷ ys) (remove_last xs n (omega (arith, e)))
-
-  pub first_and_rest : (xs : List X) (x : X) → slice_get xs 0 ≡ Some x → xs ≡ x ∷ remove xs 0
-  first_and_rest [] x at = cc
-  first_and_rest (y ∷ ys) x at = ap (λ z. z ∷ ys) (some_eq y x at)
-
-  pub insert_end : (xs : List X) (n : ℕ) (x : X) → n ≡ length xs → insert xs n x ≡ xs ++ x ∷ []
-  insert_end [] zero x e = refl
-  insert_end [] (suc n) x e = absurd (omega (arith, e))
-  insert_end (y ∷ ys) zero x e = absurd (omega (arith, e))
-  insert_end (y ∷ ys) (suc n) x e = ap (λ zs. y ∷ zs) (insert_end ys n x (omega (arith, e)))
 
 -- ---- two segments' rows
 
@@ -246,18 +191,46 @@ first_key_same : (heads : List ChangedRow) (c : ChainMap) (rows : List Row) (oth
 first_key_same heads c [] other = refl
 first_key_same heads c (r ∷ rs) other = refl
 
--- rows of other keys show the same
-pub others_same : (heads heads' : List ChangedRow) (c c' : ChainMap) (k : Key)
-    → ((q : Key) (w : ℕ) → eq_by_cmp key_cmp q k ≡ false → versions_in c' (heads_at heads' q) w ≡ versions_in c (heads_at heads q) w)
-    → (rows : List Row) → AllByRecursion (λ r. eq_by_cmp key_cmp r.key k ≡ false) rows → versioned c' heads' rows ≡ versioned c heads rows
-others_same heads heads' c c' k same [] h = refl
-others_same heads heads' c c' k same (r ∷ rs) h = λ i. (r.key, same r.key r.weight h.0 i) ∷ others_same heads heads' c c' k same rs h.1 i
+-- rows that are none of these show the same
+others_same : (heads heads' : List ChangedRow) (c c' : ChainMap) (moved : List Row)
+    → ((q : Key) (w : ℕ) → IsElsewhere moved q → versions_in c' (heads_at heads' q) w ≡ versions_in c (heads_at heads q) w)
+    → (rows : List Row) → AllByRecursion (λ r. IsElsewhere moved r.key) rows → versioned c' heads' rows ≡ versioned c heads rows
+others_same heads heads' c c' moved same [] h = refl
+others_same heads heads' c c' moved same (r ∷ rs) h = λ i. (r.key, same r.key r.weight h.0 i) ∷ others_same heads heads' c c' moved same rs h.1 i
 
-below_all_untied : (k : Key) (rows : List Row) → AreBelow k rows → AllByRecursion (λ r. eq_by_cmp key_cmp r.key k ≡ false) rows
-below_all_untied k rows h = all_map (λ r. is_below r.key k ≡ true) (λ r. eq_by_cmp key_cmp r.key k ≡ false) (λ r e. below_untied r.key k e) rows h
+below_elsewhere : (k : Key) (rows : List Row) → AreAbove k rows → IsElsewhere rows k
+below_elsewhere k rows h = all_map (λ r. is_below k r.key ≡ true) (λ r. eq_by_cmp key_cmp k r.key ≡ false) (λ r e. below_untied k r.key e) rows h
 
-above_all_untied : (k : Key) (rows : List Row) → AreAbove k rows → AllByRecursion (λ r. eq_by_cmp key_cmp r.key k ≡ false) rows
-above_all_untied k rows h = all_map (λ r. is_below k r.key ≡ true) (λ r. eq_by_cmp key_cmp r.key k ≡ false) (λ r e. above_untied k r.key e) rows h
+above_elsewhere : (k : Key) (rows : List Row) → AreBelow k rows → IsElsewhere rows k
+above_elsewhere k rows h = all_map (λ r. is_below r.key k ≡ true) (λ r. eq_by_cmp key_cmp k r.key ≡ false) (λ r e. above_untied r.key k e) rows h
+
+-- in sorted rows, those before one are below it
+sorted_front : (k : Key) (xs ys : List Row) (r : Row) → r.key ≡ k → AreSorted (xs ++ r ∷ ys) → AreBelow k xs
+sorted_front k [] ys r e s = tt
+sorted_front k (x ∷ xs) ys r e s = (subst (λ (q : Key). is_below x.key q ≡ true) e (at_end xs s.0), sorted_front k xs ys r e s.1)
+  where
+    at_end : (zs : List Row) → AllByRecursion (λ q. is_below x.key q.key ≡ true) (zs ++ r ∷ ys) → is_below x.key r.key ≡ true
+    at_end [] h = h.0
+    at_end (z ∷ zs) h = at_end zs h.1
+
+-- of sorted rows those of one part are none of the other's
+front_elsewhere : (xs ys : List Row) → AreSorted (xs ++ ys) → AllByRecursion (λ r. IsElsewhere ys r.key) xs
+front_elsewhere [] ys s = tt
+front_elsewhere (x ∷ xs) ys s = (below_elsewhere x.key ys (back_all (λ q. is_below x.key q.key ≡ true) xs ys s.0), front_elsewhere xs ys s.1)
+
+back_elsewhere : (xs ys : List Row) → AreSorted (xs ++ ys) → AllByRecursion (λ r. IsElsewhere xs r.key) ys
+back_elsewhere xs [] s = tt
+back_elsewhere xs (y ∷ ys) s =
+    let front : AreBelow y.key xs = sorted_front y.key xs ys y refl s in
+    (above_elsewhere y.key xs front, back_elsewhere xs ys (without xs s))
+  where
+    without : (zs : List Row) → AreSorted (zs ++ y ∷ ys) → AreSorted (zs ++ ys)
+    without [] t = t.1
+    without (z ∷ zs) t = (all_without (λ q. is_below z.key q.key ≡ true) zs t.0, without zs t.1)
+      where
+        all_without : (P : Row → Type 0) (ws : List Row) → AllByRecursion P (ws ++ y ∷ ys) → AllByRecursion P (ws ++ ys)
+        all_without P [] h = h.1
+        all_without P (w ∷ ws) h = (h.0, all_without P ws h.1)
 
 versioned_append : (heads : List ChangedRow) (c : ChainMap) (xs ys : List Row) → versioned c heads (xs ++ ys) ≡ versioned c heads xs ++ versioned c heads ys
 versioned_append heads c [] ys = refl
@@ -273,201 +246,139 @@ versioned_drop heads c zero rows = refl
 versioned_drop heads c (suc n) [] = refl
 versioned_drop heads c (suc n) (r ∷ rs) = versioned_drop heads c n rs
 
--- in sorted rows, those before the last one are below it
-sorted_front : (k : Key) (xs ys : List Row) (r : Row) → r.key ≡ k → AreSorted (xs ++ r ∷ ys) → AreBelow k xs
-sorted_front k [] ys r e s = tt
-sorted_front k (x ∷ xs) ys r e s = (subst (λ (q : Key). is_below x.key q ≡ true) e (at_end xs s.0), sorted_front k xs ys r e s.1)
-  where
-    at_end : (zs : List Row) → AllByRecursion (λ q. is_below x.key q.key ≡ true) (zs ++ r ∷ ys) → is_below x.key r.key ≡ true
-    at_end [] h = h.0
-    at_end (z ∷ zs) h = at_end zs h.1
+-- ---- rows that are handed over
 
--- the records of one row
-pub entry_records : (c : ChainMap) (h : Heads) (w : ℕ) → records_in (versions_in c h w) ≡ records_at_key c h
-entry_records c h w = records_of_lists (value_in h w) (list_at c h.undos) (list_at c h.touches)
+-- the records of all rows are those of the first and of the others
+pub first_records : (heads : HeadTable) (c : ChainMap) (rows : List Row) (r : Row) (rs : List Row) → rows ≡ r ∷ rs
+    → all_records (versioned c heads.entries rows) ≡ records_at_key c (heads_at heads.entries r.key) + all_records (versioned c heads.entries rs)
+first_records heads c rows r rs is =
+    let whole : all_records (versioned c heads.entries rows) ≡ records_in (versions_in c (heads_at heads.entries r.key) r.weight) + all_records (versioned c heads.entries rs) = ap (λ qs. all_records (versioned c heads.entries qs)) is in
+    let first : records_in (versions_in c (heads_at heads.entries r.key) r.weight) ≡ records_at_key c (heads_at heads.entries r.key) = records_of_lists (value_in (heads_at heads.entries r.key) r.weight) (list_at c (heads_at heads.entries r.key).undos) (list_at c (heads_at heads.entries r.key).touches) in
+    omega (arith, whole, first)
 
--- ---- the fence key between two neighbours
+module _ (r : Row) (rs : List Row) (sorted : AreSorted (r ∷ rs)) (fh fh1 th th1 : HeadTable) (f f1 t t1 : ChainMap) (one : HandsRow r.key fh fh1 f f1 th th1 t t1) where
+  untied_rest : AllByRecursion (λ q. eq_by_cmp key_cmp q.key r.key ≡ false) rs
+  untied_rest = all_map (λ q. is_below r.key q.key ≡ true) (λ q. eq_by_cmp key_cmp q.key r.key ≡ false) (λ q e. above_untied r.key q.key e) rs sorted.0
 
-module _ (l r : FencedRows) (hl hr : HeadTable) (c d : ChainMap) (is_l : AreParts l hl.entries c) (is_r : AreParts r hr.entries d) (meet : l.high ≡ r.low) where
-  abbrev cut : Key
-  cut = first_key_or r.rows r.high
+  -- the rows behind the first are as they were
+  pub rest_stays : versioned f1 fh1.entries rs ≡ versioned f fh.entries rs
+  rest_stays = go rs untied_rest
+    where
+      go : (qs : List Row) → AllByRecursion (λ q. eq_by_cmp key_cmp q.key r.key ≡ false) qs → versioned f1 fh1.entries qs ≡ versioned f fh.entries qs
+      go [] h = refl
+      go (q ∷ qs) h = λ i. (q.key, one.from_others q.key q.weight h.0 i) ∷ go qs h.1 i
 
-  cut_right : AreFenced (record { low = cut; high = r.high; rows = r.rows })
-  cut_right = fenced_back r 0 cut is_r.fenced refl
+  pub records_split : all_records (versioned f fh.entries (r ∷ rs)) ≡ records_at_key f (heads_at fh.entries r.key) + all_records (versioned f1 fh1.entries rs)
+  records_split =
+      let rest : all_records (versioned f1 fh1.entries rs) ≡ all_records (versioned f fh.entries rs) = ap all_records rest_stays in
+      omega (arith, first_records fh f (r ∷ rs) r rs refl, rest)
 
-  cut_left : AreFenced (record { low = l.low; high = cut; rows = l.rows })
-  cut_left =
-      subst (λ (rs : List Row). AreFenced (record { low = l.low; high = cut; rows = rs })) (append_none l.rows)
-      (fenced_append l (record { low = r.low; high = cut; rows = [] }) is_l.fenced (fenced_front r 0 cut is_r.fenced refl) meet)
-
-  pub cut_fences : is_below cut l.low ≡ false
-  cut_fences = cut_left.fences
-
-  pub cut_within : AreWithin l.low cut l.rows
-  cut_within = cut_left.within
-
-  pub right_fences : is_below r.high cut ≡ false
-  right_fences = cut_right.fences
-
-  pub right_within : AreWithin cut r.high r.rows
-  right_within = cut_right.within
-
-  pub cut_left_parts : AreParts (record { low = l.low; high = cut; rows = l.rows }) hl.entries c
-  cut_left_parts = record { fenced = cut_left; lists = is_l.lists; rest = is_l.rest }
-
-  pub cut_right_parts : AreParts (record { low = cut; high = r.high; rows = r.rows }) hr.entries d
-  cut_right_parts = record { fenced = cut_right; lists = is_r.lists; rest = is_r.rest }
-
-  pub cut_shares : SharesRows (view_of l hl c) (view_of r hr d) (view_of (record { low = l.low; high = cut; rows = l.rows }) hl c) (view_of (record { low = cut; high = r.high; rows = r.rows }) hr d) (length (view_of l hl c).rows)
-  cut_shares = record {
-    left_rows = sym (take_front (versioned c hl.entries l.rows) (versioned d hr.entries r.rows) (length (view_of l hl c).rows) (omega arith) ∙ take_all (versioned c hl.entries l.rows));
-    right_rows = sym (drop_front (versioned c hl.entries l.rows) (versioned d hr.entries r.rows) (length (view_of l hl c).rows) (omega arith) ∙ ap (λ es. es ++ versioned d hr.entries r.rows) (drop_all (versioned c hl.entries l.rows)));
-    low = refl;
-    high = refl;
-    left_cut = sym (first_key_same hr.entries d r.rows r.high);
-    right_cut = sym (first_key_same hr.entries d r.rows r.high);
+  -- the first row and then the others are all rows
+  pub hands_more : (fh2 th2 : HeadTable) (f2 t2 : ChainMap) → ((q : Key) → HasRest (heads_at fh.entries q)) → HandsRows rs fh1 fh2 f1 f2 th1 th2 t1 t2 → HandsRows (r ∷ rs) fh fh2 f f2 th th2 t t2
+  hands_more fh2 th2 f2 t2 rest more = record {
+    from_lists = more.from_lists;
+    to_lists = more.to_lists;
+    from_others = λ q w e. more.from_others q w e.1 ∙ one.from_others q w e.0;
+    to_others = λ q w e. more.to_others q w e.1 ∙ one.to_others q w e.0;
+    moved = λ i. (r.key, (more.to_others r.key r.weight (below_elsewhere r.key rs sorted.0) ∙ one.moved r.weight) i) ∷ (more.moved ∙ rest_stays) i;
+    from_rest = more.from_rest;
+    to_rest = λ h. more.to_rest (one.to_rest h);
+    from_spare = omega (arith, one.from_spare, more.from_spare);
+    from_entry = omega (arith, one.from_entry, more.from_entry);
+    to_spare = omega (arith, one.to_spare, more.to_spare, records_split);
+    to_entry = omega (arith, one.to_entry, more.to_entry, records_split);
   }
 
-  -- ---- the last row of the left one moves
+-- ---- rows of two neighbours, shared anew
 
-  module _ (n : ℕ) (row : Row) (at : slice_get l.rows n ≡ Some row) (last : suc n ≡ length l.rows) where
-    alone : drop n l.rows ≡ row ∷ []
-    alone = last_alone l.rows n row at last
+module _ (l r : FencedRows) (hl hr hl' hr' : HeadTable) (c d c' d' : ChainMap) (is_l : AreParts l hl.entries c) (is_r : AreParts r hr.entries d) (meet : l.high ≡ r.low) where
+  whole : AreFenced (joined l r)
+  whole = fenced_append l r is_l.fenced is_r.fenced meet
 
-    give_left : AreFenced (record { low = l.low; high = row.key; rows = take n l.rows })
-    give_left = fenced_front l n row.key is_l.fenced (sym (ap (λ rs. first_key_or rs l.high) alone))
+  abbrev both : List (Key × StampedVersions)
+  both = versioned c hl.entries l.rows ++ versioned d hr.entries r.rows
 
-    give_right : AreFenced (record { low = row.key; high = r.high; rows = row ∷ r.rows })
-    give_right =
-        let back = fenced_back l n row.key is_l.fenced (sym (ap (λ rs. first_key_or rs l.high) alone)) in
-        fenced_append (record { low = row.key; high = l.high; rows = row ∷ [] }) r (subst (λ (rs : List Row). AreFenced (record { low = row.key; high = l.high; rows = rs })) alone back) is_r.fenced meet
+  shared : (n : ℕ) → versioned c' hl'.entries (take n (l.rows ++ r.rows)) ≡ take n both → versioned d' hr'.entries (drop n (l.rows ++ r.rows)) ≡ drop n both
+      → SharesRows (view_of l hl c) (view_of r hr d) (view_of (front_of (joined l r) n) hl' c') (view_of (back_of (joined l r) n) hr' d') n
+  shared n left right = record {
+    left_rows = left;
+    right_rows = right;
+    low = refl;
+    high = refl;
+    left_cut = sym (first_key_same hr'.entries d' (drop n (l.rows ++ r.rows)) r.high);
+    right_cut = sym (first_key_same hr'.entries d' (drop n (l.rows ++ r.rows)) r.high);
+  }
 
-    pub give_left_fences : is_below row.key l.low ≡ false
-    give_left_fences = give_left.fences
+  pub left_fenced : (n : ℕ) → AreFenced (front_of (joined l r) n)
+  left_fenced n = fenced_front (joined l r) n _ whole refl
 
-    pub give_left_within : AreWithin l.low row.key (take n l.rows)
-    give_left_within = give_left.within
+  pub right_fenced : (n : ℕ) → AreFenced (back_of (joined l r) n)
+  right_fenced n = fenced_back (joined l r) n _ whole refl
 
-    pub give_right_fences : is_below r.high row.key ≡ false
-    give_right_fences = give_right.fences
+  -- the left one's last rows move
+  module _ (n : ℕ) (le : n ≤ length l.rows) (hands : HandsRows (drop n l.rows) hl hl' c c' hr hr' d d') where
+    pub given_left : AreParts (front_of (joined l r) n) hl'.entries c'
+    given_left = record { fenced = left_fenced n; lists = hands.from_lists; rest = hands.from_rest }
 
-    pub give_right_within : AreWithin row.key r.high r.rows
-    give_right_within = give_right.within.1
+    pub given_right : AreParts (back_of (joined l r) n) hr'.entries d'
+    given_right = record { fenced = right_fenced n; lists = hands.to_lists; rest = hands.to_rest is_r.rest }
 
-    pub give_key_within : is_between row.key r.high row.key ≡ true
-    give_key_within = give_right.within.0
+    pub given_shares : (m : ℕ) → m ≡ n → SharesRows (view_of l hl c) (view_of r hr d) (view_of (front_of (joined l r) n) hl' c') (view_of (back_of (joined l r) n) hr' d') m
+    given_shares m e = subst (SharesRows (view_of l hl c) (view_of r hr d) (view_of (front_of (joined l r) n) hl' c') (view_of (back_of (joined l r) n) hr' d')) (sym e) (shared n left right)
+      where
+        few : n ≤ length (versioned c hl.entries l.rows)
+        few = let count : length (versioned c hl.entries l.rows) ≡ length l.rows = row_count l hl c in omega (arith, count, le)
 
-    pub give_gap : IsGapFor r.rows row.key 0
-    give_gap = record { within = omega arith; before = tt; behind = give_right.sorted.0 }
+        left : versioned c' hl'.entries (take n (l.rows ++ r.rows)) ≡ take n both
+        left =
+            ap (versioned c' hl'.entries) (take-append-le n l.rows r.rows le)
+            ∙ others_same hl.entries hl'.entries c c' (drop n l.rows) hands.from_others (take n l.rows)
+            (front_elsewhere (take n l.rows) (drop n l.rows) (subst AreSorted (sym (take-append-drop n l.rows)) is_l.fenced.sorted))
+            ∙ versioned_take hl.entries c n l.rows ∙ sym (take-append-le n (versioned c hl.entries l.rows) (versioned d hr.entries r.rows) few)
 
-    pub give_records : (m : ℕ) → m ≡ n → all_records (drop m (versioned c hl.entries l.rows)) ≡ records_at_key c (heads_at hl.entries row.key)
-    give_records m e =
-        let one : all_records (drop m (versioned c hl.entries l.rows)) ≡ records_in (versions_in c (heads_at hl.entries row.key) row.weight) + 0 =
-        ap all_records (ap (λ i. drop i (versioned c hl.entries l.rows)) e ∙ sym (versioned_drop hl.entries c n l.rows) ∙ ap (versioned c hl.entries) alone) in
-        let same : records_in (versions_in c (heads_at hl.entries row.key) row.weight) ≡ records_at_key c (heads_at hl.entries row.key) = entry_records c (heads_at hl.entries row.key) row.weight in
-        omega (arith, one, same)
+        right_sorted : AreSorted (drop n l.rows ++ r.rows)
+        right_sorted = subst AreSorted (drop-append-le n l.rows r.rows le) (right_fenced n).sorted
 
-    module _ (hl' hr' : HeadTable) (c' d' : ChainMap) (hands : HandsRow row.key hl hl' c c' hr hr' d d') where
-      pub give_left_parts : AreParts (record { low = l.low; high = row.key; rows = take n l.rows }) hl'.entries c'
-      give_left_parts = record { fenced = give_left; lists = hands.from_lists; rest = hands.from_rest is_l.rest }
+        right : versioned d' hr'.entries (drop n (l.rows ++ r.rows)) ≡ drop n both
+        right =
+            ap (versioned d' hr'.entries) (drop-append-le n l.rows r.rows le) ∙ versioned_append hr'.entries d' (drop n l.rows) r.rows
+            ∙ (λ i. hands.moved i ++ others_same hr.entries hr'.entries d d' (drop n l.rows) hands.to_others r.rows (back_elsewhere (drop n l.rows) r.rows right_sorted) i)
+            ∙ ap (λ es. es ++ versioned d hr.entries r.rows) (versioned_drop hl.entries c n l.rows) ∙ sym (drop-append-le n (versioned c hl.entries l.rows) (versioned d hr.entries r.rows) few)
 
-      pub give_right_parts : AreParts (record { low = row.key; high = r.high; rows = row ∷ r.rows }) hr'.entries d'
-      give_right_parts = record { fenced = give_right; lists = hands.to_lists; rest = hands.to_rest is_r.rest }
+  -- the right one's first rows move
+  module _ (k n : ℕ) (is : n ≡ length l.rows + k) (le : k ≤ length r.rows) (hands : HandsRows (take k r.rows) hr hr' d d' hl hl' c c') where
+    pub taken_left : AreParts (front_of (joined l r) n) hl'.entries c'
+    taken_left = record { fenced = left_fenced n; lists = hands.to_lists; rest = hands.to_rest is_l.rest }
 
-      pub give_shares : (m : ℕ) → m ≡ n → SharesRows (view_of l hl c) (view_of r hr d) (view_of (record { low = l.low; high = row.key; rows = take n l.rows }) hl' c') (view_of (record { low = row.key; high = r.high; rows = row ∷ r.rows }) hr' d') m
-      give_shares m e = record {
-        left_rows =
-            others_same hl.entries hl'.entries c c' row.key hands.from_others (take n l.rows)
-            (below_all_untied row.key (take n l.rows) (all_map (λ q. is_between l.low row.key q.key ≡ true) (λ q. is_below q.key row.key ≡ true) (λ q w. (between_parts l.low row.key q.key w).1) (take n l.rows) give_left.within))
-            ∙ versioned_take hl.entries c n l.rows ∙ ap (λ i. take i (versioned c hl.entries l.rows)) (sym e)
-            ∙ sym (take_front (versioned c hl.entries l.rows) (versioned d hr.entries r.rows) m few);
-        right_rows =
-            (λ i. (row.key, hands.moved row.weight i) ∷ others_same hr.entries hr'.entries d d' row.key hands.to_others r.rows (above_all_untied row.key r.rows give_right.sorted.0) i)
-            ∙ ap (λ es. es ++ versioned d hr.entries r.rows) (sym (ap (λ i. drop i (versioned c hl.entries l.rows)) e ∙ sym (versioned_drop hl.entries c n l.rows) ∙ ap (versioned c hl.entries) alone))
-            ∙ sym (drop_front (versioned c hl.entries l.rows) (versioned d hr.entries r.rows) m few);
-        low = refl;
-        high = refl;
-        left_cut = refl;
-        right_cut = refl;
-      }
-        where
-          few : m ≤ length (versioned c hl.entries l.rows)
-          few = let count : length (versioned c hl.entries l.rows) ≡ length l.rows = row_count l hl c in omega (arith, count, e, last)
+    pub taken_right : AreParts (back_of (joined l r) n) hr'.entries d'
+    taken_right = record { fenced = right_fenced n; lists = hands.from_lists; rest = hands.from_rest }
 
-  -- ---- the first row of the right one moves
+    pub taken_shares : (m : ℕ) → m ≡ n → SharesRows (view_of l hl c) (view_of r hr d) (view_of (front_of (joined l r) n) hl' c') (view_of (back_of (joined l r) n) hr' d') m
+    taken_shares m e = subst (SharesRows (view_of l hl c) (view_of r hr d) (view_of (front_of (joined l r) n) hl' c') (view_of (back_of (joined l r) n) hr' d')) (sym e) (shared n left right)
+      where
+        grown : n ≡ length (versioned c hl.entries l.rows) + k
+        grown = let count : length (versioned c hl.entries l.rows) ≡ length l.rows = row_count l hl c in omega (arith, count, is)
 
-  module _ (row : Row) (rest : List Row) (whole : r.rows ≡ row ∷ rest) where
-    abbrev next : Key
-    next = first_key_or rest r.high
+        left_is : take n (l.rows ++ r.rows) ≡ l.rows ++ take k r.rows
+        left_is = ap (λ m. take m (l.rows ++ r.rows)) is ∙ take-append-add l.rows r.rows k
 
-    take_right : AreFenced (record { low = next; high = r.high; rows = rest })
-    take_right =
-        let back = fenced_back r 1 next is_r.fenced (sym (ap (λ rs. first_key_or (drop 1 rs) r.high) whole)) in
-        subst (λ (rs : List Row). AreFenced (record { low = next; high = r.high; rows = rs })) (ap (drop 1) whole) back
+        left_sorted : AreSorted (l.rows ++ take k r.rows)
+        left_sorted = subst AreSorted left_is (left_fenced n).sorted
 
-    take_left : AreFenced (record { low = l.low; high = next; rows = l.rows ++ row ∷ [] })
-    take_left =
-        let front = fenced_front r 1 next is_r.fenced (sym (ap (λ rs. first_key_or (drop 1 rs) r.high) whole)) in
-        fenced_append l (record { low = r.low; high = next; rows = row ∷ [] }) is_l.fenced (subst (λ (rs : List Row). AreFenced (record { low = r.low; high = next; rows = rs })) (ap (take 1) whole) front) meet
+        left : versioned c' hl'.entries (take n (l.rows ++ r.rows)) ≡ take n both
+        left =
+            ap (versioned c' hl'.entries) left_is ∙ versioned_append hl'.entries c' l.rows (take k r.rows)
+            ∙ (λ i. others_same hl.entries hl'.entries c c' (take k r.rows) hands.to_others l.rows (front_elsewhere l.rows (take k r.rows) left_sorted) i ++ hands.moved i)
+            ∙ ap (λ es. versioned c hl.entries l.rows ++ es) (versioned_take hr.entries d k r.rows)
+            ∙ sym (take-append-add (versioned c hl.entries l.rows) (versioned d hr.entries r.rows) k) ∙ sym (ap (λ m. take m both) grown)
 
-    pub take_right_fences : is_below r.high next ≡ false
-    take_right_fences = take_right.fences
-
-    pub take_right_within : AreWithin next r.high rest
-    take_right_within = take_right.within
-
-    pub take_left_fences : is_below next l.low ≡ false
-    take_left_fences = take_left.fences
-
-    pub take_left_within : AreWithin l.low next l.rows
-    take_left_within = front_all (λ q. is_between l.low next q.key ≡ true) l.rows (row ∷ []) take_left.within
-
-    pub take_key_within : is_between l.low next row.key ≡ true
-    take_key_within = (back_all (λ q. is_between l.low next q.key ≡ true) l.rows (row ∷ []) take_left.within).0
-
-    below_row : AreBelow row.key l.rows
-    below_row = sorted_front row.key l.rows [] row refl take_left.sorted
-
-    pub take_gap : (n : ℕ) → n ≡ length l.rows → IsGapFor l.rows row.key n
-    take_gap n e = record {
-      within = omega (arith, e);
-      before = subst (λ (rs : List Row). AreBelow row.key rs) (sym (ap (λ i. take i l.rows) e ∙ take_all l.rows)) below_row;
-      behind = subst (λ (rs : List Row). AreAbove row.key rs) (sym (ap (λ i. drop i l.rows) e ∙ drop_all l.rows)) tt;
-    }
-
-    pub take_records : all_records (take 1 (versioned d hr.entries r.rows)) ≡ records_at_key d (heads_at hr.entries row.key)
-    take_records =
-        let one : all_records (take 1 (versioned d hr.entries r.rows)) ≡ records_in (versions_in d (heads_at hr.entries row.key) row.weight) + 0 = ap (λ rs. all_records (take 1 (versioned d hr.entries rs))) whole in
-        let same : records_in (versions_in d (heads_at hr.entries row.key) row.weight) ≡ records_at_key d (heads_at hr.entries row.key) = entry_records d (heads_at hr.entries row.key) row.weight in
-        omega (arith, one, same)
-
-    module _ (hl' hr' : HeadTable) (c' d' : ChainMap) (hands : HandsRow row.key hr hr' d d' hl hl' c c') where
-      pub take_left_parts : AreParts (record { low = l.low; high = next; rows = l.rows ++ row ∷ [] }) hl'.entries c'
-      take_left_parts = record { fenced = take_left; lists = hands.to_lists; rest = hands.to_rest is_l.rest }
-
-      pub take_right_parts : AreParts (record { low = next; high = r.high; rows = rest }) hr'.entries d'
-      take_right_parts = record { fenced = take_right; lists = hands.from_lists; rest = hands.from_rest is_r.rest }
-
-      above_rest : AreAbove row.key rest
-      above_rest = (subst AreSorted whole is_r.fenced.sorted).0
-
-      pub take_shares : (m : ℕ) → m ≡ length (view_of l hl c).rows + 1
-          → SharesRows (view_of l hl c) (view_of r hr d) (view_of (record { low = l.low; high = next; rows = l.rows ++ row ∷ [] }) hl' c') (view_of (record { low = next; high = r.high; rows = rest }) hr' d') m
-      take_shares m e = record {
-        left_rows =
-            versioned_append hl'.entries c' l.rows (row ∷ [])
-            ∙ (λ i. others_same hl.entries hl'.entries c c' row.key hands.to_others l.rows (below_all_untied row.key l.rows below_row) i ++ (row.key, hands.moved row.weight i) ∷ [])
-            ∙ sym (take_one_more (versioned c hl.entries l.rows) (versioned d hr.entries rest) _ m (omega (arith, e)))
-            ∙ ap (λ rs. take m (versioned c hl.entries l.rows ++ versioned d hr.entries rs)) (sym whole);
-        right_rows =
-            others_same hr.entries hr'.entries d d' row.key hands.from_others rest (above_all_untied row.key rest above_rest)
-            ∙ sym (drop_one_more (versioned c hl.entries l.rows) (versioned d hr.entries rest) _ m (omega (arith, e)))
-            ∙ ap (λ rs. drop m (versioned c hl.entries l.rows ++ versioned d hr.entries rs)) (sym whole);
-        low = refl;
-        high = refl;
-        left_cut = sym (first_key_same hr'.entries d' rest r.high);
-        right_cut = sym (first_key_same hr'.entries d' rest r.high);
-      }
+        right : versioned d' hr'.entries (drop n (l.rows ++ r.rows)) ≡ drop n both
+        right =
+            ap (versioned d' hr'.entries) (ap (λ m. drop m (l.rows ++ r.rows)) is ∙ drop-append-add l.rows r.rows k)
+            ∙ others_same hr.entries hr'.entries d d' (take k r.rows) hands.from_others (drop k r.rows)
+            (back_elsewhere (take k r.rows) (drop k r.rows) (subst AreSorted (sym (take-append-drop k r.rows)) is_r.fenced.sorted))
+            ∙ versioned_drop hr.entries d k r.rows
+            ∙ sym (drop-append-add (versioned c hl.entries l.rows) (versioned d hr.entries r.rows) k) ∙ sym (ap (λ m. drop m both) grown)
 
 -- ---- segments that are what they should be
 
@@ -479,161 +390,3 @@ module _ (hl hr : HeadTable) (c d : ChainMap) (l l' r r' : FencedRows) (left : l
 
 pub parts_as : (heads : List ChangedRow) (c : ChainMap) (l l' : FencedRows) → l ≡ l' → AreParts l' heads c → AreParts l heads c
 parts_as heads c l l' e h = subst (λ (s : FencedRows). AreParts s heads c) (sym e) h
-
--- ---- row by row
-
-pub shares_chain : (a b c d e f : VersionedRows) (m n : ℕ) → SharesRows a b c d m → SharesRows c d e f n → SharesRows a b e f n
-shares_chain a b c d e f m n first second =
-    let whole = (λ i. first.left_rows i ++ first.right_rows i) ∙ take-append-drop m (a.rows ++ b.rows) in
-    record {
-      left_rows = second.left_rows ∙ ap (take n) whole;
-      right_rows = second.right_rows ∙ ap (drop n) whole;
-      low = second.low ∙ first.low;
-      high = second.high ∙ first.high;
-      left_cut = second.left_cut;
-      right_cut = second.right_cut;
-    }
-
-pub shares_meet : (a b c d : VersionedRows) (n : ℕ) → SharesRows a b c d n → c.high ≡ d.low
-shares_meet a b c d n h = h.left_cut ∙ sym h.right_cut
-
-left_length : (a b c d : VersionedRows) (n : ℕ) → SharesRows a b c d n → n ≤ length a.rows + length b.rows → length c.rows ≡ n
-left_length a b c d n h le =
-    let cut : length c.rows ≡ min n (length (a.rows ++ b.rows)) = ap length h.left_rows ∙ length-take n (a.rows ++ b.rows) in
-    let both : length (a.rows ++ b.rows) ≡ length a.rows + length b.rows = length-append a.rows b.rows in
-    omega (arith, cut, both, le)
-
-right_length : (a b c d : VersionedRows) (n : ℕ) → SharesRows a b c d n → length d.rows ≡ length a.rows + length b.rows - n
-right_length a b c d n h =
-    let cut : length d.rows ≡ length (a.rows ++ b.rows) - n = ap length h.right_rows ∙ length-drop n (a.rows ++ b.rows) in
-    let both : length (a.rows ++ b.rows) ≡ length a.rows + length b.rows = length-append a.rows b.rows in
-    omega (arith, cut, both)
-
-drop_take : (es : List (Key × StampedVersions)) (i : ℕ) → i < length es → drop i (take (suc i) es) ≡ row_of es i
-drop_take [] i lt = absurd (omega (arith, lt))
-drop_take (e ∷ es) zero lt = refl
-drop_take (e ∷ es) (suc i) lt = drop_take es i (omega (arith, lt))
-
-fewer_behind : (es : List (Key × StampedVersions)) (i j : ℕ) → i ≤ j → all_records (drop j es) ≤ all_records (drop i es)
-fewer_behind [] zero zero le = omega arith
-fewer_behind [] zero (suc j) le = omega arith
-fewer_behind [] (suc i) zero le = omega arith
-fewer_behind [] (suc i) (suc j) le = omega arith
-fewer_behind (e ∷ es) zero zero le = omega arith
-fewer_behind (e ∷ es) zero (suc j) le = let rest : all_records (drop j es) ≤ all_records es = fewer_behind es zero j (omega arith) in omega (arith, rest)
-fewer_behind (e ∷ es) (suc i) zero le = absurd (omega (arith, le))
-fewer_behind (e ∷ es) (suc i) (suc j) le = fewer_behind es i j (omega (arith, le))
-
-fewer_before : (es : List (Key × StampedVersions)) (i j : ℕ) → i ≤ j → all_records (take i es) ≤ all_records (take j es)
-fewer_before es zero j le = omega arith
-fewer_before [] (suc i) j le = omega arith
-fewer_before (e ∷ es) (suc i) zero le = absurd (omega (arith, le))
-fewer_before (e ∷ es) (suc i) (suc j) le = let rest : all_records (take i es) ≤ all_records (take j es) = fewer_before es i j (omega (arith, le)) in omega (arith, rest)
-
-records_to : (es : List (Key × StampedVersions)) (i : ℕ) → i < length es → all_records (take (suc i) es) ≡ all_records (take i es) + all_records (row_of es i)
-records_to [] i lt = absurd (omega (arith, lt))
-records_to (e ∷ es) zero lt = omega arith
-records_to (e ∷ es) (suc i) lt = let rest : all_records (take (suc i) es) ≡ all_records (take i es) + all_records (row_of es i) = records_to es i (omega (arith, lt)) in omega (arith, rest)
-
-drop_past : {X : Type 0} (xs ys : List X) (n i : ℕ) → n ≡ length xs + i → drop n (xs ++ ys) ≡ drop i ys
-drop_past [] ys n i e = let same : n ≡ i = omega (arith, e) in ap (λ m. drop m ys) same
-drop_past (x ∷ xs) ys zero i e = absurd (omega (arith, e))
-drop_past (x ∷ xs) ys (suc n) i e = drop_past xs ys n i (omega (arith, e))
-
-module _ (left right : VersionedRows) where
-  pub right_start : (l1 r1 : VersionedRows) → SharesRows left right l1 r1 (length left.rows) → l1.spare ≡ left.spare → r1.spare ≡ right.spare → IsMovingRight left right l1 r1 0
-  right_start l1 r1 shares ls rs = record {
-    shares = subst (SharesRows left right l1 r1) (omega arith) shares;
-    spare = omega (arith, ls);
-    used = omega (arith, rs);
-  }
-
-  pub left_start : (l1 r1 : VersionedRows) → SharesRows left right l1 r1 (length left.rows) → l1.spare ≡ left.spare → r1.spare ≡ right.spare → IsMovingLeft left right l1 r1 0
-  left_start l1 r1 shares ls rs = record {
-    shares = subst (SharesRows left right l1 r1) (omega arith) shares;
-    spare = omega (arith, rs);
-    used = omega (arith, ls);
-  }
-
-  module _ (l1 r1 : VersionedRows) (moved rows : ℕ) (more : moved < rows) (le : rows ≤ length left.rows) (is : IsMovingRight left right l1 r1 moved) where
-    abbrev behind : ℕ
-    behind = length left.rows - moved
-
-    l1_length : length l1.rows ≡ behind
-    l1_length = left_length left right l1 r1 behind is.shares (omega arith)
-
-    pub right_some : 0 < length l1.rows
-    right_some = omega (arith, l1_length, more, le)
-
-    pub right_room : length right.rows + rows ≤ 32 → length r1.rows < 32
-    right_room room = let n : length r1.rows ≡ length left.rows + length right.rows - behind = right_length left right l1 r1 behind is.shares in omega (arith, n, room, more, le)
-
-    last_row : drop (length l1.rows - 1) l1.rows ≡ row_of left.rows (length l1.rows - 1)
-    last_row =
-        let one : behind ≡ suc (length l1.rows - 1) = omega (arith, l1_length, more, le) in
-        ap (drop (length l1.rows - 1)) (is.shares.left_rows ∙ take_front left.rows right.rows behind (omega arith) ∙ ap (λ n. take n left.rows) one)
-        ∙ drop_take left.rows (length l1.rows - 1) (omega (arith, l1_length, more, le))
-
-    one_more : all_records (drop (length l1.rows - 1) left.rows) ≡ all_records (drop (length l1.rows - 1) l1.rows) + all_records (drop behind left.rows)
-    one_more =
-        let at : all_records (drop (length l1.rows - 1) left.rows) ≡ all_records (row_of left.rows (length l1.rows - 1)) + all_records (drop (suc (length l1.rows - 1)) left.rows) =
-        records_from (λ by. None) 0 left.rows (length l1.rows - 1) (omega (arith, l1_length, more, le)) in
-        let same : all_records (drop (length l1.rows - 1) l1.rows) ≡ all_records (row_of left.rows (length l1.rows - 1)) = ap all_records last_row in
-        let next : all_records (drop (suc (length l1.rows - 1)) left.rows) ≡ all_records (drop behind left.rows) =
-        (let one : suc (length l1.rows - 1) ≡ behind = omega (arith, l1_length, more, le) in ap (λ n. all_records (drop n left.rows)) one) in
-        omega (arith, at, same, next)
-
-    pub right_spare : all_records (drop (length left.rows - rows) left.rows) ≤ right.spare → all_records (drop (length l1.rows - 1) l1.rows) ≤ r1.spare
-    right_spare spare =
-        let all : all_records (drop (length l1.rows - 1) left.rows) ≤ all_records (drop (length left.rows - rows) left.rows) =
-        fewer_behind left.rows (length left.rows - rows) (length l1.rows - 1) (omega (arith, l1_length, more, le)) in
-        omega (arith, all, one_more, is.used, spare)
-
-    pub right_next : (l2 r2 : VersionedRows) → SharesRows l1 r1 l2 r2 (length l1.rows - 1) → l1.spare ≤ l2.spare → r1.spare ≤ r2.spare + all_records (drop (length l1.rows - 1) l1.rows)
-        → (m : ℕ) → m ≡ moved + 1 → IsMovingRight left right l2 r2 m
-    right_next l2 r2 shares spare used m e =
-        let n : length l1.rows - 1 ≡ length left.rows - m = omega (arith, l1_length, more, le, e) in
-        let last : all_records (drop (length left.rows - m) left.rows) ≡ all_records (drop (length l1.rows - 1) left.rows) = ap (λ i. all_records (drop i left.rows)) (sym n) in
-        record {
-          shares = subst (SharesRows left right l2 r2) n (shares_chain left right l1 r1 l2 r2 behind (length l1.rows - 1) is.shares shares);
-          spare = omega (arith, is.spare, spare);
-          used = omega (arith, is.used, used, one_more, last);
-        }
-
-  module _ (l1 r1 : VersionedRows) (moved rows : ℕ) (more : moved < rows) (le : rows ≤ length right.rows) (is : IsMovingLeft left right l1 r1 moved) where
-    abbrev before : ℕ
-    before = length left.rows + moved
-
-    l1_grown : length l1.rows ≡ before
-    l1_grown = left_length left right l1 r1 before is.shares (omega (arith, more, le))
-
-    pub left_some : 0 < length r1.rows
-    left_some = let n : length r1.rows ≡ length left.rows + length right.rows - before = right_length left right l1 r1 before is.shares in omega (arith, n, more, le)
-
-    pub left_room : length left.rows + rows ≤ 32 → length l1.rows < 32
-    left_room room = omega (arith, l1_grown, room, more)
-
-    first_row : take 1 r1.rows ≡ row_of right.rows moved
-    first_row = ap (take 1) (is.shares.right_rows ∙ drop_past left.rows right.rows before moved refl)
-
-    one_taken : all_records (take (suc moved) right.rows) ≡ all_records (take moved right.rows) + all_records (take 1 r1.rows)
-    one_taken =
-        let at : all_records (take (suc moved) right.rows) ≡ all_records (take moved right.rows) + all_records (row_of right.rows moved) = records_to right.rows moved (omega (arith, more, le)) in
-        let same : all_records (take 1 r1.rows) ≡ all_records (row_of right.rows moved) = ap all_records first_row in
-        omega (arith, at, same)
-
-    pub left_spare : all_records (take rows right.rows) ≤ left.spare → all_records (take 1 r1.rows) ≤ l1.spare
-    left_spare spare =
-        let all : all_records (take (suc moved) right.rows) ≤ all_records (take rows right.rows) = fewer_before right.rows (suc moved) rows (omega (arith, more)) in
-        omega (arith, all, one_taken, is.used, spare)
-
-    pub left_next : (l2 r2 : VersionedRows) → SharesRows l1 r1 l2 r2 (length l1.rows + 1) → r1.spare ≤ r2.spare → l1.spare ≤ l2.spare + all_records (take 1 r1.rows)
-        → (m : ℕ) → m ≡ moved + 1 → IsMovingLeft left right l2 r2 m
-    left_next l2 r2 shares spare used m e =
-        let n : length l1.rows + 1 ≡ length left.rows + m = omega (arith, l1_grown, e) in
-        let next : all_records (take m right.rows) ≡ all_records (take (suc moved) right.rows) = (let s : m ≡ suc moved = omega (arith, e) in ap (λ i. all_records (take i right.rows)) s) in
-        record {
-          shares = subst (SharesRows left right l2 r2) n (shares_chain left right l1 r1 l2 r2 before (length l1.rows + 1) is.shares shares);
-          spare = omega (arith, is.spare, spare);
-          used = omega (arith, is.used, used, one_taken, next);
-        }

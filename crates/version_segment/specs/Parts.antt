@@ -1,5 +1,6 @@
 -- What the parts of a segment stand for. Only the crate itself speaks of it.
 use Rattle.std.specs.Prelude.{◌≡◌, ℕ, Bool, true, false, ◌||◌, not, cond, is_some, min, length, ◌+◌, ◌≤◌, List, [], ◌∷◌, ◌++◌, remove, slice_get, IsSomeAnd, Option, Some, None}
+use Rattle.std.specs.List.{AllByRecursion}
 use Rattle.std.specs.Ordering.{eq_by_cmp}
 use Rattle.std.specs.Option.{unwrap_or}
 use Rattle.std.specs.declared.result.Result.{Result}
@@ -15,7 +16,7 @@ use Rattle.version_segment.specs.declared.heads.Heads.{Heads}
 use Rattle.version_segment.specs.declared.heads.ChangedRow.{ChangedRow}
 use Rattle.version_segment.specs.declared.found.FoundRow.{FoundRow}
 use Rattle.version_segment.specs.Keyed.{entries_by}
-use Rattle.version_segment.specs.Rows.{VersionedRows}
+use Rattle.version_segment.specs.Rows.{VersionedRows, all_records}
 use Rattle.version_segment.specs.Heads.{HeadTable, heads_at}
 use Rattle.version_segment.specs.Lists.{AreLists, HasRest}
 
@@ -116,3 +117,25 @@ pub record HandsRow (key : Key) (from_heads from_heads' : HeadTable) (from from'
   pub from_entry : from_heads.spare ≤ from_heads'.spare
   pub to_spare : to.spare ≤ to'.spare + records_at_key from (heads_at from_heads.entries key)
   pub to_entry : to_heads.spare ≤ to_heads'.spare + records_at_key from (heads_at from_heads.entries key)
+
+-- the key is none of the rows'
+abbrev pub IsElsewhere : List Row → Key → Type 0
+IsElsewhere rows q = AllByRecursion (λ r. eq_by_cmp key_cmp q r.key ≡ false) rows
+
+-- the versions of all these rows stand in other parts now, and those of all other rows are as they were
+pub record HandsRows (rows : List Row) (from_heads from_heads' : HeadTable) (from from' : ChainMap)
+    (to_heads to_heads' : HeadTable) (to to' : ChainMap) : Type 0 where
+  pub from_lists : AreLists from' (heads_at from_heads'.entries)
+  pub to_lists : AreLists to' (heads_at to_heads'.entries)
+  pub from_others : (q : Key) (weight : ℕ) → IsElsewhere rows q
+      → versions_in from' (heads_at from_heads'.entries q) weight
+      ≡ versions_in from (heads_at from_heads.entries q) weight
+  pub to_others : (q : Key) (weight : ℕ) → IsElsewhere rows q
+      → versions_in to' (heads_at to_heads'.entries q) weight ≡ versions_in to (heads_at to_heads.entries q) weight
+  pub moved : versioned to' to_heads'.entries rows ≡ versioned from from_heads.entries rows
+  pub from_rest : (q : Key) → HasRest (heads_at from_heads'.entries q)
+  pub to_rest : ((q : Key) → HasRest (heads_at to_heads.entries q)) → (q : Key) → HasRest (heads_at to_heads'.entries q)
+  pub from_spare : from.spare ≤ from'.spare
+  pub from_entry : from_heads.spare ≤ from_heads'.spare
+  pub to_spare : to.spare ≤ to'.spare + all_records (versioned from from_heads.entries rows)
+  pub to_entry : to_heads.spare ≤ to_heads'.spare + all_records (versioned from from_heads.entries rows)

@@ -1,5 +1,5 @@
 -- What the loops over rows and lists keep. Only the crate itself speaks of it.
-use Rattle.std.specs.Prelude.{◌≡◌, ℕ, suc, ◌+◌, ◌-◌, ◌≤◌, List, ◌++◌, take, drop, length, Option}
+use Rattle.std.specs.Prelude.{◌≡◌, ℕ, suc, ◌+◌, ◌≤◌, List, ◌++◌, take, drop, length, Option}
 use Rattle.graph_model.specs.declared.row.Key.{Key}
 use Rattle.graph_model.specs.declared.row.Row.{Row}
 use Rattle.graph_model.specs.declared.journal.TxnName.{TxnName}
@@ -16,7 +16,7 @@ use Rattle.undo_chain.specs.Chains.{ChainMap, list_at, IsLinkOf}
 use Rattle.undo_chain.specs.States.{Knowledge, Grows}
 use Rattle.undo_chain.specs.Walks.{IsAsked}
 use Rattle.version_segment.specs.Checks.{blocked, IsStateBy, IsChecked, drops_in}
-use Rattle.version_segment.specs.Rows.{VersionedRows, SharesRows, all_records, pruned_rows, rows_read}
+use Rattle.version_segment.specs.Rows.{all_records, pruned_rows, rows_read}
 use Rattle.version_segment.specs.declared.heads.ChangedRow.{ChangedRow}
 use Rattle.version_segment.specs.Heads.{HeadTable}
 use Rattle.version_segment.specs.Parts.{touches_of, versioned, AreParts}
@@ -89,15 +89,3 @@ pub record IsFilled (c : ChainMap) (heads : List ChangedRow) (old now : Knowledg
   pub rows : buffer
       ≡ rows_read (read_stamped old.stamps snapshot.start snapshot.own) (versioned c heads (take place run))
   pub grows : Grows old now
-
--- so many rows have moved to the right, the last ones first
-pub record IsMovingRight (left right left' right' : VersionedRows) (moved : ℕ) : Type 0 where
-  pub shares : SharesRows left right left' right' (length left.rows - moved)
-  pub spare : left.spare ≤ left'.spare
-  pub used : right.spare ≤ right'.spare + all_records (drop (length left.rows - moved) left.rows)
-
--- so many rows have moved to the left
-pub record IsMovingLeft (left right left' right' : VersionedRows) (moved : ℕ) : Type 0 where
-  pub shares : SharesRows left right left' right' (length left.rows + moved)
-  pub spare : right.spare ≤ right'.spare
-  pub used : left.spare ≤ left'.spare + all_records (take moved right.rows)

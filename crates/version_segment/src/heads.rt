@@ -10,6 +10,7 @@ ghost use Rattle.graph_model.specs.declared.row.Key.{Key};
 ghost use Rattle.graph_model.specs.Rows.{key_cmp, is_below, is_between};
 ghost use Rattle.version_segment.specs.Heads.{heads_at, settled_heads, is_settled, IsFoundIn, IsKeyPlace, AreKeysRising};
 
+use crate::packed::PackedRow;
 use graph_model::{Key, NoMemory};
 use std::alloc::Global;
 use std::marker::Model;
@@ -52,7 +53,7 @@ pub struct ChangedRow {
 /// The changed rows of a segment, in the order of their keys.
 #[derive(Drop)]
 pub(crate) struct HeadMap {
-    rows: Vec<ChangedRow>,
+    rows: Vec<PackedRow>,
 }
 
 impl Model for HeadMap {
@@ -103,7 +104,7 @@ impl HeadMap {
         ensures { result ≡ heads_at self.now.entries key }
     {
         match find_in(self.rows.as_slice(), key) {
-            Ok(place) => self.rows[place].heads,
+            Ok(place) => self.rows[place].heads(),
             Err(_) => Heads::settled(),
         }
     }
@@ -122,9 +123,13 @@ impl HeadMap {
             Ok(place) if settled => {
                 self.rows.remove(place);
             }
-            Ok(place) => self.rows[place].heads = heads,
+            Ok(place) => self.rows[place].set_heads(heads),
             Err(_) if settled => {}
-            Err(place) => put_row(&mut self.rows, place, ChangedRow { key, heads }),
+            Err(place) => put_row(
+                &mut self.rows,
+                place,
+                PackedRow::new(ChangedRow { key, heads }),
+            ),
         }
     }
 
@@ -134,7 +139,8 @@ impl HeadMap {
             → heads_at self.now.entries q ≡ settled_heads }
     {
         'rows: for row in &self.rows {
-            if !row.key.is_below(from) && row.key.is_below(until) {
+            let key = row.key();
+            if !key.is_below(from) && key.is_below(until) {
                 return false;
             }
         }
@@ -143,7 +149,7 @@ impl HeadMap {
 }
 
 /// Puts a row at a place, within the vector's room.
-fn put_row(rows: &mut Vec<ChangedRow>, place: usize, row: ChangedRow)
+fn put_row(rows: &mut Vec<PackedRow>, place: usize, row: PackedRow)
     requires place { place ≤ length rows.old.items }
     requires room { length rows.old.items < vec_capacity rows.old }
     ensures rows { rows.new.items ≡ insert rows.old.items place row }
@@ -156,19 +162,19 @@ fn put_row(rows: &mut Vec<ChangedRow>, place: usize, row: ChangedRow)
 }
 
 /// The place of the key's row, or the one where it would stand.
-fn find_in(rows: &[ChangedRow], key: Key) -> Result<usize, usize>
+fn find_in(rows: &[PackedRow], key: Key) -> Result<usize, usize>
     requires { AreKeysRising rows.now }
     ensures { IsFoundIn rows.now key result }
 {
     let place = place_in(rows, key);
     match rows.get(place) {
-        Some(row) if row.key == key => Ok(place),
+        Some(row) if row.key() == key => Ok(place),
         _ => Err(place),
     }
 }
 
 /// How many rows are below the key, found by halves.
-fn place_in(rows: &[ChangedRow], key: Key) -> usize
+fn place_in(rows: &[PackedRow], key: Key) -> usize
     requires { AreKeysRising rows.now }
     ensures { IsKeyPlace rows.now key result }
 {
@@ -176,7 +182,7 @@ fn place_in(rows: &[ChangedRow], key: Key) -> usize
     let mut count = rows.len();
     'halves: while count > 0 {
         let half = count / 2;
-        if rows[place + half].key.is_below(key) {
+        if rows[place + half].key().is_below(key) {
             place += half + 1;
             count -= half + 1;
         } else {

@@ -12,6 +12,7 @@ mod found;
 mod heads;
 mod laws;
 mod moves;
+mod packed;
 mod segment;
 
 pub use buffer::Rows32;

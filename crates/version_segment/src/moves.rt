@@ -6,11 +6,11 @@
 ghost use Rattle.std.specs.Prelude.{◌≡◌, ◌+◌, ◌-◌, ◌<◌, ◌≤◌, [], take, drop, length};
 ghost use Rattle.graph_model.specs.declared.row.Key.{Key};
 ghost use Rattle.graph_model.specs.declared.limits.TheConstants.{SEGMENT_ROWS};
-ghost use Rattle.gap_segment.specs.Fenced.{first_key_or};
+ghost use Rattle.gap_segment.specs.Fenced.{AreSorted};
 ghost use Rattle.version_segment.specs.Rows.{all_records, SharesRows};
 ghost use Rattle.version_segment.specs.Heads.{heads_at};
 ghost use Rattle.version_segment.specs.Lists.{AreLists, HasRest};
-ghost use Rattle.version_segment.specs.Parts.{records_at_key, HandsRow};
+ghost use Rattle.version_segment.specs.Parts.{records_at_key, versioned, HandsRow, HandsRows};
 
 use crate::heads::{HeadMap, Heads};
 use crate::segment::VersionSegment;
@@ -29,12 +29,16 @@ impl VersionSegment {
         ensures used { right.old.spare ≤ right.new.spare
             + all_records (drop (length self.old.rows - rows) self.old.rows) }
     {
-        self.set_cut(right);
-        let mut moved = 0;
-        'rows: while moved < rows {
-            self.give_last(right);
-            moved += 1;
-        }
+        let count = self.rows.len() - rows;
+        let (_, moved) = self.rows.rows().split_at(count);
+        hand_all(
+            &mut self.heads,
+            &mut self.chains,
+            &mut right.heads,
+            &mut right.chains,
+            moved,
+        );
+        self.rows.share(&mut right.rows, count);
     }
 
     /// Moves the first rows of the next segment, with their versions, to the end of this one.
@@ -47,89 +51,64 @@ impl VersionSegment {
         ensures spare { right.old.spare ≤ right.new.spare }
         ensures used { self.old.spare ≤ self.new.spare + all_records (take rows right.old.rows) }
     {
-        self.set_cut(right);
-        let mut moved = 0;
-        'rows: while moved < rows {
-            self.take_first(right);
-            moved += 1;
-        }
-    }
-
-    /// Sets the fence key between two neighbours to the key of the right one's first row.
-    fn set_cut(&mut self, right: &mut VersionSegment)
-        requires { self.old.high ≡ right.old.low }
-        ensures moved { SharesRows self.old right.old self.new right.new (length self.old.rows) }
-        ensures spare { self.new.spare ≡ self.old.spare }
-        ensures right_spare { right.new.spare ≡ right.old.spare }
-    {
-        let low = self.rows.low();
-        let high = right.rows.high();
-        let cut = first_key(right.rows.rows(), high);
-        self.rows.set_fences(low, cut);
-        right.rows.set_fences(cut, high);
-    }
-
-    /// Moves the last row to the front of the next segment.
-    fn give_last(&mut self, right: &mut VersionSegment)
-        requires neighbours { self.old.high ≡ right.old.low }
-        requires row { 0 < length self.old.rows }
-        requires room { length right.old.rows < SEGMENT_ROWS }
-        requires spare { all_records (drop (length self.old.rows - 1) self.old.rows) ≤ right.old.spare }
-        ensures moved { SharesRows self.old right.old self.new right.new (length self.old.rows - 1) }
-        ensures spare { self.old.spare ≤ self.new.spare }
-        ensures used { right.old.spare ≤ right.new.spare + all_records (drop (length self.old.rows - 1) self.old.rows) }
-    {
-        let low = self.rows.low();
-        let high = right.rows.high();
-        let row = self.rows.remove_at(self.rows.len() - 1);
-        hand_over(
-            &mut self.heads,
-            &mut self.chains,
-            &mut right.heads,
-            &mut right.chains,
-            row.key,
-        );
-        right.rows.set_fences(row.key, high);
-        right.rows.insert_at(0, row);
-        self.rows.set_fences(low, row.key);
-    }
-
-    /// Moves the first row of the next segment to the end of this one.
-    fn take_first(&mut self, right: &mut VersionSegment)
-        requires neighbours { self.old.high ≡ right.old.low }
-        requires row { 0 < length right.old.rows }
-        requires room { length self.old.rows < SEGMENT_ROWS }
-        requires spare { all_records (take 1 right.old.rows) ≤ self.old.spare }
-        ensures moved { SharesRows self.old right.old self.new right.new (length self.old.rows + 1) }
-        ensures spare { right.old.spare ≤ right.new.spare }
-        ensures used { self.old.spare ≤ self.new.spare + all_records (take 1 right.old.rows) }
-    {
-        let low = self.rows.low();
-        let high = right.rows.high();
-        let row = right.rows.remove_at(0);
-        hand_over(
+        let count = self.rows.len() + rows;
+        let (moved, _) = right.rows.rows().split_at(rows);
+        hand_all(
             &mut right.heads,
             &mut right.chains,
             &mut self.heads,
             &mut self.chains,
-            row.key,
+            moved,
         );
-        let cut = first_key(right.rows.rows(), high);
-        right.rows.set_fences(cut, high);
-        self.rows.set_fences(low, cut);
-        let place = self.rows.len();
-        self.rows.insert_at(place, row);
+        self.rows.share(&mut right.rows, count);
     }
 }
 
-/// The key of the first row, or the other key where there is none.
-fn first_key(rows: &[Row], other: Key) -> Key
-    ensures { result ≡ first_key_or rows.now other }
+/// Moves the records and touches of rows to another segment, which has room for them. Where both have settled rows
+/// only there are none.
+fn hand_all(
+    from_heads: &mut HeadMap,
+    from: &mut Chains,
+    to_heads: &mut HeadMap,
+    to: &mut Chains,
+    rows: &[Row],
+)
+    requires from { AreLists from.old (heads_at from_heads.old.entries) }
+    requires to { AreLists to.old (heads_at to_heads.old.entries) }
+    requires rest { (q : Key) → HasRest (heads_at from_heads.old.entries q) }
+    requires sorted { AreSorted rows.now }
+    requires room { all_records (versioned from.old from_heads.old.entries rows.now) ≤ to.old.spare }
+    requires entry { all_records (versioned from.old from_heads.old.entries rows.now) ≤ to_heads.old.spare }
+    ensures { HandsRows rows.now from_heads.old from_heads.new from.old from.new
+        to_heads.old to_heads.new to.old to.new }
 {
-    match rows {
-        [first, ..] => first.key,
-        [] => other,
+    if !(from_heads.is_empty() && to_heads.is_empty()) {
+        hand_each(from_heads, from, to_heads, to, rows);
     }
+}
+
+/// The same row by row.
+fn hand_each(
+    from_heads: &mut HeadMap,
+    from: &mut Chains,
+    to_heads: &mut HeadMap,
+    to: &mut Chains,
+    rows: &[Row],
+)
+    requires from { AreLists from.old (heads_at from_heads.old.entries) }
+    requires to { AreLists to.old (heads_at to_heads.old.entries) }
+    requires rest { (q : Key) → HasRest (heads_at from_heads.old.entries q) }
+    requires sorted { AreSorted rows.now }
+    requires room { all_records (versioned from.old from_heads.old.entries rows.now) ≤ to.old.spare }
+    requires entry { all_records (versioned from.old from_heads.old.entries rows.now) ≤ to_heads.old.spare }
+    ensures { HandsRows rows.now from_heads.old from_heads.new from.old from.new
+        to_heads.old to_heads.new to.old to.new }
+{
+    let Some((first, rest)) = rows.split_first() else {
+        return;
+    };
+    hand_over(from_heads, from, to_heads, to, first.key);
+    hand_each(from_heads, from, to_heads, to, rest);
 }
 
 /// Moves the records and touches of one row to another segment, which has room for them.

@@ -172,6 +172,7 @@ impl VersionSegment {
         if self.heads.are_settled(from, until) {
             return run;
         }
+        // Nobody reads it: that a segment has 32 rows at most, so that the buffer has room, is a clause of this call.
         let _most = self.rows.len();
         buffer.clear();
         'rows: for row in run {

@@ -1,8 +1,7 @@
-use Rattle.std.proofs.Common.{◌≡◌, ◌<◌, Some, true, false, length, subst, refl, sym, ◌∙◌, ap, arith}
-use Rattle.std.specs.Prelude.{slice_get}
+use Rattle.std.proofs.Common.{subst, refl, sym, ◌∙◌, ap, arith}
 use Rattle.std.proofs.lemmas.Option.{slice_get_read}
 use Rattle.graph_model.specs.Rows.{is_below, end_key}
-use Rattle.leaf_index.specs.Slots.{HaveSlots, IsFloorStart}
+use Rattle.leaf_index.specs.Slots.{HaveSlots}
 use Rattle.leaf_index.proofs.SlotLemmas.{candidate, candidate_within, beyond_none, beyond_some, floor_before, no_before, slot_at, slot_within, low_read, read_as}
 use Rattle.leaf_index.proofs.index.floor_of.Goals as goal
 use Rattle.leaf_index.proofs.index.floor_of.Goals.{in_default-via-in-Some+else-not-is_below, in_default-via-in_default}
@@ -20,7 +19,7 @@ returns-in-Some c =
     let h = slot_at slots end_key m.front m.start m.back (subst (HaveSlots slots end_key) m.is c.requires.slots) in
     let there = slice_get_read slots _ c.in-Some.leaf c.index.result.now refl (slot_within slots m.start c.in-Some.leaf _ h m.same) c.index.ensures in
     let low = read_as c.index.result.now.cuts 0 m.start.low _ (low_read slots m.start c.in-Some.leaf _ c.index.result.now h m.same there) in
-    record { front = m.front; start = m.start; back = m.back; is = m.is; same = m.same; from = ap (is_below c.args.key) (sym low) ∙ sym c.is_below.ensures ∙ c.if-not-is_below.true; above = m.above }
+    record { start = m.start; same = m.same; last = record { front = m.front; back = m.back; is = m.is; from = ap (is_below c.args.key) (sym low) ∙ sym c.is_below.ensures ∙ c.if-not-is_below.true; above = m.above } }
 
 pub returns-in-Some-before : goal.returns-in-Some-before
 returns-in-Some-before c =

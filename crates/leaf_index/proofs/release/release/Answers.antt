@@ -1,11 +1,9 @@
-use Rattle.std.proofs.Common.{◌≡◌, ℕ, suc, ◌+◌, ◌<◌, ◌≤◌, ◌++◌, [], ◌∷◌, true, false, length, take, drop, set, refl, sym, ◌∙◌, ap, subst, arith, append_assoc, length-append, length-take-le}
-use Rattle.std.specs.Vec.{vec_capacity}
+use Rattle.std.proofs.Common.{◌≡◌, suc, ◌+◌, ◌<◌, ◌++◌, [], ◌∷◌, true, false, length, take, set, refl, sym, ◌∙◌, ap, arith, append_assoc, length-append, length-take-le}
 use Rattle.std.proofs.Math.ListN.{length-set}
 use Rattle.std.proofs.Math.Seq.{take-suc-set}
 use Rattle.std.proofs.lemmas.List.{drop-set-lt}
 use Rattle.std.proofs.lemmas.Option.{slice_get_read}
 use Rattle.leaf_trie.proofs.ListLemmas.{take_at, append_none}
-use Rattle.leaf_index.specs.Calls.{freed_of, kept_of}
 use Rattle.leaf_index.proofs.ReleaseLemmas.{freed_so, kept_so, looked, item_left, left_more}
 use Rattle.leaf_index.proofs.release.release.Goals as goal
 use Rattle.leaf_index.proofs.release.release.Goals.{then-is_due+in-Ok, else-is_due}

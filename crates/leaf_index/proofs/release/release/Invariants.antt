@@ -1,4 +1,4 @@
-use Rattle.std.proofs.Common.{◌≡◌, ◌+◌, ◌≤◌, ◌++◌, length, take, drop}
+use Rattle.std.proofs.Common.{◌≡◌, ◌≤◌, ◌++◌, length, take, drop}
 use Rattle.std.specs.Vec.{vec_capacity}
 use Rattle.leaf_index.specs.Calls.{freed_of, kept_of}
 use Rattle.leaf_index.proofs.release.release.Given as goal

@@ -1,4 +1,4 @@
-use Rattle.std.proofs.Common.{◌≡◌, ◌<◌, Some, true, length, sym, arith}
+use Rattle.std.proofs.Common.{◌<◌, length, sym, arith}
 use Rattle.leaf_index.proofs.SlotLemmas.{read_there, later_more}
 use Rattle.leaf_index.proofs.slot.segment_of.Goals as goal
 

@@ -1,6 +1,7 @@
-use Rattle.std.proofs.Common.{◌≡◌, length, refl, ap, arith}
+use Rattle.std.proofs.Common.{◌∙◌, refl, ap, subst, arith}
 use Rattle.std.proofs.lemmas.Option.{slice_get_read}
-use Rattle.leaf_index.specs.Index.{Index}
+use Rattle.leaf_index.specs.Index.{Index, IsIndex}
+use Rattle.leaf_index.proofs.IndexLemmas.{kept_index, dropped_taken}
 use Rattle.leaf_index.proofs.SlotLemmas.{floor_within, before_within}
 use Rattle.leaf_index.proofs.ChangeLemmas.{neighbours, one_begins, two_there, before_there, drop_changed}
 use Rattle.leaf_index.proofs.index.LeafIndex.drop_leaf.Goals as goal
@@ -43,3 +44,13 @@ returns-clause-entries c = λ can.
     let now = slice_get_read slots _ c.in-Some.before c.index_mut.result.now refl (before_within slots _ _ c.in-Some.before c.self.invariant.0.have c.in-Some.ensures) c.index_mut.ensures.value in
     let x = drop_changed slots _ c.remove.new.self _ _ _ c.args.low c.floor_of-dropped.result c.in-Some.before c.index.result.now c.index_mut.result.now c.self.invariant.0 can n c.floor_of-dropped.ensures gone c.in-Some.ensures now c.remove.ensures in
     x.drops
+
+pub returns-clause-taken : goal.returns-clause-taken
+returns-clause-taken c = λ can.
+    let slots = c.self.inside.slots.items in
+    let n = neighbours slots c.self.inside.trie _ _ _ c.args.low (ap (λ (i : Index). i.entries) c.self.view_is) c.self.invariant.0 can in
+    let gone = slice_get_read slots _ c.floor_of-dropped.result c.index.result.now refl (floor_within slots _ _ c.floor_of-dropped.result c.self.invariant.0.have c.floor_of-dropped.ensures) c.index.ensures in
+    let now = slice_get_read slots _ c.in-Some.before c.index_mut.result.now refl (before_within slots _ _ c.in-Some.before c.self.invariant.0.have c.in-Some.ensures) c.index_mut.ensures.value in
+    let x = drop_changed slots _ c.remove.new.self _ _ _ c.args.low c.floor_of-dropped.result c.in-Some.before c.index.result.now c.index_mut.result.now c.self.invariant.0 can n c.floor_of-dropped.ensures gone c.in-Some.ensures now c.remove.ensures in
+    let index = subst IsIndex c.self.view_is (kept_index _ _ _ _ c.self.invariant.0) in
+    dropped_taken c.args.self.now _ c.args.low can index (x.count ∙ ap (λ (i : Index). i.leaves) c.self.view_is) (ap (λ (i : Index). i.free) c.self.view_is) (ap (λ (i : Index). i.retired) c.self.view_is) x.drops

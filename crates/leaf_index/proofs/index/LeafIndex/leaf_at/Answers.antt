@@ -8,7 +8,7 @@ use Rattle.leaf_index.proofs.index.LeafIndex.leaf_at.Goals as goal
 pub range_of-requires : goal.range_of-requires
 range_of-requires c =
     let f = c.floor_of-leaf.ensures in
-    (f.start, _, slot_at c.self.inside.slots.items end_key f.front f.start f.back (subst (HaveSlots c.self.inside.slots.items end_key) f.is c.self.invariant.0.have), f.same)
+    (f.start, _, slot_at c.self.inside.slots.items end_key f.last.front f.start f.last.back (subst (HaveSlots c.self.inside.slots.items end_key) f.last.is c.self.invariant.0.have), f.same)
 
 pub returns : goal.returns
 returns c =

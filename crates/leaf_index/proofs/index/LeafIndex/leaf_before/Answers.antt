@@ -8,7 +8,7 @@ use Rattle.leaf_index.proofs.index.LeafIndex.leaf_before.Goals as goal
 pub range_of-requires : goal.range_of-requires
 range_of-requires c =
     let b = c.in-Some.ensures in
-    (b.start, _, slot_at c.self.inside.slots.items end_key b.front b.start b.back (subst (HaveSlots c.self.inside.slots.items end_key) b.is c.self.invariant.0.have), b.same)
+    (b.start, _, slot_at c.self.inside.slots.items end_key b.last.front b.start b.last.back (subst (HaveSlots c.self.inside.slots.items end_key) b.last.is c.self.invariant.0.have), b.same)
 
 pub returns-in-Some : goal.returns-in-Some
 returns-in-Some c =

@@ -1,6 +1,6 @@
-use Rattle.std.proofs.Common.{◌≡◌, length, replicate, refl, sym, ◌∙◌, ap, subst, arith}
+use Rattle.std.proofs.Common.{◌≡◌, length, ◌∙◌, ap, arith}
 use Rattle.std.proofs.lemmas.List.{length-replicate}
-use Rattle.leaf_index.specs.Slots.{IsKept, whole_slot}
+use Rattle.leaf_index.specs.Slots.{whole_slot}
 use Rattle.leaf_index.proofs.IndexLemmas.{kept_new}
 use Rattle.leaf_index.proofs.index.LeafIndex.new.Goals as goal
 

@@ -1,5 +1,4 @@
-use Rattle.std.proofs.Common.{◌≡◌, ◌<◌, ◌≤◌, Some, length, subst, refl, sym, ◌∙◌, ap, arith}
-use Rattle.std.specs.Prelude.{slice_get}
+use Rattle.std.proofs.Common.{subst, refl, ap, arith}
 use Rattle.std.proofs.lemmas.Option.{slice_get_read}
 use Rattle.graph_model.specs.Rows.{end_key}
 use Rattle.leaf_index.specs.Index.{Index}
@@ -11,23 +10,23 @@ pub index-slot-requires : goal.index-slot-requires
 index-slot-requires c =
     let f = c.floor_of-leaf.ensures in
     let slots = c.self.inside.slots.items in
-    let h = slot_at slots end_key f.front f.start f.back (subst (HaveSlots slots end_key) f.is c.self.invariant.0.have) in
+    let h = slot_at slots end_key f.last.front f.start f.last.back (subst (HaveSlots slots end_key) f.last.is c.self.invariant.0.have) in
     omega (arith, slot_within slots f.start c.floor_of-leaf.result _ h f.same)
 
 pub segment_of-segment-requires : goal.segment_of-segment-requires
 segment_of-segment-requires c =
     let f = c.floor_of-leaf.ensures in
     let slots = c.self.inside.slots.items in
-    let h = slot_at slots end_key f.front f.start f.back (subst (HaveSlots slots end_key) f.is c.self.invariant.0.have) in
+    let h = slot_at slots end_key f.last.front f.start f.last.back (subst (HaveSlots slots end_key) f.last.is c.self.invariant.0.have) in
     let lt = slot_within slots f.start c.floor_of-leaf.result _ h f.same in
     let there = slice_get_read slots _ c.floor_of-leaf.result c.index-slot.result.now refl lt c.index-slot.ensures in
-    (f.start.low, low_read slots f.start c.floor_of-leaf.result _ c.index-slot.result.now h f.same there, f.from)
+    (f.start.low, low_read slots f.start c.floor_of-leaf.result _ c.index-slot.result.now h f.same there, f.last.from)
 
 pub overflow_mul-result : goal.overflow_mul-result
 overflow_mul-result c =
     let f = c.floor_of-leaf.ensures in
     let slots = c.self.inside.slots.items in
-    let h = slot_at slots end_key f.front f.start f.back (subst (HaveSlots slots end_key) f.is c.self.invariant.0.have) in
+    let h = slot_at slots end_key f.last.front f.start f.last.back (subst (HaveSlots slots end_key) f.last.is c.self.invariant.0.have) in
     let lt = slot_within slots f.start c.floor_of-leaf.result _ h f.same in
     omega (arith, lt, c.self.invariant.0.few)
 
@@ -35,7 +34,7 @@ pub overflow_add-result : goal.overflow_add-result
 overflow_add-result c =
     let f = c.floor_of-leaf.ensures in
     let slots = c.self.inside.slots.items in
-    let h = slot_at slots end_key f.front f.start f.back (subst (HaveSlots slots end_key) f.is c.self.invariant.0.have) in
+    let h = slot_at slots end_key f.last.front f.start f.last.back (subst (HaveSlots slots end_key) f.last.is c.self.invariant.0.have) in
     let lt = slot_within slots f.start c.floor_of-leaf.result _ h f.same in
     omega (arith, lt, c.self.invariant.0.few, c.segment_of-segment.ensures.within)
 
@@ -43,7 +42,7 @@ pub returns : goal.returns
 returns c =
     let f = c.floor_of-leaf.ensures in
     let slots = c.self.inside.slots.items in
-    let h = slot_at slots end_key f.front f.start f.back (subst (HaveSlots slots end_key) f.is c.self.invariant.0.have) in
+    let h = slot_at slots end_key f.last.front f.start f.last.back (subst (HaveSlots slots end_key) f.last.is c.self.invariant.0.have) in
     let lt = slot_within slots f.start c.floor_of-leaf.result _ h f.same in
     let there = slice_get_read slots _ c.floor_of-leaf.result c.index-slot.result.now refl lt c.index-slot.ensures in
     let seg = c.segment_of-segment.ensures in

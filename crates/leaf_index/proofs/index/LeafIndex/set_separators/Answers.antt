@@ -1,6 +1,5 @@
-use Rattle.std.proofs.Common.{◌≡◌, length, refl, ap, subst, arith}
+use Rattle.std.proofs.Common.{refl, ap, arith}
 use Rattle.std.proofs.lemmas.Option.{slice_get_read}
-use Rattle.graph_model.specs.Rows.{end_key}
 use Rattle.leaf_index.specs.Index.{Index}
 use Rattle.leaf_index.proofs.SlotLemmas.{floor_within}
 use Rattle.leaf_index.proofs.ChangeLemmas.{cut_changed}

@@ -1,4 +1,4 @@
-use Rattle.std.proofs.Common.{◌≡◌, [], ◌∷◌, refl, sym, ◌∙◌, ap}
+use Rattle.std.proofs.Common.{[], refl, sym, ◌∙◌, ap}
 use Rattle.leaf_index.specs.Index.{Index}
 use Rattle.leaf_index.proofs.index.tests.a_key_is_routed_to_the_last_cut_that_is_not_above_it.Goals as goal
 

@@ -1,4 +1,5 @@
-use Rattle.std.proofs.Common.{◌≡◌, ◌≢◌, ℕ, refl, subst, None}
+use Rattle.std.proofs.Common.{◌≡◌, ◌≢◌, ℕ, ◌∙◌, refl, ap, subst, Some, None}
+use Rattle.undo_chain.specs.declared.undo.Undo.{Undo}
 use Rattle.undo_chain.specs.Chains.{ChainMap, record_at}
 use Rattle.undo_chain.specs.Links.{AreLinked}
 use Rattle.undo_chain.proofs.ChainLemmas.{put_linked, put_list, put_others}
@@ -9,18 +10,21 @@ invariant_of-self c =
     let is = subst (λ (m : ChainMap). AreLinked m.slots) c.self.view_is c.self.invariant in
     let vacant = subst (λ (m : ChainMap). record_at m.slots c.insert_reserved.result ≡ None) c.self.view_is c.insert_reserved.ensures.was_vacant in
     let agree = subst (λ (m : ChainMap). (k : ℕ) → k ≢ c.insert_reserved.result → record_at c.insert_reserved.new.self.slots k ≡ record_at m.slots k) c.self.view_is c.insert_reserved.ensures.updates.others in
-    put_linked c.args.self.now (record { slots = c.insert_reserved.new.self.slots; spare = 0 }) c.insert_reserved.result _ c.args.head is c.requires.head vacant c.insert_reserved.ensures.updates.changed agree refl
+    let changed = c.insert_reserved.ensures.updates.changed ∙ ap (λ (u : Undo). Some u) c.new.ensures in
+    put_linked c.args.self.now (record { slots = c.insert_reserved.new.self.slots; spare = 0 }) c.insert_reserved.result _ c.args.head is c.requires.head vacant changed agree refl
 
 pub returns-clause-list : goal.returns-clause-list
 returns-clause-list c =
     let is = subst (λ (m : ChainMap). AreLinked m.slots) c.self.view_is c.self.invariant in
     let vacant = subst (λ (m : ChainMap). record_at m.slots c.insert_reserved.result ≡ None) c.self.view_is c.insert_reserved.ensures.was_vacant in
     let agree = subst (λ (m : ChainMap). (k : ℕ) → k ≢ c.insert_reserved.result → record_at c.insert_reserved.new.self.slots k ≡ record_at m.slots k) c.self.view_is c.insert_reserved.ensures.updates.others in
-    put_list c.args.self.now (record { slots = c.insert_reserved.new.self.slots; spare = 0 }) c.insert_reserved.result _ c.args.head is c.requires.head vacant c.insert_reserved.ensures.updates.changed agree refl
+    let changed = c.insert_reserved.ensures.updates.changed ∙ ap (λ (u : Undo). Some u) c.new.ensures in
+    put_list c.args.self.now (record { slots = c.insert_reserved.new.self.slots; spare = 0 }) c.insert_reserved.result _ c.args.head is c.requires.head vacant changed agree refl
 
 pub returns-clause-others : goal.returns-clause-others
 returns-clause-others c =
     let is = subst (λ (m : ChainMap). AreLinked m.slots) c.self.view_is c.self.invariant in
     let vacant = subst (λ (m : ChainMap). record_at m.slots c.insert_reserved.result ≡ None) c.self.view_is c.insert_reserved.ensures.was_vacant in
     let agree = subst (λ (m : ChainMap). (k : ℕ) → k ≢ c.insert_reserved.result → record_at c.insert_reserved.new.self.slots k ≡ record_at m.slots k) c.self.view_is c.insert_reserved.ensures.updates.others in
-    put_others _ _ c.insert_reserved.result _ c.args.head is c.requires.head vacant c.insert_reserved.ensures.updates.changed agree refl
+    let changed = c.insert_reserved.ensures.updates.changed ∙ ap (λ (u : Undo). Some u) c.new.ensures in
+    put_others _ _ c.insert_reserved.result _ c.args.head is c.requires.head vacant changed agree refl

@@ -1,4 +1,5 @@
-use Rattle.std.proofs.Common.{◌≡◌, sym, subst, Some}
+use Rattle.std.proofs.Common.{◌≡◌, ◌∙◌, ap, sym, subst, Some}
+use Rattle.undo_chain.specs.declared.undo.Undo.{Undo}
 use Rattle.undo_chain.specs.Chains.{ChainMap, record_at}
 use Rattle.undo_chain.specs.Links.{AreLinked}
 use Rattle.undo_chain.proofs.LinkLemmas.{list_step}
@@ -7,5 +8,5 @@ use Rattle.undo_chain.proofs.chains.Chains.record.Goals as goal
 pub returns-clause-list : goal.returns-clause-list
 returns-clause-list c =
     let is = subst (λ (m : ChainMap). AreLinked m.slots) c.self.view_is c.self.invariant in
-    let at = subst (λ (m : ChainMap). record_at m.slots c.args.key ≡ Some c.in-Some.undo.now) c.self.view_is (sym c.in-Some.ensures) in
-    list_step c.args.self.now.slots is c.args.key c.in-Some.undo.now at
+    let at = subst (λ (m : ChainMap). record_at m.slots c.args.key ≡ Some c.in-Some.packed.now) c.self.view_is (sym c.in-Some.ensures) ∙ ap (λ (u : Undo). Some u) (sym c.undo.ensures) in
+    list_step c.args.self.now.slots is c.args.key c.undo.result at

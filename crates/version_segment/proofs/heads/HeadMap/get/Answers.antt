@@ -7,7 +7,7 @@ use Rattle.version_segment.proofs.heads.HeadMap.get.Goals as goal
 pub returns-in-Ok : goal.returns-in-Ok
 returns-in-Ok c =
     let row = found_at _ c.self.inside.rows.items c.in-Ok.place (rw c.as_slice.ensures.value at c.in-Ok.ensures) in
-    ap (λ (r : ChangedRow). r.heads) (c.index.ensures ∙ index_of c.self.inside.rows.items c.in-Ok.place row.0 c.index.result.now row.1)
+    c.heads.ensures ∙ ap (λ (r : ChangedRow). r.heads) (c.index.ensures ∙ index_of c.self.inside.rows.items c.in-Ok.place row.0 c.index.result.now row.1)
     ∙ sym (heads_there c.self.inside.rows.items c.args.key c.in-Ok.place row.0 c.self.invariant row.1 row.2)
     ∙ ap (λ (m : HeadTable). heads_at m.entries c.args.key) c.self.view_is
 

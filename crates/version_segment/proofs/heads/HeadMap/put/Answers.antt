@@ -16,7 +16,7 @@ index_mut-requires c =
 pub invariant_of-self-in-Ok-2 : goal.invariant_of-self-in-Ok-2
 invariant_of-self-in-Ok-2 c =
     let row = found_at _ c.self.inside.rows.items c.in-Ok.place (rw c.as_slice.ensures.value at c.in-Ok.ensures) in
-    rises_set row_key _ _ row.0 _ row.1 (ap (λ (r : ChangedRow). r.key) (c.index_mut.ensures.value ∙ index_of c.self.inside.rows.items c.in-Ok.place row.0 c.index_mut.result.now row.1)) c.self.invariant
+    rw c.set_heads.ensures (rises_set row_key _ _ row.0 _ row.1 (ap (λ (r : ChangedRow). r.key) (c.index_mut.ensures.value ∙ index_of c.self.inside.rows.items c.in-Ok.place row.0 c.index_mut.result.now row.1)) c.self.invariant)
 
 pub put_row-requires-clause-room : goal.put_row-requires-clause-room
 put_row-requires-clause-room c =
@@ -31,7 +31,7 @@ put_row-requires-clause-room c =
 pub invariant_of-self-in-Err-2 : goal.invariant_of-self-in-Err-2
 invariant_of-self-in-Err-2 c =
     let gap = rw c.as_slice.ensures.value at c.in-Err.ensures in
-    rw c.put_row.ensures.rows (rises_insert row_key _ _ _ c.self.invariant gap)
+    rw (c.put_row.ensures.rows, c.new.ensures) (rises_insert row_key _ _ _ c.self.invariant gap)
 
 pub returns-in-Ok-clause-heads : goal.returns-in-Ok-clause-heads
 returns-in-Ok-clause-heads c =
@@ -41,7 +41,7 @@ returns-in-Ok-clause-heads c =
 pub returns-in-Ok-2-clause-heads : goal.returns-in-Ok-2-clause-heads
 returns-in-Ok-2-clause-heads c =
     let row = found_at _ c.self.inside.rows.items c.in-Ok.place (rw c.as_slice.ensures.value at c.in-Ok.ensures) in
-    rw (← c.self.view_is) (heads_set c.self.inside.rows.items c.args.key c.in-Ok.place row.0 _ c.self.invariant row.1 row.2 (ap (λ (r : ChangedRow). r.key) (c.index_mut.ensures.value ∙ index_of c.self.inside.rows.items c.in-Ok.place row.0 c.index_mut.result.now row.1) ∙ row.2))
+    rw (c.set_heads.ensures, ← c.self.view_is) (heads_set c.self.inside.rows.items c.args.key c.in-Ok.place row.0 _ c.self.invariant row.1 row.2 (ap (λ (r : ChangedRow). r.key) (c.index_mut.ensures.value ∙ index_of c.self.inside.rows.items c.in-Ok.place row.0 c.index_mut.result.now row.1) ∙ row.2))
 
 pub returns-in-Err-clause-heads : goal.returns-in-Err-clause-heads
 returns-in-Err-clause-heads c =
@@ -51,7 +51,7 @@ returns-in-Err-clause-heads c =
 pub returns-in-Err-2-clause-heads : goal.returns-in-Err-2-clause-heads
 returns-in-Err-2-clause-heads c =
     let gap = rw c.as_slice.ensures.value at c.in-Err.ensures in
-    rw (c.put_row.ensures.rows, ← c.self.view_is) (heads_insert c.self.inside.rows.items c.args.key _ _ gap refl)
+    rw (c.put_row.ensures.rows, c.new.ensures, ← c.self.view_is) (heads_insert c.self.inside.rows.items c.args.key _ _ gap refl)
 
 pub returns-in-Err-2-clause-kept : goal.returns-in-Err-2-clause-kept
 returns-in-Err-2-clause-kept c = λ stays.

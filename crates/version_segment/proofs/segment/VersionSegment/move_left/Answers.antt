@@ -1,35 +1,43 @@
-use Rattle.std.proofs.Common.{◌≡◌, ◌≤◌, ℕ, ◌+◌, take, subst, refl, length, arith}
-use Rattle.version_segment.specs.Rows.{SharesRows, all_records}
-use Rattle.version_segment.proofs.MoveLemmas.{left_start, shares_meet, left_some, left_room, left_spare, left_next}
+use Rattle.std.proofs.Common.{◌≡◌, ◌∙◌, ◌+◌, ◌≤◌, ap, sym, length, refl, arith}
+use Rattle.gap_segment.proofs.FencedLemmas.{sorted_take}
+use Rattle.version_segment.specs.Rows.{VersionedRows}
+use Rattle.version_segment.specs.Parts.{view_of}
+use Rattle.version_segment.proofs.ChangeLemmas.{row_count}
+use Rattle.version_segment.proofs.MoveLemmas.{taken_left, taken_right, taken_shares, shares_as, parts_as}
 use Rattle.version_segment.proofs.segment.VersionSegment.move_left.Goals as goal
 
-pub rows-init : goal.rows-init
-rows-init c = (left_start _ _ _ _ c.set_cut.ensures.moved c.set_cut.ensures.spare c.set_cut.ensures.right_spare, omega arith)
+pub hand_all-requires-clause-sorted : goal.hand_all-requires-clause-sorted
+hand_all-requires-clause-sorted c = rw (c.split_at.ensures.front, c.rows.ensures.rows) (sorted_take _ _ c.right.invariant.fenced.sorted)
 
-pub take_first-requires-clause-neighbours : goal.take_first-requires-clause-neighbours
-take_first-requires-clause-neighbours c = shares_meet _ _ _ _ _ c.rows.invariant.0.shares
+pub invariant_of-self : goal.invariant_of-self
+invariant_of-self c =
+    let meet = ap (λ (s : VersionedRows). s.high) c.self.view_is ∙ c.requires.neighbours ∙ sym (ap (λ (s : VersionedRows). s.low) c.right.view_is) in
+    let hands = rw (c.split_at.ensures.front, c.rows.ensures.rows) at c.hand_all.ensures in
+    let grown : c.len.result + c.args.rows ≡ length c.self.inside.rows.rows + c.args.rows = omega (arith, c.len.ensures.len) in
+    let count = row_count c.right.inside.rows c.right.inside.heads c.right.inside.chains in
+    let there = rw (← c.right.view_is) at c.requires.rows in
+    let few : c.args.rows ≤ length c.right.inside.rows.rows = omega (arith, there, count) in
+    parts_as _ _ _ _ c.share.ensures.left (taken_left _ _ _ _ _ _ _ _ _ _ c.self.invariant c.right.invariant meet _ _ grown few hands)
 
-pub take_first-requires-clause-row : goal.take_first-requires-clause-row
-take_first-requires-clause-row c = left_some _ _ _ _ _ _ c.rows-test.true c.requires.rows c.rows.invariant.0
-
-pub take_first-requires-clause-room : goal.take_first-requires-clause-room
-take_first-requires-clause-room c = left_room _ _ _ _ _ _ c.rows-test.true c.requires.rows c.rows.invariant.0 c.requires.room
-
-pub take_first-requires-clause-spare : goal.take_first-requires-clause-spare
-take_first-requires-clause-spare c = left_spare _ _ _ _ _ _ c.rows-test.true c.requires.rows c.rows.invariant.0 c.requires.spare
-
-pub rows-preserved : goal.rows-preserved
-rows-preserved c = (left_next _ _ _ _ _ _ c.rows-test.true c.requires.rows c.rows.invariant.0 _ _ c.take_first.ensures.moved c.take_first.ensures.spare c.take_first.ensures.used _ refl, omega arith)
+pub invariant_of-right : goal.invariant_of-right
+invariant_of-right c =
+    let meet = ap (λ (s : VersionedRows). s.high) c.self.view_is ∙ c.requires.neighbours ∙ sym (ap (λ (s : VersionedRows). s.low) c.right.view_is) in
+    let hands = rw (c.split_at.ensures.front, c.rows.ensures.rows) at c.hand_all.ensures in
+    let grown : c.len.result + c.args.rows ≡ length c.self.inside.rows.rows + c.args.rows = omega (arith, c.len.ensures.len) in
+    let count = row_count c.right.inside.rows c.right.inside.heads c.right.inside.chains in
+    let there = rw (← c.right.view_is) at c.requires.rows in
+    let few : c.args.rows ≤ length c.right.inside.rows.rows = omega (arith, there, count) in
+    parts_as _ _ _ _ c.share.ensures.right (taken_right _ _ _ _ _ _ _ _ _ _ c.self.invariant c.right.invariant meet _ _ grown few hands)
 
 pub returns-clause-moved : goal.returns-clause-moved
 returns-clause-moved c =
-    let all : c.rows.moved ≡ c.args.rows = omega (arith, c.rows-test.false, c.rows.invariant.1) in
-    subst (λ (i : ℕ). SharesRows c.args.self.now c.args.right.now c.rows.self c.rows.right (length c.args.self.now.rows + i)) all c.rows.invariant.0.shares
-
-pub returns-clause-spare : goal.returns-clause-spare
-returns-clause-spare c = c.rows.invariant.0.spare
-
-pub returns-clause-used : goal.returns-clause-used
-returns-clause-used c =
-    let all : c.rows.moved ≡ c.args.rows = omega (arith, c.rows-test.false, c.rows.invariant.1) in
-    subst (λ (i : ℕ). c.args.self.now.spare ≤ c.rows.self.spare + all_records (take i c.args.right.now.rows)) all c.rows.invariant.0.used
+    let meet = ap (λ (s : VersionedRows). s.high) c.self.view_is ∙ c.requires.neighbours ∙ sym (ap (λ (s : VersionedRows). s.low) c.right.view_is) in
+    let hands = rw (c.split_at.ensures.front, c.rows.ensures.rows) at c.hand_all.ensures in
+    let grown : c.len.result + c.args.rows ≡ length c.self.inside.rows.rows + c.args.rows = omega (arith, c.len.ensures.len) in
+    let count = row_count c.self.inside.rows c.self.inside.heads c.self.inside.chains in
+    let right_count = row_count c.right.inside.rows c.right.inside.heads c.right.inside.chains in
+    let there = rw (← c.right.view_is) at c.requires.rows in
+    let few : c.args.rows ≤ length c.right.inside.rows.rows = omega (arith, there, right_count) in
+    let same : length (view_of c.self.inside.rows c.self.inside.heads c.self.inside.chains).rows + c.args.rows ≡ c.len.result + c.args.rows = omega (arith, count, c.len.ensures.len) in
+    rw (← c.self.view_is, ← c.right.view_is) (shares_as _ _ _ _ _ _ _ _ c.share.ensures.left c.share.ensures.right _ _ _
+    (taken_shares _ _ _ _ _ _ _ _ _ _ c.self.invariant c.right.invariant meet _ _ grown few hands _ same))

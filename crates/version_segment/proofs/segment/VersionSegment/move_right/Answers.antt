@@ -1,35 +1,34 @@
-use Rattle.std.proofs.Common.{◌≡◌, ◌≤◌, ℕ, ◌+◌, ◌-◌, drop, subst, refl, length, arith}
-use Rattle.version_segment.specs.Rows.{SharesRows, all_records}
-use Rattle.version_segment.proofs.MoveLemmas.{right_start, shares_meet, right_some, right_room, right_spare, right_next}
+use Rattle.std.proofs.Common.{◌≡◌, ◌∙◌, ◌-◌, ◌≤◌, ap, sym, length, arith}
+use Rattle.gap_segment.proofs.FencedLemmas.{sorted_drop}
+use Rattle.version_segment.specs.Rows.{VersionedRows}
+use Rattle.version_segment.specs.Parts.{view_of}
+use Rattle.version_segment.proofs.ChangeLemmas.{row_count}
+use Rattle.version_segment.proofs.MoveLemmas.{given_left, given_right, given_shares, shares_as, parts_as}
 use Rattle.version_segment.proofs.segment.VersionSegment.move_right.Goals as goal
 
-pub rows-init : goal.rows-init
-rows-init c = (right_start _ _ _ _ c.set_cut.ensures.moved c.set_cut.ensures.spare c.set_cut.ensures.right_spare, omega arith)
+pub hand_all-requires-clause-sorted : goal.hand_all-requires-clause-sorted
+hand_all-requires-clause-sorted c = rw (c.split_at.ensures.back, c.rows.ensures.rows) (sorted_drop _ _ c.self.invariant.fenced.sorted)
 
-pub give_last-requires-clause-neighbours : goal.give_last-requires-clause-neighbours
-give_last-requires-clause-neighbours c = shares_meet _ _ _ _ _ c.rows.invariant.0.shares
+pub invariant_of-self : goal.invariant_of-self
+invariant_of-self c =
+    let meet = ap (λ (s : VersionedRows). s.high) c.self.view_is ∙ c.requires.neighbours ∙ sym (ap (λ (s : VersionedRows). s.low) c.right.view_is) in
+    let hands = rw (c.split_at.ensures.back, c.rows.ensures.rows) at c.hand_all.ensures in
+    let few : c.len.result - c.args.rows ≤ length c.self.inside.rows.rows = omega (arith, c.len.ensures.len) in
+    parts_as _ _ _ _ c.share.ensures.left (given_left _ _ _ _ _ _ _ _ _ _ c.self.invariant c.right.invariant meet _ few hands)
 
-pub give_last-requires-clause-row : goal.give_last-requires-clause-row
-give_last-requires-clause-row c = right_some _ _ _ _ _ _ c.rows-test.true c.requires.rows c.rows.invariant.0
-
-pub give_last-requires-clause-room : goal.give_last-requires-clause-room
-give_last-requires-clause-room c = right_room _ _ _ _ _ _ c.rows-test.true c.requires.rows c.rows.invariant.0 c.requires.room
-
-pub give_last-requires-clause-spare : goal.give_last-requires-clause-spare
-give_last-requires-clause-spare c = right_spare _ _ _ _ _ _ c.rows-test.true c.requires.rows c.rows.invariant.0 c.requires.spare
-
-pub rows-preserved : goal.rows-preserved
-rows-preserved c = (right_next _ _ _ _ _ _ c.rows-test.true c.requires.rows c.rows.invariant.0 _ _ c.give_last.ensures.moved c.give_last.ensures.spare c.give_last.ensures.used _ refl, omega arith)
+pub invariant_of-right : goal.invariant_of-right
+invariant_of-right c =
+    let meet = ap (λ (s : VersionedRows). s.high) c.self.view_is ∙ c.requires.neighbours ∙ sym (ap (λ (s : VersionedRows). s.low) c.right.view_is) in
+    let hands = rw (c.split_at.ensures.back, c.rows.ensures.rows) at c.hand_all.ensures in
+    let few : c.len.result - c.args.rows ≤ length c.self.inside.rows.rows = omega (arith, c.len.ensures.len) in
+    parts_as _ _ _ _ c.share.ensures.right (given_right _ _ _ _ _ _ _ _ _ _ c.self.invariant c.right.invariant meet _ few hands)
 
 pub returns-clause-moved : goal.returns-clause-moved
 returns-clause-moved c =
-    let all : c.rows.moved ≡ c.args.rows = omega (arith, c.rows-test.false, c.rows.invariant.1) in
-    subst (λ (i : ℕ). SharesRows c.args.self.now c.args.right.now c.rows.self c.rows.right (length c.args.self.now.rows - i)) all c.rows.invariant.0.shares
-
-pub returns-clause-spare : goal.returns-clause-spare
-returns-clause-spare c = c.rows.invariant.0.spare
-
-pub returns-clause-used : goal.returns-clause-used
-returns-clause-used c =
-    let all : c.rows.moved ≡ c.args.rows = omega (arith, c.rows-test.false, c.rows.invariant.1) in
-    subst (λ (i : ℕ). c.args.right.now.spare ≤ c.rows.right.spare + all_records (drop (length c.args.self.now.rows - i) c.args.self.now.rows)) all c.rows.invariant.0.used
+    let meet = ap (λ (s : VersionedRows). s.high) c.self.view_is ∙ c.requires.neighbours ∙ sym (ap (λ (s : VersionedRows). s.low) c.right.view_is) in
+    let hands = rw (c.split_at.ensures.back, c.rows.ensures.rows) at c.hand_all.ensures in
+    let few : c.len.result - c.args.rows ≤ length c.self.inside.rows.rows = omega (arith, c.len.ensures.len) in
+    let count = row_count c.self.inside.rows c.self.inside.heads c.self.inside.chains in
+    let same : length (view_of c.self.inside.rows c.self.inside.heads c.self.inside.chains).rows - c.args.rows ≡ c.len.result - c.args.rows = omega (arith, count, c.len.ensures.len) in
+    rw (← c.self.view_is, ← c.right.view_is) (shares_as _ _ _ _ _ _ _ _ c.share.ensures.left c.share.ensures.right _ _ _
+    (given_shares _ _ _ _ _ _ _ _ _ _ c.self.invariant c.right.invariant meet _ few hands _ same))
