@@ -27,6 +27,9 @@ use std::time::Instant;
 /// How many rounds the community labels are given.
 const ROUNDS: u32 = 10;
 
+/// The widths of buckets; weights are up to 1,000,000.
+const WIDTHS: [u32; 6] = [10_000, 50_000, 100_000, 200_000, 400_000, 4_294_967_295];
+
 /// The vertex from which the searches begin, the heaviest.
 const ROOT: u64 = 1;
 
@@ -69,6 +72,9 @@ fn time<R: Threads + Sync + Clock + Print>(rt: &R, alloc: Global, rows: &[Row]) 
     let _hops = kernel_bfs::run(rt, alloc, &image, ROOT)?;
     say(rt, "bfs", begun)?;
     let begun = Instant::now(rt)?;
+    let _hops = fast_bfs::run(rt, alloc, &image, ROOT)?;
+    say(rt, "fastbfs", begun)?;
+    let begun = Instant::now(rt)?;
     let _components = kernel_wcc::run(rt, alloc, &image)?;
     say(rt, "wcc", begun)?;
     let begun = Instant::now(rt)?;
@@ -76,7 +82,20 @@ fn time<R: Threads + Sync + Clock + Print>(rt: &R, alloc: Global, rows: &[Row]) 
     say(rt, "cdlp", begun)?;
     let begun = Instant::now(rt)?;
     let _weights = kernel_sssp::run(rt, alloc, &image, ROOT)?;
-    say(rt, "sssp", begun)
+    say(rt, "sssp", begun)?;
+    'widths: for width in WIDTHS {
+        let begun = Instant::now(rt)?;
+        let _weights = delta_sssp::run(rt, alloc, &image, ROOT, width)?;
+        say_width(rt, width, begun)?;
+    }
+    Ok(())
+}
+
+/// Prints the name of the search by buckets with their width, and the microseconds since then.
+fn say_width(rt: &(impl Clock + Print), width: u32, begun: Instant) -> Result<()> {
+    let took = begun.elapsed(rt)?.as_micros();
+    println!(rt; "fastsssp/{width} {took}")?;
+    Ok(())
 }
 
 /// Prints a name, and the microseconds since then.
