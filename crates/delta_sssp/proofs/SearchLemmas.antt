@@ -8,7 +8,7 @@ use Rattle.std.proofs.lemmas.Nat.{le-div}
 use Rattle.std.proofs.lemmas.Bool.{cases_eq, cases_lt}
 use Rattle.std.proofs.lemmas.List.{length-append}
 use Rattle.std.proofs.lemmas.List.Sums.{sum_by-set}
-use Rattle.std.proofs.lemmas.Option.{same_Some, none-some, slice_get_within}
+use Rattle.std.proofs.lemmas.Option.{same_Some, none-some, slice_get_within, slice_get-get_or, get_or_from_slice_get}
 use Rattle.graph_model.specs.declared.limits.TheConstants.{MAX_WEIGHT}
 use Rattle.graph_image.specs.declared.edge.Arc.{Arc}
 use Rattle.graph_image.specs.Images.{Places, arcs_at}
@@ -22,7 +22,7 @@ use Rattle.delta_sssp.specs.declared.search.Kind.TheVariants.{Light, Heavy}
 use Rattle.delta_sssp.specs.declared.search.Stage.{Stage}
 use Rattle.delta_sssp.specs.declared.search.Search.{Search}
 use Rattle.delta_sssp.specs.Buckets.{visits_in, HasNone, Puts, TakesFirst}
-use Rattle.delta_sssp.specs.Search.{IsOf, AreRelaxedTo, AreRelaxed, IsVisit, IsVisited, IsSearch, IsSearchOf, spread, IsStart, IsPut, IsLowered, Follows, Steps, Advances}
+use Rattle.delta_sssp.specs.Search.{IsOf, AreLightest, AreRelaxedTo, AreRelaxed, IsVisit, IsVisited, IsSearch, IsSearchOf, spread, IsStart, IsPut, IsLowered, Follows, Steps, Advances}
 use Rattle.delta_sssp.proofs.WeightLemmas.{zero_reached, at_root, at_other, weights_start, sum_fits, sum_reached, kept_relaxed, lowered, here, there, no_greater, p_other, stays, keeps_relaxed, now_relaxed, lowered_weights, weights_done}
 
 -- a greater distance is in no lower bucket
@@ -289,6 +289,16 @@ not_followed image kind visit old is other = record {
   relaxed = λ same. absurd (other same);
   visits_stay = λ k v at. at;
   no_more = omega arith;
+}
+
+-- one weight more
+pub lightest_more : (image : Places) (n : ℕ) (lightest : List ℕ) (weight : ℕ) → AreLightest image n lightest → ((k : ℕ) (a : Arc) → slice_get (arcs_at image.out n) k ≡ Some a → weight ≤ a.weight) → AreLightest image (n + 1) (lightest ++ weight ∷ [])
+lightest_more image n lightest weight are low = record {
+  count = length-append lightest (weight ∷ []) ∙ (let c = are.count in let e : length lightest + 1 ≡ n + 1 = omega arith in e);
+  each = λ p k a below at. ⊎_elim
+      (λ earlier. subst (λ w. w ≤ a.weight) (sym (get_or_from_slice_get (lightest ++ weight ∷ []) p (slice_index lightest p) 0 (get_pushed lightest weight p (slice_index lightest p) (slice_get-get_or lightest p 0 (let c = are.count in omega arith))))) (are.each p k a earlier at))
+      (λ now. subst (λ w. w ≤ a.weight) (sym (get_or_from_slice_get (lightest ++ weight ∷ []) p weight 0 (ap (slice_get (lightest ++ weight ∷ [])) (now ∙ sym are.count) ∙ get_last lightest weight))) (low k a (ap (λ q. slice_get (arcs_at image.out q) k) (sym now) ∙ at)))
+      (below_cases p n below);
 }
 
 -- ---- one visit more

@@ -41,6 +41,11 @@ abbrev pub AreRelaxed : Kind → Places → ℕ → List ℕ → ℕ → Type 0
 AreRelaxed kind image width distances p = (k : ℕ) (a : Arc) → slice_get (arcs_at image.out p) k ≡ Some a
     → IsOf kind width a.weight → IsRelaxed distances p a
 
+-- for each of the first n places a weight that no arc out of it is below
+pub record AreLightest (image : Places) (n : ℕ) (lightest : List ℕ) : Type 0 where
+  pub count : length lightest ≡ n
+  pub each : (p k : ℕ) (a : Arc) → p < n → slice_get (arcs_at image.out p) k ≡ Some a → slice_index lightest p ≤ a.weight
+
 -- a visit of one of the first n places, at a distance that is of the bucket
 pub record IsVisit (n width bucket : ℕ) (visit : Visit) : Type 0 where
   pub place_is : visit.place < n

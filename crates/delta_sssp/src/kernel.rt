@@ -8,6 +8,7 @@ ghost use Rattle.graph_image.specs.Images.{IsImageOf};
 ghost use Rattle.graph_image.specs.Building.{AreStorable, AreEnded};
 ghost use Rattle.kernel_sssp.specs.Search.{LinkOut, IsSearched};
 
+use crate::lightest::lightest_of;
 use crate::search::Search;
 use graph_image::{Image, KernelRefusal, NoMemory, Table};
 use kernel_sssp::table_by;
@@ -49,9 +50,10 @@ fn least_weights(
     ensures { IfOk result (λ distances.
         IsSearched (LinkOut image.now) root (length image.now.vertices) distances.items) }
 {
+    let lightest = lightest_of(alloc, image)?;
     let mut search = Search::new(alloc, image.len(), root, width)?;
     'buckets: loop {
-        search.settle(image)?;
+        search.settle(image, &lightest)?;
         if !search.advance() {
             let Search {
                 stage: _,

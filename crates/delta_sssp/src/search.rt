@@ -1,7 +1,7 @@
 //! The search, bucket by bucket.
 
 ghost use Rattle.std.specs.Prelude.{◌≡◌, ℕ, ◌+◌, ◌<◌, ◌≤◌, ◌^◌, false, length, slice_get, Some, IsTrue, IfOk, OnOk};
-ghost use Rattle.delta_sssp.specs.Search.{IsSearchOf, IsVisit, IsStart, IsLowered, Follows, Steps, Settles, Advances, IsOf, spread};
+ghost use Rattle.delta_sssp.specs.Search.{IsSearchOf, IsVisit, IsStart, IsLowered, Follows, Steps, Settles, Advances, IsOf, AreLightest, spread};
 ghost use Rattle.delta_sssp.specs.Buckets.{HasNone};
 
 use crate::buckets::{Buckets, Visit};
@@ -75,12 +75,13 @@ impl Search {
     }
 
     /// Settles the bucket: all arcs out of its places are followed.
-    pub fn settle(&mut self, image: &Image) -> Result<(), NoMemory>
-        requires { IsSearchOf image.now self.old }
+    pub fn settle(&mut self, image: &Image, lightest: &Vec<u32>) -> Result<(), NoMemory>
+        requires search { IsSearchOf image.now self.old }
+        requires lightest { AreLightest image.now (length image.now.vertices) lightest.now.items }
         ensures { OnOk result (Settles image.now self.old self.new) }
     {
         'visits: while self.stage.heavy < self.visits.len() {
-            self.step(image)?;
+            self.step(image, lightest)?;
         }
         Ok(())
     }
@@ -104,19 +105,38 @@ impl Search {
     }
 
     /// Follows the light arcs of the next visit; or, where none is left, the heavy arcs of the next.
-    fn step(&mut self, image: &Image) -> Result<(), NoMemory>
+    fn step(&mut self, image: &Image, lightest: &Vec<u32>) -> Result<(), NoMemory>
         requires search { IsSearchOf image.now self.old }
+        requires lightest { AreLightest image.now (length image.now.vertices) lightest.now.items }
         requires left { self.old.stage.heavy < length self.old.visits.items }
         ensures { OnOk result (Steps image.now self.old self.new) }
     {
         if self.stage.light < self.visits.len() {
             let visit = self.visits[self.stage.light];
-            self.visit(image, Kind::Light, visit)?;
+            self.visit_light(image, lightest, visit)?;
             self.stage.light += 1;
         } else {
             let visit = self.visits[self.stage.heavy];
             self.visit(image, Kind::Heavy, visit)?;
             self.stage.heavy += 1;
+        }
+        Ok(())
+    }
+
+    /// Follows the light arcs of a visit, if it still counts and there are any.
+    fn visit_light(
+        &mut self,
+        image: &Image,
+        lightest: &Vec<u32>,
+        visit: Visit,
+    ) -> Result<(), NoMemory>
+        requires search { IsSearchOf image.now self.old }
+        requires lightest { AreLightest image.now (length image.now.vertices) lightest.now.items }
+        requires visit { IsVisit (length image.now.vertices) self.old.stage.width self.old.stage.bucket visit }
+        ensures { OnOk result (Follows image.now Kind.Light visit self.old self.new) }
+    {
+        if lightest[visit.place as usize] <= self.stage.width {
+            self.visit(image, Kind::Light, visit)?;
         }
         Ok(())
     }

@@ -1,8 +1,9 @@
 //! Times the image of a graph and the kernels over it.
 //!
 //! 1. Called with four numbers, of vertices, edges, seed and runs, it makes a power-law graph of so many
-//!    vertices and weighted edges from the seed, and prints a line for the image and each kernel in each
-//!    run: its name, and the microseconds that it took. Called with no words it does nothing.
+//!    vertices and weighted edges from the seed, or a path where no edges are asked for, and prints a line
+//!    for the image and each kernel in each run: its name, and the microseconds that it took. Called with no
+//!    words it does nothing.
 //! 2. What is timed are the calls that a run of scripts makes, over rows in memory; nothing is read or
 //!    written meanwhile.
 #![tactic(auto)]
@@ -10,13 +11,13 @@
 ghost use Rattle.graph_image.specs.Building.{AreStorable, AreEnded};
 
 mod checks;
+mod path;
 mod power_law;
 
 use anyhow::Result;
 use checks::{are_ended, are_storable};
 use graph_image::Builder;
 use graph_model::Row;
-use power_law::rows_of;
 use std::alloc::Global;
 use std::env;
 use std::env::Env;
@@ -36,7 +37,11 @@ const ROOT: u64 = 1;
 fn main(rt: HostRuntime) -> Result<()> {
     let alloc = rt.alloc();
     let [vertices, edges, seed, runs] = numbers(&rt, alloc)?;
-    let rows = rows_of(alloc, vertices, edges, seed)?;
+    let rows = if edges == 0 {
+        path::rows_of(alloc, vertices)?
+    } else {
+        power_law::rows_of(alloc, vertices, edges, seed)?
+    };
     if are_storable(rows.as_slice()) && are_ended(alloc, rows.as_slice())? {
         for _run in 0..runs {
             time(&rt, alloc, rows.as_slice())?;
