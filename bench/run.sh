@@ -111,21 +111,20 @@ bounds() {
         END { print name, least / 1000, most / 1000 }'
 }
 
-# Prints the table of the image and the kernels, on one core and on all.
+# Prints the table of the image and the kernels over a graph of so many edges, or over a path for 0, on one core and on all.
 print_kernels() {
-    local vertices=1000000
-    local edges=$((vertices * 7 / 2))
-    echo '| Part  | One, best | One, worst | All, best | All, worst |'
-    echo '|-------|----------:|-----------:|----------:|-----------:|'
+    local edges=$1 vertices=1000000
+    echo '| Part                | One, best | One, worst | All, best | All, worst |'
+    echo '|---------------------|----------:|-----------:|----------:|-----------:|'
     taskset -c 0 "$kernels" "$vertices" "$edges" "$seed" "$runs" | bounds >one_core
     "$kernels" "$vertices" "$edges" "$seed" "$runs" | bounds >all_cores
     join one_core all_cores | while read -r name one_best one_worst all_best all_worst; do
-        printf '| %-5s | %9.0f | %10.0f | %9.0f | %10.0f |\n' "$name" "$one_best" "$one_worst" "$all_best" "$all_worst"
+        printf '| %-19s | %9.0f | %10.0f | %9.0f | %10.0f |\n' "$name" "$one_best" "$one_worst" "$all_best" "$all_worst"
     done
     echo
-    echo "Milliseconds on a power-law graph of 1,000,000 vertices and 3,500,000 weighted edges, from rows in memory to the"
-    echo "table in memory: on one core, and on all. image is made from the rows, bfs and sssp begin at the heaviest vertex,"
-    echo "cdlp has ten rounds. Load is $(load) now."
+    echo "Milliseconds on a $2, from rows in memory to the"
+    echo "table in memory: on one core, and on all. image is made from the rows, the searches and the shortest paths begin at"
+    echo "vertex 1, fastsssp/W has buckets that are W wide, cdlp has ten rounds. Load is $(load) now."
     echo
 }
 
@@ -196,5 +195,8 @@ cd "$work"
 echo "$(getconf _NPROCESSORS_ONLN) cores, load $(load); $runs runs of each, seed $seed"
 echo
 if is_wanted runs; then print_runs; fi
-if is_wanted kernels; then print_kernels; fi
+if is_wanted kernels; then
+    print_kernels 3500000 'power-law graph of 1,000,000 vertices and 3,500,000 weighted edges'
+    print_kernels 0 'path of 1,000,000 vertices with weights'
+fi
 if is_wanted segments; then print_segments; fi

@@ -7,14 +7,16 @@ use Rattle.graph_model.specs.Graph.{Graph, IsBounded, IsSymmetric}
 use Rattle.graph_model.specs.Rows.{AreRowsOf}
 use Rattle.run_model.specs.Requests as requests
 use Rattle.job_runner.specs.declared.table.Kernel.{Kernel}
-use Rattle.job_runner.specs.declared.table.Kernel.TheVariants.{Bfs, Wcc, Cdlp, Sssp}
+use Rattle.job_runner.specs.declared.table.Kernel.TheVariants.{Bfs, Wcc, Cdlp, Sssp, FastBfs, FastSssp}
 
--- the kernel that a line asks for
+-- the kernel whose table it gives
 abbrev pub kernel_of : Kernel → requests.Kernel
 kernel_of (Bfs root) = requests.Bfs root
 kernel_of Wcc = requests.Wcc
 kernel_of (Cdlp rounds) = requests.Cdlp rounds
 kernel_of (Sssp root) = requests.Sssp root
+kernel_of (FastBfs root) = requests.Bfs root
+kernel_of (FastSssp root width) = requests.Sssp root
 
 -- the vertex that it begins at, 0 where it needs none
 abbrev pub root_of : Kernel → ℕ
@@ -22,6 +24,8 @@ root_of (Bfs root) = root
 root_of Wcc = 0
 root_of (Cdlp rounds) = 0
 root_of (Sssp root) = root
+root_of (FastBfs root) = root
+root_of (FastSssp root width) = root
 
 -- These are the rows of a graph whose ids and weights are within their limits, and which is symmetric where
 -- the kind is undirected

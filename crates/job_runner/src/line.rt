@@ -90,6 +90,23 @@ pub fn take_line<R: Threads + Sync, E: StepEngine>(
         Command::Sssp { root, file } => {
             return run_kernel(rt, alloc, engine, Kernel::Sssp { root: *root }, file, scan);
         }
+        Command::FastBfs { root, file } => {
+            return run_kernel(
+                rt,
+                alloc,
+                engine,
+                Kernel::FastBfs { root: *root },
+                file,
+                scan,
+            );
+        }
+        Command::FastSssp { root, width, file } => {
+            let kernel = Kernel::FastSssp {
+                root: *root,
+                width: *width,
+            };
+            return run_kernel(rt, alloc, engine, kernel, file, scan);
+        }
     };
     Ok(LineTurn::Answering { given })
 }

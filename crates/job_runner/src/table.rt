@@ -7,6 +7,8 @@ ghost use Rattle.run_model.specs.declared.answer.Answer.TheVariants as answers;
 ghost use Rattle.run_model.specs.Answering.{kernel_answer, IsKernelTable};
 ghost use Rattle.job_runner.specs.Kernels.{kernel_of, root_of, AreKernelRows};
 
+use delta_sssp::run as shortest_paths_by_buckets;
+use fast_bfs::run as search_both_ways;
 use graph_image::{Builder, Image};
 use graph_model::{KernelRefusal, Kind, NoMemory, Table};
 use items::RoomyItems;
@@ -18,13 +20,15 @@ use run_model::Name;
 use std::alloc::Global;
 use std::thread::Threads;
 
-/// A kernel of LDBC Graphalytics, with its root or its number of rounds.
+/// A kernel of LDBC Graphalytics, with its root or its number of rounds, and by which algorithm it runs.
 #[derive(Clone, Copy, Debug, PartialEq, Eq)]
 pub enum Kernel {
     Bfs { root: u64 },
     Wcc,
     Cdlp { rounds: u32 },
     Sssp { root: u64 },
+    FastBfs { root: u64 },
+    FastSssp { root: u64, width: u32 },
 }
 
 impl Kernel {
@@ -37,6 +41,8 @@ impl Kernel {
             Kernel::Wcc => 0,
             Kernel::Cdlp { rounds: _ } => 0,
             Kernel::Sssp { root } => *root,
+            Kernel::FastBfs { root } => *root,
+            Kernel::FastSssp { root, width: _ } => *root,
         }
     }
 }
@@ -72,6 +78,11 @@ pub fn kernel_table<R: Threads + Sync>(
         Kernel::Wcc => Ok(components(rt, alloc, &image)?),
         Kernel::Cdlp { rounds } => Ok(communities(rt, alloc, &image, rounds)?),
         Kernel::Sssp { root } => shortest_paths(rt, alloc, &image, root),
+        Kernel::FastBfs { root } => search_both_ways(rt, alloc, &image, root),
+        // Any width gives this table, and no script that is read has the width 0.
+        Kernel::FastSssp { root, width } => {
+            shortest_paths_by_buckets(rt, alloc, &image, root, width.max(1))
+        }
     }
 }
 

@@ -100,7 +100,7 @@ fn arcs_of(alloc: Global, vertices: u64, edges: u64, seed: u64) -> Result<Vec<u6
 }
 
 /// The weight of the edge between these, whichever is named first.
-fn weight(a: u64, b: u64) -> u64 {
+pub fn weight(a: u64, b: u64) -> u64 {
     let mixed = a.min(b).wrapping_mul(11400714819323198485)
         ^ a.max(b).wrapping_mul(13787848793156543929);
     (mixed ^ mixed >> 29).wrapping_mul(2685821657736338717) % HEAVIEST + 1

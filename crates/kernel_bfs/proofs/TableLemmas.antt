@@ -31,12 +31,11 @@ module _ (image : Places) (g : Graph) (is : IsImageOf image g) (root a : ℕ) (r
       (cases_eq d UNREACHED)
 
   -- so the table is the graph's
-  pub search_table : (seen : List ℕ) → seen ≡ distances → (values seen_values : List Value) → values ≡ map value_of seen → seen_values ≡ values → (entries : List Entry) → AreEntries image.vertices seen_values entries
-      → (has_vertex g a ≡ true) × IsBfs g a entries
-  search_table seen seen_is values seen_values values_are seen_are entries listed = (
+  pub search_table : (seen : List ℕ) → seen ≡ distances → (entries : List Entry) → AreEntries image.vertices (map value_of seen) entries → (has_vertex g a ≡ true) × IsBfs g a entries
+  search_table seen seen_is entries listed = (
     placed_vertex image g is root a root_at,
-    table_right image g is (IsBfsValue g a) seen_values entries listed (λ p v x at_v at_x.
-        let there = get_map value_of distances p x (ap (λ xs. slice_get xs p) (ap (map value_of) (sym seen_is) ∙ sym values_are ∙ sym seen_are) ∙ at_x) in
+    table_right image g is (IsBfsValue g a) (map value_of seen) entries listed (λ p v x at_v at_x.
+        let there = get_map value_of distances p x (ap (λ xs. slice_get (map value_of xs) p) (sym seen_is) ∙ at_x) in
         subst (IsBfsValue g a v) there.2 (value_right p v there.0 at_v there.1)),
   )
 

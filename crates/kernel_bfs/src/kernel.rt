@@ -1,15 +1,14 @@
 //! The table of a search.
 
-ghost use Rattle.std.specs.Prelude.{◌≡◌, ℕ, false, length, map, min, IfOk, IsTrue};
+ghost use Rattle.std.specs.Prelude.{◌≡◌, ℕ, false, map, min, IfOk, IsTrue};
 ghost use Rattle.graph_model.specs.Graph.{Graph, has_vertex};
 ghost use Rattle.graph_model.specs.Tables.{IsBfs};
 ghost use Rattle.graph_image.specs.Building.{AreStorable, AreEnded};
 ghost use Rattle.graph_image.specs.Images.{IsImageOf};
-ghost use Rattle.kernel_bfs.specs.Levels.{value_of};
 
-use crate::levels::{UNREACHED, search};
-use graph_image::{Image, KernelRefusal, NoMemory, Table, Value, table_of};
-use graph_model::NO_WALK;
+use crate::distances::table_by;
+use crate::levels::search;
+use graph_image::{Image, KernelRefusal, Table};
 use std::alloc::Global;
 use std::thread::Threads;
 
@@ -31,35 +30,15 @@ pub fn run<R: Threads + Sync>(
         return Err(KernelRefusal::NoRoot);
     };
     let distances = search(rt, alloc, image, place)?;
-    let values = values_of(alloc, distances.as_slice())?;
-    let table = table_of(alloc, image, values.as_slice())?;
+    let table = table_by(alloc, image, distances.as_slice())?;
     Ok(table)
-}
-
-/// The values that stand for distances.
-fn values_of(alloc: Global, distances: &[u32]) -> Result<Vec<Value>, NoMemory>
-    ensures { IfOk result (λ values. values.items ≡ map value_of distances.now) }
-{
-    let values = distances
-        .iter()
-        .map(|distance| {
-            if *distance == UNREACHED {
-                Value::Number { n: NO_WALK }
-            } else {
-                Value::Number {
-                    n: *distance as u64,
-                }
-            }
-        })
-        .collect(alloc)?;
-    Ok(values)
 }
 
 #[cfg(test)]
 mod tests {
     use super::*;
-    use graph_image::Builder;
-    use graph_model::{Key, Row};
+    use graph_image::{Builder, Value};
+    use graph_model::{Key, NO_WALK, Row};
     use std::alloc::AllocError;
     use std::process::Abort;
     use std::test::Fail;

@@ -5,8 +5,8 @@ ghost use Rattle.graph_model.specs.Graph.{Graph};
 ghost use Rattle.graph_image.specs.Images.{IsImageOf, Leads};
 ghost use Rattle.kernel_bfs.specs.Levels.{Spreads, Advances, FromArc, HasNoneAbove, IsFrontier, IsSearched};
 
+use crate::arcs_out::top_down;
 use crate::bottom_up::bottom_up;
-use crate::top_down::top_down;
 use graph_image::{Image, NoMemory};
 use std::alloc::Global;
 use std::mem;

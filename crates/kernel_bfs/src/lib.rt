@@ -7,9 +7,13 @@
 //! 3. Each round but the last reaches a place, so the level stays below the number of places.
 #![tactic(auto)]
 
+mod arcs_out;
 mod bottom_up;
+mod distances;
 mod kernel;
 mod levels;
-mod top_down;
 
+pub use arcs_out::top_down;
+pub use distances::table_by;
 pub use kernel::run;
+pub use levels::UNREACHED;

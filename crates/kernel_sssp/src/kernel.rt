@@ -1,15 +1,16 @@
 //! The table of the least weights.
 
-ghost use Rattle.std.specs.Prelude.{◌≡◌, ◌<◌, false, length, map, Err, IfOk, IsTrue};
+ghost use Rattle.std.specs.Prelude.{◌≡◌, ◌<◌, false, length, Err, IfOk, IsTrue};
 ghost use Rattle.graph_model.specs.Graph.{Graph, has_vertex};
 ghost use Rattle.graph_model.specs.Tables.{IsSssp};
 ghost use Rattle.graph_model.specs.declared.table.KernelRefusal.TheVariants as KernelRefusal;
 ghost use Rattle.graph_image.specs.Images.{IsImageOf};
 ghost use Rattle.graph_image.specs.Building.{AreStorable, AreEnded};
-ghost use Rattle.kernel_sssp.specs.Search.{LinkOut, IsSearched, value_of};
+ghost use Rattle.kernel_sssp.specs.Search.{LinkOut, IsSearched};
 
-use crate::search::{Search, UNREACHED};
-use graph_image::{Image, KernelRefusal, NoMemory, Table, Value, table_of};
+use crate::distances::table_by;
+use crate::search::Search;
+use graph_image::{Image, KernelRefusal, NoMemory, Table};
 use std::alloc::Global;
 use std::thread::Threads;
 
@@ -30,8 +31,7 @@ pub fn run<R: Threads + Sync>(
         return Err(KernelRefusal::NoRoot);
     };
     let distances = least_weights(alloc, image, place)?;
-    let values = values_of(alloc, distances.as_slice())?;
-    let table = table_of(alloc, image, values.as_slice())?;
+    let table = table_by(alloc, image, distances.as_slice())?;
     Ok(table)
 }
 
@@ -72,27 +72,10 @@ fn step_of(image: &Image) -> u64 {
     total / count.max(1) / 2 + 1
 }
 
-/// The values that stand for weights.
-fn values_of(alloc: Global, distances: &[u64]) -> Result<Vec<Value>, NoMemory>
-    ensures { IfOk result (λ values. values.items ≡ map value_of distances.now) }
-{
-    let values = distances
-        .iter()
-        .map(|distance| {
-            if *distance == UNREACHED {
-                Value::Infinity
-            } else {
-                Value::Number { n: *distance }
-            }
-        })
-        .collect(alloc)?;
-    Ok(values)
-}
-
 #[cfg(test)]
 mod tests {
     use super::*;
-    use graph_image::{Builder, Entry};
+    use graph_image::{Builder, Entry, Value};
     use graph_model::{Key, Row};
     use std::process::Abort;
     use std::test::Fail;

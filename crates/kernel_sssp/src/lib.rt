@@ -6,7 +6,10 @@
 //!    that few places are followed twice. In which part a place stands changes no weight.
 #![tactic(auto)]
 
+mod distances;
 mod kernel;
 mod search;
 
+pub use distances::table_by;
 pub use kernel::run;
+pub use search::UNREACHED;

@@ -69,6 +69,8 @@ asks_commit (commands.Bfs root file) f = cc
 asks_commit (commands.Wcc file) f = cc
 asks_commit (commands.Cdlp rounds file) f = cc
 asks_commit (commands.Sssp root file) f = cc
+asks_commit (commands.FastBfs root file) f = cc
+asks_commit (commands.FastSssp root width file) f = cc
 
 -- a write that may want a place may be answered `full`
 pub may_be_full : (w : Write) → inserts w ≡ true → MayBeFull w

@@ -29,7 +29,7 @@ pub data Request : Type 0 where
   ToRead : Query → Request
   ToRun : Kernel → List ℕ → Request
 
--- each command, with what it asks for
+-- each command, with what it asks for: by which algorithm a table is found is not part of that
 abbrev pub request : Command → Request
 request commands.Begin = ToBegin
 request commands.Commit = ToCommit
@@ -46,6 +46,8 @@ request (commands.Bfs root file) = ToRun (Bfs root) file
 request (commands.Wcc file) = ToRun Wcc file
 request (commands.Cdlp rounds file) = ToRun (Cdlp rounds) file
 request (commands.Sssp root file) = ToRun (Sssp root) file
+request (commands.FastBfs root file) = ToRun (Bfs root) file
+request (commands.FastSssp root width file) = ToRun (Sssp root) file
 
 -- the write that a line asks for, if it asks for one
 abbrev pub write_of : Request → Option Write

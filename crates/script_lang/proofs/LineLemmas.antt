@@ -12,7 +12,7 @@ use Rattle.graphalytics_io.specs.Numbers.{is_number, number_of, number_within}
 use Rattle.script_lang.specs.declared.word.Word.{Word}
 use Rattle.script_lang.specs.declared.word.Word.TheVariants as words
 use Rattle.script_lang.specs.declared.word.FieldKind.{FieldKind}
-use Rattle.script_lang.specs.declared.word.FieldKind.TheVariants.{Vertex, Target, Weight, OptionalWeight, Rounds, File}
+use Rattle.script_lang.specs.declared.word.FieldKind.TheVariants.{Vertex, Target, Weight, OptionalWeight, Rounds, Width, File}
 use Rattle.script_lang.specs.declared.refusal.ScriptWhat.{ScriptWhat}
 use Rattle.script_lang.specs.declared.refusal.ScriptWhat.TheVariants.{MissingField, ExtraField, BadName, NameTwice, TooManyBegins}
 use Rattle.script_lang.specs.FieldFaults.{fault_of, is_name_byte, is_file_name, is_among, IsNameByte, file_fault, field_fault, fields_fault}
@@ -68,6 +68,7 @@ is_file Target = false
 is_file Weight = false
 is_file OptionalWeight = false
 is_file Rounds = false
+is_file Width = false
 is_file File = true
 
 module _ (taken : List (List ℕ)) where
@@ -77,6 +78,7 @@ module _ (taken : List (List ℕ)) where
   within_more values Weight field within none = record { vertex = within.vertex; target = within.target; weight = number_fits MAX_WEIGHT _ field none; rounds = within.rounds }
   within_more values OptionalWeight field within none = record { vertex = within.vertex; target = within.target; weight = number_fits MAX_WEIGHT _ field none; rounds = within.rounds }
   within_more values Rounds field within none = record { vertex = within.vertex; target = within.target; weight = within.weight; rounds = number_fits MAX_ROUNDS _ field none }
+  within_more values Width field within none = record { vertex = within.vertex; target = within.target; weight = within.weight; rounds = within.rounds }
   within_more values File field within none = record { vertex = within.vertex; target = within.target; weight = within.weight; rounds = within.rounds }
 
   -- the values of fields without a fault are within their limits
@@ -118,6 +120,7 @@ module _ (taken : List (List ℕ)) where
   named_more values Weight kinds field named none = named
   named_more values OptionalWeight kinds field named none = named
   named_more values Rounds kinds field named none = named
+  named_more values Width kinds field named none = named
   named_more values File kinds field named none = inl (new_name field none)
 
   -- where there is a field for each kind, and one for a file, its name is new
@@ -146,6 +149,8 @@ request_within words.Bfs values within = within.vertex
 request_within words.Wcc values within = tt
 request_within words.Cdlp values within = within.rounds
 request_within words.Sssp values within = within.vertex
+request_within words.FastBfs values within = within.vertex
+request_within words.FastSssp values within = within.vertex
 
 -- a line that may stand where it does leaves a transaction open, or none, as a script asks
 opens : (word : Word) (began : Option ℕ) (number : ℕ) (values : Values) → place_fault word (is_some began) ≡ None
@@ -185,6 +190,8 @@ asks taken words.Bfs fields counted none = asked taken (kinds_of words.Bfs) fiel
 asks taken words.Wcc fields counted none = asked taken (kinds_of words.Wcc) fields refl refl counted none
 asks taken words.Cdlp fields counted none = asked taken (kinds_of words.Cdlp) fields refl refl counted none
 asks taken words.Sssp fields counted none = asked taken (kinds_of words.Sssp) fields refl refl counted none
+asks taken words.FastBfs fields counted none = asked taken (kinds_of words.FastBfs) fields refl refl counted none
+asks taken words.FastSssp fields counted none = asked taken (kinds_of words.FastSssp) fields refl refl counted none
 asks taken word fields counted none = All-nil (IsNewName taken)
 
 -- what holds of the command of a line

@@ -1,7 +1,7 @@
 -- The faults of scripts, in the order of the checks of a line.
 use Rattle.std.specs.Prelude.{ℕ, List, codes, cond, nat_le, Option, Some, None}
 use Rattle.script_lang.specs.declared.refusal.ScriptWhat.{ScriptWhat}
-use Rattle.script_lang.specs.declared.refusal.ScriptWhat.TheVariants.{NotACommand, MissingField, ExtraField, NotBegun, BegunTwice, NotANumber, IdTooLarge, WeightTooLarge, RoundsTooLarge, BadName, NameTwice, TooManyBegins, NotEnded}
+use Rattle.script_lang.specs.declared.refusal.ScriptWhat.TheVariants.{NotACommand, MissingField, ExtraField, NotBegun, BegunTwice, NotANumber, IdTooLarge, WeightTooLarge, RoundsTooLarge, WidthOutOfRange, BadName, NameTwice, TooManyBegins, NotEnded}
 use Rattle.script_lang.specs.declared.refusal.ScheduleWhat.{ScheduleWhat}
 use Rattle.script_lang.specs.declared.refusal.ScheduleWhat.TheVariants as schedules
 
@@ -16,6 +16,7 @@ what_text NotANumber = codes "not a number"
 what_text IdTooLarge = codes "id too large"
 what_text WeightTooLarge = codes "weight too large"
 what_text RoundsTooLarge = codes "rounds too large"
+what_text WidthOutOfRange = codes "width out of range"
 what_text BadName = codes "bad name"
 what_text NameTwice = codes "name twice"
 what_text TooManyBegins = codes "too many begins"
@@ -38,10 +39,11 @@ order NotANumber = 5
 order IdTooLarge = 6
 order WeightTooLarge = 7
 order RoundsTooLarge = 8
-order BadName = 9
-order NameTwice = 10
-order TooManyBegins = 11
-order NotEnded = 12
+order WidthOutOfRange = 9
+order BadName = 10
+order NameTwice = 11
+order TooManyBegins = 12
+order NotEnded = 13
 
 -- the fault whose check comes first
 abbrev pub earlier : Option ScriptWhat → Option ScriptWhat → Option ScriptWhat

@@ -1,15 +1,17 @@
 -- The faults of fields.
-use Rattle.std.specs.Prelude.{ℕ, ◌≤◌, Bool, false, cond, nat_le, ◌&&◌, List, [], ◌∷◌, Option, None, Some, Result, Ok, Err}
+use Rattle.std.specs.Prelude.{ℕ, ◌≤◌, Bool, false, ◌==◌, cond, nat_le, ◌&&◌, List, [], ◌∷◌, Option, None, Some, Result, Ok, Err}
 use Rattle.std.specs.List.{list_all, list_any}
+use Rattle.std.specs.Option.{option_or}
 use Rattle.std.specs.Str.{bytes_eq}
 use Rattle.graph_model.specs.declared.limits.TheConstants.{MAX_ID, MAX_WEIGHT, MAX_ROUNDS}
 use Rattle.graphalytics_io.specs.declared.number.NumberFault.{NumberFault}
 use Rattle.graphalytics_io.specs.declared.number.NumberFault.TheVariants as numbers
-use Rattle.graphalytics_io.specs.Numbers.{number_within}
+use Rattle.graphalytics_io.specs.Numbers.{number_within, number_of}
 use Rattle.script_lang.specs.declared.refusal.ScriptWhat.{ScriptWhat}
-use Rattle.script_lang.specs.declared.refusal.ScriptWhat.TheVariants.{NotANumber, IdTooLarge, WeightTooLarge, RoundsTooLarge, BadName, NameTwice}
+use Rattle.script_lang.specs.declared.refusal.ScriptWhat.TheVariants.{NotANumber, IdTooLarge, WeightTooLarge, RoundsTooLarge, WidthOutOfRange, BadName, NameTwice}
+use Rattle.script_lang.specs.declared.arguments.TheConstants.{MAX_WIDTH}
 use Rattle.script_lang.specs.declared.word.FieldKind.{FieldKind}
-use Rattle.script_lang.specs.declared.word.FieldKind.TheVariants.{Vertex, Target, Weight, OptionalWeight, Rounds, File}
+use Rattle.script_lang.specs.declared.word.FieldKind.TheVariants.{Vertex, Target, Weight, OptionalWeight, Rounds, Width, File}
 use Rattle.script_lang.specs.Faults.{earlier}
 
 -- the fault of a field that was read as a number; `above` is that of a number above the limit
@@ -38,6 +40,11 @@ is_among names file = list_any (bytes_eq file) names
 abbrev pub file_fault : List (List ℕ) → List ℕ → Option ScriptWhat
 file_fault taken file = cond (is_file_name file) (cond (is_among taken file) (Some NameTwice) None) (Some BadName)
 
+-- the fault of a width: no number, 0, or above the greatest
+abbrev pub width_fault : List ℕ → Option ScriptWhat
+width_fault field = option_or (fault_of WidthOutOfRange (number_within MAX_WIDTH field))
+    (cond (number_of field == 0) (Some WidthOutOfRange) None)
+
 -- the fault of a field of some kind
 abbrev pub field_fault : List (List ℕ) → FieldKind → List ℕ → Option ScriptWhat
 field_fault taken Vertex field = fault_of IdTooLarge (number_within MAX_ID field)
@@ -45,6 +52,7 @@ field_fault taken Target field = fault_of IdTooLarge (number_within MAX_ID field
 field_fault taken Weight field = fault_of WeightTooLarge (number_within MAX_WEIGHT field)
 field_fault taken OptionalWeight field = fault_of WeightTooLarge (number_within MAX_WEIGHT field)
 field_fault taken Rounds field = fault_of RoundsTooLarge (number_within MAX_ROUNDS field)
+field_fault taken Width field = width_fault field
 field_fault taken File field = file_fault taken field
 
 -- of the faults of the fields, the one whose check comes first

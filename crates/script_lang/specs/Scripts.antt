@@ -37,6 +37,8 @@ command_of words.Bfs values = commands.Bfs values.vertex values.file
 command_of words.Wcc values = commands.Wcc values.file
 command_of words.Cdlp values = commands.Cdlp values.rounds values.file
 command_of words.Sssp values = commands.Sssp values.vertex values.file
+command_of words.FastBfs values = commands.FastBfs values.vertex values.file
+command_of words.FastSssp values = commands.FastSssp values.vertex values.width values.file
 
 -- too few or too many fields
 abbrev pub count_fault : List FieldKind → ℕ → Option ScriptWhat

@@ -2,7 +2,7 @@
 use Rattle.std.specs.Prelude.{ℕ, List, [], ◌∷◌}
 use Rattle.graphalytics_io.specs.Numbers.{number_of}
 use Rattle.script_lang.specs.declared.word.FieldKind.{FieldKind}
-use Rattle.script_lang.specs.declared.word.FieldKind.TheVariants.{Vertex, Target, Weight, OptionalWeight, Rounds, File}
+use Rattle.script_lang.specs.declared.word.FieldKind.TheVariants.{Vertex, Target, Weight, OptionalWeight, Rounds, Width, File}
 
 -- a value for each kind of field
 pub record Values : Type 0 where
@@ -10,11 +10,12 @@ pub record Values : Type 0 where
   pub target : ℕ
   pub weight : ℕ
   pub rounds : ℕ
+  pub width : ℕ
   pub file : List ℕ
 
 -- the values of a line without fields: a weight that is missing is 1
 abbrev pub no_values : Values
-no_values = record { vertex = 0; target = 0; weight = 1; rounds = 0; file = [] }
+no_values = record { vertex = 0; target = 0; weight = 1; rounds = 0; width = 1; file = [] }
 
 -- the values with that of one more field
 abbrev pub with_value : Values → FieldKind → List ℕ → Values
@@ -23,6 +24,7 @@ with_value values Target field = record values { target = number_of field }
 with_value values Weight field = record values { weight = number_of field }
 with_value values OptionalWeight field = record values { weight = number_of field }
 with_value values Rounds field = record values { rounds = number_of field }
+with_value values Width field = record values { width = number_of field }
 with_value values File field = record values { file = field }
 
 -- the values with those of these fields, each of its kind

@@ -5,7 +5,7 @@ use Rattle.std.specs.Str.{bytes_eq}
 use Rattle.script_lang.specs.declared.word.Word.{Word}
 use Rattle.script_lang.specs.declared.word.Word.TheVariants as words
 use Rattle.script_lang.specs.declared.word.FieldKind.{FieldKind}
-use Rattle.script_lang.specs.declared.word.FieldKind.TheVariants.{Vertex, Target, Weight, OptionalWeight, Rounds, File}
+use Rattle.script_lang.specs.declared.word.FieldKind.TheVariants.{Vertex, Target, Weight, OptionalWeight, Rounds, Width, File}
 use Rattle.script_lang.specs.declared.word.TheConstants.{WORDS}
 
 -- each word as a script has it
@@ -25,6 +25,8 @@ word_text words.Bfs = codes "bfs"
 word_text words.Wcc = codes "wcc"
 word_text words.Cdlp = codes "cdlp"
 word_text words.Sssp = codes "sssp"
+word_text words.FastBfs = codes "fastbfs"
+word_text words.FastSssp = codes "fastsssp"
 
 -- the fields behind each word, from left to right
 abbrev pub kinds_of : Word → List FieldKind
@@ -43,6 +45,8 @@ kinds_of words.Bfs = Vertex ∷ File ∷ []
 kinds_of words.Wcc = File ∷ []
 kinds_of words.Cdlp = Rounds ∷ File ∷ []
 kinds_of words.Sssp = Vertex ∷ File ∷ []
+kinds_of words.FastBfs = Vertex ∷ File ∷ []
+kinds_of words.FastSssp = Vertex ∷ Width ∷ File ∷ []
 
 -- whether a line has to have such a field
 abbrev pub is_needed : FieldKind → Bool
@@ -51,6 +55,7 @@ is_needed Target = true
 is_needed Weight = true
 is_needed OptionalWeight = false
 is_needed Rounds = true
+is_needed Width = true
 is_needed File = true
 
 -- how many fields there have to be

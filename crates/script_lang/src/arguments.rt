@@ -3,7 +3,7 @@
 ghost use Rattle.std.specs.Prelude.{◌≡◌, ◌≤◌, None, Some, MatchResult};
 ghost use Rattle.std.specs.List.{list_all};
 ghost use Rattle.script_lang.specs.Faults.{earlier};
-ghost use Rattle.script_lang.specs.FieldFaults.{fault_of, is_name_byte, is_file_name, file_fault, field_fault, fields_fault};
+ghost use Rattle.script_lang.specs.FieldFaults.{fault_of, is_name_byte, is_file_name, file_fault, width_fault, field_fault, fields_fault};
 ghost use Rattle.script_lang.specs.Values.{no_values, with_value, with_values};
 ghost use Rattle.graphalytics_io.specs.Numbers.{number_within, number_of};
 
@@ -14,6 +14,9 @@ use graph_model::{MAX_ID, MAX_ROUNDS, MAX_WEIGHT};
 use graphalytics_io::{Fields, NumberFault, read_number};
 use std::marker::Model;
 
+/// The greatest width, which is that of `delta_sssp`'s type.
+pub(crate) const MAX_WIDTH: u32 = 4294967295;
+
 /// What the fields of a line say: a value for each kind of field.
 #[derive(Drop)]
 pub(crate) struct Arguments<'a> {
@@ -21,6 +24,7 @@ pub(crate) struct Arguments<'a> {
     pub target: u64,
     pub weight: u64,
     pub rounds: u32,
+    pub width: u32,
     pub file: &'a [u8],
 }
 
@@ -34,6 +38,7 @@ impl<'a> Model for Arguments<'a> {
       target = arguments.target;
       weight = arguments.weight;
       rounds = arguments.rounds;
+      width = arguments.width;
       file = arguments.file.now;
     } };
 }
@@ -73,6 +78,7 @@ impl<'a> Arguments<'a> {
             target: 0,
             weight: 1,
             rounds: 0,
+            width: 1,
             file: b"",
         }
     }
@@ -110,6 +116,7 @@ impl<'a> Arguments<'a> {
                     ScriptWhat::RoundsTooLarge,
                 )? as u32
             }
+            FieldKind::Width => self.width = width_of(field)?,
             FieldKind::File => self.file = new_name(field, taken)?,
         }
         Ok(())
@@ -145,6 +152,19 @@ fn number_up_to(field: &[u8], limit: u64, above: ScriptWhat) -> Result<u64, Scri
         Err(NumberFault::NotANumber) => Err(ScriptWhat::NotANumber),
         Err(NumberFault::TooLarge) => Err(above),
     }
+}
+
+/// Reads a width, from 1 on.
+fn width_of(field: &[u8]) -> Result<u32, ScriptWhat>
+    ensures { MatchResult result
+        (λ width. (width_fault field.now ≡ None) × (width ≡ number_of field.now))
+        (λ what. width_fault field.now ≡ Some what) }
+{
+    let width = number_up_to(field, MAX_WIDTH as u64, ScriptWhat::WidthOutOfRange)?;
+    if width == 0 {
+        return Err(ScriptWhat::WidthOutOfRange);
+    }
+    Ok(width as u32)
 }
 
 /// Reads a file name that isn't taken.

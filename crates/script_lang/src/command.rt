@@ -24,6 +24,7 @@ pub(crate) fn command_of(
         target: v,
         weight,
         rounds,
+        width,
         file,
     } = arguments;
     Ok(match word {
@@ -53,6 +54,15 @@ pub(crate) fn command_of(
             root: u,
             file: copy_name(alloc, file)?,
         },
+        Word::FastBfs => Command::FastBfs {
+            root: u,
+            file: copy_name(alloc, file)?,
+        },
+        Word::FastSssp => Command::FastSssp {
+            root: u,
+            width,
+            file: copy_name(alloc, file)?,
+        },
     })
 }
 
@@ -66,6 +76,8 @@ pub(crate) fn take_file(alloc: Global, command: &Command, taken: &mut Names) -> 
         Command::Wcc { file } => taken.push(copy_name(alloc, file.as_slice())?),
         Command::Cdlp { file, .. } => taken.push(copy_name(alloc, file.as_slice())?),
         Command::Sssp { file, .. } => taken.push(copy_name(alloc, file.as_slice())?),
+        Command::FastBfs { file, .. } => taken.push(copy_name(alloc, file.as_slice())?),
+        Command::FastSssp { file, .. } => taken.push(copy_name(alloc, file.as_slice())?),
         _ => Ok(()),
     }
 }

@@ -28,6 +28,8 @@ pub enum ScriptWhat {
     WeightTooLarge,
     /// A number of rounds is above `MAX_ROUNDS`.
     RoundsTooLarge,
+    /// A width is 0 or above `MAX_WIDTH`.
+    WidthOutOfRange,
     /// A file name has a byte that isn't printable ASCII.
     BadName,
     /// A file name is taken already.
@@ -53,6 +55,7 @@ impl ScriptWhat {
             ScriptWhat::IdTooLarge => "id too large",
             ScriptWhat::WeightTooLarge => "weight too large",
             ScriptWhat::RoundsTooLarge => "rounds too large",
+            ScriptWhat::WidthOutOfRange => "width out of range",
             ScriptWhat::BadName => "bad name",
             ScriptWhat::NameTwice => "name twice",
             ScriptWhat::TooManyBegins => "too many begins",

@@ -22,6 +22,8 @@ pub(crate) enum Word {
     Wcc,
     Cdlp,
     Sssp,
+    FastBfs,
+    FastSssp,
 }
 
 /// What a field behind the word says.
@@ -35,11 +37,13 @@ pub(crate) enum FieldKind {
     /// A weight that may be missing, and then is 1. Only the last field of a line is of this kind.
     OptionalWeight,
     Rounds,
+    /// How wide the buckets of a search are.
+    Width,
     File,
 }
 
 /// All words.
-pub(crate) const WORDS: [Word; 15] = [
+pub(crate) const WORDS: [Word; 17] = [
     Word::Begin,
     Word::Commit,
     Word::Abort,
@@ -55,6 +59,8 @@ pub(crate) const WORDS: [Word; 15] = [
     Word::Wcc,
     Word::Cdlp,
     Word::Sssp,
+    Word::FastBfs,
+    Word::FastSssp,
 ];
 
 /// The word that a field is, if it is one.
@@ -85,6 +91,8 @@ impl Word {
             Word::Wcc => b"wcc",
             Word::Cdlp => b"cdlp",
             Word::Sssp => b"sssp",
+            Word::FastBfs => b"fastbfs",
+            Word::FastSssp => b"fastsssp",
         }
     }
 
@@ -112,6 +120,8 @@ impl Word {
             Word::Wcc => &[FieldKind::File],
             Word::Cdlp => &[FieldKind::Rounds, FieldKind::File],
             Word::Sssp => &[FieldKind::Vertex, FieldKind::File],
+            Word::FastBfs => &[FieldKind::Vertex, FieldKind::File],
+            Word::FastSssp => &[FieldKind::Vertex, FieldKind::Width, FieldKind::File],
         }
     }
 

@@ -7,6 +7,8 @@
 #[cfg(test)]
 mod calls_that_fail;
 #[cfg(test)]
+mod faster_kernels;
+#[cfg(test)]
 mod faulty_words;
 #[cfg(test)]
 mod inputs_that_are_refused;

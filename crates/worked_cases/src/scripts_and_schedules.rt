@@ -9,7 +9,7 @@ use std::test::Fail;
 
 /// Scripts, read one behind the other with the name `j` taken at first: the lines that each is read as, or its
 /// refusal.
-const SCRIPTS: [(&str, &str); 32] = [
+const SCRIPTS: [(&str, &str); 37] = [
     ("", ""),
     ("# nothing\n \t\r\n", ""),
     ("begin\ncommit\nbegin\nabort\n", "begin/commit/begin/abort/"),
@@ -35,7 +35,12 @@ const SCRIPTS: [(&str, &str); 32] = [
     ),
     ("foo", "line 1: not a command"),
     (" # begin\n", "line 1: not a command"),
-    ("begin\nfastbfs a\ncommit\n", "line 2: not a command"),
+    (
+        "begin\nfastbfs 4 s\nfastsssp 05 4294967295 t\ncommit",
+        "begin/fastbfs 4 s/fastsssp 5 4294967295 t/commit/",
+    ),
+    ("begin\nfastwcc a\ncommit\n", "line 2: not a command"),
+    ("begin\nfastsssp 1 a\n", "line 2: missing field"),
     ("\n\nvertex\n", "line 3: missing field"),
     ("begin\nset 1 2\ncommit\n", "line 2: missing field"),
     ("begin 5\n", "line 1: extra field"),
@@ -62,6 +67,15 @@ const SCRIPTS: [(&str, &str); 32] = [
         "line 2: id too large",
     ),
     ("begin\ncdlp 1000001 a\n", "line 2: rounds too large"),
+    ("begin\nfastsssp 1 0 \x7f\n", "line 2: width out of range"),
+    (
+        "begin\nfastsssp 1 4294967296 a\n",
+        "line 2: width out of range",
+    ),
+    (
+        "begin\nfastsssp 9223372036854775807 0 a\n",
+        "line 2: id too large",
+    ),
     ("begin\nbfs 1 \x7f\n", "line 2: bad name"),
     ("begin\nbfs 1 j\n", "line 2: name twice"),
     ("begin\nbfs 1 o\n", "line 2: name twice"),
@@ -136,6 +150,10 @@ fn say_command(command: &Command, said: &mut Text) -> Result<(), NoMemory> {
         Command::Wcc { file } => say(b"wcc", &[], file.as_slice(), said),
         Command::Cdlp { rounds, file } => say(b"cdlp", &[*rounds as u64], file.as_slice(), said),
         Command::Sssp { root, file } => say(b"sssp", &[*root], file.as_slice(), said),
+        Command::FastBfs { root, file } => say(b"fastbfs", &[*root], file.as_slice(), said),
+        Command::FastSssp { root, width, file } => {
+            say(b"fastsssp", &[*root, *width as u64], file.as_slice(), said)
+        }
     }
 }
 

@@ -17,8 +17,13 @@ const WITH_AN_EDGE: File = (
 const LEAST_WEIGHTS: File = ("s1", "begin\nsssp 1 o\ncommit\n");
 
 /// Runs, and how each ends.
-const RUNS: [(Run, End); 18] = [
+const RUNS: [(Run, End); 20] = [
     (PATH, WHOLE),
+    // the same search by the faster kernel
+    (
+        (&[V, E, ("s1", "begin\nfastbfs 1 o\ncommit\n")], "s1"),
+        WHOLE,
+    ),
     // a root that is no vertex: there is no result
     (
         (&[V, E, ("s1", "begin\nbfs 9 o\ncommit\n")], "s1"),
@@ -295,6 +300,23 @@ const RUNS: [(Run, End); 18] = [
                 REPORT,
                 ("o", "1 0\n2 5\n3 15\n4 infinity\n"),
             ],
+        ),
+    ),
+    // the same weights by the faster kernel, in buckets of four tenths
+    (
+        (
+            &[
+                V,
+                ("e", "1 2 0.5\n2 3 1\n"),
+                ("s1", "begin\nfastsssp 1 4 o\ncommit\n"),
+            ],
+            "--weights 1 s1",
+        ),
+        (
+            0,
+            SUMMARY,
+            6,
+            &[REPORT, ("o", "1 0\n2 5\n3 15\n4 infinity\n")],
         ),
     ),
     // and a weight with one digit more, which is cut

@@ -11,4 +11,4 @@ least_weights-requires g c = slice_get_within c.args.image.now.vertices c.in-Som
 pub returns-clause-table : goal.returns-clause-table
 returns-clause-table g c = λ graph is.
     search_table c.args.image.now graph is c.in-Some.place c.args.root c.in-Some.ensures.found c.in_ok-distances.distances.items c.in_ok-distances.ensures
-    c.as_slice.result.now c.as_slice.ensures.value c.in_ok-values.values.items c.as_slice-2.result.now c.in_ok-values.ensures c.as_slice-2.ensures.value _ c.in_ok-table.ensures
+    c.as_slice.result.now c.as_slice.ensures.value _ c.in_ok-table.ensures

@@ -1,5 +1,5 @@
 use Rattle.std.proofs.Common.{refl}
-use Rattle.script_lang.specs.declared.word.Word.TheVariants.{Begin, Commit, Abort, Vertex, Unvertex, Edge, Set, Drop, Weight, Neighbours, Count, Bfs, Wcc, Cdlp, Sssp}
+use Rattle.script_lang.specs.declared.word.Word.TheVariants.{Begin, Commit, Abort, Vertex, Unvertex, Edge, Set, Drop, Weight, Neighbours, Count, Bfs, Wcc, Cdlp, Sssp, FastBfs, FastSssp}
 use Rattle.script_lang.specs.Words.{WordsAreRead}
 use Rattle.script_lang.proofs.word.words_are_read.Goals as goal
 
@@ -19,6 +19,8 @@ each_word Bfs = refl
 each_word Wcc = refl
 each_word Cdlp = refl
 each_word Sssp = refl
+each_word FastBfs = refl
+each_word FastSssp = refl
 
 pub returns : goal.returns
 returns c = each_word

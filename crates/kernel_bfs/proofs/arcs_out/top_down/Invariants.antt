@@ -1,6 +1,6 @@
 use Rattle.std.proofs.Common.{◌+◌}
 use Rattle.kernel_bfs.specs.Levels.{Spreads, FromListed}
-use Rattle.kernel_bfs.proofs.top_down.top_down.Given as goal
+use Rattle.kernel_bfs.proofs.arcs_out.top_down.Given as goal
 
 -- the arcs out of the places before the one at hand have been followed
 abbrev pub invariant-frontier : goal.invariant-frontier

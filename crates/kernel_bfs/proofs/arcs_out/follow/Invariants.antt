@@ -1,5 +1,5 @@
 use Rattle.kernel_bfs.specs.Levels.{Spreads, AtEnd}
-use Rattle.kernel_bfs.proofs.top_down.follow.Given as goal
+use Rattle.kernel_bfs.proofs.arcs_out.follow.Given as goal
 
 -- the arcs before the one at hand have been followed
 abbrev pub invariant-arcs : goal.invariant-arcs

@@ -1,7 +1,7 @@
 use Rattle.std.proofs.Common.{◌+◌, ◌<◌, length, refl, arith}
 use Rattle.std.proofs.lemmas.Option.{slice_get_read}
 use Rattle.kernel_bfs.proofs.SpreadLemmas.{listed_more}
-use Rattle.kernel_bfs.proofs.top_down.top_down.Goals as goal
+use Rattle.kernel_bfs.proofs.arcs_out.top_down.Goals as goal
 
 pub frontier-preserved : goal.frontier-preserved
 frontier-preserved c =

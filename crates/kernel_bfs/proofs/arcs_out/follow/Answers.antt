@@ -4,8 +4,8 @@ use Rattle.graph_image.specs.declared.edge.Arc.{Arc}
 use Rattle.kernel_bfs.specs.declared.levels.TheConstants.{UNREACHED}
 use Rattle.kernel_bfs.specs.Levels.{AtEnd}
 use Rattle.kernel_bfs.proofs.SpreadLemmas.{spread_at, ends_reach, ends_again}
-use Rattle.kernel_bfs.proofs.top_down.follow.Goals as goal
-use Rattle.kernel_bfs.proofs.top_down.follow.Goals.{then-index+in_ok-push, else-index}
+use Rattle.kernel_bfs.proofs.arcs_out.follow.Goals as goal
+use Rattle.kernel_bfs.proofs.arcs_out.follow.Goals.{then-index+in_ok-push, else-index}
 
 pub arcs-preserved : goal.arcs-preserved
 arcs-preserved c =

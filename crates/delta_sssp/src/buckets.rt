@@ -1,0 +1,53 @@
+//! The buckets in use.
+
+ghost use Rattle.std.specs.Prelude.{◌≡◌, ℕ, IfSome, IfNone, OnOk};
+ghost use Rattle.delta_sssp.specs.Buckets.{Puts, TakesFirst, HasNone};
+
+use graph_image::NoMemory;
+use items::Items;
+use std::alloc::Global;
+use std::collections::BTreeMap;
+
+/// A place, and the distance at which its arcs are to be followed. It counts for nothing once the place has
+/// a lesser distance.
+#[derive(Clone, Copy)]
+pub struct Visit {
+    pub place: u32,
+    pub distance: u64,
+}
+
+/// Buckets by their numbers.
+#[derive(Drop)]
+pub struct Buckets {
+    pub alloc: Global,
+    pub lists: BTreeMap<u64, Items<Visit>>,
+}
+
+impl Buckets {
+    /// No buckets.
+    pub fn new(alloc: Global) -> Buckets
+        ensures { HasNone result }
+    {
+        Buckets {
+            alloc,
+            lists: BTreeMap::new(alloc),
+        }
+    }
+
+    /// Puts a visit into a bucket.
+    pub fn put(&mut self, bucket: u64, visit: Visit) -> Result<(), NoMemory>
+        ensures { OnOk result (Puts bucket visit self.old self.new) }
+    {
+        let list = self.lists.entry(bucket)?.or_insert(Items::new(self.alloc));
+        list.push(visit)
+    }
+
+    /// Takes the first bucket out.
+    pub fn take_first(&mut self) -> Option<(u64, Vec<Visit>)>
+        ensures some { IfSome result (λ first. TakesFirst first.0 first.1.items self.old self.new) }
+        ensures none { IfNone result (HasNone self.old) }
+    {
+        let (bucket, list) = self.lists.pop_first()?;
+        Some((bucket, list.into_vec()))
+    }
+}

@@ -1,0 +1,119 @@
+//! A round along the arcs into each place that isn't reached, on several threads.
+
+ghost use Rattle.std.specs.Prelude.{◌≡◌, ℕ, ◌+◌, ◌<◌, [], length, OnOk};
+ghost use Rattle.graph_image.specs.Images.{AreWithin};
+ghost use Rattle.kernel_bfs.specs.Levels.{Spreads, HasNoneAbove, FromLevel};
+ghost use Rattle.kernel_bfs.specs.declared.levels.TheConstants.{UNREACHED};
+ghost use Rattle.fast_bfs.specs.PlaceSets.{HasPlaces, IsOfLevel, meets, distance_after, IsSwept};
+
+use crate::place_set::PlaceSet;
+use graph_image::{Arc, Image, NoMemory};
+use kernel_bfs::UNREACHED;
+use rayon::prelude::*;
+use std::thread::Threads;
+
+/// An image of fewer places isn't worth a thread.
+const SMALL: usize = 16384;
+
+/// Reaches each place into which an arc leads from the frontier, which is this set.
+pub fn bottom_up<R: Threads + Sync>(
+    rt: &R,
+    image: &Image,
+    level: u32,
+    frontier: &PlaceSet,
+    distances: &mut Vec<u32>,
+    next: &mut Vec<u32>,
+) -> Result<(), NoMemory>
+    requires level { level + 1 < UNREACHED }
+    requires count { length distances.old.items ≡ length image.now.vertices }
+    requires low { HasNoneAbove level distances.old.items }
+    requires room { HasPlaces (length image.now.vertices) frontier.now }
+    requires frontier { IsOfLevel level distances.old.items frontier.now }
+    requires none { next.old.items ≡ [] }
+    ensures { OnOk result (Spreads (FromLevel image.now distances.old.items level) (level + 1)
+        distances.old.items [] distances.new.items next.new.items) }
+{
+    sweep(rt, image, level, frontier, distances);
+    'reached: for place in 0..image.len() {
+        if distances[place] == level + 1 {
+            next.push(place as u32)?;
+        }
+    }
+    Ok(())
+}
+
+/// Gives each place without a distance the next one where an arc leads into it from the set.
+fn sweep<R: Threads + Sync>(
+    rt: &R,
+    image: &Image,
+    level: u32,
+    frontier: &PlaceSet,
+    distances: &mut Vec<u32>,
+)
+    requires level { level + 1 < UNREACHED }
+    requires count { length distances.old.items ≡ length image.now.vertices }
+    requires room { HasPlaces (length image.now.vertices) frontier.now }
+    ensures { IsSwept image.now frontier.now level distances.old.items distances.new.items }
+{
+    if image.len() < SMALL {
+        sweep_alone(image, level, frontier, distances);
+    } else {
+        sweep_together(rt, image, level, frontier, distances);
+    }
+}
+
+/// The same on one thread.
+fn sweep_alone(image: &Image, level: u32, frontier: &PlaceSet, distances: &mut Vec<u32>)
+    requires level { level + 1 < UNREACHED }
+    requires count { length distances.old.items ≡ length image.now.vertices }
+    requires room { HasPlaces (length image.now.vertices) frontier.now }
+    ensures { IsSwept image.now frontier.now level distances.old.items distances.new.items }
+{
+    'places: for place in 0..image.len() {
+        if distances[place] == UNREACHED && meets(image.into(place), image.len(), frontier) {
+            distances[place] = level + 1;
+        }
+    }
+}
+
+/// The same on several threads.
+fn sweep_together<R: Threads + Sync>(
+    rt: &R,
+    image: &Image,
+    level: u32,
+    frontier: &PlaceSet,
+    distances: &mut Vec<u32>,
+)
+    requires level { level + 1 < UNREACHED }
+    requires count { length distances.old.items ≡ length image.now.vertices }
+    requires room { HasPlaces (length image.now.vertices) frontier.now }
+    ensures { IsSwept image.now frontier.now level distances.old.items distances.new.items }
+{
+    par_for_each_mut(
+        rt,
+        distances.as_mut_slice(),
+        |place: usize, distance: &mut u32|
+            requires { (place < length image.now.vertices) × (level + 1 < UNREACHED)
+                × HasPlaces (length image.now.vertices) frontier.now }
+            ensures { distance.new ≡ distance_after image.entry.now frontier.entry.now level place distance.old }
+        {
+            if *distance == UNREACHED && meets(image.into(place), image.len(), frontier) {
+                *distance = level + 1;
+            }
+        },
+    );
+}
+
+/// Whether the other end of one of the arcs is in the set.
+fn meets(arcs: &[Arc], count: usize, set: &PlaceSet) -> bool
+    requires within { AreWithin count arcs.now }
+    requires room { HasPlaces count set.now }
+    ensures { result ≡ meets set.now arcs.now }
+{
+    'arcs: for i in 0..arcs.len() {
+        if set.contains(arcs[i].other) {
+            return true;
+        }
+    }
+    false
+}

@@ -1,0 +1,92 @@
+//! The search from level to level.
+
+ghost use Rattle.std.specs.Prelude.{◌≡◌, ℕ, ◌+◌, ◌<◌, [], length, slice_get, Some, IfOk, OnOk};
+ghost use Rattle.graph_model.specs.Graph.{Graph};
+ghost use Rattle.graph_image.specs.Images.{IsImageOf, Leads};
+ghost use Rattle.kernel_bfs.specs.Levels.{Spreads, Advances, FromArc, HasNoneAbove, IsFrontier, IsSearched};
+ghost use Rattle.kernel_bfs.specs.declared.levels.TheConstants.{UNREACHED};
+ghost use Rattle.fast_bfs.specs.PlaceSets.{HasPlaces};
+
+use crate::arcs_into::bottom_up;
+use crate::place_set::PlaceSet;
+use graph_image::{Image, NoMemory};
+use kernel_bfs::{UNREACHED, top_down};
+use std::alloc::Global;
+use std::mem;
+use std::thread::Threads;
+
+/// A frontier of more than one place in so many is large.
+const LARGE: usize = 20;
+
+/// The distance of each place from the root's.
+pub fn search<R: Threads + Sync>(
+    rt: &R,
+    alloc: Global,
+    image: &Image,
+    root: usize,
+) -> Result<Vec<u32>, NoMemory>
+    requires { root < length image.now.vertices }
+    ensures count { IfOk result (λ distances. length distances.items ≡ length image.now.vertices) }
+    ensures searched { IfOk result (λ distances. (g : Graph) → IsImageOf image.now g
+        → IsSearched (Leads g image.now.vertices) root distances.items) }
+{
+    let count = image.len();
+    let mut distances = vec![in alloc; UNREACHED; count]?;
+    let mut frontier = Vec::with_capacity(alloc, count)?;
+    let mut next = Vec::with_capacity(alloc, count)?;
+    let mut set = PlaceSet::new(alloc, count)?;
+    distances[root] = 0;
+    frontier.push(root as u32)?;
+    'levels: for level in 0..count as u32 - 1 {
+        next.clear();
+        round(
+            rt,
+            image,
+            level,
+            &frontier,
+            &mut set,
+            &mut distances,
+            &mut next,
+        )?;
+        if next.is_empty() {
+            return Ok(distances);
+        }
+        mem::swap(&mut frontier, &mut next);
+    }
+    Ok(distances)
+}
+
+/// A round: bottom-up where the frontier is large, else top-down.
+fn round<R: Threads + Sync>(
+    rt: &R,
+    image: &Image,
+    level: u32,
+    frontier: &Vec<u32>,
+    set: &mut PlaceSet,
+    distances: &mut Vec<u32>,
+    next: &mut Vec<u32>,
+) -> Result<(), NoMemory>
+    requires level { level + 1 < UNREACHED }
+    requires count { length distances.old.items ≡ length image.now.vertices }
+    requires low { HasNoneAbove level distances.old.items }
+    requires room { HasPlaces (length image.now.vertices) set.old }
+    requires frontier { IsFrontier level distances.old.items frontier.now.items }
+    requires none { next.old.items ≡ [] }
+    ensures room { HasPlaces (length image.now.vertices) set.new }
+    ensures advances { OnOk result (Advances (level + 1) distances.old.items distances.new.items next.new.items) }
+    ensures spreads { OnOk result ((g : Graph) → IsImageOf image.now g
+        → Spreads (FromArc g image.now.vertices distances.old.items level) (level + 1)
+        distances.old.items [] distances.new.items next.new.items) }
+{
+    if is_large(frontier.len(), image.len()) {
+        set.set_to(image.len(), frontier.as_slice());
+        bottom_up(rt, image, level, set, distances, next)
+    } else {
+        top_down(image, level, frontier, distances, next)
+    }
+}
+
+/// Whether a frontier of so many of the places is worth looking at all of them.
+fn is_large(frontier: usize, places: usize) -> bool {
+    frontier > places / LARGE
+}
