@@ -10,6 +10,7 @@ ghost use Rattle.leaf_store.specs.Changes.{AreFilled, AreNew, AreRising, Changes
 ghost use Rattle.undo_chain.specs.States.{Grows};
 ghost use Rattle.version_segment.specs.Checks.{AreNamedRows};
 
+use crate::place::place_of;
 use graph_model::{Key, NoMemory, Row, TxnName};
 use leaf_array::Leaf;
 use leaf_index::LeafIndex;
@@ -67,7 +68,7 @@ impl LeafStore {
         ensures there { KeysHaveCells self.now }
         ensures apart { CellsAreApart self.now }
     {
-        unreachable!()
+        self.index.leaves()
     }
 
     /// Lends the cell whose fence keys hold the key.
@@ -77,7 +78,11 @@ impl LeafStore {
         ensures holds { is_between result.now.low result.now.high key ≡ true }
         ensures same { (q : Key) → is_between result.now.low result.now.high q ≡ true → cell_at self.now q ≡ result.now }
     {
-        unreachable!()
+        let place = place_of(&self.index, key);
+        match &self.leaves[place.leaf] {
+            Some(leaf) => &leaf.segments[place.segment],
+            None => unreachable!(),
+        }
     }
 
     /// Makes room in the key's cell for four writes or touches.
@@ -98,7 +103,15 @@ impl LeafStore {
         ensures written { ChangesVersions self.old self.new key (written by value (versions_of self.old key)) }
         ensures spare { UsesOneRecord self.old self.new }
     {
-        unreachable!()
+        let place = place_of(&self.index, key);
+        match &mut self.leaves[place.leaf] {
+            Some(leaf) => {
+                let segment = &mut leaf.segments[place.segment];
+                segment.write(key, value, by);
+                let _rows = segment.len();
+            }
+            None => unreachable!(),
+        }
     }
 
     /// Takes the newest write of a row back, if there is one.

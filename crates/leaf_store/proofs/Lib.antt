@@ -1,0 +1,5 @@
+pub mod ListLemmas
+pub mod CellLemmas
+pub mod StoreLemmas
+pub mod TableLemmas
+pub mod ChangeLemmas
