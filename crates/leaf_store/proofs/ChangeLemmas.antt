@@ -7,9 +7,13 @@ use Rattle.std.specs.declared.alloc.Global.{Global}
 use Rattle.std.proofs.Math.ListN.{length-set}
 use Rattle.std.proofs.lemmas.Option.{slice_get_read}
 use Rattle.graph_model.specs.declared.row.Key.{Key}
-use Rattle.graph_model.specs.Rows.{is_below, end_key}
+use Rattle.std.specs.List.{AllByRecursion}
+use Rattle.graph_model.specs.declared.limits.TheConstants.{SEGMENT_ROWS}
+use Rattle.graph_model.specs.Rows.{is_below, is_between, end_key}
 use Rattle.graph_model.proofs.PlaceLemmas.{some_eq}
-use Rattle.version_segment.specs.Rows.{VersionedRows, IsSegment, IsSameSegment, ChangesKey, versions_at}
+use Rattle.version_segment.specs.Keyed.{RisesBy}
+use Rattle.version_segment.specs.Rows.{VersionedRows, IsSegment, IsSameSegment, ChangesKey, PrunesRows, all_records, is_nothing, versions_at}
+use Rattle.graph_model.specs.declared.journal.TxnName.{TxnName}
 use Rattle.store_model.specs.Stamped.{StampedVersions}
 use Rattle.leaf_array.specs.declared.leaf.Leaf.{Leaf}
 use Rattle.leaf_array.specs.Segments.{lows_of, low_or, high_or, AreChained}
@@ -17,12 +21,13 @@ use Rattle.leaf_array.proofs.LeafLemmas.{Follow, follow-of, follow-chained, own-
 use Rattle.leaf_array.proofs.PairLemmas.{high-append}
 use Rattle.leaf_index.specs.Index.{Index, Entry, HaveCuts, end_of}
 use Rattle.leaf_store.specs.declared.place.Place.{Place}
+use Rattle.leaf_store.specs.declared.store.Pruned.{Pruned}
 use Rattle.leaf_store.specs.Leaves.{Part, Leaves, AreLeaves, cell_at, versions_of, spare_at}
-use Rattle.leaf_store.specs.Changes.{ChangesCell, ChangesVersions, KeepsCells}
+use Rattle.leaf_store.specs.Changes.{ChangesCell, ChangesVersions, KeepsCells, PrunesCell}
 use Rattle.leaf_store.specs.Table.{IsKept, IsTied, AreTied, IsPlace, segments_or_none, segments_at, part_of, leaves_of}
 use Rattle.leaf_store.proofs.CellLemmas.{AreSound, holds, follow_middle, sound_middle}
 use Rattle.leaf_store.proofs.ListLemmas.{set_between, get_set_same}
-use Rattle.leaf_store.proofs.StoreLemmas.{OtherCell, old_cell, changes_cell, spare_kept}
+use Rattle.leaf_store.proofs.StoreLemmas.{OtherCell, old_cell, new_cell, changes_cell, spare_kept, keeps_cells}
 use Rattle.leaf_store.proofs.TableLemmas.{Table, Located, KeepsOthers, OtherLeaves, kept_leaves, located, one_entry, others_kept, parts_append, parts_kept, tied_at, tied_front, tied_kept}
 
 -- ---- the memory of a leaf
@@ -222,3 +227,33 @@ module _ (index : Index) (table new : Table) (old : Leaves) (key : Key) (c d : V
   -- the versions of the key are changed in its cell
   pub only_versions : (change : StampedVersions → StampedVersions) → ChangesKey c d key (change (versions_at c key)) → ChangesVersions old (leaves_of index new) key (change (versions_of old key))
   only_versions change changes = (d, only_cell, subst (λ x. ChangesKey x d key (change (versions_at x key))) (sym same_cell) changes)
+
+  pub no_spare_used : c.spare ≤ d.spare → (q : Key) → spare_at old q ≤ spare_at (leaves_of index new) q
+  no_spare_used le q = omega (arith, only_spare 0 (omega (arith, le)) q)
+
+  pub only_room : IsSameSegment c d → KeepsCells old (leaves_of index new)
+  only_room same = keeps_cells old (leaves_of index new) c d changed.other are (kept_leaves index new changed.kept) same
+
+  -- the key's cell now
+  pub cell_now : cell_at (leaves_of index new) key ≡ d
+  cell_now = new_cell old (leaves_of index new) c d changed.other are key (kept_leaves index new changed.kept) changed.held
+
+  pub only_pruned : (stamps : TxnName → Option ℕ) (horizon : ℕ) (pruned : Pruned) → PrunesRows stamps horizon c d → pruned.records + all_records d.rows ≡ all_records c.rows → pruned.high ≡ c.high → PrunesCell stamps horizon old (leaves_of index new) key pruned
+  only_pruned stamps horizon pruned prunes went high = record {
+    cell = d;
+    changes = only_cell;
+    prunes = subst (λ x. PrunesRows stamps horizon x d) (sym same_cell) prunes;
+    went = went ∙ sym (ap (λ x. all_records x.rows) same_cell);
+    high = high ∙ sym (ap (λ x. x.high) same_cell);
+  }
+
+-- a segment of which only the room for records has changed is sound
+pub same_sound : (c d : VersionedRows) → IsSegment c → IsSameSegment c d → IsSegment d
+same_sound c d sound same = record {
+  fences = ap₂ is_below same.high same.low ∙ sound.fences;
+  rising = subst (RisesBy (λ row. row.0)) (sym same.rows) sound.rising;
+  within = subst (λ rows. AllByRecursion (λ row. is_between d.low d.high row.0 ≡ true) rows) (sym same.rows)
+      (subst (λ k. AllByRecursion (λ row. is_between k d.high row.0 ≡ true) c.rows) (sym same.low) (subst (λ k. AllByRecursion (λ row. is_between c.low k row.0 ≡ true) c.rows) (sym same.high) sound.within));
+  something = subst (AllByRecursion (λ row. is_nothing row.1 ≡ false)) (sym same.rows) sound.something;
+  small = subst (λ rows. length rows ≤ SEGMENT_ROWS) (sym same.rows) sound.small;
+}

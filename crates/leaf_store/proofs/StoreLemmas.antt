@@ -12,13 +12,13 @@ use Rattle.std.proofs.lemmas.List.Sums.{sum-map, sum_by-append, sum_by-cons}
 use Rattle.graph_model.specs.declared.limits.TheConstants.{SEGMENT_ROWS, SPLIT_ROWS}
 use Rattle.graph_model.specs.declared.row.Key.{Key}
 use Rattle.graph_model.specs.Rows.{key_cmp, is_below, is_between, first_key, end_key}
-use Rattle.version_segment.specs.Rows.{VersionedRows, IsSegment, ChangesKey, or_nothing, versions_at}
+use Rattle.version_segment.specs.Rows.{VersionedRows, IsSegment, IsSameSegment, ChangesKey, or_nothing, versions_at}
 use Rattle.store_model.specs.Stamped.{StampedVersions}
 use Rattle.leaf_array.specs.Segments.{rows_of, low_or, high_or, AreChained}
 use Rattle.leaf_array.proofs.LeafLemmas.{Follow, follow-of}
 use Rattle.leaf_array.proofs.PairLemmas.{rows-append}
 use Rattle.leaf_store.specs.Leaves.{Part, Leaves, AreLeaves, KeysHaveCells, CellsAreApart, cells_of, cell_in, cell_at, shares, versions_of, spare_at, weight_of_part, weight}
-use Rattle.leaf_store.specs.Changes.{ChangesCell, ChangesVersions}
+use Rattle.leaf_store.specs.Changes.{ChangesCell, ChangesVersions, KeepsCells}
 use Rattle.leaf_store.proofs.CellLemmas.{AreSound, holds, covered, apart, cell_here, cell_beside, versions_found}
 
 -- ---- keys
@@ -127,7 +127,7 @@ module _ (old new : Leaves) (c d : VersionedRows) (o : OtherCell old new c d) (a
   same_fences : (q : Key) → holds d q ≡ holds c q
   same_fences q = ap₂ (λ l h. is_between l h q) o.low o.high
 
-  new_cell : (q : Key) → AreLeaves new → holds c q ≡ true → cell_at new q ≡ d
+  pub new_cell : (q : Key) → AreLeaves new → holds c q ≡ true → cell_at new q ≡ d
   new_cell q then held =
       ap (λ cs. cell_in cs q) new_is
       ∙ cell_here first_key q (cells_in o.before ++ o.xs) d (o.ys ++ cells_in o.behind) (subst (Follow first_key) new_is (cells_follow new then)) (subst AreSound new_is then.segments) (same_fences q ∙ held)
@@ -169,3 +169,23 @@ module _ (old new : Leaves) (c d : VersionedRows) (o : OtherCell old new c d) (a
       by_test : (t : Bool) → holds c q ≡ t → spare_at old q ≤ spare_at new q + used
       by_test true h = let one = ap (λ x. x.spare) (old_cell q h) in let two = ap (λ x. x.spare) (new_cell q then h) in omega (arith, one, two, le)
       by_test false h = let one = ap (λ x. x.spare) (other_cell q h) in omega (arith, one)
+
+  -- where the same rows are in the cell only its room for records has changed
+  pub keeps_cells : AreLeaves new → IsSameSegment c d → KeepsCells old new
+  keeps_cells then same = record {
+    cells = λ q. by_test q (holds c q) refl;
+    limit = o.limit;
+    free = o.free;
+    retired = o.retired;
+    weight =
+        let old_weight = ap weight_in o.old_parts ∙ parts_weight o.was c o.old_cells in
+        let new_weight = ap weight_in o.new_parts ∙ parts_weight o.is d o.new_cells in
+        let rows = ap length same.rows in
+        omega (arith, rows, old_weight, new_weight, idle_weight);
+  }
+    where
+      by_test : (q : Key) (t : Bool) → holds c q ≡ t → IsSameSegment (cell_at old q) (cell_at new q)
+      by_test q true h = subst (λ x. IsSameSegment x (cell_at new q)) (sym (old_cell q h)) (subst (IsSameSegment c) (sym (new_cell q then h)) same)
+      by_test q false h =
+          let one = other_cell q h in
+          record { low = ap (λ x. x.low) one; high = ap (λ x. x.high) one; rows = ap (λ x. x.rows) one }

@@ -6,6 +6,7 @@
 //! 3. A spread and a split keep each key's versions. Memory is taken before anything moves.
 #![tactic(auto)]
 
+mod change;
 mod place;
 mod store;
 

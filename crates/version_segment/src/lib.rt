@@ -11,6 +11,7 @@ mod checks;
 mod found;
 mod heads;
 mod laws;
+mod lookup;
 mod moves;
 mod segment;
 
