@@ -171,22 +171,37 @@ second_part q (x ∷ xs) ys out = elim (holds x q) as (λ t. holds x q ≡ t →
       | false ↦ λ e h. second_part q xs ys h
     ] refl out
 
--- where others stand between, a key has the cell that it had, or one of them
+-- a key that is held between the others has its cell there
+pub middle_part : (key q : Key) (xs ns ys : List VersionedRows) → Follow key (xs ++ (ns ++ ys)) → AreSound (xs ++ (ns ++ ys)) → holds (cell_in ns q) q ≡ true → cell_in (xs ++ (ns ++ ys)) q ≡ cell_in ns q
+middle_part key q [] ns ys follow sound held = first_part q ns ys held
+middle_part key q (x ∷ xs) ns ys follow sound held =
+    let rest = middle_part x.high q xs ns ys follow.1 sound.1 held in
+    let from = held_from x.high q q (xs ++ (ns ++ ys)) follow.1 sound.1 (subst (λ d. holds d q ≡ true) (sym rest) held) in
+    ap (λ t. cond t x (cell_in (xs ++ (ns ++ ys)) q)) (above_holds_not x.low x.high q from) ∙ rest
+
+-- both have a key between them, or neither has
+pub held_in_both : (cut q : Key) (ms ns : List VersionedRows) → Follow cut ms → Follow cut ns → AreSound ms → ((other : Key) → high_or ns other ≡ high_or ms other) → holds (cell_in ms q) q ≡ true → holds (cell_in ns q) q ≡ true
+held_in_both cut q ms ns follow_m follow_n sound high held =
+    covered cut q ns follow_n (held_from cut q q ms follow_m sound held) (subst (λ k. is_below q k ≡ true) (sym (high cut)) (held_until cut q q ms follow_m sound held))
+
+held_in_neither : (t : Bool) (cut q : Key) (ms ns : List VersionedRows) → Follow cut ms → Follow cut ns → AreSound ms → ((other : Key) → high_or ns other ≡ high_or ms other) → holds (cell_in ms q) q ≡ t → holds (cell_in ns q) q ≡ false → holds (cell_in ms q) q ≡ false
+held_in_neither true cut q ms ns follow_m follow_n sound high held out = clash _ (held_in_both cut q ms ns follow_m follow_n sound high held) out
+held_in_neither false cut q ms ns follow_m follow_n sound high held out = held
+
+-- where others stand between, a key has the cell that it had, or one of them in place of one of those
 pub moved_cell : (key q : Key) (xs ms ns ys : List VersionedRows) → Follow (high_or xs key) ms → Follow (high_or xs key) ns → AreSound ms → AreSound ns → ((other : Key) → high_or ns other ≡ high_or ms other)
-    → (cell_in (xs ++ (ns ++ ys)) q ≡ cell_in (xs ++ (ms ++ ys)) q) ⊎ (cell_in (xs ++ (ns ++ ys)) q ≡ cell_in ns q)
+    → (cell_in (xs ++ (ns ++ ys)) q ≡ cell_in (xs ++ (ms ++ ys)) q) ⊎ ((cell_in (xs ++ (ns ++ ys)) q ≡ cell_in ns q) × (cell_in (xs ++ (ms ++ ys)) q ≡ cell_in ms q))
 moved_cell key q [] ms ns ys follow_m follow_n sound_m sound_n high = by_test (holds (cell_in ns q) q) refl
   where
-    not_held : (t : Bool) → holds (cell_in ms q) q ≡ t → holds (cell_in ns q) q ≡ false → holds (cell_in ms q) q ≡ false
-    not_held true h out = clash _ (covered key q ns follow_n (held_from key q q ms follow_m sound_m h) (subst (λ k. is_below q k ≡ true) (sym (high key)) (held_until key q q ms follow_m sound_m h))) out
-    not_held false h out = h
-
-    by_test : (t : Bool) → holds (cell_in ns q) q ≡ t → (cell_in (ns ++ ys) q ≡ cell_in (ms ++ ys) q) ⊎ (cell_in (ns ++ ys) q ≡ cell_in ns q)
-    by_test true h = inr (first_part q ns ys h)
-    by_test false h = inl (second_part q ns ys h ∙ sym (second_part q ms ys (not_held _ refl h)))
-moved_cell key q (x ∷ xs) ms ns ys follow_m follow_n sound_m sound_n high = elim (holds x q) as (λ t. (cell_in (xs ++ (ns ++ ys)) q ≡ cell_in (xs ++ (ms ++ ys)) q) ⊎ (cell_in (xs ++ (ns ++ ys)) q ≡ cell_in ns q) → (cond t x (cell_in (xs ++ (ns ++ ys)) q) ≡ cond t x (cell_in (xs ++ (ms ++ ys)) q)) ⊎ (cond t x (cell_in (xs ++ (ns ++ ys)) q) ≡ cell_in ns q)) [
-      | true ↦ λ h. inl refl
-      | false ↦ λ h. h
-    ] (moved_cell x.high q xs ms ns ys follow_m follow_n sound_m sound_n high)
+    by_test : (t : Bool) → holds (cell_in ns q) q ≡ t → (cell_in (ns ++ ys) q ≡ cell_in (ms ++ ys) q) ⊎ ((cell_in (ns ++ ys) q ≡ cell_in ns q) × (cell_in (ms ++ ys) q ≡ cell_in ms q))
+    by_test true h = inr (first_part q ns ys h, first_part q ms ys (held_in_both key q ns ms follow_n follow_m sound_n (λ other. sym (high other)) h))
+    by_test false h = inl (second_part q ns ys h ∙ sym (second_part q ms ys (held_in_neither _ key q ms ns follow_m follow_n sound_m high refl h)))
+moved_cell key q (x ∷ xs) ms ns ys follow_m follow_n sound_m sound_n high = by_test (holds x q) (moved_cell x.high q xs ms ns ys follow_m follow_n sound_m sound_n high)
+  where
+    by_test : (t : Bool) → (cell_in (xs ++ (ns ++ ys)) q ≡ cell_in (xs ++ (ms ++ ys)) q) ⊎ ((cell_in (xs ++ (ns ++ ys)) q ≡ cell_in ns q) × (cell_in (xs ++ (ms ++ ys)) q ≡ cell_in ms q))
+        → (cond t x (cell_in (xs ++ (ns ++ ys)) q) ≡ cond t x (cell_in (xs ++ (ms ++ ys)) q)) ⊎ ((cond t x (cell_in (xs ++ (ns ++ ys)) q) ≡ cell_in ns q) × (cond t x (cell_in (xs ++ (ms ++ ys)) q) ≡ cell_in ms q))
+    by_test true h = inl refl
+    by_test false h = h
 
 -- a cell among these has at most as many rows as each of them
 pub few_in : (most : ℕ) (q : Key) (cs : List VersionedRows) → AllByRecursion (λ c. length c.rows ≤ most) cs → length (cell_in cs q).rows ≤ most

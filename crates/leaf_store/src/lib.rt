@@ -7,7 +7,9 @@
 #![tactic(auto)]
 
 mod change;
+mod look;
 mod place;
 mod store;
+mod table;
 
 pub use store::{LeafStore, Pruned};

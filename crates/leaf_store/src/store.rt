@@ -7,7 +7,9 @@ ghost use Rattle.graph_model.specs.Rows.{is_below, is_between, end_key};
 ghost use Rattle.leaf_store.specs.Leaves.{AreLeaves, CellsAreApart, KeysHaveCells, cell_at, room_at};
 ghost use Rattle.leaf_store.specs.Changes.{AreFilled, AreNew, AreRising, IsFillRefusal, IsRoomRefusal, MovesRows};
 
+use crate::look::cuts_of;
 use crate::place::place_of;
+use crate::table::{empty_table, put_leaf};
 use graph_model::{Key, NoMemory, Row};
 use leaf_array::Leaf;
 use leaf_index::LeafIndex;
@@ -42,7 +44,18 @@ impl LeafStore {
         requires few { leaves ≤ MAX_LEAVES }
         ensures { IfOk result (λ s. AreNew leaves s) }
     {
-        unreachable!()
+        let index = LeafIndex::new(alloc, leaves)?;
+        let _leaves = index.leaves();
+        let first = Leaf::new(alloc, Key { src: 0, second: 0 }, Key::END)?;
+        let _cuts = cuts_of(&first);
+        let memory = Box::new(alloc, first)?;
+        let mut table = empty_table(alloc, leaves)?;
+        put_leaf(&mut table, 0, memory);
+        Ok(LeafStore {
+            alloc,
+            index,
+            leaves: table,
+        })
     }
 
     /// Rows of the first transaction, in rising order of their keys, each of them settled. As many as the density
