@@ -6,3 +6,4 @@ pub mod ChangeLemmas
 pub mod LookLemmas
 pub mod NewLemmas
 pub mod MoveLemmas
+pub mod RoomLemmas

@@ -9,6 +9,7 @@
 mod change;
 mod look;
 mod place;
+mod room;
 mod store;
 mod table;
 

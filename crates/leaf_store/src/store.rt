@@ -93,20 +93,6 @@ impl LeafStore {
             None => unreachable!(),
         }
     }
-
-    /// Makes room for so many rows in the key's cell: spreads the smallest window that has room for them, else splits
-    /// the leaf.
-    pub fn make_room(&mut self, key: Key, need: u8) -> Result<(), RoomRefusal>
-        requires within { is_below key end_key ≡ true }
-        requires some { 1 ≤ need }
-        requires few { need ≤ 2 }
-        requires short { room_at self.old key < need }
-        ensures ok { OnOk result (need ≤ room_at self.new key) }
-        ensures moved { MovesRows self.old self.new }
-        ensures refused { IfErr result (λ refusal. IsRoomRefusal self.old key need refusal self.new) }
-    {
-        unreachable!()
-    }
 }
 
 /// What a prune of a cell took away, and where the cell ends.
