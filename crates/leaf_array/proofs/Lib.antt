@@ -5,3 +5,4 @@ pub mod LeafLemmas
 pub mod PairLemmas
 pub mod MergeLemmas
 pub mod NewLeafLemmas
+pub mod RowLemmas

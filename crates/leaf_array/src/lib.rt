@@ -9,8 +9,10 @@ mod counting;
 mod leaf;
 mod neighbours;
 mod pairs;
+mod rows;
 mod window;
 
 pub use leaf::Leaf;
 pub use pairs::{merge_leaves, split_leaf};
+pub use rows::split_key;
 pub use window::spread;
