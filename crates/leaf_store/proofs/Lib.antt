@@ -7,3 +7,5 @@ pub mod LookLemmas
 pub mod NewLemmas
 pub mod MoveLemmas
 pub mod RoomLemmas
+pub mod RangeLemmas
+pub mod KeyLemmas

@@ -9,7 +9,9 @@
 mod change;
 mod look;
 mod place;
+mod range;
 mod room;
+mod split;
 mod store;
 mod table;
 
