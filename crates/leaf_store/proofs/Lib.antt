@@ -9,3 +9,5 @@ pub mod MoveLemmas
 pub mod RoomLemmas
 pub mod RangeLemmas
 pub mod KeyLemmas
+pub mod SplitLemmas
+pub mod HalfLemmas

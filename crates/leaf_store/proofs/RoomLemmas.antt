@@ -146,7 +146,8 @@ module _ (index : Index) (table : Table) (leaf : ℕ) (ss : List VersionedRows) 
 
 -- ---- which window
 
-count_rows : (ss : List VersionedRows) → sum (counts_of ss) ≡ length (rows_of ss)
+-- rows are counted segment by segment
+pub count_rows : (ss : List VersionedRows) → sum (counts_of ss) ≡ length (rows_of ss)
 count_rows [] = refl
 count_rows (s ∷ ss) = omega (arith, sum_by-cons (λ (n : ℕ). n) (length s.rows) (counts_of ss), count_rows ss, length-append s.rows (rows_of ss))
 

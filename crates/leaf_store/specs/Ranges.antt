@@ -12,6 +12,8 @@ use Rattle.std.specs.declared.alloc.Global.{Global}
 use Rattle.version_segment.specs.Rows.{IsSegment}
 use Rattle.leaf_array.specs.declared.leaf.Leaf.{Leaf}
 use Rattle.leaf_array.specs.Segments.{AreSame}
+use Rattle.txn_manager.specs.declared.config.RoomRefusal.{RoomRefusal}
+use Rattle.txn_manager.specs.declared.config.RoomRefusal.TheVariants as refusals
 use Rattle.leaf_store.specs.Table.{IsTied, segments_at}
 
 -- the entry that begins at the low key has these cuts, and the other key is within its range
@@ -85,3 +87,10 @@ pub record KeepsLeaves (table table' : List (Option (Box Leaf Global))) (leaf : 
   pub same : AreSame (segments_at table leaf) (segments_at table' leaf)
   pub others : (n : ℕ) → n ≢ leaf → segments_at table' n ≡ segments_at table n
   pub count : length table' ≡ length table
+
+-- no leaf is free, and all is as it was; or memory is wanted
+abbrev pub IsOutOfLeaves : RoomRefusal → Index → Index
+    → List (Option (Box Leaf Global)) → List (Option (Box Leaf Global)) → Type 0
+IsOutOfLeaves (refusals.Full leaves) old new table table' =
+    (leaves ≡ old.leaves) × (old.free ≡ []) × (new ≡ old) × (table' ≡ table)
+IsOutOfLeaves refusals.NoMemory old new table table' = Unit {0}

@@ -11,15 +11,18 @@ ghost use Rattle.leaf_array.specs.Leaves.{IsLeaf, window_of};
 ghost use Rattle.leaf_array.specs.Segments.{counts_of, rows_of};
 ghost use Rattle.leaf_store.specs.Leaves.{room_at};
 ghost use Rattle.leaf_store.specs.Changes.{IsRoomRefusal, MovesRows};
+ghost use Rattle.leaf_store.specs.Ranges.{IsOutOfLeaves};
 ghost use Rattle.leaf_store.specs.Table.{IsKept, IsPlace, leaves_of, segments_at};
 
 use crate::look::{counts_of, cuts_of};
 use crate::place::{Place, place_of};
+use crate::split::split_with;
 use crate::store::LeafStore;
 use density_tree::{Window, window_for_insert};
 use graph_model::{Key, NoMemory};
 use leaf_array::{Leaf, spread};
 use leaf_index::LeafIndex;
+use std::alloc::Global;
 use txn_manager::RoomRefusal;
 
 impl LeafStore {
@@ -40,7 +43,7 @@ impl LeafStore {
                 spread_window(&mut self.index, &mut self.leaves, place, window)?;
                 Ok(())
             }
-            None => unreachable!(),
+            None => split_at(&mut self.index, &mut self.leaves, self.alloc, place),
         }
     }
 }
@@ -86,5 +89,38 @@ fn spread_window(
             Ok(())
         }
         None => unreachable!(),
+    }
+}
+
+/// Splits the leaf at the place, in which no window has room. Where no leaf is free nothing happens.
+fn split_at(
+    index: &mut LeafIndex,
+    leaves: &mut Vec<Option<Box<Leaf>>>,
+    alloc: Global,
+    place: Place,
+) -> Result<(), RoomRefusal>
+    requires kept { IsKept index.old leaves.old.items }
+    requires place { (key : Key) × IsPlace key index.old.entries place × (is_below key end_key ≡ true) }
+    requires many { 207 ≤ length (rows_of (segments_at leaves.old.items place.leaf)) }
+    ensures ok { OnOk result ((key : Key) → IsPlace key index.old.entries place → is_below key end_key ≡ true
+        → 2 ≤ room_at (leaves_of index.new leaves.new.items) key) }
+    ensures kept { IsKept index.new leaves.new.items }
+    ensures moved { MovesRows (leaves_of index.old leaves.old.items) (leaves_of index.new leaves.new.items) }
+    ensures refused { IfErr result (λ refusal.
+        IsOutOfLeaves refusal index.old index.new leaves.old.items leaves.new.items) }
+{
+    let Some(leaf) = index.take_free() else {
+        let leaves = index.leaves();
+        return Err(RoomRefusal::Full { leaves });
+    };
+    match split_with(index, leaves, alloc, place.leaf, leaf) {
+        Ok(()) => {
+            let _leaves = index.leaves();
+            Ok(())
+        }
+        Err(_) => {
+            index.give_back(leaf);
+            Err(RoomRefusal::NoMemory)
+        }
     }
 }
