@@ -8,6 +8,7 @@
 
 mod buffer;
 mod checks;
+mod fill;
 mod found;
 mod heads;
 mod laws;
