@@ -4,6 +4,7 @@
 //! 2. The block is taken when a segment is made. No other call takes memory, and none can fail.
 #![tactic(auto)]
 
+mod fill;
 mod segment;
 
 pub use segment::Segment;

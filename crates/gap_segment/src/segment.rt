@@ -16,9 +16,9 @@ use std::marker::Model;
 /// At most 32 rows between a low fence key, which a row may have, and a high one, which none has.
 #[derive(Drop)]
 pub struct Segment {
-    low: Key,
-    high: Key,
-    rows: Vec<Row>,
+    pub(crate) low: Key,
+    pub(crate) high: Key,
+    pub(crate) rows: Vec<Row>,
 }
 
 impl Model for Segment {
@@ -234,7 +234,7 @@ fn take_rows(left: &mut Vec<Row>, right: &mut Vec<Row>, count: usize)
 }
 
 /// Puts the rows at the end, within the vector's room.
-fn copy_rows(rows: &mut Vec<Row>, more: &[Row])
+pub(crate) fn copy_rows(rows: &mut Vec<Row>, more: &[Row])
     requires { length rows.old.items + length more.now ≤ vec_capacity rows.old }
     ensures rows { rows.new.items ≡ rows.old.items ++ more.now }
     ensures capacity { vec_capacity rows.old ≤ vec_capacity rows.new }

@@ -7,3 +7,4 @@ pub mod MergeLemmas
 pub mod NewLeafLemmas
 mod EightLemmas
 pub mod StayLemmas
+pub mod RowLemmas

@@ -1,13 +1,17 @@
 -- Segments that change places between two leaves.
-use Rattle.std.proofs.Common.{ap₂, ℕ, zero, suc, ◌≡◌, ◌+◌, ◌*◌, ◌/◌, ◌≤◌, List, [], ◌∷◌, ◌++◌, length, take, drop, sum, get_or, refl, sym, ap, ◌∙◌, subst, arith}
+use Rattle.std.proofs.Common.{ap₂, ℕ, zero, suc, ◌≡◌, ◌+◌, ◌-◌, ◌*◌, ◌/◌, ◌%◌, ◌<◌, ◌≤◌, cond, nat_lt, slice_get, IsSomeAnd, List, [], ◌∷◌, ◌++◌, length, take, drop, sum, get_or, refl, sym, ap, ◌∙◌, subst, arith}
+use Rattle.std.proofs.Math.Nat.{div-add-mod}
+use Rattle.std.proofs.lemmas.Bool.Decides.{nat_tests}
+use Rattle.std.specs.List.{AllByRecursion}
 use Rattle.std.proofs.Math.Seq.{take-append_seam, drop-append_seam}
 use Rattle.std.proofs.lemmas.List.{append_assoc, append-nil, length-append, take-append-drop}
 use Rattle.std.proofs.lemmas.List.Sums.{sum_by-cons}
 use Rattle.density_tree.proofs.DivisionLemmas.{shares_are_all}
 use Rattle.graph_model.specs.declared.row.Key.{Key}
-use Rattle.version_segment.specs.Rows.{VersionedRows, all_records}
-use Rattle.density_tree.specs.Division.{evenly}
-use Rattle.leaf_array.specs.Segments.{rows_of, records_of, counts_of, low_or, high_or, AreChained, AreSame, HaveRoom, UseRoom, KeepsRows, IsDivided}
+use Rattle.version_segment.specs.Rows.{VersionedRows, all_records, first_key_of}
+use Rattle.store_model.specs.Stamped.{StampedVersions}
+use Rattle.density_tree.specs.Division.{evenly, share_of}
+use Rattle.leaf_array.specs.Segments.{rows_of, records_of, counts_of, low_or, high_or, AreChained, AreSame, BeginsAtRow, HaveRoom, UseRoom, KeepsRows, IsDivided}
 use Rattle.leaf_array.specs.Leaves.{IsLeaf, IsPlaced, KeepRoom, GivesHalf, Splits}
 use Rattle.leaf_array.proofs.SegmentLemmas.{records-append, fewer-room, room-left}
 use Rattle.leaf_array.proofs.CountLemmas.{same-rows, same-length, same-low, same-high}
@@ -179,6 +183,7 @@ module _ (left right front back free rest others outs ends : List VersionedRows)
     low = λ other. some-low front others 3 other front_four ∙ (sym (some-low front back 3 other front_four) ∙ ap (λ ss. low_or ss other) (sym left_is));
     left_high = λ other. high-append front others other ∙ (any-high others 3 (high_or front other) low (placed-length low free others placed ∙ free_four) ∙ placed-high low free others placed);
     right_low = λ other. some-low back ends 3 other back-four ∙ low_is other;
+    begin = λ other. ap (λ ss. low_or ss other) (ap (drop 4) left_is ∙ (ap (λ n. drop n (front ++ back)) (sym front_four) ∙ drop-append_seam front back)) ∙ low_is other;
     high = λ other. high-append back ends other ∙ (any-high ends 3 (high_or back other) high (placed-length high rest ends placed_rest ∙ rest-four) ∙ (placed-high high rest ends placed_rest
         ∙ sym (ap (λ ss. high_or ss other) left_is ∙ (high-append front back other ∙ high_is (high_or front other)))));
   })
@@ -247,10 +252,35 @@ room-for-halves old free ready free' halved left right key eight same has has_fr
       enough-room all right gives.right_leaf.segments right_few (8 * all) (omega arith) both.1,
     )
 
+-- of four segments that begin with their first rows the first begins with the first row of all
+some-share : (q r m : ℕ) → 4 * q + r ≡ m → 1 ≤ m → r < 4 → 1 ≤ cond (nat_lt 0 r) (q + 1) q
+some-share q r m all some few = grind (arith, nat_tests)
+
+second-half : (n m : ℕ) (halved : List VersionedRows) (key : Key) → counts_of halved ≡ evenly n 4 ++ evenly m 4 → AllByRecursion BeginsAtRow (drop 1 halved) → 1 ≤ m → ((other : Key) → low_or (drop 4 halved) other ≡ key)
+    → IsSomeAnd (slice_get (rows_of (drop 4 halved)) 0) (λ row. key ≡ row.0)
+second-half n m (a ∷ b ∷ c ∷ d ∷ s ∷ rest) key shares begins some begin =
+    let count : length s.rows ≡ share_of m 4 0 = ap (λ ns. get_or ns 4 0) shares in
+    first s.rows (omega (arith, count, some-share (m / 4) (m % 4) m (div-add-mod m 4) some (omega arith))) (sym (begin key) ∙ begins.1.1.1.0)
+  where
+    first : (rows : List (Key × StampedVersions)) → 1 ≤ length rows → key ≡ first_key_of rows s.high → IsSomeAnd (slice_get (rows ++ rows_of rest) 0) (λ row. key ≡ row.0)
+    first [] some e = absurd (omega (arith, some))
+    first (r ∷ rows) some e = e
+second-half n m [] key shares begins some begin = absurd (omega (arith, ap length shares))
+second-half n m (a ∷ []) key shares begins some begin = absurd (omega (arith, ap length shares))
+second-half n m (a ∷ b ∷ []) key shares begins some begin = absurd (omega (arith, ap length shares))
+second-half n m (a ∷ b ∷ c ∷ []) key shares begins some begin = absurd (omega (arith, ap length shares))
+second-half n m (a ∷ b ∷ c ∷ d ∷ []) key shares begins some begin = absurd (omega (arith, ap length shares))
+
+read-behind : (xs ys : List (Key × StampedVersions)) (n : ℕ) → length xs ≡ n → slice_get (xs ++ ys) n ≡ slice_get ys 0
+read-behind [] ys zero e = refl
+read-behind [] ys (suc n) e = absurd (omega (arith, e))
+read-behind (x ∷ xs) ys zero e = absurd (omega (arith, e))
+read-behind (x ∷ xs) ys (suc n) e = read-behind xs ys n (omega (arith, e))
+
 module _ (old ready halved left left' right right' : List VersionedRows) (key : Key) (n m : ℕ)
     (same : AreSame old ready) (divided : IsDivided ready halved (evenly n 4 ++ evenly m 4)) (gives : GivesHalf halved left right key)
     (left_divided : IsDivided left left' (evenly (length (rows_of left)) (length left))) (right_divided : IsDivided right right' (evenly (length (rows_of right)) (length right)))
-    (total : n + m ≡ length (rows_of old)) (half : m ≡ length (rows_of old) / 2) where
+    (total : n + m ≡ length (rows_of old)) (half : m ≡ length (rows_of old) / 2) (some : 1 ≤ m) where
   all-rows : rows_of halved ≡ rows_of old
   all-rows = divided.keeps.rows ∙ same-rows old ready same
 
@@ -274,6 +304,11 @@ module _ (old ready halved left left' right right' : List VersionedRows) (key : 
     left_high = λ other. left_divided.keeps.high other ∙ gives.left_high other;
     right_low = λ other. right_divided.keeps.low other ∙ gives.right_low other;
     high = λ other. right_divided.keeps.high other ∙ (gives.high other ∙ (divided.keeps.high other ∙ same-high old ready same other));
+    key_is =
+        let place : length (rows_of left) ≡ length (rows_of old) - length (rows_of old) / 2 = omega (arith, left-count, total, half) in
+        let at : slice_get (rows_of old) (length (rows_of old) - length (rows_of old) / 2) ≡ slice_get (rows_of (drop 4 halved)) 0 =
+        ap (λ rows. slice_get rows (length (rows_of old) - length (rows_of old) / 2)) (sym both) ∙ read-behind (rows_of left) (rows_of right) _ place ∙ ap (λ rows. slice_get rows 0) gives.right_rows in
+        subst (λ o. IsSomeAnd o (λ row. key ≡ row.0)) (sym at) (second-half n m halved key divided.shares divided.begins some gives.begin);
     left_begins = left_divided.begins;
     right_begins = right_divided.begins;
   }

@@ -1,5 +1,5 @@
 -- Leaves, and what their calls do to them.
-use Rattle.std.specs.Prelude.{◌≡◌, ℕ, ◌+◌, ◌-◌, ◌/◌, ◌≤◌, List, [], ◌∷◌, ◌++◌, length, take, drop}
+use Rattle.std.specs.Prelude.{◌≡◌, ℕ, ◌+◌, ◌-◌, ◌/◌, ◌≤◌, List, [], ◌∷◌, ◌++◌, length, take, drop, slice_get, IsSomeAnd}
 use Rattle.std.specs.List.{AllByRecursion}
 use Rattle.graph_model.specs.declared.row.Key.{Key}
 use Rattle.version_segment.specs.Rows.{VersionedRows}
@@ -71,6 +71,12 @@ pub record GivesHalf (old left right : List VersionedRows) (key : Key) : Type 0 
   pub left_high : (other : Key) → high_or left other ≡ key
   pub right_low : (other : Key) → low_or right other ≡ key
   pub high : (other : Key) → high_or right other ≡ high_or old other
+  pub begin : (other : Key) → low_or (drop 4 old) other ≡ key
+
+-- the key of the first row that goes to the right leaf where a leaf is split
+abbrev pub IsSplitKey : List VersionedRows → Key → Type 0
+IsSplitKey ss key =
+    IsSomeAnd (slice_get (rows_of ss) (length (rows_of ss) - length (rows_of ss) / 2)) (λ row. key ≡ row.0)
 
 -- The rows of a leaf are divided between two, and each half evenly; the right leaf begins at the key.
 pub record Splits (old left right : List VersionedRows) (key : Key) : Type 0 where
@@ -83,6 +89,7 @@ pub record Splits (old left right : List VersionedRows) (key : Key) : Type 0 whe
   pub left_high : (other : Key) → high_or left other ≡ key
   pub right_low : (other : Key) → low_or right other ≡ key
   pub high : (other : Key) → high_or right other ≡ high_or old other
+  pub key_is : IsSplitKey old key
   pub left_begins : AllByRecursion BeginsAtRow (drop 1 left)
   pub right_begins : AllByRecursion BeginsAtRow (drop 1 right)
 

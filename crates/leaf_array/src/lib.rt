@@ -9,10 +9,12 @@ mod counting;
 mod leaf;
 mod neighbours;
 mod pairs;
+mod rows;
 mod window;
 #[cfg(test)]
 mod worked;
 
 pub use leaf::Leaf;
 pub use pairs::{merge_leaves, split_leaf};
+pub use rows::split_key;
 pub use window::spread;

@@ -10,3 +10,4 @@ pub mod RunLemmas
 pub mod MoveLemmas
 pub mod SegmentLemmas
 pub mod LawLemmas
+pub mod LookupLemmas

@@ -1,5 +1,5 @@
 -- Rows with their versions, between fence keys, and what the calls do to them.
-use Rattle.std.specs.Prelude.{◌≡◌, ℕ, ◌+◌, ◌≤◌, Bool, true, false, ◌&&◌, not, cond, is_some, List, [], ◌∷◌, ◌++◌, length, take, drop, Option, Some, None}
+use Rattle.std.specs.Prelude.{◌≡◌, ℕ, ◌+◌, ◌≤◌, Bool, true, false, ◌&&◌, not, cond, is_some, List, [], ◌∷◌, ◌++◌, length, map, take, drop, Option, Some, None}
 use Rattle.std.specs.List.{AllByRecursion, list_any, filter}
 use Rattle.std.specs.Ordering.{eq_by_cmp}
 use Rattle.std.specs.FinMap.Entries.{find, put, where_key}
@@ -168,3 +168,12 @@ pub record SharesRows (left right left' right' : VersionedRows) (count : ℕ) : 
   pub high : right'.high ≡ right.high
   pub left_cut : left'.high ≡ first_key_of right'.rows right'.high
   pub right_cut : right'.low ≡ first_key_of right'.rows right'.high
+
+-- ---- rows without records
+
+-- a row whose value alone is there
+abbrev pub settled_row : Row → Key × StampedVersions
+settled_row r = (r.key, record { pairs = []; oldest = Some r.weight; touches = [] })
+
+abbrev pub settled_rows : List Row → List (Key × StampedVersions)
+settled_rows rows = map settled_row rows

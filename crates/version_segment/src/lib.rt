@@ -8,9 +8,11 @@
 
 mod buffer;
 mod checks;
+mod fill;
 mod found;
 mod heads;
 mod laws;
+mod lookup;
 mod moves;
 mod packed;
 mod segment;

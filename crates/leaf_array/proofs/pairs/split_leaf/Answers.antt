@@ -44,4 +44,4 @@ returns-clause-ok c =
     is-split c.args.left.now.segments c.reserve_both.new.left c.divide.new.segments c.give_half-key.new.left c.divide_evenly.new.segments c.give_half-key.new.right c.divide_evenly-2.new.segments c.give_half-key.result
     (c.rows_in-rows.result - given) given same
     (subst (IsDivided c.reserve_both.new.left c.divide.new.segments) c.halves.ensures c.divide.ensures.divided) c.give_half-key.ensures.gives
-    c.divide_evenly.ensures c.divide_evenly-2.ensures (omega (arith, rows)) (ap (λ n. n / 2) rows)
+    c.divide_evenly.ensures c.divide_evenly-2.ensures (omega (arith, rows)) (ap (λ n. n / 2) rows) (omega (arith, rows, c.requires.many))

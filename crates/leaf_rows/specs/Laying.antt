@@ -1,0 +1,53 @@
+-- When a write may be laid in rows, the room that it wants, and what calls leave.
+use Rattle.std.specs.Prelude.{◌≡◌, ◌==◌, ◌&&◌, ℕ, ◌*◌, ◌<◌, ◌≤◌, Bool, true, false, not, cond, List, count_by}
+use Rattle.graph_model.specs.declared.limits.TheConstants.{SPLIT_ROWS}
+use Rattle.graph_model.specs.declared.row.Key.{Key}
+use Rattle.graph_model.specs.declared.write.Kind.{Kind}
+use Rattle.graph_model.specs.declared.write.Write.{Write}
+use Rattle.graph_model.specs.declared.write.Write.TheVariants.{AddVertex, DropVertex, AddEdge, SetEdge, DropEdge}
+use Rattle.graph_model.specs.Effects.{keys_of}
+use Rattle.graph_model.specs.Rows.{vertex_key}
+use Rattle.txn_manager.specs.declared.config.RoomRefusal.{RoomRefusal}
+use Rattle.txn_manager.specs.declared.config.RoomRefusal.TheVariants as refusals
+use Rattle.leaf_store.specs.Leaves.{Leaves, contents_of, has_row, room_at, shares, weight}
+use Rattle.leaf_store.specs.Changes.{IsFull}
+
+-- how many of the rows that a write writes are missing
+abbrev pub missing : Leaves → Kind → Write → ℕ
+missing s kind w = count_by (λ k. not (has_row s k)) (keys_of kind w)
+
+-- both ends of an edge have a row
+pub record HasEnds (s : Leaves) (u v : ℕ) : Type 0 where
+  pub apart : (u == v) ≡ false
+  pub source : has_row s (vertex_key u) ≡ true
+  pub target : has_row s (vertex_key v) ≡ true
+
+-- a write may be laid: an edge has two ends, and one that is added touches them
+abbrev pub MayLay : Leaves → Write → Type 0
+MayLay s (AddVertex v) = Unit {0}
+MayLay s (DropVertex v) = Unit {0}
+MayLay s (AddEdge u v weight) = HasEnds s u v
+MayLay s (SetEdge u v weight) = (u == v) ≡ false
+MayLay s (DropEdge u v) = (u == v) ≡ false
+
+-- how many of these keys have no row and share the key's cell
+abbrev pub wanted : Leaves → Key → List Key → ℕ
+wanted s k keys = count_by (λ q. not (has_row s q) && shares s k q) keys
+
+-- each missing row of the write finds its place, those that share a cell together
+abbrev pub HasRoomFor : Leaves → Kind → Write → Type 0
+HasRoomFor s kind w = (k : Key) → has_row s k ≡ false → wanted s k (keys_of kind w) ≤ room_at s k
+
+-- each key has what it had
+pub record Stays (old new : Leaves) : Type 0 where
+  pub contents : (k : Key) → contents_of new k ≡ contents_of old k
+  pub rows : (k : Key) → has_row new k ≡ has_row old k
+  pub limit : new.limit ≡ old.limit
+  pub weight : weight new ≤ weight old
+
+-- why there is no room for a write: a key's cell is too full, no window round it has room, and no leaf is free
+abbrev pub IsNoRoom : Leaves → Kind → Write → RoomRefusal → Type 0
+IsNoRoom s kind w (refusals.Full leaves) =
+    (leaves ≡ s.limit) × (SPLIT_ROWS * leaves ≤ weight s)
+    × ((k : Key) × (need : ℕ) × (need ≡ wanted s k (keys_of kind w)) × (room_at s k < need) × IsFull s k need)
+IsNoRoom s kind w refusals.NoMemory = Unit {0}

@@ -1,0 +1,4 @@
+pub mod Readers
+pub mod Checks
+pub mod Laying
+pub mod Loaded

@@ -1,0 +1,13 @@
+//! Rows of transactions in the leaves of a store: what transactions read in them, what they lay in them and take back,
+//! and who stands against a write.
+//!
+//! 1. What a key has is what its cell has, so calls that move rows change no answer.
+//! 2. A writer's stamp is asked of the manager: no record carries one.
+//! 3. Room and memory for all rows of a write are made before the first of them changes.
+#![tactic(auto)]
+
+mod reader;
+mod rows;
+
+pub use reader::Reader;
+pub use rows::{Counts, LeafRows};

@@ -1,0 +1,13 @@
+pub mod ListLemmas
+pub mod CellLemmas
+pub mod StoreLemmas
+pub mod TableLemmas
+pub mod ChangeLemmas
+pub mod LookLemmas
+pub mod NewLemmas
+pub mod MoveLemmas
+pub mod RoomLemmas
+pub mod RangeLemmas
+pub mod KeyLemmas
+pub mod SplitLemmas
+pub mod HalfLemmas

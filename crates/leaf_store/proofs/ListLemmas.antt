@@ -1,0 +1,44 @@
+-- Lists in parts, and one item of a list that is another one now.
+use Rattle.std.proofs.Common.{◌≡◌, ◌≢◌, ℕ, zero, suc, ◌+◌, ◌<◌, List, [], ◌∷◌, ◌++◌, length, take, drop, set, refl, sym, ◌∙◌, ap, subst, arith}
+use Rattle.std.specs.Prelude.{Option, Some, None, slice_get}
+use Rattle.std.specs.List.{AllByRecursion}
+
+module _ {X : Type 0} where
+  -- what holds of all items of both parts holds of all
+  pub all_append : (P : X → Type 0) (xs ys : List X) → AllByRecursion P xs → AllByRecursion P ys → AllByRecursion P (xs ++ ys)
+  all_append P [] ys h k = k
+  all_append P (x ∷ xs) ys h k = (h.0, all_append P xs ys h.1 k)
+
+  -- and the other way round
+  pub all_front : (P : X → Type 0) (xs ys : List X) → AllByRecursion P (xs ++ ys) → AllByRecursion P xs
+  all_front P [] ys h = tt
+  all_front P (x ∷ xs) ys h = (h.0, all_front P xs ys h.1)
+
+  pub all_back : (P : X → Type 0) (xs ys : List X) → AllByRecursion P (xs ++ ys) → AllByRecursion P ys
+  all_back P [] ys h = h
+  all_back P (x ∷ xs) ys h = all_back P xs ys h.1
+
+  -- what stands before a place, at it, and behind it
+  pub cut_at : (xs : List X) (i : ℕ) (x : X) → slice_get xs i ≡ Some x → xs ≡ take i xs ++ x ∷ drop (suc i) xs
+  cut_at [] i x e = cc
+  cut_at (y ∷ ys) zero x e = let same : y ≡ x = cc in ap (λ z. z ∷ ys) same
+  cut_at (y ∷ ys) (suc i) x e = ap (λ zs. y ∷ zs) (cut_at ys i x e)
+
+  -- the item behind the first part is another one now
+  pub set_between : (xs : List X) (x y : X) (ys : List X) (i : ℕ) → length xs ≡ i → set (xs ++ x ∷ ys) i y ≡ xs ++ y ∷ ys
+  set_between [] x y ys zero e = refl
+  set_between [] x y ys (suc i) e = absurd (omega (arith, e))
+  set_between (z ∷ xs) x y ys zero e = absurd (omega (arith, e))
+  set_between (z ∷ xs) x y ys (suc i) e = ap (λ zs. z ∷ zs) (set_between xs x y ys i (omega (arith, e)))
+
+  pub get_set_same : (xs : List X) (i : ℕ) (x : X) → i < length xs → slice_get (set xs i x) i ≡ Some x
+  get_set_same [] i x lt = absurd (omega (arith, lt))
+  get_set_same (y ∷ ys) zero x lt = refl
+  get_set_same (y ∷ ys) (suc i) x lt = get_set_same ys i x (omega (arith, lt))
+
+  pub get_set_other : (xs : List X) (i j : ℕ) (x : X) → j ≢ i → slice_get (set xs i x) j ≡ slice_get xs j
+  get_set_other [] i j x ne = refl
+  get_set_other (y ∷ ys) zero zero x ne = absurd (ne refl)
+  get_set_other (y ∷ ys) zero (suc j) x ne = refl
+  get_set_other (y ∷ ys) (suc i) zero x ne = refl
+  get_set_other (y ∷ ys) (suc i) (suc j) x ne = get_set_other ys i j x (λ e. ne (ap suc e))

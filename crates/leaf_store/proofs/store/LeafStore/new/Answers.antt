@@ -1,0 +1,7 @@
+use Rattle.leaf_store.proofs.NewLemmas.{is_new}
+use Rattle.leaf_store.proofs.store.LeafStore.new.Goals as goal
+
+pub returns : goal.returns
+returns c =
+    (is_new c.args.leaves c.in_ok-index.index c.put_leaf.new.table.items c.in_ok-first.first c.in_ok-memory.memory c.in_ok-table.table.items c.requires.some c.in_ok-index.ensures c.leaves-leaves.ensures.index
+    c.in_ok-first.ensures c.cuts_of-cuts.ensures.sound c.in_ok-memory.ensures.ok c.in_ok-table.ensures c.put_leaf.ensures).are

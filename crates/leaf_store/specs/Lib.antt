@@ -1,0 +1,4 @@
+pub mod Leaves
+pub mod Table
+pub mod Ranges
+pub mod Changes

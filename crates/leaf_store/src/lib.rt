@@ -1,0 +1,18 @@
+//! The live leaves of a store under their index: which cell holds a key, changes of one cell, and room.
+//!
+//! 1. The cells of the live leaves follow each other from the first key to `Key::END`, and each row stands in the cell
+//!    whose fence keys hold its key. So what a key has is what its cell has.
+//! 2. The index has the leaves in the order of their keys, and the least keys of their segments.
+//! 3. A spread and a split keep each key's versions. Memory is taken before anything moves.
+#![tactic(auto)]
+
+mod change;
+mod look;
+mod place;
+mod range;
+mod room;
+mod split;
+mod store;
+mod table;
+
+pub use store::{LeafStore, Pruned};

@@ -1,0 +1,103 @@
+//! Leaves by their numbers, under an index.
+
+ghost use Rattle.std.specs.Prelude.{◌≡◌, ◌<◌, ◌≤◌, ◌*◌, true, false, length, Some, IfOk, IfErr, OnOk, OnErr, IsOk};
+ghost use Rattle.graph_model.specs.declared.limits.TheConstants.{MAX_LEAVES, SEGMENT_ROWS};
+ghost use Rattle.graph_model.specs.declared.row.Key.{Key};
+ghost use Rattle.graph_model.specs.Rows.{is_below, is_between, end_key};
+ghost use Rattle.leaf_store.specs.Leaves.{AreLeaves, CellsAreApart, KeysHaveCells, cell_at, room_at};
+ghost use Rattle.leaf_store.specs.Changes.{AreFilled, AreNew, AreRising, IsFillRefusal, IsRoomRefusal, MovesRows};
+
+use crate::look::cuts_of;
+use crate::place::place_of;
+use crate::table::{empty_table, put_leaf};
+use graph_model::{Key, NoMemory, Row};
+use leaf_array::Leaf;
+use leaf_index::LeafIndex;
+use std::alloc::Global;
+use std::marker::Model;
+use txn_manager::RoomRefusal;
+use version_segment::VersionSegment;
+
+/// The live leaves of a store. A leaf that was never live has no memory.
+#[derive(Drop)]
+pub struct LeafStore {
+    pub(crate) alloc: Global,
+    pub(crate) index: LeafIndex,
+    pub(crate) leaves: Vec<Option<Box<Leaf>>>,
+}
+
+impl Model for LeafStore {
+    ghost use Rattle.leaf_store.specs.Leaves.{Leaves};
+    ghost use Rattle.leaf_store.specs.Table.{IsKept, leaves_of};
+
+    ghost Value = { Leaves };
+
+    ghost view = { λ s. leaves_of s.index s.leaves.items };
+
+    ghost invariant = { λ s. IsKept s.index s.leaves.items };
+}
+
+impl LeafStore {
+    /// No rows, in so many leaves, all of which but the first are free.
+    pub fn new(alloc: Global, leaves: u32) -> Result<LeafStore, NoMemory>
+        requires some { 1 ≤ leaves }
+        requires few { leaves ≤ MAX_LEAVES }
+        ensures { IfOk result (λ s. AreNew leaves s) }
+    {
+        let index = LeafIndex::new(alloc, leaves)?;
+        let _leaves = index.leaves();
+        let first = Leaf::new(alloc, Key { src: 0, second: 0 }, Key::END)?;
+        let _cuts = cuts_of(&first);
+        let memory = Box::new(alloc, first)?;
+        let mut table = empty_table(alloc, leaves)?;
+        put_leaf(&mut table, 0, memory);
+        Ok(LeafStore {
+            alloc,
+            index,
+            leaves: table,
+        })
+    }
+
+    /// Rows of the first transaction, in rising order of their keys, each of them settled. As many as the density
+    /// limits allow stand in each leaf.
+    pub fn filled(alloc: Global, leaves: u32, rows: &[Row]) -> Result<LeafStore, RoomRefusal>
+        requires some { 1 ≤ leaves }
+        requires few { leaves ≤ MAX_LEAVES }
+        requires rising { AreRising rows.now }
+        ensures ok { IfOk result (λ s. AreFilled leaves rows.now s) }
+        ensures full { IfErr result (λ refusal. IsFillRefusal leaves rows.now refusal) }
+    {
+        unreachable!()
+    }
+
+    /// How many leaves there are, live or not. What holds of each store is a clause of this call.
+    pub fn limit(&self) -> u32
+        ensures limit { result ≡ self.now.limit }
+        ensures sound { AreLeaves self.now }
+        ensures there { KeysHaveCells self.now }
+        ensures apart { CellsAreApart self.now }
+    {
+        self.index.leaves()
+    }
+
+    /// Lends the cell whose fence keys hold the key.
+    pub fn segment(&self, key: Key) -> &VersionSegment
+        requires { is_below key end_key ≡ true }
+        ensures cell { result.now ≡ cell_at self.now key }
+        ensures holds { is_between result.now.low result.now.high key ≡ true }
+        ensures same { (q : Key) → is_between result.now.low result.now.high q ≡ true → cell_at self.now q ≡ result.now }
+    {
+        let place = place_of(&self.index, key);
+        match &self.leaves[place.leaf] {
+            Some(leaf) => &leaf.segments[place.segment],
+            None => unreachable!(),
+        }
+    }
+}
+
+/// What a prune of a cell took away, and where the cell ends.
+#[derive(Clone, Copy, Debug, PartialEq, Eq)]
+pub struct Pruned {
+    pub records: usize,
+    pub high: Key,
+}

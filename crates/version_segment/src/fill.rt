@@ -1,0 +1,31 @@
+//! Rows laid all at once, none of which has a record.
+
+ghost use Rattle.std.specs.Prelude.{◌≡◌, ◌≤◌, false, [], length};
+ghost use Rattle.graph_model.specs.Rows.{is_below};
+ghost use Rattle.graph_model.specs.declared.limits.TheConstants.{SEGMENT_ROWS};
+ghost use Rattle.gap_segment.specs.Fenced.{AreSorted, AreWithin};
+ghost use Rattle.version_segment.specs.Rows.{settled_rows};
+
+use crate::heads::HeadMap;
+use crate::segment::VersionSegment;
+use graph_model::{Key, Row};
+use std::alloc::Global;
+use undo_chain::Chains;
+
+impl VersionSegment {
+    /// Gives a segment without rows these rows and fence keys. Takes no memory, and gives that of spare records back.
+    pub fn settle(&mut self, alloc: Global, low: Key, high: Key, rows: &[Row])
+        requires empty { self.old.rows ≡ [] }
+        requires few { length rows.now ≤ SEGMENT_ROWS }
+        requires fences { is_below high low ≡ false }
+        requires sorted { AreSorted rows.now }
+        requires within { AreWithin low high rows.now }
+        ensures low { self.new.low ≡ low }
+        ensures high { self.new.high ≡ high }
+        ensures rows { self.new.rows ≡ settled_rows rows.now }
+    {
+        self.rows.fill(low, high, rows);
+        self.heads = HeadMap::new(alloc);
+        self.chains = Chains::new(alloc);
+    }
+}

@@ -1,0 +1,53 @@
+//! Whether there is something to take back, and calls that do nothing where there isn't.
+
+ghost use Rattle.std.specs.Prelude.{◌≡◌, ◌≤◌};
+ghost use Rattle.version_segment.specs.Rows.{versions_at, has_row, newest_writer, ChangesKey, undone, untouched};
+
+use crate::found::find_row;
+use crate::segment::VersionSegment;
+use graph_model::{Key, TxnName};
+
+impl VersionSegment {
+    /// Whether the key has a row.
+    pub fn has_row(&self, key: Key) -> bool
+        ensures { result ≡ has_row self.now key }
+    {
+        match find_row(&self.rows, &self.heads, key) {
+            Ok(_) => true,
+            Err(_) => false,
+        }
+    }
+
+    /// The writer of the newest record of the key's row.
+    pub fn newest(&self, key: Key) -> Option<TxnName>
+        ensures { result ≡ newest_writer (versions_at self.now key).pairs }
+    {
+        match find_row(&self.rows, &self.heads, key) {
+            Ok(row) => self.chains.newest(row.undos),
+            Err(_) => None,
+        }
+    }
+
+    /// Takes the newest write of the key's row back, if there is one.
+    pub fn undo_newest(&mut self, key: Key)
+        ensures undone { ChangesKey self.old self.new key (undone (versions_at self.old key)) }
+        ensures spare { self.old.spare ≤ self.new.spare }
+    {
+        let _rows = self.len();
+        match self.newest(key) {
+            Some(by) => self.undo(key, by),
+            None => {}
+        }
+    }
+
+    /// Takes a transaction's touch of the key's row away, if there are such a row and touch.
+    pub fn untouch_row(&mut self, key: Key, by: TxnName)
+        ensures untouched { ChangesKey self.old self.new key (untouched by (versions_at self.old key)) }
+        ensures spare { self.old.spare ≤ self.new.spare }
+    {
+        let _rows = self.len();
+        if self.has_row(key) {
+            self.untouch(key, by);
+        }
+    }
+}
