@@ -1,19 +1,13 @@
 -- What a check of a write answers: by what its view refuses, and by who stands against it.
-use Rattle.std.specs.Prelude.{◌≡◌, ◌==◌, ℕ, true, false, List, Option, Some, None, Result, Ok, Err}
+use Rattle.std.specs.Prelude.{◌≡◌, ◌==◌, ℕ, true, false, Option, Some, None, Result, Ok, Err}
 use Rattle.graph_model.specs.declared.write.Kind.{Kind}
 use Rattle.graph_model.specs.declared.write.Kind.TheVariants.{Directed, Undirected}
 use Rattle.graph_model.specs.declared.write.Write.{Write}
-use Rattle.graph_model.specs.declared.write.Write.TheVariants.{AddVertex, DropVertex, AddEdge, SetEdge, DropEdge}
-use Rattle.graph_model.specs.declared.row.Key.{Key}
-use Rattle.graph_model.specs.declared.journal.TxnName.{TxnName}
 use Rattle.graph_model.specs.declared.refusal.Cause.{Cause}
 use Rattle.graph_model.specs.declared.refusal.Refusal.{Refusal}
 use Rattle.graph_model.specs.declared.refusal.Refusal.TheVariants as refusals
 use Rattle.graph_model.specs.Graph.{Graph, has_vertex, IsSymmetric}
 use Rattle.graph_model.specs.Refused.{refused, unless_ends}
-use Rattle.graph_model.specs.Rows.{vertex_key}
-use Rattle.graph_model.specs.Transactions.{has_name}
-use Rattle.store_model.specs.declared.versions.Versions.{Versions}
 use Rattle.store_model.specs.Check.{looked}
 use Rattle.leaf_rows.specs.declared.reader.Reader.{Reader}
 use Rattle.leaf_store.specs.Leaves.{Leaves, contents_of}

@@ -1,11 +1,8 @@
 -- Rows without records: those of a load, and those of a store that is settled.
-use Rattle.std.specs.Prelude.{◌≡◌, ℕ, ◌*◌, ◌≤◌, true, List, [], Option}
+use Rattle.std.specs.Prelude.{◌≡◌, ℕ, ◌*◌, ◌≤◌, true, [], Option}
 use Rattle.graph_model.specs.declared.limits.TheConstants.{SPLIT_ROWS}
 use Rattle.graph_model.specs.declared.row.Key.{Key}
-use Rattle.graph_model.specs.declared.write.Kind.{Kind}
-use Rattle.graph_model.specs.declared.write.Write.{Write}
 use Rattle.graph_model.specs.Graph.{Graph}
-use Rattle.graph_model.specs.Inserted.{inserted}
 use Rattle.graph_model.specs.Rows.{value_at}
 use Rattle.store_model.specs.declared.versions.Versions.{Versions}
 use Rattle.store_model.specs.Versions.{no_versions, first_seen}

@@ -8,7 +8,7 @@ use Rattle.graph_model.specs.Rows.{value_at}
 use Rattle.graph_model.specs.Transactions.{stamp_in}
 use Rattle.txn_manager.specs.Manager.{open_start}
 use Rattle.std.specs.List.{AllByRecursion}
-use Rattle.store_model.specs.Stamped.{Stamped}
+use Rattle.store_model.specs.Stamped.{Stamped, StampedVersions}
 use Rattle.store_model.specs.declared.versions.Versions.{Versions}
 use Rattle.store_model.specs.Versions.{sees, read}
 use Rattle.store_model.specs.Check.{check}
@@ -35,6 +35,11 @@ Shows r rows g = (k : Key) → value_for r (contents_of rows k) ≡ value_at g k
 -- no record of these has a stamp
 abbrev pub HaveNoStamp : List Stamped → Type 0
 HaveNoStamp ps = AllByRecursion (λ p. p.stamp ≡ None) ps
+
+-- no record of a row has a stamp
+pub record IsUnstamped (vs : StampedVersions) : Type 0 where
+  pub pairs : HaveNoStamp vs.pairs
+  pub touches : HaveNoStamp vs.touches
 
 -- no record in the rows has a stamp
 pub record AreUnstamped (s : Leaves) : Type 0 where

@@ -6,8 +6,21 @@
 //! 3. Room and memory for all rows of a write are made before the first of them changes.
 #![tactic(auto)]
 
+mod check;
+mod count;
+mod edges;
+mod fill;
+mod lay;
+mod read;
 mod reader;
+mod room;
+mod row;
 mod rows;
+mod runs;
+mod scan;
+mod settle;
+mod steps;
+mod undo;
 
 pub use reader::Reader;
 pub use rows::{Counts, LeafRows};

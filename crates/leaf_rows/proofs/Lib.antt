@@ -1,0 +1,13 @@
+pub mod KnownLemmas
+pub mod CauseLemmas
+pub mod CheckLemmas
+pub mod CellLemmas
+pub mod StepLemmas
+pub mod LayLemmas
+pub mod RoomLemmas
+pub mod RunLemmas
+pub mod ScanLemmas
+pub mod SettleLemmas
+pub mod EdgeLemmas
+pub mod CountLemmas
+pub mod FillLemmas

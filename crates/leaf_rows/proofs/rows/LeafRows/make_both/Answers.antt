@@ -1,0 +1,14 @@
+use Rattle.std.proofs.lemmas.Result.{on_ok_weaker}
+use Rattle.leaf_rows.proofs.RoomLemmas.{three_steps}
+use Rattle.leaf_rows.proofs.rows.LeafRows.make_both.Goals as goal
+
+pub returns-clause-ok : goal.returns-clause-ok
+returns-clause-ok c =
+    let one = c.make_place.ensures in
+    let two = c.make_place-2.ensures in
+    let three = c.make_place-made.ensures in
+    let there = rw c.self.view_is at c.limit.ensures.there in
+    let apart = rw c.self.view_is at c.limit.ensures.apart in
+    on_ok_weaker c.make_place-made.result (λ fits.
+    three_steps c.args.self.now c.make_place.new.self c.make_place-2.new.self c.make_place-made.new.self one.there two.there three.there there apart c.args.first c.args.second c.requires.first c.requires.second
+    one.stays two.stays three.stays two.room three.room c.in_ok-make_place.ensures.ok c.in_ok-make_place-2.ensures.ok fits three.kept) three.ok

@@ -1,0 +1,42 @@
+use Rattle.std.proofs.Common.{sym, ◌∙◌, arith}
+use Rattle.std.proofs.lemmas.Result.{on_ok_weaker, IfErr-weaker}
+use Rattle.leaf_rows.specs.Steps.{keys_with}
+use Rattle.leaf_rows.proofs.RoomLemmas.{wanted_is, moved_stays, refused_is}
+use Rattle.leaf_rows.proofs.rows.LeafRows.make_place.Goals as goal
+
+pub returns-in-None-clause-ok : goal.returns-in-None-clause-ok
+returns-in-None-clause-ok c = λ missing.
+    let old = c.self.inside.store in
+    let keys = keys_with c.args.key c.args.other in
+    let none = rw (← c.self.view_is) at missing in
+    let fits = rw c.segment.ensures.cell at (c.need_at.ensures.none c.in-None.is) in
+    rw (← c.self.view_is) (rw (wanted_is old c.limit.ensures.apart c.args.key keys) (fits none))
+
+pub returns-clause-stays : goal.returns-clause-stays
+returns-clause-stays c = rw (← c.self.view_is) (moved_stays c.self.inside.store c.make_room-made.new.self c.limit.ensures.sound c.limit-2.ensures.sound c.make_room-made.ensures.moved)
+
+pub returns-clause-ok : goal.returns-clause-ok
+returns-clause-ok c =
+    let old = c.self.inside.store in
+    let keys = keys_with c.args.key c.args.other in
+    let need = rw c.segment.ensures.cell at c.in-Some.ensures.need in
+    let is = need.is ∙ sym (wanted_is old c.limit.ensures.apart c.args.key keys) in
+    rw (← c.self.view_is) (on_ok_weaker c.make_room-made.result (λ fits missing. omega (arith, fits, is)) c.make_room-made.ensures.ok)
+
+pub returns-clause-kept : goal.returns-clause-kept
+returns-clause-kept c = λ fits.
+    let old = c.self.inside.store in
+    let keys = keys_with c.args.key c.args.other in
+    let need = rw c.segment.ensures.cell at c.in-Some.ensures.need in
+    let is = need.is ∙ sym (wanted_is old c.limit.ensures.apart c.args.key keys) in
+    let short = need.short in
+    let enough = rw (← c.self.view_is) at fits in
+    absurd (omega (arith, short, is, enough))
+
+pub returns-clause-full : goal.returns-clause-full
+returns-clause-full c =
+    let old = c.self.inside.store in
+    let keys = keys_with c.args.key c.args.other in
+    let need = rw c.segment.ensures.cell at c.in-Some.ensures.need in
+    let is = need.is ∙ sym (wanted_is old c.limit.ensures.apart c.args.key keys) in
+    IfErr-weaker c.make_room-made.result _ _ (λ refusal why. refused_is old c.make_room-made.new.self c.args.key c.in-Some.need keys refusal is need.short why) c.make_room-made.ensures.refused

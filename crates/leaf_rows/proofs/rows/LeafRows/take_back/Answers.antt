@@ -1,0 +1,19 @@
+use Rattle.leaf_store.specs.Leaves.{versions_of}
+use Rattle.leaf_rows.proofs.StepLemmas.{row_changes, stays_unstamped, no_heavier, undos_change, undone_nothing}
+use Rattle.leaf_rows.proofs.rows.LeafRows.take_back.Goals as goal
+
+pub invariant_of-self : goal.invariant_of-self
+invariant_of-self c =
+    let holds = c.limit.ensures in
+    stays_unstamped _ _ undos_change c.self.inside.store c.undo.new.self c.args.key holds.sound holds.there holds.apart c.requires c.undo.ensures.undone c.self.invariant
+
+pub returns-clause-changed : goal.returns-clause-changed
+returns-clause-changed c =
+    let holds = c.limit.ensures in
+    rw (← c.self.view_is) (row_changes _ _ undos_change c.self.inside.store c.undo.new.self c.args.key holds.sound holds.there holds.apart c.requires c.undo.ensures.undone)
+
+pub returns-clause-weight : goal.returns-clause-weight
+returns-clause-weight c =
+    let holds = c.limit.ensures in
+    let old = c.self.inside.store in
+    rw (← c.self.view_is) (no_heavier old c.undo.new.self c.args.key _ holds.sound c.limit-2.ensures.sound holds.there holds.apart c.requires c.undo.ensures.undone (undone_nothing (versions_of old c.args.key)))

@@ -1,0 +1,26 @@
+use Rattle.leaf_rows.proofs.StepLemmas.{row_changes, stays_unstamped, keeps_places, touches_change, touched_there}
+use Rattle.leaf_rows.proofs.rows.LeafRows.touch.Goals as goal
+
+pub invariant_of-self : goal.invariant_of-self
+invariant_of-self c =
+    let holds = c.limit.ensures in
+    stays_unstamped _ _ (touches_change c.args.by) c.self.inside.store c.touch.new.self c.args.key holds.sound holds.there holds.apart c.requires.within c.touch.ensures.touched c.self.invariant
+
+pub returns-clause-changed : goal.returns-clause-changed
+returns-clause-changed c =
+    let holds = c.limit.ensures in
+    rw (← c.self.view_is) (row_changes _ _ (touches_change c.args.by) c.self.inside.store c.touch.new.self c.args.key holds.sound holds.there holds.apart c.requires.within c.touch.ensures.touched)
+
+pub returns-clause-places : goal.returns-clause-places
+returns-clause-places c =
+    let holds = c.limit.ensures in
+    let old = c.self.inside.store in
+    let row = rw (← c.self.view_is) at c.requires.row in
+    rw (← c.self.view_is) (keeps_places old c.touch.new.self c.args.key _ holds.sound c.limit-2.ensures.sound holds.there holds.apart c.requires.within c.touch.ensures.touched row (touched_there c.args.by old c.args.key holds.sound row)).0
+
+pub returns-clause-weight : goal.returns-clause-weight
+returns-clause-weight c =
+    let holds = c.limit.ensures in
+    let old = c.self.inside.store in
+    let row = rw (← c.self.view_is) at c.requires.row in
+    rw (← c.self.view_is) (keeps_places old c.touch.new.self c.args.key _ holds.sound c.limit-2.ensures.sound holds.there holds.apart c.requires.within c.touch.ensures.touched row (touched_there c.args.by old c.args.key holds.sound row)).1

@@ -1,0 +1,34 @@
+//! What a transaction reads of one row.
+
+ghost use Rattle.std.specs.Prelude.{◌≡◌, ◌≤◌, true, length};
+ghost use Rattle.graph_model.specs.Rows.{is_below, end_key};
+ghost use Rattle.leaf_store.specs.Leaves.{contents_of};
+ghost use Rattle.leaf_rows.specs.Found.{contents_at};
+ghost use Rattle.leaf_rows.specs.Readers.{value_for};
+
+use crate::reader::Reader;
+use crate::row::FoundRow;
+use crate::rows::LeafRows;
+use graph_model::Key;
+
+impl LeafRows {
+    /// Lends what a key has.
+    pub(crate) fn row(&self, key: Key) -> FoundRow<'_>
+        requires { is_below key end_key ≡ true }
+        ensures { contents_at result ≡ contents_of self.now key }
+    {
+        FoundRow {
+            cell: self.store.segment(key),
+            key,
+        }
+    }
+
+    /// The reader's value of a key.
+    pub fn value(&self, reader: &Reader, key: Key) -> Option<u64>
+        requires within { is_below key end_key ≡ true }
+        requires started { reader.now.start ≤ length reader.now.manager.now.journal }
+        ensures { result ≡ value_for reader.now (contents_of self.now key) }
+    {
+        self.row(key).value(reader)
+    }
+}
