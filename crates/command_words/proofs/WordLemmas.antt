@@ -48,6 +48,7 @@ one_run rows a b is also =
     let directed : a.is_directed ≡ b.is_directed = same_test a.is_directed b.is_directed is.directed also.directed in
     let cut : a.is_cut ≡ b.is_cut = same_test a.is_cut b.is_cut is.cut also.cut in
     let weights : a.weights ≡ b.weights = one_number 0 9 (first_of (codes "weights") rows) a.weights b.weights is.weights also.weights in
+    let leaves : a.leaves ≡ b.leaves = one_number 1 131072 (first_of (codes "leaves") rows) a.leaves b.leaves is.leaves also.leaves in
     λ i. record {
       vertices = vertices i;
       edges = edges i;
@@ -56,6 +57,7 @@ one_run rows a b is also =
       weights = weights i;
       is_cut = cut i;
       schedule = schedule i;
+      leaves = leaves i;
       scripts = scripts i;
     }
 

@@ -29,6 +29,7 @@ run_shape = record (new_shape (codes "run")) {
       ∷ option_rule (codes "weights") false
       ∷ flag_rule (codes "cut")
       ∷ option_rule (codes "schedule") false
+      ∷ option_rule (codes "leaves") false
       ∷ scripts_rule ∷ [];
 }
 

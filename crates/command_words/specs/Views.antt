@@ -28,6 +28,7 @@ run_request words = record {
   weights = words.weights;
   is_cut = words.is_cut;
   schedule = option_map (λ name. name.now) words.schedule;
+  leaves = words.leaves;
   scripts = map (λ name. name.now) words.scripts.items;
 }
 

@@ -1,7 +1,7 @@
 -- Which words are taken, and as what.
 use Rattle.std.specs.Prelude.{◌≡◌, ◌≢◌, ◌≤◌, ◌∷◌, ◌++◌, ℕ, Bool, true, List, map, length, codes, AllPairs, Option, Some, IsTrue, ◌↔◌, option_to_list}
 use Rattle.clap.specs.Words.{Row, Text, all_of, first_of, subcommand_of, takes}
-use Rattle.graph_model.specs.declared.limits.TheConstants.{MAX_SCRIPTS}
+use Rattle.graph_model.specs.declared.limits.TheConstants.{MAX_LEAVES, MAX_SCRIPTS}
 use Rattle.command_words.specs.App.{teseo_app}
 use Rattle.command_words.specs.Numbers.{HasNumber, IsOptionalNumber}
 
@@ -14,6 +14,7 @@ pub record RunRequest : Type 0 where
   pub weights : Option ℕ
   pub is_cut : Bool
   pub schedule : Option Text
+  pub leaves : Option ℕ
   pub scripts : List Text
 
 -- and those of `make`
@@ -50,6 +51,7 @@ pub record GivesRun (rows : List Row) (request : RunRequest) : Type 0 where
   pub weights : IsOptionalNumber 0 9 (first_of (codes "weights") rows) request.weights
   pub cut : IsTrue request.is_cut ↔ (first_of (codes "cut") rows ≡ Some (codes "true"))
   pub schedule : first_of (codes "schedule") rows ≡ request.schedule
+  pub leaves : IsOptionalNumber 1 MAX_LEAVES (first_of (codes "leaves") rows) request.leaves
   pub scripts : all_of (codes "script") rows ≡ Some request.scripts
 
 -- and the request passes the checks: there are at most 60 scripts, and no two of the names and of the reports' are

@@ -34,6 +34,7 @@ fn run_command<'a>(alloc: Global) -> Result<Command<'a>, AllocError>
         .arg(optional(alloc, "weights"))?
         .arg(flag(alloc, "cut"))?
         .arg(optional(alloc, "schedule"))?
+        .arg(optional(alloc, "leaves"))?
         .arg(scripts(alloc))
 }
 

@@ -25,6 +25,8 @@ pub struct RunWords<'a> {
     /// Whether further digits of a weight are dropped.
     pub is_cut: bool,
     pub schedule: Option<&'a str>,
+    /// How many leaves the store has, 1 to 131,072, where that is stated.
+    pub leaves: Option<u32>,
     /// The names of the scripts, in the order of the words.
     pub scripts: Vec<&'a str>,
 }

@@ -8,8 +8,8 @@ use std::test::Fail;
 const TAKEN: [(&str, &str); 11] = [
     ("run --vertices v --edges e --journal j s", "v e j: s"),
     (
-        "run s --cut --journal j --directed t --edges e --weights 9 --schedule p --vertices v u",
-        "v e j directed 9 cut p: s t u",
+        "run s --cut --journal j --directed t --edges e --weights 9 --schedule p --leaves 131072 --vertices v u",
+        "v e j directed 9 cut p 131072: s t u",
     ),
     (
         "run --vertices=-v --edges=e --journal= -- -s --cut",
@@ -40,7 +40,7 @@ const TAKEN: [(&str, &str); 11] = [
     ("run --vertices v --edges e --journal j -", "v e j: -"),
 ];
 
-const REFUSED: [&str; 38] = [
+const REFUSED: [&str; 39] = [
     "",
     "help",
     "--help",
@@ -63,7 +63,8 @@ const REFUSED: [&str; 38] = [
     "run --vertices -v --edges e --journal j s",
     "run --vertices v --edges e --journal j -s",
     "run --vertices v --edges e --journal j --threads 2 s",
-    "run --vertices v --edges e --journal j --leaves 9 s",
+    "run --vertices v --edges e --journal j --leaves 0 s",
+    "run --vertices v --edges e --journal j --leaves 131073 s",
     "run --vertices v --edges e --journal j --weights 10 s",
     "run --vertices v --edges e --journal j --weights +1 s",
     "run --vertices v --edges e --journal j --weights= s",
@@ -143,6 +144,9 @@ fn text_of_run(alloc: Global, run: &RunWords<'_>) -> Result<String, Fail> {
     if let Some(schedule) = run.schedule {
         text.push_str(" ")?;
         text.push_str(schedule)?;
+    }
+    if let Some(leaves) = run.leaves {
+        text.push_str(format!(in alloc; " {leaves}")?.as_str())?;
     }
     text.push_str(":")?;
     for script in run.scripts.iter() {

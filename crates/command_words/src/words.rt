@@ -5,6 +5,7 @@
 
 ghost use Rattle.std.specs.Prelude.{◌≡◌, ℕ, true, map, option_map, codes, IsTrue, ◌↔◌, Option, Some, None, IfOk, IfErr};
 ghost use Rattle.std.specs.String.{string_bytes};
+ghost use Rattle.graph_model.specs.declared.limits.TheConstants.{MAX_LEAVES};
 ghost use Rattle.clap.specs.Words.{all_of, first_of, subcommand_rows_of, takes};
 ghost use Rattle.command_words.specs.App.{teseo_app};
 ghost use Rattle.command_words.specs.Words.{RunRequest, MakeRequest, IsTaken, GivesRun, IsRun, GivesMake, IsMake};
@@ -17,7 +18,7 @@ use crate::command::{Command, MakeWords, RunWords};
 use crate::number::read_number;
 use crate::refusal::WordsRefusal;
 use clap::ArgMatches;
-use graph_model::MAX_SCRIPTS;
+use graph_model::{MAX_LEAVES, MAX_SCRIPTS};
 use std::alloc::Global;
 
 /// How many digits of a weight may stand behind the point.
@@ -91,6 +92,7 @@ fn given_run<'a>(alloc: Global, found: &ArgMatches<'a>) -> Result<RunWords<'a>, 
     let edges = text_in(found, "edges")?;
     let journal = text_in(found, "journal")?;
     let weights = weights_in(found)?;
+    let leaves = leaves_in(found)?;
     Ok(RunWords {
         vertices,
         edges,
@@ -99,6 +101,7 @@ fn given_run<'a>(alloc: Global, found: &ArgMatches<'a>) -> Result<RunWords<'a>, 
         weights,
         is_cut: is_used(found, "cut"),
         schedule: optional_text(found, "schedule"),
+        leaves,
         scripts,
     })
 }
@@ -186,6 +189,21 @@ fn weights_in(found: &ArgMatches<'_>) -> Result<Option<u8>, WordsRefusal>
     };
     match read_number(text, 0, MAX_WEIGHT_DIGITS) {
         Some(digits) => Ok(Some(digits as u8)),
+        None => Err(WordsRefusal::BadWords),
+    }
+}
+
+/// How many leaves the store has, where that is stated.
+fn leaves_in(found: &ArgMatches<'_>) -> Result<Option<u32>, WordsRefusal>
+    ensures given { IfOk result (IsOptionalNumber 1 MAX_LEAVES (first_of (codes "leaves") (rows_in found.now))) }
+    ensures refused { IfErr result (λ _. (leaves : Option ℕ)
+        → IsOptionalNumber 1 MAX_LEAVES (first_of (codes "leaves") (rows_in found.now)) leaves → ⊥) }
+{
+    let Some(text) = optional_text(found, "leaves") else {
+        return Ok(None)
+    };
+    match read_number(text, 1, MAX_LEAVES as u64) {
+        Some(leaves) => Ok(Some(leaves as u32)),
         None => Err(WordsRefusal::BadWords),
     }
 }

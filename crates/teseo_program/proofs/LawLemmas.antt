@@ -22,7 +22,7 @@ use Rattle.teseo_program.specs.Requests.{source_names, rules_of}
 use Rattle.teseo_program.specs.declared.fault.SourceFault.{SourceFault}
 use Rattle.teseo_program.specs.declared.fault.SourceFault.TheVariants as faults
 use Rattle.teseo_program.specs.declared.outcome.Outcome.{Outcome}
-use Rattle.teseo_program.specs.declared.outcome.Outcome.TheVariants.{Done, Full, BadWords, NotRead, NotAccepted, NoMemory, NotWritten}
+use Rattle.teseo_program.specs.declared.outcome.Outcome.TheVariants.{Done, Full, LoadFull, BadWords, NotRead, NotAccepted, NoMemory, NotWritten}
 use Rattle.teseo_program.specs.Input.{Meaning, Texts, texts_of, HasGraphFault, AreScripts, IsSchedule, IsAccepted, IsFaultBehind, IsNotAccepted}
 use Rattle.teseo_program.specs.Outcomes.{status_of, IsRunOutcome, IsMakeOutcome, Ends}
 use Rattle.teseo_program.specs.Laws.{IsTold, AreTold, Stands, HasNoFault, AcceptedRunsEndWell, GraphsAreMade}
@@ -109,9 +109,10 @@ module _ (request : RunRequest) (sources : List (List ℕ)) (m : Meaning) (old n
       absurd (not_too_long old name is.0 is.1 long)
   stop_ends_well reads.NoMemory before stop same = refl
 
-  pub run_ends_well : (outcome : Outcome) → IsRunOutcome outcome request old new → (outcome ≡ Done) ⊎ ((outcome ≡ Full) ⊎ (status_of outcome ≡ 3))
+  pub run_ends_well : (outcome : Outcome) → IsRunOutcome outcome request old new → (outcome ≡ Done) ⊎ ((status_of outcome ≡ 6) ⊎ (status_of outcome ≡ 3))
   run_ends_well Done is = inl refl
   run_ends_well Full is = inr (inl refl)
+  run_ends_well LoadFull is = inr (inl refl)
   run_ends_well BadWords is = absurd is.cause
   run_ends_well (NotRead stop) is = inr (inr (stop_ends_well stop is.before is.cause (sym (ap (λ f. f.read_faults) is.says.rest))))
   run_ends_well (NotAccepted place fault) is =
@@ -132,6 +133,7 @@ pub end_well : AcceptedRunsEndWell
 end_well BadWords words request sources m old new taken told accepted no_fault (never, says) = absurd (never (run request) taken)
 end_well Done words request sources m old new taken told accepted no_fault ends = inl refl
 end_well Full words request sources m old new taken told accepted no_fault ends = inr (inl refl)
+end_well LoadFull words request sources m old new taken told accepted no_fault ends = inr (inl refl)
 end_well NoMemory words request sources m old new taken told accepted no_fault ends = inr (inr refl)
 end_well (NotRead stop) words request sources m old new taken told accepted no_fault (other, also, ends) =
     run_ends_well request sources m old new told accepted no_fault (NotRead stop) (asked_ends (NotRead stop) words (run request) other old new taken also ends)
@@ -143,6 +145,7 @@ end_well (NotWritten stop) words request sources m old new taken told accepted n
 graph_ends_well : (outcome : Outcome) (request : MakeRequest) (old new : Files) → HasNoFault old new → IsMakeOutcome outcome request old new → (outcome ≡ Done) ⊎ (status_of outcome ≡ 3)
 graph_ends_well Done request old new no_fault is = inl refl
 graph_ends_well Full request old new no_fault is = absurd is.cause
+graph_ends_well LoadFull request old new no_fault is = absurd is.cause
 graph_ends_well BadWords request old new no_fault is = absurd is.cause
 graph_ends_well (NotRead stop) request old new no_fault is = absurd is.cause
 graph_ends_well (NotAccepted place fault) request old new no_fault is = absurd is.cause
@@ -158,6 +161,8 @@ graphs_made NoMemory words request old new taken no_fault says = inr refl
 graphs_made Done words request old new taken no_fault ends = inl refl
 graphs_made Full words request old new taken no_fault (other, also, ends) =
     graph_ends_well Full request old new no_fault (asked_ends Full words (make request) other old new taken also ends)
+graphs_made LoadFull words request old new taken no_fault (other, also, ends) =
+    graph_ends_well LoadFull request old new no_fault (asked_ends LoadFull words (make request) other old new taken also ends)
 graphs_made (NotRead stop) words request old new taken no_fault (other, also, ends) =
     graph_ends_well (NotRead stop) request old new no_fault (asked_ends (NotRead stop) words (make request) other old new taken also ends)
 graphs_made (NotAccepted place fault) words request old new taken no_fault (other, also, ends) =

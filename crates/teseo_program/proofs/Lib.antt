@@ -9,3 +9,4 @@ mod PreparedLemmas
 mod LawLemmas
 mod OutcomeLemmas
 mod RunLemmas
+pub mod LeavesLemmas

@@ -7,7 +7,7 @@ use Rattle.command_words.specs.declared.refusal.WordsRefusal.TheVariants as word
 use Rattle.command_words.specs.Words.{RunRequest, MakeRequest, Request, run, make, IsTaken}
 use Rattle.command_words.specs.Views.{RefusesWords}
 use Rattle.teseo_program.specs.declared.outcome.Outcome.{Outcome}
-use Rattle.teseo_program.specs.declared.outcome.Outcome.TheVariants.{Done, Full, BadWords, NotRead, NotAccepted, NoMemory, NotWritten}
+use Rattle.teseo_program.specs.declared.outcome.Outcome.TheVariants.{Done, Full, LoadFull, BadWords, NotRead, NotAccepted, NoMemory, NotWritten}
 use Rattle.teseo_program.specs.declared.prepare.Prepared.{Prepared}
 use Rattle.teseo_program.specs.Requests.{source_names}
 use Rattle.teseo_program.specs.Prepared.{IsUnprepared, IsPreparedOf, IsMadeGraph, Writes, IsWritten, made_of}
@@ -20,6 +20,7 @@ module _ (request : RunRequest) (old : Files) where
     written_cause : (before : Files) (outcome : Outcome) → Writes p.is_full p.outputs outcome old before → IsCause outcome request (made_of of_run.run p) old before
     written_cause before Done writes = record { of_run = of_run.of_run; shows = of_run.full ∙ writes.0; writes = writes.1 }
     written_cause before Full writes = record { of_run = of_run.of_run; shows = of_run.full ∙ writes.0; writes = writes.1 }
+    written_cause before LoadFull writes = absurd writes
     written_cause before BadWords writes = writes
     written_cause before (NotRead stop) writes = absurd writes
     written_cause before (NotAccepted place fault) writes = absurd writes
@@ -31,6 +32,7 @@ module _ (request : RunRequest) (old : Files) where
         → OnlySays (said_text (blamed [] (names_of p.outputs) outcome) p.summary outcome) before new → SaysOutcome request p.outputs p.summary outcome before new
     written_says before new Done writes says = says
     written_says before new Full writes says = says
+    written_says before new LoadFull writes says = absurd writes
     written_says before new BadWords writes says = says
     written_says before new (NotRead stop) writes says = absurd writes
     written_says before new (NotAccepted place fault) writes says = absurd writes
@@ -54,6 +56,7 @@ module _ (request : RunRequest) (old : Files) where
   unprepared_cause : (before : Files) (outcome : Outcome) → IsUnprepared request old before outcome → IsCause outcome request nothing old before
   unprepared_cause before Done stopped = absurd stopped
   unprepared_cause before Full stopped = absurd stopped
+  unprepared_cause before LoadFull stopped = stopped
   unprepared_cause before BadWords stopped = stopped
   unprepared_cause before (NotRead stop) stopped = stopped
   unprepared_cause before (NotAccepted place fault) stopped = stopped
@@ -77,6 +80,7 @@ module _ (request : MakeRequest) (p : Prepared) (made : IsMadeGraph request p) w
   graph_cause : (old before : Files) (outcome : Outcome) → Writes p.is_full p.outputs outcome old before → IsMakeCause outcome request old before
   graph_cause old before Done writes = subst (λ outputs. WritesAll outputs old before) made.outputs_are writes.1
   graph_cause old before Full writes = let no : true ≡ false = sym writes.0 ∙ made.never_full in cc
+  graph_cause old before LoadFull writes = absurd writes
   graph_cause old before BadWords writes = writes
   graph_cause old before (NotRead stop) writes = writes
   graph_cause old before (NotAccepted place fault) writes = writes
@@ -97,6 +101,7 @@ module _ (request : MakeRequest) (p : Prepared) (made : IsMadeGraph request p) w
 pub taken_ends : (outcome : Outcome) (words : List (List ℕ)) (request : Request) (old new : Files) → IsTaken words request → Ends outcome request old new → IsOutcome outcome words old new
 taken_ends Done words request old new taken ends = (request, taken, ends)
 taken_ends Full words request old new taken ends = (request, taken, ends)
+taken_ends LoadFull words request old new taken ends = (request, taken, ends)
 taken_ends BadWords words (run request) old new taken ends = absurd ends.cause
 taken_ends BadWords words (make request) old new taken ends = absurd ends.cause
 taken_ends (NotRead stop) words request old new taken ends = (request, taken, ends)

@@ -1,12 +1,16 @@
 -- What is made of a run is what the definition says is written and said.
-use Rattle.std.proofs.Common.{◌≡◌, ◌≢◌, ℕ, zero, suc, ◌≤◌, List, [], ◌∷◌, ◌++◌, length, refl, sym, ◌∙◌, ap, subst, inl, arith, All, AllPairs}
+use Rattle.std.proofs.Common.{◌≡◌, ◌≢◌, ℕ, zero, suc, ◌*◌, ◌≤◌, List, [], ◌∷◌, ◌++◌, length, refl, sym, ◌∙◌, ap, subst, inl, arith, All, AllPairs}
 use Rattle.std.specs.Prelude.{false, slice_get, Some, option_to_list}
 use Rattle.std.specs.List.{flat_map}
 use Rattle.std.proofs.lemmas.List.{length-map}
 use Rattle.std.proofs.lemmas.List.Elements.{All-append}
-use Rattle.graph_model.specs.declared.limits.TheConstants.{MAX_SCRIPTS, MAX_BEGINS, MAX_LEAVES, MAX_SOURCE_BYTES}
+use Rattle.graph_model.specs.declared.limits.TheConstants.{MAX_SCRIPTS, MAX_BEGINS, MAX_SOURCE_BYTES, SPLIT_ROWS}
 use Rattle.graph_model.specs.declared.limits.TheConstants.{MAX_LOAD_ROWS}
 use Rattle.graph_model.specs.declared.write.Kind.{Kind}
+use Rattle.graph_model.specs.declared.load.LoadRefusal.{LoadRefusal}
+use Rattle.graph_model.specs.declared.load.LoadRefusal.TheVariants as refusals
+use Rattle.graph_model.specs.Inserted.{inserted}
+use Rattle.graphalytics_io.specs.Load.{load_of}
 use Rattle.graph_files.specs.Load.{IsLoadable}
 use Rattle.graph_files.specs.Laws.{LoadIsAllowed, LoadIsWithinLimits, FilesAreLoadable}
 use Rattle.run_model.specs.declared.command.Command.{Command}
@@ -28,10 +32,11 @@ use Rattle.teseo_program.specs.declared.outcome.Outcome.{Outcome}
 use Rattle.teseo_program.specs.declared.prepare.Prepared.{Prepared}
 use Rattle.teseo_program.specs.Input.{Meaning, Texts, texts_of, IsAccepted, inputs_of}
 use Rattle.teseo_program.specs.Parsing.{AreRunnable, IsParseStop}
-use Rattle.teseo_program.specs.Outcomes.{outcome_of_parse, shows_full}
-use Rattle.teseo_program.specs.Prepared.{IsUnprepared, IsPreparedOf, IsMadeOf}
+use Rattle.teseo_program.specs.Leaves.{leaves_for, leaves_of, most_rows}
+use Rattle.teseo_program.specs.Outcomes.{outcome_of_load, outcome_of_parse, shows_full}
+use Rattle.teseo_program.specs.Prepared.{IsUnprepared, IsPreparedOf, IsMadeOf, IsLoadStop}
 use Rattle.teseo_program.specs.Sinks.{sinks_of, summary_line, summary_text}
-use Rattle.teseo_program.specs.Running.{run_outputs, HasCounts, HavePrintableNames}
+use Rattle.teseo_program.specs.Running.{run_outputs, HasCounts, HavePrintableNames, IsRefusedLoad}
 use Rattle.teseo_program.proofs.RequestLemmas.{few_scripts, distinct_names}
 use Rattle.teseo_program.proofs.SublistLemmas.{sub_all, sub_behind}
 use Rattle.teseo_program.proofs.FileLemmas.{names_in, files_of_run, files_apart}
@@ -69,14 +74,14 @@ module _ (allows : LoadIsAllowed) (limits : LoadIsWithinLimits) (files : FilesAr
 
   -- ---- what a run of them leaves
 
-  module _ (r : RunResult) (run : IsRun (inputs_of kind m) MAX_LEAVES (run_outputs r)) where
+  module _ (leaves : ℕ) (r : RunResult) (run : IsRun (inputs_of kind m) leaves (run_outputs r)) where
     pub job_count : length r.jobs ≡ length request.scripts
     job_count = sym (length-map r.jobs (λ job. job.answers)) ∙ run.reported ∙ count
 
     pub are_printable : HavePrintableNames r.jobs
     are_printable = printable_names r.jobs
         (sub_all (λ name. All IsNameByte name) (flat_map names_in (run_outputs r).files) (flat_map files_of m.scripts)
-        (files_of_run (inputs_of kind m) MAX_LEAVES (run_outputs r) run) (all_printable (taken_names request) m.scripts can))
+        (files_of_run (inputs_of kind m) leaves (run_outputs r) run) (all_printable (taken_names request) m.scripts can))
       where
         all_printable : (taken : List (List ℕ)) (scripts : List (List Command)) → AreRunnable taken scripts → All (λ name. All IsNameByte name) (flat_map files_of scripts)
         all_printable taken [] can = λ k d inside. absurd (omega arith)
@@ -87,26 +92,43 @@ module _ (allows : LoadIsAllowed) (limits : LoadIsWithinLimits) (files : FilesAr
     are_apart outputs is = subst (λ os. AllPairs (λ a b. a ≢ b) (names_of os)) (sym is)
         (sinks_apart request.journal (report_names request) (given_names request) (taken_names request) (flat_map files_of m.scripts) (run_outputs r) refl
         (sub_behind (request.vertices ∷ request.edges ∷ []) (request.journal ∷ []) (request.journal ∷ (option_to_list request.schedule ++ request.scripts)) (inl (refl, tt)))
-        (files_of_run (inputs_of kind m) MAX_LEAVES (run_outputs r) run)
+        (files_of_run (inputs_of kind m) leaves (run_outputs r) run)
         (files_apart (taken_names request) m.scripts (distinct_names request asked) can))
 
 -- the summary has the counts of the journal's graph
-pub same_summary : (kind : Kind) (r : RunResult) → HasCounts kind r → (commits : ℕ) → commits ≡ length r.journal → summary_line commits r.vertices r.edges ≡ summary_text kind (run_outputs r)
+pub same_summary : (kind : Kind) (r : RunResult) → HasCounts kind r → (commits : ℕ) → commits ≡ length r.ran.journal → summary_line commits r.vertices r.edges ≡ summary_text kind (run_outputs r)
 same_summary kind r has commits is = λ i. summary_line (is i) (has.vertices i) (has.edges i)
 
 -- what was made of a run is of what the sources stand for
-pub made_from : (request : RunRequest) (m : Meaning) (p : Prepared) (r : RunResult) (kind : Kind) (commits : ℕ) → kind ≡ kind_of request
-    → IsRun (inputs_of kind m) MAX_LEAVES (run_outputs r) → IsStepped (inputs_of kind m) MAX_LEAVES m.schedule (run_outputs r) → HasCounts kind r → commits ≡ length r.journal
+pub made_from : (request : RunRequest) (m : Meaning) (p : Prepared) (r : RunResult) (kind : Kind) (leaves commits : ℕ) → kind ≡ kind_of request → leaves ≡ leaves_for request.leaves (most_rows (inputs_of kind m))
+    → IsRun (inputs_of kind m) leaves (run_outputs r) → IsStepped (inputs_of kind m) leaves m.schedule (run_outputs r) → HasCounts kind r → commits ≡ length r.ran.journal
     → p.outputs ≡ sinks_of request.journal (report_names request) (run_outputs r) → p.summary ≡ summary_line commits r.vertices r.edges → shows_full (run_outputs r) ≡ p.is_full
     → IsMadeOf request m p
-made_from request m p r kind commits is run stepped counts counted outputs summary full = record {
+made_from request m p r kind leaves commits is leaves_are run stepped counts counted outputs summary full = record {
   outputs = run_outputs r;
-  run = subst (λ k. IsRun (inputs_of k m) MAX_LEAVES (run_outputs r)) is run;
-  stepped = subst (λ k. IsStepped (inputs_of k m) MAX_LEAVES m.schedule (run_outputs r)) is stepped;
+  run = subst (λ n. IsRun (inputs_of (kind_of request) m) n (run_outputs r)) all_leaves (subst (λ k. IsRun (inputs_of k m) leaves (run_outputs r)) is run);
+  stepped = subst (λ n. IsStepped (inputs_of (kind_of request) m) n m.schedule (run_outputs r)) all_leaves (subst (λ k. IsStepped (inputs_of k m) leaves m.schedule (run_outputs r)) is stepped);
   outputs_are = outputs;
   summary_is = summary ∙ same_summary kind r counts commits counted ∙ ap (λ k. summary_text k (run_outputs r)) is;
   full = full;
 }
+  where
+    all_leaves : leaves ≡ leaves_of request m
+    all_leaves = leaves_are ∙ ap (λ k. leaves_for request.leaves (most_rows (inputs_of k m))) is
+
+-- the load was refused, and so nothing was made
+pub stopped_load : (request : RunRequest) (m : Meaning) (kind : Kind) (leaves : ℕ) (refusal : LoadRefusal) → kind ≡ kind_of request → leaves ≡ leaves_for request.leaves (most_rows (inputs_of kind m))
+    → IsRefusedLoad kind leaves m.ids m.edges refusal → IsLoadStop request m refusal
+stopped_load request m kind leaves (refusals.Full full) is leaves_are refused =
+    subst (λ k. SPLIT_ROWS * leaves_for request.leaves (most_rows (inputs_of k m)) ≤ inserted k (load_of m.ids m.edges)) is
+    (subst (λ n. SPLIT_ROWS * n ≤ inserted kind (load_of m.ids m.edges)) leaves_are refused)
+stopped_load request m kind leaves refusals.NoMemory is leaves_are refused = tt
+
+-- and nothing was prepared
+pub load_unprepared : (request : RunRequest) (sources : List (List ℕ)) (m : Meaning) (old new : Files) (refusal : LoadRefusal) (outcome : Outcome) → outcome ≡ outcome_of_load refusal
+    → AreRead MAX_SOURCE_BYTES old (source_names request) sources → IsAccepted request (texts_of request sources) m → IsLoadStop request m refusal → new ≡ old → IsUnprepared request old new outcome
+load_unprepared request sources m old new (refusals.Full full) outcome is read accepted heavy same = subst (IsUnprepared request old new) (sym is) ((sources, read, m, accepted, heavy), same)
+load_unprepared request sources m old new refusals.NoMemory outcome is read accepted heavy same = subst (IsUnprepared request old new) (sym is) same
 
 -- ---- before the first output
 

@@ -1,7 +1,7 @@
 -- What is known of a request that words are taken as.
 use Rattle.std.proofs.Common.{◌≢◌, ℕ, ◌<◌, ◌≤◌, List, length, arith, AllPairs}
-use Rattle.std.specs.Prelude.{Bool, Option, None, Some}
-use Rattle.graph_model.specs.declared.limits.TheConstants.{MAX_SCRIPTS}
+use Rattle.std.specs.Prelude.{Bool, IfSome, Option, None, Some}
+use Rattle.graph_model.specs.declared.limits.TheConstants.{MAX_LEAVES, MAX_SCRIPTS}
 use Rattle.graph_files.specs.Weights.{AreReadable}
 use Rattle.command_words.specs.Numbers.{HasNumber, IsOptionalNumber}
 use Rattle.command_words.specs.Words.{RunRequest, MakeRequest, make, IsTaken, taken_names}
@@ -21,6 +21,15 @@ weights_read (Some digits) (Some text) cut is = is.high
 -- the weights that are asked for have at most nine digits behind the point
 pub are_readable : (request : RunRequest) → IsAsked request → AreReadable (weights_of request)
 are_readable request (words, taken) = weights_read request.weights _ request.is_cut taken.given.1.given.weights
+
+leaves_read : (leaves : Option ℕ) (text : Option (List ℕ)) → IsOptionalNumber 1 MAX_LEAVES text leaves → IfSome leaves (λ n. 1 ≤ n) × IfSome leaves (λ n. n ≤ MAX_LEAVES)
+leaves_read None text is = (tt, tt)
+leaves_read (Some n) None is = cc
+leaves_read (Some n) (Some text) is = (is.low, is.high)
+
+-- a stated number of leaves is within its limits
+pub stated_leaves : (request : RunRequest) → IsAsked request → IfSome request.leaves (λ n. 1 ≤ n) × IfSome request.leaves (λ n. n ≤ MAX_LEAVES)
+stated_leaves request (words, taken) = leaves_read request.leaves _ taken.given.1.given.leaves
 
 some_number : (text : Option (List ℕ)) (number : ℕ) → HasNumber 2 1000000 text number → 0 < number
 some_number None number has = absurd has

@@ -1,19 +1,22 @@
 -- The engine of a run before its first turn, and what the run leaves.
 use Rattle.std.proofs.Common.{◌≡◌, ℕ, zero, suc, ◌+◌, ◌*◌, ◌<◌, ◌≤◌, List, [], ◌∷◌, length, map, take, get_or, All, refl, sym, ◌∙◌, ap, subst, arith, replicate}
-use Rattle.std.specs.Prelude.{Bool, cond, slice_get, Some, unwrap_or}
+use Rattle.std.specs.Prelude.{Bool, cond, slice_get, Some, unwrap_or, Result, Ok, Err, IsErrAnd, IfErr}
 use Rattle.std.specs.List.{AllByRecursion}
 use Rattle.std.proofs.lemmas.List.{append-nil}
 use Rattle.std.proofs.lemmas.List.Elements.{All-tail, All-head}
 use Rattle.std.proofs.lemmas.Option.{slice_get_within}
-use Rattle.graph_model.specs.declared.limits.TheConstants.{MAX_LEAVES, MAX_LOAD_ROWS}
+use Rattle.graph_model.specs.declared.limits.TheConstants.{MAX_LOAD_ROWS, SPLIT_ROWS}
 use Rattle.graph_model.specs.declared.write.Write.{Write}
 use Rattle.graph_model.specs.declared.write.Write.TheVariants.{AddVertex}
 use Rattle.graph_model.specs.declared.write.Kind.{Kind}
 use Rattle.graph_model.specs.declared.write.Kind.TheVariants.{Directed, Undirected}
-use Rattle.graph_model.specs.Graph.{vertices_of}
+use Rattle.graph_model.specs.declared.load.LoadRefusal.{LoadRefusal}
+use Rattle.graph_model.specs.declared.load.LoadRefusal.TheVariants as refusals
+use Rattle.graph_model.specs.Refused.{AllAllowed, IsWithinLimits}
+use Rattle.graph_model.specs.Graph.{empty_graph, vertices_of}
 use Rattle.graph_model.specs.History.{graph_at}
 use Rattle.graph_model.specs.Inserted.{inserted, inserted_by}
-use Rattle.graph_model.specs.Loading.{HasBegunNothing, IsNew, IsAdd, journal_of, loaded}
+use Rattle.graph_model.specs.Loading.{HasBegunNothing, IsNew, IsAdd, IsLoad, IsLoadRefusal, journal_of, loaded}
 use Rattle.graph_model.specs.OwnerCalls.{PassState, Core, no_pass}
 use Rattle.graphalytics_io.specs.declared.edges.Edge.{Edge}
 use Rattle.graphalytics_io.specs.Load.{load_of, added_edge}
@@ -26,8 +29,8 @@ use Rattle.run_model.specs.Jobs.{load_journal}
 use Rattle.run_model.specs.Stepped.{IsStepped}
 use Rattle.run_model.proofs.SetLemmas.{sum_cons}
 use Rattle.txn_manager.specs.declared.config.Config.{Config}
-use Rattle.plain_core.specs.Passes.{new_pass}
-use Rattle.plain_core.specs.Plain.{new_core, newest_graph, edges_of}
+use Rattle.teseo_core.specs.Passes.{new_pass}
+use Rattle.teseo_core.specs.Keeping.{new_core, newest_graph, edges_of}
 use Rattle.job_runner.specs.Lines.{file_of}
 use Rattle.job_runner.specs.Progress.{Progress}
 use Rattle.job_runner.specs.Runs.{new_jobs, IsUnused, AreNew, outputs_of, Ends}
@@ -35,7 +38,7 @@ use Rattle.command_words.specs.Words.{RunRequest}
 use Rattle.teseo_program.specs.Requests.{kind_of, rules_of}
 use Rattle.teseo_program.specs.declared.run.RunResult.{RunResult}
 use Rattle.teseo_program.specs.Input.{Meaning, Texts, IsAccepted}
-use Rattle.teseo_program.specs.Running.{run_outputs, HasCounts, Fits, IsConfig}
+use Rattle.teseo_program.specs.Running.{run_outputs, HasCounts, Fits, IsConfig, IsRefusedLoad}
 
 -- ---- transactions that a script begins
 
@@ -82,7 +85,7 @@ each_new : (allowed n : ℕ) → AllByRecursion HasBegunNothing (replicate n (ne
 each_new allowed zero = tt
 each_new allowed (suc n) = (record { begun = refl; made = refl; start = refl; own = refl }, each_new allowed n)
 
-module _ (kind : Kind) (scripts : List (List Command)) (config : Config) (is : IsConfig kind scripts config) where
+module _ (kind : Kind) (leaves : ℕ) (scripts : List (List Command)) (config : Config) (is : IsConfig kind leaves scripts config) where
   passes_are : (new_core config).passes ≡ new_pass config.txns_per_pass ∷ replicate (length scripts) (new_pass config.txns_per_pass)
   passes_are = ap (λ n. replicate n (new_pass config.txns_per_pass)) is.passes
 
@@ -118,7 +121,7 @@ journals_agree : (load : List Write) → journal_of load ≡ load_journal load
 journals_agree [] = refl
 journals_agree (w ∷ ws) = refl
 
-module _ (inputs : Inputs) (config : Config) (is : IsConfig inputs.kind inputs.scripts config) (given : AreInputs inputs) where
+module _ (inputs : Inputs) (leaves : ℕ) (config : Config) (is : IsConfig inputs.kind leaves inputs.scripts config) (given : AreInputs inputs) where
   first : PassState
   first = record (new_pass config.txns_per_pass) { begun = 1; made = inputs.load ∷ [] }
 
@@ -135,7 +138,7 @@ module _ (inputs : Inputs) (config : Config) (is : IsConfig inputs.kind inputs.s
     kind = config.kind;
     leaves = config.leaves;
     journal = journal_of inputs.load;
-    passes = loaded_passes (passes_are inputs.kind inputs.scripts config is i);
+    passes = loaded_passes (passes_are inputs.kind leaves inputs.scripts config is i);
     selected = 0;
     served = 0;
   }
@@ -170,26 +173,26 @@ module _ (inputs : Inputs) (config : Config) (is : IsConfig inputs.kind inputs.s
       → ((i : Inputs) → AreNew i engine jobs → Ends i listed engine new last) → Ends inputs listed engine new last
   ended before engine new jobs last listed before_is engine_is jobs_are ends = ends inputs (started before engine jobs before_is engine_is jobs_are)
 
-  pub leaves_are : (before engine : Core) → before ≡ new_core config → engine ≡ loaded before inputs.load → engine.leaves ≡ MAX_LEAVES
-  leaves_are before engine before_is engine_is = ap (λ c. c.leaves) engine_is ∙ ap (λ c. c.leaves) before_is ∙ is.leaves
+  pub leaves_are : (before engine : Core) → before ≡ new_core config → engine ≡ loaded before inputs.load → engine.leaves ≡ leaves
+  leaves_are before engine before_is engine_is = ap (λ c. c.leaves) engine_is ∙ ap (λ c. c.leaves) before_is ∙ is.leaves_are
 
 -- ---- what a run leaves
 
 -- the run, as the code hands it on
-pub stepped_of : (inputs : Inputs) (schedule listed : List ℕ) (engine new : Core) (jobs : List Progress) (r : RunResult) → Ends inputs listed engine new jobs → listed ≡ schedule → engine.leaves ≡ MAX_LEAVES
-    → r.journal ≡ new.journal → r.jobs ≡ jobs → IsStepped inputs MAX_LEAVES schedule (run_outputs r)
-stepped_of inputs schedule listed engine new jobs r ends same leaves journal jobs_are =
-    subst (λ o. IsStepped inputs MAX_LEAVES schedule o) (λ i. record { journal = sym journal i; reports = map (λ job. job.answers) (sym jobs_are i); files = map (λ job. map file_of job.tables) (sym jobs_are i) })
-    (subst (λ n. IsStepped inputs n schedule (outputs_of new jobs)) leaves (subst (λ turns. IsStepped inputs engine.leaves turns (outputs_of new jobs)) same ends.run))
+pub stepped_of : (inputs : Inputs) (leaves : ℕ) (schedule listed : List ℕ) (engine new : Core) (jobs : List Progress) (r : RunResult) → Ends inputs listed engine new jobs → listed ≡ schedule → engine.leaves ≡ leaves
+    → r.ran ≡ new → r.jobs ≡ jobs → IsStepped inputs leaves schedule (run_outputs r)
+stepped_of inputs leaves schedule listed engine new jobs r ends same leaves_is ran jobs_are =
+    subst (λ o. IsStepped inputs leaves schedule o) (λ i. record { journal = (sym ran i).journal; reports = map (λ job. job.answers) (sym jobs_are i); files = map (λ job. map file_of job.tables) (sym jobs_are i) })
+    (subst (λ n. IsStepped inputs n schedule (outputs_of new jobs)) leaves_is (subst (λ turns. IsStepped inputs engine.leaves turns (outputs_of new jobs)) same ends.run))
 
-pub counts_of : (asked : Kind) (new : Core) (r : RunResult) → new.kind ≡ asked → r.journal ≡ new.journal → r.vertices ≡ length (vertices_of (newest_graph new)) → r.edges ≡ edges_of new.kind (newest_graph new) → HasCounts asked r
-counts_of asked new r kind journal vertices edges = record {
+pub counts_of : (asked : Kind) (new : Core) (r : RunResult) → new.kind ≡ asked → r.ran ≡ new → r.vertices ≡ length (vertices_of (newest_graph new)) → r.edges ≡ edges_of new.kind (newest_graph new) → HasCounts asked r
+counts_of asked new r kind ran vertices edges = record {
   vertices = vertices ∙ ap (λ g. length (vertices_of g)) graphs_agree;
   edges = edges ∙ (λ i. edges_of (kind i) (graphs_agree i));
 }
   where
-    graphs_agree : newest_graph new ≡ graph_at asked r.journal (length r.journal)
-    graphs_agree = λ i. graph_at (kind i) (sym journal i) (length (sym journal i))
+    graphs_agree : newest_graph new ≡ graph_at asked r.ran.journal (length r.ran.journal)
+    graphs_agree = λ i. graph_at (kind i) (sym ran i).journal (length (sym ran i).journal)
 
 -- ---- what the code asks for
 
@@ -199,19 +202,39 @@ load_adds [] [] = tt
 load_adds [] (edge ∷ edges) = (tt, load_adds [] edges)
 load_adds (v ∷ ids) edges = (tt, load_adds ids edges)
 
+-- and so may be loaded, where its inputs may
+pub loadable : (inputs : Inputs) (core : Core) (ids : List ℕ) (edges : List Edge) → core.kind ≡ inputs.kind → inputs.load ≡ load_of ids edges → AreInputs inputs → IsLoad core (load_of ids edges)
+loadable inputs core ids edges kind load given = record {
+  adds = load_adds ids edges;
+  allowed = subst (λ k. AllAllowed k empty_graph (load_of ids edges)) (sym kind) (subst (λ ws. AllAllowed inputs.kind empty_graph ws) load given.allowed);
+  within = subst (λ ws. AllByRecursion IsWithinLimits ws) load given.within;
+}
+
+-- why the engine refused it
+pub refused_load : (core : Core) (kind : Kind) (leaves : ℕ) (ids : List ℕ) (edges : List Edge) (refusal : LoadRefusal) → core.leaves ≡ leaves → core.kind ≡ kind
+    → IsLoadRefusal core (load_of ids edges) refusal → IsRefusedLoad kind leaves ids edges refusal
+refused_load core kind leaves ids edges (refusals.Full full) leaves_are kind_is (same, heavy) =
+    subst (λ k. SPLIT_ROWS * leaves ≤ inserted k (load_of ids edges)) kind_is (subst (λ n. SPLIT_ROWS * n ≤ inserted core.kind (load_of ids edges)) (same ∙ leaves_are) heavy)
+refused_load core kind leaves ids edges refusals.NoMemory leaves_are kind_is is = tt
+
+-- a refusal that is handed on
+pub handed_on : {T E : Type 0} (r : Result T E) (e : E) (P : E → Type 0) → IsErrAnd r (λ x. x ≡ e) → P e → IfErr r P
+handed_on (Ok x) e P is here = absurd is
+handed_on (Err x) e P is here = subst P (sym is) here
+
 -- each item of a list, by its place
 pub all_at : {X : Type 0} (P : X → Type 0) (xs : List X) → All P xs → (i : ℕ) (x : X) → slice_get xs i ≡ Some x → P x
 all_at P [] all i x e = cc
 all_at P (y ∷ ys) all zero x e = let same : y ≡ x = cc in subst P same (All-head P y ys all)
 all_at P (y ∷ ys) all (suc i) x e = all_at P ys (All-tail P y ys all) i x e
 
-edge_rows : (kind : Kind) (edges : List Edge) → inserted kind (map added_edge edges) ≡ arcs_of kind * length edges
+pub edge_rows : (kind : Kind) (edges : List Edge) → inserted kind (map added_edge edges) ≡ arcs_of kind * length edges
 edge_rows Directed [] = refl
 edge_rows Undirected [] = refl
 edge_rows Directed (edge ∷ edges) = sum_cons (inserted_by Directed) (added_edge edge) (map added_edge edges) ∙ omega (arith, edge_rows Directed edges)
 edge_rows Undirected (edge ∷ edges) = sum_cons (inserted_by Undirected) (added_edge edge) (map added_edge edges) ∙ omega (arith, edge_rows Undirected edges)
 
-load_rows : (kind : Kind) (ids : List ℕ) (edges : List Edge) (rows : ℕ) → inserted kind (map added_edge edges) ≡ rows → inserted kind (load_of ids edges) ≡ length ids + rows
+pub load_rows : (kind : Kind) (ids : List ℕ) (edges : List Edge) (rows : ℕ) → inserted kind (map added_edge edges) ≡ rows → inserted kind (load_of ids edges) ≡ length ids + rows
 load_rows kind [] edges rows is = omega (arith, is)
 load_rows kind (v ∷ ids) edges rows is = sum_cons (inserted_by kind) (AddVertex v) (load_of ids edges) ∙ omega (arith, load_rows kind ids edges rows is)
 

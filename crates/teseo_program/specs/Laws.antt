@@ -4,7 +4,7 @@ use Rattle.std.specs.List.{AllZip}
 use Rattle.graph_model.specs.declared.limits.TheConstants.{MAX_SOURCE_BYTES}
 use Rattle.desk_io.specs.Files.{Files}
 use Rattle.teseo_program.specs.declared.outcome.Outcome.{Outcome}
-use Rattle.teseo_program.specs.declared.outcome.Outcome.TheVariants.{Done, Full}
+use Rattle.teseo_program.specs.declared.outcome.Outcome.TheVariants.{Done}
 use Rattle.command_words.specs.Words.{RunRequest, MakeRequest, run, make, IsTaken}
 use Rattle.teseo_program.specs.Requests.{source_names}
 use Rattle.teseo_program.specs.Input.{Meaning, texts_of, IsAccepted}
@@ -29,14 +29,14 @@ pub record HasNoFault (old new : Files) : Type 0 where
   pub reads : Stands old.read_faults new.read_faults
   pub writes : Stands old.write_faults new.write_faults
 
--- a run whose words and sources are accepted, and that meets no fault, is done, or finds no place for a row, or
--- wants memory
+-- a run whose words and sources are accepted, and that meets no fault, is done, or has no place for a row of the graph
+-- or of a write, or wants memory
 abbrev pub AcceptedRunsEndWell : Type 0
 AcceptedRunsEndWell =
     (outcome : Outcome) (words : List (List ℕ)) (request : RunRequest) (sources : List (List ℕ)) (m : Meaning)
     (old new : Files) → IsTaken words (run request) → AreTold request old sources
     → IsAccepted request (texts_of request sources) m → HasNoFault old new → IsOutcome outcome words old new
-    → (outcome ≡ Done) ⊎ ((outcome ≡ Full) ⊎ (status_of outcome ≡ 3))
+    → (outcome ≡ Done) ⊎ ((status_of outcome ≡ 6) ⊎ (status_of outcome ≡ 3))
 
 -- a graph that is asked for is made and written, if no fault is met, or memory is wanted
 abbrev pub GraphsAreMade : Type 0

@@ -1,6 +1,7 @@
 pub mod Requests
 pub mod Input
 pub mod Parsing
+pub mod Leaves
 pub mod Sinks
 pub mod Outcomes
 pub mod Prepared

@@ -1,7 +1,11 @@
 -- How a run may end: for each outcome its cause, what it leaves, and what is said.
-use Rattle.std.specs.Prelude.{◌≡◌, ℕ, Bool, true, false, List, [], ◌∷◌, ◌++◌, codes, IfSome, decimal}
+use Rattle.std.specs.Prelude.{◌≡◌, ℕ, ◌*◌, ◌≤◌, Bool, true, false, List, [], ◌∷◌, ◌++◌, codes, IfSome, decimal}
 use Rattle.std.specs.List.{list_any}
-use Rattle.graph_model.specs.declared.limits.TheConstants.{MAX_SOURCE_BYTES, MAX_LEAVES}
+use Rattle.graph_model.specs.declared.limits.TheConstants.{MAX_SOURCE_BYTES, SPLIT_ROWS}
+use Rattle.graph_model.specs.declared.load.LoadRefusal.{LoadRefusal}
+use Rattle.graph_model.specs.declared.load.LoadRefusal.TheVariants as loads
+use Rattle.graph_model.specs.Inserted.{inserted}
+use Rattle.graphalytics_io.specs.Load.{load_of}
 use Rattle.run_model.specs.declared.answer.Answer.{Answer}
 use Rattle.run_model.specs.declared.answer.Answer.TheVariants as answers
 use Rattle.run_model.specs.Inputs.{Outputs}
@@ -23,8 +27,9 @@ use Rattle.teseo_program.specs.declared.fault.SourceFault.TheVariants as faults
 use Rattle.teseo_program.specs.declared.fault.ParseStop.{ParseStop}
 use Rattle.teseo_program.specs.declared.fault.ParseStop.TheVariants as parses
 use Rattle.teseo_program.specs.declared.outcome.Outcome.{Outcome}
-use Rattle.teseo_program.specs.declared.outcome.Outcome.TheVariants.{Done, Full, BadWords, NotRead, NotAccepted, NoMemory, NotWritten}
+use Rattle.teseo_program.specs.declared.outcome.Outcome.TheVariants.{Done, Full, LoadFull, BadWords, NotRead, NotAccepted, NoMemory, NotWritten}
 use Rattle.teseo_program.specs.Input.{Meaning, Texts, texts_of, IsAccepted, IsNotAccepted, inputs_of}
+use Rattle.teseo_program.specs.Leaves.{leaves_of}
 use Rattle.teseo_program.specs.Sinks.{sinks_of, summary_text}
 use Rattle.teseo_program.specs.MadeGraphs.{graph_outputs, made_text}
 
@@ -39,6 +44,7 @@ read_status reads.NoMemory = 3
 abbrev pub status_of : Outcome → ℕ
 status_of Done = 0
 status_of Full = 6
+status_of LoadFull = 6
 status_of BadWords = 2
 status_of (NotRead stop) = read_status stop
 status_of (NotAccepted place fault) = 1
@@ -49,6 +55,11 @@ status_of (NotWritten stop) = 5
 abbrev pub outcome_of_parse : ParseStop → Outcome
 outcome_of_parse (parses.NotAccepted place fault) = NotAccepted place fault
 outcome_of_parse parses.NoMemory = NoMemory
+
+-- why the graph wasn't loaded is how the run ends
+abbrev pub outcome_of_load : LoadRefusal → Outcome
+outcome_of_load (loads.Full leaves) = LoadFull
+outcome_of_load loads.NoMemory = NoMemory
 
 -- why the words weren't read is how the call ends
 abbrev pub outcome_of_words : WordsRefusal → Outcome
@@ -66,6 +77,7 @@ blamed_source sources reads.NoMemory = []
 abbrev pub blamed : List (List ℕ) → List (List ℕ) → Outcome → List ℕ
 blamed sources outputs Done = []
 blamed sources outputs Full = []
+blamed sources outputs LoadFull = []
 blamed sources outputs BadWords = []
 blamed sources outputs (NotRead stop) = blamed_source sources stop
 blamed sources outputs (NotAccepted place fault) = name_at sources place
@@ -94,6 +106,7 @@ fault_text name (faults.Schedule line what) = line_text name line (schedule_what
 abbrev pub said_text : List ℕ → List ℕ → Outcome → List ℕ
 said_text name summary Done = summary
 said_text name summary Full = summary
+said_text name summary LoadFull = codes "load full\n"
 said_text name summary BadWords = codes "bad words\n"
 said_text name summary (NotRead stop) = read_text name stop
 said_text name summary (NotAccepted place fault) = fault_text name fault
@@ -145,8 +158,8 @@ shows_full o = list_any (list_any is_full) o.reports
 pub record IsOfTexts (request : RunRequest) (texts : Texts) (made : Made) : Type 0 where
   pub m : Meaning
   pub accepted : IsAccepted request texts m
-  pub run : IsRun (inputs_of (kind_of request) m) MAX_LEAVES made.run
-  pub stepped : IsStepped (inputs_of (kind_of request) m) MAX_LEAVES m.schedule made.run
+  pub run : IsRun (inputs_of (kind_of request) m) (leaves_of request m) made.run
+  pub stepped : IsStepped (inputs_of (kind_of request) m) (leaves_of request m) m.schedule made.run
   pub outputs_are : made.outputs ≡ sinks_of request.journal (report_names request) made.run
   pub summary_is : made.summary ≡ summary_text (kind_of request) made.run
 
@@ -162,6 +175,13 @@ IsRefusedAt request files place fault =
     (sources : List (List ℕ)) × AreRead MAX_SOURCE_BYTES files (source_names request) sources
     × IsNotAccepted request (texts_of request sources) place fault
 
+-- all sources were read and accepted, and the rows of the graph may fill as many leaves as the store has
+abbrev pub IsFullLoad : RunRequest → Files → Type 0
+IsFullLoad request files =
+    (sources : List (List ℕ)) × AreRead MAX_SOURCE_BYTES files (source_names request) sources
+    × (m : Meaning) × IsAccepted request (texts_of request sources) m
+    × (SPLIT_ROWS * leaves_of request m ≤ inserted (kind_of request) (load_of m.ids m.edges))
+
 -- all is written of a run whose reports show `full`, or don't
 pub record IsWhole (is_full : Bool) (request : RunRequest) (made : Made) (old new : Files) : Type 0 where
   pub of_run : AreOfRun request old made
@@ -172,6 +192,7 @@ pub record IsWhole (is_full : Bool) (request : RunRequest) (made : Made) (old ne
 abbrev pub IsCause : Outcome → RunRequest → Made → Files → Files → Type 0
 IsCause Done request made old new = IsWhole false request made old new
 IsCause Full request made old new = IsWhole true request made old new
+IsCause LoadFull request made old new = IsFullLoad request old × (new ≡ old)
 IsCause BadWords request made old new = ⊥
 IsCause (NotRead stop) request made old new = IsReadStop MAX_SOURCE_BYTES (source_names request) old new stop
 IsCause (NotAccepted place fault) request made old new = IsRefusedAt request old place fault × (new ≡ old)
@@ -194,6 +215,7 @@ pub record IsRunOutcome (outcome : Outcome) (request : RunRequest) (old new : Fi
 abbrev pub IsMakeCause : Outcome → MakeRequest → Files → Files → Type 0
 IsMakeCause Done request old new = WritesAll (graph_outputs request) old new
 IsMakeCause Full request old new = ⊥
+IsMakeCause LoadFull request old new = ⊥
 IsMakeCause BadWords request old new = ⊥
 IsMakeCause (NotRead stop) request old new = ⊥
 IsMakeCause (NotAccepted place fault) request old new = ⊥
@@ -226,6 +248,7 @@ IsOutcome BadWords words old new =
 IsOutcome NoMemory words old new = OnlySays (said_text [] [] NoMemory) old new
 IsOutcome Done words old new = TakenEnds Done words old new
 IsOutcome Full words old new = TakenEnds Full words old new
+IsOutcome LoadFull words old new = TakenEnds LoadFull words old new
 IsOutcome (NotRead stop) words old new = TakenEnds (NotRead stop) words old new
 IsOutcome (NotAccepted place fault) words old new = TakenEnds (NotAccepted place fault) words old new
 IsOutcome (NotWritten stop) words old new = TakenEnds (NotWritten stop) words old new

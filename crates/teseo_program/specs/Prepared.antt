@@ -1,6 +1,10 @@
 -- What is made before the first output is created, and why nothing is.
-use Rattle.std.specs.Prelude.{◌≡◌, ◌≢◌, Bool, true, false, List, [], AllPairs}
-use Rattle.graph_model.specs.declared.limits.TheConstants.{MAX_SOURCE_BYTES, MAX_LEAVES}
+use Rattle.std.specs.Prelude.{◌≡◌, ◌≢◌, ◌*◌, ◌≤◌, Bool, true, false, List, [], AllPairs}
+use Rattle.graph_model.specs.declared.limits.TheConstants.{MAX_SOURCE_BYTES, SPLIT_ROWS}
+use Rattle.graph_model.specs.declared.load.LoadRefusal.{LoadRefusal}
+use Rattle.graph_model.specs.declared.load.LoadRefusal.TheVariants as refusals
+use Rattle.graph_model.specs.Inserted.{inserted}
+use Rattle.graphalytics_io.specs.Load.{load_of}
 use Rattle.run_model.specs.Inputs.{Outputs}
 use Rattle.run_model.specs.Run.{IsRun}
 use Rattle.run_model.specs.Stepped.{IsStepped}
@@ -10,12 +14,13 @@ use Rattle.desk_io.specs.Sources.{IsReadStop}
 use Rattle.command_words.specs.Words.{RunRequest, MakeRequest}
 use Rattle.teseo_program.specs.Requests.{source_names, report_names, kind_of}
 use Rattle.teseo_program.specs.declared.outcome.Outcome.{Outcome}
-use Rattle.teseo_program.specs.declared.outcome.Outcome.TheVariants.{Done, Full, BadWords, NotRead, NotAccepted, NoMemory, NotWritten}
+use Rattle.teseo_program.specs.declared.outcome.Outcome.TheVariants.{Done, Full, LoadFull, BadWords, NotRead, NotAccepted, NoMemory, NotWritten}
 use Rattle.teseo_program.specs.declared.prepare.Prepared.{Prepared}
 use Rattle.teseo_program.specs.Input.{Meaning, inputs_of}
+use Rattle.teseo_program.specs.Leaves.{leaves_of}
 use Rattle.teseo_program.specs.Sinks.{sinks_of, summary_text}
 use Rattle.teseo_program.specs.MadeGraphs.{graph_outputs, made_text}
-use Rattle.teseo_program.specs.Outcomes.{Made, shows_full, AreOfRun, IsRefusedAt, OnlySays, said_text, blamed}
+use Rattle.teseo_program.specs.Outcomes.{Made, shows_full, AreOfRun, IsFullLoad, IsRefusedAt, OnlySays, said_text, blamed}
 
 -- ---- why nothing was made
 
@@ -26,6 +31,7 @@ IsUnprepared request old new (NotAccepted place fault) = IsRefusedAt request old
 IsUnprepared request old new NoMemory = new ≡ old
 IsUnprepared request old new Done = ⊥
 IsUnprepared request old new Full = ⊥
+IsUnprepared request old new LoadFull = IsFullLoad request old × (new ≡ old)
 IsUnprepared request old new BadWords = ⊥
 IsUnprepared request old new (NotWritten stop) = ⊥
 
@@ -43,11 +49,17 @@ pub record IsPreparedOf (request : RunRequest) (files : Files) (p : Prepared) : 
 -- of a run of what the sources stand for
 pub record IsMadeOf (request : RunRequest) (m : Meaning) (p : Prepared) : Type 0 where
   pub outputs : Outputs
-  pub run : IsRun (inputs_of (kind_of request) m) MAX_LEAVES outputs
-  pub stepped : IsStepped (inputs_of (kind_of request) m) MAX_LEAVES m.schedule outputs
+  pub run : IsRun (inputs_of (kind_of request) m) (leaves_of request m) outputs
+  pub stepped : IsStepped (inputs_of (kind_of request) m) (leaves_of request m) m.schedule outputs
   pub outputs_are : p.outputs ≡ sinks_of request.journal (report_names request) outputs
   pub summary_is : p.summary ≡ summary_text (kind_of request) outputs
   pub full : shows_full outputs ≡ p.is_full
+
+-- why nothing was made of what the sources stand for: the rows of the graph may fill the leaves, or memory is wanted
+abbrev pub IsLoadStop : RunRequest → Meaning → LoadRefusal → Type 0
+IsLoadStop request m (refusals.Full full) =
+    SPLIT_ROWS * leaves_of request m ≤ inserted (kind_of request) (load_of m.ids m.edges)
+IsLoadStop request m refusals.NoMemory = Unit {0}
 
 -- the texts of a graph were made
 pub record IsMadeGraph (request : MakeRequest) (p : Prepared) : Type 0 where
@@ -63,6 +75,7 @@ NamesAreApart p = AllPairs (λ a b. a ≢ b) (names_of p.outputs)
 abbrev pub Writes : Bool → List NamedText → Outcome → Files → Files → Type 0
 Writes is_full outputs Done old new = (is_full ≡ false) × WritesAll outputs old new
 Writes is_full outputs Full old new = (is_full ≡ true) × WritesAll outputs old new
+Writes is_full outputs LoadFull old new = ⊥
 Writes is_full outputs BadWords old new = ⊥
 Writes is_full outputs (NotRead stop) old new = ⊥
 Writes is_full outputs (NotAccepted place fault) old new = ⊥

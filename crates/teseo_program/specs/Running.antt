@@ -16,7 +16,9 @@ use Rattle.run_model.specs.Inputs.{Outputs}
 use Rattle.run_model.specs.Stepped.{IsStepped}
 use Rattle.script_lang.specs.FieldFaults.{IsNameByte}
 use Rattle.txn_manager.specs.declared.config.Config.{Config}
-use Rattle.plain_core.specs.Plain.{new_core}
+use Rattle.graph_model.specs.declared.load.LoadRefusal.{LoadRefusal}
+use Rattle.graph_model.specs.declared.load.LoadRefusal.TheVariants as refusals
+use Rattle.teseo_core.specs.Keeping.{new_core}
 use Rattle.job_runner.specs.Lines.{file_of}
 use Rattle.job_runner.specs.Progress.{Progress}
 use Rattle.teseo_program.specs.declared.input.Input.{Input}
@@ -27,14 +29,14 @@ use Rattle.teseo_program.specs.Parsing.{meaning_of}
 -- the journal, the reports and the kernel files
 abbrev pub run_outputs : RunResult → Outputs
 run_outputs r = record {
-  journal = r.journal;
+  journal = r.ran.journal;
   reports = map (λ job. job.answers) r.jobs;
   files = map (λ job. map file_of job.tables) r.jobs;
 }
 
--- what was left is a run of this input by the turns of its schedule
-abbrev pub IsSteppedRun : Kind → Input → RunResult → Type 0
-IsSteppedRun kind input r = IsStepped (inputs_of kind (meaning_of input)) MAX_LEAVES input.schedule (run_outputs r)
+-- what was left is a run of this input on so many leaves, by the turns of its schedule
+abbrev pub IsSteppedRun : Kind → ℕ → Input → RunResult → Type 0
+IsSteppedRun kind leaves input r = IsStepped (inputs_of kind (meaning_of input)) leaves input.schedule (run_outputs r)
 
 -- the names of all kernel files are printable ASCII
 abbrev pub HavePrintableNames : List Progress → Type 0
@@ -42,8 +44,8 @@ HavePrintableNames jobs = AllByRecursion (λ job. AllByRecursion (λ t. All IsNa
 
 -- the counts are those of the newest graph
 pub record HasCounts (kind : Kind) (r : RunResult) : Type 0 where
-  pub vertices : r.vertices ≡ length (vertices_of (graph_at kind r.journal (length r.journal)))
-  pub edges : r.edges ≡ edges_in kind (graph_at kind r.journal (length r.journal))
+  pub vertices : r.vertices ≡ length (vertices_of (graph_at kind r.ran.journal (length r.ran.journal)))
+  pub edges : r.edges ≡ edges_in kind (graph_at kind r.ran.journal (length r.ran.journal))
 
 -- ---- the engine
 
@@ -56,10 +58,10 @@ abbrev pub MayBegin : List (List Command) → ℕ → Type 0
 MayBegin scripts most =
     (k : ℕ) (commands : List Command) → slice_get scripts k ≡ Some commands → begun_by 0 commands ≤ most
 
--- a pass for each script, and one for the load
-pub record IsConfig (kind : Kind) (scripts : List (List Command)) (config : Config) : Type 0 where
+-- so many leaves, a pass for each script, and one for the load
+pub record IsConfig (kind : Kind) (leaves : ℕ) (scripts : List (List Command)) (config : Config) : Type 0 where
   pub kind_is : config.kind ≡ kind
-  pub leaves : config.leaves ≡ MAX_LEAVES
+  pub leaves_are : config.leaves ≡ leaves
   pub passes : config.passes ≡ suc (length scripts)
   pub begins : MayBegin scripts config.txns_per_pass
   pub some : 0 < config.txns_per_pass
@@ -67,5 +69,10 @@ pub record IsConfig (kind : Kind) (scripts : List (List Command)) (config : Conf
 -- the engine of some scripts before its first call
 abbrev pub IsNewEngine : Core → Type 0
 IsNewEngine core =
-    (kind : Kind) × (scripts : List (List Command)) × (config : Config) × IsConfig kind scripts config
-    × (core ≡ new_core config)
+    (kind : Kind) × (leaves : ℕ) × (scripts : List (List Command)) × (config : Config)
+    × IsConfig kind leaves scripts config × (core ≡ new_core config)
+
+-- why a load was refused: its rows may fill so many leaves, or memory is wanted
+abbrev pub IsRefusedLoad : Kind → ℕ → List ℕ → List Edge → LoadRefusal → Type 0
+IsRefusedLoad kind leaves ids edges (refusals.Full full) = SPLIT_ROWS * leaves ≤ inserted kind (load_of ids edges)
+IsRefusedLoad kind leaves ids edges refusals.NoMemory = Unit {0}

@@ -8,6 +8,7 @@
 mod fault;
 mod input;
 mod laws;
+mod leaves;
 mod make;
 mod outcome;
 mod outputs;

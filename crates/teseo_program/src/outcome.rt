@@ -5,7 +5,7 @@ ghost use Rattle.std.specs.Prelude.{◌≡◌};
 use crate::fault::{ParseStop, SourceFault};
 use command_words::WordsRefusal;
 use desk_io::{ReadStop, WriteStop};
-use graph_model::NoMemory;
+use graph_model::{LoadRefusal, NoMemory};
 
 /// How a call ends, each with its exit status and what is said.
 ///
@@ -19,6 +19,7 @@ use graph_model::NoMemory;
 /// | `NotRead` by a fault | 4 | `read failed NAME` |
 /// | `NotWritten` | 5 | `write failed NAME` |
 /// | `Full` | 6 | the summary |
+/// | `LoadFull` | 6 | `load full` |
 ///
 /// A place is that of a source, or of an output, among those that the call reads or writes, from 0. `make` ends as
 /// `Done`, `NoMemory` or `NotWritten`.
@@ -27,6 +28,8 @@ pub enum Outcome {
     Done,
     /// All is written, and a write found no place: a report has the line `full`.
     Full,
+    /// The leaves have no place for all rows of the graph. Nothing is created.
+    LoadFull,
     BadWords,
     NotRead(ReadStop),
     NotAccepted { place: usize, fault: SourceFault },
@@ -51,6 +54,7 @@ impl Outcome {
             Outcome::NoMemory => 3,
             Outcome::NotWritten(_) => 5,
             Outcome::Full => 6,
+            Outcome::LoadFull => 6,
         }
     }
 }
@@ -98,6 +102,19 @@ impl From<WriteStop> for Outcome {
 
     fn from(stop: WriteStop) -> Outcome {
         Outcome::NotWritten(stop)
+    }
+}
+
+impl From<LoadRefusal> for Outcome {
+    ghost use Rattle.teseo_program.specs.Outcomes.{outcome_of_load};
+
+    ghost from_gives = { λ refusal outcome. outcome ≡ outcome_of_load refusal };
+
+    fn from(refusal: LoadRefusal) -> Outcome {
+        match refusal {
+            LoadRefusal::Full { leaves: _ } => Outcome::LoadFull,
+            LoadRefusal::NoMemory => Outcome::NoMemory,
+        }
     }
 }
 

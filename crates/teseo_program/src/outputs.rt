@@ -38,7 +38,7 @@ pub fn outputs_of(
 {
     let mut outputs = Items::new(alloc);
     let mut text = Text::new(alloc);
-    write_journal(&run.journal, &mut text)?;
+    write_journal(run.ran.journal(), &mut text)?;
     outputs.push(output_of(alloc, words.journal, text)?)?;
     let jobs = run.jobs.as_slice();
     'reports: for k in 0..jobs.len() {

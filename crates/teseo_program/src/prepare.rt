@@ -7,10 +7,11 @@ ghost use Rattle.command_words.specs.Views.{run_request};
 ghost use Rattle.teseo_program.specs.Requests.{IsAsked, kind_of};
 ghost use Rattle.teseo_program.specs.Input.{Texts, IsAccepted};
 ghost use Rattle.teseo_program.specs.Parsing.{meaning_of, AreRunnable};
-ghost use Rattle.teseo_program.specs.Prepared.{IsUnprepared, IsPreparedOf, IsMadeOf, NamesAreApart};
+ghost use Rattle.teseo_program.specs.Prepared.{IsUnprepared, IsPreparedOf, IsMadeOf, IsLoadStop, NamesAreApart};
 
 use crate::fault::ParseStop;
 use crate::input::{Input, parse_sources};
+use crate::leaves::leaves_of;
 use crate::outcome::Outcome;
 use crate::outputs::{is_full, outputs_of, summary_of};
 use crate::request::{kind_of, sources_of};
@@ -18,7 +19,7 @@ use crate::run::run_scripts;
 use command_words::RunWords;
 use desk_io::{Desk, Output, read_all};
 use graph_files::{files_are_loadable, load_is_legal};
-use graph_model::{MAX_SOURCE_BYTES, NoMemory};
+use graph_model::{LoadRefusal, MAX_SOURCE_BYTES};
 use graphalytics_io::Text;
 use items::Items;
 use std::alloc::Global;
@@ -52,8 +53,10 @@ pub fn prepare<R: Threads + Sync, D: Desk>(
         Ok(input) => input,
         Err(stop) => return Err(Outcome::from(stop)),
     };
-    let prepared = make(rt, alloc, words, input)?;
-    Ok(prepared)
+    match make(rt, alloc, words, input) {
+        Ok(prepared) => Ok(prepared),
+        Err(refusal) => Err(Outcome::from(refusal)),
+    }
 }
 
 /// Runs the scripts on the graph of the sources, and makes the texts of what that leaves.
@@ -62,7 +65,7 @@ fn make<R: Threads + Sync>(
     alloc: Global,
     words: &RunWords<'_>,
     input: Input,
-) -> Result<Prepared, NoMemory>
+) -> Result<Prepared, LoadRefusal>
     requires asked { IsAsked (run_request words.now) }
     requires accepted { (texts : Texts) × IsAccepted (run_request words.now) texts (meaning_of input) }
     requires runnable { AreRunnable (taken_names (run_request words.now)) input.scripts }
@@ -70,11 +73,14 @@ fn make<R: Threads + Sync>(
     requires listed { All (λ job. job ≤ length input.scripts) input.schedule }
     ensures made { IfOk result (IsMadeOf (run_request words.now) (meaning_of input)) }
     ensures apart { IfOk result NamesAreApart }
+    ensures refused { IfErr result (IsLoadStop (run_request words.now) (meaning_of input)) }
 {
     files_are_loadable();
     load_is_legal();
-    let run = run_scripts(rt, alloc, kind_of(words), input)?;
-    let commits = run.journal.len() as u64;
+    let kind = kind_of(words);
+    let leaves = leaves_of(words.leaves, kind, &input);
+    let run = run_scripts(rt, alloc, kind, leaves, input)?;
+    let commits = run.ran.journal().len() as u64;
     let summary = summary_of(alloc, commits, run.vertices, run.edges)?;
     let outputs = outputs_of(alloc, words, &run)?;
     let is_full = is_full(&run);

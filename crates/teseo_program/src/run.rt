@@ -2,9 +2,9 @@
 //!
 //! 1. The graph is loaded as the first transaction of a new engine, and the scripts take their turns behind it.
 //! 2. Script k uses pass k of the engine, and the load and the service use pass 0.
-//! 3. The engine may have as many leaves as there can be, so the load always finds its places.
+//! 3. The store has as many leaves as are stated, or as the rows of the load and of the scripts can fill.
 
-ghost use Rattle.std.specs.Prelude.{◌≡◌, ◌≤◌, ◌+◌, ◌<◌, ℕ, cond, length, All, IfOk, OnOk, false};
+ghost use Rattle.std.specs.Prelude.{◌≡◌, ◌≤◌, ◌+◌, ◌<◌, ℕ, cond, length, All, IfOk, IfErr, false};
 ghost use Rattle.std.specs.List.{AllByRecursion};
 ghost use Rattle.graph_model.specs.declared.limits.TheConstants.{MAX_LEAVES, MAX_SCRIPTS, MAX_BEGINS};
 ghost use Rattle.graphalytics_io.specs.Load.{load_of};
@@ -15,29 +15,28 @@ ghost use Rattle.run_model.specs.Inputs.{AreInputs};
 ghost use Rattle.run_model.specs.Requests.{request, next_txn, begun_by};
 ghost use Rattle.run_model.specs.Run.{IsRun};
 ghost use Rattle.txn_manager.specs.Config.{too_large};
-ghost use Rattle.plain_core.specs.Plain.{new_core};
+ghost use Rattle.teseo_core.specs.Keeping.{new_core};
 ghost use Rattle.job_runner.specs.Runs.{new_jobs};
 ghost use Rattle.teseo_program.specs.Input.{inputs_of};
 ghost use Rattle.teseo_program.specs.Parsing.{meaning_of};
-ghost use Rattle.teseo_program.specs.Running.{run_outputs, HasCounts, IsSteppedRun, Fits, MayBegin, IsConfig, IsNewEngine};
+ghost use Rattle.teseo_program.specs.Running.{run_outputs, HasCounts, IsSteppedRun, IsRefusedLoad, MayBegin, IsConfig};
 
 use crate::input::Input;
 use graph_load::load_graph;
-use graph_model::{Ids, Journal, Kind, LoadRefusal, MAX_LEAVES, NoMemory};
-use graphalytics_io::Edges;
+use graph_model::{Kind, LoadRefusal, NoMemory};
 use items::Items;
 use job_runner::{Job, Jobs, run_stepped};
-use plain_core::PlainCore;
 use run_model::{Command, Script, stepped_runs_are_runs};
 use std::alloc::Global;
 use std::thread::Threads;
+use teseo_core::{Core, CoreJournal};
 use txn_manager::{Config, StoreRefusal};
 
-/// What the run of the scripts leaves: the journal, the scripts with their answers and tables, and how many
+/// What the run of the scripts leaves: the engine's journal, the scripts with their answers and tables, and how many
 /// vertices and edges the newest graph has.
 #[derive(Drop)]
 pub struct RunResult {
-    pub journal: Journal,
+    pub ran: CoreJournal,
     pub jobs: Jobs,
     pub vertices: u64,
     pub edges: u64,
@@ -48,24 +47,28 @@ pub fn run_scripts<R: Threads + Sync>(
     rt: &R,
     alloc: Global,
     kind: Kind,
+    leaves: u32,
     input: Input,
-) -> Result<RunResult, NoMemory>
+) -> Result<RunResult, LoadRefusal>
+    requires some { 1 ≤ leaves }
+    requires few { leaves ≤ MAX_LEAVES }
     requires inputs { AreInputs (inputs_of kind (meaning_of input)) }
-    requires fits { Fits kind input.ids input.edges }
     requires listed { All (λ job. job ≤ length input.scripts) input.schedule }
-    ensures run { IfOk result (λ r. IsRun (inputs_of kind (meaning_of input)) MAX_LEAVES (run_outputs r)) }
-    ensures stepped { IfOk result (IsSteppedRun kind input) }
+    ensures run { IfOk result (λ r. IsRun (inputs_of kind (meaning_of input)) leaves (run_outputs r)) }
+    ensures stepped { IfOk result (IsSteppedRun kind leaves input) }
     ensures counts { IfOk result (HasCounts kind) }
+    ensures refused { IfErr result (IsRefusedLoad kind leaves input.ids input.edges) }
 {
     stepped_runs_are_runs();
-    let config = config_of(kind, input.scripts.as_slice());
+    let config = config_of(kind, leaves, input.scripts.as_slice());
     let mut engine = new_engine(alloc, config)?;
-    load(alloc, &mut engine, &input.ids, &input.edges)?;
+    load_graph(alloc, &mut engine, &input.ids, &input.edges)?;
     let mut jobs = jobs_of(alloc, input.scripts)?;
     run_stepped(rt, &mut engine, &mut jobs, input.schedule.as_slice())?;
+    engine.settle();
     let totals = engine.totals();
     Ok(RunResult {
-        journal: engine.into_journal(),
+        ran: engine.into_journal(),
         jobs,
         vertices: totals.vertices,
         edges: totals.edges,
@@ -74,10 +77,12 @@ pub fn run_scripts<R: Threads + Sync>(
 
 /// What the engine of these scripts is made with: a pass for each, and one for the load. Each may begin as
 /// many transactions as the script with most of them.
-fn config_of(kind: Kind, scripts: &[Script]) -> Config
+fn config_of(kind: Kind, leaves: u32, scripts: &[Script]) -> Config
+    requires some { 1 ≤ leaves }
+    requires few { leaves ≤ MAX_LEAVES }
     requires count { length scripts.now ≤ MAX_SCRIPTS }
     requires begins { MayBegin scripts.now MAX_BEGINS }
-    ensures config { IsConfig kind scripts.now result }
+    ensures config { IsConfig kind leaves scripts.now result }
     ensures fits { too_large result ≡ false }
 {
     let mut most = 1;
@@ -86,7 +91,7 @@ fn config_of(kind: Kind, scripts: &[Script]) -> Config
     }
     Config {
         kind,
-        leaves: MAX_LEAVES,
+        leaves,
         passes: scripts.len() as u32 + 1,
         txns_per_pass: most,
     }
@@ -114,29 +119,14 @@ fn is_begin(command: &Command) -> bool
 }
 
 /// An engine that isn't too large.
-fn new_engine(alloc: Global, config: Config) -> Result<PlainCore, NoMemory>
+fn new_engine(alloc: Global, config: Config) -> Result<Core, NoMemory>
     requires { too_large config ≡ false }
-    ensures { IfOk result (λ engine. engine ≡ new_core config) }
+    ensures { IfOk result (λ engine. engine.core ≡ new_core config) }
 {
-    match PlainCore::new(alloc, config) {
+    match Core::new(alloc, config) {
         Ok(engine) => Ok(engine),
         Err(StoreRefusal::TooLarge) => unreachable!(),
         Err(StoreRefusal::NoMemory) => Err(NoMemory),
-    }
-}
-
-/// Loads the graph into a new engine with as many leaves as there may be.
-fn load(alloc: Global, engine: &mut PlainCore, ids: &Ids, edges: &Edges) -> Result<(), NoMemory>
-    requires new { IsNewEngine engine.old }
-    requires allowed { AllAllowed engine.old.kind empty_graph (load_of ids.now edges.now) }
-    requires within { AllByRecursion IsWithinLimits (load_of ids.now edges.now) }
-    requires fits { Fits engine.old.kind ids.now edges.now }
-    ensures { OnOk result (engine.new ≡ loaded engine.old (load_of ids.now edges.now)) }
-{
-    match load_graph(alloc, engine, ids, edges) {
-        Ok(()) => Ok(()),
-        Err(LoadRefusal::Full { leaves: _ }) => unreachable!(),
-        Err(LoadRefusal::NoMemory) => Err(NoMemory),
     }
 }
 

@@ -17,6 +17,7 @@ pub fn say_outcome<D: Desk>(desk: &mut D, name: &str, summary: &[u8], outcome: O
     match outcome {
         Outcome::Done => say_text(desk, summary),
         Outcome::Full => say_text(desk, summary),
+        Outcome::LoadFull => say_text(desk, b"load full\n"),
         Outcome::BadWords => say_text(desk, b"bad words\n"),
         Outcome::NotRead(ReadStop::Fault { .. }) => say_line(
             desk,

@@ -15,14 +15,6 @@ returns-in-Err-clause-refused g c =
     (ap (map (λ name. name.now)) c.deref.ensures.value ∙ c.in_ok-names.ensures) c.in_ok-sources.ensures.whole)
     c.in-Err.ensures.refused c.in_ok-sources.ensures.ok
 
-pub returns-clause-prepared : goal.returns-clause-prepared
-returns-clause-prepared g c =
-    let request = run_request c.args.words.now in
-    prepared_of request (g.D.Desk.files c.args.desk.now) c.in_ok-sources.sources (meaning_of c.in-Ok.input) c.in_ok-prepared.prepared
-    (subst (λ ns. AreRead MAX_SOURCE_BYTES (g.D.Desk.files c.args.desk.now) ns c.in_ok-sources.sources)
-    (ap (map (λ name. name.now)) c.deref.ensures.value ∙ c.in_ok-names.ensures) c.in_ok-sources.ensures.whole)
-    c.in-Ok.ensures.accepted c.in_ok-prepared.ensures.made
-
 pub parse_sources-requires-clause-few : goal.parse_sources-requires-clause-few
 parse_sources-requires-clause-few g c = few_scripts (run_request c.args.words.now) c.requires
 

@@ -1,0 +1,10 @@
+pub mod PassLemmas
+pub mod CountLemmas
+pub mod OpenLemmas
+pub mod KeepLemmas
+pub mod RoomLemmas
+pub mod ValueLemmas
+pub mod FieldLemmas
+pub mod WriteLemmas
+pub mod NewLemmas
+pub mod LoadLemmas

@@ -1,0 +1,105 @@
+use Rattle.std.proofs.Common.{ℕ, sym, ◌∙◌, ap, subst}
+use Rattle.graph_model.specs.OwnerCalls.{current}
+use Rattle.teseo_core.specs.Passes.{Notes}
+use Rattle.teseo_core.specs.Keeping.{core_of}
+use Rattle.teseo_core.proofs.FieldLemmas.{lent_state, start_of, some_nat}
+use Rattle.teseo_core.proofs.KeepLemmas.{IsReader, reader_started}
+use Rattle.teseo_core.proofs.WriteLemmas.{refused_kept, refused_answer, may_lay, put_kept, put_answer}
+use Rattle.teseo_core.proofs.store.Core.write_here.Goals as goal
+
+pub invariant_of-self : goal.invariant_of-self
+invariant_of-self c =
+    let f = c.self.inside in
+    let core = core_of f.kind f.leaves f.manager f.passes.items f.selected f.served in
+    let start = start_of (current core).start (rw (← c.self.view_is) at c.requires.current) in
+    let here = lent_state f.passes.items f.selected c.index.result.now c.self.invariant.chosen c.index.ensures in
+    let r = c.reader_of-reader in
+    let reader : IsReader core f.manager f.rows c.self.invariant r.result start.0 = record {
+      manager = r.ensures.manager;
+      start_is = some_nat r.result.start start.0 (sym r.ensures.start ∙ ap (λ s. s.start) (sym here) ∙ start.1);
+      by = r.ensures.by ∙ (λ i. record { job = f.selected; number = (sym here i).begun });
+    } in
+    let last = lent_state f.passes.items f.selected c.index_mut.result.now c.self.invariant.chosen c.index_mut.ensures.value in
+    refused_kept f.kind f.leaves f.manager f.passes.items f.selected f.served f.rows c.self.invariant r.result start.0 start.1 reader c.args.write c.in-Err.refusal c.note_refusal.result c.index_mut.result.now c.note_refusal.new.self (sym last)
+    (subst (λ (s : ℕ). Notes c.index_mut.result.now.state s c.args.write c.in-Err.refusal c.note_refusal.result c.note_refusal.new.self.state) reader.start_is c.note_refusal.ensures)
+
+pub returns-in-Err : goal.returns-in-Err
+returns-in-Err c =
+    let f = c.self.inside in
+    let core = core_of f.kind f.leaves f.manager f.passes.items f.selected f.served in
+    let start = start_of (current core).start (rw (← c.self.view_is) at c.requires.current) in
+    let here = lent_state f.passes.items f.selected c.index.result.now c.self.invariant.chosen c.index.ensures in
+    let r = c.reader_of-reader in
+    let reader : IsReader core f.manager f.rows c.self.invariant r.result start.0 = record {
+      manager = r.ensures.manager;
+      start_is = some_nat r.result.start start.0 (sym r.ensures.start ∙ ap (λ s. s.start) (sym here) ∙ start.1);
+      by = r.ensures.by ∙ (λ i. record { job = f.selected; number = (sym here i).begun });
+    } in
+    let last = lent_state f.passes.items f.selected c.index_mut.result.now c.self.invariant.chosen c.index_mut.ensures.value in
+    let notes = subst (λ (s : ℕ). Notes c.index_mut.result.now.state s c.args.write c.in-Err.refusal c.note_refusal.result c.note_refusal.new.self.state) reader.start_is c.note_refusal.ensures in
+    rw (← c.self.view_is) (record {
+      chosen = c.self.invariant.chosen;
+      here = refused_answer f.kind f.leaves f.manager f.passes.items f.selected f.served f.rows c.self.invariant r.result start.0 start.1 reader c.args.write c.check.result c.check.ensures c.in-Err.refusal c.note_refusal.result c.in-Err.is c.index_mut.result.now c.note_refusal.new.self (sym last) notes;
+      legal = c.self.invariant.store.transactions.legal;
+    })
+
+pub put-requires-clause-may : goal.put-requires-clause-may
+put-requires-clause-may c =
+    let f = c.self.inside in
+    let core = core_of f.kind f.leaves f.manager f.passes.items f.selected f.served in
+    let start = start_of (current core).start (rw (← c.self.view_is) at c.requires.current) in
+    let here = lent_state f.passes.items f.selected c.index.result.now c.self.invariant.chosen c.index.ensures in
+    let r = c.reader_of-reader in
+    let reader : IsReader core f.manager f.rows c.self.invariant r.result start.0 = record {
+      manager = r.ensures.manager;
+      start_is = some_nat r.result.start start.0 (sym r.ensures.start ∙ ap (λ s. s.start) (sym here) ∙ start.1);
+      by = r.ensures.by ∙ (λ i. record { job = f.selected; number = (sym here i).begun });
+    } in
+    may_lay f.kind f.leaves f.manager f.passes.items f.selected f.served f.rows c.self.invariant r.result start.0 start.1 reader c.args.write c.check.result c.check.ensures c.in-Ok.field-0 c.in-Ok.is
+
+pub invariant_of-self-2 : goal.invariant_of-self-2
+invariant_of-self-2 c =
+    let f = c.self.inside in
+    let core = core_of f.kind f.leaves f.manager f.passes.items f.selected f.served in
+    let start = start_of (current core).start (rw (← c.self.view_is) at c.requires.current) in
+    let here = lent_state f.passes.items f.selected c.index.result.now c.self.invariant.chosen c.index.ensures in
+    let r = c.reader_of-reader in
+    let reader : IsReader core f.manager f.rows c.self.invariant r.result start.0 = record {
+      manager = r.ensures.manager;
+      start_is = some_nat r.result.start start.0 (sym r.ensures.start ∙ ap (λ s. s.start) (sym here) ∙ start.1);
+      by = r.ensures.by ∙ (λ i. record { job = f.selected; number = (sym here i).begun });
+    } in
+    let last = lent_state f.passes.items f.selected c.index_mut-2.result.now c.self.invariant.chosen c.index_mut-2.ensures.value in
+    put_kept f.kind f.leaves f.manager f.passes.items f.selected f.served f.rows c.self.invariant r.result start.0 start.1 reader c.args.write c.check.result c.check.ensures c.in-Ok.field-0 c.in-Ok.is c.requires.within c.put.result c.index_mut-2.result.now c.put.new.pass c.put.new.rows (sym last) c.put.ensures
+
+pub returns : goal.returns
+returns c =
+    let f = c.self.inside in
+    let core = core_of f.kind f.leaves f.manager f.passes.items f.selected f.served in
+    let start = start_of (current core).start (rw (← c.self.view_is) at c.requires.current) in
+    let here = lent_state f.passes.items f.selected c.index.result.now c.self.invariant.chosen c.index.ensures in
+    let r = c.reader_of-reader in
+    let reader : IsReader core f.manager f.rows c.self.invariant r.result start.0 = record {
+      manager = r.ensures.manager;
+      start_is = some_nat r.result.start start.0 (sym r.ensures.start ∙ ap (λ s. s.start) (sym here) ∙ start.1);
+      by = r.ensures.by ∙ (λ i. record { job = f.selected; number = (sym here i).begun });
+    } in
+    let last = lent_state f.passes.items f.selected c.index_mut-2.result.now c.self.invariant.chosen c.index_mut-2.ensures.value in
+    rw (← c.self.view_is) (record {
+      chosen = c.self.invariant.chosen;
+      here = put_answer f.kind f.leaves f.manager f.passes.items f.selected f.served f.rows c.self.invariant r.result start.0 start.1 reader c.args.write c.check.result c.check.ensures c.in-Ok.field-0 c.in-Ok.is c.put.result c.index_mut-2.result.now c.put.new.pass c.put.new.rows (sym last) c.put.ensures;
+      legal = c.self.invariant.store.transactions.legal;
+    })
+
+pub check-requires-clause-started : goal.check-requires-clause-started
+check-requires-clause-started c =
+    let f = c.self.inside in
+    let core = core_of f.kind f.leaves f.manager f.passes.items f.selected f.served in
+    let start = start_of (current core).start (rw (← c.self.view_is) at c.requires.current) in
+    let here = lent_state f.passes.items f.selected c.index.result.now c.self.invariant.chosen c.index.ensures in
+    let r = c.reader_of-reader in
+    reader_started core f.manager f.rows c.self.invariant r.result start.0 start.1 (record {
+      manager = r.ensures.manager;
+      start_is = some_nat r.result.start start.0 (sym r.ensures.start ∙ ap (λ s. s.start) (sym here) ∙ start.1);
+      by = r.ensures.by ∙ (λ i. record { job = f.selected; number = (sym here i).begun });
+    })

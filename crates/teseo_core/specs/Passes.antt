@@ -1,0 +1,94 @@
+-- What an engine of one owner keeps of a pass, with the room that it has for more.
+use Rattle.std.specs.Prelude.{◌≡◌, ◌⊎◌, ℕ, true, ◌+◌, ◌*◌, ◌<◌, ◌≤◌, List, [], ◌∷◌, ◌++◌, Option, None, Some, Result, Ok, Err}
+use Rattle.graph_model.specs.declared.limits.TheConstants.{SPLIT_ROWS}
+use Rattle.graph_model.specs.declared.write.Kind.{Kind}
+use Rattle.graph_model.specs.declared.write.Write.{Write}
+use Rattle.graph_model.specs.declared.row.Key.{Key}
+use Rattle.graph_model.specs.declared.journal.TxnName.{TxnName}
+use Rattle.graph_model.specs.declared.refusal.Refusal.{Refusal}
+use Rattle.graph_model.specs.declared.refusal.Refusal.TheVariants as refusals
+use Rattle.graph_model.specs.declared.refusal.Cause.{Cause}
+use Rattle.graph_model.specs.declared.refusal.Cause.TheVariants.{Later, Holder}
+use Rattle.graph_model.specs.AccountSteps.{last_with}
+use Rattle.graph_model.specs.OwnerCalls.{PassState, no_pass}
+use Rattle.store_model.specs.Layers.{after_write}
+use Rattle.leaf_store.specs.Leaves.{Leaves, contents_of, weight}
+use Rattle.leaf_rows.specs.Laying.{Stays, missing}
+
+pub record RoomyPass : Type 0 where
+  pub state : PassState
+  -- how many writes, and how many transactions, it may note with no memory taken
+  pub writes : ℕ
+  pub txns : ℕ
+
+-- a pass that has begun nothing
+abbrev pub new_pass : ℕ → PassState
+new_pass allowed = record no_pass { allowed = allowed }
+
+-- the writes of each transaction: those of the ended ones, and of the one that is open
+abbrev pub made_with : Option ℕ → List (List Write) → List Write → List (List Write)
+made_with None ended own = ended
+made_with (Some start) ended own = ended ++ own ∷ []
+
+abbrev pub with_begin : PassState → ℕ → ℕ → PassState
+with_begin s start begun = record s { start = Some start; own = []; begun = begun; made = s.made ++ [] ∷ [] }
+
+abbrev pub with_one_write : PassState → Write → PassState
+with_one_write s w = record s { own = s.own ++ w ∷ []; made = last_with s.made w }
+
+-- the first transaction has made all writes of a load
+abbrev pub with_load : PassState → List Write → PassState
+with_load s load = record s { own = load; made = load ∷ [] }
+
+abbrev pub with_end : PassState → PassState
+with_end s = record s { start = None; own = [] }
+
+-- an open transaction that was met is noted
+abbrev pub sighted_by : PassState → ℕ → Write → Cause → PassState
+sighted_by s start w (Later stamp) = s
+sighted_by s start w (Holder by) = record s { sighted = s.sighted ++ record { by = by; write = w; start = start } ∷ [] }
+
+-- so is that of a refused write, if it met one
+abbrev pub noted : PassState → ℕ → Write → Refusal → PassState
+noted s start w refusals.SelfLoop = s
+noted s start w (refusals.NoVertex v) = s
+noted s start w refusals.VertexExists = s
+noted s start w refusals.EdgeExists = s
+noted s start w refusals.NoEdge = s
+noted s start w refusals.HasEdges = s
+noted s start w (refusals.Conflict cause) = sighted_by s start w cause
+noted s start w (refusals.Full leaves) = s
+noted s start w refusals.NoMemory = s
+
+-- a refusal is noted, or there is no memory for the note
+abbrev pub Notes : PassState → ℕ → Write → Refusal → Refusal → PassState → Type 0
+Notes old start w refusal answer new =
+    ((answer ≡ refusal) × (new ≡ noted old start w refusal)) ⊎ ((answer ≡ refusals.NoMemory) × (new ≡ old))
+
+-- a write stands in the rows and in its pass
+pub record Laid (kind : Kind) (by : TxnName) (w : Write) (rows rows' : Leaves) (old new : PassState) : Type 0 where
+  pub contents : (k : Key) → contents_of rows' k ≡ after_write kind by w k (contents_of rows k)
+  pub weight_is : weight rows' ≤ weight rows + missing rows kind w
+  pub limit : rows'.limit ≡ rows.limit
+  pub noted_in : new ≡ with_one_write old w
+
+-- there was no place for one of its rows, and its pass notes that
+pub record FindsFull (kind : Kind) (w : Write) (leaves : ℕ) (rows rows' : Leaves) (old new : PassState) : Type 0 where
+  pub stays : Stays rows rows'
+  pub limit : leaves ≡ rows.limit
+  pub heavy : SPLIT_ROWS * leaves ≤ weight rows
+  pub wants : 0 < missing rows kind w
+  pub noted_in : new ≡ record old { filled = true }
+
+-- what a write that may be made comes to: it is laid, or it finds no place or no memory
+abbrev pub Puts : Kind → TxnName → Write → Leaves → Leaves → PassState → PassState → Result (Unit {0}) Refusal → Type 0
+Puts kind by w rows rows' old new (Ok done) = Laid kind by w rows rows' old new
+Puts kind by w rows rows' old new (Err refusals.SelfLoop) = ⊥
+Puts kind by w rows rows' old new (Err (refusals.NoVertex v)) = ⊥
+Puts kind by w rows rows' old new (Err refusals.VertexExists) = ⊥
+Puts kind by w rows rows' old new (Err refusals.EdgeExists) = ⊥
+Puts kind by w rows rows' old new (Err refusals.NoEdge) = ⊥
+Puts kind by w rows rows' old new (Err refusals.HasEdges) = ⊥
+Puts kind by w rows rows' old new (Err (refusals.Conflict cause)) = ⊥
+Puts kind by w rows rows' old new (Err (refusals.Full leaves)) = FindsFull kind w leaves rows rows' old new
+Puts kind by w rows rows' old new (Err refusals.NoMemory) = Stays rows rows' × (new ≡ old)

@@ -1,0 +1,186 @@
+//! The store as an engine of one owner.
+
+ghost use Rattle.std.specs.Prelude.{IsSome};
+ghost use Rattle.graph_model.specs.declared.write.Write.TheVariants as writes;
+ghost use Rattle.graph_model.specs.OwnerCalls.{account_here};
+ghost use Rattle.graph_model.specs.OwnerLaws.{DidBegin, DidWrite, DidRead, DidCommit, DidAbort, DidServe};
+ghost use Rattle.graph_model.proofs.OwnerLemmas.{begins_by, writes_by, reads_by, commits_by, aborts_by, serves_by};
+
+use crate::store::Core;
+use graph_model::{
+    BeginRefusal, Begun, Cursor, Engine, Kind, LoadEngine, LoadRefusal, NoMemory, Refusal, Rows64,
+    StepEngine, VertexEngine, Write, Writes,
+};
+
+impl Engine for Core {
+    ghost account = { λ s. account_here s.core };
+
+    ghost served = { λ s. s.core.served };
+
+    ghost did_begin = { λ s r t. DidBegin s.core r t.core };
+
+    ghost did_write = { λ s w r t. DidWrite s.core w r t.core };
+
+    ghost did_read = { λ s t. DidRead s.core t.core };
+
+    ghost did_commit = { λ s r t. DidCommit s.core r t.core };
+
+    ghost did_abort = { λ s t. DidAbort s.core t.core };
+
+    ghost did_serve = { λ s r t. DidServe s.core t.core };
+
+    fn kind(&self) -> Kind {
+        self.kind_here()
+    }
+
+    fn begin(&mut self) -> Result<Begun, BeginRefusal> {
+        self.begin_here()
+    }
+
+    fn add_vertex(&mut self, v: u64) -> Result<(), Refusal> {
+        self.write_here(Write::AddVertex { v })
+    }
+
+    fn add_edge(&mut self, u: u64, v: u64, weight: u64) -> Result<(), Refusal> {
+        self.write_here(Write::AddEdge { u, v, weight })
+    }
+
+    fn set_edge(&mut self, u: u64, v: u64, weight: u64) -> Result<(), Refusal> {
+        self.write_here(Write::SetEdge { u, v, weight })
+    }
+
+    fn drop_edge(&mut self, u: u64, v: u64) -> Result<(), Refusal> {
+        self.write_here(Write::DropEdge { u, v })
+    }
+
+    fn has_vertex(&mut self, v: u64) -> bool {
+        self.sees_vertex(v)
+    }
+
+    fn weight(&mut self, u: u64, v: u64) -> Option<u64> {
+        self.sees_weight(u, v)
+    }
+
+    fn scan_step(&mut self, cursor: &mut Cursor, rows: &mut Rows64) {
+        self.scan_here(cursor, rows);
+    }
+
+    fn commit(&mut self) -> Option<u64> {
+        self.commit_here()
+    }
+
+    fn abort(&mut self) {
+        self.abort_here();
+    }
+
+    fn service_step(&mut self) -> Result<bool, NoMemory> {
+        self.serve_here();
+        Ok(false)
+    }
+
+    ghost begins = { λ s t r did. begins_by s.core t.core r did };
+
+    ghost wrote = { λ s t w r did. writes_by s.core t.core w r did };
+
+    ghost reads = { λ s t did. reads_by s.core t.core did };
+
+    ghost commits = { λ s t r did. commits_by s.core t.core r did };
+
+    ghost aborts = { λ s t did. aborts_by s.core t.core did };
+
+    ghost serves = { λ s t r did. serves_by s.core t.core did };
+}
+
+impl VertexEngine for Core {
+    fn drop_vertex(&mut self, v: u64) -> Result<(), Refusal> {
+        self.write_here(Write::DropVertex { v })
+    }
+}
+
+impl StepEngine for Core {
+    ghost use Rattle.std.specs.Prelude.{refl};
+
+    ghost core = { λ s. s.core };
+
+    fn select(&mut self, pass: u32) {
+        self.select_here(pass);
+    }
+
+    ghost accounts = { λ s. refl };
+
+    ghost counts = { λ s. refl };
+
+    ghost begins_here = { λ s t r did. did.here };
+
+    ghost writes_here = { λ s t w r did. did.here };
+
+    ghost reads_here = { λ s t did. did.here };
+
+    ghost commits_here = { λ s t r did. did.here };
+
+    ghost aborts_here = { λ s t did. did.here };
+
+    ghost serves_here = { λ s t r did. did.here };
+}
+
+impl LoadEngine for Core {
+    fn load(&mut self, load: Writes) -> Result<(), LoadRefusal> {
+        self.load_here(load)
+    }
+}
+
+#[cfg(test)]
+mod tests {
+    use super::*;
+    use graph_model::{Cause, TxnName};
+    use std::test::Fail;
+    use txn_manager::Config;
+
+    #[test]
+    fn a_pass_begins_as_many_transactions_as_it_may(rt: HostRuntime) -> Result<(), Fail> {
+        let config = Config {
+            kind: Kind::Undirected,
+            leaves: 4,
+            passes: 3,
+            txns_per_pass: 2,
+        };
+        let mut core = Core::new(rt.alloc(), config)?;
+        core.select(1);
+        let first = core.begin()?;
+        assert_eq!(rt; (first.by, first.start), (TxnName { job: 1, number: 1 }, 0));
+        assert_eq!(rt; core.commit(), None);
+        let second = core.begin()?;
+        assert_eq!(rt;
+            (second.by, second.start),
+            (TxnName { job: 1, number: 2 }, 0)
+        );
+        core.abort();
+        assert_eq!(rt; core.begin(), Err(BeginRefusal::TxnsUsed));
+        Ok(())
+    }
+
+    #[test]
+    fn the_first_writer_of_a_vertex_wins(rt: HostRuntime) -> Result<(), Fail> {
+        let config = Config {
+            kind: Kind::Undirected,
+            leaves: 4,
+            passes: 3,
+            txns_per_pass: 2,
+        };
+        let mut core = Core::new(rt.alloc(), config)?;
+        core.select(1);
+        let winner = core.begin()?.by;
+        core.add_vertex(5)?;
+        core.select(2);
+        core.begin()?;
+        let held = Cause::Holder { by: winner };
+        assert_eq!(rt; core.add_vertex(5), Err(Refusal::Conflict { cause: held }));
+        core.select(1);
+        assert_eq!(rt; core.commit(), Some(1));
+        core.select(2);
+        let later = Cause::Later { stamp: 1 };
+        assert_eq!(rt; core.add_vertex(5), Err(Refusal::Conflict { cause: later }));
+        assert_eq!(rt; core.has_vertex(5), false);
+        Ok(())
+    }
+}

@@ -1,0 +1,102 @@
+//! A load: all writes of a graph at once, as the first transaction.
+
+ghost use Rattle.std.specs.Prelude.{◌≡◌, ◌≤◌, [], IsSome, IfOk, IfErr, OnOk, OnErr};
+ghost use Rattle.std.specs.List.{AllByRecursion};
+ghost use Rattle.graph_model.specs.declared.limits.TheConstants.{MAX_LEAVES};
+ghost use Rattle.graph_model.specs.Graph.{apply_all, empty_graph};
+ghost use Rattle.graph_model.specs.Inserted.{inserted};
+ghost use Rattle.graph_model.specs.Loading.{IsNew, IsLoad, IsAdd, IsLoadRefusal, loaded};
+ghost use Rattle.graph_model.specs.OwnerCalls.{Core as OwnerCore};
+ghost use Rattle.graph_model.specs.Refused.{AllAllowed, IsWithinLimits};
+ghost use Rattle.txn_manager.specs.Manager.{ended, open_start};
+ghost use Rattle.leaf_rows.specs.Loaded.{AreLoaded};
+ghost use Rattle.teseo_core.specs.Loads.{HasBegunLoad, IsTooMuch, journal_behind, loading};
+
+use crate::store::{Core, name_of};
+use graph_model::{BeginRefusal, Kind, LoadRefusal, NoMemory, TxnName, Write, Writes};
+use items::Items;
+use leaf_rows::LeafRows;
+use std::alloc::Global;
+use txn_manager::{RoomRefusal, TxnManager};
+
+impl Core {
+    /// Makes the writes of a load as the engine's first transaction, and commits it. What takes memory comes before
+    /// the first change.
+    pub(crate) fn load_here(&mut self, load: Writes) -> Result<(), LoadRefusal>
+        requires new { IsNew self.old.core }
+        requires load { IsLoad self.old.core load }
+        ensures loaded { OnOk result (self.new.core ≡ loaded self.old.core load) }
+        ensures refused { IfErr result (IsLoadRefusal self.old.core load) }
+        ensures err { OnErr result (self.new.core.journal ≡ []) }
+    {
+        let rows = load_rows(self.alloc, self.leaves, self.kind, load.as_slice())?;
+        let copy = copy_of(self.alloc, &load)?;
+        match self.begin_here() {
+            Ok(_) => {}
+            Err(BeginRefusal::TxnsUsed) => unreachable!(),
+            Err(BeginRefusal::NoMemory) => return Err(LoadRefusal::NoMemory),
+        }
+        self.take_load(rows, load, copy);
+        Ok(())
+    }
+
+    /// Takes the rows of a load for its own, whose transaction is open and has made no write, and commits it. Takes no
+    /// memory.
+    fn take_load(&mut self, rows: LeafRows, load: Writes, copy: Writes)
+        requires begun { HasBegunLoad load self.old.core }
+        requires rows { AreLoaded self.old.core.leaves (apply_all self.old.core.kind empty_graph load)
+            (inserted self.old.core.kind load) rows }
+        requires copy { copy ≡ load }
+        ensures { (core : OwnerCore) → IsNew core → self.old.core ≡ loading core [] → self.new.core ≡ loaded core load }
+    {
+        let by = name_of(&self.passes[self.selected as usize], self.selected);
+        self.passes[self.selected as usize].note_load(copy);
+        end_load(&mut self.manager, by, load);
+        self.rows = rows;
+    }
+}
+
+/// Ends the transaction of a load: with a commit, where it wrote something. Takes no memory.
+fn end_load(manager: &mut TxnManager, by: TxnName, load: Writes)
+    requires { IsSome (open_start manager.old by) }
+    ensures passes { manager.new.passes ≡ (ended manager.old by).passes }
+    ensures allowed { manager.new.allowed ≡ manager.old.allowed }
+    ensures journal { manager.new.journal ≡ journal_behind manager.old by load }
+{
+    if load.is_empty() {
+        manager.end_txn(by);
+    } else {
+        let _stamp = manager.push_commit(by, load);
+    }
+}
+
+/// The rows that the writes of a load leave.
+fn load_rows(
+    alloc: Global,
+    leaves: u32,
+    kind: Kind,
+    load: &[Write],
+) -> Result<LeafRows, LoadRefusal>
+    requires some { 1 ≤ leaves }
+    requires few { leaves ≤ MAX_LEAVES }
+    requires adds { AllByRecursion IsAdd load.now }
+    requires within { AllByRecursion IsWithinLimits load.now }
+    requires allowed { AllAllowed kind empty_graph load.now }
+    ensures ok { IfOk result (λ rows.
+        AreLoaded leaves (apply_all kind empty_graph load.now) (inserted kind load.now) rows) }
+    ensures refused { IfErr result (λ refusal. IsTooMuch leaves (inserted kind load.now) refusal) }
+{
+    match LeafRows::filled(alloc, leaves, kind, load) {
+        Ok(rows) => Ok(rows),
+        Err(RoomRefusal::Full { leaves }) => Err(LoadRefusal::Full { leaves }),
+        Err(RoomRefusal::NoMemory) => Err(LoadRefusal::NoMemory),
+    }
+}
+
+/// A second list of the same writes.
+fn copy_of(alloc: Global, writes: &Writes) -> Result<Writes, NoMemory>
+    ensures { IfOk result (λ copy. copy ≡ writes.now) }
+{
+    let copy = Vec::from_slice(alloc, writes.as_slice())?;
+    Ok(Items::from_vec(copy))
+}

@@ -1,0 +1,183 @@
+//! What the engine keeps of a pass.
+//!
+//! 1. The writes of the open transaction stand in two lists: one goes into the journal with a commit,
+//!    the other stays with the pass.
+//! 2. An open transaction has its place among the ended ones, so its end takes no memory.
+
+ghost use Rattle.std.specs.Prelude.{◌≡◌, ◌<◌, [], ◌∷◌, None, IsSome, true, OnOk};
+ghost use Rattle.teseo_core.specs.Passes.{new_pass, with_begin, with_one_write, with_load, with_end, Notes};
+
+use graph_model::{Begun, Cause, NoMemory, Refusal, RoomyWrites, TxnName, Write, Writes};
+use items::RoomyItems;
+use std::alloc::Global;
+use std::marker::Model;
+use std::mem::replace;
+
+/// A write that was refused since another transaction was open.
+#[derive(Drop)]
+pub struct Sighted {
+    by: TxnName,
+    write: Write,
+    start: u64,
+}
+
+impl Model for Sighted {
+    ghost use Rattle.graph_model.specs.Account.{Sighting};
+
+    ghost Value = { Sighting };
+
+    ghost view = { λ s. record { by = s.by; write = s.write; start = s.start } };
+}
+
+/// The transactions of a pass with their writes, the latest of which may be open.
+#[derive(Drop)]
+pub struct Pass {
+    ended: RoomyItems<Writes>,
+    sighted: Vec<Sighted>,
+    start: Option<u64>,
+    own: RoomyWrites,
+    copy: RoomyWrites,
+    filled: bool,
+    begun: u32,
+    allowed: u32,
+}
+
+impl Model for Pass {
+    ghost use Rattle.std.specs.Prelude.{◌≡◌, ◌<◌, [], None, IfSome, IfNone, min};
+    ghost use Rattle.teseo_core.specs.Passes.{RoomyPass, made_with};
+
+    ghost Value = { RoomyPass };
+
+    ghost view = { λ p. record {
+      state = record {
+        made = made_with p.start p.ended.items p.own.items;
+        sighted = p.sighted.items;
+        start = p.start;
+        own = p.own.items;
+        filled = p.filled;
+        begun = p.begun;
+        allowed = p.allowed;
+      };
+      writes = min p.own.spare p.copy.spare;
+      txns = p.ended.spare;
+    } };
+
+    ghost invariant = { λ p. (p.copy.items ≡ p.own.items) × IfNone p.start (p.own.items ≡ [])
+        × IfSome p.start (λ start. 0 < p.ended.spare) };
+}
+
+impl Pass {
+    /// A pass that has begun nothing.
+    pub fn new(alloc: Global, allowed: u32) -> Pass
+        ensures { result.state ≡ new_pass allowed }
+    {
+        Pass {
+            ended: RoomyItems::new(alloc),
+            sighted: Vec::new(alloc),
+            start: None,
+            own: RoomyItems::new(alloc),
+            copy: RoomyItems::new(alloc),
+            filled: false,
+            begun: 0,
+            allowed,
+        }
+    }
+
+    /// The start of the open transaction.
+    pub fn start(&self) -> Option<u64>
+        ensures { result ≡ self.now.state.start }
+    {
+        self.start
+    }
+
+    /// How many transactions it has begun.
+    pub fn begun(&self) -> u32
+        ensures { result ≡ self.now.state.begun }
+    {
+        self.begun
+    }
+
+    /// Makes room for one more transaction.
+    pub fn reserve_txn(&mut self) -> Result<(), NoMemory>
+        ensures kept { self.new.state ≡ self.old.state }
+        ensures ok { OnOk result (0 < self.new.txns) }
+    {
+        self.ended.reserve(1)
+    }
+
+    /// Makes room for one more write.
+    pub fn reserve_write(&mut self) -> Result<(), NoMemory>
+        ensures kept { self.new.state ≡ self.old.state }
+        ensures ok { OnOk result (0 < self.new.writes) }
+    {
+        self.own.reserve(1)?;
+        self.copy.reserve(1)
+    }
+
+    /// Begins a transaction.
+    pub fn begin(&mut self, begun: Begun)
+        requires closed { self.old.state.start ≡ None }
+        requires room { 0 < self.old.txns }
+        ensures { self.new.state ≡ with_begin self.old.state begun.start begun.by.number }
+    {
+        self.start = Some(begun.start);
+        self.begun = begun.by.number;
+    }
+
+    /// Notes a write of the open transaction.
+    pub fn note(&mut self, write: Write)
+        requires current { IsSome self.old.state.start }
+        requires room { 0 < self.old.writes }
+        ensures { self.new.state ≡ with_one_write self.old.state write }
+    {
+        self.own.push_within(write);
+        self.copy.push_within(write);
+    }
+
+    /// Notes all writes of the pass's first transaction, which has made none so far, and ends it. Takes no memory.
+    pub fn note_load(&mut self, load: Writes)
+        requires current { IsSome self.old.state.start }
+        requires first { self.old.state.made ≡ [] ∷ [] }
+        ensures { self.new.state ≡ with_end (with_load self.old.state load) }
+    {
+        self.ended.push_within(load);
+        self.start = None;
+    }
+
+    /// Notes what a refused write has met, and answers the refusal. Where memory is wanted for the note,
+    /// that is the refusal.
+    pub fn note_refusal(&mut self, start: u64, write: Write, refusal: Refusal) -> Refusal
+        ensures { Notes self.old.state start write refusal result self.new.state }
+    {
+        if let Refusal::Conflict {
+            cause: Cause::Holder { by },
+        } = refusal
+        {
+            match self.sighted.push(Sighted { by, write, start }) {
+                Ok(()) => {}
+                Err(_) => return Refusal::NoMemory,
+            }
+        }
+        refusal
+    }
+
+    /// Notes that a write found the store full.
+    pub fn fill(&mut self)
+        ensures { self.new.state ≡ record self.old.state { filled = true } }
+    {
+        self.filled = true;
+    }
+
+    /// Ends the open transaction, and hands out its writes. Takes no memory.
+    pub fn end(&mut self, alloc: Global) -> Writes
+        requires { IsSome self.old.state.start }
+        ensures writes { result ≡ self.old.state.own }
+        ensures ended { self.new.state ≡ with_end self.old.state }
+    {
+        let own = replace(&mut self.own, RoomyItems::new(alloc));
+        let copy = replace(&mut self.copy, RoomyItems::new(alloc));
+        self.ended.push_within(copy.into_items());
+        self.start = None;
+        own.into_items()
+    }
+}

@@ -1,0 +1,161 @@
+//! The store of one owner.
+
+ghost use Rattle.std.specs.Prelude.{◌≡◌, ◌<◌, ◌↔◌, None, Some, IsSome, IfOk, Err, length, replicate, true};
+ghost use Rattle.graph_model.specs.OwnerCalls.{current};
+ghost use Rattle.graph_model.specs.OwnerLaws.{DidBegin, DidCommit, DidAbort, DidServe};
+ghost use Rattle.txn_manager.specs.Config.{too_large};
+ghost use Rattle.txn_manager.specs.declared.config.StoreRefusal.TheVariants.{TooLarge};
+ghost use Rattle.teseo_core.specs.Passes.{new_pass};
+ghost use Rattle.teseo_core.specs.Keeping.{IsNewStore, states_of};
+
+use crate::pass::Pass;
+use graph_model::{BeginRefusal, Begun, Kind, NoMemory, TxnName};
+use leaf_rows::{LeafRows, Reader};
+use std::alloc::Global;
+use std::marker::Model;
+use txn_manager::{Config, StoreRefusal, TxnManager};
+
+/// A graph under transactions of one owner, in leaves of gapped sorted segments.
+#[derive(Drop)]
+pub struct Core {
+    pub(crate) alloc: Global,
+    pub(crate) kind: Kind,
+    pub(crate) leaves: u32,
+    pub(crate) manager: TxnManager,
+    pub(crate) passes: Vec<Pass>,
+    pub(crate) selected: u32,
+    pub(crate) served: u64,
+    pub(crate) rows: LeafRows,
+}
+
+impl Model for Core {
+    ghost use Rattle.teseo_core.specs.Keeping.{Store, core_of, IsKept};
+
+    ghost Value = { Store };
+
+    ghost view = { λ c. record {
+      core = core_of c.kind c.leaves c.manager c.passes.items c.selected c.served;
+      rows = c.rows;
+    } };
+
+    ghost invariant = { λ c.
+        IsKept (core_of c.kind c.leaves c.manager c.passes.items c.selected c.served) c.manager c.rows };
+}
+
+impl Core {
+    /// An engine with the empty graph, whose passes have begun nothing.
+    pub fn new(alloc: Global, config: Config) -> Result<Core, StoreRefusal>
+        ensures too_large { (result ≡ Err TooLarge) ↔ (too_large config ≡ true) }
+        ensures ok { IfOk result (λ core. IsNewStore config core) }
+    {
+        if config.is_too_large() {
+            return Err(StoreRefusal::TooLarge);
+        }
+        let manager = TxnManager::new(alloc, config.passes, config.txns_per_pass)?;
+        let passes = new_passes(alloc, config.passes, config.txns_per_pass)?;
+        let rows = LeafRows::new(alloc, config.leaves)?;
+        Ok(Core {
+            alloc,
+            kind: config.kind,
+            leaves: config.leaves,
+            manager,
+            passes,
+            selected: 0,
+            served: 0,
+            rows,
+        })
+    }
+
+    pub(crate) fn kind_here(&self) -> Kind
+        ensures { result ≡ self.now.core.kind }
+    {
+        self.kind
+    }
+
+    /// Has the later calls speak of this pass.
+    pub(crate) fn select_here(&mut self, pass: u32)
+        requires { pass < length self.old.core.passes }
+        ensures { self.new ≡ record self.old { core = record self.old.core { selected = pass } } }
+    {
+        self.selected = pass;
+    }
+
+    /// Counts a turn of the service, which has nothing to do.
+    pub(crate) fn serve_here(&mut self)
+        ensures { DidServe self.old.core self.new.core }
+    {
+        self.served = self.served.saturating_add(1);
+    }
+
+    /// Begins the next transaction of the selected pass.
+    pub(crate) fn begin_here(&mut self) -> Result<Begun, BeginRefusal>
+        requires { (current self.old.core).start ≡ None }
+        ensures { DidBegin self.old.core result self.new.core }
+    {
+        let pass = self.selected as usize;
+        self.passes[pass].reserve_txn()?;
+        let begun = self.manager.open_txn(self.selected)?;
+        self.passes[pass].begin(begun);
+        Ok(begun)
+    }
+
+    /// Commits the open transaction.
+    pub(crate) fn commit_here(&mut self) -> Option<u64>
+        requires { IsSome (current self.old.core).start }
+        ensures { DidCommit self.old.core result self.new.core }
+    {
+        let by = name_of(&self.passes[self.selected as usize], self.selected);
+        let writes = self.passes[self.selected as usize].end(self.alloc);
+        if writes.is_empty() {
+            self.manager.end_txn(by);
+            return None;
+        }
+        Some(self.manager.push_commit(by, writes))
+    }
+
+    /// Takes the writes of the open transaction back and ends it.
+    pub(crate) fn abort_here(&mut self)
+        requires { IsSome (current self.old.core).start }
+        ensures { DidAbort self.old.core self.new.core }
+    {
+        let by = name_of(&self.passes[self.selected as usize], self.selected);
+        let writes = self.passes[self.selected as usize].end(self.alloc);
+        self.rows.undo_all(self.kind, by, writes.as_slice());
+        self.manager.end_txn(by);
+    }
+}
+
+/// So many passes that have begun nothing.
+fn new_passes(alloc: Global, count: u32, allowed: u32) -> Result<Vec<Pass>, NoMemory>
+    ensures { IfOk result (λ passes. states_of passes.items ≡ replicate count (new_pass allowed)) }
+{
+    let mut passes = Vec::new(alloc);
+    'passes: for _ in 0..count {
+        passes.push(Pass::new(alloc, allowed))?;
+    }
+    Ok(passes)
+}
+
+/// The name of a pass's latest transaction.
+pub(crate) fn name_of(pass: &Pass, job: u32) -> TxnName
+    ensures { result ≡ record { job = job; number = pass.now.state.begun } }
+{
+    TxnName {
+        job,
+        number: pass.begun(),
+    }
+}
+
+/// Who reads: the open transaction of a pass.
+pub(crate) fn reader_of<'a>(manager: &'a TxnManager, pass: &Pass, job: u32) -> Reader<'a>
+    requires { IsSome pass.now.state.start }
+    ensures manager { result.manager.now ≡ manager.now }
+    ensures start { pass.now.state.start ≡ Some result.start }
+    ensures by { result.by ≡ record { job = job; number = pass.now.state.begun } }
+{
+    Reader {
+        manager,
+        start: pass.start().unwrap(),
+        by: name_of(pass, job),
+    }
+}

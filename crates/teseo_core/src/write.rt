@@ -1,0 +1,81 @@
+//! Writes of the open transaction.
+
+ghost use Rattle.std.specs.Prelude.{◌≡◌, IsSome, OnOk, OnErr};
+ghost use Rattle.graph_model.specs.OwnerCalls.{current};
+ghost use Rattle.graph_model.specs.OwnerLaws.{DidWrite};
+ghost use Rattle.graph_model.specs.Refused.{IsWithinLimits};
+ghost use Rattle.leaf_rows.specs.Laying.{HasRoomFor, MayLay, Stays};
+ghost use Rattle.teseo_core.specs.Passes.{Laid, Puts};
+
+use crate::pass::Pass;
+use crate::store::{Core, reader_of};
+use graph_model::{Kind, NoMemory, Refusal, TxnName, Write};
+use leaf_rows::LeafRows;
+use txn_manager::RoomRefusal;
+
+impl Core {
+    /// Makes a write of the open transaction, or says why it isn't made.
+    pub(crate) fn write_here(&mut self, write: Write) -> Result<(), Refusal>
+        requires current { IsSome (current self.old.core).start }
+        requires within { IsWithinLimits write }
+        ensures { DidWrite self.old.core write result self.new.core }
+    {
+        let pass = self.selected as usize;
+        let reader = reader_of(&self.manager, &self.passes[pass], self.selected);
+        let start = reader.start;
+        let by = reader.by;
+        match self.rows.check(self.kind, &reader, write) {
+            Ok(()) => {}
+            Err(refusal) => return Err(self.passes[pass].note_refusal(start, write, refusal)),
+        }
+        put(&mut self.rows, &mut self.passes[pass], self.kind, by, write)
+    }
+}
+
+/// Makes room for the rows of a write that may be made, and makes it.
+fn put(
+    rows: &mut LeafRows,
+    pass: &mut Pass,
+    kind: Kind,
+    by: TxnName,
+    write: Write,
+) -> Result<(), Refusal>
+    requires current { IsSome pass.old.state.start }
+    requires within { IsWithinLimits write }
+    requires may { MayLay rows.old write }
+    ensures { Puts kind by write rows.old rows.new pass.old.state pass.new.state result }
+{
+    match rows.make_room(kind, write) {
+        Ok(()) => {}
+        Err(RoomRefusal::Full { leaves }) => {
+            pass.fill();
+            return Err(Refusal::Full { leaves });
+        }
+        Err(RoomRefusal::NoMemory) => return Err(Refusal::NoMemory),
+    }
+    match lay(rows, pass, kind, by, write) {
+        Ok(()) => Ok(()),
+        Err(NoMemory) => Err(Refusal::NoMemory),
+    }
+}
+
+/// Lays a write in the rows and notes it in its pass.
+fn lay(
+    rows: &mut LeafRows,
+    pass: &mut Pass,
+    kind: Kind,
+    by: TxnName,
+    write: Write,
+) -> Result<(), NoMemory>
+    requires current { IsSome pass.old.state.start }
+    requires within { IsWithinLimits write }
+    requires may { MayLay rows.old write }
+    requires room { HasRoomFor rows.old kind write }
+    ensures ok { OnOk result (Laid kind by write rows.old rows.new pass.old.state pass.new.state) }
+    ensures err { OnErr result (Stays rows.old rows.new × (pass.new.state ≡ pass.old.state)) }
+{
+    pass.reserve_write()?;
+    rows.lay(kind, by, write)?;
+    pass.note(write);
+    Ok(())
+}
