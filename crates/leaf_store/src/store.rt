@@ -76,6 +76,7 @@ impl LeafStore {
         ensures sound { AreLeaves self.now }
         ensures there { KeysHaveCells self.now }
         ensures apart { CellsAreApart self.now }
+        ensures few { length self.now.parts ≤ self.now.limit }
     {
         self.index.leaves()
     }

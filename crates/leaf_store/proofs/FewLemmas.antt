@@ -1,0 +1,17 @@
+-- No more leaves are live than there are.
+use Rattle.std.proofs.Common.{ℕ, ◌≡◌, ◌≤◌, List, length, map, sym, ◌∙◌, arith}
+use Rattle.std.specs.Prelude.{Option, count_by, ◌==◌}
+use Rattle.std.specs.declared.alloc.Global.{Global}
+use Rattle.std.specs.declared.boxed.Box.{Box}
+use Rattle.std.proofs.lemmas.List.{length-map}
+use Rattle.leaf_array.specs.declared.leaf.Leaf.{Leaf}
+use Rattle.leaf_index.specs.Index.{Index, IsIndex}
+use Rattle.leaf_index.proofs.CountLemmas.{at_most, count_map}
+use Rattle.leaf_store.specs.Table.{leaves_of, part_of}
+
+pub few_parts : (index : Index) (table : List (Option (Box Leaf Global))) → IsIndex index → length (leaves_of index table).parts ≤ index.leaves
+few_parts index table is =
+    let few = at_most (map (λ e. e.leaf) index.entries) index.leaves (λ q. omega (arith, is.once q, count_map (λ e. e.leaf) q index.entries)) in
+    let same : length (map (λ e. e.leaf) index.entries) ≡ length index.entries = length-map index.entries (λ e. e.leaf) in
+    let parts : length (map (part_of table) index.entries) ≡ length index.entries = length-map index.entries (part_of table) in
+    omega (arith, few, same, parts)
