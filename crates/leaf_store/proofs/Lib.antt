@@ -11,3 +11,4 @@ pub mod RangeLemmas
 pub mod KeyLemmas
 pub mod SplitLemmas
 pub mod HalfLemmas
+pub mod FillLemmas
