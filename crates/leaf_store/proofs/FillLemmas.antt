@@ -42,7 +42,7 @@ within_front low high (x ∷ xs) ys sorted within =
     until [] above below = below
     until (y ∷ ys) above below = above.0
 
-all_within_back : (low high : Key) (xs ys : List Row) → AreWithin low high (xs ++ ys) → AreWithin low high ys
+pub all_within_back : (low high : Key) (xs ys : List Row) → AreWithin low high (xs ++ ys) → AreWithin low high ys
 all_within_back low high [] ys within = within
 all_within_back low high (x ∷ xs) ys within = all_within_back low high xs ys within.1
 

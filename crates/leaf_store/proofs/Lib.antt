@@ -12,3 +12,4 @@ pub mod KeyLemmas
 pub mod SplitLemmas
 pub mod HalfLemmas
 pub mod FillLemmas
+pub mod FillStepLemmas

@@ -3,24 +3,30 @@
 //! 1. Rows are laid from left to right, as many in a segment as the density limits allow, and each is copied once.
 //! 2. A leaf ends where the first row behind it begins.
 
-ghost use Rattle.std.specs.Prelude.{◌≡◌, ◌*◌, ◌≤◌, false, [], length, IfOk};
-ghost use Rattle.graph_model.specs.Rows.{is_below};
+ghost use Rattle.std.specs.Prelude.{◌≡◌, ◌*◌, ◌<◌, ◌≤◌, false, [], length, IfErr, IfOk};
+ghost use Rattle.graph_model.specs.Rows.{is_below, first_key, end_key};
 ghost use Rattle.gap_segment.specs.Fenced.{AreSorted, AreWithin, first_key_or};
 ghost use Rattle.leaf_array.specs.Leaves.{IsLeaf};
 ghost use Rattle.leaf_array.specs.Segments.{rows_of};
-ghost use Rattle.leaf_store.specs.Fill.{AreSettled};
+ghost use Rattle.leaf_store.specs.Fill.{AreSettled, IsFilling, IsFillStop};
 
-use density_tree::UPPER_LIMITS;
+use crate::look::cuts_of;
+use crate::table::put_leaf;
 use graph_model::{Key, LEAF_SEGMENTS, NoMemory, Row};
 use leaf_array::Leaf;
+use leaf_index::LeafIndex;
 use std::alloc::Global;
+use txn_manager::RoomRefusal;
 use version_segment::VersionSegment;
 
 /// How many rows a segment has in a leaf that is as full as a spread may leave it.
 const FULL_SEGMENT: usize = 26;
 
+/// How many rows such a leaf has.
+const FULL_LEAF: usize = 208;
+
 /// The key of the first row, or the other key where there is none.
-fn first_key(rows: &[Row], other: Key) -> Key
+fn begin_of(rows: &[Row], other: Key) -> Key
     ensures { result ≡ first_key_or rows.now other }
 {
     match rows {
@@ -43,7 +49,7 @@ fn settle_all(segments: &mut [VersionSegment], alloc: Global, low: Key, high: Ke
         return;
     };
     let (here, behind) = rows.split_at(rows.len().min(FULL_SEGMENT));
-    let cut = first_key(behind, high);
+    let cut = begin_of(behind, high);
     first.settle(alloc, low, cut, here);
     settle_all(rest, alloc, cut, high, behind);
 }
@@ -60,4 +66,36 @@ fn settled_leaf(alloc: Global, low: Key, high: Key, rows: &[Row]) -> Result<Box<
     let mut leaf = Leaf::new(alloc, low, high)?;
     settle_all(&mut leaf.segments, alloc, low, high, rows);
     Ok(Box::new(alloc, leaf)?)
+}
+
+/// Lays the next rows in a leaf of their own, and answers how many are laid then.
+fn fill_next(
+    index: &mut LeafIndex,
+    leaves: &mut Vec<Option<Box<Leaf>>>,
+    alloc: Global,
+    rows: &[Row],
+    at: usize,
+) -> Result<usize, RoomRefusal>
+    requires sorted { AreSorted rows.now }
+    requires within { AreWithin first_key end_key rows.now }
+    requires filling { IsFilling rows.now at index.old leaves.old.items }
+    requires more { at < length rows.now }
+    ensures ok { IfOk result (λ next. IsFilling rows.now next index.new leaves.new.items) }
+    ensures more { IfOk result (λ next. at < next) }
+    ensures limit { IfOk result (λ next. index.new.leaves ≡ index.old.leaves) }
+    ensures stop { IfErr result (λ refusal. IsFillStop refusal index.old rows.now) }
+{
+    let Some(leaf) = index.take_free() else {
+        let leaves = index.leaves();
+        return Err(RoomRefusal::Full { leaves });
+    };
+    let (_, rest) = rows.split_at(at);
+    let (here, behind) = rest.split_at(rest.len().min(FULL_LEAF));
+    let low = begin_of(here, Key::END);
+    let high = begin_of(behind, Key::END);
+    let memory = settled_leaf(alloc, low, high, here)?;
+    index.add_leaf(alloc, low, leaf, cuts_of(&memory))?;
+    let _leaves = index.leaves();
+    put_leaf(leaves, leaf as usize, memory);
+    Ok(at + here.len())
 }

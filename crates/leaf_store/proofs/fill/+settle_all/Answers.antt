@@ -17,13 +17,13 @@ settle-requires-clause-sorted t c =
 pub settle-requires-clause-within : goal.settle-requires-clause-within
 settle-requires-clause-within t c =
     let are : c.args.rows.now ≡ c.split_at.result.0.now ++ c.split_at.result.1.now = sym (ap₂ (λ xs ys. xs ++ ys) c.split_at.ensures.front c.split_at.ensures.back ∙ take-append-drop c.min.result c.args.rows.now) in
-    subst (λ k. AreWithin c.args.low k c.split_at.result.0.now) (sym c.first_key-cut.ensures)
+    subst (λ k. AreWithin c.args.low k c.split_at.result.0.now) (sym c.begin_of-cut.ensures)
     (within_front c.args.low c.args.high c.split_at.result.0.now c.split_at.result.1.now (subst AreSorted are c.requires.sorted) (subst (AreWithin c.args.low c.args.high) are c.requires.within))
 
 pub settle-requires-clause-fences : goal.settle-requires-clause-fences
 settle-requires-clause-fences t c =
     let are : c.args.rows.now ≡ c.split_at.result.0.now ++ c.split_at.result.1.now = sym (ap₂ (λ xs ys. xs ++ ys) c.split_at.ensures.front c.split_at.ensures.back ∙ take-append-drop c.min.result c.args.rows.now) in
-    subst (λ k. is_below k c.args.low ≡ false) (sym c.first_key-cut.ensures)
+    subst (λ k. is_below k c.args.low ≡ false) (sym c.begin_of-cut.ensures)
     (cut_from c.args.low c.args.high c.split_at.result.0.now c.split_at.result.1.now c.requires.fences (subst (AreWithin c.args.low c.args.high) are c.requires.within))
 
 pub settle_all-requires : goal.settle_all-requires
@@ -38,12 +38,12 @@ settle_all-requires t c =
         (
           omega (arith, parts.1, c.requires.few, c.min.ensures, c.split_at.ensures.back_len),
           (
-            subst (λ k. is_below c.args.high k ≡ false) (sym c.first_key-cut.ensures) (cut_until c.args.low c.args.high c.split_at.result.0.now c.split_at.result.1.now within),
+            subst (λ k. is_below c.args.high k ≡ false) (sym c.begin_of-cut.ensures) (cut_until c.args.low c.args.high c.split_at.result.0.now c.split_at.result.1.now within),
             (
-              λ none. c.first_key-cut.ensures ∙ last_cut c.args.high c.split_at.result.1.now (omega (arith, none, parts.1, c.requires.few, c.min.ensures, c.split_at.ensures.back_len)),
+              λ none. c.begin_of-cut.ensures ∙ last_cut c.args.high c.split_at.result.1.now (omega (arith, none, parts.1, c.requires.few, c.min.ensures, c.split_at.ensures.back_len)),
               (
                 sorted_back c.split_at.result.0.now c.split_at.result.1.now sorted,
-                subst (λ k. AreWithin k c.args.high c.split_at.result.1.now) (sym c.first_key-cut.ensures) (within_back c.args.low c.args.high c.split_at.result.0.now c.split_at.result.1.now sorted within),
+                subst (λ k. AreWithin k c.args.high c.split_at.result.1.now) (sym c.begin_of-cut.ensures) (within_back c.args.low c.args.high c.split_at.result.0.now c.split_at.result.1.now sorted within),
               ),
             ),
           ),
