@@ -54,7 +54,7 @@ tied_last table high [] e tied = tied.0
 tied_last table high (f ∷ front) e tied = tied_last table high front e tied.1
 
 -- cuts up to a key are cuts up to a later one
-sorted_further : (ks : List Key) (high further : Key) → AreSortedKeys ks high → is_below further high ≡ false → AreSortedKeys ks further
+pub sorted_further : (ks : List Key) (high further : Key) → AreSortedKeys ks high → is_below further high ≡ false → AreSortedKeys ks further
 sorted_further [] high further sorted le = tt
 sorted_further (k ∷ ks) high further sorted le = (next ks sorted.0, sorted_further ks high further sorted.1 le)
   where

@@ -13,3 +13,4 @@ pub mod SplitLemmas
 pub mod HalfLemmas
 pub mod FillLemmas
 pub mod FillStepLemmas
+pub mod FillEndLemmas
