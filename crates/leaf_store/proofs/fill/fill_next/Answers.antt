@@ -1,7 +1,9 @@
 use Rattle.std.proofs.Common.{◌≡◌, ◌++◌, refl, sym, ◌∙◌, ap₂, ap, subst, arith}
 use Rattle.std.specs.Prelude.{false, length}
 use Rattle.std.proofs.lemmas.List.{take-append-drop}
+use Rattle.graph_model.specs.Rows.{end_key}
 use Rattle.graph_model.proofs.KeyLemmas.{below_flip}
+use Rattle.gap_segment.specs.Fenced.{first_key_or}
 use Rattle.leaf_index.specs.Index.{Index}
 use Rattle.leaf_store.proofs.FillStepLemmas.{can_add, filling_more, next_rows}
 use Rattle.leaf_store.proofs.fill.fill_next.Goals as goal
@@ -10,7 +12,7 @@ pub settled_leaf-requires-clause-fences : goal.settled_leaf-requires-clause-fenc
 settled_leaf-requires-clause-fences c =
     let is = sym c.split_at.ensures.back ∙ sym (ap₂ (λ xs ys. xs ++ ys) c.split_at-2.ensures.front c.split_at-2.ensures.back ∙ take-append-drop c.min.result c.split_at.result.1.now) in
     let next = next_rows c.args.rows.now c.split_at-2.result.0.now c.split_at-2.result.1.now c.args.at c.requires.sorted c.requires.within c.requires.filling.within is (omega (arith, c.requires.more, c.split_at.ensures.back_len, c.min.ensures, c.split_at-2.ensures.front_len)) in
-    rw (c.begin_of-low.ensures, c.begin_of-high.ensures) (below_flip _ _ next.low)
+    rw (c.begin_of-low.ensures, c.begin_of-high.ensures) (below_flip (first_key_or c.split_at-2.result.0.now end_key) (first_key_or c.split_at-2.result.1.now end_key) next.low)
 
 pub settled_leaf-requires-clause-sorted : goal.settled_leaf-requires-clause-sorted
 settled_leaf-requires-clause-sorted c =
