@@ -12,3 +12,6 @@ pub mod KeyLemmas
 pub mod SplitLemmas
 pub mod HalfLemmas
 pub mod FewLemmas
+pub mod FillLemmas
+pub mod FillStepLemmas
+pub mod FillEndLemmas

@@ -1,4 +1,5 @@
 pub mod Leaves
 pub mod Table
 pub mod Ranges
+pub mod Fill
 pub mod Changes

@@ -7,6 +7,7 @@
 #![tactic(auto)]
 
 mod change;
+mod fill;
 mod look;
 mod place;
 mod range;

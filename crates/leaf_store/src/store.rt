@@ -58,18 +58,6 @@ impl LeafStore {
         })
     }
 
-    /// Rows of the first transaction, in rising order of their keys, each of them settled. As many as the density
-    /// limits allow stand in each leaf.
-    pub fn filled(alloc: Global, leaves: u32, rows: &[Row]) -> Result<LeafStore, RoomRefusal>
-        requires some { 1 ≤ leaves }
-        requires few { leaves ≤ MAX_LEAVES }
-        requires rising { AreRising rows.now }
-        ensures ok { IfOk result (λ s. AreFilled leaves rows.now s) }
-        ensures full { IfErr result (λ refusal. IsFillRefusal leaves rows.now refusal) }
-    {
-        unreachable!()
-    }
-
     /// How many leaves there are, live or not. What holds of each store is a clause of this call.
     pub fn limit(&self) -> u32
         ensures limit { result ≡ self.now.limit }

@@ -1,0 +1,187 @@
+-- The first leaf and the last one of a store that begins with rows.
+use Rattle.std.proofs.Common.{◌≡◌, ℕ, zero, suc, ◌+◌, ◌-◌, ◌*◌, ◌<◌, ◌≤◌, List, [], ◌∷◌, ◌++◌, Option, Some, None, length, map, take, drop, set, min, cond, refl, sym, ◌∙◌, ap, ap₂, subst, arith}
+use Rattle.std.specs.Prelude.{Bool, true, false, sum}
+use Rattle.std.specs.List.{AllByRecursion, range_with_len}
+use Rattle.std.specs.Ordering.{eq_by_cmp}
+use Rattle.std.specs.FinMap.Entries.{find}
+use Rattle.std.specs.declared.boxed.Box.{Box}
+use Rattle.std.specs.declared.alloc.Global.{Global}
+use Rattle.std.proofs.Math.ListN.{length-set}
+use Rattle.std.proofs.Math.Seq.{take-append_seam, drop-append_seam}
+use Rattle.std.proofs.lemmas.List.{append-nil, length-map, take_all, take-append-drop}
+use Rattle.std.proofs.lemmas.List.FromFn.{length-range_with_len}
+use Rattle.graph_model.specs.declared.limits.TheConstants.{SPLIT_ROWS}
+use Rattle.graph_model.specs.declared.row.Key.{Key}
+use Rattle.graph_model.specs.declared.row.Row.{Row}
+use Rattle.graph_model.specs.Rows.{key_cmp, is_below, first_key, end_key}
+use Rattle.graph_model.proofs.KeyLemmas.{below_flip, between_of, between_parts}
+use Rattle.gap_segment.specs.Fenced.{AreAbove, AreSorted, AreWithin, first_key_or}
+use Rattle.version_segment.specs.Rows.{VersionedRows, or_nothing, settled_row, settled_rows}
+use Rattle.leaf_array.specs.declared.leaf.Leaf.{Leaf}
+use Rattle.leaf_array.specs.Leaves.{IsLeaf}
+use Rattle.leaf_array.specs.Segments.{rows_of, lows_of}
+use Rattle.leaf_array.proofs.LeafLemmas.{Follow, follow-of}
+use Rattle.leaf_index.specs.Index.{Index, Entry, AreCuts, IsIndex, end_of}
+use Rattle.leaf_index.specs.Calls.{CanCut, new_index, with_cuts}
+use Rattle.txn_manager.specs.declared.config.RoomRefusal.{RoomRefusal}
+use Rattle.txn_manager.specs.declared.config.RoomRefusal.TheVariants as refusals
+use Rattle.leaf_store.specs.Leaves.{Part, Leaves, weight_of_part}
+use Rattle.leaf_store.specs.Changes.{AreFilled, AreRising, IsFillRefusal, settled_at}
+use Rattle.leaf_store.specs.Fill.{AreSettled, AreTiedTo, IsFilling, IsFillStop, begin_of, next_key, parts_in}
+use Rattle.leaf_store.specs.Table.{IsKept, IsTied, AreTied, part_of, segments_or_none, segments_at, leaves_of}
+use Rattle.leaf_store.proofs.CellLemmas.{AreSound}
+use Rattle.leaf_store.proofs.FillLemmas.{all_within_back, cut_until, sorted_front, within_front}
+use Rattle.leaf_store.proofs.FillStepLemmas.{sorted_further}
+use Rattle.leaf_store.proofs.KeyLemmas.{from_above}
+use Rattle.leaf_store.proofs.ListLemmas.{get_set_same}
+use Rattle.leaf_store.proofs.SplitLemmas.{are_cuts}
+use Rattle.leaf_store.proofs.StoreLemmas.{cells_in, none_below_first, versions_in_rows, weight_one}
+use Rattle.leaf_store.proofs.TableLemmas.{Table, kept_leaves}
+
+-- rows are laid, in as many leaves as there were
+pub record StillFilling (rows : List Row) (at : ℕ) (old new : Index) (table : Table) : Type 0 where
+  pub filling : IsFilling rows at new table
+  pub limit : new.leaves ≡ old.leaves
+
+-- ---- rows in rising order
+
+pub rising_sorted : (rows : List Row) → AreRising rows → AreSorted rows
+rising_sorted [] rising = tt
+rising_sorted (r ∷ rows) rising = (rising.1, rising_sorted rows rising.2)
+
+pub rising_within : (rows : List Row) → AreRising rows → AreWithin first_key end_key rows
+rising_within [] rising = tt
+rising_within (r ∷ rows) rising = (between_of first_key end_key r.key (none_below_first r.key) rising.0, rising_within rows rising.2)
+
+-- ---- the first leaf
+
+pub record FirstRows (rows here behind : List Row) : Type 0 where
+  pub low : is_below first_key (first_key_or behind end_key) ≡ true
+  pub sorted : AreSorted here
+  pub within : AreWithin first_key (first_key_or behind end_key) here
+  pub until : is_below end_key (first_key_or behind end_key) ≡ false
+
+-- a row stands before the first one behind
+first_below : (here behind : List Row) → AreSorted (here ++ behind) → 1 ≤ length here → is_below first_key (first_key_or behind end_key) ≡ true
+first_below here [] sorted some = refl
+first_below [] (b ∷ behind) sorted some = absurd (omega (arith, some))
+first_below (r ∷ here) (b ∷ behind) sorted some = from_above first_key r.key b.key (none_below_first r.key) (at here sorted.0)
+  where
+    at : (xs : List Row) → AreAbove r.key (xs ++ b ∷ behind) → is_below r.key b.key ≡ true
+    at [] above = above.0
+    at (x ∷ xs) above = at xs above.1
+
+pub first_rows : (rows here behind : List Row) → AreSorted rows → AreWithin first_key end_key rows → rows ≡ here ++ behind → (1 ≤ length behind → 1 ≤ length here) → FirstRows rows here behind
+first_rows rows here behind sorted within is some =
+    let sorted' = subst AreSorted is sorted in
+    let within' = subst (AreWithin first_key end_key) is within in
+    record {
+      low = low behind sorted' some;
+      sorted = sorted_front here behind sorted';
+      within = within_front first_key end_key here behind sorted' within';
+      until = cut_until first_key end_key here behind within';
+    }
+  where
+    low : (behind : List Row) → AreSorted (here ++ behind) → (1 ≤ length behind → 1 ≤ length here) → is_below first_key (first_key_or behind end_key) ≡ true
+    low [] sorted some = refl
+    low (b ∷ behind) sorted some = first_below here (b ∷ behind) sorted (some (omega arith))
+
+module _ (rows here behind : List Row) (index new : Index) (table table' : Table) (memory : Box Leaf Global) (cuts : List Key) (first : FirstRows rows here behind) (all : rows ≡ here ++ behind) (is_new : index ≡ new_index (length table)) (some : 1 ≤ length table)
+    (settled : AreSettled first_key (first_key_or behind end_key) here memory.value.segments) (is_leaf : IsLeaf memory.value.segments) (sound : AreSound memory.value.segments) (are : cuts ≡ lows_of memory.value.segments) where
+  abbrev high : Key
+  high = first_key_or behind end_key
+
+  abbrev ss : List VersionedRows
+  ss = memory.value.segments
+
+  pub first_cuts : CanCut first_key cuts index.entries
+  first_cuts =
+      let c = are_cuts first_key high ss (follow-of first_key ss settled.begins settled.chained) sound is_leaf.segments settled.ends in
+      record {
+        front = [];
+        entry = record { low = first_key; leaf = 0; cuts = first_key ∷ end_key ∷ end_key ∷ end_key ∷ end_key ∷ end_key ∷ end_key ∷ end_key ∷ [] };
+        back = [];
+        is = ap (λ (i : Index). i.entries) is_new;
+        same = refl;
+        fit = subst (λ ks. AreCuts first_key ks end_key) (sym are) (record { count = c.count; begin = c.begin; sorted = sorted_further (lows_of ss) high end_key c.sorted first.until });
+      }
+
+  module _ (set_cuts : (can : CanCut first_key cuts index.entries) → new.entries ≡ with_cuts first_key cuts index.entries can) (others : new ≡ record index { entries = new.entries }) (ready : IsIndex new) (is : table' ≡ set table 0 (Some memory)) (few : length here ≡ min (length rows) 208) where
+    abbrev e : Entry
+    e = record { low = first_key; leaf = 0; cuts = cuts }
+
+    one_entry_is : new.entries ≡ e ∷ []
+    unfolding first_cuts
+    one_entry_is = set_cuts first_cuts
+
+    here_is : segments_at table' 0 ≡ ss
+    here_is = ap (λ t. segments_at t 0) is ∙ ap segments_or_none (get_set_same table 0 (Some memory) (omega (arith, some)))
+
+    pub first_filling : IsFilling rows (length here) new table'
+    first_filling =
+        let leaves : new.leaves ≡ length table = ap (λ (i : Index). i.leaves) others ∙ ap (λ (i : Index). i.leaves) is_new in
+        let rest : drop (length here) rows ≡ behind = ap (drop (length here)) all ∙ drop-append_seam here behind in
+        let front : take (length here) rows ≡ here = ap (take (length here)) all ∙ take-append_seam here behind in
+        let begin : next_key rows (length here) ≡ high = ap (λ ys. first_key_or ys end_key) rest in
+        let one : IsTied (segments_at table' 0) e high = subst (λ cs. IsTied cs e high) (sym here_is) (record { leaf = is_leaf; sound = sound; cuts = sym are; ends = settled.ends }) in
+        let parts : parts_in new table' ≡ part_of table' e ∷ [] = ap (map (part_of table')) one_entry_is in
+        let free : length new.free ≡ length table - 1 = ap (λ (i : Index). length i.free) others ∙ ap (λ (i : Index). length i.free) is_new ∙ length-range_with_len 1 (length table - 1) in
+        let count : length (rows_of (segments_at table' 0)) ≡ length here = ap (λ cs. length (rows_of cs)) here_is ∙ ap length settled.rows_are ∙ length-map here settled_row in
+        let weight : sum (map weight_of_part (parts_in new table')) ≡ length here - (SPLIT_ROWS + 1) = ap (λ ps. sum (map weight_of_part ps)) parts ∙ weight_one (part_of table' e) ∙ ap (λ n. n - (SPLIT_ROWS + 1)) count in
+        let entries : length new.entries ≡ 1 = ap length one_entry_is in
+        record {
+          within = omega (arith, few);
+          count = ap length is ∙ length-set table 0 (Some memory) ∙ sym leaves;
+          index_is = ready;
+          tied = subst (λ k. AreTiedTo table' k new.entries) (sym begin) (subst (AreTiedTo table' high) (sym one_entry_is) (one, tt));
+          rows_are = ap (λ ps. rows_of (cells_in ps)) parts ∙ ap rows_of (append-nil (segments_at table' 0) ∙ here_is) ∙ settled.rows_are ∙ ap settled_rows (sym front);
+          retired = ap (λ (i : Index). i.retired) others ∙ ap (λ (i : Index). i.retired) is_new;
+          lists = omega (arith, free, entries, leaves, some);
+          below = subst (λ k. AllByRecursion (λ (x : Entry). is_below x.low k ≡ true) new.entries) (sym begin) (subst (AllByRecursion (λ (x : Entry). is_below x.low high ≡ true)) (sym one_entry_is) (first.low, tt));
+          weight = omega (arith, weight, entries);
+          full = λ left. (omega (arith, entries, few, left), omega (arith, weight, entries, few, left));
+        }
+
+-- ---- the end
+
+tied_to_end : (table : Table) (es : List Entry) → AreTiedTo table end_key es → AreTied table es
+tied_to_end table [] tied = tt
+tied_to_end table (e ∷ es) tied = (subst (IsTied (segments_at table e.leaf) e) (same es) tied.0, tied_to_end table es tied.1)
+  where
+    same : (es : List Entry) → begin_of es end_key ≡ end_of es
+    same [] = refl
+    same (f ∷ es) = refl
+
+-- each row has its value alone
+settled_found : (rows : List Row) (q : Key) → or_nothing (find key_cmp q (settled_rows rows)) ≡ settled_at rows q
+settled_found [] q = refl
+settled_found (r ∷ rows) q = elim (eq_by_cmp key_cmp q r.key) as (λ t. or_nothing (cond t (Some (record { pairs = []; oldest = Some r.weight; touches = [] })) (find key_cmp q (settled_rows rows))) ≡ cond t (record { pairs = []; oldest = Some r.weight; touches = [] }) (settled_at rows q)) [
+  | true ↦ refl
+  | false ↦ settled_found rows q
+]
+
+pub record IsFilledStore (leaves : ℕ) (rows : List Row) (index : Index) (table : Table) : Type 0 where
+  pub kept : IsKept index table
+  pub are : AreFilled leaves rows (leaves_of index table)
+
+pub is_filled : (leaves : ℕ) (rows : List Row) (index : Index) (table : Table) → IsFilling rows (length rows) index table → index.leaves ≡ leaves → IsFilledStore leaves rows index table
+is_filled leaves rows index table f limit =
+    let end : next_key rows (length rows) ≡ end_key = ap (λ ys. first_key_or ys end_key) (drop_whole rows) in
+    let kept : IsKept index table = record { count = f.count; index_is = f.index_is; tied = tied_to_end table index.entries (subst (λ k. AreTiedTo table k index.entries) end f.tied) } in
+    record {
+      kept = kept;
+      are = record {
+        versions = λ q. versions_in_rows (leaves_of index table) q (kept_leaves index table kept) ∙ ap (λ rs. or_nothing (find key_cmp q rs)) (f.rows_are ∙ ap settled_rows (take_all (length rows) rows (omega arith))) ∙ settled_found rows q;
+        limit_is = limit;
+        retired = f.retired;
+        weight = omega (arith, f.weight, f.lists, limit);
+      };
+    }
+  where
+    drop_whole : (xs : List Row) → drop (length xs) xs ≡ []
+    drop_whole [] = refl
+    drop_whole (x ∷ xs) = drop_whole xs
+
+pub fill_refused : (leaves : ℕ) (rows : List Row) (index : Index) → index.leaves ≡ leaves → (refusal : RoomRefusal) → IsFillStop refusal index rows → IsFillRefusal leaves rows refusal
+fill_refused leaves rows index limit (refusals.Full n) stop = (stop.0 ∙ limit, omega (arith, stop.1, limit))
+fill_refused leaves rows index limit refusals.NoMemory stop = tt

@@ -1,0 +1,61 @@
+-- Rows laid in segments one behind the other. Only the crate itself speaks of it.
+use Rattle.std.specs.Prelude.{◌≡◌, ℕ, ◌+◌, ◌-◌, ◌*◌, ◌<◌, ◌≤◌, true, List, [], ◌∷◌, length, map, sum, take, drop, Option}
+use Rattle.std.specs.List.{AllByRecursion, flat_map}
+use Rattle.std.specs.declared.boxed.Box.{Box}
+use Rattle.std.specs.declared.alloc.Global.{Global}
+use Rattle.graph_model.specs.declared.limits.TheConstants.{SPLIT_ROWS}
+use Rattle.graph_model.specs.Rows.{is_below, end_key}
+use Rattle.gap_segment.specs.Fenced.{first_key_or}
+use Rattle.txn_manager.specs.declared.config.RoomRefusal.{RoomRefusal}
+use Rattle.txn_manager.specs.declared.config.RoomRefusal.TheVariants as refusals
+use Rattle.leaf_array.specs.declared.leaf.Leaf.{Leaf}
+use Rattle.leaf_index.specs.Index.{Entry, Index, IsIndex}
+use Rattle.leaf_store.specs.Leaves.{Part, weight_of_part}
+use Rattle.leaf_store.specs.Table.{IsTied, part_of, segments_at}
+use Rattle.graph_model.specs.declared.row.Key.{Key}
+use Rattle.graph_model.specs.declared.row.Row.{Row}
+use Rattle.version_segment.specs.Rows.{VersionedRows, settled_rows}
+use Rattle.leaf_array.specs.Segments.{rows_of, low_or, high_or, AreChained}
+
+-- the rows, each of them settled, between these fence keys
+pub record AreSettled (low high : Key) (rows : List Row) (ss : List VersionedRows) : Type 0 where
+  pub begins : low_or ss low ≡ low
+  pub chained : AreChained ss
+  pub ends : high_or ss low ≡ high
+  pub rows_are : rows_of ss ≡ settled_rows rows
+
+-- where the first of these entries begins, or else the given end
+abbrev pub begin_of : List Entry → Key → Key
+begin_of [] high = high
+begin_of (e ∷ es) high = e.low
+
+-- as `AreTied`, but the last leaf ends at the given key
+abbrev pub AreTiedTo : List (Option (Box Leaf Global)) → Key → List Entry → Type 0
+AreTiedTo table high [] = Unit {0}
+AreTiedTo table high (e ∷ es) = IsTied (segments_at table e.leaf) e (begin_of es high) × AreTiedTo table high es
+
+-- the key of the first row that is left, or the last key
+abbrev pub next_key : List Row → ℕ → Key
+next_key rows at = first_key_or (drop at rows) end_key
+
+abbrev pub parts_in : Index → List (Option (Box Leaf Global)) → List Part
+parts_in index table = map (part_of table) index.entries
+
+-- So many rows have been laid, from the first leaf on. While rows are left all leaves so far are as full as may be.
+pub record IsFilling (rows : List Row) (at : ℕ) (index : Index) (table : List (Option (Box Leaf Global))) : Type 0 where
+  pub within : at ≤ length rows
+  pub count : length table ≡ index.leaves
+  pub index_is : IsIndex index
+  pub tied : AreTiedTo table (next_key rows at) index.entries
+  pub rows_are : rows_of (flat_map (λ p. p.segments) (parts_in index table)) ≡ settled_rows (take at rows)
+  pub retired : index.retired ≡ []
+  pub lists : length index.free + length index.entries ≡ index.leaves
+  pub below : AllByRecursion (λ e. is_below e.low (next_key rows at) ≡ true) index.entries
+  pub weight : sum (map weight_of_part (parts_in index table)) + SPLIT_ROWS * (length index.entries - 1) ≤ at
+  pub full : at < length rows → (at ≡ 208 * length index.entries)
+      × (sum (map weight_of_part (parts_in index table)) ≤ (SPLIT_ROWS + 1) * length index.entries)
+
+-- the leaves are used up, and so are as many rows as they hold
+abbrev pub IsFillStop : RoomRefusal → Index → List Row → Type 0
+IsFillStop (refusals.Full leaves) index rows = (leaves ≡ index.leaves) × (SPLIT_ROWS * index.leaves ≤ length rows)
+IsFillStop refusals.NoMemory index rows = Unit {0}
