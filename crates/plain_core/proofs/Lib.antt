@@ -1,9 +1,0 @@
-pub mod PassLemmas
-pub mod CountLemmas
-pub mod OpenLemmas
-pub mod PlainLemmas
-pub mod LoadLemmas
-pub mod RoomLemmas
-pub mod FieldLemmas
-pub mod WriteLemmas
-pub mod NewLemmas
