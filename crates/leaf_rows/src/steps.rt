@@ -1,6 +1,7 @@
 //! Changes of one row.
 //!
-//! No record that is laid has a stamp: its writer's is asked of the manager.
+//! 1. No record that is laid has a stamp: its writer's is asked of the manager.
+//! 2. What holds of each store is a clause of its `limit`, which is called for it before a change and after it.
 
 ghost use Rattle.std.specs.Prelude.{◌≡◌, ◌<◌, ◌≤◌, true, false, OnOk};
 ghost use Rattle.graph_model.specs.Rows.{is_below, end_key};

@@ -2,7 +2,7 @@ use Rattle.std.proofs.Common.{ℕ, sym, ◌∙◌, ap, subst}
 use Rattle.graph_model.specs.OwnerCalls.{current}
 use Rattle.teseo_core.specs.Passes.{Notes}
 use Rattle.teseo_core.specs.Keeping.{core_of}
-use Rattle.teseo_core.proofs.FieldLemmas.{lent_state, start_of, some_nat}
+use Rattle.teseo_core.proofs.FieldLemmas.{is_open_here, lent_state, start_of, some_nat}
 use Rattle.teseo_core.proofs.KeepLemmas.{IsReader, reader_started}
 use Rattle.teseo_core.proofs.WriteLemmas.{refused_kept, refused_answer, may_lay, put_kept, put_answer}
 use Rattle.teseo_core.proofs.store.Core.write_here.Goals as goal
@@ -103,3 +103,11 @@ check-requires-clause-started c =
       start_is = some_nat r.result.start start.0 (sym r.ensures.start ∙ ap (λ s. s.start) (sym here) ∙ start.1);
       by = r.ensures.by ∙ (λ i. record { job = f.selected; number = (sym here i).begun });
     })
+
+pub check-requires-clause-is_open : goal.check-requires-clause-is_open
+check-requires-clause-is_open c =
+    let f = c.self.inside in
+    let here = lent_state f.passes.items f.selected c.index.result.now c.self.invariant.chosen c.index.ensures in
+    let r = c.reader_of-reader.ensures in
+    rw (r.manager, r.by ∙ (λ i. record { job = f.selected; number = (sym here i).begun }))
+    (is_open_here f.kind f.leaves f.manager f.passes.items f.selected f.served f.rows c.self.invariant (rw (← c.self.view_is) at c.requires.current))
