@@ -11,6 +11,8 @@ mod faster_kernels;
 #[cfg(test)]
 mod faulty_words;
 #[cfg(test)]
+mod full_stores;
+#[cfg(test)]
 mod inputs_that_are_refused;
 #[cfg(test)]
 mod made_graphs;
