@@ -29,8 +29,9 @@ fn faster_kernels_give_the_tables_of_the_plain_ones(rt: HostRuntime) -> Result<(
     let ended = end_of(&rt, alloc, &mut desk, "s1", NO_TEXT)?;
     assert_eq!(rt;
         ended.as_str(),
-        "status 0, 11 files, said commits 1 vertices 10000 edges 100000 undo 0 retired 0\n",
-        "the run"
+        "status 0, 11 files, said made vertices 10000 edges 100000\n\
+         commits 1 vertices 10000 edges 100000 undo 0 retired 0\n",
+        "both calls"
     );
     for (plain, faster) in SAME {
         assert_eq!(rt; desk.get(faster), desk.get(plain), "{faster}");
