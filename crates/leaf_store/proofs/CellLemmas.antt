@@ -1,5 +1,5 @@
 -- Cells behind one another: each key lies in one of them at most, and its versions stand there.
-use Rattle.std.proofs.Common.{◌≡◌, ℕ, ◌+◌, ◌≤◌, List, [], ◌∷◌, ◌++◌, length, refl, sym, ◌∙◌, ap, ap₂, subst, arith, cond, inl, inr, append_assoc}
+use Rattle.std.proofs.Common.{◌≡◌, ℕ, ◌≤◌, List, [], ◌∷◌, ◌++◌, length, refl, sym, ◌∙◌, ap, ap₂, subst, arith, cond, inl, inr}
 use Rattle.std.specs.Prelude.{Bool, true, false, ◌&&◌, ◌⊎◌, not, Some, None}
 use Rattle.std.specs.List.{AllByRecursion}
 use Rattle.std.specs.Ordering.{eq_by_cmp}
@@ -8,15 +8,15 @@ use Rattle.std.specs.FinMap.Entries.{find}
 use Rattle.std.proofs.lemmas.Bool.{true≢false}
 use Rattle.graph_model.specs.declared.row.Key.{Key}
 use Rattle.graph_model.specs.Rows.{key_cmp, is_below, is_between, end_key}
-use Rattle.graph_model.proofs.KeyLemmas.{between_of, between_parts, below_self, below_up, upto_chain}
+use Rattle.graph_model.proofs.KeyLemmas.{between_parts, below_self, below_up, upto_chain}
 use Rattle.graph_model.proofs.OrderLemmas.{keys_exact}
 use Rattle.store_model.specs.Stamped.{StampedVersions}
 use Rattle.version_segment.specs.Rows.{VersionedRows, IsSegment, or_nothing, versions_at}
-use Rattle.leaf_array.specs.Segments.{rows_of, low_or, high_or, AreChained}
+use Rattle.leaf_array.specs.Segments.{rows_of, high_or}
 use Rattle.leaf_array.proofs.LeafLemmas.{Follow, follow-front, follow-behind, follow-both}
-use Rattle.leaf_array.proofs.PairLemmas.{rows-append, high-append}
+use Rattle.leaf_array.proofs.PairLemmas.{high-append}
 use Rattle.leaf_store.proofs.ListLemmas.{all_append, all_front, all_back}
-use Rattle.leaf_store.specs.Leaves.{no_cell, cell_in}
+use Rattle.leaf_store.specs.Leaves.{cell_in}
 
 -- ---- tests
 
@@ -57,33 +57,33 @@ low_to_high key (c ∷ cs) follow sound =
 pub held_from : (key k q : Key) (cs : List VersionedRows) → Follow key cs → AreSound cs → holds (cell_in cs k) q ≡ true → is_below q key ≡ false
 held_from key k q [] follow sound held = let p = between_parts end_key end_key q held in clash _ p.1 p.0
 held_from key k q (c ∷ cs) follow sound held = elim (holds c k) as (λ t. holds (cond t c (cell_in cs k)) q ≡ true → is_below q key ≡ false) [
-      | true ↦ λ h. subst (λ l. is_below q l ≡ false) follow.0 (between_parts c.low c.high q h).0
-      | false ↦ λ h. subst (λ l. is_below q l ≡ false) follow.0 (upto_chain c.low c.high q sound.0.fences (held_from c.high k q cs follow.1 sound.1 h))
-    ] held
+  | true ↦ λ h. subst (λ l. is_below q l ≡ false) follow.0 (between_parts c.low c.high q h).0
+  | false ↦ λ h. subst (λ l. is_below q l ≡ false) follow.0 (upto_chain c.low c.high q sound.0.fences (held_from c.high k q cs follow.1 sound.1 h))
+] held
 
 -- and it is below where they end
 pub held_until : (key k q : Key) (cs : List VersionedRows) → Follow key cs → AreSound cs → holds (cell_in cs k) q ≡ true → is_below q (high_or cs key) ≡ true
 held_until key k q [] follow sound held = let p = between_parts end_key end_key q held in clash _ p.1 p.0
 held_until key k q (c ∷ cs) follow sound held = elim (holds c k) as (λ t. holds (cond t c (cell_in cs k)) q ≡ true → is_below q (high_or cs c.high) ≡ true) [
-      | true ↦ λ h. below_up q c.high (high_or cs c.high) (between_parts c.low c.high q h).1 (low_to_high c.high cs follow.1 sound.1)
-      | false ↦ λ h. held_until c.high k q cs follow.1 sound.1 h
-    ] held
+  | true ↦ λ h. below_up q c.high (high_or cs c.high) (between_parts c.low c.high q h).1 (low_to_high c.high cs follow.1 sound.1)
+  | false ↦ λ h. held_until c.high k q cs follow.1 sound.1 h
+] held
 
 -- each key between where they begin and where they end lies in its cell
 pub covered : (key q : Key) (cs : List VersionedRows) → Follow key cs → is_below q key ≡ false → is_below q (high_or cs key) ≡ true → holds (cell_in cs q) q ≡ true
 covered key q [] follow from until = clash _ until from
 covered key q (c ∷ cs) follow from until = elim (holds c q) as (λ t. holds c q ≡ t → holds (cond t c (cell_in cs q)) q ≡ true) [
-      | true ↦ λ h. h
-      | false ↦ λ h. covered c.high q cs follow.1 (beyond c.low c.high q h (subst (λ l. is_below q l ≡ false) (sym follow.0) from)) until
-    ] refl
+  | true ↦ λ h. h
+  | false ↦ λ h. covered c.high q cs follow.1 (beyond c.low c.high q h (subst (λ l. is_below q l ≡ false) (sym follow.0) from)) until
+] refl
 
 -- keys that share a cell have the same one
 pub apart : (key k q : Key) (cs : List VersionedRows) → Follow key cs → AreSound cs → holds (cell_in cs k) q ≡ true → cell_in cs q ≡ cell_in cs k
 apart key k q [] follow sound held = refl
 apart key k q (c ∷ cs) follow sound held = elim (holds c k) as (λ t. holds (cond t c (cell_in cs k)) q ≡ true → cond (holds c q) c (cell_in cs q) ≡ cond t c (cell_in cs k)) [
-      | true ↦ λ h. ap (λ t. cond t c (cell_in cs q)) h
-      | false ↦ λ h. ap (λ t. cond t c (cell_in cs q)) (above_holds_not c.low c.high q (held_from c.high k q cs follow.1 sound.1 h)) ∙ apart c.high k q cs follow.1 sound.1 h
-    ] held
+  | true ↦ λ h. ap (λ t. cond t c (cell_in cs q)) h
+  | false ↦ λ h. ap (λ t. cond t c (cell_in cs q)) (above_holds_not c.low c.high q (held_from c.high k q cs follow.1 sound.1 h)) ∙ apart c.high k q cs follow.1 sound.1 h
+] held
 
 -- ---- the versions of a key
 
@@ -91,16 +91,16 @@ apart key k q (c ∷ cs) follow sound held = elim (holds c k) as (λ t. holds (c
 outside : (low high q : Key) (rows : List (Key × StampedVersions)) → AllByRecursion (λ row. is_between low high row.0 ≡ true) rows → is_between low high q ≡ false → find key_cmp q rows ≡ None
 outside low high q [] all away = refl
 outside low high q (row ∷ rows) all away = elim (eq_by_cmp key_cmp q row.0) as (λ t. eq_by_cmp key_cmp q row.0 ≡ t → cond t (Some row.1) (find key_cmp q rows) ≡ None) [
-      | true ↦ λ tie. clash _ all.0 (ap (is_between low high) (sym (keys_exact q row.0 ((Equal-is _).0 tie))) ∙ away)
-      | false ↦ λ tie. outside low high q rows all.1 away
-    ] refl
+  | true ↦ λ tie. clash _ all.0 (ap (is_between low high) (sym (keys_exact q row.0 ((Equal-is _).0 tie))) ∙ away)
+  | false ↦ λ tie. outside low high q rows all.1 away
+] refl
 
 find_front : (q : Key) (xs ys : List (Key × StampedVersions)) → find key_cmp q xs ≡ None → find key_cmp q (xs ++ ys) ≡ find key_cmp q ys
 find_front q [] ys none = refl
 find_front q (x ∷ xs) ys none = elim (eq_by_cmp key_cmp q x.0) as (λ t. cond t (Some x.1) (find key_cmp q xs) ≡ None → cond t (Some x.1) (find key_cmp q (xs ++ ys)) ≡ find key_cmp q ys) [
-      | true ↦ λ h. cc
-      | false ↦ λ h. find_front q xs ys h
-    ] none
+  | true ↦ λ h. cc
+  | false ↦ λ h. find_front q xs ys h
+] none
 
 find_back : (q : Key) (xs ys : List (Key × StampedVersions)) → find key_cmp q ys ≡ None → find key_cmp q (xs ++ ys) ≡ find key_cmp q xs
 find_back q [] ys none = none
@@ -118,9 +118,9 @@ none_below key q (c ∷ cs) follow sound below =
 pub versions_found : (key q : Key) (cs : List VersionedRows) → Follow key cs → AreSound cs → versions_at (cell_in cs q) q ≡ or_nothing (find key_cmp q (rows_of cs))
 versions_found key q [] follow sound = refl
 versions_found key q (c ∷ cs) follow sound = elim (holds c q) as (λ t. holds c q ≡ t → versions_at (cond t c (cell_in cs q)) q ≡ or_nothing (find key_cmp q (c.rows ++ rows_of cs))) [
-      | true ↦ λ h. ap or_nothing (sym (find_back q c.rows (rows_of cs) (none_below c.high q cs follow.1 sound.1 (between_parts c.low c.high q h).1)))
-      | false ↦ λ h. versions_found c.high q cs follow.1 sound.1 ∙ ap or_nothing (sym (find_front q c.rows (rows_of cs) (outside c.low c.high q c.rows sound.0.within h)))
-    ] refl
+  | true ↦ λ h. ap or_nothing (sym (find_back q c.rows (rows_of cs) (none_below c.high q cs follow.1 sound.1 (between_parts c.low c.high q h).1)))
+  | false ↦ λ h. versions_found c.high q cs follow.1 sound.1 ∙ ap or_nothing (sym (find_front q c.rows (rows_of cs) (outside c.low c.high q c.rows sound.0.within h)))
+] refl
 
 -- ---- one cell among others
 
@@ -160,16 +160,16 @@ sound_middle xs ms ns ys sound part =
 first_part : (q : Key) (xs ys : List VersionedRows) → holds (cell_in xs q) q ≡ true → cell_in (xs ++ ys) q ≡ cell_in xs q
 first_part q [] ys held = let p = between_parts end_key end_key q held in clash _ p.1 p.0
 first_part q (x ∷ xs) ys held = elim (holds x q) as (λ t. holds (cond t x (cell_in xs q)) q ≡ true → cond t x (cell_in (xs ++ ys) q) ≡ cond t x (cell_in xs q)) [
-      | true ↦ λ h. refl
-      | false ↦ λ h. first_part q xs ys h
-    ] held
+  | true ↦ λ h. refl
+  | false ↦ λ h. first_part q xs ys h
+] held
 
 second_part : (q : Key) (xs ys : List VersionedRows) → holds (cell_in xs q) q ≡ false → cell_in (xs ++ ys) q ≡ cell_in ys q
 second_part q [] ys out = refl
 second_part q (x ∷ xs) ys out = elim (holds x q) as (λ t. holds x q ≡ t → holds (cond t x (cell_in xs q)) q ≡ false → cond t x (cell_in (xs ++ ys) q) ≡ cell_in ys q) [
-      | true ↦ λ e h. clash _ e h
-      | false ↦ λ e h. second_part q xs ys h
-    ] refl out
+  | true ↦ λ e h. clash _ e h
+  | false ↦ λ e h. second_part q xs ys h
+] refl out
 
 -- a key that is held between the others has its cell there
 pub middle_part : (key q : Key) (xs ns ys : List VersionedRows) → Follow key (xs ++ (ns ++ ys)) → AreSound (xs ++ (ns ++ ys)) → holds (cell_in ns q) q ≡ true → cell_in (xs ++ (ns ++ ys)) q ≡ cell_in ns q
@@ -207,6 +207,6 @@ moved_cell key q (x ∷ xs) ms ns ys follow_m follow_n sound_m sound_n high = by
 pub few_in : (most : ℕ) (q : Key) (cs : List VersionedRows) → AllByRecursion (λ c. length c.rows ≤ most) cs → length (cell_in cs q).rows ≤ most
 few_in most q [] few = omega arith
 few_in most q (c ∷ cs) few = elim (holds c q) as (λ t. length (cond t c (cell_in cs q)).rows ≤ most) [
-      | true ↦ few.0
-      | false ↦ few_in most q cs few.1
-    ]
+  | true ↦ few.0
+  | false ↦ few_in most q cs few.1
+]

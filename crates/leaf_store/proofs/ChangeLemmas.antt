@@ -1,6 +1,6 @@
 -- One cell of the store changes, in the memory of its leaf.
-use Rattle.std.proofs.Common.{◌≡◌, ◌≢◌, ℕ, zero, suc, ◌+◌, ◌<◌, ◌≤◌, List, [], ◌∷◌, ◌++◌, Option, Some, None, length, map, set, get_or, refl, sym, ◌∙◌, ap, ap₂, subst, arith, length-append}
-use Rattle.std.specs.Prelude.{Bool, true, false, slice_get}
+use Rattle.std.proofs.Common.{◌≡◌, ℕ, zero, suc, ◌+◌, ◌<◌, ◌≤◌, List, [], ◌∷◌, ◌++◌, Option, Some, None, length, map, set, get_or, refl, sym, ◌∙◌, ap, ap₂, subst, arith, length-append}
+use Rattle.std.specs.Prelude.{true, false, slice_get}
 use Rattle.std.specs.Box.{with_value}
 use Rattle.std.specs.declared.boxed.Box.{Box}
 use Rattle.std.specs.declared.alloc.Global.{Global}
@@ -10,7 +10,6 @@ use Rattle.graph_model.specs.declared.row.Key.{Key}
 use Rattle.std.specs.List.{AllByRecursion}
 use Rattle.graph_model.specs.declared.limits.TheConstants.{SEGMENT_ROWS}
 use Rattle.graph_model.specs.Rows.{is_below, is_between, end_key}
-use Rattle.graph_model.proofs.PlaceLemmas.{some_eq}
 use Rattle.version_segment.specs.Keyed.{RisesBy}
 use Rattle.version_segment.specs.Rows.{VersionedRows, IsSegment, IsSameSegment, ChangesKey, PrunesRows, all_records, is_nothing, versions_at}
 use Rattle.graph_model.specs.declared.journal.TxnName.{TxnName}
@@ -19,16 +18,16 @@ use Rattle.leaf_array.specs.declared.leaf.Leaf.{Leaf}
 use Rattle.leaf_array.specs.Segments.{lows_of, low_or, high_or, AreChained}
 use Rattle.leaf_array.proofs.LeafLemmas.{Follow, follow-of, follow-chained, own-low, no_key}
 use Rattle.leaf_array.proofs.PairLemmas.{high-append}
-use Rattle.leaf_index.specs.Index.{Index, Entry, HaveCuts, end_of}
+use Rattle.leaf_index.specs.Index.{Index, Entry, end_of}
 use Rattle.leaf_store.specs.declared.place.Place.{Place}
 use Rattle.leaf_store.specs.declared.store.Pruned.{Pruned}
-use Rattle.leaf_store.specs.Leaves.{Part, Leaves, AreLeaves, cell_at, versions_of, spare_at}
+use Rattle.leaf_store.specs.Leaves.{Leaves, AreLeaves, cell_at, versions_of, spare_at}
 use Rattle.leaf_store.specs.Changes.{ChangesCell, ChangesVersions, KeepsCells, PrunesCell}
 use Rattle.leaf_store.specs.Table.{IsKept, IsTied, AreTied, IsPlace, segments_or_none, segments_at, part_of, leaves_of}
-use Rattle.leaf_store.proofs.CellLemmas.{AreSound, holds, follow_middle, sound_middle}
+use Rattle.leaf_store.proofs.CellLemmas.{holds, follow_middle, sound_middle}
 use Rattle.leaf_store.proofs.ListLemmas.{set_between, get_set_same}
 use Rattle.leaf_store.proofs.StoreLemmas.{OtherCell, old_cell, new_cell, changes_cell, spare_kept, keeps_cells}
-use Rattle.leaf_store.proofs.TableLemmas.{Table, Located, KeepsOthers, OtherLeaves, kept_leaves, located, one_entry, others_kept, parts_append, parts_kept, tied_at, tied_front, tied_kept}
+use Rattle.leaf_store.proofs.TableLemmas.{Table, Located, KeepsOthers, kept_leaves, located, one_entry, others_kept, parts_append, parts_kept, tied_at, tied_front, tied_kept}
 
 -- ---- the memory of a leaf
 

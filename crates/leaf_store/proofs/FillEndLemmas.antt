@@ -1,36 +1,36 @@
 -- The first leaf and the last one of a store that begins with rows.
-use Rattle.std.proofs.Common.{◌≡◌, ℕ, zero, suc, ◌+◌, ◌-◌, ◌*◌, ◌<◌, ◌≤◌, List, [], ◌∷◌, ◌++◌, Option, Some, None, length, map, take, drop, set, min, cond, refl, sym, ◌∙◌, ap, ap₂, subst, arith}
-use Rattle.std.specs.Prelude.{Bool, true, false, sum}
-use Rattle.std.specs.List.{AllByRecursion, range_with_len}
+use Rattle.std.proofs.Common.{◌≡◌, ℕ, ◌+◌, ◌-◌, ◌≤◌, List, [], ◌∷◌, ◌++◌, Some, length, map, take, drop, set, min, cond, refl, sym, ◌∙◌, ap, subst, arith}
+use Rattle.std.specs.Prelude.{true, false, sum}
+use Rattle.std.specs.List.{AllByRecursion}
 use Rattle.std.specs.Ordering.{eq_by_cmp}
 use Rattle.std.specs.FinMap.Entries.{find}
 use Rattle.std.specs.declared.boxed.Box.{Box}
 use Rattle.std.specs.declared.alloc.Global.{Global}
 use Rattle.std.proofs.Math.ListN.{length-set}
 use Rattle.std.proofs.Math.Seq.{take-append_seam, drop-append_seam}
-use Rattle.std.proofs.lemmas.List.{append-nil, length-map, take_all, take-append-drop}
+use Rattle.std.proofs.lemmas.List.{append-nil, length-map, take_all}
 use Rattle.std.proofs.lemmas.List.FromFn.{length-range_with_len}
 use Rattle.graph_model.specs.declared.limits.TheConstants.{SPLIT_ROWS}
 use Rattle.graph_model.specs.declared.row.Key.{Key}
 use Rattle.graph_model.specs.declared.row.Row.{Row}
 use Rattle.graph_model.specs.Rows.{key_cmp, is_below, first_key, end_key}
-use Rattle.graph_model.proofs.KeyLemmas.{below_flip, between_of, between_parts}
+use Rattle.graph_model.proofs.KeyLemmas.{between_of}
 use Rattle.gap_segment.specs.Fenced.{AreAbove, AreSorted, AreWithin, first_key_or}
 use Rattle.version_segment.specs.Rows.{VersionedRows, or_nothing, settled_row, settled_rows}
 use Rattle.leaf_array.specs.declared.leaf.Leaf.{Leaf}
 use Rattle.leaf_array.specs.Leaves.{IsLeaf}
 use Rattle.leaf_array.specs.Segments.{rows_of, lows_of}
-use Rattle.leaf_array.proofs.LeafLemmas.{Follow, follow-of}
+use Rattle.leaf_array.proofs.LeafLemmas.{follow-of}
 use Rattle.leaf_index.specs.Index.{Index, Entry, AreCuts, IsIndex, end_of}
 use Rattle.leaf_index.specs.Calls.{CanCut, new_index, with_cuts}
 use Rattle.txn_manager.specs.declared.config.RoomRefusal.{RoomRefusal}
 use Rattle.txn_manager.specs.declared.config.RoomRefusal.TheVariants as refusals
-use Rattle.leaf_store.specs.Leaves.{Part, Leaves, weight_of_part}
+use Rattle.leaf_store.specs.Leaves.{weight_of_part}
 use Rattle.leaf_store.specs.Changes.{AreFilled, AreRising, IsFillRefusal, settled_at}
 use Rattle.leaf_store.specs.Fill.{AreSettled, AreTiedTo, IsFilling, IsFillStop, begin_of, next_key, parts_in}
 use Rattle.leaf_store.specs.Table.{IsKept, IsTied, AreTied, part_of, segments_or_none, segments_at, leaves_of}
 use Rattle.leaf_store.proofs.CellLemmas.{AreSound}
-use Rattle.leaf_store.proofs.FillLemmas.{all_within_back, cut_until, sorted_front, within_front}
+use Rattle.leaf_store.proofs.FillLemmas.{cut_until, sorted_front, within_front}
 use Rattle.leaf_store.proofs.FillStepLemmas.{sorted_further}
 use Rattle.leaf_store.proofs.KeyLemmas.{from_above}
 use Rattle.leaf_store.proofs.ListLemmas.{get_set_same}

@@ -1,16 +1,15 @@
 -- Rows in rising order, laid in segments one behind the other.
-use Rattle.std.proofs.Common.{◌≡◌, ℕ, zero, suc, ◌+◌, ◌-◌, ◌*◌, ◌<◌, ◌≤◌, List, [], ◌∷◌, ◌++◌, length, map, refl, sym, ◌∙◌, ap, ap₂, subst, arith, length-append}
+use Rattle.std.proofs.Common.{◌≡◌, ◌*◌, ◌≤◌, List, [], ◌∷◌, ◌++◌, length, refl, sym, ◌∙◌, ap, ap₂, subst, arith}
 use Rattle.std.specs.Prelude.{true, false}
-use Rattle.std.specs.List.{AllByRecursion}
 use Rattle.std.proofs.lemmas.List.{map-append}
 use Rattle.graph_model.specs.declared.row.Key.{Key}
 use Rattle.graph_model.specs.declared.row.Row.{Row}
-use Rattle.graph_model.specs.Rows.{is_below, is_between}
+use Rattle.graph_model.specs.Rows.{is_below}
 use Rattle.graph_model.proofs.KeyLemmas.{below_flip, below_self, between_of, between_parts}
 use Rattle.store_model.specs.Stamped.{StampedVersions}
 use Rattle.gap_segment.specs.Fenced.{AreAbove, AreSorted, AreWithin, first_key_or}
 use Rattle.version_segment.specs.Rows.{VersionedRows, settled_row, settled_rows}
-use Rattle.leaf_array.specs.Segments.{rows_of, low_or, high_or, AreChained}
+use Rattle.leaf_array.specs.Segments.{rows_of, low_or, high_or}
 use Rattle.leaf_store.specs.Fill.{AreSettled}
 
 -- ---- rows in two parts

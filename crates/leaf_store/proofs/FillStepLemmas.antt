@@ -1,6 +1,6 @@
 -- One leaf more is laid with rows.
-use Rattle.std.proofs.Common.{◌≡◌, ◌≢◌, ℕ, zero, suc, ◌+◌, ◌-◌, ◌*◌, ◌<◌, ◌≤◌, List, [], ◌∷◌, ◌++◌, Option, Some, None, length, map, take, drop, set, min, refl, sym, ◌∙◌, ap, ap₂, subst, arith, length-append, append_assoc}
-use Rattle.std.specs.Prelude.{true, false, sum, slice_get}
+use Rattle.std.proofs.Common.{◌≡◌, ℕ, ◌+◌, ◌-◌, ◌<◌, ◌≤◌, List, [], ◌∷◌, ◌++◌, Option, Some, length, map, take, drop, set, min, refl, sym, ◌∙◌, ap, ap₂, subst, arith, length-append, append_assoc}
+use Rattle.std.specs.Prelude.{true, false, slice_get}
 use Rattle.std.specs.List.{AllByRecursion}
 use Rattle.std.specs.declared.boxed.Box.{Box}
 use Rattle.std.specs.declared.alloc.Global.{Global}
@@ -10,7 +10,7 @@ use Rattle.graph_model.specs.declared.limits.TheConstants.{SPLIT_ROWS}
 use Rattle.graph_model.specs.declared.row.Key.{Key}
 use Rattle.graph_model.specs.declared.row.Row.{Row}
 use Rattle.graph_model.specs.Rows.{is_below, first_key, end_key}
-use Rattle.graph_model.proofs.KeyLemmas.{below_chain, below_flip, below_self, between_parts, upto_chain}
+use Rattle.graph_model.proofs.KeyLemmas.{below_chain, between_parts, upto_chain}
 use Rattle.graph_model.proofs.PlaceLemmas.{some_eq}
 use Rattle.std.proofs.Math.Seq.{take-append_seam, drop-append_seam}
 use Rattle.gap_segment.specs.Fenced.{AreAbove, AreSorted, AreWithin, first_key_or}
@@ -22,7 +22,6 @@ use Rattle.leaf_array.proofs.LeafLemmas.{Follow, follow-of}
 use Rattle.leaf_array.proofs.PairLemmas.{rows-append}
 use Rattle.leaf_index.specs.Index.{Index, Entry, AreCuts, AreSorted as AreSortedKeys, HaveCuts, IsIndex, IsTaken, NotAbove, end_of, first_or}
 use Rattle.leaf_index.specs.Calls.{CanAdd, with_leaf}
-use Rattle.leaf_store.specs.Leaves.{Part, weight_of_part}
 use Rattle.leaf_store.specs.Fill.{AreSettled, AreTiedTo, IsFilling, begin_of, next_key, parts_in}
 use Rattle.leaf_store.specs.Table.{IsTied, part_of, segments_or_none, segments_at}
 use Rattle.leaf_store.proofs.CellLemmas.{AreSound}

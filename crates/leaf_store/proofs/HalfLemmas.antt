@@ -1,28 +1,25 @@
 -- A leaf that is split, as the whole store sees it.
 use Rattle.std.proofs.Common.{◌≡◌, ◌≢◌, ℕ, zero, suc, ◌+◌, ◌-◌, ◌*◌, ◌/◌, ◌<◌, ◌≤◌, List, [], ◌∷◌, ◌++◌, length, map, sum, refl, sym, ◌∙◌, ap, ap₂, subst, arith, length-append}
-use Rattle.std.specs.Prelude.{true, false, Option, Some, None, slice_get, slice_index, Result, Ok, Err, IfErr}
+use Rattle.std.specs.Prelude.{true, Some, None, slice_get, Result, Ok, Err, IfErr}
 use Rattle.std.specs.List.{AllByRecursion}
 use Rattle.std.proofs.lemmas.List.{append-nil, take_all}
-use Rattle.graph_model.specs.declared.limits.TheConstants.{SEGMENT_ROWS, SPLIT_ROWS}
+use Rattle.graph_model.specs.declared.limits.TheConstants.{SPLIT_ROWS}
 use Rattle.graph_model.specs.declared.row.Key.{Key}
 use Rattle.graph_model.specs.Rows.{is_below, end_key, first_key}
 use Rattle.version_segment.specs.Rows.{VersionedRows, IsSegment}
-use Rattle.density_tree.specs.Division.{evenly}
 use Rattle.density_tree.specs.declared.window.Window.{Window}
 use Rattle.density_tree.specs.Windows.{Fits, IsSmallestWindow, rows_in, window_round}
 use Rattle.density_tree.proofs.DivisionLemmas.{shares_are_all}
-use Rattle.leaf_array.specs.Leaves.{Splits}
-use Rattle.leaf_array.specs.Segments.{rows_of, counts_of, lows_of, low_or, high_or}
+use Rattle.leaf_array.specs.Segments.{rows_of, counts_of, lows_of, high_or}
 use Rattle.leaf_array.proofs.LeafLemmas.{Follow, follow-of, follow-low, follow-both}
 use Rattle.leaf_array.proofs.PairLemmas.{rows-append, high-append}
 use Rattle.leaf_index.specs.Index.{Index, Entry, AreRising, HaveCuts, IsIndex, IsTaken, end_of}
-use Rattle.leaf_index.specs.Calls.{TakesFree}
 use Rattle.txn_manager.specs.declared.config.RoomRefusal.{RoomRefusal}
 use Rattle.txn_manager.specs.declared.config.RoomRefusal.TheVariants as refusals
 use Rattle.leaf_store.specs.declared.place.Place.{Place}
-use Rattle.leaf_store.specs.Leaves.{Part, Leaves, AreLeaves, cells_of, cell_in, cell_at, room_at, weight, weight_of_part}
+use Rattle.leaf_store.specs.Leaves.{Part, Leaves, cells_of, cell_in, cell_at, room_at, weight}
 use Rattle.leaf_store.specs.Changes.{IsFull, IsRoomRefusal, MovesRows}
-use Rattle.leaf_store.specs.Ranges.{IsLive, IsOutOfLeaves, KeepsLeaves, SplitsEntry, SplitsLeaf, in_two}
+use Rattle.leaf_store.specs.Ranges.{IsLive, IsOutOfLeaves, KeepsLeaves, SplitsLeaf}
 use Rattle.leaf_store.specs.Table.{IsKept, IsTied, AreTied, IsPlace, segments_at, part_of, leaves_of}
 use Rattle.leaf_store.proofs.CellLemmas.{AreSound, holds, cell_here, few_in, held_in_both, middle_part}
 use Rattle.leaf_store.proofs.ListLemmas.{all_append, all_front, all_back}
@@ -30,7 +27,7 @@ use Rattle.leaf_store.proofs.MoveLemmas.{KeepRoom, LeafMoved, cell_in_leaf, few_
 use Rattle.leaf_store.proofs.RoomLemmas.{count_rows, window_rows}
 use Rattle.leaf_store.proofs.SplitLemmas.{above_from, rising_at, taken_apart}
 use Rattle.leaf_store.proofs.StoreLemmas.{cells_in, cells_follow, cells_split, weight_in, weight_one, weight_split, weight_two}
-use Rattle.leaf_store.proofs.TableLemmas.{KeepsOthers, Located, OtherLeaves, Table, cuts_at, kept_leaves, located, one_entry, parts_append, tied_at, tied_follow}
+use Rattle.leaf_store.proofs.TableLemmas.{KeepsOthers, OtherLeaves, Table, cuts_at, kept_leaves, located, one_entry, parts_append, tied_at, tied_follow}
 
 -- ---- a live leaf
 
@@ -175,7 +172,7 @@ module _ (index taken new : Index) (table table' : Table) (key : Key) (place : P
       let all : cells_of (leaves_of new table') ≡ cells_in before ++ ((left ++ right) ++ cells_in behind) = ap cells_in new_parts ∙ cells_split before (is1 ∷ is2 ∷ []) behind ∙ ap (λ cs. cells_in before ++ (cs ++ cells_in behind)) is_is in
       let are' = kept_leaves new table' kept' in
       let now : cell_at (leaves_of new table') key ≡ cell_in (left ++ right) key = ap (λ cs. cell_in cs key) all
-          ∙ middle_part first_key key (cells_in before) (left ++ right) (cells_in behind) (subst (Follow first_key) all (cells_follow (leaves_of new table') are')) (subst AreSound all are'.segments) held in
+      ∙ middle_part first_key key (cells_in before) (left ++ right) (cells_in behind) (subst (Follow first_key) all (cells_follow (leaves_of new table') are')) (subst AreSound all are'.segments) held in
       let left_count : length (rows_of left) ≡ length (rows_of ss) - length (rows_of ss) / 2 = sym (count_rows left) ∙ ap sum splits.left_shares ∙ shares_are_all (length (rows_of ss) - length (rows_of ss) / 2) 8 (omega arith) in
       let right_count : length (rows_of right) ≡ length (rows_of ss) / 2 = sym (count_rows right) ∙ ap sum splits.right_shares ∙ shares_are_all (length (rows_of ss) / 2) 8 (omega arith) in
       let was_count : length (rows_of was.segments) ≡ length (rows_of ss) = ap (λ n. length (rows_of (segments_at table n))) s.number in

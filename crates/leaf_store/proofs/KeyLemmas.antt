@@ -1,14 +1,14 @@
 -- Rows of segments behind one another stand within their outer fence keys, in rising order.
-use Rattle.std.proofs.Common.{inl, inr, ◌≡◌, ℕ, zero, suc, ◌+◌, ◌-◌, ◌/◌, ◌<◌, ◌≤◌, List, [], ◌∷◌, ◌++◌, length, refl, sym, ◌∙◌, ap, subst, arith}
+use Rattle.std.proofs.Common.{inl, inr, ◌≡◌, ℕ, zero, suc, ◌-◌, ◌/◌, ◌<◌, ◌≤◌, List, [], ◌∷◌, ◌++◌, length, refl, sym, ◌∙◌, ap, subst, arith}
 use Rattle.std.specs.Prelude.{Bool, true, false, ◌⊎◌, Option, Some, None, slice_get, IsSomeAnd}
 use Rattle.std.specs.List.{AllByRecursion}
 use Rattle.graph_model.specs.declared.row.Key.{Key}
 use Rattle.graph_model.specs.Rows.{is_below, is_between}
-use Rattle.graph_model.proofs.KeyLemmas.{below_chain, below_up, between_parts, upto_chain}
+use Rattle.graph_model.proofs.KeyLemmas.{below_up, between_parts, upto_chain}
 use Rattle.graph_model.proofs.PlaceLemmas.{some_eq}
 use Rattle.store_model.specs.Stamped.{StampedVersions}
 use Rattle.version_segment.specs.Keyed.{RisesBy}
-use Rattle.version_segment.specs.Rows.{VersionedRows, IsSegment}
+use Rattle.version_segment.specs.Rows.{VersionedRows}
 use Rattle.leaf_array.specs.Segments.{rows_of, high_or}
 use Rattle.leaf_array.specs.Leaves.{IsSplitKey}
 use Rattle.leaf_array.proofs.LeafLemmas.{Follow}

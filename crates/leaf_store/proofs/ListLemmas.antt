@@ -1,6 +1,6 @@
 -- Lists in parts, and one item of a list that is another one now.
-use Rattle.std.proofs.Common.{◌≡◌, ◌≢◌, ℕ, zero, suc, ◌+◌, ◌<◌, List, [], ◌∷◌, ◌++◌, length, take, drop, set, refl, sym, ◌∙◌, ap, subst, arith}
-use Rattle.std.specs.Prelude.{Option, Some, None, slice_get}
+use Rattle.std.proofs.Common.{◌≡◌, ◌≢◌, ℕ, zero, suc, ◌<◌, List, [], ◌∷◌, ◌++◌, length, take, drop, set, refl, ap, arith}
+use Rattle.std.specs.Prelude.{Some, slice_get}
 use Rattle.std.specs.List.{AllByRecursion}
 
 module _ {X : Type 0} where

@@ -1,5 +1,5 @@
 -- Rows that move among the segments of a leaf, as the whole store sees it.
-use Rattle.std.proofs.Common.{◌≡◌, ◌≢◌, ℕ, zero, suc, ◌+◌, ◌-◌, ◌*◌, ◌/◌, ◌%◌, ◌<◌, ◌≤◌, nat_lt, cond, List, [], ◌∷◌, ◌++◌, length, map, take, drop, refl, sym, ◌∙◌, ap, ap₂, subst, arith, inl, inr, append_assoc, length-append}
+use Rattle.std.proofs.Common.{◌≡◌, ℕ, zero, suc, ◌+◌, ◌-◌, ◌*◌, ◌/◌, ◌%◌, ◌<◌, ◌≤◌, nat_lt, cond, List, [], ◌∷◌, ◌++◌, length, map, take, drop, refl, sym, ◌∙◌, ap, ap₂, subst, arith, inl, inr}
 use Rattle.std.specs.Prelude.{Bool, true, false, ◌⊎◌}
 use Rattle.std.specs.List.{AllByRecursion, range_with_len}
 use Rattle.std.specs.FinMap.Entries.{find}
@@ -10,23 +10,23 @@ use Rattle.graph_model.proofs.PlaceLemmas.{drop_cut}
 use Rattle.graph_model.specs.declared.limits.TheConstants.{SEGMENT_ROWS, SPLIT_ROWS}
 use Rattle.graph_model.specs.declared.row.Key.{Key}
 use Rattle.graph_model.specs.Rows.{key_cmp, first_key, is_between}
-use Rattle.version_segment.specs.Rows.{VersionedRows, IsSegment, IsSameSegment, or_nothing}
+use Rattle.version_segment.specs.Rows.{VersionedRows, IsSegment, or_nothing}
 use Rattle.density_tree.specs.declared.window.Window.{Window}
 use Rattle.density_tree.specs.Division.{share_of, evenly}
-use Rattle.leaf_array.specs.Segments.{rows_of, counts_of, count_of, lows_of, low_or, high_or, AreChained, AreSame, KeepsRows, IsDivided}
+use Rattle.leaf_array.specs.Segments.{rows_of, counts_of, lows_of, low_or, high_or, AreSame}
 use Rattle.leaf_array.specs.Leaves.{IsLeaf, SpreadsWindow, window_of}
 use Rattle.leaf_array.proofs.CountLemmas.{same-chained, same-rows, same-length, same-low, same-high}
 use Rattle.leaf_array.proofs.LeafLemmas.{Follow, follow-of, follow-low, follow-front, follow-behind, own-low, no_key}
-use Rattle.leaf_array.proofs.PairLemmas.{rows-append, high-append}
-use Rattle.leaf_index.specs.Index.{Index, Entry, AreCuts, AreSorted, HaveCuts, IsIndex, NotAbove, end_of, first_or}
-use Rattle.leaf_store.specs.Leaves.{Part, Leaves, AreLeaves, cells_of, cell_in, cell_at, room_at, weight, weight_of_part}
+use Rattle.leaf_array.proofs.PairLemmas.{rows-append}
+use Rattle.leaf_index.specs.Index.{Index, Entry, AreSorted, IsIndex, NotAbove, end_of, first_or}
+use Rattle.leaf_store.specs.Leaves.{Part, Leaves, AreLeaves, cells_of, cell_in, cell_at, weight}
 use Rattle.leaf_store.specs.Changes.{MovesRows}
 use Rattle.leaf_store.specs.Table.{IsKept, IsTied, AreTied, segments_at, part_of, leaves_of}
 use Rattle.leaf_store.proofs.CellLemmas.{AreSound, holds, cell_here, few_in, held_in_both, middle_part, moved_cell}
 use Rattle.leaf_store.proofs.ChangeLemmas.{high_between, same_sound}
-use Rattle.leaf_store.proofs.ListLemmas.{all_append, all_front, all_back}
+use Rattle.leaf_store.proofs.ListLemmas.{all_front, all_back}
 use Rattle.leaf_store.proofs.StoreLemmas.{cells_in, cells_follow, cells_split, versions_in_rows, weight_in, weight_one, weight_split}
-use Rattle.leaf_store.proofs.TableLemmas.{Table, KeepsOthers, OtherLeaves, kept_leaves, one_entry, parts_append, parts_kept, tied_at, tied_follow, tied_front, tied_kept, cuts_at}
+use Rattle.leaf_store.proofs.TableLemmas.{Table, KeepsOthers, kept_leaves, one_entry, parts_append, parts_kept, tied_at, tied_front, tied_kept}
 
 -- ---- room
 

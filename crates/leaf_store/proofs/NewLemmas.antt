@@ -1,6 +1,5 @@
 -- A store without rows.
-use Rattle.std.proofs.Common.{◌≡◌, ℕ, ◌+◌, ◌-◌, ◌*◌, ◌≤◌, List, [], ◌∷◌, ◌++◌, Option, Some, None, length, map, set, replicate, refl, sym, ◌∙◌, ap, subst, arith}
-use Rattle.std.specs.Prelude.{slice_get}
+use Rattle.std.proofs.Common.{◌≡◌, ℕ, ◌-◌, ◌≤◌, [], ◌++◌, Option, Some, None, length, set, replicate, refl, sym, ◌∙◌, ap, subst, arith}
 use Rattle.std.specs.List.{range_with_len}
 use Rattle.std.specs.FinMap.Entries.{find}
 use Rattle.std.specs.declared.boxed.Box.{Box}
@@ -8,16 +7,14 @@ use Rattle.std.specs.declared.alloc.Global.{Global}
 use Rattle.std.proofs.Math.ListN.{length-set}
 use Rattle.std.proofs.lemmas.List.{length-replicate, append-nil}
 use Rattle.std.proofs.lemmas.List.FromFn.{length-range_with_len}
-use Rattle.graph_model.specs.declared.limits.TheConstants.{SPLIT_ROWS}
-use Rattle.graph_model.specs.declared.row.Key.{Key}
 use Rattle.graph_model.specs.Rows.{key_cmp, first_key, end_key}
-use Rattle.version_segment.specs.Rows.{VersionedRows, or_nothing}
+use Rattle.version_segment.specs.Rows.{or_nothing}
 use Rattle.leaf_array.specs.declared.leaf.Leaf.{Leaf}
 use Rattle.leaf_array.specs.Segments.{rows_of, lows_of, high_or}
 use Rattle.leaf_array.specs.Leaves.{IsLeaf, IsEmptyFrom}
 use Rattle.leaf_index.specs.Index.{Index, IsIndex}
 use Rattle.leaf_index.specs.Calls.{new_index}
-use Rattle.leaf_store.specs.Leaves.{Part, Leaves, AreLeaves, cells_of, weight, weight_of_part}
+use Rattle.leaf_store.specs.Leaves.{Part}
 use Rattle.leaf_store.specs.Changes.{AreNew}
 use Rattle.leaf_store.specs.Table.{IsKept, segments_or_none, segments_at, leaves_of}
 use Rattle.leaf_store.proofs.CellLemmas.{AreSound}

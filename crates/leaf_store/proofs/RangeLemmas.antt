@@ -1,10 +1,10 @@
 -- Entries of an index, of which one becomes two, or two become one.
-use Rattle.std.proofs.Common.{◌≡◌, ℕ, ◌+◌, ◌<◌, ◌==◌, List, [], ◌∷◌, ◌++◌, count_by, length, refl, sym, ◌∙◌, ap, subst, arith, append_assoc}
-use Rattle.std.specs.Prelude.{Bool, true, false}
+use Rattle.std.proofs.Common.{◌≡◌, ℕ, ◌==◌, List, [], ◌∷◌, ◌++◌, count_by, refl, sym, ◌∙◌, ap, arith, append_assoc}
+use Rattle.std.specs.Prelude.{Bool}
 use Rattle.graph_model.specs.declared.row.Key.{Key}
 use Rattle.graph_model.specs.Rows.{is_below}
 use Rattle.graph_model.proofs.KeyLemmas.{below_flip, below_self}
-use Rattle.leaf_index.specs.Index.{Entry, Index, AreCuts, AreSorted, BeginAbove, IsTaken, end_of, uses}
+use Rattle.leaf_index.specs.Index.{Entry, Index, IsTaken, end_of}
 use Rattle.leaf_index.specs.declared.route.Retired.{Retired}
 use Rattle.leaf_index.proofs.CountLemmas.{count_append, count_cons}
 use Rattle.leaf_index.specs.Calls.{CanAdd, CanCut, CanDrop, with_cuts, with_leaf, without_leaf}

@@ -1,5 +1,5 @@
 -- A window of a live leaf is spread, and the index has the leaf's new cuts.
-use Rattle.std.proofs.Common.{◌≡◌, ◌≢◌, ℕ, zero, suc, ◌+◌, ◌-◌, ◌*◌, ◌/◌, ◌^◌, ◌<◌, ◌≤◌, List, [], ◌∷◌, ◌++◌, Option, Some, None, length, map, take, drop, set, get_or, sum, refl, sym, ◌∙◌, ap, ap₂, subst, arith, inl, inr, length-append}
+use Rattle.std.proofs.Common.{◌≡◌, ℕ, zero, suc, ◌+◌, ◌*◌, ◌^◌, ◌<◌, ◌≤◌, List, [], ◌∷◌, ◌++◌, Option, Some, None, length, take, drop, set, get_or, sum, refl, sym, ◌∙◌, ap, subst, arith, inl, inr, length-append}
 use Rattle.std.specs.Prelude.{true, ◌⊎◌, slice_get, slice_index}
 use Rattle.std.specs.Box.{with_value}
 use Rattle.std.specs.declared.boxed.Box.{Box}
@@ -12,18 +12,17 @@ use Rattle.graph_model.specs.Rows.{is_below, first_key, end_key}
 use Rattle.version_segment.specs.Rows.{VersionedRows}
 use Rattle.density_tree.specs.declared.window.Window.{Window}
 use Rattle.density_tree.specs.declared.window.TheConstants.{UPPER_LIMITS}
-use Rattle.density_tree.specs.Windows.{Fits, IsRound, IsSmallest, rows_in, window_round}
+use Rattle.density_tree.specs.Windows.{Fits, IsRound, IsSmallest, rows_in}
 use Rattle.leaf_array.specs.declared.leaf.Leaf.{Leaf}
-use Rattle.leaf_array.specs.Segments.{rows_of, counts_of, count_of, lows_of, low_or, high_or, AreSame}
+use Rattle.leaf_array.specs.Segments.{rows_of, counts_of, count_of, lows_of, AreSame}
 use Rattle.leaf_array.specs.Leaves.{IsLeaf, SpreadsWindow, window_of}
 use Rattle.leaf_array.proofs.LeafLemmas.{Follow, follow-of, follow-low}
 use Rattle.leaf_index.specs.Index.{Index, Entry, AreCuts, AreSorted, HaveCuts, IsIndex, end_of}
 use Rattle.leaf_index.specs.Calls.{CanCut, with_cuts}
 use Rattle.leaf_store.specs.declared.place.Place.{Place}
-use Rattle.leaf_store.specs.Leaves.{Leaves, cell_in, cell_at, room_at}
-use Rattle.leaf_store.specs.Changes.{MovesRows}
+use Rattle.leaf_store.specs.Leaves.{room_at}
 use Rattle.leaf_store.specs.Table.{IsKept, IsTied, AreTied, IsPlace, segments_or_none, segments_at, leaves_of}
-use Rattle.leaf_store.proofs.CellLemmas.{AreSound, holds}
+use Rattle.leaf_store.proofs.CellLemmas.{AreSound}
 use Rattle.leaf_store.proofs.ChangeLemmas.{leaf_segments, leaf_within, memory_there}
 use Rattle.leaf_store.proofs.ListLemmas.{get_set_same}
 use Rattle.leaf_store.proofs.MoveLemmas.{LeafMoved, Respreads, SpreadAt, cell_in_leaf, leaf_moved, room_of, same_lows, same_respreads, sorted_lows, spread_at}

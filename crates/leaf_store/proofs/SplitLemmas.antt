@@ -1,7 +1,6 @@
 -- A live leaf is split, and the index has entries for both.
-use Rattle.std.proofs.Common.{◌≡◌, ◌≢◌, ℕ, zero, suc, ◌+◌, ◌-◌, ◌*◌, ◌/◌, ◌<◌, ◌≤◌, List, [], ◌∷◌, ◌++◌, Option, Some, None, length, map, set, get_or, refl, sym, ◌∙◌, ap, subst, arith}
+use Rattle.std.proofs.Common.{◌≡◌, ◌≢◌, ℕ, zero, suc, ◌<◌, ◌≤◌, List, [], ◌∷◌, ◌++◌, Option, Some, None, length, set, get_or, refl, sym, ◌∙◌, ap, subst, arith}
 use Rattle.std.specs.Prelude.{true, slice_get, Result, Ok, Err, OnErr}
-use Rattle.std.specs.List.{AllByRecursion}
 use Rattle.std.specs.Box.{with_value}
 use Rattle.std.specs.declared.boxed.Box.{Box}
 use Rattle.std.specs.declared.alloc.Global.{Global}
@@ -12,8 +11,8 @@ use Rattle.graph_model.specs.declared.row.Key.{Key}
 use Rattle.graph_model.specs.Rows.{is_below, first_key}
 use Rattle.version_segment.specs.Rows.{VersionedRows}
 use Rattle.leaf_array.specs.declared.leaf.Leaf.{Leaf}
-use Rattle.leaf_array.specs.Leaves.{IsLeaf, IsSplitKey, Splits}
-use Rattle.leaf_array.specs.Segments.{rows_of, lows_of, low_or, high_or, AreSame}
+use Rattle.leaf_array.specs.Leaves.{IsSplitKey, Splits}
+use Rattle.leaf_array.specs.Segments.{rows_of, lows_of, high_or, AreSame}
 use Rattle.leaf_array.proofs.CountLemmas.{same-again}
 use Rattle.leaf_array.proofs.LeafLemmas.{Follow, follow-of, follow-low}
 use Rattle.leaf_index.specs.Index.{Index, Entry, AreCuts, AreSorted, IsTaken, end_of}

@@ -1,7 +1,7 @@
 -- The leaves of a store as lists: what each key has, and what becomes of it where one cell changes.
-use Rattle.std.proofs.Common.{◌≡◌, ℕ, zero, suc, ◌+◌, ◌-◌, ◌*◌, ◌≤◌, List, [], ◌∷◌, ◌++◌, length, map, refl, sym, ◌∙◌, ap, ap₂, subst, arith, append_assoc, length-append, inl, inr}
-use Rattle.std.specs.Prelude.{Bool, true, false, ◌⊎◌, sum}
-use Rattle.std.specs.List.{AllByRecursion, flat_map, sum_by}
+use Rattle.std.proofs.Common.{◌≡◌, ℕ, ◌+◌, ◌-◌, ◌*◌, ◌≤◌, List, [], ◌∷◌, ◌++◌, length, map, refl, sym, ◌∙◌, ap, ap₂, subst, arith, append_assoc, length-append}
+use Rattle.std.specs.Prelude.{Bool, true, false, sum}
+use Rattle.std.specs.List.{flat_map}
 use Rattle.std.specs.Ordering.{nat_cmp, ordering_then, is_lt}
 use Rattle.std.specs.declared.cmp.Ordering.{Ordering}
 use Rattle.std.specs.declared.cmp.Ordering.TheVariants.{Less, Equal, Greater}
@@ -9,16 +9,15 @@ use Rattle.std.specs.FinMap.Entries.{find}
 use Rattle.std.proofs.lemmas.Cmp.{ranked}
 use Rattle.std.proofs.lemmas.Grind.{flat_map-append}
 use Rattle.std.proofs.lemmas.List.Sums.{sum-map, sum_by-append, sum_by-cons}
-use Rattle.graph_model.specs.declared.limits.TheConstants.{SEGMENT_ROWS, SPLIT_ROWS}
+use Rattle.graph_model.specs.declared.limits.TheConstants.{SPLIT_ROWS}
 use Rattle.graph_model.specs.declared.row.Key.{Key}
 use Rattle.graph_model.specs.Rows.{key_cmp, is_below, is_between, first_key, end_key}
-use Rattle.version_segment.specs.Rows.{VersionedRows, IsSegment, IsSameSegment, ChangesKey, or_nothing, versions_at}
-use Rattle.store_model.specs.Stamped.{StampedVersions}
-use Rattle.leaf_array.specs.Segments.{rows_of, low_or, high_or, AreChained}
+use Rattle.version_segment.specs.Rows.{VersionedRows, IsSameSegment, or_nothing}
+use Rattle.leaf_array.specs.Segments.{rows_of, low_or}
 use Rattle.leaf_array.proofs.LeafLemmas.{Follow, follow-of}
 use Rattle.leaf_array.proofs.PairLemmas.{rows-append}
-use Rattle.leaf_store.specs.Leaves.{Part, Leaves, AreLeaves, KeysHaveCells, CellsAreApart, cells_of, cell_in, cell_at, shares, versions_of, spare_at, weight_of_part, weight}
-use Rattle.leaf_store.specs.Changes.{ChangesCell, ChangesVersions, KeepsCells}
+use Rattle.leaf_store.specs.Leaves.{Part, Leaves, AreLeaves, KeysHaveCells, CellsAreApart, cells_of, cell_in, cell_at, versions_of, spare_at, weight_of_part}
+use Rattle.leaf_store.specs.Changes.{ChangesCell, KeepsCells}
 use Rattle.leaf_store.proofs.CellLemmas.{AreSound, holds, covered, apart, cell_here, cell_beside, versions_found}
 
 -- ---- keys

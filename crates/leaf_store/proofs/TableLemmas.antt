@@ -1,14 +1,13 @@
 -- Live leaves by their entries: where the cell of a key stands, and what becomes of them where one leaf changes.
-use Rattle.std.proofs.Common.{◌≡◌, ◌≢◌, ℕ, zero, suc, ◌+◌, ◌*◌, ◌/◌, ◌%◌, ◌<◌, ◌≤◌, ◌==◌, List, [], ◌∷◌, ◌++◌, Option, Some, None, length, map, set, get_or, count_by, refl, sym, ◌∙◌, ap, subst, arith}
-use Rattle.std.specs.Prelude.{Bool, true, false, cond, slice_get}
+use Rattle.std.proofs.Common.{◌≡◌, ◌≢◌, ℕ, zero, suc, ◌<◌, ◌==◌, List, [], ◌∷◌, ◌++◌, Option, Some, length, map, set, count_by, refl, sym, ◌∙◌, ap, subst, arith}
+use Rattle.std.specs.Prelude.{Bool, true, false, slice_get}
 use Rattle.std.specs.List.{AllByRecursion}
 use Rattle.std.specs.declared.boxed.Box.{Box}
 use Rattle.std.specs.declared.alloc.Global.{Global}
 use Rattle.std.proofs.lemmas.Bool.{eq-eqb}
 use Rattle.std.proofs.lemmas.List.{map-append}
-use Rattle.std.proofs.lemmas.Option.{slice_get_read}
 use Rattle.graph_model.specs.declared.row.Key.{Key}
-use Rattle.graph_model.specs.Rows.{is_below, is_between, first_key, end_key}
+use Rattle.graph_model.specs.Rows.{is_below, first_key, end_key}
 use Rattle.graph_model.proofs.KeyLemmas.{between_of}
 use Rattle.graph_model.proofs.PlaceLemmas.{some_eq}
 use Rattle.version_segment.specs.Rows.{VersionedRows, IsSegment}
@@ -16,14 +15,13 @@ use Rattle.leaf_array.specs.declared.leaf.Leaf.{Leaf}
 use Rattle.leaf_array.specs.Segments.{lows_of, low_or, high_or}
 use Rattle.leaf_array.proofs.LeafLemmas.{Follow, follow-of, follow-chained, follow-both}
 use Rattle.leaf_array.proofs.PairLemmas.{high-append}
-use Rattle.leaf_index.specs.Index as leaf_index
-use Rattle.leaf_index.specs.Index.{Index, Entry, AreCuts, AreOnce, BeginAbove, HaveCuts, IsFloor, IsIndex, NotAbove, end_of, uses}
+use Rattle.leaf_index.specs.Index.{Index, Entry, AreCuts, AreOnce, BeginAbove, HaveCuts, end_of}
 use Rattle.leaf_index.proofs.CountLemmas.{count_append, count_cons, none_counted, at_most_one, worth}
 use Rattle.leaf_store.specs.declared.place.Place.{Place}
-use Rattle.leaf_store.specs.Leaves.{Part, Leaves, AreLeaves, IsPart, cells_of, cell_at}
+use Rattle.leaf_store.specs.Leaves.{Part, AreLeaves, IsPart, cells_of}
 use Rattle.leaf_store.specs.Table.{IsKept, IsTied, AreTied, IsPlace, segments_or_none, segments_at, part_of, leaves_of}
 use Rattle.leaf_store.proofs.CellLemmas.{AreSound, holds}
-use Rattle.leaf_store.proofs.ListLemmas.{all_append, all_front, all_back, cut_at, get_set_same, get_set_other}
+use Rattle.leaf_store.proofs.ListLemmas.{all_append, get_set_other}
 use Rattle.leaf_store.proofs.StoreLemmas.{cells_in}
 
 -- what stands by the numbers of leaves
@@ -197,11 +195,10 @@ tied_kept table new leaf (e ∷ es) keeps others tied =
 -- other entries stand behind these, and begin where those began
 pub tied_front : (table new : Table) (leaf : ℕ) (front es fs : List Entry) → KeepsOthers table new leaf → OtherLeaves leaf front → AreTied table (front ++ es) → end_of fs ≡ end_of es → AreTied new fs → AreTied new (front ++ fs)
 tied_front table new leaf [] es fs keeps others tied same rest = rest
-tied_front table new leaf (e ∷ front) es fs keeps others tied same rest =
-    (
-      subst (IsTied (segments_at new e.leaf) e) (begin front) (subst (λ ss. IsTied ss e (end_of (front ++ es))) (sym (keeps e.leaf others.0)) tied.0),
-      tied_front table new leaf front es fs keeps others.1 tied.1 same rest,
-    )
+tied_front table new leaf (e ∷ front) es fs keeps others tied same rest = (
+  subst (IsTied (segments_at new e.leaf) e) (begin front) (subst (λ ss. IsTied ss e (end_of (front ++ es))) (sym (keeps e.leaf others.0)) tied.0),
+  tied_front table new leaf front es fs keeps others.1 tied.1 same rest,
+)
   where
     begin : (front : List Entry) → end_of (front ++ es) ≡ end_of (front ++ fs)
     begin [] = sym same

@@ -1,5 +1,5 @@
 -- The leaves of a store, as contracts see them.
-use Rattle.std.specs.Prelude.{◌≡◌, ℕ, ◌+◌, ◌-◌, ◌*◌, Bool, true, false, cond, List, [], ◌∷◌, ◌++◌, length, sum, map}
+use Rattle.std.specs.Prelude.{◌≡◌, ℕ, ◌+◌, ◌-◌, ◌*◌, Bool, true, cond, List, [], ◌∷◌, length, sum, map}
 use Rattle.std.specs.List.{AllByRecursion, flat_map}
 use Rattle.graph_model.specs.declared.limits.TheConstants.{SEGMENT_ROWS, SPLIT_ROWS}
 use Rattle.graph_model.specs.declared.row.Key.{Key}

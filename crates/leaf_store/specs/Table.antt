@@ -1,12 +1,12 @@
 -- What stands by the numbers of leaves. Only the crate itself speaks of it.
-use Rattle.std.specs.Prelude.{◌≡◌, ℕ, ◌<◌, List, [], ◌∷◌, map, Option, Some, None, slice_get, length}
+use Rattle.std.specs.Prelude.{◌≡◌, ℕ, List, [], ◌∷◌, map, Option, Some, None, slice_get, length}
 use Rattle.std.specs.List.{AllByRecursion}
 use Rattle.std.specs.declared.boxed.Box.{Box}
 use Rattle.std.specs.declared.alloc.Global.{Global}
 use Rattle.version_segment.specs.Rows.{VersionedRows, IsSegment}
 use Rattle.leaf_array.specs.declared.leaf.Leaf.{Leaf}
 use Rattle.leaf_array.specs.Leaves.{IsLeaf}
-use Rattle.leaf_array.specs.Segments.{lows_of, low_or, high_or}
+use Rattle.leaf_array.specs.Segments.{lows_of, high_or}
 use Rattle.graph_model.specs.declared.row.Key.{Key}
 use Rattle.leaf_index.specs.Index as leaf_index
 use Rattle.leaf_index.specs.Index.{Index, Entry, IsFloor, IsIndex, end_of}

@@ -54,8 +54,7 @@ fn window_at(leaves: &Vec<Option<Box<Leaf>>>, place: Place, need: u8) -> Option<
     requires segment { place.segment < 8 }
     requires some { 1 ≤ need }
     requires few { need ≤ 2 }
-    ensures smallest {
-        IsSmallestWindow (Fits (counts_of (segments_at leaves.now.items place.leaf)) need) place.segment result }
+    ensures smallest { IsSmallestWindow (Fits (counts_of (segments_at leaves.now.items place.leaf)) need) place.segment result }
     ensures round { IfSome result (IsRound place.segment) }
 {
     match &leaves[place.leaf] {

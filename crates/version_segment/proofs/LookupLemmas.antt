@@ -1,16 +1,14 @@
 -- Nothing changes where a key's versions stay.
 use Rattle.std.proofs.Common.{◌≡◌, ℕ, List, [], ◌∷◌, refl, sym, ◌∙◌, ap, subst, cond, Some, None}
-use Rattle.std.specs.Prelude.{Bool, true, false, not, drop, is_some, Option}
+use Rattle.std.specs.Prelude.{true, false, not, drop, is_some, Option}
 use Rattle.std.specs.List.{AllByRecursion}
 use Rattle.std.specs.Ordering.{eq_by_cmp, is_lt, is_eq}
-use Rattle.std.specs.declared.cmp.Ordering.{Ordering}
 use Rattle.std.specs.declared.cmp.Ordering.TheVariants.{Less, Equal, Greater}
 use Rattle.std.specs.FinMap.Entries.{find, put, where_key, by_order}
 use Rattle.graph_model.specs.declared.row.Key.{Key}
 use Rattle.graph_model.specs.declared.journal.TxnName.{TxnName}
 use Rattle.graph_model.specs.Rows.{key_cmp, is_below}
 use Rattle.graph_model.proofs.KeyLemmas.{below_chain}
-use Rattle.graph_model.proofs.OrderLemmas.{keys_exact}
 use Rattle.store_model.specs.Stamped.{Stamped, StampedVersions}
 use Rattle.undo_chain.specs.Records.{UndoRecord, newest_of, pairs_of}
 use Rattle.version_segment.specs.Keyed.{RisesBy}

@@ -1,5 +1,5 @@
 use Rattle.std.proofs.Common.{◌-◌, arith}
-use Rattle.leaf_array.proofs.RowLemmas.{key-in-first, key-in-rest, rows-in-rest}
+use Rattle.leaf_array.proofs.RowLemmas.{key-in-rest}
 use Rattle.leaf_array.proofs.rows.+key_at.Goals as goal
 
 pub returns : goal.returns

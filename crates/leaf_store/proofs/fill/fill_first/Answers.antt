@@ -1,4 +1,4 @@
-use Rattle.std.proofs.Common.{◌≡◌, ◌++◌, sym, ◌∙◌, ap₂, arith}
+use Rattle.std.proofs.Common.{◌++◌, sym, ◌∙◌, ap₂, arith}
 use Rattle.std.proofs.lemmas.List.{take-append-drop}
 use Rattle.leaf_store.proofs.FillEndLemmas.{first_cuts, first_filling, first_rows}
 use Rattle.leaf_store.proofs.fill.fill_first.Goals as goal

@@ -1,5 +1,4 @@
-use Rattle.std.proofs.Common.{◌≡◌, ◌++◌, refl, sym, ◌∙◌, ap₂, ap, subst, arith}
-use Rattle.std.specs.Prelude.{false, length}
+use Rattle.std.proofs.Common.{◌++◌, refl, sym, ◌∙◌, ap₂, ap, arith}
 use Rattle.std.proofs.lemmas.List.{take-append-drop}
 use Rattle.graph_model.specs.Rows.{end_key}
 use Rattle.graph_model.proofs.KeyLemmas.{below_flip}

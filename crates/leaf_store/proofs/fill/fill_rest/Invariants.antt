@@ -1,4 +1,4 @@
-use Rattle.std.proofs.Common.{◌≡◌, ◌-◌, length}
+use Rattle.std.proofs.Common.{◌-◌, length}
 use Rattle.leaf_store.proofs.FillEndLemmas.{StillFilling}
 use Rattle.leaf_store.proofs.fill.fill_rest.Given as goal
 

@@ -1,5 +1,3 @@
-use Rattle.std.proofs.Common.{length}
-use Rattle.version_segment.specs.Rows.{VersionedRows}
 use Rattle.leaf_array.specs.Segments.{count_of}
 use Rattle.leaf_store.proofs.LookLemmas.{IsRead}
 use Rattle.leaf_store.proofs.look.counts_of.Given as goal

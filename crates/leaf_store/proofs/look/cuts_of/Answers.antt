@@ -1,5 +1,4 @@
 use Rattle.std.proofs.Common.{refl, sym, arith}
-use Rattle.leaf_array.specs.Segments.{count_of}
 use Rattle.leaf_store.proofs.LookLemmas.{read_all, all_sound}
 use Rattle.leaf_store.proofs.look.cuts_of.Goals as goal
 

@@ -1,4 +1,4 @@
-use Rattle.std.proofs.Common.{◌≡◌, arith}
+use Rattle.std.proofs.Common.{arith}
 use Rattle.graph_model.specs.Rows.{first_key}
 use Rattle.leaf_store.proofs.RoomLemmas.{can_cut, cut_moved, leaf_at, place_memory, place_within, room_in_leaf, same_moved, spread_leaf}
 use Rattle.leaf_store.proofs.room.spread_window.Goals as goal

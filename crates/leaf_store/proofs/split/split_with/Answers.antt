@@ -1,4 +1,4 @@
-use Rattle.std.proofs.Common.{◌≡◌, ◌≤◌, length, sym, ap, subst, arith}
+use Rattle.std.proofs.Common.{◌≤◌, length, subst, arith}
 use Rattle.leaf_array.specs.Segments.{rows_of}
 use Rattle.leaf_store.specs.Ranges.{IsLive}
 use Rattle.leaf_store.proofs.SplitLemmas.{always_err, full_memory, full_segments, full_within, keeps_leaves, live_apart, nothing_kept, splits_leaf}

@@ -2,7 +2,7 @@ use Rattle.std.proofs.Common.{◌≡◌, sym, ◌∙◌, subst, arith}
 use Rattle.std.specs.Prelude.{true}
 use Rattle.leaf_store.specs.Leaves.{AreLeaves}
 use Rattle.leaf_store.proofs.CellLemmas.{holds}
-use Rattle.leaf_store.proofs.ChangeLemmas.{is_within, has_memory, segment_within, read_cell}
+use Rattle.leaf_store.proofs.ChangeLemmas.{is_within, has_memory, read_cell}
 use Rattle.leaf_store.proofs.StoreLemmas.{cells_are_apart}
 use Rattle.leaf_store.proofs.TableLemmas.{kept_leaves}
 use Rattle.leaf_store.proofs.store.LeafStore.segment.Goals as goal

@@ -1,4 +1,4 @@
-use Rattle.std.proofs.Common.{◌∙◌, ap, sym, subst, None, List, Bool}
+use Rattle.std.proofs.Common.{◌∙◌, ap, sym, subst, None, Bool}
 use Rattle.graph_model.specs.declared.journal.TxnName.{TxnName}
 use Rattle.version_segment.specs.Rows.{VersionedRows, versions_at}
 use Rattle.version_segment.specs.Checks.{AreNamedIn, IsNamed, IsChecked, cause_in, newest_and_touches}
