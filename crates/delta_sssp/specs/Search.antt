@@ -44,7 +44,8 @@ AreRelaxed kind image width distances p = (k : ℕ) (a : Arc) → slice_get (arc
 -- for each of the first n places a weight that no arc out of it is below
 pub record AreLightest (image : Places) (n : ℕ) (lightest : List ℕ) : Type 0 where
   pub count : length lightest ≡ n
-  pub each : (p k : ℕ) (a : Arc) → p < n → slice_get (arcs_at image.out p) k ≡ Some a → slice_index lightest p ≤ a.weight
+  pub each : (p k : ℕ) (a : Arc) → p < n → slice_get (arcs_at image.out p) k ≡ Some a
+      → slice_index lightest p ≤ a.weight
 
 -- a visit of one of the first n places, at a distance that is of the bucket
 pub record IsVisit (n width bucket : ℕ) (visit : Visit) : Type 0 where
@@ -61,7 +62,8 @@ pub record IsVisited (image : Places) (stage : Stage) (distances : List ℕ) (vi
 
 -- Settled up to the bucket: the arcs out of places of lower buckets are relaxed, the places of the bucket
 -- are among its visits, and those of higher ones in their buckets.
-pub record IsSearch (image : Places) (stage : Stage) (distances : List ℕ) (visits : List Visit) (later : Buckets) : Type 0 where
+pub record IsSearch (image : Places) (stage : Stage) (distances : List ℕ) (visits : List Visit) (later : Buckets)
+    : Type 0 where
   pub weights : AreWeights image stage.root distances
   pub wide : 0 < stage.width
   pub heavy_few : stage.heavy ≤ stage.light
