@@ -12,14 +12,14 @@ _teseo() {
         mapfile -t COMPREPLY < <(compgen -W '0 1 2 3 4 5 6 7 8 9' -- "$current")
         return
         ;;
-    make:--seed | make:--vertices | make:--edges) return ;;
+    run:--leaves | make:--seed | make:--vertices | make:--edges) return ;;
     run:--vertices | run:--edges | run:--journal | run:--schedule | make:--out | make:--edges-out)
         mapfile -t COMPREPLY < <(compgen -f -- "$current")
         return
         ;;
     esac
     case ${COMP_WORDS[1]} in
-    run) options='--vertices --edges --journal --directed --weights --cut --schedule' ;;
+    run) options='--vertices --edges --journal --directed --weights --cut --schedule --leaves' ;;
     make) options='--seed --vertices --edges --out --edges-out' ;;
     *) return ;;
     esac
