@@ -81,7 +81,8 @@ pub record IsFull (s : Leaves) (key : Key) (need : ℕ) : Type 0 where
 
 -- why no room was made, and what that left
 abbrev pub IsRoomRefusal : Leaves → Key → ℕ → RoomRefusal → Leaves → Type 0
-IsRoomRefusal old key need (refusals.Full leaves) new = (leaves ≡ old.limit) × IsFull old key need × (SPLIT_ROWS * leaves ≤ weight old) × (new ≡ old)
+IsRoomRefusal old key need (refusals.Full leaves) new =
+    (leaves ≡ old.limit) × IsFull old key need × (SPLIT_ROWS * leaves ≤ weight old) × (new ≡ old)
 IsRoomRefusal old key need refusals.NoMemory new = Unit {0}
 
 -- ---- new ones

@@ -42,7 +42,8 @@ abbrev pub parts_in : Index → List (Option (Box Leaf Global)) → List Part
 parts_in index table = map (part_of table) index.entries
 
 -- So many rows have been laid, from the first leaf on. While rows are left all leaves so far are as full as may be.
-pub record IsFilling (rows : List Row) (at : ℕ) (index : Index) (table : List (Option (Box Leaf Global))) : Type 0 where
+pub record IsFilling (rows : List Row) (at : ℕ) (index : Index) (table : List (Option (Box Leaf Global)))
+    : Type 0 where
   pub within : at ≤ length rows
   pub count : length table ≡ index.leaves
   pub index_is : IsIndex index

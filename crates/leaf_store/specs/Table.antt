@@ -6,7 +6,9 @@ use Rattle.std.specs.declared.alloc.Global.{Global}
 use Rattle.version_segment.specs.Rows.{VersionedRows, IsSegment}
 use Rattle.leaf_array.specs.declared.leaf.Leaf.{Leaf}
 use Rattle.leaf_array.specs.Leaves.{IsLeaf}
-use Rattle.leaf_array.specs.Segments.{lows_of, high_or}
+use Rattle.leaf_array.specs.Segments.{counts_of, lows_of, high_or}
+use Rattle.density_tree.specs.declared.window.Window.{Window}
+use Rattle.density_tree.specs.Windows.{Fits, IsSmallestWindow}
 use Rattle.graph_model.specs.declared.row.Key.{Key}
 use Rattle.leaf_index.specs.Index as leaf_index
 use Rattle.leaf_index.specs.Index.{Index, Entry, IsFloor, IsIndex, end_of}
@@ -57,3 +59,7 @@ pub record IsPlace (key : Key) (entries : List Entry) (place : Place) : Type 0 w
   pub floor : IsFloor key entries entry
   pub leaf : place.leaf ≡ entry.leaf
   pub last : leaf_index.IsSegment entry.cuts key place.segment
+
+-- the smallest window round the segment that has room for so many rows more, or none has
+abbrev pub IsRoomyWindow : List VersionedRows → ℕ → ℕ → Option Window → Type 0
+IsRoomyWindow segments need segment window = IsSmallestWindow (Fits (counts_of segments) need) segment window

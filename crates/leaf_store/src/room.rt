@@ -6,13 +6,13 @@
 ghost use Rattle.std.specs.Prelude.{◌≡◌, ◌<◌, ◌≤◌, ◌*◌, true, length, IfErr, IfSome, OnOk};
 ghost use Rattle.graph_model.specs.declared.row.Key.{Key};
 ghost use Rattle.graph_model.specs.Rows.{is_below, end_key};
-ghost use Rattle.density_tree.specs.Windows.{Fits, IsRound, IsSmallestWindow};
+ghost use Rattle.density_tree.specs.Windows.{IsRound};
 ghost use Rattle.leaf_array.specs.Leaves.{IsLeaf, window_of};
-ghost use Rattle.leaf_array.specs.Segments.{counts_of, rows_of};
+ghost use Rattle.leaf_array.specs.Segments.{rows_of};
 ghost use Rattle.leaf_store.specs.Leaves.{room_at};
 ghost use Rattle.leaf_store.specs.Changes.{IsRoomRefusal, MovesRows};
 ghost use Rattle.leaf_store.specs.Ranges.{IsOutOfLeaves};
-ghost use Rattle.leaf_store.specs.Table.{IsKept, IsPlace, leaves_of, segments_at};
+ghost use Rattle.leaf_store.specs.Table.{IsKept, IsPlace, IsRoomyWindow, leaves_of, segments_at};
 
 use crate::look::{counts_of, cuts_of};
 use crate::place::{Place, place_of};
@@ -54,7 +54,7 @@ fn window_at(leaves: &Vec<Option<Box<Leaf>>>, place: Place, need: u8) -> Option<
     requires segment { place.segment < 8 }
     requires some { 1 ≤ need }
     requires few { need ≤ 2 }
-    ensures smallest { IsSmallestWindow (Fits (counts_of (segments_at leaves.now.items place.leaf)) need) place.segment result }
+    ensures smallest { IsRoomyWindow (segments_at leaves.now.items place.leaf) need place.segment result }
     ensures round { IfSome result (IsRound place.segment) }
 {
     match &leaves[place.leaf] {
@@ -121,5 +121,72 @@ fn split_at(
             index.give_back(leaf);
             Err(RoomRefusal::NoMemory)
         }
+    }
+}
+
+#[cfg(test)]
+mod tests {
+    use super::*;
+    use graph_model::TxnName;
+    use std::test::Fail;
+
+    const WRITER: TxnName = TxnName { job: 1, number: 1 };
+
+    /// The key of a vertex.
+    fn vertex(id: u32) -> Key
+        ensures { is_below result end_key ≡ true }
+    {
+        Key {
+            src: u64::from(id),
+            second: 0,
+        }
+    }
+
+    /// Makes room for one row in the key's cell, if there is none.
+    fn make_some_room(store: &mut LeafStore, key: Key) -> Result<(), RoomRefusal>
+        requires { is_below key end_key ≡ true }
+        ensures { OnOk result (1 ≤ room_at store.new key) }
+    {
+        if store.segment(key).room() > 0 {
+            return Ok(());
+        }
+        store.make_room(key, 1)
+    }
+
+    /// Puts a row.
+    fn put(store: &mut LeafStore, key: Key) -> Result<(), RoomRefusal>
+        requires { is_below key end_key ≡ true }
+    {
+        make_some_room(store, key)?;
+        store.reserve(key)?;
+        store.write(key, Some(0), WRITER);
+        Ok(())
+    }
+
+    #[test]
+    fn a_full_segment_is_spread_and_one_leaf_is_not_split(rt: HostRuntime) -> Result<(), Fail> {
+        let mut store = LeafStore::new(rt.alloc(), 1)?;
+        for (from, until, first, last) in [(1, 34, 16, 17), (34, 50, 24, 25)] {
+            'more: for id in from..until {
+                put(&mut store, vertex(id))?;
+            }
+            let got = (
+                store.segment(vertex(1)).len(),
+                store.segment(vertex(until)).len(),
+            );
+            assert_eq!(rt; got, (first, last), "of the rows below {until}");
+        }
+        let mut refusal = None;
+        'fill: for id in 50..258 {
+            if let Err(refused) = put(&mut store, vertex(id)) {
+                refusal = Some(refused);
+            }
+        }
+        assert_eq!(rt;
+            refusal,
+            Some(RoomRefusal::Full { leaves: 1 }),
+            "at one leaf"
+        );
+        Ok(())
     }
 }

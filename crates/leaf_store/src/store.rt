@@ -74,7 +74,8 @@ impl LeafStore {
         requires { is_below key end_key ≡ true }
         ensures cell { result.now ≡ cell_at self.now key }
         ensures holds { is_between result.now.low result.now.high key ≡ true }
-        ensures same { (q : Key) → is_between result.now.low result.now.high q ≡ true → cell_at self.now q ≡ result.now }
+        ensures same { (q : Key) → is_between result.now.low result.now.high q ≡ true
+            → cell_at self.now q ≡ result.now }
     {
         let place = place_of(&self.index, key);
         match &self.leaves[place.leaf] {
