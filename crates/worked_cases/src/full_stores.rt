@@ -15,10 +15,10 @@ const WRITE: End = (
 /// A graph of 300 vertices finds no place: nothing is created.
 const LOAD: End = (6, "load full\n", 3, &[]);
 
-/// Lines with the numbers from 1 on behind a word.
-fn numbered(alloc: Global, word: &str, count: u32) -> Result<String, AllocError> {
+/// Lines with the numbers from 1 to below the last behind a word.
+fn numbered(alloc: Global, word: &str, last: u32) -> Result<String, AllocError> {
     let mut lines = String::new(alloc);
-    for number in 1..count + 1 {
+    for number in 1..last {
         lines.push_str(format!(in alloc; "{word}{number}\n")?.as_str())?;
     }
     Ok(lines)
@@ -29,7 +29,7 @@ fn numbered(alloc: Global, word: &str, count: u32) -> Result<String, AllocError>
 fn the_220th_vertex_finds_no_place_in_one_leaf(rt: HostRuntime) -> Result<(), Fail> {
     let alloc = rt.alloc();
     let mut script = String::from_str(alloc, "begin\n")?;
-    script.push_str(numbered(alloc, "vertex ", 220)?.as_str())?;
+    script.push_str(numbered(alloc, "vertex ", 221)?.as_str())?;
     script.push_str("commit\n")?;
     let mut report = String::from_str(alloc, "begin 1.1 start 0\n")?;
     for _ in 0..219 {
@@ -48,7 +48,7 @@ fn the_220th_vertex_finds_no_place_in_one_leaf(rt: HostRuntime) -> Result<(), Fa
 fn a_graph_of_300_vertices_finds_no_place_in_one_leaf(rt: HostRuntime) -> Result<(), Fail> {
     let alloc = rt.alloc();
     let mut desk = desk_with(alloc, &[("e", ""), SEARCH], &[])?;
-    desk.put("v", numbered(alloc, "", 300)?.as_bytes())?;
+    desk.put("v", numbered(alloc, "", 301)?.as_bytes())?;
     let words = "--directed --leaves 1 s1";
     let found = end_of(&rt, alloc, &mut desk, words, LOAD)?;
     assert_eq!(rt; found.as_str(), text_of_end(alloc, LOAD)?.as_str());
