@@ -14,9 +14,9 @@ use Rattle.leaf_index.specs.Index.{Entry, AreCuts, AreSorted, BeginAbove, NotAbo
 use Rattle.leaf_index.specs.Slots.{HasSlot, HaveSlots, AreRisingStarts, StandOnce, IsKept, IsFloorStart, BeginsBefore, begin_or, cuts_or_none, entry_of, entries_of, times}
 use Rattle.leaf_index.specs.Calls.{CanAdd, CanDrop, CanCut, with_cuts, with_leaf, without_leaf}
 use Rattle.graph_model.proofs.KeyLemmas.{below_self, below_flip, below_chain, upto_chain}
-use Rattle.leaf_index.proofs.CountLemmas.{count_cons, count_append, none_counted, at_most_one, worth}
+use Rattle.leaf_index.proofs.CountLemmas.{count_cons, count_append, none_counted, at_most_one, worth, once_more}
 use Rattle.leaf_index.proofs.SlotLemmas.{end_begin, entries_append, slot_at, slot_read, same_some, within_there}
-use Rattle.leaf_index.proofs.IndexLemmas.{Unused, once_more}
+use Rattle.leaf_index.proofs.IndexLemmas.{Unused}
 
 -- ---- a slot of the table
 

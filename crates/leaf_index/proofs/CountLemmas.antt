@@ -1,6 +1,6 @@
 -- How often leaves stand in lists, and how long such a list may be.
-use Rattle.std.proofs.Common.{◌≡◌, ◌≢◌, ℕ, ◌+◌, ◌<◌, ◌≤◌, ◌==◌, ◌||◌, Bool, true, false, cond, nat_lt, eqb, List, [], ◌∷◌, ◌++◌, length, map, count_by, refl, sym, ◌∙◌, ap, subst, arith, eqb-true, eq-eqb}
-use Rattle.std.specs.List.{AllByRecursion, IsDistinct, list_any}
+use Rattle.std.proofs.Common.{◌≡◌, ◌≢◌, ℕ, zero, suc, ◌+◌, ◌-◌, ◌<◌, ◌≤◌, ◌==◌, ◌||◌, Bool, true, false, cond, nat_lt, eqb, List, [], ◌∷◌, ◌++◌, length, map, count_by, refl, sym, ◌∙◌, ap, subst, arith, eqb-true, eq-eqb}
+use Rattle.std.specs.List.{AllByRecursion, IsDistinct, list_any, range_with_len}
 use Rattle.std.proofs.lemmas.Bool.{ne_eqb}
 use Rattle.std.proofs.lemmas.Bool.Decides.{nat_tests}
 use Rattle.std.proofs.lemmas.List.Sums.{sum_by-cons, sum_by-append}
@@ -94,3 +94,45 @@ at_most_one q n = grind (arith, nat_tests)
 
 pub one_below : (q n : ℕ) → q < n → 1 ≤ cond (nat_lt q n) 1 0
 one_below q n h = grind (arith, nat_tests)
+
+-- a leaf that stood nowhere may stand once
+pub once_more : (n leaf q before after : ℕ) → leaf < n → (leaf ≡ q → before ≡ 0) → before ≤ cond (nat_lt q n) 1 0 → after ≡ before + cond (leaf == q) 1 0 → after ≤ cond (nat_lt q n) 1 0
+once_more n leaf q before after lt none le e = by_test (leaf == q) refl e
+  where
+    by_test : (t : Bool) → (leaf == q) ≡ t → after ≡ before + cond t 1 0 → after ≤ cond (nat_lt q n) 1 0
+    by_test true t e = let same = eqb-true leaf q t in omega (arith, e, none same, one_below q n (omega (arith, same, lt)))
+    by_test false t e = omega (arith, e, le)
+
+-- a range with one number more
+pub range_more : (from count next : ℕ) → next ≡ from + count → range_with_len from (count + 1) ≡ range_with_len from count ++ next ∷ []
+range_more from zero next e = let same : next ≡ from = omega (arith, e) in ap (λ n. n ∷ []) (sym same)
+range_more from (suc count) next e = let up : suc count + 1 ≡ suc (count + 1) = omega arith in ap (range_with_len from) up ∙ ap (λ ns. from ∷ ns) (range_more (from + 1) count next (omega (arith, e)))
+
+-- a number stands once in a range, and not before its begin
+pub count_range : (from count q : ℕ) → (count_by (λ n. n == q) (range_with_len from count) ≤ worth (nat_lt q (from + count))) × (q < from → count_by (λ n. n == q) (range_with_len from count) ≡ 0)
+count_range from zero q = (omega arith, λ lt. refl)
+count_range from (suc count) q =
+    let rest = count_range (from + 1) count q in
+    let parts = count_cons (λ n. n == q) from (range_with_len (from + 1) count) in
+    by_test (from == q) refl rest parts
+  where
+    by_test : (t : Bool) → (from == q) ≡ t → (count_by (λ n. n == q) (range_with_len (from + 1) count) ≤ worth (nat_lt q (from + 1 + count))) × (q < from + 1 → count_by (λ n. n == q) (range_with_len (from + 1) count) ≡ 0)
+        → count_by (λ n. n == q) (from ∷ range_with_len (from + 1) count) ≡ worth (from == q) + count_by (λ n. n == q) (range_with_len (from + 1) count)
+        → (count_by (λ n. n == q) (from ∷ range_with_len (from + 1) count) ≤ worth (nat_lt q (from + suc count))) × (q < from → count_by (λ n. n == q) (from ∷ range_with_len (from + 1) count) ≡ 0)
+    by_test true t rest parts =
+        let same = eqb-true from q t in
+        let value = ap worth t in
+        let none = rest.1 (omega (arith, same)) in
+        (omega (arith, parts, value, none, one_below q (from + suc count) (omega (arith, same))), λ lt. absurd (omega (arith, lt, same)))
+    by_test false t rest parts =
+        let value = ap worth t in
+        let up : from + 1 + count ≡ from + suc count = omega arith in
+        let le : count_by (λ n. n == q) (range_with_len (from + 1) count) ≤ worth (nat_lt q (from + suc count)) = subst (λ m. count_by (λ n. n == q) (range_with_len (from + 1) count) ≤ worth (nat_lt q m)) up rest.0 in
+        (omega (arith, parts, value, le), λ lt. omega (arith, parts, value, rest.1 (omega (arith, lt))))
+
+-- a number does not stand in a range that ends before it
+pub beyond_range : (q : ℕ) → 1 ≤ q → count_by (λ n. n == q) (range_with_len 1 (q - 1)) ≡ 0
+beyond_range q some = none_from (1 + (q - 1)) _ (omega (arith, some)) (count_range 1 (q - 1) q).0
+  where
+    none_from : (n times : ℕ) → n ≤ q → times ≤ cond (nat_lt q n) 1 0 → times ≡ 0
+    none_from n times le few = grind (arith, nat_tests)

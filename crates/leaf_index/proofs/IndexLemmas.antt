@@ -1,6 +1,6 @@
 -- What an index keeps, and what becomes of it as leaves change their lists.
-use Rattle.std.proofs.Common.{◌≡◌, ℕ, zero, suc, ◌+◌, ◌-◌, ◌<◌, ◌≤◌, ◌==◌, Bool, true, false, not, cond, nat_lt, List, [], ◌∷◌, ◌++◌, Option, Some, None, length, map, take, drop, count_by, replicate, length-append, refl, sym, ◌∙◌, ap, subst, arith, eqb-true, eq-eqb}
-use Rattle.std.specs.Prelude.{slice_get, option_to_list, MatchOption}
+use Rattle.std.proofs.Common.{◌≡◌, ℕ, zero, suc, ◌+◌, ◌-◌, ◌<◌, ◌≤◌, ◌==◌, Bool, true, false, not, cond, nat_lt, List, [], ◌∷◌, ◌++◌, Option, Some, None, length, map, take, drop, count_by, replicate, refl, sym, ◌∙◌, ap, subst, arith, eqb-true, eq-eqb}
+use Rattle.std.specs.Prelude.{slice_get, option_to_list, IfNone}
 use Rattle.std.specs.List.{filter, range_with_len}
 use Rattle.std.proofs.lemmas.List.{length-replicate, take-append-drop}
 use Rattle.graph_model.specs.declared.row.Key.{Key}
@@ -9,9 +9,10 @@ use Rattle.leaf_trie.specs.declared.start.LeafStart.{LeafStart}
 use Rattle.leaf_index.specs.declared.slot.Slot.{Slot}
 use Rattle.leaf_index.specs.declared.route.Retired.{Retired}
 use Rattle.leaf_index.specs.Index.{Entry, Index, AreCuts, AreRising, HaveCuts, IsIndex, IsTaken, uses}
+use Rattle.leaf_index.specs.Idle.{Idle, IsOutside}
 use Rattle.leaf_index.specs.Slots.{HaveSlots, AreRisingStarts, IsKept, begin_or, cuts_or_none, entry_of, entries_of, times, whole_slot}
 use Rattle.leaf_index.specs.Calls.{CanDrop, TakesFree, freed_of, kept_of, without_leaf}
-use Rattle.leaf_index.proofs.CountLemmas.{count_cons, count_append, count_map, fewer, at_most, existing, at_most_one, one_below, worth}
+use Rattle.leaf_index.proofs.CountLemmas.{count_cons, count_append, count_range, existing, at_most_one, once_more, one_below, worth}
 use Rattle.leaf_index.proofs.SlotLemmas.{end_begin, entries_above}
 
 -- what contracts see of an index
@@ -55,31 +56,17 @@ unused slots starts free retired index leaf view taken =
     let t : IsTaken (seen slots starts free retired) leaf = subst (λ i. IsTaken i leaf) (sym view) taken in
     record { exists = t.exists; unused = sym (uses_times slots starts free retired leaf) ∙ t.unused }
 
-length_numbers : (rs : List Retired) → length (map (λ (r : Retired). r.leaf) rs) ≡ length rs
-length_numbers [] = refl
-length_numbers (r ∷ rs) = ap suc (length_numbers rs)
+-- so it stands in neither list
+pub idle_outside : (slots : List Slot) (starts : List LeafStart) (idle : Idle) (leaf : ℕ) → idle.leaves ≡ length slots → Unused slots starts idle.free idle.retired leaf → IsOutside idle leaf
+idle_outside slots starts idle leaf same u = record { exists = omega (arith, u.exists, same); unused = omega (arith, u.unused) }
 
--- while a leaf is taken, neither list has all leaves
-pub free_room : (slots : List Slot) (starts : List LeafStart) (free : List ℕ) (retired : List Retired) (leaf : ℕ) → IsKept slots starts free retired → Unused slots starts free retired leaf → length free < length slots
-free_room slots starts free retired leaf k u = fewer free (length slots) leaf (λ q. omega (arith, k.once q)) (omega (arith, u.unused)) u.exists
-
-pub retired_room : (slots : List Slot) (starts : List LeafStart) (free : List ℕ) (retired : List Retired) (leaf : ℕ) → IsKept slots starts free retired → Unused slots starts free retired leaf → length retired < length slots
-retired_room slots starts free retired leaf k u =
-    let numbers = map (λ (r : Retired). r.leaf) retired in
-    let less = fewer numbers (length slots) leaf (λ q. omega (arith, k.once q, count_map (λ (r : Retired). r.leaf) q retired)) (omega (arith, u.unused, count_map (λ (r : Retired). r.leaf) leaf retired)) u.exists in
-    omega (arith, less, length_numbers retired)
+-- the same lists are kept
+pub kept_with : (slots : List Slot) (starts : List LeafStart) (old new : Idle) → new ≡ old → IsKept slots starts old.free old.retired → IsKept slots starts new.free new.retired
+kept_with slots starts old new same k = subst (λ i. IsKept slots starts i.free i.retired) (sym same) k
 
 -- one more stands in a list
 more_at : {X : Type 0} (f : X → ℕ) (q : ℕ) (xs : List X) (x : X) → count_by (λ y. f y == q) (xs ++ x ∷ []) ≡ count_by (λ y. f y == q) xs + cond (f x == q) 1 0
 more_at f q xs x = omega (arith, count_append (λ y. f y == q) xs (x ∷ []), count_cons (λ y. f y == q) x [])
-
--- a leaf that stood nowhere may stand once
-pub once_more : (n leaf q before after : ℕ) → leaf < n → (leaf ≡ q → before ≡ 0) → before ≤ cond (nat_lt q n) 1 0 → after ≡ before + cond (leaf == q) 1 0 → after ≤ cond (nat_lt q n) 1 0
-once_more n leaf q before after lt none le e = by_test (leaf == q) refl e
-  where
-    by_test : (t : Bool) → (leaf == q) ≡ t → after ≡ before + cond t 1 0 → after ≤ cond (nat_lt q n) 1 0
-    by_test true t e = let same = eqb-true leaf q t in omega (arith, e, none same, one_below q n (omega (arith, same, lt)))
-    by_test false t e = omega (arith, e, le)
 
 pub given_back : (slots : List Slot) (starts : List LeafStart) (free : List ℕ) (retired : List Retired) (leaf : ℕ) (new : List ℕ) → IsKept slots starts free retired → Unused slots starts free retired leaf → new ≡ free ++ leaf ∷ [] → IsKept slots starts new retired
 given_back slots starts free retired leaf new k u is =
@@ -136,41 +123,11 @@ takes_free slots starts free new retired index None view k is none =
 takes_free slots starts free new retired index (Some leaf) view k is none =
     (sym view ∙ (λ i. record { leaves = length slots; entries = entries_of slots starts; free = is i; retired = retired }), taken slots starts free new retired leaf k is)
 
-pub none_left : (o : Option ℕ) (A : Type 0) (B : ℕ → Type 0) → MatchOption o A B → o ≡ None → A
-none_left None A B h e = h
-none_left (Some x) A B h e = cc
-
-pub empty_of : (xs : List ℕ) → length xs ≡ 0 → xs ≡ []
-empty_of [] e = refl
-empty_of (x ∷ xs) e = absurd (omega (arith, e))
+pub of_none : (o : Option ℕ) (A : Type 0) → IfNone o A → o ≡ None → A
+of_none None A h e = h
+of_none (Some x) A h e = cc
 
 -- ---- a new index
-
-pub range_more : (from count next : ℕ) → next ≡ from + count → range_with_len from (count + 1) ≡ range_with_len from count ++ next ∷ []
-range_more from zero next e = let same : next ≡ from = omega (arith, e) in ap (λ n. n ∷ []) (sym same)
-range_more from (suc count) next e = let up : suc count + 1 ≡ suc (count + 1) = omega arith in ap (range_with_len from) up ∙ ap (λ ns. from ∷ ns) (range_more (from + 1) count next (omega (arith, e)))
-
--- a number stands once in a range, and not before its begin
-count_range : (from count q : ℕ) → (count_by (λ n. n == q) (range_with_len from count) ≤ worth (nat_lt q (from + count))) × (q < from → count_by (λ n. n == q) (range_with_len from count) ≡ 0)
-count_range from zero q = (omega arith, λ lt. refl)
-count_range from (suc count) q =
-    let rest = count_range (from + 1) count q in
-    let parts = count_cons (λ n. n == q) from (range_with_len (from + 1) count) in
-    by_test (from == q) refl rest parts
-  where
-    by_test : (t : Bool) → (from == q) ≡ t → (count_by (λ n. n == q) (range_with_len (from + 1) count) ≤ worth (nat_lt q (from + 1 + count))) × (q < from + 1 → count_by (λ n. n == q) (range_with_len (from + 1) count) ≡ 0)
-        → count_by (λ n. n == q) (from ∷ range_with_len (from + 1) count) ≡ worth (from == q) + count_by (λ n. n == q) (range_with_len (from + 1) count)
-        → (count_by (λ n. n == q) (from ∷ range_with_len (from + 1) count) ≤ worth (nat_lt q (from + suc count))) × (q < from → count_by (λ n. n == q) (from ∷ range_with_len (from + 1) count) ≡ 0)
-    by_test true t rest parts =
-        let same = eqb-true from q t in
-        let value = ap worth t in
-        let none = rest.1 (omega (arith, same)) in
-        (omega (arith, parts, value, none, one_below q (from + suc count) (omega (arith, same))), λ lt. absurd (omega (arith, lt, same)))
-    by_test false t rest parts =
-        let value = ap worth t in
-        let up : from + 1 + count ≡ from + suc count = omega arith in
-        let le : count_by (λ n. n == q) (range_with_len (from + 1) count) ≤ worth (nat_lt q (from + suc count)) = subst (λ m. count_by (λ n. n == q) (range_with_len (from + 1) count) ≤ worth (nat_lt q m)) up rest.0 in
-        (omega (arith, parts, value, le), λ lt. omega (arith, parts, value, rest.1 (omega (arith, lt))))
 
 pub kept_new : (leaves : ℕ) → 1 ≤ leaves → leaves ≤ 131072 → IsKept (replicate leaves whole_slot) (record { low = first_key; leaf = 0 } ∷ []) (range_with_len 1 (leaves - 1)) []
 kept_new leaves some few =
@@ -193,15 +150,6 @@ kept_new leaves some few =
         let up : 1 + (leaves - 1) ≡ leaves = omega (arith, some) in
         let le : count_by (λ f. f == q) (range_with_len 1 (leaves - 1)) ≤ worth (nat_lt q leaves) = subst (λ n. count_by (λ f. f == q) (range_with_len 1 (leaves - 1)) ≤ worth (nat_lt q n)) up (count_range 1 (leaves - 1) q).0 in
         omega (arith, le)
-
--- ---- both lists together
-
--- no more leaves are free or retired than there are
-pub both_fit : (slots : List Slot) (starts : List LeafStart) (free : List ℕ) (retired : List Retired) → IsKept slots starts free retired → length free + length retired ≤ length slots
-both_fit slots starts free retired k =
-    let numbers = map (λ (r : Retired). r.leaf) retired in
-    let fit = at_most (free ++ numbers) (length slots) (λ q. omega (arith, k.once q, count_append (λ f. f == q) free numbers, count_map (λ (r : Retired). r.leaf) q retired)) in
-    omega (arith, fit, length-append free numbers, length_numbers retired)
 
 -- ---- retired leaves that are freed
 

@@ -1,4 +1,6 @@
 pub mod CountLemmas
+pub mod ChainLemmas
+pub mod IdleLemmas
 pub mod SlotLemmas
 pub mod IndexLemmas
 pub mod ChangeLemmas

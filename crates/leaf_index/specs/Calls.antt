@@ -5,6 +5,7 @@ use Rattle.graph_model.specs.declared.row.Key.{Key}
 use Rattle.graph_model.specs.Rows.{is_below, first_key, end_key}
 use Rattle.leaf_index.specs.declared.route.Retired.{Retired}
 use Rattle.leaf_index.specs.declared.route.LeafRange.{LeafRange}
+use Rattle.leaf_index.specs.Idle.{Idle}
 use Rattle.leaf_index.specs.Index.{Entry, Index, NotAbove, BeginAbove, AreSorted, AreCuts, IsTaken, IsFloor, IsLastBelow, end_of}
 
 -- leaf 0 has the whole key range, all of it in its first segment, and the others are free
@@ -81,6 +82,13 @@ abbrev pub freed : ℕ → ℕ → Index → Index
 freed until upto index = record index {
   free = index.free ++ freed_of until (take upto index.retired);
   retired = kept_of until (take upto index.retired) ++ drop upto index.retired;
+}
+
+-- the same of the lists alone
+abbrev pub freed_idle : ℕ → ℕ → Idle → Idle
+freed_idle until upto idle = record idle {
+  free = idle.free ++ freed_of until (take upto idle.retired);
+  retired = kept_of until (take upto idle.retired) ++ drop upto idle.retired;
 }
 
 -- the range of an entry that stands before these

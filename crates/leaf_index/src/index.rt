@@ -1,19 +1,17 @@
 //! The index over a trie.
 //!
 //! 1. What the trie doesn't need lies in a table by the numbers of leaves: cuts, and the end of a live leaf's range.
-//! 2. Both lists of leaves have room for all leaves from the start.
+//! 2. The lists of free and of retired leaves have room for all leaves from the start.
 
 ghost use Rattle.std.specs.Prelude.{◌≡◌, ◌<◌, ◌≤◌, ◌+◌, [], ◌∷◌, ◌++◌, IfOk, IfSome, OnOk, OnErr, length, replicate, take, ◌-◌};
-ghost use Rattle.std.specs.List.{range_with_len};
-ghost use Rattle.std.specs.Vec.{vec_capacity};
 ghost use Rattle.graph_model.specs.Rows.{end_key, first_key};
 ghost use Rattle.graph_model.specs.declared.limits.TheConstants.{MAX_LEAVES};
 ghost use Rattle.leaf_index.specs.Index.{IsIndex, IsRoute, IsTaken};
 ghost use Rattle.leaf_index.specs.Slots.{HasSlot, HaveSlots, IsBeforeStart, IsFloorStart, IsRange, begin_or, whole_slot};
 ghost use Rattle.leaf_index.specs.Calls.{CanAdd, CanCut, CanDrop, IsLeafBefore, IsLeafRange, TakesFree, freed, freed_of, new_index, with_cuts, with_leaf, without_leaf};
 
-use crate::release::release;
-use crate::route::{LeafRange, Retired, Route};
+use crate::idle::IdleLeaves;
+use crate::route::{LeafRange, Route};
 use crate::slot::{Slot, high_of, segment_of};
 use graph_model::{Key, NoMemory};
 use leaf_trie::{LeafStart, LeafTrie};
@@ -25,13 +23,11 @@ use std::marker::Model;
 pub struct LeafIndex {
     trie: LeafTrie,
     slots: Vec<Slot>,
-    free: Vec<u32>,
-    retired: Vec<Retired>,
+    idle: IdleLeaves,
 }
 
 impl Model for LeafIndex {
-    ghost use Rattle.std.specs.Prelude.{◌≤◌, length};
-    ghost use Rattle.std.specs.Vec.{vec_capacity};
+    ghost use Rattle.std.specs.Prelude.{◌≡◌, length};
     ghost use Rattle.leaf_index.specs.Index.{Index};
 
     ghost Value = { Index };
@@ -41,13 +37,12 @@ impl Model for LeafIndex {
     ghost view = { λ i. record {
       leaves = length i.slots.items;
       entries = entries_of i.slots.items i.trie;
-      free = i.free.items;
-      retired = i.retired.items;
+      free = i.idle.free;
+      retired = i.idle.retired;
     } };
 
-    ghost invariant = { λ i. IsKept i.slots.items i.trie i.free.items i.retired.items
-        × (length i.slots.items ≤ vec_capacity i.free)
-        × (length i.slots.items ≤ vec_capacity i.retired) };
+    ghost invariant = { λ i. IsKept i.slots.items i.trie i.idle.free i.idle.retired
+        × (i.idle.leaves ≡ length i.slots.items) };
 }
 
 /// So many slots of the whole key range, all of it in the first segment.
@@ -65,19 +60,6 @@ fn whole_slots(alloc: Global, leaves: u32) -> Result<Vec<Slot>, NoMemory>
         slots.push(whole)?;
     }
     Ok(slots)
-}
-
-/// All leaves but the first, in a list with room for all.
-fn free_leaves(alloc: Global, leaves: u32) -> Result<Vec<u32>, NoMemory>
-    requires { 1 ≤ leaves }
-    ensures leaves { IfOk result (λ v. v.items ≡ range_with_len 1 (leaves - 1)) }
-    ensures room { IfOk result (λ v. leaves ≤ vec_capacity v) }
-{
-    let mut free = Vec::with_capacity(alloc, leaves as usize)?;
-    'fill: for leaf in 1..leaves {
-        free.push(leaf)?;
-    }
-    Ok(free)
 }
 
 /// The last leaf that does not begin above the key.
@@ -131,14 +113,8 @@ impl LeafIndex {
         let low = Key { src: 0, second: 0 };
         let trie = LeafTrie::new(alloc, LeafStart { low, leaf: 0 })?;
         let slots = whole_slots(alloc, leaves)?;
-        let free = free_leaves(alloc, leaves)?;
-        let retired = Vec::with_capacity(alloc, leaves as usize)?;
-        Ok(LeafIndex {
-            trie,
-            slots,
-            free,
-            retired,
-        })
+        let idle = IdleLeaves::new(alloc, leaves)?;
+        Ok(LeafIndex { trie, slots, idle })
     }
 
     /// How many leaves there are, in use or not. What holds of each index is a clause of this call.
@@ -223,7 +199,7 @@ impl LeafIndex {
     pub fn take_free(&mut self) -> Option<u32>
         ensures { TakesFree self.old self.new result }
     {
-        self.free.pop()
+        self.idle.take_free()
     }
 
     /// Puts a taken leaf among those that are free.
@@ -231,10 +207,7 @@ impl LeafIndex {
         requires { IsTaken self.old leaf }
         ensures { self.new ≡ record self.old { free = self.old.free ++ leaf ∷ [] } }
     {
-        match self.free.push(leaf) {
-            Ok(()) => {}
-            Err(_) => unreachable!(),
-        }
+        self.idle.give_back(leaf);
     }
 
     /// Puts a taken leaf last among those that are retired.
@@ -243,10 +216,7 @@ impl LeafIndex {
         ensures { self.new
             ≡ record self.old { retired = self.old.retired ++ record { leaf = leaf; stamp = stamp } ∷ [] } }
     {
-        match self.retired.push(Retired { leaf, stamp }) {
-            Ok(()) => {}
-            Err(_) => unreachable!(),
-        }
+        self.idle.retire(leaf, stamp);
     }
 
     /// Frees those among the first retired leaves whose stamps are below the given one, and answers how many.
@@ -254,7 +224,7 @@ impl LeafIndex {
         ensures freed { self.new ≡ freed until upto self.old }
         ensures count { result ≡ length (freed_of until (take upto self.old.retired)) }
     {
-        release(&mut self.free, &mut self.retired, until, upto)
+        self.idle.free_retired(until, upto)
     }
 
     /// The cell whose range holds the key. It does as long as the index doesn't change, so a caller may keep the

@@ -1,44 +1,61 @@
 //! Retired leaves that are freed.
+//!
+//! The chain of retired leaves is turned around, and each leaf then goes to the free ones or back, the oldest first.
 
-ghost use Rattle.std.specs.Prelude.{◌≡◌, ◌+◌, ◌≤◌, ◌&&◌, ◌++◌, length, take, drop, nat_lt};
-ghost use Rattle.std.specs.Vec.{vec_capacity};
-ghost use Rattle.leaf_index.specs.Calls.{freed_of, kept_of};
+ghost use Rattle.std.specs.Prelude.{◌≡◌, ◌&&◌, length, take, nat_lt};
+ghost use Rattle.leaf_index.specs.Idle.{AreLinked, idle_of, leaves_of, stamped};
+ghost use Rattle.leaf_index.specs.Calls.{freed_idle, freed_of};
 
-use crate::route::Retired;
+use crate::chain::Chain;
 
-/// Moves the leaves of those among the first retired ones whose stamps are below the given one to the free leaves,
-/// which have room for them, and answers how many.
-pub fn release(free: &mut Vec<u32>, retired: &mut Vec<Retired>, until: u64, upto: usize) -> u32
-    requires room { length free.old.items + length retired.old.items ≤ vec_capacity free.old }
-    requires few { length retired.old.items ≤ 131072 }
-    ensures free { free.new.items ≡ free.old.items ++ freed_of until (take upto retired.old.items) }
-    ensures retired { retired.new.items ≡ kept_of until (take upto retired.old.items) ++ drop upto retired.old.items }
-    ensures count { result ≡ length (freed_of until (take upto retired.old.items)) }
-    ensures free_capacity { vec_capacity free.old ≤ vec_capacity free.new }
-    ensures retired_capacity { vec_capacity retired.old ≤ vec_capacity retired.new }
-{
-    let mut kept = 0;
-    let mut count = 0;
-    'retired: for place in 0..retired.len() {
-        let one = retired[place];
-        if is_due(one, place, until, upto) {
-            match free.push(one.leaf) {
-                Ok(()) => {}
-                Err(_) => unreachable!(),
-            }
-            count += 1;
-        } else {
-            retired[kept] = one;
-            kept += 1;
-        }
-    }
-    retired.truncate(kept);
-    count
+/// The free leaves and the retired ones afterwards, and how many were freed.
+#[derive(Clone, Copy)]
+pub struct Released {
+    pub free: Chain,
+    pub retired: Chain,
+    pub count: u32,
 }
 
-/// Whether the retired leaf at the place is to be freed.
-fn is_due(one: Retired, place: usize, until: u64, upto: usize) -> bool
-    ensures { result ≡ (nat_lt place upto && nat_lt one.stamp until) }
+/// Moves those among the first retired leaves whose stamps are below the given one to the free leaves.
+pub fn release(
+    links: &mut Vec<u32>,
+    stamps: &Vec<u64>,
+    free: Chain,
+    retired: Chain,
+    until: u64,
+    upto: usize,
+) -> Released
+    requires { AreLinked links.old.items stamps.now.items free retired }
+    ensures linked { AreLinked links.new.items stamps.now.items result.free result.retired }
+    ensures freed { idle_of links.new.items stamps.now.items result.free result.retired
+        ≡ freed_idle until upto (idle_of links.old.items stamps.now.items free retired) }
+    ensures count { result.count
+        ≡ length (freed_of until (take upto (stamped stamps.now.items (leaves_of links.old.items retired)))) }
 {
-    place < upto && one.stamp < until
+    let mut waiting = retired.turned(links);
+    let mut freed = free;
+    let mut kept = Chain::empty();
+    let mut count = 0;
+    'retired: for place in 0..retired.count as usize {
+        let leaf = waiting.last;
+        waiting = waiting.without_last(links);
+        if is_due(stamps[leaf as usize], place, until, upto) {
+            freed = freed.with_last(links, leaf);
+            count += 1;
+        } else {
+            kept = kept.with_last(links, leaf);
+        }
+    }
+    Released {
+        free: freed,
+        retired: kept,
+        count,
+    }
+}
+
+/// Whether the retired leaf at the place, with the stamp, is to be freed.
+fn is_due(stamp: u64, place: usize, until: u64, upto: usize) -> bool
+    ensures { result ≡ (nat_lt place upto && nat_lt stamp until) }
+{
+    place < upto && stamp < until
 }

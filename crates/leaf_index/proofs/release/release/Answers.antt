@@ -1,53 +1,133 @@
-use Rattle.std.proofs.Common.{◌≡◌, suc, ◌+◌, ◌<◌, ◌++◌, [], ◌∷◌, true, false, length, take, set, refl, sym, ◌∙◌, ap, arith, append_assoc, length-append, length-take-le}
-use Rattle.std.proofs.Math.ListN.{length-set}
-use Rattle.std.proofs.Math.Seq.{take-suc-set}
-use Rattle.std.proofs.lemmas.List.{drop-set-lt}
-use Rattle.std.proofs.lemmas.Option.{slice_get_read}
-use Rattle.leaf_trie.proofs.ListLemmas.{take_at, append_none}
-use Rattle.leaf_index.proofs.ReleaseLemmas.{freed_so, kept_so, looked, item_left, left_more}
+use Rattle.std.proofs.Common.{◌&&◌, ◌+◌, ◌<◌, ◌≤◌, [], ◌∷◌, length, nat_lt, sym, ◌∙◌, ap, subst, arith, length-append}
+use Rattle.std.proofs.lemmas.List.{get_or_read}
+use Rattle.leaf_index.specs.Idle.{StandApart, leaves_of, stamped}
+use Rattle.leaf_index.proofs.CountLemmas.{at_most_one}
+use Rattle.leaf_index.proofs.ChainLemmas.{count_fewer, ends_with, length_leaves}
+use Rattle.leaf_index.proofs.ReleaseLemmas.{all_sorted, freed_count, freed_so, length_stamped, next_waiting, none_freed, sorts_first, sorts_freed, sorts_kept, take_whole}
 use Rattle.leaf_index.proofs.release.release.Goals as goal
-use Rattle.leaf_index.proofs.release.release.Goals.{then-is_due+in-Ok, else-is_due}
+use Rattle.leaf_index.proofs.release.release.Goals.{then-is_due, else-is_due}
+
+pub retired-init : goal.retired-init
+retired-init c =
+    let links = c.args.links.now.items in
+    let news = c.turned-waiting.new.links.items in
+    record {
+      sorts = sorts_first (length links) c.args.until c.args.upto c.args.stamps.now.items (leaves_of links c.args.free) (leaves_of links c.args.retired) (leaves_of news c.args.free) (leaves_of news c.empty-kept.result) (leaves_of news c.turned-waiting.result)
+          (c.turned-waiting.ensures.others c.args.free (λ q. omega (arith, c.requires.once q, at_most_one q (length links)))) (c.empty-kept.ensures.leaves news) c.turned-waiting.ensures.leaves c.requires.once;
+      waiting_count = omega (arith, c.turned-waiting.ensures.count);
+      counted = ap length (sym (none_freed c.args.until c.args.upto));
+      small = omega arith;
+      same_length = c.turned-waiting.ensures.same_length;
+    }
+
+pub without_last-waiting-requires-clause-exists : goal.without_last-waiting-requires-clause-exists
+without_last-waiting-requires-clause-exists c =
+    let k = c.retired.invariant in
+    let links = c.retired.links.items in
+    let ends = ends_with links c.retired.waiting.last c.retired.waiting.count (omega (arith, k.waiting_count, c.retired-test.true)) in
+    let next = next_waiting (length c.args.links.now.items) c.retired.waiting.last (leaves_of links c.retired.freed) (leaves_of links c.retired.kept) (leaves_of links c.retired.waiting) ends.0 k.sorts.once ends.1 in
+    omega (arith, next.exists, k.same_length)
+
+pub overflow_cast-leaf : goal.overflow_cast-leaf
+overflow_cast-leaf c =
+    let k = c.retired.invariant in
+    let links = c.retired.links.items in
+    let next = next_waiting (length c.args.links.now.items) c.retired.waiting.last (leaves_of links c.retired.freed) (leaves_of links c.retired.kept) (leaves_of links c.retired.waiting) (leaves_of links c.without_last-waiting.result) k.sorts.once c.without_last-waiting.ensures.leaves in
+    omega (arith, next.exists, c.requires.few)
+
+pub index-requires : goal.index-requires
+index-requires c =
+    let k = c.retired.invariant in
+    let links = c.retired.links.items in
+    let next = next_waiting (length c.args.links.now.items) c.retired.waiting.last (leaves_of links c.retired.freed) (leaves_of links c.retired.kept) (leaves_of links c.retired.waiting) (leaves_of links c.without_last-waiting.result) k.sorts.once c.without_last-waiting.ensures.leaves in
+    let within : c.retired.waiting.last < length c.args.stamps.now.items = omega (arith, next.exists, c.requires.stamps_length) in
+    omega (arith, within)
+
+pub with_last-freed-requires : goal.with_last-freed-requires
+with_last-freed-requires c =
+    let k = c.retired.invariant in
+    let links = c.retired.links.items in
+    let n = length c.args.links.now.items in
+    let leaf = c.retired.waiting.last in
+    let next = next_waiting n leaf (leaves_of links c.retired.freed) (leaves_of links c.retired.kept) (leaves_of links c.retired.waiting) (leaves_of links c.without_last-waiting.result) k.sorts.once c.without_last-waiting.ensures.leaves in
+    let fewer = count_fewer links c.retired.freed n leaf (λ q. omega (arith, k.sorts.once q)) next.lacks_free next.exists in
+    record { few = omega (arith, k.same_length, c.requires.few); fewer = omega (arith, k.same_length, fewer); exists = omega (arith, k.same_length, next.exists); lacks = next.lacks_free }
+
+pub with_last-kept-requires : goal.with_last-kept-requires
+with_last-kept-requires c =
+    let k = c.retired.invariant in
+    let links = c.retired.links.items in
+    let n = length c.args.links.now.items in
+    let leaf = c.retired.waiting.last in
+    let next = next_waiting n leaf (leaves_of links c.retired.freed) (leaves_of links c.retired.kept) (leaves_of links c.retired.waiting) (leaves_of links c.without_last-waiting.result) k.sorts.once c.without_last-waiting.ensures.leaves in
+    let fewer = count_fewer links c.retired.kept n leaf (λ q. omega (arith, k.sorts.once q)) next.lacks_kept next.exists in
+    record { few = omega (arith, k.same_length, c.requires.few); fewer = omega (arith, k.same_length, fewer); exists = omega (arith, k.same_length, next.exists); lacks = next.lacks_kept }
 
 pub retired-preserved : goal.retired-preserved
 retired-preserved c =
-    let place = c.retired.place in
-    let olds = c.args.retired.now.items in
-    let rs = c.retired.retired.items in
     let k = c.retired.invariant in
-    let lt : place < length rs = omega (arith, c.retired-test.true, c.len-place-end.ensures, k.same_length) in
-    let there = slice_get_read rs _ place c.index-one.result.now refl lt c.index-one.ensures in
-    let old_there = item_left rs olds place c.index-one.result.now k.rest there in
-    let one_more : place + 1 ≡ suc place = omega arith in
-    let seen : take (place + 1) olds ≡ take place olds ++ c.index-one.result.now ∷ [] = ap (λ n. take n olds) one_more ∙ take_at olds place c.index-one.result.now old_there in
-    let count = length-take-le place olds (omega (arith, lt, k.same_length)) in
-    let rest = left_more rs olds place k.rest in
+    let links = c.retired.links.items in
+    let n = length c.args.links.now.items in
+    let leaf = c.retired.waiting.last in
+    let place = c.retired.place in
+    let stamps = c.args.stamps.now.items in
+    let old_free = leaves_of c.args.links.now.items c.args.free in
+    let olds = stamped stamps (leaves_of c.args.links.now.items c.args.retired) in
+    let free = leaves_of links c.retired.freed in
+    let kept = leaves_of links c.retired.kept in
+    let waiting = leaves_of links c.retired.waiting in
+    let rest = leaves_of links c.without_last-waiting.result in
+    let ends = c.without_last-waiting.ensures.leaves in
+    let next = next_waiting n leaf free kept waiting rest k.sorts.once ends in
+    let test = c.is_due.ensures ∙ ap (λ s. nat_lt place c.args.upto && nat_lt s c.args.until) (get_or_read stamps leaf c.index.result.now (omega (arith, next.exists, c.requires.stamps_length)) c.index.ensures 0) in
+    let before = freed_count n c.args.until c.args.upto place stamps old_free olds free kept waiting k.sorts in
     elim c.if-is_due.branch [
-      | then-is_due+in-Ok w ↦
-          let step = looked c.args.until c.args.upto place (take place olds) c.index-one.result.now true count (sym w.if-is_due.true ∙ c.is_due.ensures) in
+      | then-is_due w ↦
+          let news = w.with_last-freed.new.links.items in
+          let puts = w.with_last-freed.ensures in
+          let sorts = sorts_freed n c.args.until c.args.upto place leaf stamps old_free olds free kept waiting rest (leaves_of news w.with_last-freed.result) (leaves_of news c.retired.kept) (leaves_of news c.without_last-waiting.result) k.sorts ends
+          (sym w.if-is_due.true ∙ test) puts.last (puts.others c.retired.kept next.lacks_kept) (puts.others c.without_last-waiting.result next.lacks_rest) in
+          let after = freed_count n c.args.until c.args.upto (place + 1) stamps old_free olds _ _ _ sorts in
+          let one = ap length puts.last ∙ length-append free (leaf ∷ []) in
           record {
-            free = rw w.free-is (w.in-Ok.ensures.items ∙ ap (λ fs. fs ++ c.index-one.result.now.leaf ∷ []) k.free ∙ append_assoc c.args.free.now.items _ _ ∙ ap (λ fs. c.args.free.now.items ++ fs) (sym step.freed ∙ ap (freed_so c.args.until c.args.upto) (sym seen)));
-            kept_are = rw (w.kept-is, w.retired-is) (k.kept_are ∙ sym (append_none _) ∙ sym step.kept ∙ ap (kept_so c.args.until c.args.upto) (sym seen));
-            rest = rw w.retired-is rest;
-            counted = omega (arith, w.count-is, k.counted, ap length (ap (freed_so c.args.until c.args.upto) seen ∙ step.freed), length-append (freed_so c.args.until c.args.upto (take place olds)) (c.index-one.result.now.leaf ∷ []));
-            fewer = omega (arith, w.kept-is, k.fewer);
+            sorts = rw (w.links-is, w.freed-is, w.kept-is) sorts;
+            waiting_count = omega (arith, k.waiting_count, c.without_last-waiting.ensures.count);
+            counted = omega (arith, w.count-is, k.counted, before, after, one);
             small = omega (arith, w.count-is, k.small);
-            same_length = rw w.retired-is k.same_length;
-            free_capacity = rw w.free-is (omega (arith, k.free_capacity, w.in-Ok.ensures.capacity));
-            retired_capacity = rw w.retired-is k.retired_capacity;
+            same_length = rw w.links-is (puts.same_length ∙ k.same_length);
           }
       | else-is_due w ↦
-          let step = looked c.args.until c.args.upto place (take place olds) c.index-one.result.now false count (sym w.if-is_due.false ∙ c.is_due.ensures) in
-          let within : c.retired.kept < length rs = omega (arith, lt, k.fewer) in
-          let next : c.retired.kept + 1 ≡ suc c.retired.kept = omega arith in
+          let news = w.with_last-kept.new.links.items in
+          let puts = w.with_last-kept.ensures in
+          let sorts = sorts_kept n c.args.until c.args.upto place leaf stamps old_free olds free kept waiting rest (leaves_of news c.retired.freed) (leaves_of news w.with_last-kept.result) (leaves_of news c.without_last-waiting.result) k.sorts ends
+          (sym w.if-is_due.false ∙ test) (puts.others c.retired.freed next.lacks_free) puts.last (puts.others c.without_last-waiting.result next.lacks_rest) in
+          let after = freed_count n c.args.until c.args.upto (place + 1) stamps old_free olds _ _ _ sorts in
+          let same = ap length (puts.others c.retired.freed next.lacks_free) in
           record {
-            free = rw w.free-is (k.free ∙ ap (λ fs. c.args.free.now.items ++ fs) (sym (append_none _) ∙ sym step.freed ∙ ap (freed_so c.args.until c.args.upto) (sym seen)));
-            kept_are = rw (w.kept-is, w.retired-is) (ap (λ n. take n (set rs c.retired.kept c.index-one.result.now)) next ∙ take-suc-set rs c.retired.kept c.index-one.result.now within ∙ ap (λ xs. xs ++ c.index-one.result.now ∷ []) k.kept_are ∙ sym step.kept ∙ ap (kept_so c.args.until c.args.upto) (sym seen));
-            rest = rw w.retired-is (drop-set-lt (place + 1) rs c.retired.kept c.index-one.result.now (omega (arith, k.fewer)) ∙ rest);
-            counted = omega (arith, w.count-is, k.counted, ap length (ap (freed_so c.args.until c.args.upto) seen ∙ step.freed ∙ append_none _));
-            fewer = omega (arith, w.kept-is, k.fewer);
+            sorts = rw (w.links-is, w.freed-is, w.kept-is) sorts;
+            waiting_count = omega (arith, k.waiting_count, c.without_last-waiting.ensures.count);
+            counted = omega (arith, w.count-is, k.counted, before, after, same);
             small = omega (arith, w.count-is, k.small);
-            same_length = rw w.retired-is (length-set rs c.retired.kept c.index-one.result.now ∙ k.same_length);
-            free_capacity = rw w.free-is k.free_capacity;
-            retired_capacity = rw w.retired-is k.retired_capacity;
+            same_length = rw w.links-is (puts.same_length ∙ k.same_length);
           }
     ]
+
+pub returns : goal.returns
+returns c =
+    let k = c.retired.invariant in
+    let links = c.args.links.now.items in
+    let stamps = c.args.stamps.now.items in
+    let old_free = leaves_of links c.args.free in
+    let olds = stamped stamps (leaves_of links c.args.retired) in
+    let news = c.retired.links.items in
+    let le : length olds ≤ c.retired.place = omega (arith, length_stamped stamps (leaves_of links c.args.retired), length_leaves links c.args.retired, c.retired-test.false) in
+    let all = all_sorted (length links) c.args.until c.args.upto c.retired.place stamps old_free olds (leaves_of news c.retired.freed) (leaves_of news c.retired.kept) (leaves_of news c.retired.waiting) k.sorts le in
+    record {
+      linked = record {
+        stamps_length = c.requires.stamps_length ∙ sym k.same_length;
+        few = omega (arith, c.requires.few, k.same_length);
+        once = subst (λ m. StandApart m (leaves_of news c.retired.freed) (leaves_of news c.retired.kept)) (sym k.same_length) all.apart;
+      };
+      freed = λ i. record { leaves = k.same_length i; free = all.free_is i; retired = all.kept_is i };
+      count = k.counted ∙ ap (λ rs. length (freed_so c.args.until c.args.upto rs)) (take_whole c.retired.place olds le);
+    }

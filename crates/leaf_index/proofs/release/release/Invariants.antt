@@ -1,17 +1,13 @@
-use Rattle.std.proofs.Common.{◌≡◌, ◌≤◌, ◌++◌, length, take, drop}
-use Rattle.std.specs.Vec.{vec_capacity}
-use Rattle.leaf_index.specs.Calls.{freed_of, kept_of}
+use Rattle.std.proofs.Common.{◌≡◌, ◌+◌, ◌≤◌, length, take}
+use Rattle.leaf_index.specs.Idle.{leaves_of, stamped}
+use Rattle.leaf_index.proofs.ReleaseLemmas.{Sorts, freed_so}
 use Rattle.leaf_index.proofs.release.release.Given as goal
 
 abbrev pub invariant-retired : goal.invariant-retired
 invariant-retired l = record {
-  free : l.free.items ≡ l.fn.free.items ++ freed_of l.until (take l.upto (take l.place l.fn.retired.items));
-  kept_are : take l.kept l.retired.items ≡ kept_of l.until (take l.upto (take l.place l.fn.retired.items)) ++ drop l.upto (take l.place l.fn.retired.items);
-  rest : drop l.place l.retired.items ≡ drop l.place l.fn.retired.items;
-  counted : l.count ≡ length (freed_of l.until (take l.upto (take l.place l.fn.retired.items)));
-  fewer : l.kept ≤ l.place;
+  sorts : Sorts (length l.fn.links.items) l.until l.upto l.place l.stamps.items (leaves_of l.fn.links.items l.fn.free) (stamped l.stamps.items (leaves_of l.fn.links.items l.fn.retired)) (leaves_of l.links.items l.freed) (leaves_of l.links.items l.kept) (leaves_of l.links.items l.waiting);
+  waiting_count : l.place + l.waiting.count ≡ l.fn.retired.count;
+  counted : l.count ≡ length (freed_so l.until l.upto (take l.place (stamped l.stamps.items (leaves_of l.fn.links.items l.fn.retired))));
   small : l.count ≤ l.place;
-  same_length : length l.retired.items ≡ length l.fn.retired.items;
-  free_capacity : vec_capacity l.fn.free ≤ vec_capacity l.free;
-  retired_capacity : vec_capacity l.fn.retired ≤ vec_capacity l.retired;
+  same_length : length l.links.items ≡ length l.fn.links.items;
 }
