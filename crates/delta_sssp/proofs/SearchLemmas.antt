@@ -1,5 +1,5 @@
 -- What a search keeps when an arc is followed, when a visit is made, and when a bucket is settled.
-use Rattle.std.proofs.Common.{◌≡◌, ℕ, zero, suc, ◌+◌, ◌*◌, ◌/◌, ◌<◌, ◌≤◌, ◌^◌, ◌⊎◌, inl, inr, ⊎_elim, List, [], ◌∷◌, ◌++◌, Bool, true, false, Option, None, Some, length, get_or, set, replicate, slice_get, refl, sym, ap, ◌∙◌, subst, arith}
+use Rattle.std.proofs.Common.{◌≡◌, ℕ, ◌+◌, ◌/◌, ◌<◌, ◌≤◌, ◌^◌, ⊎_elim, List, [], ◌∷◌, ◌++◌, Option, None, Some, length, set, replicate, slice_get, refl, sym, ap, ◌∙◌, subst, arith}
 use Rattle.std.specs.Prelude.{slice_index, sum_by, unwrap_or}
 use Rattle.std.specs.Ordering.{nat_cmp}
 use Rattle.std.specs.BTreeMap.{get}
@@ -8,7 +8,7 @@ use Rattle.std.proofs.lemmas.Nat.{le-div}
 use Rattle.std.proofs.lemmas.Bool.{cases_eq, cases_lt}
 use Rattle.std.proofs.lemmas.List.{length-append}
 use Rattle.std.proofs.lemmas.List.Sums.{sum_by-set}
-use Rattle.std.proofs.lemmas.Option.{same_Some, none-some, slice_get_within, slice_get-get_or, get_or_from_slice_get}
+use Rattle.std.proofs.lemmas.Option.{same_Some, none-some, slice_get_within}
 use Rattle.graph_model.specs.declared.limits.TheConstants.{MAX_WEIGHT}
 use Rattle.graph_image.specs.declared.edge.Arc.{Arc}
 use Rattle.graph_image.specs.Images.{Places, arcs_at}
@@ -17,13 +17,11 @@ use Rattle.kernel_sssp.specs.declared.search.TheConstants.{UNREACHED}
 use Rattle.kernel_sssp.specs.Search.{LinkOut, IsSearched, IsRelaxed}
 use Rattle.delta_sssp.specs.declared.buckets.Visit.{Visit}
 use Rattle.delta_sssp.specs.declared.buckets.Buckets.{Buckets}
-use Rattle.delta_sssp.specs.declared.search.Kind.{Kind}
-use Rattle.delta_sssp.specs.declared.search.Kind.TheVariants.{Light, Heavy}
 use Rattle.delta_sssp.specs.declared.search.Stage.{Stage}
 use Rattle.delta_sssp.specs.declared.search.Search.{Search}
 use Rattle.delta_sssp.specs.Buckets.{visits_in, HasNone, Puts, TakesFirst}
-use Rattle.delta_sssp.specs.Search.{IsOf, AreLightest, AreRelaxedTo, AreRelaxed, IsVisit, IsVisited, IsSearch, IsSearchOf, spread, IsStart, IsPut, IsLowered, Follows, Steps, Advances}
-use Rattle.delta_sssp.proofs.WeightLemmas.{zero_reached, at_root, at_other, weights_start, sum_fits, sum_reached, kept_relaxed, lowered, here, there, no_greater, p_other, stays, keeps_relaxed, now_relaxed, lowered_weights, weights_done}
+use Rattle.delta_sssp.specs.Search.{AreRelaxedTo, AreRelaxed, IsVisit, IsVisited, IsSearch, IsSearchOf, spread, IsStart, IsPut, IsLowered, Follows, Steps, Advances}
+use Rattle.delta_sssp.proofs.WeightLemmas.{zero_reached, at_root, at_other, weights_start, sum_fits, sum_reached, kept_relaxed, lowered, here, there, p_other, keeps_relaxed, now_relaxed, lowered_weights, weights_done}
 
 -- a greater distance is in no lower bucket
 pub bucket_rises : (x y width : ℕ) → 0 < width → x ≤ y → x / width ≤ y / width
@@ -73,8 +71,8 @@ module _ (image : Places) (stage : Stage) (ds : List ℕ) (visits : List Visit) 
   there_is : (r : ℕ) → (r ≡ a.other → ⊥) → slice_index new_ds r ≡ slice_index ds r
   there_is = there image stage.root ds is.weights p k a p_within p_reached at q_within light less
 
-  still_relaxed : (kind : Kind) (r : ℕ) → (r ≡ a.other → ⊥) → AreRelaxed kind image stage.width ds r → AreRelaxed kind image stage.width new_ds r
-  still_relaxed kind r other known j b at_j of = keeps_relaxed image stage.root ds is.weights p k a p_within p_reached at q_within light less r b other (known j b at_j of)
+  still_relaxed : (r : ℕ) → (r ≡ a.other → ⊥) → AreRelaxed image ds r → AreRelaxed image new_ds r
+  still_relaxed r other known j b at_j = keeps_relaxed image stage.root ds is.weights p k a p_within p_reached at q_within light less r b other (known j b at_j)
 
   -- the place's new bucket is the one at hand or a later one
   bucket_low : stage.bucket ≤ sum / stage.width
@@ -93,8 +91,7 @@ module _ (image : Places) (stage : Stage) (ds : List ℕ) (visits : List Visit) 
         (λ now. record {
           at = length visits;
           is = ap (λ l. slice_get l (length visits)) now.1 ∙ get_last visits (record { place = a.other; distance = sum }) ∙ ap Some (λ i. record { place = sym same i; distance = sym (ap (slice_index new_ds) same ∙ here_is) i });
-          light_done = λ below. absurd (let few = is.light_few in omega arith);
-          heavy_done = λ below. absurd (let few = is.light_few in let fewer = is.heavy_few in omega arith);
+          done = λ below. absurd (let few = is.made_few in omega arith);
         })
         (λ not_now. absurd (not_now.0 (sym (new_bucket r same) ∙ bucket)))
         put
@@ -116,14 +113,13 @@ module _ (image : Places) (stage : Stage) (ds : List ℕ) (visits : List Visit) 
     lowered_search = record {
       weights = lowered_weights image stage.root ds is.weights p k a p_within p_reached at q_within light less;
       wide = is.wide;
-      heavy_few = is.heavy_few;
-      light_few = ⊎_elim
-          (λ now. (let few = is.light_few in let l = ap length now.1 ∙ length-append visits (record { place = a.other; distance = sum } ∷ []) in omega arith))
-          (λ not_now. (let few = is.light_few in let l = ap length not_now.1 in omega arith))
+      made_few = ⊎_elim
+          (λ now. (let few = is.made_few in let l = ap length now.1 ∙ length-append visits (record { place = a.other; distance = sum } ∷ []) in omega arith))
+          (λ not_now. (let few = is.made_few in let l = ap length not_now.1 in omega arith))
           put;
-      settled = λ r kind within below. ⊎_elim
+      settled = λ r within below. ⊎_elim
           (λ same. absurd (let b = new_bucket r same in let low = bucket_low in omega arith))
-          (λ other. still_relaxed kind r other (is.settled r kind within (subst (λ d. d / stage.width < stage.bucket) (there_is r other) below)))
+          (λ other. still_relaxed r other (is.settled r within (subst (λ d. d / stage.width < stage.bucket) (there_is r other) below)))
           (cases_eq r a.other);
       here = λ r within reaches bucket. ⊎_elim
           (λ same. place_here r same bucket)
@@ -132,8 +128,7 @@ module _ (image : Places) (stage : Stage) (ds : List ℕ) (visits : List Visit) 
           record {
             at = before.at;
             is = put_stays stage.bucket (sum / stage.width) (record { place = a.other; distance = sum }) visits visits_new later later_new put before.at _ before.is ∙ ap (λ d. Some (record { place = r; distance = d })) (sym (there_is r other));
-            light_done = λ below. still_relaxed Light r other (before.light_done below);
-            heavy_done = λ below. still_relaxed Heavy r other (before.heavy_done below);
+            done = λ below. still_relaxed r other (before.done below);
           })
           (cases_eq r a.other);
       there = λ r within reaches bucket. ⊎_elim
@@ -183,25 +178,25 @@ module _ (image : Places) (stage : Stage) (ds : List ℕ) (visits : List Visit) 
 
 -- ---- the arcs of a visit so far
 
-pub record IsFollowing (image : Places) (kind : Kind) (visit : Visit) (i : ℕ) (old s : Search) : Type 0 where
+pub record IsFollowing (image : Places) (visit : Visit) (i : ℕ) (old s : Search) : Type 0 where
   pub search : IsSearchOf image s
   pub stage_is : s.stage ≡ old.stage
   pub here_is : slice_index s.distances.items visit.place ≡ visit.distance
-  pub relaxed : AreRelaxedTo i kind image s.stage.width s.distances.items visit.place
+  pub relaxed : AreRelaxedTo i image s.distances.items visit.place
   pub visits_stay : (k : ℕ) (v : Visit) → slice_get old.visits.items k ≡ Some v → slice_get s.visits.items k ≡ Some v
   pub no_more : spread s ≤ spread old
 
-pub following_start : (image : Places) (kind : Kind) (visit : Visit) (old : Search) → IsSearchOf image old → slice_index old.distances.items visit.place ≡ visit.distance → IsFollowing image kind visit 0 old old
-following_start image kind visit old is here_is = record {
+pub following_start : (image : Places) (visit : Visit) (old : Search) → IsSearchOf image old → slice_index old.distances.items visit.place ≡ visit.distance → IsFollowing image visit 0 old old
+following_start image visit old is here_is = record {
   search = is;
   stage_is = refl;
   here_is = here_is;
-  relaxed = λ k a below at of. absurd (omega arith);
+  relaxed = λ k a below at. absurd (omega arith);
   visits_stay = λ k v at. at;
   no_more = omega arith;
 }
 
-module _ (image : Places) (kind : Kind) (visit : Visit) (i : ℕ) (old s : Search) (so_far : IsFollowing image kind visit i old s) (right : IsVisit (length image.vertices) old.stage.width old.stage.bucket visit)
+module _ (image : Places) (visit : Visit) (i : ℕ) (old s : Search) (so_far : IsFollowing image visit i old s) (right : IsVisit (length image.vertices) old.stage.width old.stage.bucket visit)
     (a : Arc) (at : slice_get (arcs_at image.out visit.place) i ≡ Some a) (a_within : a.other < length image.vertices) (light : a.weight ≤ MAX_WEIGHT) where
   place_reached : slice_index s.distances.items visit.place ≡ UNREACHED → ⊥
   place_reached none = right.reached_is (sym so_far.here_is ∙ none)
@@ -215,25 +210,22 @@ module _ (image : Places) (kind : Kind) (visit : Visit) (i : ℕ) (old s : Searc
   same_arc : (k : ℕ) (b : Arc) → slice_get (arcs_at image.out visit.place) k ≡ Some b → k ≡ i → a ≡ b
   same_arc k b at_k now = same_Some a b (sym at ∙ ap (λ j. slice_get (arcs_at image.out visit.place) j) (sym now) ∙ at_k)
 
-  -- past an arc that is relaxed if it is of the kind
-  following_same : (IsOf kind s.stage.width a.weight → IsRelaxed s.distances.items visit.place a) → IsFollowing image kind visit (i + 1) old s
+  -- past an arc that is relaxed
+  following_same : IsRelaxed s.distances.items visit.place a → IsFollowing image visit (i + 1) old s
   following_same is = record {
     search = so_far.search;
     stage_is = so_far.stage_is;
     here_is = so_far.here_is;
-    relaxed = λ k b below at_k of. ⊎_elim
-        (λ earlier. so_far.relaxed k b earlier at_k of)
-        (λ now. let arc = same_arc k b at_k now in subst (IsRelaxed s.distances.items visit.place) arc (is (subst (λ (x : Arc). IsOf kind s.stage.width x.weight) (sym arc) of)))
+    relaxed = λ k b below at_k. ⊎_elim
+        (λ earlier. so_far.relaxed k b earlier at_k)
+        (λ now. subst (IsRelaxed s.distances.items visit.place) (same_arc k b at_k now) is)
         (below_cases k i below);
     visits_stay = so_far.visits_stay;
     no_more = so_far.no_more;
   }
 
-  pub following_other : (IsOf kind s.stage.width a.weight → ⊥) → IsFollowing image kind visit (i + 1) old s
-  following_other other = following_same (λ of. absurd (other of))
-
-  pub following_kept : slice_index s.distances.items a.other ≤ visit.distance + a.weight → IsFollowing image kind visit (i + 1) old s
-  following_kept le = following_same (λ _. kept_relaxed image s.stage.root s.distances.items so_far.search.weights visit.place i a right.place_is place_reached at a_within light
+  pub following_kept : slice_index s.distances.items a.other ≤ visit.distance + a.weight → IsFollowing image visit (i + 1) old s
+  following_kept le = following_same (kept_relaxed image s.stage.root s.distances.items so_far.search.weights visit.place i a right.place_is place_reached at a_within light
       (subst (λ d. slice_index s.distances.items a.other ≤ d + a.weight) (sym so_far.here_is) le))
 
   module _ (new : Search) (less : visit.distance + a.weight < slice_index s.distances.items a.other) (lowers : IsLowered a.other (visit.distance + a.weight) s new) where
@@ -246,15 +238,15 @@ module _ (image : Places) (kind : Kind) (visit : Visit) (i : ℕ) (old s : Searc
     distances_here : new.distances.items ≡ set s.distances.items a.other (slice_index s.distances.items visit.place + a.weight)
     distances_here = lowers.distances_are ∙ ap (λ d. set s.distances.items a.other (d + a.weight)) (sym so_far.here_is)
 
-    relaxed_now : AreRelaxedTo (i + 1) kind image s.stage.width (set s.distances.items a.other (slice_index s.distances.items visit.place + a.weight)) visit.place
-    relaxed_now k b below at_k of = ⊎_elim
+    relaxed_now : AreRelaxedTo (i + 1) image (set s.distances.items a.other (slice_index s.distances.items visit.place + a.weight)) visit.place
+    relaxed_now k b below at_k = ⊎_elim
         (λ earlier. keeps_relaxed image s.stage.root s.distances.items so_far.search.weights visit.place i a right.place_is place_reached at a_within light less_here visit.place b
-        (p_other image s.stage.root s.distances.items so_far.search.weights visit.place i a right.place_is place_reached at a_within light less_here) (so_far.relaxed k b earlier at_k of))
+        (p_other image s.stage.root s.distances.items so_far.search.weights visit.place i a right.place_is place_reached at a_within light less_here) (so_far.relaxed k b earlier at_k))
         (λ now. subst (IsRelaxed (set s.distances.items a.other (slice_index s.distances.items visit.place + a.weight)) visit.place) (same_arc k b at_k now)
         (now_relaxed image s.stage.root s.distances.items so_far.search.weights visit.place i a right.place_is place_reached at a_within light less_here))
         (below_cases k i below)
 
-    pub following_lowered : IsFollowing image kind visit (i + 1) old new
+    pub following_lowered : IsFollowing image visit (i + 1) old new
     following_lowered = record {
       search = subst (λ (t : Stage). IsSearch image t new.distances.items new.visits.items new.later) (sym lowers.stage_is)
           (subst (λ ds. IsSearch image s.stage ds new.visits.items new.later) (sym distances_here)
@@ -264,7 +256,7 @@ module _ (image : Places) (kind : Kind) (visit : Visit) (i : ℕ) (old s : Searc
           ∙ there image s.stage.root s.distances.items so_far.search.weights visit.place i a right.place_is place_reached at a_within light less_here visit.place
           (p_other image s.stage.root s.distances.items so_far.search.weights visit.place i a right.place_is place_reached at a_within light less_here)
           ∙ so_far.here_is;
-      relaxed = subst (λ (t : Stage). AreRelaxedTo (i + 1) kind image t.width new.distances.items visit.place) (sym lowers.stage_is) (subst (λ ds. AreRelaxedTo (i + 1) kind image s.stage.width ds visit.place) (sym distances_here) relaxed_now);
+      relaxed = subst (λ ds. AreRelaxedTo (i + 1) image ds visit.place) (sym distances_here) relaxed_now;
       visits_stay = λ k v at_k. put_stays s.stage.bucket _ _ s.visits.items new.visits.items s.later new.later put_here k v (so_far.visits_stay k v at_k);
       no_more = (let d = ap (sum_by (λ x. x)) distances_here in
           let l = lowered_spread image s.stage s.distances.items s.visits.items s.later so_far.search visit.place i a right.place_is place_reached place_bucket at a_within light less_here new.visits.items new.later put_here in
@@ -272,18 +264,18 @@ module _ (image : Places) (kind : Kind) (visit : Visit) (i : ℕ) (old s : Searc
     }
 
 -- past all arcs
-pub followed : (image : Places) (kind : Kind) (visit : Visit) (i : ℕ) (old s : Search) → IsFollowing image kind visit i old s → length (arcs_at image.out visit.place) ≤ i → Follows image kind visit old s
-followed image kind visit i old s so_far all = record {
+pub followed : (image : Places) (visit : Visit) (i : ℕ) (old s : Search) → IsFollowing image visit i old s → length (arcs_at image.out visit.place) ≤ i → Follows image visit old s
+followed image visit i old s so_far all = record {
   search = so_far.search;
   stage_is = so_far.stage_is;
-  relaxed = λ same k a at of. so_far.relaxed k a (let below = slice_get_within (arcs_at image.out visit.place) k a at in omega arith) at of;
+  relaxed = λ same k a at. so_far.relaxed k a (let below = slice_get_within (arcs_at image.out visit.place) k a at in omega arith) at;
   visits_stay = so_far.visits_stay;
   no_more = so_far.no_more;
 }
 
 -- a visit that doesn't count
-pub not_followed : (image : Places) (kind : Kind) (visit : Visit) (old : Search) → IsSearchOf image old → (slice_index old.distances.items visit.place ≡ visit.distance → ⊥) → Follows image kind visit old old
-not_followed image kind visit old is other = record {
+pub not_followed : (image : Places) (visit : Visit) (old : Search) → IsSearchOf image old → (slice_index old.distances.items visit.place ≡ visit.distance → ⊥) → Follows image visit old old
+not_followed image visit old is other = record {
   search = is;
   stage_is = refl;
   relaxed = λ same. absurd (other same);
@@ -291,83 +283,36 @@ not_followed image kind visit old is other = record {
   no_more = omega arith;
 }
 
--- one weight more
-pub lightest_more : (image : Places) (n : ℕ) (lightest : List ℕ) (weight : ℕ) → AreLightest image n lightest → ((k : ℕ) (a : Arc) → slice_get (arcs_at image.out n) k ≡ Some a → weight ≤ a.weight) → AreLightest image (n + 1) (lightest ++ weight ∷ [])
-lightest_more image n lightest weight are low = record {
-  count = length-append lightest (weight ∷ []) ∙ (let c = are.count in let e : length lightest + 1 ≡ n + 1 = omega arith in e);
-  each = λ p k a below at. ⊎_elim
-      (λ earlier. subst (λ w. w ≤ a.weight) (sym (get_or_from_slice_get (lightest ++ weight ∷ []) p (slice_index lightest p) 0 (get_pushed lightest weight p (slice_index lightest p) (slice_get-get_or lightest p 0 (let c = are.count in omega arith))))) (are.each p k a earlier at))
-      (λ now. subst (λ w. w ≤ a.weight) (sym (get_or_from_slice_get (lightest ++ weight ∷ []) p weight 0 (ap (slice_get (lightest ++ weight ∷ [])) (now ∙ sym are.count) ∙ get_last lightest weight))) (low k a (ap (λ q. slice_get (arcs_at image.out q) k) (sym now) ∙ at)))
-      (below_cases p n below);
-}
-
 -- ---- one visit more
 
-module _ (image : Places) (visit : Visit) (old mid : Search) (kind : Kind) (follows : Follows image kind visit old mid) where
+module _ (image : Places) (visit : Visit) (old mid : Search) (follows : Follows image visit old mid) where
   -- a place that is visited by this visit has its arcs relaxed
-  relaxed_by : (n p : ℕ) → slice_get old.visits.items n ≡ Some visit → slice_get mid.visits.items n ≡ Some (record { place = p; distance = slice_index mid.distances.items p }) → AreRelaxed kind image mid.stage.width mid.distances.items p
+  relaxed_by : (n p : ℕ) → slice_get old.visits.items n ≡ Some visit → slice_get mid.visits.items n ≡ Some (record { place = p; distance = slice_index mid.distances.items p }) → AreRelaxed image mid.distances.items p
   relaxed_by n p at is =
       let same : visit ≡ record { place = p; distance = slice_index mid.distances.items p } = same_Some visit (record { place = p; distance = slice_index mid.distances.items p }) (sym (follows.visits_stay n visit at) ∙ is) in
       let place : visit.place ≡ p = ap (λ (v : Visit). v.place) same in
       let distance : visit.distance ≡ slice_index mid.distances.items p = ap (λ (v : Visit). v.distance) same in
-      subst (AreRelaxed kind image mid.stage.width mid.distances.items) place (follows.relaxed (ap (slice_index mid.distances.items) place ∙ sym distance))
+      subst (AreRelaxed image mid.distances.items) place (follows.relaxed (ap (slice_index mid.distances.items) place ∙ sym distance))
 
-pub stepped_light : (image : Places) (visit : Visit) (old mid : Search) → slice_get old.visits.items old.stage.light ≡ Some visit → Follows image Light visit old mid → Steps image old (record mid { stage = record mid.stage { light = mid.stage.light + 1 } })
-stepped_light image visit old mid at follows =
+pub stepped : (image : Places) (visit : Visit) (old mid : Search) → slice_get old.visits.items old.stage.made ≡ Some visit → Follows image visit old mid → Steps image old (record mid { stage = record mid.stage { made = mid.stage.made + 1 } })
+stepped image visit old mid at follows =
     let is = follows.search in
     let stage = follows.stage_is in
-    let light_is : mid.stage.light ≡ old.stage.light = ap (λ (t : Stage). t.light) stage in
-    let heavy_is : mid.stage.heavy ≡ old.stage.heavy = ap (λ (t : Stage). t.heavy) stage in
-    let below = slice_get_within mid.visits.items old.stage.light visit (follows.visits_stay old.stage.light visit at) in
+    let made_is : mid.stage.made ≡ old.stage.made = ap (λ (t : Stage). t.made) stage in
+    let below = slice_get_within mid.visits.items old.stage.made visit (follows.visits_stay old.stage.made visit at) in
     record {
       search = record {
         weights = is.weights;
         wide = is.wide;
-        heavy_few = (let few = is.heavy_few in omega arith);
-        light_few = omega arith;
+        made_few = omega arith;
         settled = is.settled;
         here = λ p within reaches bucket. (let v = is.here p within reaches bucket in record {
           at = v.at;
           is = v.is;
-          light_done = λ low. ⊎_elim
-              (λ earlier. v.light_done earlier)
-              (λ now. relaxed_by image visit old mid Light follows v.at p (ap (slice_get old.visits.items) (now ∙ light_is) ∙ at) v.is)
-              (below_cases v.at mid.stage.light low);
-          heavy_done = v.heavy_done;
-        });
-        there = is.there;
-        above = is.above;
-        visits_right = is.visits_right;
-        later_right = is.later_right;
-      };
-      root_is = ap (λ (t : Stage). t.root) stage;
-      bucket_is = ap (λ (t : Stage). t.bucket) stage;
-      nearer = (let m = follows.no_more in omega arith);
-    }
-
-pub stepped_heavy : (image : Places) (visit : Visit) (old mid : Search) → slice_get old.visits.items old.stage.heavy ≡ Some visit → length old.visits.items ≤ old.stage.light → Follows image Heavy visit old mid
-    → Steps image old (record mid { stage = record mid.stage { heavy = mid.stage.heavy + 1 } })
-stepped_heavy image visit old mid at all follows =
-    let is = follows.search in
-    let stage = follows.stage_is in
-    let light_is : mid.stage.light ≡ old.stage.light = ap (λ (t : Stage). t.light) stage in
-    let heavy_is : mid.stage.heavy ≡ old.stage.heavy = ap (λ (t : Stage). t.heavy) stage in
-    let below = slice_get_within old.visits.items old.stage.heavy visit at in
-    record {
-      search = record {
-        weights = is.weights;
-        wide = is.wide;
-        heavy_few = omega arith;
-        light_few = is.light_few;
-        settled = is.settled;
-        here = λ p within reaches bucket. (let v = is.here p within reaches bucket in record {
-          at = v.at;
-          is = v.is;
-          light_done = v.light_done;
-          heavy_done = λ low. ⊎_elim
-              (λ earlier. v.heavy_done earlier)
-              (λ now. relaxed_by image visit old mid Heavy follows v.at p (ap (slice_get old.visits.items) (now ∙ heavy_is) ∙ at) v.is)
-              (below_cases v.at mid.stage.heavy low);
+          done = λ low. ⊎_elim
+              (λ earlier. v.done earlier)
+              (λ now. relaxed_by image visit old mid follows v.at p (ap (slice_get old.visits.items) (now ∙ made_is) ∙ at) v.is)
+              (below_cases v.at mid.stage.made low);
         });
         there = is.there;
         above = is.above;
@@ -386,18 +331,17 @@ in_use : (buckets : Buckets) (x k : ℕ) (v : Visit) (list : Option (List Visit)
 in_use buckets x k v None none at = absurd (none-some v (ap (λ o. slice_get (unwrap_or o []) k) (sym none) ∙ at))
 in_use buckets x k v (Some list) some at = (list, some)
 
-module _ (image : Places) (stage : Stage) (ds : List ℕ) (visits : List Visit) (later : Buckets) (is : IsSearch image stage ds visits later) (all : length visits ≤ stage.heavy) where
+module _ (image : Places) (stage : Stage) (ds : List ℕ) (visits : List Visit) (later : Buckets) (is : IsSearch image stage ds visits later) (all : length visits ≤ stage.made) where
   -- the arcs out of places below all later buckets are relaxed
-  pub relaxed_below : (bound : ℕ) → ((x : ℕ) (list : List Visit) → get nat_cmp later.lists x ≡ Some list → bound ≤ x) → (p : ℕ) (kind : Kind) → p < length image.vertices → slice_index ds p / stage.width < bound → AreRelaxed kind image stage.width ds p
-  relaxed_below bound least p kind within low k a at of is_reached =
+  pub relaxed_below : (bound : ℕ) → ((x : ℕ) (list : List Visit) → get nat_cmp later.lists x ≡ Some list → bound ≤ x) → (p : ℕ) → p < length image.vertices → slice_index ds p / stage.width < bound → AreRelaxed image ds p
+  relaxed_below bound least p within low k a at is_reached =
       ⊎_elim
-      (λ before. is.settled p kind within before k a at of is_reached)
+      (λ before. is.settled p within before k a at is_reached)
       (λ not_before. ⊎_elim
       (λ same.
       let v = is.here p within is_reached same in
       let below = slice_get_within visits v.at _ v.is in
-      let few = is.heavy_few in
-      by_kind kind v (omega arith) (omega arith) of)
+      v.done (omega arith) k a at is_reached)
       (λ other.
       let after = is.there p within is_reached (omega arith) in
       let used = in_use later (slice_index ds p / stage.width) after.0 _ (get nat_cmp later.lists (slice_index ds p / stage.width)) refl after.1 in
@@ -405,19 +349,11 @@ module _ (image : Places) (stage : Stage) (ds : List ℕ) (visits : List Visit) 
       absurd (omega arith))
       (cases_eq (slice_index ds p / stage.width) stage.bucket))
       (cases_lt (slice_index ds p / stage.width) stage.bucket)
-    where
-      by_kind : (some_kind : Kind) (v : IsVisited image stage ds visits p) → v.at < stage.light → v.at < stage.heavy → IsOf some_kind stage.width a.weight → (slice_index ds a.other ≡ UNREACHED → ⊥) × (slice_index ds a.other ≤ slice_index ds p + a.weight)
-      by_kind Light v light heavy of_kind = v.light_done light k a at of_kind is_reached
-      by_kind Heavy v light heavy of_kind = v.heavy_done heavy k a at of_kind is_reached
 
   -- with no later bucket, all is done
   pub search_done : HasNone later → IsSearched (LinkOut image) stage.root (length image.vertices) ds
-  search_done none = weights_done image stage.root ds is.weights (λ p k a within at.
-      let below = relaxed_below (slice_index ds p / stage.width + 1) (λ x list some. absurd (none-some list (sym (none x) ∙ some))) p in
-      ⊎_elim
-      (λ heavy. below Heavy within (omega arith) k a at heavy)
-      (λ light. below Light within (omega arith) k a at light)
-      (cases_lt stage.width a.weight))
+  search_done none = weights_done image stage.root ds is.weights
+      (λ p k a within at. relaxed_below (slice_index ds p / stage.width + 1) (λ x list some. absurd (none-some list (sym (none x) ∙ some))) p within (omega arith) k a at)
 
   module _ (bucket : ℕ) (visits_new : List Visit) (later_new : Buckets) (takes : TakesFirst bucket visits_new later later_new) where
     rises : stage.bucket < bucket
@@ -429,18 +365,16 @@ module _ (image : Places) (stage : Stage) (ds : List ℕ) (visits : List Visit) 
     others_stay : (x : ℕ) → (x ≡ bucket → ⊥) → visits_in later_new x ≡ visits_in later x
     others_stay x other = ap (λ o. unwrap_or o []) (takes.others x other)
 
-    pub next_search : IsSearch image (record stage { bucket = bucket; light = 0; heavy = 0 }) ds visits_new later_new
+    pub next_search : IsSearch image (record stage { bucket = bucket; made = 0 }) ds visits_new later_new
     next_search = record {
       weights = is.weights;
       wide = is.wide;
-      heavy_few = omega arith;
-      light_few = omega arith;
-      settled = λ p kind within low. relaxed_below bucket takes.least p kind within low;
+      made_few = omega arith;
+      settled = λ p within low. relaxed_below bucket takes.least p within low;
       here = λ p within reaches same. (let before = is.there p within reaches (let r = rises in omega arith) in record {
         at = before.0;
         is = ap (λ l. slice_get l before.0) (sym taken ∙ ap (visits_in later) (sym same)) ∙ before.1;
-        light_done = λ low. absurd (omega arith);
-        heavy_done = λ low. absurd (omega arith);
+        done = λ low. absurd (omega arith);
       });
       there = λ p within reaches high.
           let before = is.there p within reaches (let r = rises in omega arith) in
@@ -457,9 +391,9 @@ module _ (image : Places) (stage : Stage) (ds : List ℕ) (visits : List Visit) 
     }
 
 -- after the first of the later buckets is at hand
-pub advanced : (image : Places) (old new : Search) → IsSearchOf image old → length old.visits.items ≤ old.stage.heavy → Advances old new → IsSearchOf image new
+pub advanced : (image : Places) (old new : Search) → IsSearchOf image old → length old.visits.items ≤ old.stage.made → Advances old new → IsSearchOf image new
 advanced image old new is all next = subst (λ (t : Stage). IsSearch image t new.distances.items new.visits.items new.later) (sym next.stage_is)
-    (subst (λ ds. IsSearch image (record old.stage { bucket = new.stage.bucket; light = 0; heavy = 0 }) ds new.visits.items new.later) (sym next.distances_are)
+    (subst (λ ds. IsSearch image (record old.stage { bucket = new.stage.bucket; made = 0 }) ds new.visits.items new.later) (sym next.distances_are)
     (next_search image old.stage old.distances.items old.visits.items old.later is all new.stage.bucket new.visits.items new.later next.takes))
 
 -- and that is a higher one
@@ -475,22 +409,20 @@ zero_bucket : (width d : ℕ) → d ≡ 0 → d / width ≡ 0
 zero_bucket width d zero_is = (let low = div-le_self d width in omega arith)
 
 begun : (image : Places) (root width : ℕ) (later : Buckets) → length image.vertices < 2 ^ 32 → root < length image.vertices → 0 < width → HasNone later
-    → IsSearch image (record { root = root; width = width; bucket = 0; light = 0; heavy = 0 }) (set (replicate (length image.vertices) UNREACHED) root 0) (record { place = root; distance = 0 } ∷ []) later
+    → IsSearch image (record { root = root; width = width; bucket = 0; made = 0 }) (set (replicate (length image.vertices) UNREACHED) root 0) (record { place = root; distance = 0 } ∷ []) later
 begun image root width later few below wide none =
     let n = length image.vertices in
     let ds = set (replicate n UNREACHED) root 0 in
     record {
       weights = weights_start image root few below;
       wide = wide;
-      heavy_few = omega arith;
-      light_few = omega arith;
-      settled = λ p kind within low. absurd (omega arith);
+      made_few = omega arith;
+      settled = λ p within low. absurd (omega arith);
       here = λ p within reaches bucket. ⊎_elim
           (λ same. record {
             at = 0;
             is = ap Some (λ i. record { place = sym same i; distance = sym (ap (slice_index ds) same ∙ at_root n root below) i });
-            light_done = λ low. absurd (omega arith);
-            heavy_done = λ low. absurd (omega arith);
+            done = λ low. absurd (omega arith);
           })
           (λ other. absurd (reaches (at_other n root below p within other)))
           (cases_eq p root);
@@ -505,6 +437,6 @@ begun image root width later few below wide none =
 
 pub started : (image : Places) (root width : ℕ) (s : Search) → length image.vertices < 2 ^ 32 → root < length image.vertices → 0 < width → IsStart (length image.vertices) root width s → IsSearchOf image s
 started image root width s few below wide start = subst (λ (t : Stage). IsSearch image t s.distances.items s.visits.items s.later) (sym start.stage_is)
-    (subst (λ ds. IsSearch image (record { root = root; width = width; bucket = 0; light = 0; heavy = 0 }) ds s.visits.items s.later) (sym start.distances_are)
-    (subst (λ vs. IsSearch image (record { root = root; width = width; bucket = 0; light = 0; heavy = 0 }) (set (replicate (length image.vertices) UNREACHED) root 0) vs s.later) (sym start.visits_are)
+    (subst (λ ds. IsSearch image (record { root = root; width = width; bucket = 0; made = 0 }) ds s.visits.items s.later) (sym start.distances_are)
+    (subst (λ vs. IsSearch image (record { root = root; width = width; bucket = 0; made = 0 }) (set (replicate (length image.vertices) UNREACHED) root 0) vs s.later) (sym start.visits_are)
     (begun image root width s.later few below wide start.later_none)))

@@ -10,8 +10,6 @@ use Rattle.kernel_sssp.specs.declared.search.TheConstants.{UNREACHED}
 use Rattle.kernel_sssp.specs.Search.{LinkOut, IsRelaxed, reached}
 use Rattle.delta_sssp.specs.declared.buckets.Visit.{Visit}
 use Rattle.delta_sssp.specs.declared.buckets.Buckets.{Buckets}
-use Rattle.delta_sssp.specs.declared.search.Kind.{Kind}
-use Rattle.delta_sssp.specs.declared.search.Kind.TheVariants.{Light, Heavy}
 use Rattle.delta_sssp.specs.declared.search.Stage.{Stage}
 use Rattle.delta_sssp.specs.declared.search.Search.{Search}
 use Rattle.delta_sssp.specs.Buckets.{visits_in, Puts, TakesFirst}
@@ -26,26 +24,14 @@ pub record AreWeights (image : Places) (root : ℕ) (distances : List ℕ) : Typ
   pub bound : (p : ℕ) → p < length image.vertices → (slice_index distances p ≡ UNREACHED → ⊥)
       → slice_index distances p + MAX_WEIGHT ≤ reached distances * MAX_WEIGHT
 
--- an arc of this weight is of this kind
-abbrev pub IsOf : Kind → ℕ → ℕ → Type 0
-IsOf Light width weight = weight ≤ width
-IsOf Heavy width weight = width < weight
-
--- the arcs of this kind out of the place, up to the n-th, lead nowhere at a lesser distance than what is known
-abbrev pub AreRelaxedTo : ℕ → Kind → Places → ℕ → List ℕ → ℕ → Type 0
-AreRelaxedTo n kind image width distances p = (k : ℕ) (a : Arc) → k < n → slice_get (arcs_at image.out p) k ≡ Some a
-    → IsOf kind width a.weight → IsRelaxed distances p a
+-- the arcs out of the place, up to the n-th, lead nowhere at a lesser distance than what is known
+abbrev pub AreRelaxedTo : ℕ → Places → List ℕ → ℕ → Type 0
+AreRelaxedTo n image distances p = (k : ℕ) (a : Arc) → k < n → slice_get (arcs_at image.out p) k ≡ Some a
+    → IsRelaxed distances p a
 
 -- all of them
-abbrev pub AreRelaxed : Kind → Places → ℕ → List ℕ → ℕ → Type 0
-AreRelaxed kind image width distances p = (k : ℕ) (a : Arc) → slice_get (arcs_at image.out p) k ≡ Some a
-    → IsOf kind width a.weight → IsRelaxed distances p a
-
--- for each of the first n places a weight that no arc out of it is below
-pub record AreLightest (image : Places) (n : ℕ) (lightest : List ℕ) : Type 0 where
-  pub count : length lightest ≡ n
-  pub each : (p k : ℕ) (a : Arc) → p < n → slice_get (arcs_at image.out p) k ≡ Some a
-      → slice_index lightest p ≤ a.weight
+abbrev pub AreRelaxed : Places → List ℕ → ℕ → Type 0
+AreRelaxed image distances p = (k : ℕ) (a : Arc) → slice_get (arcs_at image.out p) k ≡ Some a → IsRelaxed distances p a
 
 -- a visit of one of the first n places, at a distance that is of the bucket
 pub record IsVisit (n width bucket : ℕ) (visit : Visit) : Type 0 where
@@ -53,12 +39,11 @@ pub record IsVisit (n width bucket : ℕ) (visit : Visit) : Type 0 where
   pub bucket_is : visit.distance / width ≡ bucket
   pub reached_is : visit.distance ≡ UNREACHED → ⊥
 
--- the place is among the visits, with its distance; its arcs are relaxed as far as the visits were made
+-- the place is among the visits, with its distance; its arcs are relaxed if that visit was made
 pub record IsVisited (image : Places) (stage : Stage) (distances : List ℕ) (visits : List Visit) (p : ℕ) : Type 0 where
   pub at : ℕ
   pub is : slice_get visits at ≡ Some (record { place = p; distance = slice_index distances p })
-  pub light_done : at < stage.light → AreRelaxed Light image stage.width distances p
-  pub heavy_done : at < stage.heavy → AreRelaxed Heavy image stage.width distances p
+  pub done : at < stage.made → AreRelaxed image distances p
 
 -- Settled up to the bucket: the arcs out of places of lower buckets are relaxed, the places of the bucket
 -- are among its visits, and those of higher ones in their buckets.
@@ -66,10 +51,9 @@ pub record IsSearch (image : Places) (stage : Stage) (distances : List ℕ) (vis
     : Type 0 where
   pub weights : AreWeights image stage.root distances
   pub wide : 0 < stage.width
-  pub heavy_few : stage.heavy ≤ stage.light
-  pub light_few : stage.light ≤ length visits
-  pub settled : (p : ℕ) (kind : Kind) → p < length image.vertices → slice_index distances p / stage.width < stage.bucket
-      → AreRelaxed kind image stage.width distances p
+  pub made_few : stage.made ≤ length visits
+  pub settled : (p : ℕ) → p < length image.vertices → slice_index distances p / stage.width < stage.bucket
+      → AreRelaxed image distances p
   pub here : (p : ℕ) → p < length image.vertices → (slice_index distances p ≡ UNREACHED → ⊥)
       → slice_index distances p / stage.width ≡ stage.bucket → IsVisited image stage distances visits p
   pub there : (p : ℕ) → p < length image.vertices → (slice_index distances p ≡ UNREACHED → ⊥)
@@ -93,7 +77,7 @@ spread s = sum_by (λ d. d) s.distances.items + length s.visits.items
 
 -- just the root is reached, and is to be visited
 pub record IsStart (n root width : ℕ) (s : Search) : Type 0 where
-  pub stage_is : s.stage ≡ record { root = root; width = width; bucket = 0; light = 0; heavy = 0 }
+  pub stage_is : s.stage ≡ record { root = root; width = width; bucket = 0; made = 0 }
   pub distances_are : s.distances.items ≡ slice_set (replicate n UNREACHED) root 0
   pub visits_are : s.visits.items ≡ record { place = root; distance = 0 } ∷ []
   pub later_none : (x : ℕ) → get nat_cmp s.later.lists x ≡ None
@@ -111,12 +95,12 @@ pub record IsLowered (place distance : ℕ) (old new : Search) : Type 0 where
   pub put : IsPut (distance / old.stage.width) old.stage.bucket (record { place = place; distance = distance })
       old.visits.items old.later new.visits.items new.later
 
--- the arcs of this kind are followed where the visit counts; visits come behind those that were there
-pub record Follows (image : Places) (kind : Kind) (visit : Visit) (old new : Search) : Type 0 where
+-- the arcs are followed where the visit counts; visits come behind those that were there
+pub record Follows (image : Places) (visit : Visit) (old new : Search) : Type 0 where
   pub search : IsSearchOf image new
   pub stage_is : new.stage ≡ old.stage
   pub relaxed : slice_index new.distances.items visit.place ≡ visit.distance
-      → AreRelaxed kind image new.stage.width new.distances.items visit.place
+      → AreRelaxed image new.distances.items visit.place
   pub visits_stay : (k : ℕ) (v : Visit) → slice_get old.visits.items k ≡ Some v → slice_get new.visits.items k ≡ Some v
   pub no_more : spread new ≤ spread old
 
@@ -125,18 +109,18 @@ pub record Steps (image : Places) (old new : Search) : Type 0 where
   pub search : IsSearchOf image new
   pub root_is : new.stage.root ≡ old.stage.root
   pub bucket_is : new.stage.bucket ≡ old.stage.bucket
-  pub nearer : 2 * spread new + old.stage.light + old.stage.heavy < 2 * spread old + new.stage.light + new.stage.heavy
+  pub nearer : spread new + old.stage.made < spread old + new.stage.made
 
 -- all visits of the bucket are made
 pub record Settles (image : Places) (old new : Search) : Type 0 where
   pub search : IsSearchOf image new
   pub root_is : new.stage.root ≡ old.stage.root
   pub bucket_is : new.stage.bucket ≡ old.stage.bucket
-  pub all : length new.visits.items ≤ new.stage.heavy
+  pub all : length new.visits.items ≤ new.stage.made
 
 -- the first of the later buckets is at hand, and none of its visits is made
 pub record Advances (old new : Search) : Type 0 where
-  pub stage_is : new.stage ≡ record old.stage { bucket = new.stage.bucket; light = 0; heavy = 0 }
+  pub stage_is : new.stage ≡ record old.stage { bucket = new.stage.bucket; made = 0 }
   pub bucket_small : new.stage.bucket < 2 ^ 64
   pub distances_are : new.distances.items ≡ old.distances.items
   pub takes : TakesFirst new.stage.bucket new.visits.items old.later new.later

@@ -8,7 +8,6 @@ ghost use Rattle.graph_image.specs.Images.{IsImageOf};
 ghost use Rattle.graph_image.specs.Building.{AreStorable, AreEnded};
 ghost use Rattle.kernel_sssp.specs.Search.{LinkOut, IsSearched};
 
-use crate::lightest::lightest_of;
 use crate::search::Search;
 use graph_image::{Image, KernelRefusal, NoMemory, Table};
 use kernel_sssp::table_by;
@@ -50,16 +49,16 @@ fn least_weights(
     ensures { IfOk result (λ distances.
         IsSearched (LinkOut image.now) root (length image.now.vertices) distances.items) }
 {
-    let lightest = lightest_of(alloc, image)?;
     let mut search = Search::new(alloc, image.len(), root, width)?;
     'buckets: loop {
-        search.settle(image, &lightest)?;
+        search.settle(image)?;
         if !search.advance() {
             let Search {
                 stage: _,
                 distances,
                 visits: _,
                 later: _,
+                ahead: _,
             } = search;
             return Ok(distances);
         }

@@ -1,22 +1,15 @@
 //! The search, bucket by bucket.
 
-ghost use Rattle.std.specs.Prelude.{◌≡◌, ℕ, ◌+◌, ◌<◌, ◌≤◌, ◌^◌, false, length, slice_get, Some, IsTrue, IfOk, OnOk};
-ghost use Rattle.delta_sssp.specs.Search.{IsSearchOf, IsVisit, IsStart, IsLowered, Follows, Steps, Settles, Advances, IsOf, AreLightest, spread};
+ghost use Rattle.std.specs.Prelude.{◌≡◌, ◌<◌, ◌^◌, false, length, slice_get, Some, IsTrue, IfOk, OnOk};
+ghost use Rattle.delta_sssp.specs.Search.{IsSearchOf, IsVisit, IsStart, IsLowered};
+ghost use Rattle.delta_sssp.specs.Search.{Follows, Steps, Settles, Advances, spread};
 ghost use Rattle.delta_sssp.specs.Buckets.{HasNone};
 
+use crate::ahead::{AHEAD, Ahead, FEW, sum_ahead};
 use crate::buckets::{Buckets, Visit};
 use graph_image::{Arc, Image, NoMemory};
 use kernel_sssp::UNREACHED;
 use std::alloc::Global;
-
-/// Arcs by their weight.
-#[derive(Clone, Copy)]
-pub enum Kind {
-    /// At most as heavy as a bucket is wide.
-    Light,
-    /// Heavier: such an arc leads out of the bucket.
-    Heavy,
-}
 
 /// How far the search has come.
 #[derive(Clone, Copy)]
@@ -27,10 +20,8 @@ pub struct Stage {
     pub width: u32,
     /// The number of the bucket at hand.
     pub bucket: u64,
-    /// How many of its visits have had their light arcs followed.
-    pub light: usize,
-    /// How many have had their heavy arcs followed.
-    pub heavy: usize,
+    /// How many of its visits are made.
+    pub made: usize,
 }
 
 /// What is known of the weights.
@@ -43,6 +34,8 @@ pub struct Search {
     pub visits: Vec<Visit>,
     /// The buckets behind it.
     pub later: Buckets,
+    /// For which visits of the bucket at hand it was read ahead.
+    pub ahead: Ahead,
 }
 
 impl Search {
@@ -63,25 +56,25 @@ impl Search {
             root,
             width,
             bucket: 0,
-            light: 0,
-            heavy: 0,
+            made: 0,
         };
         Ok(Search {
             stage,
             distances,
             visits,
             later: Buckets::new(alloc),
+            ahead: Ahead { until: 0, sum: 0 },
         })
     }
 
     /// Settles the bucket: all arcs out of its places are followed.
-    pub fn settle(&mut self, image: &Image, lightest: &Vec<u32>) -> Result<(), NoMemory>
-        requires search { IsSearchOf image.now self.old }
-        requires lightest { AreLightest image.now (length image.now.vertices) lightest.now.items }
+    pub fn settle(&mut self, image: &Image) -> Result<(), NoMemory>
+        requires { IsSearchOf image.now self.old }
         ensures { OnOk result (Settles image.now self.old self.new) }
     {
-        'visits: while self.stage.heavy < self.visits.len() {
-            self.step(image, lightest)?;
+        'visits: while self.stage.made < self.visits.len() {
+            self.read_ahead(image);
+            self.step(image)?;
         }
         Ok(())
     }
@@ -96,78 +89,68 @@ impl Search {
         };
         self.stage = Stage {
             bucket,
-            light: 0,
-            heavy: 0,
+            made: 0,
             ..self.stage
         };
         self.visits = visits;
+        self.ahead.until = 0;
         true
     }
 
-    /// Follows the light arcs of the next visit; or, where none is left, the heavy arcs of the next.
-    fn step(&mut self, image: &Image, lightest: &Vec<u32>) -> Result<(), NoMemory>
-        requires search { IsSearchOf image.now self.old }
-        requires lightest { AreLightest image.now (length image.now.vertices) lightest.now.items }
-        requires left { self.old.stage.heavy < length self.old.visits.items }
-        ensures { OnOk result (Steps image.now self.old self.new) }
+    /// Reads ahead for the next visits, unless that was done.
+    fn read_ahead(&mut self, image: &Image)
+        ensures { self.new ≡ record self.old { ahead = self.new.ahead } }
     {
-        if self.stage.light < self.visits.len() {
-            let visit = self.visits[self.stage.light];
-            self.visit_light(image, lightest, visit)?;
-            self.stage.light += 1;
-        } else {
-            let visit = self.visits[self.stage.heavy];
-            self.visit(image, Kind::Heavy, visit)?;
-            self.stage.heavy += 1;
+        let made = self.stage.made;
+        if made < self.ahead.until {
+            return;
         }
-        Ok(())
+        let end = self.visits.len().min(made.saturating_add(AHEAD));
+        self.ahead.until = end;
+        if end.saturating_sub(made) >= FEW {
+            let next = self.visits.as_slice().get(made..end).unwrap_or(&[]);
+            let sum = sum_ahead(image, self.distances.as_slice(), next);
+            self.ahead.sum = self.ahead.sum.wrapping_add(sum);
+        }
     }
 
-    /// Follows the light arcs of a visit, if it still counts and there are any.
-    fn visit_light(
-        &mut self,
-        image: &Image,
-        lightest: &Vec<u32>,
-        visit: Visit,
-    ) -> Result<(), NoMemory>
+    /// Makes the next visit.
+    fn step(&mut self, image: &Image) -> Result<(), NoMemory>
         requires search { IsSearchOf image.now self.old }
-        requires lightest { AreLightest image.now (length image.now.vertices) lightest.now.items }
-        requires visit { IsVisit (length image.now.vertices) self.old.stage.width self.old.stage.bucket visit }
-        ensures { OnOk result (Follows image.now Kind.Light visit self.old self.new) }
+        requires left { self.old.stage.made < length self.old.visits.items }
+        ensures { OnOk result (Steps image.now self.old self.new) }
     {
-        if lightest[visit.place as usize] <= self.stage.width {
-            self.visit(image, Kind::Light, visit)?;
-        }
+        let visit = self.visits[self.stage.made];
+        self.visit(image, visit)?;
+        self.stage.made += 1;
         Ok(())
     }
 
     /// Follows the arcs of a visit, if it still counts.
-    fn visit(&mut self, image: &Image, kind: Kind, visit: Visit) -> Result<(), NoMemory>
+    fn visit(&mut self, image: &Image, visit: Visit) -> Result<(), NoMemory>
         requires search { IsSearchOf image.now self.old }
         requires visit { IsVisit (length image.now.vertices) self.old.stage.width self.old.stage.bucket visit }
-        ensures { OnOk result (Follows image.now kind visit self.old self.new) }
+        ensures { OnOk result (Follows image.now visit self.old self.new) }
     {
         if self.distances[visit.place as usize] == visit.distance {
-            self.follow(image, kind, visit)?;
+            self.follow(image, visit)?;
         }
         Ok(())
     }
 
-    /// Follows the arcs of this kind out of a place.
-    fn follow(&mut self, image: &Image, kind: Kind, visit: Visit) -> Result<(), NoMemory>
+    /// Follows the arcs out of a place.
+    fn follow(&mut self, image: &Image, visit: Visit) -> Result<(), NoMemory>
         requires search { IsSearchOf image.now self.old }
         requires visit { IsVisit (length image.now.vertices) self.old.stage.width self.old.stage.bucket visit }
         requires here { slice_get self.old.distances.items visit.place ≡ Some visit.distance }
-        ensures { OnOk result (Follows image.now kind visit self.old self.new) }
+        ensures { OnOk result (Follows image.now visit self.old self.new) }
     {
         let arcs = image.out(visit.place as usize);
         'arcs: for i in 0..arcs.len() {
             let Arc { other, weight } = arcs[i];
-            if is_of(kind, self.stage.width, weight) {
-                let distance = visit.distance + weight as u64;
-                if distance < self.distances[other as usize] {
-                    self.lower(other, distance)?;
-                }
+            let distance = visit.distance + weight as u64;
+            if distance < self.distances[other as usize] {
+                self.lower(other, distance)?;
             }
         }
         Ok(())
@@ -188,16 +171,5 @@ impl Search {
             self.later.put(bucket, visit)?;
         }
         Ok(())
-    }
-}
-
-/// Whether an arc of this weight is of this kind.
-fn is_of(kind: Kind, width: u32, weight: u32) -> bool
-    ensures of { IsTrue result → IsOf kind width weight }
-    ensures other { result ≡ false → IsOf kind width weight → ⊥ }
-{
-    match kind {
-        Kind::Light => weight <= width,
-        Kind::Heavy => width < weight,
     }
 }

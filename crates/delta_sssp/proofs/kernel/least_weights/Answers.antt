@@ -1,4 +1,4 @@
-use Rattle.std.proofs.Common.{◌≡◌, ◌^◌, ◌<◌, ◌∙◌, length, sym, ap, subst, arith}
+use Rattle.std.proofs.Common.{◌^◌, ◌<◌, ◌∙◌, length, sym, ap, subst, arith}
 use Rattle.kernel_sssp.specs.Search.{LinkOut, IsSearched}
 use Rattle.delta_sssp.specs.declared.search.Stage.{Stage}
 use Rattle.delta_sssp.specs.Search.{IsStart}

@@ -4,10 +4,9 @@ use Rattle.std.proofs.lemmas.Option.{slice_get-get_or}
 use Rattle.graph_model.specs.declared.limits.TheConstants.{MAX_WEIGHT}
 use Rattle.graph_image.specs.declared.edge.Arc.{Arc}
 use Rattle.graph_image.specs.Images.{arcs_at}
-use Rattle.delta_sssp.specs.Search.{IsOf}
-use Rattle.delta_sssp.proofs.SearchLemmas.{IsFollowing, following_kept, following_other, following_lowered, followed}
+use Rattle.delta_sssp.proofs.SearchLemmas.{IsFollowing, following_kept, following_lowered, followed}
 use Rattle.delta_sssp.proofs.search.Search.follow.Goals as goal
-use Rattle.delta_sssp.proofs.search.Search.follow.Goals.{then-is_of+then-distance-index+in_ok-lower, then-is_of+else-distance-index, else-is_of}
+use Rattle.delta_sssp.proofs.search.Search.follow.Goals.{then-distance-index+in_ok-lower, else-distance-index}
 
 pub index-requires : goal.index-requires
 index-requires c =
@@ -31,21 +30,18 @@ arcs-preserved c =
     let within = c.out-arcs.ensures.within c.arcs.i a at_out in
     let light : a.weight ≤ MAX_WEIGHT = omega (arith, c.arcs-test.element_fits2) in
     let inside : a.other < length c.arcs.self.distances.items = omega (arith, within, c.arcs.invariant.search.weights.count) in
-    elim c.if-is_of.branch [
-      | then-is_of+then-distance-index+in_ok-lower w ↦
-          let there = get_or_read c.arcs.self.distances.items a.other w.index.result.now inside w.index.ensures 0 in
-          subst (IsFollowing image c.args.kind visit (c.arcs.i + 1) c.args.self.now) (sym w.self-is)
-          (following_lowered image c.args.kind visit c.arcs.i c.args.self.now c.arcs.self c.arcs.invariant c.requires.visit a at within light
+    elim c.if-distance-index.branch [
+      | then-distance-index+in_ok-lower w ↦
+          let there = get_or_read c.arcs.self.distances.items a.other c.index.result.now inside c.index.ensures 0 in
+          subst (IsFollowing image visit (c.arcs.i + 1) c.args.self.now) (sym w.self-is)
+          (following_lowered image visit c.arcs.i c.args.self.now c.arcs.self c.arcs.invariant c.requires.visit a at within light
           w.lower.new.self (subst (λ d. visit.distance + a.weight < d) there w.if-distance-index.true) w.in_ok-lower.ensures)
-      | then-is_of+else-distance-index w ↦
-          let there = get_or_read c.arcs.self.distances.items a.other w.index.result.now inside w.index.ensures 0 in
-          subst (IsFollowing image c.args.kind visit (c.arcs.i + 1) c.args.self.now) (sym w.self-is)
-          (following_kept image c.args.kind visit c.arcs.i c.args.self.now c.arcs.self c.arcs.invariant c.requires.visit a at within light
+      | else-distance-index w ↦
+          let there = get_or_read c.arcs.self.distances.items a.other c.index.result.now inside c.index.ensures 0 in
+          subst (IsFollowing image visit (c.arcs.i + 1) c.args.self.now) (sym w.self-is)
+          (following_kept image visit c.arcs.i c.args.self.now c.arcs.self c.arcs.invariant c.requires.visit a at within light
           (subst (λ d. d ≤ visit.distance + a.weight) there w.if-distance-index.false))
-      | else-is_of w ↦
-          subst (IsFollowing image c.args.kind visit (c.arcs.i + 1) c.args.self.now) (sym w.self-is)
-          (following_other image c.args.kind visit c.arcs.i c.args.self.now c.arcs.self c.arcs.invariant c.requires.visit a at within light (c.is_of.ensures.other w.if-is_of.false))
     ]
 
 pub returns : goal.returns
-returns c = followed c.args.image.now c.args.kind c.args.visit c.arcs.i c.args.self.now c.arcs.self c.arcs.invariant (omega (arith, c.arcs-test.false, ap length c.out-arcs.ensures.arcs))
+returns c = followed c.args.image.now c.args.visit c.arcs.i c.args.self.now c.arcs.self c.arcs.invariant (omega (arith, c.arcs-test.false, ap length c.out-arcs.ensures.arcs))
