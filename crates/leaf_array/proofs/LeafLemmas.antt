@@ -8,12 +8,12 @@ use Rattle.std.proofs.lemmas.List.FromFn.{length-map-range_with_len}
 use Rattle.std.specs.List.{AllByRecursion, range_with_len}
 use Rattle.std.specs.Prelude.{Result, Ok, Err, OnOk, OnErr}
 use Rattle.graph_model.specs.declared.row.Key.{Key}
-use Rattle.version_segment.specs.Rows.{VersionedRows, all_records}
+use Rattle.version_segment.specs.Rows.{VersionedRows, all_records, first_key_of}
 use Rattle.density_tree.specs.declared.window.Window.{Window}
 use Rattle.density_tree.specs.Division.{share_of, evenly}
-use Rattle.leaf_array.specs.Segments.{rows_of, records_of, low_or, high_or, AreChained, AreSame, HaveRoom, KeepsRows, IsDivided}
+use Rattle.leaf_array.specs.Segments.{rows_of, records_of, counts_of, low_or, high_or, AreChained, BeginsAtRow, AreSame, HaveRoom, KeepsRows, IsDivided}
 use Rattle.leaf_array.specs.Leaves.{IsLeaf, SpreadsWindow, window_of}
-use Rattle.leaf_array.proofs.CountLemmas.{same-again, same-rows, same-length, same-low, same-high}
+use Rattle.leaf_array.proofs.CountLemmas.{same-again, same-rows, same-length, same-low, same-high, same-chained}
 
 -- ---- answers of calls that may want memory
 
@@ -67,6 +67,35 @@ divided-since ss ts us counts same divided =
       };
       shares = divided.shares;
       begins = divided.begins;
+    }
+
+same-counts : (ss ts : List VersionedRows) → AreSame ss ts → counts_of ts ≡ counts_of ss
+same-counts [] [] same = refl
+same-counts (s ∷ ss) (t ∷ ts) same = λ i. length (same.0.rows i) ∷ same-counts ss ts same.1 i
+same-counts [] (t ∷ ts) same = absurd same
+same-counts (s ∷ ss) [] same = absurd same
+
+same-begins : (n : ℕ) (ss ts : List VersionedRows) → AreSame ss ts → AllByRecursion BeginsAtRow (drop n ss) → AllByRecursion BeginsAtRow (drop n ts)
+same-begins n [] [] same begin = begin
+same-begins zero (s ∷ ss) (t ∷ ts) same begin = (same.0.low ∙ begin.0 ∙ (λ i. first_key_of (sym same.0.rows i) (sym same.0.high i)), same-begins zero ss ts same.1 begin.1)
+same-begins (suc n) (s ∷ ss) (t ∷ ts) same begin = same-begins n ss ts same.1 begin
+same-begins n [] (t ∷ ts) same begin = absurd same
+same-begins n (s ∷ ss) [] same begin = absurd same
+
+-- and is still, where only room for records has changed since
+pub divided-still : (ss ts us : List VersionedRows) (counts : List ℕ) → IsDivided ss ts counts → AreSame ts us → IsDivided ss us counts
+divided-still ss ts us counts divided same =
+    let keeps = divided.keeps in
+    record {
+      keeps = record {
+        rows = same-rows ts us same ∙ keeps.rows;
+        low = λ other. same-low ts us same other ∙ keeps.low other;
+        high = λ other. same-high ts us same other ∙ keeps.high other;
+        chained = same-chained ts us same keeps.chained;
+        segments = same-length ts us same ∙ keeps.segments;
+      };
+      shares = same-counts ts us same ∙ divided.shares;
+      begins = same-begins 1 ts us same divided.begins;
     }
 
 -- ---- segments that follow a key

@@ -34,7 +34,7 @@ pub(crate) fn records_in(segments: &[VersionSegment]) -> Option<usize>
 }
 
 /// How many records the rows of a segment have, unless there are more than a number can say.
-fn records_of(segment: &VersionSegment) -> Option<usize>
+pub(crate) fn records_of(segment: &VersionSegment) -> Option<usize>
     ensures records { IfSome result (λ n. n ≡ all_records segment.now.rows) }
     ensures some { all_records segment.now.rows < 2 ^ 64 → IsSome result }
 {

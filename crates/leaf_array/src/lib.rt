@@ -2,11 +2,13 @@
 //!
 //! 1. Each segment ends where the next one begins.
 //! 2. A call that moves rows keeps them all, in the order of their keys, with their versions.
-//! 3. Memory is taken before anything moves. After want of memory only the room for records has changed.
+//! 3. Memory is taken before anything moves. After want of memory only the room for records has changed, and after
+//!    a move what is left over is given back.
 #![tactic(auto)]
 
 mod counting;
 mod leaf;
+mod memory;
 mod neighbours;
 mod pairs;
 mod rows;

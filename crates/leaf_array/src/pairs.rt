@@ -16,11 +16,12 @@ use crate::neighbours::divide;
 use crate::window::divide_evenly;
 use density_tree::spread_counts;
 use graph_model::{Key, NoMemory};
+use std::alloc::Global;
 use version_segment::VersionSegment;
 
 /// Moves the second half of a full leaf's rows to a leaf without rows, and answers the least key that this one
 /// may have now. Where the number is odd the first half has one row more.
-pub fn split_leaf(left: &mut Leaf, right: &mut Leaf) -> Result<Key, NoMemory>
+pub fn split_leaf(left: &mut Leaf, right: &mut Leaf, alloc: Global) -> Result<Key, NoMemory>
     requires left { IsLeaf left.old.segments }
     requires right { IsLeaf right.old.segments }
     requires many { 207 ≤ length (rows_of left.old.segments) }
@@ -35,13 +36,13 @@ pub fn split_leaf(left: &mut Leaf, right: &mut Leaf) -> Result<Key, NoMemory>
     let given = rows / 2;
     divide(&mut left.segments, &halves(rows - given, given));
     let key = give_half(&mut left.segments, &mut right.segments);
-    divide_evenly(&mut left.segments);
-    divide_evenly(&mut right.segments);
+    divide_evenly(&mut left.segments, alloc);
+    divide_evenly(&mut right.segments, alloc);
     Ok(key)
 }
 
 /// Moves all rows of the right one of two neighbours to the left one, which has the whole range then.
-pub fn merge_leaves(left: &mut Leaf, right: &mut Leaf) -> Result<(), NoMemory>
+pub fn merge_leaves(left: &mut Leaf, right: &mut Leaf, alloc: Global) -> Result<(), NoMemory>
     requires left { IsLeaf left.old.segments }
     requires right { IsLeaf right.old.segments }
     requires neighbours { (other : Key) → high_or left.old.segments other ≡ low_or right.old.segments other }
@@ -55,7 +56,7 @@ pub fn merge_leaves(left: &mut Leaf, right: &mut Leaf) -> Result<(), NoMemory>
     pack(&mut left.segments);
     pack(&mut right.segments);
     take_all(&mut left.segments, &mut right.segments);
-    divide_evenly(&mut left.segments);
+    divide_evenly(&mut left.segments, alloc);
     Ok(())
 }
 

@@ -7,13 +7,15 @@ ghost use Rattle.leaf_array.specs.Segments.{rows_of, records_of, AreChained, Are
 
 use crate::counting::{records_in, reserve, rows_in};
 use crate::leaf::Leaf;
+use crate::memory::give_back;
 use crate::neighbours::divide;
 use density_tree::{Window, spread_counts};
 use graph_model::NoMemory;
+use std::alloc::Global;
 use version_segment::VersionSegment;
 
 /// Divides the rows of a window evenly among its segments.
-pub fn spread(leaf: &mut Leaf, window: Window) -> Result<(), NoMemory>
+pub fn spread(leaf: &mut Leaf, window: Window, alloc: Global) -> Result<(), NoMemory>
     requires leaf { IsLeaf leaf.old.segments }
     requires window { IsWindow window }
     ensures ok { OnOk result (SpreadsWindow window leaf.old.segments leaf.new.segments) }
@@ -22,11 +24,11 @@ pub fn spread(leaf: &mut Leaf, window: Window) -> Result<(), NoMemory>
 {
     let (_, behind) = leaf.segments.split_at_mut(window.first);
     let (segments, _) = behind.split_at_mut(window.len);
-    spread_all(segments)
+    spread_all(segments, alloc)
 }
 
 /// Divides the rows evenly among all segments.
-fn spread_all(segments: &mut [VersionSegment]) -> Result<(), NoMemory>
+fn spread_all(segments: &mut [VersionSegment], alloc: Global) -> Result<(), NoMemory>
     requires chained { AreChained segments.old }
     requires some { 1 ≤ length segments.old }
     requires few { length segments.old ≤ 8 }
@@ -36,12 +38,12 @@ fn spread_all(segments: &mut [VersionSegment]) -> Result<(), NoMemory>
     ensures settled { records_of segments.old ≡ 0 → IsOk result }
 {
     reserve_for(segments, segments.len())?;
-    divide_evenly(segments);
+    divide_evenly(segments, alloc);
     Ok(())
 }
 
-/// Divides the rows evenly among segments that have room for the records.
-pub(crate) fn divide_evenly(segments: &mut [VersionSegment])
+/// Divides the rows evenly among segments that have room for the records. Room that is left over is given back.
+pub(crate) fn divide_evenly(segments: &mut [VersionSegment], alloc: Global)
     requires chained { AreChained segments.old }
     requires some { 1 ≤ length segments.old }
     requires few { length segments.old ≤ 8 }
@@ -52,6 +54,7 @@ pub(crate) fn divide_evenly(segments: &mut [VersionSegment])
     let rows = rows_in(segments);
     let counts = spread_counts(rows as u32, segments.len() as u32);
     divide(segments, counts.as_slice());
+    give_back(segments, alloc);
 }
 
 /// Makes room in each segment for all records of all segments, so many times.

@@ -75,13 +75,13 @@ impl Whole {
     }
 
     /// Puts a row in as a store does, unless no window has room for it.
-    fn put(&mut self, src: u64) -> Result<bool, NoMemory> {
+    fn put(&mut self, alloc: Global, src: u64) -> Result<bool, NoMemory> {
         if self.put_there(src)? {
             return Ok(true);
         }
         match window_for_insert(self.leaf.counts(), self.segment(src), 1) {
             Some(window) => {
-                spread(&mut self.leaf, window)?;
+                spread(&mut self.leaf, window, alloc)?;
                 self.put_there(src)
             }
             None => Ok(false),
@@ -110,16 +110,16 @@ impl Whole {
     fn split(&mut self, alloc: Global) -> Result<Whole, NoMemory> {
         let mut right = Leaf::new(alloc, FIRST, Key::END)?;
         if rows_in(&self.leaf.segments) >= 207 {
-            split_leaf(&mut self.leaf, &mut right)?;
+            split_leaf(&mut self.leaf, &mut right, alloc)?;
         }
         Ok(Whole { leaf: right })
     }
 
     /// Takes all rows of the next leaf, if there are few enough.
-    fn merge(&mut self, right: &mut Whole) -> Result<(), NoMemory> {
+    fn merge(&mut self, alloc: Global, right: &mut Whole) -> Result<(), NoMemory> {
         let meet = self.leaf.segments[7].high() == right.leaf.segments[0].low();
         if meet && rows_in(&self.leaf.segments) + rows_in(&right.leaf.segments) <= 104 {
-            merge_leaves(&mut self.leaf, &mut right.leaf)?;
+            merge_leaves(&mut self.leaf, &mut right.leaf, alloc)?;
         }
         Ok(())
     }
@@ -161,13 +161,13 @@ fn a_leaf_fills_up_and_is_split(rt: HostRuntime) -> Result<(), Fail> {
         (219, [26, 26, 26, 25, 28, 28, 28, 32]),
     ] {
         for src in last..row {
-            leaf.put(src)?;
+            leaf.put(rt.alloc(), src)?;
         }
         last = row;
         assert_eq!(rt; leaf.counts(), want, "with {row} rows");
     }
     assert_eq!(rt;
-        leaf.put(last)?,
+        leaf.put(rt.alloc(), last)?,
         false,
         "whether there is room for one more"
     );
@@ -190,12 +190,12 @@ fn two_neighbours_are_merged(rt: HostRuntime) -> Result<(), Fail> {
     let mut left = Whole::new(rt.alloc(), FIRST, BETWEEN)?;
     let mut right = Whole::new(rt.alloc(), BETWEEN, Key::END)?;
     for src in 0..60 {
-        left.put(src)?;
+        left.put(rt.alloc(), src)?;
     }
     for src in 100..144 {
-        right.put(src)?;
+        right.put(rt.alloc(), src)?;
     }
-    left.merge(&mut right)?;
+    left.merge(rt.alloc(), &mut right)?;
     assert_eq!(rt;
         left.counts(),
         [13; 8],

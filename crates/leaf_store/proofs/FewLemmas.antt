@@ -1,6 +1,6 @@
 -- No more leaves are live than there are.
-use Rattle.std.proofs.Common.{ℕ, ◌≡◌, ◌≤◌, List, length, map, sym, ◌∙◌, arith}
-use Rattle.std.specs.Prelude.{Option, count_by, ◌==◌}
+use Rattle.std.proofs.Common.{◌≡◌, ◌≤◌, List, length, map, arith}
+use Rattle.std.specs.Prelude.{Option}
 use Rattle.std.specs.declared.alloc.Global.{Global}
 use Rattle.std.specs.declared.boxed.Box.{Box}
 use Rattle.std.proofs.lemmas.List.{length-map}

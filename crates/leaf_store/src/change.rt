@@ -108,20 +108,21 @@ impl LeafStore {
     }
 
     /// Takes away what nobody can see from the horizon on, in the rows of the key's cell, and answers how many records
-    /// went, and where the cell ends.
+    /// went, and where the cell ends. Where no record is left their memory is given back.
     pub fn prune<S: States>(&mut self, key: Key, horizon: u64, states: &mut S) -> Pruned
         requires within { is_below key end_key ≡ true }
         requires known { horizon ≤ (S.knowledge states.old).known }
         requires named { AreNamedRows (S.knowledge states.old).names (cell_at self.old key).rows }
         ensures pruned { PrunesCell (S.knowledge states.old).stamps horizon self.old self.new key result }
         ensures grows { Grows (S.knowledge states.old) (S.knowledge states.new) }
-        ensures spare { KeepsRecordRoom self.old self.new }
     {
+        let alloc = self.alloc;
         let place = place_of(&self.index, key);
         match &mut self.leaves[place.leaf] {
             Some(leaf) => {
                 let segment = &mut leaf.segments[place.segment];
                 let records = segment.prune(horizon, states);
+                segment.release(alloc);
                 let _rows = segment.len();
                 Pruned {
                     records,

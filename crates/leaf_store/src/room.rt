@@ -40,7 +40,7 @@ impl LeafStore {
         let place = place_of(&self.index, key);
         match window_at(&self.leaves, place, need) {
             Some(window) => {
-                spread_window(&mut self.index, &mut self.leaves, place, window)?;
+                spread_window(&mut self.index, &mut self.leaves, self.alloc, place, window)?;
                 Ok(())
             }
             None => split_at(&mut self.index, &mut self.leaves, self.alloc, place),
@@ -67,6 +67,7 @@ fn window_at(leaves: &Vec<Option<Box<Leaf>>>, place: Place, need: u8) -> Option<
 fn spread_window(
     index: &mut LeafIndex,
     leaves: &mut Vec<Option<Box<Leaf>>>,
+    alloc: Global,
     place: Place,
     window: Window,
 ) -> Result<(), NoMemory>
@@ -81,7 +82,7 @@ fn spread_window(
 {
     match &mut leaves[place.leaf] {
         Some(leaf) => {
-            spread(leaf, window)?;
+            spread(leaf, window, alloc)?;
             let cuts = cuts_of(leaf);
             index.set_separators(cuts[0], cuts);
             let _leaves = index.leaves();

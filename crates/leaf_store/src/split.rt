@@ -53,7 +53,7 @@ fn split_entry(
     let cuts = cuts_of(left);
     let key = split_key(left);
     halve_range(index, alloc, cuts[0], cuts, key, leaf)?;
-    match split_leaf(left, right) {
+    match split_leaf(left, right, alloc) {
         Ok(_key) => {
             index.set_separators(cuts[0], cuts_of(left));
             index.set_separators(key, cuts_of(right));

@@ -49,7 +49,7 @@ pub fn time<R: Clock + Print>(rt: &R, alloc: Global, random: &mut Random) -> Res
         let mut leaves = leaves_of(alloc, random.below(ROWS))?;
         let begun = Instant::now(rt)?;
         for whole in leaves.iter_mut() {
-            spread_all(whole)?;
+            spread_all(alloc, whole)?;
         }
         best.add(begun.elapsed(rt)?, LEAVES, leaves.len() as u64);
     }
@@ -69,9 +69,9 @@ fn front_full(alloc: Global, first: u64) -> Result<Whole, NoMemory> {
     let leaf = Leaf::new(alloc, Key { src: 0, second: 0 }, Key::END)?;
     let mut whole = Whole { leaf };
     fill(&mut whole, first, 0, 4)?;
-    spread_window(&mut whole, Window { first: 0, len: 2 })?;
+    spread_window(alloc, &mut whole, Window { first: 0, len: 2 })?;
     fill(&mut whole, first, 2, 4)?;
-    spread_window(&mut whole, Window { first: 0, len: 4 })?;
+    spread_window(alloc, &mut whole, Window { first: 0, len: 4 })?;
     fill(&mut whole, first, 1, 2)?;
     Ok(whole)
 }
@@ -106,12 +106,12 @@ fn settle_at(whole: &mut Whole, place: usize)
     settle(&mut whole.leaf.segments[place]);
 }
 
-fn spread_all(whole: &mut Whole) -> Result<(), NoMemory> {
-    spread_window(whole, Window { first: 0, len: 8 })
+fn spread_all(alloc: Global, whole: &mut Whole) -> Result<(), NoMemory> {
+    spread_window(alloc, whole, Window { first: 0, len: 8 })
 }
 
-fn spread_window(whole: &mut Whole, window: Window) -> Result<(), NoMemory>
+fn spread_window(alloc: Global, whole: &mut Whole, window: Window) -> Result<(), NoMemory>
     requires { IsWindow window }
 {
-    spread(&mut whole.leaf, window)
+    spread(&mut whole.leaf, window, alloc)
 }

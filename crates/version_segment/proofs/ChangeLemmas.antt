@@ -6,6 +6,7 @@ use Rattle.std.proofs.lemmas.List.{length-map}
 use Rattle.std.specs.FinMap.Entries.{find, where_key}
 use Rattle.graph_model.specs.declared.row.Key.{Key}
 use Rattle.graph_model.specs.declared.row.Row.{Row}
+use Rattle.graph_model.specs.declared.journal.TxnName.{TxnName}
 use Rattle.graph_model.specs.Rows.{key_cmp, is_between}
 use Rattle.graph_model.proofs.TestLemmas.{eq_of}
 use Rattle.store_model.specs.Stamped.{StampedVersions}
@@ -14,7 +15,7 @@ use Rattle.undo_chain.specs.Chains.{ChainMap, list_at, IsHeadOf, ChangesOneList}
 use Rattle.version_segment.specs.declared.heads.Heads.{Heads}
 use Rattle.version_segment.specs.declared.heads.ChangedRow.{ChangedRow}
 use Rattle.version_segment.specs.declared.found.FoundRow.{FoundRow}
-use Rattle.version_segment.specs.Rows.{nothing, or_nothing, is_empty, versions_at, has_row, ChangesKey, with_versions}
+use Rattle.version_segment.specs.Rows.{nothing, or_nothing, is_empty, versions_at, has_row, ChangesKey, with_versions, pruned_rows}
 use Rattle.version_segment.specs.Heads.{HeadTable, heads_at, settled_heads}
 use Rattle.version_segment.specs.Lists.{ChangesRow}
 use Rattle.version_segment.specs.Parts.{of_lists, value_in, versions_in, versioned, view_of, AreParts, IsRow, is_changed, heads_of, with_value, new_row}
@@ -202,3 +203,11 @@ settled_rows heads heads' c c' rows e f = ap (λ hs. versioned c' hs rows) f ∙
 pub none_changed : (heads : List ChangedRow) → (length heads == 0) ≡ true → heads ≡ []
 none_changed [] e = refl
 none_changed (h ∷ hs) e = let none : length (h ∷ hs) ≡ 0 = eq_of (length (h ∷ hs)) 0 e in absurd (omega (arith, none))
+
+-- where no row is changed there is nothing to prune
+pub nothing_pruned : (stamps : TxnName → Option ℕ) (horizon : ℕ) (heads : List ChangedRow) (c : ChainMap) (rows : List Row) → heads ≡ [] → versioned c heads rows ≡ pruned_rows stamps horizon (versioned c heads rows)
+nothing_pruned stamps horizon heads c rows e = subst (λ hs. versioned c hs rows ≡ pruned_rows stamps horizon (versioned c hs rows)) (sym e) (go rows)
+  where
+    go : (rs : List Row) → versioned c [] rs ≡ pruned_rows stamps horizon (versioned c [] rs)
+    go [] = refl
+    go (r ∷ rs) = ap (λ es. (r.key, versions_in c settled_heads r.weight) ∷ es) (go rs)

@@ -363,6 +363,21 @@ impl VersionSegment {
         ensures grows { Grows (S.knowledge states.old) (S.knowledge states.new) }
         ensures spare { self.old.spare ≤ self.new.spare }
     {
+        if self.heads.is_empty() {
+            return 0;
+        }
+        self.prune_each(horizon, states)
+    }
+
+    /// The same, row by row.
+    fn prune_each<S: States>(&mut self, horizon: u64, states: &mut S) -> usize
+        requires known { horizon ≤ (S.knowledge states.old).known }
+        requires named { AreNamedRows (S.knowledge states.old).names self.old.rows }
+        ensures pruned { PrunesRows (S.knowledge states.old).stamps horizon self.old self.new }
+        ensures went { result + all_records self.new.rows ≡ all_records self.old.rows }
+        ensures grows { Grows (S.knowledge states.old) (S.knowledge states.new) }
+        ensures spare { self.old.spare ≤ self.new.spare }
+    {
         let spare = self.chains.spare();
         let mut place = self.rows.len();
         'rows: while place > 0 {

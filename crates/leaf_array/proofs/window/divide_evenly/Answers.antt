@@ -2,7 +2,7 @@ use Rattle.std.proofs.Common.{ap, ◌∙◌, sym, length, sum, subst, ◌≤◌}
 use Rattle.std.specs.List.{AllByRecursion}
 use Rattle.density_tree.specs.Division.{evenly}
 use Rattle.leaf_array.specs.Segments.{IsDivided}
-use Rattle.leaf_array.proofs.LeafLemmas.{shares-few, one-share-each}
+use Rattle.leaf_array.proofs.LeafLemmas.{shares-few, one-share-each, divided-still}
 use Rattle.leaf_array.proofs.window.divide_evenly.Goals as goal
 
 pub divide-requires-clause-shares : goal.divide-requires-clause-shares
@@ -21,4 +21,4 @@ pub returns : goal.returns
 returns c =
     let rows = ap (λ n. evenly n (length c.args.segments.now)) c.rows_in-rows.ensures.rows in
     let counts = c.as_slice.ensures ∙ (c.spread_counts-counts.ensures.even ∙ rows) in
-    subst (IsDivided c.args.segments.now c.divide.new.segments) counts c.divide.ensures.divided
+    divided-still c.args.segments.now c.divide.new.segments c.give_back.new.segments _ (subst (IsDivided c.args.segments.now c.divide.new.segments) counts c.divide.ensures.divided) c.give_back.ensures

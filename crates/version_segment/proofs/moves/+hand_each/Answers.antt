@@ -1,4 +1,4 @@
-use Rattle.std.proofs.Common.{◌≡◌, List, ◌∷◌, subst, sym, refl, arith}
+use Rattle.std.proofs.Common.{List, ◌∷◌, subst, sym, refl, arith}
 use Rattle.graph_model.specs.declared.row.Row.{Row}
 use Rattle.gap_segment.specs.Fenced.{AreSorted}
 use Rattle.version_segment.specs.Parts.{HandsRows}

@@ -1,6 +1,7 @@
-use Rattle.std.proofs.Common.{◌∙◌, subst, arith}
+use Rattle.std.proofs.Common.{◌+◌, ◌∙◌, ap, subst, arith}
 use Rattle.version_segment.specs.Checks.{AreNamedRows}
-use Rattle.leaf_store.proofs.ChangeLemmas.{is_within, has_memory, read_cell, changed_cell, only_pruned, no_spare_used}
+use Rattle.version_segment.specs.Rows.{all_records}
+use Rattle.leaf_store.proofs.ChangeLemmas.{is_within, has_memory, read_cell, changed_cell, only_pruned}
 use Rattle.leaf_store.proofs.store.LeafStore.prune.Goals as goal
 
 pub index_mut-requires : goal.index_mut-requires
@@ -20,19 +21,18 @@ prune-records-requires-clause-named g c =
 pub invariant_of-self : goal.invariant_of-self
 invariant_of-self g c =
     (changed_cell c.self.inside.index c.self.inside.leaves.items c.args.self.now c.args.key c.place_of-place.result c.self.view_is c.self.invariant c.place_of-place.ensures c.requires.within
-    c.index_mut.result.now c.in-Some.leaf c.deref_mut.result.now c.index-deref_mut-place.result c.prune-records.new.self c.index_mut.ensures.value c.in-Some.is c.deref_mut.ensures.value
-    c.len-rows.ensures.sound c.prune-records.ensures.pruned.low c.prune-records.ensures.pruned.high).kept
+    c.index_mut.result.now c.in-Some.leaf c.deref_mut.result.now c.index-deref_mut-place.result c.release.new.self c.index_mut.ensures.value c.in-Some.is c.deref_mut.ensures.value
+    c.len-rows.ensures.sound (c.release.ensures.low ∙ c.prune-records.ensures.pruned.low) (c.release.ensures.high ∙ c.prune-records.ensures.pruned.high)).kept
 
 pub returns-clause-pruned : goal.returns-clause-pruned
 returns-clause-pruned g c =
     let changed = changed_cell c.self.inside.index c.self.inside.leaves.items c.args.self.now c.args.key c.place_of-place.result c.self.view_is c.self.invariant c.place_of-place.ensures c.requires.within
-    c.index_mut.result.now c.in-Some.leaf c.deref_mut.result.now c.index-deref_mut-place.result c.prune-records.new.self c.index_mut.ensures.value c.in-Some.is c.deref_mut.ensures.value
-    c.len-rows.ensures.sound c.prune-records.ensures.pruned.low c.prune-records.ensures.pruned.high in
-    only_pruned c.self.inside.index c.self.inside.leaves.items _ c.args.self.now c.args.key _ _ c.self.view_is c.self.invariant changed (g.S.States.knowledge c.args.states.now).stamps c.args.horizon _ c.prune-records.ensures.pruned c.prune-records.ensures.went (c.high.ensures ∙ c.prune-records.ensures.pruned.high)
-
-pub returns-clause-spare : goal.returns-clause-spare
-returns-clause-spare g c =
-    let changed = changed_cell c.self.inside.index c.self.inside.leaves.items c.args.self.now c.args.key c.place_of-place.result c.self.view_is c.self.invariant c.place_of-place.ensures c.requires.within
-    c.index_mut.result.now c.in-Some.leaf c.deref_mut.result.now c.index-deref_mut-place.result c.prune-records.new.self c.index_mut.ensures.value c.in-Some.is c.deref_mut.ensures.value
-    c.len-rows.ensures.sound c.prune-records.ensures.pruned.low c.prune-records.ensures.pruned.high in
-    no_spare_used c.self.inside.index c.self.inside.leaves.items _ c.args.self.now c.args.key _ _ c.self.view_is c.self.invariant changed c.prune-records.ensures.spare
+    c.index_mut.result.now c.in-Some.leaf c.deref_mut.result.now c.index-deref_mut-place.result c.release.new.self c.index_mut.ensures.value c.in-Some.is c.deref_mut.ensures.value
+    c.len-rows.ensures.sound (c.release.ensures.low ∙ c.prune-records.ensures.pruned.low) (c.release.ensures.high ∙ c.prune-records.ensures.pruned.high) in
+    only_pruned c.self.inside.index c.self.inside.leaves.items _ c.args.self.now c.args.key _ _ c.self.view_is c.self.invariant changed (g.S.States.knowledge c.args.states.now).stamps c.args.horizon _
+    (record {
+      low = c.release.ensures.low ∙ c.prune-records.ensures.pruned.low;
+      high = c.release.ensures.high ∙ c.prune-records.ensures.pruned.high;
+      rows = c.release.ensures.rows ∙ c.prune-records.ensures.pruned.rows;
+    })
+    (ap (λ rows. c.prune-records.result + all_records rows) c.release.ensures.rows ∙ c.prune-records.ensures.went) (c.high.ensures ∙ c.release.ensures.high ∙ c.prune-records.ensures.pruned.high)

@@ -1,4 +1,4 @@
-use Rattle.std.proofs.Common.{◌≡◌, ◌∙◌, ◌+◌, ◌≤◌, ap, sym, length, refl, arith}
+use Rattle.std.proofs.Common.{◌≡◌, ◌∙◌, ◌+◌, ◌≤◌, ap, sym, length, arith}
 use Rattle.gap_segment.proofs.FencedLemmas.{sorted_take}
 use Rattle.version_segment.specs.Rows.{VersionedRows}
 use Rattle.version_segment.specs.Parts.{view_of}

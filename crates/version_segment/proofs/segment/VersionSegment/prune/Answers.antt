@@ -1,62 +1,12 @@
-use Rattle.std.proofs.Common.{◌≡◌, ◌-◌, ℕ, suc, subst, arith}
-use Rattle.undo_chain.proofs.ListLemmas.{grows_start, grows_chain, still_known}
-use Rattle.version_segment.specs.Walks.{ArePruned}
-use Rattle.version_segment.proofs.ChangeLemmas.{spare_stays}
-use Rattle.version_segment.proofs.PruneLemmas.{pruned_start, next_below, next_named, pruned_next, pruned_all, pruned_went}
+use Rattle.std.proofs.Common.{◌∙◌, sym, refl}
+use Rattle.version_segment.proofs.ChangeLemmas.{none_changed, nothing_pruned}
 use Rattle.version_segment.proofs.segment.VersionSegment.prune.Goals as goal
 
-pub rows-init : goal.rows-init
-rows-init g c = (pruned_start _ _ c.self.inside.rows c.self.inside.heads c.self.inside.chains c.self.invariant _ c.len-place.ensures.len, grows_start _)
-
-pub prune_row-requires-clause-parts : goal.prune_row-requires-clause-parts
-prune_row-requires-clause-parts g c = c.rows.invariant.0.parts
-
-pub prune_row-requires-clause-place : goal.prune_row-requires-clause-place
-prune_row-requires-clause-place g c =
-    let one_less : c.rows.place ≡ suc (c.rows.place - 1) = omega (arith, c.rows-test.true) in
-    next_below (g.S.States.knowledge c.args.states.now).stamps c.args.horizon c.self.inside.rows c.self.inside.heads c.self.inside.chains (c.rows.place - 1) c.rows.self-inside.rows c.rows.self-inside.heads c.rows.self-inside.chains
-    (subst (λ (n : ℕ). ArePruned (g.S.States.knowledge c.args.states.now).stamps c.args.horizon n c.self.inside.rows c.rows.self-inside.rows c.self.inside.heads c.rows.self-inside.heads c.self.inside.chains c.rows.self-inside.chains) one_less c.rows.invariant.0)
-
-pub prune_row-requires-clause-known : goal.prune_row-requires-clause-known
-prune_row-requires-clause-known g c = still_known _ _ _ c.rows.invariant.1 c.requires.known
-
-pub prune_row-requires-clause-named : goal.prune_row-requires-clause-named
-prune_row-requires-clause-named g c =
-    let one_less : c.rows.place ≡ suc (c.rows.place - 1) = omega (arith, c.rows-test.true) in
-    let named = rw (← c.self.view_is) at c.requires.named in
-    next_named (g.S.States.knowledge c.args.states.now).stamps c.args.horizon c.self.inside.rows c.self.inside.heads c.self.inside.chains (c.rows.place - 1) c.rows.self-inside.rows c.rows.self-inside.heads c.rows.self-inside.chains
-    (subst (λ (n : ℕ). ArePruned (g.S.States.knowledge c.args.states.now).stamps c.args.horizon n c.self.inside.rows c.rows.self-inside.rows c.self.inside.heads c.rows.self-inside.heads c.self.inside.chains c.rows.self-inside.chains) one_less c.rows.invariant.0)
-    (g.S.States.knowledge c.args.states.now).names (g.S.States.knowledge c.rows.states).names c.rows.invariant.1.names named
-
-pub rows-preserved : goal.rows-preserved
-rows-preserved g c =
-    let one_less : c.rows.place ≡ suc (c.rows.place - 1) = omega (arith, c.rows-test.true) in (
-      pruned_next (g.S.States.knowledge c.args.states.now).stamps c.args.horizon c.self.inside.rows c.self.inside.heads c.self.inside.chains (c.rows.place - 1) c.rows.self-inside.rows c.rows.self-inside.heads c.rows.self-inside.chains
-          (subst (λ (n : ℕ). ArePruned (g.S.States.knowledge c.args.states.now).stamps c.args.horizon n c.self.inside.rows c.rows.self-inside.rows c.self.inside.heads c.rows.self-inside.heads c.self.inside.chains c.rows.self-inside.chains) one_less c.rows.invariant.0)
-          c.prune_row.new.rows c.prune_row.new.heads c.prune_row.new.chains (g.S.States.knowledge c.rows.states).stamps c.rows.invariant.1.stamps c.prune_row.ensures.pruned,
-      grows_chain _ _ _ c.rows.invariant.1 c.prune_row.ensures.grows,
-    )
-
-pub overflow_sub-result : goal.overflow_sub-result
-overflow_sub-result g c = omega (arith, c.rows.invariant.0.room, c.spare-spare.ensures, c.spare.ensures)
-
-pub invariant_of-self : goal.invariant_of-self
-invariant_of-self g c = c.rows.invariant.0.parts
-
-pub returns-clause-pruned : goal.returns-clause-pruned
-returns-clause-pruned g c =
-    let none : c.rows.place ≡ 0 = omega (arith, c.rows-test.false) in
-    rw (← c.self.view_is) (pruned_all (g.S.States.knowledge c.args.states.now).stamps c.args.horizon c.self.inside.rows c.self.inside.heads c.self.inside.chains c.rows.self-inside.rows c.rows.self-inside.heads c.rows.self-inside.chains
-    c.rows.place none c.rows.invariant.0)
-
-pub returns-clause-went : goal.returns-clause-went
-returns-clause-went g c =
-    let none : c.rows.place ≡ 0 = omega (arith, c.rows-test.false) in
-    rw (← c.self.view_is) (pruned_went (g.S.States.knowledge c.args.states.now).stamps c.args.horizon c.self.inside.rows c.self.inside.heads c.self.inside.chains c.rows.self-inside.rows c.rows.self-inside.heads c.rows.self-inside.chains
-    c.rows.place none c.rows.invariant.0 c.spare.result c.spare.ensures c.spare-spare.result c.spare-spare.ensures)
-
-pub returns-clause-grows : goal.returns-clause-grows
-returns-clause-grows g c = c.rows.invariant.1
-
-pub returns-clause-spare : goal.returns-clause-spare
-returns-clause-spare g c = rw (← c.self.view_is) (spare_stays _ _ _ _ c.rows.invariant.0.room c.rows.invariant.0.spare)
+pub returns-then-is_empty-clause-pruned : goal.returns-then-is_empty-clause-pruned
+returns-then-is_empty-clause-pruned g c =
+    let none = none_changed c.self.inside.heads.entries (sym c.is_empty.ensures ∙ c.if-is_empty.true) in
+    rw (← c.self.view_is) (record {
+      low = refl;
+      high = refl;
+      rows = nothing_pruned (g.S.States.knowledge c.args.states.now).stamps c.args.horizon c.self.inside.heads.entries c.self.inside.chains c.self.inside.rows.rows none;
+    })

@@ -1,6 +1,6 @@
 use Rattle.undo_chain.specs.States.{Grows}
 use Rattle.version_segment.specs.Walks.{ArePruned}
-use Rattle.version_segment.proofs.segment.VersionSegment.prune.Given as goal
+use Rattle.version_segment.proofs.segment.VersionSegment.prune_each.Given as goal
 
 abbrev pub invariant-rows : goal.invariant-rows
 invariant-rows g l =
