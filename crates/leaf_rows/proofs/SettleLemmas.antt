@@ -17,7 +17,7 @@ use Rattle.leaf_store.specs.declared.store.Pruned.{Pruned}
 use Rattle.leaf_store.specs.Leaves.{Leaves, AreLeaves, CellsAreApart, cells_of, cell_at, shares, versions_of, contents_of, weight}
 use Rattle.leaf_store.specs.Changes.{PrunesCell}
 use Rattle.leaf_rows.specs.Readers.{HaveNoStamp, AreUnstamped}
-use Rattle.leaf_rows.specs.Steps.{PrunesKeys}
+use Rattle.leaf_rows.specs.Laying.{PrunesKeys}
 use Rattle.leaf_rows.proofs.CellLemmas.{cell_sound}
 use Rattle.leaf_rows.proofs.KnownLemmas.{unstamped_row}
 use Rattle.leaf_rows.proofs.ScanLemmas.{none_beyond}

@@ -1,7 +1,8 @@
 -- When a write may be laid in rows, the room that it wants, and what calls leave.
-use Rattle.std.specs.Prelude.{◌≡◌, ◌==◌, ◌&&◌, ℕ, ◌*◌, ◌<◌, ◌≤◌, true, false, not, List, count_by}
+use Rattle.std.specs.Prelude.{◌≡◌, ◌==◌, ◌&&◌, ℕ, ◌*◌, ◌<◌, ◌≤◌, true, false, not, List, count_by, Option}
 use Rattle.graph_model.specs.declared.limits.TheConstants.{SPLIT_ROWS}
 use Rattle.graph_model.specs.declared.row.Key.{Key}
+use Rattle.graph_model.specs.declared.journal.TxnName.{TxnName}
 use Rattle.graph_model.specs.declared.write.Kind.{Kind}
 use Rattle.graph_model.specs.declared.write.Write.{Write}
 use Rattle.graph_model.specs.declared.write.Write.TheVariants.{AddVertex, DropVertex, AddEdge, SetEdge, DropEdge}
@@ -9,6 +10,7 @@ use Rattle.graph_model.specs.Effects.{keys_of}
 use Rattle.graph_model.specs.Rows.{vertex_key}
 use Rattle.txn_manager.specs.declared.config.RoomRefusal.{RoomRefusal}
 use Rattle.txn_manager.specs.declared.config.RoomRefusal.TheVariants as refusals
+use Rattle.store_model.specs.Versions.{prune}
 use Rattle.leaf_store.specs.Leaves.{Leaves, contents_of, has_row, room_at, shares, weight}
 use Rattle.leaf_store.specs.Changes.{IsFull}
 
@@ -51,3 +53,8 @@ IsNoRoom s kind w (refusals.Full leaves) =
     (leaves ≡ s.limit) × (SPLIT_ROWS * leaves ≤ weight s)
     × ((k : Key) × (need : ℕ) × (need ≡ wanted s k (keys_of kind w)) × (room_at s k < need) × IsFull s k need)
 IsNoRoom s kind w refusals.NoMemory = Unit {0}
+
+-- the versions of the keys that share the key's cell are pruned, and no others
+pub record PrunesKeys (stamps : TxnName → Option ℕ) (horizon : ℕ) (old new : Leaves) (key : Key) : Type 0 where
+  pub pruned : (q : Key) → shares old key q ≡ true → contents_of new q ≡ prune stamps horizon (contents_of old q)
+  pub others : (q : Key) → shares old key q ≡ false → contents_of new q ≡ contents_of old q

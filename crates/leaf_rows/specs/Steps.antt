@@ -2,8 +2,6 @@
 use Rattle.std.specs.Prelude.{◌≡◌, ◌⊎◌, ℕ, ◌+◌, ◌-◌, ◌*◌, ◌<◌, ◌≤◌, true, false, ◌&&◌, ◌||◌, not, cond}
 use Rattle.std.specs.Prelude.{List, [], ◌∷◌, Option, Some, None, length, count_by}
 use Rattle.graph_model.specs.declared.row.Key.{Key}
-use Rattle.graph_model.specs.declared.journal.TxnName.{TxnName}
-use Rattle.store_model.specs.Versions.{prune}
 use Rattle.graph_model.specs.declared.write.Kind.{Kind}
 use Rattle.graph_model.specs.declared.write.Write.{Write}
 use Rattle.graph_model.specs.Effects.{same_key, writes_at, touches_at}
@@ -75,8 +73,3 @@ pub record IsNeed (c : VersionedRows) (key : Key) (keys : List Key) (need : ℕ)
   pub short : SEGMENT_ROWS - length c.rows < need
   pub some : 1 ≤ need
   pub few : need ≤ 2
-
--- the versions of the keys that share the key's cell are pruned, and no others
-pub record PrunesKeys (stamps : TxnName → Option ℕ) (horizon : ℕ) (old new : Leaves) (key : Key) : Type 0 where
-  pub pruned : (q : Key) → shares old key q ≡ true → contents_of new q ≡ prune stamps horizon (contents_of old q)
-  pub others : (q : Key) → shares old key q ≡ false → contents_of new q ≡ contents_of old q

@@ -22,5 +22,6 @@ mod settle;
 mod steps;
 mod undo;
 
+pub use leaf_store::Pruned;
 pub use reader::Reader;
 pub use rows::{Counts, LeafRows};

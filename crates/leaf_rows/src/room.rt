@@ -3,7 +3,7 @@
 //! 1. The row with the lesser key is looked at first, and each by a route of its own.
 //! 2. Where both rows of an edge are missing and share a cell, it gets room for two.
 
-ghost use Rattle.std.specs.Prelude.{◌≡◌, ◌-◌, ◌≤◌, ◌∷◌, [], true, false, cond, not, ◌&&◌, length};
+ghost use Rattle.std.specs.Prelude.{◌≡◌, ◌-◌, ◌<◌, ◌≤◌, ◌∷◌, [], true, false, cond, not, ◌&&◌, length};
 ghost use Rattle.std.specs.Prelude.{None, IfSome, OnOk, IfErr};
 ghost use Rattle.graph_model.specs.declared.limits.TheConstants.{MAX_ID, SEGMENT_ROWS};
 ghost use Rattle.graph_model.specs.Effects.{arc_keys};
@@ -11,6 +11,7 @@ ghost use Rattle.graph_model.specs.Refused.{IsWithinLimits};
 ghost use Rattle.graph_model.specs.Rows.{is_below, is_between, end_key, vertex_key};
 ghost use Rattle.version_segment.specs.Rows as segments;
 ghost use Rattle.leaf_store.specs.Leaves.{KeysHaveCells, has_row, room_at};
+ghost use Rattle.leaf_store.specs.Changes.{IsRoomRefusal};
 ghost use Rattle.leaf_rows.specs.Laying.{HasRoomFor, IsNoRoom, Stays, wanted};
 ghost use Rattle.leaf_rows.specs.Steps.{HaveRoom, IsNeed, IsNoPlace, KeepsRoom, keys_with, wanted_in};
 
@@ -34,6 +35,22 @@ impl LeafRows {
             Write::SetEdge { u, v, weight: _ } => self.make_arc_room(kind, u, v),
             Write::DropEdge { u, v } => self.make_arc_room(kind, u, v),
         }
+    }
+
+    /// Makes room for so many rows in a key's cell.
+    pub fn make_cell_room(&mut self, key: Key, need: u8) -> Result<(), RoomRefusal>
+        requires within { is_below key end_key ≡ true }
+        requires some { 1 ≤ need }
+        requires few { need ≤ 2 }
+        requires short { room_at self.old key < need }
+        ensures stays { Stays self.old self.new }
+        ensures ok { OnOk result (need ≤ room_at self.new key) }
+        ensures refused { IfErr result (λ refusal. IsRoomRefusal self.old key need refusal self.new) }
+    {
+        self.store.limit();
+        let made = self.store.make_room(key, need);
+        self.store.limit();
+        made
     }
 
     /// Makes room for the row of a vertex.

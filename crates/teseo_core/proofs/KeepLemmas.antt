@@ -1,6 +1,6 @@
 -- What the engine keeps through each call.
-use Rattle.std.proofs.Common.{◌≡◌, ℕ, ◌+◌, ◌≤◌, ◌<◌, List, [], ◌∷◌, ◌++◌, length, refl, sym, ◌∙◌, ap, subst, cond, arith, inr}
-use Rattle.std.specs.Prelude.{Bool, true, false, ◌==◌, Option, Some, None, is_some, option_map, unwrap_or}
+use Rattle.std.proofs.Common.{◌≡◌, ℕ, ◌+◌, ◌-◌, ◌≤◌, ◌<◌, List, [], ◌∷◌, ◌++◌, length, refl, sym, ◌∙◌, ap, subst, cond, arith, inr}
+use Rattle.std.specs.Prelude.{Bool, true, false, ◌==◌, ◌⊎◌, Option, Some, None, is_some, option_map, unwrap_or}
 use Rattle.std.specs.List.{AllByRecursion}
 use Rattle.std.proofs.lemmas.Bool.Decides.{nat_tests}
 use Rattle.std.proofs.lemmas.List.{length-set}
@@ -141,6 +141,28 @@ module _ (core : Core) (m : Manager) (rows : Leaves) (is : IsKept core m rows) w
     made = is.made;
     weight_is = let less = stays.weight in let most = is.weight_is in omega (arith, most, less);
     limit = stays.limit ∙ is.limit;
+    some = is.some;
+    few = is.few;
+  }
+
+  -- rows of which some are pruned, where no open transaction began below
+  pub kept_swept : (rows' : Leaves) (at : ℕ) → at ≤ length m.journal → ((by : TxnName) (t : Running) → running_in core by ≡ Some t → at ≤ t.start)
+      → ((k : Key) → (contents_of rows' k ≡ contents_of rows k) ⊎ (contents_of rows' k ≡ prune (stamp_in m.journal) at (contents_of rows k)))
+      → rows'.limit ≡ rows.limit → weight rows' ≤ weight rows → IsKept core m rows'
+  kept_swept rows' at within below each limit less = record {
+    horizon = at + (is.horizon - at);
+    store = store_pruned core.kind core.journal (running_in core) (own_of (running_in core)) (touching_of (running_in core)) is.horizon (contents_of rows) is.store
+        at (at + (is.horizon - at)) (contents_of rows') (omega arith) (omega arith)
+        (let clock : length m.journal ≡ length core.journal = ap length is.tied.journal in omega (arith, within, clock, is.store.transactions.behind))
+        (λ by t runs. let new = below by t runs in let old = (is.store.transactions.each by t runs).pinned in omega (arith, new, old))
+        (λ k. whole_pruned (stamp_in core.journal) at (contents_of rows k) (contents_of rows' k)
+        (subst (λ journal. (contents_of rows' k ≡ contents_of rows k) ⊎ (contents_of rows' k ≡ prune (stamp_in journal) at (contents_of rows k))) is.tied.journal (each k)));
+    chosen = is.chosen;
+    tied = is.tied;
+    used = is.used;
+    made = is.made;
+    weight_is = let most = is.weight_is in omega (arith, most, less);
+    limit = limit ∙ is.limit;
     some = is.some;
     few = is.few;
   }

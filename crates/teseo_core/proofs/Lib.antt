@@ -8,3 +8,4 @@ pub mod FieldLemmas
 pub mod WriteLemmas
 pub mod NewLemmas
 pub mod LoadLemmas
+pub mod SweepLemmas

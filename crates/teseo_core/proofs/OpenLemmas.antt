@@ -10,6 +10,7 @@ use Rattle.graph_model.specs.Passes.{of_latest, revised, state_in}
 use Rattle.graph_model.specs.Transactions.{Running, Changes, IsListed}
 use Rattle.graph_model.proofs.PassLemmas.{latest_here, changes_latest, changes_next, state_in-set, is_listed}
 use Rattle.txn_manager.specs.Manager.{Manager, PassTxns, no_txns, with_txns, open_start}
+use Rattle.txn_manager.specs.ManagerLaws.{AreOpenIn}
 use Rattle.teseo_core.specs.Keeping.{running_in, txns_in, AreTied}
 
 -- the pass with a number, in a list from 0 on
@@ -115,3 +116,17 @@ here_listed core = subst (λ (r : TxnName → Option Running). IsListed (open_tx
   where
     same : of_latest (λ (s : PassState). s.begun) running_of None (state_in no_pass 0 core.passes) ≡ running_in core
     same = λ i. of_latest (λ (s : PassState). s.begun) running_of None (λ p. pass_at_is core.passes p i)
+
+-- each of them began where the manager has it
+pub are_open : (core : Core) (m : Manager) → AreTied core m → AreOpenIn m (running_in core)
+are_open core m tied by =
+    by_start (by.number == (pass_at core by.job).begun) (pass_at core by.job) (pass_at core by.job).start refl
+    ∙ sym (ap (λ (t : PassTxns). cond (by.number == t.begun) t.start None) (tied.each by.job))
+  where
+    start_in : PassState → Option ℕ → Option ℕ
+    start_in s y = let run : Option Running = option_map (λ start. record { start = start; writes = s.own }) y in option_map (λ t. t.start) run
+
+    by_start : (t : Bool) (s : PassState) (x : Option ℕ) → s.start ≡ x → option_map (λ t. t.start) (cond t (running_of s) None) ≡ cond t s.start None
+    by_start true s None e = ap (start_in s) e ∙ sym e
+    by_start true s (Some start) e = ap (start_in s) e ∙ sym e
+    by_start false s x e = refl

@@ -5,11 +5,13 @@ use Rattle.graph_model.specs.declared.limits.TheConstants.{MAX_LEAVES}
 use Rattle.graph_model.specs.declared.write.Kind.{Kind}
 use Rattle.graph_model.specs.declared.write.Kind.TheVariants.{Directed, Undirected}
 use Rattle.graph_model.specs.declared.journal.TxnName.{TxnName}
+use Rattle.graph_model.specs.declared.row.Key.{Key}
 use Rattle.graph_model.specs.Graph.{Graph}
 use Rattle.graph_model.specs.History.{graph_at}
 use Rattle.graph_model.specs.OwnerCalls.{PassState, Core, pass_at, running_of, inserted_here}
 use Rattle.graph_model.specs.OwnerLaws.{IsChosen}
 use Rattle.graph_model.specs.Passes.{of_latest}
+use Rattle.graph_model.specs.Rows.{first_key}
 use Rattle.graph_model.specs.Transactions.{Running}
 use Rattle.txn_manager.specs.declared.config.Config.{Config}
 use Rattle.txn_manager.specs.Manager.{Manager, PassTxns, txns_of}
@@ -89,15 +91,17 @@ newest_graph core = graph_at core.kind core.journal (length core.journal)
 
 -- ---- what contracts see
 
--- an engine and its rows
+-- an engine, its rows, and where its last sweep has ended
 pub record Store : Type 0 where
   pub core : Core
   pub rows : Leaves
+  pub next : Key
 
 -- a new engine, whose rows are none
 pub record IsNewStore (config : Config) (s : Store) : Type 0 where
   pub core : s.core ≡ new_core config
   pub rows : AreNone config.leaves s.rows
+  pub next : s.next ≡ first_key
 
 -- no record is left: each key has what the newest graph has there, and nothing besides
 abbrev pub IsSettled : Store → Type 0

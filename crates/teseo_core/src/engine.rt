@@ -74,8 +74,7 @@ impl Engine for Core {
     }
 
     fn service_step(&mut self) -> Result<bool, NoMemory> {
-        self.serve_here();
-        Ok(false)
+        Ok(self.serve_here())
     }
 
     ghost begins = { λ s t r did. begins_by s.core t.core r did };

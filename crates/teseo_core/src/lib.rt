@@ -13,6 +13,7 @@ mod pass;
 mod read;
 mod settle;
 mod store;
+mod sweep;
 mod write;
 
 pub use settle::CoreJournal;

@@ -2,14 +2,14 @@
 
 ghost use Rattle.std.specs.Prelude.{◌≡◌, ◌<◌, ◌↔◌, None, Some, IsSome, IfOk, Err, length, replicate, true};
 ghost use Rattle.graph_model.specs.OwnerCalls.{current};
-ghost use Rattle.graph_model.specs.OwnerLaws.{DidBegin, DidCommit, DidAbort, DidServe};
+ghost use Rattle.graph_model.specs.OwnerLaws.{DidBegin, DidCommit, DidAbort};
 ghost use Rattle.txn_manager.specs.Config.{too_large};
 ghost use Rattle.txn_manager.specs.declared.config.StoreRefusal.TheVariants.{TooLarge};
 ghost use Rattle.teseo_core.specs.Passes.{new_pass};
 ghost use Rattle.teseo_core.specs.Keeping.{IsNewStore, states_of};
 
 use crate::pass::Pass;
-use graph_model::{BeginRefusal, Begun, Kind, NoMemory, TxnName};
+use graph_model::{BeginRefusal, Begun, Key, Kind, NoMemory, TxnName};
 use leaf_rows::{LeafRows, Reader};
 use std::alloc::Global;
 use std::marker::Model;
@@ -26,6 +26,10 @@ pub struct Core {
     pub(crate) selected: u32,
     pub(crate) served: u64,
     pub(crate) rows: LeafRows,
+    /// Where the last sweep has ended.
+    pub(crate) next: Key,
+    /// The newest stamp at the service's last turn.
+    pub(crate) swept: u64,
 }
 
 impl Model for Core {
@@ -36,6 +40,7 @@ impl Model for Core {
     ghost view = { λ c. record {
       core = core_of c.kind c.leaves c.manager c.passes.items c.selected c.served;
       rows = c.rows;
+      next = c.next;
     } };
 
     ghost invariant = { λ c.
@@ -63,6 +68,8 @@ impl Core {
             selected: 0,
             served: 0,
             rows,
+            next: Key::of_vertex(0),
+            swept: 0,
         })
     }
 
@@ -78,13 +85,6 @@ impl Core {
         ensures { self.new ≡ record self.old { core = record self.old.core { selected = pass } } }
     {
         self.selected = pass;
-    }
-
-    /// Counts a turn of the service, which has nothing to do.
-    pub(crate) fn serve_here(&mut self)
-        ensures { DidServe self.old.core self.new.core }
-    {
-        self.served = self.served.saturating_add(1);
     }
 
     /// Begins the next transaction of the selected pass.

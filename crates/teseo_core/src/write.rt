@@ -1,19 +1,37 @@
 //! Writes of the open transaction.
 
-ghost use Rattle.std.specs.Prelude.{◌≡◌, IsSome, OnOk, OnErr};
+ghost use Rattle.std.specs.Prelude.{◌≡◌, ◌<◌, ◌≤◌, true, IsSome, IfErr, OnOk, OnErr};
 ghost use Rattle.graph_model.specs.OwnerCalls.{current};
 ghost use Rattle.graph_model.specs.OwnerLaws.{DidWrite};
 ghost use Rattle.graph_model.specs.Refused.{IsWithinLimits};
+ghost use Rattle.graph_model.specs.Rows.{is_below, end_key};
+ghost use Rattle.leaf_store.specs.Leaves.{room_at};
+ghost use Rattle.leaf_store.specs.Changes.{IsRoomRefusal};
 ghost use Rattle.leaf_rows.specs.Laying.{HasRoomFor, MayLay, Stays};
 ghost use Rattle.teseo_core.specs.Passes.{Laid, Puts};
 
 use crate::pass::Pass;
 use crate::store::{Core, reader_of};
-use graph_model::{Kind, NoMemory, Refusal, TxnName, Write};
+use graph_model::{Key, Kind, NoMemory, Refusal, TxnName, Write};
 use leaf_rows::LeafRows;
 use txn_manager::RoomRefusal;
 
 impl Core {
+    /// Makes room for so many rows in a key's cell, which has too little: spreads the smallest window round it that has
+    /// room for them, else splits its leaf. A write does so on its own.
+    pub fn make_room(&mut self, key: Key, need: u8) -> Result<(), RoomRefusal>
+        requires within { is_below key end_key ≡ true }
+        requires some { 1 ≤ need }
+        requires few { need ≤ 2 }
+        requires short { room_at self.old.rows key < need }
+        ensures core { self.new.core ≡ self.old.core }
+        ensures stays { Stays self.old.rows self.new.rows }
+        ensures ok { OnOk result (need ≤ room_at self.new.rows key) }
+        ensures refused { IfErr result (λ refusal. IsRoomRefusal self.old.rows key need refusal self.new.rows) }
+    {
+        self.rows.make_cell_room(key, need)
+    }
+
     /// Makes a write of the open transaction, or says why it isn't made.
     pub(crate) fn write_here(&mut self, write: Write) -> Result<(), Refusal>
         requires current { IsSome (current self.old.core).start }

@@ -1,7 +1,8 @@
-use Rattle.std.proofs.Common.{refl}
+use Rattle.std.proofs.Common.{◌+◌, ◌∙◌, ap, refl}
+use Rattle.version_segment.specs.Rows.{all_records}
 use Rattle.leaf_rows.proofs.RunLemmas.{all_named}
 use Rattle.leaf_rows.proofs.SettleLemmas.{prunes_keys, pruned_unstamped, pruned_weight}
-use Rattle.leaf_rows.proofs.rows.LeafRows.settle_cell.Goals as goal
+use Rattle.leaf_rows.proofs.rows.LeafRows.sweep.Goals as goal
 
 pub prune-pruned-requires-clause-named : goal.prune-pruned-requires-clause-named
 prune-pruned-requires-clause-named c = all_named _ (λ by. refl) _
@@ -13,6 +14,12 @@ invariant_of-self c =
 pub returns-clause-prunes : goal.returns-clause-prunes
 returns-clause-prunes c =
     rw (← c.self.view_is) (prunes_keys _ c.args.horizon c.self.inside.store c.prune-pruned.new.self c.args.key c.prune-pruned.result c.limit.ensures.sound c.limit.ensures.apart c.prune-pruned.ensures.pruned c.self.invariant)
+
+pub returns-clause-went : goal.returns-clause-went
+returns-clause-went c =
+    let pruned = c.prune-pruned.ensures.pruned in
+    let here = pruned.changes.here c.args.key (c.limit.ensures.there c.args.key c.requires.within) in
+    rw (← c.self.view_is) (ap (λ cell. c.prune-pruned.result.records + all_records cell.rows) here ∙ pruned.went)
 
 pub returns-clause-high : goal.returns-clause-high
 returns-clause-high c = rw (← c.self.view_is) c.prune-pruned.ensures.pruned.high
