@@ -90,6 +90,7 @@ tied_grows old new pass k job tied kind rest journal within shown =
       counted = tied.counted;
       by_txn = tied.by_txn;
       last = tied.last;
+      begins = tied.begins;
       room = tied.room;
       scans = λ c more e. scan_on job.scan c (same (unwrap_or pass.start 0) pass.own within) (tied.scans c more e);
       small = tied.small;

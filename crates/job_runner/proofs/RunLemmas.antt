@@ -17,14 +17,14 @@ use Rattle.run_model.specs.Inputs.{Inputs}
 use Rattle.run_model.specs.Run.{HasFiles, MayFill}
 use Rattle.run_model.specs.Jobs.{JobState, new_job, load_journal, first_state, lines_so_far, turn, is_empty, has_ended}
 use Rattle.run_model.specs.Stepped.{rotated, turn_at, service_turns, setting_of, IsReached, context_in}
-use Rattle.run_model.specs.UnderWay.{IsUnderWay}
+use Rattle.run_model.specs.UnderWay.{script_of, IsUnderWay}
 use Rattle.run_model.proofs.SteppedLemmas.{first_is}
 use Rattle.run_model.proofs.SetLemmas.{get_map, map_get, sum_cons}
 use Rattle.job_runner.specs.declared.phase.Phase.{Phase}
 use Rattle.job_runner.specs.declared.phase.Phase.TheVariants.{Between, Open, Skipping, GivenUp}
 use Rattle.job_runner.specs.Lines.{IsPhase, file_of}
 use Rattle.job_runner.specs.Progress.{Progress, new_progress, left_of, has_given_up, is_over, job_at, seats, state_of}
-use Rattle.job_runner.specs.Runs.{new_jobs, IsUnused, AreNew, files_context, AreTied, AreUnderWay, under_way, Turns, Ends}
+use Rattle.job_runner.specs.Runs.{new_jobs, IsUnused, AreNew, files_context, AreTied, AreUnderWay, under_way, Turns, HasDone, HaveDone, Ends}
 use Rattle.job_runner.proofs.FileLemmas.{files_to}
 use Rattle.job_runner.proofs.SeatLemmas.{rest_get}
 use Rattle.job_runner.proofs.TieLemmas as ties
@@ -46,7 +46,7 @@ serves core jobs new is = subst (λ x. Turns core jobs 0 false x jobs) (sym is) 
 })
   where
     same : (k : ℕ) (job : Progress) → AreTied core (pass_at core (suc k)) k job → AreTied (record core { served = one_more core.served }) (pass_at core (suc k)) k job
-    same k job t = record { number = t.number; answered = t.answered; phase_is = t.phase_is; wrote = t.wrote; counted = t.counted; by_txn = t.by_txn; last = t.last; room = t.room; scans = t.scans; small = t.small; files = t.files }
+    same k job t = record { number = t.number; answered = t.answered; phase_is = t.phase_is; wrote = t.wrote; counted = t.counted; by_txn = t.by_txn; last = t.last; begins = t.begins; room = t.room; scans = t.scans; small = t.small; files = t.files }
 
 -- ---- the beginning
 
@@ -106,6 +106,7 @@ module _ (inputs : Inputs) (core : Core) (jobs : List Progress) (new : AreNew in
         counted = ap length none.made ∙ sym none.begun;
         by_txn = λ n lt. absurd (let zero_begun : (pass_at core (suc k)).begun ≡ 0 = none.begun in omega (arith, lt, zero_begun));
         last = λ opened. absurd (let never : false ≡ true = sym (ap is_some none.closed) ∙ opened in cc);
+        begins = ap (λ n. begun_by n cs) none.begun;
         room = subst (λ n. begun_by n cs ≤ (pass_at core (suc k)).allowed) (sym none.begun) (new.room k cs there);
         scans = λ c rest e. tt;
         small = omega arith;
@@ -256,6 +257,33 @@ closed_at_end inputs core jobs are over (suc k) = by_place (slice_get_cases jobs
     by_place (inr (past, e)) = (are.unused k past).closed
     by_place (inl (job, inside, e, same)) = none_within _ (pass_at core (suc k)).start (left_of job) (each_ended (state_of core jobs).jobs over k (job_at (pass_at core (suc k)) job) (ties.seat inputs core jobs are k job e)) (ties.its inputs core jobs are k job e).script
 
+-- the answered lines of a script, and those that are left, are the script
+commands_of_lines : (txn : ℕ) (cs : List Command) (ys : List Answer) → length ys ≤ length cs → map (λ (l : AnsweredLine). l.command) (answered_from txn cs ys) ++ drop (length ys) cs ≡ cs
+commands_of_lines txn [] [] le = refl
+commands_of_lines txn [] (y ∷ ys) le = absurd (omega (arith, le))
+commands_of_lines txn (c ∷ cs) [] le = refl
+commands_of_lines txn (c ∷ cs) (y ∷ ys) le = ap (λ ds. c ∷ ds) (commands_of_lines (next_txn txn (request c)) cs ys (omega (arith, le)))
+
+done_at_end : (inputs : Inputs) (core : Core) (jobs : List Progress) → AreUnderWay inputs core jobs → has_ended (state_of core jobs) ≡ true → HaveDone inputs.scripts (map (λ job. job.answers) jobs) core
+done_at_end inputs core jobs are over k commands answers script report =
+    let found = map_get (λ (job : Progress). job.answers) jobs k answers report in
+    let tied = are.each k found.0 found.1 in
+    let seat = ties.seat inputs core jobs are k found.0 found.1 in
+    let whole = sym (get_map script_of (state_of core jobs).jobs k (job_at (pass_at core (suc k)) found.0) seat) ∙ ap (λ xs. slice_get xs k) are.state.whole ∙ script in
+    let same = sym (commands_of_lines 0 (found.0).commands (found.0).answers tied.answered) ∙ some_commands whole in
+    subst (λ cs. HasDone (pass_at core (suc k)) cs answers) same (subst (HasDone (pass_at core (suc k)) (found.0).commands) found.2 (record {
+      begun = none_left (left_of found.0) (each_ended (state_of core jobs).jobs over k (job_at (pass_at core (suc k)) found.0) seat) ∙ tied.begins;
+      count = tied.counted;
+      made = tied.by_txn;
+    }))
+  where
+    none_left : (cs : List Command) → is_empty cs ≡ true → (pass_at core (suc k)).begun ≡ begun_by (pass_at core (suc k)).begun cs
+    none_left [] e = refl
+    none_left (c ∷ cs) e = cc
+
+    some_commands : {x y : List Command} → ◌≡◌ {A = Option (List Command)} (Some x) (Some y) → x ≡ y
+    some_commands e = cc
+
 pub at_end : (inputs : Inputs) (schedule : List ℕ) (first : Core) (n : ℕ) (core : Core) (jobs : List Progress) → IsAt inputs schedule first n core jobs → under_way jobs ≡ 0 → Ends inputs schedule first core jobs
 at_end inputs schedule first n core jobs at none = record {
   run = record {
@@ -277,6 +305,7 @@ at_end inputs schedule first n core jobs at none = record {
   };
   kind = at.state.kind;
   closed = closed_at_end inputs core jobs at.state (ended_is inputs core jobs at.state ∙ ap (λ m. m == 0) none ∙ self_eq 0);
+  passes = done_at_end inputs core jobs at.state (ended_is inputs core jobs at.state ∙ ap (λ m. m == 0) none ∙ self_eq 0);
   served = at.served;
 }
   where

@@ -97,6 +97,7 @@ module _ (inputs : Inputs) (core : Core) (jobs : List Progress) (u : AreUnderWay
       counted = tied.counted;
       by_txn = tied.by_txn;
       last = tied.last;
+      begins = tied.begins;
       room = tied.room;
       scans = λ x more e. subst (λ y. IsScan (view_here chosen) (request y) next) (heads c x rest more (sym cons ∙ e)) scans.scan;
       small = scans.small;
@@ -180,6 +181,7 @@ module _ (inputs : Inputs) (core : Core) (jobs : List Progress) (u : AreUnderWay
           ∙ txn_more pass.made pass.begun lines tied.counted (ties.its inputs core jobs u k job there).numbered tied.by_txn c given.answer (request c) refl n lt
           ∙ ap (λ ls. Some (own_writes (suc n) ls)) (sym lines_are);
       last = last_behind chosen.kind chosen.journal (open_txns chosen) (suc k) (seat chosen (is_skipping job.phase)) answered.does.full pass.made tied.last (request c);
+      begins = subst (λ cs. begun_by (next_txn pass.begun (request c)) cs ≡ begun_by 0 job.commands) (sym left_is) (subst (λ cs. begun_by pass.begun cs ≡ begun_by 0 job.commands) cons tied.begins);
       room = subst (λ cs. begun_by (next_txn pass.begun (request c)) cs ≤ pass.allowed) (sym left_is) (subst (λ cs. begun_by pass.begun cs ≤ pass.allowed) cons tied.room);
       scans = λ x more e. tt;
       small = omega arith;

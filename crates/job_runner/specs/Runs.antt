@@ -5,6 +5,7 @@ use Rattle.graph_model.specs.declared.write.Write.{Write}
 use Rattle.graph_model.specs.declared.journal.Commit.{Commit}
 use Rattle.graph_model.specs.History.{view}
 use Rattle.graph_model.specs.OwnerCalls.{PassState, Core, pass_at, one_more}
+use Rattle.run_model.specs.declared.answer.Answer.{Answer}
 use Rattle.run_model.specs.declared.command.Command.{Command}
 use Rattle.run_model.specs.AnsweredLines.{answered_lines, made_by, own_writes}
 use Rattle.run_model.specs.Inputs.{Inputs, AreInputs, Outputs}
@@ -69,6 +70,8 @@ pub record AreTied (core : Core) (pass : PassState) (k : ℕ) (job : Progress) :
   pub by_txn : (n : ℕ) → n < pass.begun
       → slice_get pass.made n ≡ Some (own_writes (suc n) (answered_lines job.commands job.answers))
   pub last : IsSome pass.start → (earlier : List (List Write)) × (pass.made ≡ earlier ++ pass.own ∷ [])
+  -- with those of the lines that are left it begins all of its script's transactions
+  pub begins : begun_by pass.begun (left_of job) ≡ begun_by 0 job.commands
   -- it may begin the transactions of the lines that are left
   pub room : begun_by pass.begun (left_of job) ≤ pass.allowed
   -- the rows that the job has laid by, and those that are left to its scan, are those that its line scans
@@ -159,11 +162,25 @@ outputs_of core jobs = record {
   files = map (λ job. map file_of job.tables) jobs;
 }
 
+-- A pass has begun all transactions of its script, and has made in each what its lines were answered that they wrote.
+pub record HasDone (pass : PassState) (commands : List Command) (answers : List Answer) : Type 0 where
+  pub begun : pass.begun ≡ begun_by 0 commands
+  pub count : length pass.made ≡ pass.begun
+  pub made : (n : ℕ) → n < pass.begun
+      → slice_get pass.made n ≡ Some (own_writes (suc n) (answered_lines commands answers))
+
+-- each script's pass has
+abbrev pub HaveDone : List (List Command) → List (List Answer) → Core → Type 0
+HaveDone scripts reports core =
+    (k : ℕ) (commands : List Command) (answers : List Answer) → slice_get scripts k ≡ Some commands
+    → slice_get reports k ≡ Some answers → HasDone (pass_at core (suc k)) commands answers
+
 -- the run is over, and it was one by these turns; no transaction is open, and the service's turns were counted,
 -- up to the last number
 pub record Ends (inputs : Inputs) (schedule : List ℕ) (old new : Core) (jobs : List Progress) : Type 0 where
   pub run : IsStepped inputs old.leaves schedule (outputs_of new jobs)
   pub kind : new.kind ≡ inputs.kind
   pub closed : (p : ℕ) → (pass_at new p).start ≡ None
+  pub passes : HaveDone inputs.scripts (map (λ job. job.answers) jobs) new
   pub served : old.served < 2 ^ 64
       → new.served ≡ min (old.served + service_turns (length inputs.scripts) schedule run.turns) (2 ^ 64 - 1)

@@ -12,7 +12,7 @@ use std::os::fd::AsRawFd;
 use std::process::ExitCode;
 use std::rt::Files;
 use std::{env, io};
-use teseo_program::{Outcome, end_with, teseo};
+use teseo_program::{Left, Outcome, end_with, teseo};
 
 /// The last descriptor of the three that a program begins with.
 const STANDARD_ERROR: i32 = 2;
@@ -22,8 +22,9 @@ fn main(rt: HostRuntime) -> ExitCode {
     let alloc = rt.alloc();
     let words = words(&rt, alloc);
     let mut desk = StdDesk::new(alloc, &rt);
+    let mut left = Left::Nothing;
     ExitCode::from(match words {
-        Ok(words) => teseo(&rt, alloc, &words, &mut desk, &OpenGate),
+        Ok(words) => teseo(&rt, alloc, &words, &mut desk, &OpenGate, &mut left),
         Err(outcome) => end_with(&mut desk, outcome),
     })
 }

@@ -23,6 +23,7 @@ use Rattle.teseo_program.specs.declared.fault.SourceFault.{SourceFault}
 use Rattle.teseo_program.specs.declared.fault.SourceFault.TheVariants as faults
 use Rattle.teseo_program.specs.declared.outcome.Outcome.{Outcome}
 use Rattle.teseo_program.specs.declared.outcome.Outcome.TheVariants.{Done, Full, LoadFull, BadWords, NotRead, NotAccepted, NoMemory, NotWritten}
+use Rattle.teseo_program.specs.declared.left.Left.{Left}
 use Rattle.teseo_program.specs.Input.{Meaning, Texts, texts_of, HasGraphFault, AreScripts, IsSchedule, IsAccepted, IsFaultBehind, IsNotAccepted}
 use Rattle.teseo_program.specs.Outcomes.{status_of, IsRunOutcome, IsMakeOutcome, Ends}
 use Rattle.teseo_program.specs.Laws.{IsTold, AreTold, Stands, HasNoFault, AcceptedRunsEndWell, GraphsAreMade}
@@ -109,38 +110,38 @@ module _ (request : RunRequest) (sources : List (List ℕ)) (m : Meaning) (old n
       absurd (not_too_long old name is.0 is.1 long)
   stop_ends_well reads.NoMemory before stop same = refl
 
-  pub run_ends_well : (outcome : Outcome) → IsRunOutcome outcome request old new → (outcome ≡ Done) ⊎ ((status_of outcome ≡ 6) ⊎ (status_of outcome ≡ 3))
-  run_ends_well Done is = inl refl
-  run_ends_well Full is = inr (inl refl)
-  run_ends_well LoadFull is = inr (inl refl)
-  run_ends_well BadWords is = absurd is.cause
-  run_ends_well (NotRead stop) is = inr (inr (stop_ends_well stop is.before is.cause (sym (ap (λ f. f.read_faults) is.says.rest))))
-  run_ends_well (NotAccepted place fault) is =
+  pub run_ends_well : (outcome : Outcome) (left left' : Left) → IsRunOutcome outcome request old new left left' → (outcome ≡ Done) ⊎ ((status_of outcome ≡ 6) ⊎ (status_of outcome ≡ 3))
+  run_ends_well Done left left' is = inl refl
+  run_ends_well Full left left' is = inr (inl refl)
+  run_ends_well LoadFull left left' is = inr (inl refl)
+  run_ends_well BadWords left left' is = absurd is.cause
+  run_ends_well (NotRead stop) left left' is = inr (inr (stop_ends_well stop is.before is.cause (sym (ap (λ f. f.read_faults) is.says.rest))))
+  run_ends_well (NotAccepted place fault) left left' is =
       let cause = is.cause in
       let one : cause.0.0 ≡ sources = read_told old (source_names request) sources cause.0.0 told cause.0.1 in
       absurd (none_refused request (texts_of request sources) m accepted place fault (subst (λ read. IsNotAccepted request (texts_of request read) place fault) one cause.0.2))
-  run_ends_well NoMemory is = inr (inr refl)
-  run_ends_well (NotWritten stop) is =
+  run_ends_well NoMemory left left' is = inr (inr refl)
+  run_ends_well (NotWritten stop) left left' is =
       let kept : new.write_faults ≡ is.before.write_faults = ap (λ f. f.write_faults) is.says.rest in
       absurd (stands_still old.write_faults new.write_faults no_fault.writes (subst (Rose old.write_faults) (sym kept) is.cause.1.2.rose))
 
 -- words ask for one thing, so the call ends as that does
-asked_ends : (outcome : Outcome) (words : List (List ℕ)) (request other : Request) (old new : Files) → IsTaken words request → IsTaken words other → Ends outcome other old new → Ends outcome request old new
-asked_ends outcome words request other old new taken also = subst (λ asked. Ends outcome asked old new) (taken_once words other request also taken)
+asked_ends : (outcome : Outcome) (words : List (List ℕ)) (request other : Request) (old new : Files) (left left' : Left) → IsTaken words request → IsTaken words other → Ends outcome other old new left left' → Ends outcome request old new left left'
+asked_ends outcome words request other old new left left' taken also = subst (λ asked. Ends outcome asked old new left left') (taken_once words other request also taken)
 
 -- an accepted run without a fault is done, or finds no place, or wants memory
 pub end_well : AcceptedRunsEndWell
-end_well BadWords words request sources m old new taken told accepted no_fault (never, says) = absurd (never (run request) taken)
-end_well Done words request sources m old new taken told accepted no_fault ends = inl refl
-end_well Full words request sources m old new taken told accepted no_fault ends = inr (inl refl)
-end_well LoadFull words request sources m old new taken told accepted no_fault ends = inr (inl refl)
-end_well NoMemory words request sources m old new taken told accepted no_fault ends = inr (inr refl)
-end_well (NotRead stop) words request sources m old new taken told accepted no_fault (other, also, ends) =
-    run_ends_well request sources m old new told accepted no_fault (NotRead stop) (asked_ends (NotRead stop) words (run request) other old new taken also ends)
-end_well (NotAccepted place fault) words request sources m old new taken told accepted no_fault (other, also, ends) =
-    run_ends_well request sources m old new told accepted no_fault (NotAccepted place fault) (asked_ends (NotAccepted place fault) words (run request) other old new taken also ends)
-end_well (NotWritten stop) words request sources m old new taken told accepted no_fault (other, also, ends) =
-    run_ends_well request sources m old new told accepted no_fault (NotWritten stop) (asked_ends (NotWritten stop) words (run request) other old new taken also ends)
+end_well BadWords words request sources m old new taken told accepted no_fault left left' (never, says, kept) = absurd (never (run request) taken)
+end_well Done words request sources m old new taken told accepted no_fault left left' ends = inl refl
+end_well Full words request sources m old new taken told accepted no_fault left left' ends = inr (inl refl)
+end_well LoadFull words request sources m old new taken told accepted no_fault left left' ends = inr (inl refl)
+end_well NoMemory words request sources m old new taken told accepted no_fault left left' ends = inr (inr refl)
+end_well (NotRead stop) words request sources m old new taken told accepted no_fault left left' (other, also, ends) =
+    run_ends_well request sources m old new told accepted no_fault (NotRead stop) left left' (asked_ends (NotRead stop) words (run request) other old new left left' taken also ends)
+end_well (NotAccepted place fault) words request sources m old new taken told accepted no_fault left left' (other, also, ends) =
+    run_ends_well request sources m old new told accepted no_fault (NotAccepted place fault) left left' (asked_ends (NotAccepted place fault) words (run request) other old new left left' taken also ends)
+end_well (NotWritten stop) words request sources m old new taken told accepted no_fault left left' (other, also, ends) =
+    run_ends_well request sources m old new told accepted no_fault (NotWritten stop) left left' (asked_ends (NotWritten stop) words (run request) other old new left left' taken also ends)
 
 graph_ends_well : (outcome : Outcome) (request : MakeRequest) (old new : Files) → HasNoFault old new → IsMakeOutcome outcome request old new → (outcome ≡ Done) ⊎ (status_of outcome ≡ 3)
 graph_ends_well Done request old new no_fault is = inl refl
@@ -156,16 +157,16 @@ graph_ends_well (NotWritten stop) request old new no_fault is =
 
 -- a graph is made without a fault, or memory is wanted
 pub graphs_made : GraphsAreMade
-graphs_made BadWords words request old new taken no_fault (never, says) = absurd (never (make request) taken)
-graphs_made NoMemory words request old new taken no_fault says = inr refl
-graphs_made Done words request old new taken no_fault ends = inl refl
-graphs_made Full words request old new taken no_fault (other, also, ends) =
-    graph_ends_well Full request old new no_fault (asked_ends Full words (make request) other old new taken also ends)
-graphs_made LoadFull words request old new taken no_fault (other, also, ends) =
-    graph_ends_well LoadFull request old new no_fault (asked_ends LoadFull words (make request) other old new taken also ends)
-graphs_made (NotRead stop) words request old new taken no_fault (other, also, ends) =
-    graph_ends_well (NotRead stop) request old new no_fault (asked_ends (NotRead stop) words (make request) other old new taken also ends)
-graphs_made (NotAccepted place fault) words request old new taken no_fault (other, also, ends) =
-    graph_ends_well (NotAccepted place fault) request old new no_fault (asked_ends (NotAccepted place fault) words (make request) other old new taken also ends)
-graphs_made (NotWritten stop) words request old new taken no_fault (other, also, ends) =
-    graph_ends_well (NotWritten stop) request old new no_fault (asked_ends (NotWritten stop) words (make request) other old new taken also ends)
+graphs_made BadWords words request old new taken no_fault left left' (never, says, kept) = absurd (never (make request) taken)
+graphs_made NoMemory words request old new taken no_fault left left' says = inr refl
+graphs_made Done words request old new taken no_fault left left' ends = inl refl
+graphs_made Full words request old new taken no_fault left left' (other, also, ends) =
+    graph_ends_well Full request old new no_fault (asked_ends Full words (make request) other old new left left' taken also ends).0
+graphs_made LoadFull words request old new taken no_fault left left' (other, also, ends) =
+    graph_ends_well LoadFull request old new no_fault (asked_ends LoadFull words (make request) other old new left left' taken also ends).0
+graphs_made (NotRead stop) words request old new taken no_fault left left' (other, also, ends) =
+    graph_ends_well (NotRead stop) request old new no_fault (asked_ends (NotRead stop) words (make request) other old new left left' taken also ends).0
+graphs_made (NotAccepted place fault) words request old new taken no_fault left left' (other, also, ends) =
+    graph_ends_well (NotAccepted place fault) request old new no_fault (asked_ends (NotAccepted place fault) words (make request) other old new left left' taken also ends).0
+graphs_made (NotWritten stop) words request old new taken no_fault left left' (other, also, ends) =
+    graph_ends_well (NotWritten stop) request old new no_fault (asked_ends (NotWritten stop) words (make request) other old new left left' taken also ends).0

@@ -1,12 +1,11 @@
 -- Rows counted up to as many as fill the greatest number of leaves.
-use Rattle.std.proofs.Common.{◌≡◌, ℕ, zero, suc, ◌+◌, ◌-◌, ◌*◌, ◌/◌, ◌<◌, ◌≤◌, List, [], ◌∷◌, length, take, get_or, refl, sym, ◌∙◌, ap, subst, arith}
-use Rattle.std.specs.Prelude.{min, sum_by}
-use Rattle.graph_model.specs.declared.limits.TheConstants.{MAX_LEAVES, SPLIT_ROWS}
+use Rattle.std.proofs.Common.{◌≡◌, ℕ, zero, suc, ◌+◌, ◌*◌, ◌/◌, ◌<◌, ◌≤◌, List, [], ◌∷◌, length, take, get_or, ◌∙◌, arith}
+use Rattle.std.specs.Prelude.{min}
 use Rattle.graph_model.specs.declared.write.Kind.{Kind}
 use Rattle.graph_model.specs.declared.write.Kind.TheVariants.{Directed, Undirected}
 use Rattle.graph_model.specs.Inserted.{inserted}
 use Rattle.graphalytics_io.specs.declared.edges.Edge.{Edge}
-use Rattle.graphalytics_io.specs.Load.{load_of, added_edge}
+use Rattle.graphalytics_io.specs.Load.{load_of}
 use Rattle.run_model.specs.declared.command.Command.{Command}
 use Rattle.run_model.specs.Requests.{request}
 use Rattle.run_model.proofs.SetLemmas.{sum_cons}

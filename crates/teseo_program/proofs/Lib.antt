@@ -10,3 +10,4 @@ mod LawLemmas
 mod OutcomeLemmas
 mod RunLemmas
 pub mod LeavesLemmas
+pub mod RoomLawLemmas

@@ -1,5 +1,7 @@
 -- A call ends as its outputs are written, or as its preparation stopped.
-use Rattle.std.proofs.Common.{◌≡◌, ℕ, List, [], sym, ◌∙◌, subst, true, false}
+use Rattle.std.proofs.Common.{◌≡◌, ℕ, List, [], refl, sym, ◌∙◌, subst, true, false}
+use Rattle.graph_model.specs.declared.write.Kind.TheVariants.{Directed}
+use Rattle.graph_model.specs.OwnerCalls.{Core}
 use Rattle.desk_io.specs.Files.{Files}
 use Rattle.desk_io.specs.Outputs.{names_of, WritesAll, FailsAtPlace}
 use Rattle.command_words.specs.declared.refusal.WordsRefusal.{WordsRefusal}
@@ -9,15 +11,17 @@ use Rattle.command_words.specs.Views.{RefusesWords}
 use Rattle.teseo_program.specs.declared.outcome.Outcome.{Outcome}
 use Rattle.teseo_program.specs.declared.outcome.Outcome.TheVariants.{Done, Full, LoadFull, BadWords, NotRead, NotAccepted, NoMemory, NotWritten}
 use Rattle.teseo_program.specs.declared.prepare.Prepared.{Prepared}
+use Rattle.teseo_program.specs.declared.left.Left.{Left}
+use Rattle.teseo_program.specs.declared.left.Left.TheVariants.{Stepped}
 use Rattle.teseo_program.specs.Requests.{source_names}
 use Rattle.teseo_program.specs.Prepared.{IsUnprepared, IsPreparedOf, IsMadeGraph, Writes, IsWritten, made_of}
-use Rattle.teseo_program.specs.Outcomes.{Made, IsCause, OnlySays, SaysOutcome, said_text, blamed, outcome_of_words, IsRunOutcome, IsMakeCause, IsMakeOutcome, Ends, IsOutcome}
+use Rattle.teseo_program.specs.Outcomes.{Made, IsCause, OnlySays, SaysOutcome, said_text, blamed, outcome_of_words, IsLeft, IsRunOutcome, IsMakeCause, IsMakeOutcome, Ends, IsOutcome}
 
 -- ---- a run
 
 module _ (request : RunRequest) (old : Files) where
   module _ (p : Prepared) (of_run : IsPreparedOf request old p) where
-    written_cause : (before : Files) (outcome : Outcome) → Writes p.is_full p.outputs outcome old before → IsCause outcome request (made_of of_run.run p) old before
+    written_cause : (before : Files) (outcome : Outcome) → Writes p.is_full p.outputs outcome old before → IsCause outcome request (made_of of_run.run of_run.ran p) old before
     written_cause before Done writes = record { of_run = of_run.of_run; shows = of_run.full ∙ writes.0; writes = writes.1 }
     written_cause before Full writes = record { of_run = of_run.of_run; shows = of_run.full ∙ writes.0; writes = writes.1 }
     written_cause before LoadFull writes = absurd writes
@@ -40,18 +44,22 @@ module _ (request : RunRequest) (old : Files) where
     written_says before new (NotWritten stop) writes says = says
 
     -- what was prepared of a run is written
-    pub written_ends : (outcome : Outcome) (kept new : Files) → kept ≡ old → IsWritten p outcome kept new → IsRunOutcome outcome request old new
-    written_ends outcome kept new same written =
+    pub written_ends : (outcome : Outcome) (kept new : Files) (left left' : Left) → kept ≡ old → IsWritten p outcome kept new → IsLeft outcome p.left left left' → IsRunOutcome outcome request old new left left'
+    written_ends outcome kept new left left' same written left_is =
         let writes : Writes p.is_full p.outputs outcome old written.before = subst (λ files. Writes p.is_full p.outputs outcome files written.before) same written.writes in
         record {
-          made = made_of of_run.run p;
+          made = made_of of_run.run of_run.ran p;
           before = written.before;
           cause = written_cause written.before outcome writes;
           says = written_says written.before new outcome writes written.says;
+          left_is = subst (λ ran. IsLeft outcome ran left left') of_run.left left_is;
         }
 
+  no_core : Core
+  no_core = record { kind = Directed; leaves = 0; journal = []; passes = []; selected = 0; served = 0 }
+
   nothing : Made
-  nothing = record { run = record { journal = []; reports = []; files = [] }; outputs = []; summary = [] }
+  nothing = record { run = record { journal = []; reports = []; files = [] }; ran = no_core; outputs = []; summary = [] }
 
   unprepared_cause : (before : Files) (outcome : Outcome) → IsUnprepared request old before outcome → IsCause outcome request nothing old before
   unprepared_cause before Done stopped = absurd stopped
@@ -63,15 +71,26 @@ module _ (request : RunRequest) (old : Files) where
   unprepared_cause before NoMemory stopped = stopped
   unprepared_cause before (NotWritten stop) stopped = absurd stopped
 
+  unprepared_left : (before : Files) (outcome : Outcome) (ran left : Left) → IsUnprepared request old before outcome → IsLeft outcome ran left left
+  unprepared_left before Done ran left stopped = absurd stopped
+  unprepared_left before Full ran left stopped = absurd stopped
+  unprepared_left before LoadFull ran left stopped = refl
+  unprepared_left before BadWords ran left stopped = refl
+  unprepared_left before (NotRead stop) ran left stopped = refl
+  unprepared_left before (NotAccepted place fault) ran left stopped = refl
+  unprepared_left before NoMemory ran left stopped = refl
+  unprepared_left before (NotWritten stop) ran left stopped = absurd stopped
+
   -- nothing was prepared
-  pub unprepared_ends : (outcome : Outcome) (before new : Files) (name : List ℕ) → IsUnprepared request old before outcome → name ≡ blamed (source_names request) [] outcome
-      → OnlySays (said_text name [] outcome) before new → IsRunOutcome outcome request old new
+  pub unprepared_ends : (outcome : Outcome) (before new : Files) (left : Left) (name : List ℕ) → IsUnprepared request old before outcome → name ≡ blamed (source_names request) [] outcome
+      → OnlySays (said_text name [] outcome) before new → IsRunOutcome outcome request old new left left
   unfolding nothing
-  unprepared_ends outcome before new name stopped is says = record {
+  unprepared_ends outcome before new left name stopped is says = record {
     made = nothing;
     before = before;
     cause = unprepared_cause before outcome stopped;
     says = subst (λ blame. OnlySays (said_text blame [] outcome) before new) is says;
+    left_is = unprepared_left before outcome (Stepped no_core) left stopped;
   }
 
 -- ---- a graph that is made
@@ -98,20 +117,20 @@ module _ (request : MakeRequest) (p : Prepared) (made : IsMadeGraph request p) w
 -- ---- a call
 
 -- a call whose words are taken ends as its request does
-pub taken_ends : (outcome : Outcome) (words : List (List ℕ)) (request : Request) (old new : Files) → IsTaken words request → Ends outcome request old new → IsOutcome outcome words old new
-taken_ends Done words request old new taken ends = (request, taken, ends)
-taken_ends Full words request old new taken ends = (request, taken, ends)
-taken_ends LoadFull words request old new taken ends = (request, taken, ends)
-taken_ends BadWords words (run request) old new taken ends = absurd ends.cause
-taken_ends BadWords words (make request) old new taken ends = absurd ends.cause
-taken_ends (NotRead stop) words request old new taken ends = (request, taken, ends)
-taken_ends (NotAccepted place fault) words request old new taken ends = (request, taken, ends)
-taken_ends NoMemory words (run request) old new taken ends = subst (λ files. OnlySays (said_text [] [] NoMemory) files new) ends.cause ends.says
-taken_ends NoMemory words (make request) old new taken ends = subst (λ files. OnlySays (said_text [] [] NoMemory) files new) ends.cause ends.says
-taken_ends (NotWritten stop) words request old new taken ends = (request, taken, ends)
+pub taken_ends : (outcome : Outcome) (words : List (List ℕ)) (request : Request) (old new : Files) (left left' : Left) → IsTaken words request → Ends outcome request old new left left' → IsOutcome outcome words old new left left'
+taken_ends Done words request old new left left' taken ends = (request, taken, ends)
+taken_ends Full words request old new left left' taken ends = (request, taken, ends)
+taken_ends LoadFull words request old new left left' taken ends = (request, taken, ends)
+taken_ends BadWords words (run request) old new left left' taken ends = absurd ends.cause
+taken_ends BadWords words (make request) old new left left' taken ends = absurd ends.0.cause
+taken_ends (NotRead stop) words request old new left left' taken ends = (request, taken, ends)
+taken_ends (NotAccepted place fault) words request old new left left' taken ends = (request, taken, ends)
+taken_ends NoMemory words (run request) old new left left' taken ends = (subst (λ files. OnlySays (said_text [] [] NoMemory) files new) ends.cause ends.says, ends.left_is)
+taken_ends NoMemory words (make request) old new left left' taken ends = (subst (λ files. OnlySays (said_text [] [] NoMemory) files new) ends.0.cause ends.0.says, ends.1)
+taken_ends (NotWritten stop) words request old new left left' taken ends = (request, taken, ends)
 
 -- and one whose words are refused says so alone
-pub refused_ends : (refusal : WordsRefusal) (words : List (List ℕ)) (old new : Files) → RefusesWords words refusal
-    → OnlySays (said_text [] [] (outcome_of_words refusal)) old new → IsOutcome (outcome_of_words refusal) words old new
-refused_ends word_refusals.BadWords words old new never says = (λ request taken. never (request, taken), says)
-refused_ends word_refusals.NoMemory words old new never says = says
+pub refused_ends : (refusal : WordsRefusal) (words : List (List ℕ)) (old new : Files) (left : Left) → RefusesWords words refusal
+    → OnlySays (said_text [] [] (outcome_of_words refusal)) old new → IsOutcome (outcome_of_words refusal) words old new left left
+refused_ends word_refusals.BadWords words old new left never says = (λ request taken. never (request, taken), says, refl)
+refused_ends word_refusals.NoMemory words old new left never says = (says, refl)

@@ -17,7 +17,6 @@ use Rattle.run_model.specs.declared.command.Command.{Command}
 use Rattle.run_model.specs.Requests.{begun_by, IsScript}
 use Rattle.run_model.specs.Inputs.{AreInputs}
 use Rattle.run_model.specs.Run.{IsRun}
-use Rattle.run_model.specs.Stepped.{IsStepped}
 use Rattle.script_lang.specs.FieldFaults.{IsNameByte}
 use Rattle.script_lang.specs.Scripts.{files_of}
 use Rattle.desk_io.specs.Files.{Files}
@@ -30,13 +29,14 @@ use Rattle.teseo_program.specs.declared.fault.ParseStop.{ParseStop}
 use Rattle.teseo_program.specs.declared.fault.ParseStop.TheVariants as parses
 use Rattle.teseo_program.specs.declared.outcome.Outcome.{Outcome}
 use Rattle.teseo_program.specs.declared.prepare.Prepared.{Prepared}
+use Rattle.teseo_program.specs.declared.left.Left.TheVariants.{Stepped}
 use Rattle.teseo_program.specs.Input.{Meaning, Texts, texts_of, IsAccepted, inputs_of}
 use Rattle.teseo_program.specs.Parsing.{AreRunnable, IsParseStop}
 use Rattle.teseo_program.specs.Leaves.{leaves_for, leaves_of, most_rows}
 use Rattle.teseo_program.specs.Outcomes.{outcome_of_load, outcome_of_parse, shows_full}
 use Rattle.teseo_program.specs.Prepared.{IsUnprepared, IsPreparedOf, IsMadeOf, IsLoadStop}
 use Rattle.teseo_program.specs.Sinks.{sinks_of, summary_line, summary_text}
-use Rattle.teseo_program.specs.Running.{run_outputs, HasCounts, HavePrintableNames, IsRefusedLoad}
+use Rattle.teseo_program.specs.Running.{run_outputs, IsLeftBy, HasCounts, HavePrintableNames, IsRefusedLoad}
 use Rattle.teseo_program.proofs.RequestLemmas.{few_scripts, distinct_names}
 use Rattle.teseo_program.proofs.SublistLemmas.{sub_all, sub_behind}
 use Rattle.teseo_program.proofs.FileLemmas.{names_in, files_of_run, files_apart}
@@ -101,16 +101,18 @@ same_summary kind r has commits is = λ i. summary_line (is i) (has.vertices i) 
 
 -- what was made of a run is of what the sources stand for
 pub made_from : (request : RunRequest) (m : Meaning) (p : Prepared) (r : RunResult) (kind : Kind) (leaves commits : ℕ) → kind ≡ kind_of request → leaves ≡ leaves_for request.leaves (most_rows (inputs_of kind m))
-    → IsRun (inputs_of kind m) leaves (run_outputs r) → IsStepped (inputs_of kind m) leaves m.schedule (run_outputs r) → HasCounts kind r → commits ≡ length r.ran.journal
+    → IsRun (inputs_of kind m) leaves (run_outputs r) → IsLeftBy (inputs_of kind m) leaves m.schedule (run_outputs r) r.ran → HasCounts kind r → commits ≡ length r.ran.journal
     → p.outputs ≡ sinks_of request.journal (report_names request) (run_outputs r) → p.summary ≡ summary_line commits r.vertices r.edges → shows_full (run_outputs r) ≡ p.is_full
-    → IsMadeOf request m p
-made_from request m p r kind leaves commits is leaves_are run stepped counts counted outputs summary full = record {
+    → p.left ≡ Stepped r.ran → IsMadeOf request m p
+made_from request m p r kind leaves commits is leaves_are run left_by counts counted outputs summary full left = record {
   outputs = run_outputs r;
+  ran = r.ran;
   run = subst (λ n. IsRun (inputs_of (kind_of request) m) n (run_outputs r)) all_leaves (subst (λ k. IsRun (inputs_of k m) leaves (run_outputs r)) is run);
-  stepped = subst (λ n. IsStepped (inputs_of (kind_of request) m) n m.schedule (run_outputs r)) all_leaves (subst (λ k. IsStepped (inputs_of k m) leaves m.schedule (run_outputs r)) is stepped);
+  left_by = subst (λ n. IsLeftBy (inputs_of (kind_of request) m) n m.schedule (run_outputs r) r.ran) all_leaves (subst (λ k. IsLeftBy (inputs_of k m) leaves m.schedule (run_outputs r) r.ran) is left_by);
   outputs_are = outputs;
   summary_is = summary ∙ same_summary kind r counts commits counted ∙ ap (λ k. summary_text k (run_outputs r)) is;
   full = full;
+  left = left;
 }
   where
     all_leaves : leaves ≡ leaves_of request m
@@ -143,10 +145,12 @@ pub prepared_of : (request : RunRequest) (files : Files) (sources : List (List �
     → IsAccepted request (texts_of request sources) m → IsMadeOf request m p → IsPreparedOf request files p
 prepared_of request files sources m p read accepted made = record {
   run = made.outputs;
+  ran = made.ran;
   of_run = record {
     sources = sources;
     read = read;
-    of_texts = record { m = m; accepted = accepted; run = made.run; stepped = made.stepped; outputs_are = made.outputs_are; summary_is = made.summary_is };
+    of_texts = record { m = m; accepted = accepted; run = made.run; left = made.left_by; outputs_are = made.outputs_are; summary_is = made.summary_is };
   };
   full = made.full;
+  left = made.left;
 }

@@ -1,6 +1,6 @@
 -- The engine of a run before its first turn, and what the run leaves.
 use Rattle.std.proofs.Common.{◌≡◌, ℕ, zero, suc, ◌+◌, ◌*◌, ◌<◌, ◌≤◌, List, [], ◌∷◌, length, map, take, get_or, All, refl, sym, ◌∙◌, ap, subst, arith, replicate}
-use Rattle.std.specs.Prelude.{Bool, cond, slice_get, Some, unwrap_or, Result, Ok, Err, IsErrAnd, IfErr}
+use Rattle.std.specs.Prelude.{Bool, cond, min, ◌-◌, ◌^◌, slice_get, Some, unwrap_or, Result, Ok, Err, IsErrAnd, IfErr}
 use Rattle.std.specs.List.{AllByRecursion}
 use Rattle.std.proofs.lemmas.List.{append-nil}
 use Rattle.std.proofs.lemmas.List.Elements.{All-tail, All-head}
@@ -26,19 +26,17 @@ use Rattle.run_model.specs.declared.command.Command.{Command}
 use Rattle.run_model.specs.Requests.{Request, ToBegin, ToCommit, ToAbort, ToWrite, ToRead, ToRun, request, next_txn, begun_by}
 use Rattle.run_model.specs.Inputs.{Inputs, AreInputs}
 use Rattle.run_model.specs.Jobs.{load_journal}
-use Rattle.run_model.specs.Stepped.{IsStepped}
 use Rattle.run_model.proofs.SetLemmas.{sum_cons}
 use Rattle.txn_manager.specs.declared.config.Config.{Config}
 use Rattle.teseo_core.specs.Passes.{new_pass}
 use Rattle.teseo_core.specs.Keeping.{new_core, newest_graph, edges_of}
-use Rattle.job_runner.specs.Lines.{file_of}
 use Rattle.job_runner.specs.Progress.{Progress}
 use Rattle.job_runner.specs.Runs.{new_jobs, IsUnused, AreNew, outputs_of, Ends}
 use Rattle.command_words.specs.Words.{RunRequest}
 use Rattle.teseo_program.specs.Requests.{kind_of, rules_of}
 use Rattle.teseo_program.specs.declared.run.RunResult.{RunResult}
 use Rattle.teseo_program.specs.Input.{Meaning, Texts, IsAccepted}
-use Rattle.teseo_program.specs.Running.{run_outputs, HasCounts, Fits, IsConfig, IsRefusedLoad}
+use Rattle.teseo_program.specs.Running.{run_outputs, IsLeftBy, HasCounts, Fits, IsConfig, IsRefusedLoad}
 
 -- ---- transactions that a script begins
 
@@ -173,17 +171,26 @@ module _ (inputs : Inputs) (leaves : ℕ) (config : Config) (is : IsConfig input
       → ((i : Inputs) → AreNew i engine jobs → Ends i listed engine new last) → Ends inputs listed engine new last
   ended before engine new jobs last listed before_is engine_is jobs_are ends = ends inputs (started before engine jobs before_is engine_is jobs_are)
 
+  pub none_served : (before engine : Core) → before ≡ new_core config → engine ≡ loaded before inputs.load → engine.served ≡ 0
+  none_served before engine before_is engine_is = ap (λ c. c.served) engine_is ∙ ap (λ c. c.served) before_is
+
   pub leaves_are : (before engine : Core) → before ≡ new_core config → engine ≡ loaded before inputs.load → engine.leaves ≡ leaves
   leaves_are before engine before_is engine_is = ap (λ c. c.leaves) engine_is ∙ ap (λ c. c.leaves) before_is ∙ is.leaves_are
 
 -- ---- what a run leaves
 
 -- the run, as the code hands it on
-pub stepped_of : (inputs : Inputs) (leaves : ℕ) (schedule listed : List ℕ) (engine new : Core) (jobs : List Progress) (r : RunResult) → Ends inputs listed engine new jobs → listed ≡ schedule → engine.leaves ≡ leaves
-    → r.ran ≡ new → r.jobs ≡ jobs → IsStepped inputs leaves schedule (run_outputs r)
-stepped_of inputs leaves schedule listed engine new jobs r ends same leaves_is ran jobs_are =
-    subst (λ o. IsStepped inputs leaves schedule o) (λ i. record { journal = (sym ran i).journal; reports = map (λ job. job.answers) (sym jobs_are i); files = map (λ job. map file_of job.tables) (sym jobs_are i) })
-    (subst (λ n. IsStepped inputs n schedule (outputs_of new jobs)) leaves_is (subst (λ turns. IsStepped inputs engine.leaves turns (outputs_of new jobs)) same ends.run))
+pub left_by_run : (inputs : Inputs) (leaves : ℕ) (schedule listed : List ℕ) (engine new : Core) (jobs : List Progress) (r : RunResult) → Ends inputs listed engine new jobs → listed ≡ schedule → engine.leaves ≡ leaves
+    → engine.served ≡ 0 → r.ran ≡ new → r.jobs ≡ jobs → IsLeftBy inputs leaves schedule (run_outputs r) r.ran
+left_by_run inputs leaves schedule listed engine new jobs r ends same leaves_is zero_served ran jobs_are =
+    subst (λ (x : Core). IsLeftBy inputs leaves schedule (outputs_of x r.jobs) x) (sym ran)
+    (subst (λ js. IsLeftBy inputs leaves schedule (outputs_of new js) new) (sym jobs_are)
+    (subst (λ n. IsLeftBy inputs n schedule (outputs_of new jobs) new) leaves_is (subst (λ turns. IsLeftBy inputs engine.leaves turns (outputs_of new jobs) new) same (record {
+      stepped = ends.run;
+      journal = refl;
+      passes = ends.passes;
+      served = ends.served (omega (arith, zero_served)) ∙ ap (λ n. min n (2 ^ 64 - 1)) (omega (arith, zero_served));
+    }))))
 
 pub counts_of : (asked : Kind) (new : Core) (r : RunResult) → new.kind ≡ asked → r.ran ≡ new → r.vertices ≡ length (vertices_of (newest_graph new)) → r.edges ≡ edges_of new.kind (newest_graph new) → HasCounts asked r
 counts_of asked new r kind ran vertices edges = record {

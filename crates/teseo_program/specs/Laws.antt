@@ -1,13 +1,20 @@
--- A law of how runs end. It is the contract of a function in `laws`.
-use Rattle.std.specs.Prelude.{◌≡◌, ℕ, ◌^◌, ◌-◌, ◌<◌, ◌≤◌, ◌⊎◌, List, length, Some}
+-- Laws of how runs end. Each is the contract of a function in `laws`.
+use Rattle.std.specs.Prelude.{◌≡◌, ℕ, ◌^◌, ◌-◌, ◌*◌, ◌<◌, ◌≤◌, ◌⊎◌, List, length, slice_get, Some, None}
 use Rattle.std.specs.List.{AllZip}
-use Rattle.graph_model.specs.declared.limits.TheConstants.{MAX_SOURCE_BYTES}
+use Rattle.graph_model.specs.declared.limits.TheConstants.{MAX_LEAVES, MAX_SOURCE_BYTES, SPLIT_ROWS}
+use Rattle.graph_model.specs.Inserted.{inserted}
+use Rattle.run_model.specs.declared.answer.Answer.TheVariants.{Full}
+use Rattle.run_model.specs.AnsweredLines.{AnsweredLine}
+use Rattle.run_model.specs.Inputs.{Inputs, Outputs}
+use Rattle.run_model.specs.Run.{IsRun, run_lines}
 use Rattle.desk_io.specs.Files.{Files}
 use Rattle.teseo_program.specs.declared.outcome.Outcome.{Outcome}
 use Rattle.teseo_program.specs.declared.outcome.Outcome.TheVariants.{Done}
 use Rattle.command_words.specs.Words.{RunRequest, MakeRequest, run, make, IsTaken}
+use Rattle.teseo_program.specs.declared.left.Left.{Left}
 use Rattle.teseo_program.specs.Requests.{source_names}
 use Rattle.teseo_program.specs.Input.{Meaning, texts_of, IsAccepted}
+use Rattle.teseo_program.specs.Leaves.{leaves_for, most_rows}
 use Rattle.teseo_program.specs.Outcomes.{status_of, IsOutcome}
 
 -- the desk holds these bytes under the name, and they aren't too long
@@ -35,12 +42,31 @@ abbrev pub AcceptedRunsEndWell : Type 0
 AcceptedRunsEndWell =
     (outcome : Outcome) (words : List (List ℕ)) (request : RunRequest) (sources : List (List ℕ)) (m : Meaning)
     (old new : Files) → IsTaken words (run request) → AreTold request old sources
-    → IsAccepted request (texts_of request sources) m → HasNoFault old new → IsOutcome outcome words old new
+    → IsAccepted request (texts_of request sources) m → HasNoFault old new
+    → (left left' : Left) → IsOutcome outcome words old new left left'
     → (outcome ≡ Done) ⊎ ((status_of outcome ≡ 6) ⊎ (status_of outcome ≡ 3))
 
 -- a graph that is asked for is made and written, if no fault is met, or memory is wanted
 abbrev pub GraphsAreMade : Type 0
 GraphsAreMade =
     (outcome : Outcome) (words : List (List ℕ)) (request : MakeRequest) (old new : Files)
-    → IsTaken words (make request) → HasNoFault old new → IsOutcome outcome words old new
+    → IsTaken words (make request) → HasNoFault old new
+    → (left left' : Left) → IsOutcome outcome words old new left left'
     → (outcome ≡ Done) ⊎ (status_of outcome ≡ 3)
+
+-- ---- room without stated leaves
+
+-- A load finds its place where the rows of the load and of all lines together fill fewer than all leaves that there
+-- may be.
+abbrev pub LoadsFindRoom : Type 0
+LoadsFindRoom =
+    (inputs : Inputs) → most_rows inputs < SPLIT_ROWS * MAX_LEAVES
+    → inserted inputs.kind inputs.load < SPLIT_ROWS * leaves_for None (most_rows inputs)
+
+-- and no line is answered `full`
+abbrev pub RunsFindRoom : Type 0
+RunsFindRoom =
+    (inputs : Inputs) (outputs : Outputs) → most_rows inputs < SPLIT_ROWS * MAX_LEAVES
+    → IsRun inputs (leaves_for None (most_rows inputs)) outputs
+    → (k i : ℕ) (ls : List AnsweredLine) (l : AnsweredLine)
+    → slice_get (run_lines inputs outputs) k ≡ Some ls → slice_get ls i ≡ Some l → l.answer ≡ Full → ⊥

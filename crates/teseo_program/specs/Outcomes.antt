@@ -5,12 +5,12 @@ use Rattle.graph_model.specs.declared.limits.TheConstants.{MAX_SOURCE_BYTES, SPL
 use Rattle.graph_model.specs.declared.load.LoadRefusal.{LoadRefusal}
 use Rattle.graph_model.specs.declared.load.LoadRefusal.TheVariants as loads
 use Rattle.graph_model.specs.Inserted.{inserted}
+use Rattle.graph_model.specs.OwnerCalls.{Core}
 use Rattle.graphalytics_io.specs.Load.{load_of}
 use Rattle.run_model.specs.declared.answer.Answer.{Answer}
 use Rattle.run_model.specs.declared.answer.Answer.TheVariants as answers
 use Rattle.run_model.specs.Inputs.{Outputs}
 use Rattle.run_model.specs.Run.{IsRun}
-use Rattle.run_model.specs.Stepped.{IsStepped}
 use Rattle.desk_io.specs.Files.{Files}
 use Rattle.desk_io.specs.Sources.{AreRead, IsReadStop}
 use Rattle.desk_io.specs.Outputs.{NamedText, names_of, WritesAll, FailsAtPlace}
@@ -30,6 +30,9 @@ use Rattle.teseo_program.specs.declared.outcome.Outcome.{Outcome}
 use Rattle.teseo_program.specs.declared.outcome.Outcome.TheVariants.{Done, Full, LoadFull, BadWords, NotRead, NotAccepted, NoMemory, NotWritten}
 use Rattle.teseo_program.specs.Input.{Meaning, Texts, texts_of, IsAccepted, IsNotAccepted, inputs_of}
 use Rattle.teseo_program.specs.Leaves.{leaves_of}
+use Rattle.teseo_program.specs.declared.left.Left.{Left}
+use Rattle.teseo_program.specs.declared.left.Left.TheVariants.{Stepped}
+use Rattle.teseo_program.specs.Running.{IsLeftBy}
 use Rattle.teseo_program.specs.Sinks.{sinks_of, summary_text}
 use Rattle.teseo_program.specs.MadeGraphs.{graph_outputs, made_text}
 
@@ -125,9 +128,10 @@ SaysOutcome request outputs summary outcome old new =
 
 -- ---- the causes
 
--- what a run gives, the texts of it, each with its name, and the summary
+-- what a run gives, the engine that is left of it, the texts, each with its name, and the summary
 pub record Made : Type 0 where
   pub run : Outputs
+  pub ran : Core
   pub outputs : List NamedText
   pub summary : List ℕ
 
@@ -159,7 +163,7 @@ pub record IsOfTexts (request : RunRequest) (texts : Texts) (made : Made) : Type
   pub m : Meaning
   pub accepted : IsAccepted request texts m
   pub run : IsRun (inputs_of (kind_of request) m) (leaves_of request m) made.run
-  pub stepped : IsStepped (inputs_of (kind_of request) m) (leaves_of request m) m.schedule made.run
+  pub left : IsLeftBy (inputs_of (kind_of request) m) (leaves_of request m) m.schedule made.run made.ran
   pub outputs_are : made.outputs ≡ sinks_of request.journal (report_names request) made.run
   pub summary_is : made.summary ≡ summary_text (kind_of request) made.run
 
@@ -200,14 +204,27 @@ IsCause NoMemory request made old new = new ≡ old
 IsCause (NotWritten stop) request made old new =
     AreOfRun request old made × FailsAtPlace made.outputs stop.place old new
 
--- how a run ends whose words are taken: its cause, and then what is said
-pub record IsRunOutcome (outcome : Outcome) (request : RunRequest) (old new : Files) : Type 0 where
+-- what is left behind an outcome: of a run whose outputs were all written, what it has left, else what there was
+abbrev pub IsLeft : Outcome → Left → Left → Left → Type 0
+IsLeft Done ran old new = new ≡ ran
+IsLeft Full ran old new = new ≡ ran
+IsLeft LoadFull ran old new = new ≡ old
+IsLeft BadWords ran old new = new ≡ old
+IsLeft (NotRead stop) ran old new = new ≡ old
+IsLeft (NotAccepted place fault) ran old new = new ≡ old
+IsLeft NoMemory ran old new = new ≡ old
+IsLeft (NotWritten stop) ran old new = new ≡ old
+
+-- how a run ends whose words are taken: its cause, what is said then, and what is left
+pub record IsRunOutcome (outcome : Outcome) (request : RunRequest) (old new : Files) (left left' : Left)
+    : Type 0 where
   -- what was made, where it came to that
   pub made : Made
   -- the files before the outcome was said
   pub before : Files
   pub cause : IsCause outcome request made old before
   pub says : SaysOutcome request made.outputs made.summary outcome before new
+  pub left_is : IsLeft outcome (Stepped made.ran) left left'
 
 -- ---- the end of `make`
 
@@ -233,22 +250,24 @@ pub record IsMakeOutcome (outcome : Outcome) (request : MakeRequest) (old new : 
 -- ---- the end of a call
 
 -- how a call ends that asks for this
-abbrev pub Ends : Outcome → Request → Files → Files → Type 0
-Ends outcome (run request) old new = IsRunOutcome outcome request old new
-Ends outcome (make request) old new = IsMakeOutcome outcome request old new
+abbrev pub Ends : Outcome → Request → Files → Files → Left → Left → Type 0
+Ends outcome (run request) old new left left' = IsRunOutcome outcome request old new left left'
+Ends outcome (make request) old new left left' = IsMakeOutcome outcome request old new × (left' ≡ left)
 
 -- how a call ends whose words are taken
-abbrev pub TakenEnds : Outcome → List (List ℕ) → Files → Files → Type 0
-TakenEnds outcome words old new = (request : Request) × IsTaken words request × Ends outcome request old new
+abbrev pub TakenEnds : Outcome → List (List ℕ) → Files → Files → Left → Left → Type 0
+TakenEnds outcome words old new left left' =
+    (request : Request) × IsTaken words request × Ends outcome request old new left left'
 
 -- how a call ends: by its words first. Memory for the words may be refused before they are taken
-abbrev pub IsOutcome : Outcome → List (List ℕ) → Files → Files → Type 0
-IsOutcome BadWords words old new =
-    ((request : Request) → IsTaken words request → ⊥) × OnlySays (said_text [] [] BadWords) old new
-IsOutcome NoMemory words old new = OnlySays (said_text [] [] NoMemory) old new
-IsOutcome Done words old new = TakenEnds Done words old new
-IsOutcome Full words old new = TakenEnds Full words old new
-IsOutcome LoadFull words old new = TakenEnds LoadFull words old new
-IsOutcome (NotRead stop) words old new = TakenEnds (NotRead stop) words old new
-IsOutcome (NotAccepted place fault) words old new = TakenEnds (NotAccepted place fault) words old new
-IsOutcome (NotWritten stop) words old new = TakenEnds (NotWritten stop) words old new
+abbrev pub IsOutcome : Outcome → List (List ℕ) → Files → Files → Left → Left → Type 0
+IsOutcome BadWords words old new left left' =
+    ((request : Request) → IsTaken words request → ⊥) × OnlySays (said_text [] [] BadWords) old new × (left' ≡ left)
+IsOutcome NoMemory words old new left left' = OnlySays (said_text [] [] NoMemory) old new × (left' ≡ left)
+IsOutcome Done words old new left left' = TakenEnds Done words old new left left'
+IsOutcome Full words old new left left' = TakenEnds Full words old new left left'
+IsOutcome LoadFull words old new left left' = TakenEnds LoadFull words old new left left'
+IsOutcome (NotRead stop) words old new left left' = TakenEnds (NotRead stop) words old new left left'
+IsOutcome (NotAccepted place fault) words old new left left' =
+    TakenEnds (NotAccepted place fault) words old new left left'
+IsOutcome (NotWritten stop) words old new left left' = TakenEnds (NotWritten stop) words old new left left'

@@ -4,10 +4,10 @@ use Rattle.graph_model.specs.declared.limits.TheConstants.{MAX_SOURCE_BYTES, SPL
 use Rattle.graph_model.specs.declared.load.LoadRefusal.{LoadRefusal}
 use Rattle.graph_model.specs.declared.load.LoadRefusal.TheVariants as refusals
 use Rattle.graph_model.specs.Inserted.{inserted}
+use Rattle.graph_model.specs.OwnerCalls.{Core}
 use Rattle.graphalytics_io.specs.Load.{load_of}
 use Rattle.run_model.specs.Inputs.{Outputs}
 use Rattle.run_model.specs.Run.{IsRun}
-use Rattle.run_model.specs.Stepped.{IsStepped}
 use Rattle.desk_io.specs.Outputs.{NamedText, names_of, WritesAll, FailsAtPlace}
 use Rattle.desk_io.specs.Files.{Files}
 use Rattle.desk_io.specs.Sources.{IsReadStop}
@@ -16,8 +16,10 @@ use Rattle.teseo_program.specs.Requests.{source_names, report_names, kind_of}
 use Rattle.teseo_program.specs.declared.outcome.Outcome.{Outcome}
 use Rattle.teseo_program.specs.declared.outcome.Outcome.TheVariants.{Done, Full, LoadFull, BadWords, NotRead, NotAccepted, NoMemory, NotWritten}
 use Rattle.teseo_program.specs.declared.prepare.Prepared.{Prepared}
+use Rattle.teseo_program.specs.declared.left.Left.TheVariants.{Stepped}
 use Rattle.teseo_program.specs.Input.{Meaning, inputs_of}
 use Rattle.teseo_program.specs.Leaves.{leaves_of}
+use Rattle.teseo_program.specs.Running.{IsLeftBy}
 use Rattle.teseo_program.specs.Sinks.{sinks_of, summary_text}
 use Rattle.teseo_program.specs.MadeGraphs.{graph_outputs, made_text}
 use Rattle.teseo_program.specs.Outcomes.{Made, shows_full, AreOfRun, IsFullLoad, IsRefusedAt, OnlySays, said_text, blamed}
@@ -37,23 +39,27 @@ IsUnprepared request old new (NotWritten stop) = ⊥
 
 -- ---- what was made
 
-abbrev pub made_of : Outputs → Prepared → Made
-made_of run p = record { run = run; outputs = p.outputs; summary = p.summary }
+abbrev pub made_of : Outputs → Core → Prepared → Made
+made_of run ran p = record { run = run; ran = ran; outputs = p.outputs; summary = p.summary }
 
 -- of a run of these files
 pub record IsPreparedOf (request : RunRequest) (files : Files) (p : Prepared) : Type 0 where
   pub run : Outputs
-  pub of_run : AreOfRun request files (made_of run p)
+  pub ran : Core
+  pub of_run : AreOfRun request files (made_of run ran p)
   pub full : shows_full run ≡ p.is_full
+  pub left : p.left ≡ Stepped ran
 
 -- of a run of what the sources stand for
 pub record IsMadeOf (request : RunRequest) (m : Meaning) (p : Prepared) : Type 0 where
   pub outputs : Outputs
+  pub ran : Core
   pub run : IsRun (inputs_of (kind_of request) m) (leaves_of request m) outputs
-  pub stepped : IsStepped (inputs_of (kind_of request) m) (leaves_of request m) m.schedule outputs
+  pub left_by : IsLeftBy (inputs_of (kind_of request) m) (leaves_of request m) m.schedule outputs ran
   pub outputs_are : p.outputs ≡ sinks_of request.journal (report_names request) outputs
   pub summary_is : p.summary ≡ summary_text (kind_of request) outputs
   pub full : shows_full outputs ≡ p.is_full
+  pub left : p.left ≡ Stepped ran
 
 -- why nothing was made of what the sources stand for: the rows of the graph may fill the leaves, or memory is wanted
 abbrev pub IsLoadStop : RunRequest → Meaning → LoadRefusal → Type 0

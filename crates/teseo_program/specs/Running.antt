@@ -1,5 +1,5 @@
 -- What the run of the scripts leaves, as the code has it.
-use Rattle.std.specs.Prelude.{◌≡◌, ℕ, suc, ◌*◌, ◌<◌, ◌≤◌, List, map, length, All, slice_get, Some}
+use Rattle.std.specs.Prelude.{◌≡◌, ℕ, suc, ◌-◌, ◌*◌, ◌^◌, ◌<◌, ◌≤◌, min, List, map, length, All, slice_get, Some}
 use Rattle.std.specs.List.{AllByRecursion}
 use Rattle.graph_model.specs.declared.limits.TheConstants.{SPLIT_ROWS, MAX_LEAVES}
 use Rattle.graph_model.specs.declared.write.Kind.{Kind}
@@ -12,8 +12,8 @@ use Rattle.graphalytics_io.specs.Load.{load_of}
 use Rattle.run_model.specs.declared.command.Command.{Command}
 use Rattle.run_model.specs.Requests.{begun_by}
 use Rattle.run_model.specs.Answering.{edges_in}
-use Rattle.run_model.specs.Inputs.{Outputs}
-use Rattle.run_model.specs.Stepped.{IsStepped}
+use Rattle.run_model.specs.Inputs.{Inputs, Outputs}
+use Rattle.run_model.specs.Stepped.{IsStepped, service_turns}
 use Rattle.script_lang.specs.FieldFaults.{IsNameByte}
 use Rattle.txn_manager.specs.declared.config.Config.{Config}
 use Rattle.graph_model.specs.declared.load.LoadRefusal.{LoadRefusal}
@@ -21,6 +21,7 @@ use Rattle.graph_model.specs.declared.load.LoadRefusal.TheVariants as refusals
 use Rattle.teseo_core.specs.Keeping.{new_core}
 use Rattle.job_runner.specs.Lines.{file_of}
 use Rattle.job_runner.specs.Progress.{Progress}
+use Rattle.job_runner.specs.Runs.{HaveDone}
 use Rattle.teseo_program.specs.declared.input.Input.{Input}
 use Rattle.teseo_program.specs.declared.run.RunResult.{RunResult}
 use Rattle.teseo_program.specs.Input.{inputs_of}
@@ -34,9 +35,18 @@ run_outputs r = record {
   files = map (λ job. map file_of job.tables) r.jobs;
 }
 
--- what was left is a run of this input on so many leaves, by the turns of its schedule
+-- What a run by turns leaves: the run is one of these inputs on so many leaves, by the turns of the schedule, and the
+-- engine has its journal, has done for each script what its lines were answered, and has counted the service's turns.
+pub record IsLeftBy (inputs : Inputs) (leaves : ℕ) (schedule : List ℕ) (run : Outputs) (ran : Core) : Type 0 where
+  pub stepped : IsStepped inputs leaves schedule run
+  pub journal : ran.journal ≡ run.journal
+  pub passes : HaveDone inputs.scripts run.reports ran
+  pub served : ran.served ≡ min (service_turns (length inputs.scripts) schedule stepped.turns) (2 ^ 64 - 1)
+
+-- what was left is of a run of this input
 abbrev pub IsSteppedRun : Kind → ℕ → Input → RunResult → Type 0
-IsSteppedRun kind leaves input r = IsStepped (inputs_of kind (meaning_of input)) leaves input.schedule (run_outputs r)
+IsSteppedRun kind leaves input r =
+    IsLeftBy (inputs_of kind (meaning_of input)) leaves input.schedule (run_outputs r) r.ran
 
 -- the names of all kernel files are printable ASCII
 abbrev pub HavePrintableNames : List Progress → Type 0

@@ -1,6 +1,6 @@
 //! Laws of how calls end, each the contract of a function.
 
-ghost use Rattle.teseo_program.specs.Laws.{AcceptedRunsEndWell, GraphsAreMade};
+ghost use Rattle.teseo_program.specs.Laws.{AcceptedRunsEndWell, GraphsAreMade, LoadsFindRoom, RunsFindRoom};
 
 /// A run whose words and sources are accepted, and whose calls of the desk all succeed, ends with status 0, with 6
 /// where a write found no place, or with 3 for want of memory.
@@ -12,4 +12,11 @@ pub fn accepted_runs_end_well()
 /// desk succeed.
 pub fn graphs_are_made()
     ensures { GraphsAreMade }
+{}
+
+/// Without stated leaves a store has room for all rows that the graph and the lines of the scripts may insert, if these
+/// are fewer than 103 for each of the leaves that there may be: the graph is loaded, and no line is answered `full`.
+pub fn stores_without_stated_leaves_have_room()
+    ensures loads { LoadsFindRoom }
+    ensures runs { RunsFindRoom }
 {}

@@ -9,6 +9,7 @@ mod fault;
 mod input;
 mod laws;
 mod leaves;
+mod left;
 mod make;
 mod outcome;
 mod outputs;
@@ -19,6 +20,7 @@ mod run;
 mod say;
 
 pub use fault::{ParseStop, SourceFault};
-pub use laws::{accepted_runs_end_well, graphs_are_made};
+pub use laws::{accepted_runs_end_well, graphs_are_made, stores_without_stated_leaves_have_room};
+pub use left::Left;
 pub use outcome::Outcome;
 pub use program::{end_with, teseo};

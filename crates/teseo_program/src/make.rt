@@ -7,6 +7,7 @@ ghost use Rattle.command_words.specs.Views.{make_request};
 ghost use Rattle.teseo_program.specs.MadeGraphs.{made_line};
 ghost use Rattle.teseo_program.specs.Prepared.{IsMadeGraph, NamesAreApart};
 
+use crate::left::Left;
 use crate::outputs::output_of;
 use crate::prepare::Prepared;
 use command_words::MakeWords;
@@ -32,6 +33,7 @@ pub fn prepare_graph(alloc: Global, words: &MakeWords<'_>) -> Result<Prepared, N
         outputs,
         summary,
         is_full: false,
+        left: Left::Nothing,
     })
 }
 

@@ -12,6 +12,7 @@ ghost use Rattle.teseo_program.specs.Prepared.{IsUnprepared, IsPreparedOf, IsMad
 use crate::fault::ParseStop;
 use crate::input::{Input, parse_sources};
 use crate::leaves::leaves_of;
+use crate::left::Left;
 use crate::outcome::Outcome;
 use crate::outputs::{is_full, outputs_of, summary_of};
 use crate::request::{kind_of, sources_of};
@@ -25,13 +26,14 @@ use items::Items;
 use std::alloc::Global;
 use std::thread::Threads;
 
-/// The outputs in the order in which they are written, the summary that is said at the end, and whether a report has a
-/// line `full`.
+/// The outputs in the order in which they are written, the summary that is said at the end, whether a report has a
+/// line `full`, and what the store that ran has left, if one did.
 #[derive(Drop)]
 pub struct Prepared {
     pub outputs: Items<Output>,
     pub summary: Text,
     pub is_full: bool,
+    pub left: Left,
 }
 
 /// Reads and parses the sources, runs the scripts, and makes all texts. Creates nothing.
@@ -88,5 +90,6 @@ fn make<R: Threads + Sync>(
         outputs,
         summary,
         is_full,
+        left: Left::Stepped { ran: run.ran },
     })
 }

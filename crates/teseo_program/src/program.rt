@@ -7,8 +7,9 @@ ghost use Rattle.command_words.specs.Views.{run_request, make_request};
 ghost use Rattle.teseo_program.specs.declared.outcome.Outcome.{Outcome};
 ghost use Rattle.teseo_program.specs.Requests.{IsAsked, source_names};
 ghost use Rattle.teseo_program.specs.Prepared.{NamesAreApart, Writes, IsWritten};
-ghost use Rattle.teseo_program.specs.Outcomes.{status_of, said_text, blamed, OnlySays, IsOutcome, IsRunOutcome, IsMakeOutcome};
+ghost use Rattle.teseo_program.specs.Outcomes.{status_of, said_text, blamed, OnlySays, IsLeft, IsOutcome, IsRunOutcome, IsMakeOutcome};
 
+use crate::left::Left;
 use crate::make::prepare_graph;
 use crate::outcome::Outcome;
 use crate::prepare::{Prepared, prepare};
@@ -21,19 +22,21 @@ use items::Items;
 use std::alloc::Global;
 use std::thread::Threads;
 
-/// Runs `teseo` on the words behind its name, and answers the exit status. The gate is for runs with
-/// several threads, and not called yet.
+/// Runs `teseo` on the words behind its name, and answers the exit status. Behind a run whose outputs were all written,
+/// `left` is what its store leaves; else it stays as it is. The gate is for runs with several threads, and not called
+/// yet.
 pub fn teseo<R: Threads + Sync, D: Desk, G: Gate>(
     rt: &R,
     alloc: Global,
     words: &[String],
     desk: &mut D,
     _gate: &G,
+    left: &mut Left,
 ) -> u8
     ensures { (outcome : Outcome) × (result ≡ status_of outcome)
-        × IsOutcome outcome (map string_bytes words.now) (D.files desk.old) (D.files desk.new) }
+        × IsOutcome outcome (map string_bytes words.now) (D.files desk.old) (D.files desk.new) left.old left.new }
 {
-    outcome_of(rt, alloc, words, desk).status()
+    outcome_of(rt, alloc, words, desk, left).status()
 }
 
 /// Ends a call that has no words to run, as where one of them isn't text: says the outcome, and answers
@@ -52,11 +55,12 @@ fn outcome_of<R: Threads + Sync, D: Desk>(
     alloc: Global,
     words: &[String],
     desk: &mut D,
+    left: &mut Left,
 ) -> Outcome
-    ensures { IsOutcome result (map string_bytes words.now) (D.files desk.old) (D.files desk.new) }
+    ensures { IsOutcome result (map string_bytes words.now) (D.files desk.old) (D.files desk.new) left.old left.new }
 {
     match read_words(alloc, words) {
-        Ok(Command::Run(words)) => run(rt, alloc, desk, &words),
+        Ok(Command::Run(words)) => run(rt, alloc, desk, &words, left),
         Ok(Command::Make(words)) => make(alloc, desk, &words),
         Err(refusal) => {
             let outcome = Outcome::from(refusal);
@@ -72,16 +76,32 @@ fn run<R: Threads + Sync, D: Desk>(
     alloc: Global,
     desk: &mut D,
     words: &RunWords<'_>,
+    left: &mut Left,
 ) -> Outcome
     requires { IsAsked (run_request words.now) }
-    ensures { IsRunOutcome result (run_request words.now) (D.files desk.old) (D.files desk.new) }
+    ensures { IsRunOutcome result (run_request words.now) (D.files desk.old) (D.files desk.new) left.old left.new }
 {
     match prepare(rt, alloc, desk, words) {
-        Ok(prepared) => write_and_say(desk, &prepared),
+        Ok(prepared) => {
+            let outcome = write_and_say(desk, &prepared);
+            hand_out(left, prepared.left, outcome);
+            outcome
+        }
         Err(outcome) => {
             say_outcome(desk, blamed_source(words, outcome), &[], outcome);
             outcome
         }
+    }
+}
+
+/// Hands out what a run has left, if all its outputs were written.
+fn hand_out(left: &mut Left, ran: Left, outcome: Outcome)
+    ensures { IsLeft outcome ran left.old left.new }
+{
+    match outcome {
+        Outcome::Done => *left = ran,
+        Outcome::Full => *left = ran,
+        _ => {}
     }
 }
 

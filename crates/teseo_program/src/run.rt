@@ -55,7 +55,7 @@ pub fn run_scripts<R: Threads + Sync>(
     requires inputs { AreInputs (inputs_of kind (meaning_of input)) }
     requires listed { All (λ job. job ≤ length input.scripts) input.schedule }
     ensures run { IfOk result (λ r. IsRun (inputs_of kind (meaning_of input)) leaves (run_outputs r)) }
-    ensures stepped { IfOk result (IsSteppedRun kind leaves input) }
+    ensures left { IfOk result (IsSteppedRun kind leaves input) }
     ensures counts { IfOk result (HasCounts kind) }
     ensures refused { IfErr result (IsRefusedLoad kind leaves input.ids input.edges) }
 {

@@ -1,6 +1,4 @@
-use Rattle.std.proofs.Common.{◌≡◌, ◌+◌, ◌*◌, arith}
-use Rattle.graph_model.specs.Inserted.{inserted}
-use Rattle.graphalytics_io.specs.Load.{load_of}
+use Rattle.std.proofs.Common.{arith}
 use Rattle.teseo_program.proofs.LeavesLemmas.{graph_rows}
 use Rattle.teseo_program.proofs.leaves.rows_of_graph.Goals as goal
 

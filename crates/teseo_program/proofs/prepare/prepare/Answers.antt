@@ -2,9 +2,8 @@ use Rattle.std.proofs.Common.{◌∙◌, ap, map, subst}
 use Rattle.graph_model.specs.declared.limits.TheConstants.{MAX_SOURCE_BYTES}
 use Rattle.desk_io.specs.Sources.{AreRead}
 use Rattle.command_words.specs.Views.{run_request}
-use Rattle.teseo_program.specs.Parsing.{meaning_of}
 use Rattle.teseo_program.proofs.RequestLemmas.{few_scripts, are_readable}
-use Rattle.teseo_program.proofs.PreparedLemmas.{unparsed, prepared_of}
+use Rattle.teseo_program.proofs.PreparedLemmas.{unparsed}
 use Rattle.teseo_program.proofs.prepare.prepare.Goals as goal
 
 pub returns-in-Err-clause-refused : goal.returns-in-Err-clause-refused

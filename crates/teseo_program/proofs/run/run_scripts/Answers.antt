@@ -4,7 +4,7 @@ use Rattle.graph_model.specs.Loading.{IsNew}
 use Rattle.teseo_program.specs.Input.{inputs_of}
 use Rattle.teseo_program.specs.Parsing.{meaning_of}
 use Rattle.teseo_program.specs.Running.{IsConfig, IsRefusedLoad}
-use Rattle.teseo_program.proofs.RunLemmas.{handed_on, is_new, loadable, refused_load, started, ended, leaves_are, stepped_of, counts_of, all_at, new_jobs_count}
+use Rattle.teseo_program.proofs.RunLemmas.{handed_on, is_new, loadable, refused_load, started, ended, leaves_are, left_by_run, none_served, counts_of, all_at, new_jobs_count}
 use Rattle.teseo_program.proofs.run.run_scripts.Goals as goal
 
 pub run_stepped-requires-clause-new : goal.run_stepped-requires-clause-new
@@ -30,17 +30,19 @@ returns-clause-run g c =
     let ends = ended (inputs_of c.args.kind (meaning_of c.args.input)) c.args.leaves c.config_of-config.result (subst (λ scripts. IsConfig c.args.kind c.args.leaves scripts c.config_of-config.result) c.as_slice.ensures c.config_of-config.ensures.config) c.requires.inputs
     c.in_ok-engine.engine.core c.load_graph.new.engine.core c.run_stepped.new.engine.core c.in_ok-jobs.jobs c.run_stepped.new.jobs c.as_slice-2.result.now c.in_ok-engine.ensures c.in_ok-load_graph.ensures.loaded c.in_ok-jobs.ensures c.in_ok-run_stepped.ensures.ends in
     let leaves = leaves_are (inputs_of c.args.kind (meaning_of c.args.input)) c.args.leaves c.config_of-config.result (subst (λ scripts. IsConfig c.args.kind c.args.leaves scripts c.config_of-config.result) c.as_slice.ensures c.config_of-config.ensures.config) c.requires.inputs c.in_ok-engine.engine.core c.load_graph.new.engine.core c.in_ok-engine.ensures c.in_ok-load_graph.ensures.loaded in
+    let zero_served = none_served (inputs_of c.args.kind (meaning_of c.args.input)) c.args.leaves c.config_of-config.result (subst (λ scripts. IsConfig c.args.kind c.args.leaves scripts c.config_of-config.result) c.as_slice.ensures c.config_of-config.ensures.config) c.requires.inputs c.in_ok-engine.engine.core c.load_graph.new.engine.core c.in_ok-engine.ensures c.in_ok-load_graph.ensures.loaded in
     c.stepped_runs_are_runs.ensures (inputs_of c.args.kind (meaning_of c.args.input)) c.args.leaves c.args.input.schedule _ c.requires.inputs
-    (stepped_of (inputs_of c.args.kind (meaning_of c.args.input)) c.args.leaves c.args.input.schedule c.as_slice-2.result.now c.load_graph.new.engine.core c.run_stepped.new.engine.core c.run_stepped.new.jobs
-    (record { ran = c.into_journal.result; jobs = c.run_stepped.new.jobs; vertices = c.totals-totals.result.vertices; edges = c.totals-totals.result.edges }) ends c.as_slice-2.ensures leaves (c.into_journal.ensures ∙ c.settle.ensures.core) refl)
+    ((left_by_run (inputs_of c.args.kind (meaning_of c.args.input)) c.args.leaves c.args.input.schedule c.as_slice-2.result.now c.load_graph.new.engine.core c.run_stepped.new.engine.core c.run_stepped.new.jobs
+    (record { ran = c.into_journal.result; jobs = c.run_stepped.new.jobs; vertices = c.totals-totals.result.vertices; edges = c.totals-totals.result.edges }) ends c.as_slice-2.ensures leaves zero_served (c.into_journal.ensures ∙ c.settle.ensures.core) refl).stepped)
 
-pub returns-clause-stepped : goal.returns-clause-stepped
-returns-clause-stepped g c =
+pub returns-clause-left : goal.returns-clause-left
+returns-clause-left g c =
     let ends = ended (inputs_of c.args.kind (meaning_of c.args.input)) c.args.leaves c.config_of-config.result (subst (λ scripts. IsConfig c.args.kind c.args.leaves scripts c.config_of-config.result) c.as_slice.ensures c.config_of-config.ensures.config) c.requires.inputs
     c.in_ok-engine.engine.core c.load_graph.new.engine.core c.run_stepped.new.engine.core c.in_ok-jobs.jobs c.run_stepped.new.jobs c.as_slice-2.result.now c.in_ok-engine.ensures c.in_ok-load_graph.ensures.loaded c.in_ok-jobs.ensures c.in_ok-run_stepped.ensures.ends in
     let leaves = leaves_are (inputs_of c.args.kind (meaning_of c.args.input)) c.args.leaves c.config_of-config.result (subst (λ scripts. IsConfig c.args.kind c.args.leaves scripts c.config_of-config.result) c.as_slice.ensures c.config_of-config.ensures.config) c.requires.inputs c.in_ok-engine.engine.core c.load_graph.new.engine.core c.in_ok-engine.ensures c.in_ok-load_graph.ensures.loaded in
-    stepped_of (inputs_of c.args.kind (meaning_of c.args.input)) c.args.leaves c.args.input.schedule c.as_slice-2.result.now c.load_graph.new.engine.core c.run_stepped.new.engine.core c.run_stepped.new.jobs
-    (record { ran = c.into_journal.result; jobs = c.run_stepped.new.jobs; vertices = c.totals-totals.result.vertices; edges = c.totals-totals.result.edges }) ends c.as_slice-2.ensures leaves (c.into_journal.ensures ∙ c.settle.ensures.core) refl
+    let zero_served = none_served (inputs_of c.args.kind (meaning_of c.args.input)) c.args.leaves c.config_of-config.result (subst (λ scripts. IsConfig c.args.kind c.args.leaves scripts c.config_of-config.result) c.as_slice.ensures c.config_of-config.ensures.config) c.requires.inputs c.in_ok-engine.engine.core c.load_graph.new.engine.core c.in_ok-engine.ensures c.in_ok-load_graph.ensures.loaded in
+    left_by_run (inputs_of c.args.kind (meaning_of c.args.input)) c.args.leaves c.args.input.schedule c.as_slice-2.result.now c.load_graph.new.engine.core c.run_stepped.new.engine.core c.run_stepped.new.jobs
+    (record { ran = c.into_journal.result; jobs = c.run_stepped.new.jobs; vertices = c.totals-totals.result.vertices; edges = c.totals-totals.result.edges }) ends c.as_slice-2.ensures leaves zero_served (c.into_journal.ensures ∙ c.settle.ensures.core) refl
 
 pub returns-clause-counts : goal.returns-clause-counts
 returns-clause-counts g c =
