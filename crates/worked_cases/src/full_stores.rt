@@ -1,8 +1,11 @@
 //! Stores of one leaf, and the row for which they have no place.
 
-use crate::setting::{End, SEARCH, desk_with, end_of, text_of_end};
+use case_setting::{End, SEARCH, desk_with, difference_on, run_difference};
 use std::alloc::{AllocError, Global};
 use std::test::Fail;
+
+/// A run over a store of one leaf.
+const ONE_LEAF: &str = "run --vertices v --edges e --journal j --leaves 1 s1";
 
 /// A write finds no place: nothing is committed, and the journal is empty.
 const WRITE: End = (
@@ -24,22 +27,34 @@ fn numbered(alloc: Global, word: &str, last: u32) -> Result<String, AllocError> 
     Ok(lines)
 }
 
-/// The density limits leave 219 vertices in a leaf that is filled in the order of their ids.
-#[test]
-fn the_220th_vertex_finds_no_place_in_one_leaf(rt: HostRuntime) -> Result<(), Fail> {
-    let alloc = rt.alloc();
+/// A script that begins, writes the vertices from 1 to 220, and commits.
+fn script_of_220(alloc: Global) -> Result<String, AllocError> {
     let mut script = String::from_str(alloc, "begin\n")?;
     script.push_str(numbered(alloc, "vertex ", 221)?.as_str())?;
     script.push_str("commit\n")?;
+    Ok(script)
+}
+
+/// Its report where 219 of the vertices find a place.
+fn report_of_219(alloc: Global) -> Result<String, AllocError> {
     let mut report = String::from_str(alloc, "begin 1.1 start 0\n")?;
     for _ in 0..219 {
         report.push_str("ok\n")?;
     }
     report.push_str("full\nskipped\n")?;
+    Ok(report)
+}
+
+/// The density limits leave 219 vertices in a leaf that is filled in the order of their ids.
+#[test]
+fn the_220th_vertex_finds_no_place_in_one_leaf(rt: HostRuntime) -> Result<(), Fail> {
+    let alloc = rt.alloc();
+    let script = script_of_220(alloc)?;
+    let report = report_of_219(alloc)?;
     let mut desk = desk_with(alloc, &[("v", ""), ("e", "")], &[])?;
     desk.put("s1", script.as_bytes())?;
-    let found = end_of(&rt, alloc, &mut desk, "--leaves 1 s1", WRITE)?;
-    assert_eq!(rt; found.as_str(), text_of_end(alloc, WRITE)?.as_str());
+    let difference = difference_on(&rt, alloc, &mut desk, ONE_LEAF, WRITE)?;
+    assert!(rt; difference.is_empty(), "{difference}");
     assert_eq!(rt; desk.get("s1.report"), Some(report.as_bytes()));
     Ok(())
 }
@@ -47,10 +62,10 @@ fn the_220th_vertex_finds_no_place_in_one_leaf(rt: HostRuntime) -> Result<(), Fa
 #[test]
 fn a_graph_of_300_vertices_finds_no_place_in_one_leaf(rt: HostRuntime) -> Result<(), Fail> {
     let alloc = rt.alloc();
-    let mut desk = desk_with(alloc, &[("e", ""), SEARCH], &[])?;
-    desk.put("v", numbered(alloc, "", 301)?.as_bytes())?;
-    let words = "--directed --leaves 1 s1";
-    let found = end_of(&rt, alloc, &mut desk, words, LOAD)?;
-    assert_eq!(rt; found.as_str(), text_of_end(alloc, LOAD)?.as_str());
+    let vertices = numbered(alloc, "", 301)?;
+    let files = [("v", vertices.as_str()), ("e", ""), SEARCH];
+    let run = (&files[..], "--directed --leaves 1 s1");
+    let difference = run_difference(&rt, alloc, run, &[], LOAD)?;
+    assert!(rt; difference.is_empty(), "{difference}");
     Ok(())
 }

@@ -1,6 +1,6 @@
 //! Runs of two scripts, by rotation and by a schedule.
 
-use crate::setting::{E, End, File, Run, V, desk_with, end_of, text_of_end};
+use case_setting::{E, End, File, Run, V, run_difference};
 use std::test::Fail;
 
 /// A script that sets the weight of an edge.
@@ -23,7 +23,7 @@ const NINE_IS_SET: File = ("s1.report", "begin 1.1 start 1\nok\ncommit 2\n");
 const KEPT: &str = "commits 2 vertices 4 edges 2 undo 0 retired 0\n";
 
 /// Runs, and how each ends.
-const RUNS: [(Run, End); 5] = [
+const RUNS: &[(Run, End)] = &[
     // by rotation the first script's transaction is open when the second writes
     (
         (&[V, E, SET_NINE, SET_EIGHT], "s1 s2"),
@@ -153,10 +153,9 @@ const RUNS: [(Run, End); 5] = [
 #[test]
 fn scripts_take_their_turns(rt: HostRuntime) -> Result<(), Fail> {
     let alloc = rt.alloc();
-    for (run, end) in RUNS {
-        let mut desk = desk_with(alloc, run.0, &[])?;
-        let found = end_of(&rt, alloc, &mut desk, run.1, end)?;
-        assert_eq!(rt; found.as_str(), text_of_end(alloc, end)?.as_str());
+    for &(run, end) in RUNS {
+        let difference = run_difference(&rt, alloc, run, &[], end)?;
+        assert!(rt; difference.is_empty(), "{difference}");
     }
     Ok(())
 }

@@ -1,8 +1,7 @@
 //! Runs of one script to the end, each with all that it writes.
 
-use crate::setting::{
-    E, End, File, JOURNAL, PATH, REPORT, RESULT, Run, SEARCH, SUMMARY, V, WHOLE, desk_with, end_of,
-    text_of_end,
+use case_setting::{
+    E, End, File, JOURNAL, PATH, REPORT, RESULT, Run, SEARCH, SUMMARY, V, WHOLE, run_difference,
 };
 use std::test::Fail;
 
@@ -368,9 +367,8 @@ const RUNS: [(Run, End); 20] = [
 fn runs_end_with_all_that_they_write(rt: HostRuntime) -> Result<(), Fail> {
     let alloc = rt.alloc();
     for (run, end) in RUNS {
-        let mut desk = desk_with(alloc, run.0, &[])?;
-        let found = end_of(&rt, alloc, &mut desk, run.1, end)?;
-        assert_eq!(rt; found.as_str(), text_of_end(alloc, end)?.as_str());
+        let difference = run_difference(&rt, alloc, run, &[], end)?;
+        assert!(rt; difference.is_empty(), "{difference}");
     }
     Ok(())
 }

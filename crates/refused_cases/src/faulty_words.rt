@@ -1,7 +1,8 @@
 //! Words that are taken in any order, and words that are not taken. What clap makes of words is in the tests of
 //! `command_words`; here stand the ends of calls.
 
-use crate::setting::{End, PATH, WHOLE, desk_with, end_of_words, text_of_end};
+use case_setting::{End, File, PATH, WHOLE, call_difference};
+use std::alloc::{AllocError, Global};
 use std::test::Fail;
 
 /// The files stay as they are.
@@ -11,7 +12,7 @@ const REFUSED: End = (2, "bad words\n", 3, &[]);
 const GRAPH: &str = "run --vertices v --edges e --journal j ";
 
 /// What the fault is, and words with that fault alone.
-const CASES: [(&str, &str); 16] = [
+const CASES: &[(&str, &str)] = &[
     ("no words", ""),
     ("no journal", "run --vertices v --edges e s1"),
     (
@@ -64,7 +65,7 @@ const CASES: [(&str, &str); 16] = [
 ];
 
 /// Words in another order, and how the call ends.
-const ORDERS: [(&str, End); 3] = [
+const ORDERS: &[(&str, End)] = &[
     ("run --edges e --vertices v --journal j s1", WHOLE),
     ("run s1 --vertices v --edges e --journal j", WHOLE),
     (
@@ -76,14 +77,9 @@ const ORDERS: [(&str, End); 3] = [
 #[test]
 fn options_stand_in_any_order(rt: HostRuntime) -> Result<(), Fail> {
     let alloc = rt.alloc();
-    for (words, end) in ORDERS {
-        let mut desk = desk_with(alloc, PATH.0, &[])?;
-        let found = end_of_words(&rt, alloc, &mut desk, words, end)?;
-        assert_eq!(rt;
-            found.as_str(),
-            text_of_end(alloc, end)?.as_str(),
-            "{words}"
-        );
+    for &(words, end) in ORDERS {
+        let difference = call_difference(&rt, alloc, PATH.0, &[], words, end)?;
+        assert!(rt; difference.is_empty(), "{words}: {difference}");
     }
     Ok(())
 }
@@ -91,17 +87,18 @@ fn options_stand_in_any_order(rt: HostRuntime) -> Result<(), Fail> {
 #[test]
 fn words_that_are_refused(rt: HostRuntime) -> Result<(), Fail> {
     let alloc = rt.alloc();
-    let want = text_of_end(alloc, REFUSED)?;
-    for (fault, words) in CASES {
-        let mut desk = desk_with(alloc, PATH.0, &[])?;
-        let found = end_of_words(&rt, alloc, &mut desk, words, REFUSED)?;
-        assert_eq!(rt; found.as_str(), want.as_str(), "with {fault}");
+    for &(fault, words) in CASES {
+        let difference = call_difference(&rt, alloc, PATH.0, &[], words, REFUSED)?;
+        assert!(rt; difference.is_empty(), "with {fault}: {difference}");
     }
     Ok(())
 }
 
+/// A graph of nothing.
+const NO_GRAPH: &[File] = &[("v", ""), ("e", "")];
+
 /// How many scripts are named, none of which is there, and how the run ends.
-const COUNTS: [(usize, End); 2] = [
+const COUNTS: &[(usize, End)] = &[
     (60, (4, "read failed x\n", 2, &[])),
     (61, (2, "bad words\n", 2, &[])),
 ];
@@ -109,21 +106,22 @@ const COUNTS: [(usize, End); 2] = [
 #[test]
 fn there_are_sixty_scripts_at_most(rt: HostRuntime) -> Result<(), Fail> {
     let alloc = rt.alloc();
-    for (count, end) in COUNTS {
-        let mut words = String::from_str(alloc, GRAPH)?;
-        let mut name = String::from_str(alloc, "x")?;
-        for _ in 0..count {
-            words.push_str(name.as_str())?;
-            words.push_str(" ")?;
-            name.push_str("x")?;
-        }
-        let mut desk = desk_with(alloc, &[("v", ""), ("e", "")], &[])?;
-        let found = end_of_words(&rt, alloc, &mut desk, words.as_str(), end)?;
-        assert_eq!(rt;
-            found.as_str(),
-            text_of_end(alloc, end)?.as_str(),
-            "{count}"
-        );
+    for &(count, end) in COUNTS {
+        let words = words_with(alloc, count)?;
+        let difference = call_difference(&rt, alloc, NO_GRAPH, &[], words.as_str(), end)?;
+        assert!(rt; difference.is_empty(), "{count}: {difference}");
     }
     Ok(())
+}
+
+/// Words with so many scripts, each with a name of its own.
+fn words_with(alloc: Global, count: usize) -> Result<String, AllocError> {
+    let mut words = String::from_str(alloc, GRAPH)?;
+    let mut name = String::from_str(alloc, "x")?;
+    for _ in 0..count {
+        words.push_str(name.as_str())?;
+        words.push_str(" ")?;
+        name.push_str("x")?;
+    }
+    Ok(words)
 }

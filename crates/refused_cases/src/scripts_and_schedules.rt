@@ -9,7 +9,7 @@ use std::test::Fail;
 
 /// Scripts, read one behind the other with the name `j` taken at first: the lines that each is read as, or its
 /// refusal.
-const SCRIPTS: [(&str, &str); 37] = [
+const SCRIPTS: &[(&str, &str)] = &[
     ("", ""),
     ("# nothing\n \t\r\n", ""),
     ("begin\ncommit\nbegin\nabort\n", "begin/commit/begin/abort/"),
@@ -86,7 +86,7 @@ const SCRIPTS: [(&str, &str); 37] = [
 ];
 
 /// Schedules for two scripts, and the jobs that each is read as, or its refusal.
-const SCHEDULES: [(&str, &str); 6] = [
+const SCHEDULES: &[(&str, &str)] = &[
     ("", ""),
     ("0\n 2\t\r\n\n# 7\n0001", "0 2 1 "),
     ("0\n3", "line 2: no such job"),
@@ -99,7 +99,7 @@ const SCHEDULES: [(&str, &str); 6] = [
 fn a_script_is_read_or_its_first_fault_said(rt: HostRuntime) -> Result<(), Fail> {
     let mut taken = Names::new(rt.alloc());
     taken.push(Name::from_vec(Vec::from_slice(rt.alloc(), b"j")?))?;
-    for (text, want) in SCRIPTS {
+    for &(text, want) in SCRIPTS {
         let got = said_script(rt.alloc(), text, &mut taken)?;
         assert_eq!(rt; got.as_slice(), want.as_bytes(), "of {text}");
     }
@@ -108,7 +108,7 @@ fn a_script_is_read_or_its_first_fault_said(rt: HostRuntime) -> Result<(), Fail>
 
 #[test]
 fn a_schedule_is_read_or_its_first_fault_said(rt: HostRuntime) -> Result<(), Fail> {
-    for (text, want) in SCHEDULES {
+    for &(text, want) in SCHEDULES {
         let got = said_schedule(rt.alloc(), text)?;
         assert_eq!(rt; got.as_slice(), want.as_bytes(), "of {text}");
     }

@@ -1,11 +1,11 @@
 //! Sources that are not there or not accepted. What each reader refuses is in the tests of its crate;
 //! here stand the faults that only the whole run can have, and one of each reader.
 
-use crate::setting::{E, End, File, Run, SEARCH, V, desk_with, end_of, text_of_end};
+use case_setting::{E, End, File, Run, SEARCH, V, run_difference};
 use std::test::Fail;
 
 /// Sources that are refused, and what is said of the first that is.
-const REFUSED: [(Run, &str); 17] = [
+const REFUSED: &[(Run, &str)] = &[
     // one of each reader: an id twice, an unknown vertex, a line of no transaction, no job
     (
         (&[("v", "1\n# 2\n\n1\n"), E, SEARCH], "s1"),
@@ -22,6 +22,11 @@ const REFUSED: [(Run, &str); 17] = [
     (
         (&[V, E, SEARCH, ("t", "1\n2\n")], "--schedule t s1"),
         "t line 2: no such job\n",
+    ),
+    // buckets without a width
+    (
+        (&[V, E, ("s1", "begin\nfastsssp 1 0 o\ncommit\n")], "s1"),
+        "s1 line 2: width out of range\n",
     ),
     // a line without its second end, a vertex that isn't there, a weight with a digit too many
     (
@@ -99,36 +104,44 @@ const REFUSED: [(Run, &str); 17] = [
 #[test]
 fn sources_that_are_refused(rt: HostRuntime) -> Result<(), Fail> {
     let alloc = rt.alloc();
-    for (run, said) in REFUSED {
+    for &(run, said) in REFUSED {
         let end: End = (1, said, run.0.len(), &[]);
-        let mut desk = desk_with(alloc, run.0, &[])?;
-        let found = end_of(&rt, alloc, &mut desk, run.1, end)?;
-        assert_eq!(rt; found.as_str(), text_of_end(alloc, end)?.as_str());
+        let difference = run_difference(&rt, alloc, run, &[], end)?;
+        assert!(rt; difference.is_empty(), "{difference}");
     }
     Ok(())
 }
 
-/// The name of the source that is not there, and how the run ends. All sources are read before one is
-/// refused, so vertices that aren't accepted are not named where the script is missing.
-const MISSING: [(&str, End); 4] = [
-    ("v", (4, "read failed v\n", 3, &[])),
-    ("e", (4, "read failed e\n", 3, &[])),
-    ("s1", (4, "read failed s1\n", 3, &[])),
-    ("t", (4, "read failed t\n", 3, &[])),
+/// A text that no reader accepts.
+const FAULTY: &str = "not accepted";
+
+/// The sources without one of the four, and how the run ends. All sources are read before one is refused,
+/// so vertices that aren't accepted are not named where the script is missing.
+const MISSING: &[(&[File], End)] = &[
+    (
+        &[("e", FAULTY), ("s1", FAULTY), ("t", FAULTY)],
+        (4, "read failed v\n", 3, &[]),
+    ),
+    (
+        &[("v", FAULTY), ("s1", FAULTY), ("t", FAULTY)],
+        (4, "read failed e\n", 3, &[]),
+    ),
+    (
+        &[("v", FAULTY), ("e", FAULTY), ("t", FAULTY)],
+        (4, "read failed s1\n", 3, &[]),
+    ),
+    (
+        &[("v", FAULTY), ("e", FAULTY), ("s1", FAULTY)],
+        (4, "read failed t\n", 3, &[]),
+    ),
 ];
 
 #[test]
 fn sources_that_are_not_there(rt: HostRuntime) -> Result<(), Fail> {
     let alloc = rt.alloc();
-    for (missing, end) in MISSING {
-        let mut desk = desk_with(alloc, &[], &[])?;
-        for name in ["v", "e", "s1", "t"] {
-            if name != missing {
-                desk.put(name, b"not accepted")?;
-            }
-        }
-        let found = end_of(&rt, alloc, &mut desk, "--schedule t s1", end)?;
-        assert_eq!(rt; found.as_str(), text_of_end(alloc, end)?.as_str());
+    for &(files, end) in MISSING {
+        let difference = run_difference(&rt, alloc, (files, "--schedule t s1"), &[], end)?;
+        assert!(rt; difference.is_empty(), "{difference}");
     }
     Ok(())
 }

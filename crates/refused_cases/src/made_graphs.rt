@@ -1,6 +1,6 @@
 //! Graphs that are made from a seed.
 
-use crate::setting::{End, File, desk_with, end_of_words, text_of_end};
+use case_setting::{End, File, call_difference};
 use std::test::Fail;
 
 /// The words of a small graph.
@@ -9,7 +9,7 @@ const SMALL: &str = "make --seed 0 --vertices 10 --edges 2 --out v --edges-out e
 const SMALL_V: File = ("v", "1\n2\n3\n4\n5\n6\n7\n8\n9\n10\n");
 
 /// The number of the desk's call that fails, and how `make` ends: a call creates each file, and one writes it.
-const CALLS: [(u64, End); 5] = [
+const CALLS: &[(u64, End)] = &[
     (1, (5, "write failed v\n", 0, &[])),
     (2, (5, "write failed v\n", 1, &[("v", "")])),
     (3, (5, "write failed e\n", 1, &[SMALL_V])),
@@ -28,14 +28,9 @@ const CALLS: [(u64, End); 5] = [
 #[test]
 fn a_graph_is_made_of_its_seed_or_an_output_fails(rt: HostRuntime) -> Result<(), Fail> {
     let alloc = rt.alloc();
-    for (call, end) in CALLS {
-        let mut desk = desk_with(alloc, &[], &[call])?;
-        let found = end_of_words(&rt, alloc, &mut desk, SMALL, end)?;
-        assert_eq!(rt;
-            found.as_str(),
-            text_of_end(alloc, end)?.as_str(),
-            "at call {call}"
-        );
+    for &(call, end) in CALLS {
+        let difference = call_difference(&rt, alloc, &[], &[call], SMALL, end)?;
+        assert!(rt; difference.is_empty(), "at call {call}: {difference}");
     }
     Ok(())
 }

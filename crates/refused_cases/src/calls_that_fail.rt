@@ -3,11 +3,11 @@
 //! The calls of a run on the path, in order: two reads of each source, a piece and its end; then
 //! for each output the call that creates it and the one that writes it.
 
-use crate::setting::{End, JOURNAL, PATH, REPORT, WHOLE, desk_with, end_of, text_of_end};
+use case_setting::{End, JOURNAL, PATH, REPORT, WHOLE, run_difference};
 use std::test::Fail;
 
 /// Each call in turn, and one beyond the last. The second write is call 10, the third read call 3.
-const CALLS: [(u64, End); 13] = [
+const CALLS: &[(u64, End)] = &[
     (1, (4, "read failed v\n", 3, &[])),
     (2, (4, "read failed v\n", 3, &[])),
     (3, (4, "read failed e\n", 3, &[])),
@@ -37,14 +37,9 @@ const CALLS: [(u64, End); 13] = [
 #[test]
 fn each_call_of_the_desk_fails_once(rt: HostRuntime) -> Result<(), Fail> {
     let alloc = rt.alloc();
-    for (call, end) in CALLS {
-        let mut desk = desk_with(alloc, PATH.0, &[call])?;
-        let found = end_of(&rt, alloc, &mut desk, PATH.1, end)?;
-        assert_eq!(rt;
-            found.as_str(),
-            text_of_end(alloc, end)?.as_str(),
-            "at call {call}"
-        );
+    for &(call, end) in CALLS {
+        let difference = run_difference(&rt, alloc, PATH, &[call], end)?;
+        assert!(rt; difference.is_empty(), "at call {call}: {difference}");
     }
     Ok(())
 }
