@@ -6,16 +6,26 @@ use Rattle.std.proofs.lemmas.Bool.Decides.{nat_tests}
 use Rattle.std.proofs.lemmas.Cmp.{nat_eq_equiv}
 use Rattle.std.proofs.lemmas.Map.Steps.{length-le_from_keys}
 use Rattle.std.proofs.lemmas.List.Recursion.{is_count_by}
-use Rattle.slab.specs.Slab.{entries_from}
-use Rattle.slab.proofs.SlabLemmas.{length-entries_from}
+use Rattle.std.proofs.lemmas.List.Sums.{sum_by-cons}
 use Rattle.undo_chain.specs.declared.undo.Undo.{Undo}
 use Rattle.undo_chain.specs.Chains.{ChainMap, record_at, list_at, IsHeadOf, AreApart}
 use Rattle.undo_chain.specs.Links.{AreLinked}
 use Rattle.undo_chain.proofs.LinkLemmas.{path_distinct, path_list, path_length, path_there, head_path}
 use Rattle.undo_chain.proofs.ChainLemmas.{record_there, pop_linked, pop_list, pop_others}
 
+-- the records with their keys, of which the first has this one
+abbrev entries_from : ℕ → List (Option Undo) → List (ℕ × Undo)
+entries_from key [] = []
+entries_from key (None ∷ rest) = entries_from (key + 1) rest
+entries_from key (Some u ∷ rest) = (key, u) ∷ entries_from (key + 1) rest
+
+length-entries_from : (key : ℕ) (s : List (Option Undo)) → length (entries_from key s) ≡ count_by is_some s
+length-entries_from key [] = refl
+length-entries_from key (None ∷ rest) = omega (arith, length-entries_from (key + 1) rest, sum_by-cons (λ o. cond (is_some o) 1 0) None rest)
+length-entries_from key (Some u ∷ rest) = omega (arith, length-entries_from (key + 1) rest, sum_by-cons (λ o. cond (is_some o) 1 0) (Some u) rest)
+
 -- what stands at a key is an entry
-pub find_entry : (s : List (Option Undo)) (base q key : ℕ) (u : Undo) → key ≡ base + q → record_at s q ≡ Some u → IsSome (lookup (nat_eq key) (entries_from base s))
+find_entry : (s : List (Option Undo)) (base q key : ℕ) (u : Undo) → key ≡ base + q → record_at s q ≡ Some u → IsSome (lookup (nat_eq key) (entries_from base s))
 find_entry [] base q key u e at = cc
 find_entry (None ∷ s) base zero key u e at = cc
 find_entry (None ∷ s) base (suc q) key u e at = find_entry s (base + 1) q key u (omega arith) at

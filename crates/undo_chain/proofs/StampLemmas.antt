@@ -79,20 +79,9 @@ restamps_links old new key stamp r k =
     kept None = refl
     kept (Some u) = refl
 
--- a record stamped in its slot
-pub set_linked : (s : List (Option Undo)) (key stamp : ℕ) (u : Undo) → AreLinked s → record_at s key ≡ Some u → AreLinked (set s key (Some (with_stamp stamp u)))
-set_linked s key stamp u is at = relinked s (set s key (Some (with_stamp stamp u))) same is
-  where
-    same : SameLinks s (set s key (Some (with_stamp stamp u)))
-    same k =
-        let below : key < length s = there_below s key u at in
-        elim (cases_eq k key) [
-          | inl e ↦
-              ap (λ j. option_map (λ (v : Undo). v.next) (record_at (set s key (Some (with_stamp stamp u))) j)) e
-              ∙ ap (option_map (λ (v : Undo). v.next)) (get_or-set_same s key (Some (with_stamp stamp u)) None below)
-              ∙ sym (ap (option_map (λ (v : Undo). v.next)) (ap (record_at s) e ∙ at))
-          | inr e ↦ ap (option_map (λ (v : Undo). v.next)) (get_or-set_other s key k (Some (with_stamp stamp u)) None e)
-        ]
+-- a record that gets a stamp leads where it led
+pub stamp_linked : (old new : ChainMap) (key stamp : ℕ) → AreLinked old.slots → Restamps old new key stamp → AreLinked new.slots
+stamp_linked old new key stamp is changed = relinked old.slots new.slots (restamps_links old new key stamp changed) is
 
 -- ---- two lists share no record
 

@@ -5,3 +5,4 @@ pub mod Links
 pub mod Walks
 pub mod Laws
 pub mod Packed
+pub mod Slots

@@ -1,6 +1,39 @@
--- Parts of a packed record.
-use Rattle.std.specs.Prelude.{ℕ, Bool, cond, Option, Some, None}
+-- What the parts of a packed record stand for.
+use Rattle.std.specs.Prelude.{◌≡◌, ℕ, zero, suc, ◌+◌, ◌*◌, ◌≤◌, Bool, cond, Option, Some, None}
+use Rattle.std.specs.Option.{unwrap_or}
+use Rattle.graph_model.specs.declared.journal.TxnName.{TxnName}
+use Rattle.undo_chain.specs.declared.undo.Undo.{Undo}
+use Rattle.undo_chain.specs.declared.link.TheConstants.{MOST_RECORDS}
+use Rattle.undo_chain.specs.declared.packed.Content.{Content}
+use Rattle.undo_chain.specs.declared.packed.Content.TheVariants.{Nothing, Unstamped, Stamped}
+use Rattle.undo_chain.specs.declared.packed.Slot.{Slot}
+use Rattle.undo_chain.specs.declared.packed.Slot.TheVariants.{Vacant, Occupied}
 
 -- a number, if it is there
 abbrev pub part : Bool → ℕ → Option ℕ
 part is_there number = cond is_there (Some number) None
+
+-- the key below a number; there is none below zero
+abbrev pub key_below : ℕ → Option ℕ
+key_below zero = None
+key_below (suc key) = Some key
+
+-- the key that three parts of 16 bits stand for
+abbrev pub key_in : ℕ → ℕ → ℕ → Option ℕ
+key_in low middle high = key_below (low + 65536 * (middle + 65536 * high))
+
+-- 48 bits can name the key
+abbrev pub IsNameable : Option ℕ → Type 0
+IsNameable None = Unit {0}
+IsNameable (Some key) = key ≤ MOST_RECORDS
+
+-- what a slot holds: the place of the next vacant one, or a record, which has a stamp or none
+abbrev pub slot_of : Content → TxnName → ℕ → Option ℕ → Option ℕ → Slot
+slot_of Nothing by stamp older link = Vacant (unwrap_or link 0)
+slot_of Unstamped by stamp older link = Occupied (record { by = by; stamp = None; older = older; next = link })
+slot_of Stamped by stamp older link = Occupied (record { by = by; stamp = Some stamp; older = older; next = link })
+
+-- the record in a slot
+abbrev pub record_in : Slot → Option Undo
+record_in (Vacant next) = None
+record_in (Occupied undo) = Some undo

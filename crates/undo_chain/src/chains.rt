@@ -10,29 +10,27 @@ ghost use Rattle.undo_chain.specs.States.{Grows, AreNamed};
 ghost use Rattle.undo_chain.specs.Walks.{Restamps};
 ghost use Rattle.undo_chain.specs.Chains.{ChainMap, record_at, unlinked, list_at, IsHead, IsHeadOf, IsLinkOf, AreApart, ChangesOneList, ChangesTwoLists, HandsOver};
 
-use crate::packed::PackedUndo;
+use crate::link::Link;
+use crate::slots::Slots;
 use crate::states::{Snapshot, States};
 use crate::undo::Undo;
 use graph_model::{NoMemory, State, TxnName};
-use slab::Slab;
 use std::alloc::Global;
 use std::marker::Model;
 
 /// The undo records of one segment.
 #[derive(Drop)]
 pub struct Chains {
-    records: Slab<PackedUndo>,
+    records: Slots,
 }
 
 impl Model for Chains {
-    ghost use Rattle.std.specs.Prelude.{◌-◌};
-    ghost use Rattle.slab.specs.Slab.{slab_len};
     ghost use Rattle.undo_chain.specs.Chains.{ChainMap};
     ghost use Rattle.undo_chain.specs.Links.{AreLinked};
 
     ghost Value = { ChainMap };
 
-    ghost view = { λ c. record { slots = c.records.slots; spare = c.records.capacity - slab_len c.records } };
+    ghost view = { λ c. c.records };
 
     ghost invariant = { λ c. AreLinked c.records.slots };
 }
@@ -43,7 +41,7 @@ impl Chains {
         ensures { result.slots ≡ [] }
     {
         Chains {
-            records: Slab::new(alloc),
+            records: Slots::new(alloc),
         }
     }
 
@@ -55,18 +53,14 @@ impl Chains {
         ensures kept { self.new.slots ≡ self.old.slots }
         ensures spare { self.old.spare ≤ self.new.spare }
     {
-        if records == 0 {
-            return Ok(());
-        }
-        self.records.reserve(records)?;
-        Ok(())
+        self.records.reserve(records)
     }
 
     /// How many more records there is room for.
     pub fn spare(&self) -> usize
         ensures { result ≡ self.now.spare }
     {
-        self.records.capacity() - self.records.len()
+        self.records.spare()
     }
 
     /// How many records a list has.
@@ -92,9 +86,19 @@ impl Chains {
         requires apart { AreApart one other }
         ensures { result ≡ length (list_at self.now one) + length (list_at self.now other) }
     {
-        // Nobody reads it: that the slab's number of records fits is why the sum below does.
+        // Nobody reads it: that the number of all records fits is why the sum below does.
         let _most = self.records.len();
         self.records(one) + self.records(other)
+    }
+
+    /// A head in six bytes.
+    pub fn link(&self, head: Option<usize>) -> Link
+        requires { IsHeadOf self.now head }
+        ensures { result ≡ head }
+    {
+        // Nobody reads it: that each key can be named is a clause of this call.
+        let _most = self.records.len();
+        Link::new(head)
     }
 
     /// The writer of the newest record.
@@ -327,8 +331,9 @@ impl Chains {
         ensures others { ChangesOneList self.old self.new head (Some result) }
         ensures spare { self.old.spare ≡ self.new.spare + 1 }
     {
-        self.records
-            .insert_reserved(PackedUndo::new(Undo { next: head, ..undo }))
+        // Nobody reads it: that each key can be named is a clause of this call.
+        let _most = self.records.len();
+        self.records.insert(Undo { next: head, ..undo })
     }
 
     /// Takes the first record of a list away.
@@ -338,7 +343,7 @@ impl Chains {
         ensures others { ChangesOneList self.old self.new (Some head) result.next }
         ensures spare { self.new.spare ≡ self.old.spare + 1 }
     {
-        self.records.remove(head).undo()
+        self.records.remove(head)
     }
 
     /// Gives the record at a key this stamp.
@@ -346,7 +351,7 @@ impl Chains {
         requires { IsSome (record_at self.old.slots key) }
         ensures { Restamps self.old self.new key stamp }
     {
-        self.records[key].set_stamp(stamp);
+        self.records.set_stamp(key, stamp);
     }
 
     /// The record at a key: a head, or the next one of a list.
@@ -356,10 +361,7 @@ impl Chains {
         ensures list { list_at self.now (Some key) ≡ unlinked result ∷ list_at self.now result.next }
         ensures next { IsLinkOf self.now result.next }
     {
-        match self.records.get(key) {
-            Some(packed) => packed.undo(),
-            None => unreachable!(),
-        }
+        self.records.get(key)
     }
 
     /// Whether a list has a record of this writer.

@@ -7,11 +7,14 @@
 
 mod chains;
 mod laws;
+mod link;
 mod packed;
+mod slots;
 mod states;
 mod undo;
 
 pub use chains::Chains;
 pub use laws::lists_are_versions;
+pub use link::{Link, MOST_RECORDS};
 pub use states::{Snapshot, States};
 pub use undo::Undo;

@@ -1,67 +1,114 @@
 //! Undo records as they lie in memory.
 
-ghost use Rattle.std.specs.Prelude.{◌≡◌, Some};
+ghost use Rattle.std.specs.Prelude.{◌≡◌, ◌≤◌, None, Some, IsSome, IsSomeAnd};
+ghost use Rattle.undo_chain.specs.declared.link.TheConstants.{MOST_RECORDS};
+ghost use Rattle.undo_chain.specs.declared.packed.Slot.TheVariants.{Vacant, Occupied};
+ghost use Rattle.undo_chain.specs.Packed.{IsNameable, record_in};
+ghost use Rattle.undo_chain.specs.Walks.{with_stamp};
 
+use crate::link::Link;
 use crate::undo::Undo;
 use graph_model::TxnName;
 use std::marker::Model;
 
-/// An undo record in 40 bytes: whether a part is there is said beside it, and all of that behind the parts.
+/// What stands in a slot: the place of the next vacant one, or a record.
+pub enum Slot {
+    Vacant(usize),
+    Occupied(Undo),
+}
+
+/// Whether a slot has a record, and whether that has a stamp.
+#[derive(Clone, Copy)]
+pub enum Content {
+    Nothing,
+    Unstamped,
+    Stamped,
+}
+
+/// A slot of 32 bytes, whether it has a record or not. What has no meaning in it isn't read.
 #[derive(Drop)]
-pub(crate) struct PackedUndo {
+pub(crate) struct PackedSlot {
     by: TxnName,
     stamp: u64,
     older: u64,
-    next: usize,
-    has_stamp: bool,
+    link: Link,
+    content: Content,
     has_older: bool,
-    has_next: bool,
 }
 
-impl Model for PackedUndo {
-    ghost use Rattle.undo_chain.specs.declared.undo.Undo.{Undo};
-    ghost use Rattle.undo_chain.specs.Packed.{part};
+impl Model for PackedSlot {
+    ghost use Rattle.undo_chain.specs.declared.packed.Slot.{Slot};
+    ghost use Rattle.undo_chain.specs.Packed.{part, slot_of};
 
-    ghost Value = { Undo };
+    ghost Value = { Slot };
 
-    ghost view = { λ p. record {
-      by = p.by;
-      stamp = part p.has_stamp p.stamp;
-      older = part p.has_older p.older;
-      next = part p.has_next p.next;
-    } };
+    ghost view = { λ p. slot_of p.content p.by p.stamp (part p.has_older p.older) p.link };
 }
 
-impl PackedUndo {
-    pub(crate) fn new(undo: Undo) -> PackedUndo
-        ensures { result ≡ undo }
+impl PackedSlot {
+    /// A slot with a record.
+    pub(crate) fn occupied(undo: Undo) -> PackedSlot
+        requires { IsNameable undo.next }
+        ensures { result ≡ Occupied undo }
     {
-        PackedUndo {
+        PackedSlot {
             by: undo.by,
             stamp: undo.stamp.unwrap_or(0),
             older: undo.older.unwrap_or(0),
-            next: undo.next.unwrap_or(0),
-            has_stamp: undo.stamp.is_some(),
+            link: Link::new(undo.next),
+            content: match undo.stamp {
+                Some(_) => Content::Stamped,
+                None => Content::Unstamped,
+            },
             has_older: undo.older.is_some(),
-            has_next: undo.next.is_some(),
         }
     }
 
+    /// A slot without one, which names the next such slot.
+    pub(crate) fn vacant(next: usize) -> PackedSlot
+        requires { next ≤ MOST_RECORDS }
+        ensures { result ≡ Vacant next }
+    {
+        PackedSlot {
+            by: TxnName { job: 0, number: 0 },
+            stamp: 0,
+            older: 0,
+            link: Link::new(Some(next)),
+            content: Content::Nothing,
+            has_older: false,
+        }
+    }
+
+    /// The record.
     pub(crate) fn undo(&self) -> Undo
-        ensures { result ≡ self.now }
+        requires { IsSome (record_in self.now) }
+        ensures { record_in self.now ≡ Some result }
     {
         Undo {
             by: self.by,
-            stamp: self.has_stamp.then_some(self.stamp),
+            stamp: match self.content {
+                Content::Stamped => Some(self.stamp),
+                _ => None,
+            },
             older: self.has_older.then_some(self.older),
-            next: self.has_next.then_some(self.next),
+            next: self.link.key(),
         }
     }
 
+    /// What a slot without a record names.
+    pub(crate) fn next_vacant(&self) -> usize
+        requires { record_in self.now ≡ None }
+        ensures { self.now ≡ Vacant result }
+    {
+        self.link.key().unwrap_or(0)
+    }
+
+    /// Gives the record this stamp.
     pub(crate) fn set_stamp(&mut self, stamp: u64)
-        ensures { self.new ≡ record self.old { stamp = Some stamp } }
+        requires { IsSome (record_in self.old) }
+        ensures { IsSomeAnd (record_in self.old) (λ undo. self.new ≡ Occupied (with_stamp stamp undo)) }
     {
         self.stamp = stamp;
-        self.has_stamp = true;
+        self.content = Content::Stamped;
     }
 }

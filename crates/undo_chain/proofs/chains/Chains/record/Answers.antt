@@ -8,5 +8,5 @@ use Rattle.undo_chain.proofs.chains.Chains.record.Goals as goal
 pub returns-clause-list : goal.returns-clause-list
 returns-clause-list c =
     let is = subst (λ (m : ChainMap). AreLinked m.slots) c.self.view_is c.self.invariant in
-    let at = subst (λ (m : ChainMap). record_at m.slots c.args.key ≡ Some c.in-Some.packed.now) c.self.view_is (sym c.in-Some.ensures) ∙ ap (λ (u : Undo). Some u) (sym c.undo.ensures) in
-    list_step c.args.self.now.slots is c.args.key c.undo.result at
+    let at = subst (λ (m : ChainMap). record_at m.slots c.args.key ≡ Some c.get.result) c.self.view_is c.get.ensures in
+    list_step c.args.self.now.slots is c.args.key c.get.result at

@@ -8,6 +8,6 @@ use Rattle.undo_chain.proofs.chains.Chains.records_in_both.Goals as goal
 pub overflow_add-result : goal.overflow_add-result
 overflow_add-result c =
     let is = subst (λ (m : ChainMap). AreLinked m.slots) c.self.view_is c.self.invariant in
-    let most = subst (λ (m : ChainMap). c.len-most.result ≡ count_by is_some m.slots) c.self.view_is c.len-most.ensures in
+    let most = subst (λ (m : ChainMap). c.len-most.result ≡ count_by is_some m.slots) c.self.view_is c.len-most.ensures.len in
     let bound = lists_count _ c.args.self.now is c.args.one c.args.other c.requires.one c.requires.other c.requires.apart refl in
-    omega (arith, bound, most, c.records.ensures, c.records-2.ensures, c.len-most.auto)
+    omega (arith, bound, most, c.records.ensures, c.records-2.ensures)

@@ -1,5 +1,5 @@
-use Rattle.undo_chain.proofs.StampLemmas.{set_linked}
+use Rattle.undo_chain.proofs.StampLemmas.{stamp_linked}
 use Rattle.undo_chain.proofs.chains.Chains.set_stamp.Goals as goal
 
 pub invariant_of-self : goal.invariant_of-self
-invariant_of-self c = rw c.set_stamp.ensures (set_linked _ c.args.key c.args.stamp c.index_mut.result.now c.self.invariant c.index_mut.ensures.value)
+invariant_of-self c = stamp_linked _ _ c.args.key c.args.stamp c.self.invariant c.set_stamp.ensures
