@@ -1,6 +1,6 @@
 -- One row of a segment changes, as contracts see it.
 use Rattle.std.proofs.Common.{◌≡◌, ℕ, zero, suc, ◌+◌, ◌<◌, ◌≤◌, List, [], ◌∷◌, length, get_or, arith, refl, sym, ◌∙◌, ap, subst, Some, None}
-use Rattle.std.specs.Prelude.{Bool, true, false, not, min, cond, is_some, insert, slice_get, Option, IsSomeAnd, ◌==◌}
+use Rattle.std.specs.Prelude.{Bool, true, false, not, min, cond, is_some, insert, slice_get, Option, IsSomeAnd}
 use Rattle.std.specs.Ordering.{eq_by_cmp}
 use Rattle.std.proofs.lemmas.List.{length-map}
 use Rattle.std.specs.FinMap.Entries.{find, where_key}
@@ -8,16 +8,15 @@ use Rattle.graph_model.specs.declared.row.Key.{Key}
 use Rattle.graph_model.specs.declared.row.Row.{Row}
 use Rattle.graph_model.specs.declared.journal.TxnName.{TxnName}
 use Rattle.graph_model.specs.Rows.{key_cmp, is_between}
-use Rattle.graph_model.proofs.TestLemmas.{eq_of}
-use Rattle.store_model.specs.Stamped.{StampedVersions}
-use Rattle.gap_segment.specs.Fenced.{FencedRows, IsGapFor}
+use Rattle.store_model.specs.Stamped.{StampedVersions, prune_stamped}
+use Rattle.gap_segment.specs.Fenced.{FencedRows, AreFenced, IsGapFor}
 use Rattle.undo_chain.specs.Chains.{ChainMap, list_at, IsHeadOf, ChangesOneList}
 use Rattle.version_segment.specs.declared.heads.Heads.{Heads}
-use Rattle.version_segment.specs.declared.heads.ChangedRow.{ChangedRow}
+use Rattle.version_segment.specs.Heads.{ChangedRow}
 use Rattle.version_segment.specs.declared.found.FoundRow.{FoundRow}
-use Rattle.version_segment.specs.Rows.{nothing, or_nothing, is_empty, versions_at, has_row, ChangesKey, with_versions, pruned_rows}
+use Rattle.version_segment.specs.Rows.{nothing, or_nothing, is_empty, versions_at, has_row, ChangesKey, with_versions, unless_nothing, pruned_rows, settled_rows as rows_settled}
 use Rattle.version_segment.specs.Heads.{HeadTable, heads_at, settled_heads}
-use Rattle.version_segment.specs.Lists.{ChangesRow}
+use Rattle.version_segment.specs.Lists.{AreHeads, AreOthers, ChangesRow, HasRest}
 use Rattle.version_segment.specs.Parts.{of_lists, value_in, versions_in, versioned, view_of, AreParts, IsRow, is_changed, heads_of, with_value, new_row}
 use Rattle.version_segment.proofs.HeadLemmas.{found_at, index_below}
 use Rattle.version_segment.proofs.ListLemmas.{row_start, row_empty, undos_change}
@@ -56,7 +55,7 @@ module _ (rows : FencedRows) (heads : HeadTable) (c : ChainMap) (k : Key) (is : 
     pub place_below : row.place < length rows.rows
     place_below = let r = found_at _ rows.rows row.place at.at in index_below rows.rows row.place r.0 r.1
 
-    key_there : IsSomeAnd (slice_get rows.rows row.place) (λ r. r.key ≡ k)
+    pub key_there : IsSomeAnd (slice_get rows.rows row.place) (λ r. r.key ≡ k)
     key_there = let r = found_at _ rows.rows row.place at.at in subst (λ (o : Option Row). IsSomeAnd o (λ x. x.key ≡ k)) (sym r.1) r.2.0
 
     -- it gets another value and other lists
@@ -193,21 +192,38 @@ no_rows rows heads c e = go rows.rows (sym (row_count rows heads c) ∙ ap lengt
     go (r ∷ rs) f = absurd (omega arith)
 
 -- where no row is changed, no list counts
-pub settled_rows : (heads heads' : List ChangedRow) (c c' : ChainMap) (rows : List Row) → heads ≡ [] → heads' ≡ [] → versioned c' heads' rows ≡ versioned c heads rows
-settled_rows heads heads' c c' rows e f = ap (λ hs. versioned c' hs rows) f ∙ go rows ∙ sym (ap (λ hs. versioned c hs rows) e)
-  where
-    go : (rs : List Row) → versioned c' [] rs ≡ versioned c [] rs
-    go [] = refl
-    go (r ∷ rs) = ap (λ es. (r.key, versions_in c settled_heads r.weight) ∷ es) (go rs)
-
-pub none_changed : (heads : List ChangedRow) → (length heads == 0) ≡ true → heads ≡ []
-none_changed [] e = refl
-none_changed (h ∷ hs) e = let none : length (h ∷ hs) ≡ 0 = eq_of (length (h ∷ hs)) 0 e in absurd (omega (arith, none))
+pub settled_rows : (heads heads' : List ChangedRow) (c c' : ChainMap) (rows : List Row) → ((q : Key) → heads_at heads q ≡ settled_heads) → ((q : Key) → heads_at heads' q ≡ settled_heads) → versioned c' heads' rows ≡ versioned c heads rows
+settled_rows heads heads' c c' [] e f = refl
+settled_rows heads heads' c c' (r ∷ rs) e f =
+    λ i. (r.key, (ap (λ h. versions_in c' h r.weight) (f r.key) ∙ sym (ap (λ h. versions_in c h r.weight) (e r.key))) i) ∷ settled_rows heads heads' c c' rs e f i
 
 -- where no row is changed there is nothing to prune
-pub nothing_pruned : (stamps : TxnName → Option ℕ) (horizon : ℕ) (heads : List ChangedRow) (c : ChainMap) (rows : List Row) → heads ≡ [] → versioned c heads rows ≡ pruned_rows stamps horizon (versioned c heads rows)
-nothing_pruned stamps horizon heads c rows e = subst (λ hs. versioned c hs rows ≡ pruned_rows stamps horizon (versioned c hs rows)) (sym e) (go rows)
+pub nothing_pruned : (stamps : TxnName → Option ℕ) (horizon : ℕ) (heads : List ChangedRow) (c : ChainMap) (rows : List Row) → ((q : Key) → heads_at heads q ≡ settled_heads) → versioned c heads rows ≡ pruned_rows stamps horizon (versioned c heads rows)
+nothing_pruned stamps horizon heads c [] e = refl
+nothing_pruned stamps horizon heads c (r ∷ rs) e =
+    (λ i. (r.key, versions_in c (e r.key i) r.weight) ∷ nothing_pruned stamps horizon heads c rs e i)
+    ∙ ap (λ h. pruned_row (r.key, versions_in c h r.weight)) (sym (e r.key))
   where
-    go : (rs : List Row) → versioned c [] rs ≡ pruned_rows stamps horizon (versioned c [] rs)
-    go [] = refl
-    go (r ∷ rs) = ap (λ es. (r.key, versions_in c settled_heads r.weight) ∷ es) (go rs)
+    pruned_row : Key × StampedVersions → List (Key × StampedVersions)
+    pruned_row row = unless_nothing row.0 (prune_stamped stamps horizon row.1) (pruned_rows stamps horizon (versioned c heads rs))
+
+-- rows that are all settled
+module _ (rows : FencedRows) (heads : List ChangedRow) (c : ChainMap) (fenced : AreFenced rows) (settled : (q : Key) → heads_at heads q ≡ settled_heads) where
+  no_key : (key : ℕ) → ◌≡◌ {A = Option ℕ} None (Some key) → ⊥
+  no_key key e = cc
+
+  pub all_settled_parts : AreParts rows heads c
+  all_settled_parts = record {
+    fenced = fenced;
+    lists = record {
+      heads = λ q. subst (AreHeads c) (sym (settled q)) (record { undos = tt; touches = tt; own = λ key e f. no_key key e });
+      apart = λ p q e.
+          subst (λ (h : Heads). AreOthers h (heads_at heads p).undos (heads_at heads p).touches) (sym (settled q))
+          (record { undos_undos = λ key f g. no_key key g; undos_touches = λ key f g. no_key key g; touches_undos = λ key f g. no_key key g; touches_touches = λ key f g. no_key key g });
+    };
+    rest = λ q. subst HasRest (sym (settled q)) (λ e. cc);
+  }
+
+pub all_settled_rows : (heads : List ChangedRow) (c : ChainMap) (rows : List Row) → ((q : Key) → heads_at heads q ≡ settled_heads) → versioned c heads rows ≡ rows_settled rows
+all_settled_rows heads c [] e = refl
+all_settled_rows heads c (r ∷ rs) e = λ i. (r.key, versions_in c (e r.key i) r.weight) ∷ all_settled_rows heads c rs e i

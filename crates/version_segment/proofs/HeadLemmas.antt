@@ -1,4 +1,4 @@
--- The changed rows of a segment as a function of keys.
+-- Heads in a list, as a function of keys.
 use Rattle.std.proofs.Common.{◌≡◌, ℕ, zero, suc, ◌<◌, ◌≤◌, List, [], ◌∷◌, length, take, get_or, set, refl, sym, ◌∙◌, ap, arith, Some, None}
 use Rattle.std.specs.Prelude.{Bool, true, false, ◌&&◌, ◌||◌, not, cond, is_some, insert, remove, slice_get, Option, IsSomeAnd}
 use Rattle.std.specs.List.{list_any}
@@ -7,12 +7,11 @@ use Rattle.std.specs.Ordering.{eq_by_cmp}
 use Rattle.std.specs.declared.cmp.Ordering.TheVariants.{Equal}
 use Rattle.std.specs.FinMap.Entries.{find, find-put, find-where_key}
 use Rattle.graph_model.specs.declared.row.Key.{Key}
-use Rattle.graph_model.specs.Rows.{key_cmp, is_between}
+use Rattle.graph_model.specs.Rows.{key_cmp}
 use Rattle.graph_model.proofs.OrderLemmas.{keys_total, keys_exact}
 use Rattle.version_segment.specs.declared.heads.Heads.{Heads}
-use Rattle.version_segment.specs.declared.heads.ChangedRow.{ChangedRow}
-use Rattle.version_segment.specs.Keyed.{entries_by, IsGapBy}
-use Rattle.version_segment.specs.Heads.{settled_heads, is_settled, row_key, row_heads, heads_at, AreKeysRising}
+use Rattle.version_segment.specs.Keyed.{entries_by, RisesBy, IsGapBy}
+use Rattle.version_segment.specs.Heads.{settled_heads, is_settled, heads_by}
 use Rattle.version_segment.proofs.KeyedLemmas.{find_there, find_gap, set_is_put, insert_is_put, remove_is_without, tied_same, tied_flip}
 
 -- heads that pass the test are those of a settled row
@@ -80,73 +79,48 @@ choose : (t : Bool) (h : Heads) (o : Option Heads) → unwrap_or (cond t (Some h
 choose true h o = refl
 choose false h o = refl
 
-module _ (rows : List ChangedRow) (k : Key) where
+module _ {X : Type 0} (key : X → Key) (heads : X → Heads) (rows : List X) (k : Key) where
   -- the heads of a row that is there
-  pub heads_there : (i : ℕ) (row : ChangedRow) → AreKeysRising rows → slice_get rows i ≡ Some row → row.key ≡ k → heads_at rows k ≡ row.heads
+  pub heads_there : (i : ℕ) (row : X) → RisesBy key rows → slice_get rows i ≡ Some row → key row ≡ k → heads_by key heads rows k ≡ heads row
   heads_there i row rises at e =
-      ap (λ q. heads_at rows q) (sym e) ∙ ap (λ (o : Option Heads). unwrap_or o settled_heads) (find_there row_key row_heads rows i row rises at)
+      ap (λ q. heads_by key heads rows q) (sym e) ∙ ap (λ (o : Option Heads). unwrap_or o settled_heads) (find_there key heads rows i row rises at)
 
   -- a row that isn't there is settled
-  pub heads_gap : (i : ℕ) → IsGapBy row_key rows k i → heads_at rows k ≡ settled_heads
-  heads_gap i gap = ap (λ (o : Option Heads). unwrap_or o settled_heads) (find_gap row_key row_heads k rows i gap)
+  pub heads_gap : (i : ℕ) → IsGapBy key rows k i → heads_by key heads rows k ≡ settled_heads
+  heads_gap i gap = ap (λ (o : Option Heads). unwrap_or o settled_heads) (find_gap key heads k rows i gap)
 
-  pub heads_set : (i : ℕ) (row new : ChangedRow) → AreKeysRising rows → slice_get rows i ≡ Some row → row.key ≡ k → new.key ≡ k
-      → (q : Key) → heads_at (set rows i new) q ≡ cond (eq_by_cmp key_cmp q k) new.heads (heads_at rows q)
+  pub heads_set : (i : ℕ) (row new : X) → RisesBy key rows → slice_get rows i ≡ Some row → key row ≡ k → key new ≡ k
+      → (q : Key) → heads_by key heads (set rows i new) q ≡ cond (eq_by_cmp key_cmp q k) (heads new) (heads_by key heads rows q)
   heads_set i row new rises at e f q =
-      ap (λ es. unwrap_or (find key_cmp q es) settled_heads) (set_is_put row_key row_heads row_heads k (λ x u. refl) rows i row new rises at e f)
-      ∙ ap (λ (o : Option Heads). unwrap_or o settled_heads) (find-put key_cmp keys_total q k new.heads (entries_by row_key row_heads rows))
-      ∙ choose (eq_by_cmp key_cmp q k) new.heads (find key_cmp q (entries_by row_key row_heads rows))
+      ap (λ es. unwrap_or (find key_cmp q es) settled_heads) (set_is_put key heads heads k (λ x u. refl) rows i row new rises at e f)
+      ∙ ap (λ (o : Option Heads). unwrap_or o settled_heads) (find-put key_cmp keys_total q k (heads new) (entries_by key heads rows))
+      ∙ choose (eq_by_cmp key_cmp q k) (heads new) (find key_cmp q (entries_by key heads rows))
 
-  pub heads_insert : (i : ℕ) (new : ChangedRow) → IsGapBy row_key rows k i → new.key ≡ k
-      → (q : Key) → heads_at (insert rows i new) q ≡ cond (eq_by_cmp key_cmp q k) new.heads (heads_at rows q)
+  pub heads_insert : (i : ℕ) (new : X) → IsGapBy key rows k i → key new ≡ k
+      → (q : Key) → heads_by key heads (insert rows i new) q ≡ cond (eq_by_cmp key_cmp q k) (heads new) (heads_by key heads rows q)
   heads_insert i new gap f q =
-      ap (λ es. unwrap_or (find key_cmp q es) settled_heads) (insert_is_put row_key row_heads row_heads k (λ x u. refl) rows i new gap f)
-      ∙ ap (λ (o : Option Heads). unwrap_or o settled_heads) (find-put key_cmp keys_total q k new.heads (entries_by row_key row_heads rows))
-      ∙ choose (eq_by_cmp key_cmp q k) new.heads (find key_cmp q (entries_by row_key row_heads rows))
+      ap (λ es. unwrap_or (find key_cmp q es) settled_heads) (insert_is_put key heads heads k (λ x u. refl) rows i new gap f)
+      ∙ ap (λ (o : Option Heads). unwrap_or o settled_heads) (find-put key_cmp keys_total q k (heads new) (entries_by key heads rows))
+      ∙ choose (eq_by_cmp key_cmp q k) (heads new) (find key_cmp q (entries_by key heads rows))
 
-  pub heads_remove : (i : ℕ) (row : ChangedRow) (h : Heads) → AreKeysRising rows → slice_get rows i ≡ Some row → row.key ≡ k → h ≡ settled_heads
-      → (q : Key) → heads_at (remove rows i) q ≡ cond (eq_by_cmp key_cmp q k) h (heads_at rows q)
+  pub heads_remove : (i : ℕ) (row : X) (h : Heads) → RisesBy key rows → slice_get rows i ≡ Some row → key row ≡ k → h ≡ settled_heads
+      → (q : Key) → heads_by key heads (remove rows i) q ≡ cond (eq_by_cmp key_cmp q k) h (heads_by key heads rows q)
   heads_remove i row h rises at e s q =
-      ap (λ es. unwrap_or (find key_cmp q es) settled_heads) (remove_is_without row_key row_heads row_heads k (λ x u. refl) rows i row rises at e)
-      ∙ ap (λ (o : Option Heads). unwrap_or o settled_heads) (find-where_key key_cmp (λ x. not (eq_by_cmp key_cmp k x)) q alike (entries_by row_key row_heads rows))
-      ∙ ap (λ t. unwrap_or (cond (not t) (find key_cmp q (entries_by row_key row_heads rows)) None) settled_heads) (tied_flip k q)
+      ap (λ es. unwrap_or (find key_cmp q es) settled_heads) (remove_is_without key heads heads k (λ x u. refl) rows i row rises at e)
+      ∙ ap (λ (o : Option Heads). unwrap_or o settled_heads) (find-where_key key_cmp (λ x. not (eq_by_cmp key_cmp k x)) q alike (entries_by key heads rows))
+      ∙ ap (λ t. unwrap_or (cond (not t) (find key_cmp q (entries_by key heads rows)) None) settled_heads) (tied_flip k q)
       ∙ drop_one (eq_by_cmp key_cmp q k)
     where
       alike : (x : Key) → key_cmp q x ≡ Equal → not (eq_by_cmp key_cmp k x) ≡ not (eq_by_cmp key_cmp k q)
       alike x t = ap (λ y. not (eq_by_cmp key_cmp k y)) (sym (keys_exact q x t))
 
-      drop_one : (t : Bool) → unwrap_or (cond (not t) (find key_cmp q (entries_by row_key row_heads rows)) None) settled_heads ≡ cond t h (heads_at rows q)
+      drop_one : (t : Bool) → unwrap_or (cond (not t) (find key_cmp q (entries_by key heads rows)) None) settled_heads ≡ cond t h (heads_by key heads rows q)
       drop_one true = sym s
       drop_one false = refl
 
-  pub heads_none : (i : ℕ) (h : Heads) → IsGapBy row_key rows k i → h ≡ settled_heads → (q : Key) → heads_at rows q ≡ cond (eq_by_cmp key_cmp q k) h (heads_at rows q)
+  pub heads_none : (i : ℕ) (h : Heads) → IsGapBy key rows k i → h ≡ settled_heads → (q : Key) → heads_by key heads rows q ≡ cond (eq_by_cmp key_cmp q k) h (heads_by key heads rows q)
   heads_none i h gap s q =
-      elim (eq_by_cmp key_cmp q k) as (λ t. eq_by_cmp key_cmp q k ≡ t → heads_at rows q ≡ cond t h (heads_at rows q)) [
-        | true ↦ λ e. ap (heads_at rows) (tied_same q k e) ∙ heads_gap i gap ∙ sym s
+      elim (eq_by_cmp key_cmp q k) as (λ t. eq_by_cmp key_cmp q k ≡ t → heads_by key heads rows q ≡ cond t h (heads_by key heads rows q)) [
+        | true ↦ λ e. ap (heads_by key heads rows) (tied_same q k e) ∙ heads_gap i gap ∙ sym s
         | false ↦ λ e. refl
       ] refl
-
--- none of the changed rows stands in the range, so all rows there are settled
-pub settled_between : (rows : List ChangedRow) (from until : Key) → list_any (λ (row : ChangedRow). is_between from until row.key) rows ≡ false
-    → (q : Key) → is_between from until q ≡ true → heads_at rows q ≡ settled_heads
-settled_between [] from until none q within = refl
-settled_between (row ∷ rows) from until none q within =
-    ap (λ t. unwrap_or (cond t (Some row.heads) (find key_cmp q (entries_by row_key row_heads rows))) settled_heads) untied
-    ∙ settled_between rows from until (second _ _ none) q within
-  where
-    first : (s t : Bool) → (s || t) ≡ false → s ≡ false
-    first true t e = cc
-    first false t e = refl
-
-    second : (s t : Bool) → (s || t) ≡ false → t ≡ false
-    second true t e = cc
-    second false t e = e
-
-    untied : eq_by_cmp key_cmp q row.key ≡ false
-    untied = elim (eq_by_cmp key_cmp q row.key) as (λ t. eq_by_cmp key_cmp q row.key ≡ t → t ≡ false) [
-      | true ↦ λ e. absurd (clash (sym within ∙ ap (is_between from until) (tied_same q row.key e) ∙ first _ _ none))
-      | false ↦ λ e. refl
-    ] refl
-      where
-        clash : true ≡ false → ⊥
-        clash g = cc

@@ -1,5 +1,7 @@
 pub mod KeyedLemmas
 pub mod HeadLemmas
+pub mod PlaceLemmas
+pub mod TableLemmas
 pub mod ListLemmas
 pub mod PartLemmas
 pub mod VersionLemmas
@@ -8,6 +10,8 @@ pub mod WalkLemmas
 pub mod PruneLemmas
 pub mod RunLemmas
 pub mod MoveLemmas
+pub mod HandLemmas
+pub mod ShareLemmas
 pub mod SegmentLemmas
 pub mod LawLemmas
 pub mod LookupLemmas

@@ -13,7 +13,7 @@ use Rattle.gap_segment.specs.Fenced.{FencedRows, AreBelow, AreAbove, AreSorted, 
 use Rattle.gap_segment.proofs.FencedLemmas.{fenced_front, fenced_back, fenced_append, all_map}
 use Rattle.undo_chain.specs.Chains.{ChainMap, list_at, IsHeadOf, ChangesOneList}
 use Rattle.version_segment.specs.declared.heads.Heads.{Heads}
-use Rattle.version_segment.specs.declared.heads.ChangedRow.{ChangedRow}
+use Rattle.version_segment.specs.Heads.{ChangedRow}
 use Rattle.version_segment.specs.Rows.{VersionedRows, is_empty, records_in, all_records, first_key_of, SharesRows}
 use Rattle.version_segment.specs.Heads.{HeadTable, heads_at, settled_heads, is_settled}
 use Rattle.version_segment.specs.Lists.{AreLists, ChangesRow, HasRest}
@@ -75,7 +75,7 @@ module _ (c c1 c2 d d1 d2 : ChainMap) (f g : Key → Heads) (k : Key) (h : Heads
   to_middle : ChangesRow d d1 g k u None
   to_middle = undos_change d d d1 g k None None (row_empty d g k ga) u u_gained
 
-  to_end : ChangesRow d d2 g k u t
+  pub to_end : ChangesRow d d2 g k u t
   to_end = touches_change d d1 d2 g k u None to_middle t t_gained
 
   all_undos : list_at d2 u ≡ list_at c h.undos
@@ -178,6 +178,30 @@ module _ (c c1 c2 d d1 d2 : ChainMap) (f g : Key → Heads) (k : Key) (h : Heads
         go true = here
         go false = all q
 
+-- all of it, of one row
+module _ (k : Key) (fh fh' th th' : HeadTable) (c c1 c2 d d1 d2 : ChainMap) (h : Heads) (is : h ≡ heads_at fh.entries k) (u t : Option ℕ)
+    (fa : AreLists c (heads_at fh.entries)) (ga : AreLists d (heads_at th.entries))
+    (u_list : list_at d1 u ≡ list_at c h.undos) (u_left : ChangesOneList c c1 h.undos None) (u_gained : ChangesOneList d d1 None u)
+    (t_list : list_at d2 t ≡ list_at c1 h.touches) (t_left : ChangesOneList c1 c2 h.touches None) (t_gained : ChangesOneList d1 d2 None t)
+    (rest : HasRest (heads_at fh.entries k))
+    (flaw : (q : Key) → heads_at fh'.entries q ≡ cond (eq_by_cmp key_cmp q k) settled_heads (heads_at fh.entries q))
+    (glaw : (q : Key) → heads_at th'.entries q ≡ cond (eq_by_cmp key_cmp q k) (record { has_value = h.has_value; undos = u; touches = t }) (heads_at th.entries q)) where
+  pub hand_row : fh.spare ≤ fh'.spare → c.spare ≤ c2.spare → d.spare ≤ d1.spare + length (list_at c h.undos) → d1.spare ≤ d2.spare + length (list_at c1 h.touches) → th.spare ≤ th'.spare + 1
+      → ((heads_at th.entries k ≡ settled_heads → record { has_value = h.has_value; undos = u; touches = t } ≡ settled_heads) → th.spare ≤ th'.spare) → HandsRow k fh fh' c c2 th th' d d2
+  hand_row left spare one two entry kept = record {
+    from_lists = hand_from_lists c c1 c2 d d1 d2 (heads_at fh.entries) (heads_at th.entries) k h is u t fa ga u_list u_left u_gained t_list t_left t_gained (heads_at fh'.entries) (heads_at th'.entries) flaw glaw;
+    to_lists = hand_to_lists c c1 c2 d d1 d2 (heads_at fh.entries) (heads_at th.entries) k h is u t fa ga u_list u_left u_gained t_list t_left t_gained (heads_at fh'.entries) (heads_at th'.entries) flaw glaw;
+    from_others = hand_from_others c c1 c2 d d1 d2 (heads_at fh.entries) (heads_at th.entries) k h is u t fa ga u_list u_left u_gained t_list t_left t_gained (heads_at fh'.entries) (heads_at th'.entries) flaw glaw;
+    to_others = hand_to_others c c1 c2 d d1 d2 (heads_at fh.entries) (heads_at th.entries) k h is u t fa ga u_list u_left u_gained t_list t_left t_gained (heads_at fh'.entries) (heads_at th'.entries) flaw glaw;
+    moved = hand_moved c c1 c2 d d1 d2 (heads_at fh.entries) (heads_at th.entries) k h is u t fa ga u_list u_left u_gained t_list t_left t_gained (heads_at fh'.entries) (heads_at th'.entries) flaw glaw;
+    from_rest = hand_from_rest c c1 c2 d d1 d2 (heads_at fh.entries) (heads_at th.entries) k h is u t fa ga u_list u_left u_gained t_list t_left t_gained (heads_at fh'.entries) (heads_at th'.entries) flaw glaw;
+    to_rest = hand_to_rest c c1 c2 d d1 d2 (heads_at fh.entries) (heads_at th.entries) k h is u t fa ga u_list u_left u_gained t_list t_left t_gained (heads_at fh'.entries) (heads_at th'.entries) flaw glaw rest;
+    from_spare = spare;
+    from_entry = left;
+    to_spare = hand_used c c1 c2 d d1 d2 (heads_at fh.entries) (heads_at th.entries) k h is u t fa ga u_list u_left u_gained t_list t_left t_gained d.spare d1.spare d2.spare one two;
+    to_entry = hand_entry c c1 c2 d d1 d2 (heads_at fh.entries) (heads_at th.entries) k h is u t fa ga u_list u_left u_gained t_list t_left t_gained th.spare th'.spare rest entry kept;
+  }
+
 -- ---- lists of two neighbours
 
 module _ {X : Type 0} where
@@ -187,7 +211,7 @@ module _ {X : Type 0} where
 
 -- ---- two segments' rows
 
-first_key_same : (heads : List ChangedRow) (c : ChainMap) (rows : List Row) (other : Key) → first_key_of (versioned c heads rows) other ≡ first_key_or rows other
+pub first_key_same : (heads : List ChangedRow) (c : ChainMap) (rows : List Row) (other : Key) → first_key_of (versioned c heads rows) other ≡ first_key_or rows other
 first_key_same heads c [] other = refl
 first_key_same heads c (r ∷ rs) other = refl
 
@@ -236,12 +260,12 @@ versioned_append : (heads : List ChangedRow) (c : ChainMap) (xs ys : List Row) �
 versioned_append heads c [] ys = refl
 versioned_append heads c (x ∷ xs) ys = ap (λ es. (x.key, versions_in c (heads_at heads x.key) x.weight) ∷ es) (versioned_append heads c xs ys)
 
-versioned_take : (heads : List ChangedRow) (c : ChainMap) (n : ℕ) (rows : List Row) → versioned c heads (take n rows) ≡ take n (versioned c heads rows)
+pub versioned_take : (heads : List ChangedRow) (c : ChainMap) (n : ℕ) (rows : List Row) → versioned c heads (take n rows) ≡ take n (versioned c heads rows)
 versioned_take heads c zero rows = refl
 versioned_take heads c (suc n) [] = refl
 versioned_take heads c (suc n) (r ∷ rs) = ap (λ es. (r.key, versions_in c (heads_at heads r.key) r.weight) ∷ es) (versioned_take heads c n rs)
 
-versioned_drop : (heads : List ChangedRow) (c : ChainMap) (n : ℕ) (rows : List Row) → versioned c heads (drop n rows) ≡ drop n (versioned c heads rows)
+pub versioned_drop : (heads : List ChangedRow) (c : ChainMap) (n : ℕ) (rows : List Row) → versioned c heads (drop n rows) ≡ drop n (versioned c heads rows)
 versioned_drop heads c zero rows = refl
 versioned_drop heads c (suc n) [] = refl
 versioned_drop heads c (suc n) (r ∷ rs) = versioned_drop heads c n rs

@@ -14,7 +14,7 @@ use Rattle.undo_chain.specs.declared.undo.Undo.{Undo}
 use Rattle.undo_chain.specs.Records.{UndoRecord, pairs_of}
 use Rattle.undo_chain.specs.Chains.{ChainMap, record_at, unlinked, linked, walked, list_at, IsHeadOf}
 use Rattle.undo_chain.proofs.ChainLemmas.{record_there}
-use Rattle.version_segment.specs.declared.heads.ChangedRow.{ChangedRow}
+use Rattle.version_segment.specs.Heads.{ChangedRow}
 use Rattle.version_segment.specs.declared.found.FoundRow.{FoundRow}
 use Rattle.version_segment.specs.Rows.{is_empty, is_nothing, with_versions}
 use Rattle.version_segment.specs.Keyed.{RisesBy, IsGapBy}

@@ -1,6 +1,6 @@
 -- Rows that are pruned one by one, from the last on.
 use Rattle.std.proofs.Common.{◌≡◌, ℕ, zero, suc, ◌+◌, ◌-◌, ◌<◌, ◌≤◌, List, [], ◌∷◌, ◌++◌, length, length-append, length-take, take, drop, refl, sym, ◌∙◌, ap, subst, arith, Some}
-use Rattle.std.specs.Prelude.{Bool, true, false, ◌&&◌, not, cond, is_some, min, slice_get, Option}
+use Rattle.std.specs.Prelude.{Bool, true, false, ◌&&◌, ◌||◌, not, cond, is_some, min, slice_get, Option, None}
 use Rattle.std.specs.List.{AllByRecursion}
 use Rattle.std.specs.Ordering.{eq_by_cmp}
 use Rattle.std.specs.Cmp.{tied_itself}
@@ -16,14 +16,14 @@ use Rattle.gap_segment.specs.Fenced.{FencedRows}
 use Rattle.gap_segment.proofs.FencedLemmas.{all_take, all_drop}
 use Rattle.undo_chain.specs.Records.{unsettled_front, open_touches}
 use Rattle.undo_chain.specs.Chains.{ChainMap, list_at, ChangesOneList}
-use Rattle.version_segment.specs.declared.heads.ChangedRow.{ChangedRow}
+use Rattle.version_segment.specs.Heads.{ChangedRow}
 use Rattle.version_segment.specs.declared.found.FoundRow.{FoundRow}
 use Rattle.version_segment.specs.Rows.{is_empty, is_nothing, with_versions, records_in, all_records, unless_nothing, pruned_rows, PrunesRows}
 use Rattle.version_segment.specs.Checks.{IsNamed, AreNamedRows}
 use Rattle.version_segment.specs.Keyed.{RisesBy}
 use Rattle.version_segment.specs.Heads.{HeadTable, heads_at, settled_heads}
 use Rattle.version_segment.specs.Lists.{ChangesRow}
-use Rattle.version_segment.specs.Parts.{key_of, versioned, of_lists, versions_in, with_value, is_changed, heads_of, view_of, AreParts, IsRow}
+use Rattle.version_segment.specs.Parts.{key_of, versioned, of_lists, value_in, versions_in, with_value, is_changed, heads_of, view_of, AreParts, IsRow}
 use Rattle.version_segment.specs.Walks.{row_of, with_pruned, PrunesRow, ArePruned}
 use Rattle.version_segment.proofs.HeadLemmas.{found_at}
 use Rattle.version_segment.proofs.KeyedLemmas.{order_above, tied_self, below_untied, above_untied}
@@ -177,6 +177,10 @@ pub drop_all : {X : Type 0} (xs : List X) → drop (length xs) xs ≡ []
 drop_all [] = refl
 drop_all (x ∷ xs) = drop_all xs
 
+pub none_of : (o : Option ℕ) → is_some o ≡ false → o ≡ None
+none_of None e = refl
+none_of (Some x) e = cc
+
 -- ---- one row of the parts
 
 module _ (rows : FencedRows) (heads : HeadTable) (c : ChainMap) (k : Key) (is : AreParts rows heads.entries c) (row : FoundRow) (at : IsRow rows.rows heads.entries k row)
@@ -195,6 +199,49 @@ module _ (rows : FencedRows) (heads : HeadTable) (c : ChainMap) (k : Key) (is : 
 
   pub row_named : (names : TxnName → Bool) → AreNamedRows names (row_of old_rows place) → IsNamed names old_row
   row_named names h = (subst (AreNamedRows names) row_alone h).0
+
+  -- a row without records is pruned already
+  module _ (no_undos : row.undos ≡ None) (no_touches : row.touches ≡ None) (stamps : TxnName → Option ℕ) (horizon : ℕ) where
+    has_value : is_some row.value ≡ true
+    has_value =
+        let r = found_at _ rows.rows row.place at.at in
+        let h = heads_at heads.entries k in
+        let none : (is_some h.undos || is_some h.touches) ≡ false = λ i. is_some ((sym at.undos ∙ no_undos) i) || is_some ((sym at.touches ∙ no_touches) i) in
+        by_test h.has_value refl none r.0.weight r.2.1
+      where
+        by_test : (t : Bool) → (heads_at heads.entries k).has_value ≡ t → (is_some (heads_at heads.entries k).undos || is_some (heads_at heads.entries k).touches) ≡ false
+            → (weight : ℕ) → row.value ≡ value_in (heads_at heads.entries k) weight → is_some row.value ≡ true
+        by_test true e none weight value = ap is_some (value ∙ ap (λ t. cond t (Some weight) None) e)
+        by_test false e none weight value = let clash : true ≡ false = sym (is.rest k e) ∙ none in cc
+
+    bare : old_row ≡ of_lists row.value [] []
+    bare = λ i. of_lists row.value (list_at c (no_undos i)) (list_at c (no_touches i))
+
+    prune_bare : (value : Option ℕ) → is_some value ≡ true → unless_nothing k (prune_stamped stamps horizon (of_lists value [] [])) [] ≡ (k, of_lists value [] []) ∷ []
+    prune_bare None e = cc
+    prune_bare (Some weight) e = refl
+
+    bare_stays : pruned_rows stamps horizon (row_of old_rows place) ≡ row_of old_rows place
+    bare_stays =
+        ap (pruned_rows stamps horizon) row_alone ∙ ap (λ r. unless_nothing k (prune_stamped stamps horizon r) []) bare ∙ prune_bare row.value has_value
+        ∙ ap (λ r. (k, r) ∷ []) (sym bare) ∙ sym row_alone
+
+    rejoined : (es : List (Key × StampedVersions)) (i : ℕ) (e : Key × StampedVersions) → slice_get es i ≡ Some e → take i es ++ (row_of es i ++ drop (suc i) es) ≡ es
+    rejoined [] zero e there = cc
+    rejoined [] (suc i) e there = cc
+    rejoined (f ∷ fs) zero e there = refl
+    rejoined (f ∷ fs) (suc i) e there = ap (λ xs. f ∷ xs) (rejoined fs i e there)
+
+    pub pruned_already : PrunesRow stamps horizon place rows rows heads heads c c
+    pruned_already = record {
+      parts = is;
+      low = refl;
+      high = refl;
+      pruned = sym (ap (λ ps. take place old_rows ++ (ps ++ drop (suc place) old_rows)) bare_stays ∙ rejoined old_rows place (k, old_row) row_there);
+      spare = omega arith;
+      room = omega arith;
+      freed = ap (λ ps. c.spare + all_records ps) bare_stays;
+    }
 
   module _ (c1 c2 : ChainMap) (undos touches : Option ℕ) (stamps : TxnName → Option ℕ) (horizon : ℕ)
       (first_list : list_at c1 undos ≡ unsettled_front stamps horizon (list_at c row.undos)) (first_change : ChangesOneList c c1 row.undos undos)

@@ -1,20 +1,20 @@
 -- The rows of a key range for a snapshot.
-use Rattle.std.proofs.Common.{◌≡◌, ℕ, zero, suc, ◌+◌, ◌<◌, ◌≤◌, List, [], ◌∷◌, ◌++◌, length, take, get_or, refl, sym, ◌∙◌, ap, subst, arith, Some, None}
-use Rattle.std.specs.Prelude.{Bool, true, false, cond, Option}
+use Rattle.std.proofs.Common.{◌≡◌, ℕ, zero, suc, ◌+◌, ◌-◌, ◌<◌, ◌≤◌, List, [], ◌∷◌, ◌++◌, length, take, drop, get_or, refl, sym, ◌∙◌, ap, subst, arith, Some, None}
+use Rattle.std.specs.Prelude.{Bool, true, false, cond, slice_get, Option, IsSomeAnd}
 use Rattle.std.specs.List.{AllByRecursion}
 use Rattle.graph_model.specs.declared.row.Key.{Key}
 use Rattle.graph_model.specs.declared.row.Row.{Row}
 use Rattle.graph_model.specs.declared.journal.TxnName.{TxnName}
 use Rattle.graph_model.specs.Rows.{is_between}
 use Rattle.store_model.specs.Stamped.{StampedVersions, read_stamped}
-use Rattle.gap_segment.specs.Fenced.{FencedRows, rows_between}
-use Rattle.gap_segment.proofs.FencedLemmas.{all_at}
+use Rattle.gap_segment.specs.Fenced.{FencedRows, AreSorted, IsPlaceOf, rows_between}
+use Rattle.gap_segment.proofs.FencedLemmas.{all_at, front_count, front_is_place, between_places}
 use Rattle.undo_chain.specs.declared.states.Snapshot.{Snapshot}
 use Rattle.undo_chain.specs.Records.{value_of}
 use Rattle.undo_chain.specs.Chains.{ChainMap, list_at}
 use Rattle.undo_chain.specs.States.{Knowledge, Grows, AreNamed}
 use Rattle.undo_chain.proofs.ListLemmas.{grows_start, grows_chain}
-use Rattle.version_segment.specs.declared.heads.ChangedRow.{ChangedRow}
+use Rattle.version_segment.specs.Heads.{ChangedRow}
 use Rattle.version_segment.specs.Rows.{with_row, rows_read, range_of, rows_at}
 use Rattle.version_segment.specs.Checks.{IsNamed, AreNamedRows}
 use Rattle.version_segment.specs.Heads.{HeadTable, heads_at, settled_heads}
@@ -144,3 +144,24 @@ module _ (rows : FencedRows) (heads : HeadTable) (c : ChainMap) (old : Knowledge
               ∙ ap (λ k. rows_read (reading c heads.entries old.stamps snapshot) (versioned c heads.entries (take k run))) (sym m);
           grows = grows_chain old now new is.grows g;
         }
+
+-- ---- places of a run
+
+-- a row of the run stands as far behind the run's first place
+pub run_found : (rows : List Row) (from until : Key) (a i : ℕ) (d : Row) → AreSorted rows → IsPlaceOf rows from a → i < length (rows_between from until rows)
+    → IsSomeAnd (slice_get rows (a + i)) (λ r. r.key ≡ (get_or (rows_between from until rows) i d).key)
+run_found rows from until a i d sorted low lt =
+    let cut = between_places rows from until a (front_count until rows) low (front_is_place until rows sorted) in
+    subst (λ (run : List Row). i < length run → IsSomeAnd (slice_get rows (a + i)) (λ r. r.key ≡ (get_or run i d).key)) cut (part rows a (front_count until rows - a) i) lt
+  where
+    front : (xs : List Row) (n j : ℕ) → j < length (take n xs) → IsSomeAnd (slice_get xs j) (λ r. r.key ≡ (get_or (take n xs) j d).key)
+    front xs zero j b = absurd (omega (arith, b))
+    front [] (suc n) j b = absurd (omega (arith, b))
+    front (x ∷ xs) (suc n) zero b = refl
+    front (x ∷ xs) (suc n) (suc j) b = front xs n j (omega (arith, b))
+
+    part : (xs : List Row) (m n j : ℕ) → j < length (take n (drop m xs)) → IsSomeAnd (slice_get xs (m + j)) (λ r. r.key ≡ (get_or (take n (drop m xs)) j d).key)
+    part xs zero n j b = let e : 0 + j ≡ j = omega arith in rw e (front xs n j b)
+    part [] (suc m) zero j b = absurd (omega (arith, b))
+    part [] (suc m) (suc n) j b = absurd (omega (arith, b))
+    part (x ∷ xs) (suc m) n j b = let e : suc m + j ≡ suc (m + j) = omega arith in rw e (part xs m n j b)

@@ -4,5 +4,6 @@ pub mod Keyed
 pub mod Heads
 pub mod Lists
 pub mod Parts
+pub mod Moves
 pub mod Walks
 pub mod Laws

@@ -13,7 +13,7 @@ use Rattle.gap_segment.specs.Fenced.{FencedRows, AreFenced, IsGapFor, with_weigh
 use Rattle.undo_chain.specs.Records.{UndoRecord, pairs_of, oldest_of}
 use Rattle.undo_chain.specs.Chains.{ChainMap, list_at}
 use Rattle.version_segment.specs.declared.heads.Heads.{Heads}
-use Rattle.version_segment.specs.declared.heads.ChangedRow.{ChangedRow}
+use Rattle.version_segment.specs.Heads.{ChangedRow}
 use Rattle.version_segment.specs.declared.found.FoundRow.{FoundRow}
 use Rattle.version_segment.specs.Keyed.{entries_by}
 use Rattle.version_segment.specs.Rows.{VersionedRows, all_records}

@@ -17,7 +17,7 @@ use Rattle.undo_chain.specs.States.{Knowledge, Grows}
 use Rattle.undo_chain.specs.Walks.{IsAsked}
 use Rattle.version_segment.specs.Checks.{blocked, IsStateBy, IsChecked, drops_in}
 use Rattle.version_segment.specs.Rows.{all_records, pruned_rows, rows_read}
-use Rattle.version_segment.specs.declared.heads.ChangedRow.{ChangedRow}
+use Rattle.version_segment.specs.Heads.{ChangedRow}
 use Rattle.version_segment.specs.Heads.{HeadTable}
 use Rattle.version_segment.specs.Parts.{touches_of, versioned, AreParts}
 

@@ -6,7 +6,6 @@ ghost use Rattle.graph_model.specs.declared.limits.TheConstants.{SEGMENT_ROWS};
 ghost use Rattle.gap_segment.specs.Fenced.{AreSorted, AreWithin};
 ghost use Rattle.version_segment.specs.Rows.{settled_rows};
 
-use crate::heads::HeadMap;
 use crate::segment::VersionSegment;
 use graph_model::{Key, Row};
 use std::alloc::Global;
@@ -24,8 +23,7 @@ impl VersionSegment {
         ensures high { self.new.high ≡ high }
         ensures rows { self.new.rows ≡ settled_rows rows.now }
     {
-        self.rows.fill(low, high, rows);
-        self.heads = HeadMap::new(alloc);
+        self.rows.settle(alloc, low, high, rows);
         self.chains = Chains::new(alloc);
     }
 }

@@ -1,22 +1,19 @@
 //! Where the records of changed rows begin.
 //!
-//! 1. Keys strictly rise.
-//! 2. A row that isn't named here is settled: it has its value, and no records.
+//! 1. Places strictly rise.
+//! 2. A row that isn't named here is settled, and no other one: it has its value, and no records.
 
-ghost use Rattle.std.specs.Prelude.{◌≡◌, ◌==◌, ◌⊎◌, ◌+◌, ◌<◌, ◌≤◌, true, [], length, insert, cond, OnOk, IsOk};
+ghost use Rattle.std.specs.Prelude.{◌≡◌, ◌==◌, ◌⊎◌, ◌+◌, ◌<◌, ◌≤◌, ℕ, true, [], length, insert, cond, nat_eq, OnOk, IsOk};
 ghost use Rattle.std.specs.Vec.{vec_capacity};
-ghost use Rattle.std.specs.Ordering.{eq_by_cmp};
-ghost use Rattle.graph_model.specs.declared.row.Key.{Key};
-ghost use Rattle.graph_model.specs.Rows.{key_cmp, is_below, is_between};
-ghost use Rattle.version_segment.specs.Heads.{heads_at, settled_heads, is_settled, IsFoundIn, IsKeyPlace, AreKeysRising};
+ghost use Rattle.version_segment.specs.Heads.{heads_placed, settled_heads, is_settled, opened, closed, raised, changed_from, raised_row, lowered_row, IsFoundIn, IsPlaceIn, ArePlacesRising, ArePlacedBelow, ArePlacedFrom};
 
-use crate::packed::PackedRow;
-use graph_model::{Key, NoMemory};
+use crate::packed::{PackedHeads, PackedRow};
+use graph_model::NoMemory;
 use std::alloc::Global;
 use std::marker::Model;
 
 /// Where the records of one row begin, and its touches. Where a row has no value its weight isn't read.
-#[derive(Clone, Copy, Debug, PartialEq, Eq)]
+#[derive(Clone, Copy)]
 pub struct Heads {
     pub has_value: bool,
     pub undos: Option<usize>,
@@ -43,14 +40,7 @@ impl Heads {
     }
 }
 
-/// A changed row.
-#[derive(Clone, Copy, Debug, PartialEq, Eq)]
-pub struct ChangedRow {
-    pub key: Key,
-    pub heads: Heads,
-}
-
-/// The changed rows of a segment, in the order of their keys.
+/// The changed rows of a segment, in the order of their places.
 #[derive(Drop)]
 pub(crate) struct HeadMap {
     rows: Vec<PackedRow>,
@@ -59,13 +49,13 @@ pub(crate) struct HeadMap {
 impl Model for HeadMap {
     ghost use Rattle.std.specs.Prelude.{◌-◌, length};
     ghost use Rattle.std.specs.Vec.{vec_capacity};
-    ghost use Rattle.version_segment.specs.Heads.{HeadTable, AreKeysRising};
+    ghost use Rattle.version_segment.specs.Heads.{PlaceTable, ArePlaced};
 
-    ghost Value = { HeadTable };
+    ghost Value = { PlaceTable };
 
     ghost view = { λ m. record { entries = m.rows.items; spare = vec_capacity m.rows - length m.rows.items } };
 
-    ghost invariant = { λ m. AreKeysRising m.rows.items };
+    ghost invariant = { λ m. ArePlaced m.rows.items };
 }
 
 impl HeadMap {
@@ -99,48 +89,88 @@ impl HeadMap {
         Ok(())
     }
 
-    /// The heads of the row at a key.
-    pub(crate) fn get(&self, key: Key) -> Heads
-        ensures { result ≡ heads_at self.now.entries key }
+    /// The heads of the row at a place.
+    pub(crate) fn get(&self, place: usize) -> Heads
+        ensures { result ≡ heads_placed self.now.entries place }
     {
-        match find_in(self.rows.as_slice(), key) {
-            Ok(place) => self.rows[place].heads(),
+        match find_in(self.rows.as_slice(), place) {
+            Ok(index) => self.rows[index].heads(),
             Err(_) => Heads::settled(),
         }
     }
 
-    /// Gives the row at a key these heads. Needs room where the row was settled and isn't any more.
-    pub(crate) fn put(&mut self, key: Key, heads: Heads)
-        requires room { (0 < self.old.spare) ⊎ (heads_at self.old.entries key ≡ settled_heads → heads ≡ settled_heads) }
-        ensures heads { (q : Key) → heads_at self.new.entries q
-            ≡ cond (eq_by_cmp key_cmp q key) heads (heads_at self.old.entries q) }
+    /// Gives the row at a place these heads. Needs room where the row was settled and isn't any more.
+    pub(crate) fn put(&mut self, place: usize, heads: PackedHeads)
+        requires byte { place < 256 }
+        requires room { (0 < self.old.spare)
+            ⊎ (heads_placed self.old.entries place ≡ settled_heads → heads ≡ settled_heads) }
+        ensures heads { (p : ℕ) → heads_placed self.new.entries p
+            ≡ cond (nat_eq p place) heads (heads_placed self.old.entries p) }
         ensures spare { self.old.spare ≤ self.new.spare + 1 }
-        ensures kept { (heads_at self.old.entries key ≡ settled_heads → heads ≡ settled_heads)
+        ensures kept { (heads_placed self.old.entries place ≡ settled_heads → heads ≡ settled_heads)
             → self.old.spare ≤ self.new.spare }
     {
-        let settled = heads.is_settled();
-        match find_in(self.rows.as_slice(), key) {
-            Ok(place) if settled => {
-                self.rows.remove(place);
+        let settled = heads.heads().is_settled();
+        match find_in(self.rows.as_slice(), place) {
+            Ok(index) if settled => {
+                self.rows.remove(index);
             }
-            Ok(place) => self.rows[place].set_heads(heads),
+            Ok(index) => self.rows[index].set_heads(heads),
             Err(_) if settled => {}
-            Err(place) => put_row(
-                &mut self.rows,
-                place,
-                PackedRow::new(ChangedRow { key, heads }),
-            ),
+            Err(index) => put_row(&mut self.rows, index, PackedRow::new(place, heads)),
         }
     }
 
-    /// Whether all rows of a key range are settled.
-    pub(crate) fn are_settled(&self, from: Key, until: Key) -> bool
-        ensures { result ≡ true → (q : Key) → is_between from until q ≡ true
-            → heads_at self.now.entries q ≡ settled_heads }
+    /// Makes way for a row at a place: those from there on stand one place further on.
+    pub(crate) fn open(&mut self, place: usize)
+        requires { (p : ℕ) → 255 ≤ p → heads_placed self.old.entries p ≡ settled_heads }
+        ensures heads { (p : ℕ) → heads_placed self.new.entries p ≡ opened place (heads_placed self.old.entries) p }
+        ensures spare { self.new.spare ≡ self.old.spare }
+    {
+        let index = index_in(self.rows.as_slice(), place);
+        raise_from(&mut self.rows, index, 1);
+    }
+
+    /// Takes the row at a place away: those behind it stand one place further down.
+    pub(crate) fn close(&mut self, place: usize)
+        ensures heads { (p : ℕ) → heads_placed self.new.entries p ≡ closed place (heads_placed self.old.entries) p }
+        ensures spare { self.old.spare ≤ self.new.spare }
+    {
+        match find_in(self.rows.as_slice(), place) {
+            Ok(index) => {
+                self.rows.remove(index);
+                lower_from(&mut self.rows, index, 1);
+            }
+            Err(index) => lower_from(&mut self.rows, index, 1),
+        }
+    }
+
+    /// Moves all rows so many places up.
+    pub(crate) fn raise(&mut self, by: usize)
+        requires few { by ≤ 128 }
+        requires low { (p : ℕ) → 128 ≤ p → heads_placed self.old.entries p ≡ settled_heads }
+        ensures heads { (p : ℕ) → heads_placed self.new.entries p ≡ raised by (heads_placed self.old.entries) p }
+        ensures spare { self.new.spare ≡ self.old.spare }
+    {
+        raise_from(&mut self.rows, 0, by);
+    }
+
+    /// Moves all rows so many places down.
+    pub(crate) fn lower(&mut self, by: usize)
+        requires { (p : ℕ) → p < by → heads_placed self.old.entries p ≡ settled_heads }
+        ensures heads { (p : ℕ) → heads_placed self.new.entries p ≡ heads_placed self.old.entries (by + p) }
+        ensures spare { self.new.spare ≡ self.old.spare }
+    {
+        lower_from(&mut self.rows, 0, by);
+    }
+
+    /// Whether all rows between two places are settled.
+    pub(crate) fn are_settled(&self, first: usize, end: usize) -> bool
+        ensures { result ≡ true → (p : ℕ) → first ≤ p → p < end → heads_placed self.now.entries p ≡ settled_heads }
     {
         'rows: for row in &self.rows {
-            let key = row.key();
-            if !key.is_below(from) && key.is_below(until) {
+            let place = row.place();
+            if first <= place && place < end {
                 return false;
             }
         }
@@ -148,46 +178,74 @@ impl HeadMap {
     }
 }
 
-/// Puts a row at a place, within the vector's room.
-fn put_row(rows: &mut Vec<PackedRow>, place: usize, row: PackedRow)
-    requires place { place ≤ length rows.old.items }
+/// Puts a row at an index, within the vector's room.
+fn put_row(rows: &mut Vec<PackedRow>, index: usize, row: PackedRow)
+    requires index { index ≤ length rows.old.items }
     requires room { length rows.old.items < vec_capacity rows.old }
-    ensures rows { rows.new.items ≡ insert rows.old.items place row }
+    ensures rows { rows.new.items ≡ insert rows.old.items index row }
     ensures capacity { vec_capacity rows.old ≤ vec_capacity rows.new }
 {
-    match rows.insert(place, row) {
+    match rows.insert(index, row) {
         Ok(()) => {}
         Err(_) => unreachable!(),
     }
 }
 
-/// The place of the key's row, or the one where it would stand.
-fn find_in(rows: &[PackedRow], key: Key) -> Result<usize, usize>
-    requires { AreKeysRising rows.now }
-    ensures { IsFoundIn rows.now key result }
+/// Moves the rows from an index on so many places up.
+fn raise_from(rows: &mut Vec<PackedRow>, index: usize, by: usize)
+    requires index { index ≤ length rows.old.items }
+    requires byte { ArePlacedBelow by rows.old.items }
+    ensures rows { rows.new.items ≡ changed_from index (raised_row by) rows.old.items }
+    ensures capacity { vec_capacity rows.new ≡ vec_capacity rows.old }
 {
-    let place = place_in(rows, key);
-    match rows.get(place) {
-        Some(row) if row.key() == key => Ok(place),
-        _ => Err(place),
+    let mut at = rows.len();
+    'raise: while at > index {
+        at -= 1;
+        rows[at].raise(by);
     }
 }
 
-/// How many rows are below the key, found by halves.
-fn place_in(rows: &[PackedRow], key: Key) -> usize
-    requires { AreKeysRising rows.now }
-    ensures { IsKeyPlace rows.now key result }
+/// Moves the rows from an index on so many places down.
+fn lower_from(rows: &mut Vec<PackedRow>, index: usize, by: usize)
+    requires index { index ≤ length rows.old.items }
+    requires high { ArePlacedFrom index by rows.old.items }
+    ensures rows { rows.new.items ≡ changed_from index (lowered_row by) rows.old.items }
+    ensures capacity { vec_capacity rows.new ≡ vec_capacity rows.old }
 {
-    let mut place = 0;
+    let mut at = rows.len();
+    'lower: while at > index {
+        at -= 1;
+        rows[at].lower(by);
+    }
+}
+
+/// The index of the row at a place, or the one where it would stand.
+fn find_in(rows: &[PackedRow], place: usize) -> Result<usize, usize>
+    requires { ArePlacesRising rows.now }
+    ensures { IsFoundIn rows.now place result }
+{
+    let index = index_in(rows, place);
+    match rows.get(index) {
+        Some(row) if row.place() == place => Ok(index),
+        _ => Err(index),
+    }
+}
+
+/// How many rows stand before the place, found by halves.
+fn index_in(rows: &[PackedRow], place: usize) -> usize
+    requires { ArePlacesRising rows.now }
+    ensures { IsPlaceIn rows.now place result }
+{
+    let mut index = 0;
     let mut count = rows.len();
     'halves: while count > 0 {
         let half = count / 2;
-        if rows[place + half].key().is_below(key) {
-            place += half + 1;
+        if rows[index + half].place() < place {
+            index += half + 1;
             count -= half + 1;
         } else {
             count = half;
         }
     }
-    place
+    index
 }

@@ -1,7 +1,7 @@
 //! Segments of versioned rows.
 //!
 //! 1. A row has its newest value in the segment. Only a changed row has more memory: its undo records and
-//!    touches, and an entry that says where they begin.
+//!    touches, and an entry that says by its place where they begin.
 //! 2. A call that is given a key changes the versions of that key alone.
 //! 3. A row without value, records and touches isn't there.
 #![tactic(auto)]
@@ -15,6 +15,7 @@ mod laws;
 mod lookup;
 mod moves;
 mod packed;
+mod rows;
 mod segment;
 
 pub use buffer::Rows32;

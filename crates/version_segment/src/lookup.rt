@@ -12,7 +12,7 @@ impl VersionSegment {
     pub fn has_row(&self, key: Key) -> bool
         ensures { result ≡ has_row self.now key }
     {
-        match find_row(&self.rows, &self.heads, key) {
+        match find_row(&self.rows, key) {
             Ok(_) => true,
             Err(_) => false,
         }
@@ -22,7 +22,7 @@ impl VersionSegment {
     pub fn newest(&self, key: Key) -> Option<TxnName>
         ensures { result ≡ newest_writer (versions_at self.now key).pairs }
     {
-        match find_row(&self.rows, &self.heads, key) {
+        match find_row(&self.rows, key) {
             Ok(row) => self.chains.newest(row.undos),
             Err(_) => None,
         }

@@ -2,20 +2,18 @@
 //!
 //! 1. The fence key between both is always the key of the right one's first row, or its high fence key.
 //! 2. No call takes memory: there is room for what comes.
+//! 3. While records move, places count through the rows of both.
 
-ghost use Rattle.std.specs.Prelude.{◌≡◌, ◌+◌, ◌-◌, ◌<◌, ◌≤◌, [], take, drop, length};
-ghost use Rattle.graph_model.specs.declared.row.Key.{Key};
+ghost use Rattle.std.specs.Prelude.{◌≡◌, ◌+◌, ◌-◌, ◌≤◌, ◌++◌, take, drop, length};
 ghost use Rattle.graph_model.specs.declared.limits.TheConstants.{SEGMENT_ROWS};
-ghost use Rattle.gap_segment.specs.Fenced.{AreSorted};
 ghost use Rattle.version_segment.specs.Rows.{all_records, SharesRows};
-ghost use Rattle.version_segment.specs.Heads.{heads_at};
-ghost use Rattle.version_segment.specs.Lists.{AreLists, HasRest};
-ghost use Rattle.version_segment.specs.Parts.{records_at_key, versioned, HandsRow, HandsRows};
+ghost use Rattle.version_segment.specs.Moves.{CanHand, HandsPlace, HandsPlaces};
 
-use crate::heads::{HeadMap, Heads};
+use crate::heads::HeadMap;
+use crate::packed::PackedHeads;
 use crate::segment::VersionSegment;
-use graph_model::{Key, Row};
-use undo_chain::Chains;
+use graph_model::Row;
+use undo_chain::{Chains, Link};
 
 impl VersionSegment {
     /// Moves the last rows, with their versions, to the front of the next segment.
@@ -29,16 +27,8 @@ impl VersionSegment {
         ensures used { right.old.spare ≤ right.new.spare
             + all_records (drop (length self.old.rows - rows) self.old.rows) }
     {
-        let count = self.rows.len() - rows;
-        let (_, moved) = self.rows.rows().split_at(count);
-        hand_all(
-            &mut self.heads,
-            &mut self.chains,
-            &mut right.heads,
-            &mut right.chains,
-            moved,
-        );
-        self.rows.share(&mut right.rows, count);
+        let count = self.rows.segment().len() - rows;
+        self.rows.give(&mut self.chains, &mut right.rows, &mut right.chains, count);
     }
 
     /// Moves the first rows of the next segment, with their versions, to the end of this one.
@@ -51,91 +41,64 @@ impl VersionSegment {
         ensures spare { right.old.spare ≤ right.new.spare }
         ensures used { self.old.spare ≤ self.new.spare + all_records (take rows right.old.rows) }
     {
-        let count = self.rows.len() + rows;
-        let (moved, _) = right.rows.rows().split_at(rows);
-        hand_all(
-            &mut right.heads,
-            &mut right.chains,
-            &mut self.heads,
-            &mut self.chains,
-            moved,
-        );
-        self.rows.share(&mut right.rows, count);
+        self.rows
+            .take(&mut self.chains, &mut right.rows, &mut right.chains, rows);
     }
 }
 
-/// Moves the records and touches of rows to another segment, which has room for them. Where both have settled rows
-/// only there are none.
-fn hand_all(
+/// Moves the records and touches of the rows at these places to another segment, which has room for them.
+pub(crate) fn hand_each(
     from_heads: &mut HeadMap,
     from: &mut Chains,
     to_heads: &mut HeadMap,
     to: &mut Chains,
-    rows: &[Row],
+    left: &[Row],
+    right: &[Row],
+    place: usize,
+    until: usize,
 )
-    requires from { AreLists from.old (heads_at from_heads.old.entries) }
-    requires to { AreLists to.old (heads_at to_heads.old.entries) }
-    requires rest { (q : Key) → HasRest (heads_at from_heads.old.entries q) }
-    requires sorted { AreSorted rows.now }
-    requires room { all_records (versioned from.old from_heads.old.entries rows.now) ≤ to.old.spare }
-    requires entry { all_records (versioned from.old from_heads.old.entries rows.now) ≤ to_heads.old.spare }
-    ensures { HandsRows rows.now from_heads.old from_heads.new from.old from.new
+    requires { CanHand (left.now ++ right.now) place until from_heads.old from.old to_heads.old to.old }
+    ensures { HandsPlaces (left.now ++ right.now) place until from_heads.old from_heads.new from.old from.new
         to_heads.old to_heads.new to.old to.new }
 {
-    if !(from_heads.is_empty() && to_heads.is_empty()) {
-        hand_each(from_heads, from, to_heads, to, rows);
-    }
-}
-
-/// The same row by row.
-fn hand_each(
-    from_heads: &mut HeadMap,
-    from: &mut Chains,
-    to_heads: &mut HeadMap,
-    to: &mut Chains,
-    rows: &[Row],
-)
-    requires from { AreLists from.old (heads_at from_heads.old.entries) }
-    requires to { AreLists to.old (heads_at to_heads.old.entries) }
-    requires rest { (q : Key) → HasRest (heads_at from_heads.old.entries q) }
-    requires sorted { AreSorted rows.now }
-    requires room { all_records (versioned from.old from_heads.old.entries rows.now) ≤ to.old.spare }
-    requires entry { all_records (versioned from.old from_heads.old.entries rows.now) ≤ to_heads.old.spare }
-    ensures { HandsRows rows.now from_heads.old from_heads.new from.old from.new
-        to_heads.old to_heads.new to.old to.new }
-{
-    let Some((first, rest)) = rows.split_first() else {
+    if place == until {
         return;
-    };
-    hand_over(from_heads, from, to_heads, to, first.key);
-    hand_each(from_heads, from, to_heads, to, rest);
+    }
+    hand_over(from_heads, from, to_heads, to, left, right, place);
+    hand_each(
+        from_heads,
+        from,
+        to_heads,
+        to,
+        left,
+        right,
+        place + 1,
+        until,
+    );
 }
 
-/// Moves the records and touches of one row to another segment, which has room for them.
+/// Moves the records and touches of one row to another segment, which has room for them. The rows are only there
+/// for the contract.
 fn hand_over(
     from_heads: &mut HeadMap,
     from: &mut Chains,
     to_heads: &mut HeadMap,
     to: &mut Chains,
-    key: Key,
+    left: &[Row],
+    right: &[Row],
+    place: usize,
 )
-    requires from { AreLists from.old (heads_at from_heads.old.entries) }
-    requires to { AreLists to.old (heads_at to_heads.old.entries) }
-    requires rest { HasRest (heads_at from_heads.old.entries key) }
-    requires room { records_at_key from.old (heads_at from_heads.old.entries key) ≤ to.old.spare }
-    requires entry { records_at_key from.old (heads_at from_heads.old.entries key) ≤ to_heads.old.spare }
-    ensures { HandsRow key from_heads.old from_heads.new from.old from.new to_heads.old to_heads.new to.old to.new }
+    requires { CanHand (left.now ++ right.now) place (place + 1) from_heads.old from.old to_heads.old to.old }
+    ensures { HandsPlace (left.now ++ right.now) place from_heads.old from_heads.new from.old from.new
+        to_heads.old to_heads.new to.old to.new }
 {
-    let heads = from_heads.get(key);
+    let _ = left;
+    let _ = right;
+    let heads = from_heads.get(place);
     let undos = from.move_to(heads.undos, to);
     let touches = from.move_to(heads.touches, to);
-    from_heads.put(key, Heads::settled());
-    to_heads.put(
-        key,
-        Heads {
-            undos,
-            touches,
-            ..heads
-        },
-    );
+    let settled = PackedHeads::new(true, Link::none(), Link::none());
+    from_heads.put(place, settled);
+    let moved = PackedHeads::new(heads.has_value, to.link(undos), to.link(touches));
+    to_heads.put(place, moved);
 }

@@ -1,75 +1,106 @@
 //! Changed rows as they lie in memory.
 
-ghost use Rattle.std.specs.Prelude.{◌≡◌};
+ghost use Rattle.std.specs.Prelude.{◌≡◌, ◌+◌, ◌-◌, ◌<◌, ◌≤◌};
 
-use crate::heads::{ChangedRow, Heads};
-use graph_model::Key;
+use crate::heads::Heads;
 use std::marker::Model;
+use undo_chain::Link;
 
-/// A changed row in 40 bytes: whether a list is there is said beside it, and all of that behind the lists.
+/// The heads of a row in 14 bytes.
 #[derive(Drop)]
-pub(crate) struct PackedRow {
-    key: Key,
-    undos: usize,
-    touches: usize,
+pub(crate) struct PackedHeads {
+    undos: Link,
+    touches: Link,
     has_value: bool,
-    has_undos: bool,
-    has_touches: bool,
 }
 
-impl Model for PackedRow {
-    ghost use Rattle.undo_chain.specs.Packed.{part};
-    ghost use Rattle.version_segment.specs.declared.heads.ChangedRow.{ChangedRow};
+impl Model for PackedHeads {
+    ghost use Rattle.version_segment.specs.declared.heads.Heads.{Heads};
 
-    ghost Value = { ChangedRow };
+    ghost Value = { Heads };
 
-    ghost view = { λ p. record {
-      key = p.key;
-      heads = record {
-        has_value = p.has_value;
-        undos = part p.has_undos p.undos;
-        touches = part p.has_touches p.touches;
-      };
-    } };
+    ghost view = { λ p. record { has_value = p.has_value; undos = p.undos; touches = p.touches } };
 }
 
-impl PackedRow {
-    pub(crate) fn new(row: ChangedRow) -> PackedRow
-        ensures { result ≡ row }
+impl PackedHeads {
+    pub(crate) fn new(has_value: bool, undos: Link, touches: Link) -> PackedHeads
+        ensures { result ≡ record { has_value = has_value; undos = undos; touches = touches } }
     {
-        PackedRow {
-            key: row.key,
-            undos: row.heads.undos.unwrap_or(0),
-            touches: row.heads.touches.unwrap_or(0),
-            has_value: row.heads.has_value,
-            has_undos: row.heads.undos.is_some(),
-            has_touches: row.heads.touches.is_some(),
+        PackedHeads {
+            undos,
+            touches,
+            has_value,
         }
     }
 
-    pub(crate) fn key(&self) -> Key
-        ensures { result ≡ self.now.key }
+    pub(crate) fn heads(&self) -> Heads
+        ensures { result ≡ self.now }
     {
-        self.key
+        Heads {
+            has_value: self.has_value,
+            undos: self.undos.key(),
+            touches: self.touches.key(),
+        }
+    }
+}
+
+/// A changed row in 16 bytes: its heads, and its place among the rows.
+#[derive(Drop)]
+pub(crate) struct PackedRow {
+    heads: PackedHeads,
+    place: u8,
+}
+
+impl Model for PackedRow {
+    ghost use Rattle.version_segment.specs.Heads.{PlacedRow};
+
+    ghost Value = { PlacedRow };
+
+    ghost view = { λ p. record { place = p.place; heads = p.heads } };
+}
+
+impl PackedRow {
+    pub(crate) fn new(place: usize, heads: PackedHeads) -> PackedRow
+        requires { place < 256 }
+        ensures { result ≡ record { place = place; heads = heads } }
+    {
+        PackedRow {
+            heads,
+            place: place as u8,
+        }
+    }
+
+    pub(crate) fn place(&self) -> usize
+        ensures { result ≡ self.now.place }
+    {
+        self.place as usize
     }
 
     pub(crate) fn heads(&self) -> Heads
         ensures { result ≡ self.now.heads }
     {
-        Heads {
-            has_value: self.has_value,
-            undos: self.has_undos.then_some(self.undos),
-            touches: self.has_touches.then_some(self.touches),
-        }
+        self.heads.heads()
     }
 
-    pub(crate) fn set_heads(&mut self, heads: Heads)
+    pub(crate) fn set_heads(&mut self, heads: PackedHeads)
         ensures { self.new ≡ record self.old { heads = heads } }
     {
-        self.undos = heads.undos.unwrap_or(0);
-        self.touches = heads.touches.unwrap_or(0);
-        self.has_value = heads.has_value;
-        self.has_undos = heads.undos.is_some();
-        self.has_touches = heads.touches.is_some();
+        self.heads = heads;
+    }
+
+    /// Moves the row so many places up.
+    pub(crate) fn raise(&mut self, by: usize)
+        requires { self.old.place + by < 256 }
+        ensures { self.new ≡ record self.old { place = self.old.place + by } }
+    {
+        self.place = (self.place as usize + by) as u8;
+    }
+
+    /// Moves the row so many places down.
+    pub(crate) fn lower(&mut self, by: usize)
+        requires { by ≤ self.old.place }
+        ensures { self.new ≡ record self.old { place = self.old.place - by } }
+    {
+        self.place = (self.place as usize - by) as u8;
     }
 }

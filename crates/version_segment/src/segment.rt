@@ -14,8 +14,7 @@ ghost use Rattle.version_segment.specs.Rows.{versions_at, has_row, records_in, r
 use crate::buffer::Rows32;
 use crate::checks::{combined, drop_cause, newest_cause, touch_cause};
 use crate::found::{FoundRow, find_row, insert_row, prune_row, set_row, value_in};
-use crate::heads::HeadMap;
-use gap_segment::Segment;
+use crate::rows::RowTable;
 use graph_model::{Cause, Key, NoMemory, Row, SEGMENT_ROWS, TxnName};
 use std::alloc::Global;
 use std::marker::Model;
@@ -25,8 +24,7 @@ use undo_chain::{Chains, Snapshot, States};
 /// none has.
 #[derive(Drop)]
 pub struct VersionSegment {
-    pub(crate) rows: Segment,
-    pub(crate) heads: HeadMap,
+    pub(crate) rows: RowTable,
     pub(crate) chains: Chains,
 }
 
@@ -36,9 +34,9 @@ impl Model for VersionSegment {
 
     ghost Value = { VersionedRows };
 
-    ghost view = { λ s. view_of s.rows s.heads s.chains };
+    ghost view = { λ s. view_of s.rows.fenced s.rows.heads s.chains };
 
-    ghost invariant = { λ s. AreParts s.rows s.heads.entries s.chains };
+    ghost invariant = { λ s. AreParts s.rows.fenced s.rows.heads.entries s.chains };
 }
 
 impl VersionSegment {
@@ -49,10 +47,9 @@ impl VersionSegment {
         ensures high { IfOk result (λ s. s.high ≡ high) }
         ensures rows { IfOk result (λ s. s.rows ≡ []) }
     {
-        let rows = Segment::new(alloc, low, high)?;
+        let rows = RowTable::new(alloc, low, high)?;
         Ok(VersionSegment {
             rows,
-            heads: HeadMap::new(alloc),
             chains: Chains::new(alloc),
         })
     }
@@ -61,14 +58,14 @@ impl VersionSegment {
     pub fn low(&self) -> Key
         ensures { result ≡ self.now.low }
     {
-        self.rows.low()
+        self.rows.segment().low()
     }
 
     /// The high fence key. Each row is below it.
     pub fn high(&self) -> Key
         ensures { result ≡ self.now.high }
     {
-        self.rows.high()
+        self.rows.segment().high()
     }
 
     /// How many rows there are. What holds of each segment is a clause of this call.
@@ -76,20 +73,20 @@ impl VersionSegment {
         ensures len { result ≡ length self.now.rows }
         ensures sound { IsSegment self.now }
     {
-        self.rows.len()
+        self.rows.segment().len()
     }
 
     pub fn is_empty(&self) -> bool
         ensures { result ≡ (length self.now.rows == 0) }
     {
-        self.rows.is_empty()
+        self.rows.segment().is_empty()
     }
 
     /// How many more rows there is room for.
     pub fn room(&self) -> usize
         ensures { result + length self.now.rows ≡ SEGMENT_ROWS }
     {
-        SEGMENT_ROWS - self.rows.len()
+        SEGMENT_ROWS - self.rows.segment().len()
     }
 
     /// Makes room for so many more records. Takes no memory where there is room already.
@@ -100,7 +97,7 @@ impl VersionSegment {
         ensures spare { self.old.spare ≤ self.new.spare }
     {
         self.chains.reserve(records)?;
-        self.heads.reserve(records)?;
+        self.rows.reserve(records)?;
         Ok(())
     }
 
@@ -119,7 +116,7 @@ impl VersionSegment {
         requires { place < length self.now.rows }
         ensures { IsSomeAnd (slice_get self.now.rows place) (λ row. result ≡ row.0) }
     {
-        self.rows.rows()[place].key
+        self.rows.segment().rows()[place].key
     }
 
     /// How many undo records and touches the row at a place has.
@@ -127,7 +124,11 @@ impl VersionSegment {
         requires { place < length self.now.rows }
         ensures { IsSomeAnd (slice_get self.now.rows place) (λ row. result ≡ records_in row.1) }
     {
-        let heads = self.heads.get(self.rows.rows()[place].key);
+        if self.rows.is_settled() {
+            return 0;
+        }
+        let key = self.rows.segment().rows()[place].key;
+        let heads = self.rows.heads_at(key, place);
         self.chains.records_in_both(heads.undos, heads.touches)
     }
 
@@ -147,7 +148,7 @@ impl VersionSegment {
             (versions_at self.now key) }
         ensures grows { Grows (S.knowledge states.old) (S.knowledge states.new) }
     {
-        match find_row(&self.rows, &self.heads, key) {
+        match find_row(&self.rows, key) {
             Ok(row) => self.chains.value_at(row.undos, row.value, snapshot, states),
             Err(_) => None,
         }
@@ -168,15 +169,17 @@ impl VersionSegment {
         ensures rows { result.now ≡ rows_at (S.knowledge states.old).stamps snapshot.now from until self.now }
         ensures grows { Grows (S.knowledge states.old) (S.knowledge states.new) }
     {
-        let run = self.rows.run(from, until);
-        if self.heads.are_settled(from, until) {
+        let run = self.rows.segment().run(from, until);
+        if self.rows.are_settled(from, until) {
             return run;
         }
         // Nobody reads it: that a segment has 32 rows at most, so that the buffer has room, is a clause of this call.
-        let _most = self.rows.len();
+        let _most = self.rows.segment().len();
         buffer.clear();
+        let mut place = self.rows.first_place(from);
         'rows: for row in run {
-            let heads = self.heads.get(row.key);
+            let heads = self.rows.heads_at(row.key, place);
+            place += 1;
             let base = value_in(heads, row.weight);
             let value = self.chains.value_at(heads.undos, base, snapshot, states);
             buffer.push_value(row.key, value);
@@ -196,7 +199,7 @@ impl VersionSegment {
             (newest_of (versions_at self.now key)) (cause_in result) }
         ensures grows { Grows (S.knowledge states.old) (S.knowledge states.new) }
     {
-        match find_row(&self.rows, &self.heads, key) {
+        match find_row(&self.rows, key) {
             Ok(row) => unless_met(newest_cause(&self.chains, row.undos, snapshot, states)),
             Err(_) => Ok(()),
         }
@@ -214,7 +217,7 @@ impl VersionSegment {
             (newest_and_touches (versions_at self.now key)) (cause_in result) }
         ensures grows { Grows (S.knowledge states.old) (S.knowledge states.new) }
     {
-        match find_row(&self.rows, &self.heads, key) {
+        match find_row(&self.rows, key) {
             Ok(row) => {
                 let newest = newest_cause(&self.chains, row.undos, snapshot, states);
                 let touches = touch_cause(&self.chains, row.touches, snapshot, states);
@@ -236,7 +239,7 @@ impl VersionSegment {
             (drops_of (versions_at self.now key)) (cause_in result) }
         ensures grows { Grows (S.knowledge states.old) (S.knowledge states.new) }
     {
-        match find_row(&self.rows, &self.heads, key) {
+        match find_row(&self.rows, key) {
             Ok(row) => {
                 unless_met(drop_cause(&self.chains, row.undos, row.value, snapshot, states))
             }
@@ -248,8 +251,8 @@ impl VersionSegment {
     pub fn release(&mut self, alloc: Global)
         ensures { IsSameSegment self.old self.new }
     {
-        if self.heads.is_empty() {
-            self.heads = HeadMap::new(alloc);
+        if self.rows.is_settled() {
+            self.rows.release(alloc);
             self.chains = Chains::new(alloc);
         }
     }
@@ -262,7 +265,7 @@ impl VersionSegment {
         ensures written { ChangesKey self.old self.new key (written by value (versions_at self.old key)) }
         ensures spare { self.old.spare ≤ self.new.spare + 1 }
     {
-        match find_row(&self.rows, &self.heads, key) {
+        match find_row(&self.rows, key) {
             Ok(row) => {
                 let undos = put_record(&mut self.chains, row.undos, by, row.value);
                 let row = FoundRow {
@@ -270,7 +273,7 @@ impl VersionSegment {
                     undos: Some(undos),
                     ..row
                 };
-                set_row(&mut self.rows, &mut self.heads, key, row);
+                set_row(&mut self.rows, &self.chains, key, row);
             }
             Err(place) => {
                 let undos = put_record(&mut self.chains, None, by, None);
@@ -280,7 +283,7 @@ impl VersionSegment {
                     undos: Some(undos),
                     touches: None,
                 };
-                insert_row(&mut self.rows, &mut self.heads, key, row);
+                insert_row(&mut self.rows, &self.chains, key, row);
             }
         }
     }
@@ -292,7 +295,7 @@ impl VersionSegment {
         ensures spare { self.old.spare ≤ self.new.spare }
     {
         let _ = by;
-        let Ok(row) = find_row(&self.rows, &self.heads, key) else {
+        let Ok(row) = find_row(&self.rows, key) else {
             unreachable!()
         };
         let Some(head) = row.undos else {
@@ -304,7 +307,7 @@ impl VersionSegment {
             undos,
             ..row
         };
-        set_row(&mut self.rows, &mut self.heads, key, row);
+        set_row(&mut self.rows, &self.chains, key, row);
     }
 
     /// Notes that a transaction adds an edge at the row's vertex.
@@ -314,7 +317,7 @@ impl VersionSegment {
         ensures touched { ChangesKey self.old self.new key (touched by (versions_at self.old key)) }
         ensures spare { self.old.spare ≤ self.new.spare + 1 }
     {
-        let Ok(row) = find_row(&self.rows, &self.heads, key) else {
+        let Ok(row) = find_row(&self.rows, key) else {
             unreachable!()
         };
         let Ok(touches) = self.chains.touch(row.touches, by) else {
@@ -324,7 +327,7 @@ impl VersionSegment {
             touches: Some(touches),
             ..row
         };
-        set_row(&mut self.rows, &mut self.heads, key, row);
+        set_row(&mut self.rows, &self.chains, key, row);
     }
 
     /// Takes a transaction's touch of a row away, if there is one.
@@ -333,12 +336,12 @@ impl VersionSegment {
         ensures untouched { ChangesKey self.old self.new key (untouched by (versions_at self.old key)) }
         ensures spare { self.old.spare ≤ self.new.spare }
     {
-        let Ok(row) = find_row(&self.rows, &self.heads, key) else {
+        let Ok(row) = find_row(&self.rows, key) else {
             unreachable!()
         };
         let touches = self.chains.untouch(row.touches, by);
         let row = FoundRow { touches, ..row };
-        set_row(&mut self.rows, &mut self.heads, key, row);
+        set_row(&mut self.rows, &self.chains, key, row);
     }
 
     /// Gives the records and touches of a writer in one row its commit stamp, if the row is there.
@@ -347,10 +350,10 @@ impl VersionSegment {
             (stamped_versions.stamp by stamp (versions_at self.old key)) }
         ensures spare { self.old.spare ≤ self.new.spare }
     {
-        if let Ok(row) = find_row(&self.rows, &self.heads, key) {
+        if let Ok(row) = find_row(&self.rows, key) {
             self.chains.stamp(row.undos, by, stamp);
             self.chains.stamp(row.touches, by, stamp);
-            set_row(&mut self.rows, &mut self.heads, key, row);
+            set_row(&mut self.rows, &self.chains, key, row);
         }
     }
 
@@ -363,7 +366,7 @@ impl VersionSegment {
         ensures grows { Grows (S.knowledge states.old) (S.knowledge states.new) }
         ensures spare { self.old.spare ≤ self.new.spare }
     {
-        if self.heads.is_empty() {
+        if self.rows.is_settled() {
             return 0;
         }
         self.prune_each(horizon, states)
@@ -379,17 +382,10 @@ impl VersionSegment {
         ensures spare { self.old.spare ≤ self.new.spare }
     {
         let spare = self.chains.spare();
-        let mut place = self.rows.len();
+        let mut place = self.rows.segment().len();
         'rows: while place > 0 {
             place -= 1;
-            prune_row(
-                &mut self.rows,
-                &mut self.heads,
-                &mut self.chains,
-                place,
-                horizon,
-                states,
-            );
+            prune_row(&mut self.rows, &mut self.chains, place, horizon, states);
         }
         self.chains.spare() - spare
     }

@@ -1,34 +1,15 @@
-use Rattle.std.proofs.Common.{◌≡◌, ◌∙◌, ◌-◌, ◌≤◌, ap, sym, length, arith}
-use Rattle.gap_segment.proofs.FencedLemmas.{sorted_drop}
-use Rattle.version_segment.specs.Rows.{VersionedRows}
-use Rattle.version_segment.specs.Parts.{view_of}
-use Rattle.version_segment.proofs.ChangeLemmas.{row_count}
-use Rattle.version_segment.proofs.MoveLemmas.{given_left, given_right, given_shares, shares_as, parts_as}
+use Rattle.std.proofs.Common.{arith}
+use Rattle.version_segment.proofs.ShareLemmas.{dropped_records}
 use Rattle.version_segment.proofs.segment.VersionSegment.move_right.Goals as goal
 
-pub hand_all-requires-clause-sorted : goal.hand_all-requires-clause-sorted
-hand_all-requires-clause-sorted c = rw (c.split_at.ensures.back, c.rows.ensures.rows) (sorted_drop _ _ c.self.invariant.fenced.sorted)
+pub give-requires-clause-spare : goal.give-requires-clause-spare
+give-requires-clause-spare c =
+    let count = rw c.segment.ensures at c.len.ensures.len in
+    let fits = rw (← c.self.view_is, ← c.right.view_is) at c.requires.spare in
+    omega (arith, fits, dropped_records c.self.inside.rows.fenced c.self.inside.rows.heads c.self.inside.chains c.args.rows c.len.result count)
 
-pub invariant_of-self : goal.invariant_of-self
-invariant_of-self c =
-    let meet = ap (λ (s : VersionedRows). s.high) c.self.view_is ∙ c.requires.neighbours ∙ sym (ap (λ (s : VersionedRows). s.low) c.right.view_is) in
-    let hands = rw (c.split_at.ensures.back, c.rows.ensures.rows) at c.hand_all.ensures in
-    let few : c.len.result - c.args.rows ≤ length c.self.inside.rows.rows = omega (arith, c.len.ensures.len) in
-    parts_as _ _ _ _ c.share.ensures.left (given_left _ _ _ _ _ _ _ _ _ _ c.self.invariant c.right.invariant meet _ few hands)
-
-pub invariant_of-right : goal.invariant_of-right
-invariant_of-right c =
-    let meet = ap (λ (s : VersionedRows). s.high) c.self.view_is ∙ c.requires.neighbours ∙ sym (ap (λ (s : VersionedRows). s.low) c.right.view_is) in
-    let hands = rw (c.split_at.ensures.back, c.rows.ensures.rows) at c.hand_all.ensures in
-    let few : c.len.result - c.args.rows ≤ length c.self.inside.rows.rows = omega (arith, c.len.ensures.len) in
-    parts_as _ _ _ _ c.share.ensures.right (given_right _ _ _ _ _ _ _ _ _ _ c.self.invariant c.right.invariant meet _ few hands)
-
-pub returns-clause-moved : goal.returns-clause-moved
-returns-clause-moved c =
-    let meet = ap (λ (s : VersionedRows). s.high) c.self.view_is ∙ c.requires.neighbours ∙ sym (ap (λ (s : VersionedRows). s.low) c.right.view_is) in
-    let hands = rw (c.split_at.ensures.back, c.rows.ensures.rows) at c.hand_all.ensures in
-    let few : c.len.result - c.args.rows ≤ length c.self.inside.rows.rows = omega (arith, c.len.ensures.len) in
-    let count = row_count c.self.inside.rows c.self.inside.heads c.self.inside.chains in
-    let same : length (view_of c.self.inside.rows c.self.inside.heads c.self.inside.chains).rows - c.args.rows ≡ c.len.result - c.args.rows = omega (arith, count, c.len.ensures.len) in
-    rw (← c.self.view_is, ← c.right.view_is) (shares_as _ _ _ _ _ _ _ _ c.share.ensures.left c.share.ensures.right _ _ _
-    (given_shares _ _ _ _ _ _ _ _ _ _ c.self.invariant c.right.invariant meet _ few hands _ same))
+pub returns-clause-used : goal.returns-clause-used
+returns-clause-used c =
+    let count = rw c.segment.ensures at c.len.ensures.len in
+    rw (← c.self.view_is, ← c.right.view_is)
+    (omega (arith, c.give.ensures.spare.used, dropped_records c.self.inside.rows.fenced c.self.inside.rows.heads c.self.inside.chains c.args.rows c.len.result count))

@@ -8,10 +8,10 @@ use Rattle.version_segment.proofs.segment.VersionSegment.newest.Goals as goal
 
 pub returns-in-Ok : goal.returns-in-Ok
 returns-in-Ok c =
-    let found = ap (λ (s : VersionedRows). versions_at s c.args.key) (sym c.self.view_is) ∙ versions_now c.self.inside.rows c.self.inside.heads c.self.inside.chains c.args.key c.self.invariant c.in-Ok.row c.in-Ok.ensures in
+    let found = ap (λ (s : VersionedRows). versions_at s c.args.key) (sym c.self.view_is) ∙ versions_now c.self.inside.rows.fenced c.self.inside.rows.heads c.self.inside.chains c.args.key c.self.invariant c.in-Ok.row c.in-Ok.ensures in
     c.newest.ensures ∙ newest_is c.in-Ok.row.value (list_at c.self.inside.chains c.in-Ok.row.undos) ∙ sym (ap (λ (vs : StampedVersions). newest_writer vs.pairs) found)
 
 pub returns-in-Err : goal.returns-in-Err
 returns-in-Err c =
-    let none = ap (λ (s : VersionedRows). versions_at s c.args.key) (sym c.self.view_is) ∙ no_versions c.self.inside.rows c.self.inside.heads c.self.inside.chains c.args.key c.self.invariant c.in-Err.field-0 c.in-Err.ensures in
+    let none = ap (λ (s : VersionedRows). versions_at s c.args.key) (sym c.self.view_is) ∙ no_versions c.self.inside.rows.fenced c.self.inside.rows.heads c.self.inside.chains c.args.key c.self.invariant c.in-Err.field-0 c.in-Err.ensures in
     sym (ap (λ (vs : StampedVersions). newest_writer vs.pairs) none)

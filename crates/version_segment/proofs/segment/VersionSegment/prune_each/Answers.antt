@@ -6,7 +6,7 @@ use Rattle.version_segment.proofs.PruneLemmas.{pruned_start, next_below, next_na
 use Rattle.version_segment.proofs.segment.VersionSegment.prune_each.Goals as goal
 
 pub rows-init : goal.rows-init
-rows-init g c = (pruned_start _ _ c.self.inside.rows c.self.inside.heads c.self.inside.chains c.self.invariant _ c.len-place.ensures.len, grows_start _)
+rows-init g c = (pruned_start _ _ c.self.inside.rows.fenced c.self.inside.rows.heads c.self.inside.chains c.self.invariant _ (rw c.segment.ensures at c.len-place.ensures.len), grows_start _)
 
 pub prune_row-requires-clause-parts : goal.prune_row-requires-clause-parts
 prune_row-requires-clause-parts g c = c.rows.invariant.0.parts
@@ -14,8 +14,8 @@ prune_row-requires-clause-parts g c = c.rows.invariant.0.parts
 pub prune_row-requires-clause-place : goal.prune_row-requires-clause-place
 prune_row-requires-clause-place g c =
     let one_less : c.rows.place ≡ suc (c.rows.place - 1) = omega (arith, c.rows-test.true) in
-    next_below (g.S.States.knowledge c.args.states.now).stamps c.args.horizon c.self.inside.rows c.self.inside.heads c.self.inside.chains (c.rows.place - 1) c.rows.self-inside.rows c.rows.self-inside.heads c.rows.self-inside.chains
-    (subst (λ (n : ℕ). ArePruned (g.S.States.knowledge c.args.states.now).stamps c.args.horizon n c.self.inside.rows c.rows.self-inside.rows c.self.inside.heads c.rows.self-inside.heads c.self.inside.chains c.rows.self-inside.chains) one_less c.rows.invariant.0)
+    next_below (g.S.States.knowledge c.args.states.now).stamps c.args.horizon c.self.inside.rows.fenced c.self.inside.rows.heads c.self.inside.chains (c.rows.place - 1) c.rows.self-inside.rows.fenced c.rows.self-inside.rows.heads c.rows.self-inside.chains
+    (subst (λ (n : ℕ). ArePruned (g.S.States.knowledge c.args.states.now).stamps c.args.horizon n c.self.inside.rows.fenced c.rows.self-inside.rows.fenced c.self.inside.rows.heads c.rows.self-inside.rows.heads c.self.inside.chains c.rows.self-inside.chains) one_less c.rows.invariant.0)
 
 pub prune_row-requires-clause-known : goal.prune_row-requires-clause-known
 prune_row-requires-clause-known g c = still_known _ _ _ c.rows.invariant.1 c.requires.known
@@ -24,16 +24,16 @@ pub prune_row-requires-clause-named : goal.prune_row-requires-clause-named
 prune_row-requires-clause-named g c =
     let one_less : c.rows.place ≡ suc (c.rows.place - 1) = omega (arith, c.rows-test.true) in
     let named = rw (← c.self.view_is) at c.requires.named in
-    next_named (g.S.States.knowledge c.args.states.now).stamps c.args.horizon c.self.inside.rows c.self.inside.heads c.self.inside.chains (c.rows.place - 1) c.rows.self-inside.rows c.rows.self-inside.heads c.rows.self-inside.chains
-    (subst (λ (n : ℕ). ArePruned (g.S.States.knowledge c.args.states.now).stamps c.args.horizon n c.self.inside.rows c.rows.self-inside.rows c.self.inside.heads c.rows.self-inside.heads c.self.inside.chains c.rows.self-inside.chains) one_less c.rows.invariant.0)
+    next_named (g.S.States.knowledge c.args.states.now).stamps c.args.horizon c.self.inside.rows.fenced c.self.inside.rows.heads c.self.inside.chains (c.rows.place - 1) c.rows.self-inside.rows.fenced c.rows.self-inside.rows.heads c.rows.self-inside.chains
+    (subst (λ (n : ℕ). ArePruned (g.S.States.knowledge c.args.states.now).stamps c.args.horizon n c.self.inside.rows.fenced c.rows.self-inside.rows.fenced c.self.inside.rows.heads c.rows.self-inside.rows.heads c.self.inside.chains c.rows.self-inside.chains) one_less c.rows.invariant.0)
     (g.S.States.knowledge c.args.states.now).names (g.S.States.knowledge c.rows.states).names c.rows.invariant.1.names named
 
 pub rows-preserved : goal.rows-preserved
 rows-preserved g c =
     let one_less : c.rows.place ≡ suc (c.rows.place - 1) = omega (arith, c.rows-test.true) in (
-      pruned_next (g.S.States.knowledge c.args.states.now).stamps c.args.horizon c.self.inside.rows c.self.inside.heads c.self.inside.chains (c.rows.place - 1) c.rows.self-inside.rows c.rows.self-inside.heads c.rows.self-inside.chains
-          (subst (λ (n : ℕ). ArePruned (g.S.States.knowledge c.args.states.now).stamps c.args.horizon n c.self.inside.rows c.rows.self-inside.rows c.self.inside.heads c.rows.self-inside.heads c.self.inside.chains c.rows.self-inside.chains) one_less c.rows.invariant.0)
-          c.prune_row.new.rows c.prune_row.new.heads c.prune_row.new.chains (g.S.States.knowledge c.rows.states).stamps c.rows.invariant.1.stamps c.prune_row.ensures.pruned,
+      pruned_next (g.S.States.knowledge c.args.states.now).stamps c.args.horizon c.self.inside.rows.fenced c.self.inside.rows.heads c.self.inside.chains (c.rows.place - 1) c.rows.self-inside.rows.fenced c.rows.self-inside.rows.heads c.rows.self-inside.chains
+          (subst (λ (n : ℕ). ArePruned (g.S.States.knowledge c.args.states.now).stamps c.args.horizon n c.self.inside.rows.fenced c.rows.self-inside.rows.fenced c.self.inside.rows.heads c.rows.self-inside.rows.heads c.self.inside.chains c.rows.self-inside.chains) one_less c.rows.invariant.0)
+          c.prune_row.new.rows.fenced c.prune_row.new.rows.heads c.prune_row.new.chains (g.S.States.knowledge c.rows.states).stamps c.rows.invariant.1.stamps c.prune_row.ensures.pruned,
       grows_chain _ _ _ c.rows.invariant.1 c.prune_row.ensures.grows,
     )
 
@@ -46,13 +46,13 @@ invariant_of-self g c = c.rows.invariant.0.parts
 pub returns-clause-pruned : goal.returns-clause-pruned
 returns-clause-pruned g c =
     let none : c.rows.place ≡ 0 = omega (arith, c.rows-test.false) in
-    rw (← c.self.view_is) (pruned_all (g.S.States.knowledge c.args.states.now).stamps c.args.horizon c.self.inside.rows c.self.inside.heads c.self.inside.chains c.rows.self-inside.rows c.rows.self-inside.heads c.rows.self-inside.chains
+    rw (← c.self.view_is) (pruned_all (g.S.States.knowledge c.args.states.now).stamps c.args.horizon c.self.inside.rows.fenced c.self.inside.rows.heads c.self.inside.chains c.rows.self-inside.rows.fenced c.rows.self-inside.rows.heads c.rows.self-inside.chains
     c.rows.place none c.rows.invariant.0)
 
 pub returns-clause-went : goal.returns-clause-went
 returns-clause-went g c =
     let none : c.rows.place ≡ 0 = omega (arith, c.rows-test.false) in
-    rw (← c.self.view_is) (pruned_went (g.S.States.knowledge c.args.states.now).stamps c.args.horizon c.self.inside.rows c.self.inside.heads c.self.inside.chains c.rows.self-inside.rows c.rows.self-inside.heads c.rows.self-inside.chains
+    rw (← c.self.view_is) (pruned_went (g.S.States.knowledge c.args.states.now).stamps c.args.horizon c.self.inside.rows.fenced c.self.inside.rows.heads c.self.inside.chains c.rows.self-inside.rows.fenced c.rows.self-inside.rows.heads c.rows.self-inside.chains
     c.rows.place none c.rows.invariant.0 c.spare.result c.spare.ensures c.spare-spare.result c.spare-spare.ensures)
 
 pub returns-clause-grows : goal.returns-clause-grows

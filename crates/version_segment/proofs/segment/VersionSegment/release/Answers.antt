@@ -1,12 +1,14 @@
-use Rattle.std.proofs.Common.{◌∙◌, sym, refl}
-use Rattle.version_segment.proofs.ChangeLemmas.{settled_rows, none_changed}
+use Rattle.std.proofs.Common.{ap, ◌∙◌}
+use Rattle.gap_segment.specs.Fenced.{FencedRows}
+use Rattle.version_segment.specs.Parts.{versioned}
+use Rattle.version_segment.proofs.ChangeLemmas.{settled_rows}
 use Rattle.version_segment.proofs.segment.VersionSegment.release.Goals as goal
 
-pub returns-then-is_empty : goal.returns-then-is_empty
-returns-then-is_empty c =
-    let none = none_changed c.self.inside.heads.entries (sym c.is_empty.ensures ∙ c.if-is_empty.true) in
+pub returns-then-is_settled : goal.returns-then-is_settled
+returns-then-is_settled c =
     rw (← c.self.view_is) (record {
-      low = refl;
-      high = refl;
-      rows = settled_rows c.self.inside.heads.entries c.new.result.entries c.self.inside.chains c.new-then-is_empty.result c.self.inside.rows.rows none c.new.ensures;
+      low = ap (λ (s : FencedRows). s.low) c.release.ensures.rows;
+      high = ap (λ (s : FencedRows). s.high) c.release.ensures.rows;
+      rows = ap (λ (s : FencedRows). versioned c.new.result c.release.new.self.heads.entries s.rows) c.release.ensures.rows
+          ∙ settled_rows c.self.inside.rows.heads.entries c.release.new.self.heads.entries c.self.inside.chains c.new.result c.self.inside.rows.fenced.rows (c.is_settled.ensures c.if-is_settled.true) c.release.ensures.settled;
     })

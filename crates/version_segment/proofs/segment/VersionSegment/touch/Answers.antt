@@ -3,26 +3,26 @@ use Rattle.version_segment.specs.Rows.{touched}
 use Rattle.version_segment.specs.Parts.{of_lists}
 use Rattle.version_segment.proofs.ListLemmas.{touches_change, touches_leave_undos}
 use Rattle.version_segment.proofs.VersionLemmas.{touched_lists}
-use Rattle.version_segment.proofs.ChangeLemmas.{row_missed, place_below, row_begin, later_parts, later_changes}
+use Rattle.version_segment.proofs.ChangeLemmas.{row_missed, key_there, row_begin, later_parts, later_changes}
 use Rattle.version_segment.proofs.segment.VersionSegment.touch.Goals as goal
 
 pub unreachable-requires : goal.unreachable-requires
-unreachable-requires c = row_missed _ c.self.inside.heads c.self.inside.chains _ c.self.invariant _ (c.in_default.ensures) (rw (← c.self.view_is) at c.requires.row)
+unreachable-requires c = row_missed _ c.self.inside.rows.heads c.self.inside.chains _ c.self.invariant _ (c.in_default.ensures) (rw (← c.self.view_is) at c.requires.row)
 
-pub set_row-requires-clause-place : goal.set_row-requires-clause-place
-set_row-requires-clause-place c = place_below _ c.self.inside.heads c.self.inside.chains _ c.self.invariant _ (c.in-Ok.ensures)
+pub set_row-requires-clause-at : goal.set_row-requires-clause-at
+set_row-requires-clause-at c = key_there _ c.self.inside.rows.heads c.self.inside.chains _ c.self.invariant _ (c.in-Ok.ensures)
 
 pub invariant_of-self : goal.invariant_of-self
 invariant_of-self c =
     let row = c.in-Ok.ensures in
-    let change = touches_change _ _ _ _ _ _ _ (row_begin _ c.self.inside.heads _ _ c.self.invariant _ row) _ (c.in-Ok-touch.ensures.others) in
-    later_parts _ c.self.inside.heads _ _ c.self.invariant _ row _ _ c.set_row.new.heads _ _ _ change c.set_row.ensures.rows c.set_row.ensures.heads
+    let change = touches_change _ _ _ _ _ _ _ (row_begin _ c.self.inside.rows.heads _ _ c.self.invariant _ row) _ (c.in-Ok-touch.ensures.others) in
+    later_parts _ c.self.inside.rows.heads _ _ c.self.invariant _ row _ _ c.set_row.new.rows.heads _ _ _ change c.set_row.ensures.rows c.set_row.ensures.heads
 
 pub returns-clause-touched : goal.returns-clause-touched
 returns-clause-touched c =
     let row = c.in-Ok.ensures in
-    let begin = row_begin _ c.self.inside.heads _ _ c.self.invariant _ row in
+    let begin = row_begin _ c.self.inside.rows.heads _ _ c.self.invariant _ row in
     let change = touches_change _ _ _ _ _ _ _ begin _ (c.in-Ok-touch.ensures.others) in
     let undos = touches_leave_undos _ _ _ _ _ _ _ begin _ (c.in-Ok-touch.ensures.others) in
-    rw (← c.self.view_is) (later_changes _ c.self.inside.heads _ _ c.self.invariant _ row _ _ c.set_row.new.heads _ _ _ change c.set_row.ensures.rows c.set_row.ensures.heads (touched c.args.by)
+    rw (← c.self.view_is) (later_changes _ c.self.inside.rows.heads _ _ c.self.invariant _ row _ _ c.set_row.new.rows.heads _ _ _ change c.set_row.ensures.rows c.set_row.ensures.heads (touched c.args.by)
     ((λ i. of_lists c.in-Ok.row.value (undos i) (c.in-Ok-touch.ensures.ok i)) ∙ touched_lists c.args.by _ _ _))
