@@ -5,3 +5,4 @@ pub mod SlotLemmas
 pub mod IndexLemmas
 pub mod ChangeLemmas
 pub mod ReleaseLemmas
+pub mod RecentLemmas

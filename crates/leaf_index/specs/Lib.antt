@@ -2,3 +2,4 @@ pub mod Index
 pub mod Idle
 pub mod Slots
 pub mod Calls
+pub mod Recent

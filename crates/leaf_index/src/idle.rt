@@ -86,6 +86,20 @@ impl IdleLeaves {
         self.retired = self.retired.with_last(&mut self.links, leaf);
     }
 
+    /// How many leaves are free.
+    pub fn free_count(&self) -> u32
+        ensures { result ≡ length self.now.free }
+    {
+        self.free.count
+    }
+
+    /// How many leaves are retired.
+    pub fn retired_count(&self) -> u32
+        ensures { result ≡ length self.now.retired }
+    {
+        self.retired.count
+    }
+
     /// Frees those among the first retired leaves whose stamps are below the given one, and answers how many.
     pub fn free_retired(&mut self, until: u64, upto: usize) -> u32
         ensures freed { self.new ≡ freed_idle until upto self.old }

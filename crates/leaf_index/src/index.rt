@@ -2,6 +2,7 @@
 //!
 //! 1. What the trie doesn't need lies in a table by the numbers of leaves: cuts, and the end of a live leaf's range.
 //! 2. The lists of free and of retired leaves have room for all leaves from the start.
+//! 3. A call that changes ranges lets go of the routes that are kept.
 
 ghost use Rattle.std.specs.Prelude.{◌≡◌, ◌<◌, ◌≤◌, ◌+◌, [], ◌∷◌, ◌++◌, IfOk, IfSome, OnOk, OnErr, length, replicate, take, ◌-◌};
 ghost use Rattle.graph_model.specs.Rows.{end_key, first_key};
@@ -11,6 +12,7 @@ ghost use Rattle.leaf_index.specs.Slots.{HasSlot, HaveSlots, IsBeforeStart, IsFl
 ghost use Rattle.leaf_index.specs.Calls.{CanAdd, CanCut, CanDrop, IsLeafBefore, IsLeafRange, TakesFree, freed, freed_of, new_index, with_cuts, with_leaf, without_leaf};
 
 use crate::idle::IdleLeaves;
+use crate::recent::RecentRoutes;
 use crate::route::{LeafRange, Route};
 use crate::slot::{Slot, high_of, segment_of};
 use graph_model::{Key, NoMemory};
@@ -24,6 +26,7 @@ pub struct LeafIndex {
     trie: LeafTrie,
     slots: Vec<Slot>,
     idle: IdleLeaves,
+    recent: RecentRoutes,
 }
 
 impl Model for LeafIndex {
@@ -33,6 +36,7 @@ impl Model for LeafIndex {
     ghost Value = { Index };
 
     ghost use Rattle.leaf_index.specs.Slots.{IsKept, entries_of};
+    ghost use Rattle.leaf_index.specs.Recent.{AreRightRoutes};
 
     ghost view = { λ i. record {
       leaves = length i.slots.items;
@@ -42,7 +46,7 @@ impl Model for LeafIndex {
     } };
 
     ghost invariant = { λ i. IsKept i.slots.items i.trie i.idle.free i.idle.retired
-        × (i.idle.leaves ≡ length i.slots.items) };
+        × (i.idle.leaves ≡ length i.slots.items) × AreRightRoutes (entries_of i.slots.items i.trie) i.recent };
 }
 
 /// So many slots of the whole key range, all of it in the first segment.
@@ -114,7 +118,13 @@ impl LeafIndex {
         let trie = LeafTrie::new(alloc, LeafStart { low, leaf: 0 })?;
         let slots = whole_slots(alloc, leaves)?;
         let idle = IdleLeaves::new(alloc, leaves)?;
-        Ok(LeafIndex { trie, slots, idle })
+        let recent = RecentRoutes::new();
+        Ok(LeafIndex {
+            trie,
+            slots,
+            idle,
+            recent,
+        })
     }
 
     /// How many leaves there are, in use or not. What holds of each index is a clause of this call.
@@ -163,6 +173,7 @@ impl LeafIndex {
         let high = self.slots[before as usize].high;
         self.slots[before as usize].high = low;
         self.slots[leaf as usize] = Slot { cuts, high };
+        self.recent = RecentRoutes::new();
         Ok(())
     }
 
@@ -181,6 +192,7 @@ impl LeafIndex {
         self.trie.remove(low);
         let high = self.slots[dropped as usize].high;
         self.slots[before as usize].high = high;
+        self.recent = RecentRoutes::new();
     }
 
     /// Gives the leaf that begins at the key these cuts, one for each of its segments.
@@ -193,6 +205,7 @@ impl LeafIndex {
         let leaf = floor_of(&self.trie, &self.slots, low);
         let high = self.slots[leaf as usize].high;
         self.slots[leaf as usize] = Slot { cuts, high };
+        self.recent = RecentRoutes::new();
     }
 
     /// Takes a free leaf, if there is one.
@@ -219,6 +232,23 @@ impl LeafIndex {
         self.idle.retire(leaf, stamp);
     }
 
+    /// How many leaves are neither free nor retired.
+    pub fn in_use(&self) -> u32
+        ensures { result ≡ (self.now.leaves - length self.now.free) - length self.now.retired }
+    {
+        let idle = self.idle.free_count();
+        self.leaves()
+            .saturating_sub(idle)
+            .saturating_sub(self.idle.retired_count())
+    }
+
+    /// How many leaves are retired.
+    pub fn retired(&self) -> u32
+        ensures { result ≡ length self.now.retired }
+    {
+        self.idle.retired_count()
+    }
+
     /// Frees those among the first retired leaves whose stamps are below the given one, and answers how many.
     pub fn free_retired(&mut self, until: u64, upto: usize) -> u32
         ensures freed { self.new ≡ freed until upto self.old }
@@ -230,6 +260,26 @@ impl LeafIndex {
     /// The cell whose range holds the key. It does as long as the index doesn't change, so a caller may keep the
     /// answer for further keys that `Route::holds`.
     pub fn route(&self, key: Key) -> Route
+        ensures { IsRoute key self.now.entries result }
+    {
+        match self.recent.find(key) {
+            Some(route) => route,
+            None => self.find_route(key),
+        }
+    }
+
+    /// Looks the key's route up and keeps it, so that `route` need not look for it nor for other keys of its cell.
+    pub fn keep_route(&mut self, key: Key)
+        ensures { self.new ≡ self.old }
+    {
+        if self.recent.find(key).is_none() {
+            let route = self.find_route(key);
+            self.recent.push(route);
+        }
+    }
+
+    /// The key's route, by the trie.
+    fn find_route(&self, key: Key) -> Route
         ensures { IsRoute key self.now.entries result }
     {
         let leaf = floor_of(&self.trie, &self.slots, key);

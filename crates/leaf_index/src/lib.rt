@@ -9,6 +9,7 @@
 mod chain;
 mod idle;
 mod index;
+mod recent;
 mod release;
 mod route;
 mod slot;

@@ -4,7 +4,7 @@ use Rattle.graph_model.specs.Rows.{end_key}
 use Rattle.leaf_index.specs.Index.{Index}
 use Rattle.leaf_index.specs.Slots.{HaveSlots}
 use Rattle.leaf_index.proofs.SlotLemmas.{slot_at, slot_within, low_read, read_there, within_there, route_of}
-use Rattle.leaf_index.proofs.index.LeafIndex.route.Goals as goal
+use Rattle.leaf_index.proofs.index.LeafIndex.find_route.Goals as goal
 
 pub index-slot-requires : goal.index-slot-requires
 index-slot-requires c =
