@@ -1,11 +1,12 @@
 //! Leaves.
 
-ghost use Rattle.std.specs.Prelude.{◌≡◌, ◌<◌, ◌++◌, true, false, length, IfOk};
+ghost use Rattle.std.specs.Prelude.{◌≡◌, ◌<◌, ◌++◌, ◌-◌, ◌^◌, true, false, length, min, IfOk};
 ghost use Rattle.graph_model.specs.Rows.{is_below, is_between};
 ghost use Rattle.version_segment.specs.Rows.{VersionedRows};
-ghost use Rattle.leaf_array.specs.Segments.{AreChained, counts_of, lows_of, low_or, high_or, HoldsKey};
+ghost use Rattle.leaf_array.specs.Segments.{AreChained, counts_of, lows_of, low_or, high_or, records_of, HoldsKey};
 ghost use Rattle.leaf_array.specs.Leaves.{IsLeaf, IsEmpty, AreFourEmpty, IsEmptyFrom};
 
+use crate::counting::records_in;
 use graph_model::{Key, LEAF_SEGMENTS, NoMemory};
 use std::alloc::Global;
 use version_segment::VersionSegment;
@@ -63,6 +64,16 @@ impl Leaf {
             seventh.low(),
             eighth.low(),
         ]
+    }
+
+    /// How many records its rows have, up to the last number.
+    pub fn records(&self) -> usize
+        ensures { result ≡ min (records_of self.now.segments) (2 ^ 64 - 1) }
+    {
+        match records_in(&self.segments) {
+            Some(records) => records,
+            None => usize::MAX,
+        }
     }
 
     /// The segment whose range holds a key of the leaf's range.
