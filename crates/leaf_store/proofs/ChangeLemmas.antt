@@ -26,7 +26,7 @@ use Rattle.leaf_store.specs.Changes.{ChangesCell, ChangesVersions, KeepsCells, P
 use Rattle.leaf_store.specs.Table.{IsKept, IsTied, AreTied, IsPlace, segments_or_none, segments_at, part_of, leaves_of}
 use Rattle.leaf_store.proofs.CellLemmas.{holds, follow_middle, sound_middle}
 use Rattle.leaf_store.proofs.ListLemmas.{set_between, get_set_same}
-use Rattle.leaf_store.proofs.StoreLemmas.{OtherCell, old_cell, new_cell, changes_cell, spare_kept, keeps_cells}
+use Rattle.leaf_store.proofs.StoreLemmas.{OtherCell, old_cell, new_cell, changes_cell, spare_kept, fewer_records, keeps_cells}
 use Rattle.leaf_store.proofs.TableLemmas.{Table, Located, KeepsOthers, kept_leaves, located, one_entry, others_kept, parts_append, parts_kept, tied_at, tied_front, tied_kept}
 
 -- ---- the memory of a leaf
@@ -39,7 +39,7 @@ with_memory o xs c ys is = ((λ e. some xs (sym (ap segments_or_none e) ∙ is))
     some [] e = cc
     some (x ∷ xs) e = cc
 
-beyond_table : (table : Table) (leaf : ℕ) → (slice_get table leaf ≡ None → ⊥) → leaf < length table
+pub beyond_table : (table : Table) (leaf : ℕ) → (slice_get table leaf ≡ None → ⊥) → leaf < length table
 beyond_table [] leaf there = absurd (there refl)
 beyond_table (x ∷ table) zero there = omega arith
 beyond_table (x ∷ table) (suc leaf) there = omega (arith, beyond_table table leaf there)
@@ -187,6 +187,8 @@ module _ (index : Index) (table : Table) (old : Leaves) (key : Key) (place : Pla
           count = length-set table place.leaf (Some (with_value box (record { segments = set leaf.segments place.segment d }))) ∙ kept.count;
           index_is = kept.index_is;
           tied = subst (AreTied new) (sym l.entries) now;
+          begin = kept.begin;
+          stamps = kept.stamps;
         };
         other = record {
           before = map (part_of table) l.front;
@@ -243,6 +245,7 @@ module _ (index : Index) (table new : Table) (old : Leaves) (key : Key) (c d : V
     changes = only_cell;
     prunes = subst (λ x. PrunesRows stamps horizon x d) (sym same_cell) prunes;
     went = went ∙ sym (ap (λ x. all_records x.rows) same_cell);
+    left = fewer_records old (leaves_of index new) c d changed.other are pruned.records went;
     high = high ∙ sym (ap (λ x. x.high) same_cell);
   }
 

@@ -1,4 +1,4 @@
--- No more leaves are live than there are.
+-- No more leaves are live, or retired, than there are.
 use Rattle.std.proofs.Common.{◌≡◌, ◌≤◌, List, length, map, arith}
 use Rattle.std.specs.Prelude.{Option}
 use Rattle.std.specs.declared.alloc.Global.{Global}
@@ -15,3 +15,9 @@ few_parts index table is =
     let same : length (map (λ e. e.leaf) index.entries) ≡ length index.entries = length-map index.entries (λ e. e.leaf) in
     let parts : length (map (part_of table) index.entries) ≡ length index.entries = length-map index.entries (part_of table) in
     omega (arith, few, same, parts)
+
+pub few_retired : (index : Index) → IsIndex index → length index.retired ≤ index.leaves
+few_retired index is =
+    let few = at_most (map (λ r. r.leaf) index.retired) index.leaves (λ q. omega (arith, is.once q, count_map (λ r. r.leaf) q index.retired)) in
+    let same : length (map (λ r. r.leaf) index.retired) ≡ length index.retired = length-map index.retired (λ r. r.leaf) in
+    omega (arith, few, same)

@@ -21,14 +21,14 @@ use Rattle.leaf_array.specs.declared.leaf.Leaf.{Leaf}
 use Rattle.leaf_array.specs.Leaves.{IsLeaf}
 use Rattle.leaf_array.specs.Segments.{rows_of, lows_of}
 use Rattle.leaf_array.proofs.LeafLemmas.{follow-of}
-use Rattle.leaf_index.specs.Index.{Index, Entry, AreCuts, IsIndex, end_of}
+use Rattle.leaf_index.specs.Index.{Index, Entry, AreCuts, BeginBelow, IsIndex, end_of}
 use Rattle.leaf_index.specs.Calls.{CanCut, new_index, with_cuts}
 use Rattle.txn_manager.specs.declared.config.RoomRefusal.{RoomRefusal}
 use Rattle.txn_manager.specs.declared.config.RoomRefusal.TheVariants as refusals
 use Rattle.leaf_store.specs.Leaves.{weight_of_part}
 use Rattle.leaf_store.specs.Changes.{AreFilled, AreRising, IsFillRefusal, settled_at}
 use Rattle.leaf_store.specs.Fill.{AreSettled, AreTiedTo, IsFilling, IsFillStop, begin_of, next_key, parts_in}
-use Rattle.leaf_store.specs.Table.{IsKept, IsTied, AreTied, part_of, segments_or_none, segments_at, leaves_of}
+use Rattle.leaf_store.specs.Table.{AreStamped, IsKept, IsTied, AreTied, part_of, segments_or_none, segments_at, leaves_of}
 use Rattle.leaf_store.proofs.CellLemmas.{AreSound}
 use Rattle.leaf_store.proofs.FillLemmas.{cut_until, sorted_front, within_front}
 use Rattle.leaf_store.proofs.FillStepLemmas.{sorted_further}
@@ -167,7 +167,7 @@ pub record IsFilledStore (leaves : ℕ) (rows : List Row) (index : Index) (table
 pub is_filled : (leaves : ℕ) (rows : List Row) (index : Index) (table : Table) → IsFilling rows (length rows) index table → index.leaves ≡ leaves → IsFilledStore leaves rows index table
 is_filled leaves rows index table f limit =
     let end : next_key rows (length rows) ≡ end_key = ap (λ ys. first_key_or ys end_key) (drop_whole rows) in
-    let kept : IsKept index table = record { count = f.count; index_is = f.index_is; tied = tied_to_end table index.entries (subst (λ k. AreTiedTo table k index.entries) end f.tied) } in
+    let kept : IsKept index table = record { count = f.count; index_is = f.index_is; tied = tied_to_end table index.entries (subst (λ k. AreTiedTo table k index.entries) end f.tied); begin = subst (λ k. BeginBelow k index.entries) end f.below; stamps = subst AreStamped (sym f.retired) tt } in
     record {
       kept = kept;
       are = record {

@@ -13,15 +13,17 @@ use Rattle.density_tree.proofs.DivisionLemmas.{shares_are_all}
 use Rattle.leaf_array.specs.Segments.{rows_of, counts_of, lows_of, high_or}
 use Rattle.leaf_array.proofs.LeafLemmas.{Follow, follow-of, follow-low, follow-both}
 use Rattle.leaf_array.proofs.PairLemmas.{rows-append, high-append}
-use Rattle.leaf_index.specs.Index.{Index, Entry, AreRising, HaveCuts, IsIndex, IsTaken, end_of}
+use Rattle.leaf_index.specs.Index.{Index, Entry, AreRising, BeginBelow, HaveCuts, IsIndex, IsTaken, end_of}
 use Rattle.txn_manager.specs.declared.config.RoomRefusal.{RoomRefusal}
 use Rattle.txn_manager.specs.declared.config.RoomRefusal.TheVariants as refusals
 use Rattle.leaf_store.specs.declared.place.Place.{Place}
 use Rattle.leaf_store.specs.Leaves.{Part, Leaves, cells_of, cell_in, cell_at, room_at, weight}
 use Rattle.leaf_store.specs.Changes.{IsFull, IsRoomRefusal, MovesRows}
 use Rattle.leaf_store.specs.Ranges.{IsLive, IsOutOfLeaves, KeepsLeaves, SplitsLeaf}
-use Rattle.leaf_store.specs.Table.{IsKept, IsTied, AreTied, IsPlace, segments_at, part_of, leaves_of}
+use Rattle.leaf_store.specs.Table.{AreStamped, IsKept, IsTied, AreTied, IsPlace, segments_at, part_of, leaves_of}
 use Rattle.leaf_store.proofs.CellLemmas.{AreSound, holds, cell_here, few_in, held_in_both, middle_part}
+use Rattle.graph_model.proofs.KeyLemmas.{below_chain}
+use Rattle.leaf_store.proofs.KeyLemmas.{split_key_within}
 use Rattle.leaf_store.proofs.ListLemmas.{all_append, all_front, all_back}
 use Rattle.leaf_store.proofs.MoveLemmas.{KeepRoom, LeafMoved, cell_in_leaf, few_each, few_keep_room, Respreads, leaf_moved, moves_parts, room_of, same_lows, same_respreads}
 use Rattle.leaf_store.proofs.RoomLemmas.{count_rows, window_rows}
@@ -57,17 +59,17 @@ live_at index table key place entries kept is below same =
 abbrev pub SameMemory : Table → Table → List Entry → Type 0
 SameMemory table new es = AllByRecursion (λ e. segments_at new e.leaf ≡ segments_at table e.leaf) es
 
-parts_same : (table new : Table) (es : List Entry) → SameMemory table new es → map (part_of new) es ≡ map (part_of table) es
+pub parts_same : (table new : Table) (es : List Entry) → SameMemory table new es → map (part_of new) es ≡ map (part_of table) es
 parts_same table new [] same = refl
 parts_same table new (e ∷ es) same =
     let first : part_of new e ≡ part_of table e = λ i. record { leaf = e.leaf; segments = same.0 i } in
     λ i. first i ∷ parts_same table new es same.1 i
 
-tied_same : (table new : Table) (es : List Entry) → SameMemory table new es → AreTied table es → AreTied new es
+pub tied_same : (table new : Table) (es : List Entry) → SameMemory table new es → AreTied table es → AreTied new es
 tied_same table new [] same tied = tt
 tied_same table new (e ∷ es) same tied = (subst (λ ss. IsTied ss e (end_of es)) (sym same.0) tied.0, tied_same table new es same.1 tied.1)
 
-tied_before : (table new : Table) (front es fs : List Entry) → SameMemory table new front → AreTied table (front ++ es) → end_of fs ≡ end_of es → AreTied new fs → AreTied new (front ++ fs)
+pub tied_before : (table new : Table) (front es fs : List Entry) → SameMemory table new front → AreTied table (front ++ es) → end_of fs ≡ end_of es → AreTied new fs → AreTied new (front ++ fs)
 tied_before table new [] es fs same tied begin rest = rest
 tied_before table new (e ∷ front) es fs same tied begin rest =
     (subst (IsTied (segments_at new e.leaf) e) (begins front) (subst (λ ss. IsTied ss e (end_of (front ++ es))) (sym same.0) tied.0), tied_before table new front es fs same.1 tied.1 begin rest)
@@ -76,7 +78,7 @@ tied_before table new (e ∷ front) es fs same tied begin rest =
     begins [] = sym begin
     begins (f ∷ front) = refl
 
-same_memory : (table new : Table) (leaf other : ℕ) (es : List Entry) → ((n : ℕ) → n ≢ leaf → n ≢ other → segments_at new n ≡ segments_at table n) → OtherLeaves leaf es → OtherLeaves other es → SameMemory table new es
+pub same_memory : (table new : Table) (leaf other : ℕ) (es : List Entry) → ((n : ℕ) → n ≢ leaf → n ≢ other → segments_at new n ≡ segments_at table n) → OtherLeaves leaf es → OtherLeaves other es → SameMemory table new es
 same_memory table new leaf other [] keeps apart apart' = tt
 same_memory table new leaf other (e ∷ es) keeps apart apart' = (keeps e.leaf apart.0 apart'.0, same_memory table new leaf other es keeps apart.1 apart'.1)
 
@@ -86,9 +88,14 @@ pub few_rows : (ss : List VersionedRows) → AreSound ss → length (rows_of ss)
 few_rows [] sound = omega arith
 few_rows (s ∷ ss) sound = omega (arith, few_rows ss sound.1, sound.0.small, length-append s.rows (rows_of ss))
 
-any_high : (ss : List VersionedRows) (one other : Key) → length ss ≡ 8 → high_or ss one ≡ high_or ss other
+pub any_high : (ss : List VersionedRows) (one other : Key) → length ss ≡ 8 → high_or ss one ≡ high_or ss other
 any_high [] one other eight = absurd (omega (arith, eight))
 any_high (s ∷ ss) one other eight = refl
+
+-- what is below the begin of the entries behind is below the last key
+below_end : (key : Key) (back : List Entry) → is_below key (end_of back) ≡ true → BeginBelow end_key back → is_below key end_key ≡ true
+below_end key [] below begin = below
+below_end key (e ∷ back) below begin = below_chain key e.low end_key below begin.0
 
 -- ---- a split
 
@@ -144,6 +151,14 @@ module _ (index taken new : Index) (table table' : Table) (key : Key) (place : P
         count = s.count ∙ kept.count ∙ ap (λ (i : Index). i.leaves) takes ∙ sym (ap (λ (i : Index). i.leaves) s.index_is);
         index_is = ready;
         tied = subst (AreTied table') (sym entries') tied';
+        stamps = subst AreStamped (ap (λ (i : Index). i.retired) takes ∙ sym (ap (λ (i : Index). i.retired) s.index_is)) kept.stamps;
+        begin =
+            let was = subst (BeginBelow end_key) entries kept.begin in
+            let behind = all_back (λ (e : Entry). is_below e.low end_key ≡ true) live.front (live.entry ∷ live.back) was in
+            let within = split_key_within low cut ss follow live.tied.sound many splits.key_is in
+            subst (BeginBelow end_key) (sym entries')
+            (all_append (λ (e : Entry). is_below e.low end_key ≡ true) live.front (e1 ∷ e2 ∷ live.back) (all_front (λ (e : Entry). is_below e.low end_key ≡ true) live.front (live.entry ∷ live.back) was)
+            (behind.0, (below_end cut live.back (subst (λ k. is_below cut k ≡ true) live.tied.ends within.1) behind.1, behind.1)));
       } in
       let was = part_of table live.entry in
       let is1 = part_of table' e1 in
@@ -196,7 +211,7 @@ split_refused index table table' key place kept is below keeps =
     let l = located index table key place kept is below in
     let ss = segments_at table place.leaf in
     let tied = subst (λ n. IsTied (segments_at table n) l.entry (end_of l.back)) (sym l.leaf) (tied_at table l.front (l.entry ∷ l.back) (subst (AreTied table) l.entries kept.tied)).0 in
-    leaf_moved index index table table' l.front l.entry l.entry l.back (segments_at table' place.leaf) kept l.entries l.entries refl refl (same_lows ss (segments_at table' place.leaf) keeps.same ∙ tied.cuts) kept.index_is refl refl
+    leaf_moved index index table table' l.front l.entry l.entry l.back (segments_at table' place.leaf) kept l.entries l.entries refl refl (same_lows ss (segments_at table' place.leaf) keeps.same ∙ tied.cuts) kept.index_is refl refl refl
     keeps.count (subst (KeepsOthers table table') l.leaf keeps.others) (ap (segments_at table') (sym l.leaf))
     (subst (λ cs. Respreads cs (segments_at table' place.leaf)) (ap (segments_at table) l.leaf) (same_respreads ss (segments_at table' place.leaf) tied.leaf tied.sound keeps.same))
 

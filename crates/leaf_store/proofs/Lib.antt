@@ -15,3 +15,9 @@ pub mod FewLemmas
 pub mod FillLemmas
 pub mod FillStepLemmas
 pub mod FillEndLemmas
+pub mod WalkLemmas
+pub mod PairLemmas
+pub mod SparseLemmas
+pub mod FreeLemmas
+pub mod LeafRangeLemmas
+pub mod RecordLemmas

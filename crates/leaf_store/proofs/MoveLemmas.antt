@@ -9,7 +9,7 @@ use Rattle.std.proofs.lemmas.List.{append-nil, take-append-drop}
 use Rattle.graph_model.proofs.PlaceLemmas.{drop_cut}
 use Rattle.graph_model.specs.declared.limits.TheConstants.{SEGMENT_ROWS, SPLIT_ROWS}
 use Rattle.graph_model.specs.declared.row.Key.{Key}
-use Rattle.graph_model.specs.Rows.{key_cmp, first_key, is_between}
+use Rattle.graph_model.specs.Rows.{key_cmp, first_key, end_key, is_below, is_between}
 use Rattle.version_segment.specs.Rows.{VersionedRows, IsSegment, or_nothing}
 use Rattle.density_tree.specs.declared.window.Window.{Window}
 use Rattle.density_tree.specs.Division.{share_of, evenly}
@@ -18,13 +18,13 @@ use Rattle.leaf_array.specs.Leaves.{IsLeaf, SpreadsWindow, window_of}
 use Rattle.leaf_array.proofs.CountLemmas.{same-chained, same-rows, same-length, same-low, same-high}
 use Rattle.leaf_array.proofs.LeafLemmas.{Follow, follow-of, follow-low, follow-front, follow-behind, own-low, no_key}
 use Rattle.leaf_array.proofs.PairLemmas.{rows-append}
-use Rattle.leaf_index.specs.Index.{Index, Entry, AreSorted, IsIndex, NotAbove, end_of, first_or}
+use Rattle.leaf_index.specs.Index.{Index, Entry, AreSorted, BeginBelow, IsIndex, NotAbove, end_of, first_or}
 use Rattle.leaf_store.specs.Leaves.{Part, Leaves, AreLeaves, cells_of, cell_in, cell_at, weight}
 use Rattle.leaf_store.specs.Changes.{MovesRows}
-use Rattle.leaf_store.specs.Table.{IsKept, IsTied, AreTied, segments_at, part_of, leaves_of}
+use Rattle.leaf_store.specs.Table.{AreStamped, IsKept, IsTied, AreTied, segments_at, part_of, leaves_of}
 use Rattle.leaf_store.proofs.CellLemmas.{AreSound, holds, cell_here, few_in, held_in_both, middle_part, moved_cell}
 use Rattle.leaf_store.proofs.ChangeLemmas.{high_between, same_sound}
-use Rattle.leaf_store.proofs.ListLemmas.{all_front, all_back}
+use Rattle.leaf_store.proofs.ListLemmas.{all_append, all_front, all_back}
 use Rattle.leaf_store.proofs.StoreLemmas.{cells_in, cells_follow, cells_split, versions_in_rows, weight_in, weight_one, weight_split}
 use Rattle.leaf_store.proofs.TableLemmas.{Table, KeepsOthers, kept_leaves, one_entry, parts_append, parts_kept, tied_at, tied_front, tied_kept}
 
@@ -133,10 +133,10 @@ few_each rows segs cs shares some few =
     all_counts cs (subst (AllByRecursion (λ count. count ≤ 30)) (sym shares) (shares_at_most rows segs 0 segs some few))
 
 -- a window that has the place of a cell has the cell
-record Among (c : VersionedRows) (cs : List VersionedRows) : Type 0 where
-  xs : List VersionedRows
-  ys : List VersionedRows
-  is : cs ≡ xs ++ c ∷ ys
+pub record Among (c : VersionedRows) (cs : List VersionedRows) : Type 0 where
+  pub xs : List VersionedRows
+  pub ys : List VersionedRows
+  pub is : cs ≡ xs ++ c ∷ ys
 
 among_first : (len : ℕ) (before : List VersionedRows) (c : VersionedRows) (behind : List VersionedRows) → length before < len → Among c (take len (before ++ c ∷ behind))
 among_first zero before c behind lt = absurd (omega (arith, lt))
@@ -145,7 +145,7 @@ among_first (suc len) (b ∷ before) c behind lt =
     let rest = among_first len before c behind (omega (arith, lt)) in
     record { xs = b ∷ rest.xs; ys = rest.ys; is = ap (λ cs. b ∷ cs) rest.is }
 
-among_window : (first len : ℕ) (before : List VersionedRows) (c : VersionedRows) (behind : List VersionedRows) → first ≤ length before → length before < first + len → Among c (take len (drop first (before ++ c ∷ behind)))
+pub among_window : (first len : ℕ) (before : List VersionedRows) (c : VersionedRows) (behind : List VersionedRows) → first ≤ length before → length before < first + len → Among c (take len (drop first (before ++ c ∷ behind)))
 among_window zero len before c behind le lt = among_first len before c behind (omega (arith, lt))
 among_window (suc first) len [] c behind le lt = absurd (omega (arith, le))
 among_window (suc first) len (b ∷ before) c behind le lt = among_window first len before c behind (omega (arith, le)) (omega (arith, lt))
@@ -159,49 +159,75 @@ in_window : (window : Window) (ss : List VersionedRows) → ss ≡ take window.f
 in_window window ss =
     sym (take-append-drop window.first ss) ∙ ap (λ cs. take window.first ss ++ cs) (drop_cut window.first window.len ss)
 
--- a spread window leaves the same rows in the leaf, and room round the key
-pub record SpreadAt (ss ns : List VersionedRows) (key : Key) : Type 0 where
-  pub respreads : Respreads ss ns
-  pub held : holds (cell_in ns key) key ≡ true
-  pub two : 2 ≤ room_of (cell_in ns key)
+-- what a spread leaves, with the leaf in three parts
+module _ (window : Window) (ss ns : List VersionedRows) (leaf : IsLeaf ss) (sound : AreSound ss) (sound' : AreSound ns) (spreads : SpreadsWindow window ss ns) (some : 1 ≤ window.len) (few : length (rows_of (window_of window ss)) ≤ 30 * window.len) where
+  abbrev front : List VersionedRows
+  front = take window.first ss
 
-pub spread_at : (window : Window) (ss ns : List VersionedRows) (key : Key) (before : List VersionedRows) (c : VersionedRows) (behind : List VersionedRows) → IsLeaf ss → AreSound ss → AreSound ns → SpreadsWindow window ss ns
-    → ss ≡ before ++ c ∷ behind → holds c key ≡ true → window.first ≤ length before → length before < window.first + window.len → length (rows_of (window_of window ss)) ≤ 30 * window.len → SpreadAt ss ns key
-spread_at window ss ns key before c behind leaf sound sound' spreads at held from until few =
-    let front = take window.first ss in
-    let ws = window_of window ss in
-    let vs = window_of window ns in
-    let rest = drop (window.first + window.len) ss in
-    let old : ss ≡ front ++ (ws ++ rest) = in_window window ss in
-    let new : ns ≡ front ++ (vs ++ rest) = in_window window ns ∙ (λ i. spreads.before i ++ (vs ++ spreads.behind i)) in
-    let keeps = spreads.within.keeps in
-    let begin = low_or ss no_key in
-    let cut = high_or front begin in
-    let follow : Follow begin (front ++ (ws ++ rest)) = subst (Follow begin) old (follow-of begin ss (own-low ss no_key) leaf.chained) in
-    let follow_ws : Follow cut ws = follow-front cut ws rest (follow-behind begin front (ws ++ rest) follow) in
-    let follow_vs : Follow cut vs = follow-of cut vs (keeps.low cut ∙ follow-low cut ws follow_ws) keeps.chained in
-    let sound_ws : AreSound ws = all_front IsSegment ws rest (all_back IsSegment front (ws ++ rest) (subst AreSound old sound)) in
-    let sound_vs : AreSound vs = all_front IsSegment vs rest (all_back IsSegment front (vs ++ rest) (subst AreSound new sound')) in
-    let each : AllByRecursion (λ c. length c.rows ≤ 30) vs = few_each (length (rows_of ws)) window.len vs spreads.within.shares (omega (arith, from, until)) few in
-    let here : Among c ws = subst (λ cs. Among c (window_of window cs)) (sym at) (among_window window.first window.len before c behind from until) in
-    let own : cell_in ws key ≡ c = ap (λ cs. cell_in cs key) here.is ∙ cell_here cut key here.xs c here.ys (subst (Follow cut) here.is follow_ws) (subst AreSound here.is sound_ws) held in
-    let held_vs : holds (cell_in vs key) key ≡ true = held_in_both cut key ws vs follow_ws follow_vs sound_ws keeps.high (subst (λ x. holds x key ≡ true) (sym own) held) in
-    let low : (other : Key) → low_or ns other ≡ low_or ss other =
-    λ other. ap (λ cs. low_or cs other) new ∙ low_append front (vs ++ rest) other ∙ ap (low_or front) (low_append vs rest other ∙ keeps.low (low_or rest other) ∙ sym (low_append ws rest other)) ∙ sym (low_append front (ws ++ rest) other) ∙ sym (ap (λ cs. low_or cs other) old) in
-    let follow' : Follow begin (front ++ (vs ++ rest)) = subst (Follow begin) new (follow-of begin ns (low begin ∙ own-low ss no_key) spreads.leaf.chained) in
-    let now : cell_in ns key ≡ cell_in vs key = ap (λ cs. cell_in cs key) new ∙ middle_part begin key front vs rest follow' (subst AreSound new sound') held_vs in
-    record {
-      respreads = record {
+  abbrev ws : List VersionedRows
+  ws = window_of window ss
+
+  abbrev vs : List VersionedRows
+  vs = window_of window ns
+
+  abbrev rest : List VersionedRows
+  rest = drop (window.first + window.len) ss
+
+  abbrev begin : Key
+  begin = low_or ss no_key
+
+  abbrev cut : Key
+  cut = high_or front begin
+
+  old : ss ≡ front ++ (ws ++ rest)
+  old = in_window window ss
+
+  new : ns ≡ front ++ (vs ++ rest)
+  new = in_window window ns ∙ (λ i. spreads.before i ++ (vs ++ spreads.behind i))
+
+  follow_ws : Follow cut ws
+  follow_ws = follow-front cut ws rest (follow-behind begin front (ws ++ rest) (subst (Follow begin) old (follow-of begin ss (own-low ss no_key) leaf.chained)))
+
+  follow_vs : Follow cut vs
+  follow_vs = follow-of cut vs (spreads.within.keeps.low cut ∙ follow-low cut ws follow_ws) spreads.within.keeps.chained
+
+  sound_ws : AreSound ws
+  sound_ws = all_front IsSegment ws rest (all_back IsSegment front (ws ++ rest) (subst AreSound old sound))
+
+  sound_vs : AreSound vs
+  sound_vs = all_front IsSegment vs rest (all_back IsSegment front (vs ++ rest) (subst AreSound new sound'))
+
+  each : AllByRecursion (λ c. length c.rows ≤ 30) vs
+  each = few_each (length (rows_of ws)) window.len vs spreads.within.shares some few
+
+  low_kept : (other : Key) → low_or ns other ≡ low_or ss other
+  low_kept other =
+      ap (λ cs. low_or cs other) new ∙ low_append front (vs ++ rest) other ∙ ap (low_or front) (low_append vs rest other ∙ spreads.within.keeps.low (low_or rest other) ∙ sym (low_append ws rest other)) ∙ sym (low_append front (ws ++ rest) other) ∙ sym (ap (λ cs. low_or cs other) old)
+
+  -- the same rows between the same fence keys, and room
+  pub spread_respreads : Respreads ss ns
+  spread_respreads =
+      let keeps = spreads.within.keeps in
+      record {
         leaf = spreads.leaf;
         sound = sound';
         rows = ap rows_of new ∙ rows-append front (vs ++ rest) ∙ ap (λ rows. rows_of front ++ rows) (rows-append vs rest ∙ ap (λ rows. rows ++ rows_of rest) keeps.rows ∙ sym (rows-append ws rest)) ∙ sym (rows-append front (ws ++ rest)) ∙ sym (ap rows_of old);
-        low = low;
+        low = low_kept;
         high = λ other. ap (λ cs. high_or cs other) new ∙ high_between front ws vs rest other keeps.high ∙ sym (ap (λ cs. high_or cs other) old);
         room = subst (λ cs. KeepRoom cs ns) (sym old) (subst (KeepRoom (front ++ (ws ++ rest))) (sym new) (keep_room_around begin front ws vs rest follow_ws follow_vs sound_ws sound_vs keeps.high (few_keep_room ws vs each)));
-      };
-      held = subst (λ x. holds x key ≡ true) (sym now) held_vs;
-      two = omega (arith, few_in 30 key vs each, ap room_of now);
-    }
+      }
+
+  -- a key whose cell lies in the window has room for two rows
+  pub room_in_spread : (key : Key) (before : List VersionedRows) (c : VersionedRows) (behind : List VersionedRows) → ss ≡ before ++ c ∷ behind → holds c key ≡ true → window.first ≤ length before → length before < window.first + window.len
+      → (holds (cell_in ns key) key ≡ true) × (2 ≤ room_of (cell_in ns key))
+  room_in_spread key before c behind at held from until =
+      let keeps = spreads.within.keeps in
+      let here : Among c ws = subst (λ cs. Among c (window_of window cs)) (sym at) (among_window window.first window.len before c behind from until) in
+      let own : cell_in ws key ≡ c = ap (λ cs. cell_in cs key) here.is ∙ cell_here cut key here.xs c here.ys (subst (Follow cut) here.is follow_ws) (subst AreSound here.is sound_ws) held in
+      let held_vs : holds (cell_in vs key) key ≡ true = held_in_both cut key ws vs follow_ws follow_vs sound_ws keeps.high (subst (λ x. holds x key ≡ true) (sym own) held) in
+      let follow' : Follow begin (front ++ (vs ++ rest)) = subst (Follow begin) new (follow-of begin ns (low_kept begin ∙ own-low ss no_key) spreads.leaf.chained) in
+      let now : cell_in ns key ≡ cell_in vs key = ap (λ cs. cell_in cs key) new ∙ middle_part begin key front vs rest follow' (subst AreSound new sound') held_vs in
+      (subst (λ x. holds x key ≡ true) (sym now) held_vs, omega (arith, few_in 30 key vs each, ap room_of now))
 
 -- ---- the store
 
@@ -240,8 +266,8 @@ pub record LeafMoved (index index' : Index) (table new : Table) : Type 0 where
 
 pub leaf_moved : (index index' : Index) (table new : Table) (front : List Entry) (e e' : Entry) (back : List Entry) (ns : List VersionedRows)
     → IsKept index table → index.entries ≡ front ++ e ∷ back → index'.entries ≡ front ++ e' ∷ back → e'.low ≡ e.low → e'.leaf ≡ e.leaf → lows_of ns ≡ e'.cuts → IsIndex index'
-    → index'.leaves ≡ index.leaves → index'.free ≡ index.free → length new ≡ length table → KeepsOthers table new e.leaf → segments_at new e.leaf ≡ ns → Respreads (segments_at table e.leaf) ns → LeafMoved index index' table new
-leaf_moved index index' table new front e e' back ns kept entries entries' low leaf cuts ready leaves free count keeps own respreads =
+    → index'.leaves ≡ index.leaves → index'.free ≡ index.free → index'.retired ≡ index.retired → length new ≡ length table → KeepsOthers table new e.leaf → segments_at new e.leaf ≡ ns → Respreads (segments_at table e.leaf) ns → LeafMoved index index' table new
+leaf_moved index index' table new front e e' back ns kept entries entries' low leaf cuts ready leaves free retired count keeps own respreads =
     let ss = segments_at table e.leaf in
     let others = one_entry index front e back kept.index_is.once entries in
     let tied = subst (AreTied table) entries kept.tied in
@@ -258,6 +284,12 @@ leaf_moved index index' table new front e e' back ns kept entries entries' low l
       count = count ∙ kept.count ∙ sym leaves;
       index_is = ready;
       tied = subst (AreTied new) (sym entries') tied';
+      stamps = subst AreStamped (sym retired) kept.stamps;
+      begin =
+          let was = subst (BeginBelow end_key) entries kept.begin in
+          subst (BeginBelow end_key) (sym entries')
+          (all_append (λ (x : Entry). is_below x.low end_key ≡ true) front (e' ∷ back) (all_front (λ (x : Entry). is_below x.low end_key ≡ true) front (e ∷ back) was)
+          (let behind = all_back (λ (x : Entry). is_below x.low end_key ≡ true) front (e ∷ back) was in (ap (λ k. is_below k end_key) low ∙ behind.0, behind.1)));
     } in
     let old_parts = ap (map (part_of table)) entries ∙ parts_append table front (e ∷ back) in
     let kept_front = parts_kept table new e.leaf front keeps others.0 in

@@ -39,6 +39,8 @@ module _ (leaves : ℕ) (table : Table) (memory : Box Leaf Global) (some : 1 ≤
       },
       tt,
     );
+    begin = (refl, tt);
+    stamps = tt;
   }
 
   no_rows : rows_of (segments_at table 0) ≡ []

@@ -5,6 +5,7 @@ use Rattle.std.specs.Box.{with_value}
 use Rattle.std.specs.declared.boxed.Box.{Box}
 use Rattle.std.specs.declared.alloc.Global.{Global}
 use Rattle.std.proofs.Math.ListN.{length-set}
+use Rattle.std.proofs.lemmas.Option.{slice_get_read}
 use Rattle.std.proofs.lemmas.List.{length-map, take-map}
 use Rattle.std.proofs.lemmas.List.Sums.{sum_by-cons}
 use Rattle.graph_model.specs.declared.row.Key.{Key}
@@ -15,17 +16,18 @@ use Rattle.density_tree.specs.declared.window.TheConstants.{UPPER_LIMITS}
 use Rattle.density_tree.specs.Windows.{Fits, IsRound, IsSmallest, rows_in}
 use Rattle.leaf_array.specs.declared.leaf.Leaf.{Leaf}
 use Rattle.leaf_array.specs.Segments.{rows_of, counts_of, count_of, lows_of, AreSame}
-use Rattle.leaf_array.specs.Leaves.{IsLeaf, SpreadsWindow, window_of}
+use Rattle.leaf_array.specs.Leaves.{IsLeaf, IsWindow, SpreadsWindow, window_of}
 use Rattle.leaf_array.proofs.LeafLemmas.{Follow, follow-of, follow-low}
 use Rattle.leaf_index.specs.Index.{Index, Entry, AreCuts, AreSorted, HaveCuts, IsIndex, end_of}
 use Rattle.leaf_index.specs.Calls.{CanCut, with_cuts}
 use Rattle.leaf_store.specs.declared.place.Place.{Place}
-use Rattle.leaf_store.specs.Leaves.{room_at}
+use Rattle.leaf_store.specs.Leaves.{cell_in, room_at}
+use Rattle.leaf_store.specs.Pairs.{Stands}
 use Rattle.leaf_store.specs.Table.{IsKept, IsTied, AreTied, IsPlace, segments_or_none, segments_at, leaves_of}
-use Rattle.leaf_store.proofs.CellLemmas.{AreSound}
-use Rattle.leaf_store.proofs.ChangeLemmas.{leaf_segments, leaf_within, memory_there}
+use Rattle.leaf_store.proofs.CellLemmas.{AreSound, holds}
+use Rattle.leaf_store.proofs.ChangeLemmas.{beyond_table}
 use Rattle.leaf_store.proofs.ListLemmas.{get_set_same}
-use Rattle.leaf_store.proofs.MoveLemmas.{LeafMoved, Respreads, SpreadAt, cell_in_leaf, leaf_moved, room_of, same_lows, same_respreads, sorted_lows, spread_at}
+use Rattle.leaf_store.proofs.MoveLemmas.{LeafMoved, Respreads, cell_in_leaf, leaf_moved, room_in_spread, room_of, same_lows, same_respreads, sorted_lows, spread_respreads}
 use Rattle.leaf_store.proofs.TableLemmas.{Table, KeepsOthers, Located, cuts_at, located, others_kept, tied_at, tied_follow}
 
 -- ---- a live leaf in memory
@@ -42,45 +44,82 @@ pub record LeafAt (index : Index) (table : Table) (leaf : ℕ) (segments : List 
   pub cuts : AreCuts entry.low entry.cuts (end_of back)
   pub within : leaf < length table
 
+-- a leaf with segments has memory
+segments_there : (o : Option (Option (Box Leaf Global))) → length (segments_or_none o) ≡ 8 → (o ≡ None → ⊥) × (o ≡ Some None → ⊥)
+segments_there o eight = ((λ e. none (ap (λ x. length (segments_or_none x)) e)), (λ e. none (ap (λ x. length (segments_or_none x)) e)))
+  where
+    none : length (segments_or_none o) ≡ 0 → ⊥
+    none e = absurd (omega (arith, eight, e))
+
+module _ (table : Table) (leaf : ℕ) (eight : length (segments_at table leaf) ≡ 8) where
+  pub memory_within : leaf < length table
+  memory_within = beyond_table table leaf (segments_there (slice_get table leaf) eight).0
+
+  item_there : (item : Option (Box Leaf Global)) → item ≡ get_or table leaf item → slice_get table leaf ≡ Some item
+  item_there item is = slice_get_read table (length table) leaf item refl memory_within is
+
+  pub memory_some : (item : Option (Box Leaf Global)) → item ≡ get_or table leaf item → item ≡ None → ⊥
+  memory_some item is none = (segments_there (slice_get table leaf) eight).1 (item_there item is ∙ ap Some none)
+
+  pub memory_segments : (item : Option (Box Leaf Global)) (box : Box Leaf Global) (now : Leaf) → item ≡ get_or table leaf item → item ≡ Some box → now ≡ box.value → segments_at table leaf ≡ now.segments
+  memory_segments item box now is some value =
+      ap segments_or_none (item_there item is ∙ ap Some some) ∙ sym (ap (λ (x : Leaf). x.segments) value)
+
+module _ (index : Index) (table : Table) (leaf : ℕ) (kept : IsKept index table) (s : Stands index.entries leaf) where
+  pub stands_tied : IsTied (segments_at table leaf) s.entry (end_of s.back)
+  stands_tied =
+      subst (λ n. IsTied (segments_at table n) s.entry (end_of s.back)) (sym s.number) (tied_at table s.front (s.entry ∷ s.back) (subst (AreTied table) s.is kept.tied)).0
+
+  pub stands_cuts : AreCuts s.entry.low s.entry.cuts (end_of s.back)
+  stands_cuts = (cuts_at s.front (s.entry ∷ s.back) (subst HaveCuts s.is kept.index_is.cuts)).0
+
+  pub stands_leaf : IsLeaf (segments_at table leaf)
+  stands_leaf = stands_tied.leaf
+
+  pub stands_within : leaf < length table
+  stands_within = memory_within table leaf stands_tied.leaf.segments
+
+  pub stands_memory : (item : Option (Box Leaf Global)) → item ≡ get_or table leaf item → item ≡ None → ⊥
+  stands_memory = memory_some table leaf stands_tied.leaf.segments
+
+  pub stands_segments : (item : Option (Box Leaf Global)) (box : Box Leaf Global) (now : Leaf) → item ≡ get_or table leaf item → item ≡ Some box → now ≡ box.value → segments_at table leaf ≡ now.segments
+  stands_segments = memory_segments table leaf stands_tied.leaf.segments
+
+  pub stands_at : (item : Option (Box Leaf Global)) (box : Box Leaf Global) (now : Leaf) → item ≡ get_or table leaf item → item ≡ Some box → now ≡ box.value → LeafAt index table leaf now.segments
+  stands_at item box now is some value =
+      let same = stands_segments item box now is some value in
+      record {
+        front = s.front;
+        entry = s.entry;
+        back = s.back;
+        entries = s.is;
+        number = s.number;
+        same = same;
+        tied = subst (λ ss. IsTied ss s.entry (end_of s.back)) same stands_tied;
+        cuts = stands_cuts;
+        within = stands_within;
+      }
+
+  -- a spread of a window with few rows leaves the same rows
+  pub spread_here : (window : Window) (ss ns : List VersionedRows) → (a : LeafAt index table leaf ss) → IsWindow window → length (rows_of (window_of window (segments_at table leaf))) ≤ 30 * window.len → AreSound ns → SpreadsWindow window ss ns → Respreads ss ns
+  spread_here window ss ns a wide few sound spreads =
+      spread_respreads window ss ns a.tied.leaf a.tied.sound sound spreads wide.some (subst (λ cs. length (rows_of (window_of window cs)) ≤ 30 * window.len) a.same few)
+
 module _ (index : Index) (table : Table) (key : Key) (place : Place) (kept : IsKept index table) (is : IsPlace key index.entries place) (below : is_below key end_key ≡ true) where
   at : Located index table key place
   at = located index table key place kept is below
 
-  pub place_within : place.leaf < length table
-  place_within = leaf_within index table key place at
+  pub place_stands : Stands index.entries place.leaf
+  place_stands = record { front = at.front; entry = at.entry; back = at.back; is = at.entries; number = at.leaf }
 
-  pub place_memory : (item : Option (Box Leaf Global)) → item ≡ get_or table place.leaf item → item ≡ None → ⊥
-  place_memory = memory_there index table key place at
-
-  pub place_leaf : IsLeaf (segments_at table place.leaf)
-  place_leaf =
-      let l = at in
-      let tied = (tied_at table l.front (l.entry ∷ l.back) (subst (AreTied table) l.entries kept.tied)).0 in
-      subst (λ n. IsLeaf (segments_at table n)) (sym l.leaf) tied.leaf
-
-  pub leaf_at : (item : Option (Box Leaf Global)) (box : Box Leaf Global) (leaf : Leaf) → item ≡ get_or table place.leaf item → item ≡ Some box → leaf ≡ box.value → LeafAt index table place.leaf leaf.segments
-  leaf_at item box leaf reads some value =
-      let l = at in
-      let same : segments_at table place.leaf ≡ leaf.segments = l.segments ∙ sym (leaf_segments index table key place l item box leaf reads some value) in
-      record {
-        front = l.front;
-        entry = l.entry;
-        back = l.back;
-        entries = l.entries;
-        number = l.leaf;
-        same = same;
-        tied = subst (λ ss. IsTied ss l.entry (end_of l.back)) (ap (segments_at table) (sym l.leaf) ∙ same) (tied_at table l.front (l.entry ∷ l.back) (subst (AreTied table) l.entries kept.tied)).0;
-        cuts = (cuts_at l.front (l.entry ∷ l.back) (subst HaveCuts l.entries kept.index_is.cuts)).0;
-        within = place_within;
-      }
-
-  -- the window that is spread has the key's cell
-  pub spread_leaf : (window : Window) (ss ns : List VersionedRows) → (a : LeafAt index table place.leaf ss) → IsRound place.segment window → length (rows_of (window_of window (segments_at table place.leaf))) ≤ 30 * window.len → AreSound ns → SpreadsWindow window ss ns → SpreadAt ss ns key
-  spread_leaf window ss ns a round few sound spreads =
+  -- the key's cell in a window that is spread
+  pub spread_leaf : (window : Window) (ss ns : List VersionedRows) → (a : LeafAt index table place.leaf ss) → IsRound place.segment window → IsWindow window → length (rows_of (window_of window (segments_at table place.leaf))) ≤ 30 * window.len → AreSound ns → SpreadsWindow window ss ns
+      → (holds (cell_in ns key) key ≡ true) × (2 ≤ room_of (cell_in ns key))
+  spread_leaf window ss ns a round wide few sound spreads =
       let l = at in
       let cells : ss ≡ l.before ++ l.cell ∷ l.behind = sym a.same ∙ l.segments in
       let rows : length (rows_of (window_of window ss)) ≤ 30 * window.len = subst (λ cs. length (rows_of (window_of window cs)) ≤ 30 * window.len) a.same few in
-      spread_at window ss ns key l.before l.cell l.behind a.tied.leaf a.tied.sound sound spreads cells l.held (omega (arith, round.from, l.at)) (omega (arith, round.until, l.at)) rows
+      room_in_spread window ss ns a.tied.leaf a.tied.sound sound spreads wide.some rows key l.before l.cell l.behind cells l.held (omega (arith, round.from, l.at)) (omega (arith, round.until, l.at))
 
 -- ---- its memory changes
 
@@ -94,7 +133,7 @@ module _ (index : Index) (table : Table) (leaf : ℕ) (ss : List VersionedRows) 
   -- with the same cuts
   pub same_moved : AreSame ss now.segments → LeafMoved index index table (with_leaf_at table leaf box now)
   same_moved same =
-      leaf_moved index index table (with_leaf_at table leaf box now) a.front a.entry a.entry a.back now.segments kept a.entries a.entries refl refl (same_lows ss now.segments same ∙ a.tied.cuts) kept.index_is refl refl
+      leaf_moved index index table (with_leaf_at table leaf box now) a.front a.entry a.entry a.back now.segments kept a.entries a.entries refl refl (same_lows ss now.segments same ∙ a.tied.cuts) kept.index_is refl refl refl
       (length-set table leaf (Some (with_value box now))) (subst (KeepsOthers table (with_leaf_at table leaf box now)) a.number (others_kept table leaf (Some (with_value box now)))) (ap (segments_at (with_leaf_at table leaf box now)) (sym a.number) ∙ own)
       (subst (λ cs. Respreads cs now.segments) (sym a.same ∙ ap (segments_at table) a.number) (same_respreads ss now.segments a.tied.leaf a.tied.sound same))
 
@@ -129,19 +168,19 @@ module _ (index : Index) (table : Table) (leaf : ℕ) (ss : List VersionedRows) 
   unfolding can_cut
   cut_moved index' cuts respreads are ready entries others =
       leaf_moved index index' table (with_leaf_at table leaf box now) a.front a.entry (record a.entry { cuts = cuts }) a.back now.segments kept a.entries (entries (can_cut cuts first_key respreads are)) refl refl (sym are) ready
-      (ap (λ (i : Index). i.leaves) others) (ap (λ (i : Index). i.free) others)
+      (ap (λ (i : Index). i.leaves) others) (ap (λ (i : Index). i.free) others) (ap (λ (i : Index). i.retired) others)
       (length-set table leaf (Some (with_value box now))) (subst (KeepsOthers table (with_leaf_at table leaf box now)) a.number (others_kept table leaf (Some (with_value box now)))) (ap (segments_at (with_leaf_at table leaf box now)) (sym a.number) ∙ own)
       (subst (λ cs. Respreads cs now.segments) (sym a.same ∙ ap (segments_at table) a.number) respreads)
 
   -- a key has the room that it has in this leaf
   pub room_in_leaf : (index' : Index) (cuts : List Key) (key : Key) → (respreads : Respreads ss now.segments) → (are : cuts ≡ lows_of now.segments) → IsIndex index' → ((can : CanCut (get_or cuts 0 first_key) cuts index.entries) → index'.entries ≡ with_cuts (get_or cuts 0 first_key) cuts index.entries can)
-      → index' ≡ record index { entries = index'.entries } → SpreadAt ss now.segments key → 2 ≤ room_at (leaves_of index' (with_leaf_at table leaf box now)) key
+      → index' ≡ record index { entries = index'.entries } → (holds (cell_in now.segments key) key ≡ true) × (2 ≤ room_of (cell_in now.segments key)) → 2 ≤ room_at (leaves_of index' (with_leaf_at table leaf box now)) key
   unfolding can_cut
   room_in_leaf index' cuts key respreads are ready entries others spread =
       let moved = cut_moved index' cuts respreads are ready entries others in
       let new = with_leaf_at table leaf box now in
-      let cell = cell_in_leaf index' new a.front (record a.entry { cuts = cuts }) a.back key now.segments moved.kept (entries (can_cut cuts first_key respreads are)) (ap (segments_at new) (sym a.number) ∙ own) spread.held in
-      omega (arith, ap room_of cell, spread.two)
+      let cell = cell_in_leaf index' new a.front (record a.entry { cuts = cuts }) a.back key now.segments moved.kept (entries (can_cut cuts first_key respreads are)) (ap (segments_at new) (sym a.number) ∙ own) spread.0 in
+      omega (arith, ap room_of cell, spread.1)
 
 -- ---- which window
 

@@ -12,11 +12,12 @@ use Rattle.std.proofs.lemmas.List.Sums.{sum-map, sum_by-append, sum_by-cons}
 use Rattle.graph_model.specs.declared.limits.TheConstants.{SPLIT_ROWS}
 use Rattle.graph_model.specs.declared.row.Key.{Key}
 use Rattle.graph_model.specs.Rows.{key_cmp, is_below, is_between, first_key, end_key}
-use Rattle.version_segment.specs.Rows.{VersionedRows, IsSameSegment, or_nothing}
-use Rattle.leaf_array.specs.Segments.{rows_of, low_or}
+use Rattle.version_segment.specs.Rows.{VersionedRows, IsSameSegment, all_records, or_nothing}
+use Rattle.leaf_array.specs.Segments.{rows_of, records_of, low_or}
 use Rattle.leaf_array.proofs.LeafLemmas.{Follow, follow-of}
 use Rattle.leaf_array.proofs.PairLemmas.{rows-append}
-use Rattle.leaf_store.specs.Leaves.{Part, Leaves, AreLeaves, KeysHaveCells, CellsAreApart, cells_of, cell_in, cell_at, versions_of, spare_at, weight_of_part}
+use Rattle.leaf_array.proofs.SegmentLemmas.{records-append}
+use Rattle.leaf_store.specs.Leaves.{Part, Leaves, AreLeaves, KeysHaveCells, CellsAreApart, cells_of, cell_in, cell_at, versions_of, spare_at, record_count, weight_of_part}
 use Rattle.leaf_store.specs.Changes.{ChangesCell, KeepsCells}
 use Rattle.leaf_store.proofs.CellLemmas.{AreSound, holds, covered, apart, cell_here, cell_beside, versions_found}
 
@@ -81,8 +82,12 @@ weight_two one two = omega (arith, sum-map weight_of_part (one ∷ two ∷ []), 
 -- ---- one cell changes
 
 -- so many rows stand before a cell, in it and behind it
-count_at : (xs : List VersionedRows) (c : VersionedRows) (ys : List VersionedRows) → length (rows_of (xs ++ c ∷ ys)) ≡ length (rows_of xs) + (length c.rows + length (rows_of ys))
+pub count_at : (xs : List VersionedRows) (c : VersionedRows) (ys : List VersionedRows) → length (rows_of (xs ++ c ∷ ys)) ≡ length (rows_of xs) + (length c.rows + length (rows_of ys))
 count_at xs c ys = omega (arith, ap length (rows-append xs (c ∷ ys)), length-append (rows_of xs) (c.rows ++ rows_of ys), length-append c.rows (rows_of ys))
+
+-- and so many records
+records_at : (xs : List VersionedRows) (c : VersionedRows) (ys : List VersionedRows) → records_of (xs ++ c ∷ ys) ≡ records_of xs + (all_records c.rows + records_of ys)
+records_at xs c ys = ap all_records (rows-append xs (c ∷ ys)) ∙ records-append (rows_of xs) (c.rows ++ rows_of ys) ∙ ap (λ n. records_of xs + n) (records-append c.rows (rows_of ys))
 
 -- the cells of all parts, where one cell of a part is looked at
 one_cell : (before behind : List Part) (p : Part) (xs : List VersionedRows) (c : VersionedRows) (ys : List VersionedRows) → p.segments ≡ xs ++ c ∷ ys → cells_in (before ++ p ∷ behind) ≡ (cells_in before ++ xs) ++ c ∷ (ys ++ cells_in behind)
@@ -168,6 +173,15 @@ module _ (old new : Leaves) (c d : VersionedRows) (o : OtherCell old new c d) (a
       by_test : (t : Bool) → holds c q ≡ t → spare_at old q ≤ spare_at new q + used
       by_test true h = let one = ap (λ x. x.spare) (old_cell q h) in let two = ap (λ x. x.spare) (new_cell q then h) in omega (arith, one, two, le)
       by_test false h = let one = ap (λ x. x.spare) (other_cell q h) in omega (arith, one)
+
+  -- what goes from the cell goes from the store
+  pub fewer_records : (went : ℕ) → went + all_records d.rows ≡ all_records c.rows → went + record_count new ≡ record_count old
+  fewer_records went is =
+      let was : record_count old ≡ records_of (cells_in o.before ++ o.xs) + (all_records c.rows + records_of (o.ys ++ cells_in o.behind)) =
+      ap records_of old_is ∙ records_at (cells_in o.before ++ o.xs) c (o.ys ++ cells_in o.behind) in
+      let now : record_count new ≡ records_of (cells_in o.before ++ o.xs) + (all_records d.rows + records_of (o.ys ++ cells_in o.behind)) =
+      ap records_of new_is ∙ records_at (cells_in o.before ++ o.xs) d (o.ys ++ cells_in o.behind) in
+      omega (arith, is, was, now)
 
   -- where the same rows are in the cell only its room for records has changed
   pub keeps_cells : AreLeaves new → IsSameSegment c d → KeepsCells old new

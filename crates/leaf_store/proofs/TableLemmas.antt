@@ -128,7 +128,7 @@ cuts_at [] back cuts = cuts
 cuts_at (e ∷ front) back cuts = cuts_at front back cuts.1
 
 -- the range that holds a key ends above it
-end_above : (key : Key) (back : List Entry) → BeginAbove key back → is_below key end_key ≡ true → is_below key (end_of back) ≡ true
+pub end_above : (key : Key) (back : List Entry) → BeginAbove key back → is_below key end_key ≡ true → is_below key (end_of back) ≡ true
 end_above key [] above below = below
 end_above key (e ∷ back) above below = above.0
 

@@ -14,7 +14,7 @@ use Rattle.store_model.specs.Stamped.{StampedVersions}
 use Rattle.density_tree.specs.Windows.{Fits, IsSmallestWindow}
 use Rattle.leaf_array.specs.Segments.{counts_of}
 use Rattle.version_segment.specs.Rows.{VersionedRows, ChangesKey, PrunesRows, IsSameSegment, all_records, nothing}
-use Rattle.leaf_store.specs.Leaves.{Leaves, Part, cell_at, shares, versions_of, room_at, spare_at, weight}
+use Rattle.leaf_store.specs.Leaves.{Leaves, Part, cell_at, shares, versions_of, room_at, spare_at, record_count, weight}
 
 -- ---- one cell
 
@@ -57,6 +57,7 @@ pub record PrunesCell (stamps : TxnName → Option ℕ) (horizon : ℕ) (old new
   pub changes : ChangesCell old new key cell
   pub prunes : PrunesRows stamps horizon (cell_at old key) cell
   pub went : pruned.records + all_records cell.rows ≡ all_records (cell_at old key).rows
+  pub left : pruned.records + record_count new ≡ record_count old
   pub high : pruned.high ≡ (cell_at old key).high
 
 -- ---- room

@@ -1,5 +1,5 @@
 -- The leaves of a store, as contracts see them.
-use Rattle.std.specs.Prelude.{◌≡◌, ℕ, ◌+◌, ◌-◌, ◌*◌, Bool, true, cond, List, [], ◌∷◌, length, sum, map}
+use Rattle.std.specs.Prelude.{◌≡◌, ℕ, ◌+◌, ◌-◌, ◌*◌, Bool, true, cond, List, [], ◌∷◌, length, sum, map, Some, slice_get}
 use Rattle.std.specs.List.{AllByRecursion, flat_map}
 use Rattle.graph_model.specs.declared.limits.TheConstants.{SEGMENT_ROWS, SPLIT_ROWS}
 use Rattle.graph_model.specs.declared.row.Key.{Key}
@@ -8,7 +8,7 @@ use Rattle.store_model.specs.Stamped.{StampedVersions, forget_row}
 use Rattle.store_model.specs.declared.versions.Versions.{Versions}
 use Rattle.version_segment.specs.Rows.{VersionedRows, IsSegment, versions_at, has_row as has_row_in}
 use Rattle.leaf_index.specs.declared.route.Retired.{Retired}
-use Rattle.leaf_array.specs.Segments.{rows_of, low_or, high_or, AreChained}
+use Rattle.leaf_array.specs.Segments.{rows_of, records_of, low_or, high_or, AreChained}
 
 -- a live leaf: its number, and its segments in the order of their keys
 pub record Part : Type 0 where
@@ -45,6 +45,10 @@ cell_at s k = cell_in (cells_of s) k
 -- the fence keys of the one key's cell hold the other
 abbrev pub shares : Leaves → Key → Key → Bool
 shares s k q = is_between (cell_at s k).low (cell_at s k).high q
+
+-- so many records stand in all rows
+abbrev pub record_count : Leaves → ℕ
+record_count s = records_of (cells_of s)
 
 -- ---- what a key has
 
@@ -100,3 +104,18 @@ KeysHaveCells s = (k : Key) → is_below k end_key ≡ true → shares s k k ≡
 -- keys that share a cell have the same one
 abbrev pub CellsAreApart : Leaves → Type 0
 CellsAreApart s = (k q : Key) → shares s k q ≡ true → cell_at s q ≡ cell_at s k
+
+-- ---- the range of a leaf
+
+-- these keys are those of a live leaf: its first segment begins at the low one, and its last one ends at the high one
+pub record IsLeafOf (s : Leaves) (low high : Key) : Type 0 where
+  pub place : ℕ
+  pub part : Part
+  pub there : slice_get s.parts place ≡ Some part
+  pub begins : low_or part.segments end_key ≡ low
+  pub ends : high_or part.segments first_key ≡ high
+
+-- a cell that has one of these keys has no others
+abbrev pub HasWholeCells : Leaves → Key → Key → Type 0
+HasWholeCells s low high =
+    (p q : Key) → is_between low high p ≡ true → shares s p q ≡ true → is_between low high q ≡ true

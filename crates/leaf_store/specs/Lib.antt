@@ -3,3 +3,5 @@ pub mod Table
 pub mod Ranges
 pub mod Fill
 pub mod Changes
+pub mod Merging
+pub mod Pairs

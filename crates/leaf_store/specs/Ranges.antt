@@ -1,7 +1,7 @@
 -- The range of a leaf that is given in two, to it and to another leaf. Only the crate itself speaks of it.
-use Rattle.std.specs.Prelude.{◌≡◌, ◌≢◌, ℕ, length, true, List, [], ◌∷◌, ◌++◌, Option}
+use Rattle.std.specs.Prelude.{◌≡◌, ◌≢◌, ℕ, ◌≤◌, length, true, List, [], ◌∷◌, ◌++◌, Option}
 use Rattle.graph_model.specs.declared.row.Key.{Key}
-use Rattle.graph_model.specs.Rows.{is_below}
+use Rattle.graph_model.specs.Rows.{is_below, end_key}
 use Rattle.version_segment.specs.Rows.{VersionedRows}
 use Rattle.leaf_array.specs.Leaves.{Splits}
 use Rattle.leaf_array.specs.Segments.{lows_of}
@@ -14,7 +14,11 @@ use Rattle.leaf_array.specs.declared.leaf.Leaf.{Leaf}
 use Rattle.leaf_array.specs.Segments.{AreSame}
 use Rattle.txn_manager.specs.declared.config.RoomRefusal.{RoomRefusal}
 use Rattle.txn_manager.specs.declared.config.RoomRefusal.TheVariants as refusals
-use Rattle.leaf_store.specs.Table.{IsTied, segments_at}
+use Rattle.density_tree.specs.declared.window.Window.{Window}
+use Rattle.density_tree.specs.Windows.{IsRound}
+use Rattle.leaf_store.specs.declared.place.Place.{Place}
+use Rattle.leaf_store.specs.Leaves.{Leaves, room_at}
+use Rattle.leaf_store.specs.Table.{IsPlace, IsTied, segments_at}
 
 -- the entry that begins at the low key has these cuts, and the other key is within its range
 pub record CanHalve (low : Key) (cuts : List Key) (key : Key) (entries : List Entry) : Type 0 where
@@ -94,3 +98,8 @@ abbrev pub IsOutOfLeaves : RoomRefusal → Index → Index
 IsOutOfLeaves (refusals.Full leaves) old new table table' =
     (leaves ≡ old.leaves) × (old.free ≡ []) × (new ≡ old) × (table' ≡ table)
 IsOutOfLeaves refusals.NoMemory old new table table' = Unit {0}
+
+-- a key whose cell lies in the window of the leaf has room for two rows
+abbrev pub HasRoomWithin : Window → ℕ → List Entry → Leaves → Type 0
+HasRoomWithin window leaf entries s = (key : Key) (place : Place) → place.leaf ≡ leaf → IsPlace key entries place
+    → is_below key end_key ≡ true → IsRound place.segment window → 2 ≤ room_at s key

@@ -1,5 +1,5 @@
 -- What stands by the numbers of leaves. Only the crate itself speaks of it.
-use Rattle.std.specs.Prelude.{◌≡◌, ℕ, List, [], ◌∷◌, map, Option, Some, None, slice_get, length}
+use Rattle.std.specs.Prelude.{◌≡◌, ℕ, ◌<◌, List, [], ◌∷◌, map, Option, Some, None, slice_get, length}
 use Rattle.std.specs.List.{AllByRecursion}
 use Rattle.std.specs.declared.boxed.Box.{Box}
 use Rattle.std.specs.declared.alloc.Global.{Global}
@@ -10,8 +10,11 @@ use Rattle.leaf_array.specs.Segments.{counts_of, lows_of, high_or}
 use Rattle.density_tree.specs.declared.window.Window.{Window}
 use Rattle.density_tree.specs.Windows.{Fits, IsSmallestWindow}
 use Rattle.graph_model.specs.declared.row.Key.{Key}
+use Rattle.graph_model.specs.Rows.{end_key}
+use Rattle.leaf_index.specs.declared.route.Retired.{Retired}
 use Rattle.leaf_index.specs.Index as leaf_index
-use Rattle.leaf_index.specs.Index.{Index, Entry, IsFloor, IsIndex, end_of}
+use Rattle.leaf_index.specs.Index.{Index, Entry, BeginBelow, IsFloor, IsIndex, end_of}
+use Rattle.leaf_store.specs.declared.pair.TheConstants.{STAMPS_END}
 use Rattle.leaf_store.specs.declared.place.Place.{Place}
 use Rattle.leaf_store.specs.Leaves.{Leaves, Part}
 
@@ -47,11 +50,18 @@ abbrev pub AreTied : List (Option (Box Leaf Global)) → List Entry → Type 0
 AreTied table [] = Unit {0}
 AreTied table (e ∷ es) = IsTied (segments_at table e.leaf) e (end_of es) × AreTied table es
 
+-- the stamps of retired leaves
+abbrev pub AreStamped : List Retired → Type 0
+AreStamped retired = AllByRecursion (λ r. r.stamp < STAMPS_END) retired
+
 -- what the store keeps of its index and its table
 pub record IsKept (index : Index) (table : List (Option (Box Leaf Global))) : Type 0 where
   pub count : length table ≡ index.leaves
   pub index_is : IsIndex index
   pub tied : AreTied table index.entries
+  -- no leaf begins at the last key, which no row has
+  pub begin : BeginBelow end_key index.entries
+  pub stamps : AreStamped index.retired
 
 -- the leaf of the last entry that does not begin above the key, and its last segment whose cut is not above it
 pub record IsPlace (key : Key) (entries : List Entry) (place : Place) : Type 0 where

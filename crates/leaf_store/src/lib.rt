@@ -7,13 +7,20 @@
 #![tactic(auto)]
 
 mod change;
+mod count;
 mod fill;
+mod leaf_range;
 mod look;
+mod merge;
+mod pair;
 mod place;
 mod range;
 mod room;
+mod sparse;
 mod split;
 mod store;
 mod table;
 
-pub use store::{LeafStore, Pruned};
+pub use merge::Tended;
+pub use pair::{MERGE_ROWS, STAMPS_END};
+pub use store::{KeyRange, LeafStore, Pruned};

@@ -7,11 +7,12 @@ ghost use Rattle.std.specs.Prelude.{◌≡◌, ◌<◌, ◌≤◌, ◌*◌, true
 ghost use Rattle.graph_model.specs.declared.row.Key.{Key};
 ghost use Rattle.graph_model.specs.Rows.{is_below, end_key};
 ghost use Rattle.density_tree.specs.Windows.{IsRound};
-ghost use Rattle.leaf_array.specs.Leaves.{IsLeaf, window_of};
+ghost use Rattle.leaf_array.specs.Leaves.{IsLeaf, IsWindow, window_of};
 ghost use Rattle.leaf_array.specs.Segments.{rows_of};
 ghost use Rattle.leaf_store.specs.Leaves.{room_at};
 ghost use Rattle.leaf_store.specs.Changes.{IsRoomRefusal, MovesRows};
-ghost use Rattle.leaf_store.specs.Ranges.{IsOutOfLeaves};
+ghost use Rattle.leaf_store.specs.Pairs.{Stands};
+ghost use Rattle.leaf_store.specs.Ranges.{HasRoomWithin, IsOutOfLeaves};
 ghost use Rattle.leaf_store.specs.Table.{IsKept, IsPlace, IsRoomyWindow, leaves_of, segments_at};
 
 use crate::look::{counts_of, cuts_of};
@@ -35,12 +36,19 @@ impl LeafStore {
         requires short { room_at self.old key < need }
         ensures ok { OnOk result (need ≤ room_at self.new key) }
         ensures moved { MovesRows self.old self.new }
+        ensures retired { self.new.retired ≡ self.old.retired }
         ensures refused { IfErr result (λ refusal. IsRoomRefusal self.old key need refusal self.new) }
     {
         let place = place_of(&self.index, key);
         match window_at(&self.leaves, place, need) {
             Some(window) => {
-                spread_window(&mut self.index, &mut self.leaves, self.alloc, place, window)?;
+                spread_window(
+                    &mut self.index,
+                    &mut self.leaves,
+                    self.alloc,
+                    place.leaf,
+                    window,
+                )?;
                 Ok(())
             }
             None => split_at(&mut self.index, &mut self.leaves, self.alloc, place),
@@ -63,24 +71,24 @@ fn window_at(leaves: &Vec<Option<Box<Leaf>>>, place: Place, need: u8) -> Option<
     }
 }
 
-/// Divides the rows of a window anew, and sets the cuts of its leaf.
-fn spread_window(
+/// Divides the rows of a window of a live leaf anew, and sets the cuts of the leaf.
+pub(crate) fn spread_window(
     index: &mut LeafIndex,
     leaves: &mut Vec<Option<Box<Leaf>>>,
     alloc: Global,
-    place: Place,
+    leaf: usize,
     window: Window,
 ) -> Result<(), NoMemory>
     requires kept { IsKept index.old leaves.old.items }
-    requires place { (key : Key) × IsPlace key index.old.entries place × (is_below key end_key ≡ true) }
-    requires round { IsRound place.segment window }
-    requires few { length (rows_of (window_of window (segments_at leaves.old.items place.leaf))) ≤ 30 * window.len }
-    ensures ok { OnOk result ((key : Key) → IsPlace key index.old.entries place → is_below key end_key ≡ true
-        → 2 ≤ room_at (leaves_of index.new leaves.new.items) key) }
+    requires stands { Stands index.old.entries leaf }
+    requires window { IsWindow window }
+    requires few { length (rows_of (window_of window (segments_at leaves.old.items leaf))) ≤ 30 * window.len }
+    ensures ok { OnOk result (HasRoomWithin window leaf index.old.entries (leaves_of index.new leaves.new.items)) }
     ensures kept { IsKept index.new leaves.new.items }
     ensures moved { MovesRows (leaves_of index.old leaves.old.items) (leaves_of index.new leaves.new.items) }
+    ensures others { index.new ≡ record index.old { entries = index.new.entries } }
 {
-    match &mut leaves[place.leaf] {
+    match &mut leaves[leaf] {
         Some(leaf) => {
             spread(leaf, window, alloc)?;
             let cuts = cuts_of(leaf);
@@ -106,6 +114,7 @@ fn split_at(
         → 2 ≤ room_at (leaves_of index.new leaves.new.items) key) }
     ensures kept { IsKept index.new leaves.new.items }
     ensures moved { MovesRows (leaves_of index.old leaves.old.items) (leaves_of index.new leaves.new.items) }
+    ensures retired { index.new.retired ≡ index.old.retired }
     ensures refused { IfErr result (λ refusal.
         IsOutOfLeaves refusal index.old index.new leaves.old.items leaves.new.items) }
 {

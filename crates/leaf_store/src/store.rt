@@ -1,6 +1,6 @@
 //! Leaves by their numbers, under an index.
 
-ghost use Rattle.std.specs.Prelude.{◌≡◌, ◌<◌, ◌≤◌, ◌*◌, true, false, length, Some, IfOk, IfErr, OnOk, OnErr, IsOk};
+ghost use Rattle.std.specs.Prelude.{◌≡◌, ◌<◌, ◌≤◌, ◌*◌, ◌-◌, true, false, length, Some, IfOk, IfErr, OnOk, OnErr, IsOk};
 ghost use Rattle.graph_model.specs.declared.limits.TheConstants.{MAX_LEAVES, SEGMENT_ROWS};
 ghost use Rattle.graph_model.specs.declared.row.Key.{Key};
 ghost use Rattle.graph_model.specs.Rows.{is_below, is_between, end_key};
@@ -69,6 +69,21 @@ impl LeafStore {
         self.index.leaves()
     }
 
+    /// How many leaves are neither free nor retired.
+    pub fn leaves_in_use(&self) -> u32
+        ensures { result ≡ (self.now.limit - length self.now.free) - length self.now.retired }
+    {
+        self.index.in_use()
+    }
+
+    /// Looks the key's cell up for the calls to come, which then look neither for it nor for other keys of the cell.
+    /// Nothing that contracts see changes.
+    pub fn look_up(&mut self, key: Key)
+        ensures { self.new ≡ self.old }
+    {
+        self.index.keep_route(key);
+    }
+
     /// Lends the cell whose fence keys hold the key.
     pub fn segment(&self, key: Key) -> &VersionSegment
         requires { is_below key end_key ≡ true }
@@ -85,9 +100,16 @@ impl LeafStore {
     }
 }
 
-/// What a prune of a cell took away, and where the cell ends.
+/// What a prune took away, and where the cell or the leaf that was pruned ends.
 #[derive(Clone, Copy, Debug, PartialEq, Eq)]
 pub struct Pruned {
     pub records: usize,
+    pub high: Key,
+}
+
+/// The keys from the low one on and below the high one.
+#[derive(Clone, Copy, Debug, PartialEq, Eq)]
+pub struct KeyRange {
+    pub low: Key,
     pub high: Key,
 }

@@ -41,3 +41,9 @@ returns-in-Err-clause-moved c =
     let p = c.requires.place in
     let same : c.give_back.new.self ≡ c.args.index.now = c.give_back.ensures ∙ ap (λ (i : Index). record i { free = i.free ++ c.in-Some.leaf ∷ [] }) c.in-Err.ensures.err ∙ sym c.in-Some.ensures.0 in
     subst (λ (i : Index). MovesRows (leaves_of c.args.index.now c.args.leaves.now.items) (leaves_of i c.split_with.new.leaves.items)) (sym same) (split_refused c.args.index.now c.args.leaves.now.items c.split_with.new.leaves.items p.0 c.args.place c.requires.kept p.1 p.2 c.in-Err.ensures.same).moves
+
+pub returns-in-Ok-clause-retired : goal.returns-in-Ok-clause-retired
+returns-in-Ok-clause-retired c =
+    let p = c.requires.place in
+    let l = live_at c.args.index.now c.args.leaves.now.items p.0 c.args.place c.take_free.new.self.entries c.requires.kept p.1 p.2 (sym (ap (λ (i : Index). i.entries) c.in-Some.ensures.0)) in
+    ap (λ (i : Index). i.retired) (c.in-Ok.ensures.ok l.live l.number).index_is ∙ sym (ap (λ (i : Index). i.retired) c.in-Some.ensures.0)

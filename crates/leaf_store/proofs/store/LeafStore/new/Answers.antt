@@ -5,3 +5,8 @@ pub returns : goal.returns
 returns c =
     (is_new c.args.leaves c.in_ok-index.index c.put_leaf.new.table.items c.in_ok-first.first c.in_ok-memory.memory c.in_ok-table.table.items c.requires.some c.in_ok-index.ensures c.leaves-leaves.ensures.index
     c.in_ok-first.ensures c.cuts_of-cuts.ensures.sound c.in_ok-memory.ensures.ok c.in_ok-table.ensures c.put_leaf.ensures).are
+
+pub invariant_of-result : goal.invariant_of-result
+invariant_of-result c =
+    (is_new c.args.leaves c.in_ok-index.index c.put_leaf.new.table.items c.in_ok-first.first c.in_ok-memory.memory c.in_ok-table.table.items c.requires.some c.in_ok-index.ensures c.leaves-leaves.ensures.index
+    c.in_ok-first.ensures c.cuts_of-cuts.ensures.sound c.in_ok-memory.ensures.ok c.in_ok-table.ensures c.put_leaf.ensures).kept

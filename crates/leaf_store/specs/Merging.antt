@@ -1,0 +1,84 @@
+-- Leaves with few rows: windows that are to be spread, and neighbours that are to become one leaf.
+use Rattle.std.specs.Prelude.{◌≡◌, ◌⊎◌, ℕ, ◌+◌, ◌<◌, ◌≤◌, true, false, Bool, List, [], ◌∷◌, ◌++◌, length, None, slice_index}
+use Rattle.std.specs.List.{AllByRecursion}
+use Rattle.leaf_store.specs.declared.pair.TheConstants.{MERGE_ROWS}
+use Rattle.leaf_index.specs.declared.route.Retired.{Retired}
+use Rattle.leaf_index.specs.Calls.{freed_of, kept_of}
+use Rattle.version_segment.specs.Rows.{VersionedRows}
+use Rattle.density_tree.specs.declared.window.Window.{Window}
+use Rattle.density_tree.specs.declared.window.TheConstants.{LOWER_LIMITS}
+use Rattle.density_tree.specs.Windows.{IsDense, IsRound, IsSmallest, IsSmallestWindow}
+use Rattle.leaf_array.specs.Segments.{rows_of, counts_of}
+use Rattle.graph_model.specs.declared.row.Key.{Key}
+use Rattle.leaf_store.specs.Leaves.{Leaves, Part, versions_of, weight}
+use Rattle.leaf_store.specs.Changes.{MovesRows}
+
+-- ---- windows
+
+-- a segment has too few rows, and the window is the smallest round it that has enough
+pub record IsSparseWindow (counts : List ℕ) (window : Window) : Type 0 where
+  pub segment : ℕ
+  pub within : segment < 8
+  pub few : slice_index counts segment < slice_index LOWER_LIMITS 0
+  pub smallest : IsSmallest (IsDense counts) segment window
+  pub round : IsRound segment window
+
+-- round none of the segments that have too few rows a window has enough
+abbrev pub IsLevel : List VersionedRows → Type 0
+IsLevel ss = (segment : ℕ) → segment < 8 → slice_index (counts_of ss) segment < slice_index LOWER_LIMITS 0
+    → IsSmallestWindow (IsDense (counts_of ss)) segment None
+
+-- so are all leaves
+abbrev pub AreLevel : List Part → Type 0
+AreLevel parts = AllByRecursion (λ p. IsLevel p.segments) parts
+
+-- ---- neighbours
+
+abbrev pub rows_in_part : Part → ℕ
+rows_in_part p = length (rows_of p.segments)
+
+-- the leaf has too many rows to become one with the first of those behind it
+abbrev pub IsApart : Part → List Part → Type 0
+IsApart p [] = Unit {0}
+IsApart p (q ∷ qs) = MERGE_ROWS < rows_in_part p + rows_in_part q
+
+-- each leaf has too many rows to become one with the next
+abbrev pub AreApart : List Part → Type 0
+AreApart [] = Unit {0}
+AreApart (p ∷ ps) = IsApart p ps × AreApart ps
+
+-- ---- what calls do
+
+-- no window is to be spread, and no two neighbours are to become one leaf
+pub record IsCompact (s : Leaves) : Type 0 where
+  pub level : AreLevel s.parts
+  pub apart : AreApart s.parts
+
+-- no leaf more is retired, or one with the stamp
+abbrev pub RetiresOne : List Retired → List Retired → ℕ → Type 0
+RetiresOne old new stamp = (new ≡ old) ⊎ ((leaf : ℕ) × (new ≡ old ++ record { leaf = leaf; stamp = stamp } ∷ []))
+
+-- rows have moved, and a leaf that has none left may have been retired with the stamp
+pub record Compacts (old new : Leaves) (stamp : ℕ) : Type 0 where
+  pub moves : MovesRows old new
+  pub free : new.free ≡ old.free
+  pub retired : RetiresOne old.retired new.retired stamp
+
+-- A window is spread, or two neighbours become one leaf. The answer says whether there was either.
+pub record StepsToCompact (old new : Leaves) (did : Bool) : Type 0 where
+  pub some : did ≡ true → ¬ IsCompact old
+  pub none : did ≡ false → IsCompact old × (new ≡ old)
+
+-- each key keeps its versions, and no more leaves are used up
+pub record KeepsVersions (old new : Leaves) : Type 0 where
+  pub versions : (q : Key) → versions_of new q ≡ versions_of old q
+  pub limit : new.limit ≡ old.limit
+  pub weight : weight new ≤ weight old
+
+-- the retired leaves with a stamp below the given one are free
+pub record FreesRetired (until : ℕ) (old new : Leaves) : Type 0 where
+  pub parts : new.parts ≡ old.parts
+  pub limit : new.limit ≡ old.limit
+  pub keeps : KeepsVersions old new
+  pub free : new.free ≡ old.free ++ freed_of until old.retired
+  pub retired : new.retired ≡ kept_of until old.retired

@@ -1,0 +1,78 @@
+-- Windows and neighbours that were found, by their entries in the index. Only the crate itself speaks of it.
+use Rattle.std.specs.Prelude.{◌≡◌, ℕ, ◌+◌, ◌≤◌, length, List, [], ◌∷◌, ◌++◌, Option, map}
+use Rattle.std.specs.declared.boxed.Box.{Box}
+use Rattle.std.specs.declared.alloc.Global.{Global}
+use Rattle.version_segment.specs.Rows.{VersionedRows}
+use Rattle.leaf_array.specs.declared.leaf.Leaf.{Leaf}
+use Rattle.leaf_array.specs.Leaves as leaves
+use Rattle.leaf_array.specs.Segments.{rows_of, counts_of, lows_of}
+use Rattle.leaf_index.specs.declared.route.LeafRange.{LeafRange}
+use Rattle.leaf_index.specs.Calls.{IsRangeOf}
+use Rattle.leaf_index.specs.Index.{Entry, Index, AreCuts, end_of}
+use Rattle.leaf_store.specs.declared.pair.Pair.{Pair}
+use Rattle.leaf_store.specs.declared.pair.TheConstants.{MERGE_ROWS}
+use Rattle.leaf_store.specs.declared.sparse.SparseWindow.{SparseWindow}
+use Rattle.leaf_store.specs.Merging.{IsApart, IsSparseWindow}
+use Rattle.leaf_store.specs.Table.{IsTied, part_of, segments_at}
+
+-- a live leaf's entry stands among others
+pub record Stands (entries : List Entry) (leaf : ℕ) : Type 0 where
+  pub front : List Entry
+  pub entry : Entry
+  pub back : List Entry
+  pub is : entries ≡ front ++ entry ∷ back
+  pub number : leaf ≡ entry.leaf
+
+-- the window of a live leaf is to be spread
+pub record IsFoundWindow (index : Index) (table : List (Option (Box Leaf Global))) (found : SparseWindow) : Type 0 where
+  pub stands : Stands index.entries found.leaf
+  pub sparse : IsSparseWindow (counts_of (segments_at table found.leaf)) found.window
+
+-- the range is that of a live leaf
+pub record IsRangeIn (entries : List Entry) (range : LeafRange) : Type 0 where
+  pub front : List Entry
+  pub entry : Entry
+  pub back : List Entry
+  pub is : entries ≡ front ++ entry ∷ back
+  pub range_is : IsRangeOf entry back range
+
+-- this leaf has too many rows to become one with the next
+abbrev pub IsApartBehind : List Entry → List (Option (Box Leaf Global)) → LeafRange → Type 0
+IsApartBehind entries table range = (front : List Entry) (entry : Entry) (back : List Entry)
+    → entries ≡ front ++ entry ∷ back → IsRangeOf entry back range
+    → IsApart (part_of table entry) (map (part_of table) back)
+
+-- two live leaves, one behind the other, have few rows together
+pub record IsFoundPair (index : Index) (table : List (Option (Box Leaf Global))) (pair : Pair) : Type 0 where
+  pub front : List Entry
+  pub left : Entry
+  pub right : Entry
+  pub back : List Entry
+  pub is : index.entries ≡ front ++ left ∷ right ∷ back
+  pub left_is : pair.left ≡ left.leaf
+  pub right_is : pair.right ≡ right.leaf
+  pub few : length (rows_of (segments_at table left.leaf)) + length (rows_of (segments_at table right.leaf)) ≤ MERGE_ROWS
+
+-- the segments are those of two entries, one behind the other
+pub record AreNeighbours (entries : List Entry) (ss ts : List VersionedRows) (number : ℕ) : Type 0 where
+  pub front : List Entry
+  pub left : Entry
+  pub right : Entry
+  pub back : List Entry
+  pub is : entries ≡ front ++ left ∷ right ∷ back
+  pub number_is : right.leaf ≡ number
+  pub left_tied : IsTied ss left right.low
+  pub right_tied : IsTied ts right (end_of back)
+  pub left_cuts : AreCuts left.low left.cuts right.low
+  pub right_cuts : AreCuts right.low right.cuts (end_of back)
+
+-- the left one has all rows and the range of both, and the right one is retired
+pub record MergesEntries (stamp number : ℕ) (old new : Index) (ss ts us : List VersionedRows)
+    (live : AreNeighbours old.entries ss ts number) : Type 0 where
+  pub rest : List VersionedRows
+  pub merges : leaves.Merges ss ts us rest
+  pub entries : new.entries ≡ live.front ++ record live.left { cuts = lows_of us } ∷ live.back
+  pub index_is : new ≡ record old {
+    entries = new.entries;
+    retired = old.retired ++ record { leaf = number; stamp = stamp } ∷ [];
+  }
