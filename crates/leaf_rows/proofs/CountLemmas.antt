@@ -11,35 +11,17 @@ use Rattle.std.proofs.lemmas.List.Sums.{sum_by-cons}
 use Rattle.graph_model.specs.declared.row.Key.{Key}
 use Rattle.graph_model.specs.declared.row.Row.{Row}
 use Rattle.graph_model.specs.declared.journal.TxnName.{TxnName}
-use Rattle.graph_model.specs.Conflict.{same_name}
 use Rattle.graph_model.specs.Graph.{Graph, has_vertex, vertices_of, weight_of, arc_cmp}
 use Rattle.graph_model.specs.Rows.{key_cmp, is_below, is_between, first_key, end_key, vertex_key, arc_key, vertex_entry, arc_entry, value_at, rows, row_of, row_map}
 use Rattle.graph_model.proofs.OrderLemmas.{keys_total, keys_exact, key_tie, arc_tie}
 use Rattle.graph_model.proofs.RowLemmas.{second_tie, find-entries, ranges_adjoin}
 use Rattle.graph_model.proofs.SortedLemmas.{true_from_T, T_from_true, both_true}
-use Rattle.store_model.specs.declared.versions.Versions.{Versions}
-use Rattle.store_model.specs.Versions.{read, sees, first_seen}
-use Rattle.store_model.specs.declared.version.Version.{Version}
+use Rattle.undo_chain.specs.declared.states.Snapshot.{Snapshot}
 use Rattle.version_segment.specs.Rows.{VersionedRows}
-use Rattle.leaf_store.specs.Leaves.{Leaves, Part, AreLeaves, IsPart, cells_of, contents_of}
-use Rattle.leaf_rows.specs.Counted.{all_committed, is_vertex_row}
-use Rattle.leaf_rows.specs.Loaded.{newest_value}
+use Rattle.leaf_store.specs.Leaves.{Leaves, Part, AreLeaves, IsPart, cells_of}
+use Rattle.leaf_rows.specs.Counted.{is_vertex_row}
 use Rattle.leaf_rows.specs.Runs.{ShowsBy, cells_behind, runs_left}
 use Rattle.leaf_rows.proofs.EdgeLemmas.{seen_within}
-
--- ---- whoever sees everyone
-
--- sees the newest value
-pub newest_is_read : (own : TxnName) (vs : Versions) → read all_committed.stamps 0 own vs ≡ newest_value vs
-newest_is_read own vs = go vs.pairs
-  where
-    or_true : (t : Bool) → (t || true) ≡ true
-    or_true true = refl
-    or_true false = refl
-
-    go : (ps : List Version) → first_seen (sees all_committed.stamps 0 own) ps vs.oldest ≡ first_seen (λ by. true) ps vs.oldest
-    go [] = refl
-    go (p ∷ ps) = ap (λ t. cond t p.value (first_seen (sees all_committed.stamps 0 own) ps vs.oldest)) (or_true (same_name p.by own))
 
 -- ---- how many rows there may be
 
@@ -173,7 +155,7 @@ counted p (e ∷ es) = sum_by-cons (λ (r : Row). cond (p r.key) 1 0) (row_of e)
     go true rest = omega (arith, rest)
     go false rest = omega (arith, rest)
 
-module _ (own : TxnName) (s : Leaves) (sound : AreLeaves s) (g : Graph) (shows : ShowsBy all_committed.stamps (record { start = 0; own = own }) s g) where
+module _ (stamps : TxnName → Option ℕ) (snapshot : Snapshot) (s : Leaves) (sound : AreLeaves s) (g : Graph) (shows : ShowsBy stamps snapshot s g) where
   abbrev entries : List (Key × ℕ)
   entries = where_key key_cmp (is_between first_key end_key) (fin_map.entries (row_map g))
 
@@ -190,7 +172,7 @@ module _ (own : TxnName) (s : Leaves) (sound : AreLeaves s) (g : Graph) (shows :
       whole x e true f = refl
       whole None e false f = sym e
       whole (Some w) e false f =
-          let inside : is_between first_key end_key q ≡ true = seen_within all_committed.stamps (record { start = 0; own = own }) s sound g shows 0 q w e in
+          let inside : is_between first_key end_key q ≡ true = seen_within stamps snapshot s sound g shows 0 q w e in
           let clash : true ≡ false = sym inside ∙ f in
           cc
 
@@ -228,7 +210,3 @@ module _ (own : TxnName) (s : Leaves) (sound : AreLeaves s) (g : Graph) (shows :
       let rest = count_rest is_vertex_row (rows g first_key end_key) in
       let is : count_by (λ r. not (is_vertex_row r)) (rows g first_key end_key) ≡ arcs = omega (arith, first, all, rest) in
       sym is ∙ arcs_counted
-
--- whoever sees everyone sees a graph of the newest values
-pub newest_shows : (own : TxnName) (s : Leaves) (g : Graph) → ((k : Key) → newest_value (contents_of s k) ≡ value_at g k) → ShowsBy all_committed.stamps (record { start = 0; own = own }) s g
-newest_shows own s g shows k = newest_is_read own (contents_of s k) ∙ shows k

@@ -72,6 +72,7 @@ kept_stays old new kept = record {
   rows = (kept_places old new kept.cells).rows;
   limit = kept.cells.limit;
   weight = let same = kept.cells.weight in omega (arith, same);
+  retired = kept.cells.retired;
 }
 
 -- ---- places

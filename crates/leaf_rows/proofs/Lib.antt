@@ -11,3 +11,4 @@ pub mod SettleLemmas
 pub mod EdgeLemmas
 pub mod CountLemmas
 pub mod FillLemmas
+pub mod SweepLemmas

@@ -1,6 +1,8 @@
 -- Room for the rows of one key or two.
-use Rattle.std.proofs.Common.{◌≡◌, ℕ, ◌+◌, ◌-◌, ◌<◌, ◌≤◌, List, [], ◌∷◌, length, refl, sym, ◌∙◌, ap, cond, arith, inl, inr, Some, None}
-use Rattle.std.specs.Prelude.{◌⊎◌, Bool, true, false, ◌&&◌, not, Option, count_by}
+use Rattle.std.proofs.Common.{◌≡◌, ℕ, ◌+◌, ◌-◌, ◌<◌, ◌≤◌, List, [], ◌∷◌, ◌++◌, length, map, refl, sym, ◌∙◌, ap, cond, arith, inl, inr, Some, None}
+use Rattle.std.specs.Prelude.{◌⊎◌, Bool, true, false, ◌&&◌, not, Option, count_by, nat_lt, is_some, Result, Ok, Err, IfErr}
+use Rattle.std.specs.List.{filter, flat_map}
+use Rattle.std.proofs.lemmas.List.{append-nil}
 use Rattle.graph_model.specs.declared.row.Key.{Key}
 use Rattle.graph_model.specs.declared.write.Kind.{Kind}
 use Rattle.graph_model.specs.declared.write.Write.{Write}
@@ -10,9 +12,12 @@ use Rattle.store_model.specs.Stamped.{forget_row}
 use Rattle.txn_manager.specs.declared.config.RoomRefusal.{RoomRefusal}
 use Rattle.txn_manager.specs.declared.config.RoomRefusal.TheVariants.{Full, NoMemory}
 use Rattle.version_segment.specs.Rows.{VersionedRows, has_row as has_row_in}
-use Rattle.leaf_store.specs.Leaves.{Leaves, AreLeaves, KeysHaveCells, CellsAreApart, cell_at, has_row, room_at, shares}
+use Rattle.leaf_store.specs.Leaves.{Leaves, Part, AreLeaves, KeysHaveCells, CellsAreApart, cell_at, cell_in, has_row, room_at, shares}
+use Rattle.leaf_index.specs.declared.route.Retired.{Retired}
+use Rattle.leaf_index.specs.Calls.{freed_of, kept_of}
 use Rattle.leaf_store.specs.Changes.{MovesRows, IsRoomRefusal}
-use Rattle.leaf_rows.specs.Laying.{Stays, wanted, IsNoRoom}
+use Rattle.leaf_store.specs.Merging.{FreesRetired}
+use Rattle.leaf_rows.specs.Laying.{KeepsContents, Stays, wanted, IsNoRoom, IsSpent}
 use Rattle.leaf_rows.specs.Readers.{AreUnstamped}
 use Rattle.leaf_rows.specs.Steps.{HaveRoom, KeepsRoom, IsNoPlace, wanted_in, keys_with}
 use Rattle.leaf_rows.proofs.CellLemmas.{rows_by_versions}
@@ -20,7 +25,7 @@ use Rattle.leaf_rows.proofs.CellLemmas.{rows_by_versions}
 -- ---- what stays
 
 pub stays_self : (s : Leaves) → Stays s s
-stays_self s = record { contents = λ k. refl; rows = λ k. refl; limit = refl; weight = omega arith }
+stays_self s = record { contents = λ k. refl; rows = λ k. refl; limit = refl; weight = omega arith; retired = refl }
 
 pub stays_chain : (a b c : Leaves) → Stays a b → Stays b c → Stays a c
 stays_chain a b c one two = record {
@@ -28,15 +33,17 @@ stays_chain a b c one two = record {
   rows = λ k. two.rows k ∙ one.rows k;
   limit = two.limit ∙ one.limit;
   weight = let x = one.weight in let y = two.weight in omega (arith, x, y);
+  retired = two.retired ∙ one.retired;
 }
 
 -- where rows move, each key has what it had
-pub moved_stays : (old new : Leaves) → AreLeaves old → AreLeaves new → MovesRows old new → Stays old new
-moved_stays old new sound sound' moves = record {
+pub moved_stays : (old new : Leaves) → AreLeaves old → AreLeaves new → MovesRows old new → new.retired ≡ old.retired → Stays old new
+moved_stays old new sound sound' moves retired = record {
   contents = λ k. ap forget_row (moves.versions k);
   rows = λ k. rows_by_versions old new sound sound' k (moves.versions k);
   limit = moves.limit;
   weight = moves.weight;
+  retired = retired;
 }
 
 pub moved_unstamped : (old new : Leaves) → MovesRows old new → AreUnstamped old → AreUnstamped new
@@ -216,6 +223,26 @@ three_steps s0 s1 s2 s3 there0 there1 there2 there3 apart a b wa wb stays1 stays
             let clash : false ≡ true = sym e ∙ sym (ap (λ (s : Leaves). shares s a b) same) ∙ shared in
             cc
 
+pub none_of : (o : Option ℕ) → is_some o ≡ false → o ≡ None
+none_of None e = refl
+none_of (Some x) e = cc
+
+-- Room is made for the first key, and there is room for the second already. Then both have room.
+pub two_steps : (s0 s1 : Leaves) → KeysHaveCells s0 → KeysHaveCells s1 → CellsAreApart s1 → (a b : Key) → is_below a end_key ≡ true → is_below b end_key ≡ true → Stays s0 s1
+    → (has_row s0 a ≡ false → wanted s0 a (a ∷ b ∷ []) ≤ room_at s1 a)
+    → (has_row s1 b ≡ false → wanted s1 b (b ∷ a ∷ []) ≤ room_at s1 b)
+    → HaveRoom s1 (a ∷ b ∷ [])
+two_steps s0 s1 there0 there1 apart a b wa wb stays ok1 ok2 =
+    both_have_room s1 there1 apart a b wa wb
+    (λ none. let a0 = sym (stays.rows a) ∙ none in let w = wants_itself s0 there0 a wa (Some b) a0 in let r = ok1 a0 in omega (arith, w, r))
+    (λ none. let w = wants_itself s1 there1 b wb (Some a) none in let r = ok2 none in omega (arith, w, r))
+    (λ na nb shared.
+    let back : shares s1 b a ≡ true = ap (λ (c : VersionedRows). is_between c.low c.high a) (apart a b shared) ∙ there1 a wa in
+    let w = wants_both s1 there1 b a wb nb na back in
+    let r = ok2 nb in
+    let same = same_room s1 apart a b shared in
+    omega (arith, w, r, same))
+
 -- ---- how many rows
 
 module _ (c : VersionedRows) (key : Key) (none : has_row_in c key ≡ false) (holds : is_between c.low c.high key ≡ true) where
@@ -229,3 +256,76 @@ module _ (c : VersionedRows) (key : Key) (none : has_row_in c key ≡ false) (ho
   need_with other m is =
       let one = one_or_none (not (has_row_in c other) && is_between c.low c.high other) in
       (omega (arith, is, wants_key), omega (arith, is, one))
+
+-- ---- leaves that are retired or freed
+
+pub stays_keeps : (old new : Leaves) → Stays old new → KeepsContents old new
+stays_keeps old new stays = record { contents = stays.contents; rows = stays.rows; limit = stays.limit; weight = stays.weight }
+
+pub keeps_chain : (a b c : Leaves) → KeepsContents a b → KeepsContents b c → KeepsContents a c
+keeps_chain a b c one two = record {
+  contents = λ k. two.contents k ∙ one.contents k;
+  rows = λ k. two.rows k ∙ one.rows k;
+  limit = two.limit ∙ one.limit;
+  weight = let x = one.weight in let y = two.weight in omega (arith, x, y);
+}
+
+pub moved_keeps : (old new : Leaves) → AreLeaves old → AreLeaves new → MovesRows old new → KeepsContents old new
+moved_keeps old new sound sound' moves = record {
+  contents = λ k. ap forget_row (moves.versions k);
+  rows = λ k. rows_by_versions old new sound sound' k (moves.versions k);
+  limit = moves.limit;
+  weight = moves.weight;
+}
+
+pub freed_keeps : (until : ℕ) (old new : Leaves) → FreesRetired until old new → KeepsContents old new
+freed_keeps until old new frees = record {
+  contents = λ k. ap forget_row (frees.keeps.versions k);
+  rows = λ k. ap (λ parts. has_row_in (cell_in (flat_map (λ (p : Part). p.segments) parts) k) k) frees.parts;
+  limit = frees.limit;
+  weight = frees.keeps.weight;
+}
+
+pub freed_unstamped : (until : ℕ) (old new : Leaves) → FreesRetired until old new → AreUnstamped old → AreUnstamped new
+freed_unstamped until old new frees none = record { pairs = λ k. rw (frees.keeps.versions k) (none.pairs k); touches = λ k. rw (frees.keeps.versions k) (none.touches k) }
+
+nil_of : {X : Type 0} (xs : List X) → length xs ≡ 0 → xs ≡ []
+nil_of [] e = refl
+nil_of (x ∷ xs) e = absurd (omega (arith, e))
+
+all_kept : (until : ℕ) (xs : List Retired) → freed_of until xs ≡ [] → kept_of until xs ≡ xs
+all_kept until [] e = refl
+all_kept until (x ∷ xs) e = by_test (nat_lt x.stamp until) (all_kept until xs) e
+  where
+    by_test : (t : Bool) → (freed_of until xs ≡ [] → kept_of until xs ≡ xs) → map (λ (r : Retired). r.leaf) (cond t (x ∷ filter (λ (r : Retired). nat_lt r.stamp until) xs) (filter (λ (r : Retired). nat_lt r.stamp until) xs)) ≡ []
+        → cond (not t) (x ∷ kept_of until xs) (kept_of until xs) ≡ x ∷ xs
+    by_test true rest e = cc
+    by_test false rest e = ap (λ ys. x ∷ ys) (rest e)
+
+none_again : (until : ℕ) (xs : List Retired) → freed_of until (kept_of until xs) ≡ []
+none_again until [] = refl
+none_again until (x ∷ xs) = by_test (nat_lt x.stamp until) refl (none_again until xs)
+  where
+    by_test : (t : Bool) → nat_lt x.stamp until ≡ t → freed_of until (kept_of until xs) ≡ [] → freed_of until (cond (not t) (x ∷ kept_of until xs) (kept_of until xs)) ≡ []
+    by_test true t rest = rest
+    by_test false t rest = (λ i. map (λ (r : Retired). r.leaf) (cond (t i) (x ∷ filter (λ (r : Retired). nat_lt r.stamp until) (kept_of until xs)) (filter (λ (r : Retired). nat_lt r.stamp until) (kept_of until xs)))) ∙ rest
+
+-- where none was freed nothing has changed
+pub none_freed : (until : ℕ) (old new : Leaves) → FreesRetired until old new → length (freed_of until old.retired) ≡ 0 → (new ≡ old) × (freed_of until new.retired ≡ [])
+none_freed until old new frees none =
+    let no = nil_of (freed_of until old.retired) none in
+    let retired : new.retired ≡ old.retired = frees.retired ∙ all_kept until old.retired no in
+    let free : new.free ≡ old.free = frees.free ∙ ap (λ xs. old.free ++ xs) no ∙ append-nil old.free in
+    ((λ i. record { limit = frees.limit i; parts = frees.parts i; free = free i; retired = retired i }), ap (freed_of until) retired ∙ no)
+
+-- and behind it none is left to be freed
+pub none_left : (until : ℕ) (old mid new : Leaves) → FreesRetired until old mid → new.retired ≡ mid.retired → freed_of until new.retired ≡ []
+none_left until old mid new frees same = ap (freed_of until) (same ∙ frees.retired) ∙ none_again until old.retired
+
+spent : (until : ℕ) (s : Leaves) (refusal : RoomRefusal) → freed_of until s.retired ≡ [] → IsSpent until s refusal
+spent until s (Full leaves) none = none
+spent until s NoMemory none = tt
+
+pub spent_err : (until : ℕ) (s : Leaves) (r : Result (Unit {0}) RoomRefusal) → freed_of until s.retired ≡ [] → IfErr r (IsSpent until s)
+spent_err until s (Ok x) none = tt
+spent_err until s (Err refusal) none = spent until s refusal none

@@ -1,5 +1,5 @@
 -- Rows that are pruned, cell by cell.
-use Rattle.std.proofs.Common.{◌≡◌, ℕ, ◌+◌, ◌*◌, ◌<◌, ◌≤◌, List, [], ◌∷◌, length, refl, sym, ◌∙◌, ap, cond, arith, inl, inr}
+use Rattle.std.proofs.Common.{◌≡◌, ℕ, ◌+◌, ◌*◌, ◌<◌, ◌≤◌, List, [], ◌∷◌, length, refl, sym, ◌∙◌, ap, ap₂, cond, arith, inl, inr}
 use Rattle.std.specs.Prelude.{◌⊎◌, Bool, true, false, not, Option}
 use Rattle.std.specs.List.{filter}
 use Rattle.std.proofs.lemmas.Bool.Decides.{nat_tests}
@@ -73,6 +73,16 @@ prune_twice stamps horizon vs = λ i. record {
   touches = part_twice (λ by. not (is_settled stamps horizon by)) vs.touches i;
 }
 
+-- so pruned again it is pruned once
+pub prune_once : (stamps : TxnName → Option ℕ) (horizon : ℕ) (x y : Versions) → (x ≡ y) ⊎ (x ≡ prune stamps horizon y) → prune stamps horizon x ≡ prune stamps horizon y
+prune_once stamps horizon x y (inl e) = ap (prune stamps horizon) e
+prune_once stamps horizon x y (inr e) = ap (prune stamps horizon) e ∙ prune_twice stamps horizon y
+
+-- what may have been pruned and has not changed since may have been pruned
+pub or_pruned_still : (stamps : TxnName → Option ℕ) (horizon : ℕ) (x y z : Versions) → x ≡ y → (y ≡ z) ⊎ (y ≡ prune stamps horizon z) → (x ≡ z) ⊎ (x ≡ prune stamps horizon z)
+or_pruned_still stamps horizon x y z same (inl e) = inl (same ∙ e)
+or_pruned_still stamps horizon x y z same (inr e) = inr (same ∙ e)
+
 -- ---- one cell
 
 module _ (stamps : TxnName → Option ℕ) (horizon : ℕ) (old new : Leaves) (key : Key) (result : Pruned) (sound : AreLeaves old) (apart : CellsAreApart old) (prunes : PrunesCell stamps horizon old new key result) (none : AreUnstamped old) where
@@ -89,7 +99,15 @@ module _ (stamps : TxnName → Option ℕ) (horizon : ℕ) (old new : Leaves) (k
   prunes_keys = record {
     pruned = λ q e. ap forget_row (here q e) ∙ prune_forgets stamps horizon (versions_of old q) (unstamped_row stamps (versions_of old q) (none.pairs q) (none.touches q));
     others = λ q e. ap forget_row (there q e);
+    fences = λ p q. fences p q (shares old key p) refl;
   }
+    where
+      fences : (p q : Key) (t : Bool) → shares old key p ≡ t → shares new p q ≡ shares old p q
+      fences p q true e =
+          ap (λ (c : VersionedRows). is_between c.low c.high q) (prunes.changes.here p e)
+          ∙ ap₂ (λ l h. is_between l h q) prunes.changes.low prunes.changes.high
+          ∙ sym (ap (λ (c : VersionedRows). is_between c.low c.high q) (apart key p e))
+      fences p q false e = ap (λ (c : VersionedRows). is_between c.low c.high q) (prunes.changes.others p e)
 
   pub pruned_unstamped : AreUnstamped new
   pruned_unstamped = record { pairs = λ q. pairs q (shares old key q) refl; touches = λ q. touches q (shares old key q) refl }
@@ -135,12 +153,8 @@ pruned_more stamps horizon old now next key high has prunes is holds = record {
   each = λ q. each q (shares now key q) refl;
 }
   where
-    once : (x y : Versions) → (x ≡ y) ⊎ (x ≡ prune stamps horizon y) → prune stamps horizon x ≡ prune stamps horizon y
-    once x y (inl e) = ap (prune stamps horizon) e
-    once x y (inr e) = ap (prune stamps horizon) e ∙ prune_twice stamps horizon y
-
     inside : (q : Key) → shares now key q ≡ true → contents_of next q ≡ prune stamps horizon (contents_of old q)
-    inside q e = prunes.pruned q e ∙ once (contents_of now q) (contents_of old q) (has.each q)
+    inside q e = prunes.pruned q e ∙ prune_once stamps horizon (contents_of now q) (contents_of old q) (has.each q)
 
     outside : (low top q : Key) → is_between low top key ≡ true → is_below q top ≡ true → is_between low top q ≡ false → is_below q key ≡ true
     outside low top q a b c = grind (arith, nat_tests)
@@ -149,14 +163,9 @@ pruned_more stamps horizon old now next key high has prunes is holds = record {
     done q true e below = inside q e
     done q false e below = prunes.others q e ∙ has.done q (outside (cell_at now key).low (cell_at now key).high q holds below e)
 
-    moved : (q : Key) → contents_of next q ≡ contents_of now q → (contents_of now q ≡ contents_of old q) ⊎ (contents_of now q ≡ prune stamps horizon (contents_of old q))
-        → (contents_of next q ≡ contents_of old q) ⊎ (contents_of next q ≡ prune stamps horizon (contents_of old q))
-    moved q e (inl h) = inl (e ∙ h)
-    moved q e (inr h) = inr (e ∙ h)
-
     each : (q : Key) (t : Bool) → shares now key q ≡ t → (contents_of next q ≡ contents_of old q) ⊎ (contents_of next q ≡ prune stamps horizon (contents_of old q))
     each q true e = inr (inside q e)
-    each q false e = moved q (prunes.others q e) (has.each q)
+    each q false e = or_pruned_still stamps horizon (contents_of next q) (contents_of now q) (contents_of old q) (prunes.others q e) (has.each q)
 
 -- behind the last cell there is nothing to prune
 pub pruned_all : (stamps : TxnName → Option ℕ) (horizon : ℕ) (old now : Leaves) (key : Key) → AreLeaves old → HasPruned stamps horizon old now key → is_below key end_key ≡ false

@@ -1,5 +1,5 @@
 -- When a write may be laid in rows, the room that it wants, and what calls leave.
-use Rattle.std.specs.Prelude.{◌≡◌, ◌==◌, ◌&&◌, ℕ, ◌*◌, ◌<◌, ◌≤◌, true, false, not, List, count_by, Option}
+use Rattle.std.specs.Prelude.{◌≡◌, ◌==◌, ◌&&◌, ℕ, ◌-◌, ◌*◌, ◌^◌, ◌<◌, ◌≤◌, min, true, false, not, List, [], count_by, Option}
 use Rattle.graph_model.specs.declared.limits.TheConstants.{SPLIT_ROWS}
 use Rattle.graph_model.specs.declared.row.Key.{Key}
 use Rattle.graph_model.specs.declared.journal.TxnName.{TxnName}
@@ -7,12 +7,14 @@ use Rattle.graph_model.specs.declared.write.Kind.{Kind}
 use Rattle.graph_model.specs.declared.write.Write.{Write}
 use Rattle.graph_model.specs.declared.write.Write.TheVariants.{AddVertex, DropVertex, AddEdge, SetEdge, DropEdge}
 use Rattle.graph_model.specs.Effects.{keys_of}
-use Rattle.graph_model.specs.Rows.{vertex_key}
+use Rattle.graph_model.specs.Rows.{is_between, vertex_key}
 use Rattle.txn_manager.specs.declared.config.RoomRefusal.{RoomRefusal}
 use Rattle.txn_manager.specs.declared.config.RoomRefusal.TheVariants as refusals
 use Rattle.store_model.specs.Versions.{prune}
-use Rattle.leaf_store.specs.Leaves.{Leaves, contents_of, has_row, room_at, shares, weight}
+use Rattle.leaf_store.specs.Leaves.{Leaves, IsLeafOf, contents_of, has_row, record_count, room_at, shares, weight}
+use Rattle.leaf_index.specs.Calls.{freed_of}
 use Rattle.leaf_store.specs.Changes.{IsFull}
+use Rattle.leaf_store.specs.declared.store.Pruned.{Pruned}
 
 -- how many of the rows that a write writes are missing
 abbrev pub missing : Leaves → Kind → Write → ℕ
@@ -40,12 +42,20 @@ wanted s k keys = count_by (λ q. not (has_row s q) && shares s k q) keys
 abbrev pub HasRoomFor : Leaves → Kind → Write → Type 0
 HasRoomFor s kind w = (k : Key) → has_row s k ≡ false → wanted s k (keys_of kind w) ≤ room_at s k
 
--- each key has what it had
+-- each key has what it had, and no more leaves are used up
+pub record KeepsContents (old new : Leaves) : Type 0 where
+  pub contents : (k : Key) → contents_of new k ≡ contents_of old k
+  pub rows : (k : Key) → has_row new k ≡ has_row old k
+  pub limit : new.limit ≡ old.limit
+  pub weight : weight new ≤ weight old
+
+-- the same, and no leaf is retired or freed
 pub record Stays (old new : Leaves) : Type 0 where
   pub contents : (k : Key) → contents_of new k ≡ contents_of old k
   pub rows : (k : Key) → has_row new k ≡ has_row old k
   pub limit : new.limit ≡ old.limit
   pub weight : weight new ≤ weight old
+  pub retired : new.retired ≡ old.retired
 
 -- why there is no room for a write: a key's cell is too full, no window round it has room, and no leaf is free
 abbrev pub IsNoRoom : Leaves → Kind → Write → RoomRefusal → Type 0
@@ -54,7 +64,33 @@ IsNoRoom s kind w (refusals.Full leaves) =
     × ((k : Key) × (need : ℕ) × (need ≡ wanted s k (keys_of kind w)) × (room_at s k < need) × IsFull s k need)
 IsNoRoom s kind w refusals.NoMemory = Unit {0}
 
--- the versions of the keys that share the key's cell are pruned, and no others
+-- where no leaf is free, no retired leaf has a stamp below the given one either
+abbrev pub IsSpent : ℕ → Leaves → RoomRefusal → Type 0
+IsSpent until s (refusals.Full leaves) = freed_of until s.retired ≡ []
+IsSpent until s refusals.NoMemory = Unit {0}
+
+-- the versions of the keys that share the key's cell are pruned, and no others; the cells have the fence keys that
+-- they had
 pub record PrunesKeys (stamps : TxnName → Option ℕ) (horizon : ℕ) (old new : Leaves) (key : Key) : Type 0 where
   pub pruned : (q : Key) → shares old key q ≡ true → contents_of new q ≡ prune stamps horizon (contents_of old q)
   pub others : (q : Key) → shares old key q ≡ false → contents_of new q ≡ contents_of old q
+  pub fences : (p q : Key) → shares new p q ≡ shares old p q
+
+-- the versions of the keys from the low one on and below the high one are pruned, and no others
+pub record PrunesRange (stamps : TxnName → Option ℕ) (horizon : ℕ) (low high : Key) (old new : Leaves) : Type 0 where
+  pub pruned : (q : Key) → is_between low high q ≡ true → contents_of new q ≡ prune stamps horizon (contents_of old q)
+  pub others : (q : Key) → is_between low high q ≡ false → contents_of new q ≡ contents_of old q
+
+-- so many records have gone, up to the last number
+pub record AreGone (records : ℕ) (old new : Leaves) : Type 0 where
+  pub count : records ≡ min (record_count old - record_count new) (2 ^ 64 - 1)
+  pub fewer : record_count new ≤ record_count old
+
+-- the rows of the leaf that has the key are pruned, and no others: so many records went, and there the leaf ends
+pub record PrunesLeaf (stamps : TxnName → Option ℕ) (horizon : ℕ) (old new : Leaves) (key : Key) (pruned : Pruned)
+    : Type 0 where
+  pub low : Key
+  pub leaf : IsLeafOf old low pruned.high
+  pub holds : is_between low pruned.high key ≡ true
+  pub prunes : PrunesRange stamps horizon low pruned.high old new
+  pub went : AreGone pruned.records old new

@@ -1,11 +1,11 @@
 -- Rows without records: those of a load, and those of a store that is settled.
-use Rattle.std.specs.Prelude.{◌≡◌, ℕ, ◌*◌, ◌≤◌, true, [], Option}
+use Rattle.std.specs.Prelude.{◌≡◌, ℕ, ◌*◌, ◌≤◌, []}
 use Rattle.graph_model.specs.declared.limits.TheConstants.{SPLIT_ROWS}
 use Rattle.graph_model.specs.declared.row.Key.{Key}
 use Rattle.graph_model.specs.Graph.{Graph}
 use Rattle.graph_model.specs.Rows.{value_at}
 use Rattle.store_model.specs.declared.versions.Versions.{Versions}
-use Rattle.store_model.specs.Versions.{no_versions, first_seen}
+use Rattle.store_model.specs.Versions.{no_versions}
 use Rattle.txn_manager.specs.declared.config.RoomRefusal.{RoomRefusal}
 use Rattle.txn_manager.specs.declared.config.RoomRefusal.TheVariants as refusals
 use Rattle.leaf_store.specs.Leaves.{Leaves, contents_of, weight}
@@ -36,7 +36,3 @@ pub record AreLoaded (leaves : ℕ) (g : Graph) (most : ℕ) (s : Leaves) : Type
 abbrev pub IsLoadTooLarge : ℕ → ℕ → RoomRefusal → Type 0
 IsLoadTooLarge leaves most (refusals.Full full) = (full ≡ leaves) × (SPLIT_ROWS * leaves ≤ most)
 IsLoadTooLarge leaves most refusals.NoMemory = Unit {0}
-
--- the newest value of a row
-abbrev pub newest_value : Versions → Option ℕ
-newest_value vs = first_seen (λ by. true) vs.pairs vs.oldest

@@ -1,47 +1,25 @@
-//! How many vertices and arcs the newest values of the rows have.
+//! How many vertices and arcs a reader sees, and what rows hold beside their values.
 
-ghost use Rattle.std.specs.Prelude.{◌≡◌, ◌≤◌, length, count_by};
+ghost use Rattle.std.specs.Prelude.{◌≡◌, ◌-◌, ◌^◌, ◌≤◌, length, min, count_by};
 ghost use Rattle.std.specs.FinMap as fin_map;
-ghost use Rattle.graph_model.specs.declared.row.Key.{Key};
 ghost use Rattle.graph_model.specs.Graph.{Graph, vertices_of};
-ghost use Rattle.graph_model.specs.Rows.{value_at};
-ghost use Rattle.leaf_store.specs.Leaves.{AreLeaves, contents_of};
+ghost use Rattle.leaf_store.specs.Leaves.{record_count};
 ghost use Rattle.leaf_rows.specs.Counted.{is_vertex_row};
-ghost use Rattle.leaf_rows.specs.Loaded.{newest_value};
+ghost use Rattle.leaf_rows.specs.Readers.{Shows};
 
+use crate::reader::Reader;
 use crate::rows::{Counts, LeafRows};
-use graph_model::{Key, Row, State, TxnName};
-use undo_chain::{Snapshot, States};
+use graph_model::{Key, Row};
 use version_segment::Rows32;
 
-/// Whoever wrote a record has committed before every snapshot, so that each sees the newest values.
-#[derive(Clone, Copy)]
-struct Everyone;
-
-impl States for Everyone {
-    ghost use Rattle.leaf_rows.specs.Counted.{all_committed};
-
-    ghost knowledge = { λ s. all_committed };
-
-    fn state(&mut self, by: TxnName) -> State {
-        let _ = by;
-        State::Committed { stamp: 0 }
-    }
-}
-
 impl LeafRows {
-    /// Counts the rows whose newest value is there.
-    pub fn count(&self) -> Counts
-        ensures vertices { (g : Graph) → ((k : Key) → newest_value (contents_of self.now k) ≡ value_at g k)
-            → result.vertices ≡ length (vertices_of g) }
-        ensures arcs { (g : Graph) → ((k : Key) → newest_value (contents_of self.now k) ≡ value_at g k)
-            → result.arcs ≡ fin_map.len g.arcs }
+    /// Counts the vertices and the arcs that a reader sees.
+    pub fn count(&self, reader: &Reader) -> Counts
+        requires { reader.now.start ≤ length reader.now.manager.now.journal }
+        ensures vertices { (g : Graph) → Shows reader.now self.now g → result.vertices ≡ length (vertices_of g) }
+        ensures arcs { (g : Graph) → Shows reader.now self.now g → result.arcs ≡ fin_map.len g.arcs }
     {
         self.store.limit();
-        let snapshot = Snapshot {
-            start: 0,
-            own: TxnName { job: 0, number: 0 },
-        };
         let mut counts = Counts {
             vertices: 0,
             arcs: 0,
@@ -49,13 +27,27 @@ impl LeafRows {
         let mut buffer = Rows32::new();
         let mut next = Key::of_vertex(0);
         'cells: while next.is_below(Key::end()) {
-            let run = self.run_from(next, Key::end(), &snapshot, &mut Everyone, &mut buffer);
+            let run = self.run_for(reader, next, Key::end(), &mut buffer);
             let vertices = vertices_in(run.rows);
             counts.vertices += vertices;
             counts.arcs += run.rows.len() - vertices;
             next = run.end;
         }
         counts
+    }
+
+    /// How many records stand in all rows, up to the last number.
+    pub fn record_count(&self) -> u64
+        ensures { result ≡ min (record_count self.now) (2 ^ 64 - 1) }
+    {
+        self.store.record_count()
+    }
+
+    /// How many leaves are retired.
+    pub fn retired_count(&self) -> u32
+        ensures { result ≡ length self.now.retired }
+    {
+        self.store.retired_count()
     }
 }
 

@@ -11,6 +11,8 @@ mod count;
 mod edges;
 mod fill;
 mod lay;
+mod look;
+mod merge;
 mod read;
 mod reader;
 mod room;
@@ -22,6 +24,6 @@ mod settle;
 mod steps;
 mod undo;
 
-pub use leaf_store::Pruned;
+pub use leaf_store::{Pruned, STAMPS_END, Tended};
 pub use reader::Reader;
 pub use rows::{Counts, LeafRows};

@@ -106,11 +106,26 @@ impl LeafRows {
         ensures full { IfErr result (λ refusal. IsNoPlace self.new (first ∷ second ∷ []) refusal) }
     {
         self.make_place(first, Some(second))?;
+        if self.has_place(second, Some(first)) {
+            self.store.limit();
+            return Ok(());
+        }
         self.make_place(second, Some(first))?;
         // where the second one's room has brought both into one cell, that has room for two
         let made = self.make_place(first, Some(second));
         self.store.limit();
         made
+    }
+
+    /// Whether a key has a row, or its cell has room for its row, and for that of the other key if it is missing too and
+    /// shares the cell.
+    fn has_place(&self, key: Key, other: Option<Key>) -> bool
+        requires { is_below key end_key ≡ true }
+        ensures { result ≡ true → has_row self.now key ≡ false
+            → wanted self.now key (keys_with key other) ≤ room_at self.now key }
+    {
+        self.store.limit();
+        need_at(self.store.segment(key), key, other).is_none()
     }
 
     /// Makes room in a key's cell, if the key has no row: for its row, and that of the other key if it is missing too
@@ -161,6 +176,6 @@ fn need_at(cell: &VersionSegment, key: Key, other: Option<Key>) -> Option<u8>
 fn missing_in(cell: &VersionSegment, key: Key) -> u8
     ensures { result ≡ cond (not (segments.has_row cell.now key) && is_between cell.now.low cell.now.high key) 1 0 }
 {
-    let is_missing = !cell.has_row(key) && !key.is_below(cell.low()) && key.is_below(cell.high());
+    let is_missing = !key.is_below(cell.low()) && key.is_below(cell.high()) && !cell.has_row(key);
     u8::from(is_missing)
 }

@@ -1,6 +1,6 @@
 //! Rows in leaves.
 
-ghost use Rattle.std.specs.Prelude.{◌≤◌, IfOk};
+ghost use Rattle.std.specs.Prelude.{◌≡◌, ◌≤◌, ◌-◌, IfOk, length};
 ghost use Rattle.graph_model.specs.declared.limits.TheConstants.{MAX_LEAVES};
 ghost use Rattle.leaf_rows.specs.Loaded.{AreNone};
 
@@ -43,5 +43,12 @@ impl LeafRows {
         Ok(LeafRows {
             store: LeafStore::new(alloc, leaves)?,
         })
+    }
+
+    /// How many leaves are neither free nor retired.
+    pub fn leaves_in_use(&self) -> u32
+        ensures { result ≡ (self.now.limit - length self.now.free) - length self.now.retired }
+    {
+        self.store.leaves_in_use()
     }
 }

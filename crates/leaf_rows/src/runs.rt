@@ -64,6 +64,7 @@ impl LeafRows {
         ensures rows { (g : Graph) → Shows reader.now self.now g → result.rows.now ≡ rows g from result.end }
         ensures end { result.end ≡ run_end self.now from until }
         ensures holds { is_between (cell_at self.now from).low (cell_at self.now from).high from ≡ true }
+        ensures few { length result.rows.now ≤ SEGMENT_ROWS }
     {
         self.run_from(from, until, &reader.snapshot(), &mut reader.known(), buffer)
     }

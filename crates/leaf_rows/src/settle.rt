@@ -1,13 +1,12 @@
-//! What nobody can see any more is taken away, cell by cell.
+//! What nobody can see any more is taken away, cell by cell: in all rows, or in those of a leaf.
 
 ghost use Rattle.std.specs.Prelude.{◌≡◌, ◌+◌, ◌<◌, ◌≤◌, ◌^◌, true, length};
 ghost use Rattle.graph_model.specs.declared.row.Key.{Key};
 ghost use Rattle.graph_model.specs.Rows.{is_below, end_key};
 ghost use Rattle.graph_model.specs.Transactions.{stamp_in};
 ghost use Rattle.store_model.specs.Versions.{prune};
-ghost use Rattle.version_segment.specs.Rows.{all_records};
-ghost use Rattle.leaf_store.specs.Leaves.{cell_at, contents_of, shares, weight};
-ghost use Rattle.leaf_rows.specs.Laying.{PrunesKeys};
+ghost use Rattle.leaf_store.specs.Leaves.{cell_at, contents_of, record_count, shares, weight};
+ghost use Rattle.leaf_rows.specs.Laying.{PrunesKeys, PrunesLeaf};
 
 use crate::reader::Known;
 use crate::rows::LeafRows;
@@ -32,13 +31,35 @@ impl LeafRows {
         }
     }
 
+    /// Takes it away in the rows of the leaf that has the key. Answers how many records went, up to the last number,
+    /// and where the leaf ends.
+    pub fn sweep_leaf(&mut self, key: Key, manager: &TxnManager, horizon: u64) -> Pruned
+        requires within { is_below key end_key ≡ true }
+        requires known { horizon ≤ length manager.now.journal }
+        ensures prunes { PrunesLeaf (stamp_in manager.now.journal) horizon self.old self.new key result }
+        ensures limit { self.new.limit ≡ self.old.limit }
+        ensures weight { weight self.new ≤ weight self.old }
+    {
+        let range = self.store.leaf_range(key);
+        let mut records: usize = 0;
+        let mut next = range.low;
+        'cells: while next.is_below(range.high) {
+            let pruned = self.sweep(next, manager, horizon);
+            records = records.saturating_add(pruned.records);
+            next = pruned.high;
+        }
+        Pruned {
+            records,
+            high: range.high,
+        }
+    }
+
     /// Takes it away in the rows of a key's cell, and answers how many records went, and where the cell ends.
-    pub fn sweep(&mut self, key: Key, manager: &TxnManager, horizon: u64) -> Pruned
+    fn sweep(&mut self, key: Key, manager: &TxnManager, horizon: u64) -> Pruned
         requires within { is_below key end_key ≡ true }
         requires known { horizon ≤ length manager.now.journal }
         ensures prunes { PrunesKeys (stamp_in manager.now.journal) horizon self.old self.new key }
-        ensures went { result.records + all_records (cell_at self.new key).rows
-            ≡ all_records (cell_at self.old key).rows }
+        ensures went { result.records + record_count self.new ≡ record_count self.old }
         ensures high { result.high ≡ (cell_at self.old key).high }
         ensures holds { shares self.old key key ≡ true }
         ensures fits { result.high.second < 2 ^ 64 }

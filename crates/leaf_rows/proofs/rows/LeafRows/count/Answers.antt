@@ -1,13 +1,14 @@
 use Rattle.std.proofs.Common.{◌<◌, length, sym, ◌∙◌, ap, refl, arith}
 use Rattle.std.specs.Prelude.{count_by}
 use Rattle.graph_model.specs.Rows.{rows, first_key, end_key}
+use Rattle.graph_model.specs.Transactions.{stamp_in}
 use Rattle.graph_model.proofs.KeyLemmas.{below_self, upto_chain, tied_keys}
 use Rattle.leaf_store.specs.Leaves.{cell_at}
 use Rattle.leaf_rows.specs.Counted.{is_vertex_row}
 use Rattle.leaf_rows.specs.Runs.{runs_left}
 use Rattle.leaf_rows.proofs.RunLemmas.{runs_fall, none_between}
 use Rattle.leaf_rows.proofs.EdgeLemmas.{lesser_within, run_goes_on}
-use Rattle.leaf_rows.proofs.CountLemmas.{few_runs, count_on, length_on, vertices_counted, others_counted, newest_shows}
+use Rattle.leaf_rows.proofs.CountLemmas.{few_runs, count_on, length_on, vertices_counted, others_counted}
 use Rattle.leaf_rows.proofs.rows.LeafRows.count.Goals as goal
 
 pub cells-init : goal.cells-init
@@ -25,8 +26,8 @@ cells-init c =
 pub cells-preserved : goal.cells-preserved
 cells-preserved c =
     let s = c.args.self.now in
-    let run = c.run_from-run.ensures in
-    let end = c.run_from-run.result.end in
+    let run = c.run_for-run.ensures in
+    let end = c.run_for-run.result.end in
     let before = c.cells.invariant in
     let below = rw c.end.ensures at (sym c.is_below.ensures ∙ c.cells-test.true) in
     let is = rw c.end-in-cells.ensures at run.end in
@@ -52,21 +53,21 @@ cells-preserved c =
 
 pub cells-smaller : goal.cells-smaller
 cells-smaller c =
-    let run = c.run_from-run.ensures in
+    let run = c.run_for-run.ensures in
     let below = rw c.end.ensures at (sym c.is_below.ensures ∙ c.cells-test.true) in
     rw (rw c.end-in-cells.ensures at run.end) (runs_fall c.args.self.now c.cells.next end_key below run.holds)
 
 pub returns-clause-vertices : goal.returns-clause-vertices
 returns-clause-vertices c = λ g shows.
+    let r = c.args.reader.now in
     let at_end = tied_keys c.cells.next end_key (rw c.end.ensures at (sym c.is_below.ensures ∙ c.cells-test.false)) c.cells.invariant.within in
-    let shown = newest_shows _ c.args.self.now g shows in
-    c.cells.invariant.vertices g shown ∙ ap (λ k. count_by is_vertex_row (rows g first_key k)) at_end
-    ∙ vertices_counted _ c.args.self.now (rw c.self.view_is at c.limit.ensures.sound) g shown
+    c.cells.invariant.vertices g shows ∙ ap (λ k. count_by is_vertex_row (rows g first_key k)) at_end
+    ∙ vertices_counted (stamp_in r.manager.now.journal) (record { start = r.start; own = r.by }) c.args.self.now (rw c.self.view_is at c.limit.ensures.sound) g shows
 
 pub returns-clause-arcs : goal.returns-clause-arcs
 returns-clause-arcs c = λ g shows.
+    let r = c.args.reader.now in
     let at_end = tied_keys c.cells.next end_key (rw c.end.ensures at (sym c.is_below.ensures ∙ c.cells-test.false)) c.cells.invariant.within in
-    let shown = newest_shows _ c.args.self.now g shows in
-    others_counted _ c.args.self.now (rw c.self.view_is at c.limit.ensures.sound) g shown c.cells.counts.vertices c.cells.counts.arcs
-    (c.cells.invariant.vertices g shown ∙ ap (λ k. count_by is_vertex_row (rows g first_key k)) at_end)
-    (c.cells.invariant.all g shown ∙ ap (λ k. length (rows g first_key k)) at_end)
+    others_counted (stamp_in r.manager.now.journal) (record { start = r.start; own = r.by }) c.args.self.now (rw c.self.view_is at c.limit.ensures.sound) g shows c.cells.counts.vertices c.cells.counts.arcs
+    (c.cells.invariant.vertices g shows ∙ ap (λ k. count_by is_vertex_row (rows g first_key k)) at_end)
+    (c.cells.invariant.all g shows ∙ ap (λ k. length (rows g first_key k)) at_end)

@@ -13,7 +13,7 @@ returns-in-None-clause-ok c = λ missing.
     rw (← c.self.view_is) (rw (wanted_is old c.limit.ensures.apart c.args.key keys) (fits none))
 
 pub returns-clause-stays : goal.returns-clause-stays
-returns-clause-stays c = rw (← c.self.view_is) (moved_stays c.self.inside.store c.make_room-made.new.self c.limit.ensures.sound c.limit-2.ensures.sound c.make_room-made.ensures.moved)
+returns-clause-stays c = rw (← c.self.view_is) (moved_stays c.self.inside.store c.make_room-made.new.self c.limit.ensures.sound c.limit-2.ensures.sound c.make_room-made.ensures.moved c.make_room-made.ensures.retired)
 
 pub returns-clause-ok : goal.returns-clause-ok
 returns-clause-ok c =

@@ -1,5 +1,4 @@
-use Rattle.std.proofs.Common.{◌+◌, ◌∙◌, ap, refl}
-use Rattle.version_segment.specs.Rows.{all_records}
+use Rattle.std.proofs.Common.{refl}
 use Rattle.leaf_rows.proofs.RunLemmas.{all_named}
 use Rattle.leaf_rows.proofs.SettleLemmas.{prunes_keys, pruned_unstamped, pruned_weight}
 use Rattle.leaf_rows.proofs.rows.LeafRows.sweep.Goals as goal
@@ -16,10 +15,7 @@ returns-clause-prunes c =
     rw (← c.self.view_is) (prunes_keys _ c.args.horizon c.self.inside.store c.prune-pruned.new.self c.args.key c.prune-pruned.result c.limit.ensures.sound c.limit.ensures.apart c.prune-pruned.ensures.pruned c.self.invariant)
 
 pub returns-clause-went : goal.returns-clause-went
-returns-clause-went c =
-    let pruned = c.prune-pruned.ensures.pruned in
-    let here = pruned.changes.here c.args.key (c.limit.ensures.there c.args.key c.requires.within) in
-    rw (← c.self.view_is) (ap (λ cell. c.prune-pruned.result.records + all_records cell.rows) here ∙ pruned.went)
+returns-clause-went c = rw (← c.self.view_is) c.prune-pruned.ensures.pruned.left
 
 pub returns-clause-high : goal.returns-clause-high
 returns-clause-high c = rw (← c.self.view_is) c.prune-pruned.ensures.pruned.high

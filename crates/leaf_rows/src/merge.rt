@@ -1,0 +1,129 @@
+//! Rows of leaves with few rows are brought together, and retired leaves are freed where leaves are wanted.
+//!
+//! Each key keeps what it has, whatever a call answers.
+
+ghost use Rattle.std.specs.Prelude.{◌≡◌, ◌<◌, ◌≤◌, [], false, true, length, IfErr, IfOk, OnOk};
+ghost use Rattle.graph_model.specs.Refused.{IsWithinLimits};
+ghost use Rattle.graph_model.specs.Rows.{is_below, end_key};
+ghost use Rattle.leaf_index.specs.Calls.{freed_of};
+ghost use Rattle.leaf_store.specs.declared.pair.TheConstants.{STAMPS_END};
+ghost use Rattle.leaf_store.specs.Changes.{IsRoomRefusal};
+ghost use Rattle.leaf_store.specs.Leaves.{room_at};
+ghost use Rattle.leaf_store.specs.Merging.{FreesRetired, RetiresOne, StepsToCompact};
+ghost use Rattle.leaf_rows.specs.Laying.{HasRoomFor, IsNoRoom, IsSpent, KeepsContents};
+
+use crate::rows::LeafRows;
+use graph_model::{Key, Kind, NoMemory, Write};
+use leaf_store::Tended;
+use txn_manager::RoomRefusal;
+
+impl LeafRows {
+    /// Spreads the first window that has a segment with too few rows and enough rows in all, else makes one leaf of the
+    /// first two neighbours with few rows. Answers whether there was either. The stamp is for the leaf that goes.
+    pub fn merge_step(&mut self, stamp: u64) -> Result<bool, NoMemory>
+        requires { stamp < STAMPS_END }
+        ensures contents { KeepsContents self.old self.new }
+        ensures retired { RetiresOne self.old.retired self.new.retired stamp }
+        ensures steps { IfOk result (λ did. StepsToCompact self.old self.new did) }
+    {
+        self.store.limit();
+        let did = self.store.merge_step(stamp);
+        self.store.limit();
+        did
+    }
+
+    /// Does the same with the leaf that holds the key alone, and with the next one.
+    pub fn merge_at(&mut self, key: Key, stamp: u64) -> Result<Tended, NoMemory>
+        requires { stamp < STAMPS_END }
+        ensures contents { KeepsContents self.old self.new }
+        ensures retired { RetiresOne self.old.retired self.new.retired stamp }
+        ensures same { IfOk result (λ tended. tended.changed ≡ false → self.new ≡ self.old) }
+    {
+        self.store.limit();
+        let tended = self.store.merge_at(key, stamp);
+        self.store.limit();
+        tended
+    }
+
+    /// Does it with one leaf after the other, until nothing is left to do. Where memory is wanted it stops.
+    pub fn merge_all(&mut self, stamp: u64)
+        requires { stamp < STAMPS_END }
+        ensures { KeepsContents self.old self.new }
+    {
+        let mut key = Key::of_vertex(0);
+        // a leaf is spread three times at most, and then it is merged or passed by
+        let turns = 8 * u64::from(self.store.limit());
+        'leaves: for _ in 0..turns {
+            match self.merge_at(key, stamp) {
+                Ok(tended) if tended.changed => {}
+                Ok(tended) if tended.high.is_below(Key::end()) => key = tended.high,
+                Ok(_) => return,
+                Err(_) => return,
+            }
+        }
+    }
+
+    /// Frees the retired leaves with a stamp below the given one, and answers how many. All are below `STAMPS_END`.
+    pub fn free_retired(&mut self, until: u64) -> u32
+        ensures contents { KeepsContents self.old self.new }
+        ensures freed { FreesRetired until self.old self.new }
+        ensures count { result ≡ length (freed_of until self.old.retired) }
+        ensures all { until ≡ STAMPS_END → self.new.retired ≡ [] }
+    {
+        self.store.free_retired(until)
+    }
+
+    /// Makes room for the rows of a write that are missing. Where no leaf is free the retired ones with a stamp below the
+    /// given one are freed for it.
+    pub fn make_room_or_free(
+        &mut self,
+        kind: Kind,
+        write: Write,
+        until: u64,
+    ) -> Result<(), RoomRefusal>
+        requires { IsWithinLimits write }
+        ensures contents { KeepsContents self.old self.new }
+        ensures ok { OnOk result (HasRoomFor self.new kind write) }
+        ensures full { IfErr result (λ refusal. IsNoRoom self.new kind write refusal) }
+        ensures spent { IfErr result (λ refusal. IsSpent until self.new refusal) }
+    {
+        match self.make_room(kind, write) {
+            Ok(()) => Ok(()),
+            Err(RoomRefusal::NoMemory) => Err(RoomRefusal::NoMemory),
+            Err(RoomRefusal::Full { leaves }) => {
+                if self.free_retired(until) == 0 {
+                    return Err(RoomRefusal::Full { leaves });
+                }
+                self.make_room(kind, write)
+            }
+        }
+    }
+
+    /// The same for so many rows in a key's cell, which has room for fewer.
+    pub fn make_cell_room_or_free(
+        &mut self,
+        key: Key,
+        need: u8,
+        until: u64,
+    ) -> Result<(), RoomRefusal>
+        requires within { is_below key end_key ≡ true }
+        requires some { 1 ≤ need }
+        requires few { need ≤ 2 }
+        requires short { room_at self.old key < need }
+        ensures contents { KeepsContents self.old self.new }
+        ensures ok { OnOk result (need ≤ room_at self.new key) }
+        ensures refused { IfErr result (λ refusal. IsRoomRefusal self.old key need refusal self.new) }
+        ensures spent { IfErr result (λ refusal. IsSpent until self.new refusal) }
+    {
+        match self.make_cell_room(key, need) {
+            Ok(()) => Ok(()),
+            Err(RoomRefusal::NoMemory) => Err(RoomRefusal::NoMemory),
+            Err(RoomRefusal::Full { leaves }) => {
+                if self.free_retired(until) == 0 {
+                    return Err(RoomRefusal::Full { leaves });
+                }
+                self.make_cell_room(key, need)
+            }
+        }
+    }
+}
