@@ -1,11 +1,8 @@
 -- The core of an engine by its fields, while one of its passes is changed in place.
-use Rattle.std.proofs.Common.{◌≡◌, ℕ, zero, suc, ◌+◌, ◌/◌, ◌<◌, ◌≤◌, subst, ◌↔◌, List, [], ◌∷◌, ◌++◌, length, get_or, cond, refl, sym, ◌∙◌, ap, arith}
+use Rattle.std.proofs.Common.{◌≡◌, ℕ, zero, suc, ◌+◌, ◌<◌, ◌≤◌, subst, ◌↔◌, List, [], ◌∷◌, ◌++◌, length, get_or, cond, refl, sym, ◌∙◌, ap, arith}
 use Rattle.std.specs.Prelude.{Bool, true, false, ◌==◌, Option, Some, None, IsSome, unwrap_or, slice_get, slice_set, Result, Ok, Err, IsErrAnd}
 use Rattle.std.proofs.lemmas.Bool.Decides.{nat_tests}
-use Rattle.std.specs.FinMap as fin_map
 use Rattle.graph_model.specs.declared.write.Kind.{Kind}
-use Rattle.graph_model.specs.declared.write.Kind.TheVariants.{Directed, Undirected}
-use Rattle.graph_model.specs.Graph.{Graph}
 use Rattle.graph_model.specs.declared.write.Write.{Write}
 use Rattle.graph_model.specs.declared.journal.Begun.{Begun}
 use Rattle.graph_model.specs.declared.refusal.BeginRefusal.{BeginRefusal}
@@ -16,7 +13,7 @@ use Rattle.graph_model.proofs.TestLemmas.{eq_of, self_eq}
 use Rattle.txn_manager.specs.Manager.{Manager, PassTxns, txns_of, open_start, committed}
 use Rattle.leaf_store.specs.Leaves.{Leaves}
 use Rattle.teseo_core.specs.Passes.{RoomyPass}
-use Rattle.teseo_core.specs.Keeping.{states_of, core_of, IsKept, edges_of}
+use Rattle.teseo_core.specs.Keeping.{states_of, core_of, IsKept}
 
 -- the state of a pass that is lent
 pub lent_state : (passes : List RoomyPass) (i : ℕ) (p : RoomyPass) → i < length (states_of passes) → p ≡ get_or passes i p → unwrap_or (slice_get (states_of passes) i) no_pass ≡ p.state
@@ -176,8 +173,3 @@ pub commits_some : (old new : Core) (start stamp : ℕ) (ws : List Write) → 0 
     → new ≡ record (with_current old (ended_pass old)) { journal = old.journal ++ commit_of old.journal (name_here old) (record { start = start; writes = ws }) ∷ [] } → CommitsHereFrom old start ws (Some stamp) new
 commits_some old new start stamp [] wrote is same = absurd (omega (arith, wrote))
 commits_some old new start stamp (w ∷ ws) wrote is same = (ap Some is, same)
-
--- edges by the kind
-pub edges_are : (kind : Kind) (g : Graph) (arcs : ℕ) → arcs ≡ fin_map.len g.arcs → (kind ≡ Directed → arcs ≡ edges_of kind g) × (kind ≡ Undirected → arcs / 2 ≡ edges_of kind g)
-edges_are Directed g arcs is = ((λ e. is), (λ e. cc))
-edges_are Undirected g arcs is = ((λ e. cc), (λ e. ap (λ n. n / 2) is))

@@ -28,7 +28,7 @@ use Rattle.leaf_rows.specs.declared.reader.Reader.{Reader}
 use Rattle.leaf_rows.specs.Readers.{Shows, cause_for}
 use Rattle.leaf_store.specs.Leaves.{Leaves, contents_of, weight}
 use Rattle.teseo_core.specs.Keeping.{running_in, txns_in, AreTied, IsKept, NoneOpen, newest_graph}
-use Rattle.leaf_rows.specs.Laying.{Stays}
+use Rattle.leaf_rows.specs.Laying.{KeepsContents}
 use Rattle.leaf_rows.specs.Loaded.{AreSettled}
 use Rattle.teseo_core.proofs.CountLemmas.{part, total_set, part_begun, part_written, written_length}
 use Rattle.teseo_core.proofs.OpenLemmas.{pass_set, here_changes, next_changes, same_running, tied_set, here_running, here_closed, same_open, here_listed}
@@ -131,16 +131,16 @@ module _ (core : Core) (m : Manager) (rows : Leaves) (is : IsKept core m rows) w
   kept_served served = record { horizon = is.horizon; store = is.store; chosen = is.chosen; tied = record { journal = is.tied.journal; count = is.tied.count; each = is.tied.each; allowed = is.tied.allowed }; used = is.used; made = is.made; weight_is = is.weight_is; limit = is.limit; some = is.some; few = is.few }
 
   -- rows that say the same, and are no more
-  pub kept_moved : (rows' : Leaves) → Stays rows rows' → IsKept core m rows'
-  kept_moved rows' stays = record {
+  pub kept_moved : (rows' : Leaves) → KeepsContents rows rows' → IsKept core m rows'
+  kept_moved rows' keeps = record {
     horizon = is.horizon;
-    store = owner_moved core.kind core.journal (running_in core) is.horizon (contents_of rows) is.store (contents_of rows') stays.contents;
+    store = owner_moved core.kind core.journal (running_in core) is.horizon (contents_of rows) is.store (contents_of rows') keeps.contents;
     chosen = is.chosen;
     tied = is.tied;
     used = is.used;
     made = is.made;
-    weight_is = let less = stays.weight in let most = is.weight_is in omega (arith, most, less);
-    limit = stays.limit ∙ is.limit;
+    weight_is = let less = keeps.weight in let most = is.weight_is in omega (arith, most, less);
+    limit = keeps.limit ∙ is.limit;
     some = is.some;
     few = is.few;
   }

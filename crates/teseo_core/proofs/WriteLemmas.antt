@@ -240,15 +240,15 @@ module _ (kind : Kind) (leaves : ℕ) (m : Manager) (passes : List RoomyPass) (s
         by_write (DropEdge u v) some = absurd (omega (arith, some))
 
     -- it is made, or found no place or no memory
-    pub put_kept : IsWithinLimits w → (done : Result (Unit {0}) Refusal) (p p' : RoomyPass) (rows' : Leaves) → p.state ≡ current core
-        → Puts kind r.by w rows rows' p.state p'.state done → IsKept (core_of kind leaves m (slice_set passes selected p') selected served) m rows'
-    put_kept within (Ok u) p p' rows' here laid = subst (λ c. IsKept c m rows') (sym (put_core kind leaves m passes selected served rows is p' m refl))
+    pub put_kept : IsWithinLimits w → (until : ℕ) (done : Result (Unit {0}) Refusal) (p p' : RoomyPass) (rows' : Leaves) → p.state ≡ current core
+        → Puts kind r.by w until rows rows' p.state p'.state done → IsKept (core_of kind leaves m (slice_set passes selected p') selected served) m rows'
+    put_kept within until (Ok u) p p' rows' here laid = subst (λ c. IsKept c m rows') (sym (put_core kind leaves m passes selected served rows is p' m refl))
         (kept_written core m rows is start opened w p'.state rows' within nothing.0 nothing.1 (laid.noted_in ∙ ap (λ s. with_one_write s w) here)
         (λ q. laid.contents q ∙ ap (λ n. Rattle.store_model.specs.Layers.after_write kind n w q (contents_of rows q)) reader.by) (let more = laid.weight_is in omega (arith, more, few)) laid.limit)
-    put_kept within (Err e) p p' rows' here puts = by_refusal e puts
+    put_kept within until (Err e) p p' rows' here puts = by_refusal e puts
       where
-        full : (l : ℕ) → FindsFull kind w l rows rows' p.state p'.state → IsKept (core_of kind leaves m (slice_set passes selected p') selected served) m rows'
-        full l finds = subst (λ c. IsKept c m rows') (sym (put_core kind leaves m passes selected served rows is p' m refl)) (kept_moved (with_current core p'.state) m rows filled rows' finds.stays)
+        full : (l : ℕ) → FindsFull kind w until l rows rows' p.state p'.state → IsKept (core_of kind leaves m (slice_set passes selected p') selected served) m rows'
+        full l finds = subst (λ c. IsKept c m rows') (sym (put_core kind leaves m passes selected served rows is p' m refl)) (kept_moved (with_current core p'.state) m rows filled rows' finds.keeps)
           where
             same : p'.state ≡ record (current core) { filled = true }
             same = finds.noted_in ∙ ap (λ (s : PassState). record s { filled = true }) here
@@ -256,7 +256,7 @@ module _ (kind : Kind) (leaves : ℕ) (m : Manager) (passes : List RoomyPass) (s
             filled : IsKept (with_current core p'.state) m rows
             filled = kept_noted core m rows is p'.state (ap (λ (s : PassState). s.start) same) (ap (λ (s : PassState). s.own) same) (ap (λ (s : PassState). s.begun) same) (ap (λ (s : PassState). s.made) same) (ap (λ (s : PassState). s.allowed) same)
 
-        by_refusal : (e : Refusal) → Puts kind r.by w rows rows' p.state p'.state (Err e) → IsKept (core_of kind leaves m (slice_set passes selected p') selected served) m rows'
+        by_refusal : (e : Refusal) → Puts kind r.by w until rows rows' p.state p'.state (Err e) → IsKept (core_of kind leaves m (slice_set passes selected p') selected served) m rows'
         by_refusal refusals.SelfLoop none = absurd none
         by_refusal (refusals.NoVertex v) none = absurd none
         by_refusal refusals.VertexExists none = absurd none
@@ -267,20 +267,20 @@ module _ (kind : Kind) (leaves : ℕ) (m : Manager) (passes : List RoomyPass) (s
         by_refusal (refusals.Full l) finds = full l finds
         by_refusal refusals.NoMemory stays = subst (λ c. IsKept c m rows') (sym (kept_core kind leaves m passes selected served rows is p' m refl (stays.1 ∙ here))) (kept_moved core m rows is rows' stays.0)
 
-    pub put_answer : (done : Result (Unit {0}) Refusal) (p p' : RoomyPass) (rows' : Leaves) → p.state ≡ current core
-        → Puts kind r.by w rows rows' p.state p'.state done → WritesHere core w done (core_of kind leaves m (slice_set passes selected p') selected served)
-    put_answer (Ok u) p p' rows' here laid =
+    pub put_answer : (until : ℕ) (done : Result (Unit {0}) Refusal) (p p' : RoomyPass) (rows' : Leaves) → p.state ≡ current core
+        → Puts kind r.by w until rows rows' p.state p'.state done → WritesHere core w done (core_of kind leaves m (slice_set passes selected p') selected served)
+    put_answer until (Ok u) p p' rows' here laid =
         (start, opened, (nothing.0, nothing.1, put_core kind leaves m passes selected served rows is p' m refl ∙ ap (with_current core) (laid.noted_in ∙ ap (λ s. with_one_write s w) here)))
-    put_answer (Err e) p p' rows' here puts = by_refusal e puts
+    put_answer until (Err e) p p' rows' here puts = by_refusal e puts
       where
-        full : (l : ℕ) → FindsFull kind w l rows rows' p.state p'.state → WritesHere core w (Err (refusals.Full l)) (core_of kind leaves m (slice_set passes selected p') selected served)
+        full : (l : ℕ) → FindsFull kind w until l rows rows' p.state p'.state → WritesHere core w (Err (refusals.Full l)) (core_of kind leaves m (slice_set passes selected p') selected served)
         full l finds =
             (start, opened, (nothing.0, nothing.1, may_insert finds.wants, finds.limit ∙ is.limit, many, put_core kind leaves m passes selected served rows is p' m refl ∙ ap (with_current core) (finds.noted_in ∙ ap (λ (s : PassState). record s { filled = true }) here)))
           where
             many : SPLIT_ROWS * l ≤ inserted_here core
             many = let heavy = finds.heavy in let light = is.weight_is in omega (arith, heavy, light)
 
-        by_refusal : (e : Refusal) → Puts kind r.by w rows rows' p.state p'.state (Err e) → WritesHere core w (Err e) (core_of kind leaves m (slice_set passes selected p') selected served)
+        by_refusal : (e : Refusal) → Puts kind r.by w until rows rows' p.state p'.state (Err e) → WritesHere core w (Err e) (core_of kind leaves m (slice_set passes selected p') selected served)
         by_refusal refusals.SelfLoop none = absurd none
         by_refusal (refusals.NoVertex v) none = absurd none
         by_refusal refusals.VertexExists none = absurd none

@@ -91,18 +91,21 @@ newest_graph core = graph_at core.kind core.journal (length core.journal)
 
 -- ---- what contracts see
 
--- an engine, its rows, and where its last sweep has ended
+-- an engine, its rows, the key whose leaf the next sweep takes, and for how many commits the service has swept
 pub record Store : Type 0 where
   pub core : Core
   pub rows : Leaves
   pub next : Key
+  pub swept : ℕ
 
 -- a new engine, whose rows are none
 pub record IsNewStore (config : Config) (s : Store) : Type 0 where
   pub core : s.core ≡ new_core config
   pub rows : AreNone config.leaves s.rows
   pub next : s.next ≡ first_key
+  pub swept : s.swept ≡ 0
 
--- no record is left: each key has what the newest graph has there, and nothing besides
-abbrev pub IsSettled : Store → Type 0
-IsSettled s = AreSettled s.rows (newest_graph s.core)
+-- no record and no retired leaf is left: each key has what the newest graph has there, and nothing besides
+pub record IsSettled (s : Store) : Type 0 where
+  pub rows : AreSettled s.rows (newest_graph s.core)
+  pub retired : s.rows.retired ≡ []

@@ -1,4 +1,6 @@
 pub mod Passes
 pub mod Keeping
 pub mod Loads
+pub mod Horizons
+pub mod Freeing
 pub mod Sweeping

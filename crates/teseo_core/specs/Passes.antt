@@ -13,7 +13,8 @@ use Rattle.graph_model.specs.AccountSteps.{last_with}
 use Rattle.graph_model.specs.OwnerCalls.{PassState, no_pass}
 use Rattle.store_model.specs.Layers.{after_write}
 use Rattle.leaf_store.specs.Leaves.{Leaves, contents_of, weight}
-use Rattle.leaf_rows.specs.Laying.{Stays, missing}
+use Rattle.leaf_rows.specs.Laying.{IsNoRoom, IsSpent, KeepsContents, missing}
+use Rattle.txn_manager.specs.declared.config.RoomRefusal.TheVariants as room_refusals
 
 pub record RoomyPass : Type 0 where
   pub state : PassState
@@ -72,23 +73,25 @@ pub record Laid (kind : Kind) (by : TxnName) (w : Write) (rows rows' : Leaves) (
   pub limit : rows'.limit ≡ rows.limit
   pub noted_in : new ≡ with_one_write old w
 
--- there was no place for one of its rows, and its pass notes that
-pub record FindsFull (kind : Kind) (w : Write) (leaves : ℕ) (rows rows' : Leaves) (old new : PassState) : Type 0 where
-  pub stays : Stays rows rows'
+-- there was no place for one of its rows, no retired leaf could be freed for it, and its pass notes that
+pub record FindsFull (kind : Kind) (w : Write) (until leaves : ℕ) (rows rows' : Leaves) (old new : PassState) : Type 0 where
+  pub keeps : KeepsContents rows rows'
+  pub no_room : IsNoRoom rows' kind w (room_refusals.Full leaves)
+  pub spent : IsSpent until rows' (room_refusals.Full leaves)
   pub limit : leaves ≡ rows.limit
   pub heavy : SPLIT_ROWS * leaves ≤ weight rows
   pub wants : 0 < missing rows kind w
   pub noted_in : new ≡ record old { filled = true }
 
 -- what a write that may be made comes to: it is laid, or it finds no place or no memory
-abbrev pub Puts : Kind → TxnName → Write → Leaves → Leaves → PassState → PassState → Result (Unit {0}) Refusal → Type 0
-Puts kind by w rows rows' old new (Ok done) = Laid kind by w rows rows' old new
-Puts kind by w rows rows' old new (Err refusals.SelfLoop) = ⊥
-Puts kind by w rows rows' old new (Err (refusals.NoVertex v)) = ⊥
-Puts kind by w rows rows' old new (Err refusals.VertexExists) = ⊥
-Puts kind by w rows rows' old new (Err refusals.EdgeExists) = ⊥
-Puts kind by w rows rows' old new (Err refusals.NoEdge) = ⊥
-Puts kind by w rows rows' old new (Err refusals.HasEdges) = ⊥
-Puts kind by w rows rows' old new (Err (refusals.Conflict cause)) = ⊥
-Puts kind by w rows rows' old new (Err (refusals.Full leaves)) = FindsFull kind w leaves rows rows' old new
-Puts kind by w rows rows' old new (Err refusals.NoMemory) = Stays rows rows' × (new ≡ old)
+abbrev pub Puts : Kind → TxnName → Write → ℕ → Leaves → Leaves → PassState → PassState → Result (Unit {0}) Refusal → Type 0
+Puts kind by w until rows rows' old new (Ok done) = Laid kind by w rows rows' old new
+Puts kind by w until rows rows' old new (Err refusals.SelfLoop) = ⊥
+Puts kind by w until rows rows' old new (Err (refusals.NoVertex v)) = ⊥
+Puts kind by w until rows rows' old new (Err refusals.VertexExists) = ⊥
+Puts kind by w until rows rows' old new (Err refusals.EdgeExists) = ⊥
+Puts kind by w until rows rows' old new (Err refusals.NoEdge) = ⊥
+Puts kind by w until rows rows' old new (Err refusals.HasEdges) = ⊥
+Puts kind by w until rows rows' old new (Err (refusals.Conflict cause)) = ⊥
+Puts kind by w until rows rows' old new (Err (refusals.Full leaves)) = FindsFull kind w until leaves rows rows' old new
+Puts kind by w until rows rows' old new (Err refusals.NoMemory) = KeepsContents rows rows' × (new ≡ old)

@@ -1,10 +1,12 @@
 //! The store as an engine of one owner.
 
 ghost use Rattle.std.specs.Prelude.{IsSome};
+ghost use Rattle.std.specs.Result.{IsOkAnd};
 ghost use Rattle.graph_model.specs.declared.write.Write.TheVariants as writes;
 ghost use Rattle.graph_model.specs.OwnerCalls.{account_here};
 ghost use Rattle.graph_model.specs.OwnerLaws.{DidBegin, DidWrite, DidRead, DidCommit, DidAbort, DidServe};
 ghost use Rattle.graph_model.proofs.OwnerLemmas.{begins_by, writes_by, reads_by, commits_by, aborts_by, serves_by};
+ghost use Rattle.teseo_core.specs.Sweeping.{ServesTurn};
 
 use crate::store::Core;
 use graph_model::{
@@ -27,7 +29,7 @@ impl Engine for Core {
 
     ghost did_abort = { λ s t. DidAbort s.core t.core };
 
-    ghost did_serve = { λ s r t. DidServe s.core t.core };
+    ghost did_serve = { λ s r t. DidServe s.core t.core × IsOkAnd r (ServesTurn s t) };
 
     fn kind(&self) -> Kind {
         self.kind_here()
@@ -38,19 +40,19 @@ impl Engine for Core {
     }
 
     fn add_vertex(&mut self, v: u64) -> Result<(), Refusal> {
-        self.write_here(Write::AddVertex { v })
+        self.make_write(Write::AddVertex { v })
     }
 
     fn add_edge(&mut self, u: u64, v: u64, weight: u64) -> Result<(), Refusal> {
-        self.write_here(Write::AddEdge { u, v, weight })
+        self.make_write(Write::AddEdge { u, v, weight })
     }
 
     fn set_edge(&mut self, u: u64, v: u64, weight: u64) -> Result<(), Refusal> {
-        self.write_here(Write::SetEdge { u, v, weight })
+        self.make_write(Write::SetEdge { u, v, weight })
     }
 
     fn drop_edge(&mut self, u: u64, v: u64) -> Result<(), Refusal> {
-        self.write_here(Write::DropEdge { u, v })
+        self.make_write(Write::DropEdge { u, v })
     }
 
     fn has_vertex(&mut self, v: u64) -> bool {
@@ -87,12 +89,12 @@ impl Engine for Core {
 
     ghost aborts = { λ s t did. aborts_by s.core t.core did };
 
-    ghost serves = { λ s t r did. serves_by s.core t.core did };
+    ghost serves = { λ s t r did. serves_by s.core t.core did.0 };
 }
 
 impl VertexEngine for Core {
     fn drop_vertex(&mut self, v: u64) -> Result<(), Refusal> {
-        self.write_here(Write::DropVertex { v })
+        self.make_write(Write::DropVertex { v })
     }
 }
 
@@ -119,7 +121,7 @@ impl StepEngine for Core {
 
     ghost aborts_here = { λ s t did. did.here };
 
-    ghost serves_here = { λ s t r did. did.here };
+    ghost serves_here = { λ s t r did. did.0.here };
 }
 
 impl LoadEngine for Core {

@@ -8,12 +8,15 @@
 #![tactic(auto)]
 
 mod engine;
+mod free;
 mod load;
+mod merge;
 mod pass;
 mod read;
 mod settle;
 mod store;
 mod sweep;
+mod totals;
 mod write;
 
 pub use settle::CoreJournal;

@@ -7,6 +7,7 @@ ghost use Rattle.teseo_core.specs.Keeping.{IsSettled, NoneOpen, edges_of, newest
 use crate::pass::Pass;
 use crate::store::Core;
 use graph_model::{Journal, Kind};
+use leaf_rows::STAMPS_END;
 use std::marker::Model;
 use txn_manager::Totals;
 
@@ -47,33 +48,28 @@ impl CoreJournal {
 }
 
 impl Core {
-    /// Takes all records away that nobody can see any more: all of them, since no transaction is open. Takes no memory.
+    /// Takes all records away that nobody can see any more: all of them, since no transaction is open. Then brings rows
+    /// together wherever neighbours have few, and frees all retired leaves. Takes no memory, since rows without records
+    /// need none to move.
     pub fn settle(&mut self)
         requires { NoneOpen self.old.core }
         ensures core { self.new.core ≡ self.old.core }
         ensures settled { IsSettled self.new }
     {
+        let stamp = self.retire_stamp();
         self.rows.settle(&self.manager, self.manager.clock());
+        self.rows.merge_all(stamp);
+        self.rows.free_retired(STAMPS_END);
     }
 
     /// The vertices and the edges of the newest graph, behind `settle`.
-    pub fn totals(&self) -> Totals
+    pub fn settled_totals(&self) -> Totals
         requires { IsSettled self.now }
         ensures vertices { result.vertices ≡ length (vertices_of (newest_graph self.now.core)) }
         ensures edges { result.edges ≡ edges_of self.now.core.kind (newest_graph self.now.core) }
         ensures none { (result.undo ≡ 0) × (result.retired ≡ 0) }
     {
-        let counts = self.rows.count();
-        let arcs = counts.arcs as u64;
-        Totals {
-            vertices: counts.vertices as u64,
-            edges: match self.kind {
-                Kind::Directed => arcs,
-                Kind::Undirected => arcs / 2,
-            },
-            undo: 0,
-            retired: 0,
-        }
+        self.newest_totals()
     }
 
     /// The journal, with what each pass did. Takes no memory.

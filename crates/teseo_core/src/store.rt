@@ -1,6 +1,6 @@
 //! The store of one owner.
 
-ghost use Rattle.std.specs.Prelude.{◌≡◌, ◌<◌, ◌↔◌, None, Some, IsSome, IfOk, Err, length, replicate, true};
+ghost use Rattle.std.specs.Prelude.{◌≡◌, ◌<◌, ◌-◌, ◌↔◌, None, Some, IsSome, IfOk, Err, length, replicate, true};
 ghost use Rattle.graph_model.specs.OwnerCalls.{current};
 ghost use Rattle.graph_model.specs.OwnerLaws.{DidBegin, DidCommit, DidAbort};
 ghost use Rattle.txn_manager.specs.Config.{too_large};
@@ -9,6 +9,7 @@ ghost use Rattle.teseo_core.specs.Passes.{new_pass};
 ghost use Rattle.teseo_core.specs.Keeping.{IsNewStore, states_of};
 
 use crate::pass::Pass;
+use crate::sweep::SweepKey;
 use graph_model::{BeginRefusal, Begun, Key, Kind, NoMemory, TxnName};
 use leaf_rows::{LeafRows, Reader};
 use std::alloc::Global;
@@ -26,10 +27,11 @@ pub struct Core {
     pub(crate) selected: u32,
     pub(crate) served: u64,
     pub(crate) rows: LeafRows,
-    /// Where the last sweep has ended.
-    pub(crate) next: Key,
-    /// The newest stamp at the service's last turn.
+    pub(crate) next: SweepKey,
+    /// For so many commits the service has swept.
     pub(crate) swept: u64,
+    /// The key whose leaf the service tends next.
+    pub(crate) tended: Key,
 }
 
 impl Model for Core {
@@ -40,7 +42,8 @@ impl Model for Core {
     ghost view = { λ c. record {
       core = core_of c.kind c.leaves c.manager c.passes.items c.selected c.served;
       rows = c.rows;
-      next = c.next;
+      next = c.next.key;
+      swept = c.swept;
     } };
 
     ghost invariant = { λ c.
@@ -68,8 +71,9 @@ impl Core {
             selected: 0,
             served: 0,
             rows,
-            next: Key::of_vertex(0),
+            next: SweepKey::first(),
             swept: 0,
+            tended: Key::of_vertex(0),
         })
     }
 
@@ -77,6 +81,13 @@ impl Core {
         ensures { result ≡ self.now.core.kind }
     {
         self.kind
+    }
+
+    /// How many leaves are neither free nor retired.
+    pub fn leaves_in_use(&self) -> u32
+        ensures { result ≡ (self.now.rows.limit - length self.now.rows.free) - length self.now.rows.retired }
+    {
+        self.rows.leaves_in_use()
     }
 
     /// Has the later calls speak of this pass.

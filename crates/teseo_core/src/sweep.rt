@@ -1,64 +1,123 @@
 //! Records that nobody can see any more are taken away while transactions run.
 //!
-//! 1. A sweep takes one cell, and the next one goes on where it ended.
+//! 1. A sweep takes one leaf, and the next one goes on where it ended.
 //! 2. No open transaction began below the horizon, so none sees what a sweep takes away.
 //! 3. The service sweeps as much as was committed, so a store that nobody changes costs it nothing.
 
-ghost use Rattle.std.specs.Prelude.{◌≡◌, ℕ};
+ghost use Rattle.std.specs.Prelude.{◌≡◌, true};
 ghost use Rattle.graph_model.specs.OwnerLaws.{DidServe};
-ghost use Rattle.teseo_core.specs.Sweeping.{Sweeps, SweepsMany, from_first};
+ghost use Rattle.graph_model.specs.Rows.{is_below, end_key, first_key};
+ghost use Rattle.teseo_core.specs.Sweeping.{ServesTurn, Sweeps, SweepsMany, TendsMany, from_first, leaves_due, swept_for};
 
+use crate::free::free_behind;
 use crate::store::Core;
 use graph_model::Key;
 
-/// So many cells the service sweeps in a turn at most.
-const MOST_CELLS: u64 = 64;
+/// For so many commits the service sweeps a leaf: as many segments as a leaf has, so a segment for each commit.
+pub(crate) const COMMITS_A_LEAF: u64 = 8;
+
+/// So many leaves the service sweeps in a turn at most, so that no transaction waits for long.
+pub(crate) const MOST_LEAVES: u64 = 8;
+
+/// The key whose leaf the next sweep takes.
+#[derive(Clone, Copy)]
+pub(crate) struct SweepKey {
+    pub(crate) key: Key,
+    ghost within: { is_below key end_key ≡ true },
+}
+
+impl SweepKey {
+    /// That of the first leaf.
+    pub(crate) fn first() -> SweepKey
+        ensures { result.key ≡ first_key }
+    {
+        SweepKey {
+            key: Key::of_vertex(0),
+        }
+    }
+
+    /// This key, or behind the last leaf that of the first one.
+    fn from_first(key: Key) -> SweepKey
+        ensures { result.key ≡ from_first key }
+    {
+        if key.is_below(Key::end()) {
+            SweepKey { key }
+        } else {
+            SweepKey::first()
+        }
+    }
+}
 
 impl Core {
-    /// Takes away, in the rows of the next cell, what no transaction can see any more, and answers whether a record
-    /// went. Behind the last cell comes the first one. Takes no memory.
+    /// Takes away, in the rows of the next leaf, what no transaction can see any more, and answers whether a record
+    /// went. Behind the last leaf the retired leaves are freed that can be, and the first one comes next. Takes no memory.
     pub fn sweep_step(&mut self) -> bool
         ensures { Sweeps self.old self.new result }
     {
-        let key = from_first(self.next);
         self.manager.clock();
-        let pruned = self.rows.sweep(key, &self.manager, self.manager.horizon());
-        self.next = pruned.high;
+        let horizon = self.manager.horizon();
+        let pruned = self.rows.sweep_leaf(self.next.key, &self.manager, horizon);
+        self.next = SweepKey::from_first(pruned.high);
+        free_behind(&mut self.rows, &self.manager, pruned.high);
         pruned.records > 0
     }
 
-    /// A turn of the service: for each commit since its last one it sweeps a cell, 64 at most.
+    /// A turn of the service: for every eight commits that it has not swept for it sweeps a leaf, eight at most, and looks
+    /// at another whether its rows are to be brought together. Where there are fewer it leaves them for its next turn.
     pub(crate) fn serve_here(&mut self) -> bool
-        ensures { DidServe self.old.core self.new.core }
+        ensures serves { DidServe self.old.core self.new.core }
+        ensures turn { ServesTurn self.old self.new result }
     {
         let clock = self.manager.clock();
-        let cells = clock.saturating_sub(self.swept).min(MOST_CELLS);
-        self.swept = clock;
+        let leaves = leaves_due(clock, self.swept).min(MOST_LEAVES);
+        self.swept = swept_for(clock, self.swept);
         self.served = self.served.saturating_add(1);
-        self.sweep_cells(cells)
+        let went = self.sweep_leaves(leaves);
+        let tended = self.tend_leaves(leaves);
+        went || tended
     }
 
-    /// Sweeps so many cells, and answers whether a record went.
-    fn sweep_cells(&mut self, cells: u64) -> bool
-        ensures { SweepsMany cells self.old self.new result }
+    /// Sweeps so many leaves, and answers whether a record went.
+    fn sweep_leaves(&mut self, leaves: u64) -> bool
+        ensures { SweepsMany leaves self.old self.new result }
     {
-        if cells == 0 {
+        if leaves == 0 {
             return false;
         }
         let first = self.sweep_step();
-        let more = self.sweep_cells(cells - 1);
+        let more = self.sweep_leaves(leaves - 1);
+        first || more
+    }
+
+    /// Looks at so many leaves whether rows are to be brought together, and answers whether one changed.
+    fn tend_leaves(&mut self, leaves: u64) -> bool
+        ensures { TendsMany leaves self.old self.new }
+    {
+        if leaves == 0 {
+            return false;
+        }
+        let first = self.tend_leaf();
+        let more = self.tend_leaves(leaves - 1);
         first || more
     }
 }
 
-/// The key, or behind the last cell that of the first one.
-fn from_first(key: Key) -> Key
-    ensures { result ≡ from_first key }
+/// For so many leaves the commits suffice that the service has not swept for.
+fn leaves_due(clock: u64, swept: u64) -> u64
+    ensures { result ≡ leaves_due clock swept }
 {
-    if key.is_below(Key::end()) {
-        key
+    clock.saturating_sub(swept) / COMMITS_A_LEAF
+}
+
+/// For so many commits it has swept behind its turn: for all of them where more leaves are due than it sweeps.
+fn swept_for(clock: u64, swept: u64) -> u64
+    ensures { result ≡ swept_for clock swept }
+{
+    let leaves = leaves_due(clock, swept);
+    if leaves > MOST_LEAVES {
+        clock
     } else {
-        Key::of_vertex(0)
+        swept + leaves * COMMITS_A_LEAF
     }
 }
 
@@ -67,7 +126,7 @@ mod tests {
     use super::*;
     use graph_model::{Engine, Kind, StepEngine};
     use std::test::Fail;
-    use txn_manager::Config;
+    use txn_manager::{Config, Totals};
 
     #[test]
     fn a_sweep_leaves_what_an_open_transaction_reads(rt: HostRuntime) -> Result<(), Fail> {
@@ -82,7 +141,9 @@ mod tests {
         core.begin()?;
         core.select(0);
         core.begin()?;
-        core.add_vertex(7)?;
+        'vertices: for v in 1..41 {
+            core.add_vertex(v)?;
+        }
         core.commit();
         let early = core.sweep_step();
         core.select(1);
@@ -93,6 +154,44 @@ mod tests {
             (early, seen, late),
             (false, false, true),
             "whether a record went"
+        );
+        Ok(())
+    }
+
+    #[test]
+    fn a_leaf_is_swept_whole(rt: HostRuntime) -> Result<(), Fail> {
+        let config = Config {
+            kind: Kind::Undirected,
+            leaves: 4,
+            passes: 3,
+            txns_per_pass: 2,
+        };
+        let mut core = Core::new(rt.alloc(), config)?;
+        core.begin()?;
+        'vertices: for v in 1..34 {
+            core.add_vertex(v)?;
+        }
+        core.commit();
+        let merged = (core.merge_step()?, core.merge_step()?);
+        let swept = (core.sweep_step(), core.sweep_step());
+        let totals = core.totals();
+        core.settle();
+        let settled = core.totals();
+        let only_vertices = Totals {
+            vertices: 33,
+            edges: 0,
+            undo: 0,
+            retired: 0,
+        };
+        assert_eq!(rt;
+            (merged, swept),
+            ((true, false), (true, false)),
+            "whether there was something to do"
+        );
+        assert_eq!(rt;
+            (totals, settled),
+            (only_vertices, only_vertices),
+            "what is left"
         );
         Ok(())
     }

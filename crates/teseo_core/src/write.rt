@@ -6,10 +6,11 @@ ghost use Rattle.graph_model.specs.OwnerLaws.{DidWrite};
 ghost use Rattle.graph_model.specs.Refused.{IsWithinLimits};
 ghost use Rattle.graph_model.specs.Rows.{is_below, end_key};
 ghost use Rattle.leaf_store.specs.Leaves.{room_at};
-ghost use Rattle.leaf_store.specs.Changes.{IsRoomRefusal};
-ghost use Rattle.leaf_rows.specs.Laying.{HasRoomFor, MayLay, Stays};
+ghost use Rattle.leaf_rows.specs.Laying.{HasRoomFor, KeepsContents, MayLay, Stays};
+ghost use Rattle.teseo_core.specs.Freeing.{RefusesRoom};
 ghost use Rattle.teseo_core.specs.Passes.{Laid, Puts};
 
+use crate::free::free_bound;
 use crate::pass::Pass;
 use crate::store::{Core, reader_of};
 use graph_model::{Key, Kind, NoMemory, Refusal, TxnName, Write};
@@ -18,22 +19,44 @@ use txn_manager::RoomRefusal;
 
 impl Core {
     /// Makes room for so many rows in a key's cell, which has too little: spreads the smallest window round it that has
-    /// room for them, else splits its leaf. A write does so on its own.
+    /// room for them, else splits its leaf, for which a retired one is freed where none is free. A write does so on its
+    /// own.
     pub fn make_room(&mut self, key: Key, need: u8) -> Result<(), RoomRefusal>
         requires within { is_below key end_key ≡ true }
         requires some { 1 ≤ need }
         requires few { need ≤ 2 }
         requires short { room_at self.old.rows key < need }
         ensures core { self.new.core ≡ self.old.core }
-        ensures stays { Stays self.old.rows self.new.rows }
+        ensures contents { KeepsContents self.old.rows self.new.rows }
         ensures ok { OnOk result (need ≤ room_at self.new.rows key) }
-        ensures refused { IfErr result (λ refusal. IsRoomRefusal self.old.rows key need refusal self.new.rows) }
+        ensures refused { IfErr result (λ refusal. RefusesRoom self.old key need refusal self.new) }
     {
-        self.rows.make_cell_room(key, need)
+        self.manager.clock();
+        let until = free_bound(&self.manager);
+        self.rows.make_cell_room_or_free(key, need, until)
+    }
+
+    /// Makes a write of the open transaction, or says why it isn't made. The cells of its rows are looked up first, and
+    /// once.
+    pub(crate) fn make_write(&mut self, write: Write) -> Result<(), Refusal>
+        requires current { IsSome (current self.old.core).start }
+        requires within { IsWithinLimits write }
+        ensures { DidWrite self.old.core write result self.new.core }
+    {
+        self.look_up(write);
+        self.write_here(write)
+    }
+
+    /// Looks the cells of a write's rows up for the calls to come.
+    fn look_up(&mut self, write: Write)
+        requires { IsWithinLimits write }
+        ensures { self.new ≡ self.old }
+    {
+        self.rows.look_up(write);
     }
 
     /// Makes a write of the open transaction, or says why it isn't made.
-    pub(crate) fn write_here(&mut self, write: Write) -> Result<(), Refusal>
+    fn write_here(&mut self, write: Write) -> Result<(), Refusal>
         requires current { IsSome (current self.old.core).start }
         requires within { IsWithinLimits write }
         ensures { DidWrite self.old.core write result self.new.core }
@@ -46,7 +69,15 @@ impl Core {
             Ok(()) => {}
             Err(refusal) => return Err(self.passes[pass].note_refusal(start, write, refusal)),
         }
-        put(&mut self.rows, &mut self.passes[pass], self.kind, by, write)
+        let until = free_bound(&self.manager);
+        put(
+            &mut self.rows,
+            &mut self.passes[pass],
+            self.kind,
+            by,
+            write,
+            until,
+        )
     }
 }
 
@@ -57,13 +88,14 @@ fn put(
     kind: Kind,
     by: TxnName,
     write: Write,
+    until: u64,
 ) -> Result<(), Refusal>
     requires current { IsSome pass.old.state.start }
     requires within { IsWithinLimits write }
     requires may { MayLay rows.old write }
-    ensures { Puts kind by write rows.old rows.new pass.old.state pass.new.state result }
+    ensures { Puts kind by write until rows.old rows.new pass.old.state pass.new.state result }
 {
-    match rows.make_room(kind, write) {
+    match rows.make_room_or_free(kind, write, until) {
         Ok(()) => {}
         Err(RoomRefusal::Full { leaves }) => {
             pass.fill();
