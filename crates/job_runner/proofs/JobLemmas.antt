@@ -1,6 +1,6 @@
 -- A job's fields, and what contracts see of it.
 use Rattle.std.proofs.Common.{◌≡◌, ℕ, zero, suc, ◌+◌, ◌<◌, ◌≤◌, List, [], ◌∷◌, length, drop, refl, sym, ◌∙◌, ap, subst, arith, slice_index_or}
-use Rattle.std.specs.Prelude.{Bool, true, false, ◌||◌, nat_le, Option, Some, None}
+use Rattle.std.specs.Prelude.{Bool, true, false, ◌||◌, nat_le, Option, Some, None, IfSome}
 use Rattle.std.proofs.lemmas.Bool.Decides.{nat_tests}
 use Rattle.graph_model.specs.OwnerCalls.{Core, current}
 use Rattle.run_model.specs.declared.command.Command.{Command}
@@ -9,8 +9,10 @@ use Rattle.run_model.specs.Jobs.{is_empty}
 use Rattle.job_runner.specs.declared.answering.LineTurn.{LineTurn}
 use Rattle.job_runner.specs.declared.phase.Phase.{Phase}
 use Rattle.job_runner.specs.declared.phase.Phase.TheVariants.{Between, Open, Skipping, GivenUp}
-use Rattle.job_runner.specs.declared.scan.Scan.{Scan}
-use Rattle.job_runner.specs.Lines.{is_inside, MayTake, TakesHere}
+use Rattle.job_runner.specs.declared.kept.KeptImage.{KeptImage}
+use Rattle.job_runner.specs.declared.reading.Reading.{Reading}
+use Rattle.job_runner.specs.Kernels.{IsKeptImage}
+use Rattle.job_runner.specs.Lines.{is_inside, view_here, MayTake, TakesHere}
 use Rattle.job_runner.specs.Progress.{Progress, left_of, has_given_up, is_over, behind, IsReady, TakesTurn}
 
 -- ---- what is left of a script
@@ -71,7 +73,7 @@ some_stands : (x : Option Bool) (rest : List Command) → IsScript x rest → (b
 some_stands None rest is = absurd is
 some_stands (Some b) rest is = (b, refl)
 
-pub may_take : (core : Core) (job : Progress) → IsReady core job → (c : Command) (rest : List Command) → left_of job ≡ c ∷ rest → MayTake core job.phase job.scan (request c)
+pub may_take : (core : Core) (job : Progress) → IsReady core job → (c : Command) (rest : List Command) → left_of job ≡ c ∷ rest → MayTake core job.phase job.reading (request c)
 may_take core job ready c rest is =
     let script : IsScript (Some (is_inside job.phase)) (c ∷ rest) = subst (IsScript (Some (is_inside job.phase))) is ready.script in
     let room : begun_by (next_txn (current core).begun (request c)) rest ≤ (current core).allowed = subst (λ cs. begun_by (current core).begun cs ≤ (current core).allowed) is ready.room in
@@ -82,7 +84,7 @@ may_take core job ready c rest is =
       stands = some_stands (open_behind (is_inside job.phase) (request c)) rest script.1;
       within = script.0;
       room = λ e. begins (current core).begun (request c) e (begun_by (next_txn (current core).begun (request c)) rest) (begun_rises (next_txn (current core).begun (request c)) rest) room;
-      scans = ready.scans c rest is;
+      reads = ready.reads c rest is;
     }
   where
     begins : (n : ℕ) (r : Request) → r ≡ ToBegin → (m : ℕ) → next_txn n r ≤ m → m ≤ (current core).allowed → n < (current core).allowed
@@ -95,16 +97,18 @@ module _ (core : Core) (job : Progress) (going : is_over job ≡ false) (ready :
   pub at_hand : left_of job ≡ c ∷ drop (suc (length job.answers)) job.commands
   at_hand = drop_at job.commands (length job.answers) (has_left job.phase (left_of job) going) c at
 
-  pub may_here : (phase : Phase) (scan : Option Scan) → phase ≡ job.phase → scan ≡ job.scan → MayTake core phase scan (request c)
-  may_here phase scan e f = subst (λ p. MayTake core p scan (request c)) (sym e) (subst (λ s. MayTake core job.phase s (request c)) (sym f) (may_take core job ready c (drop (suc (length job.answers)) job.commands) at_hand))
+  pub may_here : (phase : Phase) (reading : Option Reading) → phase ≡ job.phase → reading ≡ job.reading → MayTake core phase reading (request c)
+  may_here phase reading e f = subst (λ p. MayTake core p reading (request c)) (sym e) (subst (λ s. MayTake core job.phase s (request c)) (sym f) (may_take core job ready c (drop (suc (length job.answers)) job.commands) at_hand))
 
-  pub took_here : (phase : Phase) (scan : Option Scan) → phase ≡ job.phase → scan ≡ job.scan → (new : Core) (next : Progress) (turn made : LineTurn) → turn ≡ made → TakesHere core phase scan (request c) turn new → next ≡ behind job made
+  pub took_here : (phase : Phase) (reading : Option Reading) → phase ≡ job.phase → reading ≡ job.reading → (new : Core) (next : Progress) (turn made : LineTurn) → turn ≡ made → TakesHere core phase reading (request c) turn new → (image : Option KeptImage) → IfSome image (IsKeptImage (view_here core)) → next ≡ behind job image made
       → (x : Command) (rest : List Command) → left_of job ≡ x ∷ rest → TakesTurn core job x next new
-  took_here phase scan e f new next turn made same takes is x rest there =
+  took_here phase reading e f new next turn made same takes image kept is x rest there =
       let equal : c ≡ x = heads c x _ rest (sym at_hand ∙ there) in
       record {
         turn = made;
-        takes = subst (λ y. TakesHere core job.phase job.scan (request y) made new) equal
-            (subst (λ p. TakesHere core p job.scan (request c) made new) e (subst (λ s. TakesHere core phase s (request c) made new) f (subst (λ t. TakesHere core phase scan (request c) t new) same takes)));
+        takes = subst (λ y. TakesHere core job.phase job.reading (request y) made new) equal
+            (subst (λ p. TakesHere core p job.reading (request c) made new) e (subst (λ s. TakesHere core phase s (request c) made new) f (subst (λ t. TakesHere core phase reading (request c) t new) same takes)));
+        image = image;
+        kept = kept;
         job_is = is;
       }

@@ -8,11 +8,11 @@ use Rattle.graph_model.specs.declared.limits.TheConstants.{SPLIT_ROWS}
 use Rattle.graph_model.specs.declared.write.Kind.{Kind}
 use Rattle.graph_model.specs.declared.write.Write.{Write}
 use Rattle.graph_model.specs.declared.journal.Commit.{Commit}
+use Rattle.graph_model.specs.Graph.{Graph}
 use Rattle.graph_model.specs.History.{view}
 use Rattle.graph_model.specs.Inserted.{inserted, inserted_by}
 use Rattle.graph_model.specs.OwnerCalls.{PassState, Core, no_pass, pass_at, inserted_here}
 use Rattle.graph_model.proofs.TestLemmas.{self_eq}
-use Rattle.run_model.specs.declared.command.Command.{Command}
 use Rattle.run_model.specs.Requests.{request}
 use Rattle.run_model.specs.AnsweredLines.{made_by, answered_lines, newest_shown}
 use Rattle.run_model.specs.Inputs.{Inputs}
@@ -21,8 +21,8 @@ use Rattle.run_model.specs.Jobs.{lines_so_far, turn}
 use Rattle.run_model.specs.UnderWay.{IsUnderWay}
 use Rattle.run_model.proofs.SetLemmas.{set_cases, sum_cons}
 use Rattle.run_model.proofs.TurnLemmas.{turn_keeps}
-use Rattle.job_runner.specs.declared.scan.Scan.{Scan}
-use Rattle.job_runner.specs.Scanning.{IsScan}
+use Rattle.job_runner.specs.Kernels.{IsKeptImage}
+use Rattle.job_runner.specs.Scanning.{IsReading}
 use Rattle.job_runner.specs.Lines.{file_of}
 use Rattle.job_runner.specs.Progress.{Progress, seats, state_of}
 use Rattle.job_runner.specs.Runs.{IsUnused, writes_of_pass, files_context, AreTied, AreUnderWay}
@@ -74,6 +74,11 @@ length_set (y ∷ xs) (suc i) x = ap suc (length_set xs i x)
 pub apart_places : (i k : ℕ) → (i == k) ≡ false → suc i ≡ suc k → ⊥
 apart_places i k other e = let same : i ≡ k = omega (arith, e) in absurd (let no_one : true ≡ false = sym (self_eq k) ∙ ap (λ n. n == k) (sym same) ∙ other in cc)
 
+-- what holds of one graph with what is there, holds of an equal one
+pub if_same : {X : Type 0} (x : Option X) (P : Graph → X → Type 0) {g h : Graph} → g ≡ h → IfSome x (P g) → IfSome x (P h)
+if_same None P e is = tt
+if_same (Some y) P e is = subst (λ g. P g y) e is
+
 -- ---- a job whose turn it isn't
 
 -- it keeps its tie while the journal grows
@@ -92,15 +97,11 @@ tied_grows old new pass k job tied kind rest journal within shown =
       last = tied.last;
       begins = tied.begins;
       room = tied.room;
-      scans = λ c more e. scan_on job.scan c (same (unwrap_or pass.start 0) pass.own within) (tied.scans c more e);
+      reads = λ c more e. if_same job.reading (λ g reading. IsReading g (request c) reading) (same (unwrap_or pass.start 0) pass.own within) (tied.reads c more e);
       small = tied.small;
+      kept = if_same job.image IsKeptImage (same (unwrap_or pass.start 0) pass.own within) tied.kept;
       files = files_to (files_context old) (files_context new) (length old.journal) (sym kind) same [] (answered_lines job.commands job.answers) (map file_of job.tables) shown tied.files;
     }
-  where
-    scan_on : (scan : Option Scan) (c : Command) → view old.kind old.journal (unwrap_or pass.start 0) pass.own ≡ view new.kind new.journal (unwrap_or pass.start 0) pass.own
-        → IfSome scan (IsScan (view old.kind old.journal (unwrap_or pass.start 0) pass.own) (request c)) → IfSome scan (IsScan (view new.kind new.journal (unwrap_or pass.start 0) pass.own) (request c))
-    scan_on None c e is = tt
-    scan_on (Some scan) c e is = subst (λ g. IsScan g (request c) scan) e is
 
 module _ (inputs : Inputs) (core : Core) (jobs : List Progress) (u : AreUnderWay inputs core jobs) where
   -- the rows that were inserted are those of the load and of the lines
@@ -129,7 +130,7 @@ module _ (inputs : Inputs) (core : Core) (jobs : List Progress) (u : AreUnderWay
     where
       by_start : (s : Option ℕ) → (pass_at core (suc k)).start ≡ s → unwrap_or s 0 ≤ length core.journal
       by_start None e = omega arith
-      by_start (Some start) e = (ties.is_open inputs core jobs u k job there start e).seen
+      by_start (Some start) e = (ties.txn_is_open inputs core jobs u k job there start e).seen
 
   -- ONE JOB HAS CHANGED, and the engine with its pass alone
   module _ (k : ℕ) (job : Progress) (there : slice_get jobs k ≡ Some job) (new : Core) (next : Progress) (full : Bool)

@@ -32,8 +32,10 @@ use Rattle.job_runner.specs.declared.answering.LineAnswer.{LineAnswer}
 use Rattle.job_runner.specs.declared.phase.Phase.{Phase}
 use Rattle.job_runner.specs.declared.phase.Phase.TheVariants.{Between, Open, Skipping, GivenUp}
 use Rattle.run_model.specs.declared.command.Command.{Command}
+use Rattle.job_runner.specs.declared.reading.Reading.{Reading}
+use Rattle.job_runner.specs.declared.reading.Reading.TheVariants as readings
 use Rattle.job_runner.specs.declared.scan.Scan.{Scan}
-use Rattle.job_runner.specs.Scanning.{IsScan, IsWhole, ScansOn, rows_of_line, taken_of}
+use Rattle.job_runner.specs.Scanning.{IsScan, IsWhole, ScansOn, rows_of_line, IsReading, taken_by, taken_of}
 use Rattle.job_runner.specs.Lines.{is_skipping, is_inside, IsPhase, MayTake, goes_on_here, Advances, ScansHere, AnswersHere, phase_at, phase_behind, view_here, seat, result_here, made_behind, core_behind, IsFileOn, DoesLine, plain, Goes, Stops, Finishes}
 use Rattle.job_runner.proofs.CoreLemmas.{some_of, put_back, ended_of}
 
@@ -223,10 +225,10 @@ calm_of Skipping other = absurd (other refl)
 calm_of GivenUp other = refl
 
 -- a line that scans nothing is answered at once
-pub takes_answer : (old : Core) (phase : Phase) (scan : Option Scan) → is_skipping phase ≡ false → (command x : Command) → command ≡ x → ((g : Graph) → scanned g (request x) ≡ 0)
-    → (given : LineAnswer) (new : Core) → DoesLine old false (request x) given new → AnswersHere old phase scan (request command) given new
-takes_answer old phase scan calm command x is none given new does = subst (λ y. AnswersHere old phase scan (request y) given new) (sym is) (record {
-  last = (λ i. nat_lt (taken_of scan + 1) (cond (calm i) 1 (none (view_here old) i / SCAN_ROWS + 1))) ∙ never (taken_of scan);
+pub takes_answer : (old : Core) (phase : Phase) (reading : Option Reading) → is_skipping phase ≡ false → (command x : Command) → command ≡ x → ((g : Graph) → scanned g (request x) ≡ 0)
+    → (given : LineAnswer) (new : Core) → DoesLine old false (request x) given new → AnswersHere old phase reading (request command) given new
+takes_answer old phase reading calm command x is none given new does = subst (λ y. AnswersHere old phase reading (request y) given new) (sym is) (record {
+  last = (λ i. nat_lt (taken_of reading + 1) (cond (calm i) 1 (none (view_here old) i / SCAN_ROWS + 1))) ∙ never (taken_of reading);
   does = subst (λ b. DoesLine old b (request x) given new) (sym calm) does;
 })
   where
@@ -234,24 +236,24 @@ takes_answer old phase scan calm command x is none given new does = subst (λ y.
     never n = grind (arith, nat_tests)
 
 -- a line that is skipped takes one turn
-pub takes_skip : (old : Core) (phase : Phase) (scan : Option Scan) → phase ≡ Skipping → (r : Request) (given : LineAnswer) → DoesLine old true r given old → AnswersHere old phase scan r given old
-takes_skip old phase scan is r given does = subst (λ p. AnswersHere old p scan r given old) (sym is) (record { last = never (taken_of scan); does = does })
+pub takes_skip : (old : Core) (phase : Phase) (reading : Option Reading) → phase ≡ Skipping → (r : Request) (given : LineAnswer) → DoesLine old true r given old → AnswersHere old phase reading r given old
+takes_skip old phase reading is r given does = subst (λ p. AnswersHere old p reading r given old) (sym is) (record { last = never (taken_of reading); does = does })
   where
     never : (n : ℕ) → nat_lt (n + 1) 1 ≡ false
     never n = grind (arith, nat_tests)
 
 -- the same where answer and core are named otherwise
-pub takes_by : (old : Core) (phase : Phase) (scan : Option Scan) → is_skipping phase ≡ false → (command x : Command) → command ≡ x → ((g : Graph) → scanned g (request x) ≡ 0)
-    → (given given' : LineAnswer) → given ≡ given' → (new new' : Core) → new ≡ new' → DoesLine old false (request x) given' new' → AnswersHere old phase scan (request command) given new
-takes_by old phase scan calm command x is none given given' same new new' equal does =
-    subst (λ y. AnswersHere old phase scan (request command) y new) (sym same) (subst (λ y. AnswersHere old phase scan (request command) given' y) (sym equal) (takes_answer old phase scan calm command x is none given' new' does))
+pub takes_by : (old : Core) (phase : Phase) (reading : Option Reading) → is_skipping phase ≡ false → (command x : Command) → command ≡ x → ((g : Graph) → scanned g (request x) ≡ 0)
+    → (given given' : LineAnswer) → given ≡ given' → (new new' : Core) → new ≡ new' → DoesLine old false (request x) given' new' → AnswersHere old phase reading (request command) given new
+takes_by old phase reading calm command x is none given given' same new new' equal does =
+    subst (λ y. AnswersHere old phase reading (request command) y new) (sym same) (subst (λ y. AnswersHere old phase reading (request command) given' y) (sym equal) (takes_answer old phase reading calm command x is none given' new' does))
 
 -- a line at hand that is skipped
-pub skips_turn : (old : Core) (phase : Phase) (scan : Option Scan) (r : Request) → MayTake old phase scan r → phase ≡ Skipping → (given : LineAnswer) → given ≡ plain answers.Skipped (phase_behind (skips r))
-    → AnswersHere old phase scan r given old
-skips_turn old phase scan r may is given same =
+pub skips_turn : (old : Core) (phase : Phase) (reading : Option Reading) (r : Request) → MayTake old phase reading r → phase ≡ Skipping → (given : LineAnswer) → given ≡ plain answers.Skipped (phase_behind (skips r))
+    → AnswersHere old phase reading r given old
+skips_turn old phase reading r may is given same =
     let closed : (current old).start ≡ None = subst (λ p. IsPhase p (current old).start) is may.phase_is in
-    takes_skip old phase scan is r given (subst (λ y. DoesLine old true r y old) (sym same)
+    takes_skip old phase reading is r given (subst (λ y. DoesLine old true r y old) (sym same)
     (skip_does old may.selected r may.stands.0 (ap (λ p. open_behind (is_inside p) r) (sym is) ∙ may.stands.1) closed (idle_of (current old).start closed may.valid.idle)))
   where
     idle_of : (start : Option ℕ) → start ≡ None → IfNone start ((current old).own ≡ []) → (current old).own ≡ []
@@ -271,15 +273,15 @@ scanned_is g (ToRead (NeighboursOf v)) = sym (length-map _ _)
 scanned_is g (ToRead Counts) = refl
 scanned_is g (ToRun kernel file) = refl
 
--- the scan of a line that is at hand, or a new one
-pub scan_or : (core : Core) (before : Option Scan) (r : Request) (fresh : Scan) → IfSome before (IsScan (view_here core) r) → fresh.rows ≡ 0 → IsScan (view_here core) r fresh
-    → IsScan (view_here core) r (unwrap_or before fresh) × (taken_of (Some (unwrap_or before fresh)) ≡ taken_of before)
-scan_or core None r fresh is none scans = (scans, ap (λ n. n / SCAN_ROWS) none)
-scan_or core (Some scan) r fresh is none scans = (is, refl)
+-- what the line has begun to read, or what it begins with
+pub reading_or : (g : Graph) (before : Option Reading) (r : Request) (fresh : Reading) → IfSome before (IsReading g r) → taken_by fresh ≡ 0 → IsReading g r fresh
+    → IsReading g r (unwrap_or before fresh) × (taken_by (unwrap_or before fresh) ≡ taken_of before)
+reading_or g None r fresh is none reads = (reads, none)
+reading_or g (Some reading) r fresh is none reads = (is, refl)
 
-module _ (old : Core) (before : Option Scan) (r : Request) (s next : Scan) (is : IsScan (view_here old) r s) (taken : taken_of (Some s) ≡ taken_of before) (on : ScansOn (view_here old) r s next) where
+module _ (old : Core) (before : Option Reading) (r : Request) (s next : Scan) (is : IsScan (view_here old) r s) (taken : taken_by (readings.Scan s) ≡ taken_of before) (on : ScansOn (view_here old) r s next) where
   -- rows are left
-  scan_goes : next.cursor.done ≡ false → ScansHere old Open before r next old
+  scan_goes : next.cursor.done ≡ false → ScansHere old Open before r (readings.Scan next) old
   scan_goes going =
       let portion = on.portion going in
       let now : IsScan (view_here old) r next = portion.0 in
@@ -290,7 +292,7 @@ module _ (old : Core) (before : Option Scan) (r : Request) (s next : Scan) (is :
         more = more (taken_of before) is.portions next.rows (length left) (scanned (view_here old) r) (sym taken ∙ ap (λ n. n / SCAN_ROWS) is.full) (portion.1 ∙ ap (λ n. n + SCAN_ROWS) is.full) whole;
         taken = (ap (λ n. n / SCAN_ROWS) portion.1) ∙ one_more s.rows ∙ ap (λ n. n + 1) taken;
         small = small next.rows on.small;
-        scan = now;
+        reads = now;
         same = refl;
       }
     where

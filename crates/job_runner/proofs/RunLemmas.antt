@@ -46,7 +46,7 @@ serves core jobs new is = subst (λ x. Turns core jobs 0 false x jobs) (sym is) 
 })
   where
     same : (k : ℕ) (job : Progress) → AreTied core (pass_at core (suc k)) k job → AreTied (record core { served = one_more core.served }) (pass_at core (suc k)) k job
-    same k job t = record { number = t.number; answered = t.answered; phase_is = t.phase_is; wrote = t.wrote; counted = t.counted; by_txn = t.by_txn; last = t.last; begins = t.begins; room = t.room; scans = t.scans; small = t.small; files = t.files }
+    same k job t = record { number = t.number; answered = t.answered; phase_is = t.phase_is; wrote = t.wrote; counted = t.counted; by_txn = t.by_txn; last = t.last; begins = t.begins; room = t.room; reads = t.reads; small = t.small; kept = t.kept; files = t.files }
 
 -- ---- the beginning
 
@@ -108,8 +108,9 @@ module _ (inputs : Inputs) (core : Core) (jobs : List Progress) (new : AreNew in
         last = λ opened. absurd (let never : false ≡ true = sym (ap is_some none.closed) ∙ opened in cc);
         begins = ap (λ n. begun_by n cs) none.begun;
         room = subst (λ n. begun_by n cs ≤ (pass_at core (suc k)).allowed) (sym none.begun) (new.room k cs there);
-        scans = λ c rest e. tt;
+        reads = λ c rest e. tt;
         small = omega arith;
+        kept = tt;
         files = subst (λ ls. HasFiles (files_context core) [] ls []) (sym (none_answered 0 cs)) refl;
       }
 

@@ -28,7 +28,8 @@ use Rattle.run_model.specs.UnderWay.{AreNumbered}
 use Rattle.job_runner.specs.declared.answering.LineAnswer.{LineAnswer}
 use Rattle.job_runner.specs.declared.answering.LineTurn.TheVariants.{Scanning, Answering}
 use Rattle.job_runner.specs.declared.phase.Phase.TheVariants.{Skipping}
-use Rattle.job_runner.specs.declared.scan.Scan.{Scan}
+use Rattle.job_runner.specs.declared.kept.KeptImage.{KeptImage}
+use Rattle.job_runner.specs.declared.reading.Reading.{Reading}
 use Rattle.job_runner.specs.Scanning.{taken_of}
 use Rattle.job_runner.specs.Lines.{is_skipping, phase_at, phase_behind, seat, result_here, pass_behind, goes_on_here, ScansHere, AnswersHere}
 use Rattle.job_runner.specs.Progress.{Progress, left_of, behind, job_at, seats, state_of}
@@ -189,26 +190,26 @@ module _ (core : Core) (jobs : List Progress) (closed : AreClosed core (length j
     turn_is full c rest cons = ap (turn_at_place core.kind (state_of core jobs) k full) seat_there ∙ ap (job_turn core.kind (state_of core jobs) k full j) cons
 
     -- a portion of rows
-    pub scan_is_turn : (full : Bool) (c : Command) (rest : List Command) → left_of job ≡ c ∷ rest → (next : Scan) (new : Core) → ScansHere core job.phase job.scan (request c) next new
-        → state_of new (slice_set jobs k (behind job (Scanning next))) ≡ turn core.kind (state_of core jobs) (suc k) full
-    scan_is_turn full c rest cons next new scans =
+    pub scan_is_turn : (full : Bool) (c : Command) (rest : List Command) → left_of job ≡ c ∷ rest → (next : Reading) (image : Option KeptImage) (new : Core) → ScansHere core job.phase job.reading (request c) next new
+        → state_of new (slice_set jobs k (behind job image (Scanning next))) ≡ turn core.kind (state_of core jobs) (suc k) full
+    scan_is_turn full c rest cons next image new scans =
         let calm : is_skipping job.phase ≡ false = ap is_skipping scans.is_open in
-        let goes : nat_lt (j.taken + 1) (turns_of core.kind core.journal j (request c)) ≡ true = ap (λ b. goes_on_here core b (taken_of job.scan) (request c)) calm ∙ scans.more in
-        ap (λ x. state_of x (slice_set jobs k (behind job (Scanning next)))) scans.same
-        ∙ (λ i. record { journal = core.journal; jobs = seats (drop 1 (sym (put_back core.passes core.selected inside) i)) (slice_set jobs k (behind job (Scanning next))) })
-        ∙ (λ i. record { journal = core.journal; jobs = set_state (current core) (behind job (Scanning next)) i })
+        let goes : nat_lt (j.taken + 1) (turns_of core.kind core.journal j (request c)) ≡ true = ap (λ b. goes_on_here core b (taken_of job.reading) (request c)) calm ∙ scans.more in
+        ap (λ x. state_of x (slice_set jobs k (behind job image (Scanning next)))) scans.same
+        ∙ (λ i. record { journal = core.journal; jobs = seats (drop 1 (sym (put_back core.passes core.selected inside) i)) (slice_set jobs k (behind job image (Scanning next))) })
+        ∙ (λ i. record { journal = core.journal; jobs = set_state (current core) (behind job image (Scanning next)) i })
         ∙ (λ i. with_job (state_of core jobs) k (record j { taken = scans.taken i }))
         ∙ sym (turn_is full c rest cons ∙ ap (λ b. cond b (with_job (state_of core jobs) k (record j { taken = j.taken + 1 })) (line_turn core.kind (state_of core jobs) k full j c rest)) goes)
 
     -- a line
-    pub answer_is_turn : (c : Command) (rest : List Command) → left_of job ≡ c ∷ rest → AreNumbered 0 (answered_lines job.commands job.answers) (current core).begun → (given : LineAnswer) (new : Core)
-        → (answers : AnswersHere core job.phase job.scan (request c) given new) → state_of new (slice_set jobs k (behind job (Answering given))) ≡ turn core.kind (state_of core jobs) (suc k) answers.does.full
-    answer_is_turn c rest cons numbered given new answers =
+    pub answer_is_turn : (c : Command) (rest : List Command) → left_of job ≡ c ∷ rest → AreNumbered 0 (answered_lines job.commands job.answers) (current core).begun → (given : LineAnswer) (image : Option KeptImage) (new : Core)
+        → (answers : AnswersHere core job.phase job.reading (request c) given new) → state_of new (slice_set jobs k (behind job image (Answering given))) ≡ turn core.kind (state_of core jobs) (suc k) answers.does.full
+    answer_is_turn c rest cons numbered given image new answers =
         let does = answers.does in
         let full : Bool = does.full in
         let r : Request = request c in
         let here : LineResult = result_here core (is_skipping job.phase) full r in
-        let next : Progress = behind job (Answering given) in
+        let next : Progress = behind job image (Answering given) in
         let result : LineResult = line_result core.kind core.journal (jobs_of.open_txns (state_of core jobs).jobs) (k + 1) j full r in
         let same : here ≡ result =
         (let number : core.selected ≡ k + 1 = chosen ∙ one_more k in λ i. line_result core.kind core.journal (txns_same i) (number i) (seat core (is_skipping job.phase)) full r)

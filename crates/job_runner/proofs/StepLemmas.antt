@@ -1,6 +1,6 @@
 -- One turn of a job among the others.
 use Rattle.std.proofs.Common.{◌≡◌, ℕ, zero, suc, ◌+◌, ◌-◌, ◌*◌, ◌<◌, ◌≤◌, List, [], ◌∷◌, ◌++◌, length, length-append, drop, refl, sym, ◌∙◌, ap, subst, arith, cond, inl, inr}
-use Rattle.std.specs.Prelude.{◌⊎◌, Bool, true, false, ◌||◌, ◌==◌, not, map, Option, Some, None, IsSome, unwrap_or, slice_get, slice_set, sum_by}
+use Rattle.std.specs.Prelude.{◌⊎◌, Bool, true, false, ◌||◌, ◌&&◌, ◌==◌, not, map, Option, Some, None, IfSome, IsSome, unwrap_or, slice_get, slice_set, sum_by}
 use Rattle.std.specs.List.{filter_map}
 use Rattle.std.proofs.lemmas.Bool.{ne_eqb}
 use Rattle.std.proofs.lemmas.Bool.Decides.{nat_tests}
@@ -22,19 +22,21 @@ use Rattle.job_runner.specs.declared.answering.LineTurn.{LineTurn}
 use Rattle.job_runner.specs.declared.answering.LineTurn.TheVariants.{Scanning, Answering}
 use Rattle.job_runner.specs.declared.phase.Phase.{Phase}
 use Rattle.job_runner.specs.declared.phase.Phase.TheVariants.{Between, Open, Skipping, GivenUp}
-use Rattle.job_runner.specs.declared.scan.Scan.{Scan}
-use Rattle.job_runner.specs.Scanning.{IsScan, taken_of}
-use Rattle.job_runner.specs.Lines.{is_skipping, is_inside, IsPhase, file_of, MayTake, view_here, seat, result_here, made_behind, pass_behind, core_behind, ScansHere, AnswersHere, TakesHere}
+use Rattle.job_runner.specs.declared.kept.KeptImage.{KeptImage}
+use Rattle.job_runner.specs.declared.reading.Reading.{Reading}
+use Rattle.job_runner.specs.Kernels.{IsKeptImage}
+use Rattle.job_runner.specs.Scanning.{IsReading, taken_of}
+use Rattle.job_runner.specs.Lines.{is_skipping, is_inside, is_open, sees_same, IsPhase, file_of, MayTake, view_here, seat, result_here, made_behind, pass_behind, core_behind, ScansHere, AnswersHere, TakesHere}
 use Rattle.job_runner.specs.Progress.{Progress, left_of, has_given_up, is_over, behind, listed_table, TakesTurn, state_of}
-use Rattle.job_runner.specs.Runs.{files_context, AreTied, AreUnderWay, turns_left, under_way, Turns, Goes}
+use Rattle.job_runner.specs.Runs.{files_context, view_of_pass, AreTied, AreUnderWay, turns_left, under_way, Turns, Goes}
 use Rattle.job_runner.proofs.CoreLemmas.{some_of, get_set}
 use Rattle.job_runner.proofs.JobLemmas.{may_take, has_left}
 use Rattle.job_runner.proofs.FileLemmas.{view_grows, files_to, files_more, file_given}
 use Rattle.job_runner.proofs.SeatLemmas.{AreClosed, heads, lines_more, left_more, scan_is_turn, answer_is_turn, over_is_turn}
 use Rattle.job_runner.proofs.TieLemmas as ties
-use Rattle.job_runner.proofs.TieLemmas.{phase_fits, line_of, flat, made_more, made_count, stop_closes, writes_open, last_behind, between_begins}
+use Rattle.job_runner.proofs.TieLemmas.{phase_fits, line_of, flat, made_more, made_count, stop_closes, writes_open, last_behind, stays_same, between_begins}
 use Rattle.job_runner.proofs.MadeLemmas.{txn_more}
-use Rattle.job_runner.proofs.KeepLemmas.{fills, within, job_keeps, sum_changed, length_set}
+use Rattle.job_runner.proofs.KeepLemmas.{if_same, fills, within, job_keeps, sum_changed, length_set}
 
 -- a line that has a file runs a kernel, and begins nothing
 filing_runs : (b : Bool) (r : Request) (f : Filing) → cond b (filing_of r) None ≡ Some f → (n : ℕ) → next_txn n r ≡ n
@@ -64,6 +66,19 @@ may_write Open start r is behind e calm = inr is
 may_write Skipping start r is behind e calm = cc
 may_write GivenUp start r is behind e calm = absurd is
 
+-- of three that hold, each does
+all_three : (a b c : Bool) → (a && b && not c) ≡ true → (a ≡ true) × (b ≡ true) × (c ≡ false)
+all_three true true false e = (refl, refl, refl)
+all_three true true true e = cc
+all_three true false c e = cc
+all_three false b c e = cc
+
+open_is : (phase : Phase) → is_open phase ≡ true → phase ≡ Open
+open_is Between e = cc
+open_is Open e = refl
+open_is Skipping e = cc
+open_is GivenUp e = cc
+
 module _ (inputs : Inputs) (core : Core) (jobs : List Progress) (u : AreUnderWay inputs core jobs) (k : ℕ) (job : Progress) (there : slice_get jobs k ≡ Some job)
     (c : Command) (rest : List Command) (cons : left_of job ≡ c ∷ rest) where
   abbrev chosen : Core
@@ -75,7 +90,7 @@ module _ (inputs : Inputs) (core : Core) (jobs : List Progress) (u : AreUnderWay
   tied : AreTied core pass k job
   tied = u.each k job there
 
-  may : MayTake chosen job.phase job.scan (request c)
+  may : MayTake chosen job.phase job.reading (request c)
   may = may_take chosen job (ties.ready inputs core jobs u k job there) c rest cons
 
   inside : suc k < length core.passes
@@ -86,8 +101,8 @@ module _ (inputs : Inputs) (core : Core) (jobs : List Progress) (u : AreUnderWay
 
   -- ---- a portion of rows
 
-  module _ (next : Scan) (new : Core) (scans : ScansHere chosen job.phase job.scan (request c) next new) where
-    scan_tied : AreTied chosen pass k (behind job (Scanning next))
+  module _ (next : Reading) (image : Option KeptImage) (new : Core) (scans : ScansHere chosen job.phase job.reading (request c) next new) (kept : IfSome image (IsKeptImage (view_here chosen))) where
+    scan_tied : AreTied chosen pass k (behind job image (Scanning next))
     unfolding tied
     scan_tied = record {
       number = tied.number;
@@ -99,25 +114,26 @@ module _ (inputs : Inputs) (core : Core) (jobs : List Progress) (u : AreUnderWay
       last = tied.last;
       begins = tied.begins;
       room = tied.room;
-      scans = λ x more e. subst (λ y. IsScan (view_here chosen) (request y) next) (heads c x rest more (sym cons ∙ e)) scans.scan;
+      reads = λ x more e. subst (λ y. IsReading (view_here chosen) (request y) next) (heads c x rest more (sym cons ∙ e)) scans.reads;
       small = scans.small;
+      kept = kept;
       files = tied.files;
     }
 
-    pub scan_keeps : AreUnderWay inputs new (slice_set jobs k (behind job (Scanning next)))
-    scan_keeps = subst (λ x. AreUnderWay inputs x (slice_set jobs k (behind job (Scanning next)))) (sym scans.same)
-        (job_keeps inputs core jobs u k job there chosen (behind job (Scanning next)) false (λ e. cc)
-        (ap (λ x. state_of x (slice_set jobs k (behind job (Scanning next)))) (sym scans.same) ∙ scan_is_turn chosen jobs closed_chosen k job there refl inside false c rest cons next new scans)
+    pub scan_keeps : AreUnderWay inputs new (slice_set jobs k (behind job image (Scanning next)))
+    scan_keeps = subst (λ x. AreUnderWay inputs x (slice_set jobs k (behind job image (Scanning next)))) (sym scans.same)
+        (job_keeps inputs core jobs u k job there chosen (behind job image (Scanning next)) false (λ e. cc)
+        (ap (λ x. state_of x (slice_set jobs k (behind job image (Scanning next)))) (sym scans.same) ∙ scan_is_turn chosen jobs closed_chosen k job there refl inside false c rest cons next image new scans)
         refl refl refl (λ p away. refl) [] (sym (append-nil core.journal)) scan_tied)
 
   -- ---- a line
 
-  module _ (given : LineAnswer) (new : Core) (answered : AnswersHere chosen job.phase job.scan (request c) given new) where
+  module _ (given : LineAnswer) (image : Option KeptImage) (new : Core) (answered : AnswersHere chosen job.phase job.reading (request c) given new) (kept : IfSome image (IsKeptImage (view_here chosen))) where
     abbrev here : LineResult
     here = result_here chosen (is_skipping job.phase) answered.does.full (request c)
 
     abbrev next : Progress
-    next = behind job (Answering given)
+    next = behind job image (Answering given)
 
     abbrev after : Core
     after = core_behind chosen (request c) here answered.does.sighted answered.does.filled
@@ -165,6 +181,24 @@ module _ (inputs : Inputs) (core : Core) (jobs : List Progress) (u : AreUnderWay
             absurd (let none : ◌≡◌ {A = Option Filing} None (Some f) = sym (ap (λ a. cond (effect a).files (filing_of (request c)) None) skipped) ∙ e in cc)
         by_phase GivenUp is never behind stands = absurd never
 
+    -- an image that is kept is that of what the transaction sees behind the line
+    line_kept : IfSome next.image (IsKeptImage (view_of_pass after passed))
+    unfolding may
+    line_kept = by_same (sees_same job.phase given) refl
+      where
+        seen : sees_same job.phase given ≡ true → view_here chosen ≡ view_of_pass after passed
+        seen e =
+            let each = all_three (is_open job.phase) (is_open given.phase) (effect given.answer).writes e in
+            let phase : job.phase ≡ Open = open_is job.phase each.0 in
+            let same = stays_same chosen.kind chosen.journal (open_txns chosen) (suc k) (seat chosen (is_skipping job.phase)) answered.does.full (request c) may.stands.0
+            (ap (λ p. open_behind (is_inside p) (request c)) (sym phase) ∙ may.stands.1) (ap is_skipping phase)
+            (ap is_open (sym answered.does.phase) ∙ each.1) (ap (λ a. (effect a).writes) (sym answered.does.answer) ∙ each.2) in
+            λ i. view core.kind ((sym (append-nil core.journal) ∙ ap (λ xs. core.journal ++ xs) (sym same.2)) i) (unwrap_or (sym same.0 i) 0) (sym same.1 i)
+
+        by_same : (b : Bool) → sees_same job.phase given ≡ b → IfSome (cond b image None) (IsKeptImage (view_of_pass after passed))
+        by_same true e = if_same image IsKeptImage (seen e) kept
+        by_same false e = tt
+
     line_tied : AreTied after passed k next
     unfolding tied
     line_tied = record {
@@ -183,8 +217,9 @@ module _ (inputs : Inputs) (core : Core) (jobs : List Progress) (u : AreUnderWay
       last = last_behind chosen.kind chosen.journal (open_txns chosen) (suc k) (seat chosen (is_skipping job.phase)) answered.does.full pass.made tied.last (request c);
       begins = subst (λ cs. begun_by (next_txn pass.begun (request c)) cs ≡ begun_by 0 job.commands) (sym left_is) (subst (λ cs. begun_by pass.begun cs ≡ begun_by 0 job.commands) cons tied.begins);
       room = subst (λ cs. begun_by (next_txn pass.begun (request c)) cs ≤ pass.allowed) (sym left_is) (subst (λ cs. begun_by pass.begun cs ≤ pass.allowed) cons tied.room);
-      scans = λ x more e. tt;
+      reads = λ x more e. tt;
       small = omega arith;
+      kept = line_kept;
       files = subst (λ ls. HasFiles (files_context after) [] ls (map file_of next.tables)) (sym lines_are)
           (subst (λ fs. HasFiles (files_context after) [] (lines ++ line ∷ []) fs) (sym (map-append file_of job.tables (listed_table given.table)))
           (files_more (files_context after) [] lines line (map file_of job.tables) (map file_of (listed_table given.table))
@@ -202,7 +237,7 @@ module _ (inputs : Inputs) (core : Core) (jobs : List Progress) (u : AreUnderWay
     pub line_keeps : AreUnderWay inputs new (slice_set jobs k next)
     line_keeps = subst (λ x. AreUnderWay inputs x (slice_set jobs k next)) (sym answered.does.core)
         (job_keeps inputs core jobs u k job there after next answered.does.full answered.does.filling
-        (ap (λ x. state_of x (slice_set jobs k next)) (sym answered.does.core) ∙ answer_is_turn chosen jobs closed_chosen k job there refl inside c rest cons (ties.its inputs core jobs u k job there).numbered given new answered)
+        (ap (λ x. state_of x (slice_set jobs k next)) (sym answered.does.core) ∙ answer_is_turn chosen jobs closed_chosen k job there refl inside c rest cons (ties.its inputs core jobs u k job there).numbered given image new answered)
         refl refl (length_set core.passes (suc k) passed)
         (λ p away. ap (λ x. unwrap_or x no_pass) (get_set_else core.passes (suc k) p passed (ne_eqb p (suc k) away)))
         here.commits refl
@@ -211,20 +246,20 @@ module _ (inputs : Inputs) (core : Core) (jobs : List Progress) (u : AreUnderWay
 -- ---- A TURN
 
 -- how the turns that are left fall
-turn_less : (job : Progress) (c : Command) (rest : List Command) → left_of job ≡ c ∷ rest → taken_of job.scan < 288230376151711744 → (core : Core) (turn : LineTurn) (new : Core)
-    → TakesHere core job.phase job.scan (request c) turn new → turns_left (behind job turn) < turns_left job
-turn_less job c rest cons small core (Scanning next) new takes =
-    let taken : taken_of (Some next) ≡ taken_of job.scan + 1 = takes.taken in
+turn_less : (job : Progress) (c : Command) (rest : List Command) → left_of job ≡ c ∷ rest → taken_of job.reading < 288230376151711744 → (core : Core) (turn : LineTurn) (new : Core)
+    → TakesHere core job.phase job.reading (request c) turn new → (image : Option KeptImage) → turns_left (behind job image turn) < turns_left job
+turn_less job c rest cons small core (Scanning next) new takes image =
+    let taken : taken_of (Some next) ≡ taken_of job.reading + 1 = takes.taken in
     let less : taken_of (Some next) < 288230376151711744 = takes.small in
     let some : length (left_of job) ≡ suc (length rest) = ap length cons in
-    falls (length (left_of job)) (length rest) (taken_of (Some next)) (taken_of job.scan) some taken less
+    falls (length (left_of job)) (length rest) (taken_of (Some next)) (taken_of job.reading) some taken less
   where
     falls : (n m t s : ℕ) → n ≡ suc m → t ≡ s + 1 → t < 288230376151711744 → n * 288230376151711744 - t < n * 288230376151711744 - s
     falls n m t s e f less = omega arith
-turn_less job c rest cons small core (Answering given) new takes =
+turn_less job c rest cons small core (Answering given) new takes image =
     let some : length (left_of job) ≡ suc (length rest) = ap length cons in
-    let fewer : length (left_of (behind job (Answering given))) ≡ length rest = ap length (left_more job.commands job.answers c rest given.answer cons) in
-    falls (length (left_of job)) (length rest) (length (left_of (behind job (Answering given)))) (taken_of job.scan) some fewer small
+    let fewer : length (left_of (behind job image (Answering given))) ≡ length rest = ap length (left_more job.commands job.answers c rest given.answer cons) in
+    falls (length (left_of job)) (length rest) (length (left_of (behind job image (Answering given)))) (taken_of job.reading) some fewer small
   where
     falls : (n m l s : ℕ) → n ≡ suc m → l ≡ m → s < 288230376151711744 → l * 288230376151711744 - 0 < n * 288230376151711744 - s
     falls n m l s e f less = omega arith
@@ -252,29 +287,30 @@ module _ (core : Core) (jobs : List Progress) (k : ℕ) (job : Progress) (there 
 
     pub takes_on : (ended : Bool) → is_over next ≡ ended → (c : Command) (rest : List Command) → left_of job ≡ c ∷ rest → TakesTurn now job c next new
         → Turns core jobs (suc k) ended new (slice_set jobs k next)
-    takes_on ended over c rest cons takes = by_turn takes.turn takes.takes takes.job_is
+    takes_on ended over c rest cons takes = by_turn takes.turn takes.takes takes.image takes.kept takes.job_is
       where
         left : under_way (slice_set jobs k next) + cond ended 1 0 ≡ under_way jobs
         left = left_falls (is_over job) ended (under_way jobs) (under_way (slice_set jobs k next)) going
             (sum_changed (λ j. cond (not (is_over j)) 1 0) jobs k job next there ∙ ap (λ b. under_way jobs + cond (not b) 1 0) over)
 
-        by_turn : (turn : LineTurn) → TakesHere now job.phase job.scan (request c) turn new → next ≡ behind job turn → Turns core jobs (suc k) ended new (slice_set jobs k next)
-        by_turn (Scanning scan) t is = record {
+        by_turn : (turn : LineTurn) → TakesHere now job.phase job.reading (request c) turn new → (image : Option KeptImage) → IfSome image (IsKeptImage (view_here now)) → next ≡ behind job image turn
+            → Turns core jobs (suc k) ended new (slice_set jobs k next)
+        by_turn (Scanning reading) t image kept is = record {
           full = false;
           filling = λ inputs u e. absurd (let never : false ≡ true = e in cc);
-          state = ap (λ x. state_of new (slice_set jobs k x)) is ∙ scan_is_turn now jobs (closed_chosen inputs core jobs u k job there c rest cons) k job there refl (ties.inside inputs core jobs u k job there) false c rest cons scan new t;
-          keeps = λ inputs u. subst (λ x. AreUnderWay inputs new (slice_set jobs k x)) (sym is) (scan_keeps inputs core jobs u k job there c rest cons scan new t);
+          state = ap (λ x. state_of new (slice_set jobs k x)) is ∙ scan_is_turn now jobs (closed_chosen inputs core jobs u k job there c rest cons) k job there refl (ties.inside inputs core jobs u k job there) false c rest cons reading image new t;
+          keeps = λ inputs u. subst (λ x. AreUnderWay inputs new (slice_set jobs k x)) (sym is) (scan_keeps inputs core jobs u k job there c rest cons reading image new t kept);
           kind = ap (λ (x : Core). x.kind) t.same;
           leaves = ap (λ (x : Core). x.leaves) t.same;
           served = ap (λ (x : Core). x.served) t.same ∙ sym (ap (λ b. cond b (one_more core.served) core.served) (not_zero k));
           journal = ([], ap (λ (x : Core). x.journal) t.same ∙ sym (append-nil core.journal));
           left = left;
         }
-        by_turn (Answering given) t is = record {
+        by_turn (Answering given) t image kept is = record {
           full = t.does.full;
           filling = λ inputs u e. fills inputs core jobs u (t.does.filling e);
-          state = ap (λ x. state_of new (slice_set jobs k x)) is ∙ answer_is_turn now jobs (closed_chosen inputs core jobs u k job there c rest cons) k job there refl (ties.inside inputs core jobs u k job there) c rest cons (ties.its inputs core jobs u k job there).numbered given new t;
-          keeps = λ inputs u. subst (λ x. AreUnderWay inputs new (slice_set jobs k x)) (sym is) (line_keeps inputs core jobs u k job there c rest cons given new t);
+          state = ap (λ x. state_of new (slice_set jobs k x)) is ∙ answer_is_turn now jobs (closed_chosen inputs core jobs u k job there c rest cons) k job there refl (ties.inside inputs core jobs u k job there) c rest cons (ties.its inputs core jobs u k job there).numbered given image new t;
+          keeps = λ inputs u. subst (λ x. AreUnderWay inputs new (slice_set jobs k x)) (sym is) (line_keeps inputs core jobs u k job there c rest cons given image new t kept);
           kind = ap (λ (x : Core). x.kind) t.does.core;
           leaves = ap (λ (x : Core). x.leaves) t.does.core;
           served = ap (λ (x : Core). x.served) t.does.core ∙ sym (ap (λ b. cond b (one_more core.served) core.served) (not_zero k));
@@ -295,7 +331,7 @@ module _ (core : Core) (jobs : List Progress) (k : ℕ) (job : Progress) (there 
 
         less : sum_by turns_left (slice_set jobs k next) < sum_by turns_left jobs
         less =
-            let falls : turns_left next < turns_left job = subst (λ x. turns_left x < turns_left job) (sym takes.job_is) (turn_less job c rest cons (u.each k job there).small now takes.turn new takes.takes) in
+            let falls : turns_left next < turns_left job = subst (λ x. turns_left x < turns_left job) (sym takes.job_is) (turn_less job c rest cons (u.each k job there).small now takes.turn new takes.takes takes.image) in
             omega (arith, falls, sum_changed turns_left jobs k job next there)
         -- ---- a script that is over is passed over
 

@@ -35,7 +35,7 @@ use Rattle.run_model.specs.UnderWay.{IsJob}
 use Rattle.run_model.proofs.OpenLemmas.{open_here}
 use Rattle.job_runner.specs.declared.phase.Phase.{Phase}
 use Rattle.job_runner.specs.declared.phase.Phase.TheVariants.{Between, Open, Skipping, GivenUp}
-use Rattle.job_runner.specs.Lines.{is_skipping, is_inside, IsPhase, phase_at, phase_behind, made_behind}
+use Rattle.job_runner.specs.Lines.{is_skipping, is_inside, is_open, IsPhase, phase_at, phase_behind, made_behind}
 use Rattle.job_runner.specs.Progress.{Progress, left_of, IsReady, job_at, state_of}
 use Rattle.job_runner.specs.Runs.{AreTied, AreUnderWay}
 use Rattle.job_runner.proofs.JobLemmas.{begun_rises}
@@ -87,9 +87,9 @@ module _ (inputs : Inputs) (core : Core) (jobs : List Progress) (u : AreUnderWay
     its = u.state.each k (job_at pass job) seat
 
     -- the open transaction is one of the account's
-    pub is_open : (start : ℕ) → pass.start ≡ Some start → IsOpenTxn (account_here chosen) start
+    pub txn_is_open : (start : ℕ) → pass.start ≡ Some start → IsOpenTxn (account_here chosen) start
     unfolding tied
-    is_open start e =
+    txn_is_open start e =
         let run = u.state.transactions.each (txn_name (k + 1) pass.begun) (record { start = start; writes = pass.own })
         (open_here (state_of core jobs).jobs k (job_at pass job) seat ∙ ap (λ s. option_map (λ start. record { start = start; writes = pass.own }) s) e) in
         record {
@@ -111,7 +111,7 @@ module _ (inputs : Inputs) (core : Core) (jobs : List Progress) (u : AreUnderWay
       where
         by_start : (s : Option ℕ) → pass.start ≡ s → IfSome s (IsOpenTxn (account_here chosen))
         by_start None e = tt
-        by_start (Some start) e = is_open start e
+        by_start (Some start) e = txn_is_open start e
 
     pub ready : IsReady chosen job
     unfolding tied its
@@ -122,7 +122,8 @@ module _ (inputs : Inputs) (core : Core) (jobs : List Progress) (u : AreUnderWay
       phase_is = tied.phase_is;
       room = tied.room;
       script = subst (λ b. IsScript (Some b) (left_of job)) (inside_is job.phase pass.start tied.phase_is) its.script;
-      scans = tied.scans;
+      reads = tied.reads;
+      kept = tied.kept;
     }
 
 -- ---- what a pass has made, behind a line
@@ -248,6 +249,37 @@ module _ (kind : Kind) (journal : List Commit) (txns : List OpenTxn) (number : �
       by_skipping : (b : Bool) → j.skipping ≡ b → (effect (cond b (skips r) (live_result kind journal txns number j full r)).answer).writes ≡ true → IsSome j.start
       by_skipping true f e = absurd (let never : false ≡ true = e in cc)
       by_skipping false f e = begun (may f) e
+
+  -- a transaction that stays open behind a line, and was not written to, is as it was
+  abbrev pub IsSame : LineResult → Type 0
+  IsSame result = (result.start ≡ j.start) × (result.own ≡ j.own) × (result.commits ≡ [])
+
+  abbrev StaysSame : LineResult → Type 0
+  StaysSame result = is_open (phase_behind result) ≡ true → (effect result.answer).writes ≡ false → IsSame result
+
+  pub stays_same : (r : Request) (behind : Bool) → open_behind true r ≡ Some behind → j.skipping ≡ false → StaysSame (line_result kind journal txns number j full r)
+  stays_same r behind stands calm = subst (λ b. StaysSame (cond b (skips r) (live_result kind journal txns number j full r))) (sym calm) (live r stands)
+    where
+      by_write : (w : Write) (x : Option Refusal) (y : Option Cause) → StaysSame (write_result j w x y full)
+      by_write w (Some refusal) y e f = (refl, refl, refl)
+      by_write w None (Some cause) e f = none_open e
+      by_write w None None e f = by_full (full && inserts w) e f
+        where
+          by_full : (b : Bool) → StaysSame (cond b (stops answers.Full) (writes_more j w))
+          by_full true e f = none_open e
+          by_full false e f = none_open (sym f)
+
+      by_own : (by : TxnName) (start : ℕ) (own : List Write) → StaysSame (commit_result journal by start own)
+      by_own by start [] e f = none_open e
+      by_own by start (w ∷ ws) e f = none_open e
+
+      live : (r : Request) → open_behind true r ≡ Some behind → StaysSame (live_result kind journal txns number j full r)
+      live ToBegin stands e f = let no_one : ◌≡◌ {A = Option Bool} None (Some behind) = stands in cc
+      live ToCommit stands e f = by_own _ _ j.own e f
+      live ToAbort stands e f = none_open e
+      live (ToWrite w) stands e f = by_write w _ _ e f
+      live (ToRead query) stands e f = (refl, refl, refl)
+      live (ToRun kernel file) stands e f = (refl, refl, refl)
 
   -- the open transaction's writes stand last
   module _ (made : List (List Write)) (last : IsSome j.start → (earlier : List (List Write)) × (made ≡ earlier ++ j.own ∷ [])) where

@@ -67,7 +67,7 @@ are_held inputs core jobs u = record {
 }
 
 -- what a job's giving up leaves
-pub gives_up_one : (core : Core) (jobs : List Progress) (k : ℕ) (job : Progress) → slice_get jobs k ≡ Some job → AreHeld core jobs → suc k < length core.passes → (next : Progress) → next ≡ record job { phase = GivenUp; scan = None }
+pub gives_up_one : (core : Core) (jobs : List Progress) (k : ℕ) (job : Progress) → slice_get jobs k ≡ Some job → AreHeld core jobs → suc k < length core.passes → (next : Progress) → next ≡ record job { phase = GivenUp; reading = None; image = None }
     → AreHeld (given_up (record core { selected = suc k }) job.phase) (slice_set jobs k next) × ((given_up (record core { selected = suc k }) job.phase).journal ≡ core.journal)
     × ((pass_at (given_up (record core { selected = suc k }) job.phase) (suc k)).start ≡ None) × ((p : ℕ) → (p ≡ suc k → ⊥) → pass_at (given_up (record core { selected = suc k }) job.phase) p ≡ pass_at core p)
 gives_up_one core jobs k job there held inside next is = by_phase job.phase (held.each k job there).1

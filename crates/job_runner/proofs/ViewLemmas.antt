@@ -8,7 +8,7 @@ use Rattle.graph_model.specs.declared.write.Kind.{Kind}
 use Rattle.graph_model.specs.declared.write.Kind.TheVariants.{Directed, Undirected}
 use Rattle.graph_model.specs.declared.journal.Commit.{Commit}
 use Rattle.graph_model.specs.Account.{IsOpenTxn, IsValid}
-use Rattle.graph_model.specs.Graph.{Graph, has_vertex, vertices_of, IsSymmetric}
+use Rattle.graph_model.specs.Graph.{Graph, has_vertex, vertices_of, IsBounded, IsSymmetric}
 use Rattle.graph_model.specs.History.{view}
 use Rattle.graph_model.specs.Rows.{all_rows, AreRowsOf}
 use Rattle.graph_model.specs.OwnerCalls.{Core, current, account_here}
@@ -16,11 +16,12 @@ use Rattle.graph_model.proofs.ViewLemmas.{view_bounded, view_ends, view_symmetri
 use Rattle.run_model.specs.declared.answer.Answer.{Answer}
 use Rattle.run_model.specs.declared.answer.Answer.TheVariants as answers
 use Rattle.run_model.specs.Answering.{targets_of, query_answer}
-use Rattle.run_model.specs.Requests.{Counts, NeighboursOf}
-use Rattle.job_runner.specs.declared.scan.ScanResult.{ScanResult}
+use Rattle.run_model.specs.Requests.{Kernel, Counts, NeighboursOf, ToRun}
+use Rattle.job_runner.specs.declared.scan.Scan.{Scan}
 use Rattle.job_runner.specs.declared.scan.ScanResult.TheVariants.{Targets, Rows}
-use Rattle.job_runner.specs.Kernels.{AreKernelRows}
-use Rattle.job_runner.specs.Scanning.{is_vertex, counted}
+use Rattle.job_runner.specs.declared.kept.KeptImage.{KeptImage}
+use Rattle.job_runner.specs.Kernels.{IsKernelImage, IsKeptImage}
+use Rattle.job_runner.specs.Scanning.{is_vertex, counted, IsWhole, HasAllRows}
 use Rattle.job_runner.specs.Lines.{view_here}
 use Rattle.job_runner.proofs.CoreLemmas.{some_of}
 use Rattle.job_runner.proofs.CountLemmas.{vertex_count, arc_count}
@@ -29,13 +30,19 @@ use Rattle.job_runner.proofs.CountLemmas.{vertex_count, arc_count}
 view_symmetric_in : (kind : Kind) (journal : List Commit) (start : ℕ) (own : List Write) → kind ≡ Undirected → IsSymmetric (view kind journal start own)
 view_symmetric_in kind journal start own is = subst (λ k. IsSymmetric (view k journal start own)) (sym is) (view_symmetric journal start own)
 
--- the rows of what an open transaction sees are those of a graph that a kernel may run on
-pub here_rows : (core : Core) → IsValid (account_here core) → IsSome (current core).start → AreKernelRows core.kind (all_rows (view_here core)) (view_here core)
-here_rows core valid opened =
+-- what holds of a graph that a transaction sees
+pub record IsSeen (kind : Kind) (g : Graph) : Type 0 where
+  pub rows : AreRowsOf (all_rows g) g
+  pub bounded : IsBounded g
+  pub symmetric : kind ≡ Undirected → IsSymmetric g
+
+-- an open transaction sees such a graph
+pub seen_here : (core : Core) → IsValid (account_here core) → IsSome (current core).start → IsSeen core.kind (view_here core)
+seen_here core valid opened =
     let o = some_of (current core).start opened in
     let txn : IsOpenTxn (account_here core) o.0 = subst (λ s. IfSome s (IsOpenTxn (account_here core))) o.1 valid.current in
     let bounded = view_bounded core.kind core.journal o.0 (current core).own valid.legal txn.seen txn.within in
-    subst (λ s. AreKernelRows core.kind (all_rows (view core.kind core.journal (unwrap_or s 0) (current core).own)) (view core.kind core.journal (unwrap_or s 0) (current core).own)) (sym o.1)
+    subst (λ s. IsSeen core.kind (view core.kind core.journal (unwrap_or s 0) (current core).own)) (sym o.1)
     (record {
       rows = record {
         listed = refl;
@@ -45,6 +52,13 @@ here_rows core valid opened =
       bounded = bounded;
       symmetric = view_symmetric_in core.kind core.journal o.0 (current core).own;
     })
+
+-- an image that is kept of what an open transaction sees is one that a kernel may run on
+pub kernel_image : (core : Core) → IsValid (account_here core) → IsSome (current core).start → (kept : KeptImage) → IsKeptImage (view_here core) kept → (kind : Kind) → kind ≡ core.kind → IsKernelImage kind kept.image (view_here core)
+kernel_image core valid opened kept is kind same = record {
+  shows = is.shows;
+  symmetric = λ undirected. (seen_here core valid opened).symmetric (sym same ∙ undirected);
+}
 
 -- `count` answers the vertices, and the edges by the other rows
 pub counts_are : (kind : Kind) (g : Graph) → AreRowsOf (all_rows g) g
@@ -76,8 +90,14 @@ same_targets xs ys e = cc
 pub same_rows : (xs ys : List Row) → Rows xs ≡ Rows ys → xs ≡ ys
 same_rows xs ys e = cc
 
--- the rows that a whole scan has kept are those of the view
-pub kept_rows : (core : Core) → IsValid (account_here core) → IsSome (current core).start → (result : ScanResult) → result ≡ Rows (all_rows (view_here core))
-    → (kept given : List Row) → result ≡ Rows kept → given ≡ kept → AreKernelRows core.kind given (view_here core)
-kept_rows core valid opened result whole kept given has same =
-    subst (λ rows. AreKernelRows core.kind rows (view_here core)) (sym (same ∙ same_rows _ _ (sym has ∙ whole))) (here_rows core valid opened)
+-- a scan of all rows that is whole was given those of the view
+pub has_all : (core : Core) → IsValid (account_here core) → IsSome (current core).start → (kernel : Kernel) (file : List ℕ) (scan : Scan) → IsWhole (view_here core) (ToRun kernel file) scan → HasAllRows (view_here core) scan
+has_all core valid opened kernel file scan whole = record {
+  are = (seen_here core valid opened).rows;
+  counted = whole.counted;
+  kept = whole.result;
+}
+
+-- the rows that it has kept are those of the graph
+pub all_kept : (g : Graph) (scan : Scan) → HasAllRows g scan → (rows : List Row) → scan.result ≡ Rows rows → AreRowsOf rows g
+all_kept g scan has rows is = subst (λ xs. AreRowsOf xs g) (same_rows _ _ (sym has.kept ∙ is)) has.are

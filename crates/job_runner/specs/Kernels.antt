@@ -1,11 +1,12 @@
--- The kernels that a job runs, and the rows that they run on.
-use Rattle.std.specs.Prelude.{◌≡◌, ℕ, List}
-use Rattle.graph_model.specs.declared.row.Row.{Row}
+-- The kernels that a job runs, and the images that they run on.
+use Rattle.std.specs.Prelude.{◌≡◌, ℕ, length}
 use Rattle.graph_model.specs.declared.write.Kind.{Kind}
 use Rattle.graph_model.specs.declared.write.Kind.TheVariants.{Undirected}
-use Rattle.graph_model.specs.Graph.{Graph, IsBounded, IsSymmetric}
-use Rattle.graph_model.specs.Rows.{AreRowsOf}
+use Rattle.graph_model.specs.Graph.{Graph, IsSymmetric}
+use Rattle.graph_model.specs.Rows.{all_rows}
+use Rattle.graph_image.specs.Images.{Places, IsImageOf}
 use Rattle.run_model.specs.Requests as requests
+use Rattle.job_runner.specs.declared.kept.KeptImage.{KeptImage}
 use Rattle.job_runner.specs.declared.table.Kernel.{Kernel}
 use Rattle.job_runner.specs.declared.table.Kernel.TheVariants.{Bfs, Wcc, Cdlp, Sssp, FastBfs, FastSssp}
 
@@ -27,9 +28,12 @@ root_of (Sssp root) = root
 root_of (FastBfs root) = root
 root_of (FastSssp root width) = root
 
--- These are the rows of a graph whose ids and weights are within their limits, and which is symmetric where
--- the kind is undirected
-pub record AreKernelRows (kind : Kind) (list : List Row) (g : Graph) : Type 0 where
-  pub rows : AreRowsOf list g
-  pub bounded : IsBounded g
+-- the image of a graph that a kernel may run on, which is symmetric where the kind is undirected
+pub record IsKernelImage (kind : Kind) (image : Places) (g : Graph) : Type 0 where
+  pub shows : IsImageOf image g
   pub symmetric : kind ≡ Undirected → IsSymmetric g
+
+-- what is kept of a graph: its image, and how many rows it has
+pub record IsKeptImage (g : Graph) (kept : KeptImage) : Type 0 where
+  pub shows : IsImageOf kept.image g
+  pub counted : kept.rows ≡ length (all_rows g)

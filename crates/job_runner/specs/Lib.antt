@@ -1,5 +1,5 @@
-pub mod Scanning
 pub mod Kernels
+pub mod Scanning
 pub mod Lines
 pub mod Progress
 pub mod Runs

@@ -1,5 +1,5 @@
 -- What a job's line does to the core of its engine.
-use Rattle.std.specs.Prelude.{◌≡◌, ℕ, ◌+◌, ◌*◌, ◌/◌, ◌<◌, ◌≤◌, Bool, true, false, cond, nat_lt, List, [], ◌∷◌, ◌++◌, length, Option, Some, None, IfSome, IsSome, unwrap_or, Result, Ok, Err, OnOk}
+use Rattle.std.specs.Prelude.{◌≡◌, ℕ, ◌+◌, ◌*◌, ◌/◌, ◌<◌, ◌≤◌, ◌&&◌, Bool, true, false, not, cond, nat_lt, List, [], ◌∷◌, ◌++◌, length, Option, Some, None, IfSome, IsSome, unwrap_or, Result, Ok, Err, OnOk}
 use Rattle.graph_model.specs.declared.limits.TheConstants.{SPLIT_ROWS, SCAN_ROWS}
 use Rattle.graph_model.specs.declared.write.Write.{Write}
 use Rattle.graph_model.specs.declared.write.Kind.{Kind}
@@ -23,11 +23,17 @@ use Rattle.run_model.specs.Jobs.{JobState, LineResult, line_result, scanned}
 use Rattle.job_runner.specs.declared.answering.LineAnswer.{LineAnswer}
 use Rattle.job_runner.specs.declared.answering.LineTurn.{LineTurn}
 use Rattle.job_runner.specs.declared.answering.LineTurn.TheVariants.{Scanning, Answering}
+use Rattle.job_runner.specs.declared.kept.KeptImage.{KeptImage}
+use Rattle.job_runner.specs.declared.kernel_line.ImageTurn.{ImageTurn}
+use Rattle.job_runner.specs.declared.kernel_line.ImageTurn.TheVariants.{Further, Whole}
 use Rattle.job_runner.specs.declared.phase.Phase.{Phase}
 use Rattle.job_runner.specs.declared.phase.Phase.TheVariants.{Between, Open, Skipping, GivenUp}
+use Rattle.job_runner.specs.declared.reading.Reading.{Reading}
+use Rattle.job_runner.specs.declared.reading.Reading.TheVariants as readings
 use Rattle.job_runner.specs.declared.scan.Scan.{Scan}
 use Rattle.job_runner.specs.declared.table.NamedTable.{NamedTable}
-use Rattle.job_runner.specs.Scanning.{too_many_turns, IsScan, IsWhole, taken_of}
+use Rattle.job_runner.specs.Kernels.{IsKeptImage}
+use Rattle.job_runner.specs.Scanning.{too_many_turns, IsWhole, IsReading, taken_of}
 
 -- ---- phases
 
@@ -145,7 +151,7 @@ abbrev pub goes_on_here : Core → Bool → ℕ → Request → Bool
 goes_on_here core skipping taken r = nat_lt (taken + 1) (turns_here core skipping r)
 
 -- the line at hand of a job may be taken, on the pass that is selected
-pub record MayTake (core : Core) (phase : Phase) (scan : Option Scan) (r : Request) : Type 0 where
+pub record MayTake (core : Core) (phase : Phase) (reading : Option Reading) (r : Request) : Type 0 where
   pub selected : core.selected < length core.passes
   pub valid : IsValid (account_here core)
   pub phase_is : IsPhase phase (current core).start
@@ -153,37 +159,43 @@ pub record MayTake (core : Core) (phase : Phase) (scan : Option Scan) (r : Reque
   pub stands : (behind : Bool) × (open_behind (is_inside phase) r ≡ Some behind)
   pub within : IsRequest r
   pub room : r ≡ ToBegin → (current core).begun < (current core).allowed
-  -- a scan under way is the line's
-  pub scans : IfSome scan (IsScan (view_here core) r)
+  -- what has been read is the line's
+  pub reads : IfSome reading (IsReading (view_here core) r)
 
--- a turn of a scan changes nothing but the scan
-pub record ScansHere (old : Core) (phase : Phase) (before : Option Scan) (r : Request) (next : Scan) (new : Core)
+-- a turn that isn't the last changes nothing but how far the line has come
+pub record ScansHere (old : Core) (phase : Phase) (before : Option Reading) (r : Request) (next : Reading) (new : Core)
     : Type 0 where
   pub is_open : phase ≡ Open
   pub more : goes_on_here old false (taken_of before) r ≡ true
   pub taken : taken_of (Some next) ≡ taken_of before + 1
   pub small : taken_of (Some next) < too_many_turns
-  pub scan : IsScan (view_here old) r next
+  pub reads : IsReading (view_here old) r next
   pub same : new ≡ old
 
 -- a turn of a scan leaves rows, or is the last
-pub record Advances (old : Core) (before : Option Scan) (r : Request) (next : Scan) : Type 0 where
-  pub portion : next.cursor.done ≡ false → ScansHere old Open before r next old
+pub record Advances (old : Core) (before : Option Reading) (r : Request) (next : Scan) : Type 0 where
+  pub portion : next.cursor.done ≡ false → ScansHere old Open before r (readings.Scan next) old
   pub rest : next.cursor.done ≡ true
       → IsWhole (view_here old) r next × (goes_on_here old false (taken_of before) r ≡ false)
 
 -- the last turn of a line answers it
-pub record AnswersHere (old : Core) (phase : Phase) (scan : Option Scan) (r : Request) (given : LineAnswer) (new : Core)
-    : Type 0 where
-  pub last : goes_on_here old (is_skipping phase) (taken_of scan) r ≡ false
+pub record AnswersHere (old : Core) (phase : Phase) (reading : Option Reading) (r : Request) (given : LineAnswer)
+    (new : Core) : Type 0 where
+  pub last : goes_on_here old (is_skipping phase) (taken_of reading) r ≡ false
   pub does : DoesLine old (is_skipping phase) r given new
 
 -- one turn of a line
-abbrev pub TakesHere : Core → Phase → Option Scan → Request → LineTurn → Core → Type 0
-TakesHere old phase scan r (Scanning next) new = ScansHere old phase scan r next new
-TakesHere old phase scan r (Answering given) new = AnswersHere old phase scan r given new
+abbrev pub TakesHere : Core → Phase → Option Reading → Request → LineTurn → Core → Type 0
+TakesHere old phase reading r (Scanning next) new = ScansHere old phase reading r next new
+TakesHere old phase reading r (Answering given) new = AnswersHere old phase reading r given new
 
 -- ---- kernels
+
+-- a turn of a kernel's line leaves turns, or is the last and has the image that the kernel runs on
+abbrev pub ReadsImage : Core → Option Reading → Request → ImageTurn → Type 0
+ReadsImage old before r (Further reading) = ScansHere old Open before r reading old
+ReadsImage old before r (Whole kept) =
+    IsKeptImage (view_here old) kept × (goes_on_here old false (taken_of before) r ≡ false)
 
 -- a kernel's line was answered, on the graph
 pub record AnswersKernel (kind : Kind) (g : Graph) (kernel : Kernel) (file : List ℕ) (given : LineAnswer) : Type 0 where
@@ -221,6 +233,23 @@ FinishesRefused old refusals.NoMemory result new = OnOk result ⊥ × (new ≡ o
 abbrev pub Finishes : Core → Result (Unit {0}) Refusal → Result LineAnswer NoMemory → Core → Type 0
 Finishes old (Ok done) result new = Goes old answers.Done result new
 Finishes old (Err refusal) result new = FinishesRefused old refusal result new
+
+-- ---- the image that is kept
+
+-- a transaction is open
+abbrev pub is_open : Phase → Bool
+is_open Between = false
+is_open Open = true
+is_open Skipping = false
+is_open GivenUp = false
+
+-- the transaction that was open before the line sees behind it what it saw
+abbrev pub sees_same : Phase → LineAnswer → Bool
+sees_same before given = is_open before && is_open given.phase && not (effect given.answer).writes
+
+-- so an image of that is kept, and else none
+abbrev pub image_behind : Phase → LineAnswer → Option KeptImage → Option KeptImage
+image_behind before given image = cond (sees_same before given) image None
 
 -- ---- want of memory
 

@@ -9,14 +9,16 @@ use Rattle.run_model.specs.Requests.{request, begun_by, IsScript}
 use Rattle.run_model.specs.Jobs.{JobState, RunState, is_empty}
 use Rattle.job_runner.specs.declared.answering.LineTurn.{LineTurn}
 use Rattle.job_runner.specs.declared.answering.LineTurn.TheVariants.{Scanning, Answering}
+use Rattle.job_runner.specs.declared.kept.KeptImage.{KeptImage}
 use Rattle.job_runner.specs.declared.phase.Phase.{Phase}
 use Rattle.job_runner.specs.declared.phase.Phase.TheVariants.{Between, Open, Skipping, GivenUp}
-use Rattle.job_runner.specs.declared.scan.Scan.{Scan}
+use Rattle.job_runner.specs.declared.reading.Reading.{Reading}
 use Rattle.job_runner.specs.declared.table.NamedTable.{NamedTable}
 use Rattle.job_runner.specs.declared.turn.Turn.{Turn}
 use Rattle.job_runner.specs.declared.turn.Turn.TheVariants as turns
-use Rattle.job_runner.specs.Scanning.{IsScan, taken_of}
-use Rattle.job_runner.specs.Lines.{is_skipping, is_inside, IsPhase, view_here, TakesHere, given_up}
+use Rattle.job_runner.specs.Kernels.{IsKeptImage}
+use Rattle.job_runner.specs.Scanning.{IsReading, taken_of}
+use Rattle.job_runner.specs.Lines.{is_skipping, is_inside, IsPhase, view_here, TakesHere, image_behind, given_up}
 
 pub record Progress : Type 0 where
   -- the number of the script, and of the job's pass
@@ -26,8 +28,10 @@ pub record Progress : Type 0 where
   pub answers : List Answer
   pub tables : List NamedTable
   pub phase : Phase
-  -- the scan of the line at hand, if it has taken a turn
-  pub scan : Option Scan
+  -- what the line at hand has read, if it has taken a turn
+  pub reading : Option Reading
+  -- the image of what the open transaction sees, if one is kept
+  pub image : Option KeptImage
 
 -- a job that has taken no turn
 abbrev pub new_progress : ℕ → List Command → Progress
@@ -37,7 +41,8 @@ new_progress number commands = record {
   answers = [];
   tables = [];
   phase = Between;
-  scan = None;
+  reading = None;
+  image = None;
 }
 
 -- the lines that aren't answered, the first of which is at hand
@@ -62,14 +67,15 @@ abbrev pub listed_table : Option NamedTable → List NamedTable
 listed_table None = []
 listed_table (Some table) = table ∷ []
 
--- the job behind a turn of its line at hand
-abbrev pub behind : Progress → LineTurn → Progress
-behind job (Scanning scan) = record job { scan = Some scan }
-behind job (Answering given) = record job {
+-- the job behind a turn of its line at hand, which has left this image of what the transaction saw before it
+abbrev pub behind : Progress → Option KeptImage → LineTurn → Progress
+behind job image (Scanning reading) = record job { reading = Some reading; image = image }
+behind job image (Answering given) = record job {
   answers = job.answers ++ given.answer ∷ [];
   tables = job.tables ++ listed_table given.table;
   phase = given.phase;
-  scan = None;
+  reading = None;
+  image = image_behind job.phase given image;
 }
 
 -- the job and the pass that is selected fit each other, and the rest of the script may be taken
@@ -81,15 +87,18 @@ pub record IsReady (core : Core) (job : Progress) : Type 0 where
   -- the pass may begin the transactions of the lines that are left
   pub room : begun_by (current core).begun (left_of job) ≤ (current core).allowed
   pub script : IsScript (Some (is_inside job.phase)) (left_of job)
-  -- a scan under way is that of the line at hand
-  pub scans : (c : Command) (rest : List Command) → left_of job ≡ c ∷ rest
-      → IfSome job.scan (IsScan (view_here core) (request c))
+  -- what has been read is that of the line at hand
+  pub reads : (c : Command) (rest : List Command) → left_of job ≡ c ∷ rest
+      → IfSome job.reading (IsReading (view_here core) (request c))
+  pub kept : IfSome job.image (IsKeptImage (view_here core))
 
 -- the line at hand takes a turn
 pub record TakesTurn (old : Core) (job : Progress) (c : Command) (next : Progress) (new : Core) : Type 0 where
   pub turn : LineTurn
-  pub takes : TakesHere old job.phase job.scan (request c) turn new
-  pub job_is : next ≡ behind job turn
+  pub takes : TakesHere old job.phase job.reading (request c) turn new
+  pub image : Option KeptImage
+  pub kept : IfSome image (IsKeptImage (view_here old))
+  pub job_is : next ≡ behind job image turn
 
 -- what a turn comes to: the line at hand takes it, or memory was wanted, and the transaction is taken back
 abbrev pub TookTurn : Core → Progress → Turn → Progress → Core → Type 0
@@ -98,7 +107,7 @@ TookTurn old job turns.More next new = (is_over next ≡ false)
 TookTurn old job turns.Ended next new = (is_over next ≡ true)
     × ((c : Command) (rest : List Command) → left_of job ≡ c ∷ rest → TakesTurn old job c next new)
 TookTurn old job turns.NoMemory next new =
-    (new ≡ given_up old job.phase) × (next ≡ record job { phase = GivenUp; scan = None })
+    (new ≡ given_up old job.phase) × (next ≡ record job { phase = GivenUp; reading = None; image = None })
 
 -- ---- the state of a run
 
@@ -107,7 +116,7 @@ abbrev pub job_at : PassState → Progress → JobState
 job_at pass job = record {
   lines = answered_lines job.commands job.answers;
   left = left_of job;
-  taken = taken_of job.scan;
+  taken = taken_of job.reading;
   begun = pass.begun;
   start = pass.start;
   own = pass.own;

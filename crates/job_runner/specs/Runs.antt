@@ -3,6 +3,7 @@ use Rattle.std.specs.Prelude.{◌≡◌, ◌⊎◌, ℕ, suc, ◌+◌, ◌-◌, 
 use Rattle.std.specs.List.{flat_map, filter_map}
 use Rattle.graph_model.specs.declared.write.Write.{Write}
 use Rattle.graph_model.specs.declared.journal.Commit.{Commit}
+use Rattle.graph_model.specs.Graph.{Graph}
 use Rattle.graph_model.specs.History.{view}
 use Rattle.graph_model.specs.OwnerCalls.{PassState, Core, pass_at, one_more}
 use Rattle.run_model.specs.declared.answer.Answer.{Answer}
@@ -16,7 +17,8 @@ use Rattle.run_model.specs.Stepped.{IsStepped, service_turns}
 use Rattle.run_model.specs.UnderWay.{IsUnderWay}
 use Rattle.job_runner.specs.declared.phase.Phase.{Phase}
 use Rattle.job_runner.specs.declared.phase.Phase.TheVariants.{Between, Open, Skipping, GivenUp}
-use Rattle.job_runner.specs.Scanning.{too_many_turns, IsScan, taken_of}
+use Rattle.job_runner.specs.Kernels.{IsKeptImage}
+use Rattle.job_runner.specs.Scanning.{too_many_turns, IsReading, taken_of}
 use Rattle.job_runner.specs.Lines.{IsPhase, file_of}
 use Rattle.job_runner.specs.Progress.{Progress, new_progress, left_of, is_over, state_of}
 
@@ -58,6 +60,10 @@ pub record AreNew (inputs : Inputs) (core : Core) (jobs : List Progress) : Type 
 abbrev pub files_context : Core → Context
 files_context core = record { kind = core.kind; load = []; journal = core.journal; scripts = []; job = 0 }
 
+-- what the open transaction of a pass sees
+abbrev pub view_of_pass : Core → PassState → Graph
+view_of_pass core pass = view core.kind core.journal (unwrap_or pass.start 0) pass.own
+
 -- a job and its pass fit each other
 pub record AreTied (core : Core) (pass : PassState) (k : ℕ) (job : Progress) : Type 0 where
   pub number : job.number ≡ suc k
@@ -74,10 +80,12 @@ pub record AreTied (core : Core) (pass : PassState) (k : ℕ) (job : Progress) :
   pub begins : begun_by pass.begun (left_of job) ≡ begun_by 0 job.commands
   -- it may begin the transactions of the lines that are left
   pub room : begun_by pass.begun (left_of job) ≤ pass.allowed
-  -- the rows that the job has laid by, and those that are left to its scan, are those that its line scans
-  pub scans : (c : Command) (rest : List Command) → left_of job ≡ c ∷ rest
-      → IfSome job.scan (IsScan (view core.kind core.journal (unwrap_or pass.start 0) pass.own) (request c))
-  pub small : taken_of job.scan < too_many_turns
+  -- what the job has read is its line's: the rows that a scan was given, or the image of all rows
+  pub reads : (c : Command) (rest : List Command) → left_of job ≡ c ∷ rest
+      → IfSome job.reading (IsReading (view_of_pass core pass) (request c))
+  pub small : taken_of job.reading < too_many_turns
+  -- an image that is kept is that of what the transaction sees
+  pub kept : IfSome job.image (IsKeptImage (view_of_pass core pass))
   -- each line answered `table` has its table
   pub files : HasFiles (files_context core) [] (answered_lines job.commands job.answers) (map file_of job.tables)
 
@@ -98,7 +106,7 @@ pub record AreUnderWay (inputs : Inputs) (core : Core) (jobs : List Progress) : 
 
 -- how many turns a job has left, at most: a line takes no more than a number of 64 bits can count
 abbrev pub turns_left : Progress → ℕ
-turns_left job = length (left_of job) * too_many_turns - taken_of job.scan
+turns_left job = length (left_of job) * too_many_turns - taken_of job.reading
 
 -- how many jobs aren't over
 abbrev pub under_way : List Progress → ℕ

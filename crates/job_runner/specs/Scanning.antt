@@ -8,13 +8,16 @@ use Rattle.graph_model.specs.declared.write.Kind.TheVariants.{Directed, Undirect
 use Rattle.run_model.specs.declared.answer.Answer.{Answer}
 use Rattle.run_model.specs.declared.answer.Answer.TheVariants as answers
 use Rattle.graph_model.specs.Graph.{Graph}
-use Rattle.graph_model.specs.Rows.{rows, all_rows}
+use Rattle.graph_model.specs.Rows.{rows, all_rows, AreRowsOf}
 use Rattle.graph_model.specs.Scans.{rows_left}
 use Rattle.graph_image.specs.Building.{AreStorable}
 use Rattle.run_model.specs.Requests.{Query, WeightOf, NeighboursOf, Counts, Request, ToBegin, ToCommit, ToAbort, ToWrite, ToRead, ToRun}
+use Rattle.job_runner.specs.declared.reading.Reading.{Reading}
+use Rattle.job_runner.specs.declared.reading.Reading.TheVariants as readings
 use Rattle.job_runner.specs.declared.scan.Scan.{Scan}
 use Rattle.job_runner.specs.declared.scan.ScanResult.{ScanResult}
 use Rattle.job_runner.specs.declared.scan.ScanResult.TheVariants.{Targets, Vertices, Rows}
+use Rattle.job_runner.specs.Kernels.{IsKeptImage}
 
 -- ---- what is kept of rows
 
@@ -85,11 +88,6 @@ rows_of_line g (ToRun kernel file) = all_rows g
 abbrev pub too_many_turns : ℕ
 too_many_turns = 288230376151711744
 
--- the turns that a scan has taken, each of which gave a full portion
-abbrev pub taken_of : Option Scan → ℕ
-taken_of None = 0
-taken_of (Some scan) = scan.rows / SCAN_ROWS
-
 -- a scan of a range that was given no row yet
 abbrev pub fresh_scan : Key → Key → ScanResult → Scan
 fresh_scan next until kept = record {
@@ -121,3 +119,35 @@ pub record ScansOn (g : Graph) (r : Request) (old new : Scan) : Type 0 where
   pub small : new.rows < 2 ^ 64
   pub portion : new.cursor.done ≡ false → IsScan g r new × (new.rows ≡ old.rows + SCAN_ROWS)
   pub rest : new.cursor.done ≡ true → IsWhole g r new × (new.rows < old.rows + SCAN_ROWS)
+
+-- the scan was given all rows of the graph, and has kept them
+pub record HasAllRows (g : Graph) (scan : Scan) : Type 0 where
+  pub are : AreRowsOf (all_rows g) g
+  pub counted : scan.rows ≡ length (all_rows g)
+  pub kept : scan.result ≡ Rows (all_rows g)
+
+-- ---- lines that take more than one turn
+
+-- the line runs a kernel
+abbrev pub RunsKernel : Request → Type 0
+RunsKernel ToBegin = ⊥
+RunsKernel ToCommit = ⊥
+RunsKernel ToAbort = ⊥
+RunsKernel (ToWrite w) = ⊥
+RunsKernel (ToRead query) = ⊥
+RunsKernel (ToRun kernel file) = Unit {0}
+
+-- a line scans its rows, or it runs a kernel on the image that is kept of them
+abbrev pub IsReading : Graph → Request → Reading → Type 0
+IsReading g r (readings.Scan scan) = IsScan g r scan
+IsReading g r (readings.Replay kept turns) = IsKeptImage g kept × RunsKernel r
+
+-- the turns that a line has taken: each turn of a scan gave a full portion, and those of a replay are counted
+abbrev pub taken_by : Reading → ℕ
+taken_by (readings.Scan scan) = scan.rows / SCAN_ROWS
+taken_by (readings.Replay kept turns) = turns
+
+-- the turns that the line at hand has taken
+abbrev pub taken_of : Option Reading → ℕ
+taken_of None = 0
+taken_of (Some reading) = taken_by reading

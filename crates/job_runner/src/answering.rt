@@ -1,9 +1,11 @@
 //! What a line is answered, and what a turn makes of it.
 
 ghost use Rattle.std.specs.Prelude.{◌≡◌, None};
+ghost use Rattle.job_runner.specs.Lines.{image_behind};
 
+use crate::kept::KeptImage;
 use crate::phase::Phase;
-use crate::scan::Scan;
+use crate::reading::Reading;
 use crate::table::NamedTable;
 use run_model::Answer;
 
@@ -18,8 +20,8 @@ pub struct LineAnswer {
 /// What one turn makes of a line.
 #[derive(Drop)]
 pub enum LineTurn {
-    /// Rows are left to scan.
-    Scanning { scan: Scan },
+    /// Turns are left.
+    Scanning { reading: Reading },
     /// The line has its answer.
     Answering { given: LineAnswer },
 }
@@ -33,6 +35,17 @@ impl LineAnswer {
             answer,
             phase,
             table: None,
+        }
+    }
+
+    /// The image that stays behind the line: none where the transaction no longer sees what it saw.
+    pub fn kept_behind(&self, before: Phase, image: Option<KeptImage>) -> Option<KeptImage>
+        ensures { result ≡ image_behind before self.now image }
+    {
+        match (before, self.phase, &self.answer) {
+            (Phase::Open, Phase::Open, Answer::Done) => None,
+            (Phase::Open, Phase::Open, _) => image,
+            _ => None,
         }
     }
 }

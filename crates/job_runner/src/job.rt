@@ -3,17 +3,19 @@
 //! 1. A turn is one line of the script, or one further portion of the rows that the line at hand scans.
 //! 2. Room for a line's answer and its table is made before the engine is touched.
 //! 3. A job that wanted memory has taken its transaction back, and has ended.
+//! 4. The image that a kernel's line has made is kept until its transaction writes or is over.
 
-ghost use Rattle.std.specs.Prelude.{◌≡◌, List, ◌∷◌, false, None, IsSome, OnOk, OnErr};
+ghost use Rattle.std.specs.Prelude.{◌≡◌, ◌<◌, List, ◌∷◌, ◌++◌, false, None, IsSome, OnOk, OnErr};
 ghost use Rattle.run_model.specs.declared.command.Command.{Command};
 ghost use Rattle.graph_model.specs.OwnerCalls.{current};
 ghost use Rattle.job_runner.specs.Lines.{given_up};
-ghost use Rattle.job_runner.specs.Progress.{new_progress, left_of, is_over, IsReady, TakesTurn, TookTurn};
+ghost use Rattle.job_runner.specs.Progress.{new_progress, left_of, is_over, listed_table, IsReady, TakesTurn, TookTurn};
 
 use crate::answering::LineTurn;
+use crate::kept::KeptImage;
 use crate::line::take_line;
 use crate::phase::Phase;
-use crate::scan::Scan;
+use crate::reading::Reading;
 use crate::table::{NamedTable, Tables};
 use crate::turn::Turn;
 use graph_model::{NoMemory, StepEngine};
@@ -32,7 +34,10 @@ pub struct Job {
     answers: RoomyItems<Answer>,
     tables: Tables,
     phase: Phase,
-    scan: Option<Scan>,
+    /// How far the line at hand has come, if it has taken a turn.
+    reading: Option<Reading>,
+    /// Of what the open transaction sees, if a line has made one.
+    image: Option<KeptImage>,
 }
 
 impl Model for Job {
@@ -46,7 +51,8 @@ impl Model for Job {
       answers = j.answers.items;
       tables = j.tables.items;
       phase = j.phase;
-      scan = j.scan;
+      reading = j.reading;
+      image = j.image;
     } };
 }
 
@@ -62,7 +68,8 @@ impl Job {
             answers: RoomyItems::new(alloc),
             tables: RoomyItems::new(alloc),
             phase: Phase::Between,
-            scan: None,
+            reading: None,
+            image: None,
         }
     }
 
@@ -124,35 +131,58 @@ impl Job {
         ensures ok { OnOk result ((c : Command) (rest : List Command) → left_of self.old ≡ c ∷ rest
             → TakesTurn (E.core engine.old) self.old c self.new (E.core engine.new)) }
         ensures err { OnErr result ((E.core engine.new ≡ E.core engine.old)
-            × (self.new ≡ record self.old { scan = None })) }
+            × (self.new ≡ record self.old { reading = None; image = None })) }
     {
-        let scan = self.scan.take();
+        let reading = self.reading.take();
+        let mut image = self.image.take();
         self.answers.reserve(1)?;
         self.tables.reserve(1)?;
         let command = &self.script.as_slice()[self.answers.len()];
-        match take_line(rt, self.alloc, engine, command, self.phase, scan)? {
-            LineTurn::Scanning { scan } => self.scan = Some(scan),
+        let phase = self.phase;
+        match take_line(rt, self.alloc, engine, command, phase, reading, &mut image)? {
+            LineTurn::Scanning { reading } => {
+                self.keep(Some(reading), image);
+                Ok(())
+            }
             LineTurn::Answering { given } => {
+                let image = given.kept_behind(phase, image);
                 self.answers.push_within(given.answer);
                 self.phase = given.phase;
-                if let Some(table) = given.table {
-                    self.tables.push_within(table);
-                }
+                push_table(&mut self.tables, given.table);
+                self.keep(None, image);
+                Ok(())
             }
         }
-        Ok(())
+    }
+
+    /// Keeps these for the next turn.
+    fn keep(&mut self, reading: Option<Reading>, image: Option<KeptImage>)
+        ensures { self.new ≡ record self.old { reading = reading; image = image } }
+    {
+        self.reading = reading;
+        self.image = image;
     }
 
     /// Takes the transaction back, if one is open, and ends the job.
     pub fn give_up<E: StepEngine>(&mut self, engine: &mut E)
         requires { self.old.phase ≡ Phase.Open → IsSome (current (E.core engine.old)).start }
         ensures core { E.core engine.new ≡ given_up (E.core engine.old) self.old.phase }
-        ensures job { self.new ≡ record self.old { phase = Phase.GivenUp; scan = None } }
+        ensures job { self.new ≡ record self.old { phase = Phase.GivenUp; reading = None; image = None } }
     {
         if let Phase::Open = self.phase {
             engine.abort();
         }
         self.phase = Phase::GivenUp;
-        self.scan = None;
+        self.keep(None, None);
+    }
+}
+
+/// Appends the table of an answer, if it has one. There has to be room.
+fn push_table(tables: &mut Tables, table: Option<NamedTable>)
+    requires { 0 < tables.old.spare }
+    ensures { tables.new.items ≡ tables.old.items ++ listed_table table }
+{
+    if let Some(table) = table {
+        tables.push_within(table);
     }
 }

@@ -4,13 +4,17 @@
 //! 2. A job and its pass fit each other behind each turn: a transaction is open in both or in neither, and the
 //!    pass has made what the answered lines wrote, transaction by transaction.
 //! 3. Where memory is wanted, no transaction stays open.
+//! 4. An image that a job keeps is that of the graph which its open transaction sees.
 #![tactic(auto)]
 
 mod answering;
 mod job;
 mod jobs;
+mod kept;
+mod kernel_line;
 mod line;
 mod phase;
+mod reading;
 mod run;
 mod scan;
 mod table;

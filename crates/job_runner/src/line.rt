@@ -5,26 +5,27 @@
 //! 3. A line that scans answers with the last turn of its scan, also where it turns out that a vertex
 //!    isn't there.
 
-ghost use Rattle.std.specs.Prelude.{◌≡◌, ◌<◌, ◌≤◌, false, Some, None, length, IsSome, IfSome, IfOk, OnErr, List};
+ghost use Rattle.std.specs.Prelude.{◌≡◌, ◌<◌, ◌≤◌, false, Some, None, length, IsSome, IfSome, IfOk, OnOk, OnErr};
 ghost use Rattle.graph_model.specs.declared.limits.TheConstants.{MAX_ID};
 ghost use Rattle.graph_model.specs.Account.{IsValid};
 ghost use Rattle.graph_model.specs.OwnerCalls.{account_here, current, with_current, ended_pass, WritesHere};
-ghost use Rattle.graph_model.specs.Graph.{Graph};
 ghost use Rattle.graph_model.specs.Refused.{IsWithinLimits};
 ghost use Rattle.run_model.specs.declared.answer.Answer.TheVariants as answers;
-ghost use Rattle.run_model.specs.Requests.{Request, request, ToBegin, ToCommit, ToAbort, ToWrite, ToRead, ToRun, WeightOf, NeighboursOf, Counts};
+ghost use Rattle.run_model.specs.Requests.{Query, request, ToBegin, ToCommit, ToAbort, ToWrite, ToRead, WeightOf, NeighboursOf, Counts};
 ghost use Rattle.run_model.specs.Jobs.{skips};
-ghost use Rattle.job_runner.specs.Kernels.{kernel_of, AreKernelRows};
-ghost use Rattle.job_runner.specs.Scanning.{IsScan};
-ghost use Rattle.job_runner.specs.Lines.{phase_behind, plain, view_here, Advances, AnswersKernel, DoesLine, MayTake, TakesHere, Finishes};
+ghost use Rattle.job_runner.specs.Kernels.{IsKeptImage};
+ghost use Rattle.job_runner.specs.Scanning.{IsReading, IsScan};
+ghost use Rattle.job_runner.specs.Lines.{phase_behind, plain, view_here, Advances, DoesLine, MayTake, TakesHere, Finishes};
 
 use crate::answering::{LineAnswer, LineTurn};
+use crate::kept::KeptImage;
+use crate::kernel_line::run_kernel;
 use crate::phase::Phase;
+use crate::reading::Reading;
 use crate::scan::Scan;
-use crate::table::{Kernel, NamedTable, copy_of, kernel_table};
-use graph_image::Builder;
-use graph_model::{BeginRefusal, KernelRefusal, Kind, NoMemory, Refusal, StepEngine, Write};
-use run_model::{Answer, Command, Name};
+use crate::table::Kernel;
+use graph_model::{BeginRefusal, NoMemory, Refusal, StepEngine, Write};
+use run_model::{Answer, Command};
 use std::alloc::Global;
 use std::thread::Threads;
 
@@ -35,11 +36,14 @@ pub fn take_line<R: Threads + Sync, E: StepEngine>(
     engine: &mut E,
     command: &Command,
     phase: Phase,
-    scan: Option<Scan>,
+    reading: Option<Reading>,
+    image: &mut Option<KeptImage>,
 ) -> Result<LineTurn, NoMemory>
-    requires { MayTake (E.core engine.old) phase scan (request command.now) }
+    requires may { MayTake (E.core engine.old) phase reading (request command.now) }
+    requires kept { IfSome image.old (IsKeptImage (view_here (E.core engine.old))) }
     ensures takes { IfOk result (λ turn.
-        TakesHere (E.core engine.old) phase scan (request command.now) turn (E.core engine.new)) }
+        TakesHere (E.core engine.old) phase reading (request command.now) turn (E.core engine.new)) }
+    ensures kept { OnOk result (IfSome image.new (IsKeptImage (view_here (E.core engine.old)))) }
     ensures err { OnErr result (E.core engine.new ≡ E.core engine.old) }
 {
     if let Phase::Skipping = phase {
@@ -71,41 +75,33 @@ pub fn take_line<R: Threads + Sync, E: StepEngine>(
         )?,
         Command::DropEdge { u, v } => write(engine, Write::DropEdge { u: *u, v: *v })?,
         Command::Weight { u, v } => weight(engine, *u, *v),
-        Command::Neighbours { v } => return neighbours(alloc, engine, *v, scan),
-        Command::Count => return count(engine, scan),
+        Command::Neighbours { v } => return neighbours(alloc, engine, *v, reading),
+        Command::Count => return count(engine, reading),
         Command::Bfs { root, file } => {
-            return run_kernel(rt, alloc, engine, Kernel::Bfs { root: *root }, file, scan);
+            let kernel = Kernel::Bfs { root: *root };
+            return run_kernel(rt, alloc, engine, kernel, file, reading, image);
         }
-        Command::Wcc { file } => return run_kernel(rt, alloc, engine, Kernel::Wcc, file, scan),
+        Command::Wcc { file } => {
+            return run_kernel(rt, alloc, engine, Kernel::Wcc, file, reading, image);
+        }
         Command::Cdlp { rounds, file } => {
-            return run_kernel(
-                rt,
-                alloc,
-                engine,
-                Kernel::Cdlp { rounds: *rounds },
-                file,
-                scan,
-            );
+            let kernel = Kernel::Cdlp { rounds: *rounds };
+            return run_kernel(rt, alloc, engine, kernel, file, reading, image);
         }
         Command::Sssp { root, file } => {
-            return run_kernel(rt, alloc, engine, Kernel::Sssp { root: *root }, file, scan);
+            let kernel = Kernel::Sssp { root: *root };
+            return run_kernel(rt, alloc, engine, kernel, file, reading, image);
         }
         Command::FastBfs { root, file } => {
-            return run_kernel(
-                rt,
-                alloc,
-                engine,
-                Kernel::FastBfs { root: *root },
-                file,
-                scan,
-            );
+            let kernel = Kernel::FastBfs { root: *root };
+            return run_kernel(rt, alloc, engine, kernel, file, reading, image);
         }
         Command::FastSssp { root, width, file } => {
             let kernel = Kernel::FastSssp {
                 root: *root,
                 width: *width,
             };
-            return run_kernel(rt, alloc, engine, kernel, file, scan);
+            return run_kernel(rt, alloc, engine, kernel, file, reading, image);
         }
     };
     Ok(LineTurn::Answering { given })
@@ -236,22 +232,24 @@ fn skip(command: &Command) -> LineAnswer
     LineAnswer::plain(Answer::Skipped, phase)
 }
 
-/// Takes one turn of the scan of a line: the one under way, or a new one.
+/// Takes one turn of the scan of a read: the one under way, or a new one.
 fn advance<E: StepEngine>(
     engine: &mut E,
-    before: Option<Scan>,
+    before: Option<Reading>,
     fresh: Scan,
 ) -> Result<Scan, NoMemory>
     requires valid { IsValid (account_here (E.core engine.old)) }
     requires current { IsSome (current (E.core engine.old)).start }
-    requires scans { (r : Request) × IfSome before (IsScan (view_here (E.core engine.old)) r)
-        × IsScan (view_here (E.core engine.old)) r fresh }
+    requires scans { (query : Query) × IfSome before (IsReading (view_here (E.core engine.old)) (ToRead query))
+        × IsScan (view_here (E.core engine.old)) (ToRead query) fresh }
     requires empty { fresh.rows ≡ 0 }
-    ensures advances { IfOk result (λ next. (r : Request) → IfSome before (IsScan (view_here (E.core engine.old)) r)
-        → IsScan (view_here (E.core engine.old)) r fresh → Advances (E.core engine.old) before r next) }
+    ensures advances { IfOk result (λ next. (query : Query)
+        → IfSome before (IsReading (view_here (E.core engine.old)) (ToRead query))
+        → IsScan (view_here (E.core engine.old)) (ToRead query) fresh
+        → Advances (E.core engine.old) before (ToRead query) next) }
     ensures core { E.core engine.new ≡ E.core engine.old }
 {
-    let mut scan = before.unwrap_or(fresh);
+    let mut scan = before.unwrap_or(Reading::Scan { scan: fresh }).into_scan();
     scan.step(engine)?;
     Ok(scan)
 }
@@ -261,7 +259,7 @@ fn neighbours<E: StepEngine>(
     alloc: Global,
     engine: &mut E,
     v: u64,
-    before: Option<Scan>,
+    before: Option<Reading>,
 ) -> Result<LineTurn, NoMemory>
     requires { MayTake (E.core engine.old) Phase.Open before (ToRead (NeighboursOf v)) }
     ensures takes { IfOk result (λ turn.
@@ -270,7 +268,8 @@ fn neighbours<E: StepEngine>(
 {
     let scan = advance(engine, before, Scan::of_arcs(alloc, v))?;
     if !scan.cursor.done {
-        return Ok(LineTurn::Scanning { scan });
+        let reading = Reading::Scan { scan };
+        return Ok(LineTurn::Scanning { reading });
     }
     let answer = if engine.has_vertex(v) {
         Answer::Neighbours {
@@ -285,7 +284,7 @@ fn neighbours<E: StepEngine>(
 }
 
 /// Scans all rows, and counts them.
-fn count<E: StepEngine>(engine: &mut E, before: Option<Scan>) -> Result<LineTurn, NoMemory>
+fn count<E: StepEngine>(engine: &mut E, before: Option<Reading>) -> Result<LineTurn, NoMemory>
     requires { MayTake (E.core engine.old) Phase.Open before (ToRead Counts) }
     ensures takes { IfOk result (λ turn.
         TakesHere (E.core engine.old) Phase.Open before (ToRead Counts) turn (E.core engine.new)) }
@@ -293,65 +292,11 @@ fn count<E: StepEngine>(engine: &mut E, before: Option<Scan>) -> Result<LineTurn
 {
     let scan = advance(engine, before, Scan::of_counts())?;
     if !scan.cursor.done {
-        return Ok(LineTurn::Scanning { scan });
+        let reading = Reading::Scan { scan };
+        return Ok(LineTurn::Scanning { reading });
     }
     let answer = scan.into_counts(engine.kind());
     Ok(LineTurn::Answering {
         given: LineAnswer::plain(answer, Phase::Open),
     })
-}
-
-/// Scans all rows, and runs a kernel on them.
-fn run_kernel<R: Threads + Sync, E: StepEngine>(
-    rt: &R,
-    alloc: Global,
-    engine: &mut E,
-    kernel: Kernel,
-    file: &Name,
-    before: Option<Scan>,
-) -> Result<LineTurn, NoMemory>
-    requires { MayTake (E.core engine.old) Phase.Open before (ToRun (kernel_of kernel) file.now) }
-    ensures takes { let r = ToRun (kernel_of kernel) file.now in
-        IfOk result (λ turn. TakesHere (E.core engine.old) Phase.Open before r turn (E.core engine.new)) }
-    ensures err { OnErr result (E.core engine.new ≡ E.core engine.old) }
-{
-    let scan = advance(engine, before, Scan::of_rows(alloc))?;
-    if !scan.cursor.done {
-        return Ok(LineTurn::Scanning { scan });
-    }
-    let rows = scan.into_rows();
-    let given = answer_kernel(rt, alloc, engine.kind(), kernel, file, rows)?;
-    Ok(LineTurn::Answering { given })
-}
-
-/// Runs a kernel on the rows of a graph, and answers its line.
-fn answer_kernel<R: Threads + Sync>(
-    rt: &R,
-    alloc: Global,
-    kind: Kind,
-    kernel: Kernel,
-    file: &Name,
-    rows: Builder,
-) -> Result<LineAnswer, NoMemory>
-    requires { (g : Graph) × AreKernelRows kind rows g }
-    ensures { IfOk result (λ given. (g : Graph) → AreKernelRows kind rows g
-        → AnswersKernel kind g (kernel_of kernel) file.now given) }
-{
-    match kernel_table(rt, alloc, kind, kernel, rows) {
-        Ok(table) => {
-            let name = copy_of(alloc, file)?;
-            Ok(LineAnswer {
-                answer: Answer::Table {
-                    entries: table.len() as u64,
-                },
-                phase: Phase::Open,
-                table: Some(NamedTable { name, table }),
-            })
-        }
-        Err(KernelRefusal::NoRoot) => {
-            let answer = Answer::NoVertex { v: kernel.root() };
-            Ok(LineAnswer::plain(answer, Phase::Open))
-        }
-        Err(KernelRefusal::NoMemory) => Err(NoMemory),
-    }
 }

@@ -2,14 +2,13 @@
 
 ghost use Rattle.std.specs.Prelude.{◌≡◌, List, length, IfOk, IfErr};
 ghost use Rattle.graph_model.specs.Graph.{Graph};
-ghost use Rattle.graph_image.specs.Images.{IsImageOf};
 ghost use Rattle.run_model.specs.declared.answer.Answer.TheVariants as answers;
 ghost use Rattle.run_model.specs.Answering.{kernel_answer, IsKernelTable};
-ghost use Rattle.job_runner.specs.Kernels.{kernel_of, root_of, AreKernelRows};
+ghost use Rattle.job_runner.specs.Kernels.{kernel_of, root_of, IsKernelImage};
 
 use delta_sssp::run as shortest_paths_by_buckets;
 use fast_bfs::run as search_both_ways;
-use graph_image::{Builder, Image};
+use graph_image::Image;
 use graph_model::{KernelRefusal, Kind, NoMemory, Table};
 use items::RoomyItems;
 use kernel_bfs::run as breadth_first_search;
@@ -57,41 +56,31 @@ pub struct NamedTable {
 /// The tables of a job, in the order of its lines.
 pub type Tables = RoomyItems<NamedTable>;
 
-/// Runs a kernel on the rows of a graph, which are on their way into its image.
+/// Runs a kernel on the image of a graph.
 pub fn kernel_table<R: Threads + Sync>(
     rt: &R,
     alloc: Global,
     kind: Kind,
     kernel: Kernel,
-    rows: Builder,
+    image: &Image,
 ) -> Result<Table, KernelRefusal>
-    requires { (g : Graph) × AreKernelRows kind rows g }
-    ensures table { IfOk result (λ table. (g : Graph) → AreKernelRows kind rows g
+    ensures table { IfOk result (λ table. (g : Graph) → IsKernelImage kind image.now g
         → (kernel_answer g (kernel_of kernel) ≡ answers.Table (length table))
         × IsKernelTable kind g (kernel_of kernel) table) }
-    ensures no_root { result ≡ Err KernelRefusal.NoRoot → (g : Graph) → AreKernelRows kind rows g
+    ensures no_root { result ≡ Err KernelRefusal.NoRoot → (g : Graph) → IsKernelImage kind image.now g
         → kernel_answer g (kernel_of kernel) ≡ answers.NoVertex (root_of kernel) }
 {
-    let image = image_of(kind, rows)?;
     match kernel {
-        Kernel::Bfs { root } => breadth_first_search(rt, alloc, &image, root),
-        Kernel::Wcc => Ok(components(rt, alloc, &image)?),
-        Kernel::Cdlp { rounds } => Ok(communities(rt, alloc, &image, rounds)?),
-        Kernel::Sssp { root } => shortest_paths(rt, alloc, &image, root),
-        Kernel::FastBfs { root } => search_both_ways(rt, alloc, &image, root),
+        Kernel::Bfs { root } => breadth_first_search(rt, alloc, image, root),
+        Kernel::Wcc => Ok(components(rt, alloc, image)?),
+        Kernel::Cdlp { rounds } => Ok(communities(rt, alloc, image, rounds)?),
+        Kernel::Sssp { root } => shortest_paths(rt, alloc, image, root),
+        Kernel::FastBfs { root } => search_both_ways(rt, alloc, image, root),
         // Any width gives this table, and no script that is read has the width 0.
         Kernel::FastSssp { root, width } => {
-            shortest_paths_by_buckets(rt, alloc, &image, root, width.max(1))
+            shortest_paths_by_buckets(rt, alloc, image, root, width.max(1))
         }
     }
-}
-
-/// The image of the graph of these rows.
-fn image_of(kind: Kind, rows: Builder) -> Result<Image, NoMemory>
-    requires { (g : Graph) × AreKernelRows kind rows g }
-    ensures { IfOk result (λ image. (g : Graph) → AreKernelRows kind rows g → IsImageOf image g) }
-{
-    rows.finish()
 }
 
 /// A copy of a name.

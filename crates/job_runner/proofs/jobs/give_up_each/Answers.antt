@@ -36,7 +36,7 @@ jobs-preserved g c =
     let there : slice_get c.jobs.jobs i ≡ Some job = slice_get_read c.jobs.jobs (length c.jobs.jobs) i job refl inside c.job-item.is in
     let held = c.jobs.invariant.held.each i job there in
     let number : c.number.result ≡ suc i = c.number.ensures ∙ ap (λ (x : Progress). x.number) (sym c.job-item.is) ∙ held.0 in
-    let one = gives_up_one core c.jobs.jobs i job there c.jobs.invariant.held (omega (arith, inside, c.jobs.invariant.held.passes)) c.give_up.new.self (c.give_up.ensures.job ∙ ap (λ (x : Progress). record x { phase = GivenUp; scan = None }) (sym c.job-item.is)) in
+    let one = gives_up_one core c.jobs.jobs i job there c.jobs.invariant.held (omega (arith, inside, c.jobs.invariant.held.passes)) c.give_up.new.self (c.give_up.ensures.job ∙ ap (λ (x : Progress). record x { phase = GivenUp; reading = None; image = None }) (sym c.job-item.is)) in
     let up : given_up (record core { selected = suc i }) job.phase ≡ new =
     (λ t. given_up (record core { selected = sym number t }) (c.job-item.is t).phase) ∙ ap (λ x. given_up x (slice_index_or c.jobs.jobs i job).phase) (sym c.select.ensures) ∙ sym c.give_up.ensures.core in
     record {

@@ -1,21 +1,32 @@
 use Rattle.std.proofs.Common.{sym, subst, ap, ◌∙◌}
-use Rattle.std.specs.Prelude.{Some}
-use Rattle.job_runner.specs.Scanning.{IsScan, taken_of}
+use Rattle.run_model.specs.Requests.{ToRead}
+use Rattle.graph_model.specs.declared.limits.TheConstants.{SCAN_ROWS}
+use Rattle.std.specs.Prelude.{◌/◌}
+use Rattle.job_runner.specs.declared.reading.Reading.TheVariants as readings
+use Rattle.job_runner.specs.Scanning.{IsReading, taken_by}
 use Rattle.job_runner.specs.Lines.{view_here}
-use Rattle.job_runner.proofs.LineLemmas.{scan_or, advances}
+use Rattle.job_runner.proofs.LineLemmas.{reading_or, advances}
 use Rattle.job_runner.proofs.line.advance.Goals as goal
+
+pub into_scan-scan-requires : goal.into_scan-scan-requires
+into_scan-scan-requires g c =
+    let view = view_here (g.E.StepEngine.core c.args.engine.now) in
+    let query = c.requires.scans.0 in
+    let s = reading_or view c.args.before (ToRead query) (readings.Scan c.args.fresh) c.requires.scans.1 (ap (λ n. n / SCAN_ROWS) c.requires.empty) c.requires.scans.2 in
+    (view, query, subst (IsReading view (ToRead query)) (sym c.unwrap_or.ensures) s.0)
 
 pub step-requires-clause-scan : goal.step-requires-clause-scan
 step-requires-clause-scan g c =
-    let core = g.E.StepEngine.core c.args.engine.now in
-    let r = c.requires.scans.0 in
-    let s = scan_or core c.args.before r c.args.fresh c.requires.scans.1 c.requires.empty c.requires.scans.2 in
-    (r, subst (IsScan (view_here core) r) (sym c.unwrap_or-scan.ensures) s.0)
+    let view = view_here (g.E.StepEngine.core c.args.engine.now) in
+    let query = c.requires.scans.0 in
+    let s = reading_or view c.args.before (ToRead query) (readings.Scan c.args.fresh) c.requires.scans.1 (ap (λ n. n / SCAN_ROWS) c.requires.empty) c.requires.scans.2 in
+    (ToRead query, subst (IsReading view (ToRead query)) (sym c.unwrap_or.ensures ∙ c.into_scan-scan.ensures) s.0)
 
 pub returns-clause-advances : goal.returns-clause-advances
-returns-clause-advances g c = λ r some fresh.
+returns-clause-advances g c = λ query some fresh.
     let core = g.E.StepEngine.core c.args.engine.now in
-    let same = c.unwrap_or-scan.ensures in
-    let s = scan_or core c.args.before r c.args.fresh some c.requires.empty fresh in
-    let scan = subst (IsScan (view_here core) r) (sym same) s.0 in
-    advances core c.args.before r c.unwrap_or-scan.result c.step.new.self scan (ap (λ x. taken_of (Some x)) same ∙ s.1) (c.in_ok-step.ensures.ok r scan)
+    let view = view_here core in
+    let same = sym c.unwrap_or.ensures ∙ c.into_scan-scan.ensures in
+    let s = reading_or view c.args.before (ToRead query) (readings.Scan c.args.fresh) some (ap (λ n. n / SCAN_ROWS) c.requires.empty) fresh in
+    let scan = subst (IsReading view (ToRead query)) same s.0 in
+    advances core c.args.before (ToRead query) c.into_scan-scan.result c.step.new.self scan (ap taken_by (sym same) ∙ s.1) (c.in_ok-step.ensures.ok (ToRead query) scan)

@@ -4,7 +4,7 @@ use Rattle.graph_model.specs.Scans.{rows_left, ScansBy}
 use Rattle.job_runner.specs.Scanning.{with_rows, FitIn}
 use Rattle.job_runner.specs.Lines.{view_here}
 use Rattle.job_runner.proofs.CoreLemmas.{view_is}
-use Rattle.job_runner.proofs.ViewLemmas.{here_rows}
+use Rattle.job_runner.proofs.ViewLemmas.{seen_here}
 use Rattle.job_runner.proofs.BuildLemmas.{fits}
 use Rattle.job_runner.proofs.ScanLemmas.{step_is}
 use Rattle.job_runner.proofs.scan.Scan.step.Goals as goal
@@ -18,7 +18,7 @@ take_in-requires-clause-fit g c =
     view_is (λ x. ScansBy x old.cursor c.scan_step.new.cursor c.scan_step.new.rows) core _ (g.met.E.StepEngine.accounts c.args.engine.now) c.requires.current c.scan_step.ensures.answer in
     let count : c.in-Some.count ≡ old.rows + length c.scan_step.new.rows = c.in-Some.ensures.1 ∙ ap (λ xs. old.rows + length xs) given in
     let scan = c.requires.scan.1 in
-    let are = here_rows core c.requires.valid c.requires.current in
+    let are = seen_here core c.requires.valid c.requires.current in
     subst (λ more. FitIn old.result more c.in-Some.count) (sym given) (fits (view_here core) are.rows are.bounded c.requires.scan.0 scan.given c.scan_step.new.rows (rows_left (view_here core) old.cursor) c.in-Some.count old.result scan.result scan.whole by.gave
     (count ∙ ap (λ n. n + length c.scan_step.new.rows) scan.counted))
 
