@@ -1,15 +1,17 @@
 #!/usr/bin/env bash
 # Builds the program, runs the whole command on graphs of three sizes and two kinds, and prints a table. Then come a table
 # of what it takes to read and load a graph with weights, one of many scripts of short transactions, one of the image and
-# the kernels by themselves, and one of the parts of the store over leaves. All inputs are made from a seed in a temporary
-# folder, which is removed at the end. RUNS=N and SEED=N change how often each is run (3), and which inputs they are (1).
-# ONLY=kernels and ONLY=segments print one of the last two tables alone.
+# the kernels by themselves, one of the parts of the store over leaves, and one of transactions by calls of the engine. All
+# inputs are made from a seed in a temporary folder, which is removed at the end. RUNS=N and SEED=N change how often each is
+# run (3), and which inputs they are (1). ONLY=kernels, ONLY=segments, ONLY=engine and ONLY=churn print
+# one of the last tables alone.
 set -euo pipefail
 
 top=$(cd "$(dirname "$0")/.." && pwd)
 program=$top/crates/teseo/out/teseo
 kernels=$top/crates/kernel_bench/out/kernel_bench
 segments=$top/crates/store_bench/out/store_bench
+engine=$top/crates/engine_bench/out/engine_bench
 runs=${RUNS:-3}
 seed=${SEED:-1}
 
@@ -141,6 +143,37 @@ print_segments() {
     echo "Load is $(load) now."
 }
 
+# Prints the table of a load, of transactions and of a scan by calls of the engine.
+print_engine() {
+    local run
+    echo '| Part         |    Count | Best, a second | Worst, a second |'
+    echo '|--------------|---------:|---------------:|----------------:|'
+    for run in $(seq "$runs"); do "$engine" 1000000 3500000 262144 "$seed"; done | awk '
+        !($1 in count) { names[++parts] = $1; count[$1] = $2; least[$1] = $3 }
+        $3 + 0 > most[$1] + 0 { most[$1] = $3 }
+        $3 + 0 < least[$1] + 0 { least[$1] = $3 }
+        END { for (part = 1; part <= parts; part++) {
+            name = names[part]
+            printf "| %-12s | %8d | %14d | %15d |\n", name, count[name], most[name], least[name]
+        } }'
+    echo
+    echo "A random graph of 1,000,000 vertices and 3,500,000 edges is loaded, 262,144 transactions of one edge each are run by"
+    echo "one pass, and all rows are scanned. What is counted is told in crates/engine_bench/README.md. Load is $(load) now."
+}
+
+# Prints a table of 2,000,000 transactions that set the same 10,000 edges, at ten moments: without a transaction that stays
+# open, or with one.
+print_churn() {
+    echo "| Made     | a second |     Undo | Retired | Leaves | Memory |"
+    echo "|---------:|---------:|---------:|--------:|-------:|-------:|"
+    "$top/bench/churn.py" -- "$engine" 100000 300000 2000000 "$seed" 10000 "$1" || fail
+    echo
+    echo "Transactions of one pass set 10,000 edges of a random graph of 100,000 vertices and 300,000 edges again and again,"
+    echo "while $2. Undo, Retired and Leaves are the records, the retired leaves"
+    echo "and the leaves in use at that moment, Memory is that of the whole process in MiB, with the journal so far."
+    echo
+}
+
 # Prints the tables of whole runs.
 print_runs() {
     local vertices kind scripts
@@ -185,6 +218,7 @@ build() {
     if is_wanted runs; then make -s -C "$top" build >/dev/null; fi
     if is_wanted kernels; then (cd "$top/crates/kernel_bench" && rt run >/dev/null 2>&1); fi
     if is_wanted segments; then (cd "$top/crates/store_bench" && rt run >/dev/null 2>&1); fi
+    if is_wanted engine || is_wanted churn; then (cd "$top/crates/engine_bench" && rt run >/dev/null 2>&1); fi
 }
 
 build
@@ -200,3 +234,8 @@ if is_wanted kernels; then
     print_kernels 0 'path of 1,000,000 vertices with weights'
 fi
 if is_wanted segments; then print_segments; fi
+if is_wanted engine; then print_engine; fi
+if is_wanted churn; then
+    print_churn 0 'no other transaction is open'
+    print_churn 1 'one of another pass stays open'
+fi

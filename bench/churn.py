@@ -1,0 +1,63 @@
+#!/usr/bin/env python3
+"""Runs engine_bench with a sixth number, and prints a row of a table for each line of it.
+
+    churn.py -- COMMAND...
+
+A row has how many transactions were made so far, how many a second in the
+tenth of the run that ended, what the store holds then (undo records, retired
+leaves, leaves in use), and the memory of the whole process in MiB, as Linux
+counts its resident set when the line arrives.
+"""
+
+import argparse
+import re
+import subprocess
+import sys
+
+KIBIBYTES_IN_A_MEBIBYTE = 1024
+
+LINE = re.compile(
+    r"churn (?P<made>\d+) (?P<rate>\d+) undo (?P<undo>\d+)"
+    r" retired (?P<retired>\d+) leaves (?P<leaves>\d+)"
+)
+
+
+def resident_mebibytes(process):
+    """The resident set of a process that runs."""
+    with open(f"/proc/{process}/status", encoding="ascii") as status:
+        for line in status:
+            if line.startswith("VmRSS:"):
+                return int(line.split()[1]) // KIBIBYTES_IN_A_MEBIBYTE
+    return 0
+
+
+def print_rows(command):
+    """Runs the command, and prints a row for each of its lines."""
+    made = 0
+    with subprocess.Popen(command, stdout=subprocess.PIPE, text=True) as process:
+        for line in process.stdout:
+            found = LINE.match(line)
+            if not found:
+                sys.exit(f"churn.py: not a line of engine_bench: {line!r}")
+            made += int(found["made"])
+            print(
+                f"| {made:8d} | {found['rate']:>8} | {found['undo']:>8}"
+                f" | {found['retired']:>7} | {found['leaves']:>6}"
+                f" | {resident_mebibytes(process.pid):6d} |",
+                flush=True,
+            )
+    if process.returncode != 0:
+        sys.exit(f"churn.py: {command[0]} ended with status {process.returncode}")
+
+
+def main():
+    """Reads the command line, and prints the rows."""
+    parser = argparse.ArgumentParser(
+        description=__doc__, formatter_class=argparse.RawDescriptionHelpFormatter
+    )
+    parser.add_argument("command", nargs="+", metavar="COMMAND")
+    print_rows(parser.parse_args().command)
+
+
+if __name__ == "__main__":
+    main()
