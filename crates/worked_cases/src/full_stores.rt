@@ -1,5 +1,6 @@
 //! Stores of one leaf, and the row for which they have no place.
 
+use crate::texts::{between, numbered, repeated};
 use case_setting::{End, SEARCH, desk_with, difference_on, run_difference};
 use std::alloc::{AllocError, Global};
 use std::test::Fail;
@@ -18,31 +19,21 @@ const WRITE: End = (
 /// A graph of 300 vertices finds no place: nothing is created.
 const LOAD: End = (6, "load full\n", 3, &[]);
 
-/// Lines with the numbers from 1 to below the last behind a word.
-fn numbered(alloc: Global, word: &str, last: u32) -> Result<String, AllocError> {
-    let mut lines = String::new(alloc);
-    for number in 1..last {
-        lines.push_str(format!(in alloc; "{word}{number}\n")?.as_str())?;
-    }
-    Ok(lines)
-}
-
 /// A script that begins, writes the vertices from 1 to 220, and commits.
 fn script_of_220(alloc: Global) -> Result<String, AllocError> {
-    let mut script = String::from_str(alloc, "begin\n")?;
-    script.push_str(numbered(alloc, "vertex ", 221)?.as_str())?;
-    script.push_str("commit\n")?;
-    Ok(script)
+    let vertices = numbered(alloc, "vertex ", 1, 221)?;
+    between(alloc, "begin\n", vertices.as_str(), "commit\n")
 }
 
 /// Its report where 219 of the vertices find a place.
 fn report_of_219(alloc: Global) -> Result<String, AllocError> {
-    let mut report = String::from_str(alloc, "begin 1.1 start 0\n")?;
-    for _ in 0..219 {
-        report.push_str("ok\n")?;
-    }
-    report.push_str("full\nskipped\n")?;
-    Ok(report)
+    let oks = repeated(alloc, "ok\n", 219)?;
+    between(
+        alloc,
+        "begin 1.1 start 0\n",
+        oks.as_str(),
+        "full\nskipped\n",
+    )
 }
 
 /// The density limits leave 219 vertices in a leaf that is filled in the order of their ids.
@@ -62,7 +53,7 @@ fn the_220th_vertex_finds_no_place_in_one_leaf(rt: HostRuntime) -> Result<(), Fa
 #[test]
 fn a_graph_of_300_vertices_finds_no_place_in_one_leaf(rt: HostRuntime) -> Result<(), Fail> {
     let alloc = rt.alloc();
-    let vertices = numbered(alloc, "", 301)?;
+    let vertices = numbered(alloc, "", 1, 301)?;
     let files = [("v", vertices.as_str()), ("e", ""), SEARCH];
     let run = (&files[..], "--directed --leaves 1 s1");
     let difference = run_difference(&rt, alloc, run, &[], LOAD)?;

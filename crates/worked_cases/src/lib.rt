@@ -8,6 +8,10 @@ mod faster_kernels;
 #[cfg(test)]
 mod full_stores;
 #[cfg(test)]
+mod long_scripts;
+#[cfg(test)]
 mod several_scripts;
+#[cfg(test)]
+mod texts;
 #[cfg(test)]
 mod whole_runs;
