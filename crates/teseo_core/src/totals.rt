@@ -13,8 +13,8 @@ use leaf_rows::Reader;
 use txn_manager::Totals;
 
 impl Core {
-    /// The vertices and the edges of the newest committed graph, how many undo records its rows have, up to the last
-    /// number, and how many leaves are retired.
+    /// The vertices and the edges of the newest committed graph, how many undo records and touches the rows have, up to
+    /// the last number, and how many leaves are retired.
     pub fn totals(&self) -> Totals
         ensures vertices { result.vertices ≡ length (vertices_of (newest_graph self.now.core)) }
         ensures edges { result.edges ≡ edges_of self.now.core.kind (newest_graph self.now.core) }
