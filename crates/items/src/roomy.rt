@@ -69,14 +69,19 @@ impl<T> RoomyItems<T> {
         self.items.as_slice()
     }
 
-    /// Makes room for so many more items.
+    /// Makes room for so many more items: at first for no more than those, so that a list of one item takes the memory
+    /// of one, and later for some ahead.
     pub fn reserve(&mut self, room: usize) -> Result<(), NoMemory>
         ensures kept { self.new.items ≡ self.old.items }
         ensures ok { OnOk result (room ≤ self.new.spare) }
         ensures spare { self.old.spare ≤ self.new.spare }
         ensures err { OnErr result (self.new ≡ self.old) }
     {
-        self.items.reserve(room)?;
+        if self.items.is_empty() {
+            self.items.reserve_exact(room)?;
+        } else {
+            self.items.reserve(room)?;
+        }
         Ok(())
     }
 
