@@ -64,6 +64,12 @@ module _ {X : Type 0} where
   index_below (y ∷ ys) zero x e = omega arith
   index_below (y ∷ ys) (suc i) x e = let lt : i < length ys = index_below ys i x e in omega arith
 
+  -- something stands at each place
+  pub there_at : (xs : List X) (i : ℕ) → i < length xs → (x : X) × (slice_get xs i ≡ Some x)
+  there_at [] i lt = absurd (omega arith)
+  there_at (x ∷ xs) zero lt = (x, refl)
+  there_at (x ∷ xs) (suc i) lt = there_at xs i (omega (arith, lt))
+
 -- a test that none of so many passes is passed by none, where there are no more
 pub none_of_all : {X : Type 0} (p : X → Bool) (xs : List X) (n : ℕ) → length xs ≤ n → list_any p (take n xs) ≡ false → list_any p xs ≡ false
 none_of_all p [] n le e = refl

@@ -481,3 +481,43 @@ length-changed_from g [] zero = refl
 length-changed_from g [] (suc i) = refl
 length-changed_from g (e ∷ es) zero = ap suc (length-changed_from g es zero)
 length-changed_from g (e ∷ es) (suc i) = ap suc (length-changed_from g es i)
+
+-- ---- the last changed row before a place
+
+all_above : (es : List PlacedRow) (place p : ℕ) → p < place → AllByRecursion (λ e. is_below (placed_key e) (place_key place) ≡ false) es → AllByRecursion (λ e. nat_eq p e.place ≡ false) es
+all_above [] place p lt h = tt
+all_above (e ∷ es) place p lt h = (other_test p e.place (λ same. let le : place ≤ e.place = no_lower_place e.place place h.0 in omega (arith, same, le, lt)), all_above es place p lt h.1)
+
+-- no row before the place is changed
+pub none_before : (es : List PlacedRow) (place index : ℕ) → IsPlaceIn es place index → index ≡ 0 → (p : ℕ) → p < place → heads_placed es p ≡ settled_heads
+none_before es place index at none p lt =
+    placed_at es p ∙ at_none es p (all_above es place p lt (subst (λ (i : ℕ). AllByRecursion (λ e. is_below (placed_key e) (place_key place) ≡ false) (drop i es)) none at.behind))
+
+module _ (place i : ℕ) (e : PlacedRow) where
+  there_all : (P : PlacedRow → Type 0) (es : List PlacedRow) (j : ℕ) → slice_get es j ≡ Some e → AllByRecursion P es → P e
+  there_all P [] zero there h = cc
+  there_all P [] (suc j) there h = cc
+  there_all P (x ∷ xs) zero there h = subst P (some_eq x e there) h.0
+  there_all P (x ∷ xs) (suc j) there h = there_all P xs j there h.1
+
+  there_taken : (P : PlacedRow → Type 0) (es : List PlacedRow) (j : ℕ) → slice_get es j ≡ Some e → AllByRecursion P (take (suc j) es) → P e
+  there_taken P [] zero there h = cc
+  there_taken P [] (suc j) there h = cc
+  there_taken P (x ∷ xs) zero there h = subst P (some_eq x e there) h.0
+  there_taken P (x ∷ xs) (suc j) there h = there_taken P xs j there h.1
+
+  -- the last of them does stand before it
+  pub last_is_before : (es : List PlacedRow) → IsPlaceIn es place (suc i) → slice_get es i ≡ Some e → e.place < place
+  last_is_before es at there = lower_place e.place place (there_taken (λ x. is_below (placed_key x) (place_key place) ≡ true) es i there at.before)
+
+  -- and between the two none is changed
+  pub none_between : (es : List PlacedRow) → ArePlacesRising es → IsPlaceIn es place (suc i) → slice_get es i ≡ Some e → (p : ℕ) → suc e.place ≤ p → p < place → heads_placed es p ≡ settled_heads
+  none_between es rising at there p gt lt = placed_at es p ∙ at_none es p (go es i rising there at.behind)
+    where
+      go : (xs : List PlacedRow) (j : ℕ) → ArePlacesRising xs → slice_get xs j ≡ Some e → AllByRecursion (λ x. is_below (placed_key x) (place_key place) ≡ false) (drop (suc j) xs) → AllByRecursion (λ x. nat_eq p x.place ≡ false) xs
+      go [] zero r t b = cc
+      go [] (suc j) r t b = cc
+      go (x ∷ xs) zero r t b =
+          (other_test p x.place (λ same. let here : x.place ≡ e.place = ap (λ (y : PlacedRow). y.place) (some_eq x e t) in omega (arith, same, here, gt)), all_above xs place p lt b)
+      go (x ∷ xs) (suc j) r t b =
+          (other_test p x.place (λ same. let below : x.place < e.place = lower_place x.place e.place (there_all (λ y. is_below (placed_key x) (placed_key y) ≡ true) xs j t r.0) in omega (arith, same, below, gt)), go xs j r.1 t b)

@@ -1,6 +1,6 @@
 -- Rows that are pruned one by one, from the last on.
 use Rattle.std.proofs.Common.{◌≡◌, ℕ, zero, suc, ◌+◌, ◌-◌, ◌<◌, ◌≤◌, List, [], ◌∷◌, ◌++◌, length, length-append, length-take, take, drop, refl, sym, ◌∙◌, ap, subst, arith, Some}
-use Rattle.std.specs.Prelude.{Bool, true, false, ◌&&◌, ◌||◌, not, cond, is_some, min, slice_get, Option, None}
+use Rattle.std.specs.Prelude.{Bool, true, false, ◌&&◌, ◌||◌, not, cond, is_some, min, slice_get, IsSomeAnd, Option, None}
 use Rattle.std.specs.List.{AllByRecursion}
 use Rattle.std.specs.Ordering.{eq_by_cmp}
 use Rattle.std.specs.Cmp.{tied_itself}
@@ -21,11 +21,12 @@ use Rattle.version_segment.specs.declared.found.FoundRow.{FoundRow}
 use Rattle.version_segment.specs.Rows.{is_empty, is_nothing, with_versions, records_in, all_records, unless_nothing, pruned_rows, PrunesRows}
 use Rattle.version_segment.specs.Checks.{IsNamed, AreNamedRows}
 use Rattle.version_segment.specs.Keyed.{RisesBy}
-use Rattle.version_segment.specs.Heads.{HeadTable, heads_at, settled_heads}
+use Rattle.version_segment.specs.declared.heads.Heads.{Heads}
+use Rattle.version_segment.specs.Heads.{HeadTable, heads_at, settled_heads, AreSettledRows}
 use Rattle.version_segment.specs.Lists.{ChangesRow}
 use Rattle.version_segment.specs.Parts.{key_of, versioned, of_lists, value_in, versions_in, with_value, is_changed, heads_of, view_of, AreParts, IsRow}
 use Rattle.version_segment.specs.Walks.{row_of, with_pruned, PrunesRow, ArePruned}
-use Rattle.version_segment.proofs.HeadLemmas.{found_at}
+use Rattle.version_segment.proofs.HeadLemmas.{found_at, there_at}
 use Rattle.version_segment.proofs.KeyedLemmas.{order_above, tied_self, below_untied, above_untied}
 use Rattle.version_segment.proofs.PartLemmas.{rows_rise}
 use Rattle.version_segment.proofs.ListLemmas.{undos_change, undos_leave_touches, touches_change, touches_leave_undos}
@@ -391,6 +392,29 @@ module _ (stamps : TxnName → Option ℕ) (horizon : ℕ) (rows : FencedRows) (
               subst (λ es. c2.spare + all_records (pruned_rows stamps horizon es) ≡ c1.spare + all_records es) same_row one.freed in
               omega (arith, old, new, here, so_far.freed);
         }
+
+  module _ (rows1 : FencedRows) (heads1 : HeadTable) (c1 : ChainMap) where
+    -- a settled row is pruned already
+    settled_already : (i : ℕ) (row : Row) → slice_get rows1.rows i ≡ Some row → heads_at heads1.entries row.key ≡ settled_heads → AreParts rows1 heads1.entries c1 → PrunesRow stamps horizon i rows1 rows1 heads1 heads1 c1 c1
+    settled_already i row there settled is =
+        let found : FoundRow = record { place = i; value = Some row.weight; undos = None; touches = None } in
+        pruned_already rows1 heads1 c1 row.key is found
+        (record {
+          at = subst (λ (o : Option Row). IsSomeAnd o (λ r. (r.key ≡ row.key) × (Some row.weight ≡ value_in (heads_at heads1.entries row.key) r.weight))) (sym there) (refl, ap (λ (h : Heads). value_in h row.weight) (sym settled));
+          undos = ap (λ (h : Heads). h.undos) (sym settled);
+          touches = ap (λ (h : Heads). h.touches) (sym settled);
+        })
+        i refl refl refl stamps horizon
+
+    -- so are those between two places
+    pub skip_settled : (gap i m : ℕ) → m ≡ gap + i → AreSettledRows rows1.rows heads1.entries i m → ArePruned stamps horizon m rows rows1 heads heads1 c c1 → ArePruned stamps horizon i rows rows1 heads heads1 c c1
+    skip_settled zero i m e settled so_far = let same : m ≡ i = omega (arith, e) in subst (λ (n : ℕ). ArePruned stamps horizon n rows rows1 heads heads1 c c1) same so_far
+    skip_settled (suc gap) i m e settled so_far =
+        let next : m ≡ suc (gap + i) = omega (arith, e) in
+        let here = subst (λ (n : ℕ). ArePruned stamps horizon n rows rows1 heads heads1 c c1) next so_far in
+        let row = there_at rows1.rows (gap + i) (next_below (gap + i) rows1 heads1 c1 here) in
+        let one = settled_already (gap + i) row.0 row.1 (settled (gap + i) row.0 row.1 (omega arith) (omega (arith, e))) here.parts in
+        skip_settled gap i (gap + i) refl (λ p r there le lt. settled p r there le (omega (arith, lt, e))) (pruned_next (gap + i) rows1 heads1 c1 here rows1 heads1 c1 stamps refl one)
 
   -- all are pruned
   module _ (rows1 : FencedRows) (heads1 : HeadTable) (c1 : ChainMap) (n : ℕ) (none : n ≡ 0) (so_far : ArePruned stamps horizon n rows rows1 heads heads1 c c1) where

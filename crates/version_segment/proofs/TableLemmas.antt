@@ -18,7 +18,7 @@ use Rattle.version_segment.specs.declared.heads.Heads.{Heads}
 use Rattle.version_segment.specs.Heads.{ChangedRow}
 use Rattle.version_segment.specs.Heads.{PlacedRow}
 use Rattle.version_segment.specs.Keyed.{entries_by, RisesBy, IsGapBy}
-use Rattle.version_segment.specs.Heads.{settled_heads, row_key, row_heads, heads_at, heads_placed, opened, closed, keyed}
+use Rattle.version_segment.specs.Heads.{settled_heads, row_key, row_heads, heads_at, heads_placed, opened, closed, keyed, AreSettledRows}
 use Rattle.version_segment.proofs.KeyedLemmas.{tied_same}
 use Rattle.version_segment.proofs.PlaceLemmas.{below_or_not, other_test, opened_high, closed_high}
 use Rattle.version_segment.proofs.HeadLemmas.{found_at, index_below, heads_there, heads_gap, heads_set, heads_insert, heads_remove}
@@ -289,3 +289,8 @@ settled_range rows f from until a b low high h q within = elim (table_cases rows
         go : (i < b) ⊎ (b ≤ i) → i < b
         go (inl lt) = lt
         go (inr le) = absurd (clash (is_below r.key until) (ap (λ (x : Key). is_below x until) k ∙ parts.1) (at_back (λ x. is_below x.key until ≡ false) rows b i r high.behind le e))
+
+-- rows are settled where their places are
+pub settled_rows : (rows : List Row) (f : ℕ → Heads) (first end : ℕ) → AreSorted rows → ((p : ℕ) → first ≤ p → p < end → f p ≡ settled_heads) → AreSettledRows rows (keyed rows f) first end
+settled_rows rows f first end sorted h p row there le lt =
+    table_there rows f row.key p sorted (subst (λ (o : Option Row). IsSomeAnd o (λ r. r.key ≡ row.key)) (sym there) refl) ∙ h p le lt

@@ -1,5 +1,5 @@
 -- Where the records of changed rows begin.
-use Rattle.std.specs.Prelude.{◌≡◌, ℕ, zero, suc, ◌+◌, ◌-◌, ◌<◌, ◌≤◌, Bool, true, false, ◌&&◌, not, is_some, List, [], ◌∷◌, map, drop, slice_get, None, IsSomeAnd}
+use Rattle.std.specs.Prelude.{◌≡◌, ℕ, zero, suc, ◌+◌, ◌-◌, ◌<◌, ◌≤◌, Bool, true, false, ◌&&◌, not, is_some, Option, Some, List, [], ◌∷◌, map, drop, slice_get, None, IsSomeAnd}
 use Rattle.std.specs.List.{AllByRecursion}
 use Rattle.std.specs.Option.{unwrap_or}
 use Rattle.std.specs.FinMap.Entries.{find}
@@ -91,6 +91,11 @@ abbrev pub IsFoundIn : List PlacedRow → ℕ → Result ℕ ℕ → Type 0
 IsFoundIn rows place (Ok index) = IsSomeAnd (slice_get rows index) (λ row. row.place ≡ place)
 IsFoundIn rows place (Err index) = IsGapBy placed_key rows (place_key place) index
 
+-- the place behind one, or the first of all
+abbrev pub place_behind : Option ℕ → ℕ
+place_behind None = 0
+place_behind (Some p) = suc p
+
 -- ---- places that shift
 
 abbrev pub raised_row : ℕ → PlacedRow → PlacedRow
@@ -150,3 +155,8 @@ AreWithinPlaces count rows = (p : ℕ) → count ≤ p → heads_placed rows p �
 pub record HeadedRows : Type 0 where
   pub fenced : FencedRows
   pub heads : HeadTable
+
+-- the rows from one place on and before another are settled
+abbrev pub AreSettledRows : List Row → List ChangedRow → ℕ → ℕ → Type 0
+AreSettledRows rows heads first end =
+    (p : ℕ) (row : Row) → slice_get rows p ≡ Some row → first ≤ p → p < end → heads_at heads row.key ≡ settled_heads

@@ -3,9 +3,9 @@
 //! 1. Places strictly rise.
 //! 2. A row that isn't named here is settled, and no other one: it has its value, and no records.
 
-ghost use Rattle.std.specs.Prelude.{◌≡◌, ◌==◌, ◌⊎◌, ◌+◌, ◌<◌, ◌≤◌, ℕ, true, [], length, insert, cond, nat_eq, OnOk, IsOk};
+ghost use Rattle.std.specs.Prelude.{◌≡◌, ◌==◌, ◌⊎◌, ◌+◌, ◌<◌, ◌≤◌, ℕ, true, [], length, insert, cond, nat_eq, IfSome, OnOk, IsOk};
 ghost use Rattle.std.specs.Vec.{vec_capacity};
-ghost use Rattle.version_segment.specs.Heads.{heads_placed, settled_heads, is_settled, opened, closed, raised, changed_from, raised_row, lowered_row, IsFoundIn, IsPlaceIn, ArePlacesRising, ArePlacedBelow, ArePlacedFrom};
+ghost use Rattle.version_segment.specs.Heads.{heads_placed, place_behind, settled_heads, is_settled, opened, closed, raised, changed_from, raised_row, lowered_row, IsFoundIn, IsPlaceIn, ArePlacesRising, ArePlacedBelow, ArePlacedFrom};
 
 use crate::packed::{PackedHeads, PackedRow};
 use graph_model::NoMemory;
@@ -162,6 +162,19 @@ impl HeadMap {
         ensures spare { self.new.spare ≡ self.old.spare }
     {
         lower_from(&mut self.rows, 0, by);
+    }
+
+    /// The last place before this one whose row is changed.
+    pub(crate) fn last_before(&self, place: usize) -> Option<usize>
+        ensures below { IfSome result (λ p. p < place) }
+        ensures between { (p : ℕ) → place_behind result ≤ p → p < place
+            → heads_placed self.now.entries p ≡ settled_heads }
+    {
+        let index = index_in(self.rows.as_slice(), place);
+        if index == 0 {
+            return None;
+        }
+        Some(self.rows[index - 1].place())
     }
 
     /// Whether all rows between two places are settled.

@@ -3,14 +3,14 @@
 //! 1. The heads of a row are found by its place, so they move where it moves.
 //! 2. No heads are kept for places behind the rows.
 
-ghost use Rattle.std.specs.Prelude.{◌≡◌, ◌==◌, ◌⊎◌, ◌+◌, ◌-◌, ◌<◌, ◌≤◌, true, false, [], take, drop, length, insert, remove, min, cond, OnOk, IfOk, IsOk, ◌++◌};
+ghost use Rattle.std.specs.Prelude.{◌≡◌, ◌==◌, ◌⊎◌, ◌+◌, ◌-◌, ◌<◌, ◌≤◌, true, false, [], take, drop, length, insert, remove, min, cond, IfSome, OnOk, IfOk, IsOk, ◌++◌};
 ghost use Rattle.std.specs.Ordering.{eq_by_cmp};
 ghost use Rattle.std.specs.declared.result.Result.TheVariants.{Ok};
 ghost use Rattle.graph_model.specs.declared.row.Key.{Key};
 ghost use Rattle.graph_model.specs.declared.limits.TheConstants.{SEGMENT_ROWS};
 ghost use Rattle.graph_model.specs.Rows.{key_cmp, is_below, is_between};
 ghost use Rattle.gap_segment.specs.Fenced.{IsFound, IsGapFor, IsPlaceOf, AreSorted, AreWithin, with_weight};
-ghost use Rattle.version_segment.specs.Heads.{heads_at, settled_heads};
+ghost use Rattle.version_segment.specs.Heads.{heads_at, place_behind, settled_heads, AreSettledRows};
 ghost use Rattle.version_segment.specs.Rows.{all_records};
 ghost use Rattle.version_segment.specs.Parts.{versioned, AreParts};
 ghost use Rattle.version_segment.specs.Moves.{SharesTables, MovesRoom};
@@ -80,6 +80,16 @@ impl RowTable {
         }
         self.heads
             .are_settled(self.first_place(from), self.first_place(until))
+    }
+
+    /// The last place before this one whose row is changed.
+    pub(crate) fn changed_before(&self, place: usize) -> Option<usize>
+        ensures below { IfSome result (λ p. p < place) }
+        ensures between { AreSettledRows self.now.fenced.rows self.now.heads.entries (place_behind result) place }
+    {
+        // Nobody reads it: that rows are sorted is a clause of this call.
+        let _rows = self.rows.rows();
+        self.heads.last_before(place)
     }
 
     /// How many rows are below the key.

@@ -372,7 +372,7 @@ impl VersionSegment {
         self.prune_each(horizon, states)
     }
 
-    /// The same, row by row.
+    /// The same, by one changed row after the other, the last one first.
     fn prune_each<S: States>(&mut self, horizon: u64, states: &mut S) -> usize
         requires known { horizon ≤ (S.knowledge states.old).known }
         requires named { AreNamedRows (S.knowledge states.old).names self.old.rows }
@@ -383,8 +383,8 @@ impl VersionSegment {
     {
         let spare = self.chains.spare();
         let mut place = self.rows.segment().len();
-        'rows: while place > 0 {
-            place -= 1;
+        'rows: while let Some(changed) = self.rows.changed_before(place) {
+            place = changed;
             prune_row(&mut self.rows, &mut self.chains, place, horizon, states);
         }
         self.chains.spare() - spare
