@@ -244,7 +244,7 @@ begin_same : (front : List LeafStart) (p : LeafStart) (xs ys : List LeafStart) (
 begin_same [] p xs ys high = refl
 begin_same (f ∷ front) p xs ys high = refl
 
-count_more : (leaf : ℕ) (front : List LeafStart) (s : LeafStart) (back : List LeafStart) → count_by (λ (r : LeafStart). r.leaf == leaf) (front ++ s ∷ back) ≡ count_by (λ (r : LeafStart). r.leaf == leaf) (front ++ back) + worth (s.leaf == leaf)
+pub count_more : (leaf : ℕ) (front : List LeafStart) (s : LeafStart) (back : List LeafStart) → count_by (λ (r : LeafStart). r.leaf == leaf) (front ++ s ∷ back) ≡ count_by (λ (r : LeafStart). r.leaf == leaf) (front ++ back) + worth (s.leaf == leaf)
 count_more leaf front s back =
     let p : LeafStart → Bool = λ r. r.leaf == leaf in
     omega (arith, count_append p front (s ∷ back), count_cons p s back, count_append p front back)
@@ -430,10 +430,10 @@ pub record DropChanged (starts : List LeafStart) (free : List ℕ) (retired : Li
   pub drops : entries_of new starts ≡ entries
   pub count : length new ≡ length slots
 
-pub drop_changed : (slots : List Slot) (starts after : List LeafStart) (free : List ℕ) (retired : List Retired) (entries : List Entry) (low : Key) (dropped before : ℕ) (gone now : Slot) → IsKept slots starts free retired → (can : CanDrop low entries)
+range_joined : (slots : List Slot) (starts after : List LeafStart) (free : List ℕ) (retired : List Retired) (entries : List Entry) (low : Key) (dropped before : ℕ) (gone now : Slot) → IsKept slots starts free retired → (can : CanDrop low entries)
     → (n : Neighbours slots starts low entries can) → IsFloorStart low starts dropped → slice_get slots dropped ≡ Some gone → BeginsBefore low starts before → slice_get slots before ≡ Some now → Removes low starts after
     → DropChanged after free retired slots (set slots before (record { cuts = now.cuts; high = gone.high })) (without_leaf low entries can)
-drop_changed slots starts after free retired entries low dropped before gone now k can n f there_gone b there_now rem =
+range_joined slots starts after free retired entries low dropped before gone now k can n f there_gone b there_now rem =
     let p = n.p in
     let d = n.d in
     let grouped : starts ≡ (n.before ++ p ∷ []) ++ d ∷ n.behind = n.is ∙ sym (append_assoc n.before (p ∷ []) (d ∷ n.behind)) in
@@ -487,3 +487,40 @@ drop_changed slots starts after free retired entries low dropped before gone now
       count = count;
     } in
     subst (λ m. DropChanged after free retired slots (set slots m x) (without_leaf low entries can)) number_p result
+
+-- the leaf that is taken out is the last one that does not begin above its key
+pub removed_start : (low : Key) (starts after : List LeafStart) (dropped : ℕ) → AreRisingStarts starts → (f : IsFloorStart low starts dropped) → (rem : Removes low starts after) → f.start ≡ rem.start
+removed_start low starts after dropped rising f rem =
+    let from : NotAbove rem.start.low low = subst (λ x. NotAbove x low) (sym rem.low) (below_self low) in
+    let above : StartAbove low rem.back = subst (λ x. StartAbove x rem.back) rem.low (rising_behind rem.front rem.start rem.back (subst AreRisingStarts rem.was rising)) in
+    let same = floor_is low starts dropped rem.front rem.start rem.back f rem.was from above in
+    same.starts
+
+-- it is live no more
+removed_apart : (slots : List Slot) (starts after : List LeafStart) (free : List ℕ) (retired : List Retired) (low : Key) (dropped : ℕ) → IsKept slots starts free retired → IsFloorStart low starts dropped → Removes low starts after → Apart dropped after
+removed_apart slots starts after free retired low dropped k f rem =
+    let number : rem.start.leaf ≡ dropped = ap (λ (s : LeafStart). s.leaf) (sym (removed_start low starts after dropped k.rising f rem)) ∙ f.same in
+    let alone = stands_alone (length slots) rem.front rem.start rem.back free retired (subst (λ ss. StandOnce (length slots) ss free retired) rem.was k.once) in
+    let apart : Apart rem.start.leaf (rem.front ++ rem.back) = all_append (λ (s : LeafStart). s.leaf ≢ rem.start.leaf) rem.front rem.back alone.0 alone.1 in
+    subst (λ m. Apart m after) number (subst (Apart rem.start.leaf) (sym rem.is) apart)
+
+-- the slot of a leaf that isn't live may be any
+idle_changed : (slots : List Slot) (starts : List LeafStart) (free : List ℕ) (retired : List Retired) (leaf : ℕ) (x : Slot) → Apart leaf starts → IsKept slots starts free retired → IsKept (set slots leaf x) starts free retired
+idle_changed slots starts free retired leaf x apart k =
+    let count = length-set slots leaf x in
+    record {
+      first = k.first;
+      rising = k.rising;
+      have = slots_kept slots leaf x end_key starts apart k.have;
+      once = λ q. subst (λ n. times q starts free retired ≤ worth (nat_lt q n)) (sym count) (k.once q);
+      few = omega (arith, k.few, count);
+    }
+
+pub drop_changed : (slots : List Slot) (starts after : List LeafStart) (free : List ℕ) (retired : List Retired) (entries : List Entry) (low : Key) (dropped before : ℕ) (gone now y : Slot) → IsKept slots starts free retired → (can : CanDrop low entries)
+    → (n : Neighbours slots starts low entries can) → IsFloorStart low starts dropped → slice_get slots dropped ≡ Some gone → BeginsBefore low starts before → slice_get slots before ≡ Some now → Removes low starts after
+    → DropChanged after free retired slots (set (set slots before (record { cuts = now.cuts; high = gone.high })) dropped y) (without_leaf low entries can)
+drop_changed slots starts after free retired entries low dropped before gone now y k can n f there_gone b there_now rem =
+    let joined = set slots before (record { cuts = now.cuts; high = gone.high }) in
+    let j = range_joined slots starts after free retired entries low dropped before gone now k can n f there_gone b there_now rem in
+    let apart = removed_apart slots starts after free retired low dropped k f rem in
+    record { kept = idle_changed joined after free retired dropped y apart j.kept; drops = entries_kept joined dropped y after apart ∙ j.drops; count = length-set joined dropped y ∙ j.count }

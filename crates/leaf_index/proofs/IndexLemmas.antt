@@ -2,6 +2,7 @@
 use Rattle.std.proofs.Common.{◌≡◌, ℕ, zero, suc, ◌+◌, ◌-◌, ◌<◌, ◌≤◌, ◌==◌, Bool, true, false, not, cond, nat_lt, List, [], ◌∷◌, ◌++◌, Option, Some, None, length, map, take, drop, count_by, replicate, refl, sym, ◌∙◌, ap, subst, arith, eqb-true, eq-eqb}
 use Rattle.std.specs.Prelude.{slice_get, option_to_list, IfNone}
 use Rattle.std.specs.List.{filter, range_with_len}
+use Rattle.std.proofs.Math.ListN.{length-set}
 use Rattle.std.proofs.lemmas.List.{length-replicate, take-append-drop}
 use Rattle.graph_model.specs.declared.row.Key.{Key}
 use Rattle.graph_model.specs.Rows.{first_key, end_key}
@@ -10,7 +11,7 @@ use Rattle.leaf_index.specs.declared.slot.Slot.{Slot}
 use Rattle.leaf_index.specs.declared.route.Retired.{Retired}
 use Rattle.leaf_index.specs.Index.{Entry, Index, AreCuts, AreRising, HaveCuts, IsIndex, IsTaken, uses}
 use Rattle.leaf_index.specs.Idle.{Idle, IsOutside}
-use Rattle.leaf_index.specs.Slots.{HaveSlots, AreRisingStarts, IsKept, begin_or, cuts_or_none, entry_of, entries_of, times, whole_slot}
+use Rattle.leaf_index.specs.Slots.{HaveSlots, AreRisingStarts, IsKept, begin_or, cuts_or_none, empty_slot, entry_of, entries_of, first_slots, times, whole_slot}
 use Rattle.leaf_index.specs.Calls.{CanDrop, TakesFree, freed_of, kept_of, without_leaf}
 use Rattle.leaf_index.proofs.CountLemmas.{count_cons, count_append, count_range, existing, at_most_one, once_more, one_below, worth}
 use Rattle.leaf_index.proofs.SlotLemmas.{end_begin, entries_above}
@@ -129,9 +130,12 @@ of_none (Some x) A h e = cc
 
 -- ---- a new index
 
-pub kept_new : (leaves : ℕ) → 1 ≤ leaves → leaves ≤ 131072 → IsKept (replicate leaves whole_slot) (record { low = first_key; leaf = 0 } ∷ []) (range_with_len 1 (leaves - 1)) []
+pub first_length : (leaves : ℕ) → length (first_slots leaves) ≡ leaves
+first_length leaves = length-set (replicate leaves empty_slot) 0 whole_slot ∙ length-replicate leaves empty_slot
+
+pub kept_new : (leaves : ℕ) → 1 ≤ leaves → leaves ≤ 131072 → IsKept (first_slots leaves) (record { low = first_key; leaf = 0 } ∷ []) (range_with_len 1 (leaves - 1)) []
 kept_new leaves some few =
-    let wide : length (replicate leaves whole_slot) ≡ leaves = length-replicate leaves whole_slot in
+    let wide = first_length leaves in
     record {
       first = refl;
       rising = (tt, tt);
@@ -140,7 +144,7 @@ kept_new leaves some few =
       few = omega (arith, wide, few);
     }
   where
-    first_there : (n : ℕ) → 1 ≤ n → slice_get (replicate n whole_slot) 0 ≡ Some whole_slot
+    first_there : (n : ℕ) → 1 ≤ n → slice_get (first_slots n) 0 ≡ Some whole_slot
     first_there zero le = absurd (omega (arith, le))
     first_there (suc n) le = refl
 

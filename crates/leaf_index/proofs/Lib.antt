@@ -6,3 +6,4 @@ pub mod IndexLemmas
 pub mod ChangeLemmas
 pub mod ReleaseLemmas
 pub mod RecentLemmas
+pub mod HintLemmas

@@ -1,14 +1,14 @@
--- What stands by the numbers of live leaves.
-use Rattle.std.specs.Prelude.{ℕ, ◌≡◌, ◌≤◌, cond, nat_lt, List, [], ◌∷◌, Option, Some, None, map, slice_get, length}
+-- What stands by the numbers of leaves.
+use Rattle.std.specs.Prelude.{ℕ, ◌≡◌, ◌≤◌, ◌==◌, Bool, true, cond, nat_lt, List, [], ◌∷◌, Option, Some, None, map, slice_get, length, count_by, replicate, set}
 use Rattle.graph_model.specs.declared.row.Key.{Key}
-use Rattle.graph_model.specs.Rows.{first_key, end_key}
+use Rattle.graph_model.specs.Rows.{first_key, end_key, is_between}
 use Rattle.leaf_trie.specs.declared.start.LeafStart.{LeafStart}
 use Rattle.leaf_trie.specs.Leaves.{BeginAbove as StartAbove}
 use Rattle.leaf_index.specs.declared.slot.Slot.{Slot}
 use Rattle.std.specs.List.{AllByRecursion}
 use Rattle.leaf_index.specs.declared.route.Retired.{Retired}
 use Rattle.leaf_index.specs.declared.route.LeafRange.{LeafRange}
-use Rattle.leaf_index.specs.Index.{Entry, AreCuts, IsLastBelow, IsLastFrom, NotAbove, times_among}
+use Rattle.leaf_index.specs.Index.{Entry, AreCuts, IsLastBelow, IsLastFrom, NotAbove, first_or, times_among}
 
 -- where the first of these leaves begins, or else the given end
 abbrev pub begin_or : List LeafStart → Key → Key
@@ -25,6 +25,21 @@ whole_slot = record {
   cuts = first_key ∷ end_key ∷ end_key ∷ end_key ∷ end_key ∷ end_key ∷ end_key ∷ end_key ∷ [];
   high = end_key;
 }
+
+-- no key
+abbrev pub empty_slot : Slot
+empty_slot = record {
+  cuts = end_key ∷ end_key ∷ end_key ∷ end_key ∷ end_key ∷ end_key ∷ end_key ∷ end_key ∷ [];
+  high = end_key;
+}
+
+-- the first leaf has all keys, and the others have none
+abbrev pub first_slots : ℕ → List Slot
+first_slots leaves = set (replicate leaves empty_slot) 0 whole_slot
+
+-- the range from the slot's first cut to its end has the key
+abbrev pub holds_key : Slot → Key → Bool
+holds_key slot key = is_between (first_or slot.cuts end_key) slot.high key
 
 -- a leaf's entry, from what stands by its number
 abbrev pub entry_of : List Slot → LeafStart → Entry
@@ -57,6 +72,16 @@ times leaf starts free retired = times_among (λ s. s.leaf) starts free retired 
 -- at most once, and never where it doesn't exist
 abbrev pub StandOnce : ℕ → List LeafStart → List ℕ → List Retired → Type 0
 StandOnce leaves starts free retired = (leaf : ℕ) → times leaf starts free retired ≤ cond (nat_lt leaf leaves) 1 0
+
+-- the leaf has an entry
+abbrev pub IsLive : ℕ → List LeafStart → Type 0
+IsLive leaf starts = 1 ≤ count_by (λ s. s.leaf == leaf) starts
+
+-- a slot that holds a key is that of a live leaf
+abbrev pub OnlyLiveHold : List Slot → List LeafStart → Type 0
+OnlyLiveHold slots starts =
+    (leaf : ℕ) (slot : Slot) (key : Key) → slice_get slots leaf ≡ Some slot → holds_key slot key ≡ true
+    → IsLive leaf starts
 
 -- what the index keeps of its trie, its table and its lists
 pub record IsKept (slots : List Slot) (starts : List LeafStart) (free : List ℕ) (retired : List Retired) : Type 0 where

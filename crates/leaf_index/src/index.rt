@@ -3,14 +3,17 @@
 //! 1. What the trie doesn't need lies in a table by the numbers of leaves: cuts, and the end of a live leaf's range.
 //! 2. The lists of free and of retired leaves have room for all leaves from the start.
 //! 3. A call that changes ranges lets go of the routes that are kept.
+//! 4. Only slots of live leaves hold keys. So a hint is right where the slot of the leaf that it names holds the key,
+//!    and the trie is asked only where it doesn't. Hints stay where ranges change.
 
-ghost use Rattle.std.specs.Prelude.{◌≡◌, ◌<◌, ◌≤◌, ◌+◌, [], ◌∷◌, ◌++◌, IfOk, IfSome, OnOk, OnErr, length, replicate, take, ◌-◌};
+ghost use Rattle.std.specs.Prelude.{◌≡◌, ◌<◌, ◌≤◌, ◌+◌, [], ◌∷◌, ◌++◌, IfOk, IfSome, OnOk, OnErr, length, take, ◌-◌};
 ghost use Rattle.graph_model.specs.Rows.{end_key, first_key};
 ghost use Rattle.graph_model.specs.declared.limits.TheConstants.{MAX_LEAVES};
 ghost use Rattle.leaf_index.specs.Index.{IsIndex, IsRoute, IsTaken};
-ghost use Rattle.leaf_index.specs.Slots.{HasSlot, HaveSlots, IsBeforeStart, IsFloorStart, IsRange, begin_or, whole_slot};
+ghost use Rattle.leaf_index.specs.Slots.{AreRisingStarts, HasSlot, HaveSlots, IsBeforeStart, IsFloorStart, IsRange, OnlyLiveHold, begin_or, first_slots};
 ghost use Rattle.leaf_index.specs.Calls.{CanAdd, CanCut, CanDrop, IsLeafBefore, IsLeafRange, TakesFree, freed, freed_of, new_index, with_cuts, with_leaf, without_leaf};
 
+use crate::hints::Hints;
 use crate::idle::IdleLeaves;
 use crate::recent::RecentRoutes;
 use crate::route::{LeafRange, Route};
@@ -27,6 +30,7 @@ pub struct LeafIndex {
     slots: Vec<Slot>,
     idle: IdleLeaves,
     recent: RecentRoutes,
+    hints: Hints,
 }
 
 impl Model for LeafIndex {
@@ -35,7 +39,7 @@ impl Model for LeafIndex {
 
     ghost Value = { Index };
 
-    ghost use Rattle.leaf_index.specs.Slots.{IsKept, entries_of};
+    ghost use Rattle.leaf_index.specs.Slots.{IsKept, OnlyLiveHold, entries_of};
     ghost use Rattle.leaf_index.specs.Recent.{AreRightRoutes};
 
     ghost view = { λ i. record {
@@ -46,23 +50,29 @@ impl Model for LeafIndex {
     } };
 
     ghost invariant = { λ i. IsKept i.slots.items i.trie i.idle.free i.idle.retired
-        × (i.idle.leaves ≡ length i.slots.items) × AreRightRoutes (entries_of i.slots.items i.trie) i.recent };
+        × (i.idle.leaves ≡ length i.slots.items) × AreRightRoutes (entries_of i.slots.items i.trie) i.recent
+        × OnlyLiveHold i.slots.items i.trie };
 }
 
-/// So many slots of the whole key range, all of it in the first segment.
-fn whole_slots(alloc: Global, leaves: u32) -> Result<Vec<Slot>, NoMemory>
-    ensures { IfOk result (λ v. v.items ≡ replicate leaves whole_slot) }
+/// So many slots. The first has the whole key range, all of it in its first segment, and the others hold no key.
+fn new_slots(alloc: Global, leaves: u32) -> Result<Vec<Slot>, NoMemory>
+    requires { 1 ≤ leaves }
+    ensures { IfOk result (λ v. v.items ≡ first_slots leaves) }
 {
     let low = Key { src: 0, second: 0 };
     let end = Key::END;
-    let whole = Slot {
-        cuts: [low, end, end, end, end, end, end, end],
+    let empty = Slot {
+        cuts: [end, end, end, end, end, end, end, end],
         high: end,
     };
     let mut slots = Vec::with_capacity(alloc, leaves as usize)?;
     'fill: for _leaf in 0..leaves {
-        slots.push(whole)?;
+        slots.push(empty)?;
     }
+    slots[0] = Slot {
+        cuts: [low, end, end, end, end, end, end, end],
+        high: end,
+    };
     Ok(slots)
 }
 
@@ -79,6 +89,20 @@ fn floor_of(trie: &LeafTrie, slots: &Vec<Slot>, key: Key) -> u32
             Some(leaf) => leaf,
             None => unreachable!(),
         },
+    }
+}
+
+/// The last leaf that does not begin above the key: the hinted one where its slot holds the key, whatever the hint.
+fn leaf_of(trie: &LeafTrie, slots: &Vec<Slot>, hint: u32, key: Key) -> u32
+    requires first { begin_or trie.now end_key ≡ first_key }
+    requires rising { AreRisingStarts trie.now }
+    requires slots { HaveSlots slots.now.items end_key trie.now }
+    requires live { OnlyLiveHold slots.now.items trie.now }
+    ensures { IsFloorStart key trie.now result }
+{
+    match slots.get(hint as usize) {
+        Some(slot) if slot.holds(key) => hint,
+        _ => floor_of(trie, slots, key),
     }
 }
 
@@ -108,7 +132,8 @@ fn range_of(slots: &Vec<Slot>, leaf: u32) -> LeafRange
 }
 
 impl LeafIndex {
-    /// Leaf 0 has the whole key range, and the others are free. Takes the memory of both lists and of all cuts.
+    /// Leaf 0 has the whole key range, and the others are free. Takes the memory of both lists, of all cuts and of the
+    /// hints.
     pub fn new(alloc: Global, leaves: u32) -> Result<LeafIndex, NoMemory>
         requires some { 1 ≤ leaves }
         requires few { leaves ≤ MAX_LEAVES }
@@ -116,14 +141,16 @@ impl LeafIndex {
     {
         let low = Key { src: 0, second: 0 };
         let trie = LeafTrie::new(alloc, LeafStart { low, leaf: 0 })?;
-        let slots = whole_slots(alloc, leaves)?;
+        let slots = new_slots(alloc, leaves)?;
         let idle = IdleLeaves::new(alloc, leaves)?;
         let recent = RecentRoutes::new();
+        let hints = Hints::new(alloc)?;
         Ok(LeafIndex {
             trie,
             slots,
             idle,
             recent,
+            hints,
         })
     }
 
@@ -139,7 +166,7 @@ impl LeafIndex {
     pub fn leaf_at(&self, key: Key) -> LeafRange
         ensures { IsLeafRange key self.now.entries result }
     {
-        let leaf = floor_of(&self.trie, &self.slots, key);
+        let leaf = leaf_of(&self.trie, &self.slots, self.hints.at(key), key);
         range_of(&self.slots, leaf)
     }
 
@@ -190,8 +217,9 @@ impl LeafIndex {
             unreachable!();
         };
         self.trie.remove(low);
-        let high = self.slots[dropped as usize].high;
+        let Slot { cuts, high } = self.slots[dropped as usize];
         self.slots[before as usize].high = high;
+        self.slots[dropped as usize] = Slot { cuts, high: low };
         self.recent = RecentRoutes::new();
     }
 
@@ -268,21 +296,23 @@ impl LeafIndex {
         }
     }
 
-    /// Looks the key's route up and keeps it, so that `route` need not look for it nor for other keys of its cell.
+    /// Looks the key's route up and keeps it, so that `route` need not look for it nor for other keys of its cell. Its
+    /// leaf is hinted at from then on.
     pub fn keep_route(&mut self, key: Key)
         ensures { self.new ≡ self.old }
     {
         if self.recent.find(key).is_none() {
             let route = self.find_route(key);
             self.recent.push(route);
+            self.hints.note(key, route.cell / 8);
         }
     }
 
-    /// The key's route, by the trie.
+    /// The key's route, by its hint or by the trie.
     fn find_route(&self, key: Key) -> Route
         ensures { IsRoute key self.now.entries result }
     {
-        let leaf = floor_of(&self.trie, &self.slots, key);
+        let leaf = leaf_of(&self.trie, &self.slots, self.hints.at(key), key);
         let slot = &self.slots[leaf as usize];
         let segment = segment_of(&slot.cuts, key);
         Route {

@@ -7,6 +7,7 @@
 #![tactic(auto)]
 
 mod chain;
+mod hints;
 mod idle;
 mod index;
 mod recent;

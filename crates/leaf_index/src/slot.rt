@@ -3,14 +3,24 @@
 ghost use Rattle.std.specs.Prelude.{◌≡◌, ◌+◌, ◌<◌, false, Some, slice_get, unwrap_or};
 ghost use Rattle.graph_model.specs.Rows.{is_below};
 ghost use Rattle.leaf_index.specs.Index.{IsSegment, NotAbove};
+ghost use Rattle.leaf_index.specs.Slots.{holds_key};
 
 use graph_model::{Key, LEAF_SEGMENTS};
 
-/// The least keys of a leaf's segments, and the end of its range. Of a leaf that isn't live it says nothing.
+/// The least keys of a leaf's segments, and the end of its range. That of a leaf that isn't live holds no key.
 #[derive(Clone, Copy, Debug, PartialEq, Eq)]
 pub struct Slot {
     pub cuts: [Key; 8],
     pub high: Key,
+}
+
+impl Slot {
+    /// Whether the range holds the key.
+    pub fn holds(&self, key: Key) -> bool
+        ensures { result ≡ holds_key self.now key }
+    {
+        !key.is_below(self.cuts[0]) && key.is_below(self.high)
+    }
 }
 
 /// The last segment whose cut is not above the key.

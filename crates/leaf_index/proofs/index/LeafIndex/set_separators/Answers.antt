@@ -3,6 +3,7 @@ use Rattle.std.proofs.lemmas.Option.{slice_get_read}
 use Rattle.leaf_index.specs.Index.{Index}
 use Rattle.leaf_index.proofs.SlotLemmas.{floor_within}
 use Rattle.leaf_index.proofs.ChangeLemmas.{cut_changed}
+use Rattle.leaf_index.proofs.HintLemmas.{cut_live}
 use Rattle.leaf_index.proofs.index.LeafIndex.set_separators.Goals as goal
 
 pub index-requires : goal.index-requires
@@ -17,7 +18,7 @@ invariant_of-self c =
     let lt = floor_within slots _ _ c.floor_of-leaf.result c.self.invariant.0.have c.floor_of-leaf.ensures in
     let there = slice_get_read slots _ c.floor_of-leaf.result c.index.result.now refl lt c.index.ensures in
     let x = cut_changed slots _ _ _ _ c.args.low c.args.cuts c.floor_of-leaf.result c.index.result.now (ap (λ (i : Index). i.entries) c.self.view_is) c.self.invariant.0 c.requires c.floor_of-leaf.ensures there in
-    (x.kept, omega (arith, x.count, c.self.invariant.1), c.new-self-inside.ensures _)
+    (x.kept, omega (arith, x.count, c.self.invariant.1), c.new-self-inside.ensures _, cut_live slots _ c.args.low c.floor_of-leaf.result _ c.self.invariant.3 c.floor_of-leaf.ensures)
 
 pub returns-clause-entries : goal.returns-clause-entries
 returns-clause-entries c = λ can.

@@ -1,6 +1,0 @@
-use Rattle.std.proofs.Common.{◌≡◌, replicate}
-use Rattle.leaf_index.specs.Slots.{whole_slot}
-use Rattle.leaf_index.proofs.index.whole_slots.Given as goal
-
-abbrev pub invariant-fill : goal.invariant-fill
-invariant-fill l = l.slots.items ≡ replicate l._leaf whole_slot
