@@ -1,6 +1,7 @@
 -- A leaf that is split, as the whole store sees it.
-use Rattle.std.proofs.Common.{◌≡◌, ◌≢◌, ℕ, zero, suc, ◌+◌, ◌-◌, ◌*◌, ◌/◌, ◌<◌, ◌≤◌, List, [], ◌∷◌, ◌++◌, length, map, sum, refl, sym, ◌∙◌, ap, ap₂, subst, arith, length-append}
-use Rattle.std.specs.Prelude.{true, Some, None, slice_get, Result, Ok, Err, IfErr}
+use Rattle.std.proofs.Math.ListN.{length-set}
+use Rattle.std.proofs.Common.{◌≡◌, ◌≢◌, ℕ, zero, suc, ◌+◌, ◌-◌, ◌*◌, ◌/◌, ◌<◌, ◌≤◌, List, [], ◌∷◌, ◌++◌, length, map, sum, refl, sym, ◌∙◌, ap, ap₂, subst, arith, length-append, set}
+use Rattle.std.specs.Prelude.{Bool, true, Some, None, slice_get, Result, Ok, Err, IfErr}
 use Rattle.std.specs.List.{AllByRecursion}
 use Rattle.std.proofs.lemmas.List.{append-nil, take_all}
 use Rattle.graph_model.specs.declared.limits.TheConstants.{SPLIT_ROWS}
@@ -26,7 +27,11 @@ use Rattle.graph_model.proofs.KeyLemmas.{below_chain}
 use Rattle.leaf_store.proofs.KeyLemmas.{split_key_within}
 use Rattle.leaf_store.proofs.ListLemmas.{all_append, all_front, all_back}
 use Rattle.leaf_store.proofs.MoveLemmas.{KeepRoom, LeafMoved, cell_in_leaf, few_each, few_keep_room, Respreads, leaf_moved, moves_parts, room_of, same_lows, same_respreads}
-use Rattle.leaf_store.proofs.RoomLemmas.{count_rows, window_rows}
+use Rattle.leaf_store.proofs.RoomLemmas.{count_rows, place_stands, stands_within, window_rows}
+use Rattle.leaf_store.proofs.TendLemmas.{tended_middle, tended_more}
+use Rattle.leaf_store.proofs.GroupLemmas.{watched_now, watched_still}
+use Rattle.leaf_store.specs.Grouped.{Watches}
+use Rattle.leaf_store.specs.Watched.{IsTended}
 use Rattle.leaf_store.proofs.SplitLemmas.{above_from, rising_at, taken_apart}
 use Rattle.leaf_store.proofs.StoreLemmas.{cells_in, cells_follow, cells_split, weight_in, weight_one, weight_split, weight_two}
 use Rattle.leaf_store.proofs.TableLemmas.{KeepsOthers, OtherLeaves, Table, cuts_at, kept_leaves, located, one_entry, parts_append, tied_at, tied_follow}
@@ -115,23 +120,34 @@ module _ (index taken new : Index) (table table' : Table) (key : Key) (place : P
   right : List VersionedRows
   right = segments_at table' other
 
+  half_entries : index.entries ≡ s.live.front ++ s.live.entry ∷ s.live.back
+  half_entries = ap (λ (i : Index). i.entries) takes ∙ s.live.is
+
+  -- the leaves before and behind have the memory that they had
+  half_same : SameMemory table table' s.live.front × SameMemory table table' s.live.back
+  half_same =
+      let live = s.live in
+      let apart = one_entry index live.front live.entry live.back kept.index_is.once half_entries in
+      let fresh = subst (OtherLeaves other) live.is (taken_apart taken other free) in
+      let fresh_back = all_back (λ (e : Entry). e.leaf ≢ other) live.front (live.entry ∷ live.back) fresh in
+      let keeps : (n : ℕ) → n ≢ live.entry.leaf → n ≢ other → segments_at table' n ≡ segments_at table n = λ n ne ne'. s.others n (λ e. ne (e ∙ sym s.number)) ne' in (
+        same_memory table table' live.entry.leaf other live.front keeps apart.0 (all_front (λ (e : Entry). e.leaf ≢ other) live.front (live.entry ∷ live.back) fresh),
+        same_memory table table' live.entry.leaf other live.back keeps apart.1 fresh_back.1,
+      )
+
   pub half_moved : HalfMoved index new table table' key
   unfolding ss left right
   half_moved =
       let live = s.live in
       let splits = s.splits.splits in
       let cut = s.splits.key in
-      let entries : index.entries ≡ live.front ++ live.entry ∷ live.back = ap (λ (i : Index). i.entries) takes ∙ live.is in
+      let entries = half_entries in
       let low = live.entry.low in
       let e1 : Entry = record live.entry { cuts = lows_of left } in
       let e2 : Entry = record { low = cut; leaf = other; cuts = lows_of right } in
       let entries' : new.entries ≡ live.front ++ e1 ∷ e2 ∷ live.back = s.splits.entries in
-      let apart = one_entry index live.front live.entry live.back kept.index_is.once entries in
-      let fresh = subst (OtherLeaves other) live.is (taken_apart taken other free) in
-      let fresh_back = all_back (λ (e : Entry). e.leaf ≢ other) live.front (live.entry ∷ live.back) fresh in
-      let keeps : (n : ℕ) → n ≢ live.entry.leaf → n ≢ other → segments_at table' n ≡ segments_at table n = λ n ne ne'. s.others n (λ e. ne (e ∙ sym s.number)) ne' in
-      let same_front = same_memory table table' live.entry.leaf other live.front keeps apart.0 (all_front (λ (e : Entry). e.leaf ≢ other) live.front (live.entry ∷ live.back) fresh) in
-      let same_back = same_memory table table' live.entry.leaf other live.back keeps apart.1 fresh_back.1 in
+      let same_front = half_same.0 in
+      let same_back = half_same.1 in
       let tied = subst (AreTied table) entries kept.tied in
       let tied_here = tied_at table live.front (live.entry ∷ live.back) tied in
       let left_is : segments_at table' e1.leaf ≡ left = ap (segments_at table') s.number in
@@ -204,6 +220,27 @@ module _ (index taken new : Index) (table table' : Table) (key : Key) (place : P
             (omega (arith, old_weight, new_weight, weight_one was, weight_two is1 is2, idle, left_count, right_count, was_count, ap (λ cs. length (rows_of cs)) left_is, many));
         room = omega (arith, few_in 30 key (left ++ right) few, ap room_of now);
       }
+
+  -- both leaves are watched then
+  pub half_tended : (flags : List Bool) → IsTended index table flags → IsTended new table' (set (set flags place.leaf true) other true)
+  unfolding ss left right
+  half_tended flags t =
+      let live = s.live in
+      let entries = half_entries in
+      let e1 : Entry = record live.entry { cuts = lows_of left } in
+      let e2 : Entry = record { low = s.splits.key; leaf = other; cuts = lows_of right } in
+      let same_front = half_same.0 in
+      let same_back = half_same.1 in
+      let old_parts = ap (map (part_of table)) entries ∙ parts_append table live.front (live.entry ∷ live.back) in
+      let new_parts = ap (map (part_of table')) s.splits.entries ∙ parts_append table' live.front (e1 ∷ e2 ∷ live.back) ∙ (λ i. parts_same table table' live.front same_front i ++ part_of table' e1 ∷ part_of table' e2 ∷ parts_same table table' live.back same_back i) in
+      let limit : new.leaves ≡ index.leaves = ap (λ (i : Index). i.leaves) s.index_is ∙ sym (ap (λ (i : Index). i.leaves) takes) in
+      let one = set flags place.leaf true in
+      let many : length one ≡ index.leaves = length-set flags place.leaf true ∙ t.count in
+      let here : Watches one place.leaf = watched_now flags place.leaf (omega (arith, stands_within index table place.leaf kept (place_stands index table key place kept is below), kept.count, t.count)) in
+      let fresh_here : Watches (set one other true) other = watched_now one other (omega (arith, free.exists, many, ap (λ (i : Index). i.leaves) takes)) in
+      tended_middle index new table table' (set one other true) (tended_more index table one other (tended_more index table flags place.leaf t)) half_moved.kept limit
+      (map (part_of table) live.front) (part_of table live.entry ∷ []) (part_of table' e1) (part_of table' e2 ∷ []) (map (part_of table) live.back) old_parts new_parts
+      (subst (Watches (set one other true)) (sym s.number) (watched_still one other place.leaf here), (fresh_here, tt))
 
 -- where a split wants memory only the room for records may have changed
 pub split_refused : (index : Index) (table table' : Table) (key : Key) (place : Place) → IsKept index table → IsPlace key index.entries place → is_below key end_key ≡ true → KeepsLeaves table table' place.leaf → LeafMoved index index table table'

@@ -6,7 +6,11 @@ pub mod ChangeLemmas
 pub mod LookLemmas
 pub mod NewLemmas
 pub mod MoveLemmas
+pub mod SameLemmas
 pub mod RoomLemmas
+pub mod GroupLemmas
+pub mod WatchLemmas
+pub mod TendLemmas
 pub mod RangeLemmas
 pub mod KeyLemmas
 pub mod SplitLemmas
@@ -16,6 +20,7 @@ pub mod FillLemmas
 pub mod FillStepLemmas
 pub mod FillEndLemmas
 pub mod WalkLemmas
+pub mod WorkLemmas
 pub mod PairLemmas
 pub mod SparseLemmas
 pub mod FreeLemmas

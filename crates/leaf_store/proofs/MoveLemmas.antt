@@ -86,6 +86,12 @@ all_same_sound (m ∷ ms) (n ∷ ns) same sound = (same_sound m n sound.0 same.0
 all_same_sound [] (n ∷ ns) same sound = absurd same
 all_same_sound (m ∷ ms) [] same sound = absurd same
 
+pub same_append : (xs xs' ys ys' : List VersionedRows) → AreSame xs xs' → AreSame ys ys' → AreSame (xs ++ ys) (xs' ++ ys')
+same_append [] [] ys ys' one two = two
+same_append (x ∷ xs) (x' ∷ xs') ys ys' one two = (one.0, same_append xs xs' ys ys' one.1 two)
+same_append [] (x' ∷ xs') ys ys' one two = absurd one
+same_append (x ∷ xs) [] ys ys' one two = absurd one
+
 pub same_respreads : (ms ns : List VersionedRows) → IsLeaf ms → AreSound ms → AreSame ms ns → Respreads ms ns
 same_respreads ms ns leaf sound same = record {
   leaf = record { segments = same-length ms ns same ∙ leaf.segments; chained = same-chained ms ns same leaf.chained };
@@ -155,7 +161,7 @@ low_append [] ys other = refl
 low_append (x ∷ xs) ys other = refl
 
 -- the segments around a window
-in_window : (window : Window) (ss : List VersionedRows) → ss ≡ take window.first ss ++ (window_of window ss ++ drop (window.first + window.len) ss)
+pub in_window : (window : Window) (ss : List VersionedRows) → ss ≡ take window.first ss ++ (window_of window ss ++ drop (window.first + window.len) ss)
 in_window window ss =
     sym (take-append-drop window.first ss) ∙ ap (λ cs. take window.first ss ++ cs) (drop_cut window.first window.len ss)
 

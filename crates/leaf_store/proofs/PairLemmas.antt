@@ -12,7 +12,7 @@ use Rattle.graph_model.proofs.KeyLemmas.{below_self}
 use Rattle.version_segment.specs.Rows.{VersionedRows}
 use Rattle.leaf_array.specs.declared.leaf.Leaf.{Leaf}
 use Rattle.leaf_array.specs.Leaves.{Merges}
-use Rattle.leaf_array.specs.Segments.{rows_of, lows_of, high_or, AreSame}
+use Rattle.leaf_array.specs.Segments.{records_of, rows_of, lows_of, high_or, AreSame}
 use Rattle.leaf_array.proofs.LeafLemmas.{Follow, follow-of, follow-low}
 use Rattle.leaf_array.proofs.CountLemmas.{same-rows, same-high}
 use Rattle.leaf_array.proofs.PairLemmas.{rows-append, high-append}
@@ -23,29 +23,21 @@ use Rattle.leaf_index.specs.Index.{Index, Entry, AreCuts, BeginBelow, IsIndex, H
 use Rattle.leaf_store.specs.declared.pair.Pair.{Pair}
 use Rattle.leaf_store.specs.declared.pair.TheConstants.{MERGE_ROWS, STAMPS_END}
 use Rattle.leaf_store.specs.Changes.{MovesRows}
-use Rattle.leaf_store.specs.Merging.{AreApart, AreLevel, Compacts, IsApart, IsLevel}
+use Rattle.leaf_store.specs.Leaves.{record_count}
+use Rattle.leaf_store.specs.Merging.{Compacts, IsApart, KeepsParts, MergesTwo}
 use Rattle.leaf_store.specs.Pairs.{AreNeighbours, IsFoundPair, MergesEntries, Stands}
 use Rattle.leaf_store.specs.Table.{AreStamped, AreTied, IsKept, IsTied, leaves_of, part_of, segments_at, segments_or_none}
 use Rattle.leaf_store.proofs.CellLemmas.{AreSound, clash}
 use Rattle.leaf_store.proofs.HalfLemmas.{SameMemory, any_high, parts_same, same_memory, tied_before, tied_same}
 use Rattle.leaf_store.proofs.ListLemmas.{all_append, all_back, all_front, get_set_other, get_set_same}
-use Rattle.leaf_store.proofs.MoveLemmas.{KeepRoom, few_each, few_keep_room, moves_parts, same_keep_room, same_lows, same_respreads}
+use Rattle.leaf_store.proofs.MoveLemmas.{KeepRoom, few_each, few_keep_room, moves_parts, same_append, same_keep_room, same_lows, same_respreads}
 use Rattle.leaf_store.proofs.RangeLemmas.{moved_over, same_index}
+use Rattle.leaf_store.proofs.SameLemmas.{keeps_parts, leaf_settled, two_same}
 use Rattle.leaf_store.proofs.RoomLemmas.{memory_segments, memory_some, memory_within, stands_leaf, stands_within}
 use Rattle.leaf_store.proofs.SplitLemmas.{are_cuts}
 use Rattle.leaf_store.proofs.StoreLemmas.{cells_in, weight_in, weight_one, weight_split, weight_two}
 use Rattle.leaf_store.proofs.TableLemmas.{Table, cuts_at, kept_leaves, one_entry, tied_at, tied_follow}
-use Rattle.leaf_store.proofs.WalkLemmas.{AllTails, floor_here}
-
--- ---- what holds of each entry holds of each leaf
-
-pub all_level : (table : Table) (es : List Entry) → AllTails (λ e behind. IsLevel (segments_at table e.leaf)) es → AreLevel (map (part_of table) es)
-all_level table [] all = tt
-all_level table (e ∷ es) all = (all.0, all_level table es all.1)
-
-pub all_apart : (table : Table) (es : List Entry) → AllTails (λ e behind. IsApart (part_of table e) (map (part_of table) behind)) es → AreApart (map (part_of table) es)
-all_apart table [] all = tt
-all_apart table (e ∷ es) all = (all.0, all_apart table es all.1)
+use Rattle.leaf_store.proofs.WalkLemmas.{floor_here}
 
 -- ---- a leaf and the next one
 
@@ -285,18 +277,50 @@ module _ (index : Index) (table : Table) (pair : Pair) (kept : IsKept index tabl
       (subst AreStamped (sym (ap (λ (i : Index). i.retired) m.index_is)) (all_append (λ (r : Retired). r.stamp < STAMPS_END) index.retired (record { leaf = pair.right; stamp = stamp } ∷ []) kept.stamps (small, tt))) in
       (moved.kept, record { moves = moved.moves; free = ap (λ (i : Index). i.free) m.index_is; retired = inr (pair.right, ap (λ (i : Index). i.retired) m.index_is) })
 
+  -- as contracts say it
+  pub merges_two : (new : Index) (table' : Table) (stamp : ℕ) (us : List VersionedRows) → ((n : ℕ) → n ≢ pair.left → n ≢ pair.right → segments_at table' n ≡ segments_at table n) → segments_at table' pair.left ≡ us
+      → ((live : AreNeighbours index.entries (segments_at table pair.left) (segments_at table pair.right) pair.right) → MergesEntries stamp pair.right index new (segments_at table pair.left) (segments_at table pair.right) us live) → MergesTwo (leaves_of index table) (leaves_of new table') stamp
+  unfolding neighbours
+  merges_two new table' stamp us keeps own merges_of =
+      let m = merges_of (neighbours (segments_at table pair.left) (segments_at table pair.right) refl refl) in
+      let same = others_same table' keeps in
+      let left_is : segments_at table' found.left.leaf ≡ us = ap (segments_at table') (sym found.left_is) ∙ own in
+      let parts : map (part_of table') new.entries ≡ map (part_of table) found.front ++ record { leaf = found.left.leaf; segments = us } ∷ map (part_of table) found.back =
+      ap (map (part_of table')) m.entries ∙ map-append (part_of table') found.front (record found.left { cuts = lows_of us } ∷ found.back)
+      ∙ (λ i. parts_same table table' found.front same.0 i ++ record { leaf = found.left.leaf; segments = left_is i } ∷ parts_same table table' found.back same.1 i) in
+      let retired : new.retired ≡ index.retired ++ record { leaf = found.right.leaf; stamp = stamp } ∷ [] = ap (λ (i : Index). i.retired) m.index_is ∙ ap (λ n. index.retired ++ record { leaf = n; stamp = stamp } ∷ []) found.right_is in
+      record {
+        front = map (part_of table) found.front;
+        left = part_of table found.left;
+        right = part_of table found.right;
+        back = map (part_of table) found.back;
+        segments = us;
+        rest = m.rest;
+        was = ap (map (part_of table)) found.is ∙ map-append (part_of table) found.front (found.left ∷ found.right ∷ found.back);
+        now = λ i. record { limit = ap (λ (x : Index). x.leaves) m.index_is i; parts = parts i; free = ap (λ (x : Index). x.free) m.index_is i; retired = retired i };
+        few = found.few;
+        merges = subst (λ n. Merges (segments_at table n) (segments_at table found.right.leaf) us m.rest) found.left_is (subst (λ n. Merges (segments_at table pair.left) (segments_at table n) us m.rest) found.right_is m.merges);
+      }
+
+  pub merged_left : (new : Index) (table' : Table) (stamp : ℕ) (us : List VersionedRows) (keeps : (n : ℕ) → n ≢ pair.left → n ≢ pair.right → segments_at table' n ≡ segments_at table n) (own : segments_at table' pair.left ≡ us)
+      (merges_of : (live : AreNeighbours index.entries (segments_at table pair.left) (segments_at table pair.right) pair.right) → MergesEntries stamp pair.right index new (segments_at table pair.left) (segments_at table pair.right) us live) → (merges_two new table' stamp us keeps own merges_of).left.leaf ≡ pair.left
+  unfolding merges_two
+  merged_left new table' stamp us keeps own merges_of = sym found.left_is
+
   -- ---- or only room for records has changed
+
+  pub pair_stays : (new : Index) (table' : Table) → new ≡ index → ((n : ℕ) → n ≢ pair.left → n ≢ pair.right → segments_at table' n ≡ segments_at table n) → AreSame (segments_at table pair.left) (segments_at table' pair.left) → AreSame (segments_at table pair.right) (segments_at table' pair.right) → KeepsParts (leaves_of index table) (leaves_of new table')
+  pair_stays new table' is keeps left right =
+      subst (λ (i : Index). KeepsParts (leaves_of index table) (leaves_of i table')) (sym is) (keeps_parts index table table' (two_same table table' pair.left pair.right keeps left right))
+
+  -- two leaves of a store without records have none
+  pub pair_settled : record_count (leaves_of index table) ≡ 0 → (records_of (segments_at table pair.left) ≡ 0) × (records_of (segments_at table pair.right) ≡ 0)
+  pair_settled none = (leaf_settled index table pair.left left_stands none, leaf_settled index table pair.right right_stands none)
 
   tied_again : (ms ns : List VersionedRows) (e : Entry) (high : Key) → IsTied ms e high → AreSame ms ns → IsTied ns e high
   tied_again ms ns e high tied same =
       let respreads = same_respreads ms ns tied.leaf tied.sound same in
       record { leaf = respreads.leaf; sound = respreads.sound; cuts = same_lows ms ns same ∙ tied.cuts; ends = respreads.high e.low ∙ tied.ends }
-
-  same_append : (xs xs' ys ys' : List VersionedRows) → AreSame xs xs' → AreSame ys ys' → AreSame (xs ++ ys) (xs' ++ ys')
-  same_append [] [] ys ys' one two = two
-  same_append (x ∷ xs) (x' ∷ xs') ys ys' one two = (one.0, same_append xs xs' ys ys' one.1 two)
-  same_append [] (x' ∷ xs') ys ys' one two = absurd one
-  same_append (x ∷ xs) [] ys ys' one two = absurd one
 
   pub pair_kept : (new : Index) (table' : Table) (stamp : ℕ) → new ≡ index → ((n : ℕ) → n ≢ pair.left → n ≢ pair.right → segments_at table' n ≡ segments_at table n) → length table' ≡ length table → AreSame (segments_at table pair.left) (segments_at table' pair.left) → AreSame (segments_at table pair.right) (segments_at table' pair.right)
       → IsKept new table' × Compacts (leaves_of index table) (leaves_of new table') stamp

@@ -1,5 +1,5 @@
 -- A window of a live leaf is spread, and the index has the leaf's new cuts.
-use Rattle.std.proofs.Common.{◌≡◌, ℕ, zero, suc, ◌+◌, ◌*◌, ◌^◌, ◌<◌, ◌≤◌, List, [], ◌∷◌, ◌++◌, Option, Some, None, length, take, drop, set, get_or, sum, refl, sym, ◌∙◌, ap, subst, arith, inl, inr, length-append}
+use Rattle.std.proofs.Common.{◌≡◌, ℕ, zero, suc, ◌+◌, ◌*◌, ◌^◌, ◌<◌, ◌≤◌, List, [], ◌∷◌, ◌++◌, Option, Some, None, length, map, take, drop, set, get_or, sum, refl, sym, ◌∙◌, ap, subst, arith, inl, inr, length-append}
 use Rattle.std.specs.Prelude.{true, ◌⊎◌, slice_get, slice_index}
 use Rattle.std.specs.Box.{with_value}
 use Rattle.std.specs.declared.boxed.Box.{Box}
@@ -15,20 +15,22 @@ use Rattle.density_tree.specs.declared.window.Window.{Window}
 use Rattle.density_tree.specs.declared.window.TheConstants.{UPPER_LIMITS}
 use Rattle.density_tree.specs.Windows.{Fits, IsRound, IsSmallest, rows_in}
 use Rattle.leaf_array.specs.declared.leaf.Leaf.{Leaf}
-use Rattle.leaf_array.specs.Segments.{rows_of, counts_of, count_of, lows_of, AreSame}
+use Rattle.leaf_array.specs.Segments.{records_of, rows_of, counts_of, count_of, lows_of, AreSame}
 use Rattle.leaf_array.specs.Leaves.{IsLeaf, IsWindow, SpreadsWindow, window_of}
 use Rattle.leaf_array.proofs.LeafLemmas.{Follow, follow-of, follow-low}
 use Rattle.leaf_index.specs.Index.{Index, Entry, AreCuts, AreSorted, HaveCuts, IsIndex, end_of}
 use Rattle.leaf_index.specs.Calls.{CanCut, with_cuts}
 use Rattle.leaf_store.specs.declared.place.Place.{Place}
-use Rattle.leaf_store.specs.Leaves.{cell_in, room_at}
-use Rattle.leaf_store.specs.Pairs.{Stands}
-use Rattle.leaf_store.specs.Table.{IsKept, IsTied, AreTied, IsPlace, segments_or_none, segments_at, leaves_of}
+use Rattle.leaf_store.specs.Leaves.{cell_in, record_count, room_at}
+use Rattle.leaf_store.specs.Merging.{KeepsParts}
+use Rattle.leaf_store.specs.Pairs.{SpreadsLeaf, Stands}
+use Rattle.leaf_store.specs.Table.{IsKept, IsTied, AreTied, IsPlace, part_of, segments_or_none, segments_at, leaves_of}
 use Rattle.leaf_store.proofs.CellLemmas.{AreSound, holds}
 use Rattle.leaf_store.proofs.ChangeLemmas.{beyond_table}
 use Rattle.leaf_store.proofs.ListLemmas.{get_set_same}
 use Rattle.leaf_store.proofs.MoveLemmas.{LeafMoved, Respreads, cell_in_leaf, leaf_moved, room_in_spread, room_of, same_lows, same_respreads, sorted_lows, spread_respreads}
-use Rattle.leaf_store.proofs.TableLemmas.{Table, KeepsOthers, Located, cuts_at, located, others_kept, tied_at, tied_follow}
+use Rattle.leaf_store.proofs.SameLemmas.{keeps_parts, leaf_settled, one_same, window_settled}
+use Rattle.leaf_store.proofs.TableLemmas.{Table, KeepsOthers, Located, cuts_at, located, other_leaf, others_kept, parts_append, tied_at, tied_follow}
 
 -- ---- a live leaf in memory
 
@@ -171,6 +173,37 @@ module _ (index : Index) (table : Table) (leaf : ℕ) (ss : List VersionedRows) 
       (ap (λ (i : Index). i.leaves) others) (ap (λ (i : Index). i.free) others) (ap (λ (i : Index). i.retired) others)
       (length-set table leaf (Some (with_value box now))) (subst (KeepsOthers table (with_leaf_at table leaf box now)) a.number (others_kept table leaf (Some (with_value box now)))) (ap (segments_at (with_leaf_at table leaf box now)) (sym a.number) ∙ own)
       (subst (λ cs. Respreads cs now.segments) (sym a.same ∙ ap (segments_at table) a.number) respreads)
+
+  -- a window is spread, as contracts say it
+  pub cut_spread : (index' : Index) (cuts : List Key) (window : Window) → (respreads : Respreads ss now.segments) → (are : cuts ≡ lows_of now.segments) → ((can : CanCut (get_or cuts 0 first_key) cuts index.entries) → index'.entries ≡ with_cuts (get_or cuts 0 first_key) cuts index.entries can)
+      → index' ≡ record index { entries = index'.entries } → SpreadsWindow window ss now.segments → SpreadsLeaf window leaf (segments_at table leaf) (leaves_of index table) (leaves_of index' (with_leaf_at table leaf box now))
+  unfolding can_cut
+  cut_spread index' cuts window respreads are entries others spreads =
+      let new = with_leaf_at table leaf box now in
+      let keeps : KeepsOthers table new a.entry.leaf = subst (KeepsOthers table new) a.number (others_kept table leaf (Some (with_value box now))) in
+      let parts = other_leaf index table new a.front a.entry (record a.entry { cuts = cuts }) a.back now.segments index'.entries kept a.entries (entries (can_cut cuts first_key respreads are)) refl keeps (ap (segments_at new) (sym a.number) ∙ own) in
+      record {
+        front = map (part_of table) a.front;
+        part = part_of table a.entry;
+        back = map (part_of table) a.back;
+        segments = now.segments;
+        was = ap (map (part_of table)) a.entries ∙ parts_append table a.front (a.entry ∷ a.back);
+        now = λ i. record { limit = ap (λ (x : Index). x.leaves) others i; parts = parts i; free = ap (λ (x : Index). x.free) others i; retired = ap (λ (x : Index). x.retired) others i };
+        number = sym a.number;
+        same = ap (segments_at table) (sym a.number);
+        spreads = subst (λ cs. SpreadsWindow window cs now.segments) (sym a.same) spreads;
+      }
+
+  -- only room for records has changed, as contracts say it
+  pub same_stays : AreSame ss now.segments → KeepsParts (leaves_of index table) (leaves_of index (with_leaf_at table leaf box now))
+  same_stays same =
+      let new = with_leaf_at table leaf box now in
+      keeps_parts index table new (one_same table new leaf (others_kept table leaf (Some (with_value box now))) (subst (λ cs. AreSame cs (segments_at new leaf)) (sym a.same) (subst (AreSame ss) (sym own) same)))
+
+  -- a window of a store without records has none
+  pub spread_settled : (window : Window) → record_count (leaves_of index table) ≡ 0 → records_of (window_of window ss) ≡ 0
+  spread_settled window none =
+      window_settled window ss (sym (ap records_of a.same) ∙ leaf_settled index table leaf (record { front = a.front; entry = a.entry; back = a.back; is = a.entries; number = a.number }) none)
 
   -- a key has the room that it has in this leaf
   pub room_in_leaf : (index' : Index) (cuts : List Key) (key : Key) → (respreads : Respreads ss now.segments) → (are : cuts ≡ lows_of now.segments) → IsIndex index' → ((can : CanCut (get_or cuts 0 first_key) cuts index.entries) → index'.entries ≡ with_cuts (get_or cuts 0 first_key) cuts index.entries can)

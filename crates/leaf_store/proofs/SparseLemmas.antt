@@ -1,25 +1,24 @@
 -- Windows with a segment that has too few rows, and what their being there says of the store.
-use Rattle.std.proofs.Common.{◌≡◌, ℕ, zero, suc, ◌+◌, ◌*◌, ◌<◌, ◌≤◌, List, [], ◌∷◌, ◌++◌, length, map, take, drop, refl, sym, ◌∙◌, ap, subst, arith}
-use Rattle.std.specs.Prelude.{true, slice_index}
+use Rattle.std.proofs.Common.{◌≡◌, ℕ, zero, suc, ◌+◌, ◌*◌, ◌<◌, ◌≤◌, List, [], ◌∷◌, ◌++◌, length, take, drop, refl, sym, ap, subst, arith}
+use Rattle.std.specs.Prelude.{slice_index}
 use Rattle.version_segment.specs.Rows.{VersionedRows}
 use Rattle.density_tree.specs.declared.window.Window.{Window}
 use Rattle.density_tree.specs.Windows.{IsDense}
 use Rattle.leaf_array.specs.Leaves.{IsWindow, window_of}
 use Rattle.leaf_array.specs.Segments.{rows_of, counts_of}
 use Rattle.leaf_index.specs.Index.{Index}
-use Rattle.leaf_store.specs.declared.pair.Pair.{Pair}
 use Rattle.leaf_store.specs.declared.sparse.SparseWindow.{SparseWindow}
 use Rattle.leaf_store.specs.Leaves.{Leaves, Part}
-use Rattle.leaf_store.specs.Merging.{AreApart, AreLevel, IsCompact, IsLevel, IsSparseWindow, StepsToCompact, rows_in_part}
-use Rattle.leaf_store.specs.Pairs.{IsFoundPair, IsFoundWindow}
-use Rattle.leaf_store.specs.Table.{IsKept, leaves_of, part_of, segments_at}
-use Rattle.leaf_store.proofs.CellLemmas.{AreSound, clash}
+use Rattle.leaf_store.specs.Merging.{AreApart, AreLevel, IsCompact, IsLevel, IsSparseWindow, MergesTwo, SpreadsOne, rows_in_part}
+use Rattle.leaf_store.specs.Pairs.{IsFoundWindow}
+use Rattle.leaf_store.specs.Table.{IsKept, segments_at}
+use Rattle.leaf_store.proofs.CellLemmas.{AreSound}
 use Rattle.leaf_store.proofs.HalfLemmas.{few_rows}
 use Rattle.leaf_store.proofs.ListLemmas.{all_back}
 use Rattle.leaf_store.proofs.MoveLemmas.{Among, among_window}
 use Rattle.leaf_store.proofs.RoomLemmas.{stands_tied}
 use Rattle.leaf_store.proofs.StoreLemmas.{count_at}
-use Rattle.leaf_store.proofs.TableLemmas.{Table, parts_append}
+use Rattle.leaf_store.proofs.TableLemmas.{Table}
 
 -- the segment at a place, between the others
 record CellWith (ss : List VersionedRows) (segment : ℕ) : Type 0 where
@@ -81,28 +80,21 @@ not_level ss window sparse level =
     let w = sparse.smallest in
     level sparse.segment sparse.within sparse.few w.height w.higher w.within (subst (IsDense (counts_of ss) w.height) w.round w.will)
 
-pub sparse_undone : (index : Index) (table : Table) (found : SparseWindow) (old : Leaves) → leaves_of index table ≡ old → IsFoundWindow index table found → IsCompact old → ⊥
-sparse_undone index table found old view is compact =
-    let s = is.stands in
-    let parts : old.parts ≡ map (part_of table) s.front ++ part_of table s.entry ∷ map (part_of table) s.back = sym (ap (λ (x : Leaves). x.parts) view) ∙ ap (map (part_of table)) s.is ∙ parts_append table s.front (s.entry ∷ s.back) in
-    let level = (all_back (λ (p : Part). IsLevel p.segments) (map (part_of table) s.front) (part_of table s.entry ∷ map (part_of table) s.back) (subst AreLevel parts compact.level)).0 in
-    not_level (segments_at table s.entry.leaf) found.window (subst (λ n. IsSparseWindow (counts_of (segments_at table n)) found.window) s.number is.sparse) level
+-- where a window was spread the store wasn't compact
+pub spread_undone : (old new : Leaves) → SpreadsOne old new → IsCompact old → ⊥
+spread_undone old new s compact =
+    not_level s.part.segments s.window s.sparse (all_back (λ (p : Part). IsLevel p.segments) s.front (s.part ∷ s.back) (subst AreLevel s.was compact.level)).0
 
 apart_at : (ps : List Part) (p q : Part) (qs : List Part) → AreApart (ps ++ p ∷ q ∷ qs) → rows_in_part p + rows_in_part q ≤ 104 → ⊥
 apart_at [] p q qs apart few = absurd (omega (arith, apart.0, few))
 apart_at (x ∷ ps) p q qs apart few = apart_at ps p q qs apart.1 few
 
-pub pair_undone : (index : Index) (table : Table) (pair : Pair) (old : Leaves) → leaves_of index table ≡ old → IsFoundPair index table pair → IsCompact old → ⊥
-pair_undone index table pair old view is compact =
-    let parts : old.parts ≡ map (part_of table) is.front ++ part_of table is.left ∷ part_of table is.right ∷ map (part_of table) is.back = sym (ap (λ (x : Leaves). x.parts) view) ∙ ap (map (part_of table)) is.is ∙ parts_append table is.front (is.left ∷ is.right ∷ is.back) in
-    apart_at (map (part_of table) is.front) (part_of table is.left) (part_of table is.right) (map (part_of table) is.back) (subst AreApart parts compact.apart) is.few
+-- nor was it where two leaves became one
+pub merge_undone : (old new : Leaves) (stamp : ℕ) → MergesTwo old new stamp → IsCompact old → ⊥
+merge_undone old new stamp m compact = apart_at m.front m.left m.right m.back (subst AreApart m.was compact.apart) m.few
 
 -- the rows of a window that was found are few
 pub found_few : (index : Index) (table : Table) (found : SparseWindow) → IsKept index table → IsFoundWindow index table found → length (rows_of (window_of found.window (segments_at table found.leaf))) ≤ 30 * found.window.len
 found_few index table found kept is =
     let tied = stands_tied index table found.leaf kept is.stands in
     sparse_few (segments_at table found.leaf) found.window tied.leaf.segments tied.sound is.sparse
-
--- so something was done
-pub has_stepped : (old new : Leaves) → (IsCompact old → ⊥) → StepsToCompact old new true
-has_stepped old new undone = record { some = λ did. undone; none = λ did. clash true refl did }

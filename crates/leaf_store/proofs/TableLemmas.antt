@@ -210,3 +210,13 @@ parts_append table xs ys = map-append (part_of table) xs ys
 -- one leaf has other memory
 pub others_kept : (table : Table) (leaf : ℕ) (x : Option (Box Leaf Global)) → KeepsOthers table (set table leaf x) leaf
 others_kept table leaf x other ne = ap segments_or_none (get_set_other table leaf other x ne)
+
+-- the parts, where the memory of one leaf is other segments
+pub other_leaf : (index : Index) (table new : Table) (front : List Entry) (e e' : Entry) (back : List Entry) (ns : List VersionedRows) (entries : List Entry) → IsKept index table → index.entries ≡ front ++ e ∷ back → entries ≡ front ++ e' ∷ back → e'.leaf ≡ e.leaf → KeepsOthers table new e.leaf → segments_at new e.leaf ≡ ns
+    → map (part_of new) entries ≡ map (part_of table) front ++ record { leaf = e.leaf; segments = ns } ∷ map (part_of table) back
+other_leaf index table new front e e' back ns entries kept was is same keeps own =
+    let others = one_entry index front e back kept.index_is.once was in
+    let kept_front = parts_kept table new e.leaf front keeps others.0 in
+    let kept_back = parts_kept table new e.leaf back keeps others.1 in
+    let own' : segments_at new e'.leaf ≡ ns = ap (segments_at new) same ∙ own in
+    ap (map (part_of new)) is ∙ parts_append new front (e' ∷ back) ∙ (λ i. kept_front i ++ record { leaf = same i; segments = own' i } ∷ kept_back i)

@@ -4,48 +4,15 @@ use Rattle.std.specs.Prelude.{◌⊎◌, true, false}
 use Rattle.std.specs.List.{AllByRecursion}
 use Rattle.std.proofs.lemmas.Bool.Decides.{nat_tests}
 use Rattle.graph_model.specs.declared.row.Key.{Key}
-use Rattle.graph_model.specs.Rows.{is_below, first_key, end_key}
-use Rattle.graph_model.proofs.KeyLemmas.{below_flip, below_self, below_up}
-use Rattle.leaf_index.specs.Index.{Entry, AreRising, BeginAbove, BeginBelow, IsFloor, end_of}
+use Rattle.graph_model.specs.Rows.{is_below}
+use Rattle.graph_model.proofs.KeyLemmas.{below_self}
+use Rattle.leaf_index.specs.Index.{Entry, AreRising, BeginAbove, IsFloor}
 use Rattle.leaf_store.proofs.CellLemmas.{clash}
-use Rattle.leaf_store.proofs.StoreLemmas.{none_below_first}
 
--- a fact of each entry and those behind it
-abbrev pub AllTails : (Entry → List Entry → Type 0) → List Entry → Type 0
-AllTails P [] = Unit {0}
-AllTails P (e ∷ es) = P e es × AllTails P es
-
--- a fact of the leaves that begin below a key
-abbrev pub Below : (Entry → List Entry → Type 0) → Key → Entry → List Entry → Type 0
-Below P key e es = is_below e.low key ≡ true → P e es
-
-pub walk_begun : (P : Entry → List Entry → Type 0) (es : List Entry) → AllTails (Below P first_key) es
-walk_begun P [] = tt
-walk_begun P (e ∷ es) = ((λ below. clash (is_below e.low first_key) below (none_below_first e.low)), walk_begun P es)
-
-pub walk_ended : (P : Entry → List Entry → Type 0) (key : Key) (es : List Entry) → is_below key end_key ≡ false → BeginBelow end_key es → AllTails (Below P key) es → AllTails P es
-walk_ended P key [] ended begin all = tt
-walk_ended P key (e ∷ es) ended begin all = (all.0 (below_up e.low end_key key begin.0 ended), walk_ended P key es ended begin.1 all.1)
-
--- entries that begin above a key are none of those that begin below it
-above_tails : (P : Entry → List Entry → Type 0) (low : Key) (es : List Entry) → BeginAbove low es → AllTails (Below P low) es
-above_tails P low [] above = tt
-above_tails P low (e ∷ es) above = ((λ below. clash (is_below e.low low) below (below_flip low e.low above.0)), above_tails P low es above.1)
-
-end_tails : (P : Entry → List Entry → Type 0) (es : List Entry) → AreRising es → AllTails (Below P (end_of es)) es
-end_tails P [] rising = tt
-end_tails P (e ∷ es) rising = ((λ below. clash (is_below e.low e.low) below (below_self e.low)), above_tails P e.low es rising.0)
-
-begin_above : (front : List Entry) (e : Entry) (back : List Entry) (low : Key) → BeginAbove low (front ++ e ∷ back) → is_below low e.low ≡ true
+-- entries that rise begin above those before
+pub begin_above : (front : List Entry) (e : Entry) (back : List Entry) (low : Key) → BeginAbove low (front ++ e ∷ back) → is_below low e.low ≡ true
 begin_above [] e back low above = above.0
 begin_above (f ∷ front) e back low above = begin_above front e back low above.1
-
--- the leaf that holds the key is one of those that begin below its end
-pub walk_on : (P : Entry → List Entry → Type 0) (key : Key) (front : List Entry) (e : Entry) (back : List Entry) → AreRising (front ++ e ∷ back) → is_below key e.low ≡ false → P e back → AllTails (Below P key) (front ++ e ∷ back)
-    → AllTails (Below P (end_of back)) (front ++ e ∷ back)
-walk_on P key [] e back rising from here all = ((λ below. here), end_tails P back rising.1)
-walk_on P key (f ∷ front) e back rising from here all =
-    ((λ below. all.0 (below_up f.low e.low key (begin_above front e back f.low rising.0) from)), walk_on P key front e back rising.1 from here all.1)
 
 -- ---- the leaf that begins at a key
 
@@ -53,7 +20,7 @@ pub record FloorIs (x e : Entry) (xs es : List Entry) : Type 0 where
   pub entry : x ≡ e
   pub back : xs ≡ es
 
-head_of : (e x : Entry) (es xs : List Entry) → e ∷ es ≡ x ∷ xs → (e ≡ x) × (es ≡ xs)
+pub head_of : (e x : Entry) (es xs : List Entry) → e ∷ es ≡ x ∷ xs → (e ≡ x) × (es ≡ xs)
 head_of e x es xs same = (first same, rest same)
   where
     or_e : List Entry → Entry

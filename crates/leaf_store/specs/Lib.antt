@@ -5,3 +5,5 @@ pub mod Fill
 pub mod Changes
 pub mod Merging
 pub mod Pairs
+pub mod Grouped
+pub mod Watched

@@ -1,5 +1,5 @@
 -- Leaves with few rows: windows that are to be spread, and neighbours that are to become one leaf.
-use Rattle.std.specs.Prelude.{◌≡◌, ◌⊎◌, ℕ, ◌+◌, ◌<◌, ◌≤◌, true, false, Bool, List, [], ◌∷◌, ◌++◌, length, None, slice_index}
+use Rattle.std.specs.Prelude.{◌≡◌, ◌⊎◌, ℕ, ◌+◌, ◌<◌, ◌≤◌, true, false, Bool, List, [], ◌∷◌, ◌++◌, length, None, slice_index, Result, Ok, Err}
 use Rattle.std.specs.List.{AllByRecursion}
 use Rattle.leaf_store.specs.declared.pair.TheConstants.{MERGE_ROWS}
 use Rattle.leaf_index.specs.declared.route.Retired.{Retired}
@@ -8,10 +8,11 @@ use Rattle.version_segment.specs.Rows.{VersionedRows}
 use Rattle.density_tree.specs.declared.window.Window.{Window}
 use Rattle.density_tree.specs.declared.window.TheConstants.{LOWER_LIMITS}
 use Rattle.density_tree.specs.Windows.{IsDense, IsRound, IsSmallest, IsSmallestWindow}
-use Rattle.leaf_array.specs.Segments.{rows_of, counts_of}
+use Rattle.leaf_array.specs.Leaves.{Merges, SpreadsWindow}
+use Rattle.leaf_array.specs.Segments.{AreSame, rows_of, counts_of}
 use Rattle.graph_model.specs.declared.row.Key.{Key}
 use Rattle.leaf_store.specs.Leaves.{Leaves, Part, versions_of, weight}
-use Rattle.leaf_store.specs.Changes.{MovesRows}
+use Rattle.leaf_store.specs.Changes.{KeepsCells, MovesRows}
 
 -- ---- windows
 
@@ -64,10 +65,52 @@ pub record Compacts (old new : Leaves) (stamp : ℕ) : Type 0 where
   pub free : new.free ≡ old.free
   pub retired : RetiresOne old.retired new.retired stamp
 
--- A window is spread, or two neighbours become one leaf. The answer says whether there was either.
-pub record StepsToCompact (old new : Leaves) (did : Bool) : Type 0 where
-  pub some : did ≡ true → ¬ IsCompact old
-  pub none : did ≡ false → IsCompact old × (new ≡ old)
+-- the sparse window of one leaf is spread, and all else is as it was
+pub record SpreadsOne (old new : Leaves) : Type 0 where
+  pub front : List Part
+  pub part : Part
+  pub back : List Part
+  pub segments : List VersionedRows
+  pub window : Window
+  pub was : old.parts ≡ front ++ part ∷ back
+  pub now : new ≡ record old { parts = front ++ record part { segments = segments } ∷ back }
+  pub sparse : IsSparseWindow (counts_of part.segments) window
+  pub spreads : SpreadsWindow window part.segments segments
+
+-- One leaf has all rows of two neighbours with few rows, and the right one is retired with the stamp. All else is as it
+-- was.
+pub record MergesTwo (old new : Leaves) (stamp : ℕ) : Type 0 where
+  pub front : List Part
+  pub left : Part
+  pub right : Part
+  pub back : List Part
+  pub segments : List VersionedRows
+  pub rest : List VersionedRows
+  pub was : old.parts ≡ front ++ left ∷ right ∷ back
+  pub now : new ≡ record old {
+    parts = front ++ record left { segments = segments } ∷ back;
+    retired = old.retired ++ record { leaf = right.leaf; stamp = stamp } ∷ [];
+  }
+  pub few : rows_in_part left + rows_in_part right ≤ MERGE_ROWS
+  pub merges : Merges left.segments right.segments segments rest
+
+-- the leaves are as they were, but for the room for records in their segments
+abbrev pub AreSameParts : List Part → List Part → Type 0
+AreSameParts [] [] = Unit {0}
+AreSameParts (p ∷ ps) (q ∷ qs) = (q.leaf ≡ p.leaf) × AreSame p.segments q.segments × AreSameParts ps qs
+AreSameParts [] (q ∷ qs) = ⊥
+AreSameParts (p ∷ ps) [] = ⊥
+
+-- no row, cell or index entry has changed
+pub record KeepsParts (old new : Leaves) : Type 0 where
+  pub cells : KeepsCells old new
+  pub parts : AreSameParts old.parts new.parts
+
+-- A window is spread or two neighbours become one leaf; or there is neither; or memory is wanted.
+abbrev pub IsMergeStep : {E : Type 0} → Leaves → Leaves → ℕ → Result Bool E → Type 0
+IsMergeStep old new stamp (Ok true) = SpreadsOne old new ⊎ MergesTwo old new stamp
+IsMergeStep old new stamp (Ok false) = IsCompact old × (new ≡ old)
+IsMergeStep old new stamp (Err refused) = KeepsParts old new
 
 -- each key keeps its versions, and no more leaves are used up
 pub record KeepsVersions (old new : Leaves) : Type 0 where

@@ -12,6 +12,8 @@ use Rattle.leaf_index.specs.Index.{Entry, Index, AreCuts, end_of}
 use Rattle.leaf_store.specs.declared.pair.Pair.{Pair}
 use Rattle.leaf_store.specs.declared.pair.TheConstants.{MERGE_ROWS}
 use Rattle.leaf_store.specs.declared.sparse.SparseWindow.{SparseWindow}
+use Rattle.density_tree.specs.declared.window.Window.{Window}
+use Rattle.leaf_store.specs.Leaves.{Leaves, Part}
 use Rattle.leaf_store.specs.Merging.{IsApart, IsSparseWindow}
 use Rattle.leaf_store.specs.Table.{IsTied, part_of, segments_at}
 
@@ -27,6 +29,18 @@ pub record Stands (entries : List Entry) (leaf : ℕ) : Type 0 where
 pub record IsFoundWindow (index : Index) (table : List (Option (Box Leaf Global))) (found : SparseWindow) : Type 0 where
   pub stands : Stands index.entries found.leaf
   pub sparse : IsSparseWindow (counts_of (segments_at table found.leaf)) found.window
+
+-- the window of the live leaf with this number and these segments is spread, and all else is as it was
+pub record SpreadsLeaf (window : Window) (leaf : ℕ) (ss : List VersionedRows) (old new : Leaves) : Type 0 where
+  pub front : List Part
+  pub part : Part
+  pub back : List Part
+  pub segments : List VersionedRows
+  pub was : old.parts ≡ front ++ part ∷ back
+  pub now : new ≡ record old { parts = front ++ record part { segments = segments } ∷ back }
+  pub number : part.leaf ≡ leaf
+  pub same : part.segments ≡ ss
+  pub spreads : leaves.SpreadsWindow window ss segments
 
 -- the range is that of a live leaf
 pub record IsRangeIn (entries : List Entry) (range : LeafRange) : Type 0 where
@@ -51,7 +65,8 @@ pub record IsFoundPair (index : Index) (table : List (Option (Box Leaf Global)))
   pub is : index.entries ≡ front ++ left ∷ right ∷ back
   pub left_is : pair.left ≡ left.leaf
   pub right_is : pair.right ≡ right.leaf
-  pub few : length (rows_of (segments_at table left.leaf)) + length (rows_of (segments_at table right.leaf)) ≤ MERGE_ROWS
+  pub few : length (rows_of (segments_at table left.leaf)) + length (rows_of (segments_at table right.leaf))
+      ≤ MERGE_ROWS
 
 -- the segments are those of two entries, one behind the other
 pub record AreNeighbours (entries : List Entry) (ss ts : List VersionedRows) (number : ℕ) : Type 0 where

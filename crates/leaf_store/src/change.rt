@@ -2,6 +2,7 @@
 //!
 //! 1. A call changes the cell of its key alone, and keeps its fence keys.
 //! 2. Only `reserve` takes memory.
+//! 3. Where the number of rows has changed the leaf is watched, unless it is thick.
 
 ghost use Rattle.std.specs.Prelude.{◌≡◌, ◌<◌, ◌≤◌, true, false, OnOk};
 ghost use Rattle.graph_model.specs.Rows.{is_below, end_key};
@@ -13,6 +14,7 @@ ghost use Rattle.leaf_store.specs.Changes.{ChangesVersions, KeepsCells, KeepsRec
 
 use crate::place::place_of;
 use crate::store::{LeafStore, Pruned};
+use crate::work::watch_change;
 use graph_model::{Key, NoMemory, TxnName};
 use undo_chain::States;
 
@@ -44,14 +46,17 @@ impl LeafStore {
         ensures spare { UsesOneRecord self.old self.new }
     {
         let place = place_of(&self.index, key);
-        match &mut self.leaves[place.leaf] {
+        let (before, rows) = match &mut self.leaves[place.leaf] {
             Some(leaf) => {
                 let segment = &mut leaf.segments[place.segment];
+                let before = segment.len();
                 segment.write(key, value, by);
-                let _rows = segment.len();
+                let rows = segment.len();
+                (before, rows)
             }
             None => unreachable!(),
-        }
+        };
+        watch_change(&mut self.watch, &self.leaves, place.leaf, before, rows);
     }
 
     /// Takes the newest write of a row back, if there is one.
@@ -61,14 +66,17 @@ impl LeafStore {
         ensures spare { KeepsRecordRoom self.old self.new }
     {
         let place = place_of(&self.index, key);
-        match &mut self.leaves[place.leaf] {
+        let (before, rows) = match &mut self.leaves[place.leaf] {
             Some(leaf) => {
                 let segment = &mut leaf.segments[place.segment];
+                let before = segment.len();
                 segment.undo_newest(key);
-                let _rows = segment.len();
+                let rows = segment.len();
+                (before, rows)
             }
             None => unreachable!(),
-        }
+        };
+        watch_change(&mut self.watch, &self.leaves, place.leaf, before, rows);
     }
 
     /// Notes that a transaction adds an edge at the row's vertex.
@@ -80,14 +88,17 @@ impl LeafStore {
         ensures spare { UsesOneRecord self.old self.new }
     {
         let place = place_of(&self.index, key);
-        match &mut self.leaves[place.leaf] {
+        let (before, rows) = match &mut self.leaves[place.leaf] {
             Some(leaf) => {
                 let segment = &mut leaf.segments[place.segment];
+                let before = segment.len();
                 segment.touch(key, by);
-                let _rows = segment.len();
+                let rows = segment.len();
+                (before, rows)
             }
             None => unreachable!(),
-        }
+        };
+        watch_change(&mut self.watch, &self.leaves, place.leaf, before, rows);
     }
 
     /// Takes a transaction's touch of a row away, if there is one.
@@ -97,14 +108,17 @@ impl LeafStore {
         ensures spare { KeepsRecordRoom self.old self.new }
     {
         let place = place_of(&self.index, key);
-        match &mut self.leaves[place.leaf] {
+        let (before, rows) = match &mut self.leaves[place.leaf] {
             Some(leaf) => {
                 let segment = &mut leaf.segments[place.segment];
+                let before = segment.len();
                 segment.untouch_row(key, by);
-                let _rows = segment.len();
+                let rows = segment.len();
+                (before, rows)
             }
             None => unreachable!(),
-        }
+        };
+        watch_change(&mut self.watch, &self.leaves, place.leaf, before, rows);
     }
 
     /// Takes away what nobody can see from the horizon on, in the rows of the key's cell, and answers how many records
@@ -118,18 +132,19 @@ impl LeafStore {
     {
         let alloc = self.alloc;
         let place = place_of(&self.index, key);
-        match &mut self.leaves[place.leaf] {
+        let (before, rows, pruned) = match &mut self.leaves[place.leaf] {
             Some(leaf) => {
                 let segment = &mut leaf.segments[place.segment];
+                let before = segment.len();
                 let records = segment.prune(horizon, states);
                 segment.release(alloc);
-                let _rows = segment.len();
-                Pruned {
-                    records,
-                    high: segment.high(),
-                }
+                let rows = segment.len();
+                let high = segment.high();
+                (before, rows, Pruned { records, high })
             }
             None => unreachable!(),
-        }
+        };
+        watch_change(&mut self.watch, &self.leaves, place.leaf, before, rows);
+        pruned
     }
 }

@@ -4,6 +4,7 @@
 //!    whose fence keys hold its key. So what a key has is what its cell has.
 //! 2. The index has the leaves in the order of their keys, and the least keys of their segments.
 //! 3. A spread and a split keep each key's versions. Memory is taken before anything moves.
+//! 4. Where a window is to be spread, or two neighbours are to become one leaf, a leaf of it is watched.
 #![tactic(auto)]
 
 mod change;
@@ -20,7 +21,10 @@ mod sparse;
 mod split;
 mod store;
 mod table;
+mod watch;
+mod work;
+#[cfg(test)]
+mod worked;
 
-pub use merge::Tended;
 pub use pair::{MERGE_ROWS, STAMPS_END};
 pub use store::{KeyRange, LeafStore, Pruned};

@@ -4,17 +4,20 @@
 //!    store has one owner.
 //! 2. Memory for records is taken before the index changes.
 
-ghost use Rattle.std.specs.Prelude.{◌≡◌, ◌+◌, ◌*◌, ◌<◌, ◌≤◌, None, IfSome, OnErr, OnOk, length, sum};
+ghost use Rattle.std.specs.Prelude.{◌≡◌, ◌+◌, ◌*◌, ◌<◌, ◌≤◌, None, IfSome, IsOk, OnErr, OnOk, length, sum};
 ghost use Rattle.std.specs.List.{AllByRecursion};
 ghost use Rattle.version_segment.specs.Rows.{IsSegment};
 ghost use Rattle.leaf_array.specs.Leaves.{IsLeaf};
-ghost use Rattle.leaf_array.specs.Segments.{AreSame, rows_of};
-ghost use Rattle.leaf_store.specs.Merging.{AreApart, Compacts};
+ghost use Rattle.leaf_array.specs.Segments.{AreSame, records_of, rows_of};
+ghost use Rattle.leaf_store.specs.Leaves.{record_count};
+ghost use Rattle.leaf_store.specs.Merging.{Compacts, KeepsParts, MergesTwo};
 ghost use Rattle.leaf_store.specs.Pairs.{AreNeighbours, IsFoundPair, IsApartBehind, IsRangeIn, MergesEntries};
 ghost use Rattle.leaf_store.specs.Table.{IsKept, leaves_of, segments_at};
+ghost use Rattle.leaf_store.specs.Watched.{IsTended};
 
 use crate::look::{counts_of, cuts_of};
 use crate::table::put_leaf;
+use crate::watch::Watch;
 use graph_model::{Key, NoMemory};
 use leaf_array::{Leaf, merge_leaves};
 use leaf_index::{LeafIndex, LeafRange};
@@ -33,23 +36,6 @@ pub(crate) struct Pair {
     pub(crate) left: u32,
     pub(crate) right: u32,
     pub(crate) low: Key,
-}
-
-/// The first two neighbours in the order of keys that are to become one leaf.
-pub(crate) fn find_pair(index: &LeafIndex, leaves: &Vec<Option<Box<Leaf>>>) -> Option<Pair>
-    requires { IsKept index.now leaves.now.items }
-    ensures some { IfSome result (IsFoundPair index.now leaves.now.items) }
-    ensures none { result ≡ None → AreApart (leaves_of index.now leaves.now.items).parts }
-{
-    let mut key = Key { src: 0, second: 0 };
-    'leaves: while key.is_below(Key::END) {
-        let range = index.leaf_at(key);
-        if let Some(pair) = pair_at(index, leaves, range) {
-            return Some(pair);
-        }
-        key = range.high;
-    }
-    None
 }
 
 /// A leaf with the next one, if there is one and both have few rows.
@@ -90,7 +76,8 @@ fn rows_at(leaves: &Vec<Option<Box<Leaf>>>, leaf: usize) -> usize
     }
 }
 
-fn total(counts: &[u8]) -> usize
+/// How many rows all segments have.
+pub(crate) fn total(counts: &[u8]) -> usize
     requires { length counts.now ≤ 8 }
     ensures total { result ≡ sum counts.now }
     ensures small { result ≤ 255 * length counts.now }
@@ -120,6 +107,7 @@ fn merge_entries(
     ensures err { OnErr result (index.new ≡ index.old) }
     ensures left { OnErr result (AreSame left.old.segments left.new.segments) }
     ensures right { OnErr result (AreSame right.old.segments right.new.segments) }
+    ensures settled { records_of left.old.segments ≡ 0 → records_of right.old.segments ≡ 0 → IsOk result }
 {
     let low = left.segments[0].low();
     let cut = right.segments[0].low();
@@ -134,16 +122,23 @@ fn merge_entries(
 pub(crate) fn merge_pair(
     index: &mut LeafIndex,
     leaves: &mut Vec<Option<Box<Leaf>>>,
+    watch: &mut Watch,
     alloc: Global,
     pair: Pair,
     stamp: u64,
 ) -> Result<(), NoMemory>
-    requires kept { IsKept index.old leaves.old.items }
+    requires tended { IsTended index.old leaves.old.items watch.old }
     requires pair { IsFoundPair index.old leaves.old.items pair }
     requires stamp { stamp < STAMPS_END }
-    ensures kept { IsKept index.new leaves.new.items }
+    ensures tended { IsTended index.new leaves.new.items watch.new }
     ensures compacts { Compacts (leaves_of index.old leaves.old.items) (leaves_of index.new leaves.new.items) stamp }
+    ensures ok { OnOk result (MergesTwo
+        (leaves_of index.old leaves.old.items) (leaves_of index.new leaves.new.items) stamp) }
+    ensures err { OnErr result (KeepsParts
+        (leaves_of index.old leaves.old.items) (leaves_of index.new leaves.new.items)) }
+    ensures settled { record_count (leaves_of index.old leaves.old.items) ≡ 0 → IsOk result }
 {
+    watch.watch(pair.left as usize);
     let Some(mut right) = replace(&mut leaves[pair.right as usize], None) else {
         unreachable!()
     };

@@ -3,15 +3,13 @@
 ghost use Rattle.std.specs.Prelude.{◌≡◌, None, IfSome, length};
 ghost use Rattle.leaf_array.specs.Leaves.{IsLeaf};
 ghost use Rattle.leaf_array.specs.Segments.{counts_of};
-ghost use Rattle.leaf_store.specs.Merging.{AreLevel, IsLevel, IsSparseWindow};
-ghost use Rattle.leaf_store.specs.Pairs.{IsFoundWindow};
-ghost use Rattle.leaf_store.specs.Table.{IsKept, leaves_of, segments_at};
+ghost use Rattle.leaf_store.specs.Merging.{IsLevel, IsSparseWindow};
+ghost use Rattle.leaf_store.specs.Table.{segments_at};
 
 use crate::look::counts_of;
 use density_tree::{LOWER_LIMITS, Window, window_for_sparse};
-use graph_model::{Key, LEAF_SEGMENTS};
+use graph_model::LEAF_SEGMENTS;
 use leaf_array::Leaf;
-use leaf_index::LeafIndex;
 
 /// A window that is to be spread, in the live leaf with this number.
 #[derive(Clone, Copy, Debug, PartialEq, Eq)]
@@ -20,28 +18,7 @@ pub(crate) struct SparseWindow {
     pub(crate) window: Window,
 }
 
-/// The first such window in the order of keys.
-pub(crate) fn find_sparse(
-    index: &LeafIndex,
-    leaves: &Vec<Option<Box<Leaf>>>,
-) -> Option<SparseWindow>
-    requires { IsKept index.now leaves.now.items }
-    ensures some { IfSome result (IsFoundWindow index.now leaves.now.items) }
-    ensures none { result ≡ None → AreLevel (leaves_of index.now leaves.now.items).parts }
-{
-    let mut key = Key { src: 0, second: 0 };
-    'leaves: while key.is_below(Key::END) {
-        let range = index.leaf_at(key);
-        let leaf = range.leaf as usize;
-        if let Some(window) = sparse_at(leaves, leaf) {
-            return Some(SparseWindow { leaf, window });
-        }
-        key = range.high;
-    }
-    None
-}
-
-/// The same of one leaf.
+/// Such a window of a leaf, if it has one.
 pub(crate) fn sparse_at(leaves: &Vec<Option<Box<Leaf>>>, leaf: usize) -> Option<Window>
     requires { IsLeaf (segments_at leaves.now.items leaf) }
     ensures some { IfSome result (IsSparseWindow (counts_of (segments_at leaves.now.items leaf))) }

@@ -10,6 +10,7 @@ ghost use Rattle.leaf_store.specs.Changes.{AreFilled, AreNew, AreRising, IsFillR
 use crate::look::cuts_of;
 use crate::place::place_of;
 use crate::table::{empty_table, put_leaf};
+use crate::watch::Watch;
 use graph_model::{Key, NoMemory, Row};
 use leaf_array::Leaf;
 use leaf_index::LeafIndex;
@@ -24,17 +25,19 @@ pub struct LeafStore {
     pub(crate) alloc: Global,
     pub(crate) index: LeafIndex,
     pub(crate) leaves: Vec<Option<Box<Leaf>>>,
+    pub(crate) watch: Watch,
 }
 
 impl Model for LeafStore {
     ghost use Rattle.leaf_store.specs.Leaves.{Leaves};
-    ghost use Rattle.leaf_store.specs.Table.{IsKept, leaves_of};
+    ghost use Rattle.leaf_store.specs.Table.{leaves_of};
+    ghost use Rattle.leaf_store.specs.Watched.{IsTended};
 
     ghost Value = { Leaves };
 
     ghost view = { λ s. leaves_of s.index s.leaves.items };
 
-    ghost invariant = { λ s. IsKept s.index s.leaves.items };
+    ghost invariant = { λ s. IsTended s.index s.leaves.items s.watch };
 }
 
 impl LeafStore {
@@ -51,10 +54,13 @@ impl LeafStore {
         let memory = Box::new(alloc, first)?;
         let mut table = empty_table(alloc, leaves)?;
         put_leaf(&mut table, 0, memory);
+        let mut watch = Watch::new(alloc, leaves)?;
+        watch.watch(0);
         Ok(LeafStore {
             alloc,
             index,
             leaves: table,
+            watch,
         })
     }
 

@@ -1,6 +1,9 @@
-use Rattle.std.proofs.Common.{◌∙◌, ap}
+use Rattle.std.proofs.Common.{length, sym, ◌∙◌, ap}
+use Rattle.std.specs.Prelude.{false}
+use Rattle.std.proofs.lemmas.List.{length-replicate}
 use Rattle.leaf_index.specs.Index.{Index}
 use Rattle.leaf_store.proofs.FillEndLemmas.{is_filled, rising_sorted, rising_within}
+use Rattle.leaf_store.proofs.TendLemmas.{thin_tended}
 use Rattle.leaf_store.proofs.store.LeafStore.filled.Goals as goal
 
 pub fill_first-requires-clause-sorted : goal.fill_first-requires-clause-sorted
@@ -17,8 +20,19 @@ fill_rest-requires-clause-within c = rising_within c.args.rows.now c.requires.ri
 
 pub invariant_of-result : goal.invariant_of-result
 invariant_of-result c =
-    (is_filled c.args.leaves c.args.rows.now c.fill_rest.new.index c.fill_rest.new.leaves.items c.in_ok-fill_rest.ensures.ok
-    (c.in_ok-fill_rest.ensures.limit ∙ c.fill_first.ensures.limit ∙ ap (λ (i : Index). i.leaves) c.in_ok-index.ensures)).kept
+    let kept = (is_filled c.args.leaves c.args.rows.now c.fill_rest.new.index c.fill_rest.new.leaves.items c.in_ok-fill_rest.ensures.ok
+    (c.in_ok-fill_rest.ensures.limit ∙ c.fill_first.ensures.limit ∙ ap (λ (i : Index). i.leaves) c.in_ok-index.ensures)).kept in
+    thin_tended c.fill_rest.new.index c.fill_rest.new.leaves.items c.watch_thin.new.watch kept
+    (c.watch_thin.ensures.count ∙ ap length c.in_ok-watch.ensures ∙ length-replicate c.args.leaves false ∙ sym (c.in_ok-fill_rest.ensures.limit ∙ c.fill_first.ensures.limit ∙ ap (λ (i : Index). i.leaves) c.in_ok-index.ensures)) c.watch_thin.ensures.each
+
+pub watch_thin-requires-clause-kept : goal.watch_thin-requires-clause-kept
+watch_thin-requires-clause-kept c =
+    (is_filled c.args.leaves c.args.rows.now c.fill_rest.new.index c.fill_rest.new.leaves.items c.in_ok-fill_rest.ensures.ok (c.in_ok-fill_rest.ensures.limit ∙ c.fill_first.ensures.limit ∙ ap (λ (i : Index). i.leaves) c.in_ok-index.ensures)).kept
+
+pub watch_thin-requires-clause-count : goal.watch_thin-requires-clause-count
+watch_thin-requires-clause-count c =
+    let kept = (is_filled c.args.leaves c.args.rows.now c.fill_rest.new.index c.fill_rest.new.leaves.items c.in_ok-fill_rest.ensures.ok (c.in_ok-fill_rest.ensures.limit ∙ c.fill_first.ensures.limit ∙ ap (λ (i : Index). i.leaves) c.in_ok-index.ensures)).kept in
+    ap length c.in_ok-watch.ensures ∙ length-replicate c.args.leaves false ∙ sym (kept.count ∙ (c.in_ok-fill_rest.ensures.limit ∙ c.fill_first.ensures.limit ∙ ap (λ (i : Index). i.leaves) c.in_ok-index.ensures))
 
 pub returns-clause-ok : goal.returns-clause-ok
 returns-clause-ok c =

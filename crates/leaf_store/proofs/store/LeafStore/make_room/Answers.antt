@@ -5,11 +5,11 @@ use Rattle.leaf_store.proofs.store.LeafStore.make_room.Goals as goal
 
 pub window_at-requires-clause-leaf : goal.window_at-requires-clause-leaf
 window_at-requires-clause-leaf c =
-    stands_leaf c.self.inside.index c.self.inside.leaves.items c.place_of-place.result.leaf c.self.invariant (place_stands c.self.inside.index c.self.inside.leaves.items c.args.key c.place_of-place.result c.self.invariant c.place_of-place.ensures c.requires.within)
+    stands_leaf c.self.inside.index c.self.inside.leaves.items c.place_of-place.result.leaf c.self.invariant.kept (place_stands c.self.inside.index c.self.inside.leaves.items c.args.key c.place_of-place.result c.self.invariant.kept c.place_of-place.ensures c.requires.within)
 
 pub spread_window-requires-clause-stands : goal.spread_window-requires-clause-stands
 spread_window-requires-clause-stands c =
-    place_stands c.self.inside.index c.self.inside.leaves.items c.args.key c.place_of-place.result c.self.invariant c.place_of-place.ensures c.requires.within
+    place_stands c.self.inside.index c.self.inside.leaves.items c.args.key c.place_of-place.result c.self.invariant.kept c.place_of-place.ensures c.requires.within
 
 pub spread_window-requires-clause-window : goal.spread_window-requires-clause-window
 spread_window-requires-clause-window c =
@@ -21,13 +21,13 @@ spread_window-requires-clause-few c = few_in_window c.args.need c.place_of-place
 
 pub split_at-requires-clause-many : goal.split_at-requires-clause-many
 split_at-requires-clause-many c =
-    let leaf = stands_leaf c.self.inside.index c.self.inside.leaves.items c.place_of-place.result.leaf c.self.invariant (place_stands c.self.inside.index c.self.inside.leaves.items c.args.key c.place_of-place.result c.self.invariant c.place_of-place.ensures c.requires.within) in
+    let leaf = stands_leaf c.self.inside.index c.self.inside.leaves.items c.place_of-place.result.leaf c.self.invariant.kept (place_stands c.self.inside.index c.self.inside.leaves.items c.args.key c.place_of-place.result c.self.invariant.kept c.place_of-place.ensures c.requires.within) in
     full_rows _ c.args.need c.place_of-place.result.segment leaf.segments c.place_of-place.ensures.last.within c.requires.few c.in-None.ensures.smallest
 
 pub returns-in-None-clause-refused : goal.returns-in-None-clause-refused
 returns-in-None-clause-refused c =
     if_err _ _ c.split_at.result c.split_at.ensures.refused (room_refused c.self.inside.index c.split_at.new.index c.self.inside.leaves.items c.split_at.new.leaves.items c.args.self.now c.args.key c.place_of-place.result c.args.need
-    c.self.view_is c.self.invariant c.place_of-place.ensures c.requires.within c.requires.few c.in-None.ensures.smallest)
+    c.self.view_is c.self.invariant.kept c.place_of-place.ensures c.requires.within c.requires.few c.in-None.ensures.smallest)
 
 pub returns-in_ok-spread_window-in-Some-clause-ok : goal.returns-in_ok-spread_window-in-Some-clause-ok
 returns-in_ok-spread_window-in-Some-clause-ok c =
