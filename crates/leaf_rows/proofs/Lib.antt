@@ -12,3 +12,4 @@ pub mod EdgeLemmas
 pub mod CountLemmas
 pub mod FillLemmas
 pub mod SweepLemmas
+pub mod MergeLemmas

@@ -24,6 +24,6 @@ mod settle;
 mod steps;
 mod undo;
 
-pub use leaf_store::{Pruned, STAMPS_END, Tended};
+pub use leaf_store::{Pruned, STAMPS_END};
 pub use reader::Reader;
 pub use rows::{Counts, LeafRows};

@@ -2,29 +2,28 @@
 //!
 //! Each key keeps what it has, whatever a call answers.
 
-ghost use Rattle.std.specs.Prelude.{◌≡◌, ◌<◌, ◌≤◌, [], false, true, length, IfErr, IfOk, OnOk};
+ghost use Rattle.std.specs.Prelude.{◌≡◌, ◌<◌, ◌≤◌, [], false, true, length, IfErr, IsOk, OnOk};
 ghost use Rattle.graph_model.specs.Refused.{IsWithinLimits};
 ghost use Rattle.graph_model.specs.Rows.{is_below, end_key};
 ghost use Rattle.leaf_index.specs.Calls.{freed_of};
 ghost use Rattle.leaf_store.specs.declared.pair.TheConstants.{STAMPS_END};
 ghost use Rattle.leaf_store.specs.Changes.{IsRoomRefusal};
-ghost use Rattle.leaf_store.specs.Leaves.{room_at};
-ghost use Rattle.leaf_store.specs.Merging.{FreesRetired, RetiresOne, StepsToCompact};
+ghost use Rattle.leaf_store.specs.Leaves.{record_count, room_at};
+ghost use Rattle.leaf_store.specs.Merging.{FreesRetired, IsCompact, IsMergeStep};
 ghost use Rattle.leaf_rows.specs.Laying.{HasRoomFor, IsNoRoom, IsSpent, KeepsContents};
 
 use crate::rows::LeafRows;
 use graph_model::{Key, Kind, NoMemory, Write};
-use leaf_store::Tended;
 use txn_manager::RoomRefusal;
 
 impl LeafRows {
-    /// Spreads the first window that has a segment with too few rows and enough rows in all, else makes one leaf of the
-    /// first two neighbours with few rows. Answers whether there was either. The stamp is for the leaf that goes.
+    /// Spreads a window that has a segment with too few rows and enough rows in all, or makes one leaf of two
+    /// neighbours with few rows. Answers whether there was either. The stamp is for the leaf that goes.
     pub fn merge_step(&mut self, stamp: u64) -> Result<bool, NoMemory>
         requires { stamp < STAMPS_END }
         ensures contents { KeepsContents self.old self.new }
-        ensures retired { RetiresOne self.old.retired self.new.retired stamp }
-        ensures steps { IfOk result (λ did. StepsToCompact self.old self.new did) }
+        ensures steps { IsMergeStep self.old self.new stamp result }
+        ensures settled { record_count self.old ≡ 0 → IsOk result }
     {
         self.store.limit();
         let did = self.store.merge_step(stamp);
@@ -32,32 +31,17 @@ impl LeafRows {
         did
     }
 
-    /// Does the same with the leaf that holds the key alone, and with the next one.
-    pub fn merge_at(&mut self, key: Key, stamp: u64) -> Result<Tended, NoMemory>
-        requires { stamp < STAMPS_END }
-        ensures contents { KeepsContents self.old self.new }
-        ensures retired { RetiresOne self.old.retired self.new.retired stamp }
-        ensures same { IfOk result (λ tended. tended.changed ≡ false → self.new ≡ self.old) }
-    {
-        self.store.limit();
-        let tended = self.store.merge_at(key, stamp);
-        self.store.limit();
-        tended
-    }
-
-    /// Does it with one leaf after the other, until nothing is left to do. Where memory is wanted it stops.
+    /// Makes such steps until nothing is left to do, or memory is wanted.
     pub fn merge_all(&mut self, stamp: u64)
         requires { stamp < STAMPS_END }
-        ensures { KeepsContents self.old self.new }
+        ensures contents { KeepsContents self.old self.new }
+        ensures compact { record_count self.old ≡ 0 → IsCompact self.new }
     {
-        let mut key = Key::of_vertex(0);
-        // a leaf is spread three times at most, and then it is merged or passed by
-        let turns = 8 * u64::from(self.store.limit());
-        'leaves: for _ in 0..turns {
-            match self.merge_at(key, stamp) {
-                Ok(tended) if tended.changed => {}
-                Ok(tended) if tended.high.is_below(Key::end()) => key = tended.high,
-                Ok(_) => return,
+        'steps: loop {
+            self.store.limit();
+            match self.merge_step(stamp) {
+                Ok(true) => {}
+                Ok(false) => return,
                 Err(_) => return,
             }
         }
@@ -73,8 +57,8 @@ impl LeafRows {
         self.store.free_retired(until)
     }
 
-    /// Makes room for the rows of a write that are missing. Where no leaf is free the retired ones with a stamp below the
-    /// given one are freed for it.
+    /// Makes room for the rows of a write that are missing. Where no leaf is free the retired ones with a stamp below
+    /// the given one are freed for it.
     pub fn make_room_or_free(
         &mut self,
         kind: Kind,

@@ -2,10 +2,12 @@
 
 ghost use Rattle.std.specs.Prelude.{◌≡◌, ◌+◌, ◌<◌, ◌≤◌, ◌^◌, true, length};
 ghost use Rattle.graph_model.specs.declared.row.Key.{Key};
+ghost use Rattle.graph_model.specs.Graph.{Graph};
 ghost use Rattle.graph_model.specs.Rows.{is_below, end_key};
 ghost use Rattle.graph_model.specs.Transactions.{stamp_in};
 ghost use Rattle.store_model.specs.Versions.{prune};
 ghost use Rattle.leaf_store.specs.Leaves.{cell_at, contents_of, record_count, shares, weight};
+ghost use Rattle.leaf_rows.specs.Loaded.{AreSettled};
 ghost use Rattle.leaf_rows.specs.Laying.{PrunesKeys, PrunesLeaf};
 
 use crate::reader::Known;
@@ -22,6 +24,7 @@ impl LeafRows {
             ≡ prune (stamp_in manager.now.journal) horizon (contents_of self.old q) }
         ensures limit { self.new.limit ≡ self.old.limit }
         ensures weight { weight self.new ≤ weight self.old }
+        ensures settled { (g : Graph) → AreSettled self.new g → record_count self.new ≡ 0 }
     {
         self.store.limit();
         let mut key = Key::of_vertex(0);
@@ -29,6 +32,7 @@ impl LeafRows {
             let pruned = self.sweep(key, manager, horizon);
             key = pruned.high;
         }
+        self.store.limit();
     }
 
     /// Takes it away in the rows of the leaf that has the key. Answers how many records went, up to the last number,

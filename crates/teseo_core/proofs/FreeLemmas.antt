@@ -9,6 +9,8 @@ use Rattle.leaf_store.specs.declared.pair.TheConstants.{STAMPS_END}
 use Rattle.graph_model.specs.declared.row.Key.{Key}
 use Rattle.txn_manager.specs.declared.config.RoomRefusal.{RoomRefusal}
 use Rattle.leaf_store.specs.Changes.{IsRoomRefusal}
+use Rattle.leaf_store.specs.Leaves.{Leaves}
+use Rattle.leaf_store.specs.Merging.{AreApart, AreLevel, IsCompact}
 use Rattle.leaf_rows.specs.Laying.{IsSpent}
 use Rattle.teseo_core.specs.Freeing.{IsFreeBound, RefusesRoom, free_bound}
 use Rattle.teseo_core.specs.Horizons.{IsHorizon}
@@ -64,3 +66,7 @@ module _ (core : Core) (m : Manager) (tied : AreTied core m) where
 pub refuses : (r : Result (Unit {0}) RoomRefusal) (old new : Store) (key : Key) (need until : ℕ) → IsFreeBound old.core until → IfErr r (λ x. IsRoomRefusal old.rows key need x new.rows) → IfErr r (λ x. IsSpent until new.rows x) → IfErr r (λ x. RefusesRoom old key need x new)
 refuses (Ok x) old new key need until bound why spent = tt
 refuses (Err x) old new key need until bound why spent = (why, (until, bound, spent))
+
+-- leaves that are freed leave the others as they are
+pub same_parts_compact : (old new : Leaves) → new.parts ≡ old.parts → IsCompact old → IsCompact new
+same_parts_compact old new same compact = record { level = subst AreLevel (sym same) compact.level; apart = subst AreApart (sym same) compact.apart }

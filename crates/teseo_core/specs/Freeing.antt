@@ -1,5 +1,5 @@
 -- Retired leaves that no transaction needs any more, and rows that are brought together.
-use Rattle.std.specs.Prelude.{◌≡◌, ◌⊎◌, ℕ, ◌-◌, min, Bool, true, false, length, unwrap_or, Result, IfOk}
+use Rattle.std.specs.Prelude.{◌≡◌, ◌⊎◌, ℕ, ◌-◌, min, Bool, true, false, length, unwrap_or, Result}
 use Rattle.items.specs.declared.memory.NoMemory.{NoMemory}
 use Rattle.graph_model.specs.declared.row.Key.{Key}
 use Rattle.graph_model.specs.OwnerCalls.{Core}
@@ -9,7 +9,7 @@ use Rattle.txn_manager.specs.Manager.{Manager, least_pin_of}
 use Rattle.leaf_store.specs.declared.pair.TheConstants.{STAMPS_END}
 use Rattle.leaf_store.specs.Changes.{IsRoomRefusal}
 use Rattle.leaf_store.specs.Leaves.{Leaves}
-use Rattle.leaf_store.specs.Merging.{FreesRetired, RetiresOne, StepsToCompact}
+use Rattle.leaf_store.specs.Merging.{FreesRetired, IsMergeStep}
 use Rattle.leaf_rows.specs.Laying.{IsSpent, KeepsContents}
 use Rattle.teseo_core.specs.Horizons.{IsHorizon}
 use Rattle.teseo_core.specs.Keeping.{Store, NoneOpen}
@@ -44,15 +44,8 @@ RefusesRoom old key need refusal new = IsRoomRefusal old.rows key need refusal n
 abbrev pub retire_stamp : Core → ℕ
 retire_stamp core = min (length core.journal) (STAMPS_END - 1)
 
--- each key keeps what it has, no transaction changes, and a leaf may have been retired
-pub record BringsTogether (old new : Store) : Type 0 where
-  pub core : new.core ≡ old.core
-  pub next : new.next ≡ old.next
-  pub swept : new.swept ≡ old.swept
-  pub contents : KeepsContents old.rows new.rows
-  pub retired : RetiresOne old.rows.retired new.rows.retired (retire_stamp old.core)
-
--- a step of merging says whether there was something to do
+-- a step of merging: each key keeps what it has, and nothing but rows changes
 pub record Merges (old new : Store) (result : Result Bool NoMemory) : Type 0 where
-  pub brings : BringsTogether old new
-  pub steps : IfOk result (λ did. StepsToCompact old.rows new.rows did)
+  pub same : new ≡ record old { rows = new.rows }
+  pub contents : KeepsContents old.rows new.rows
+  pub steps : IsMergeStep old.rows new.rows (retire_stamp old.core) result

@@ -17,7 +17,10 @@ use Rattle.txn_manager.specs.declared.config.Config.{Config}
 use Rattle.txn_manager.specs.Manager.{Manager, PassTxns, txns_of}
 use Rattle.store_model.specs.Store.{IsPlainStore}
 use Rattle.leaf_store.specs.Leaves.{Leaves, contents_of, weight}
+use Rattle.leaf_store.specs.Merging.{IsCompact}
 use Rattle.leaf_rows.specs.Loaded.{AreNone, AreSettled}
+use Rattle.teseo_core.specs.declared.serve.ServiceTurn.{ServiceTurn}
+use Rattle.teseo_core.specs.declared.serve.ServiceTurn.TheVariants.{Sweep}
 use Rattle.teseo_core.specs.Passes.{RoomyPass, new_pass}
 
 -- the core before its first transaction
@@ -91,21 +94,27 @@ newest_graph core = graph_at core.kind core.journal (length core.journal)
 
 -- ---- what contracts see
 
--- an engine, its rows, the key whose leaf the next sweep takes, and for how many commits the service has swept
+-- an engine, its rows, the key whose leaf the next sweep takes, and what the next turn of the service does
 pub record Store : Type 0 where
   pub core : Core
   pub rows : Leaves
   pub next : Key
-  pub swept : ℕ
+  pub turn : ServiceTurn
+
+-- neither the sweep key nor the turn of the service has moved
+abbrev pub KeepsService : Store → Store → Type 0
+KeepsService old new = (new.next ≡ old.next) × (new.turn ≡ old.turn)
 
 -- a new engine, whose rows are none
 pub record IsNewStore (config : Config) (s : Store) : Type 0 where
   pub core : s.core ≡ new_core config
   pub rows : AreNone config.leaves s.rows
   pub next : s.next ≡ first_key
-  pub swept : s.swept ≡ 0
+  pub turn : s.turn ≡ Sweep
 
--- no record and no retired leaf is left: each key has what the newest graph has there, and nothing besides
+-- No record and no retired leaf is left: each key has what the newest graph has there, and nothing besides. No window
+-- is to be spread, and no two neighbours are to become one leaf.
 pub record IsSettled (s : Store) : Type 0 where
   pub rows : AreSettled s.rows (newest_graph s.core)
   pub retired : s.rows.retired ≡ []
+  pub compact : IsCompact s.rows

@@ -4,3 +4,4 @@ pub mod Loads
 pub mod Horizons
 pub mod Freeing
 pub mod Sweeping
+pub mod Serving

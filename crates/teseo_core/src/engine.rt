@@ -1,12 +1,12 @@
 //! The store as an engine of one owner.
 
 ghost use Rattle.std.specs.Prelude.{IsSome};
-ghost use Rattle.std.specs.Result.{IsOkAnd};
 ghost use Rattle.graph_model.specs.declared.write.Write.TheVariants as writes;
 ghost use Rattle.graph_model.specs.OwnerCalls.{account_here};
 ghost use Rattle.graph_model.specs.OwnerLaws.{DidBegin, DidWrite, DidRead, DidCommit, DidAbort, DidServe};
 ghost use Rattle.graph_model.proofs.OwnerLemmas.{begins_by, writes_by, reads_by, commits_by, aborts_by, serves_by};
-ghost use Rattle.teseo_core.specs.Sweeping.{ServesTurn};
+ghost use Rattle.teseo_core.specs.Keeping.{KeepsService};
+ghost use Rattle.teseo_core.specs.Serving.{ServesTurn};
 
 use crate::store::Core;
 use graph_model::{
@@ -19,17 +19,17 @@ impl Engine for Core {
 
     ghost served = { λ s. s.core.served };
 
-    ghost did_begin = { λ s r t. DidBegin s.core r t.core };
+    ghost did_begin = { λ s r t. DidBegin s.core r t.core × KeepsService s t };
 
-    ghost did_write = { λ s w r t. DidWrite s.core w r t.core };
+    ghost did_write = { λ s w r t. DidWrite s.core w r t.core × KeepsService s t };
 
-    ghost did_read = { λ s t. DidRead s.core t.core };
+    ghost did_read = { λ s t. DidRead s.core t.core × KeepsService s t };
 
-    ghost did_commit = { λ s r t. DidCommit s.core r t.core };
+    ghost did_commit = { λ s r t. DidCommit s.core r t.core × KeepsService s t };
 
-    ghost did_abort = { λ s t. DidAbort s.core t.core };
+    ghost did_abort = { λ s t. DidAbort s.core t.core × KeepsService s t };
 
-    ghost did_serve = { λ s r t. DidServe s.core t.core × IsOkAnd r (ServesTurn s t) };
+    ghost did_serve = { λ s r t. DidServe s.core t.core × ServesTurn s t r };
 
     fn kind(&self) -> Kind {
         self.kind_here()
@@ -76,18 +76,18 @@ impl Engine for Core {
     }
 
     fn service_step(&mut self) -> Result<bool, NoMemory> {
-        Ok(self.serve_here())
+        self.serve_here()
     }
 
-    ghost begins = { λ s t r did. begins_by s.core t.core r did };
+    ghost begins = { λ s t r did. begins_by s.core t.core r did.0 };
 
-    ghost wrote = { λ s t w r did. writes_by s.core t.core w r did };
+    ghost wrote = { λ s t w r did. writes_by s.core t.core w r did.0 };
 
-    ghost reads = { λ s t did. reads_by s.core t.core did };
+    ghost reads = { λ s t did. reads_by s.core t.core did.0 };
 
-    ghost commits = { λ s t r did. commits_by s.core t.core r did };
+    ghost commits = { λ s t r did. commits_by s.core t.core r did.0 };
 
-    ghost aborts = { λ s t did. aborts_by s.core t.core did };
+    ghost aborts = { λ s t did. aborts_by s.core t.core did.0 };
 
     ghost serves = { λ s t r did. serves_by s.core t.core did.0 };
 }
@@ -111,15 +111,15 @@ impl StepEngine for Core {
 
     ghost counts = { λ s. refl };
 
-    ghost begins_here = { λ s t r did. did.here };
+    ghost begins_here = { λ s t r did. did.0.here };
 
-    ghost writes_here = { λ s t w r did. did.here };
+    ghost writes_here = { λ s t w r did. did.0.here };
 
-    ghost reads_here = { λ s t did. did.here };
+    ghost reads_here = { λ s t did. did.0.here };
 
-    ghost commits_here = { λ s t r did. did.here };
+    ghost commits_here = { λ s t r did. did.0.here };
 
-    ghost aborts_here = { λ s t did. did.here };
+    ghost aborts_here = { λ s t did. did.0.here };
 
     ghost serves_here = { λ s t r did. did.0.here };
 }

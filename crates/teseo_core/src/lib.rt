@@ -13,11 +13,13 @@ mod load;
 mod merge;
 mod pass;
 mod read;
+mod serve;
 mod settle;
 mod store;
 mod sweep;
 mod totals;
 mod write;
 
+pub use serve::ServiceTurn;
 pub use settle::CoreJournal;
 pub use store::Core;

@@ -2,7 +2,7 @@
 
 ghost use Rattle.std.specs.Prelude.{◌≡◌, length};
 ghost use Rattle.graph_model.specs.Graph.{vertices_of};
-ghost use Rattle.teseo_core.specs.Keeping.{IsSettled, NoneOpen, edges_of, newest_graph};
+ghost use Rattle.teseo_core.specs.Keeping.{IsSettled, KeepsService, NoneOpen, edges_of, newest_graph};
 
 use crate::pass::Pass;
 use crate::store::Core;
@@ -54,6 +54,7 @@ impl Core {
     pub fn settle(&mut self)
         requires { NoneOpen self.old.core }
         ensures core { self.new.core ≡ self.old.core }
+        ensures service { KeepsService self.old self.new }
         ensures settled { IsSettled self.new }
     {
         let stamp = self.retire_stamp();

@@ -6,11 +6,12 @@ ghost use Rattle.graph_model.specs.OwnerLaws.{DidBegin, DidCommit, DidAbort};
 ghost use Rattle.txn_manager.specs.Config.{too_large};
 ghost use Rattle.txn_manager.specs.declared.config.StoreRefusal.TheVariants.{TooLarge};
 ghost use Rattle.teseo_core.specs.Passes.{new_pass};
-ghost use Rattle.teseo_core.specs.Keeping.{IsNewStore, states_of};
+ghost use Rattle.teseo_core.specs.Keeping.{IsNewStore, KeepsService, states_of};
 
 use crate::pass::Pass;
+use crate::serve::ServiceTurn;
 use crate::sweep::SweepKey;
-use graph_model::{BeginRefusal, Begun, Key, Kind, NoMemory, TxnName};
+use graph_model::{BeginRefusal, Begun, Kind, NoMemory, TxnName};
 use leaf_rows::{LeafRows, Reader};
 use std::alloc::Global;
 use std::marker::Model;
@@ -28,10 +29,8 @@ pub struct Core {
     pub(crate) served: u64,
     pub(crate) rows: LeafRows,
     pub(crate) next: SweepKey,
-    /// For so many commits the service has swept.
-    pub(crate) swept: u64,
-    /// The key whose leaf the service tends next.
-    pub(crate) tended: Key,
+    /// What the next turn of the service does.
+    pub(crate) turn: ServiceTurn,
 }
 
 impl Model for Core {
@@ -43,7 +42,7 @@ impl Model for Core {
       core = core_of c.kind c.leaves c.manager c.passes.items c.selected c.served;
       rows = c.rows;
       next = c.next.key;
-      swept = c.swept;
+      turn = c.turn;
     } };
 
     ghost invariant = { λ c.
@@ -72,8 +71,7 @@ impl Core {
             served: 0,
             rows,
             next: SweepKey::first(),
-            swept: 0,
-            tended: Key::of_vertex(0),
+            turn: ServiceTurn::Sweep,
         })
     }
 
@@ -101,7 +99,8 @@ impl Core {
     /// Begins the next transaction of the selected pass.
     pub(crate) fn begin_here(&mut self) -> Result<Begun, BeginRefusal>
         requires { (current self.old.core).start ≡ None }
-        ensures { DidBegin self.old.core result self.new.core }
+        ensures did { DidBegin self.old.core result self.new.core }
+        ensures service { KeepsService self.old self.new }
     {
         let pass = self.selected as usize;
         self.passes[pass].reserve_txn()?;
@@ -113,7 +112,8 @@ impl Core {
     /// Commits the open transaction.
     pub(crate) fn commit_here(&mut self) -> Option<u64>
         requires { IsSome (current self.old.core).start }
-        ensures { DidCommit self.old.core result self.new.core }
+        ensures did { DidCommit self.old.core result self.new.core }
+        ensures service { KeepsService self.old self.new }
     {
         let by = name_of(&self.passes[self.selected as usize], self.selected);
         let writes = self.passes[self.selected as usize].end(self.alloc);
@@ -127,7 +127,8 @@ impl Core {
     /// Takes the writes of the open transaction back and ends it.
     pub(crate) fn abort_here(&mut self)
         requires { IsSome (current self.old.core).start }
-        ensures { DidAbort self.old.core self.new.core }
+        ensures did { DidAbort self.old.core self.new.core }
+        ensures service { KeepsService self.old self.new }
     {
         let by = name_of(&self.passes[self.selected as usize], self.selected);
         let writes = self.passes[self.selected as usize].end(self.alloc);

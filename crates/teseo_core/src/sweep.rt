@@ -2,22 +2,14 @@
 //!
 //! 1. A sweep takes one leaf, and the next one goes on where it ended.
 //! 2. No open transaction began below the horizon, so none sees what a sweep takes away.
-//! 3. The service sweeps as much as was committed, so a store that nobody changes costs it nothing.
 
 ghost use Rattle.std.specs.Prelude.{◌≡◌, true};
-ghost use Rattle.graph_model.specs.OwnerLaws.{DidServe};
 ghost use Rattle.graph_model.specs.Rows.{is_below, end_key, first_key};
-ghost use Rattle.teseo_core.specs.Sweeping.{ServesTurn, Sweeps, SweepsMany, TendsMany, from_first, leaves_due, swept_for};
+ghost use Rattle.teseo_core.specs.Sweeping.{Sweeps, from_first};
 
 use crate::free::free_behind;
 use crate::store::Core;
 use graph_model::Key;
-
-/// For so many commits the service sweeps a leaf: as many segments as a leaf has, so a segment for each commit.
-pub(crate) const COMMITS_A_LEAF: u64 = 8;
-
-/// So many leaves the service sweeps in a turn at most, so that no transaction waits for long.
-pub(crate) const MOST_LEAVES: u64 = 8;
 
 /// The key whose leaf the next sweep takes.
 #[derive(Clone, Copy)]
@@ -50,7 +42,8 @@ impl SweepKey {
 
 impl Core {
     /// Takes away, in the rows of the next leaf, what no transaction can see any more, and answers whether a record
-    /// went. Behind the last leaf the retired leaves are freed that can be, and the first one comes next. Takes no memory.
+    /// went. Behind the last leaf the retired leaves are freed that can be, and the first one comes next. Takes no
+    /// memory.
     pub fn sweep_step(&mut self) -> bool
         ensures { Sweeps self.old self.new result }
     {
@@ -60,64 +53,6 @@ impl Core {
         self.next = SweepKey::from_first(pruned.high);
         free_behind(&mut self.rows, &self.manager, pruned.high);
         pruned.records > 0
-    }
-
-    /// A turn of the service: for every eight commits that it has not swept for it sweeps a leaf, eight at most, and looks
-    /// at another whether its rows are to be brought together. Where there are fewer it leaves them for its next turn.
-    pub(crate) fn serve_here(&mut self) -> bool
-        ensures serves { DidServe self.old.core self.new.core }
-        ensures turn { ServesTurn self.old self.new result }
-    {
-        let clock = self.manager.clock();
-        let leaves = leaves_due(clock, self.swept).min(MOST_LEAVES);
-        self.swept = swept_for(clock, self.swept);
-        self.served = self.served.saturating_add(1);
-        let went = self.sweep_leaves(leaves);
-        let tended = self.tend_leaves(leaves);
-        went || tended
-    }
-
-    /// Sweeps so many leaves, and answers whether a record went.
-    fn sweep_leaves(&mut self, leaves: u64) -> bool
-        ensures { SweepsMany leaves self.old self.new result }
-    {
-        if leaves == 0 {
-            return false;
-        }
-        let first = self.sweep_step();
-        let more = self.sweep_leaves(leaves - 1);
-        first || more
-    }
-
-    /// Looks at so many leaves whether rows are to be brought together, and answers whether one changed.
-    fn tend_leaves(&mut self, leaves: u64) -> bool
-        ensures { TendsMany leaves self.old self.new }
-    {
-        if leaves == 0 {
-            return false;
-        }
-        let first = self.tend_leaf();
-        let more = self.tend_leaves(leaves - 1);
-        first || more
-    }
-}
-
-/// For so many leaves the commits suffice that the service has not swept for.
-fn leaves_due(clock: u64, swept: u64) -> u64
-    ensures { result ≡ leaves_due clock swept }
-{
-    clock.saturating_sub(swept) / COMMITS_A_LEAF
-}
-
-/// For so many commits it has swept behind its turn: for all of them where more leaves are due than it sweeps.
-fn swept_for(clock: u64, swept: u64) -> u64
-    ensures { result ≡ swept_for clock swept }
-{
-    let leaves = leaves_due(clock, swept);
-    if leaves > MOST_LEAVES {
-        clock
-    } else {
-        swept + leaves * COMMITS_A_LEAF
     }
 }
 

@@ -8,6 +8,7 @@ ghost use Rattle.graph_model.specs.Rows.{is_below, end_key};
 ghost use Rattle.leaf_store.specs.Leaves.{room_at};
 ghost use Rattle.leaf_rows.specs.Laying.{HasRoomFor, KeepsContents, MayLay, Stays};
 ghost use Rattle.teseo_core.specs.Freeing.{RefusesRoom};
+ghost use Rattle.teseo_core.specs.Keeping.{KeepsService};
 ghost use Rattle.teseo_core.specs.Passes.{Laid, Puts};
 
 use crate::free::free_bound;
@@ -27,6 +28,7 @@ impl Core {
         requires few { need ≤ 2 }
         requires short { room_at self.old.rows key < need }
         ensures core { self.new.core ≡ self.old.core }
+        ensures service { KeepsService self.old self.new }
         ensures contents { KeepsContents self.old.rows self.new.rows }
         ensures ok { OnOk result (need ≤ room_at self.new.rows key) }
         ensures refused { IfErr result (λ refusal. RefusesRoom self.old key need refusal self.new) }
@@ -41,7 +43,8 @@ impl Core {
     pub(crate) fn make_write(&mut self, write: Write) -> Result<(), Refusal>
         requires current { IsSome (current self.old.core).start }
         requires within { IsWithinLimits write }
-        ensures { DidWrite self.old.core write result self.new.core }
+        ensures did { DidWrite self.old.core write result self.new.core }
+        ensures service { KeepsService self.old self.new }
     {
         self.look_up(write);
         self.write_here(write)
@@ -59,7 +62,8 @@ impl Core {
     fn write_here(&mut self, write: Write) -> Result<(), Refusal>
         requires current { IsSome (current self.old.core).start }
         requires within { IsWithinLimits write }
-        ensures { DidWrite self.old.core write result self.new.core }
+        ensures did { DidWrite self.old.core write result self.new.core }
+        ensures service { KeepsService self.old self.new }
     {
         let pass = self.selected as usize;
         let reader = reader_of(&self.manager, &self.passes[pass], self.selected);

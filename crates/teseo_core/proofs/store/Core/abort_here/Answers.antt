@@ -42,8 +42,8 @@ invariant_of-self c =
     (c.end-writes.ensures.ended ∙ ap with_end (sym last)) ends
     (λ q. c.undo_all.ensures.contents q ∙ (λ i. undone f.kind (name i) (own i) q (contents_of f.rows q))) c.undo_all.ensures.weight c.undo_all.ensures.limit)
 
-pub returns : goal.returns
-returns c =
+pub returns-clause-did : goal.returns-clause-did
+returns-clause-did c =
     let f = c.self.inside in
     let core = core_of f.kind f.leaves f.manager f.passes.items f.selected f.served in
     let last = lent_state f.passes.items f.selected c.index_mut.result.now c.self.invariant.chosen c.index_mut.ensures.value in

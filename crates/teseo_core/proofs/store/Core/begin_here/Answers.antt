@@ -14,8 +14,8 @@ invariant_of-self c =
     let here = lent_state f.passes.items f.selected c.index_mut.result.now c.self.invariant.chosen c.index_mut.ensures.value in
     kept_back f.kind f.leaves f.manager f.passes.items f.selected f.served f.rows c.self.invariant c.reserve_txn.new.self f.manager refl (c.reserve_txn.ensures.kept ∙ sym here)
 
-pub returns-in_err-reserve_txn : goal.returns-in_err-reserve_txn
-returns-in_err-reserve_txn c =
+pub returns-in_err-reserve_txn-clause-did : goal.returns-in_err-reserve_txn-clause-did
+returns-in_err-reserve_txn-clause-did c =
     let f = c.self.inside in
     let here = lent_state f.passes.items f.selected c.index_mut.result.now c.self.invariant.chosen c.index_mut.ensures.value in
     let same = kept_core f.kind f.leaves f.manager f.passes.items f.selected f.served f.rows c.self.invariant c.reserve_txn.new.self f.manager refl (c.reserve_txn.ensures.kept ∙ sym here) in
@@ -31,8 +31,8 @@ invariant_of-self-in_err-begun c =
     let here = lent_state f.passes.items f.selected c.index_mut.result.now c.self.invariant.chosen c.index_mut.ensures.value in
     kept_back f.kind f.leaves f.manager f.passes.items f.selected f.served f.rows c.self.invariant c.reserve_txn.new.self c.open_txn.new.self c.in_err-begun.ensures.err (c.reserve_txn.ensures.kept ∙ sym here)
 
-pub returns-in_err-begun : goal.returns-in_err-begun
-returns-in_err-begun c =
+pub returns-in_err-begun-clause-did : goal.returns-in_err-begun-clause-did
+returns-in_err-begun-clause-did c =
     let f = c.self.inside in
     let here = lent_state f.passes.items f.selected c.index_mut.result.now c.self.invariant.chosen c.index_mut.ensures.value in
     let journal = ap (λ m. m.journal) c.in_err-begun.ensures.err in
@@ -65,8 +65,8 @@ invariant_of-self-2 c =
     (subst (λ (n : ℕ). HasNotCommitted f.manager.journal (record { job = f.selected; number = n + 1 })) counts c.in_ok-begun.ensures.new_name)
     state c.in_ok-begun.ensures.opened)
 
-pub returns : goal.returns
-returns c =
+pub returns-clause-did : goal.returns-clause-did
+returns-clause-did c =
     let f = c.self.inside in
     let core = core_of f.kind f.leaves f.manager f.passes.items f.selected f.served in
     let here = lent_state f.passes.items f.selected c.index_mut.result.now c.self.invariant.chosen c.index_mut.ensures.value in

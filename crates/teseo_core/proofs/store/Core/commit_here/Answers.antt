@@ -35,8 +35,8 @@ invariant_of-self c =
     (c.end-writes.ensures.ended ∙ ap with_end (sym last)) ends
     (λ q. ap (λ ws. undone f.kind (name_here core) ws q (contents_of f.rows q)) (sym own)) (omega arith) refl)
 
-pub returns-then-is_empty : goal.returns-then-is_empty
-returns-then-is_empty c =
+pub returns-then-is_empty-clause-did : goal.returns-then-is_empty-clause-did
+returns-then-is_empty-clause-did c =
     let f = c.self.inside in
     let core = core_of f.kind f.leaves f.manager f.passes.items f.selected f.served in
     let start = start_of (current core).start (rw (← c.self.view_is) at c.requires) in
@@ -77,8 +77,8 @@ invariant_of-self-2 c =
     (kept_committed core f.manager f.rows c.self.invariant start.0 start.1 c.end-writes.new.self.state c.push_commit.new.self c.push_commit.new.self.spare wrote
     (c.end-writes.ensures.ended ∙ ap with_end (sym last)) commits)
 
-pub returns : goal.returns
-returns c =
+pub returns-clause-did : goal.returns-clause-did
+returns-clause-did c =
     let f = c.self.inside in
     let core = core_of f.kind f.leaves f.manager f.passes.items f.selected f.served in
     let start = start_of (current core).start (rw (← c.self.view_is) at c.requires) in

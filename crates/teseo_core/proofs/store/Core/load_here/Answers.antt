@@ -21,6 +21,6 @@ returns-in_err-rows-clause-refused c = rw (← c.self.view_is) (
 pub take_load-requires-clause-rows : goal.take_load-requires-clause-rows
 take_load-requires-clause-rows c =
     let f = c.self.inside in
-    let begun = rw (← c.self.view_is) at c.in-Ok.ensures.here.2 in
+    let begun = rw (← c.self.view_is) at c.in-Ok.ensures.did.here.2 in
     subst (λ (core : Core). AreLoaded core.leaves (apply_all core.kind empty_graph c.args.load) (inserted core.kind c.args.load) c.in_ok-rows.rows) (sym begun)
     (subst (λ (ws : List Write). AreLoaded f.leaves (apply_all f.kind empty_graph ws) (inserted f.kind ws) c.in_ok-rows.rows) c.as_slice.ensures c.in_ok-rows.ensures.ok)

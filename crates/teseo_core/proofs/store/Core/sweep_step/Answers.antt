@@ -28,7 +28,7 @@ returns c =
     let pruned = c.sweep_leaf-pruned.ensures.prunes in
     rw (← c.self.view_is) (record {
       core = refl;
-      swept = refl;
+      turn = refl;
       horizon = c.horizon-horizon.result;
       is = subst (IsHorizon core) (sym c.horizon-horizon.ensures) (is_horizon core f.manager c.self.invariant.tied c.clock.ensures.valid);
       low = pruned.low;

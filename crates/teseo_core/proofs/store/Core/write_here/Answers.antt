@@ -23,8 +23,8 @@ invariant_of-self c =
     refused_kept f.kind f.leaves f.manager f.passes.items f.selected f.served f.rows c.self.invariant r.result start.0 start.1 reader c.args.write c.in-Err.refusal c.note_refusal.result c.index_mut.result.now c.note_refusal.new.self (sym last)
     (subst (λ (s : ℕ). Notes c.index_mut.result.now.state s c.args.write c.in-Err.refusal c.note_refusal.result c.note_refusal.new.self.state) reader.start_is c.note_refusal.ensures)
 
-pub returns-in-Err : goal.returns-in-Err
-returns-in-Err c =
+pub returns-in-Err-clause-did : goal.returns-in-Err-clause-did
+returns-in-Err-clause-did c =
     let f = c.self.inside in
     let core = core_of f.kind f.leaves f.manager f.passes.items f.selected f.served in
     let start = start_of (current core).start (rw (← c.self.view_is) at c.requires.current) in
@@ -72,8 +72,8 @@ invariant_of-self-2 c =
     let last = lent_state f.passes.items f.selected c.index_mut-2.result.now c.self.invariant.chosen c.index_mut-2.ensures.value in
     put_kept f.kind f.leaves f.manager f.passes.items f.selected f.served f.rows c.self.invariant r.result start.0 start.1 reader c.args.write c.check.result c.check.ensures c.in-Ok.field-0 c.in-Ok.is c.requires.within _ c.put.result c.index_mut-2.result.now c.put.new.pass c.put.new.rows (sym last) c.put.ensures
 
-pub returns : goal.returns
-returns c =
+pub returns-clause-did : goal.returns-clause-did
+returns-clause-did c =
     let f = c.self.inside in
     let core = core_of f.kind f.leaves f.manager f.passes.items f.selected f.served in
     let start = start_of (current core).start (rw (← c.self.view_is) at c.requires.current) in

@@ -1,5 +1,0 @@
-use Rattle.leaf_rows.proofs.RoomLemmas.{moved_keeps}
-use Rattle.leaf_rows.proofs.rows.LeafRows.merge_at.Goals as goal
-
-pub returns-clause-contents : goal.returns-clause-contents
-returns-clause-contents c = rw (← c.self.view_is) (moved_keeps c.self.inside.store c.merge_at-tended.new.self c.limit.ensures.sound c.limit-2.ensures.sound c.merge_at-tended.ensures.compacts.moves)
