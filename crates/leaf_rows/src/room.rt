@@ -117,8 +117,8 @@ impl LeafRows {
         made
     }
 
-    /// Whether a key has a row, or its cell has room for its row, and for that of the other key if it is missing too and
-    /// shares the cell.
+    /// Whether a key has a row, or its cell has room for its row, and for that of the other key if it is missing too
+    /// and shares the cell.
     fn has_place(&self, key: Key, other: Option<Key>) -> bool
         requires { is_below key end_key ≡ true }
         ensures { result ≡ true → has_row self.now key ≡ false

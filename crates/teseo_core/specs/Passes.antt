@@ -74,7 +74,8 @@ pub record Laid (kind : Kind) (by : TxnName) (w : Write) (rows rows' : Leaves) (
   pub noted_in : new ≡ with_one_write old w
 
 -- there was no place for one of its rows, no retired leaf could be freed for it, and its pass notes that
-pub record FindsFull (kind : Kind) (w : Write) (until leaves : ℕ) (rows rows' : Leaves) (old new : PassState) : Type 0 where
+pub record FindsFull (kind : Kind) (w : Write) (until leaves : ℕ) (rows rows' : Leaves) (old new : PassState)
+    : Type 0 where
   pub keeps : KeepsContents rows rows'
   pub no_room : IsNoRoom rows' kind w (room_refusals.Full leaves)
   pub spent : IsSpent until rows' (room_refusals.Full leaves)
@@ -84,7 +85,8 @@ pub record FindsFull (kind : Kind) (w : Write) (until leaves : ℕ) (rows rows' 
   pub noted_in : new ≡ record old { filled = true }
 
 -- what a write that may be made comes to: it is laid, or it finds no place or no memory
-abbrev pub Puts : Kind → TxnName → Write → ℕ → Leaves → Leaves → PassState → PassState → Result (Unit {0}) Refusal → Type 0
+abbrev pub Puts : Kind → TxnName → Write → ℕ → Leaves → Leaves → PassState → PassState → Result (Unit {0}) Refusal
+    → Type 0
 Puts kind by w until rows rows' old new (Ok done) = Laid kind by w rows rows' old new
 Puts kind by w until rows rows' old new (Err refusals.SelfLoop) = ⊥
 Puts kind by w until rows rows' old new (Err (refusals.NoVertex v)) = ⊥
