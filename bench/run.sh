@@ -143,12 +143,12 @@ print_segments() {
     echo "Load is $(load) now."
 }
 
-# Prints the table of a load, of transactions and of a scan by calls of the engine.
+# Prints the table of a load, of transactions and of a scan by calls of the engine, on a random graph or on one by R-MAT.
 print_engine() {
     local run
     echo '| Part         |    Count | Best, a second | Worst, a second |'
     echo '|--------------|---------:|---------------:|----------------:|'
-    for run in $(seq "$runs"); do "$engine" 1000000 3500000 262144 "$seed"; done | awk '
+    for run in $(seq "$runs"); do "$engine" 1000000 3500000 262144 "$seed" 0 0 "$1"; done | awk '
         !($1 in count) { names[++parts] = $1; count[$1] = $2; least[$1] = $3 }
         $3 + 0 > most[$1] + 0 { most[$1] = $3 }
         $3 + 0 < least[$1] + 0 { least[$1] = $3 }
@@ -157,8 +157,10 @@ print_engine() {
             printf "| %-12s | %8d | %14d | %15d |\n", name, count[name], most[name], least[name]
         } }'
     echo
-    echo "A random graph of 1,000,000 vertices and 3,500,000 edges is loaded, 262,144 transactions of one edge each are run by"
-    echo "one pass, and all rows are scanned. What is counted is told in crates/engine_bench/README.md. Load is $(load) now."
+    echo "A graph of 1,000,000 vertices and 3,500,000 edges, $2, is loaded, 262,144 transactions of"
+    echo "one edge each are run by one pass, and all rows are scanned. What is counted is told in"
+    echo "crates/engine_bench/README.md. Load is $(load) now."
+    echo
 }
 
 # Prints a table of 2,000,000 transactions that set the same 10,000 edges, at ten moments: without a transaction that stays
@@ -234,7 +236,10 @@ if is_wanted kernels; then
     print_kernels 0 'path of 1,000,000 vertices with weights'
 fi
 if is_wanted segments; then print_segments; fi
-if is_wanted engine; then print_engine; fi
+if is_wanted engine; then
+    print_engine 0 'each pair of whose vertices has the same chance'
+    print_engine 1 'drawn by R-MAT'
+fi
 if is_wanted churn; then
     print_churn 0 'no other transaction is open'
     print_churn 1 'one of another pass stays open'

@@ -7,6 +7,7 @@
 ghost use Rattle.std.specs.Prelude.{◌<◌};
 
 use crate::graph::Graph;
+use crate::rmat::Ends;
 use graph_model::NoMemory;
 use rand_core::SeedableRng;
 use rand_core::utils::NextWord;
@@ -57,6 +58,35 @@ pub fn edits_of(
             }
         };
         edits.push(edit)?;
+    }
+    Ok(edits)
+}
+
+/// So many changes of a graph's edges: those that are added come from others, and those that are set or dropped are
+/// as far from one another in the order of the graph's edges as they can be.
+pub fn spread_edits(
+    alloc: Global,
+    edges: &[Ends],
+    others: &[Ends],
+    count: u32,
+) -> Result<Vec<Edit>, NoMemory> {
+    let apart = (edges.len() as u64 / u64::from(count / 2).max(1)).max(1);
+    let mut edits = Vec::with_capacity(alloc, count as usize)?;
+    for number in 0..count {
+        let place = u64::from(number / 2);
+        let (act, edge) = if number % 2 == 0 {
+            (Act::Add, others.get(place as usize))
+        } else {
+            let act = if number % 4 == 1 { Act::Set } else { Act::Drop };
+            (act, edges.get(place.wrapping_mul(apart) as usize))
+        };
+        if let Some(ends) = edge {
+            edits.push(Edit {
+                act,
+                u: id_of(ends.u),
+                v: id_of(ends.v),
+            })?;
+        }
     }
     Ok(edits)
 }

@@ -4,6 +4,7 @@ ghost use Rattle.std.specs.Prelude.{◌≡◌, ◌<◌, None, IfOk};
 ghost use Rattle.graph_model.specs.OwnerCalls.{account_here};
 ghost use Rattle.engine_bench.specs.Loadable.{IsLoadableGraph};
 
+use crate::rmat::{Ends, edge_text};
 use anyhow::Result;
 use graph_files::{Weights, files_are_loadable, load_is_legal, read_edges, read_vertices};
 use graph_load::load_graph;
@@ -26,13 +27,30 @@ pub fn made_graph(alloc: Global, seed: u64, vertices: u32, edges: u32) -> Result
     requires { 0 < vertices }
     ensures { IfOk result IsLoadableGraph }
 {
+    let made = make_graph(alloc, seed, vertices, edges)?;
+    graph_of(alloc, made.vertices.as_slice(), made.edges.as_slice())
+}
+
+/// A graph of so many vertices, from 1 on, and these edges.
+pub fn drawn_graph(alloc: Global, vertices: u32, edges: &[Ends]) -> Result<Graph>
+    requires { 0 < vertices }
+    ensures { IfOk result IsLoadableGraph }
+{
+    let made = make_graph(alloc, 0, vertices, 0)?;
+    let text = edge_text(alloc, edges)?;
+    graph_of(alloc, made.vertices.as_slice(), text.as_slice())
+}
+
+/// What the texts of a graph's files stand for.
+fn graph_of(alloc: Global, vertices: &[u8], edges: &[u8]) -> Result<Graph>
+    ensures { IfOk result IsLoadableGraph }
+{
     files_are_loadable();
     load_is_legal();
-    let made = make_graph(alloc, seed, vertices, edges)?;
-    let ids = read_vertices(alloc, made.vertices.as_slice(), MAX_LOAD_ROWS)?;
+    let ids = read_vertices(alloc, vertices, MAX_LOAD_ROWS)?;
     let edges = read_edges(
         alloc,
-        made.edges.as_slice(),
+        edges,
         &ids,
         Kind::Undirected,
         Weights::Ones,

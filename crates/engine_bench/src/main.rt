@@ -3,23 +3,27 @@
 //! 1. Called with four numbers, of vertices, edges, transactions and a seed, it makes a random graph from the seed and
 //!    loads it, runs so many transactions of one edge each, and scans all rows. It prints a line for each of the three:
 //!    its name, how many there were, and how many a second. Called with no words it does nothing.
-//! 2. Called with two more numbers, of edges and of readers, it sets so many of the graph's edges again and again instead,
-//!    in transactions of one edge each, and tells ten times what the store holds then. With a reader a transaction stays
-//!    open all the while.
-//! 3. Nothing is read, parsed or written while a part is timed.
+//! 2. Called with two more numbers, of edges and of readers, it sets so many of the graph's edges again and again
+//!    instead, in transactions of one edge each, and tells ten times what the store holds then. With a reader a
+//!    transaction stays open all the while.
+//! 3. Called with a seventh number that isn't 0, it draws the graph and the edges that are added by R-MAT.
+//! 4. Nothing is read, parsed or written while a part is timed.
 #![tactic(auto)]
 
 mod churn;
 mod edits;
 mod graph;
+mod rmat;
 mod turns;
 
-ghost use Rattle.std.specs.Prelude.{◌<◌};
+ghost use Rattle.std.specs.Prelude.{◌<◌, IfOk};
+ghost use Rattle.engine_bench.specs.Loadable.{IsLoadableGraph};
 
 use anyhow::Result;
 use churn::churn;
-use edits::{edits_of, settings_of};
-use graph::{loaded_engine, made_graph, read_engine};
+use edits::{Edit, edits_of, settings_of, spread_edits};
+use graph::{Graph, drawn_graph, loaded_engine, made_graph, read_engine};
+use rmat::drawn_ends;
 use std::alloc::Global;
 use std::env;
 use std::env::Env;
@@ -32,7 +36,7 @@ const MOST: u64 = 4_000_000;
 
 fn main(rt: HostRuntime) -> Result<()> {
     let alloc = rt.alloc();
-    let [vertices, edges, transactions, seed, again, readers] = numbers(&rt, alloc)?;
+    let [vertices, edges, transactions, seed, again, readers, skewed] = numbers(&rt, alloc)?;
     if vertices == 0 {
         return Ok(());
     }
@@ -46,16 +50,22 @@ fn main(rt: HostRuntime) -> Result<()> {
             readers > 0,
         )
     } else {
-        time(&rt, alloc, [vertices, edges, transactions], seed)
+        time(
+            &rt,
+            alloc,
+            [vertices, edges, transactions],
+            seed,
+            skewed > 0,
+        )
     }
 }
 
-/// The numbers behind the program's name, up to six; 0 for each that isn't there.
-fn numbers(rt: &(impl Env + Alloc<A = Global>), alloc: Global) -> Result<[u64; 6]> {
-    let mut numbers = [0; 6];
+/// The numbers behind the program's name, up to seven; 0 for each that isn't there.
+fn numbers(rt: &(impl Env + Alloc<A = Global>), alloc: Global) -> Result<[u64; 7]> {
+    let mut numbers = [0; 7];
     let mut count = 0;
     for word in env::args(rt)?.skip(1) {
-        if count < 6 {
+        if count < 7 {
             numbers[count] = word.parse()?;
             count += 1;
         }
@@ -63,17 +73,43 @@ fn numbers(rt: &(impl Env + Alloc<A = Global>), alloc: Global) -> Result<[u64; 6
     Ok(numbers)
 }
 
-/// Times the load, the transactions and the scan, and prints a line for each.
-fn time<R: Clock + Print>(rt: &R, alloc: Global, counts: [u64; 3], seed: u64) -> Result<()> {
+/// A graph and the changes of it that are timed.
+#[derive(Drop)]
+struct Workload {
+    graph: Graph,
+    edits: Vec<Edit>,
+}
+
+/// A graph and its edits, drawn with the same chance for each pair of vertices, or by R-MAT.
+fn make_workload(alloc: Global, counts: [u64; 3], seed: u64, is_skewed: bool) -> Result<Workload>
+    ensures { IfOk result (λ workload. IsLoadableGraph workload.graph) }
+{
     let [vertices, edges, transactions] = counts;
-    let graph = made_graph(alloc, seed, count_of(vertices), count_of(edges))?;
-    let edits = edits_of(
-        alloc,
-        &graph,
-        count_of(vertices),
-        count_of(transactions),
-        seed,
-    )?;
+    let vertices = count_of(vertices);
+    let edits = count_of(transactions);
+    if !is_skewed {
+        let graph = made_graph(alloc, seed, vertices, count_of(edges))?;
+        let edits = edits_of(alloc, &graph, vertices, edits, seed)?;
+        return Ok(Workload { graph, edits });
+    }
+    let added = u64::from(edits / 2).saturating_add(1);
+    let ends = drawn_ends(alloc, seed, vertices, edges.saturating_add(added))?;
+    let (edges, others) = ends.as_slice().split_at((edges as usize).min(ends.len()));
+    let graph = drawn_graph(alloc, vertices, edges)?;
+    let edits = spread_edits(alloc, edges, others, edits)?;
+    Ok(Workload { graph, edits })
+}
+
+/// Times the load, the transactions and the scan, and prints a line for each.
+fn time<R: Clock + Print>(
+    rt: &R,
+    alloc: Global,
+    counts: [u64; 3],
+    seed: u64,
+    is_skewed: bool,
+) -> Result<()> {
+    let [vertices, edges, _] = counts;
+    let Workload { graph, edits } = make_workload(alloc, counts, seed, is_skewed)?;
     let rows = vertices.saturating_add(edges.saturating_mul(2));
     let begun = Instant::now(rt)?;
     let mut engine = loaded_engine(alloc, &graph)?;
