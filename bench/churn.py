@@ -5,8 +5,9 @@
 
 A row has how many transactions were made so far, how many a second in the
 tenth of the run that ended, what the store holds then (undo records, retired
-leaves, leaves in use), and the memory of the whole process in MiB, as Linux
-counts its resident set when the line arrives.
+leaves, leaves in use), the memory of the whole process in MiB, as Linux
+counts its resident set when the line arrives, and what of it is left without
+the journal and the list of what the pass did, which a run keeps to its end.
 """
 
 import argparse
@@ -15,6 +16,11 @@ import subprocess
 import sys
 
 KIBIBYTES_IN_A_MEBIBYTE = 1024
+BYTES_IN_A_MEBIBYTE = 1024 * 1024
+
+# What a transaction of one write leaves in the journal (its commit and the
+# list of its write), in the list of its pass, and of its stamp.
+KEPT_BYTES = (48 + 48) + (24 + 48) + 16
 
 LINE = re.compile(
     r"churn (?P<made>\d+) (?P<rate>\d+) undo (?P<undo>\d+)"
@@ -40,10 +46,12 @@ def print_rows(command):
             if not found:
                 sys.exit(f"churn.py: not a line of engine_bench: {line!r}")
             made += int(found["made"])
+            memory = resident_mebibytes(process.pid)
+            rest = memory - made * KEPT_BYTES // BYTES_IN_A_MEBIBYTE
             print(
                 f"| {made:8d} | {found['rate']:>8} | {found['undo']:>8}"
                 f" | {found['retired']:>7} | {found['leaves']:>6}"
-                f" | {resident_mebibytes(process.pid):6d} |",
+                f" | {memory:6d} | {rest:6d} |",
                 flush=True,
             )
     if process.returncode != 0:

@@ -166,13 +166,14 @@ print_engine() {
 # Prints a table of 2,000,000 transactions that set the same 10,000 edges, at ten moments: without a transaction that stays
 # open, or with one.
 print_churn() {
-    echo "| Made     | a second |     Undo | Retired | Leaves | Memory |"
-    echo "|---------:|---------:|---------:|--------:|-------:|-------:|"
+    echo "| Made     | a second |     Undo | Retired | Leaves | Memory |   Rest |"
+    echo "|---------:|---------:|---------:|--------:|-------:|-------:|-------:|"
     "$top/bench/churn.py" -- "$engine" 100000 300000 2000000 "$seed" 10000 "$1" || fail
     echo
     echo "Transactions of one pass set 10,000 edges of a random graph of 100,000 vertices and 300,000 edges again and again,"
     echo "while $2. Undo, Retired and Leaves are the records, the retired leaves"
-    echo "and the leaves in use at that moment, Memory is that of the whole process in MiB, with the journal so far."
+    echo "and the leaves in use at that moment, Memory is that of the whole process in MiB, and Rest what of it is left"
+    echo "without the journal so far and the list of what the pass did."
     echo
 }
 
