@@ -4,7 +4,7 @@
 //! 2. The lists of free and of retired leaves have room for all leaves from the start.
 //! 3. A call that changes ranges lets go of the routes that are kept.
 //! 4. Only slots of live leaves hold keys. So a hint is right where the slot of the leaf that it names holds the key,
-//!    and the trie is asked only where it doesn't. Hints stay where ranges change.
+//!    and the trie is asked only where it doesn't. Where leaves come or go, hints are told of it.
 
 ghost use Rattle.std.specs.Prelude.{◌≡◌, ◌<◌, ◌≤◌, ◌+◌, [], ◌∷◌, ◌++◌, IfOk, IfSome, OnOk, OnErr, length, take, ◌-◌};
 ghost use Rattle.graph_model.specs.Rows.{end_key, first_key};
@@ -144,7 +144,7 @@ impl LeafIndex {
         let slots = new_slots(alloc, leaves)?;
         let idle = IdleLeaves::new(alloc, leaves)?;
         let recent = RecentRoutes::new();
-        let hints = Hints::new(alloc)?;
+        let hints = Hints::new(alloc, leaves)?;
         Ok(LeafIndex {
             trie,
             slots,
@@ -166,7 +166,7 @@ impl LeafIndex {
     pub fn leaf_at(&self, key: Key) -> LeafRange
         ensures { IsLeafRange key self.now.entries result }
     {
-        let leaf = leaf_of(&self.trie, &self.slots, self.hints.at(key), key);
+        let leaf = leaf_of(&self.trie, &self.slots, self.hints.of(key), key);
         range_of(&self.slots, leaf)
     }
 
@@ -195,12 +195,13 @@ impl LeafIndex {
         ensures others { self.new ≡ record self.old { entries = self.new.entries } }
         ensures err { OnErr result (self.new ≡ self.old) }
     {
-        let before = floor_of(&self.trie, &self.slots, low);
+        let before = leaf_of(&self.trie, &self.slots, self.hints.of(low), low);
         self.trie.insert(alloc, LeafStart { low, leaf })?;
         let high = self.slots[before as usize].high;
         self.slots[before as usize].high = low;
         self.slots[leaf as usize] = Slot { cuts, high };
         self.recent = RecentRoutes::new();
+        self.hints.note(&self.slots, low, leaf);
         Ok(())
     }
 
@@ -212,7 +213,7 @@ impl LeafIndex {
         ensures taken { (can : CanDrop low self.old.entries) → IsTaken self.new can.dropped.leaf }
         ensures others { self.new ≡ record self.old { entries = self.new.entries } }
     {
-        let dropped = floor_of(&self.trie, &self.slots, low);
+        let dropped = leaf_of(&self.trie, &self.slots, self.hints.of(low), low);
         let Some(before) = before_of(&self.trie, &self.slots, low) else {
             unreachable!();
         };
@@ -221,6 +222,7 @@ impl LeafIndex {
         self.slots[before as usize].high = high;
         self.slots[dropped as usize] = Slot { cuts, high: low };
         self.recent = RecentRoutes::new();
+        self.hints.note_change(&self.slots);
     }
 
     /// Gives the leaf that begins at the key these cuts, one for each of its segments.
@@ -230,7 +232,7 @@ impl LeafIndex {
             → self.new.entries ≡ with_cuts low cuts self.old.entries can }
         ensures others { self.new ≡ record self.old { entries = self.new.entries } }
     {
-        let leaf = floor_of(&self.trie, &self.slots, low);
+        let leaf = leaf_of(&self.trie, &self.slots, self.hints.of(low), low);
         let high = self.slots[leaf as usize].high;
         self.slots[leaf as usize] = Slot { cuts, high };
         self.recent = RecentRoutes::new();
@@ -292,27 +294,45 @@ impl LeafIndex {
     {
         match self.recent.find(key) {
             Some(route) => route,
-            None => self.find_route(key),
+            None => self.find_route(key, self.hints.of(key)),
         }
     }
 
-    /// Looks the key's route up and keeps it, so that `route` need not look for it nor for other keys of its cell. Its
-    /// leaf is hinted at from then on.
+    /// Looks the key's route up and keeps it, so that `route` need not look for it nor for other keys of its cell.
     pub fn keep_route(&mut self, key: Key)
         ensures { self.new ≡ self.old }
     {
+        let hint = self.hints.of(key);
+        self.keep_hinted(key, hint);
+    }
+
+    /// Does so for four keys, whose searches wait for memory together.
+    pub fn keep_routes(&mut self, keys: [Key; 4])
+        ensures { self.new ≡ self.old }
+    {
+        let hints = self.hints.of_four(keys);
+        self.hints.read_ahead(&self.slots, hints);
+        self.keep_hinted(keys[0], hints[0]);
+        self.keep_hinted(keys[1], hints[1]);
+        self.keep_hinted(keys[2], hints[2]);
+        self.keep_hinted(keys[3], hints[3]);
+    }
+
+    /// Looks the key's route up and keeps it, where its hint is known.
+    fn keep_hinted(&mut self, key: Key, hint: u32)
+        ensures { self.new ≡ self.old }
+    {
         if self.recent.find(key).is_none() {
-            let route = self.find_route(key);
-            self.recent.push(route);
-            self.hints.note(key, route.cell / 8);
+            let route = self.find_route(key, hint);
+            self.recent.push(key, route);
         }
     }
 
-    /// The key's route, by its hint or by the trie.
-    fn find_route(&self, key: Key) -> Route
+    /// The key's route, by the hint or by the trie.
+    fn find_route(&self, key: Key, hint: u32) -> Route
         ensures { IsRoute key self.now.entries result }
     {
-        let leaf = leaf_of(&self.trie, &self.slots, self.hints.at(key), key);
+        let leaf = leaf_of(&self.trie, &self.slots, hint, key);
         let slot = &self.slots[leaf as usize];
         let segment = segment_of(&slot.cuts, key);
         Route {

@@ -2,6 +2,7 @@
 //!
 //! 1. A route is right for all keys that it holds, as long as no range changes.
 //! 2. At most four are kept. A fifth takes the place of the oldest.
+//! 3. Beside each stands the key that it was looked up for, since that is mostly asked for again.
 
 ghost use Rattle.std.specs.Prelude.{ℕ, List, IfSome};
 ghost use Rattle.graph_model.specs.declared.row.Key.{Key};
@@ -18,6 +19,16 @@ pub struct RecentRoutes {
     pub second: Route,
     pub third: Route,
     pub fourth: Route,
+    pub asked: AskedKeys,
+}
+
+/// The keys that the four routes were looked up for, in the same order. Contracts see nothing of them.
+#[derive(Clone, Copy, Debug, PartialEq, Eq)]
+pub struct AskedKeys {
+    pub first: Key,
+    pub second: Key,
+    pub third: Key,
+    pub fourth: Key,
 }
 
 impl RecentRoutes {
@@ -35,11 +46,35 @@ impl RecentRoutes {
             second: empty,
             third: empty,
             fourth: empty,
+            asked: AskedKeys {
+                first: Key::END,
+                second: Key::END,
+                third: Key::END,
+                fourth: Key::END,
+            },
         }
     }
 
     /// A kept route that holds the key, if there is one.
     pub fn find(&self, key: Key) -> Option<Route>
+        ensures { (entries : List Entry) → AreRightRoutes entries self.now
+            → IfSome result (IsRoute key entries) }
+    {
+        if key == self.asked.first && self.first.holds(key) {
+            Some(self.first)
+        } else if key == self.asked.second && self.second.holds(key) {
+            Some(self.second)
+        } else if key == self.asked.third && self.third.holds(key) {
+            Some(self.third)
+        } else if key == self.asked.fourth && self.fourth.holds(key) {
+            Some(self.fourth)
+        } else {
+            self.find_by_range(key)
+        }
+    }
+
+    /// The same, by the ranges alone.
+    fn find_by_range(&self, key: Key) -> Option<Route>
         ensures { (entries : List Entry) → AreRightRoutes entries self.now
             → IfSome result (IsRoute key entries) }
     {
@@ -56,8 +91,8 @@ impl RecentRoutes {
         }
     }
 
-    /// Keeps one more, in place of the oldest.
-    pub fn push(&mut self, route: Route)
+    /// Keeps one more, which was looked up for the key, in place of the oldest.
+    pub fn push(&mut self, key: Key, route: Route)
         ensures { (entries : List Entry) → AreRightRoutes entries self.old → IsRightRoute entries route
             → AreRightRoutes entries self.new }
     {
@@ -65,5 +100,11 @@ impl RecentRoutes {
         self.third = self.second;
         self.second = self.first;
         self.first = route;
+        self.asked = AskedKeys {
+            first: key,
+            second: self.asked.first,
+            third: self.asked.second,
+            fourth: self.asked.third,
+        };
     }
 }
