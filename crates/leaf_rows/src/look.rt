@@ -28,9 +28,11 @@ impl LeafRows {
         requires target_within { v ≤ MAX_ID }
         ensures { self.new ≡ self.old }
     {
-        self.store.look_up(Key::of_vertex(u));
-        self.store.look_up(Key::of_arc(u, v));
-        self.store.look_up(Key::of_vertex(v));
-        self.store.look_up(Key::of_arc(v, u));
+        self.store.look_up_four([
+            Key::of_vertex(u),
+            Key::of_arc(u, v),
+            Key::of_vertex(v),
+            Key::of_arc(v, u),
+        ]);
     }
 }

@@ -173,6 +173,7 @@ impl LeafStore {
             index,
             leaves: table,
             watch,
+            ahead: 0,
         })
     }
 }

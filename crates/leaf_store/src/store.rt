@@ -7,6 +7,7 @@ ghost use Rattle.graph_model.specs.Rows.{is_below, is_between, end_key};
 ghost use Rattle.leaf_store.specs.Leaves.{AreLeaves, CellsAreApart, KeysHaveCells, cell_at, room_at};
 ghost use Rattle.leaf_store.specs.Changes.{AreFilled, AreNew, AreRising, IsFillRefusal, IsRoomRefusal, MovesRows};
 
+use crate::ahead::sum_ahead;
 use crate::look::cuts_of;
 use crate::place::place_of;
 use crate::table::{empty_table, put_leaf};
@@ -26,6 +27,8 @@ pub struct LeafStore {
     pub(crate) index: LeafIndex,
     pub(crate) leaves: Vec<Option<Box<Leaf>>>,
     pub(crate) watch: Watch,
+    /// What was read ahead, so that it is read.
+    pub(crate) ahead: u64,
 }
 
 impl Model for LeafStore {
@@ -61,6 +64,7 @@ impl LeafStore {
             index,
             leaves: table,
             watch,
+            ahead: 0,
         })
     }
 
@@ -88,6 +92,20 @@ impl LeafStore {
         ensures { self.new ≡ self.old }
     {
         self.index.keep_route(key);
+    }
+
+    /// Looks the cells of four keys up, as for one, and reads ahead what the calls to come will read of them.
+    pub fn look_up_four(&mut self, keys: [Key; 4])
+        ensures { self.new ≡ self.old }
+    {
+        self.index.keep_routes(keys);
+        let places = [
+            place_of(&self.index, keys[0]),
+            place_of(&self.index, keys[1]),
+            place_of(&self.index, keys[2]),
+            place_of(&self.index, keys[3]),
+        ];
+        self.ahead = sum_ahead(&self.leaves, places);
     }
 
     /// Lends the cell whose fence keys hold the key.

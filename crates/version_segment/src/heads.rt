@@ -89,6 +89,15 @@ impl HeadMap {
         Ok(())
     }
 
+    /// The sum of the places of the first changed row and of one in the middle.
+    pub(crate) fn sum_ahead(&self) -> usize {
+        let rows = self.rows.as_slice();
+        match (rows.first(), rows.get(rows.len() / 2)) {
+            (Some(first), Some(middle)) => first.place().wrapping_add(middle.place()),
+            _ => 0,
+        }
+    }
+
     /// The heads of the row at a place.
     pub(crate) fn get(&self, place: usize) -> Heads
         ensures { result ≡ heads_placed self.now.entries place }

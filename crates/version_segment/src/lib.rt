@@ -6,6 +6,7 @@
 //! 3. A row without value, records and touches isn't there.
 #![tactic(auto)]
 
+mod ahead;
 mod buffer;
 mod checks;
 mod fill;

@@ -115,6 +115,11 @@ impl RowTable {
         self.heads.get(place)
     }
 
+    /// The sum of what is read ahead of the changed rows.
+    pub(crate) fn sum_ahead(&self) -> usize {
+        self.heads.sum_ahead()
+    }
+
     /// Makes room for so many more changed rows. Takes no memory where there is room already.
     pub(crate) fn reserve(&mut self, rows: usize) -> Result<(), NoMemory>
         ensures ok { OnOk result (rows ≤ self.new.heads.spare) }
