@@ -12,7 +12,7 @@ impl VersionSegment {
     pub fn has_row(&self, key: Key) -> bool
         ensures { result ≡ has_row self.now key }
     {
-        match find_row(&self.rows, key) {
+        match self.rows.segment().find(key) {
             Ok(_) => true,
             Err(_) => false,
         }
