@@ -9,6 +9,5 @@ pub mod WriteLemmas
 pub mod NewLemmas
 pub mod LoadLemmas
 pub mod SweepLemmas
-pub mod TestLemmas
 pub mod FreeLemmas
 pub mod NewestLemmas
