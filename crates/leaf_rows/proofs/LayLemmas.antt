@@ -170,6 +170,9 @@ arc_changes old new u v change one q = one.contents q ∙ go (same_key q (arc_ke
     go true = refl
     go false = refl
 
+pub other_end : (u v : ℕ) → (u == v) ≡ false → same_key (vertex_key v) (vertex_key u) ≡ false
+other_end u v apart = ap (λ t. t && true) (eq_symm v u ∙ apart)
+
 -- the ends of an edge have two keys
 pub ends_apart : (u v : ℕ) (q : Key) → (u == v) ≡ false → (same_key q (vertex_key u) && same_key q (vertex_key v)) ≡ false
 ends_apart u v q apart = go (same_key q (vertex_key u)) refl

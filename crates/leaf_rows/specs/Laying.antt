@@ -8,6 +8,7 @@ use Rattle.graph_model.specs.declared.write.Write.{Write}
 use Rattle.graph_model.specs.declared.write.Write.TheVariants.{AddVertex, DropVertex, AddEdge, SetEdge, DropEdge}
 use Rattle.graph_model.specs.Effects.{keys_of}
 use Rattle.graph_model.specs.Rows.{is_between, vertex_key}
+use Rattle.graph_model.specs.Transactions.{has_name}
 use Rattle.txn_manager.specs.declared.config.RoomRefusal.{RoomRefusal}
 use Rattle.txn_manager.specs.declared.config.RoomRefusal.TheVariants as refusals
 use Rattle.store_model.specs.Versions.{prune}
@@ -33,6 +34,10 @@ MayLay s (DropVertex v) = Unit {0}
 MayLay s (AddEdge u v weight) = HasEnds s u v
 MayLay s (SetEdge u v weight) = (u == v) ≡ false
 MayLay s (DropEdge u v) = (u == v) ≡ false
+
+-- the transaction has touched no row
+abbrev pub HasTouchedNone : Leaves → TxnName → Type 0
+HasTouchedNone s by = (k : Key) → has_name (contents_of s k).touches by ≡ false
 
 -- how many of these keys have no row and share the key's cell
 abbrev pub wanted : Leaves → Key → List Key → ℕ

@@ -15,11 +15,13 @@ ghost use Rattle.graph_model.specs.Rows.{vertex_key};
 ghost use Rattle.store_model.specs.Layers.{after_write};
 ghost use Rattle.store_model.specs.Versions.{write};
 ghost use Rattle.leaf_store.specs.Leaves.{contents_of, has_row, spare_at, weight};
-ghost use Rattle.leaf_rows.specs.Laying.{HasEnds, HasRoomFor, MayLay, Stays, missing};
+ghost use Rattle.leaf_rows.specs.Laying.{HasEnds, HasRoomFor, HasTouchedNone, MayLay, Stays, missing};
+ghost use Rattle.undo_chain.specs.declared.touched.Touched.TheVariants.{Never};
 ghost use Rattle.leaf_rows.specs.Steps.{ChangesRow, HasRecordRoom, HaveRoom, Reserves};
 
 use crate::rows::LeafRows;
 use graph_model::{Key, Kind, NoMemory, TxnName, Write};
+use undo_chain::Touched;
 
 impl LeafRows {
     /// Makes room for the records of an edge's rows.
@@ -100,8 +102,9 @@ impl LeafRows {
     }
 
     /// Lays the rows and the touches of an edge that is added.
-    fn put_edge(&mut self, kind: Kind, by: TxnName, u: u64, v: u64, value: u64)
+    fn put_edge(&mut self, kind: Kind, by: TxnName, u: u64, v: u64, value: u64, earlier: Touched)
         requires within { IsWithinLimits (writes.AddEdge u v value) }
+        requires never { earlier ≡ Never → HasTouchedNone self.old by }
         requires ends { HasEnds self.old u v }
         requires spare { HasRecordRoom self.old kind (writes.AddEdge u v value) }
         requires room { HaveRoom self.old (arc_keys kind u v) }
@@ -111,14 +114,15 @@ impl LeafRows {
         ensures weight { weight self.new
             ≤ weight self.old + count_by (λ k. not (has_row self.old k)) (arc_keys kind u v) }
     {
-        self.touch(Key::of_vertex(u), by);
-        self.touch(Key::of_vertex(v), by);
+        self.touch(Key::of_vertex(u), by, earlier);
+        self.touch(Key::of_vertex(v), by, earlier);
         self.put_arcs(kind, by, u, v, Some(value));
     }
 
     /// Lays a write, for all of whose records there is room.
-    fn put_write(&mut self, kind: Kind, by: TxnName, write: Write)
+    fn put_write(&mut self, kind: Kind, by: TxnName, write: Write, earlier: Touched)
         requires within { IsWithinLimits write }
+        requires never { earlier ≡ Never → HasTouchedNone self.old by }
         requires may { MayLay self.old write }
         requires spare { HasRecordRoom self.old kind write }
         requires room { HasRoomFor self.old kind write }
@@ -129,15 +133,22 @@ impl LeafRows {
         match write {
             Write::AddVertex { v } => self.put_vertex(by, v, Some(0)),
             Write::DropVertex { v } => self.put_vertex(by, v, None),
-            Write::AddEdge { u, v, weight } => self.put_edge(kind, by, u, v, weight),
+            Write::AddEdge { u, v, weight } => self.put_edge(kind, by, u, v, weight, earlier),
             Write::SetEdge { u, v, weight } => self.put_arcs(kind, by, u, v, Some(weight)),
             Write::DropEdge { u, v } => self.put_arcs(kind, by, u, v, None),
         }
     }
 
     /// Lays a write in its rows, for which there is room.
-    pub fn lay(&mut self, kind: Kind, by: TxnName, write: Write) -> Result<(), NoMemory>
+    pub fn lay(
+        &mut self,
+        kind: Kind,
+        by: TxnName,
+        write: Write,
+        earlier: Touched,
+    ) -> Result<(), NoMemory>
         requires within { IsWithinLimits write }
+        requires never { earlier ≡ Never → HasTouchedNone self.old by }
         requires may { MayLay self.old write }
         requires room { HasRoomFor self.old kind write }
         ensures ok { OnOk result ((q : Key) → contents_of self.new q
@@ -147,7 +158,7 @@ impl LeafRows {
         ensures err { OnErr result (Stays self.old self.new) }
     {
         self.reserve_write(kind, write)?;
-        self.put_write(kind, by, write);
+        self.put_write(kind, by, write, earlier);
         Ok(())
     }
 }

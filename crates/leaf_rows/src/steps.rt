@@ -5,13 +5,16 @@
 
 ghost use Rattle.std.specs.Prelude.{◌≡◌, ◌<◌, ◌≤◌, true, false, OnOk};
 ghost use Rattle.graph_model.specs.Rows.{is_below, end_key};
+ghost use Rattle.graph_model.specs.Transactions.{has_name};
 ghost use Rattle.store_model.specs.Versions.{write, undo, touch, untouch};
-ghost use Rattle.leaf_store.specs.Leaves.{has_row, room_at, spare_at, weight};
+ghost use Rattle.leaf_store.specs.Leaves.{contents_of, has_row, room_at, spare_at, weight};
 ghost use Rattle.leaf_store.specs.Changes.{UsesOneRecord};
+ghost use Rattle.undo_chain.specs.declared.touched.Touched.TheVariants.{Never};
 ghost use Rattle.leaf_rows.specs.Steps.{ChangesRow, FillsPlace, KeepsPlaces, Reserves};
 
 use crate::rows::LeafRows;
 use graph_model::{Key, NoMemory, TxnName};
+use undo_chain::Touched;
 
 impl LeafRows {
     /// Makes room in a key's cell for four records.
@@ -49,9 +52,10 @@ impl LeafRows {
     }
 
     /// Notes that a transaction adds an edge at the row's vertex.
-    pub(crate) fn touch(&mut self, key: Key, by: TxnName)
+    pub(crate) fn touch(&mut self, key: Key, by: TxnName, earlier: Touched)
         requires within { is_below key end_key ≡ true }
         requires row { has_row self.old key ≡ true }
+        requires never { earlier ≡ Never → has_name (contents_of self.old key).touches by ≡ false }
         requires spare { 0 < spare_at self.old key }
         ensures changed { ChangesRow self.old self.new key (touch by) }
         ensures places { KeepsPlaces self.old self.new }
@@ -59,7 +63,7 @@ impl LeafRows {
         ensures spare { UsesOneRecord self.old self.new }
     {
         self.store.limit();
-        self.store.touch(key, by);
+        self.store.touch(key, by, earlier);
         self.store.limit();
     }
 

@@ -7,8 +7,9 @@
 ghost use Rattle.std.specs.Prelude.{◌≡◌, ◌<◌, ◌≤◌, true, false, OnOk};
 ghost use Rattle.graph_model.specs.Rows.{is_below, end_key};
 ghost use Rattle.undo_chain.specs.States.{Grows};
+ghost use Rattle.undo_chain.specs.declared.touched.Touched.TheVariants.{Never};
 ghost use Rattle.version_segment.specs.Checks.{AreNamedRows};
-ghost use Rattle.version_segment.specs.Rows.{written, undone, touched, untouched};
+ghost use Rattle.version_segment.specs.Rows.{has_record, written, undone, touched, untouched};
 ghost use Rattle.leaf_store.specs.Leaves.{cell_at, has_row, room_at, spare_at, versions_of};
 ghost use Rattle.leaf_store.specs.Changes.{ChangesVersions, KeepsCells, KeepsRecordRoom, PrunesCell, UsesOneRecord};
 
@@ -16,7 +17,7 @@ use crate::place::place_of;
 use crate::store::{LeafStore, Pruned};
 use crate::work::watch_change;
 use graph_model::{Key, NoMemory, TxnName};
-use undo_chain::States;
+use undo_chain::{States, Touched};
 
 impl LeafStore {
     /// Makes room in the key's cell for four writes or touches.
@@ -80,9 +81,10 @@ impl LeafStore {
     }
 
     /// Notes that a transaction adds an edge at the row's vertex.
-    pub fn touch(&mut self, key: Key, by: TxnName)
+    pub fn touch(&mut self, key: Key, by: TxnName, earlier: Touched)
         requires within { is_below key end_key ≡ true }
         requires row { has_row self.old key ≡ true }
+        requires never { earlier ≡ Never → has_record by (versions_of self.old key).touches ≡ false }
         requires spare { 0 < spare_at self.old key }
         ensures touched { ChangesVersions self.old self.new key (touched by (versions_of self.old key)) }
         ensures spare { UsesOneRecord self.old self.new }
@@ -92,7 +94,7 @@ impl LeafStore {
             Some(leaf) => {
                 let segment = &mut leaf.segments[place.segment];
                 let before = segment.len();
-                segment.touch(key, by);
+                segment.touch(key, by, earlier);
                 let rows = segment.len();
                 (before, rows)
             }

@@ -1,6 +1,6 @@
 -- What the engine keeps through each call.
-use Rattle.std.proofs.Common.{◌≡◌, ℕ, ◌+◌, ◌-◌, ◌≤◌, ◌<◌, List, [], ◌∷◌, ◌++◌, length, refl, sym, ◌∙◌, ap, subst, cond, arith, inr}
-use Rattle.std.specs.Prelude.{Bool, true, false, ◌==◌, ◌⊎◌, Option, Some, None, is_some, option_map, unwrap_or}
+use Rattle.std.proofs.Common.{◌≡◌, ℕ, ◌+◌, ◌-◌, ◌≤◌, ◌<◌, List, [], ◌∷◌, ◌++◌, drop, length, refl, sym, ◌∙◌, ap, subst, cond, arith, inr}
+use Rattle.std.specs.Prelude.{Bool, true, false, ◌==◌, ◌⊎◌, ◌||◌, Option, Some, None, is_some, option_map, unwrap_or}
 use Rattle.std.specs.List.{AllByRecursion}
 use Rattle.std.proofs.lemmas.Bool.Decides.{nat_tests}
 use Rattle.std.proofs.lemmas.List.{length-set}
@@ -13,11 +13,13 @@ use Rattle.graph_model.specs.Inserted.{inserted_by}
 use Rattle.graph_model.specs.OwnerCalls.{PassState, Core, no_pass, pass_at, current, with_current, account_here, name_here, running_of, open_txns, inserted_here, begun_pass, written_pass, ended_pass, conflict_here}
 use Rattle.graph_model.specs.OwnerLaws.{IsChosen}
 use Rattle.graph_model.specs.Refused.{refused, IsWithinLimits}
-use Rattle.graph_model.specs.Transactions.{Running, Changes, HasNotCommitted, own_of, writes_of_running, commit_of, stamp_in}
+use Rattle.graph_model.specs.Transactions.{Running, Changes, HasNotCommitted, has_name, own_of, writes_of_running, commit_of, stamp_in}
+use Rattle.graph_model.proofs.PlaceLemmas.{get_drop}
 use Rattle.txn_manager.specs.Manager.{Manager, PassTxns, txns_of, opened, ended, open_start, committed}
 use Rattle.store_model.specs.Check.{check, looked}
-use Rattle.store_model.specs.Layers.{after_write, undone}
-use Rattle.store_model.specs.Store.{IsPlainStore, MeetsNobody, touching_of}
+use Rattle.store_model.specs.Layers.{after_write, touched_in, undone}
+use Rattle.store_model.specs.Store.{HasRow, IsPlainStore, MeetsNobody, touching_of}
+use Rattle.store_model.proofs.WriterLemmas.{committed_none}
 use Rattle.store_model.proofs.ConflictLemmas.{check_is_conflict, check_allows}
 use Rattle.store_model.proofs.OwnerLemmas.{owner_moved, owner_begun, owner_written, owner_committed, owner_aborted}
 use Rattle.store_model.proofs.ValueLemmas.{value_of_view}
@@ -28,7 +30,7 @@ use Rattle.leaf_rows.specs.declared.reader.Reader.{Reader}
 use Rattle.leaf_rows.specs.Readers.{Shows, cause_for}
 use Rattle.leaf_store.specs.Leaves.{Leaves, contents_of, weight}
 use Rattle.teseo_core.specs.Keeping.{running_in, txns_in, AreTied, IsKept, NoneOpen, newest_graph}
-use Rattle.leaf_rows.specs.Laying.{KeepsContents}
+use Rattle.leaf_rows.specs.Laying.{HasTouchedNone, KeepsContents}
 use Rattle.leaf_rows.specs.Loaded.{AreSettled}
 use Rattle.teseo_core.proofs.CountLemmas.{part, total_set, part_begun, part_written, written_length}
 use Rattle.teseo_core.proofs.OpenLemmas.{pass_set, here_changes, next_changes, same_running, tied_set, here_running, here_closed, same_open, here_listed}
@@ -62,6 +64,27 @@ module _ (core : Core) (m : Manager) (rows : Leaves) (is : IsKept core m rows) w
     where
       journal : r.manager.now.journal ≡ core.journal
       journal = ap (λ (m : Manager). m.journal) reader.manager ∙ is.tied.journal
+
+  -- without writes it has touched no row
+  pub touched_none : (r : Reader) (start : ℕ) → (current core).start ≡ Some start → IsReader r start → (current core).own ≡ [] → HasTouchedNone rows r.by
+  touched_none r start opened reader none k =
+      ap (has_name (contents_of rows k).touches) reader.by ∙ held.row.touched by ∙ (λ i. idle i || behind i)
+    where
+      by : TxnName
+      by = name_here core
+
+      here : running_in core by ≡ Some (record { start = start; writes = (current core).own })
+      here = here_running core start opened
+
+      held : HasRow core.kind core.journal (own_of (running_in core)) (touching_of (running_in core)) is.horizon k (contents_of rows k)
+      held = is.store.rows k
+
+      idle : touching_of (running_in core) by k ≡ false
+      idle = ap (λ t. any_touches (writes_of_running t) k) here ∙ ap (λ ws. any_touches ws k) none
+
+      behind : touched_in (drop held.since core.journal) by k ≡ false
+      behind = committed_none (λ ws. any_touches ws k) (drop held.since core.journal) by
+          (λ i c at. (is.store.transactions.each by (record { start = start; writes = (current core).own }) here).unnamed (held.since + i) c (get_drop held.since core.journal i c at))
 
   -- it began within the journal
   pub reader_started : (r : Reader) (start : ℕ) → (current core).start ≡ Some start → IsReader r start → r.start ≤ length r.manager.now.journal

@@ -5,6 +5,7 @@
 //! 2. An open transaction has its place among the ended ones, so its end takes no memory.
 
 ghost use Rattle.std.specs.Prelude.{◌≡◌, ◌<◌, [], ◌∷◌, None, IsSome, true, OnOk};
+ghost use Rattle.undo_chain.specs.declared.touched.Touched.TheVariants.{Never};
 ghost use Rattle.teseo_core.specs.Passes.{new_pass, with_begin, with_one_write, with_load, with_end, Notes};
 
 use graph_model::{Begun, Cause, NoMemory, Refusal, RoomyWrites, TxnName, Write, Writes};
@@ -12,6 +13,7 @@ use items::RoomyItems;
 use std::alloc::Global;
 use std::marker::Model;
 use std::mem::replace;
+use undo_chain::Touched;
 
 /// A write that was refused since another transaction was open.
 #[derive(Drop)]
@@ -95,6 +97,17 @@ impl Pass {
         ensures { result ≡ self.now.state.begun }
     {
         self.begun
+    }
+
+    /// What is known of touches by the open transaction: without writes it has made none.
+    pub fn earlier_touches(&self) -> Touched
+        ensures { result ≡ Never → self.now.state.own ≡ [] }
+    {
+        if self.own.is_empty() {
+            Touched::Never
+        } else {
+            Touched::Maybe
+        }
     }
 
     /// Makes room for one more transaction.

@@ -6,7 +6,8 @@ ghost use Rattle.graph_model.specs.OwnerLaws.{DidWrite};
 ghost use Rattle.graph_model.specs.Refused.{IsWithinLimits};
 ghost use Rattle.graph_model.specs.Rows.{is_below, end_key};
 ghost use Rattle.leaf_store.specs.Leaves.{room_at};
-ghost use Rattle.leaf_rows.specs.Laying.{HasRoomFor, KeepsContents, MayLay, Stays};
+ghost use Rattle.leaf_rows.specs.Laying.{HasRoomFor, HasTouchedNone, KeepsContents, MayLay, Stays};
+ghost use Rattle.undo_chain.specs.declared.touched.Touched.TheVariants.{Never};
 ghost use Rattle.teseo_core.specs.Freeing.{RefusesRoom};
 ghost use Rattle.teseo_core.specs.Keeping.{KeepsService};
 ghost use Rattle.teseo_core.specs.Passes.{Laid, Puts};
@@ -17,6 +18,7 @@ use crate::store::{Core, reader_of};
 use graph_model::{Key, Kind, NoMemory, Refusal, TxnName, Write};
 use leaf_rows::LeafRows;
 use txn_manager::RoomRefusal;
+use undo_chain::Touched;
 
 impl Core {
     /// Makes room for so many rows in a key's cell, which has too little: spreads the smallest window round it that has
@@ -74,6 +76,7 @@ impl Core {
             Err(refusal) => return Err(self.passes[pass].note_refusal(start, write, refusal)),
         }
         let until = free_bound(&self.manager);
+        let earlier = self.passes[pass].earlier_touches();
         put(
             &mut self.rows,
             &mut self.passes[pass],
@@ -81,6 +84,7 @@ impl Core {
             by,
             write,
             until,
+            earlier,
         )
     }
 }
@@ -93,10 +97,12 @@ fn put(
     by: TxnName,
     write: Write,
     until: u64,
+    earlier: Touched,
 ) -> Result<(), Refusal>
     requires current { IsSome pass.old.state.start }
     requires within { IsWithinLimits write }
     requires may { MayLay rows.old write }
+    requires never { earlier ≡ Never → HasTouchedNone rows.old by }
     ensures { Puts kind by write until rows.old rows.new pass.old.state pass.new.state result }
 {
     match rows.make_room_or_free(kind, write, until) {
@@ -107,7 +113,7 @@ fn put(
         }
         Err(RoomRefusal::NoMemory) => return Err(Refusal::NoMemory),
     }
-    match lay(rows, pass, kind, by, write) {
+    match lay(rows, pass, kind, by, write, earlier) {
         Ok(()) => Ok(()),
         Err(NoMemory) => Err(Refusal::NoMemory),
     }
@@ -120,16 +126,18 @@ fn lay(
     kind: Kind,
     by: TxnName,
     write: Write,
+    earlier: Touched,
 ) -> Result<(), NoMemory>
     requires current { IsSome pass.old.state.start }
     requires within { IsWithinLimits write }
     requires may { MayLay rows.old write }
+    requires never { earlier ≡ Never → HasTouchedNone rows.old by }
     requires room { HasRoomFor rows.old kind write }
     ensures ok { OnOk result (Laid kind by write rows.old rows.new pass.old.state pass.new.state) }
     ensures err { OnErr result (Stays rows.old rows.new × (pass.new.state ≡ pass.old.state)) }
 {
     pass.reserve_write()?;
-    rows.lay(kind, by, write)?;
+    rows.lay(kind, by, write, earlier)?;
     pass.note(write);
     Ok(())
 }

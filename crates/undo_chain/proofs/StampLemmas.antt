@@ -1,5 +1,5 @@
 -- Stamps written into the records of one list.
-use Rattle.std.proofs.Common.{◌≡◌, ◌≢◌, ◌⊎◌, ℕ, zero, suc, ◌<◌, List, [], ◌∷◌, ◌++◌, length, map, nat_eq, refl, sym, ◌∙◌, ap, subst, arith, inl, inr, Some, None, set, get_or-set_same, get_or-set_other}
+use Rattle.std.proofs.Common.{◌≡◌, ◌≢◌, ◌⊎◌, ℕ, zero, suc, ◌<◌, List, [], ◌∷◌, ◌++◌, length, map, nat_eq, refl, sym, ◌∙◌, ap, subst, arith, inl, inr, Some, None}
 use Rattle.std.specs.Prelude.{Option, Bool, true, false, cond, ◌||◌, IsSome}
 use Rattle.std.specs.Option.{option_map}
 use Rattle.std.specs.List.{list_any}
@@ -13,7 +13,7 @@ use Rattle.undo_chain.specs.Records.{stamped_by}
 use Rattle.undo_chain.specs.Chains.{ChainMap, record_at, unlinked, linked, walked, list_at, IsUnlinked, IsHead, IsHeadOf, AreApart, StaysApart, ChangesOneList}
 use Rattle.undo_chain.specs.Links.{IsStep, IsPath, AreLinked}
 use Rattle.undo_chain.specs.Walks.{with_stamp, stamped_undo, Restamps, IsStamped}
-use Rattle.undo_chain.proofs.LinkLemmas.{there_below, step_list, no_list, path_length, path_list, head_path, some_is}
+use Rattle.undo_chain.proofs.LinkLemmas.{step_list, no_list, path_length, path_list, head_path, some_is}
 use Rattle.undo_chain.proofs.ChainLemmas.{record_there, is_there}
 
 -- ---- the same links

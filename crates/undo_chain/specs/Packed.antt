@@ -1,5 +1,5 @@
 -- What the parts of a packed record stand for.
-use Rattle.std.specs.Prelude.{◌≡◌, ℕ, zero, suc, ◌+◌, ◌*◌, ◌≤◌, Bool, cond, Option, Some, None}
+use Rattle.std.specs.Prelude.{ℕ, zero, suc, ◌+◌, ◌*◌, ◌≤◌, Bool, cond, Option, Some, None}
 use Rattle.std.specs.Option.{unwrap_or}
 use Rattle.graph_model.specs.declared.journal.TxnName.{TxnName}
 use Rattle.undo_chain.specs.declared.undo.Undo.{Undo}

@@ -3,16 +3,18 @@
 //! 1. Each link leads to a record, no two links lead to one, and each list ends.
 //! 2. A list begins where no link leads. So no two lists share a record.
 
-ghost use Rattle.std.specs.Prelude.{◌≡◌, ◌+◌, ◌≤◌, ◌<◌, ◌==◌, true, [], ◌∷◌, length, map, Some, None, OnOk, OnErr, IfOk, IsOk, IsSome};
+ghost use Rattle.std.specs.Prelude.{◌≡◌, ◌+◌, ◌≤◌, ◌<◌, ◌==◌, true, false, [], ◌∷◌, length, map, Some, None, OnOk, OnErr, IfOk, IsOk, IsSome};
 ghost use Rattle.std.specs.List.{list_any};
 ghost use Rattle.undo_chain.specs.Records.{new_record, newest_of, value_of, TakesNewest, is_settled, has_writer, with_touch, without_touch, open_touches, unsettled_front, stamped_by, upside_down};
 ghost use Rattle.undo_chain.specs.States.{Grows, AreNamed};
 ghost use Rattle.undo_chain.specs.Walks.{Restamps};
+ghost use Rattle.undo_chain.specs.declared.touched.Touched.TheVariants.{Never};
 ghost use Rattle.undo_chain.specs.Chains.{ChainMap, record_at, unlinked, list_at, IsHead, IsHeadOf, IsLinkOf, AreApart, ChangesOneList, ChangesTwoLists, HandsOver};
 
 use crate::link::Link;
 use crate::slots::Slots;
 use crate::states::{Snapshot, States};
+use crate::touched::Touched;
 use crate::undo::Undo;
 use graph_model::{NoMemory, State, TxnName};
 use std::alloc::Global;
@@ -178,16 +180,22 @@ impl Chains {
     }
 
     /// Puts a touch among those of a list, unless the writer has one there, and answers the head.
-    pub fn touch(&mut self, head: Option<usize>, by: TxnName) -> Result<usize, NoMemory>
-        requires { IsHeadOf self.old head }
+    pub fn touch(
+        &mut self,
+        head: Option<usize>,
+        by: TxnName,
+        earlier: Touched,
+    ) -> Result<usize, NoMemory>
+        requires head { IsHeadOf self.old head }
+        requires never { earlier ≡ Never → has_writer by (list_at self.old head) ≡ false }
         ensures ok { IfOk result (λ key. list_at self.new (Some key) ≡ with_touch by (list_at self.old head)) }
         ensures others { IfOk result (λ key. ChangesOneList self.old self.new head (Some key)) }
         ensures err { OnErr result (self.new.slots ≡ self.old.slots) }
         ensures room { 0 < self.old.spare → IsOk result }
         ensures spare { self.old.spare ≤ self.new.spare + 1 }
     {
-        match head {
-            Some(first) if self.has_writer(head, by) => Ok(first),
+        match (head, earlier) {
+            (Some(first), Touched::Maybe) if self.has_writer(head, by) => Ok(first),
             _ => self.push(head, by, None),
         }
     }

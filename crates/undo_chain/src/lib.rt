@@ -11,10 +11,12 @@ mod link;
 mod packed;
 mod slots;
 mod states;
+mod touched;
 mod undo;
 
 pub use chains::Chains;
 pub use laws::lists_are_versions;
 pub use link::{Link, MOST_RECORDS};
 pub use states::{Snapshot, States};
+pub use touched::Touched;
 pub use undo::Undo;

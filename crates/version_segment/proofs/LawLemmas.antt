@@ -40,7 +40,7 @@ undone_is_undo vs = ap (λ ps. record { pairs = ps; oldest = vs.oldest; touches 
     go [] = refl
     go (p ∷ ps) = refl
 
-same_record : (by : TxnName) (ps : List Stamped) → has_record by ps ≡ has_name (map (λ p. p.by) ps) by
+pub same_record : (by : TxnName) (ps : List Stamped) → has_record by ps ≡ has_name (map (λ p. p.by) ps) by
 same_record by [] = refl
 same_record by (p ∷ ps) = λ i. name_symm p.by by i || same_record by ps i
 

@@ -9,7 +9,8 @@ ghost use Rattle.version_segment.specs.Checks.{IsNamed, AreNamedRows, IsChecked,
 ghost use Rattle.undo_chain.specs.Records.{new_record};
 ghost use Rattle.undo_chain.specs.Chains.{list_at, IsHeadOf, ChangesOneList};
 ghost use Rattle.undo_chain.specs.States.{Grows};
-ghost use Rattle.version_segment.specs.Rows.{versions_at, has_row, records_in, rows_at, all_records, PrunesRows, ChangesKey, IsSegment, IsSameSegment, written, undone, touched, untouched, newest_writer};
+ghost use Rattle.undo_chain.specs.declared.touched.Touched.TheVariants.{Never};
+ghost use Rattle.version_segment.specs.Rows.{versions_at, has_row, has_record, records_in, rows_at, all_records, PrunesRows, ChangesKey, IsSegment, IsSameSegment, written, undone, touched, untouched, newest_writer};
 
 use crate::buffer::Rows32;
 use crate::checks::{combined, drop_cause, newest_cause, touch_cause};
@@ -18,7 +19,7 @@ use crate::rows::RowTable;
 use graph_model::{Cause, Key, NoMemory, Row, SEGMENT_ROWS, TxnName};
 use std::alloc::Global;
 use std::marker::Model;
-use undo_chain::{Chains, Snapshot, States};
+use undo_chain::{Chains, Snapshot, States, Touched};
 
 /// At most 32 rows with their versions, between a low fence key, which a row may have, and a high one, which
 /// none has.
@@ -311,8 +312,9 @@ impl VersionSegment {
     }
 
     /// Notes that a transaction adds an edge at the row's vertex.
-    pub fn touch(&mut self, key: Key, by: TxnName)
+    pub fn touch(&mut self, key: Key, by: TxnName, earlier: Touched)
         requires row { has_row self.old key ≡ true }
+        requires never { earlier ≡ Never → has_record by (versions_at self.old key).touches ≡ false }
         requires spare { 0 < self.old.spare }
         ensures touched { ChangesKey self.old self.new key (touched by (versions_at self.old key)) }
         ensures spare { self.old.spare ≤ self.new.spare + 1 }
@@ -320,7 +322,7 @@ impl VersionSegment {
         let Ok(row) = find_row(&self.rows, key) else {
             unreachable!()
         };
-        let Ok(touches) = self.chains.touch(row.touches, by) else {
+        let Ok(touches) = self.chains.touch(row.touches, by, earlier) else {
             unreachable!()
         };
         let row = FoundRow {

@@ -1,5 +1,7 @@
 use Rattle.std.proofs.Common.{◌∙◌, arith, ap}
 use Rattle.graph_model.specs.Effects.{keys_of}
+use Rattle.graph_model.specs.Transactions.{has_name}
+use Rattle.store_model.specs.declared.versions.Versions.{Versions}
 use Rattle.store_model.specs.Layers.{after_write}
 use Rattle.leaf_rows.proofs.LayLemmas.{kept_room, kept_missing, kept_may, kept_places, kept_contents, kept_stays, on_err_of}
 use Rattle.leaf_rows.proofs.rows.LeafRows.lay.Goals as goal
@@ -7,6 +9,10 @@ use Rattle.leaf_rows.proofs.rows.LeafRows.lay.Goals as goal
 pub put_write-requires-clause-may : goal.put_write-requires-clause-may
 put_write-requires-clause-may c =
     kept_may c.args.self.now c.reserve_write.new.self c.args.write (kept_places _ _ c.reserve_write.ensures.kept.cells) c.requires.may
+
+pub put_write-requires-clause-never : goal.put_write-requires-clause-never
+put_write-requires-clause-never c = λ never q.
+    ap (λ (vs : Versions). has_name vs.touches c.args.by) (kept_contents c.args.self.now c.reserve_write.new.self c.reserve_write.ensures.kept.cells q) ∙ c.requires.never never q
 
 pub put_write-requires-clause-room : goal.put_write-requires-clause-room
 put_write-requires-clause-room c =

@@ -1,7 +1,11 @@
-use Rattle.std.proofs.Common.{◌∙◌, arith}
+use Rattle.std.proofs.Common.{◌∙◌, ap, arith, cond}
 use Rattle.graph_model.specs.Effects.{arc_keys}
 use Rattle.graph_model.specs.Rows.{vertex_key}
-use Rattle.leaf_rows.proofs.LayLemmas.{kept_room, kept_missing, places_chain, source_spare, target_spare, left_true, two_left, edge_is_laid}
+use Rattle.graph_model.specs.Transactions.{has_name}
+use Rattle.store_model.specs.Versions.{touch}
+use Rattle.store_model.specs.declared.versions.Versions.{Versions}
+use Rattle.leaf_store.specs.Leaves.{contents_of}
+use Rattle.leaf_rows.proofs.LayLemmas.{kept_room, kept_missing, other_end, places_chain, source_spare, target_spare, left_true, two_left, edge_is_laid}
 use Rattle.leaf_rows.proofs.rows.LeafRows.put_edge.Goals as goal
 
 pub touch-requires-clause-row : goal.touch-requires-clause-row
@@ -11,6 +15,16 @@ pub touch-requires-clause-spare : goal.touch-requires-clause-spare
 touch-requires-clause-spare c =
     let h = source_spare c.args.self.now c.args.kind c.args.u c.args.v c.args.value c.requires.spare in
     rw c.of_vertex.ensures (omega (arith, h))
+
+pub touch-requires-clause-never : goal.touch-requires-clause-never
+touch-requires-clause-never c = λ never. rw c.of_vertex.ensures (c.requires.never never (vertex_key c.args.u))
+
+pub touch-requires-2-clause-never : goal.touch-requires-2-clause-never
+touch-requires-2-clause-never c = λ never.
+    let one = rw c.of_vertex.ensures at c.touch.ensures.changed in
+    let before = contents_of c.args.self.now (vertex_key c.args.v) in
+    let same = one.contents (vertex_key c.args.v) ∙ ap (λ t. cond t (touch c.args.by before) before) (other_end c.args.u c.args.v c.requires.ends.apart) in
+    rw c.of_vertex-2.ensures (ap (λ (vs : Versions). has_name vs.touches c.args.by) same ∙ c.requires.never never (vertex_key c.args.v))
 
 pub touch-requires-2-clause-row : goal.touch-requires-2-clause-row
 touch-requires-2-clause-row c = rw c.of_vertex-2.ensures (c.touch.ensures.places.rows (vertex_key c.args.v) ∙ c.requires.ends.target)

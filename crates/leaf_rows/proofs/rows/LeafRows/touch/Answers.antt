@@ -1,3 +1,7 @@
+use Rattle.std.proofs.Common.{◌∙◌, ap}
+use Rattle.graph_model.specs.Transactions.{has_name}
+use Rattle.leaf_store.specs.Leaves.{Leaves, contents_of, versions_of}
+use Rattle.version_segment.proofs.LawLemmas.{same_record}
 use Rattle.leaf_rows.proofs.StepLemmas.{row_changes, stays_unstamped, keeps_places, touches_change, touched_there}
 use Rattle.leaf_rows.proofs.rows.LeafRows.touch.Goals as goal
 
@@ -24,3 +28,8 @@ returns-clause-weight c =
     let old = c.self.inside.store in
     let row = rw (← c.self.view_is) at c.requires.row in
     rw (← c.self.view_is) (keeps_places old c.touch.new.self c.args.key _ holds.sound c.limit-2.ensures.sound holds.there holds.apart c.requires.within c.touch.ensures.touched row (touched_there c.args.by old c.args.key holds.sound row)).1
+
+pub touch-requires-clause-never : goal.touch-requires-clause-never
+touch-requires-clause-never c = λ never.
+    same_record c.args.by (versions_of c.self.inside.store c.args.key).touches
+    ∙ ap (λ (s : Leaves). has_name (contents_of s c.args.key).touches c.args.by) c.self.view_is ∙ c.requires.never never

@@ -1,6 +1,6 @@
 use Rattle.std.proofs.Common.{◌≡◌, ◌<◌, subst, arith}
-use Rattle.std.specs.Prelude.{true}
-use Rattle.version_segment.specs.Rows.{has_row, touched}
+use Rattle.std.specs.Prelude.{true, false}
+use Rattle.version_segment.specs.Rows.{has_record, has_row, touched, versions_at}
 use Rattle.leaf_store.proofs.ChangeLemmas.{is_within, has_memory, read_cell, changed_cell, only_versions, only_spare}
 use Rattle.leaf_store.proofs.RoomLemmas.{place_stands, stands_leaf}
 use Rattle.leaf_store.proofs.TendLemmas.{tended_change}
@@ -19,6 +19,12 @@ touch-requires-clause-row c =
     let read = (read_cell c.self.inside.index c.self.inside.leaves.items c.args.self.now c.args.key c.place_of-place.result c.self.view_is c.self.invariant.kept c.place_of-place.ensures c.requires.within
     c.index_mut.result.now c.in-Some.leaf c.deref_mut.result.now c.index-deref_mut-place.result c.index_mut.ensures.value c.in-Some.is c.deref_mut.ensures.value).0 in
     subst (λ x. has_row x c.args.key ≡ true) read c.requires.row
+
+pub touch-requires-clause-never : goal.touch-requires-clause-never
+touch-requires-clause-never c = λ never.
+    let read = (read_cell c.self.inside.index c.self.inside.leaves.items c.args.self.now c.args.key c.place_of-place.result c.self.view_is c.self.invariant.kept c.place_of-place.ensures c.requires.within
+    c.index_mut.result.now c.in-Some.leaf c.deref_mut.result.now c.index-deref_mut-place.result c.index_mut.ensures.value c.in-Some.is c.deref_mut.ensures.value).0 in
+    subst (λ x. has_record c.args.by (versions_at x c.args.key).touches ≡ false) read (c.requires.never never)
 
 pub touch-requires-clause-spare : goal.touch-requires-clause-spare
 touch-requires-clause-spare c =

@@ -3,7 +3,7 @@ use Rattle.graph_model.specs.OwnerCalls.{current}
 use Rattle.teseo_core.specs.Passes.{Notes}
 use Rattle.teseo_core.specs.Keeping.{core_of}
 use Rattle.teseo_core.proofs.FieldLemmas.{is_open_here, lent_state, start_of, some_nat}
-use Rattle.teseo_core.proofs.KeepLemmas.{IsReader, reader_started}
+use Rattle.teseo_core.proofs.KeepLemmas.{IsReader, reader_started, touched_none}
 use Rattle.teseo_core.proofs.WriteLemmas.{refused_kept, refused_answer, may_lay, put_kept, put_answer}
 use Rattle.teseo_core.proofs.store.Core.write_here.Goals as goal
 
@@ -56,6 +56,21 @@ put-requires-clause-may c =
       by = r.ensures.by ∙ (λ i. record { job = f.selected; number = (sym here i).begun });
     } in
     may_lay f.kind f.leaves f.manager f.passes.items f.selected f.served f.rows c.self.invariant r.result start.0 start.1 reader c.args.write c.check.result c.check.ensures c.in-Ok.field-0 c.in-Ok.is
+
+pub put-requires-clause-never : goal.put-requires-clause-never
+put-requires-clause-never c = λ never.
+    let f = c.self.inside in
+    let core = core_of f.kind f.leaves f.manager f.passes.items f.selected f.served in
+    let start = start_of (current core).start (rw (← c.self.view_is) at c.requires.current) in
+    let here = lent_state f.passes.items f.selected c.index.result.now c.self.invariant.chosen c.index.ensures in
+    let r = c.reader_of-reader in
+    let reader : IsReader core f.manager f.rows c.self.invariant r.result start.0 = record {
+      manager = r.ensures.manager;
+      start_is = some_nat r.result.start start.0 (sym r.ensures.start ∙ ap (λ s. s.start) (sym here) ∙ start.1);
+      by = r.ensures.by ∙ (λ i. record { job = f.selected; number = (sym here i).begun });
+    } in
+    let asked = lent_state f.passes.items f.selected c.index-2.result.now c.self.invariant.chosen c.index-2.ensures in
+    touched_none core f.manager f.rows c.self.invariant r.result start.0 start.1 reader (ap (λ s. s.own) asked ∙ c.earlier_touches-earlier.ensures never)
 
 pub invariant_of-self-2 : goal.invariant_of-self-2
 invariant_of-self-2 c =

@@ -1,5 +1,4 @@
-use Rattle.std.proofs.Common.{◌≡◌, ◌≢◌, ℕ, ◌∙◌, ap, sym, subst, Some}
-use Rattle.undo_chain.specs.declared.undo.Undo.{Undo}
+use Rattle.std.proofs.Common.{◌≡◌, ◌≢◌, ℕ, subst, Some}
 use Rattle.undo_chain.specs.Chains.{ChainMap, record_at}
 use Rattle.undo_chain.specs.Links.{AreLinked}
 use Rattle.undo_chain.proofs.ChainLemmas.{pop_linked, pop_list, pop_others}

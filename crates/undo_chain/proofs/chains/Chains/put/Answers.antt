@@ -1,5 +1,4 @@
-use Rattle.std.proofs.Common.{◌≡◌, ◌≢◌, ℕ, ◌∙◌, refl, ap, subst, Some, None}
-use Rattle.undo_chain.specs.declared.undo.Undo.{Undo}
+use Rattle.std.proofs.Common.{◌≡◌, ◌≢◌, ℕ, refl, subst, None}
 use Rattle.undo_chain.specs.Chains.{ChainMap, record_at}
 use Rattle.undo_chain.specs.Links.{AreLinked}
 use Rattle.undo_chain.proofs.ChainLemmas.{put_linked, put_list, put_others}

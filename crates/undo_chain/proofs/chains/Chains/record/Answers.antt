@@ -1,5 +1,4 @@
-use Rattle.std.proofs.Common.{◌≡◌, ◌∙◌, ap, sym, subst, Some}
-use Rattle.undo_chain.specs.declared.undo.Undo.{Undo}
+use Rattle.std.proofs.Common.{◌≡◌, subst, Some}
 use Rattle.undo_chain.specs.Chains.{ChainMap, record_at}
 use Rattle.undo_chain.specs.Links.{AreLinked}
 use Rattle.undo_chain.proofs.LinkLemmas.{list_step}

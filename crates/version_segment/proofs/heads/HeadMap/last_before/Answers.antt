@@ -1,4 +1,4 @@
-use Rattle.std.proofs.Common.{◌≡◌, ◌+◌, ◌-◌, ◌<◌, suc, length, subst, sym, ◌∙◌, ap, arith}
+use Rattle.std.proofs.Common.{◌≡◌, ◌-◌, suc, subst, ◌∙◌, ap, arith}
 use Rattle.version_segment.specs.Heads.{PlacedRow, IsPlaceIn}
 use Rattle.version_segment.proofs.HeadLemmas.{index_of, there_at}
 use Rattle.version_segment.proofs.PlaceLemmas.{none_before, last_is_before, none_between}

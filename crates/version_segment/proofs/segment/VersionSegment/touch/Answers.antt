@@ -1,13 +1,19 @@
-use Rattle.std.proofs.Common.{◌∙◌}
-use Rattle.version_segment.specs.Rows.{touched}
+use Rattle.std.proofs.Common.{◌∙◌, sym, ap}
+use Rattle.store_model.specs.Stamped.{StampedVersions}
+use Rattle.version_segment.specs.Rows.{VersionedRows, has_record, touched, versions_at}
 use Rattle.version_segment.specs.Parts.{of_lists}
 use Rattle.version_segment.proofs.ListLemmas.{touches_change, touches_leave_undos}
-use Rattle.version_segment.proofs.VersionLemmas.{touched_lists}
-use Rattle.version_segment.proofs.ChangeLemmas.{row_missed, key_there, row_begin, later_parts, later_changes}
+use Rattle.version_segment.proofs.VersionLemmas.{any_touch, touched_lists}
+use Rattle.version_segment.proofs.ChangeLemmas.{row_missed, key_there, versions_now, row_begin, later_parts, later_changes}
 use Rattle.version_segment.proofs.segment.VersionSegment.touch.Goals as goal
 
 pub unreachable-requires : goal.unreachable-requires
 unreachable-requires c = row_missed _ c.self.inside.rows.heads c.self.inside.chains _ c.self.invariant _ (c.in_default.ensures) (rw (← c.self.view_is) at c.requires.row)
+
+pub touch-requires-clause-never : goal.touch-requires-clause-never
+touch-requires-clause-never c = λ never.
+    let found = ap (λ (s : VersionedRows). versions_at s c.args.key) (sym c.self.view_is) ∙ versions_now _ c.self.inside.rows.heads c.self.inside.chains _ c.self.invariant _ c.in-Ok.ensures in
+    sym (any_touch c.args.by _) ∙ ap (λ (vs : StampedVersions). has_record c.args.by vs.touches) (sym found) ∙ c.requires.never never
 
 pub set_row-requires-clause-at : goal.set_row-requires-clause-at
 set_row-requires-clause-at c = key_there _ c.self.inside.rows.heads c.self.inside.chains _ c.self.invariant _ (c.in-Ok.ensures)
