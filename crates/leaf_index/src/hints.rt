@@ -70,9 +70,11 @@ impl Model for Hints {
 }
 
 impl Hints {
-    /// That leaf 0 has all keys. Takes the memory of a hint for each leaf.
+    /// That leaf 0 has all keys. Takes the memory of a hint for each leaf, and of those that are wrong before they are
+    /// put in order.
     pub fn new(alloc: Global, leaves: u32) -> Result<Hints, NoMemory> {
-        let mut hints = Vec::with_capacity(alloc, leaves as usize)?;
+        let leaves = leaves as usize;
+        let mut hints = Vec::with_capacity(alloc, leaves + leaves / HINTS_A_CHANGE + 2)?;
         hints.push(Hint::new(Key { src: 0, second: 0 }, 0))?;
         let sorted = hints.len();
         Ok(Hints {
