@@ -1,15 +1,15 @@
-//! A graph made from a seed, and an engine that has it.
+//! A graph made from a seed, and engines that load it.
 
-ghost use Rattle.std.specs.Prelude.{◌≡◌, ◌<◌, None, IfOk};
-ghost use Rattle.graph_model.specs.OwnerCalls.{account_here};
-ghost use Rattle.engine_bench.specs.Loadable.{IsLoadableGraph};
+ghost use Rattle.std.specs.Prelude.{◌≡◌, ◌<◌, None, IfOk, OnOk};
+ghost use Rattle.teseo_core.specs.Keeping.{new_core};
+ghost use Rattle.engine_bench.specs.Loadable.{IsLoadableGraph, bench_config};
 
 use crate::rmat::{Ends, edge_text};
 use anyhow::Result;
 use graph_files::{Weights, files_are_loadable, load_is_legal, read_edges, read_vertices};
 use graph_load::load_graph;
 use graph_maker::make_graph;
-use graph_model::{Engine, Ids, Kind, MAX_BEGINS, MAX_LEAVES, MAX_LOAD_ROWS, StepEngine};
+use graph_model::{Ids, Kind, LoadEngine, MAX_BEGINS, MAX_LEAVES, MAX_LOAD_ROWS};
 use graphalytics_io::Edges;
 use std::alloc::Global;
 use teseo_core::Core;
@@ -59,39 +59,45 @@ fn graph_of(alloc: Global, vertices: &[u8], edges: &[u8]) -> Result<Graph>
     Ok(Graph { ids, edges })
 }
 
-/// An engine that has the graph. Its first pass has a transaction open where a reader is wanted, and its second, which
-/// is selected, has none.
-pub fn read_engine(alloc: Global, graph: &Graph, is_read: bool) -> Result<Core>
-    requires { IsLoadableGraph graph.now }
-    ensures { IfOk result (λ engine. (account_here engine.core).start ≡ None) }
+/// A new engine of so many passes.
+pub fn new_engine(alloc: Global, passes: u32) -> Result<Core>
+    ensures { IfOk result (λ engine. engine.core ≡ new_core (bench_config passes)) }
 {
     let config = Config {
         kind: Kind::Undirected,
         leaves: MAX_LEAVES,
-        passes: 2,
+        passes,
         txns_per_pass: MAX_BEGINS,
     };
-    let mut engine = Core::new(alloc, config)?;
-    load_graph(alloc, &mut engine, &graph.ids, &graph.edges)?;
+    Ok(Core::new(alloc, config)?)
+}
+
+/// Loads the graph into a new engine of one pass, which has no transaction open then.
+pub fn load<E: LoadEngine>(alloc: Global, engine: &mut E, graph: &Graph) -> Result<()>
+    requires new { E.core engine.old ≡ new_core (bench_config 1) }
+    requires graph { IsLoadableGraph graph.now }
+    ensures { OnOk result ((E.account engine.new).start ≡ None) }
+{
+    load_graph(alloc, engine, &graph.ids, &graph.edges)?;
+    Ok(())
+}
+
+/// Loads the graph into a new engine of two passes. The first has a transaction open then where a reader is wanted, and
+/// the second, which is selected, has none.
+pub fn load_beside_reader<E: LoadEngine>(
+    alloc: Global,
+    engine: &mut E,
+    graph: &Graph,
+    is_read: bool,
+) -> Result<()>
+    requires new { E.core engine.old ≡ new_core (bench_config 2) }
+    requires graph { IsLoadableGraph graph.now }
+    ensures { OnOk result ((E.account engine.new).start ≡ None) }
+{
+    load_graph(alloc, engine, &graph.ids, &graph.edges)?;
     if is_read {
         engine.begin()?;
     }
     engine.select(1);
-    Ok(engine)
-}
-
-/// An engine that has the graph, with one pass, which has no transaction open.
-pub fn loaded_engine(alloc: Global, graph: &Graph) -> Result<Core>
-    requires { IsLoadableGraph graph.now }
-    ensures { IfOk result (λ engine. (account_here engine.core).start ≡ None) }
-{
-    let config = Config {
-        kind: Kind::Undirected,
-        leaves: MAX_LEAVES,
-        passes: 1,
-        txns_per_pass: MAX_BEGINS,
-    };
-    let mut engine = Core::new(alloc, config)?;
-    load_graph(alloc, &mut engine, &graph.ids, &graph.edges)?;
-    Ok(engine)
+    Ok(())
 }

@@ -10,19 +10,22 @@
 //! 4. Nothing is read, parsed or written while a part is timed.
 #![tactic(auto)]
 
+mod bench_engine;
 mod churn;
 mod edits;
 mod graph;
 mod rmat;
 mod turns;
 
-ghost use Rattle.std.specs.Prelude.{◌<◌, IfOk};
-ghost use Rattle.engine_bench.specs.Loadable.{IsLoadableGraph};
+ghost use Rattle.std.specs.Prelude.{◌≡◌, ◌<◌, IfOk};
+ghost use Rattle.teseo_core.specs.Keeping.{new_core};
+ghost use Rattle.engine_bench.specs.Loadable.{IsLoadableGraph, bench_config};
 
 use anyhow::Result;
+use bench_engine::BenchEngine;
 use churn::churn;
 use edits::{Edit, edits_of, settings_of, spread_edits};
-use graph::{Graph, drawn_graph, loaded_engine, made_graph, read_engine};
+use graph::{Graph, drawn_graph, load, load_beside_reader, made_graph, new_engine};
 use rmat::drawn_ends;
 use std::alloc::Global;
 use std::env;
@@ -100,7 +103,7 @@ fn make_workload(alloc: Global, counts: [u64; 3], seed: u64, is_skewed: bool) ->
     Ok(Workload { graph, edits })
 }
 
-/// Times the load, the transactions and the scan, and prints a line for each.
+/// Times the load, the transactions and the scan.
 fn time<R: Clock + Print>(
     rt: &R,
     alloc: Global,
@@ -109,13 +112,27 @@ fn time<R: Clock + Print>(
     is_skewed: bool,
 ) -> Result<()> {
     let [vertices, edges, _] = counts;
-    let Workload { graph, edits } = make_workload(alloc, counts, seed, is_skewed)?;
     let rows = vertices.saturating_add(edges.saturating_mul(2));
+    let workload = make_workload(alloc, counts, seed, is_skewed)?;
+    time_engine(rt, alloc, new_engine(alloc, 1)?, &workload, rows)
+}
+
+/// Times them in a new engine, and prints a line for each.
+fn time_engine<R: Clock + Print, E: BenchEngine + Drop>(
+    rt: &R,
+    alloc: Global,
+    mut engine: E,
+    workload: &Workload,
+    rows: u64,
+) -> Result<()>
+    requires new { E.core engine ≡ new_core (bench_config 1) }
+    requires graph { IsLoadableGraph workload.now.graph }
+{
     let begun = Instant::now(rt)?;
-    let mut engine = loaded_engine(alloc, &graph)?;
+    load(alloc, &mut engine, &workload.graph)?;
     say(rt, "load", rows, begun.elapsed(rt)?)?;
     let begun = Instant::now(rt)?;
-    let made = run_all(&mut engine, edits.as_slice())?;
+    let made = run_all(&mut engine, workload.edits.as_slice())?;
     say(rt, "transactions", made, begun.elapsed(rt)?)?;
     let begun = Instant::now(rt)?;
     let seen = scan_all(&mut engine)?;
@@ -134,9 +151,25 @@ fn repeat<R: Clock + Print>(
     let [vertices, edges, transactions] = counts;
     let graph = made_graph(alloc, seed, count_of(vertices), count_of(edges))?;
     let edits = settings_of(alloc, &graph, count_of(again) as usize)?;
-    let mut engine = read_engine(alloc, &graph, is_read)?;
-    let rounds = transactions / 10 / again.max(1);
-    churn(rt, &mut engine, edits.as_slice(), count_of(rounds))
+    let rounds = count_of(transactions / 10 / again.max(1));
+    let workload = Workload { graph, edits };
+    repeat_in(rt, alloc, new_engine(alloc, 2)?, &workload, rounds, is_read)
+}
+
+/// Sets them in a new engine.
+fn repeat_in<R: Clock + Print, E: BenchEngine + Drop>(
+    rt: &R,
+    alloc: Global,
+    mut engine: E,
+    workload: &Workload,
+    rounds: u32,
+    is_read: bool,
+) -> Result<()>
+    requires new { E.core engine ≡ new_core (bench_config 2) }
+    requires graph { IsLoadableGraph workload.now.graph }
+{
+    load_beside_reader(alloc, &mut engine, &workload.graph, is_read)?;
+    churn(rt, &mut engine, workload.edits.as_slice(), rounds)
 }
 
 /// A count, at least 1 and at most the greatest.

@@ -201,6 +201,20 @@ gap_of_place rows key place sorted is other = record { within = is.within; befor
         let here : is_below key r.key ≡ true = above_of_not r.key key h.0 (λ e. absurd (o r (omega arith) e)) in
         (here, all_map (λ q. is_below r.key q.key ≡ true) (λ q. is_below key q.key ≡ true) (λ q above. below_chain key r.key q.key here above) rs s.0)
 
+-- where a row is below the key, so are those before it
+pub take_below : (key : Key) (rows : List Row) (i : ℕ) (d : Row) → AreSorted rows → i < length rows → is_below (get_or rows i d).key key ≡ true → AreBelow key (take (suc i) rows)
+take_below key [] i d sorted lt h = absurd (omega arith)
+take_below key (r ∷ rs) zero d sorted lt h = (h, tt)
+take_below key (r ∷ rs) (suc i) d sorted lt h =
+    let low : i < length rs = omega arith in
+    (below_chain r.key (get_or rs i d).key key (all_at _ rs i d sorted.0 low) h, take_below key rs i d sorted.1 low h)
+
+-- and where it is above the key, so are those behind it
+pub drop_above : (key : Key) (rows : List Row) (i : ℕ) (d : Row) → AreSorted rows → i < length rows → is_below key (get_or rows i d).key ≡ true → AreAbove key (drop i rows)
+drop_above key [] i d sorted lt h = absurd (omega arith)
+drop_above key (r ∷ rs) zero d sorted lt h = (h, all_map (λ q. is_below r.key q.key ≡ true) (λ q. is_below key q.key ≡ true) (λ q above. below_chain key r.key q.key h above) rs sorted.0)
+drop_above key (r ∷ rs) (suc i) d sorted lt h = drop_above key rs i d sorted.1 (omega arith) h
+
 -- ---- the rows of a key range
 
 -- they stand between the places of both keys

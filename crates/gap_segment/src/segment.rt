@@ -2,12 +2,13 @@
 //!
 //! 1. Keys strictly rise, from the low fence key on and below the high one.
 //! 2. There is room for 32 rows at any time.
+//! 3. Where the last two keys stand that were looked up is kept in mind, so that calls to come look there first.
 
-ghost use Rattle.std.specs.Prelude.{◌≡◌, ◌==◌, ◌+◌, ◌-◌, ◌*◌, ◌^◌, ◌<◌, ◌≤◌, if◌then◌else◌, true, false, [], ◌++◌, length, take, drop, insert, remove, slice_get, IfOk, Some};
+ghost use Rattle.std.specs.Prelude.{◌≡◌, ◌==◌, ◌+◌, ◌-◌, ◌*◌, ◌^◌, ◌<◌, ◌≤◌, if◌then◌else◌, true, false, [], ◌++◌, length, take, drop, insert, remove, slice_get, IfOk, IfSome, Some};
 ghost use Rattle.std.specs.Vec.{vec_capacity};
 ghost use Rattle.graph_model.specs.Rows.{is_below, is_between};
 ghost use Rattle.graph_model.specs.declared.limits.TheConstants.{SEGMENT_ROWS};
-ghost use Rattle.gap_segment.specs.Fenced.{AreFenced, AreSorted, AreWithin, IsPlaceOf, IsGapFor, IsFound, rows_between, with_weight, first_key_or, front_of, back_of, joined, nothing_at};
+ghost use Rattle.gap_segment.specs.Fenced.{AreBelow, AreFenced, AreSorted, AreWithin, IsPlaceOf, IsGapFor, IsFound, rows_between, with_weight, first_key_or, front_of, back_of, joined, nothing_at};
 
 use graph_model::{Key, NoMemory, Row, SEGMENT_ROWS};
 use std::alloc::Global;
@@ -19,6 +20,17 @@ pub struct Segment {
     pub(crate) low: Key,
     pub(crate) high: Key,
     pub(crate) rows: Vec<Row>,
+    recent: RecentPlaces,
+}
+
+/// Stands for no place, which is behind all rows.
+const NO_PLACE: u8 = 255;
+
+/// Where two keys stood when they were looked up, the later one first. No clause speaks of it.
+#[derive(Clone, Copy, Debug, PartialEq, Eq)]
+struct RecentPlaces {
+    first: u8,
+    second: u8,
 }
 
 impl Model for Segment {
@@ -41,7 +53,16 @@ impl Segment {
         ensures { IfOk result (λ s. s ≡ record { low = low; high = high; rows = [] }) }
     {
         let rows = Vec::with_capacity(alloc, SEGMENT_ROWS)?;
-        Ok(Segment { low, high, rows })
+        let recent = RecentPlaces {
+            first: NO_PLACE,
+            second: NO_PLACE,
+        };
+        Ok(Segment {
+            low,
+            high,
+            rows,
+            recent,
+        })
     }
 
     /// The low fence key. A row may have it.
@@ -83,7 +104,58 @@ impl Segment {
     pub fn find(&self, key: Key) -> Result<usize, usize>
         ensures { IsFound self.now.rows key result }
     {
-        find_in(self.rows.as_slice(), key)
+        find_near(self.rows.as_slice(), key, self.recent)
+    }
+
+    /// The sum of what a look-up reads first. Whoever keeps it keeps a compiler from leaving out the reads.
+    pub fn sum_ahead(&self) -> u64 {
+        let rows = self.rows.as_slice();
+        let quarter = rows.len() / 4;
+        if quarter == 0 {
+            return rows.len() as u64;
+        }
+        rows[quarter - 1]
+            .key
+            .src
+            .wrapping_add(rows[2 * quarter - 1].key.src)
+            .wrapping_add(rows[3 * quarter - 1].key.src)
+    }
+
+    /// The sum of what a look-up of the key reads behind that: of the rows in the key's quarter, and where a row comes
+    /// of all that would have to move.
+    pub fn sum_near(&self, key: Key, row_comes: bool) -> u64 {
+        let rows = self.rows.as_slice();
+        let quarter = rows.len() / 4;
+        if quarter == 0 {
+            return 0;
+        }
+        let mut start = 0;
+        if is_below(rows[quarter - 1].key, key) {
+            start = quarter;
+        }
+        if is_below(rows[2 * quarter - 1].key, key) {
+            start = 2 * quarter;
+        }
+        if is_below(rows[3 * quarter - 1].key, key) {
+            start = 3 * quarter;
+        }
+        let count = if row_comes {
+            rows.len() - start
+        } else {
+            quarter + 3
+        };
+        sum_of_some(rows, start, count)
+    }
+
+    /// Looks the key up for the calls to come. Nothing that contracts see changes.
+    pub fn look_up(&mut self, key: Key)
+        ensures { self.new ≡ self.old }
+    {
+        let place = place_in(self.rows.as_slice(), key);
+        self.recent = RecentPlaces {
+            first: place as u8,
+            second: self.recent.first,
+        };
     }
 
     /// Puts a row at the place where it has to stand.
@@ -253,6 +325,57 @@ fn first_key(rows: &[Row], other: Key) -> Key
         [first, ..] => first.key,
         [] => other,
     }
+}
+
+/// The sum of each other row from a place on, among so many, which takes a look at each line of their memory.
+fn sum_of_some(rows: &[Row], start: usize, count: usize) -> u64 {
+    let end = start.saturating_add(count).min(rows.len());
+    let mut sum: u64 = 0;
+    let mut place = start;
+    'rows: while place < end {
+        sum = sum.wrapping_add(rows[place].key.src);
+        place += 2;
+    }
+    sum
+}
+
+/// Looks the key up at two places, and else in all rows.
+fn find_near(rows: &[Row], key: Key, recent: RecentPlaces) -> Result<usize, usize>
+    requires { AreSorted rows.now }
+    ensures { IsFound rows.now key result }
+{
+    if recent.first == NO_PLACE {
+        return find_in(rows, key);
+    }
+    if let Some(found) = find_at(rows, key, recent.first as usize) {
+        return found;
+    }
+    match find_at(rows, key, recent.second as usize) {
+        Some(found) => found,
+        None => find_in(rows, key),
+    }
+}
+
+/// Whether the key's row stands at the place, or would stand there; nothing where it is elsewhere.
+fn find_at(rows: &[Row], key: Key, place: usize) -> Option<Result<usize, usize>>
+    requires { AreSorted rows.now }
+    ensures { IfSome result (IsFound rows.now key) }
+{
+    match rows.get(place) {
+        Some(row) if row.key == key => Some(Ok(place)),
+        Some(row) if is_below(key, row.key) && are_below(rows, key, place) => Some(Err(place)),
+        None if place == rows.len() && are_below(rows, key, place) => Some(Err(place)),
+        _ => None,
+    }
+}
+
+/// Whether the rows before a place are below the key, as the last of them tells.
+fn are_below(rows: &[Row], key: Key, place: usize) -> bool
+    requires sorted { AreSorted rows.now }
+    requires within { place ≤ length rows.now }
+    ensures { result ≡ true → AreBelow key (take place rows.now) }
+{
+    place == 0 || is_below(rows[place - 1].key, key)
 }
 
 /// Looks the key up by halves.

@@ -1,3 +1,4 @@
+pub mod Hinted
 pub mod Index
 pub mod Idle
 pub mod Slots

@@ -4,8 +4,11 @@
 //!    leaf's slot holds the key, which only the slot of the key's own leaf does.
 //! 2. The first hints are in the order of their keys, and are searched. Those that came since stand behind them, and are
 //!    found when all are put in order anew: when a sixteenth of them came or went, or there is no place for one more.
+//! 3. Sources are divided into groups of the same width, and where the hints of a group begin is kept. So few hints
+//!    are searched for most keys.
 
-ghost use Rattle.std.specs.Prelude.{◌+◌, ◌<◌, ◌≤◌, length};
+ghost use Rattle.std.specs.Prelude.{◌≡◌, ◌-◌, ◌/◌, ◌≤◌, length};
+ghost use Rattle.leaf_index.specs.Hinted.{IsRun};
 
 use crate::slot::Slot;
 use graph_model::{Key, NoMemory};
@@ -14,6 +17,9 @@ use std::marker::Model;
 
 /// Hints are put in order again when one of so many came or went.
 const HINTS_A_CHANGE: usize = 16;
+
+/// Into so many groups sources are divided.
+const GROUPS: usize = 16384;
 
 /// A leaf with its least key, of whose two numbers the last 32 bits each are enough to tell most keys apart.
 #[derive(Clone, Copy, Debug, PartialEq, Eq, PartialOrd, Ord)]
@@ -49,12 +55,39 @@ impl Hint {
     }
 }
 
+/// Hints one behind the other, the last of which that is not above a key is looked for.
+#[derive(Clone, Copy)]
+pub struct Run {
+    pub first: usize,
+    pub count: usize,
+}
+
+impl Run {
+    /// The half in which the wanted hint is. There is no branch on it, since every other one would be foretold wrongly.
+    fn half(self, hints: &[Hint], wanted: u64) -> Run
+        requires { IsRun (length hints.now) self }
+        ensures run { IsRun (length hints.now) result }
+        ensures count { result.count ≡ self.count - self.count / 2 }
+    {
+        let half = self.count / 2;
+        let is_behind = (hints[self.first + half].number() <= wanted) as usize;
+        Run {
+            first: self.first + half * is_behind,
+            count: self.count - half,
+        }
+    }
+}
+
 /// The leaves by their least keys, as they stood a while ago. Contracts see nothing of it.
 #[derive(Drop)]
 pub struct Hints {
     hints: Vec<Hint>,
     sorted: usize,
     changes: usize,
+    /// How many hints are of sources before each group, and behind it the number of all.
+    starts: Vec<u32>,
+    /// How many sources a group has.
+    width: u32,
     /// What was read ahead. Nobody asks for it: it is kept so that no compiler leaves out the reads.
     ahead: u64,
 }
@@ -66,59 +99,65 @@ impl Model for Hints {
 
     ghost view = { λ _. tt };
 
-    ghost invariant = { λ h. h.sorted ≤ length h.hints.items };
+    ghost invariant = { λ h. (h.sorted ≤ length h.hints.items) × (1 ≤ h.width) };
 }
 
 impl Hints {
-    /// That leaf 0 has all keys. Takes the memory of a hint for each leaf, and of those that are wrong before they are
-    /// put in order.
+    /// That leaf 0 has all keys. Takes the memory of a hint for each leaf, of those that are wrong before they are put
+    /// in order, and of the groups.
     pub fn new(alloc: Global, leaves: u32) -> Result<Hints, NoMemory> {
         let leaves = leaves as usize;
         let mut hints = Vec::with_capacity(alloc, leaves + leaves / HINTS_A_CHANGE + 2)?;
         hints.push(Hint::new(Key { src: 0, second: 0 }, 0))?;
-        let sorted = hints.len();
+        let starts = vec![in alloc; 1; GROUPS + 1]?;
         Ok(Hints {
             hints,
-            sorted,
+            sorted: 1,
             changes: 0,
+            starts,
+            width: 1,
             ahead: 0,
         })
     }
 
     /// The key's hint.
     pub fn of(&self, key: Key) -> u32 {
-        let wanted = Hint::new(key, 0).number();
-        let hints = self.hints.as_slice();
-        let mut first = 0;
-        let mut count = self.sorted;
-        'halves: while count > 1 {
-            let half = count / 2;
-            first = step(hints, first, half, wanted);
-            count -= half;
+        let hints = &self.hints.as_slice()[..self.sorted];
+        if hints.is_empty() {
+            return 0;
         }
-        leaf_of(hints, first)
+        let hint = Hint::new(key, 0);
+        let wanted = hint.number();
+        let mut run = run_of(hints, &self.starts, self.width, hint.src);
+        'halves: while run.count > 1 {
+            run = run.half(hints, wanted);
+        }
+        leaf_of(hints, run.first)
     }
 
     /// The hints of four keys, which are looked for side by side, so that their searches wait for memory together.
     pub fn of_four(&self, keys: [Key; 4]) -> [u32; 4] {
-        let wanted = numbers_of(keys);
-        let hints = self.hints.as_slice();
-        let (mut first, mut second, mut third, mut fourth) = (0, 0, 0, 0);
-        let mut count = self.sorted;
-        'halves: while count > 1 {
-            let half = count / 2;
-            first = step(hints, first, half, wanted[0]);
-            second = step(hints, second, half, wanted[1]);
-            third = step(hints, third, half, wanted[2]);
-            fourth = step(hints, fourth, half, wanted[3]);
-            count -= half;
+        let hints = &self.hints.as_slice()[..self.sorted];
+        if hints.is_empty() {
+            return [0; 4];
         }
-        [
-            leaf_of(hints, first),
-            leaf_of(hints, second),
-            leaf_of(hints, third),
-            leaf_of(hints, fourth),
-        ]
+        let wanted = keys.map(|key| Hint::new(key, 0));
+        let mut first = run_of(hints, &self.starts, self.width, wanted[0].src);
+        let mut second = run_of(hints, &self.starts, self.width, wanted[1].src);
+        let mut third = run_of(hints, &self.starts, self.width, wanted[2].src);
+        let mut fourth = run_of(hints, &self.starts, self.width, wanted[3].src);
+        let mut longest = first
+            .count
+            .max(second.count)
+            .max(third.count.max(fourth.count));
+        'halves: while longest > 1 {
+            first = first.half(hints, wanted[0].number());
+            second = second.half(hints, wanted[1].number());
+            third = third.half(hints, wanted[2].number());
+            fourth = fourth.half(hints, wanted[3].number());
+            longest -= longest / 2;
+        }
+        [first, second, third, fourth].map(|run| leaf_of(hints, run.first))
     }
 
     /// Reads the slots of four hints, so that these reads too wait for memory together.
@@ -153,32 +192,63 @@ impl Hints {
         self.hints.dedup();
         self.sorted = self.hints.len();
         self.changes = 0;
+        self.width = divide(self.hints.as_slice(), &mut self.starts);
     }
+}
+
+/// The hints of a source's group, and the one before them.
+fn run_of(hints: &[Hint], starts: &Vec<u32>, width: u32, src: u32) -> Run
+    requires some { 1 ≤ length hints.now }
+    requires width { 1 ≤ width }
+    ensures { IsRun (length hints.now) result }
+{
+    let group = ((src / width) as usize).min(GROUPS - 1);
+    let before = start_of(starts, group).saturating_sub(1);
+    let end = start_of(starts, group + 1).min(hints.len()).max(1);
+    let first = before.min(end - 1);
+    Run {
+        first,
+        count: end - first,
+    }
+}
+
+/// How many hints are of sources before a group.
+fn start_of(starts: &Vec<u32>, group: usize) -> usize {
+    match starts.get(group) {
+        Some(start) => *start as usize,
+        None => 0,
+    }
+}
+
+/// The leaf of the hint at a place, or leaf 0 where there is none.
+fn leaf_of(hints: &[Hint], place: usize) -> u32 {
+    match hints.get(place) {
+        Some(hint) => hint.leaf,
+        None => 0,
+    }
+}
+
+/// Divides the sources of hints into groups, and answers how many sources a group has.
+fn divide(hints: &[Hint], starts: &mut Vec<u32>) -> u32
+    ensures { 1 ≤ result }
+{
+    let width = match hints.last() {
+        Some(last) => (last.src / GROUPS as u32).saturating_add(1),
+        None => 1,
+    };
+    let mut place = 0;
+    'groups: for group in 0..starts.len() {
+        'hints: while place < hints.len() && ((hints[place].src / width) as usize) < group {
+            place += 1;
+        }
+        starts[group] = place.min(u32::MAX as usize) as u32;
+    }
+    width
 }
 
 /// The last 32 bits of a number.
 fn last_bits(number: u64) -> u32 {
     (number % 4294967296) as u32
-}
-
-/// The keys as hints have them.
-fn numbers_of(keys: [Key; 4]) -> [u64; 4] {
-    let [first, second, third, fourth] = keys;
-    [
-        Hint::new(first, 0).number(),
-        Hint::new(second, 0).number(),
-        Hint::new(third, 0).number(),
-        Hint::new(fourth, 0).number(),
-    ]
-}
-
-/// Goes on by half of the hints that are left from a place on, if the hint there is not above the wanted one. There is
-/// no branch on it, since every other one would be foretold wrongly.
-fn step(hints: &[Hint], first: usize, half: usize, wanted: u64) -> usize
-    requires { first + half < length hints.now }
-    ensures { result ≤ first + half }
-{
-    first + half * (hints[first + half].number() <= wanted) as usize
 }
 
 /// The sum of what lies in different lines of memory of a leaf's slot.
@@ -188,14 +258,6 @@ fn sum_of(slots: &Vec<Slot>, leaf: u32) -> u64 {
             .src
             .wrapping_add(slot.cuts[4].src)
             .wrapping_add(slot.high.src),
-        None => 0,
-    }
-}
-
-/// The leaf of the hint at a place, or leaf 0 where there is none.
-fn leaf_of(hints: &[Hint], place: usize) -> u32 {
-    match hints.get(place) {
-        Some(hint) => hint.leaf,
         None => 0,
     }
 }

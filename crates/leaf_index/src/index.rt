@@ -293,7 +293,7 @@ impl LeafIndex {
         ensures { IsRoute key self.now.entries result }
     {
         match self.recent.find(key) {
-            Some(route) => route,
+            Some(route) => *route,
             None => self.find_route(key, self.hints.of(key)),
         }
     }
@@ -302,30 +302,32 @@ impl LeafIndex {
     pub fn keep_route(&mut self, key: Key)
         ensures { self.new ≡ self.old }
     {
-        let hint = self.hints.of(key);
-        self.keep_hinted(key, hint);
-    }
-
-    /// Does so for four keys, whose searches wait for memory together.
-    pub fn keep_routes(&mut self, keys: [Key; 4])
-        ensures { self.new ≡ self.old }
-    {
-        let hints = self.hints.of_four(keys);
-        self.hints.read_ahead(&self.slots, hints);
-        self.keep_hinted(keys[0], hints[0]);
-        self.keep_hinted(keys[1], hints[1]);
-        self.keep_hinted(keys[2], hints[2]);
-        self.keep_hinted(keys[3], hints[3]);
-    }
-
-    /// Looks the key's route up and keeps it, where its hint is known.
-    fn keep_hinted(&mut self, key: Key, hint: u32)
-        ensures { self.new ≡ self.old }
-    {
         if self.recent.find(key).is_none() {
-            let route = self.find_route(key, hint);
+            let route = self.find_route(key, self.hints.of(key));
             self.recent.push(key, route);
         }
+    }
+
+    /// The leaves in which four keys are likely to be, whose slots are read ahead. No clause says that they are right.
+    pub fn likely_leaves(&mut self, keys: [Key; 4]) -> [u32; 4]
+        ensures { self.new ≡ self.old }
+    {
+        let likely = self.hints.of_four(keys);
+        self.hints.read_ahead(&self.slots, likely);
+        likely
+    }
+
+    /// Looks the routes of four keys up and keeps them, by the leaves in which they are likely to be, and answers their
+    /// cells. No clause says that these are right: they are for calls that read ahead.
+    pub fn keep_routes(&mut self, keys: [Key; 4], likely: [u32; 4]) -> [u32; 4]
+        ensures { self.new ≡ self.old }
+    {
+        let first = self.find_route(keys[0], likely[0]);
+        let second = self.find_route(keys[1], likely[1]);
+        let third = self.find_route(keys[2], likely[2]);
+        let fourth = self.find_route(keys[3], likely[3]);
+        self.recent = RecentRoutes::of_four(keys, [first, second, third, fourth]);
+        [first.cell, second.cell, third.cell, fourth.cell]
     }
 
     /// The key's route, by the hint or by the trie.

@@ -5,6 +5,7 @@
 //! 3. Beside each stands the key that it was looked up for, since that is mostly asked for again.
 
 ghost use Rattle.std.specs.Prelude.{ℕ, List, IfSome};
+ghost use Rattle.std.specs.List.{AllByRecursion};
 ghost use Rattle.graph_model.specs.declared.row.Key.{Key};
 ghost use Rattle.leaf_index.specs.Index.{Entry, IsRoute};
 ghost use Rattle.leaf_index.specs.Recent.{AreRightRoutes, IsRightRoute};
@@ -56,38 +57,58 @@ impl RecentRoutes {
     }
 
     /// A kept route that holds the key, if there is one.
-    pub fn find(&self, key: Key) -> Option<Route>
+    pub fn find(&self, key: Key) -> Option<&Route>
         ensures { (entries : List Entry) → AreRightRoutes entries self.now
-            → IfSome result (IsRoute key entries) }
+            → IfSome result (λ route. IsRoute key entries route.now) }
     {
         if key == self.asked.first && self.first.holds(key) {
-            Some(self.first)
+            Some(&self.first)
         } else if key == self.asked.second && self.second.holds(key) {
-            Some(self.second)
+            Some(&self.second)
         } else if key == self.asked.third && self.third.holds(key) {
-            Some(self.third)
+            Some(&self.third)
         } else if key == self.asked.fourth && self.fourth.holds(key) {
-            Some(self.fourth)
+            Some(&self.fourth)
         } else {
             self.find_by_range(key)
         }
     }
 
     /// The same, by the ranges alone.
-    fn find_by_range(&self, key: Key) -> Option<Route>
+    fn find_by_range(&self, key: Key) -> Option<&Route>
         ensures { (entries : List Entry) → AreRightRoutes entries self.now
-            → IfSome result (IsRoute key entries) }
+            → IfSome result (λ route. IsRoute key entries route.now) }
     {
         if self.first.holds(key) {
-            Some(self.first)
+            Some(&self.first)
         } else if self.second.holds(key) {
-            Some(self.second)
+            Some(&self.second)
         } else if self.third.holds(key) {
-            Some(self.third)
+            Some(&self.third)
         } else if self.fourth.holds(key) {
-            Some(self.fourth)
+            Some(&self.fourth)
         } else {
             None
+        }
+    }
+
+    /// Keeps four, each of which was looked up for the key with its place, in place of all.
+    pub fn of_four(keys: [Key; 4], routes: [Route; 4]) -> RecentRoutes
+        ensures { (entries : List Entry) → AllByRecursion (IsRightRoute entries) routes
+            → AreRightRoutes entries result }
+    {
+        let [first, second, third, fourth] = routes;
+        RecentRoutes {
+            first,
+            second,
+            third,
+            fourth,
+            asked: AskedKeys {
+                first: keys[0],
+                second: keys[1],
+                third: keys[2],
+                fourth: keys[3],
+            },
         }
     }
 

@@ -16,23 +16,25 @@ impl LeafRows {
         match write {
             Write::AddVertex { v } => self.store.look_up(Key::of_vertex(v)),
             Write::DropVertex { v } => self.store.look_up(Key::of_vertex(v)),
-            Write::AddEdge { u, v, weight: _ } => self.look_up_edge(u, v),
-            Write::SetEdge { u, v, weight: _ } => self.look_up_edge(u, v),
-            Write::DropEdge { u, v } => self.look_up_edge(u, v),
+            Write::AddEdge { u, v, weight: _ } => self.look_up_edge(u, v, true),
+            Write::SetEdge { u, v, weight: _ } => self.look_up_edge(u, v, false),
+            Write::DropEdge { u, v } => self.look_up_edge(u, v, false),
         }
     }
 
     /// Looks the cells of an edge's rows up, and those of its ends.
-    fn look_up_edge(&mut self, u: u64, v: u64)
+    fn look_up_edge(&mut self, u: u64, v: u64, rows_come: bool)
         requires source_within { u ≤ MAX_ID }
         requires target_within { v ≤ MAX_ID }
         ensures { self.new ≡ self.old }
     {
-        self.store.look_up_four([
-            Key::of_vertex(u),
+        // First the key that is asked for most often.
+        let keys = [
             Key::of_arc(u, v),
-            Key::of_vertex(v),
             Key::of_arc(v, u),
-        ]);
+            Key::of_vertex(u),
+            Key::of_vertex(v),
+        ];
+        self.store.look_up_four(keys, rows_come);
     }
 }

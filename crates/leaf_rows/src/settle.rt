@@ -44,6 +44,25 @@ impl LeafRows {
         ensures limit { self.new.limit ≡ self.old.limit }
         ensures weight { weight self.new ≤ weight self.old }
     {
+        self.read_leaf_ahead(key);
+        self.sweep_cells(key, manager, horizon)
+    }
+
+    /// Reads ahead what a sweep of the leaf that has the key will read. Nothing that contracts see changes.
+    fn read_leaf_ahead(&mut self, key: Key)
+        ensures { self.new ≡ self.old }
+    {
+        self.store.read_leaf_ahead(key);
+    }
+
+    /// The sweep itself, of one cell after the other.
+    fn sweep_cells(&mut self, key: Key, manager: &TxnManager, horizon: u64) -> Pruned
+        requires within { is_below key end_key ≡ true }
+        requires known { horizon ≤ length manager.now.journal }
+        ensures prunes { PrunesLeaf (stamp_in manager.now.journal) horizon self.old self.new key result }
+        ensures limit { self.new.limit ≡ self.old.limit }
+        ensures weight { weight self.new ≤ weight self.old }
+    {
         let range = self.store.leaf_range(key);
         let mut records: usize = 0;
         let mut next = range.low;

@@ -5,6 +5,7 @@ use Rattle.std.specs.Box.{with_value}
 use Rattle.std.specs.declared.boxed.Box.{Box}
 use Rattle.std.specs.declared.alloc.Global.{Global}
 use Rattle.std.proofs.Math.ListN.{length-set}
+use Rattle.std.proofs.lemmas.List.{set-get_or}
 use Rattle.std.proofs.lemmas.Option.{slice_get_read}
 use Rattle.graph_model.specs.declared.row.Key.{Key}
 use Rattle.std.specs.List.{AllByRecursion}
@@ -104,6 +105,15 @@ tied_changed xs c d ys e high tied sound low ends = record {
 -- the memory of the cell's leaf has another segment in its place
 abbrev pub with_cell : Table → Place → Box Leaf Global → List VersionedRows → VersionedRows → Table
 with_cell table place box segments d = set table place.leaf (Some (with_value box (record { segments = set segments place.segment d })))
+
+-- where the segment is the one that was there, so is the memory
+pub with_same_cell : (table : Table) (place : Place) (item : Option (Box Leaf Global)) (box : Box Leaf Global) (leaf : Leaf) (c d : VersionedRows) → item ≡ get_or table place.leaf item → item ≡ Some box → leaf ≡ box.value → d ≡ get_or leaf.segments place.segment c → with_cell table place box leaf.segments d ≡ table
+with_same_cell table place item box leaf c d at some value same =
+    let segments : set leaf.segments place.segment d ≡ leaf.segments =
+    ap (set leaf.segments place.segment) same ∙ set-get_or leaf.segments place.segment c in
+    let back : with_value box (record { segments = set leaf.segments place.segment d }) ≡ box =
+    ap (λ ss. with_value box (record { segments = ss })) segments ∙ ap (with_value box) value in
+    ap (set table place.leaf) (ap Some back ∙ sym some ∙ at) ∙ set-get_or table place.leaf item
 
 pub record ChangedCell (index : Index) (old : Leaves) (new : Table) (key : Key) (c d : VersionedRows) : Type 0 where
   pub kept : IsKept index new

@@ -1,25 +1,83 @@
-//! Reads what the calls to come will read.
+//! Reads what the calls to come will read, and looks up what they will look for.
 //!
 //! 1. A write waits for memory most of the time: for where the leaf of each of its cells lies, then for what the cell
 //!    says of itself, and then for its rows.
 //! 2. Here each of these is read for four cells before the next one is. So the processor asks the memory for all four
-//!    at once, and finds them near by when the calls come.
-//! 3. It changes nothing: no clause speaks of it.
+//!    at once, and finds them near by when the calls come. Where leaves lie is read beside their slots in the index.
+//! 3. It changes nothing that a clause speaks of.
+
+ghost use Rattle.std.specs.Prelude.{◌≡◌};
 
 use crate::place::Place;
+use graph_model::{Key, LEAF_SEGMENTS};
 use leaf_array::Leaf;
 use version_segment::VersionSegment;
 
-/// The sum of what four cells have. Nobody asks for it: it is kept so that no compiler leaves out the reads.
-pub(crate) fn sum_ahead(leaves: &Vec<Option<Box<Leaf>>>, places: [Place; 4]) -> u64 {
-    let [first, second, third, fourth] = places;
-    let cells = [
-        cell_at(leaves, first),
-        cell_at(leaves, second),
-        cell_at(leaves, third),
-        cell_at(leaves, fourth),
+/// How many of four leaves have memory, which takes a look at where each of them lies.
+pub(crate) fn count_with_memory(leaves: &Vec<Option<Box<Leaf>>>, likely: [u32; 4]) -> u64 {
+    sum_of(likely.map(|leaf| match leaves.get(leaf as usize) {
+        Some(Some(_)) => 1,
+        _ => 0,
+    }))
+}
+
+/// The sum of what four cells have. Nobody asks for it: it is kept so that no compiler leaves out the reads. Where rows
+/// come into the first two, it takes more of them, and how many rows their leaves have.
+pub(crate) fn sum_ahead(
+    leaves: &Vec<Option<Box<Leaf>>>,
+    keys: [Key; 4],
+    places: [Place; 4],
+    rows_come: bool,
+) -> u64 {
+    let cells = places.map(|place| cell_at(leaves, place));
+    let mut sum = sum_of(cells.map(rows_in));
+    if rows_come {
+        sum = sum
+            .wrapping_add(rows_at(leaves, places[0]))
+            .wrapping_add(rows_at(leaves, places[1]));
+    }
+    sum = sum.wrapping_add(sum_of(cells.map(sum_in)));
+    let near = [
+        near_in(cells[0], keys[0], rows_come),
+        near_in(cells[1], keys[1], rows_come),
+        near_in(cells[2], keys[2], false),
+        near_in(cells[3], keys[3], false),
     ];
-    sum_of(cells.map(rows_in)).wrapping_add(sum_of(cells.map(sum_in)))
+    sum.wrapping_add(sum_of(near))
+}
+
+/// The sum of what the changed rows of a leaf's cells have, for whoever goes over all of them.
+pub(crate) fn sum_leaf_ahead(leaves: &Vec<Option<Box<Leaf>>>, place: usize) -> u64 {
+    let mut sum: u64 = 0;
+    if let Some(Some(leaf)) = leaves.get(place) {
+        'cells: for cell in &leaf.segments {
+            sum = sum.wrapping_add(cell.sum_records_ahead());
+        }
+    }
+    sum
+}
+
+/// Looks keys up in the cells at their places.
+pub(crate) fn look_up_in(leaves: &mut Vec<Option<Box<Leaf>>>, keys: [Key; 4], places: [Place; 4])
+    ensures { leaves.new.items ≡ leaves.old.items }
+{
+    look_up_at(leaves, keys[0], places[0]);
+    look_up_at(leaves, keys[1], places[1]);
+    look_up_at(leaves, keys[2], places[2]);
+    look_up_at(leaves, keys[3], places[3]);
+}
+
+/// Looks a key up in the cell at its place.
+fn look_up_at(leaves: &mut Vec<Option<Box<Leaf>>>, key: Key, place: Place)
+    ensures { leaves.new.items ≡ leaves.old.items }
+{
+    if place.leaf >= leaves.len() || place.segment >= LEAF_SEGMENTS {
+        return;
+    }
+    match &mut leaves[place.leaf] {
+        Some(leaf) => leaf.segments[place.segment].look_up(key),
+        None => {}
+    }
 }
 
 /// The cell at a place, where there is one.
@@ -28,6 +86,17 @@ fn cell_at(leaves: &Vec<Option<Box<Leaf>>>, place: Place) -> Option<&VersionSegm
         Some(Some(leaf)) => leaf.segments.get(place.segment),
         _ => None,
     }
+}
+
+/// How many rows the leaf at a place has.
+fn rows_at(leaves: &Vec<Option<Box<Leaf>>>, place: Place) -> u64 {
+    let mut rows: u64 = 0;
+    if let Some(Some(leaf)) = leaves.get(place.leaf) {
+        'cells: for cell in &leaf.segments {
+            rows = rows.wrapping_add(cell.len() as u64);
+        }
+    }
+    rows
 }
 
 /// How many rows a cell has.
@@ -42,6 +111,14 @@ fn rows_in(cell: Option<&VersionSegment>) -> u64 {
 fn sum_in(cell: Option<&VersionSegment>) -> u64 {
     match cell {
         Some(cell) => cell.sum_ahead(),
+        None => 0,
+    }
+}
+
+/// What is read ahead of the rows near a key.
+fn near_in(cell: Option<&VersionSegment>, key: Key, row_comes: bool) -> u64 {
+    match cell {
+        Some(cell) => cell.sum_near(key, row_comes),
         None => 0,
     }
 }

@@ -1,6 +1,6 @@
 //! Where a cell stands.
 
-ghost use Rattle.std.specs.Prelude.{◌≡◌};
+ghost use Rattle.std.specs.Prelude.{◌≡◌, ◌/◌, ◌%◌};
 ghost use Rattle.leaf_store.specs.Table.{IsPlace};
 
 use graph_model::{Key, LEAF_SEGMENTS};
@@ -13,13 +13,22 @@ pub(crate) struct Place {
     pub(crate) segment: usize,
 }
 
+impl Place {
+    /// That of a cell by its number.
+    pub(crate) fn of_cell(cell: u32) -> Place
+        ensures { result ≡ record { leaf = cell / 8; segment = cell % 8 } }
+    {
+        let cell = cell as usize;
+        Place {
+            leaf: cell / LEAF_SEGMENTS,
+            segment: cell % LEAF_SEGMENTS,
+        }
+    }
+}
+
 /// Where the cell of the key stands.
 pub(crate) fn place_of(index: &LeafIndex, key: Key) -> Place
     ensures { IsPlace key index.now.entries result }
 {
-    let cell = index.route(key).cell as usize;
-    Place {
-        leaf: cell / LEAF_SEGMENTS,
-        segment: cell % LEAF_SEGMENTS,
-    }
+    Place::of_cell(index.route(key).cell)
 }

@@ -7,9 +7,9 @@ ghost use Rattle.graph_model.specs.Rows.{is_below, is_between, end_key};
 ghost use Rattle.leaf_store.specs.Leaves.{AreLeaves, CellsAreApart, KeysHaveCells, cell_at, room_at};
 ghost use Rattle.leaf_store.specs.Changes.{AreFilled, AreNew, AreRising, IsFillRefusal, IsRoomRefusal, MovesRows};
 
-use crate::ahead::sum_ahead;
+use crate::ahead::{count_with_memory, look_up_in, sum_ahead, sum_leaf_ahead};
 use crate::look::cuts_of;
-use crate::place::place_of;
+use crate::place::{Place, place_of};
 use crate::table::{empty_table, put_leaf};
 use crate::watch::Watch;
 use graph_model::{Key, NoMemory, Row};
@@ -94,18 +94,26 @@ impl LeafStore {
         self.index.keep_route(key);
     }
 
-    /// Looks the cells of four keys up, as for one, and reads ahead what the calls to come will read of them.
-    pub fn look_up_four(&mut self, keys: [Key; 4])
+    /// Looks the cells of four keys up, as for one, and reads ahead what the calls to come will read of them, which is
+    /// more where rows come into those of the first two.
+    pub fn look_up_four(&mut self, keys: [Key; 4], rows_come: bool)
         ensures { self.new ≡ self.old }
     {
-        self.index.keep_routes(keys);
-        let places = [
-            place_of(&self.index, keys[0]),
-            place_of(&self.index, keys[1]),
-            place_of(&self.index, keys[2]),
-            place_of(&self.index, keys[3]),
-        ];
-        self.ahead = sum_ahead(&self.leaves, places);
+        let likely = self.index.likely_leaves(keys);
+        self.ahead = count_with_memory(&self.leaves, likely);
+        let places = self.index.keep_routes(keys, likely).map(Place::of_cell);
+        self.ahead = self
+            .ahead
+            .wrapping_add(sum_ahead(&self.leaves, keys, places, rows_come));
+        look_up_in(&mut self.leaves, keys, places);
+    }
+
+    /// Reads ahead the changed rows of the leaf that has the key, as for one.
+    pub fn read_leaf_ahead(&mut self, key: Key)
+        ensures { self.new ≡ self.old }
+    {
+        let leaf = self.index.leaf_at(key).leaf as usize;
+        self.ahead = sum_leaf_ahead(&self.leaves, leaf);
     }
 
     /// Lends the cell whose fence keys hold the key.

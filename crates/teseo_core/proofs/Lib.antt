@@ -1,3 +1,4 @@
+pub mod MadeLemmas
 pub mod PassLemmas
 pub mod CountLemmas
 pub mod OpenLemmas

@@ -1,3 +1,4 @@
+pub mod Made
 pub mod Passes
 pub mod Keeping
 pub mod Loads

@@ -10,6 +10,7 @@
 mod engine;
 mod free;
 mod load;
+mod made;
 mod merge;
 mod pass;
 mod read;

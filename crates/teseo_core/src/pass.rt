@@ -1,13 +1,14 @@
 //! What the engine keeps of a pass.
 //!
 //! 1. The writes of the open transaction stand in two lists: one goes into the journal with a commit,
-//!    the other stays with the pass.
+//!    the other is that of all writes of the pass.
 //! 2. An open transaction has its place among the ended ones, so its end takes no memory.
 
 ghost use Rattle.std.specs.Prelude.{◌≡◌, ◌<◌, [], ◌∷◌, None, IsSome, true, OnOk};
 ghost use Rattle.undo_chain.specs.declared.touched.Touched.TheVariants.{Never};
 ghost use Rattle.teseo_core.specs.Passes.{new_pass, with_begin, with_one_write, with_load, with_end, Notes};
 
+use crate::made::MadeWrites;
 use graph_model::{Begun, Cause, NoMemory, Refusal, RoomyWrites, TxnName, Write, Writes};
 use items::RoomyItems;
 use std::alloc::Global;
@@ -34,11 +35,10 @@ impl Model for Sighted {
 /// The transactions of a pass with their writes, the latest of which may be open.
 #[derive(Drop)]
 pub struct Pass {
-    ended: RoomyItems<Writes>,
+    made: MadeWrites,
     sighted: Vec<Sighted>,
     start: Option<u64>,
     own: RoomyWrites,
-    copy: RoomyWrites,
     filled: bool,
     begun: u32,
     allowed: u32,
@@ -52,7 +52,7 @@ impl Model for Pass {
 
     ghost view = { λ p. record {
       state = record {
-        made = made_with p.start p.ended.items p.own.items;
+        made = made_with p.start p.made.ended p.own.items;
         sighted = p.sighted.items;
         start = p.start;
         own = p.own.items;
@@ -60,12 +60,12 @@ impl Model for Pass {
         begun = p.begun;
         allowed = p.allowed;
       };
-      writes = min p.own.spare p.copy.spare;
-      txns = p.ended.spare;
+      writes = min p.own.spare p.made.writes;
+      txns = p.made.txns;
     } };
 
-    ghost invariant = { λ p. (p.copy.items ≡ p.own.items) × IfNone p.start (p.own.items ≡ [])
-        × IfSome p.start (λ start. 0 < p.ended.spare) };
+    ghost invariant = { λ p. (p.made.own ≡ p.own.items) × IfNone p.start (p.own.items ≡ [])
+        × IfSome p.start (λ start. 0 < p.made.txns) };
 }
 
 impl Pass {
@@ -74,11 +74,10 @@ impl Pass {
         ensures { result.state ≡ new_pass allowed }
     {
         Pass {
-            ended: RoomyItems::new(alloc),
+            made: MadeWrites::new(alloc),
             sighted: Vec::new(alloc),
             start: None,
             own: RoomyItems::new(alloc),
-            copy: RoomyItems::new(alloc),
             filled: false,
             begun: 0,
             allowed,
@@ -115,7 +114,7 @@ impl Pass {
         ensures kept { self.new.state ≡ self.old.state }
         ensures ok { OnOk result (0 < self.new.txns) }
     {
-        self.ended.reserve(1)
+        self.made.reserve_txn()
     }
 
     /// Makes room for one more write.
@@ -124,7 +123,7 @@ impl Pass {
         ensures ok { OnOk result (0 < self.new.writes) }
     {
         self.own.reserve(1)?;
-        self.copy.reserve(1)
+        self.made.reserve_write()
     }
 
     /// Begins a transaction.
@@ -144,7 +143,7 @@ impl Pass {
         ensures { self.new.state ≡ with_one_write self.old.state write }
     {
         self.own.push_within(write);
-        self.copy.push_within(write);
+        self.made.note(write);
     }
 
     /// Notes all writes of the pass's first transaction, which has made none so far, and ends it. Takes no memory.
@@ -153,7 +152,7 @@ impl Pass {
         requires first { self.old.state.made ≡ [] ∷ [] }
         ensures { self.new.state ≡ with_end (with_load self.old.state load) }
     {
-        self.ended.push_within(load);
+        self.made.end_load(load);
         self.start = None;
     }
 
@@ -188,8 +187,7 @@ impl Pass {
         ensures ended { self.new.state ≡ with_end self.old.state }
     {
         let own = replace(&mut self.own, RoomyItems::new(alloc));
-        let copy = replace(&mut self.copy, RoomyItems::new(alloc));
-        self.ended.push_within(copy.into_items());
+        self.made.end(own.len());
         self.start = None;
         own.into_items()
     }

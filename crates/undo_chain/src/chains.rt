@@ -65,6 +65,11 @@ impl Chains {
         self.records.spare()
     }
 
+    /// The sum of what is read ahead of the next record. Whoever keeps it keeps a compiler from leaving out the reads.
+    pub fn sum_ahead(&self) -> u64 {
+        self.records.sum_ahead()
+    }
+
     /// How many records a list has.
     pub fn records(&self, head: Option<usize>) -> usize
         requires { IsHeadOf self.now head }

@@ -95,6 +95,11 @@ impl PackedSlot {
         }
     }
 
+    /// A number of the slot's, whatever stands in it, for whoever only has to read it.
+    pub(crate) fn any_number(&self) -> u64 {
+        self.stamp
+    }
+
     /// What a slot without a record names.
     pub(crate) fn next_vacant(&self) -> usize
         requires { record_in self.now ≡ None }

@@ -69,6 +69,15 @@ impl Slots {
         self.slots.capacity().min(MOST_RECORDS) - self.len
     }
 
+    /// The sum of what is read ahead of the slot that a record will be put in, or of the one before it.
+    pub(crate) fn sum_ahead(&self) -> u64 {
+        match (self.slots.get(self.next), self.slots.last()) {
+            (Some(next), _) => next.any_number(),
+            (None, Some(last)) => last.any_number(),
+            (None, None) => 0,
+        }
+    }
+
     /// Makes room for so many more records. Takes no memory where there is room already. For more than can be
     /// named there is no memory.
     pub(crate) fn reserve(&mut self, records: usize) -> Result<(), NoMemory>

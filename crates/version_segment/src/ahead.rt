@@ -1,24 +1,37 @@
-//! Reads what later calls will read.
+//! Reads what later calls will read, and looks up what they will look for.
 //!
-//! A call that looks for a row waits for memory again and again: for some of the rows, for the changed rows. Whoever has
-//! several segments to look at reads these in all of them first, so that the reads wait together. It changes nothing,
-//! and no clause speaks of it.
+//! A call that looks for a row waits for memory again and again: for the rows that it looks at first, for the changed
+//! rows and their records. Whoever has several segments to look at reads these in all of them first, so that the reads
+//! wait together. Then it looks each key up, and the calls find its row where it was found then. It changes nothing, and no clause speaks of it.
+
+ghost use Rattle.std.specs.Prelude.{◌≡◌};
 
 use crate::segment::VersionSegment;
-
-/// The places of which the key is read: one of each two lines of memory, which a processor takes together.
-const READ_PLACES: [usize; 6] = [2, 8, 13, 18, 24, 29];
+use graph_model::Key;
 
 impl VersionSegment {
-    /// The sum of what is read. Whoever keeps it keeps a compiler from leaving out the reads.
+    /// The sum of what is read first. Whoever keeps it keeps a compiler from leaving out the reads.
     pub fn sum_ahead(&self) -> u64 {
-        let rows = self.rows.segment().rows();
-        let mut sum: u64 = 0;
-        'places: for place in READ_PLACES {
-            if let Some(row) = rows.get(place) {
-                sum = sum.wrapping_add(row.key.src);
-            }
-        }
-        sum.wrapping_add(self.rows.sum_ahead() as u64)
+        self.rows
+            .segment()
+            .sum_ahead()
+            .wrapping_add(self.sum_records_ahead())
+    }
+
+    /// The sum of what a look-up of the key reads behind that, and where a row comes of the rows that would have to move.
+    pub fn sum_near(&self, key: Key, row_comes: bool) -> u64 {
+        self.rows.segment().sum_near(key, row_comes)
+    }
+
+    /// The sum of what is read ahead of the changed rows alone.
+    pub fn sum_records_ahead(&self) -> u64 {
+        (self.rows.sum_ahead() as u64).wrapping_add(self.chains.sum_ahead())
+    }
+
+    /// Looks the key up for the calls to come. Two keys are kept in mind, the ones that were looked up last.
+    pub fn look_up(&mut self, key: Key)
+        ensures { self.new ≡ self.old }
+    {
+        self.rows.look_up(key);
     }
 }

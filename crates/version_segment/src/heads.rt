@@ -75,6 +75,13 @@ impl HeadMap {
         self.rows.is_empty()
     }
 
+    /// How many more rows there is room for.
+    pub(crate) fn spare(&self) -> usize
+        ensures { result ≡ self.now.spare }
+    {
+        self.rows.capacity() - self.rows.len()
+    }
+
     /// Makes room for so many more rows. Takes no memory where there is room already.
     pub(crate) fn reserve(&mut self, rows: usize) -> Result<(), NoMemory>
         ensures ok { OnOk result (rows ≤ self.new.spare) }
@@ -89,11 +96,14 @@ impl HeadMap {
         Ok(())
     }
 
-    /// The sum of the places of the first changed row and of one in the middle.
+    /// The sum of the places of the first changed row, of one in the middle and of the last.
     pub(crate) fn sum_ahead(&self) -> usize {
         let rows = self.rows.as_slice();
-        match (rows.first(), rows.get(rows.len() / 2)) {
-            (Some(first), Some(middle)) => first.place().wrapping_add(middle.place()),
+        match (rows.first(), rows.get(rows.len() / 2), rows.last()) {
+            (Some(first), Some(middle), Some(last)) => first
+                .place()
+                .wrapping_add(middle.place())
+                .wrapping_add(last.place()),
             _ => 0,
         }
     }

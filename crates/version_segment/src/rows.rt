@@ -115,9 +115,23 @@ impl RowTable {
         self.heads.get(place)
     }
 
+    /// Looks the key up for the calls to come.
+    pub(crate) fn look_up(&mut self, key: Key)
+        ensures { self.new ≡ self.old }
+    {
+        self.rows.look_up(key);
+    }
+
     /// The sum of what is read ahead of the changed rows.
     pub(crate) fn sum_ahead(&self) -> usize {
         self.heads.sum_ahead()
+    }
+
+    /// How many more changed rows there is room for.
+    pub(crate) fn spare(&self) -> usize
+        ensures { result ≡ self.now.heads.spare }
+    {
+        self.heads.spare()
     }
 
     /// Makes room for so many more changed rows. Takes no memory where there is room already.

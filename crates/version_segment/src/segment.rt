@@ -21,6 +21,9 @@ use std::alloc::Global;
 use std::marker::Model;
 use undo_chain::{Chains, Snapshot, States, Touched};
 
+/// A write lays at most so many records in a segment: two touches, and one in each of two rows.
+const WRITE_RECORDS: usize = 4;
+
 /// At most 32 rows with their versions, between a low fence key, which a row may have, and a high one, which
 /// none has.
 #[derive(Drop)]
@@ -102,14 +105,24 @@ impl VersionSegment {
         Ok(())
     }
 
-    /// Makes room for four writes or touches.
+    /// How many more records there is room for.
+    pub fn spare(&self) -> usize
+        ensures { result ≡ self.now.spare }
+    {
+        self.chains.spare().min(self.rows.spare())
+    }
+
+    /// Makes room for four writes or touches, and where that takes memory for four more.
     pub fn reserve(&mut self) -> Result<(), NoMemory>
         ensures ok { OnOk result (4 ≤ self.new.spare) }
         ensures room { 4 ≤ self.old.spare → IsOk result }
         ensures kept { IsSameSegment self.old self.new }
         ensures spare { self.old.spare ≤ self.new.spare }
     {
-        self.reserve_records(4)
+        if self.spare() >= WRITE_RECORDS {
+            return Ok(());
+        }
+        self.reserve_records(2 * WRITE_RECORDS)
     }
 
     /// The key of the row at a place.

@@ -1,4 +1,4 @@
-use Rattle.std.proofs.Common.{◌≡◌, ◌∙◌, ◌++◌, ℕ, ◌+◌, ◌-◌, ◌<◌, ◌≤◌, sym, ap, arith, length-append, length-take, length-drop}
+use Rattle.std.proofs.Common.{◌≡◌, ◌∙◌, ℕ, ◌+◌, ◌-◌, ◌<◌, ◌≤◌, sym, ap, arith, length-append, length-take, length-drop}
 use Rattle.gap_segment.specs.Fenced.{FencedRows}
 use Rattle.gap_segment.proofs.FencedLemmas.{fenced_append, fenced_front, fenced_back}
 use Rattle.gap_segment.proofs.segment.Segment.share.Goals as goal

@@ -1,13 +1,14 @@
-use Rattle.std.proofs.Common.{◌+◌, ◌≤◌, length}
+use Rattle.std.proofs.Common.{length}
+use Rattle.leaf_index.specs.Hinted.{IsRun}
 use Rattle.leaf_index.proofs.hints.Hints.of_four.Given as goal
 
 abbrev pub invariant-halves : goal.invariant-halves
 invariant-halves l = record {
-  first : l.first + l.count ≤ length l.hints;
-  second : l.second + l.count ≤ length l.hints;
-  third : l.third + l.count ≤ length l.hints;
-  fourth : l.fourth + l.count ≤ length l.hints;
+  first : IsRun (length l.hints) l.first;
+  second : IsRun (length l.hints) l.second;
+  third : IsRun (length l.hints) l.third;
+  fourth : IsRun (length l.hints) l.fourth;
 }
 
 abbrev pub decreases-halves : goal.decreases-halves
-decreases-halves l = l.count
+decreases-halves l = l.longest

@@ -2,7 +2,7 @@ use Rattle.std.proofs.Common.{sym, ap, subst}
 use Rattle.leaf_index.specs.Index.{Index, IsRoute}
 use Rattle.leaf_index.proofs.IndexLemmas.{kept_index}
 use Rattle.leaf_index.proofs.RecentLemmas.{right_route}
-use Rattle.leaf_index.proofs.index.LeafIndex.keep_hinted.Goals as goal
+use Rattle.leaf_index.proofs.index.LeafIndex.keep_route.Goals as goal
 
 pub invariant_of-self : goal.invariant_of-self
 invariant_of-self c =

@@ -4,7 +4,7 @@ use Rattle.leaf_store.specs.Leaves.{weight}
 use Rattle.leaf_rows.specs.Laying.{AreGone}
 use Rattle.leaf_rows.proofs.SettleLemmas.{rank}
 use Rattle.leaf_rows.proofs.SweepLemmas.{IsPrunedTo}
-use Rattle.leaf_rows.proofs.rows.LeafRows.sweep_leaf.Given as goal
+use Rattle.leaf_rows.proofs.rows.LeafRows.sweep_cells.Given as goal
 
 -- the leaf's rows below the key are pruned
 abbrev pub invariant-cells : goal.invariant-cells

@@ -3,7 +3,7 @@ use Rattle.graph_model.proofs.KeyLemmas.{between_parts}
 use Rattle.leaf_store.specs.Leaves.{cell_at}
 use Rattle.leaf_rows.proofs.SettleLemmas.{rank_rises}
 use Rattle.leaf_rows.proofs.SweepLemmas.{more_gone, pruned_further, range_pruned}
-use Rattle.leaf_rows.proofs.rows.LeafRows.sweep_leaf.Goals as goal
+use Rattle.leaf_rows.proofs.rows.LeafRows.sweep_cells.Goals as goal
 
 pub cells-preserved : goal.cells-preserved
 cells-preserved c =
