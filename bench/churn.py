@@ -19,8 +19,9 @@ KIBIBYTES_IN_A_MEBIBYTE = 1024
 BYTES_IN_A_MEBIBYTE = 1024 * 1024
 
 # What a transaction of one write leaves in the journal (its commit and the
-# list of its write), in the list of its pass, and of its stamp.
-KEPT_BYTES = (48 + 48) + (24 + 48) + 16
+# list of its write), in the lists of its pass (its write and the number of
+# its writes), and of its stamp.
+KEPT_BYTES = (48 + 48) + (32 + 8) + 16
 
 LINE = re.compile(
     r"churn (?P<made>\d+) (?P<rate>\d+) undo (?P<undo>\d+)"
