@@ -19,7 +19,7 @@ use Rattle.graph_model.specs.Refused.{refused, AllAllowed, IsWithinLimits}
 use Rattle.graph_model.specs.History.{graph_at}
 use Rattle.graph_model.specs.Legal.{IsLegal}
 use Rattle.graph_model.specs.Account.{Account, IsOpenTxn, IsValid}
-use Rattle.graph_model.specs.AccountSteps.{view_of, GoesOn, ReadsBy, begun_at, BeginsBy, last_with, with_write, with_cause, WritesAt, WritesBy, ended, CommitsBy, AbortsBy}
+use Rattle.graph_model.specs.AccountSteps.{view_of, GoesOn, ReadsBy, begun_at, BeginsBy, last_with, with_write, with_cause, WritesAt, WritesBy, ended, stamped, CommitsBy, AbortsBy}
 use Rattle.graph_model.specs.AccountLaws.{ScansToTheEnd}
 use Rattle.graph_model.specs.Scans.{rows_left, ScansBy}
 use Rattle.graph_model.proofs.HistoryLemmas.{all_more, allowed_more}
@@ -146,7 +146,9 @@ module _ (old : Account) (valid : IsValid old) where
   -- and a commit
   pub commit_keeps : (stamp : Option ℕ) (new : Account) → IsLegal new.kind new.seen → CommitsBy old stamp new → IsValid new
   commit_keeps None new legal is = abort_keeps new legal is.1
-  commit_keeps (Some stamp) new legal is = abort_keeps new legal is.1
+  commit_keeps (Some stamp) new legal is =
+      let g = is.1 in
+      subst IsValid (sym g.others) (record { legal = legal_of (stamped old stamp) new refl g legal; current = tt; idle = refl; counted = valid.counted; room = valid.room })
 
 -- ---- scans
 

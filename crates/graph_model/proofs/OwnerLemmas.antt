@@ -1,8 +1,9 @@
 -- An engine of one owner does to the account of the selected pass what every engine does.
-use Rattle.std.proofs.Common.{◌≡◌, ◌≢◌, ℕ, ◌+◌, ◌<◌, List, [], ◌∷◌, ◌++◌, length, refl, sym, ◌∙◌, ap, subst, arith}
-use Rattle.std.specs.Prelude.{Option, Some, unwrap_or, Result, Ok, Err, Contains, slice_get, slice_set}
-use Rattle.std.proofs.lemmas.List.{append-nil, get_or-set_same}
-use Rattle.std.proofs.lemmas.List.Elements.{Contains-get_or}
+use Rattle.std.proofs.Common.{◌≡◌, ◌≢◌, ℕ, ◌+◌, ◌<◌, List, [], ◌∷◌, ◌++◌, map, cond, length, refl, sym, ◌∙◌, ap, subst, arith}
+use Rattle.std.specs.Prelude.{◌==◌, Option, Some, unwrap_or, Result, Ok, Err, Contains, slice_get, slice_set}
+use Rattle.std.specs.List.{filter}
+use Rattle.std.proofs.lemmas.List.{append-nil, get_or-set_same, map-append}
+use Rattle.std.proofs.lemmas.List.Elements.{Contains-get_or, filter-append}
 use Rattle.std.proofs.lemmas.Option.{unwrap_or-slice_get, slice_get_within, get_or_from_slice_get}
 use Rattle.graph_model.specs.declared.write.Write.{Write}
 use Rattle.graph_model.specs.declared.journal.Begun.{Begun}
@@ -17,12 +18,12 @@ use Rattle.graph_model.specs.declared.refusal.BeginRefusal.TheVariants as begin_
 use Rattle.graph_model.specs.Account.{Account}
 use Rattle.graph_model.specs.Conflict.{later, OpenTxn, same_name, holder, newest_later}
 use Rattle.graph_model.proofs.PlaceLemmas.{get_end, some_eq}
-use Rattle.graph_model.proofs.TestLemmas.{name_self}
+use Rattle.graph_model.proofs.TestLemmas.{name_self, self_eq}
 use Rattle.graph_model.proofs.ExampleLemmas.{true_false}
 use Rattle.graph_model.proofs.PassLemmas.{found_in}
 use Rattle.graph_model.proofs.ConflictLemmas.{greatest_in, holder_is, cause_is_holder, cause_is_later}
 use Rattle.graph_model.specs.AccountSteps.{GoesOn, BeginsBy, begun_at, WritesAt, WritesBy, IsNamed, RefusesBy, CommitsBy, with_cause, ended, IsSteady}
-use Rattle.graph_model.specs.OwnerCalls.{PassState, Core, no_pass, pass_at, current, with_current, account_of, account_here, name_here, running_of, open_txns, conflict_here, begun_pass, written_pass, ended_pass, BeginsHere, WritesHere, RefusesHere, CommitsHereFrom, one_more}
+use Rattle.graph_model.specs.OwnerCalls.{PassState, Core, no_pass, pass_at, current, with_current, account_of, stamps_of, account_here, name_here, running_of, open_txns, conflict_here, begun_pass, written_pass, ended_pass, BeginsHere, WritesHere, RefusesHere, CommitsHereFrom, one_more}
 use Rattle.graph_model.specs.OwnerLaws.{IsChosen, IsExact, OneOwnerBegins, OneOwnerWrites, OneOwnerReads, OneOwnerCommits, OneOwnerAborts, OneOwnerServes}
 use Rattle.graph_model.specs.Transactions.{commit_of}
 
@@ -164,6 +165,9 @@ commits_from s t r start (w ∷ ws) same began chosen (stamp, is) =
     ap account_here is ∙ ap (account_of longer s.selected) (at_set s.passes s.selected (ended_pass s) no_pass chosen) in
     let some : 0 < length (current s).own = subst (λ (ws : List Write). 0 < length ws) same (omega arith) in
     let seen : (account_here t).seen ≡ s.journal ++ c ∷ [] = ap (λ (a : Account). a.seen) here in
+    let stamps_more : stamps_of s.selected (s.journal ++ c ∷ []) ≡ stamps_of s.selected s.journal ++ (length s.journal + 1) ∷ [] =
+    ap (map (λ (d : Commit). d.stamp)) (filter-append (λ (d : Commit). d.by.job == s.selected) s.journal (c ∷ []) ∙ ap (λ b. filter (λ (d : Commit). d.by.job == s.selected) s.journal ++ cond b (c ∷ []) []) (self_eq s.selected))
+    ∙ map-append (λ (d : Commit). d.stamp) (filter (λ (d : Commit). d.by.job == s.selected) s.journal) (c ∷ []) in
     subst (λ (a : Option ℕ). CommitsBy (account_here s) a (account_here t) × (t.served ≡ s.served)) (sym stamp) (
       (
         (λ other also. record {
@@ -176,7 +180,7 @@ commits_from s t r start (w ∷ ws) same began chosen (stamp, is) =
           by = refl;
           writes = same;
         }),
-        record { seen = (c ∷ [], seen); others = here ∙ (λ i. record (ended (account_here s)) { seen = sym seen i }) },
+        record { seen = (c ∷ [], seen); others = here ∙ (λ i. record (ended (account_here s)) { seen = sym seen i; stamps = stamps_more i }) },
       ),
       ap (λ (d : Core). d.served) is,
     )

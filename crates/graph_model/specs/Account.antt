@@ -34,6 +34,8 @@ pub record Account : Type 0 where
   -- how many transactions the pass has begun, and how many it may begin
   pub begun : ℕ
   pub allowed : ℕ
+  -- the stamps that its commits were answered
+  pub stamps : List ℕ
 
 -- an open transaction began within what was seen, its snapshot refused none of its writes, and they
 -- stand last in what the pass has made

@@ -128,11 +128,15 @@ pub record HasCommit (old : Account) (start stamp : ℕ) (seen : List Commit) : 
   pub by : commit.by ≡ name_of old
   pub writes : commit.writes ≡ old.own
 
+-- and its commit was answered the stamp
+abbrev pub stamped : Account → ℕ → Account
+stamped account stamp = record (ended account) { stamps = account.stamps ++ stamp ∷ [] }
+
 -- a commit without writes has no stamp and isn't in the journal
 abbrev pub CommitsBy : Account → Option ℕ → Account → Type 0
 CommitsBy old None new = (old.own ≡ []) × GoesOn old (ended old) new
 CommitsBy old (Some stamp) new =
-    ((start : ℕ) → old.start ≡ Some start → HasCommit old start stamp new.seen) × GoesOn old (ended old) new
+    ((start : ℕ) → old.start ≡ Some start → HasCommit old start stamp new.seen) × GoesOn old (stamped old stamp) new
 
 -- an abort leaves nothing open
 abbrev pub AbortsBy : Account → Account → Type 0

@@ -134,6 +134,7 @@ account = record {
   filled = false;
   begun = 2;
   allowed = 5;
+  stamps = [];
 }
 
 -- the same with other writes so far
@@ -229,7 +230,7 @@ pub record WriteExamples : Type 0 where
 
 -- the pass when a third commit was seen behind its open transaction
 abbrev pub committed : ℕ → TxnName → List Write → Account
-committed start by writes = record idle { seen = then_commit 3 start by writes }
+committed start by writes = record idle { seen = then_commit 3 start by writes; stamps = 3 ∷ [] }
 
 -- what `commit` may answer the open transaction
 pub record CommitExamples : Type 0 where

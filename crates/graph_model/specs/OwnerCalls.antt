@@ -1,6 +1,6 @@
 -- An engine of one owner: one journal and all passes, and exactly what each call does to them.
-use Rattle.std.specs.Prelude.{◌≡◌, ℕ, ◌+◌, ◌-◌, ◌*◌, ◌^◌, ◌<◌, ◌≤◌, min, Bool, true, false, List, [], ◌∷◌, ◌++◌, length, Option, Some, None, option_map, unwrap_or, Result, Ok, Err, slice_get, slice_set}
-use Rattle.std.specs.List.{flat_map}
+use Rattle.std.specs.Prelude.{◌≡◌, ℕ, ◌+◌, ◌-◌, ◌*◌, ◌^◌, ◌<◌, ◌≤◌, min, Bool, true, false, List, [], ◌∷◌, ◌++◌, length, map, ◌==◌, Option, Some, None, option_map, unwrap_or, Result, Ok, Err, slice_get, slice_set}
+use Rattle.std.specs.List.{flat_map, filter}
 use Rattle.graph_model.specs.declared.limits.TheConstants.{SPLIT_ROWS}
 use Rattle.graph_model.specs.declared.write.Kind.{Kind}
 use Rattle.graph_model.specs.declared.write.Write.{Write}
@@ -54,6 +54,10 @@ current core = pass_at core core.selected
 abbrev pub with_current : Core → PassState → Core
 with_current core state = record core { passes = slice_set core.passes core.selected state }
 
+-- the stamps of the commits of a pass
+abbrev pub stamps_of : ℕ → List Commit → List ℕ
+stamps_of p journal = map (λ c. c.stamp) (filter (λ c. c.by.job == p) journal)
+
 abbrev pub account_of : Core → ℕ → PassState → Account
 account_of core p state = record {
   job = p;
@@ -67,6 +71,7 @@ account_of core p state = record {
   filled = state.filled;
   begun = state.begun;
   allowed = state.allowed;
+  stamps = stamps_of p core.journal;
 }
 
 -- the account of a pass: all passes see the whole journal
