@@ -75,8 +75,9 @@ impl LeafStore {
         ensures there { KeysHaveCells self.now }
         ensures apart { CellsAreApart self.now }
         ensures few { length self.now.parts ≤ self.now.limit }
+        ensures limit { self.now.limit ≤ MAX_LEAVES }
     {
-        let _ = &self.index;
+        self.index.is_index();
     }
 
     /// How many leaves there are, live or not.
