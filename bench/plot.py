@@ -1,9 +1,9 @@
 #!/usr/bin/python3
-"""Draws what kernel_bench printed, as docs/kernels.svg: the searches and the shortest paths on a power-law graph and on a
+"""Draws what bench_kernels printed, as docs/kernels.svg: the searches and the shortest paths on a power-law graph and on a
 path, and the shortest paths by buckets over the width of a bucket.
 
-    crates/kernel_bench/out/kernel_bench 1000000 3500000 1 5 >power_law
-    crates/kernel_bench/out/kernel_bench 1000000 0 1 5 >path
+    crates/bench_kernels/out/bench_kernels 1000000 3500000 1 5 >power_law
+    crates/bench_kernels/out/bench_kernels 1000000 0 1 5 >path
     bench/plot.py power_law path docs/kernels.svg
 
 It needs matplotlib (Debian: python3-matplotlib). It is run by hand, and not by the gate.

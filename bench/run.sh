@@ -9,7 +9,7 @@ set -euo pipefail
 
 top=$(cd "$(dirname "$0")/.." && pwd)
 program=$top/crates/teseo/out/teseo
-kernels=$top/crates/kernel_bench/out/kernel_bench
+kernels=$top/crates/bench_kernels/out/bench_kernels
 segments=$top/crates/store_bench/out/store_bench
 engine=$top/crates/engine_bench/out/engine_bench
 runs=${RUNS:-3}
@@ -105,7 +105,7 @@ measure_transactions() {
         "$(load)"
 }
 
-# The least and the greatest time of each part, in milliseconds, of the lines that kernel_bench prints, by name.
+# The least and the greatest time of each part, in milliseconds, of the lines that bench_kernels prints, by name.
 bounds() {
     sort -k 1,1 -k 2,2n | awk '
         $1 != name { if (name != "") print name, least / 1000, most / 1000; name = $1; least = $2 }
@@ -219,7 +219,7 @@ is_wanted() {
 # Builds what the wanted tables need. `rt run` builds a program only to run it; with no words these do nothing.
 build() {
     if is_wanted runs; then make -s -C "$top" build >/dev/null; fi
-    if is_wanted kernels; then (cd "$top/crates/kernel_bench" && rt run >/dev/null 2>&1); fi
+    if is_wanted kernels; then (cd "$top/crates/bench_kernels" && rt run >/dev/null 2>&1); fi
     if is_wanted segments; then (cd "$top/crates/store_bench" && rt run >/dev/null 2>&1); fi
     if is_wanted engine || is_wanted churn; then (cd "$top/crates/engine_bench" && rt run >/dev/null 2>&1); fi
 }

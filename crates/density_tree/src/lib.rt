@@ -6,7 +6,9 @@
 #![tactic(auto)]
 
 mod division;
+mod laws;
 mod window;
 
 pub use division::{Counts, spread_counts};
+pub use laws::limits_are_as_written;
 pub use window::{LOWER_LIMITS, UPPER_LIMITS, Window, window_for_insert, window_for_sparse};

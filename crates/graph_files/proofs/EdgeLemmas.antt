@@ -13,7 +13,8 @@ use Rattle.graph_files.specs.declared.listings.Listing.{Listing}
 use Rattle.graph_files.specs.declared.listings.Listing.TheVariants.{First, Second}
 use Rattle.graph_files.specs.Faults.{then_check, then_lines}
 use Rattle.graph_files.specs.Weights.{decimal_of}
-use Rattle.graph_files.specs.VertexFiles.{id_of, is_among}
+use Rattle.graph_files.specs.VertexFiles.{id_of}
+use Rattle.id_places.specs.Places.{is_among}
 use Rattle.graph_files.specs.EdgeFiles.{ends_of, edge_with, edge_of, weighted, listed_weight, Rules, Before, listing_of, behind, read_line, edges_behind}
 use Rattle.graph_files.specs.declared.checks.Checks.{Checks}
 use Rattle.graph_files.specs.Kept.{IsCheckedBy}

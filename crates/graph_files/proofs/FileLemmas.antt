@@ -22,10 +22,11 @@ use Rattle.graph_files.specs.declared.listings.Listing.{Listing}
 use Rattle.graph_files.specs.declared.listings.Listing.TheVariants.{First, Second}
 use Rattle.graph_files.specs.Faults.{then_check, then_lines}
 use Rattle.graph_files.specs.Weights.{decimal_of, is_decimal, is_in_units, units_of}
-use Rattle.graph_files.specs.VertexFiles.{as_id, id_of, line_id, is_among, new_id, vertex_of, ids_behind, vertices_of}
+use Rattle.graph_files.specs.VertexFiles.{as_id, id_of, line_id, new_id, vertex_of, ids_behind, vertices_of}
+use Rattle.id_places.specs.Places.{is_among}
 use Rattle.graph_files.specs.EdgeFiles.{joined, ends_of, weighted, edge_with, edge_of, listed_weight, is_repeated, is_reversed, arcs_of, Rules, Before, listing_of, behind, read_line, edges_behind, edges_of}
 use Rattle.graph_files.specs.Load.{ends_by, HasKnownEnds, IsLoadable}
-use Rattle.graph_files.proofs.KnownLemmas.{among_at, at_among}
+use Rattle.id_places.proofs.KnownLemmas.{among_at, at_among}
 
 -- ---- vertices
 

@@ -1,8 +1,5 @@
 pub mod WeightLemmas
-pub mod KnownLemmas
 pub mod EdgeLemmas
-pub mod DistinctLemmas
-pub mod NumberLemmas
 pub mod UnrepeatedLemmas
 pub mod SecondLemmas
 pub mod LoadLemmas

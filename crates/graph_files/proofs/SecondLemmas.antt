@@ -14,12 +14,12 @@ use Rattle.graph_files.specs.declared.listings.Listing.{Listing}
 use Rattle.graph_files.specs.declared.listings.Listing.TheVariants.{First, Second}
 use Rattle.graph_files.specs.declared.refusal.What.{What}
 use Rattle.graph_files.specs.declared.refusal.What.TheVariants.{DuplicateEdge, TooManyRows}
-use Rattle.graph_files.specs.VertexFiles.{is_among}
+use Rattle.id_places.specs.Places.{is_among, pair_of, pair_in, AreNumbers}
 use Rattle.graph_files.specs.EdgeFiles.{edge_of, listed_weight, is_repeated, is_reversed, is_other, arcs_of, Rules, listing_of, edges_behind}
-use Rattle.graph_files.specs.Kept.{every_id, AreListed, pair_of, pair_in, AreNumbers, IsCheckedBy, GoesOn}
+use Rattle.graph_files.specs.Kept.{every_id, AreListed, IsCheckedBy, GoesOn}
 use Rattle.graph_files.proofs.EdgeLemmas.{line_read}
 use Rattle.graph_files.proofs.UnrepeatedLemmas.{first_place, turned, first_listing, checked_lines}
-use Rattle.graph_files.proofs.DistinctLemmas.{same_number, earlier_differ}
+use Rattle.id_places.proofs.DistinctLemmas.{same_number, earlier_differ}
 use Rattle.graphalytics_io.specs.declared.edges.Edge.{Edge}
 use Rattle.graph_files.specs.declared.seconds.Parts.{Parts}
 use Rattle.graph_files.specs.Seconds.{IsTurned, AreParted, AreParts, Takes}

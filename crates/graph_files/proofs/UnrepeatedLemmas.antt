@@ -17,12 +17,13 @@ use Rattle.graph_files.specs.Weights.{decimal_of}
 use Rattle.graph_files.specs.declared.listings.Listing.{Listing}
 use Rattle.graph_files.specs.declared.listings.Listing.TheVariants.{First, Second}
 use Rattle.graph_files.specs.Faults.{then_check, then_lines}
-use Rattle.graph_files.specs.VertexFiles.{id_of, is_among, new_id, line_id, vertex_of, ids_behind}
+use Rattle.graph_files.specs.VertexFiles.{id_of, new_id, line_id, vertex_of, ids_behind}
+use Rattle.id_places.specs.Places.{is_among, pair_of, pair_in, AreNumbers}
 use Rattle.graph_files.specs.EdgeFiles.{joined, ends_of, weighted, edge_with, edge_of, listed_weight, is_repeated, is_reversed, is_other, arcs_of, Rules, listing_of, edges_behind}
 use Rattle.graph_files.specs.declared.checks.Checks.{Checks}
 use Rattle.graph_files.specs.declared.faultless.Front.{Front}
-use Rattle.graph_files.specs.Kept.{every_id, AreListed, pair_of, pair_in, AreNumbers, IsCheckedBy, IsFront, AreNew}
-use Rattle.graph_files.proofs.DistinctLemmas.{same_number, earlier_differ}
+use Rattle.graph_files.specs.Kept.{every_id, AreListed, IsCheckedBy, IsFront, AreNew}
+use Rattle.id_places.proofs.DistinctLemmas.{same_number, earlier_differ}
 use Rattle.graph_files.proofs.EdgeLemmas.{line_read}
 
 -- some items have been read of the lines, and these lines are left

@@ -14,7 +14,8 @@ use Rattle.graph_files.specs.declared.listings.Listing.{Listing}
 use Rattle.graph_files.specs.declared.listings.Listing.TheVariants.{First, Second}
 use Rattle.graph_files.specs.Faults.{then_check, then_lines}
 use Rattle.graph_files.specs.Weights.{decimal_of}
-use Rattle.graph_files.specs.VertexFiles.{id_of, is_among}
+use Rattle.graph_files.specs.VertexFiles.{id_of}
+use Rattle.id_places.specs.Places.{is_among}
 
 -- two ids may be the ends of an edge where they differ and both are known
 abbrev pub joined : (ℕ → Bool) → ℕ → ℕ → Result (ℕ × ℕ) What

@@ -1,6 +1,5 @@
 -- What a vertex file (LDBC Graphalytics, `.v`) stands for: its ids, or its first fault.
-use Rattle.std.specs.Prelude.{ℕ, Bool, ◌==◌, cond, nat_le, List, [], ◌∷◌, ◌++◌, length, Result, Ok, Err}
-use Rattle.std.specs.List.{list_any}
+use Rattle.std.specs.Prelude.{ℕ, cond, nat_le, List, [], ◌∷◌, ◌++◌, length, Result, Ok, Err}
 use Rattle.graph_model.specs.declared.limits.TheConstants.{MAX_ID}
 use Rattle.graphalytics_io.specs.declared.lines.FieldLine.{FieldLine}
 use Rattle.graphalytics_io.specs.declared.number.NumberFault.{NumberFault}
@@ -11,6 +10,7 @@ use Rattle.graph_files.specs.declared.refusal.What.{What}
 use Rattle.graph_files.specs.declared.refusal.What.TheVariants.{NotANumber, IdTooLarge, DuplicateVertex, MissingField, ExtraField, TooManyRows}
 use Rattle.graph_files.specs.declared.refusal.Fault.{Fault}
 use Rattle.graph_files.specs.Faults.{then_check, then_lines}
+use Rattle.id_places.specs.Places.{is_among}
 
 -- a field that was read as a number up to the greatest id
 abbrev pub as_id : Result ℕ NumberFault → Result ℕ What
@@ -21,10 +21,6 @@ as_id (Err numbers.TooLarge) = Err IdTooLarge
 -- the id of a field, or its fault
 abbrev pub id_of : List ℕ → Result ℕ What
 id_of field = as_id (number_within MAX_ID field)
-
--- the id is one of these
-abbrev pub is_among : List ℕ → ℕ → Bool
-is_among ids v = list_any (λ id. id == v) ids
 
 -- an id behind those of the lines before it, where there may be so many
 abbrev pub new_id : ℕ → List ℕ → ℕ → Result ℕ What

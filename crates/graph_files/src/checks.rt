@@ -1,8 +1,8 @@
 //! What the lines of an edge file are checked against.
 
-use crate::known::Known;
 use crate::weights::Weights;
 use graph_model::Kind;
+use id_places::Known;
 
 /// The ids of the graph, its kind, what its weights are, and how many edges there may be.
 #[derive(Drop)]

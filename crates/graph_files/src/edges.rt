@@ -8,12 +8,12 @@ ghost use Rattle.graph_files.specs.Kept.{IsCheckedBy};
 
 use crate::checks::Checks;
 use crate::faultless::{Front, are_new, faultless_front, read_front};
-use crate::known::Known;
 use crate::listings::read_rest;
 use crate::refusal::ReadRefusal;
 use crate::weights::Weights;
 use graph_model::{Ids, Kind};
 use graphalytics_io::Edges;
+use id_places::Known;
 use std::alloc::Global;
 
 /// Reads the edges of an edge file over these ids. With the ids they have at most `limit` rows, one for each vertex and

@@ -10,6 +10,7 @@ use crate::refusal::What;
 use crate::vertices::read_id;
 use crate::weights::{Weights, read_decimal};
 use graphalytics_io::{Edge, Fields};
+use id_places::Known;
 
 /// Which ids an edge may join.
 pub(crate) trait KnownIds {
@@ -27,6 +28,16 @@ impl KnownIds for EveryId {
 
     fn knows(&self, _id: u64) -> bool {
         true
+    }
+}
+
+impl KnownIds for Known {
+    ghost use Rattle.id_places.specs.Places.{is_among};
+
+    ghost knows = { is_among };
+
+    fn knows(&self, id: u64) -> bool {
+        Known::knows(self, id)
     }
 }
 

@@ -13,13 +13,12 @@ ghost use Rattle.graph_files.specs.EdgeFiles.{Rules, edge_of};
 ghost use Rattle.graph_files.specs.Kept.{IsCheckedBy, AreListed, IsFront, AreNew, GoesOn, every_id};
 
 use crate::checks::Checks;
-use crate::distinct::are_distinct;
 use crate::ends::{EveryId, read_edge};
 use crate::listings::Reading;
-use crate::numbers::numbers_of;
 use crate::seconds::{Parts, parts_of};
 use crate::weights::Weights;
 use graphalytics_io::{Edge, Edges, field_lines};
+use id_places::{are_distinct, numbers_of};
 use items::NoMemory;
 use std::alloc::Global;
 

@@ -7,17 +7,13 @@
 #![tactic(auto)]
 
 mod checks;
-mod distinct;
 mod edges;
 mod ends;
 mod faultless;
-mod known;
 mod laws;
 mod listings;
-mod numbers;
 mod refusal;
 mod seconds;
-mod slots;
 mod vertices;
 mod weights;
 

@@ -5,10 +5,10 @@ ghost use Rattle.graph_files.specs.Faults.{IsRefused};
 ghost use Rattle.graph_files.specs.VertexFiles.{id_of, line_id, vertex_of, vertices_of};
 ghost use Rattle.graph_files.specs.Kept.{IsSetOf};
 
-use crate::distinct::are_distinct;
 use crate::refusal::{Fault, ReadRefusal, What};
 use graph_model::{Ids, MAX_ID};
 use graphalytics_io::{Fields, NumberFault, field_lines, read_number};
+use id_places::are_distinct;
 use items::NoMemory;
 use std::alloc::Global;
 use std::collections::BTreeSet;

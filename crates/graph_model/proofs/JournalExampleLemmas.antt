@@ -1,6 +1,6 @@
 -- The worked examples of journals, of what transactions see and meet, and of accounts.
 use Rattle.std.proofs.Common.{◌≡◌, ℕ, ◌≤◌, List, [], ◌∷◌, ◌++◌, refl, sym, ◌∙◌, ap, arith, zero, suc, ◌<◌}
-use Rattle.std.specs.Prelude.{Result, Ok, Err, get_or, true, false, ◌==◌, None, IsTrue, slice_get}
+use Rattle.std.specs.Prelude.{Option, Some, Result, Ok, Err, get_or, true, false, ◌==◌, None, IsTrue, slice_get}
 use Rattle.graph_model.specs.declared.write.Kind.TheVariants.{Undirected}
 use Rattle.graph_model.specs.declared.write.Write.{Write}
 use Rattle.graph_model.specs.declared.write.Write.TheVariants.{AddVertex, DropVertex, AddEdge, SetEdge, DropEdge}
@@ -8,13 +8,13 @@ use Rattle.graph_model.specs.declared.journal.Commit.{Commit}
 use Rattle.graph_model.specs.declared.journal.TxnName.{TxnName}
 use Rattle.graph_model.specs.declared.refusal.Cause.TheVariants.{Later, Holder}
 use Rattle.graph_model.specs.declared.refusal.Refusal.{Refusal}
-use Rattle.graph_model.specs.declared.refusal.Refusal.TheVariants.{SelfLoop, NoVertex, VertexExists, Conflict, Full}
+use Rattle.graph_model.specs.declared.refusal.Refusal.TheVariants.{SelfLoop, NoVertex, VertexExists, EdgeExists, NoEdge, HasEdges, Conflict, Full}
 use Rattle.graph_model.specs.Graph.{empty_graph}
 use Rattle.graph_model.specs.Refused.{refused, IsWithinLimits}
 use Rattle.graph_model.specs.History.{graph_at}
 use Rattle.graph_model.specs.Legal.{have_clash, IsLegal}
 use Rattle.graph_model.specs.Account.{Account}
-use Rattle.graph_model.specs.AccountSteps.{view_of, with_write, with_cause, WritesAt, WritesBy, HasCommit}
+use Rattle.graph_model.specs.AccountSteps.{view_of, GoesOn, with_write, with_cause, WritesAt, WritesBy, HasCommit}
 use Rattle.graph_model.specs.Examples.{load}
 use Rattle.graph_model.specs.JournalExamples.{name, commit, journal, then_commit, account, LegalExamples, IllegalExamples, ViewExamples, AccountExamples, BeginExamples, WriteExamples, CommitExamples}
 use Rattle.graph_model.proofs.PlaceLemmas.{some_eq}
@@ -192,6 +192,13 @@ only_one : (y x k : ℕ) → k < 1 → get_or (y ∷ []) k x ≡ x → y ≡ x
 only_one y x zero lt e = e
 only_one y x (suc k) lt e = absurd (omega arith)
 
+-- what the view refuses, and nothing else
+refuses : (w : Write) (refusal : Refusal) → WritesAt account 1 w (Err refusal) account → WritesBy account w (Err refusal) account
+refuses w refusal at = answered w (Err refusal) account at
+
+pub other_vertex : {P : Type 0} (u v : ℕ) → (u == v) ≡ false → ◌≡◌ {A = Option Refusal} (Some (NoVertex u)) (Some (NoVertex v)) → P
+other_vertex u v apart e = let same : u ≡ v = cc in true_false (sym (self_eq v) ∙ ap (λ n. n == v) (sym same) ∙ apart)
+
 pub writes : WriteExamples
 writes = record {
   made = answered (SetEdge 1 4 5) (Ok tt) (with_write account (SetEdge 1 4 5))
@@ -199,6 +206,17 @@ writes = record {
   loop_not_made = λ is. some_none SelfLoop (is 1 refl).0;
   loop_refused = answered (SetEdge 2 2 5) (Err SelfLoop) account (refl, record { seen = ([], refl); others = refl });
   no_loop_not_refused = λ is. some_none SelfLoop (sym (is 1 refl).0 ∙ by_view (SetEdge 1 4 5));
+  no_vertex = refuses (AddEdge 1 9 5) (NoVertex 9) (by_view (AddEdge 1 9 5), as_it_was);
+  not_another_vertex = λ is. other_vertex 9 1 refl (sym (by_view (AddEdge 1 9 5)) ∙ (is 1 refl).0);
+  not_a_vertex_for_an_edge = λ is. some_none (NoVertex 9) (sym (is 1 refl).0 ∙ by_view (SetEdge 1 4 5));
+  vertex_exists = refuses (AddVertex 4) VertexExists (by_view (AddVertex 4), as_it_was);
+  no_vertex_exists = λ is. some_none VertexExists (sym (is 1 refl).0 ∙ by_view (AddVertex 5));
+  edge_exists = refuses (AddEdge 4 1 5) EdgeExists (by_view (AddEdge 4 1 5), as_it_was);
+  no_edge_exists = λ is. some_none EdgeExists (sym (is 1 refl).0 ∙ by_view (AddEdge 1 3 5));
+  no_edge = refuses (DropEdge 1 3) NoEdge (by_view (DropEdge 1 3), as_it_was);
+  an_edge_is_there = λ is. some_none NoEdge (sym (is 1 refl).0 ∙ by_view (SetEdge 1 4 5));
+  has_edges = refuses (DropVertex 1) HasEdges (by_view (DropVertex 1), as_it_was);
+  no_edges_in_the_way = λ is. some_none HasEdges (sym (is 1 refl).0 ∙ by_view (SetEdge 1 4 5));
   met_a_commit = answered (SetEdge 1 2 5) (Err (Conflict (Later 2))) account
       (by_view (SetEdge 1 2 5), (0, omega arith, refl), record { seen = ([], refl); others = refl });
   met_a_holder = answered (SetEdge 1 2 5) (Err (Conflict (Holder (name 3 1)))) (with_cause account 1 (SetEdge 1 2 5) (Holder (name 3 1)))
@@ -216,6 +234,9 @@ writes = record {
   not_full_for_what_is_there = λ is. some_none VertexExists (sym (by_view (AddVertex 4)) ∙ (is 1 refl).0);
   not_full_with_other_leaves = λ is. omega (arith, (is 1 refl).2);
 }
+  where
+    as_it_was : GoesOn account account account
+    as_it_was = record { seen = ([], refl); others = refl }
 
 -- ---- commits
 
@@ -262,6 +283,7 @@ commits = record {
       let job : ◌≡◌ {A = ℕ} 1 2 = ap (λ (c : Commit). c.by.job) (sym second) ∙ ap (λ (n : TxnName). n.job) has.by in
       omega (arith, job);
   not_without_a_stamp = λ is. no_writes _ _ is.0;
+  not_of_no_writes = λ is. let wrote : 0 < 0 = (is.0 1 refl).wrote in omega (arith, wrote);
 }
   where
     other_target : AddEdge 1 3 1 ∷ [] ≡ AddEdge 1 4 1 ∷ [] → ⊥

@@ -19,6 +19,7 @@ pub mod ConflictLemmas
 pub mod SerialLemmas
 pub mod ViewLemmas
 pub mod AccountLemmas
+pub mod ScanLemmas
 pub mod EntryLemmas
 pub mod ExampleLemmas
 pub mod PlaceLemmas
@@ -29,5 +30,6 @@ pub mod PassLemmas
 pub mod OwnerLemmas
 pub mod JournalExampleLemmas
 pub mod OwnerExampleLemmas
+pub mod LoadLemmas
 pub mod WitnessLemmas
 pub mod KernelExampleLemmas

@@ -1,6 +1,7 @@
 -- Laws of accounts and of scans. Each is the contract of a function in `laws`.
-use Rattle.std.specs.Prelude.{◌≡◌, ℕ, true, false, List, [], ◌∷◌, Option, Some, None, Result}
+use Rattle.std.specs.Prelude.{◌≡◌, ℕ, ◌+◌, ◌/◌, true, false, List, [], ◌∷◌, length, slice_get, Option, Some, None, Result, IsTrue}
 use Rattle.std.specs.List.{flat_map}
+use Rattle.graph_model.specs.declared.limits.TheConstants.{SCAN_ROWS}
 use Rattle.graph_model.specs.declared.write.Write.{Write}
 use Rattle.graph_model.specs.declared.journal.Begun.{Begun}
 use Rattle.graph_model.specs.declared.row.Row.{Row}
@@ -12,6 +13,7 @@ use Rattle.graph_model.specs.Refused.{IsWithinLimits}
 use Rattle.graph_model.specs.Legal.{IsLegal}
 use Rattle.graph_model.specs.Account.{Account, IsValid}
 use Rattle.graph_model.specs.AccountSteps.{ReadsBy, BeginsBy, WritesBy, CommitsBy, AbortsBy}
+use Rattle.graph_model.specs.Rows.{is_below}
 use Rattle.graph_model.specs.Scans.{rows_left, ScansBy}
 
 -- a call whose pass sees a legal journal keeps its account valid
@@ -51,3 +53,13 @@ ScansToTheEnd g cursor (given ∷ portions) =
 abbrev pub PortionsAreTheRows : Type 0
 PortionsAreTheRows = (g : Graph) (cursor : Cursor) (portions : List (List Row)) → cursor.done ≡ false
     → ScansToTheEnd g cursor portions → flat_map (λ given. given) portions ≡ rows_left g cursor
+
+-- it takes a turn for each full portion, and one more for what is left, which may be nothing
+abbrev pub ScanTakesItsTurns : Type 0
+ScanTakesItsTurns = (g : Graph) (cursor : Cursor) (portions : List (List Row)) → cursor.done ≡ false
+    → ScansToTheEnd g cursor portions → length portions ≡ length (rows_left g cursor) / SCAN_ROWS + 1
+
+-- a scan that goes on does so behind each row that it has given, whatever is written there meanwhile
+abbrev pub NextIsBehind : Type 0
+NextIsBehind = (g : Graph) (old new : Cursor) (given : List Row) (i : ℕ) (r : Row) → ScansBy g old new given
+    → new.done ≡ false → slice_get given i ≡ Some r → IsTrue (is_below r.key new.next)

@@ -9,7 +9,7 @@ use Rattle.graph_model.specs.declared.journal.TxnName.{TxnName}
 use Rattle.graph_model.specs.declared.refusal.Cause.{Cause}
 use Rattle.graph_model.specs.declared.refusal.Cause.TheVariants.{Later, Holder}
 use Rattle.graph_model.specs.declared.refusal.Refusal.{Refusal}
-use Rattle.graph_model.specs.declared.refusal.Refusal.TheVariants.{SelfLoop, Conflict, Full}
+use Rattle.graph_model.specs.declared.refusal.Refusal.TheVariants.{SelfLoop, NoVertex, VertexExists, EdgeExists, NoEdge, HasEdges, Conflict, Full}
 use Rattle.graph_model.specs.declared.refusal.BeginRefusal.{BeginRefusal}
 use Rattle.graph_model.specs.declared.refusal.BeginRefusal.TheVariants.{TxnsUsed}
 use Rattle.graph_model.specs.Graph.{has_vertex, weight_of}
@@ -215,6 +215,18 @@ pub record WriteExamples : Type 0 where
   pub loop_not_made : IsMade (SetEdge 2 2 5) → ⊥
   pub loop_refused : IsRefused (SetEdge 2 2 5) SelfLoop
   pub no_loop_not_refused : IsRefused (SetEdge 1 4 5) SelfLoop → ⊥
+  -- each other refusal, where it is right and where it isn't
+  pub no_vertex : IsRefused (AddEdge 1 9 5) (NoVertex 9)
+  pub not_another_vertex : IsRefused (AddEdge 1 9 5) (NoVertex 1) → ⊥
+  pub not_a_vertex_for_an_edge : IsRefused (SetEdge 1 4 5) (NoVertex 9) → ⊥
+  pub vertex_exists : IsRefused (AddVertex 4) VertexExists
+  pub no_vertex_exists : IsRefused (AddVertex 5) VertexExists → ⊥
+  pub edge_exists : IsRefused (AddEdge 4 1 5) EdgeExists
+  pub no_edge_exists : IsRefused (AddEdge 1 3 5) EdgeExists → ⊥
+  pub no_edge : IsRefused (DropEdge 1 3) NoEdge
+  pub an_edge_is_there : IsRefused (SetEdge 1 4 5) NoEdge → ⊥
+  pub has_edges : IsRefused (DropVertex 1) HasEdges
+  pub no_edges_in_the_way : IsRefused (SetEdge 1 4 5) HasEdges → ⊥
   -- a conflict is with a later commit that clashes, or with a transaction of another pass
   pub met_a_commit : HasMet (SetEdge 1 2 5) (Later 2)
   pub met_a_holder : HasMet (SetEdge 1 2 5) (Holder (name 3 1))
@@ -241,3 +253,4 @@ pub record CommitExamples : Type 0 where
   pub not_of_other_writes : CommitsBy account (Some 3) (committed 1 (name 2 2) (AddEdge 1 3 1 ∷ [])) → ⊥
   pub not_at_another_stamp : CommitsBy account (Some 2) (committed 1 (name 2 2) account.own) → ⊥
   pub not_without_a_stamp : CommitsBy account None (committed 1 (name 2 2) account.own) → ⊥
+  pub not_of_no_writes : CommitsBy (with_own []) (Some 3) (record (committed 1 (name 2 2) []) { made = [] ∷ [] ∷ [] }) → ⊥

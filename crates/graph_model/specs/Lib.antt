@@ -20,6 +20,7 @@ pub mod TableText
 pub mod OwnerCalls
 pub mod OwnerLaws
 pub mod Loading
+pub mod LoadLaws
 pub mod TransactionLaws
 pub mod WriteLaws
 pub mod JournalLaws
@@ -27,7 +28,9 @@ pub mod ConflictLaws
 pub mod AccountLaws
 pub mod RowLaws
 pub mod KernelLaws
+pub mod LimitLaws
 pub mod Examples
 pub mod JournalExamples
 pub mod OwnerExamples
+pub mod LoadExamples
 pub mod KernelExamples

@@ -2,8 +2,9 @@
 use Rattle.std.specs.Prelude.{◌≡◌, ℕ, true, false, List, [], ◌∷◌, replicate, Ok, Err, Some, None}
 use Rattle.graph_model.specs.declared.write.Kind.TheVariants.{Undirected}
 use Rattle.graph_model.specs.declared.write.Write.{Write}
-use Rattle.graph_model.specs.declared.write.Write.TheVariants.{AddVertex, SetEdge}
+use Rattle.graph_model.specs.declared.write.Write.TheVariants.{AddVertex, DropVertex, AddEdge, SetEdge, DropEdge}
 use Rattle.graph_model.specs.declared.refusal.Cause.TheVariants.{Later, Holder}
+use Rattle.graph_model.specs.declared.refusal.Refusal.{Refusal}
 use Rattle.graph_model.specs.declared.refusal.Refusal.TheVariants as refusals
 use Rattle.graph_model.specs.Account.{Sighting}
 use Rattle.graph_model.specs.OwnerCalls.{PassState, Core, current, with_current, written_pass, WritesHere, one_more, ServesHere}
@@ -65,6 +66,26 @@ pub record OwnerWriteExamples : Type 0 where
       (with_sighted (record { by = name 3 1; write = SetEdge 2 3 5; start = 1 } ∷ []))
   pub not_named_for_another_edge : WritesHere core (SetEdge 1 2 5) (Err (refusals.Conflict (Holder (name 3 1))))
       (with_sighted (record { by = name 3 1; write = SetEdge 1 2 5; start = 1 } ∷ [])) → ⊥
+
+-- the write of the selected pass is refused for what it sees
+abbrev pub Refuses : Write → Refusal → Type 0
+Refuses w refusal = WritesHere core w (Err refusal) core
+
+-- each refusal where it is right, and where it isn't
+pub record OwnerRefusalExamples : Type 0 where
+  pub loop : Refuses (SetEdge 2 2 5) refusals.SelfLoop
+  pub no_loop : Refuses (SetEdge 1 4 5) refusals.SelfLoop → ⊥
+  pub no_vertex : Refuses (AddEdge 1 9 5) (refusals.NoVertex 9)
+  pub another_vertex : Refuses (AddEdge 1 9 5) (refusals.NoVertex 1) → ⊥
+  pub both_vertices : Refuses (SetEdge 1 4 5) (refusals.NoVertex 9) → ⊥
+  pub vertex_exists : Refuses (AddVertex 4) refusals.VertexExists
+  pub no_such_vertex : Refuses (AddVertex 5) refusals.VertexExists → ⊥
+  pub edge_exists : Refuses (AddEdge 4 1 5) refusals.EdgeExists
+  pub no_such_edge : Refuses (AddEdge 1 3 5) refusals.EdgeExists → ⊥
+  pub no_edge : Refuses (DropEdge 1 3) refusals.NoEdge
+  pub an_edge : Refuses (SetEdge 1 4 5) refusals.NoEdge → ⊥
+  pub has_edges : Refuses (DropVertex 1) refusals.HasEdges
+  pub has_none_to_look_at : Refuses (SetEdge 1 4 5) refusals.HasEdges → ⊥
 
 -- one leaf, and so many rows that the load may have inserted; the later passes' edge and vertex are three rows more
 abbrev pub with_rows : ℕ → Core

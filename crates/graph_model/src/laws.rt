@@ -9,7 +9,8 @@ ghost use Rattle.graph_model.specs.KernelExamples.{SearchExamples, PathExamples,
 ghost use Rattle.graph_model.specs.WriteLaws.{KeepsBothEnds, KeepsSymmetric, WritesCommute, StaysAllowed, ClashIsSymmetric, ListsCommute, ListsStayAllowed, WriteByKey, WritesByKey, TouchesAreOfVertices, ClashIsByRow};
 ghost use Rattle.graph_model.specs.JournalLaws.{PrefixIsLegal, LegalHasBothEnds, PrefixHasItsGraphs, NoCommitIsLegal, OneCommitMore, CommitsAreSerial, EndsFollow, StartIsEnough, ViewIsSymmetric, ViewIsBounded, ViewHasNoLoops, ViewHasBothEnds};
 ghost use Rattle.graph_model.specs.ConflictLaws.{NoConflict, NamesLeastJob, NamesNewest};
-ghost use Rattle.graph_model.specs.AccountLaws.{BeginKeepsValid, WriteKeepsValid, ReadKeepsValid, EndKeepsValid, DoneScanIsWhole, PortionsAreTheRows};
+ghost use Rattle.graph_model.specs.AccountLaws.{BeginKeepsValid, WriteKeepsValid, ReadKeepsValid, EndKeepsValid, DoneScanIsWhole, PortionsAreTheRows, ScanTakesItsTurns, NextIsBehind};
+ghost use Rattle.graph_model.specs.LimitLaws.{LimitsAre};
 ghost use Rattle.graph_model.specs.RowLaws.{RowsRise, RowsAreOfTheGraph, RowsAreComplete, RangesAdjoin};
 ghost use Rattle.graph_model.specs.KernelLaws.{RootIsNearest, OneDistance, OneLeastWeight, ArcAddsOne, ArcAddsItsWeight, NoWalkIsNone, WalksReach, ReachesIsWalk, ReachesByIsWalk, ReachesWithinIsWalk, ComponentIsNotAbove, OneComponent, ArcJoinsComponents, LeastIsItsComponent, FirstLabelIsTheVertex, LonelyKeepsItsLabel, TwiceIsOnce, OneTable};
 
@@ -92,10 +93,13 @@ pub fn rows_are_of_the_graph()
     ensures adjoin { RangesAdjoin }
 {}
 
-/// A scan that is done has given all rows that were left, and from its beginning each row once.
+/// A scan that is done has given all rows that were left, and from its beginning each row once, in so many
+/// turns; one that goes on does so behind what it has given.
 pub fn scans_end_with_the_last_row()
     ensures done { DoneScanIsWhole }
     ensures portions { PortionsAreTheRows }
+    ensures turns { ScanTakesItsTurns }
+    ensures next { NextIsBehind }
 {}
 
 /// The root has 0, a vertex has one least length and one least weight, an arc adds at most one or
@@ -136,6 +140,11 @@ pub fn labels_follow_neighbours()
 /// The definitions determine the tables.
 pub fn tables_are_determined()
     ensures { OneTable }
+{}
+
+/// Each limit is the number that it is meant to be.
+pub fn limits_are_as_written()
+    ensures { LimitsAre }
 {}
 
 /// Worked examples of writes and of rows, with values reckoned by hand.

@@ -28,7 +28,7 @@ pub use laws::{
     apart_writes_commute, calls_keep_accounts_valid, commits_are_serial,
     components_are_least_vertices, conflicts_have_causes, examples_hold, journal_examples_hold,
     journals_grow_by_commits, kernel_examples_hold, labels_follow_neighbours,
-    least_walks_are_distances, prefixes_are_legal, rows_are_of_the_graph,
+    least_walks_are_distances, limits_are_as_written, prefixes_are_legal, rows_are_of_the_graph,
     scans_end_with_the_last_row, tables_are_determined, views_are_sound, walks_have_their_forms,
     writes_are_by_key, writes_keep_graphs_sound,
 };
@@ -38,7 +38,9 @@ pub use limits::{
     SEGMENT_ROWS, SPLIT_ROWS,
 };
 pub use load::{LoadEngine, LoadRefusal};
-pub use owner::{begin_and_abort, one_owner_meets_the_account, owner_examples_hold};
+pub use owner::{
+    begin_and_abort, loads_leave_valid_accounts, one_owner_meets_the_account, owner_examples_hold,
+};
 pub use refusal::{BeginRefusal, Cause, Refusal};
 pub use row::{Cursor, Key, Row, Rows64};
 pub use state::State;

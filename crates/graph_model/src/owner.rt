@@ -3,7 +3,9 @@
 
 ghost use Rattle.std.specs.Prelude.{◌≡◌, ◌+◌, None, OnOk};
 ghost use Rattle.graph_model.specs.OwnerLaws.{OneOwnerBegins, OneOwnerWrites, OneOwnerReads, OneOwnerCommits, OneOwnerAborts, OneOwnerServes};
-ghost use Rattle.graph_model.specs.OwnerExamples.{OwnerWriteExamples, FullExamples, ServiceExamples};
+ghost use Rattle.graph_model.specs.LoadLaws.{LoadIsLegal, LoadIsValid};
+ghost use Rattle.graph_model.specs.OwnerExamples.{OwnerWriteExamples, OwnerRefusalExamples, FullExamples, ServiceExamples};
+ghost use Rattle.graph_model.specs.LoadExamples.{LoadExamples};
 
 use crate::engine::StepEngine;
 use crate::refusal::BeginRefusal;
@@ -19,11 +21,19 @@ pub fn one_owner_meets_the_account()
     ensures serve { OneOwnerServes }
 {}
 
-/// Worked examples of the exact calls, with values reckoned by hand.
+/// A load that is allowed leaves a legal journal, and each pass with a valid account.
+pub fn loads_leave_valid_accounts()
+    ensures journal { LoadIsLegal }
+    ensures accounts { LoadIsValid }
+{}
+
+/// Worked examples of the exact calls and of a load, with values reckoned by hand.
 pub fn owner_examples_hold()
     ensures writes { OwnerWriteExamples }
+    ensures refusals { OwnerRefusalExamples }
     ensures full { FullExamples }
     ensures service { ServiceExamples }
+    ensures loads { LoadExamples }
 {}
 
 /// Begins a transaction and takes it back. The journal is as it was, and a number of the pass is used up

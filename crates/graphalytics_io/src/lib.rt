@@ -1,5 +1,5 @@
-//! What the files of LDBC Graphalytics have in common: lines of fields, numbers, and edges with their load.
-//! Result files are written here too.
+//! What the files of LDBC Graphalytics have in common: lines of fields, numbers, and edges with their load
+//! into an engine. Result files are written here too.
 //!
 //! 1. A text is read once, from left to right, and is lent: nothing of it is copied but what it spells.
 //! 2. Each line is counted, also one that says nothing, so a fault can be told by its line.
@@ -10,6 +10,7 @@
 mod edges;
 mod line_fields;
 mod lines;
+mod load;
 mod number;
 mod spelling;
 mod table;
@@ -18,6 +19,7 @@ mod text;
 pub use edges::{Edge, Edges};
 pub use line_fields::Fields;
 pub use lines::{FieldLine, FieldLines, field_lines, fields, lines_have_fields};
+pub use load::load_graph;
 pub use number::{NumberFault, read_number};
 pub use spelling::{Spelling, append_each, write_each};
 pub use table::write_table;

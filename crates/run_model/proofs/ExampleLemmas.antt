@@ -16,9 +16,12 @@ use Rattle.graph_model.specs.declared.journal.Commit.{Commit}
 use Rattle.graph_model.specs.declared.refusal.Cause.{Cause}
 use Rattle.graph_model.specs.declared.refusal.Cause.TheVariants.{Later, Holder}
 use Rattle.graph_model.specs.Graph.{Graph, arc_cmp, empty_graph, has_vertex, vertices_of, apply, apply_all, HasBothEnds}
-use Rattle.graph_model.specs.Refused.{refused, AllAllowed}
+use Rattle.graph_model.specs.Items.{clash}
+use Rattle.graph_model.specs.Refused.{refused, AllAllowed, IsWithinLimits}
 use Rattle.graph_model.specs.History.{graph_at}
 use Rattle.graph_model.specs.Legal.{have_clash, IsLegalCommit, IsLegal}
+use Rattle.graph_model.proofs.EntryLemmas.{entries_made, refused_at}
+use Rattle.graph_model.proofs.LoadLemmas.{journal_legal}
 use Rattle.graph_model.proofs.OrderLemmas.{arcs_total}
 use Rattle.graph_model.proofs.WriteLemmas.{keeps_ends}
 use Rattle.run_model.specs.declared.command.Command.{Command}
@@ -26,7 +29,7 @@ use Rattle.run_model.specs.declared.command.Command.TheVariants as commands
 use Rattle.run_model.specs.declared.answer.Answer.{Answer}
 use Rattle.run_model.specs.declared.answer.Answer.TheVariants as answers
 use Rattle.run_model.specs.Inputs.{Inputs, AreInputs, File}
-use Rattle.run_model.specs.AnsweredLines.{AnsweredLine, answered_lines}
+use Rattle.run_model.specs.AnsweredLines.{AnsweredLine, answered_lines, made_by}
 use Rattle.graph_model.specs.declared.refusal.Refusal.{Refusal}
 use Rattle.graph_model.specs.declared.refusal.Refusal.TheVariants as refusals
 use Rattle.graph_model.specs.declared.table.Entry.{Entry}
@@ -37,9 +40,9 @@ use Rattle.run_model.proofs.SnapshotLemmas.{target_arc}
 use Rattle.run_model.specs.Requests.{Counts, begun_by, IsScript}
 use Rattle.run_model.specs.Run.{Context, txn_name, load_commit, IsCause, IsWriteAnswer, AllAnswered, HasFiles, IsLoad, IsShown}
 use Rattle.graph_model.specs.declared.limits.TheConstants.{MAX_WEIGHT, MAX_BEGINS}
-use Rattle.std.specs.List.{list_any, slice_index_or}
+use Rattle.std.specs.List.{AllByRecursion, list_any, slice_index_or}
 use Rattle.run_model.proofs.ShortLemmas.{line_numbered}
-use Rattle.run_model.specs.Examples.{load, sets, nine, Meets, ConflictExamples, one_vertex, GetsAnswers, AnswerExamples, WrongAnswers, WrongParts, TextExamples}
+use Rattle.run_model.specs.Examples.{load, sets, nine, Meets, MeetsApart, ConflictExamples, one_vertex, GetsOn, GetsAnswers, AnswerExamples, WrongAnswers, WrongParts, TextExamples}
 
 pub texts : TextExamples
 unfolding digits
@@ -226,6 +229,23 @@ cause_at_two : (cause : Cause) → Meets 2 cause → IsCause (judged 2 cause 2) 
 cause_at_two cause run =
     subst (λ r. IsWriteAnswer (judged 2 cause 2) 2 (writes.SetEdge 1 2 8) r (answers.Conflict cause)) set_still_allowed (run.answered 1 (second_lines 2 cause) refl).1.0
 
+-- the first script where it sets another edge
+abbrev apart_lines : List AnsweredLine
+apart_lines = answered_lines (commands.Begin ∷ commands.SetEdge 2 3 9 ∷ commands.Commit ∷ []) (answers.Begun (txn_name 1 1) 1 ∷ answers.Done ∷ answers.Committed (Some 2) ∷ [])
+
+abbrev judged_apart : Cause → Context
+judged_apart cause = record {
+  kind = Undirected;
+  load = load;
+  journal = load_commit load ∷ record (nine 2) { writes = writes.SetEdge 2 3 9 ∷ [] } ∷ [];
+  scripts = apart_lines ∷ second_lines 1 cause ∷ [];
+  job = 2;
+}
+
+cause_apart : (cause : Cause) → MeetsApart cause → IsCause (judged_apart cause) 1 (writes.SetEdge 1 2 8) cause
+cause_apart cause run =
+    subst (λ r. IsWriteAnswer (judged_apart cause) 1 (writes.SetEdge 1 2 8) r (answers.Conflict cause)) set_allowed_too (run.answered 1 (second_lines 1 cause) refl).1.0
+
 pub conflicts : ConflictExamples
 conflicts = record {
   with_open = meets (Holder (txn_name 1 1)) (
@@ -244,6 +264,12 @@ conflicts = record {
       (line_numbered 0 (sets 8) (answers.Begun (txn_name 2 1) 1 ∷ answers.Conflict (Holder (txn_name 1 2)) ∷ answers.Skipped ∷ [])) clash.0 clash.1 clash.3 line.place line.line line.there in
       let txn : line.line.txn ≡ 2 = line.txn in omega arith);
   with_earlier = λ run. let later : 2 < 2 = (cause_at_two (Holder (txn_name 1 1)) run).2 1 (nine 2) refl refl in omega (arith, later);
+  with_apart = λ run. (
+      let clash = (cause_apart (Holder (txn_name 1 1)) run).1 in
+      let made = clash.4 in
+      let place : clash.0 ≡ 0 = let numbered : clash.0 + 1 ≡ 1 = clash.2 in omega (arith, numbered) in
+      made_apart clash.1 (same_Some _ _ (sym clash.3 ∙ ap (slice_get (judged_apart (Holder (txn_name 1 1))).scripts) place)) made.place made.line made.write made.there made.made made.clashes);
+  with_later_apart = λ run. let later = cause_apart (Later 2) run in let below : later.0 < 0 = later.1 in omega (arith, below);
 }
   where
     at_head : (k : ℕ) → k < 1 → ◌≡◌ {A = ℕ} (slice_index_or (2 ∷ []) k 1) 1 → ⊥
@@ -253,10 +279,23 @@ conflicts = record {
     no_later : Contains {X = ℕ} (2 ∷ []) 1 → ⊥
     no_later is = at_head is.0 is.1 is.2
 
--- ---- one script on a graph of one vertex
+    -- the line that sets the other edge is the only one of the first script that made a write
+    made_apart : (lines : List AnsweredLine) → lines ≡ apart_lines → (place : ℕ) (line : AnsweredLine) (write : Write) → slice_get lines place ≡ Some line → made_by line ≡ Some write
+        → clash Undirected write (writes.SetEdge 1 2 8) ≡ true → ⊥
+    made_apart lines same place line write there made clashes = at_place place (ap (λ ls. slice_get ls place) (sym same) ∙ there)
+      where
+        by_line : (m : AnsweredLine) → m ≡ line → made_by m ≡ Some write
+        by_line m e = ap made_by e ∙ made
 
-abbrev one_commit : List Commit
-one_commit = load_commit one_vertex ∷ []
+        at_place : (place : ℕ) → slice_get apart_lines place ≡ Some line → ⊥
+        at_place zero at = none-some _ (by_line (record { txn = 1; command = commands.Begin; answer = answers.Begun (txn_name 1 1) 1 }) (same_Some _ line at))
+        at_place (suc zero) at =
+            let wrote = same_Some (writes.SetEdge 2 3 9) write (by_line (record { txn = 1; command = commands.SetEdge 2 3 9; answer = answers.Done }) (same_Some _ line at)) in
+            let none : false ≡ true = ap (λ w. clash Undirected w (writes.SetEdge 1 2 8)) wrote ∙ clashes in cc
+        at_place (suc (suc zero)) at = none-some _ (by_line (record { txn = 1; command = commands.Commit; answer = answers.Committed (Some 2) }) (same_Some _ line at))
+        at_place (suc (suc (suc place))) at = none-some _ at
+
+-- ---- one script on a graph of one vertex
 
 abbrev one : Graph
 one = apply_all Undirected empty_graph one_vertex
@@ -267,51 +306,49 @@ two = apply Undirected one (writes.AddVertex 2)
 one_allowed : AllAllowed Undirected empty_graph one_vertex
 one_allowed = (simp lookups refl, tt)
 
-one_legal : IsLegal Undirected one_commit
-one_legal = record {
-  each = at_one (λ i c. IsLegalCommit Undirected one_commit i c) (load_commit one_vertex)
-      (record { stamped = refl; started = omega arith; wrote = omega arith; allowed = one_allowed; within = (omega arith, tt) });
-  names = λ i j c d at_i at_j same. at_one (λ k (e : Commit). k ≡ 0) (load_commit one_vertex) refl i c at_i ∙ sym (at_one (λ k (e : Commit). k ≡ 0) (load_commit one_vertex) refl j d at_j);
-  apart = λ i j c d less at_i at_j clash.
-      (let first = at_one (λ k (e : Commit). k ≡ 0) (load_commit one_vertex) refl i c at_i in let second = at_one (λ k (e : Commit). k ≡ 0) (load_commit one_vertex) refl j d at_j in absurd (omega arith));
-  ends = ends;
-}
-  where
-    ends : (stamp : ℕ) → stamp ≤ 1 → HasBothEnds (graph_at Undirected one_commit stamp)
-    ends zero le = empty_ends
-    ends (suc zero) le = all_ends Undirected empty_graph one_vertex one_allowed empty_ends
-    ends (suc (suc n)) le = absurd (omega arith)
-
-module _ (cs : List Command) (report : List Answer) where
-  abbrev lines : List AnsweredLine
+-- one script whose transaction commits nothing, on what was loaded
+module _ (kind : Kind) (first : Write) (others : List Write) (allowed : AllAllowed kind empty_graph (first ∷ others)) (within : AllByRecursion IsWithinLimits (first ∷ others)) (cs : List Command) (report : List Answer) where
+  abbrev pub lines : List AnsweredLine
   lines = answered_lines (commands.Begin ∷ cs) (answers.Begun (txn_name 1 1) 1 ∷ report)
 
-  abbrev alone : Context
-  alone = record { kind = Undirected; load = one_vertex; journal = one_commit; scripts = lines ∷ []; job = 1 }
+  abbrev pub alone : Context
+  alone = record { kind = kind; load = first ∷ others; journal = load_commit (first ∷ others) ∷ []; scripts = lines ∷ []; job = 1 }
 
-  -- what is left of a run where one transaction commits nothing
-  answers_so : (files : List File) → IsScript (Some true) cs → begun_by 1 cs ≤ MAX_BEGINS → length report ≡ length cs → AllAnswered alone (take 1 lines) (drop 1 lines)
-      → list_any (λ l. is_full l.answer) lines ≡ false → HasFiles alone [] lines files → GetsAnswers cs report files
+  -- what is left of its run
+  pub answers_so : (files : List File) → IsScript (Some true) cs → begun_by 1 cs ≤ MAX_BEGINS → length report ≡ length cs → AllAnswered alone (take 1 lines) (drop 1 lines)
+      → list_any (λ l. is_full l.answer) lines ≡ false → HasFiles alone [] lines files → GetsOn kind (first ∷ others) cs report files
   answers_so files script few same all none filed = record {
     given = record {
-      allowed = one_allowed;
-      within = (omega arith, tt);
+      allowed = allowed;
+      within = within;
       count = omega arith;
       scripts = at_one (λ k cs. IsScript (Some false) cs) (commands.Begin ∷ cs) (tt, script);
       begins = at_one (λ k cs. begun_by 0 cs ≤ MAX_BEGINS) (commands.Begin ∷ cs) few;
     };
-    legal = one_legal;
+    legal = journal_legal kind (first ∷ others) allowed within;
     loaded = inr refl;
     reported = refl;
     lines = λ k c r at_script at_report.
         at_one (λ k c. length r ≡ length c) (commands.Begin ∷ cs) (at_one (λ k (r : List Answer). length r ≡ length (commands.Begin ∷ cs)) (answers.Begun (txn_name 1 1) 1 ∷ report) (omega arith) k r at_report) k c at_script;
     answered = at_one (λ k ls. AllAnswered (record alone { job = k + 1 }) [] ls) lines ((refl, record { within = omega arith; loaded = omega arith; shown = omega arith }), all);
-    committed = at_one (λ i c. IsLoad one_vertex c ⊎ IsShown (lines ∷ []) c) (load_commit one_vertex) (inl (λ none. cc, refl));
+    committed = at_one (λ i c. IsLoad (first ∷ others) c ⊎ IsShown (lines ∷ []) c) (load_commit (first ∷ others)) (inl (λ none. cc, refl));
     full = λ k i ls l at_script at_line is. none_full ls (at_one (λ k ls. list_any (λ (m : AnsweredLine). is_full m.answer) ls ≡ false) lines none k ls at_script) i l at_line is;
     filed = refl;
     files = λ k ls fs at_script at_files.
         at_one (λ k fs. HasFiles (record alone { job = k + 1 }) [] ls fs) files (at_one (λ k ls. HasFiles (record alone { job = k + 1 }) [] ls files) lines filed k ls at_script) k fs at_files;
   }
+
+one_within : AllByRecursion IsWithinLimits one_vertex
+one_within = (omega arith, tt)
+
+abbrev alone_one : List Command → List Answer → Context
+alone_one cs report = alone Undirected (writes.AddVertex 1) [] one_allowed one_within cs report
+
+one_answers : (cs : List Command) (report : List Answer) (files : List File) → IsScript (Some true) cs → begun_by 1 cs ≤ MAX_BEGINS → length report ≡ length cs
+    → AllAnswered (alone_one cs report) (take 1 (answered_lines (commands.Begin ∷ cs) (answers.Begun (txn_name 1 1) 1 ∷ report))) (drop 1 (answered_lines (commands.Begin ∷ cs) (answers.Begun (txn_name 1 1) 1 ∷ report)))
+    → list_any (λ l. is_full l.answer) (answered_lines (commands.Begin ∷ cs) (answers.Begun (txn_name 1 1) 1 ∷ report)) ≡ false
+    → HasFiles (alone_one cs report) [] (answered_lines (commands.Begin ∷ cs) (answers.Begun (txn_name 1 1) 1 ∷ report)) files → GetsAnswers cs report files
+one_answers cs report = answers_so Undirected (writes.AddVertex 1) [] one_allowed one_within cs report
 
 no_items : {X : Type 0} (xs : List X) → length xs ≡ 0 → xs ≡ []
 no_items [] e = refl
@@ -358,11 +395,11 @@ no_targets = none_at (targets_of one 1) (λ i t at. let arc = target_arc one 1 i
 
 -- a write of the script is answered by what the graph says of it
 module _ (cs : List Command) (report : List Answer) (w : Write) (r : Option Refusal) (a : Answer) (is : refused one w ≡ r) where
-  so_refused : IsWriteAnswer (alone cs report) 1 w r a → IsWriteAnswer (alone cs report) 1 w (refused one w) a
-  so_refused answered = subst (λ r. IsWriteAnswer (alone cs report) 1 w r a) (sym is) answered
+  so_refused : IsWriteAnswer (alone_one cs report) 1 w r a → IsWriteAnswer (alone_one cs report) 1 w (refused one w) a
+  so_refused answered = subst (λ r. IsWriteAnswer (alone_one cs report) 1 w r a) (sym is) answered
 
-  refused_so : IsWriteAnswer (alone cs report) 1 w (refused one w) a → IsWriteAnswer (alone cs report) 1 w r a
-  refused_so answered = subst (λ r. IsWriteAnswer (alone cs report) 1 w r a) is answered
+  refused_so : IsWriteAnswer (alone_one cs report) 1 w (refused one w) a → IsWriteAnswer (alone_one cs report) 1 w r a
+  refused_so answered = subst (λ r. IsWriteAnswer (alone_one cs report) 1 w r a) is answered
 
 exists : refused one (writes.AddVertex 1) ≡ Some refusals.VertexExists
 exists = simp lookups refl
@@ -372,10 +409,6 @@ no_end = simp lookups refl
 
 second_allowed : refused one (writes.AddVertex 2) ≡ None
 second_allowed = simp lookups refl
-
-drop_allowed : refused one (writes.DropVertex 1) ≡ None
-drop_allowed =
-    (λ i. cond (has_one i) (cond (list_any (λ (arc : ℕ × ℕ). (arc.0 == 1) || (arc.1 == 1)) (list_map (λ (e : (ℕ × ℕ) × ℕ). e.0) (no_arc_entries i))) (Some refusals.HasEdges) None) (Some (refusals.NoVertex 1)))
 
 abbrev refusal_lines : List Command
 refusal_lines = commands.AddVertex 1 ∷ commands.AddEdge 1 1 5 ∷ commands.AddEdge 1 2 5 ∷ commands.Commit ∷ []
@@ -391,7 +424,7 @@ own_report = answers.Done ∷ answers.Counted 2 0 ∷ answers.Aborted ∷ []
 
 pub answers_are : AnswerExamples
 answers_are = record {
-  reads = answers_so _ _ [] ((omega arith, omega arith), (omega arith, (omega arith, (tt, (tt, refl))))) (omega arith) refl (
+  reads = one_answers _ _ [] ((omega arith, omega arith), (omega arith, (omega arith, (tt, (tt, refl))))) (omega arith) refl (
     sym (ap weight_answer (no_arc (1, 1))),
     (
       sym (λ i. cond (has_one i) (answers.Neighbours (no_targets i)) (answers.NoVertex 1)),
@@ -399,15 +432,15 @@ answers_are = record {
     ),
   )
       refl ([], refl, ([], refl, ([], refl, ([], refl, ([], refl, ([], refl, refl))))));
-  refusals = answers_so _ _ [] (omega arith, ((omega arith, omega arith, omega arith), ((omega arith, omega arith, omega arith), (tt, refl)))) (omega arith) refl (
+  refusals = one_answers _ _ [] (omega arith, ((omega arith, omega arith, omega arith), ((omega arith, omega arith, omega arith), (tt, refl)))) (omega arith) refl (
     so_refused refusal_lines refusal_report (writes.AddVertex 1) _ answers.Exists exists refl,
     (refl, (so_refused refusal_lines refusal_report (writes.AddEdge 1 2 5) _ (answers.NoVertex 2) no_end refl, (refl, tt))),
   )
       refl ([], refl, ([], refl, ([], refl, ([], refl, ([], refl, refl)))));
-  own_writes = answers_so _ _ [] (omega arith, (tt, (tt, refl))) (omega arith) refl
+  own_writes = one_answers _ _ [] (omega arith, (tt, (tt, refl))) (omega arith) refl
       (so_refused own_lines own_report (writes.AddVertex 2) _ answers.Done second_allowed tt, (sym (λ i. answers.Counted (two_count i) (no_edges i)), (refl, tt)))
       refl ([], refl, ([], refl, ([], refl, ([], refl, refl))));
-  kernel = answers_so _ _ _ (omega arith, (omega arith, (tt, refl))) (omega arith) refl
+  kernel = one_answers _ _ _ (omega arith, (omega arith, (tt, refl))) (omega arith) refl
       (sym (ap answers.Table one_count), (sym (ap (λ b. cond b (table_answer one) (answers.NoVertex 2)) lacks_two), (refl, tt)))
       refl (_, refl, ([], (record { vertex = 1; value = Number 1 } ∷ [], refl, labels), ([], refl, ([], refl, refl))));
 }
@@ -420,13 +453,26 @@ answers_are = record {
 
 -- ---- what is no run
 
+-- what is asked of a line of one write that was answered `full`
+no_place_for : (c : Command) (w : Write) (r : Option Refusal) → refused loaded w ≡ r
+    → let context : Context = record { kind = Undirected; load = load; journal = load_commit load ∷ []; scripts = answered_lines (commands.Begin ∷ c ∷ commands.Abort ∷ []) (answers.Begun (txn_name 1 1) 1 ∷ answers.Full ∷ answers.Skipped ∷ []) ∷ []; job = 1 } in
+    IsWriteAnswer context 1 w (refused loaded w) answers.Full → IsWriteAnswer context 1 w r answers.Full
+no_place_for c w r is answered =
+    subst (λ r. IsWriteAnswer (record { kind = Undirected; load = load; journal = load_commit load ∷ []; scripts = answered_lines (commands.Begin ∷ c ∷ commands.Abort ∷ []) (answers.Begun (txn_name 1 1) 1 ∷ answers.Full ∷ answers.Skipped ∷ []) ∷ []; job = 1 }) 1 w r answers.Full) is answered
+
+lone_goes : refused loaded (writes.DropVertex 4) ≡ None
+lone_goes = refused_at _ _ _ (entries_made Undirected load) (writes.DropVertex 4)
+
 pub wrong_answers : WrongAnswers
 wrong_answers = record {
   other_weight = λ run. let e : answers.Weight 5 ≡ answers.Nothing = (run.answered 0 _ refl).1.0 ∙ ap weight_answer (no_arc (1, 1)) in cc;
   made_what_exists = λ run. let e : answers.Done ≡ answers.Exists = refused_so (commands.AddVertex 1 ∷ commands.Abort ∷ []) (answers.Done ∷ answers.Aborted ∷ []) (writes.AddVertex 1) _ answers.Done exists (run.answered 0 _ refl).1.0 in cc;
   met_nobody = λ run.
       let later = refused_so (commands.AddVertex 2 ∷ commands.Abort ∷ []) (answers.Conflict (Later 1) ∷ answers.Skipped ∷ []) (writes.AddVertex 2) _ (answers.Conflict (Later 1)) second_allowed (run.answered 0 _ refl).1.0 in let below : later.0 < 0 = later.1 in omega arith;
-  full_at_a_drop = λ run. refused_so (commands.DropVertex 1 ∷ commands.Abort ∷ []) (answers.Full ∷ answers.Skipped ∷ []) (writes.DropVertex 1) _ answers.Full drop_allowed (run.answered 0 _ refl).1.0;
+  full_at_a_set = λ run. no_place_for (commands.SetEdge 1 2 9) (writes.SetEdge 1 2 9) None set_allowed (run.answered 0 _ refl).1.0;
+  full_at_a_dropped_edge = λ run. no_place_for (commands.DropEdge 1 2) (writes.DropEdge 1 2) None (simp lookups refl) (run.answered 0 _ refl).1.0;
+  full_at_a_removed_vertex = λ run. no_place_for (commands.DropVertex 4) (writes.DropVertex 4) None lone_goes (run.answered 0 _ refl).1.0;
+  full_at_what_exists = λ run. let e : answers.Full ≡ answers.Exists = no_place_for (commands.AddVertex 4) (writes.AddVertex 4) (Some refusals.VertexExists) (simp lookups refl) (run.answered 0 _ refl).1.0 in cc;
   full_too_early = λ run. let filled : 103 ≤ 1 = run.full 0 1 _ _ refl refl refl in omega (arith, filled);
   skipped_alone = λ run. let e : answers.Skipped ≡ query_answer Undirected one Counts = (run.answered 0 _ refl).1.0 in cc;
   not_skipped = λ run. let e : answers.Aborted ≡ answers.Skipped = (run.answered 0 _ refl).1.1.0 in cc;
@@ -442,6 +488,9 @@ wrong_parts = record {
   begins_in_the_future = λ run. let within : 2 ≤ 1 = (run.answered 0 _ refl).0.1.within in omega (arith, within);
   has_another_name = λ run. let number : 2 ≡ 1 = ap (λ (n : TxnName). n.number) (run.answered 0 _ refl).0.0 in omega (arith, number);
   begins_before_its_last_commit = λ run. let shown : 2 ≤ 1 = (run.answered 0 _ refl).1.1.1.0.1.shown in omega (arith, shown);
+  begins_before_a_shown_conflict = λ run. let shown : 2 ≤ 1 = (run.answered 1 _ refl).1.1.1.0.1.shown in omega (arith, shown);
+  begins_before_its_last_start = λ run. let shown : 2 ≤ 1 = (run.answered 1 _ refl).1.1.0.1.shown in omega (arith, shown);
+  too_many_scripts = λ run. let count : 61 ≤ 60 = run.given.count in omega (arith, count);
   commits_another_write = λ run. let is = (run.answered 0 _ refl).1.1.0 in other_place is.place is.numbered is.there;
   not_begun = λ run. (run.given.scripts 0 _ refl).1;
   skips_a_stamp = λ run. let stamped : 3 ≡ 2 = (run.legal.each 1 (nine 3) refl).stamped in omega (arith, stamped);

@@ -27,7 +27,7 @@ use Rattle.run_model.proofs.StepLemmas.{lines_stay, AreFullAlike, full_alike-sym
 -- ---- kernel files
 
 -- a kernel has one table on a graph
-one_kernel_table : (kind : Kind) (g : Graph) (kernel : Kernel) (s t : List Entry) → IsKernelTable kind g kernel s → IsKernelTable kind g kernel t → s ≡ t
+pub one_kernel_table : (kind : Kind) (g : Graph) (kernel : Kernel) (s t : List Entry) → IsKernelTable kind g kernel s → IsKernelTable kind g kernel t → s ≡ t
 one_kernel_table kind g (Bfs root) s t = one_table g (IsBfsValue g root) (one_bfs_value g root) s t
 one_kernel_table kind g Wcc s t = one_table g (IsWccValue g) (one_wcc_value g) s t
 one_kernel_table kind g (Cdlp rounds) s t = one_table g (IsCdlpValue kind g rounds) (one_cdlp_value kind g rounds) s t
@@ -68,17 +68,24 @@ module _ (a b : Setting) (kind : a.kind ≡ b.kind) (scripts : a.scripts ≡ b.s
       (λ f. true≢false (sym (ap has_ended (sym same) ∙ ended) ∙ f))
       mid.3
 
--- both end at one state
-ends_alike : (a b : Setting) → a.kind ≡ b.kind → a.scripts ≡ b.scripts → a.schedule ≡ b.schedule → (first : RunState) (m n : ℕ) (s t : RunState)
-    → IsReached a first m s → IsReached b first n t → has_ended s ≡ true → has_ended t ≡ true → AreFullAlike s.jobs t.jobs → s ≡ t
-ends_alike a b kind scripts schedule first m n s t r q s_ends t_ends alike = ⊎_elim
-    (λ same. reached_alike a b kind scripts schedule first n s t (subst (λ i. IsReached a first i s) same r) q alike)
+-- both end in as many turns
+turns_alike : (a b : Setting) → a.kind ≡ b.kind → a.scripts ≡ b.scripts → a.schedule ≡ b.schedule → (first : RunState) (m n : ℕ) (s t : RunState)
+    → IsReached a first m s → IsReached b first n t → has_ended s ≡ true → has_ended t ≡ true → AreFullAlike s.jobs t.jobs → m ≡ n
+turns_alike a b kind scripts schedule first m n s t r q s_ends t_ends alike = ⊎_elim
+    (λ same. same)
     (⊎_elim
     (λ earlier. (let rest : n ≡ m + (n - m) = omega arith in let some : 0 < n - m = omega arith in
     absurd (not_earlier a b kind scripts schedule first m (n - m) s t r (subst (λ i. IsReached b first i t) rest q) s_ends alike some)))
     (λ later. (let rest : m ≡ n + (m - n) = omega arith in let some : 0 < m - n = omega arith in
     absurd (not_earlier b a (sym kind) (sym scripts) (sym schedule) first n (m - n) t s q (subst (λ i. IsReached a first i s) rest r) t_ends (full_alike-symm s.jobs t.jobs alike) some))))
     (cases_order m n)
+
+-- and so at one state
+ends_alike : (a b : Setting) → a.kind ≡ b.kind → a.scripts ≡ b.scripts → a.schedule ≡ b.schedule → (first : RunState) (m n : ℕ) (s t : RunState)
+    → IsReached a first m s → IsReached b first n t → has_ended s ≡ true → has_ended t ≡ true → AreFullAlike s.jobs t.jobs → s ≡ t
+ends_alike a b kind scripts schedule first m n s t r q s_ends t_ends alike =
+    let same = turns_alike a b kind scripts schedule first m n s t r q s_ends t_ends alike in
+    reached_alike a b kind scripts schedule first n s t (subst (λ i. IsReached a first i s) same r) q alike
 
 -- ---- reports
 
@@ -125,8 +132,12 @@ full_settles inputs m n schedule x y is that alike =
     let lines = there (lines_so_far s) k (let below : k < length x.files = below_length x.files k fs at_x in let filed : length x.files ≡ length inputs.scripts = is.filed in omega arith) in
     one_files (context_in inputs.kind inputs.load s k) [] lines.0 fs gs (is.files k lines.0 fs lines.1 at_x)
     (subst (λ r. HasFiles (context_in inputs.kind inputs.load r k) [] lines.0 gs) (sym same) (that.files k lines.0 gs (ap (λ r. slice_get (lines_so_far r) k) (sym same) ∙ lines.1) at_y))) in
-    (λ i. record {
-      journal = (is.journal ∙ ap (λ (r : RunState). r.journal) same ∙ sym that.journal) i;
-      reports = (x_reports ∙ ap (λ (r : RunState). map answers_of r.jobs) same ∙ sym y_reports) i;
-      files = files i;
-    })
+    let turns : is.turns ≡ that.turns =
+    turns_alike (setting_of inputs m schedule) (setting_of inputs n schedule) refl refl refl (first_state inputs) is.turns that.turns s t is.reached that.reached is.over that.over alike_jobs in (
+      (λ i. record {
+        journal = (is.journal ∙ ap (λ (r : RunState). r.journal) same ∙ sym that.journal) i;
+        reports = (x_reports ∙ ap (λ (r : RunState). map answers_of r.jobs) same ∙ sym y_reports) i;
+        files = files i;
+      }),
+      turns,
+    )

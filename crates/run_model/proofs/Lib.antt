@@ -18,3 +18,4 @@ pub mod SteppedLemmas
 pub mod StepLemmas
 pub mod FullLemmas
 pub mod TurnExampleLemmas
+pub mod LineExampleLemmas

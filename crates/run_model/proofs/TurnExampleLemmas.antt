@@ -178,7 +178,7 @@ both_reports c = (answers.Begun (txn_name 1 1) 1 ∷ answers.Done ∷ answers.Co
 one_cause : (schedule : List ℕ) (cause cause' : Cause) → MeetsByTurns schedule cause → MeetsByTurns schedule cause' → cause ≡ cause'
 one_cause schedule cause cause' is that =
     let same = full_settles two_inputs 1 1 schedule _ _ is that (λ k i. ((λ full. absurd (no_full (both_reports cause) refl k i full)), (λ full. absurd (no_full (both_reports cause') refl k i full)))) in
-    second _ _ (ap (λ (x : Outputs). x.reports) same)
+    second _ _ (ap (λ (x : Outputs). x.reports) same.0)
   where
     second : (xs ys : List Answer) → xs ∷ second_report cause ∷ [] ≡ ys ∷ second_report cause' ∷ [] → cause ≡ cause'
     second xs ys e = let r : second_report cause ≡ second_report cause' = some_eq _ _ (ap (λ rs. slice_get rs 1) e) in cc

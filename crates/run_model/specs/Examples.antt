@@ -1,5 +1,6 @@
 -- Worked by hand: runs, outputs that are no run's, runs by turns, and texts.
-use Rattle.std.specs.Prelude.{◌≡◌, ℕ, zero, suc, List, [], ◌∷◌, ◌++◌, map, codes, Some, None}
+use Rattle.std.specs.Prelude.{◌≡◌, ℕ, zero, suc, List, [], ◌∷◌, ◌++◌, map, replicate, codes, Some, None}
+use Rattle.graph_model.specs.declared.write.Kind.{Kind}
 use Rattle.graph_model.specs.declared.write.Kind.TheVariants.{Undirected}
 use Rattle.graph_model.specs.declared.write.Write.{Write}
 use Rattle.graph_model.specs.declared.write.Write.TheVariants as writes
@@ -17,12 +18,17 @@ use Rattle.run_model.specs.Run.{txn_name, load_commit, IsRun}
 use Rattle.run_model.specs.Stepped.{turn_at, service_turns, IsStepped}
 use Rattle.run_model.specs.Texts.{report_text, journal_text}
 
+-- a run of these scripts on a graph of this kind, with so many leaves, gives this
+abbrev pub GivesOn : Kind → ℕ → List Write → List (List Command) → List Commit → List (List Answer)
+    → List (List File) → Type 0
+GivesOn kind leaves load scripts journal reports files =
+    IsRun (record { kind = kind; load = load; scripts = scripts }) leaves
+    (record { journal = journal; reports = reports; files = files })
+
 -- a run of these scripts on an undirected graph, with one leaf, gives this
 abbrev pub Gives : List Write → List (List Command) → List Commit → List (List Answer) → List (List File)
     → Type 0
-Gives load scripts journal reports files =
-    IsRun (record { kind = Undirected; load = load; scripts = scripts }) 1
-    (record { journal = journal; reports = reports; files = files })
+Gives load scripts journal reports files = GivesOn Undirected 1 load scripts journal reports files
 
 -- ---- two scripts that set the weight of one edge
 
@@ -48,6 +54,15 @@ Meets start cause =
     ∷ (answers.Begun (txn_name 2 1) start ∷ answers.Conflict cause ∷ answers.Skipped ∷ []) ∷ [])
     ([] ∷ [] ∷ [])
 
+-- the first sets another edge, and the second, which began as early, names this
+abbrev pub MeetsApart : Cause → Type 0
+MeetsApart cause =
+    Gives load ((commands.Begin ∷ commands.SetEdge 2 3 9 ∷ commands.Commit ∷ []) ∷ sets 8 ∷ [])
+    (load_commit load ∷ record (nine 2) { writes = writes.SetEdge 2 3 9 ∷ [] } ∷ [])
+    ((answers.Begun (txn_name 1 1) 1 ∷ answers.Done ∷ answers.Committed (Some 2) ∷ [])
+    ∷ (answers.Begun (txn_name 2 1) 1 ∷ answers.Conflict cause ∷ answers.Skipped ∷ []) ∷ [])
+    ([] ∷ [] ∷ [])
+
 -- what the second may name
 pub record ConflictExamples : Type 0 where
   -- the first may still be open, or have committed
@@ -59,6 +74,9 @@ pub record ConflictExamples : Type 0 where
   pub with_nobody : Meets 1 (Holder (txn_name 1 2)) → ⊥
   -- the first had committed at the start
   pub with_earlier : Meets 2 (Holder (txn_name 1 1)) → ⊥
+  -- the first made no write that clashes
+  pub with_apart : MeetsApart (Holder (txn_name 1 1)) → ⊥
+  pub with_later_apart : MeetsApart (Later 2) → ⊥
 
 -- ---- one script on a graph of one vertex
 
@@ -66,11 +84,15 @@ pub record ConflictExamples : Type 0 where
 abbrev pub one_vertex : List Write
 one_vertex = writes.AddVertex 1 ∷ []
 
--- a transaction that commits nothing is answered this
-abbrev pub GetsAnswers : List Command → List Answer → List File → Type 0
-GetsAnswers cs report files =
-    Gives one_vertex ((commands.Begin ∷ cs) ∷ []) (load_commit one_vertex ∷ [])
+-- a transaction that commits nothing is answered this on what was loaded
+abbrev pub GetsOn : Kind → List Write → List Command → List Answer → List File → Type 0
+GetsOn kind load cs report files =
+    GivesOn kind 1 load ((commands.Begin ∷ cs) ∷ []) (load_commit load ∷ [])
     ((answers.Begun (txn_name 1 1) 1 ∷ report) ∷ []) (files ∷ [])
+
+-- and on a graph of one vertex
+abbrev pub GetsAnswers : List Command → List Answer → List File → Type 0
+GetsAnswers cs report files = GetsOn Undirected one_vertex cs report files
 
 -- lines of each kind
 pub record AnswerExamples : Type 0 where
@@ -89,6 +111,12 @@ pub record AnswerExamples : Type 0 where
       (answers.Table 1 ∷ answers.NoVertex 2 ∷ answers.Committed None ∷ [])
       (record { name = codes "f"; table = record { vertex = 1; value = Number 1 } ∷ [] } ∷ [])
 
+-- where there is no leaf, and so `full` may stand, a write is answered it
+abbrev pub FindsNoPlace : Command → Type 0
+FindsNoPlace c =
+    GivesOn Undirected 0 load ((commands.Begin ∷ c ∷ commands.Abort ∷ []) ∷ []) (load_commit load ∷ [])
+    ((answers.Begun (txn_name 1 1) 1 ∷ answers.Full ∷ answers.Skipped ∷ []) ∷ []) ([] ∷ [])
+
 -- one answer is wrong
 pub record WrongAnswers : Type 0 where
   pub other_weight : GetsAnswers (commands.Weight 1 1 ∷ commands.Abort ∷ [])
@@ -97,8 +125,11 @@ pub record WrongAnswers : Type 0 where
       (answers.Done ∷ answers.Aborted ∷ []) [] → ⊥
   pub met_nobody : GetsAnswers (commands.AddVertex 2 ∷ commands.Abort ∷ [])
       (answers.Conflict (Later 1) ∷ answers.Skipped ∷ []) [] → ⊥
-  pub full_at_a_drop : GetsAnswers (commands.DropVertex 1 ∷ commands.Abort ∷ [])
-      (answers.Full ∷ answers.Skipped ∷ []) [] → ⊥
+  -- only an added vertex or edge wants a place, however few leaves there are
+  pub full_at_a_set : FindsNoPlace (commands.SetEdge 1 2 9) → ⊥
+  pub full_at_a_dropped_edge : FindsNoPlace (commands.DropEdge 1 2) → ⊥
+  pub full_at_a_removed_vertex : FindsNoPlace (commands.DropVertex 4) → ⊥
+  pub full_at_what_exists : FindsNoPlace (commands.AddVertex 4) → ⊥
   pub full_too_early : GetsAnswers (commands.AddVertex 2 ∷ commands.Abort ∷ [])
       (answers.Full ∷ answers.Skipped ∷ []) [] → ⊥
   pub skipped_alone : GetsAnswers (commands.Count ∷ commands.Abort ∷ [])
@@ -120,6 +151,13 @@ Begins by start =
     Gives one_vertex ((commands.Begin ∷ commands.Abort ∷ []) ∷ []) (load_commit one_vertex ∷ [])
     ((answers.Begun by start ∷ answers.Aborted ∷ []) ∷ []) ([] ∷ [])
 
+-- the first script sets the weight 9, and the second begins twice
+abbrev pub BeginsAgain : List Command → List Answer → Type 0
+BeginsAgain cs report =
+    Gives load (sets 9 ∷ cs ∷ []) (load_commit load ∷ nine 2 ∷ [])
+    ((answers.Begun (txn_name 1 1) 1 ∷ answers.Done ∷ answers.Committed (Some 2) ∷ []) ∷ report ∷ [])
+    ([] ∷ [] ∷ [])
+
 -- one other part is wrong
 pub record WrongParts : Type 0 where
   pub begins_before_the_load : Begins (txn_name 1 1) 0 → ⊥
@@ -130,6 +168,15 @@ pub record WrongParts : Type 0 where
       (load_commit load ∷ nine 2 ∷ [])
       ((answers.Begun (txn_name 1 1) 1 ∷ answers.Done ∷ answers.Committed (Some 2)
       ∷ answers.Begun (txn_name 1 2) 1 ∷ answers.Aborted ∷ []) ∷ []) ([] ∷ []) → ⊥
+  -- nor before a later commit that a conflict has shown it, nor before an earlier start of its own
+  pub begins_before_a_shown_conflict : BeginsAgain
+      (sets 8 ++ commands.Begin ∷ commands.Abort ∷ [])
+      (answers.Begun (txn_name 2 1) 1 ∷ answers.Conflict (Later 2) ∷ answers.Skipped
+      ∷ answers.Begun (txn_name 2 2) 1 ∷ answers.Aborted ∷ []) → ⊥
+  pub begins_before_its_last_start : BeginsAgain
+      (commands.Begin ∷ commands.Abort ∷ commands.Begin ∷ commands.Abort ∷ [])
+      (answers.Begun (txn_name 2 1) 2 ∷ answers.Aborted ∷ answers.Begun (txn_name 2 2) 1 ∷ answers.Aborted ∷ []) → ⊥
+  pub too_many_scripts : Gives [] (replicate 61 []) [] (replicate 61 []) (replicate 61 []) → ⊥
   pub commits_another_write : Gives load (sets 8 ∷ []) (load_commit load ∷ nine 2 ∷ [])
       ((answers.Begun (txn_name 1 1) 1 ∷ answers.Done ∷ answers.Committed (Some 2) ∷ []) ∷ []) ([] ∷ []) → ⊥
   pub not_begun : Gives [] ((commands.Commit ∷ []) ∷ []) [] ((answers.Committed None ∷ []) ∷ []) ([] ∷ []) → ⊥

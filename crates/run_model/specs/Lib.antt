@@ -9,3 +9,4 @@ pub mod UnderWay
 pub mod Texts
 pub mod Laws
 pub mod Examples
+pub mod LineExamples

@@ -2,6 +2,7 @@
 
 ghost use Rattle.run_model.specs.Laws.{TextIsOfOneJournal, TextIsOfOneReport, RunsAreShort, TextsTellRuns, FirstIsUnderWay, TurnIsUnderWay, ReachedIsUnderWay, LinesMayStand, SteppedRunsAreRuns, FullSettlesRuns};
 ghost use Rattle.run_model.specs.Examples.{ConflictExamples, AnswerExamples, WrongAnswers, WrongParts, TextExamples, OrderExamples, TurnExamples, CountExamples, PlaceExamples};
+ghost use Rattle.run_model.specs.LineExamples.{ReadExamples, WriteExamples, KernelExamples, LineTurnExamples};
 
 /// Two journals with the same text are equal, where no number has more than 64 digits.
 pub fn journal_text_is_of_one_journal()
@@ -37,7 +38,7 @@ pub fn stepped_runs_are_runs()
     ensures { SteppedRunsAreRuns }
 {}
 
-/// Two runs by the same turns that find no place for the same writes give the same.
+/// Two runs by the same turns that find no place for the same writes give the same, in as many turns.
 pub fn full_lines_settle_runs()
     ensures { FullSettlesRuns }
 {}
@@ -53,6 +54,15 @@ pub fn worked_runs_hold()
     ensures answers { AnswerExamples }
     ensures wrong_answers { WrongAnswers }
     ensures wrong_parts { WrongParts }
+{}
+
+/// Lines of each kind on graphs with weighted edges, with right answers and wrong ones, and the turns that they
+/// take.
+pub fn worked_lines_hold()
+    ensures reads { ReadExamples }
+    ensures writes { WriteExamples }
+    ensures kernels { KernelExamples }
+    ensures turns { LineTurnExamples }
 {}
 
 /// Runs by turns that were worked by hand, by rotation and by a schedule, with the turns that they take.

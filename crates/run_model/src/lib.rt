@@ -13,5 +13,5 @@ pub use command::{Command, Name, Script};
 pub use laws::{
     full_lines_settle_runs, journal_text_is_of_one_journal, report_text_is_of_one_report,
     runs_have_short_numbers, stepped_runs_are_runs, texts_tell_runs, turns_keep_runs_under_way,
-    worked_runs_hold, worked_texts_hold, worked_turns_hold,
+    worked_lines_hold, worked_runs_hold, worked_texts_hold, worked_turns_hold,
 };

@@ -7,3 +7,4 @@ pub mod Stamped
 pub mod RowLaws
 pub mod Laws
 pub mod Examples
+pub mod TouchExamples

@@ -2,6 +2,7 @@
 #![tactic(auto)]
 
 mod laws;
+mod touches;
 mod version;
 mod versions;
 
@@ -10,5 +11,6 @@ pub use laws::{
     moves_keep_stores, prunes_keep_stores, rows_give_views, rows_keep_values,
     rows_name_their_writers, stamps_change_no_value, undos_keep_stores, writes_keep_stores,
 };
+pub use touches::touch_examples_hold;
 pub use version::Version;
 pub use versions::Versions;

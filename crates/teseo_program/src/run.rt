@@ -22,8 +22,8 @@ ghost use Rattle.teseo_program.specs.Parsing.{meaning_of};
 ghost use Rattle.teseo_program.specs.Running.{run_outputs, HasCounts, IsSteppedRun, IsRefusedLoad, MayBegin, IsConfig};
 
 use crate::input::Input;
-use graph_load::load_graph;
 use graph_model::{Kind, LoadRefusal, NoMemory};
+use graphalytics_io::load_graph;
 use items::Items;
 use job_runner::{Job, Jobs, run_stepped};
 use run_model::{Command, Script, stepped_runs_are_runs};

@@ -1,0 +1,15 @@
+use Rattle.std.proofs.Common.{ℕ, List, [], ◌∷◌, ◌∙◌, refl}
+use Rattle.graph_image.proofs.GivenLemmas.{literal_fits}
+use Rattle.cases_kernels.proofs.graphs.path.Goals as goal
+
+abbrev vertices : List ℕ
+vertices = 1 ∷ 2 ∷ 3 ∷ 4 ∷ []
+
+abbrev arcs : List ((ℕ × ℕ) × ℕ)
+arcs = ((1, 2), 1) ∷ ((2, 1), 1) ∷ ((2, 3), 1) ∷ ((3, 2), 1) ∷ []
+
+pub image_of-requires-clause-storable : goal.image_of-requires-clause-storable
+image_of-requires-clause-storable c = (literal_fits c.as_slice.result.now vertices arcs (c.as_slice.ensures.value ∙ c.in_ok-rows.ensures) refl refl refl refl).0
+
+pub image_of-requires-clause-ended : goal.image_of-requires-clause-ended
+image_of-requires-clause-ended c = (literal_fits c.as_slice.result.now vertices arcs (c.as_slice.ensures.value ∙ c.in_ok-rows.ensures) refl refl refl refl).1

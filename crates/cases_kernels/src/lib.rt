@@ -1,0 +1,14 @@
+//! Worked cases of the kernels: their tables on small graphs.
+//!
+//! 1. The expected tables were worked out by hand, and never taken from a run.
+//! 2. Where two kernels ask for the same table, one case is a case of both.
+#![tactic(auto)]
+
+#[cfg(test)]
+mod graphs;
+#[cfg(test)]
+mod labels;
+#[cfg(test)]
+mod paths;
+#[cfg(test)]
+mod searches;

@@ -1,0 +1,14 @@
+//! Which ids a graph has, and where each stands among them; and numbers that tell edges apart.
+//!
+//! 1. A look-up is right whatever the table that makes it fast has room for: what the table misses is searched for.
+//! 2. Where the numbers of two edges differ, so do the edges, and no id is written twice.
+#![tactic(auto)]
+
+mod distinct;
+mod known;
+mod numbers;
+mod slots;
+
+pub use distinct::are_distinct;
+pub use known::Known;
+pub use numbers::numbers_of;

@@ -1,0 +1,58 @@
+//! Numbers of edges, which tell them apart.
+//!
+//! The number of an edge is made of the places of its ends among the ids. Where numbers differ, so do the edges.
+
+ghost use Rattle.std.specs.Prelude.{◌≡◌, ◌≤◌, true, length, take, IfOk, IfSome};
+ghost use Rattle.std.specs.Vec.{vec_len};
+ghost use Rattle.id_places.specs.Places.{is_among, AreNumbers, pair_in, pair_of};
+
+use crate::known::Known;
+use graph_model::Kind;
+use graphalytics_io::Edge;
+use items::NoMemory;
+use std::alloc::Global;
+
+/// The number of each edge, up to the first of which an end isn't known.
+pub fn numbers_of(
+    alloc: Global,
+    edges: &[Edge],
+    known: &Known,
+    kind: Kind,
+) -> Result<Vec<u64>, NoMemory>
+    ensures few { IfOk result (λ numbers. vec_len numbers ≤ length edges.now) }
+    ensures numbers { IfOk result (λ numbers.
+        AreNumbers kind known.now (take (vec_len numbers) edges.now) numbers.items) }
+{
+    let mut numbers = Vec::with_capacity(alloc, edges.len())?;
+    'edges: for edge in edges {
+        let Some(number) = number_of(edge, known, kind) else {
+            return Ok(numbers)
+        };
+        numbers.push(number)?;
+    }
+    Ok(numbers)
+}
+
+/// The number of an edge, if both ends are known.
+fn number_of(edge: &Edge, known: &Known, kind: Kind) -> Option<u64>
+    ensures number { IfSome result (λ number. number ≡ pair_in kind known.now edge.now) }
+    ensures source { IfSome result (λ _. is_among known.now edge.now.u ≡ true) }
+    ensures target { IfSome result (λ _. is_among known.now edge.now.v ≡ true) }
+{
+    let source = known.find(edge.u)?;
+    let target = known.find(edge.v)?;
+    Some(pair_of(kind, source, target))
+}
+
+/// A number for the places of an edge's ends: the same for both directions where they don't count.
+fn pair_of(kind: Kind, source: usize, target: usize) -> u64
+    ensures { result ≡ pair_of kind source target }
+{
+    let (first, second) = match kind {
+        Kind::Directed => (source, target),
+        Kind::Undirected => (source.min(target), source.max(target)),
+    };
+    (first as u64)
+        .wrapping_mul(4294967296)
+        .wrapping_add(second as u64)
+}

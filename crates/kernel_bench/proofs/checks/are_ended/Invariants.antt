@@ -1,6 +1,0 @@
-use Rattle.kernel_bench.proofs.CheckLemmas.{EndTo}
-use Rattle.kernel_bench.proofs.checks.are_ended.Given as goal
-
--- the ends of the rows so far are vertices
-abbrev pub invariant-rows : goal.invariant-rows
-invariant-rows l = EndTo l.rows l.i
