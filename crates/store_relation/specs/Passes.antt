@@ -116,9 +116,9 @@ stamp_of_ended None = None
 stamp_of_ended (Some t) = t.stamp
 
 -- the stamp of the one with this number, if it has ended with a commit
-abbrev pub stamp_at : List EndedTxn → ℕ → Option ℕ
-stamp_at past zero = None
-stamp_at past (suc place) = stamp_of_ended (slice_get past place)
+abbrev pub kept_stamp : List EndedTxn → ℕ → Option ℕ
+kept_stamp past zero = None
+kept_stamp past (suc place) = stamp_of_ended (slice_get past place)
 
 -- the stamps of all its commits
 abbrev pub stamps_of_pass : PassState → List ℕ
@@ -135,7 +135,7 @@ name_of pass p = name_at p (pass p)
 
 -- the stamp that the transaction's pass keeps of it
 abbrev pub stamp_by : (ℕ → PassState) → TxnName → Option ℕ
-stamp_by pass by = stamp_at (pass by.job).past by.number
+stamp_by pass by = kept_stamp (pass by.job).past by.number
 
 -- what the latest transaction commits
 abbrev pub now_of : PassState → Running
