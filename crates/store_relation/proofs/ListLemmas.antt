@@ -1,6 +1,6 @@
 -- Prefixes, facts on each item of a list, and sums over passes.
 use Rattle.std.proofs.Common.{◌≡◌, ℕ, zero, suc, ◌+◌, ◌*◌, ◌<◌, ◌≤◌, List, [], ◌∷◌, ◌++◌, length, map, refl, sym, ◌∙◌, ap, subst, arith, cond, length-append, append_assoc, suc-mul}
-use Rattle.std.specs.Prelude.{Bool, true, false, slice_get, Some}
+use Rattle.std.specs.Prelude.{Bool, true, false, ◌==◌, slice_get, Some}
 use Rattle.std.specs.List.{AllByRecursion, filter}
 use Rattle.std.proofs.lemmas.Bool.{or_left, or_right, false_from_ne_true}
 use Rattle.std.proofs.lemmas.List.{append-nil}
@@ -82,6 +82,13 @@ module _ {S : Type 0} (f : ℕ → S) (p : ℕ) (x : S) where
 
   pub revised_else : (q : ℕ) → (q ≡ p → ⊥) → revised f p x q ≡ f q
   revised_else q other = ap (λ t. cond t x (f q)) (false_from_ne_true _ (λ e. other (eq_of q p e)))
+
+-- one that comes to the state that it has
+pub revised_same : {S : Type 0} (f : ℕ → S) (p q : ℕ) → revised f p (f p) q ≡ f q
+revised_same f p q = elim (q == p) as (λ t. (q == p) ≡ t → cond t (f p) (f q) ≡ f q) [
+  | true ↦ λ e. ap f (sym (eq_of q p e))
+  | false ↦ λ e. refl
+] refl
 
 pub all_put : {S : Type 0} (P : ℕ → S → Type 0) (f : ℕ → S) (p : ℕ) (x : S) → P p x → ((q : ℕ) → (q ≡ p → ⊥) → P q (f q)) → (q : ℕ) → P q (revised f p x q)
 all_put P f p x here rest q = dite (ℕ_discrete q p)

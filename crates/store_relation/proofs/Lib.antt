@@ -1,0 +1,10 @@
+pub mod ListLemmas
+pub mod MadeLemmas
+pub mod FrameLemmas
+pub mod CurrentLemmas
+pub mod SpokenLemmas
+pub mod SharedLemmas
+pub mod StepLemmas
+pub mod ReadLemmas
+pub mod RowStepLemmas
+pub mod CommitLemmas
