@@ -8,3 +8,10 @@ pub mod StepLemmas
 pub mod ReadLemmas
 pub mod RowStepLemmas
 pub mod CommitLemmas
+pub mod WordLemmas
+pub mod MeetLemmas
+pub mod ReaderLemmas
+pub mod AccountLemmas
+pub mod EndLemmas
+pub mod CheckLemmas
+pub mod KeyLemmas
