@@ -15,3 +15,4 @@ pub mod AccountLemmas
 pub mod EndLemmas
 pub mod CheckLemmas
 pub mod KeyLemmas
+pub mod LearnLemmas

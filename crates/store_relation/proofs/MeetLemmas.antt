@@ -36,12 +36,15 @@ use Rattle.store_relation.proofs.CurrentLemmas.{stands_none, stands_own}
 use Rattle.store_relation.proofs.SpokenLemmas.{StandsIn}
 use Rattle.store_relation.proofs.SharedLemmas.{stander, marked_by, laid_by}
 use Rattle.store_model.proofs.LookedLemmas.{looked_laid}
-use Rattle.store_relation.specs.Passes.{IsLaid, Meeting, PassState, is_active, laid_of, name_of, number_of, running_of, stands, touching_by, writes_by}
-use Rattle.store_relation.specs.Shared.{IsMet, IsShared, IsSighted, JournalState, entries}
-use Rattle.store_relation.specs.Steps.{begun}
 use Rattle.store_relation.proofs.StepLemmas.{nothing_either}
 use Rattle.store_relation.proofs.ReadLemmas.{seen_reached}
+use Rattle.store_relation.proofs.StepLemmas.{refreshes}
+use Rattle.store_relation.proofs.AccountLemmas.{meets_told}
 use Rattle.store_relation.proofs.WordLemmas.{stamp_place, laid_front}
+use Rattle.graph_model.specs.Passes.{revised}
+use Rattle.store_relation.specs.Passes.{IsLaid, Meeting, PassState, is_active, laid_of, name_of, number_of, running_of, stands, touching_by, writes_by}
+use Rattle.store_relation.specs.Shared.{IsMet, IsShared, IsSighted, JournalState, entries, longer_of}
+use Rattle.store_relation.specs.Steps.{begun, refreshed}
 
 module _ {z : Config} {word : ℕ → ℕ} {pass : ℕ → PassState} {j : JournalState} {rows : Key → StampedVersions}
     {clock : ℕ} (s : IsShared z word pass j rows clock) where
@@ -152,3 +155,18 @@ later_found kind j m is legal start up low =
     let at : slice_get j.commits m.place ≡ Some is.0 = get_below j.commits j.next m.place is.0 low is.1 in
     let stamp : (is.0).stamp ≡ m.place + 1 = (legal.each m.place is.0 at).stamped in
     subst (Contains (later kind j.commits start m.write)) stamp (later_has kind j.commits start m.write m.place is.0 at (omega (arith, stamp, up)) is.2)
+
+-- ---- what passes tell each other
+
+-- MEET: a pass has seen all that it had seen, and all that was told
+pub passes_meet : {z : Config} {word : ℕ → ℕ} {pass : ℕ → PassState} {j : JournalState} {rows : Key → StampedVersions}
+    {clock : ℕ} (s : IsShared z word pass j rows clock) (p : ℕ) (told : List Commit) → IsPrefix told j.commits
+    → IsPrefix (pass p).seen (longer_of (pass p).seen told) × IsPrefix told (longer_of (pass p).seen told)
+    × IsShared z word (revised pass p (refreshed (pass p) (longer_of (pass p).seen told))) j rows clock
+passes_meet {pass = pass} {j = j} s p told front =
+    let h = s.each p in
+    let both = meets_told (pass p).seen told j.commits h.seen front in
+    let more : length (pass p).seen ≤ length (longer_of (pass p).seen told)
+          = prefix_length (pass p).seen (longer_of (pass p).seen told) both.0 in
+    let started : (pass p).start ≤ length (pass p).seen = h.started in
+    (both.0, both.1, refreshes s p (longer_of (pass p).seen told) both.2 (omega (arith, more, started)))

@@ -24,6 +24,7 @@ use Rattle.store_relation.specs.Readers.{AreReaders, IsReader, IsSameTxn, Reader
 use Rattle.store_relation.specs.Shared.{IsShared, JournalState}
 use Rattle.store_relation.specs.Steps.{with_readers}
 use Rattle.store_relation.proofs.ReadLemmas.{reads_right, seen_reached}
+use Rattle.store_relation.proofs.StepLemmas.{lends}
 
 count-append : (p : ℕ) (xs ys : List ReaderState) → readers_of p (xs ++ ys) ≡ readers_of p xs + readers_of p ys
 count-append p xs ys = sum_by-append (λ (x : ReaderState). cond (x.by.job == p) 1 0) xs ys
@@ -151,3 +152,33 @@ module _ {z : Config} {word : ℕ → ℕ} {pass : ℕ → PassState} {j : Journ
       ∙ reads_right s p r.stage x.seen r.seen within (stamp_in x.seen) k
         (told_all (stamp_in x.seen) (stamp_in j.commits) (pass p).start (λ n. sym (seen_reached s x.seen (pass p).start r.seen within n)) (rows k))
       ∙ (λ i. value_at (view z.kind x.seen (sym r.start i) (sym r.own i)) k)
+
+  -- a pass has counted one reader more, or one less, and nothing else of the store has changed
+  pub reader_is_split : (p : ℕ) (readers : List ReaderState) → AreReaders pass j.commits readers
+      → (pass p).stage ≡ Open
+      → (now : PassState) → now ≡ with_readers (pass p) ((pass p).readers_out + 1)
+      → IsShared z word (revised pass p now) j rows clock
+      × AreReaders (revised pass p now) j.commits (readers ++ reader_of pass p ∷ [])
+  reader_is_split p readers are is now e =
+      let h = s.each p in
+      subst
+      (λ u. IsShared z word (revised pass p u) j rows clock
+        × AreReaders (revised pass p u) j.commits (readers ++ reader_of pass p ∷ [])) (sym e)
+      (lends s p ((pass p).readers_out + 1), readers_split pass j.commits readers are p is h.seen h.started)
+
+  pub reader_is_joined : (front back : List ReaderState) (x : ReaderState)
+      → AreReaders pass j.commits (front ++ x ∷ back)
+      → (now : PassState) → now ≡ with_readers (pass x.by.job) ((pass x.by.job).readers_out - 1)
+      → IsShared z word (revised pass x.by.job now) j rows clock
+      × AreReaders (revised pass x.by.job now) j.commits (front ++ back)
+  reader_is_joined front back x are now e =
+      subst
+      (λ u. IsShared z word (revised pass x.by.job u) j rows clock
+        × AreReaders (revised pass x.by.job u) j.commits (front ++ back)) (sym e)
+      (lends s x.by.job ((pass x.by.job).readers_out - 1), readers_joined pass j.commits front back x are)
+
+  pub readers_stay : (p : ℕ) (now : PassState) (j' : JournalState) (readers : List ReaderState)
+      → AreReaders pass j.commits readers → IsPrefix j.commits j'.commits
+      → ((pass p).readers_out ≡ 0) ⊎ IsSameTxn (pass p) now → now.readers_out ≡ (pass p).readers_out
+      → AreReaders (revised pass p now) j'.commits readers
+  readers_stay p now j' readers are front is same = readers_put pass j.commits readers are p now j'.commits front is same
