@@ -1,0 +1,6 @@
+pub mod PlaceLemmas
+pub mod FrameLemmas
+pub mod CountLemmas
+pub mod PassFrame
+pub mod TxnLemmas
+pub mod NoteStepLemmas

@@ -1,0 +1,6 @@
+pub mod Places
+pub mod Sight
+pub mod Rule
+pub mod Steps
+pub mod TxnSteps
+pub mod NoteSteps

@@ -1,0 +1,2 @@
+//! The one rule of a store of many threads, over plain data.
+#![tactic(auto)]
