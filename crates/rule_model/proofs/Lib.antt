@@ -4,3 +4,5 @@ pub mod CountLemmas
 pub mod PassFrame
 pub mod TxnLemmas
 pub mod NoteStepLemmas
+pub mod BlockFrame
+pub mod BlockStepLemmas

@@ -4,3 +4,4 @@ pub mod Rule
 pub mod Steps
 pub mod TxnSteps
 pub mod NoteSteps
+pub mod BlockSteps

@@ -32,3 +32,8 @@ module _ (z : Config) (at : Layout) (heap : Global) (slots id : ℕ) (me : Me (U
   abbrev pub MayStore : ℕ → ℕ → Sight → Type 0
   MayStore place word then =
       Allows (IsStoreRule z at heap) slots id me place (λ _. word) (λ _ m. m ≡ (then, me.1))
+
+  -- and the seat is told that
+  abbrev pub MayStoreTelling : ℕ → ℕ → Sight → Type 0 → Type 0
+  MayStoreTelling place word then told =
+      Allows (IsStoreRule z at heap) slots id me place (λ _. word) (λ _ m. (m ≡ (then, me.1)) × told)
