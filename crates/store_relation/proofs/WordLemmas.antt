@@ -25,15 +25,16 @@ use Rattle.graph_model.proofs.StampLemmas.{stamped_or_none, stamp_at, reached_at
 use Rattle.graph_model.proofs.TestLemmas.{name_self, name_eq, eq_of}
 use Rattle.txn_manager.specs.declared.config.Config.{Config}
 use Rattle.store_model.specs.Check.{looked}
-use Rattle.store_model.specs.Stamped.{Stamped, StampedVersions, forget_row}
+use Rattle.store_model.specs.Stamped.{Stamped, StampedVersions, forget_row, AgreeOn, AreTold}
 use Rattle.store_model.proofs.MeetLemmas.{any_leaves}
 use Rattle.undo_chain.specs.States.{Knowledge, IsAnswer}
 use Rattle.store_relation.specs.declared.stage.Stage.{Stage}
 use Rattle.store_relation.specs.declared.stage.Stage.TheVariants.{Idle, Open, Aborting, Committing}
 use Rattle.store_relation.specs.Passes.{IsLaid, PassState, is_active, laid_of, name_of, number_of, stands, touching_by, writes_by}
+use Rattle.store_relation.specs.Rows.{AreLookedUp, IsLookedUp}
 use Rattle.store_relation.specs.Shared.{IsLook, IsShared, IsSpokenFor, JournalState}
 use Rattle.store_relation.specs.Words.{Look, has_look, stamp_of_word, stamp_up_to, stamps_of, state_of_word}
-use Rattle.store_relation.proofs.ListLemmas.{prefix_all, prefix_length, prefix_get, get_below}
+use Rattle.store_relation.proofs.ListLemmas.{prefix_all, prefix_length, prefix_get, get_below, all_map}
 use Rattle.store_relation.proofs.MadeLemmas.{number_idle}
 use Rattle.store_relation.proofs.CurrentLemmas.{stands_none}
 use Rattle.store_relation.proofs.SpokenLemmas.{StandsIn}
@@ -222,3 +223,14 @@ told_by_looks j (l ∷ ls) all horizon by has = by_name (same_name l.by by) refl
         let le : horizon ≤ l.until = grind (arith, nat_tests) in
         cut l.word l.until le ∙ sym (all.0.says horizon le) ∙ ap (λ n. reached (stamp_in j.commits n) horizon) (name_eq l.by by e)
     by_name false e h rest = rest h
+
+-- a row whose records without a stamp were all looked up may be pruned by the looks
+pub looks_tell_row : (j : JournalState) (ls : List Look) → AllByRecursion (IsLook j) ls → (horizon : ℕ)
+    (r : StampedVersions) → AreLookedUp horizon ls r → AreTold (stamps_of ls) (stamp_in j.commits) horizon r
+looks_tell_row j ls all horizon r found = record {
+    pairs = all_map (IsLookedUp horizon ls) _ agrees r.pairs found.pairs;
+    touches = all_map (IsLookedUp horizon ls) _ agrees r.touches found.touches;
+  }
+  where
+    agrees : (x : Stamped) → IsLookedUp horizon ls x → AgreeOn (stamps_of ls) (stamp_in j.commits) horizon x
+    agrees x has bare = told_by_looks j ls all horizon x.by (has bare)

@@ -1,5 +1,5 @@
 -- What the checks of a segment say: where they find nobody the row may be written, and else whom they name.
-use Rattle.std.specs.Prelude.{◌≡◌, ◌⊎◌, ℕ, ◌<◌, ◌≤◌, ◌||◌, Bool, true, false, nat_le, List, slice_get, Option, Some, None}
+use Rattle.std.specs.Prelude.{◌≡◌, ◌⊎◌, ℕ, ◌<◌, ◌≤◌, Bool, true, false, nat_le, List, slice_get, Option, Some, None}
 use Rattle.std.specs.List.{AllByRecursion}
 use Rattle.graph_model.specs.declared.write.Kind.{Kind}
 use Rattle.graph_model.specs.declared.write.Write.{Write}
@@ -11,7 +11,7 @@ use Rattle.graph_model.specs.declared.state.State.TheVariants.{Live, Committed, 
 use Rattle.graph_model.specs.declared.refusal.Cause.{Cause}
 use Rattle.graph_model.specs.declared.refusal.Cause.TheVariants.{Later, Holder}
 use Rattle.graph_model.specs.Conflict.{same_name}
-use Rattle.graph_model.specs.Effects.{same_key, writes_at, touches_at, any_writes, any_touches}
+use Rattle.graph_model.specs.Effects.{writes_at, touches_at}
 use Rattle.graph_model.specs.Transactions.{reached}
 use Rattle.store_model.specs.Check.{MayWrite}
 use Rattle.store_model.specs.Stamped.{Stamped, StampedVersions, forget_row}
@@ -19,7 +19,6 @@ use Rattle.store_model.specs.Versions.{sees}
 use Rattle.undo_chain.specs.declared.states.Snapshot.{Snapshot}
 use Rattle.undo_chain.specs.States.{Knowledge}
 use Rattle.version_segment.specs.Checks.{blocked, IsStateOf, IsChecked, newest_of, newest_and_touches, drops_of}
-use Rattle.store_relation.specs.Keys.{has_key, keys_but, changed_keys}
 
 -- a record's stamp says whether the snapshot sees its writer
 abbrev pub IsRightFor : (TxnName → Option ℕ) → ℕ → Stamped → Type 0
@@ -72,15 +71,3 @@ HolderIsOther = (old new : Knowledge) (snapshot : Snapshot) (xs : List Stamped) 
     → (c : IsCause old new snapshot xs (Holder by))
     → (c.stamped.by ≡ by) × (c.stamped.stamp ≡ None) × (same_name c.stamped.by snapshot.own ≡ false)
     × (old.stamps c.stamped.by ≡ None) × (new.vouched c.stamped.by Live ≡ true)
-
--- ---- the rows of a commit
-
--- all rows that writes write or touch are among those that they change
-abbrev pub ChangedKeysCover : Type 0
-ChangedKeysCover = (kind : Kind) (ws : List Write) (q : Key)
-    → (any_writes kind ws q || any_touches ws q) ≡ true → has_key (changed_keys kind ws) q ≡ true
-
--- when one is stamped the others are still left
-abbrev pub OthersAreLeft : Type 0
-OthersAreLeft = (k : Key) (ks : List Key) (q : Key) → same_key q k ≡ false → has_key ks q ≡ true
-    → has_key (keys_but k ks) q ≡ true

@@ -10,3 +10,4 @@ pub mod StepLaws
 pub mod ReadLaws
 pub mod AccountLaws
 pub mod CheckLaws
+pub mod RowLaws

@@ -20,7 +20,7 @@ use Rattle.store_relation.specs.declared.stage.Stage.TheVariants.{Idle, Open}
 use Rattle.store_relation.specs.Ends.{AreAtEnd, IsClosed}
 use Rattle.store_relation.specs.Passes.{Meeting, PassState, number_of, writes_by, name_of, account_of}
 use Rattle.store_relation.specs.Readers.{ReaderState, IsReader}
-use Rattle.store_relation.specs.Rows.{HasRecord}
+use Rattle.store_relation.specs.Rows.{HasRecord, AreLookedUp}
 use Rattle.store_relation.specs.Shared.{JournalState, IsMet, IsSighted, IsLook, sum_below, IsShared}
 use Rattle.store_relation.specs.Steps.{meeting, sighting}
 use Rattle.store_relation.specs.Words.{Look, commit_word, state_of_word, stamps_of, has_look}
@@ -95,6 +95,11 @@ module _ (z : Config) (word : ℕ → ℕ) (pass : ℕ → PassState) (j : Journ
   LooksTell = (ls : List Look) → AllByRecursion (IsLook j) ls → (horizon : ℕ) (by : TxnName)
       → has_look horizon ls by ≡ true
       → reached (stamps_of ls by) horizon ≡ reached (stamp_in j.commits by) horizon
+
+  -- so a row may be pruned by them
+  abbrev pub LooksTellRow : Type 0
+  LooksTellRow = (ls : List Look) → AllByRecursion (IsLook j) ls → (horizon : ℕ) (r : StampedVersions)
+      → AreLookedUp horizon ls r → AreTold (stamps_of ls) (stamp_in j.commits) horizon r
 
   -- ---- whom a write meets
 
