@@ -91,7 +91,7 @@ store_stays kind journal pass horizon contents contents' is p st' same same_run 
     let pass' : ℕ → PassState = revised pass p st' in
     let runs : running_of pass ≡ running_of pass' = (λ i q. sym (put_stays running_part None pass p st' same same_run q) i) in
     subst (λ f. IsStore kind journal f (laid_of pass') (touching_by pass') horizon contents') runs
-      (store_same kind journal (running_of pass) (laid_of pass) (touching_by pass) horizon contents is (laid_of pass') (touching_by pass') contents'
-        (put_stays (λ st. st.laid) [] pass p st' same same_laid)
-        (λ q k. put_stays (λ st. stands st.laid st.own k) false pass p st' same (same_touch k) q)
-        same_rows)
+    (store_same kind journal (running_of pass) (laid_of pass) (touching_by pass) horizon contents is (laid_of pass') (touching_by pass') contents'
+    (put_stays (λ st. st.laid) [] pass p st' same same_laid)
+    (λ q k. put_stays (λ st. stands st.laid st.own k) false pass p st' same (same_touch k) q)
+    same_rows)

@@ -54,7 +54,7 @@ new_shared z =
       horizon = 0;
       published = refl;
       store = subst (λ f. IsStore z.kind [] f (laid_of pass) (touching_by pass) 0 (λ k. no_versions)) (λ i by. none_runs by i)
-        (store_same z.kind [] (λ by. None) (λ by. []) (λ by k. false) 0 (λ k. no_versions) (store_new z.kind) (laid_of pass) (touching_by pass) (λ k. no_versions)
+          (store_same z.kind [] (λ by. None) (λ by. []) (λ by k. false) 0 (λ k. no_versions) (store_new z.kind) (laid_of pass) (touching_by pass) (λ k. no_versions)
           (λ q. same_either (q.number == 0) []) (λ q k. same_either (q.number == 0) false) (λ k. refl));
       stamps = λ k. record { pairs = tt; touches = tt };
       spoken = λ k. record { pairs = tt; touches = tt };
@@ -63,8 +63,15 @@ new_shared z =
       made = λ i c at. cc;
       kept = λ by. none_kept by.number;
       each = λ p. record {
-        marked = tt; seen = ([], refl); started = omega arith; laid = (refl, refl); next = λ e. cc;
-        met = tt; holders = tt; sighted = tt; looks = tt;
+        marked = tt;
+        seen = ([], refl);
+        started = omega arith;
+        laid = (refl, refl);
+        next = λ e. cc;
+        met = tt;
+        holders = tt;
+        sighted = tt;
+        looks = tt;
       };
       counted = record {
         room = let e = zeros z.passes in omega (arith, e);
@@ -104,9 +111,9 @@ module _ {z : Config} {word : ℕ → ℕ} {pass : ℕ → PassState} {j : Journ
 
     all_carry : (k : Key) → AllByRecursion HasStamp (rows k).pairs × AllByRecursion HasStamp (rows k).touches
     all_carry k = (
-        all_by _ _ (rows k).pairs (λ x h spoken bare. no_bare x spoken bare (bare_inside s k x bare spoken (inl h))) (s.spoken k).pairs,
-        all_by_touch _ _ (rows k).touches (λ x h spoken bare. no_bare x spoken bare (bare_inside s k x bare spoken (inr h))) (s.spoken k).touches,
-      )
+      all_by _ _ (rows k).pairs (λ x h spoken bare. no_bare x spoken bare (bare_inside s k x bare spoken (inl h))) (s.spoken k).pairs,
+      all_by_touch _ _ (rows k).touches (λ x h spoken bare. no_bare x spoken bare (bare_inside s k x bare spoken (inr h))) (s.spoken k).touches,
+    )
       where
         no_bare : (x : Stamped) → IsSpokenFor pass k x → x.stamp ≡ None → x.by.job < z.passes → ⊥
         no_bare x spoken bare lt =
@@ -128,24 +135,24 @@ module _ {z : Config} {word : ℕ → ℕ} {pass : ℕ → PassState} {j : Journ
       kept = s.kept;
       seen = λ p. (s.each p).seen;
       sighted = λ p. all_map (IsSighted z.kind pass j) (IsMatched z.kind pass j.commits) (λ x h. record {
-          made = h.made;
-          behind = λ i c at named.
-              let b : x.start ≤ i = h.behind i c (get_front j.commits j.next i c at) named in
-              let d : c.stamp ≡ i + 1 = (s.store.transactions.legal.each i c at).stamped in
-              omega (arith, b, d);
-        }) (pass p).sighted (s.each p).sighted;
+        made = h.made;
+        behind = λ i c at named.
+            let b : x.start ≤ i = h.behind i c (get_front j.commits j.next i c at) named in
+            let d : c.stamp ≡ i + 1 = (s.store.transactions.legal.each i c at).stamped in
+            omega (arith, b, d);
+      }) (pass p).sighted (s.each p).sighted;
       filled = s.counted.filled;
       outside = λ p out. let o = s.counted.outside p out in made_idle (pass p) (ap is_active o.0) ∙ ap (map (λ (t : EndedTxn). t.writes)) o.1;
       stamped = all_carry;
       settled = λ stamps k.
           let told : AreTold stamps (stamp_in j.commits) (length j.commits) (rows k) = record {
-                pairs = all_map _ _ (λ x h bare. absurd (h bare)) (rows k).pairs (all_carry k).0;
-                touches = all_map _ _ (λ x h bare. absurd (h bare)) (rows k).touches (all_carry k).1;
-              } in
+            pairs = all_map _ _ (λ x h bare. absurd (h bare)) (rows k).pairs (all_carry k).0;
+            touches = all_map _ _ (λ x h bare. absurd (h bare)) (rows k).touches (all_carry k).1;
+          } in
           prune_agrees stamps (stamp_in j.commits) (length j.commits) (rows k) told
           ∙ bare_row (prune_stamped (stamp_in j.commits) (length j.commits) (rows k)) (value_at (graph_at z.kind j.commits (length j.commits)) k)
-            (prune_forgets (stamp_in j.commits) (length j.commits) (rows k) (s.stamps k)
-            ∙ row_settled z.kind j.commits (running_of pass) (laid_of pass) (touching_by pass) s.horizon (λ q. forget_row (rows q)) s.store nothing_laid no_touch k);
+          (prune_forgets (stamp_in j.commits) (length j.commits) (rows k) (s.stamps k)
+          ∙ row_settled z.kind j.commits (running_of pass) (laid_of pass) (touching_by pass) s.horizon (λ q. forget_row (rows q)) s.store nothing_laid no_touch k);
     }
       where
         is_made : (c : Commit) → (0 < length c.writes) × (writes_by (pass c.by.job) c.by.number ≡ c.writes)
@@ -155,13 +162,16 @@ module _ {z : Config} {word : ℕ → ℕ} {pass : ℕ → PassState} {j : Journ
             record {
               inside = dite (dec_le z.passes c.by.job)
                   (λ out.
-                    let o = s.counted.outside c.by.job out in
-                    let none : number_of (pass c.by.job) ≡ 0 = number_idle (pass c.by.job) (ap is_active o.0) ∙ ap (λ l. length l) o.1 in
-                    let empty : length c.writes ≡ 0 = ap length (sym m.1 ∙ all_empty (made_of (pass c.by.job)) c.by.number none) in
-                    absurd (omega (arith, wrote, empty)))
+                  let o = s.counted.outside c.by.job out in
+                  let none : number_of (pass c.by.job) ≡ 0 = number_idle (pass c.by.job) (ap is_active o.0) ∙ ap (λ l. length l) o.1 in
+                  let empty : length c.writes ≡ 0 = ap length (sym m.1 ∙ all_empty (made_of (pass c.by.job)) c.by.number none) in
+                  absurd (omega (arith, wrote, empty)))
                   (λ low. omega (arith, low));
-              number = (at_least c.by.number m.1 wrote, dite (dec_le c.by.number (number_of (pass c.by.job))) (λ le. le)
-                  (λ more. let empty : length c.writes ≡ 0 = ap length (sym m.1 ∙ made_at_behind (made_of (pass c.by.job)) c.by.number (omega (arith, more))) in absurd (omega (arith, wrote, empty))));
+              number = (
+                at_least c.by.number m.1 wrote,
+                dite (dec_le c.by.number (number_of (pass c.by.job))) (λ le. le)
+                    (λ more. let empty : length c.writes ≡ 0 = ap length (sym m.1 ∙ made_at_behind (made_of (pass c.by.job)) c.by.number (omega (arith, more))) in absurd (omega (arith, wrote, empty))),
+              );
               writes = m.1;
               stamped = stamped;
               answered = kept_is_answered (pass c.by.job).past c.by.number c.stamp stamped;

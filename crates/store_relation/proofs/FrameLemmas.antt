@@ -46,9 +46,9 @@ reached_longer kind xs ys legal by s le = go (stamp_in xs by) refl
       | inl r ↦ dite (dec_le (length xs) r.0)
           (λ up. ap (λ n. reached (stamp_in (xs ++ ys) n) s) (sym r.3) ∙ unreached_at kind (xs ++ ys) legal r.0 r.1 s r.2 (omega (arith, up, le)) ∙ ap (λ x. reached x s) (sym e))
           (λ low.
-            let at : slice_get xs r.0 ≡ Some r.1 = get_below xs ys r.0 r.1 (omega arith) r.2 in
-            let none : ◌≡◌ {A = Option ℕ} None (Some (r.1).stamp) = sym e ∙ ap (stamp_in xs) (sym r.3) ∙ stamp_at xs (legal_prefix kind xs ys legal).names r.0 r.1 at in
-            cc)
+          let at : slice_get xs r.0 ≡ Some r.1 = get_below xs ys r.0 r.1 (omega arith) r.2 in
+          let none : ◌≡◌ {A = Option ℕ} None (Some (r.1).stamp) = sym e ∙ ap (stamp_in xs) (sym r.3) ∙ stamp_at xs (legal_prefix kind xs ys legal).names r.0 r.1 at in
+          cc)
     ]
 
 marked_same : (stage : Stage) (word m n : ℕ) → (stage ≡ Committing → n ≡ m) → IsMarked stage word m → IsMarked stage word n

@@ -39,10 +39,10 @@ pub one_changed : (kind : Kind) (w : Write) (q : Key) → (writes_at kind w q ||
 one_changed kind w q h =
     list_any-append (same_key q) (keys_of kind w) (ends_of w)
     ∙ elim (either_of (writes_at kind w q) (touches_at w q) h)
-      as (λ _. (has_key (keys_of kind w) q || has_key (ends_of w) q) ≡ true) [
-        | inl e ↦ or_left _ _ e
-        | inr e ↦ or_right (has_key (keys_of kind w) q) _ (ends_touched w q e)
-      ]
+    as (λ _. (has_key (keys_of kind w) q || has_key (ends_of w) q) ≡ true) [
+      | inl e ↦ or_left _ _ e
+      | inr e ↦ or_right (has_key (keys_of kind w) q) _ (ends_touched w q e)
+    ]
 
 -- all rows that are not among them stay
 pub one_beside : (kind : Kind) (w : Write) (q : Key)
@@ -61,11 +61,11 @@ changed_covers kind [] q h = cc
 changed_covers kind (w ∷ ws) q h =
     list_any-append (same_key q) (keys_of kind w ++ ends_of w) (changed_keys kind ws)
     ∙ elim (either_of (writes_at kind w q || touches_at w q) (any_writes kind ws q || any_touches ws q)
-        (turn (writes_at kind w q) (any_writes kind ws q) (touches_at w q) (any_touches ws q) h))
-      as (λ _. (has_key (keys_of kind w ++ ends_of w) q || has_key (changed_keys kind ws) q) ≡ true) [
-        | inl e ↦ or_left _ _ (one_changed kind w q e)
-        | inr e ↦ or_right (has_key (keys_of kind w ++ ends_of w) q) _ (changed_covers kind ws q e)
-      ]
+    (turn (writes_at kind w q) (any_writes kind ws q) (touches_at w q) (any_touches ws q) h))
+    as (λ _. (has_key (keys_of kind w ++ ends_of w) q || has_key (changed_keys kind ws) q) ≡ true) [
+      | inl e ↦ or_left _ _ (one_changed kind w q e)
+      | inr e ↦ or_right (has_key (keys_of kind w ++ ends_of w) q) _ (changed_covers kind ws q e)
+    ]
   where
     turn : (a b c d : Bool) → ((a || b) || (c || d)) ≡ true → ((a || c) || (b || d)) ≡ true
     turn true b c d e = refl
@@ -123,10 +123,10 @@ pub done_next : (f : Key → StampedVersions → StampedVersions) (done : List K
     → IsDone f done old now → has_key done key ≡ false → ChangesKey now new key (f key (versions_at now key))
     → IsDone f (key ∷ done) old new
 done_next f done old now new key is fresh changes = record {
-    low = changes.low ∙ is.low;
-    high = changes.high ∙ is.high;
-    rows = λ q. key_changed now new key (f key (versions_at now key)) changes q ∙ by_key q (same_key q key) refl;
-  }
+  low = changes.low ∙ is.low;
+  high = changes.high ∙ is.high;
+  rows = λ q. key_changed now new key (f key (versions_at now key)) changes q ∙ by_key q (same_key q key) refl;
+}
   where
     was : versions_at now key ≡ versions_at old key
     was = is.rows key ∙ ap (λ t. cond t (f key (versions_at old key)) (versions_at old key)) fresh
@@ -137,12 +137,12 @@ done_next f done old now new key is fresh changes = record {
     by_key q true e =
         let same : q ≡ key = same_key_eq q key e in
         ap (λ t. cond t (f key (versions_at now key)) (versions_at now q))
-          (ap (λ x. eq_by_cmp key_cmp x key) same ∙ tied_self key)
+        (ap (λ x. eq_by_cmp key_cmp x key) same ∙ tied_self key)
         ∙ ap (f key) was ∙ ap (λ x. f x (versions_at old x)) (sym same)
     by_key q false e =
         ap (λ t. cond t (f key (versions_at now key)) (versions_at now q))
-          (false_from_ne_true (eq_by_cmp key_cmp q key) (λ t.
-            true≢false (sym (same_self key) ∙ ap (λ x. same_key x key) (sym (tied_same q key t)) ∙ e)))
+        (false_from_ne_true (eq_by_cmp key_cmp q key) (λ t.
+        true≢false (sym (same_self key) ∙ ap (λ x. same_key x key) (sym (tied_same q key t)) ∙ e)))
         ∙ is.rows q
 
 pub done_all : (f : Key → StampedVersions → StampedVersions) (done : List Key) (old new : VersionedRows)

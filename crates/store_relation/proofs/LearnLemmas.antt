@@ -98,8 +98,8 @@ module _ {z : Config} {word : ℕ → ℕ} {pass : ℕ → PassState} {j : Journ
         answers = λ seen front names vouched.
             subst
             (λ by. IsAnswer
-              (record { known = length seen; stamps = stamp_in seen; names = names; vouched = vouched }) by
-              (state_of_word (word x.by.job))) (sym latest)
+            (record { known = length seen; stamps = stamp_in seen; names = names; vouched = vouched }) by
+            (state_of_word (word x.by.job))) (sym latest)
             (word_answers s x.by.job (word x.by.job) seen names vouched refl front);
         look = λ until within.
             subst (λ by. IsLook j (record { by = by; word = word x.by.job; until = until })) (sym latest)

@@ -16,3 +16,4 @@ pub mod EndLemmas
 pub mod CheckLemmas
 pub mod KeyLemmas
 pub mod LearnLemmas
+pub mod ExampleLemmas

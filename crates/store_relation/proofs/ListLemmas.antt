@@ -110,14 +110,14 @@ pub sum_but_one : (f g : ℕ → ℕ) (n p : ℕ) → p < n → ((q : ℕ) → (
 sum_but_one f g zero p lt each = absurd (omega arith)
 sum_but_one f g (suc n) p lt each = dite (ℕ_discrete p n)
     (λ same.
-      let below : sum_below g n ≡ sum_below f n = sum_same f g n (λ q l. each q (λ e. omega (arith, l, e, same))) in
-      let a : f p ≡ f n = ap f same in
-      let b : g p ≡ g n = ap g same in
-      omega (arith, below, a, b))
+    let below : sum_below g n ≡ sum_below f n = sum_same f g n (λ q l. each q (λ e. omega (arith, l, e, same))) in
+    let a : f p ≡ f n = ap f same in
+    let b : g p ≡ g n = ap g same in
+    omega (arith, below, a, b))
     (λ other.
-      let below : sum_below g n + f p ≡ sum_below f n + g p = sum_but_one f g n p (omega (arith, lt, other)) each in
-      let here : g n ≡ f n = each n (λ e. other (sym e)) in
-      omega (arith, below, here))
+    let below : sum_below g n + f p ≡ sum_below f n + g p = sum_but_one f g n p (omega (arith, lt, other)) each in
+    let here : g n ≡ f n = each n (λ e. other (sym e)) in
+    omega (arith, below, here))
 
 pub sum_bound : (f : ℕ → ℕ) (m n : ℕ) → ((q : ℕ) → f q ≤ m) → sum_below f n ≤ n * m
 sum_bound f m zero each = omega arith

@@ -46,7 +46,7 @@ made_at_none xs (suc i) = at_place xs i
   where
     at_place : (ys : List (List Write)) (k : ℕ)
         → (let none : List Write = [] in
-          unwrap_or (slice_get (ys ++ none ∷ []) k) none ≡ unwrap_or (slice_get ys k) none)
+        unwrap_or (slice_get (ys ++ none ∷ []) k) none ≡ unwrap_or (slice_get ys k) none)
     at_place [] zero = refl
     at_place [] (suc k) = refl
     at_place (y ∷ ys) zero = refl
@@ -69,7 +69,7 @@ pub made_grows : (kind : Kind) (xs : List (List Write)) (ws : List Write) (w v :
     → meets kind v (made_at (xs ++ (ws ++ w ∷ []) ∷ []) n) ≡ true
 made_grows kind xs ws w v n h = dite (ℕ_discrete n (suc (length xs)))
     (λ same. ap (meets kind v) (made_at_end xs (ws ++ w ∷ []) n same) ∙ list_any-append (clash kind v) ws (w ∷ [])
-      ∙ or_left _ _ (ap (meets kind v) (sym (made_at_end xs ws n same)) ∙ h))
+    ∙ or_left _ _ (ap (meets kind v) (sym (made_at_end xs ws n same)) ∙ h))
     (λ other. ap (meets kind v) (made_at_other xs (ws ++ w ∷ []) ws n other) ∙ h)
 
 -- ---- the transactions of a pass
@@ -94,7 +94,7 @@ made_ended st stamp e =
 pub number_active : (st : PassState) → is_active st.stage ≡ true → number_of st ≡ suc (length st.past)
 number_active st e =
     let n : length (ended_writes st ++ st.own ∷ []) ≡ length (ended_writes st) + 1
-          = length-append (ended_writes st) (st.own ∷ []) in
+    = length-append (ended_writes st) (st.own ∷ []) in
     let m : length (ended_writes st) ≡ length st.past = ended_length st in
     ap length (made_active st e) ∙ omega (arith, n, m)
 
@@ -191,9 +191,9 @@ pub inserted_more : (kind : Kind) (xs : List (List Write)) (ws more : List Write
 inserted_more kind xs ws more =
     let f : List Write → ℕ = inserted kind in
     let all : (us : List Write) → f (flat_map (λ us. us) (xs ++ us ∷ [])) ≡ f (flat_map (λ us. us) xs) + f us
-          = (λ us. ap f (flat_map-append (λ vs. vs) xs (us ∷ [])
-              ∙ ap (λ vs. flat_map (λ us. us) xs ++ vs) (append-nil us))
-            ∙ sum_by-append (inserted_by kind) (flat_map (λ us. us) xs) us) in
+    = (λ us. ap f (flat_map-append (λ vs. vs) xs (us ∷ [])
+    ∙ ap (λ vs. flat_map (λ us. us) xs ++ vs) (append-nil us))
+    ∙ sum_by-append (inserted_by kind) (flat_map (λ us. us) xs) us) in
     let a = all ws in
     let b = all (ws ++ more) in
     let c : f (ws ++ more) ≡ f ws + f more = sum_by-append (inserted_by kind) ws more in

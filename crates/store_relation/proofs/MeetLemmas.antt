@@ -53,14 +53,14 @@ module _ {z : Config} {word : ℕ → ℕ} {pass : ℕ → PassState} {j : Journ
       → meets z.kind w (writes_by (pass n.job) n.number) ≡ true
   looked_made w n h =
       elim (looked_laid z.kind j.commits (running_of pass) (laid_of pass) (touching_by pass) s.horizon
-        (λ k. forget_row (rows k)) s.store n (writes_by (pass n.job) n.number)
-        (front (n.number == number_of (pass n.job)) refl) (touches (n.number == number_of (pass n.job)) refl) w h)
+      (λ k. forget_row (rows k)) s.store n (writes_by (pass n.job) n.number)
+      (front (n.number == number_of (pass n.job)) refl) (touches (n.number == number_of (pass n.job)) refl) w h)
       as (λ _. meets z.kind w (writes_by (pass n.job) n.number) ≡ true) [
         | inl e ↦ e
         | inr c ↦
-          let made = s.made c.place c.commit (get_front j.commits j.next c.place c.commit c.at) in
-          subst (λ ws. meets z.kind w ws ≡ true)
-          (sym made.1 ∙ ap (λ (b : TxnName). writes_by (pass b.job) b.number) c.named) c.wrote
+            let made = s.made c.place c.commit (get_front j.commits j.next c.place c.commit c.at) in
+            subst (λ ws. meets z.kind w ws ≡ true)
+            (sym made.1 ∙ ap (λ (b : TxnName). writes_by (pass b.job) b.number) c.named) c.wrote
       ]
     where
       own_is : (n.number == number_of (pass n.job)) ≡ true → is_active (pass n.job).stage ≡ true
@@ -128,7 +128,7 @@ module _ {z : Config} {word : ℕ → ℕ} {pass : ℕ → PassState} {j : Journ
         behind = λ i c at named. dite (dec_le (pass p).start i) (λ le. le) (λ low.
             let here : slice_get j.commits i ≡ Some c = get_below j.commits j.next i c (omega (arith, low, b, l)) at in
             absurd (true≢false (sym (reached_at z.kind j.commits s.store.transactions.legal i c (pass p).start here (omega (arith, low))) ∙ ap (λ m. reached (stamp_in j.commits m) (pass p).start) named
-              ∙ seen_reached s (pass p).seen (pass p).start (s.each p).seen (s.each p).started n ∙ out)));
+            ∙ seen_reached s (pass p).seen (pass p).start (s.each p).seen (s.each p).started n ∙ out)));
         begun = omega (arith, b, l);
       }
 
@@ -141,7 +141,7 @@ later_has kind (d ∷ js) start w zero c at lt h =
     let same : d ≡ c = some_eq d c at in
     let test : (nat_lt start d.stamp && meets kind w d.writes) ≡ true = (λ k. (let a : nat_lt start c.stamp ≡ true = grind (arith, nat_tests) in ap (λ (x : Commit). nat_lt start x.stamp) same ∙ a) k && (ap (λ (x : Commit). meets kind w x.writes) same ∙ h) k) in
     subst (λ t. Contains (map (λ (x : Commit). x.stamp) (cond t (d ∷ filter (λ (x : Commit). nat_lt start x.stamp && meets kind w x.writes) js) (filter (λ (x : Commit). nat_lt start x.stamp && meets kind w x.writes) js))) c.stamp) (sym test)
-      (0, omega arith, ap (λ (x : Commit). x.stamp) same)
+    (0, omega arith, ap (λ (x : Commit). x.stamp) same)
 later_has kind (d ∷ js) start w (suc i) c at lt h = behind (nat_lt start d.stamp && meets kind w d.writes) (later_has kind js start w i c at lt h)
   where
     behind : (t : Bool) → Contains (map (λ (x : Commit). x.stamp) (filter (λ (x : Commit). nat_lt start x.stamp && meets kind w x.writes) js)) c.stamp
@@ -167,6 +167,6 @@ passes_meet {pass = pass} {j = j} s p told front =
     let h = s.each p in
     let both = meets_told (pass p).seen told j.commits h.seen front in
     let more : length (pass p).seen ≤ length (longer_of (pass p).seen told)
-          = prefix_length (pass p).seen (longer_of (pass p).seen told) both.0 in
+    = prefix_length (pass p).seen (longer_of (pass p).seen told) both.0 in
     let started : (pass p).start ≤ length (pass p).seen = h.started in
     (both.0, both.1, refreshes s p (longer_of (pass p).seen told) both.2 (omega (arith, more, started)))

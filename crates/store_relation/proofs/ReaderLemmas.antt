@@ -63,16 +63,16 @@ module _ (pass : ℕ → PassState) (commits : List Commit) (readers : List Read
   reader_here : (st' : PassState) (commits' : List Commit) → IsPrefix commits commits' → IsSameTxn (pass p) st' → (x : ReaderState) → IsReader pass commits x → IsReader (revised pass p st') commits' x
   reader_here st' commits' front same x r = dite (ℕ_discrete x.by.job p)
       (λ here.
-        let old : pass x.by.job ≡ pass p = ap pass here in
-        let new : revised pass p st' x.by.job ≡ st' = ap (revised pass p st') here ∙ revised_here pass p st' in
-        record {
-          stage = ap (λ (u : PassState). u.stage) new ∙ same.stage ∙ ap (λ (u : PassState). u.stage) (sym old) ∙ r.stage;
-          by = r.by ∙ ap (λ n. record { job = x.by.job; number = n }) (ap number_of old ∙ sym same.number ∙ ap number_of (sym new));
-          start = r.start ∙ ap (λ (u : PassState). u.start) old ∙ sym same.start ∙ ap (λ (u : PassState). u.start) (sym new);
-          own = r.own ∙ ap (λ (u : PassState). u.own) old ∙ sym same.own ∙ ap (λ (u : PassState). u.own) (sym new);
-          seen = prefix_trans x.seen commits commits' r.seen front;
-          started = r.started;
-        })
+      let old : pass x.by.job ≡ pass p = ap pass here in
+      let new : revised pass p st' x.by.job ≡ st' = ap (revised pass p st') here ∙ revised_here pass p st' in
+      record {
+        stage = ap (λ (u : PassState). u.stage) new ∙ same.stage ∙ ap (λ (u : PassState). u.stage) (sym old) ∙ r.stage;
+        by = r.by ∙ ap (λ n. record { job = x.by.job; number = n }) (ap number_of old ∙ sym same.number ∙ ap number_of (sym new));
+        start = r.start ∙ ap (λ (u : PassState). u.start) old ∙ sym same.start ∙ ap (λ (u : PassState). u.start) (sym new);
+        own = r.own ∙ ap (λ (u : PassState). u.own) old ∙ sym same.own ∙ ap (λ (u : PassState). u.own) (sym new);
+        seen = prefix_trans x.seen commits commits' r.seen front;
+        started = r.started;
+      })
       (λ other. reader_else st' commits' front x other r)
 
   both : (P Q R : ReaderState → Type 0) → ((x : ReaderState) → P x → Q x → R x) → (xs : List ReaderState) → AllByRecursion P xs → AllByRecursion Q xs → AllByRecursion R xs
@@ -115,9 +115,9 @@ module _ (pass : ℕ → PassState) (commits : List Commit) (readers : List Read
         });
         out = all_put (λ q u. readers_of q (readers ++ reader_of pass p ∷ []) ≡ u.readers_out) pass p st'
             (let n = count-append p readers (reader_of pass p ∷ []) in let m = are.out p in
-              let one : readers_of p (reader_of pass p ∷ []) ≡ 1 = count_one p (reader_of pass p) refl in omega (arith, n, m, one))
+            let one : readers_of p (reader_of pass p ∷ []) ≡ 1 = count_one p (reader_of pass p) refl in omega (arith, n, m, one))
             (λ q other. let n = count-append q readers (reader_of pass p ∷ []) in let m = are.out q in
-              let none : readers_of q (reader_of pass p ∷ []) ≡ 0 = count_other q (reader_of pass p) (λ e. other (sym e)) in omega (arith, n, m, none));
+            let none : readers_of q (reader_of pass p ∷ []) ≡ 0 = count_other q (reader_of pass p) (λ e. other (sym e)) in omega (arith, n, m, none));
       }
 
 -- JOIN: one reader is gone, and its pass has one out less
@@ -131,9 +131,9 @@ readers_joined pass commits front back x are =
       each = without (IsReader (revised pass p st') commits) front (all_map _ _ (reader_here pass commits (front ++ x ∷ back) are p st' commits (prefix_all commits) same) (front ++ x ∷ back) are.each);
       out = all_put (λ q u. readers_of q (front ++ back) ≡ u.readers_out) pass p st'
           (let n = count-append p front (x ∷ back) in let m = count-append p front back in let o = are.out p in let c = count-append p (x ∷ []) back in
-            let one : readers_of p (x ∷ []) ≡ 1 = count_one p x refl in omega (arith, n, m, o, c, one))
+          let one : readers_of p (x ∷ []) ≡ 1 = count_one p x refl in omega (arith, n, m, o, c, one))
           (λ q other. let n = count-append q front (x ∷ back) in let m = count-append q front back in let o = are.out q in let c = count-append q (x ∷ []) back in
-            let none : readers_of q (x ∷ []) ≡ 0 = count_other q x (λ e. other (sym e)) in omega (arith, n, m, o, c, none));
+          let none : readers_of q (x ∷ []) ≡ 0 = count_other q x (λ e. other (sym e)) in omega (arith, n, m, o, c, none));
     }
   where
     without : (P : ReaderState → Type 0) (xs : List ReaderState) → AllByRecursion P (xs ++ x ∷ back) → AllByRecursion P (xs ++ back)
@@ -150,7 +150,7 @@ module _ {z : Config} {word : ℕ → ℕ} {pass : ℕ → PassState} {j : Journ
       let within : (pass p).start ≤ length x.seen = subst (λ n. n ≤ length x.seen) r.start r.started in
       (λ i. read_stamped (stamp_in x.seen) (r.start i) (r.by i) (rows k))
       ∙ reads_right s p r.stage x.seen r.seen within (stamp_in x.seen) k
-        (told_all (stamp_in x.seen) (stamp_in j.commits) (pass p).start (λ n. sym (seen_reached s x.seen (pass p).start r.seen within n)) (rows k))
+      (told_all (stamp_in x.seen) (stamp_in j.commits) (pass p).start (λ n. sym (seen_reached s x.seen (pass p).start r.seen within n)) (rows k))
       ∙ (λ i. value_at (view z.kind x.seen (sym r.start i) (sym r.own i)) k)
 
   -- a pass has counted one reader more, or one less, and nothing else of the store has changed
@@ -163,7 +163,7 @@ module _ {z : Config} {word : ℕ → ℕ} {pass : ℕ → PassState} {j : Journ
       let h = s.each p in
       subst
       (λ u. IsShared z word (revised pass p u) j rows clock
-        × AreReaders (revised pass p u) j.commits (readers ++ reader_of pass p ∷ [])) (sym e)
+      × AreReaders (revised pass p u) j.commits (readers ++ reader_of pass p ∷ [])) (sym e)
       (lends s p ((pass p).readers_out + 1), readers_split pass j.commits readers are p is h.seen h.started)
 
   pub reader_is_joined : (front back : List ReaderState) (x : ReaderState)
@@ -174,7 +174,7 @@ module _ {z : Config} {word : ℕ → ℕ} {pass : ℕ → PassState} {j : Journ
   reader_is_joined front back x are now e =
       subst
       (λ u. IsShared z word (revised pass x.by.job u) j rows clock
-        × AreReaders (revised pass x.by.job u) j.commits (front ++ back)) (sym e)
+      × AreReaders (revised pass x.by.job u) j.commits (front ++ back)) (sym e)
       (lends s x.by.job ((pass x.by.job).readers_out - 1), readers_joined pass j.commits front back x are)
 
   pub readers_stay : (p : ℕ) (now : PassState) (j' : JournalState) (readers : List ReaderState)

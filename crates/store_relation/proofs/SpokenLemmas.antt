@@ -36,17 +36,18 @@ module _ (pass : ℕ → PassState) (p : ℕ) (st' : PassState) (k : Key) where
   spoken_one x keeps old none =
       let h = old none in
       dite (ℕ_discrete x.by.job p)
-        (λ same.
-          let me : x.by ≡ name_of pass p = h.0 ∙ ap (name_of pass) same in
-          let may : may_stand (pass p) k ≡ true = ap (λ q. may_stand (pass q) k) (sym same) ∙ h.1 in
-          let r = keeps me may in
-          let number : number_of (pass x.by.job) ≡ number_of (revised pass p st' x.by.job) =
-                ap (λ q. number_of (pass q)) same ∙ sym r.0 ∙ ap number_of (sym (revised_here pass p st')) ∙ ap (λ q. number_of (revised pass p st' q)) (sym same) in
-          (h.0 ∙ ap (λ n. record { job = x.by.job; number = n }) number,
-            ap (λ q. may_stand (revised pass p st' q) k) same ∙ ap (λ u. may_stand u k) (revised_here pass p st') ∙ r.1))
-        (λ other.
-          let st = revised_else pass p st' x.by.job other in
-          (h.0 ∙ ap (λ u. record { job = x.by.job; number = number_of u }) (sym st), ap (λ u. may_stand u k) st ∙ h.1))
+      (λ same.
+      let me : x.by ≡ name_of pass p = h.0 ∙ ap (name_of pass) same in
+      let may : may_stand (pass p) k ≡ true = ap (λ q. may_stand (pass q) k) (sym same) ∙ h.1 in
+      let r = keeps me may in
+      let number : number_of (pass x.by.job) ≡ number_of (revised pass p st' x.by.job) =
+      ap (λ q. number_of (pass q)) same ∙ sym r.0 ∙ ap number_of (sym (revised_here pass p st')) ∙ ap (λ q. number_of (revised pass p st' q)) (sym same) in (
+        h.0 ∙ ap (λ n. record { job = x.by.job; number = n }) number,
+        ap (λ q. may_stand (revised pass p st' q) k) same ∙ ap (λ u. may_stand u k) (revised_here pass p st') ∙ r.1,
+      ))
+      (λ other.
+      let st = revised_else pass p st' x.by.job other in
+      (h.0 ∙ ap (λ u. record { job = x.by.job; number = number_of u }) (sym st), ap (λ u. may_stand u k) st ∙ h.1))
 
   -- the words of passes still speak for the records, where one of them comes to another state
   pub spoken_put : (r : StampedVersions) → AreSpokenFor pass k r → ((n : TxnName) → StandsIn r n → KeepsSpeaking n) → AreSpokenFor (revised pass p st') k r
@@ -65,28 +66,32 @@ abbrev pub EachRecord : (Stamped → Type 0) → StampedVersions → Type 0
 EachRecord Q r = AllByRecursion Q r.pairs × AllByRecursion Q r.touches
 
 module _ (Q : Stamped → Type 0) where
-  after_each : (kind : Kind) (by : TxnName) (w : Write) (k : Key) (r : StampedVersions) → ((value : Option ℕ) → Q (new_record by value)) → EachRecord Q r → EachRecord Q (row_after kind by w k r)
+  pub after_each : (kind : Kind) (by : TxnName) (w : Write) (k : Key) (r : StampedVersions) → ((value : Option ℕ) → Q (new_record by value)) → EachRecord Q r → EachRecord Q (row_after kind by w k r)
   after_each kind by w k r new all = touch_one (touches_at w k) (cond (writes_at kind w k) (written by (value_left w) r) r) (write_one (writes_at kind w k))
     where
       write_one : (t : Bool) → EachRecord Q (cond t (written by (value_left w) r) r)
       write_one true = ((new (value_left w), all.0), all.1)
       write_one false = all
+
       touched_one : (t : Bool) (u : StampedVersions) → EachRecord Q u → AllByRecursion Q (cond t u.touches (u.touches ++ new_record by None ∷ []))
       touched_one true u h = h.1
       touched_one false u h = all_end Q u.touches (new_record by None) h.1 (new None)
+
       touch_one : (t : Bool) (u : StampedVersions) → EachRecord Q u → EachRecord Q (cond t (touched by u) u)
       touch_one true u h = (h.0, touched_one (has_record by u.touches) u h)
       touch_one false u h = h
 
-  before_each : (kind : Kind) (by : TxnName) (w : Write) (k : Key) (r : StampedVersions) → EachRecord Q r → EachRecord Q (row_before kind by w k r)
+  pub before_each : (kind : Kind) (by : TxnName) (w : Write) (k : Key) (r : StampedVersions) → EachRecord Q r → EachRecord Q (row_before kind by w k r)
   before_each kind by w k r all = touch_one (touches_at w k) (cond (writes_at kind w k) (undone r) r) (undo_one (writes_at kind w k))
     where
       rest : (ps : List Stamped) → AllByRecursion Q ps → AllByRecursion Q (drop 1 ps)
       rest [] h = tt
       rest (x ∷ ps) h = h.1
+
       undo_one : (t : Bool) → EachRecord Q (cond t (undone r) r)
       undo_one true = (rest r.pairs all.0, all.1)
       undo_one false = all
+
       touch_one : (t : Bool) (u : StampedVersions) → EachRecord Q u → EachRecord Q (cond t (untouched by u) u)
       touch_one true u h = (h.0, all_filter Q _ u.touches h.1)
       touch_one false u h = h
@@ -102,6 +107,7 @@ forget_after kind by w k r = touch_one (touches_at w k) ∙ ap (λ vs. cond (tou
     write_one : (t : Bool) → forget_row (cond t (written by (value_left w) r) r) ≡ cond t (write by (value_left w) (forget_row r)) (forget_row r)
     write_one true = refl
     write_one false = refl
+
     touch_one : (t : Bool) → forget_row (cond t (touched by (cond (writes_at kind w k) (written by (value_left w) r) r)) (cond (writes_at kind w k) (written by (value_left w) r) r)) ≡ cond t (touch by (forget_row (cond (writes_at kind w k) (written by (value_left w) r) r))) (forget_row (cond (writes_at kind w k) (written by (value_left w) r) r))
     touch_one true = touched_is_touch by (cond (writes_at kind w k) (written by (value_left w) r) r)
     touch_one false = refl
@@ -112,6 +118,7 @@ forget_before kind by w k r = touch_one (touches_at w k) ∙ ap (λ vs. cond (to
     undo_one : (t : Bool) → forget_row (cond t (undone r) r) ≡ cond t (undo (forget_row r)) (forget_row r)
     undo_one true = undone_is_undo r
     undo_one false = refl
+
     touch_one : (t : Bool) → forget_row (cond t (untouched by (cond (writes_at kind w k) (undone r) r)) (cond (writes_at kind w k) (undone r) r)) ≡ cond t (untouch by (forget_row (cond (writes_at kind w k) (undone r) r))) (forget_row (cond (writes_at kind w k) (undone r) r))
     touch_one true = untouched_is_untouch by (cond (writes_at kind w k) (undone r) r)
     touch_one false = refl

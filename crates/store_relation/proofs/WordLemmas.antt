@@ -48,10 +48,10 @@ use Rattle.store_relation.proofs.ReadLemmas.{seen_reached}
 pub stamp_place : (kind : Kind) (js : List Commit) → IsLegal kind js → (by : TxnName) (d : ℕ) → stamp_in js by ≡ Some d → (i : ℕ) × (c : Commit) × (slice_get js i ≡ Some c) × (c.by ≡ by) × (d ≡ i + 1)
 stamp_place kind js legal by d e = elim (stamped_or_none js by) as (λ _. (i : ℕ) × (c : Commit) × (slice_get js i ≡ Some c) × (c.by ≡ by) × (d ≡ i + 1)) [
   | inl r ↦
-    let own : stamp_in js (r.1).by ≡ Some (r.1).stamp = stamp_at js legal.names r.0 r.1 r.2 in
-    let both : ◌≡◌ {A = Option ℕ} (Some d) (Some (r.1).stamp) = sym e ∙ ap (stamp_in js) (sym r.3) ∙ own in
-    let place : (r.1).stamp ≡ r.0 + 1 = (legal.each r.0 r.1 r.2).stamped in
-    (r.0, r.1, r.2, r.3, some_eq d (r.1).stamp both ∙ place)
+      let own : stamp_in js (r.1).by ≡ Some (r.1).stamp = stamp_at js legal.names r.0 r.1 r.2 in
+      let both : ◌≡◌ {A = Option ℕ} (Some d) (Some (r.1).stamp) = sym e ∙ ap (stamp_in js) (sym r.3) ∙ own in
+      let place : (r.1).stamp ≡ r.0 + 1 = (legal.each r.0 r.1 r.2).stamped in
+      (r.0, r.1, r.2, r.3, some_eq d (r.1).stamp both ∙ place)
   | inr none ↦ let no : ◌≡◌ {A = Option ℕ} (Some d) None = sym e ∙ none in cc
 ]
 
@@ -84,29 +84,29 @@ module _ {z : Config} {word : ℕ → ℕ} {pass : ℕ → PassState} {j : Journ
   -- LOOK: up to each number of published commits the word says whether the latest transaction has committed
   pub word_known : (p n until : ℕ) → word p ≡ n → until ≤ length j.commits → IsLook j (record { by = name_of pass p; word = n; until = until })
   word_known p n until is within = record {
-      known = within;
-      entry = λ lt. s.entered p (n - 3) (is ∙ omega (arith, lt));
-      says = λ at le. elim (stamped_or_none j.commits (name_of pass p)) as (λ _. reached (stamp_in j.commits (name_of pass p)) at ≡ reached (stamp_of_word n) at) [
-        | inl r ↦
+    known = within;
+    entry = λ lt. s.entered p (n - 3) (is ∙ omega (arith, lt));
+    says = λ at le. elim (stamped_or_none j.commits (name_of pass p)) as (λ _. reached (stamp_in j.commits (name_of pass p)) at ≡ reached (stamp_of_word n) at) [
+      | inl r ↦
           let w : n ≡ r.0 + 3 = sym is ∙ word_of_commit p r.0 r.1 r.2 r.3 in
           let stamp : (r.1).stamp ≡ r.0 + 1 = (s.store.transactions.legal.each r.0 r.1 r.2).stamped in
           let lt : 2 < n = omega (arith, w) in
           let same : (r.1).stamp ≡ n - 2 = omega (arith, w, stamp) in
           ap (λ b. reached (stamp_in j.commits b) at) (sym r.3) ∙ ap (λ o. reached o at) (stamp_at j.commits s.store.transactions.legal.names r.0 r.1 r.2)
           ∙ ap (λ m. reached (Some m) at) same ∙ ap (λ o. reached o at) (sym (word_says n lt))
-        | inr none ↦ ap (λ o. reached o at) none ∙ sym (dite (dec_le 3 n)
+      | inr none ↦ ap (λ o. reached o at) none ∙ sym (dite (dec_le 3 n)
           (λ up.
-            let e : word p ≡ (n - 3) + 3 = is ∙ omega (arith, up) in
-            let r = s.entered p (n - 3) e in
-            let out : length j.commits ≤ n - 3 = dite (dec_le (length j.commits) (n - 3)) (λ le. le) (λ low.
-                  let here : slice_get j.commits (n - 3) ≡ Some r.0 = get_below j.commits j.next (n - 3) r.0 (omega (arith, low)) r.1 in
-                  let no : ◌≡◌ {A = Option ℕ} None (Some (r.0).stamp) = sym none ∙ ap (stamp_in j.commits) (sym r.2) ∙ stamp_at j.commits s.store.transactions.legal.names (n - 3) r.0 here in
-                  cc) in
-            let far : nat_le (n - 2) at ≡ false = false_from_ne_true _ (λ h. let l : n - 2 ≤ at = grind (arith, nat_tests) in omega (arith, l, out, up, le, within)) in
-            ap (λ o. reached o at) (word_says n (omega (arith, up))) ∙ far)
+          let e : word p ≡ (n - 3) + 3 = is ∙ omega (arith, up) in
+          let r = s.entered p (n - 3) e in
+          let out : length j.commits ≤ n - 3 = dite (dec_le (length j.commits) (n - 3)) (λ le. le) (λ low.
+          let here : slice_get j.commits (n - 3) ≡ Some r.0 = get_below j.commits j.next (n - 3) r.0 (omega (arith, low)) r.1 in
+          let no : ◌≡◌ {A = Option ℕ} None (Some (r.0).stamp) = sym none ∙ ap (stamp_in j.commits) (sym r.2) ∙ stamp_at j.commits s.store.transactions.legal.names (n - 3) r.0 here in
+          cc) in
+          let far : nat_le (n - 2) at ≡ false = false_from_ne_true _ (λ h. let l : n - 2 ≤ at = grind (arith, nat_tests) in omega (arith, l, out, up, le, within)) in
+          ap (λ o. reached o at) (word_says n (omega (arith, up))) ∙ far)
           (λ low. ap (λ o. reached o at) (word_silent n (omega (arith, low)))))
-      ];
-    }
+    ];
+  }
 
   -- a pass that knows some prefix of the journal: what a word says is an answer
   pub word_answers : (p n : ℕ) (seen : List Commit) (names : TxnName → Bool) (vouched : TxnName → State → Bool) → word p ≡ n → IsPrefix seen j.commits
@@ -139,16 +139,16 @@ module _ {z : Config} {word : ℕ → ℕ} {pass : ℕ → PassState} {j : Journ
           committed n (omega (arith, w)) (inl (ap (stamp_in seen) (sym r.3) ∙ stamp_at seen legal.names r.0 r.1 r.2 ∙ ap (λ k. Some k) same, omega (arith, w, low)))
       by_seen (inr none) = dite (dec_le 3 n)
           (λ up.
-            let e : word p ≡ (n - 3) + 3 = is ∙ omega (arith, up) in
-            let r = s.entered p (n - 3) e in
-            let out : length seen ≤ n - 3 = dite (dec_le (length seen) (n - 3)) (λ le. le) (λ low.
-                  let long : length seen ≤ length j.commits = prefix_length seen j.commits front in
-                  let here : slice_get j.commits (n - 3) ≡ Some r.0 = get_below j.commits j.next (n - 3) r.0 (omega (arith, low, long)) r.1 in
-                  let there : slice_get seen (n - 3) ≡ Some r.0 = get_below seen front.0 (n - 3) r.0 (omega (arith, low)) (ap (λ l. slice_get l (n - 3)) front.1 ∙ here) in
-                  let legal = legal_prefix z.kind seen front.0 (subst (IsLegal z.kind) (sym front.1) s.store.transactions.legal) in
-                  let no : ◌≡◌ {A = Option ℕ} None (Some (r.0).stamp) = sym none ∙ ap (stamp_in seen) (sym r.2) ∙ stamp_at seen legal.names (n - 3) r.0 there in
-                  cc) in
-            committed n (omega (arith, up)) (inr (none, omega (arith, out, up))))
+          let e : word p ≡ (n - 3) + 3 = is ∙ omega (arith, up) in
+          let r = s.entered p (n - 3) e in
+          let out : length seen ≤ n - 3 = dite (dec_le (length seen) (n - 3)) (λ le. le) (λ low.
+          let long : length seen ≤ length j.commits = prefix_length seen j.commits front in
+          let here : slice_get j.commits (n - 3) ≡ Some r.0 = get_below j.commits j.next (n - 3) r.0 (omega (arith, low, long)) r.1 in
+          let there : slice_get seen (n - 3) ≡ Some r.0 = get_below seen front.0 (n - 3) r.0 (omega (arith, low)) (ap (λ l. slice_get l (n - 3)) front.1 ∙ here) in
+          let legal = legal_prefix z.kind seen front.0 (subst (IsLegal z.kind) (sym front.1) s.store.transactions.legal) in
+          let no : ◌≡◌ {A = Option ℕ} None (Some (r.0).stamp) = sym none ∙ ap (stamp_in seen) (sym r.2) ∙ stamp_at seen legal.names (n - 3) r.0 there in
+          cc) in
+          committed n (omega (arith, up)) (inr (none, omega (arith, out, up))))
           (λ low. open_or_ended n (omega (arith, low)) none)
 
   -- ---- the writer of a record without a stamp
@@ -168,33 +168,33 @@ module _ {z : Config} {word : ℕ → ℕ} {pass : ℕ → PassState} {j : Journ
     -- its word is that of one that is open, or of one with a stamp
     pub bare_word : (word x.by.job ≡ 1) ⊎ (2 < word x.by.job)
     bare_word = elim (stage_cases (pass x.by.job).stage) as (λ _. (word x.by.job ≡ 1) ⊎ (2 < word x.by.job)) [
-        | inl idle ↦ elim (stander s k x.by stands) as (λ _. (word x.by.job ≡ 1) ⊎ (2 < word x.by.job)) [
-          | inl (inl e) ↦ absurd (true≢false (sym e ∙ ap (λ ws. any_writes z.kind ws k) (nothing_laid idle)))
-          | inl (inr e) ↦ absurd (true≢false (sym e ∙ no_touch idle))
-          | inr r ↦ let w : word x.by.job ≡ r.0 + 3 = word_of_commit x.by.job r.0 r.1 r.2 (r.3 ∙ bare_latest) in inr (omega (arith, w))
-        ]
-        | inr (inl opened) ↦ inl (marked_by s x.by.job Open opened)
-        | inr (inr (inl aborting)) ↦ inl (marked_by s x.by.job Aborting aborting)
-        | inr (inr (inr stored)) ↦ let w : word x.by.job ≡ length j.commits + 3 = marked_by s x.by.job Committing stored in inr (omega (arith, w))
+      | inl idle ↦ elim (stander s k x.by stands) as (λ _. (word x.by.job ≡ 1) ⊎ (2 < word x.by.job)) [
+        | inl (inl e) ↦ absurd (true≢false (sym e ∙ ap (λ ws. any_writes z.kind ws k) (nothing_laid idle)))
+        | inl (inr e) ↦ absurd (true≢false (sym e ∙ no_touch idle))
+        | inr r ↦ let w : word x.by.job ≡ r.0 + 3 = word_of_commit x.by.job r.0 r.1 r.2 (r.3 ∙ bare_latest) in inr (omega (arith, w))
       ]
+      | inr (inl opened) ↦ inl (marked_by s x.by.job Open opened)
+      | inr (inr (inl aborting)) ↦ inl (marked_by s x.by.job Aborting aborting)
+      | inr (inr (inr stored)) ↦ let w : word x.by.job ≡ length j.commits + 3 = marked_by s x.by.job Committing stored in inr (omega (arith, w))
+    ]
 
     -- and its pass is one of the store's
     pub bare_inside : x.by.job < z.passes
     bare_inside = dite (dec_le z.passes x.by.job)
         (λ out.
-          let o = s.counted.outside x.by.job out in
-          let none : number_of (pass x.by.job) ≡ 0 = number_idle (pass x.by.job) (ap is_active o.0) ∙ ap (λ l. length l) o.1 in
-          absurd (elim (stander s k x.by stands) as (λ _. ⊥) [
-            | inl (inl e) ↦ true≢false (sym e ∙ ap (λ ws. any_writes z.kind ws k) (nothing_laid o.0))
-            | inl (inr e) ↦ true≢false (sym e ∙ no_touch o.0)
-            | inr r ↦
+        let o = s.counted.outside x.by.job out in
+        let none : number_of (pass x.by.job) ≡ 0 = number_idle (pass x.by.job) (ap is_active o.0) ∙ ap (λ l. length l) o.1 in
+        absurd (elim (stander s k x.by stands) as (λ _. ⊥) [
+          | inl (inl e) ↦ true≢false (sym e ∙ ap (λ ws. any_writes z.kind ws k) (nothing_laid o.0))
+          | inl (inr e) ↦ true≢false (sym e ∙ no_touch o.0)
+          | inr r ↦
               let m = s.made r.0 r.1 (get_front j.commits j.next r.0 r.1 r.2) in
               let named : (r.1).by ≡ name_of pass x.by.job = r.3 ∙ bare_latest in
               let number : (r.1).by.number ≡ 0 = ap (λ (b : TxnName). b.number) named ∙ none in
               let wrote : 0 < length (r.1).writes = m.0 in
               let empty : length (r.1).writes ≡ 0 = ap length (sym m.1 ∙ ap (writes_by (pass (r.1).by.job)) number) in
               omega (arith, wrote, empty)
-          ]))
+        ]))
         (λ low. omega arith)
 
     -- of another pass than the one that asks, unless it is its own transaction
@@ -228,9 +228,9 @@ told_by_looks j (l ∷ ls) all horizon by has = by_name (same_name l.by by) refl
 pub looks_tell_row : (j : JournalState) (ls : List Look) → AllByRecursion (IsLook j) ls → (horizon : ℕ)
     (r : StampedVersions) → AreLookedUp horizon ls r → AreTold (stamps_of ls) (stamp_in j.commits) horizon r
 looks_tell_row j ls all horizon r found = record {
-    pairs = all_map (IsLookedUp horizon ls) _ agrees r.pairs found.pairs;
-    touches = all_map (IsLookedUp horizon ls) _ agrees r.touches found.touches;
-  }
+  pairs = all_map (IsLookedUp horizon ls) _ agrees r.pairs found.pairs;
+  touches = all_map (IsLookedUp horizon ls) _ agrees r.touches found.touches;
+}
   where
     agrees : (x : Stamped) → IsLookedUp horizon ls x → AgreeOn (stamps_of ls) (stamp_in j.commits) horizon x
     agrees x has bare = told_by_looks j ls all horizon x.by (has bare)

@@ -31,7 +31,7 @@ module _ (z : Config) (p : ℕ) (st : PassState) where
   AccountBegins = (j : JournalState) → st.stage ≡ Idle → st.own ≡ [] → IsPrefix st.seen j.commits
       → number_of st < z.txns_per_pass
       → BeginsBy (account_of z p st)
-        (Ok (record { by = name_at p (begun st j); start = length j.commits })) (account_of z p (begun st j))
+      (Ok (record { by = name_at p (begun st j); start = length j.commits })) (account_of z p (begun st j))
 
   abbrev pub AccountWrites : Type 0
   AccountWrites = (w : Write) → st.stage ≡ Open → refused (view z.kind st.seen st.start st.own) w ≡ None
@@ -61,7 +61,7 @@ module _ (z : Config) (p : ℕ) (st : PassState) where
   abbrev pub AccountSights : Type 0
   AccountSights = (w : Write) (by : TxnName) (seen : List Commit) → IsPrefix st.seen seen
       → GoesOn (account_of z p st) (with_cause (account_of z p st) st.start w (Holder by))
-        (account_of z p (refreshed (with_sighting st (sighting by w st.start)) seen))
+      (account_of z p (refreshed (with_sighting st (sighting by w st.start)) seen))
 
 -- a law of the account of each pass
 abbrev pub OfEachPass : (Config → ℕ → PassState → Type 0) → Type 0

@@ -11,3 +11,4 @@ pub mod ReadLaws
 pub mod AccountLaws
 pub mod CheckLaws
 pub mod RowLaws
+pub mod Examples

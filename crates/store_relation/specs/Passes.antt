@@ -55,8 +55,19 @@ pub record PassState : Type 0 where
 -- a pass that has begun nothing
 abbrev pub fresh_pass : PassState
 fresh_pass = record {
-  stage = Idle; start = 0; own = []; laid = []; unstamped = []; past = []; seen = [];
-  met = []; holders = []; looks = []; sighted = []; filled = false; readers_out = 0;
+  stage = Idle;
+  start = 0;
+  own = [];
+  laid = [];
+  unstamped = [];
+  past = [];
+  seen = [];
+  met = [];
+  holders = [];
+  looks = [];
+  sighted = [];
+  filled = false;
+  readers_out = 0;
 }
 
 -- ---- stages

@@ -29,7 +29,7 @@ use Rattle.store_relation.specs.Words.{Look, commit_word, state_of_word, stamps_
 abbrev pub Answers : List Commit → TxnName → ℕ → Type 0
 Answers seen by n = (names : TxnName → Bool) (vouched : TxnName → State → Bool)
     → IsAnswer (record { known = length seen; stamps = stamp_in seen; names = names; vouched = vouched }) by
-      (state_of_word n)
+    (state_of_word n)
 
 -- the value that a snapshot sees at a key
 abbrev pub SeesValue : Config → List Commit → ℕ → List Write → TxnName → (TxnName → Option ℕ) → Key
@@ -39,7 +39,6 @@ SeesValue z seen start own by stamps k r =
 
 module _ (z : Config) (word : ℕ → ℕ) (pass : ℕ → PassState) (j : JournalState) (rows : Key → StampedVersions)
     (clock : ℕ) (s : IsShared z word pass j rows clock) where
-
   -- ---- reads
 
   -- READ: an open transaction reads its view in each row, by whatever tells it of the writers of records
@@ -61,7 +60,7 @@ module _ (z : Config) (word : ℕ → ℕ) (pass : ℕ → PassState) (j : Journ
     -- by what it has seen it reads its view
     pub reads : (k : Key)
         → SeesValue z (pass p).seen (pass p).start (pass p).own (name_of pass p) (stamp_in (pass p).seen) k
-          (rows k)
+        (rows k)
     -- the writers of records without a stamp are passes of the store, and but for itself other passes
     pub writers : (k : Key) (x : Stamped) → HasRecord (rows k) x → x.stamp ≡ None → x.by.job < z.passes
     pub others : (k : Key) (x : Stamped) → HasRecord (rows k) x → x.stamp ≡ None

@@ -44,7 +44,6 @@ NewStore = (z : Config) → IsShared z (λ p. 0) (λ p. fresh_pass) no_journal (
 
 module _ (z : Config) (word : ℕ → ℕ) (pass : ℕ → PassState) (j : JournalState) (rows : Key → StampedVersions)
     (clock : ℕ) (s : IsShared z word pass j rows clock) where
-
   -- ---- begin
 
   -- the journal gets room for more entries
@@ -66,7 +65,7 @@ module _ (z : Config) (word : ℕ → ℕ) (pass : ℕ → PassState) (j : Journ
   WriteIsMade = (p : ℕ) (w : Write) (rows' : Key → StampedVersions) → (pass p).stage ≡ Open
       → refused (view z.kind (pass p).seen (pass p).start (pass p).own) w ≡ None → IsWithinLimits w
       → ((k : Key) → MayWrite z.kind (sees (stamp_in (pass p).seen) (pass p).start (name_of pass p)) w k
-        (forget_row (rows k)))
+      (forget_row (rows k)))
       → ((k : Key) → rows' k ≡ row_after z.kind (name_of pass p) w k (rows k))
       → IsShared z word (revised pass p (written_by (pass p) w)) j rows' clock
 
@@ -81,13 +80,13 @@ module _ (z : Config) (word : ℕ → ℕ) (pass : ℕ → PassState) (j : Journ
   abbrev pub StampIsStored : Type 0
   StampIsStored = (p : ℕ) → (pass p).stage ≡ Open → 0 < length (pass p).own → j.next ≡ []
       → IsShared z (revised word p (commit_word (length j.commits))) (revised pass p (committing (pass p)))
-        (with_entry j p (pass p)) rows clock
+      (with_entry j p (pass p)) rows clock
 
   -- PUBLISH, the store of the clock: a stamp is stored, and all rows of the commit are left to be stamped
   abbrev pub CommitIsPublished : Type 0
   CommitIsPublished = (p : ℕ) (unstamped : List Key) → (pass p).stage ≡ Committing
       → ((k : Key) → (any_writes z.kind (pass p).own k || any_touches (pass p).own k) ≡ true
-        → has_key unstamped k ≡ true)
+      → has_key unstamped k ≡ true)
       → IsShared z word (revised pass p (committed (pass p) j unstamped)) (published_now j) rows (clock + 1)
 
   -- STAMP ROWS: each row has the stamp in the records of the commit, or is as it was and is still to be stamped
@@ -95,7 +94,7 @@ module _ (z : Config) (word : ℕ → ℕ) (pass : ℕ → PassState) (j : Journ
   RowsAreStamped = (p : ℕ) (unstamped : List Key) (c : Commit) (i : ℕ) (rows' : Key → StampedVersions)
       → (pass p).stage ≡ Idle → slice_get (pass p).seen i ≡ Some c → c.by ≡ name_of pass p
       → ((k : Key) → (rows' k ≡ stamp (name_of pass p) c.stamp (rows k))
-        ⊎ ((rows' k ≡ rows k) × (has_key (pass p).unstamped k ≡ true → has_key unstamped k ≡ true)))
+      ⊎ ((rows' k ≡ rows k) × (has_key (pass p).unstamped k ≡ true → has_key unstamped k ≡ true)))
       → IsShared z word (revised pass p (with_unstamped (pass p) unstamped)) j rows' clock
 
   -- ---- abort
@@ -146,7 +145,7 @@ module _ (z : Config) (word : ℕ → ℕ) (pass : ℕ → PassState) (j : Journ
       → s.horizon ≤ horizon → at ≤ horizon → horizon ≤ length j.commits
       → ((p : ℕ) → may_commit (pass p).stage ≡ true → horizon ≤ (pass p).start)
       → ((k : Key) → (rows' k ≡ rows k)
-        ⊎ ((rows' k ≡ prune_stamped stamps at (rows k)) × AreTold stamps (stamp_in j.commits) at (rows k)))
+      ⊎ ((rows' k ≡ prune_stamped stamps at (rows k)) × AreTold stamps (stamp_in j.commits) at (rows k)))
       → IsShared z word pass j rows' clock
 
   -- ---- readers

@@ -31,7 +31,10 @@ filled_up st = record st { filled = true }
 -- the latest transaction has ended, with this stamp or with none
 abbrev pub ended : PassState → Option ℕ → PassState
 ended st stamp = record st {
-  stage = Idle; past = st.past ++ record { writes = st.own; stamp = stamp } ∷ []; own = []; laid = [];
+  stage = Idle;
+  past = st.past ++ record { writes = st.own; stamp = stamp } ∷ [];
+  own = [];
+  laid = [];
 }
 
 -- it gives up: it can't commit any more, and its writes still stand
