@@ -53,7 +53,8 @@ stamps_more past ws stamp =
     filter_map-append (λ (t : EndedTxn). t.stamp) past (record { writes = ws; stamp = Some stamp } ∷ [])
 
 stamps_same : (past : List EndedTxn) (ws : List Write)
-    → filter_map (λ t. t.stamp) (past ++ record { writes = ws; stamp = None } ∷ []) ≡ filter_map (λ t. t.stamp) past
+    → filter_map (λ t. t.stamp) (past ++ record { writes = ws; stamp = None } ∷ []) ≡ filter_map (λ t. t.stamp)
+    past
 stamps_same past ws =
     filter_map-append (λ (t : EndedTxn). t.stamp) past (record { writes = ws; stamp = None } ∷ [])
     ∙ append-nil (filter_map (λ (t : EndedTxn). t.stamp) past)
@@ -75,7 +76,8 @@ module _ (z : Config) (p : ℕ) (st : PassState) where
       let off : is_active st.stage ≡ false = ap is_active is in
       let was : made_of st ≡ ended_writes st = made_idle st off in
       let now : number_of (begun st j) ≡ number_of st + 1
-      = number_active (begun st j) refl ∙ plus_one (length st.past) ∙ ap (λ n. n + 1) (sym (number_idle st off)) in
+      = number_active (begun st j) refl ∙ plus_one (length st.past)
+      ∙ ap (λ n. n + 1) (sym (number_idle st off)) in
       let made : made_of (begun st j) ≡ made_of st ++ [] ∷ [] = (λ k. sym was k ++ none k ∷ []) in
       record {
         room = more;
@@ -142,9 +144,11 @@ module _ (z : Config) (p : ℕ) (st : PassState) where
         ∙ made_ended st stamp (ap is_active ends.opened)
 
     account_ends : (changed : List ℕ) → stamps_of_pass st' ≡ changed
-        → GoesOn (account_of z p st) (record (steps.ended (account_of z p st)) { stamps = changed }) (account_of z p st')
+        → GoesOn (account_of z p st) (record (steps.ended (account_of z p st)) { stamps = changed })
+        (account_of z p st')
     account_ends changed stamped =
-        let closed : start_of st' ≡ None = ap (λ (g : Stage). cond (is_active g) (Some st'.start) None) ends.idle in
+        let closed : start_of st' ≡ None = ap (λ (g : Stage). cond (is_active g) (Some st'.start) None)
+        ends.idle in
         record {
           seen = (ends.seen.0, sym ends.seen.1);
           others = λ i. record {
@@ -187,11 +191,13 @@ module _ (z : Config) (p : ℕ) (st : PassState) where
           writes = refl;
         },
         account_ends (Some (length j.commits + 1)) st' ends (stamps_of_pass st ++ (length j.commits + 1) ∷ [])
-            (ap (filter_map (λ (t : EndedTxn). t.stamp)) ends.past ∙ stamps_more st.past st.own (length j.commits + 1)),
+            (ap (filter_map (λ (t : EndedTxn). t.stamp)) ends.past
+            ∙ stamps_more st.past st.own (length j.commits + 1)),
       )
 
   -- ABORT, and a commit without writes
-  pub account_aborts : (st' : PassState) → EndsWith None st st' → AbortsBy (account_of z p st) (account_of z p st')
+  pub account_aborts : (st' : PassState) → EndsWith None st st'
+      → AbortsBy (account_of z p st) (account_of z p st')
   account_aborts = ends_without
 
   pub account_commits_none : (st' : PassState) → st.own ≡ [] → EndsWith None st st'
@@ -213,11 +219,13 @@ module _ (z : Config) (p : ℕ) (st : PassState) where
 
 -- MEET: what one has seen and what another has told are prefixes of one journal, and so is the longer of them
 pub meets_told : (seen told commits : List Commit) → IsPrefix seen commits → IsPrefix told commits
-    → IsPrefix seen (longer_of seen told) × IsPrefix told (longer_of seen told) × IsPrefix (longer_of seen told) commits
+    → IsPrefix seen (longer_of seen told) × IsPrefix told (longer_of seen told)
+    × IsPrefix (longer_of seen told) commits
 meets_told seen told commits a b = by_test (nat_le (length seen) (length told)) refl
   where
     by_test : (t : Bool) → nat_le (length seen) (length told) ≡ t
-        → IsPrefix seen (cond t told seen) × IsPrefix told (cond t told seen) × IsPrefix (cond t told seen) commits
+        → IsPrefix seen (cond t told seen) × IsPrefix told (cond t told seen)
+        × IsPrefix (cond t told seen) commits
     by_test true e =
         let le : length seen ≤ length told = grind (arith, nat_tests) in
         (prefix_either seen told commits a b le, prefix_all told, b)
@@ -242,7 +250,8 @@ module _ {z : Config} {word : ℕ → ℕ} {pass : ℕ → PassState} {j : Journ
         current = elim is as (λ _. IfSome (start_of (pass p)) (IsOpenTxn (account_of z p (pass p)))) [
           | inl idle ↦ subst (λ o. IfSome o (IsOpenTxn (account_of z p (pass p)))) (sym (ap start_at idle)) tt
           | inr opened ↦
-              let t = s.store.transactions.each (name_of pass p) (now_of (pass p)) (runs s p (ap may_commit opened)) in
+              let t = s.store.transactions.each (name_of pass p) (now_of (pass p))
+              (runs s p (ap may_commit opened)) in
               subst (λ o. IfSome o (IsOpenTxn (account_of z p (pass p)))) (sym (ap start_at opened)) (record {
                 seen = h.started;
                 allowed = subst (λ g. AllAllowed z.kind g (pass p).own)
@@ -252,7 +261,8 @@ module _ {z : Config} {word : ℕ → ℕ} {pass : ℕ → PassState} {j : Journ
               })
         ];
         idle = elim is as (λ _. IfNone (start_of (pass p)) ((pass p).own ≡ [])) [
-          | inl idle ↦ subst (λ o. IfNone o ((pass p).own ≡ [])) (sym (ap start_at idle)) (laid_by s p Idle idle).1
+          | inl idle ↦ subst (λ o. IfNone o ((pass p).own ≡ [])) (sym (ap start_at idle))
+              (laid_by s p Idle idle).1
           | inr opened ↦ subst (λ o. IfNone o ((pass p).own ≡ [])) (sym (ap start_at opened)) tt
         ];
         counted = refl;

@@ -1,4 +1,5 @@
--- The steps of a commit: room for its entry, the store of its stamp, the store of the clock, and the stamping of its rows.
+-- The steps of a commit: room for its entry, the store of its stamp, the store of the clock, and the stamping
+-- of its rows.
 use Rattle.std.proofs.Common.{◌≡◌, ℕ, suc, ◌+◌, ◌-◌, ◌<◌, ◌≤◌, List, [], ◌∷◌, ◌++◌, length, map, refl, sym, ◌∙◌, ap, subst, cond, arith, inl, inr, length-append}
 use Rattle.std.specs.Prelude.{◌⊎◌, Bool, true, false, ◌==◌, ◌||◌, Option, Some, None, slice_get}
 use Rattle.std.specs.List.{AllByRecursion}
@@ -43,7 +44,8 @@ stamp_other [] c by away = ap (λ t. cond t (Some c.stamp) None) away
 stamp_other (d ∷ js) c by away = ap (λ o. cond (same_name d.by by) (Some d.stamp) o) (stamp_other js c by away)
 
 -- and its own name has its stamp, if it had none before
-stamp_last : (js : List Commit) (c : Commit) → HasNotCommitted js c.by → stamp_in (js ++ c ∷ []) c.by ≡ Some c.stamp
+stamp_last : (js : List Commit) (c : Commit) → HasNotCommitted js c.by
+    → stamp_in (js ++ c ∷ []) c.by ≡ Some c.stamp
 stamp_last [] c none = ap (λ t. cond t (Some c.stamp) None) (name_self c.by)
 stamp_last (d ∷ js) c none =
     ap (λ t. cond t (Some d.stamp) (stamp_in (js ++ c ∷ []) c.by)) (none 0 d refl)
@@ -87,7 +89,8 @@ module _ {z : Config} {word : ℕ → ℕ} {pass : ℕ → PassState} {j : Journ
     {clock : ℕ} (s : IsShared z word pass j rows clock) (p : ℕ) where
   -- a pass that makes what it made before clashes with what it clashed with
   clashes_stay : (st' : PassState) → made_of st' ≡ made_of (pass p) → (o n : ℕ) (w : Write)
-      → meets z.kind w (writes_by (pass o) n) ≡ true → meets z.kind w (writes_by (revised pass p st' o) n) ≡ true
+      → meets z.kind w (writes_by (pass o) n) ≡ true
+      → meets z.kind w (writes_by (revised pass p st' o) n) ≡ true
   clashes_stay st' same o n w = all_put
       (λ q u. meets z.kind w (writes_by (pass q) n) ≡ true → meets z.kind w (writes_by u n) ≡ true) pass p st'
       (λ e. ap (λ m. meets z.kind w (made_at m n)) same ∙ e) (λ q _ e. e) o
@@ -120,10 +123,11 @@ module _ {z : Config} {word : ℕ → ℕ} {pass : ℕ → PassState} {j : Journ
         legal = s.store.transactions.legal;
         journal = prefix_all j.commits;
         listed = (c ∷ [], ap (λ l. l ++ c ∷ []) all);
-        late = λ i d at. elim (back i d at) as (λ _. (slice_get (entries j) i ≡ Some d) ⊎ (length j.commits ≤ i)) [
-          | inl old ↦ inl old
-          | inr new ↦ let e : i ≡ length j.commits = new.0 in inr (omega (arith, e))
-        ];
+        late = λ i d at. elim (back i d at) as
+            (λ _. (slice_get (entries j) i ≡ Some d) ⊎ (length j.commits ≤ i)) [
+              | inl old ↦ inl old
+              | inr new ↦ let e : i ≡ length j.commits = new.0 in inr (omega (arith, e))
+            ];
         made = clashes_stay st' same;
       } in
       let room_was : room_needed (pass p) ≡ 1 = ap (λ (g : Stage). cond (needs_room g) 1 0) is in
@@ -136,14 +140,16 @@ module _ {z : Config} {word : ℕ → ℕ} {pass : ℕ → PassState} {j : Journ
       steps s p st' (length j.commits + 3) j' rows clock s.horizon (record {
         published = s.published;
         store = store_stays z.kind j.commits pass s.horizon _ _ s.store p st' number
-            (ap (λ (g : Stage). cond (may_commit g) (Some (now_of (pass p))) None) (sym is)) refl (λ k. refl) (λ k. refl);
+            (ap (λ (g : Stage). cond (may_commit g) (Some (now_of (pass p))) None) (sym is)) refl (λ k. refl)
+            (λ k. refl);
         stamps = s.stamps;
         spoken = λ k. spoken_same pass p st' k (rows k) (s.spoken k) number (λ e. refl);
         follows = f;
         -- no other pass has its entry next
         others = λ q other e. let both = sym no_next ∙ (s.each q).next e in cc;
         listed = λ i d at. elim (back i d at)
-            as (λ _. (slice_get (entries j) i ≡ Some d) ⊎ ((d.by ≡ name_at p st') × (length j.commits + 3 ≡ i + 3)
+            as (λ _. (slice_get (entries j) i ≡ Some d)
+            ⊎ ((d.by ≡ name_at p st') × (length j.commits + 3 ≡ i + 3)
             × (0 < length d.writes) × (writes_by st' d.by.number ≡ d.writes))) [
               | inl old ↦ inl old
               | inr new ↦ inr (
@@ -159,7 +165,8 @@ module _ {z : Config} {word : ℕ → ℕ} {pass : ℕ → PassState} {j : Journ
             let same_place : n ≡ length j.commits = omega (arith, e) in
             (c, ap (slice_get (j.commits ++ c ∷ [])) same_place ∙ get_end j.commits c, sym name);
         made = λ i d at _. ap (λ m. made_at m d.by.number) same;
-        kept = λ by. all_put (λ q u. (n : ℕ) → kept_stamp u.past n ≡ kept_stamp (pass q).past n) pass p st' (λ n. refl)
+        kept = λ by. all_put (λ q u. (n : ℕ) → kept_stamp u.past n ≡ kept_stamp (pass q).past n) pass p st'
+            (λ n. refl)
             (λ q _ n. refl) by.job by.number ∙ s.kept by;
         this = record {
           marked = refl;
@@ -183,7 +190,8 @@ module _ {z : Config} {word : ℕ → ℕ} {pass : ℕ → PassState} {j : Journ
 
   -- PUBLISH: the store of the clock; the rows of the commit are left to be stamped
   pub publishes : (keys : List Key) → (pass p).stage ≡ Committing
-      → ((k : Key) → (any_writes z.kind (pass p).own k || any_touches (pass p).own k) ≡ true → has_key keys k ≡ true)
+      → ((k : Key) → (any_writes z.kind (pass p).own k || any_touches (pass p).own k) ≡ true
+      → has_key keys k ≡ true)
       → IsShared z word (revised pass p (committed (pass p) j keys)) (published_now j) rows (clock + 1)
   publishes keys is covers =
       let h = s.each p in
@@ -200,7 +208,8 @@ module _ {z : Config} {word : ℕ → ℕ} {pass : ℕ → PassState} {j : Journ
       let number : number_of st' ≡ number_of (pass p) = ap length same in
       let name : name_at p st' ≡ me = ap (λ n. record { job = p; number = n }) number in
       let long : length st'.past ≡ length (pass p).past + 1
-      = length-append (pass p).past (record { writes = (pass p).own; stamp = Some (length j.commits + 1) } ∷ []) in
+      = length-append (pass p).past (record { writes = (pass p).own; stamp = Some (length j.commits + 1) } ∷ [])
+      in
       let there : running_of pass me ≡ Some t = runs s p (ap may_commit is) in
       let unnamed : HasNotCommitted j.commits me = (s.store.transactions.each me t there).unnamed in
       let none : entries j' ≡ entries j = append-nil (entries j) in
@@ -251,7 +260,8 @@ module _ {z : Config} {word : ℕ → ℕ} {pass : ℕ → PassState} {j : Journ
               number,
               elim (stander s k n at) as (λ _. has_key keys k ≡ true) [
                 | inl (inl e) ↦ covers k (or_left _ _ (ap (λ ws. any_writes z.kind ws k)
-                    (sym (ap (laid_of pass) own ∙ latest_here number_of (λ st. st.laid) [] pass p ∙ laid.0)) ∙ e))
+                    (sym (ap (laid_of pass) own ∙ latest_here number_of (λ st. st.laid) [] pass p ∙ laid.0))
+                    ∙ e))
                 | inl (inr e) ↦ covers k (or_right (any_writes z.kind (pass p).own k) _
                     (sym (ap (λ x. touching_by pass x k) own
                     ∙ latest_here number_of (λ st. stands st.laid st.own k) false pass p
@@ -309,7 +319,8 @@ module _ {z : Config} {word : ℕ → ℕ} {pass : ℕ → PassState} {j : Journ
           (λ latest. here same latest)
           (λ other. else_where (apart_by_number same other)
           (ap (λ q. kept_stamp (revised pass p (committed (pass p) j keys) q).past by.number) same
-          ∙ ap (λ (u : PassState). kept_stamp u.past by.number) (revised_here pass p (committed (pass p) j keys))
+          ∙ ap (λ (u : PassState). kept_stamp u.past by.number)
+          (revised_here pass p (committed (pass p) j keys))
           ∙ kept_at_other (pass p).past _ by.number
           (λ e. other (e ∙ sym (number_active (pass p) (ap is_active is))))
           ∙ ap (λ q. kept_stamp (pass q).past by.number) (sym same))))
@@ -323,7 +334,8 @@ module _ {z : Config} {word : ℕ → ℕ} {pass : ℕ → PassState} {j : Journ
               ≡ stamp_in (j.commits ++ entry_of j p (pass p) ∷ []) by
           else_where away same = same ∙ s.kept by ∙ sym (stamp_other j.commits (entry_of j p (pass p)) by away)
 
-          apart_by_number : by.job ≡ p → (by.number ≡ number_of (pass p) → ⊥) → same_name (name_of pass p) by ≡ false
+          apart_by_number : by.job ≡ p → (by.number ≡ number_of (pass p) → ⊥)
+              → same_name (name_of pass p) by ≡ false
           apart_by_number same other = false_from_ne_true _
               (λ e. other (ap (λ (b : TxnName). b.number) (sym (name_eq (name_of pass p) by e))))
 
@@ -336,17 +348,21 @@ module _ {z : Config} {word : ℕ → ℕ} {pass : ℕ → PassState} {j : Journ
               ≡ stamp_in (j.commits ++ entry_of j p (pass p) ∷ []) by
           here same latest =
               let me : by ≡ name_of pass p = (λ i. record { job = same i; number = latest i }) in
-              let there : running_of pass (name_of pass p) ≡ Some (now_of (pass p)) = runs s p (ap may_commit is) in
+              let there : running_of pass (name_of pass p) ≡ Some (now_of (pass p)) =
+              runs s p (ap may_commit is) in
               let none = (s.store.transactions.each (name_of pass p) (now_of (pass p)) there).unnamed in
               ap (λ q. kept_stamp (revised pass p (committed (pass p) j keys) q).past by.number) same
-              ∙ ap (λ (u : PassState). kept_stamp u.past by.number) (revised_here pass p (committed (pass p) j keys))
+              ∙ ap (λ (u : PassState). kept_stamp u.past by.number)
+              (revised_here pass p (committed (pass p) j keys))
               ∙ kept_at_end (pass p).past _ by.number (latest ∙ number_active (pass p) (ap is_active is))
               ∙ sym (ap (stamp_in (j.commits ++ entry_of j p (pass p) ∷ [])) me
               ∙ stamp_last j.commits (entry_of j p (pass p)) none)
 
-  -- STAMP ROWS: after its commit a pass stamps rows that it holds. Each row is stamped or as it was, and what is
+  -- STAMP ROWS: after its commit a pass stamps rows that it holds. Each row is stamped or as it was, and what
+  -- is
   -- left has the rows of the others
-  pub stamps_rows : (keys : List Key) (c : Commit) (i : ℕ) (rows' : Key → StampedVersions) → (pass p).stage ≡ Idle
+  pub stamps_rows : (keys : List Key) (c : Commit) (i : ℕ) (rows' : Key → StampedVersions)
+      → (pass p).stage ≡ Idle
       → slice_get (pass p).seen i ≡ Some c → c.by ≡ name_of pass p
       → ((k : Key) → (rows' k ≡ stamp (name_of pass p) c.stamp (rows k))
       ⊎ ((rows' k ≡ rows k) × (has_key (pass p).unstamped k ≡ true → has_key keys k ≡ true)))
@@ -398,7 +414,8 @@ module _ {z : Config} {word : ℕ → ℕ} {pass : ℕ → PassState} {j : Journ
       })
     where
       -- a record that is stamped needs no word, and one that isn't is of another pass
-      one_stamped : (k : Key) (x : Stamped) → IsSpokenFor pass k x → (t : Bool) → same_name x.by (name_of pass p) ≡ t
+      one_stamped : (k : Key) (x : Stamped) → IsSpokenFor pass k x → (t : Bool)
+          → same_name x.by (name_of pass p) ≡ t
           → IsSpokenFor (revised pass p (with_unstamped (pass p) keys)) k
           (cond t (record { by = x.by; stamp = Some c.stamp; value = x.value }) x)
       one_stamped k x old true e none = cc
@@ -406,8 +423,11 @@ module _ {z : Config} {word : ℕ → ℕ} {pass : ℕ → PassState} {j : Journ
           let r = old none in
           let other : x.by.job ≡ p → ⊥ = (λ same. true≢false (sym (ap (λ n. same_name n (name_of pass p))
           (r.0 ∙ ap (name_of pass) same) ∙ name_self (name_of pass p)) ∙ e)) in
-          let st = revised_else pass p (with_unstamped (pass p) keys) x.by.job other in
-          (r.0 ∙ ap (λ u. record { job = x.by.job; number = number_of u }) (sym st), ap (λ u. may_stand u k) st ∙ r.1)
+          let st = revised_else pass p (with_unstamped (pass p) keys) x.by.job other in (
+            r.0 ∙ ap (λ u. record { job = x.by.job; number = number_of u }) (sym st),
+            ap (λ u. may_stand u k) st
+                ∙ r.1,
+          )
 
       all_stamped : (k : Key) (xs : List Stamped) → AllByRecursion (IsSpokenFor pass k) xs
           → AllByRecursion (IsSpokenFor (revised pass p (with_unstamped (pass p) keys)) k)

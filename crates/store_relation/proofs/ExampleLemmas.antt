@@ -89,7 +89,8 @@ module _ (stamps : TxnName → Option ℕ) (start : ℕ) (me : TxnName) where
 -- ---- what the writer's view allows
 
 by_view : (own : List Write) (w : Write)
-    → refused (view Directed [] 0 own) w ≡ refusal_in (marks_after_all own []) (arcs_after_all Directed own []) w
+    → refused (view Directed [] 0 own) w ≡ refusal_in (marks_after_all own []) (arcs_after_all Directed own [])
+    w
 by_view own w = refused_at (view Directed [] 0 own) (marks_after_all own []) (arcs_after_all Directed own [])
     (entries_made Directed own) w
 
@@ -101,7 +102,8 @@ fresh_allowed = rooms (new_shared config) 3 (omega arith)
 -- both have begun, and the writer alone
 both_begun : IsAllowed (beginning 1 (beginning 2 fresh))
 both_begun =
-    begins (begins fresh_allowed 2 refl refl (omega arith) (omega arith) (omega arith)) 1 refl refl (omega arith)
+    begins (begins fresh_allowed 2 refl refl (omega arith) (omega arith) (omega arith)) 1 refl refl
+    (omega arith)
     (omega arith) (omega arith)
 
 one_begun : IsAllowed (beginning 1 fresh)
@@ -110,7 +112,8 @@ one_begun = begins fresh_allowed 1 refl refl (omega arith) (omega arith) (omega 
 abbrev writer : TxnName
 writer = record { job = 1; number = 1 }
 
--- the writer is in its first transaction, which began on the empty journal and has written this, and nobody else has
+-- the writer is in its first transaction, which began on the empty journal and has written this, and nobody
+-- else has
 -- written anything
 record IsFirst (s : SharedState) (own : List Write) : Type 0 where
   opened : (s.pass 1).stage ≡ Open
@@ -151,11 +154,14 @@ three_writes : (s : SharedState) → IsAllowed s → IsFirst s []
     → IsAllowed (all_writes s) × IsFirst (all_writes s) (AddVertex 1 ∷ AddVertex 2 ∷ AddEdge 1 2 5 ∷ [])
 three_writes s allowed f =
     let one = next_write s [] (AddVertex 1) allowed f refl (omega arith) in
-    let two = next_write (writing 1 (AddVertex 1) s) (AddVertex 1 ∷ []) (AddVertex 2) one.0 one.1 refl (omega arith) in
-    next_write (writing 1 (AddVertex 2) (writing 1 (AddVertex 1) s)) (AddVertex 1 ∷ AddVertex 2 ∷ []) (AddEdge 1 2 5) two.0
+    let two = next_write (writing 1 (AddVertex 1) s) (AddVertex 1 ∷ []) (AddVertex 2) one.0 one.1 refl
+    (omega arith) in
+    next_write (writing 1 (AddVertex 2) (writing 1 (AddVertex 1) s)) (AddVertex 1 ∷ AddVertex 2 ∷ [])
+    (AddEdge 1 2 5) two.0
     two.1 refl (omega arith, omega arith, omega arith)
 
-at_first : (s : SharedState) → IsAllowed s → (s.pass 1 ≡ begun fresh_pass no_journal) → ((k : Key) → s.rows k ≡ nothing)
+at_first : (s : SharedState) → IsAllowed s → (s.pass 1 ≡ begun fresh_pass no_journal)
+    → ((k : Key) → s.rows k ≡ nothing)
     → IsFirst s []
 at_first s allowed is none = record {
   opened = ap (λ (u : PassState). u.stage) is;
@@ -167,7 +173,8 @@ at_first s allowed is none = record {
 }
 
 watched_allowed : IsAllowed watched
-watched_allowed = (three_writes (beginning 1 (beginning 2 fresh)) both_begun (at_first _ both_begun refl (λ k. refl))).0
+watched_allowed = (three_writes (beginning 1 (beginning 2 fresh)) both_begun
+    (at_first _ both_begun refl (λ k. refl))).0
 
 alone_allowed : IsAllowed alone
 alone_allowed = (three_writes (beginning 1 fresh) one_begun (at_first _ one_begun refl (λ k. refl))).0
@@ -209,7 +216,9 @@ pruned_allowed =
     settled_alone.store.transactions.behind (omega arith) (omega arith)
     (λ p may. dite (ℕ_discrete p 1)
     (λ same. absurd (true≢false (sym (ap (λ q. may_commit ((settled alone).pass q).stage) (sym same) ∙ may))))
-    (λ other. absurd (true≢false (sym (ap (λ (u : PassState). may_commit u.stage) (sym (only_writer p other)) ∙ may)))))
+    (λ other.
+    absurd (true≢false
+    (sym (ap (λ (u : PassState). may_commit u.stage) (sym (only_writer p other)) ∙ may)))))
     (λ k. inr (refl, told_all _ _ 1 (λ n. refl) ((settled alone).rows k)))
 
 no_readers : AreReaders (beginning 1 fresh).pass [] []
@@ -237,7 +246,8 @@ some_none : (n : ℕ) → ◌≡◌ {A = Option ℕ} (Some n) None → ⊥
 some_none n e = cc
 
 -- a reader that began on the empty journal sees no vertex
-sees_none : (s : SharedState) → IsAllowed s → (s.pass 2).stage ≡ Open → (s.pass 2).seen ≡ [] → (s.pass 2).start ≡ 0
+sees_none : (s : SharedState) → IsAllowed s → (s.pass 2).stage ≡ Open → (s.pass 2).seen ≡ []
+    → (s.pass 2).start ≡ 0
     → (s.pass 2).own ≡ []
     → read_stamped (stamp_in []) 0 (name_of s.pass 2) (s.rows (vertex_key 1)) ≡ None
 sees_none s allowed opened seen start own =
@@ -249,7 +259,8 @@ sees_none s allowed opened seen start own =
 keeps_touches : IsAllowed touches_forgotten → ⊥
 keeps_touches s =
     let reader : TxnName = record { job = 2; number = 1 } in
-    let live : s.horizon ≤ 0 = (s.store.transactions.each reader (record { start = 0; writes = [] }) (runs s 2 refl)).pinned in
+    let live : s.horizon ≤ 0 = (s.store.transactions.each reader (record { start = 0; writes = [] })
+    (runs s 2 refl)).pinned in
     let r = s.store.rows (vertex_key 1) in
     let low : r.since ≤ s.horizon = r.below_since in
     let whole : r.since ≡ 0 = omega (arith, live, low) in

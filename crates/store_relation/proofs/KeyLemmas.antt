@@ -55,7 +55,8 @@ one_beside kind w q = by_test (writes_at kind w q || touches_at w q) refl
     by_test false e = inr refl
 
 -- each row that writes have written or touched is among those that they have changed
-pub changed_covers : (kind : Kind) (ws : List Write) (q : Key) → (any_writes kind ws q || any_touches ws q) ≡ true
+pub changed_covers : (kind : Kind) (ws : List Write) (q : Key)
+    → (any_writes kind ws q || any_touches ws q) ≡ true
     → has_key (changed_keys kind ws) q ≡ true
 changed_covers kind [] q h = cc
 changed_covers kind (w ∷ ws) q h =
@@ -96,7 +97,8 @@ pub after_beside : (kind : Kind) (by : TxnName) (w : Write) (q : Key) (r : Stamp
 after_beside kind by w q r away = by_tests (writes_at kind w q) (touches_at w q) away
   where
     by_tests : (s t : Bool) → (s || t) ≡ false
-        → cond t (touched by (cond s (written by (value_left w) r) r)) (cond s (written by (value_left w) r) r) ≡ r
+        → cond t (touched by (cond s (written by (value_left w) r) r)) (cond s (written by (value_left w) r) r)
+        ≡ r
     by_tests true t e = cc
     by_tests false true e = cc
     by_tests false false e = refl
@@ -119,7 +121,8 @@ same_self k = λ i. self_eq k.src i && self_eq k.second i
 pub done_none : (f : Key → StampedVersions → StampedVersions) (s : VersionedRows) → IsDone f [] s s
 done_none f s = record { low = refl; high = refl; rows = λ q. refl }
 
-pub done_next : (f : Key → StampedVersions → StampedVersions) (done : List Key) (old now new : VersionedRows) (key : Key)
+pub done_next : (f : Key → StampedVersions → StampedVersions) (done : List Key) (old now new : VersionedRows)
+    (key : Key)
     → IsDone f done old now → has_key done key ≡ false → ChangesKey now new key (f key (versions_at now key))
     → IsDone f (key ∷ done) old new
 done_next f done old now new key is fresh changes = record {

@@ -68,7 +68,8 @@ pub made_grows : (kind : Kind) (xs : List (List Write)) (ws : List Write) (w v :
     → meets kind v (made_at (xs ++ ws ∷ []) n) ≡ true
     → meets kind v (made_at (xs ++ (ws ++ w ∷ []) ∷ []) n) ≡ true
 made_grows kind xs ws w v n h = dite (ℕ_discrete n (suc (length xs)))
-    (λ same. ap (meets kind v) (made_at_end xs (ws ++ w ∷ []) n same) ∙ list_any-append (clash kind v) ws (w ∷ [])
+    (λ same. ap (meets kind v) (made_at_end xs (ws ++ w ∷ []) n same)
+    ∙ list_any-append (clash kind v) ws (w ∷ [])
     ∙ or_left _ _ (ap (meets kind v) (sym (made_at_end xs ws n same)) ∙ h))
     (λ other. ap (meets kind v) (made_at_other xs (ws ++ w ∷ []) ws n other) ∙ h)
 
@@ -172,13 +173,15 @@ kept_is_answered xs (suc i) stamp e = at_place xs i e
     at_place (y ∷ ys) zero h = here y.stamp h
       where
         here : (o : Option ℕ) → o ≡ Some stamp
-            → Contains (Rattle.std.specs.List.filter_map (λ (t : EndedTxn). t.stamp) (record { writes = y.writes; stamp = o } ∷ ys)) stamp
+            → Contains (Rattle.std.specs.List.filter_map (λ (t : EndedTxn). t.stamp)
+            (record { writes = y.writes; stamp = o } ∷ ys)) stamp
         here None g = cc
         here (Some c) g = (0, omega arith, Rattle.graph_model.proofs.PlaceLemmas.some_eq c stamp g)
     at_place (y ∷ ys) (suc k) h = behind y.stamp (at_place ys k h)
       where
         behind : (o : Option ℕ) → Contains (filter_map (λ (t : EndedTxn). t.stamp) ys) stamp
-            → Contains (filter_map (λ (t : EndedTxn). t.stamp) (record { writes = y.writes; stamp = o } ∷ ys)) stamp
+            → Contains (filter_map (λ (t : EndedTxn). t.stamp) (record { writes = y.writes; stamp = o } ∷ ys))
+            stamp
         behind None r = r
         behind (Some c) r =
             let b : r.0 < length (filter_map (λ (t : EndedTxn). t.stamp) ys) = r.1 in
@@ -187,7 +190,8 @@ kept_is_answered xs (suc i) stamp e = at_place xs i e
 -- ---- rows that may have been inserted
 
 pub inserted_more : (kind : Kind) (xs : List (List Write)) (ws more : List Write)
-    → inserted kind (flat_map (λ us. us) (xs ++ ws ∷ [])) ≤ inserted kind (flat_map (λ us. us) (xs ++ (ws ++ more) ∷ []))
+    → inserted kind (flat_map (λ us. us) (xs ++ ws ∷ [])) ≤ inserted kind
+    (flat_map (λ us. us) (xs ++ (ws ++ more) ∷ []))
 inserted_more kind xs ws more =
     let f : List Write → ℕ = inserted kind in
     let all : (us : List Write) → f (flat_map (λ us. us) (xs ++ us ∷ [])) ≡ f (flat_map (λ us. us) xs) + f us

@@ -66,7 +66,8 @@ module _ {z : Config} {word : ℕ → ℕ} {pass : ℕ → PassState} {j : Journ
       own_is : (n.number == number_of (pass n.job)) ≡ true → is_active (pass n.job).stage ≡ true
           → writes_by (pass n.job) n.number ≡ (pass n.job).own
       own_is e active =
-          ap (writes_by (pass n.job)) (eq_of n.number (number_of (pass n.job)) e) ∙ latest_writes (pass n.job) active
+          ap (writes_by (pass n.job)) (eq_of n.number (number_of (pass n.job)) e)
+          ∙ latest_writes (pass n.job) active
 
       idle_laid : (stage : Stage) → is_active stage ≡ false → IsLaid stage (pass n.job).laid (pass n.job).own
           → (pass n.job).laid ≡ []
@@ -100,25 +101,40 @@ module _ {z : Config} {word : ℕ → ℕ} {pass : ℕ → PassState} {j : Journ
           by_active true a =
               ap (λ ws. any_touches ws k) (own_is e a) ∙ stands_own (pass n.job).laid (pass n.job).own k g
           by_active false a = absurd (true≢false (sym g
-              ∙ stands_none (pass n.job).laid (pass n.job).own k (idle_laid (pass n.job).stage a (s.each n.job).laid)))
+              ∙ stands_none (pass n.job).laid (pass n.job).own k
+              (idle_laid (pass n.job).stage a (s.each n.job).laid)))
 
   -- LATER: an entry by one at whom the write looks clashes
-  pub meets_entry : (w : Write) (i : ℕ) (c : Commit) → slice_get (entries j) i ≡ Some c → has_name (looked w (λ k. forget_row (rows k))) c.by ≡ true → IsMet z.kind j (record { write = w; place = i })
-  meets_entry w i c at h = (c, at, subst (λ ws. meets z.kind w ws ≡ true) (s.made i c at).1 (looked_made w c.by h))
+  pub meets_entry : (w : Write) (i : ℕ) (c : Commit) → slice_get (entries j) i ≡ Some c
+      → has_name (looked w (λ k. forget_row (rows k))) c.by ≡ true
+      → IsMet z.kind j (record { write = w; place = i })
+  meets_entry w i c at h = (
+    c,
+    at,
+    subst (λ ws. meets z.kind w ws ≡ true) (s.made i c at).1 (looked_made w c.by h),
+  )
 
   -- by the word of a record without a stamp, and by the stamp of one that has it
-  pub meets_word : (w : Write) (p n : ℕ) → word p ≡ n + 3 → has_name (looked w (λ k. forget_row (rows k))) (name_of pass p) ≡ true → IsMet z.kind j (record { write = w; place = n })
-  meets_word w p n is h = let r = s.entered p n is in meets_entry w n r.0 r.1 (ap (has_name (looked w (λ k. forget_row (rows k)))) r.2 ∙ h)
+  pub meets_word : (w : Write) (p n : ℕ) → word p ≡ n + 3
+      → has_name (looked w (λ k. forget_row (rows k))) (name_of pass p) ≡ true
+      → IsMet z.kind j (record { write = w; place = n })
+  meets_word w p n is h = let r = s.entered p n is in
+      meets_entry w n r.0 r.1 (ap (has_name (looked w (λ k. forget_row (rows k)))) r.2 ∙ h)
 
-  pub meets_stamp : (w : Write) (by : TxnName) (d : ℕ) → stamp_in j.commits by ≡ Some d → has_name (looked w (λ k. forget_row (rows k))) by ≡ true → IsMet z.kind j (record { write = w; place = d - 1 })
+  pub meets_stamp : (w : Write) (by : TxnName) (d : ℕ) → stamp_in j.commits by ≡ Some d
+      → has_name (looked w (λ k. forget_row (rows k))) by ≡ true
+      → IsMet z.kind j (record { write = w; place = d - 1 })
   meets_stamp w by d is h =
       let r = stamp_place z.kind j.commits s.store.transactions.legal by d is in
       let stamp : d ≡ r.0 + 1 = r.4 in
       let place : r.0 ≡ d - 1 = omega (arith, stamp) in
-      subst (λ i. IsMet z.kind j (record { write = w; place = i })) place (meets_entry w r.0 r.1 (get_front j.commits j.next r.0 r.1 r.2) (ap (has_name (looked w (λ k. forget_row (rows k)))) r.3 ∙ h))
+      subst (λ i. IsMet z.kind j (record { write = w; place = i })) place
+      (meets_entry w r.0 r.1 (get_front j.commits j.next r.0 r.1 r.2)
+      (ap (has_name (looked w (λ k. forget_row (rows k)))) r.3 ∙ h))
 
   -- HOLDER: one at whom the write looks, and whom the snapshot doesn't see, is a cause of a conflict
-  pub sights : (p : ℕ) (w : Write) (n : TxnName) → has_name (looked w (λ k. forget_row (rows k))) n ≡ true → reached (stamp_in (pass p).seen n) (pass p).start ≡ false
+  pub sights : (p : ℕ) (w : Write) (n : TxnName) → has_name (looked w (λ k. forget_row (rows k))) n ≡ true
+      → reached (stamp_in (pass p).seen n) (pass p).start ≡ false
       → IsSighted z.kind pass j (record { by = n; write = w; start = (pass p).start })
   sights p w n h out =
       let b = (s.each p).started in
@@ -126,8 +142,11 @@ module _ {z : Config} {word : ℕ → ℕ} {pass : ℕ → PassState} {j : Journ
       record {
         made = looked_made w n h;
         behind = λ i c at named. dite (dec_le (pass p).start i) (λ le. le) (λ low.
-            let here : slice_get j.commits i ≡ Some c = get_below j.commits j.next i c (omega (arith, low, b, l)) at in
-            absurd (true≢false (sym (reached_at z.kind j.commits s.store.transactions.legal i c (pass p).start here (omega (arith, low))) ∙ ap (λ m. reached (stamp_in j.commits m) (pass p).start) named
+            let here : slice_get j.commits i ≡ Some c =
+            get_below j.commits j.next i c (omega (arith, low, b, l)) at in
+            absurd (true≢false
+            (sym (reached_at z.kind j.commits s.store.transactions.legal i c (pass p).start here
+            (omega (arith, low))) ∙ ap (λ m. reached (stamp_in j.commits m) (pass p).start) named
             ∙ seen_reached s (pass p).seen (pass p).start (s.each p).seen (s.each p).started n ∙ out)));
         begun = omega (arith, b, l);
       }
@@ -135,31 +154,50 @@ module _ {z : Config} {word : ℕ → ℕ} {pass : ℕ → PassState} {j : Journ
 -- ---- what is answered in the end
 
 -- a later commit of what was seen, which clashes, is one of the later ones
-pub later_has : (kind : Kind) (js : List Commit) (start : ℕ) (w : Write) (i : ℕ) (c : Commit) → slice_get js i ≡ Some c → start < c.stamp → meets kind w c.writes ≡ true → Contains (later kind js start w) c.stamp
+pub later_has : (kind : Kind) (js : List Commit) (start : ℕ) (w : Write) (i : ℕ) (c : Commit)
+    → slice_get js i ≡ Some c → start < c.stamp → meets kind w c.writes ≡ true
+    → Contains (later kind js start w) c.stamp
 later_has kind [] start w i c at lt h = cc
 later_has kind (d ∷ js) start w zero c at lt h =
     let same : d ≡ c = some_eq d c at in
-    let test : (nat_lt start d.stamp && meets kind w d.writes) ≡ true = (λ k. (let a : nat_lt start c.stamp ≡ true = grind (arith, nat_tests) in ap (λ (x : Commit). nat_lt start x.stamp) same ∙ a) k && (ap (λ (x : Commit). meets kind w x.writes) same ∙ h) k) in
-    subst (λ t. Contains (map (λ (x : Commit). x.stamp) (cond t (d ∷ filter (λ (x : Commit). nat_lt start x.stamp && meets kind w x.writes) js) (filter (λ (x : Commit). nat_lt start x.stamp && meets kind w x.writes) js))) c.stamp) (sym test)
+    let test : (nat_lt start d.stamp && meets kind w d.writes) ≡ true =
+    (λ k. (let a : nat_lt start c.stamp ≡ true = grind (arith, nat_tests) in
+    ap (λ (x : Commit). nat_lt start x.stamp) same ∙ a) k
+    && (ap (λ (x : Commit). meets kind w x.writes) same ∙ h) k) in
+    subst (λ t.
+    Contains (map (λ (x : Commit). x.stamp)
+    (cond t (d ∷ filter (λ (x : Commit). nat_lt start x.stamp && meets kind w x.writes) js)
+    (filter (λ (x : Commit). nat_lt start x.stamp && meets kind w x.writes) js))) c.stamp) (sym test)
     (0, omega arith, ap (λ (x : Commit). x.stamp) same)
-later_has kind (d ∷ js) start w (suc i) c at lt h = behind (nat_lt start d.stamp && meets kind w d.writes) (later_has kind js start w i c at lt h)
+later_has kind (d ∷ js) start w (suc i) c at lt h =
+    behind (nat_lt start d.stamp && meets kind w d.writes) (later_has kind js start w i c at lt h)
   where
-    behind : (t : Bool) → Contains (map (λ (x : Commit). x.stamp) (filter (λ (x : Commit). nat_lt start x.stamp && meets kind w x.writes) js)) c.stamp
-        → Contains (map (λ (x : Commit). x.stamp) (cond t (d ∷ filter (λ (x : Commit). nat_lt start x.stamp && meets kind w x.writes) js) (filter (λ (x : Commit). nat_lt start x.stamp && meets kind w x.writes) js))) c.stamp
-    behind true r = let b : r.0 < length (map (λ (x : Commit). x.stamp) (filter (λ (x : Commit). nat_lt start x.stamp && meets kind w x.writes) js)) = r.1 in (suc r.0, omega (arith, b), r.2)
+    behind : (t : Bool)
+        → Contains (map (λ (x : Commit). x.stamp)
+        (filter (λ (x : Commit). nat_lt start x.stamp && meets kind w x.writes) js)) c.stamp
+        → Contains (map (λ (x : Commit). x.stamp)
+        (cond t (d ∷ filter (λ (x : Commit). nat_lt start x.stamp && meets kind w x.writes) js)
+        (filter (λ (x : Commit). nat_lt start x.stamp && meets kind w x.writes) js))) c.stamp
+    behind true r = let b : r.0 < length
+        (map (λ (x : Commit). x.stamp) (filter (λ (x : Commit). nat_lt start x.stamp && meets kind w x.writes)
+        js)) = r.1 in (suc r.0, omega (arith, b), r.2)
     behind false r = r
 
 -- LATER, answered: what was met above the start, once the journal was seen so far
-pub later_found : (kind : Kind) (j : JournalState) (m : Meeting) → IsMet kind j m → IsLegal kind j.commits → (start : ℕ) → start ≤ m.place → m.place < length j.commits → Contains (later kind j.commits start m.write) (m.place + 1)
+pub later_found : (kind : Kind) (j : JournalState) (m : Meeting) → IsMet kind j m → IsLegal kind j.commits
+    → (start : ℕ) → start ≤ m.place → m.place < length j.commits
+    → Contains (later kind j.commits start m.write) (m.place + 1)
 later_found kind j m is legal start up low =
     let at : slice_get j.commits m.place ≡ Some is.0 = get_below j.commits j.next m.place is.0 low is.1 in
     let stamp : (is.0).stamp ≡ m.place + 1 = (legal.each m.place is.0 at).stamped in
-    subst (Contains (later kind j.commits start m.write)) stamp (later_has kind j.commits start m.write m.place is.0 at (omega (arith, stamp, up)) is.2)
+    subst (Contains (later kind j.commits start m.write)) stamp
+    (later_has kind j.commits start m.write m.place is.0 at (omega (arith, stamp, up)) is.2)
 
 -- ---- what passes tell each other
 
 -- MEET: a pass has seen all that it had seen, and all that was told
-pub passes_meet : {z : Config} {word : ℕ → ℕ} {pass : ℕ → PassState} {j : JournalState} {rows : Key → StampedVersions}
+pub passes_meet : {z : Config} {word : ℕ → ℕ} {pass : ℕ → PassState} {j : JournalState}
+    {rows : Key → StampedVersions}
     {clock : ℕ} (s : IsShared z word pass j rows clock) (p : ℕ) (told : List Commit) → IsPrefix told j.commits
     → IsPrefix (pass p).seen (longer_of (pass p).seen told) × IsPrefix told (longer_of (pass p).seen told)
     × IsShared z word (revised pass p (refreshed (pass p) (longer_of (pass p).seen told))) j rows clock

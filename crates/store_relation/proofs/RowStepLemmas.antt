@@ -67,7 +67,8 @@ module _ {z : Config} {word : ℕ → ℕ} {pass : ℕ → PassState} {j : Journ
         | false ↦ λ e. refl
       ] refl
 
-  -- WRITE: an open transaction lays a write that its view allows, where each writer at which the write looks is seen
+  -- WRITE: an open transaction lays a write that its view allows, where each writer at which the write looks is
+  -- seen
   pub writes : (w : Write) (rows' : Key → StampedVersions) → (pass p).stage ≡ Open
       → refused (view z.kind (pass p).seen (pass p).start (pass p).own) w ≡ None → IsWithinLimits w
       → ((n : TxnName) → has_name (looked w (λ k. forget_row (rows k))) n ≡ true
@@ -86,7 +87,8 @@ module _ {z : Config} {word : ℕ → ℕ} {pass : ℕ → PassState} {j : Journ
       let marked : word p ≡ 1 = marked_by s p Open is in
       let there : running_of pass me ≡ Some t = runs s p (ap may_commit is) in
       let made : made_of (pass p) ≡ ended_writes (pass p) ++ (pass p).own ∷ [] = made_active (pass p) active in
-      let made' : made_of st' ≡ ended_writes (pass p) ++ ((pass p).own ++ w ∷ []) ∷ [] = made_active st' active in
+      let made' : made_of st' ≡ ended_writes (pass p) ++ ((pass p).own ++ w ∷ []) ∷ [] =
+      made_active st' active in
       let number : number_of st' ≡ number_of (pass p)
       = ap length made' ∙ one_long (ended_writes (pass p)) ((pass p).own ++ w ∷ []) (pass p).own
       ∙ ap length (sym made) in
@@ -110,14 +112,16 @@ module _ {z : Config} {word : ℕ → ℕ} {pass : ℕ → PassState} {j : Journ
       subst (λ f. IsShared z f pass' j rows' clock) (λ i q. revised_same word p q i)
       (goes_on s p st' (word p) rows' s.horizon (record {
         store =
-            store_written z.kind j.commits (running_of pass) (laid_of pass) (touching_by pass) s.horizon old s.store me
+            store_written z.kind j.commits (running_of pass) (laid_of pass) (touching_by pass) s.horizon old
+            s.store me
             (running_of pass') t there (laid_of pass') (touching_by pass') w (λ k. forget_row (rows' k))
             (subst (λ o. Changes me (running_of pass) (running_of pass') o) run_is
             (changes_latest number_of running_part pass p st' (inl number)))
             (ap (λ g. refused (apply_all z.kind g (pass p).own) w)
             (sym (same_graph s p (pass p).seen (pass p).start h.seen h.started)) ∙ allowed)
             within
-            (looked_allows z.kind j.commits (running_of pass) (laid_of pass) (touching_by pass) s.horizon old s.store me
+            (looked_allows z.kind j.commits (running_of pass) (laid_of pass) (touching_by pass) s.horizon old
+            s.store me
             t there w seen)
             (record {
               mine = put_same number_of (λ st. st.laid) [] pass p st' number me
@@ -131,8 +135,10 @@ module _ {z : Config} {word : ℕ → ℕ} {pass : ℕ → PassState} {j : Journ
             });
         stamps = λ k. subst (IsStamped (stamp_in j.commits)) (sym (is_written k))
             (stamped_after (stamp_in j.commits) z.kind me w k (rows k) (s.stamps k));
-        spoken = λ k. subst (AreSpokenFor pass' k) (sym (is_written k)) (spoken_after pass' z.kind me w k (rows k)
-            (ap (λ n. record { job = p; number = n }) (sym number ∙ ap number_of (sym (revised_here pass p st'))))
+        spoken = λ k. subst (AreSpokenFor pass' k) (sym (is_written k))
+            (spoken_after pass' z.kind me w k (rows k)
+            (ap (λ n. record { job = p; number = n })
+            (sym number ∙ ap number_of (sym (revised_here pass p st'))))
             (ap (λ u. may_stand u k) (revised_here pass p st')
             ∙ ap (λ (g : Stage). is_active g || has_key (pass p).unstamped k) is)
             (spoken_same pass p st' k (rows k) (s.spoken k) number (λ e. e)));
@@ -153,7 +159,8 @@ module _ {z : Config} {word : ℕ → ℕ} {pass : ℕ → PassState} {j : Journ
           marked = h.marked;
           seen = h.seen;
           started = h.started;
-          laid = subst (λ (g : Stage). IsLaid g ((pass p).laid ++ w ∷ []) ((pass p).own ++ w ∷ [])) (sym is) longer;
+          laid = subst (λ (g : Stage). IsLaid g ((pass p).laid ++ w ∷ []) ((pass p).own ++ w ∷ [])) (sym is)
+              longer;
           next = λ e. absurd (not_committing (sym is ∙ e));
           met = h.met;
           holders = sightings_follow z.kind pass j pass' j f (pass p).holders h.holders;
@@ -182,7 +189,8 @@ module _ {z : Config} {word : ℕ → ℕ} {pass : ℕ → PassState} {j : Journ
       → IsShared z word (revised pass p (written_by (pass p) w)) j rows' clock
   writes_by_row w rows' is allowed within may is_written =
       writes w rows' is allowed within
-      (looked_by_row z.kind (sees (stamp_in (pass p).seen) (pass p).start (name_of pass p)) w (λ k. forget_row (rows k))
+      (looked_by_row z.kind (sees (stamp_in (pass p).seen) (pass p).start (name_of pass p)) w
+      (λ k. forget_row (rows k))
       may)
       is_written
 
@@ -221,7 +229,8 @@ module _ {z : Config} {word : ℕ → ℕ} {pass : ℕ → PassState} {j : Journ
       quiet s p st' rows' s.horizon (record {
         store =
             subst
-            (λ r. IsStore z.kind j.commits r (laid_of pass') (touching_by pass') s.horizon (λ k. forget_row (rows' k)))
+            (λ r. IsStore z.kind j.commits r (laid_of pass') (touching_by pass') s.horizon
+            (λ k. forget_row (rows' k)))
             same_run
             (store_undone z.kind j.commits (running_of pass) (laid_of pass) (touching_by pass) s.horizon
             (λ k. forget_row (rows k)) s.store me closed w (laid_of pass') (touching_by pass')
@@ -238,7 +247,8 @@ module _ {z : Config} {word : ℕ → ℕ} {pass : ℕ → PassState} {j : Journ
             }));
         stamps = λ k. subst (IsStamped (stamp_in j.commits)) (sym (is_undone k))
             (stamped_before (stamp_in j.commits) z.kind me w k (rows k) (s.stamps k));
-        spoken = λ k. subst (AreSpokenFor pass' k) (sym (is_undone k)) (spoken_before pass' z.kind me w k (rows k)
+        spoken = λ k. subst (AreSpokenFor pass' k) (sym (is_undone k))
+            (spoken_before pass' z.kind me w k (rows k)
             (spoken_same pass p st' k (rows k) (s.spoken k) refl (λ e. e)));
         made = refl;
         kept = λ n. refl;
@@ -246,7 +256,8 @@ module _ {z : Config} {word : ℕ → ℕ} {pass : ℕ → PassState} {j : Journ
           marked = h.marked;
           seen = h.seen;
           started = h.started;
-          laid = subst (λ (g : Stage). IsLaid g front (pass p).own) (sym is) (prefix_shorter front w (pass p).own part);
+          laid = subst (λ (g : Stage). IsLaid g front (pass p).own) (sym is)
+              (prefix_shorter front w (pass p).own part);
           next = h.next;
           met = h.met;
           holders = sightings_follow z.kind pass j pass' j f (pass p).holders h.holders;
@@ -258,7 +269,8 @@ module _ {z : Config} {word : ℕ → ℕ} {pass : ℕ → PassState} {j : Journ
 
 -- PRUNE: some rows are pruned at a horizon that no start of a transaction that may commit is below, by whatever
 -- tells of the writers of records without a stamp
-pub prunes : {z : Config} {word : ℕ → ℕ} {pass : ℕ → PassState} {j : JournalState} {rows : Key → StampedVersions}
+pub prunes : {z : Config} {word : ℕ → ℕ} {pass : ℕ → PassState} {j : JournalState}
+    {rows : Key → StampedVersions}
     {clock : ℕ} (s : IsShared z word pass j rows clock)
     (stamps : TxnName → Option ℕ) (at horizon' : ℕ) (rows' : Key → StampedVersions)
     → s.horizon ≤ horizon' → at ≤ horizon' → horizon' ≤ length j.commits
@@ -266,7 +278,8 @@ pub prunes : {z : Config} {word : ℕ → ℕ} {pass : ℕ → PassState} {j : J
     → ((k : Key) → (rows' k ≡ rows k)
     ⊎ ((rows' k ≡ prune_stamped stamps at (rows k)) × AreTold stamps (stamp_in j.commits) at (rows k)))
     → IsShared z word pass j rows' clock
-prunes {z = z} {word = word} {pass = pass} {j = j} {rows = rows} {clock = clock} s stamps at horizon' rows' up over within live each =
+prunes {z = z} {word = word} {pass = pass} {j = j} {rows = rows} {clock = clock} s stamps at horizon' rows' up
+    over within live each =
     let exact : (k : Key) → (rows' k ≡ rows k) ⊎ (rows' k ≡ prune_stamped (stamp_in j.commits) at (rows k))
     = (λ k. elim (each k)
     as (λ _. (rows' k ≡ rows k) ⊎ (rows' k ≡ prune_stamped (stamp_in j.commits) at (rows k))) [
@@ -278,7 +291,8 @@ prunes {z = z} {word = word} {pass = pass} {j = j} {rows = rows} {clock = clock}
       published = s.published;
       store = store_pruned z.kind j.commits (running_of pass) (laid_of pass) (touching_by pass) s.horizon
           (λ k. forget_row (rows k)) s.store at horizon' (λ k. forget_row (rows' k)) over up within pinned
-          (λ k. whole_pruned (stamp_in j.commits) at (forget_row (rows k)) (forget_row (rows' k)) (elim (exact k)
+          (λ k. whole_pruned (stamp_in j.commits) at (forget_row (rows k)) (forget_row (rows' k))
+          (elim (exact k)
           as (λ _. (forget_row (rows' k) ≡ forget_row (rows k))
           ⊎ (forget_row (rows' k) ≡ prune (stamp_in j.commits) at (forget_row (rows k)))) [
             | inl e ↦ inl (ap forget_row e)

@@ -80,7 +80,8 @@ counted_put z pass j j' p st' c same n =
           (λ q _. c.outside q);
       filled = all_put
           (λ q u. u.filled ≡ true → SPLIT_ROWS * z.leaves ≤ inserted_by_all z (revised pass p st')) pass p st'
-          (λ e. let b = n.filled e in omega (arith, b, up)) (λ q _ e. let b = c.filled q e in omega (arith, b, up));
+          (λ e. let b = n.filled e in omega (arith, b, up))
+          (λ q _ e. let b = c.filled q e in omega (arith, b, up));
     }
 
 -- ---- facts of the pass that steps
@@ -213,8 +214,10 @@ module _ {z : Config} {word : ℕ → ℕ} {pass : ℕ → PassState} {j : Journ
       -- an entry was there, or is of this transaction, and its word says so
       pub listed : (i : ℕ) (c : Commit) → slice_get (entries j') i ≡ Some c
           → (slice_get (entries j) i ≡ Some c)
-          ⊎ ((c.by ≡ name_at p st') × (word' ≡ i + 3) × (0 < length c.writes) × (writes_by st' c.by.number ≡ c.writes))
-      pub stamped : (i : ℕ) (c : Commit) → slice_get (entries j) i ≡ Some c → c.by ≡ name_at p st' → word' ≡ i + 3
+          ⊎ ((c.by ≡ name_at p st') × (word' ≡ i + 3) × (0 < length c.writes)
+          × (writes_by st' c.by.number ≡ c.writes))
+      pub stamped : (i : ℕ) (c : Commit) → slice_get (entries j) i ≡ Some c → c.by ≡ name_at p st'
+          → word' ≡ i + 3
       pub entered : (n : ℕ) → word' ≡ n + 3
           → (c : Commit) × (slice_get (entries j') n ≡ Some c) × (c.by ≡ name_at p st')
       pub made : (i : ℕ) (c : Commit) → slice_get (entries j) i ≡ Some c → c.by.job ≡ p
@@ -224,7 +227,8 @@ module _ {z : Config} {word : ℕ → ℕ} {pass : ℕ → PassState} {j : Journ
       pub counted : AreCounted z (revised pass p st') j'
 
     -- STEPS: so the rule is kept
-    pub steps : (st' : PassState) (word' : ℕ) (j' : JournalState) (rows' : Key → StampedVersions) (clock' horizon' : ℕ)
+    pub steps : (st' : PassState) (word' : ℕ) (j' : JournalState) (rows' : Key → StampedVersions)
+        (clock' horizon' : ℕ)
         → Moves st' word' j' rows' clock' horizon'
         → IsShared z (revised word p word') (revised pass p st') j' rows' clock'
     steps st' word' j' rows' clock' horizon' m = record {
@@ -271,15 +275,18 @@ module _ {z : Config} {word : ℕ → ℕ} {pass : ℕ → PassState} {j : Journ
       each = all_put (λ q u. IsPass z.kind (revised pass p st') j' (revised word p word' q) q u) pass p st'
           (subst (λ w. IsPass z.kind (revised pass p st') j' w p st') (sym (revised_here word p word')) m.this)
           (λ q other.
-          subst (λ w. IsPass z.kind (revised pass p st') j' w q (pass q)) (sym (revised_else word p word' q other))
-          (other_stays z.kind pass j (revised pass p st') j' m.follows (word q) q (pass q) (m.others q other) (s.each q)));
+          subst (λ w. IsPass z.kind (revised pass p st') j' w q (pass q))
+          (sym (revised_else word p word' q other))
+          (other_stays z.kind pass j (revised pass p st') j' m.follows (word q) q (pass q) (m.others q other)
+          (s.each q)));
       counted = m.counted;
     }
 
     -- ---- a step that leaves the journal's commits and entries
 
     pub follows : (st' : PassState)
-        → ((n : ℕ) (w : Write) → meets z.kind w (writes_by (pass p) n) ≡ true → meets z.kind w (writes_by st' n) ≡ true)
+        → ((n : ℕ) (w : Write) → meets z.kind w (writes_by (pass p) n) ≡ true
+        → meets z.kind w (writes_by st' n) ≡ true)
         → Follows z.kind pass j (revised pass p st') j
     follows st' grows = record {
       legal = s.store.transactions.legal;
@@ -287,7 +294,8 @@ module _ {z : Config} {word : ℕ → ℕ} {pass : ℕ → PassState} {j : Journ
       listed = prefix_all (entries j);
       late = λ i c at. inl at;
       made = λ o n w. all_put
-          (λ q u. meets z.kind w (writes_by (pass q) n) ≡ true → meets z.kind w (writes_by u n) ≡ true) pass p st'
+          (λ q u. meets z.kind w (writes_by (pass q) n) ≡ true → meets z.kind w (writes_by u n) ≡ true) pass p
+          st'
           (grows n w) (λ q _ e. e) o;
     }
 
@@ -295,25 +303,28 @@ module _ {z : Config} {word : ℕ → ℕ} {pass : ℕ → PassState} {j : Journ
     pub kept_put : (st' : PassState) → ((n : ℕ) → kept_stamp st'.past n ≡ kept_stamp (pass p).past n)
         → (by : TxnName) → stamp_by (revised pass p st') by ≡ stamp_in j.commits by
     kept_put st' same by =
-        all_put (λ q u. (n : ℕ) → kept_stamp u.past n ≡ kept_stamp (pass q).past n) pass p st' same (λ q _ n. refl)
+        all_put (λ q u. (n : ℕ) → kept_stamp u.past n ≡ kept_stamp (pass q).past n) pass p st' same
+        (λ q _ n. refl)
         by.job by.number
         ∙ s.kept by
 
-    pub record GoesOn (st' : PassState) (word' : ℕ) (rows' : Key → StampedVersions) (horizon' : ℕ) : Type 0 where
-      pub store : IsStore z.kind j.commits (running_of (revised pass p st')) (laid_of (revised pass p st'))
-          (touching_by (revised pass p st')) horizon' (λ k. forget_row (rows' k))
-      pub stamps : (k : Key) → IsStamped (stamp_in j.commits) (rows' k)
-      pub spoken : (k : Key) → AreSpokenFor (revised pass p st') k (rows' k)
-      pub stamped : (i : ℕ) (c : Commit) → slice_get (entries j) i ≡ Some c → c.by ≡ name_at p st' → word' ≡ i + 3
-      pub entered : (n : ℕ) → word' ≡ n + 3
-          → (c : Commit) × (slice_get (entries j) n ≡ Some c) × (c.by ≡ name_at p st')
-      pub made : (i : ℕ) (c : Commit) → slice_get (entries j) i ≡ Some c → c.by.job ≡ p
-          → writes_by st' c.by.number ≡ writes_by (pass p) c.by.number
-      pub grows : (n : ℕ) (w : Write) → meets z.kind w (writes_by (pass p) n) ≡ true
-          → meets z.kind w (writes_by st' n) ≡ true
-      pub kept : (n : ℕ) → kept_stamp st'.past n ≡ kept_stamp (pass p).past n
-      pub this : Follows z.kind pass j (revised pass p st') j → IsPass z.kind (revised pass p st') j word' p st'
-      pub counted : AreCounted z (revised pass p st') j
+    pub record GoesOn (st' : PassState) (word' : ℕ) (rows' : Key → StampedVersions) (horizon' : ℕ) : Type 0
+      where
+        pub store : IsStore z.kind j.commits (running_of (revised pass p st')) (laid_of (revised pass p st'))
+            (touching_by (revised pass p st')) horizon' (λ k. forget_row (rows' k))
+        pub stamps : (k : Key) → IsStamped (stamp_in j.commits) (rows' k)
+        pub spoken : (k : Key) → AreSpokenFor (revised pass p st') k (rows' k)
+        pub stamped : (i : ℕ) (c : Commit) → slice_get (entries j) i ≡ Some c → c.by ≡ name_at p st'
+            → word' ≡ i + 3
+        pub entered : (n : ℕ) → word' ≡ n + 3
+            → (c : Commit) × (slice_get (entries j) n ≡ Some c) × (c.by ≡ name_at p st')
+        pub made : (i : ℕ) (c : Commit) → slice_get (entries j) i ≡ Some c → c.by.job ≡ p
+            → writes_by st' c.by.number ≡ writes_by (pass p) c.by.number
+        pub grows : (n : ℕ) (w : Write) → meets z.kind w (writes_by (pass p) n) ≡ true
+            → meets z.kind w (writes_by st' n) ≡ true
+        pub kept : (n : ℕ) → kept_stamp st'.past n ≡ kept_stamp (pass p).past n
+        pub this : Follows z.kind pass j (revised pass p st') j → IsPass z.kind (revised pass p st') j word' p st'
+        pub counted : AreCounted z (revised pass p st') j
 
     pub goes_on : (st' : PassState) (word' : ℕ) (rows' : Key → StampedVersions) (horizon' : ℕ)
         → GoesOn st' word' rows' horizon'
@@ -345,7 +356,8 @@ module _ {z : Config} {word : ℕ → ℕ} {pass : ℕ → PassState} {j : Journ
       pub spoken : (k : Key) → AreSpokenFor (revised pass p st') k (rows' k)
       pub made : made_of st' ≡ made_of (pass p)
       pub kept : (n : ℕ) → kept_stamp st'.past n ≡ kept_stamp (pass p).past n
-      pub this : Follows z.kind pass j (revised pass p st') j → IsPass z.kind (revised pass p st') j (word p) p st'
+      pub this : Follows z.kind pass j (revised pass p st') j
+          → IsPass z.kind (revised pass p st') j (word p) p st'
       pub counted : AreCounted z (revised pass p st') j
 
     pub quiet : (st' : PassState) (rows' : Key → StampedVersions) (horizon' : ℕ) → IsQuiet st' rows' horizon'

@@ -37,7 +37,8 @@ use Rattle.store_relation.proofs.SpokenLemmas.{spoken_put, spoken_same}
 use Rattle.store_relation.proofs.SharedLemmas.{counted_put, room_stays, counts_same, counts_active, stander, laid_by, marked_by, unnamed_next, unnamed_now, goes_on, quiet}
 
 one_at_most : (st : PassState) → room_needed st ≤ 1
-one_at_most st = elim (needs_room st.stage) as (λ t. cond t 1 0 ≤ 1) [ true ↦ omega arith | false ↦ omega arith ]
+one_at_most st = elim (needs_room st.stage) as (λ t. cond t 1 0 ≤ 1)
+    [ true ↦ omega arith | false ↦ omega arith ]
 
 pub nothing_either : {X : Type 0} (t : Bool) (x none : X) → x ≡ none → cond t x none ≡ none
 nothing_either true x none e = e
@@ -57,14 +58,16 @@ module _ {z : Config} {word : ℕ → ℕ} {pass : ℕ → PassState} {j : Journ
       let was : number_of (pass p) ≡ length (pass p).past = number_idle (pass p) off in
       let now : number_of st' ≡ suc (length (pass p).past) = number_active st' refl in
       let lt : number_of (pass p) < number_of st' = omega (arith, was, now) in
-      let closed : running_part (pass p) ≡ None = ap (λ (g : Stage). cond (may_commit g) (Some (now_of (pass p))) None) is in
+      let closed : running_part (pass p) ≡ None =
+      ap (λ (g : Stage). cond (may_commit g) (Some (now_of (pass p))) None) is in
       let starts : Changes (name_at p st') (running_of pass) (running_of pass')
       (Some (record { start = length j.commits; writes = [] }))
       = subst (λ ws. Changes (name_at p st') (running_of pass) (running_of pass')
       (Some (record { start = length j.commits; writes = ws }))) idle.1
       (changes_next number_of running_part pass p st' closed) in
       let unnamed : HasNotCommitted j.commits (name_at p st') = (λ i c at. false_from_ne_true _ (λ e.
-      unnamed_next s p (number_of st') lt i c (get_front j.commits j.next i c at) (name_eq c.by (name_at p st') e))) in
+      unnamed_next s p (number_of st') lt i c (get_front j.commits j.next i c at)
+      (name_eq c.by (name_at p st') e))) in
       let writes_same : (n : ℕ) → writes_by st' n ≡ writes_by (pass p) n = (λ n.
       ap (λ ws. made_at (ended_writes (pass p) ++ ws ∷ []) n) idle.1
       ∙ made_at_none (ended_writes (pass p)) n ∙ ap (λ m. made_at m n) (sym (made_idle (pass p) off))) in
@@ -78,13 +81,15 @@ module _ {z : Config} {word : ℕ → ℕ} {pass : ℕ → PassState} {j : Journ
             (store_begun z.kind j.commits (running_of pass) (laid_of pass) (touching_by pass) s.horizon
             (λ k. forget_row (rows k)) s.store (name_at p st') (running_of pass') starts
             (nothing_either (number_of st' == number_of (pass p)) (pass p).laid [] idle.0)
-            (λ k. nothing_either (number_of st' == number_of (pass p)) (stands (pass p).laid (pass p).own k) false
+            (λ k. nothing_either (number_of st' == number_of (pass p)) (stands (pass p).laid (pass p).own k)
+            false
             (stands_none (pass p).laid (pass p).own k idle.0))
             unnamed)
             (laid_of pass') (touching_by pass') (λ k. forget_row (rows k))
             (put_nothing (λ st. st.laid) [] pass p st' idle.0 idle.0)
             (λ q k. put_nothing (λ st. stands st.laid st.own k) false pass p st'
-            (stands_none (pass p).laid (pass p).own k idle.0) (stands_none (pass p).laid (pass p).own k idle.0) q)
+            (stands_none (pass p).laid (pass p).own k idle.0) (stands_none (pass p).laid (pass p).own k idle.0)
+            q)
             (λ k. refl);
         stamps = s.stamps;
         -- none of its records is without a stamp
@@ -120,12 +125,14 @@ module _ {z : Config} {word : ℕ → ℕ} {pass : ℕ → PassState} {j : Journ
       begun_inserts : is_active (pass p).stage ≡ false → (pass p).own ≡ []
           → inserted_by_pass z.kind (pass p) ≡ inserted_by_pass z.kind (begun (pass p) j)
       begun_inserts off none =
-          let more : List Write → ℕ = (λ ws. inserted z.kind (flat_map (λ us. us) (ended_writes (pass p) ++ ws ∷ []))) in
+          let more : List Write → ℕ = (λ ws.
+          inserted z.kind (flat_map (λ us. us) (ended_writes (pass p) ++ ws ∷ []))) in
           let past : ℕ = inserted z.kind (flat_map (λ us. us) (ended_writes (pass p))) in
           let same : more [] ≡ past = ap (inserted z.kind)
           (flat_map-append (λ (us : List Write). us) (ended_writes (pass p)) ([] ∷ [])
           ∙ append-nil (flat_map (λ us. us) (ended_writes (pass p)))) in
-          ap (λ made. inserted z.kind (flat_map (λ us. us) made)) (made_idle (pass p) off) ∙ sym same ∙ ap more (sym none)
+          ap (λ made. inserted z.kind (flat_map (λ us. us) made)) (made_idle (pass p) off) ∙ sym same
+          ∙ ap more (sym none)
 
   -- KNOWS: what a pass knows of the journal and of others may be anything that is right
   pub knows : (seen : List Commit) (met : List Meeting) (holders sighted : List Sighting) (looks : List Look)
@@ -145,7 +152,8 @@ module _ {z : Config} {word : ℕ → ℕ} {pass : ℕ → PassState} {j : Journ
         readers_out = readers;
       }
       → IsShared z word (revised pass p st') j rows clock
-  knows seen met holders sighted looks filled readers front within all_met all_holders all_sighted all_looks full st' is =
+  knows seen met holders sighted looks filled readers front within all_met all_holders all_sighted all_looks
+      full st' is =
       let h = s.each p in
       let now : PassState = record (pass p) {
         seen = seen;
@@ -156,8 +164,10 @@ module _ {z : Config} {word : ℕ → ℕ} {pass : ℕ → PassState} {j : Journ
         filled = filled;
         readers_out = readers;
       } in
-      subst (λ u. IsShared z word (revised pass p u) j rows clock) (sym is) (quiet s p now rows s.horizon (record {
-        store = store_stays z.kind j.commits pass s.horizon _ _ s.store p now refl refl refl (λ k. refl) (λ k. refl);
+      subst (λ u. IsShared z word (revised pass p u) j rows clock) (sym is)
+      (quiet s p now rows s.horizon (record {
+        store = store_stays z.kind j.commits pass s.horizon _ _ s.store p now refl refl refl (λ k. refl)
+            (λ k. refl);
         stamps = s.stamps;
         spoken = λ k. spoken_same pass p now k (rows k) (s.spoken k) refl (λ e. e);
         made = refl;
@@ -183,15 +193,18 @@ module _ {z : Config} {word : ℕ → ℕ} {pass : ℕ → PassState} {j : Journ
       → IsShared z word (revised pass p (with_notes (pass p) met holders sighted looks)) j rows clock
   notes met holders sighted looks all_met all_holders all_sighted all_looks =
       let h = s.each p in
-      knows (pass p).seen met holders sighted looks (pass p).filled (pass p).readers_out h.seen h.started all_met
+      knows (pass p).seen met holders sighted looks (pass p).filled (pass p).readers_out h.seen h.started
+      all_met
       all_holders all_sighted all_looks (s.counted.filled p) _ refl
 
-  -- REFRESH: what was seen is brought up to some published commits: the clock's, or those that another pass has told
+  -- REFRESH: what was seen is brought up to some published commits: the clock's, or those that another pass has
+  -- told
   pub refreshes : (seen : List Commit) → IsPrefix seen j.commits → (pass p).start ≤ length seen
       → IsShared z word (revised pass p (refreshed (pass p) seen)) j rows clock
   refreshes seen front within =
       let h = s.each p in
-      knows seen (pass p).met (pass p).holders (pass p).sighted (pass p).looks (pass p).filled (pass p).readers_out
+      knows seen (pass p).met (pass p).holders (pass p).sighted (pass p).looks (pass p).filled
+      (pass p).readers_out
       front within h.met h.holders h.sighted h.looks (s.counted.filled p) _ refl
 
   -- FULL: a write was answered so
@@ -199,7 +212,8 @@ module _ {z : Config} {word : ℕ → ℕ} {pass : ℕ → PassState} {j : Journ
       → IsShared z word (revised pass p (filled_up (pass p))) j rows clock
   fills many =
       let h = s.each p in
-      knows (pass p).seen (pass p).met (pass p).holders (pass p).sighted (pass p).looks true (pass p).readers_out
+      knows (pass p).seen (pass p).met (pass p).holders (pass p).sighted (pass p).looks true
+      (pass p).readers_out
       h.seen h.started h.met h.holders h.sighted h.looks (λ _. many) _ refl
 
   -- READERS: so many are out
@@ -260,9 +274,11 @@ module _ {z : Config} {word : ℕ → ℕ} {pass : ℕ → PassState} {j : Journ
       let same : made_of st' ≡ made_of (pass p) = made_ended (pass p) None active in
       let number : number_of st' ≡ number_of (pass p) = ap length same in
       let name : name_at p st' ≡ name_of pass p = ap (λ n. record { job = p; number = n }) number in
-      let long : length ((pass p).past ++ record { writes = (pass p).own; stamp = None } ∷ []) ≡ length (pass p).past + 1
+      let long : length ((pass p).past ++ record { writes = (pass p).own; stamp = None } ∷ []) ≡ length
+      (pass p).past + 1
       = length-append (pass p).past (record { writes = (pass p).own; stamp = None } ∷ []) in
-      let laid_here : laid_of pass (name_of pass p) ≡ [] = latest_here number_of (λ st. st.laid) [] pass p ∙ none in
+      let laid_here : laid_of pass (name_of pass p) ≡ [] = latest_here number_of (λ st. st.laid) [] pass p
+      ∙ none in
       goes_on s p st' 2 rows s.horizon (record {
         store = store_stays z.kind j.commits pass s.horizon _ _ s.store p st' number
             (ap (λ (g : Stage). cond (may_commit g) (Some (now_of (pass p))) None) (sym is)) (sym none)
