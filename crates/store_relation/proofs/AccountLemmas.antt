@@ -1,5 +1,5 @@
 -- What the steps of a call do to the account of its pass, and that this is valid between calls.
-use Rattle.std.proofs.Common.{◌≡◌, ℕ, suc, ◌+◌, ◌<◌, ◌≤◌, List, [], ◌∷◌, ◌++◌, length, refl, sym, ◌∙◌, ap, subst, cond, arith, inl, inr, append_assoc}
+use Rattle.std.proofs.Common.{◌≡◌, ℕ, suc, ◌+◌, ◌<◌, ◌≤◌, List, [], ◌∷◌, ◌++◌, length, refl, sym, ◌∙◌, ap, subst, cond, arith, inl, inr}
 use Rattle.std.specs.Prelude.{◌⊎◌, Bool, true, false, nat_le, map, Option, Some, None, slice_get, IfSome, IfNone}
 use Rattle.std.specs.List.{filter_map}
 use Rattle.std.specs.declared.result.Result.TheVariants.{Ok}

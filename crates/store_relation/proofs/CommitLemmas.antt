@@ -1,12 +1,10 @@
 -- The steps of a commit: room for its entry, the store of its stamp, the store of the clock, and the stamping
 -- of its rows.
-use Rattle.std.proofs.Common.{◌≡◌, ℕ, suc, ◌+◌, ◌-◌, ◌<◌, ◌≤◌, List, [], ◌∷◌, ◌++◌, length, map, refl, sym, ◌∙◌, ap, subst, cond, arith, inl, inr, length-append}
-use Rattle.std.specs.Prelude.{◌⊎◌, Bool, true, false, ◌==◌, ◌||◌, Option, Some, None, slice_get}
+use Rattle.std.proofs.Common.{◌≡◌, ℕ, ◌+◌, ◌<◌, ◌≤◌, List, [], ◌∷◌, ◌++◌, length, map, refl, sym, ◌∙◌, ap, subst, cond, arith, inl, inr, length-append}
+use Rattle.std.specs.Prelude.{◌⊎◌, Bool, true, false, ◌||◌, Some, None, slice_get}
 use Rattle.std.specs.List.{AllByRecursion}
-use Rattle.std.proofs.lemmas.Bool.{true≢false, or_left, or_right, false_from_ne_true}
+use Rattle.std.proofs.lemmas.Bool.{true≢false, or_left, or_right}
 use Rattle.std.proofs.lemmas.List.{append-nil}
-use mathlib.Core.Logic.{dite}
-use native.Mathlib.Decide.{ℕ_discrete}
 use Rattle.graph_model.specs.declared.write.Write.{Write}
 use Rattle.graph_model.specs.declared.row.Key.{Key}
 use Rattle.graph_model.specs.declared.journal.TxnName.{TxnName}
@@ -18,7 +16,7 @@ use Rattle.graph_model.specs.Transactions.{Running, stamp_in, HasNotCommitted}
 use Rattle.graph_model.proofs.PassLemmas.{latest_here, put_same, changes_latest}
 use Rattle.graph_model.proofs.PlaceLemmas.{get_snoc, get_end}
 use Rattle.graph_model.proofs.StampLemmas.{stamp_longer, stamp_at}
-use Rattle.graph_model.proofs.TestLemmas.{name_eq, name_self}
+use Rattle.graph_model.proofs.TestLemmas.{name_self}
 use Rattle.txn_manager.specs.declared.config.Config.{Config}
 use Rattle.store_model.specs.Stamped.{Stamped, StampedVersions, IsStamped, forget_row, stamp_one, stamp}
 use Rattle.store_model.specs.Store.{IsStore}
@@ -27,29 +25,16 @@ use Rattle.store_model.proofs.StoreLemmas.{store_committed}
 use Rattle.store_relation.specs.declared.stage.Stage.{Stage}
 use Rattle.store_relation.specs.declared.stage.Stage.TheVariants.{Idle, Open, Committing}
 use Rattle.store_relation.specs.Keys.{has_key}
-use Rattle.store_relation.specs.Passes.{PassState, is_active, kept_stamp, laid_of, made_at, made_of, may_commit, may_stand, name_at, name_of, needs_room, now_of, number_of, running_of, running_part, stamp_by, stands, touching_by, writes_by}
+use Rattle.store_relation.specs.Passes.{PassState, is_active, kept_stamp, laid_of, made_at, made_of, may_commit, may_stand, name_at, name_of, needs_room, now_of, number_of, running_of, running_part, stands, touching_by, writes_by}
 use Rattle.store_relation.specs.Shared.{AreSpokenFor, IsShared, IsSpokenFor, JournalState, entries, entry_of, room_needed, sum_below}
-use Rattle.store_relation.specs.Steps.{begun, committed, committing, published_now, with_entry, with_unstamped}
+use Rattle.store_relation.specs.Steps.{committed, committing, published_now, with_entry, with_unstamped}
 use Rattle.store_relation.proofs.ListLemmas.{prefix_all, prefix_length, prefix_get, revised_here, revised_else, revised_same, all_put, sum_but_one}
-use Rattle.store_relation.proofs.MadeLemmas.{made_active, made_ended, number_active, latest_writes, kept_at_end, kept_at_other}
+use Rattle.store_relation.proofs.MadeLemmas.{made_active, made_ended, number_active, latest_writes}
 use Rattle.store_relation.proofs.FrameLemmas.{Follows, mets_follow, sightings_follow, looks_follow, other_stays}
 use Rattle.store_relation.proofs.CurrentLemmas.{stands_whole, store_stays}
+use Rattle.store_relation.proofs.KeptLemmas.{kept_published}
 use Rattle.store_relation.proofs.SpokenLemmas.{spoken_put, spoken_same}
 use Rattle.store_relation.proofs.SharedLemmas.{counts_same, counts_active, room_stays, stander, laid_by, marked_by, inside, unnamed_now, runs, steps, quiet}
-
--- a commit of another name changes nobody's stamp
-stamp_other : (js : List Commit) (c : Commit) (by : TxnName) → same_name c.by by ≡ false
-    → stamp_in (js ++ c ∷ []) by ≡ stamp_in js by
-stamp_other [] c by away = ap (λ t. cond t (Some c.stamp) None) away
-stamp_other (d ∷ js) c by away = ap (λ o. cond (same_name d.by by) (Some d.stamp) o) (stamp_other js c by away)
-
--- and its own name has its stamp, if it had none before
-stamp_last : (js : List Commit) (c : Commit) → HasNotCommitted js c.by
-    → stamp_in (js ++ c ∷ []) c.by ≡ Some c.stamp
-stamp_last [] c none = ap (λ t. cond t (Some c.stamp) None) (name_self c.by)
-stamp_last (d ∷ js) c none =
-    ap (λ t. cond t (Some d.stamp) (stamp_in (js ++ c ∷ []) c.by)) (none 0 d refl)
-    ∙ stamp_last js c (λ i e at. none (suc i) e at)
 
 -- ROOM: the journal gets more of it
 pub rooms : {z : Config} {word : ℕ → ℕ} {pass : ℕ → PassState} {j : JournalState} {rows : Key → StampedVersions}
@@ -281,7 +266,10 @@ module _ {z : Config} {word : ℕ → ℕ} {pass : ℕ → PassState} {j : Journ
             let r = s.entered p n e in
             (r.0, subst (λ l. slice_get l n ≡ Some r.0) (sym none) r.1, r.2 ∙ sym name);
         made = λ i d at _. ap (λ q. made_at q d.by.number) same;
-        kept = λ by. kept_now by ∙ ap (λ cs. stamp_in cs by) (sym listed);
+        -- its pass keeps the stamp of the commit
+        kept = λ by. kept_published pass p j.commits c
+            (ap (λ n. record { job = p; number = n }) (number_active (pass p) active)) unnamed st' (pass p).own refl s.kept by
+            ∙ ap (λ cs. stamp_in cs by) (sym listed);
         this = record {
           marked = tt;
           seen = prefix_all (entries j);
@@ -309,54 +297,6 @@ module _ {z : Config} {word : ℕ → ℕ} {pass : ℕ → PassState} {j : Journ
       -- the next entry is of one pass
       same_job : (q : ℕ) → (pass q).stage ≡ Committing → q ≡ p
       same_job q e = ap job_of (sym ((s.each q).next e) ∙ (s.each p).next is)
-
-      -- its pass keeps the stamp of the commit, and no other stamp has changed
-      kept_now : (by : TxnName)
-          → stamp_by (revised pass p (committed (pass p) j keys)) by
-          ≡ stamp_in (j.commits ++ entry_of j p (pass p) ∷ []) by
-      kept_now by = dite (ℕ_discrete by.job p)
-          (λ same. dite (ℕ_discrete by.number (number_of (pass p)))
-          (λ latest. here same latest)
-          (λ other. else_where (apart_by_number same other)
-          (ap (λ q. kept_stamp (revised pass p (committed (pass p) j keys) q).past by.number) same
-          ∙ ap (λ (u : PassState). kept_stamp u.past by.number)
-          (revised_here pass p (committed (pass p) j keys))
-          ∙ kept_at_other (pass p).past _ by.number
-          (λ e. other (e ∙ sym (number_active (pass p) (ap is_active is))))
-          ∙ ap (λ q. kept_stamp (pass q).past by.number) (sym same))))
-          (λ other. else_where (apart_by_job other)
-          (ap (λ (u : PassState). kept_stamp u.past by.number)
-          (revised_else pass p (committed (pass p) j keys) by.job other)))
-        where
-          else_where : same_name (name_of pass p) by ≡ false
-              → stamp_by (revised pass p (committed (pass p) j keys)) by ≡ stamp_by pass by
-              → stamp_by (revised pass p (committed (pass p) j keys)) by
-              ≡ stamp_in (j.commits ++ entry_of j p (pass p) ∷ []) by
-          else_where away same = same ∙ s.kept by ∙ sym (stamp_other j.commits (entry_of j p (pass p)) by away)
-
-          apart_by_number : by.job ≡ p → (by.number ≡ number_of (pass p) → ⊥)
-              → same_name (name_of pass p) by ≡ false
-          apart_by_number same other = false_from_ne_true _
-              (λ e. other (ap (λ (b : TxnName). b.number) (sym (name_eq (name_of pass p) by e))))
-
-          apart_by_job : (by.job ≡ p → ⊥) → same_name (name_of pass p) by ≡ false
-          apart_by_job other = false_from_ne_true _
-              (λ e. other (ap (λ (b : TxnName). b.job) (sym (name_eq (name_of pass p) by e))))
-
-          here : by.job ≡ p → by.number ≡ number_of (pass p)
-              → stamp_by (revised pass p (committed (pass p) j keys)) by
-              ≡ stamp_in (j.commits ++ entry_of j p (pass p) ∷ []) by
-          here same latest =
-              let me : by ≡ name_of pass p = (λ i. record { job = same i; number = latest i }) in
-              let there : running_of pass (name_of pass p) ≡ Some (now_of (pass p)) =
-              runs s p (ap may_commit is) in
-              let none = (s.store.transactions.each (name_of pass p) (now_of (pass p)) there).unnamed in
-              ap (λ q. kept_stamp (revised pass p (committed (pass p) j keys) q).past by.number) same
-              ∙ ap (λ (u : PassState). kept_stamp u.past by.number)
-              (revised_here pass p (committed (pass p) j keys))
-              ∙ kept_at_end (pass p).past _ by.number (latest ∙ number_active (pass p) (ap is_active is))
-              ∙ sym (ap (stamp_in (j.commits ++ entry_of j p (pass p) ∷ [])) me
-              ∙ stamp_last j.commits (entry_of j p (pass p)) none)
 
   -- STAMP ROWS: after its commit a pass stamps rows that it holds. Each row is stamped or as it was, and what
   -- is

@@ -1,6 +1,6 @@
 -- A new shared store, the bound of its clock, and what one knows at its end.
-use Rattle.std.proofs.Common.{◌≡◌, ℕ, zero, suc, ◌+◌, ◌*◌, ◌<◌, ◌≤◌, List, [], ◌∷◌, ◌++◌, length, map, refl, sym, ◌∙◌, ap, subst, cond, arith, inl, inr}
-use Rattle.std.specs.Prelude.{Bool, true, false, ◌==◌, ◌||◌, Option, Some, None, slice_get}
+use Rattle.std.proofs.Common.{◌≡◌, ℕ, zero, suc, ◌+◌, ◌*◌, ◌<◌, ◌≤◌, List, [], ◌∷◌, length, map, refl, sym, ◌∙◌, ap, subst, cond, arith, inl, inr}
+use Rattle.std.specs.Prelude.{Bool, true, false, ◌==◌, ◌||◌, Option, Some, None}
 use Rattle.std.specs.List.{AllByRecursion}
 use Rattle.std.proofs.lemmas.Bool.{true≢false}
 use mathlib.Core.Logic.{dite}
@@ -35,7 +35,6 @@ use Rattle.store_relation.specs.Ends.{AreAtEnd, HasStamp, IsClosed, IsMade, IsMa
 use Rattle.store_relation.specs.Keys.{has_key}
 use Rattle.store_relation.specs.Passes.{EndedTxn, PassState, fresh_pass, is_active, kept_stamp, laid_of, made_at, made_of, number_of, running_of, stamp_by, touching_by, writes_by}
 use Rattle.store_relation.specs.Shared.{IsShared, IsSighted, IsSpokenFor, JournalState, no_journal, sum_below}
-use Rattle.store_relation.specs.Steps.{begun}
 
 same_either : {X : Type 0} (t : Bool) (x : X) → cond t x x ≡ x
 same_either true x = refl

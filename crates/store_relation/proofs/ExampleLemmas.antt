@@ -1,6 +1,6 @@
 -- The worked examples: right steps by the laws of each, and wrong ones by what they leave.
-use Rattle.std.proofs.Common.{◌≡◌, ℕ, zero, suc, ◌+◌, ◌<◌, ◌≤◌, List, [], ◌∷◌, ◌++◌, length, map, drop, refl, sym, ◌∙◌, ap, subst, cond, arith, inl, inr}
-use Rattle.std.specs.Prelude.{◌⊎◌, Bool, true, false, ◌||◌, Option, Some, None, slice_get}
+use Rattle.std.proofs.Common.{◌≡◌, ℕ, suc, ◌≤◌, List, [], ◌∷◌, ◌++◌, length, map, drop, refl, sym, ◌∙◌, ap, subst, arith, inl, inr}
+use Rattle.std.specs.Prelude.{true, ◌||◌, Option, Some, None}
 use Rattle.std.specs.List.{AllByRecursion}
 use Rattle.std.proofs.lemmas.Bool.{or_left, true≢false}
 use mathlib.Core.List.{IsPrefix}
@@ -9,28 +9,24 @@ use native.Mathlib.Decide.{ℕ_discrete}
 use Rattle.graph_model.specs.declared.write.Kind.{Kind}
 use Rattle.graph_model.specs.declared.write.Kind.TheVariants.{Directed}
 use Rattle.graph_model.specs.declared.write.Write.{Write}
-use Rattle.graph_model.specs.declared.write.Write.TheVariants.{AddVertex, DropVertex, AddEdge}
+use Rattle.graph_model.specs.declared.write.Write.TheVariants.{AddVertex, AddEdge}
 use Rattle.graph_model.specs.declared.row.Key.{Key}
-use Rattle.graph_model.specs.declared.journal.Commit.{Commit}
 use Rattle.graph_model.specs.declared.journal.TxnName.{TxnName}
 use Rattle.graph_model.specs.Conflict.{same_name}
 use Rattle.graph_model.specs.History.{view}
-use Rattle.graph_model.specs.Passes.{revised}
 use Rattle.graph_model.specs.Refused.{refused, IsWithinLimits}
 use Rattle.graph_model.specs.Rows.{vertex_key, value_at}
 use Rattle.graph_model.specs.Transactions.{stamp_in}
 use Rattle.graph_model.proofs.EntryLemmas.{refusal_in, refused_at, entries_made, marks_after_all, arcs_after_all}
 use Rattle.graph_model.proofs.TestLemmas.{name_self}
-use Rattle.txn_manager.specs.declared.config.Config.{Config}
 use Rattle.store_model.specs.Check.{IsFree, IsFreeOfDrops, MayWrite}
 use Rattle.store_model.specs.Layers.{touched_in}
-use Rattle.store_model.specs.Stamped.{Stamped, StampedVersions, AreTold, forget, forget_row, read_stamped}
+use Rattle.store_model.specs.Stamped.{Stamped, StampedVersions, forget, forget_row, read_stamped}
 use Rattle.store_model.specs.Versions.{sees}
 use Rattle.store_model.proofs.NewLemmas.{value_of_empty}
 use Rattle.store_model.proofs.ToldLemmas.{told_all}
-use Rattle.version_segment.specs.Rows.{new_record, nothing}
-use Rattle.store_relation.specs.declared.stage.Stage.{Stage}
-use Rattle.store_relation.specs.declared.stage.Stage.TheVariants.{Idle, Open, Aborting, Committing}
+use Rattle.version_segment.specs.Rows.{nothing}
+use Rattle.store_relation.specs.declared.stage.Stage.TheVariants.{Open}
 use Rattle.store_relation.specs.Examples.{IsAllowed, RightSteps, SharedState, WrongReads, WrongSteps, all_writes, alone, beginning, begun_unannounced, config, fresh, lending, pruned_at_clock, pruning, published, settled, stored, touches_forgotten, watched, writing}
 use Rattle.store_relation.specs.Keys.{changed_keys}
 use Rattle.store_relation.specs.Passes.{PassState, fresh_pass, is_active, may_commit, name_of, touching_by}

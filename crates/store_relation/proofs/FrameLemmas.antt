@@ -19,7 +19,6 @@ use Rattle.store_relation.specs.declared.stage.Stage.{Stage}
 use Rattle.store_relation.specs.declared.stage.Stage.TheVariants.{Idle, Open, Aborting, Committing}
 use Rattle.store_relation.specs.Passes.{Meeting, PassState, writes_by}
 use Rattle.store_relation.specs.Shared.{IsLook, IsMet, IsPass, IsSighted, JournalState, entries, entry_of}
-use Rattle.store_relation.specs.Steps.{begun}
 use Rattle.store_relation.specs.Words.{IsMarked, Look}
 use Rattle.store_relation.proofs.ListLemmas.{prefix_trans, prefix_length, prefix_get, get_below, all_map}
 

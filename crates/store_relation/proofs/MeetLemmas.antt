@@ -1,42 +1,34 @@
 -- Whom a write meets: what is noted of a conflict, and what is answered.
 use Rattle.std.proofs.Common.{◌≡◌, ℕ, zero, suc, ◌+◌, ◌-◌, ◌<◌, ◌≤◌, List, [], ◌∷◌, length, map, refl, sym, ◌∙◌, ap, subst, cond, arith, inl, inr}
-use Rattle.std.specs.Prelude.{◌⊎◌, Bool, true, false, ◌==◌, ◌&&◌, nat_lt, nat_le, Option, Some, None, slice_get, Contains}
-use Rattle.std.specs.List.{AllByRecursion, filter}
-use Rattle.std.proofs.lemmas.Bool.{or_left, true≢false, false_from_ne_true}
+use Rattle.std.specs.Prelude.{Bool, true, false, ◌==◌, ◌&&◌, nat_lt, Some, slice_get, Contains}
+use Rattle.std.specs.List.{filter}
+use Rattle.std.proofs.lemmas.Bool.{true≢false}
 use Rattle.std.proofs.lemmas.Bool.Decides.{nat_tests}
-use Rattle.std.proofs.lemmas.List.Folds.{list_any-append}
 use mathlib.Core.List.{IsPrefix}
 use mathlib.Core.Logic.{dite}
 use native.Mathlib.Decide.{dec_le}
-use Rattle.graph_model.specs.declared.state.State.{State}
-use Rattle.graph_model.specs.declared.state.State.TheVariants.{Live, Committed, Aborted}
 use Rattle.graph_model.specs.declared.write.Kind.{Kind}
 use Rattle.graph_model.specs.declared.write.Write.{Write}
 use Rattle.graph_model.specs.declared.row.Key.{Key}
 use Rattle.graph_model.specs.declared.journal.TxnName.{TxnName}
 use Rattle.graph_model.specs.declared.journal.Commit.{Commit}
-use Rattle.graph_model.specs.Conflict.{meets, same_name, later}
-use Rattle.graph_model.specs.Effects.{writes_at, value_left, any_writes, any_touches}
+use Rattle.graph_model.specs.Conflict.{meets, later}
+use Rattle.graph_model.specs.Effects.{any_touches}
 use Rattle.graph_model.specs.Legal.{IsLegal}
 use Rattle.graph_model.specs.Transactions.{stamp_in, reached, has_name}
-use Rattle.graph_model.proofs.LegalLemmas.{get_front, below_length, legal_prefix}
+use Rattle.graph_model.proofs.LegalLemmas.{get_front}
 use Rattle.graph_model.proofs.PlaceLemmas.{some_eq}
-use Rattle.graph_model.proofs.StampLemmas.{stamped_or_none, stamp_at, reached_at}
-use Rattle.graph_model.proofs.TestLemmas.{name_self, name_eq, eq_of}
+use Rattle.graph_model.proofs.StampLemmas.{reached_at}
+use Rattle.graph_model.proofs.TestLemmas.{eq_of}
 use Rattle.txn_manager.specs.declared.config.Config.{Config}
 use Rattle.store_model.specs.Check.{looked}
-use Rattle.store_model.specs.Stamped.{Stamped, StampedVersions, forget_row}
-use Rattle.store_model.proofs.MeetLemmas.{any_leaves}
-use Rattle.undo_chain.specs.States.{Knowledge, IsAnswer}
+use Rattle.store_model.specs.Stamped.{StampedVersions, forget_row}
 use Rattle.store_relation.specs.declared.stage.Stage.{Stage}
 use Rattle.store_relation.specs.declared.stage.Stage.TheVariants.{Idle, Open, Aborting, Committing}
-use Rattle.store_relation.proofs.ListLemmas.{prefix_all, prefix_length, prefix_get, get_below}
+use Rattle.store_relation.proofs.ListLemmas.{prefix_length, get_below}
 use Rattle.store_relation.proofs.MadeLemmas.{latest_writes}
 use Rattle.store_relation.proofs.CurrentLemmas.{stands_none, stands_own}
-use Rattle.store_relation.proofs.SpokenLemmas.{StandsIn}
-use Rattle.store_relation.proofs.SharedLemmas.{stander, marked_by, laid_by}
 use Rattle.store_model.proofs.LookedLemmas.{looked_laid}
-use Rattle.store_relation.proofs.StepLemmas.{nothing_either}
 use Rattle.store_relation.proofs.ReadLemmas.{seen_reached}
 use Rattle.store_relation.proofs.StepLemmas.{refreshes}
 use Rattle.store_relation.proofs.AccountLemmas.{meets_told}
@@ -44,7 +36,7 @@ use Rattle.store_relation.proofs.WordLemmas.{stamp_place, laid_front}
 use Rattle.graph_model.specs.Passes.{revised}
 use Rattle.store_relation.specs.Passes.{IsLaid, Meeting, PassState, is_active, laid_of, name_of, number_of, running_of, stands, touching_by, writes_by}
 use Rattle.store_relation.specs.Shared.{IsMet, IsShared, IsSighted, JournalState, entries, longer_of}
-use Rattle.store_relation.specs.Steps.{begun, refreshed}
+use Rattle.store_relation.specs.Steps.{refreshed}
 
 module _ {z : Config} {word : ℕ → ℕ} {pass : ℕ → PassState} {j : JournalState} {rows : Key → StampedVersions}
     {clock : ℕ} (s : IsShared z word pass j rows clock) where

@@ -1,5 +1,5 @@
 -- What a pass reads in rows, whoever has told it where the writers of records without a stamp stand.
-use Rattle.std.proofs.Common.{◌≡◌, ℕ, ◌≤◌, List, [], length, refl, sym, ◌∙◌, ap, subst, arith}
+use Rattle.std.proofs.Common.{◌≡◌, ℕ, ◌≤◌, List, [], length, sym, ◌∙◌, ap, subst, arith}
 use Rattle.std.specs.Prelude.{Option}
 use mathlib.Core.List.{IsPrefix}
 use Rattle.graph_model.specs.declared.row.Key.{Key}

@@ -1,7 +1,7 @@
 -- The steps that change rows: a write, one that is taken back, and a prune.
 use Rattle.std.proofs.Common.{◌≡◌, ℕ, suc, ◌<◌, ◌≤◌, List, [], ◌∷◌, ◌++◌, length, refl, sym, ◌∙◌, ap, subst, cond, arith, inl, inr}
-use Rattle.std.specs.Prelude.{◌⊎◌, Bool, true, false, ◌==◌, ◌&&◌, ◌||◌, Option, Some, None, slice_get}
-use Rattle.std.specs.List.{AllByRecursion, flat_map}
+use Rattle.std.specs.Prelude.{◌⊎◌, Bool, true, false, ◌==◌, ◌&&◌, ◌||◌, Option, Some, None}
+use Rattle.std.specs.List.{flat_map}
 use mathlib.Core.List.{IsPrefix}
 use Rattle.graph_model.specs.declared.write.Write.{Write}
 use Rattle.graph_model.specs.declared.row.Key.{Key}
@@ -13,7 +13,7 @@ use Rattle.graph_model.specs.History.{view}
 use Rattle.graph_model.specs.Inserted.{inserted}
 use Rattle.graph_model.specs.Passes.{revised}
 use Rattle.graph_model.specs.Refused.{refused, IsWithinLimits}
-use Rattle.graph_model.specs.Transactions.{Running, Changes, stamp_in, has_name, reached}
+use Rattle.graph_model.specs.Transactions.{Running, Changes, stamp_in, has_name}
 use Rattle.graph_model.proofs.PassLemmas.{latest_here, put_same, changes_latest}
 use Rattle.graph_model.proofs.TestLemmas.{name_eq, name_self}
 use Rattle.txn_manager.specs.declared.config.Config.{Config}
@@ -34,7 +34,7 @@ use Rattle.store_relation.specs.Keys.{has_key}
 use Rattle.store_relation.specs.Passes.{IsLaid, PassState, ended_writes, is_active, laid_of, made_at, made_of, may_commit, may_stand, name_at, name_of, now_of, number_of, running_of, running_part, stands, touching_by}
 use Rattle.store_relation.specs.Rows.{row_after, row_before}
 use Rattle.store_relation.specs.Shared.{AreSpokenFor, IsShared, IsSpokenFor, JournalState, inserted_by_pass}
-use Rattle.store_relation.specs.Steps.{begun, taken_back, written_by}
+use Rattle.store_relation.specs.Steps.{taken_back, written_by}
 use Rattle.store_relation.proofs.ListLemmas.{prefix_shorter, revised_here, revised_same, all_filter}
 use Rattle.store_relation.proofs.MadeLemmas.{made_at_other, made_grows, made_active, number_active, ended_length, inserted_more}
 use Rattle.store_relation.proofs.FrameLemmas.{sightings_follow}

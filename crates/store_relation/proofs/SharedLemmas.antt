@@ -1,6 +1,6 @@
 -- What every step of one pass owes, and what it leaves of the others.
 use Rattle.std.proofs.Common.{◌≡◌, ℕ, ◌+◌, ◌*◌, ◌<◌, ◌≤◌, List, [], length, refl, sym, ◌∙◌, ap, subst, cond, arith, inl, inr}
-use Rattle.std.specs.Prelude.{◌⊎◌, Bool, true, false, ◌==◌, Some, None, slice_get}
+use Rattle.std.specs.Prelude.{◌⊎◌, Bool, true, false, Some, None, slice_get}
 use mathlib.Core.List.{IsPrefix}
 use mathlib.Core.Logic.{dite}
 use native.Mathlib.Decide.{ℕ_discrete, dec_le}
@@ -17,7 +17,7 @@ use Rattle.graph_model.specs.Passes.{revised}
 use Rattle.graph_model.specs.Transactions.{stamp_in, HasNotCommitted}
 use Rattle.graph_model.proofs.LegalLemmas.{graph_at-append, get_front}
 use Rattle.graph_model.proofs.PassLemmas.{latest_here}
-use Rattle.graph_model.proofs.TestLemmas.{eq_of, name_eq}
+use Rattle.graph_model.proofs.TestLemmas.{name_eq}
 use Rattle.txn_manager.specs.declared.config.Config.{Config}
 use Rattle.store_model.specs.Stamped.{StampedVersions, IsStamped, forget_row}
 use Rattle.store_model.specs.Store.{IsStore}

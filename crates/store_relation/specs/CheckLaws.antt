@@ -1,4 +1,5 @@
--- What the checks of a segment say: where they find nobody the row may be written, and else whom they name.
+-- What the checks of a segment say: where they find nobody the row may be written, and else whom
+-- they name.
 use Rattle.std.specs.Prelude.{◌≡◌, ◌⊎◌, ℕ, ◌<◌, ◌≤◌, Bool, true, false, nat_le, List, slice_get, Option, Some, None}
 use Rattle.std.specs.List.{AllByRecursion}
 use Rattle.graph_model.specs.declared.write.Kind.{Kind}
@@ -22,13 +23,14 @@ use Rattle.version_segment.specs.Checks.{blocked, IsStateOf, IsChecked, newest_o
 
 -- a record's stamp says whether the snapshot sees its writer
 abbrev pub IsRightFor : (TxnName → Option ℕ) → ℕ → Stamped → Type 0
-IsRightFor stamps start x = (c : ℕ) → x.stamp ≡ Some c → reached (stamps x.by) start ≡ nat_le c start
+IsRightFor stamps start x = (c : ℕ) → x.stamp ≡ Some c
+    → reached (stamps x.by) start ≡ nat_le c start
 
 abbrev pub AreSeen : (TxnName → Bool) → List Stamped → Type 0
 AreSeen seen xs = AllByRecursion (λ x. seen x.by ≡ true) xs
 
--- FREE: a check that finds nobody has looked at none but writers that are seen, where no writer of a record
--- without a stamp is said to have aborted
+-- FREE: a check that finds nobody has looked at none but writers that are seen, where no writer of
+-- a record without a stamp is said to have aborted
 abbrev pub CheckedIsFree : Type 0
 CheckedIsFree = (old new : Knowledge) (snapshot : Snapshot) → snapshot.start ≤ old.known
     → ((n : TxnName) → new.vouched n Aborted ≡ false)
@@ -45,7 +47,8 @@ FreeMayBeWritten = (kind : Kind) (seen : TxnName → Bool) (w : Write) (q : Key)
     → MayWrite kind seen w q (forget_row r)
 
 -- one of the records is the cause
-pub record IsCause (old new : Knowledge) (snapshot : Snapshot) (xs : List Stamped) (cause : Cause) : Type 0 where
+pub record IsCause (old new : Knowledge) (snapshot : Snapshot) (xs : List Stamped) (cause : Cause)
+    : Type 0 where
   pub place : ℕ
   pub stamped : Stamped
   pub state : State
@@ -65,7 +68,8 @@ LaterIsStamped = (old new : Knowledge) (snapshot : Snapshot) (xs : List Stamped)
     × ((c.stamped.stamp ≡ Some stamp)
     ⊎ ((c.stamped.stamp ≡ None) × (new.vouched c.stamped.by (Committed stamp) ≡ true)))
 
--- an open transaction: its record has no stamp, it is not the asker's own, and no stamp of it was seen
+-- an open transaction: its record has no stamp, it is not the asker's own, and no stamp of it was
+-- seen
 abbrev pub HolderIsOther : Type 0
 HolderIsOther = (old new : Knowledge) (snapshot : Snapshot) (xs : List Stamped) (by : TxnName)
     → (c : IsCause old new snapshot xs (Holder by))

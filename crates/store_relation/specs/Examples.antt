@@ -1,19 +1,16 @@
--- Worked examples: two passes on one store, step by step; and rules that would be wrong, each by the state to
--- which it leads and which the rule doesn't allow.
-use Rattle.std.specs.Prelude.{◌≡◌, ℕ, ◌+◌, ◌++◌, List, [], ◌∷◌, length, Option, Some, None}
+-- Worked examples: two passes on one store, step by step; and rules that would be wrong, each by
+-- the state to which it leads and which the rule doesn't allow.
+use Rattle.std.specs.Prelude.{◌≡◌, ℕ, ◌+◌, [], ◌∷◌, length, Some, None}
 use Rattle.graph_model.specs.declared.write.Kind.TheVariants.{Directed}
 use Rattle.graph_model.specs.declared.write.Write.{Write}
 use Rattle.graph_model.specs.declared.write.Write.TheVariants.{AddVertex, AddEdge}
 use Rattle.graph_model.specs.declared.row.Key.{Key}
-use Rattle.graph_model.specs.declared.journal.Commit.{Commit}
-use Rattle.graph_model.specs.declared.journal.TxnName.{TxnName}
 use Rattle.graph_model.specs.Passes.{revised}
 use Rattle.graph_model.specs.Rows.{vertex_key}
 use Rattle.graph_model.specs.Transactions.{stamp_in}
 use Rattle.txn_manager.specs.declared.config.Config.{Config}
 use Rattle.store_model.specs.Stamped.{StampedVersions, AreTold, prune_stamped, read_stamped, stamp}
 use Rattle.version_segment.specs.Rows.{nothing}
-use Rattle.store_relation.specs.declared.stage.Stage.TheVariants.{Open}
 use Rattle.store_relation.specs.Keys.{changed_keys}
 use Rattle.store_relation.specs.Passes.{PassState, fresh_pass, name_of}
 use Rattle.store_relation.specs.Readers.{AreReaders, reader_of}
@@ -84,7 +81,8 @@ abbrev pub pruning : ℕ → SharedState → SharedState
 pruning at s = record s { rows = λ k. prune_stamped (stamp_in s.journal.commits) at (s.rows k) }
 
 abbrev pub lending : ℕ → SharedState → SharedState
-lending p s = record s { pass = revised s.pass p (with_readers (s.pass p) ((s.pass p).readers_out + 1)) }
+lending p s =
+    record s { pass = revised s.pass p (with_readers (s.pass p) ((s.pass p).readers_out + 1)) }
 
 -- ---- right steps: the writer makes two vertices and an edge, and commits them
 
@@ -119,7 +117,8 @@ pub record RightSteps : Type 0 where
   pub pruned : IsAllowed (pruning 1 (settled alone))
   -- the writer has split off a reader
   pub lent : IsAllowed (lending 1 (beginning 1 fresh))
-  pub readers : AreReaders (lending 1 (beginning 1 fresh)).pass [] (reader_of (beginning 1 fresh).pass 1 ∷ [])
+  pub readers : AreReaders (lending 1 (beginning 1 fresh)).pass []
+      (reader_of (beginning 1 fresh).pass 1 ∷ [])
 
 -- ---- wrong ones, each from a state that is allowed
 
@@ -131,14 +130,16 @@ published_without_stamp = record (published watched) { word = watched.word }
 abbrev pub seen_before_clock : SharedState
 seen_before_clock =
     record (stored watched) {
-      pass = revised (stored watched).pass 2 (refreshed ((stored watched).pass 2) (entries (stored watched).journal));
+      pass = revised (stored watched).pass 2
+          (refreshed ((stored watched).pass 2) (entries (stored watched).journal));
     }
 
 -- rows are pruned at the clock, and the reader began before
 abbrev pub pruned_at_clock : SharedState
 pruned_at_clock = pruning 1 (settled watched)
 
--- the reader loaded the clock long ago and told nobody; now the rows are pruned, and it begins there
+-- the reader loaded the clock long ago and told nobody; now the rows are pruned, and it begins
+-- there
 abbrev pub begun_unannounced : SharedState
 begun_unannounced =
     record (pruning 1 (settled alone)) {
@@ -163,10 +164,13 @@ pub record WrongSteps : Type 0 where
   pub forgets_touches : IsAllowed touches_forgotten → ⊥
   pub reuses_the_word : IsAllowed word_reused → ⊥
   -- a pass writes while a reader is out
-  pub writes_under_a_reader : AreReaders (writing 1 (AddVertex 1) (lending 1 (beginning 1 fresh))).pass []
+  pub writes_under_a_reader : AreReaders
+      (writing 1 (AddVertex 1) (lending 1 (beginning 1 fresh))).pass []
       (reader_of (beginning 1 fresh).pass 1 ∷ []) → ⊥
-  -- whoever has a stamp is taken as seen, whatever the stamp: this tells the reader wrong of the row
-  pub takes_any_stamp_as_seen : AreTold (λ by. Some 0) (stamp_in []) 0 ((stored watched).rows (vertex_key 1)) → ⊥
+  -- whoever has a stamp is taken as seen, whatever the stamp: this tells the reader wrong of the
+  -- row
+  pub takes_any_stamp_as_seen : AreTold (λ by. Some 0) (stamp_in []) 0
+      ((stored watched).rows (vertex_key 1)) → ⊥
 
 -- and what the reader would read of the vertex then
 pub record WrongReads : Type 0 where
@@ -174,4 +178,5 @@ pub record WrongReads : Type 0 where
       ((stored watched).rows (vertex_key 1)) ≡ None
   pub any_stamp : read_stamped (λ by. Some 0) 0 (name_of watched.pass 2)
       ((stored watched).rows (vertex_key 1)) ≡ Some 0
-  pub pruned : read_stamped (λ by. None) 0 (name_of watched.pass 2) (pruned_at_clock.rows (vertex_key 1)) ≡ Some 0
+  pub pruned : read_stamped (λ by. None) 0 (name_of watched.pass 2)
+      (pruned_at_clock.rows (vertex_key 1)) ≡ Some 0

@@ -39,7 +39,8 @@ OtherRowsStay = (kind : Kind) (by : TxnName) (w : Write) (k : Key) (r : StampedV
 -- a row is among those that the write writes or touches, or is such a one
 abbrev pub KeysAreAll : Type 0
 KeysAreAll = (kind : Kind) (w : Write) (k : Key)
-    → (has_key (keys_of kind w ++ ends_of w) k ≡ true) ⊎ ((writes_at kind w k || touches_at w k) ≡ false)
+    → (has_key (keys_of kind w ++ ends_of w) k ≡ true)
+    ⊎ ((writes_at kind w k || touches_at w k) ≡ false)
 
 -- all rows that writes write or touch are among those that they change
 abbrev pub ChangedKeysCover : Type 0
@@ -54,24 +55,28 @@ OthersAreLeft = (k : Key) (ks : List Key) (q : Key) → same_key q k ≡ false
 -- ---- the rows of a segment, key after key
 
 -- the rows of these keys are changed by f, and the others are as they were
-pub record IsDone (f : Key → StampedVersions → StampedVersions) (done : List Key) (old new : VersionedRows)
+pub record IsDone (f : Key → StampedVersions → StampedVersions) (done : List Key)
+    (old new : VersionedRows)
     : Type 0 where
   pub low : new.low ≡ old.low
   pub high : new.high ≡ old.high
-  pub rows : (q : Key) → versions_at new q ≡ cond (has_key done q) (f q (versions_at old q)) (versions_at old q)
+  pub rows : (q : Key) → versions_at new q ≡ cond (has_key done q) (f q (versions_at old q))
+      (versions_at old q)
 
 abbrev pub NoneIsDone : Type 0
 NoneIsDone = (f : Key → StampedVersions → StampedVersions) (s : VersionedRows) → IsDone f [] s s
 
 -- a call of the segment that changes one key more
 abbrev pub OneMoreIsDone : Type 0
-OneMoreIsDone = (f : Key → StampedVersions → StampedVersions) (done : List Key) (old now new : VersionedRows)
+OneMoreIsDone = (f : Key → StampedVersions → StampedVersions) (done : List Key)
+    (old now new : VersionedRows)
     (key : Key) → IsDone f done old now → has_key done key ≡ false
     → ChangesKey now new key (f key (versions_at now key)) → IsDone f (key ∷ done) old new
 
 -- a segment is done when each of its keys is, or needs nothing
 abbrev pub AllAreDone : Type 0
-AllAreDone = (f : Key → StampedVersions → StampedVersions) (done : List Key) (old new : VersionedRows)
+AllAreDone = (f : Key → StampedVersions → StampedVersions) (done : List Key)
+    (old new : VersionedRows)
     → IsDone f done old new
     → (q : Key) → (has_key done q ≡ true) ⊎ (f q (versions_at old q) ≡ versions_at old q)
     → versions_at new q ≡ f q (versions_at old q)

@@ -1,5 +1,5 @@
 -- Rows with stamps, after a write and before it. They change by the calls of a segment.
-use Rattle.std.specs.Prelude.{◌≡◌, ◌⊎◌, ℕ, Bool, true, cond, List, slice_get, Some, None}
+use Rattle.std.specs.Prelude.{◌≡◌, ◌⊎◌, ℕ, true, cond, List, slice_get, Some, None}
 use Rattle.std.specs.List.{AllByRecursion}
 use Rattle.graph_model.specs.declared.write.Kind.{Kind}
 use Rattle.graph_model.specs.declared.write.Write.{Write}
@@ -24,7 +24,8 @@ row_before kind by w k r =
 
 -- the record stands in the row, among the pairs or the touches
 abbrev pub HasRecord : StampedVersions → Stamped → Type 0
-HasRecord r x = ((i : ℕ) × (slice_get r.pairs i ≡ Some x)) ⊎ ((i : ℕ) × (slice_get r.touches i ≡ Some x))
+HasRecord r x = ((i : ℕ) × (slice_get r.pairs i ≡ Some x))
+    ⊎ ((i : ℕ) × (slice_get r.touches i ≡ Some x))
 
 -- a record without a stamp has a look at its writer that serves up to the horizon
 abbrev pub IsLookedUp : ℕ → List Look → Stamped → Type 0
