@@ -59,13 +59,13 @@ module _ (stamps : TxnName → Option ℕ) (kind : Kind) (k : Key) where
       let first : from + 0 + 1 ≡ from + 1 = omega arith in
       let here : stamps c.by ≡ Some (from + 1) = each 0 c refl ∙ ap (λ n. Some n) first in
       let upper : AllBelow (stamps c.by) below
-            = subst (λ o. AllBelow o below) (sym here) (raise from (from + 1) (omega arith) below low) in
+      = subst (λ o. AllBelow o below) (sym here) (raise from (from + 1) (omega arith) below low) in
       let next = layers_fall c.by c.writes below upper fall in
       commits_fall cs (from + 1)
-        (λ i d at. each (suc i) d at
-          ∙ ap (λ n. Some n) (let same : from + suc i + 1 ≡ from + 1 + i + 1 = omega arith in same))
-        (layered kind k c.by c.writes below) (subst (λ o. AllBelow o (layered kind k c.by c.writes below)) here next.0)
-        next.1
+      (λ i d at. each (suc i) d at
+      ∙ ap (λ n. Some n) (let same : from + suc i + 1 ≡ from + 1 + i + 1 = omega arith in same))
+      (layered kind k c.by c.writes below) (subst (λ o. AllBelow o (layered kind k c.by c.writes below)) here next.0)
+      next.1
 
 -- and on all of them lie those of one that has not committed
 pub stamps_fall : (kind : Kind) (journal : List Commit) (running : TxnName → Option Running)
@@ -76,12 +76,12 @@ stamps_fall kind journal running own touching horizon contents is k =
     let r = is.rows k in
     let legal = is.transactions.legal in
     let commits : NeverRise (stamp_in journal) (layered_all kind k (drop r.cut journal) [])
-          = commits_fall (stamp_in journal) kind k (drop r.cut journal) r.cut
-            (λ i c at.
-              let there = get_drop r.cut journal i c at in
-              stamp_at journal legal.names (r.cut + i) c there
-              ∙ ap (λ n. Some n) (legal.each (r.cut + i) c there).stamped)
-            [] tt tt in
+    = commits_fall (stamp_in journal) kind k (drop r.cut journal) r.cut
+    (λ i c at.
+    let there = get_drop r.cut journal i c at in
+    stamp_at journal legal.names (r.cut + i) c there
+    ∙ ap (λ n. Some n) (legal.each (r.cut + i) c there).stamped)
+    [] tt tt in
     subst (NeverRise (stamp_in journal)) (sym r.row.pairs) (on_top r.keeper (own r.keeper) refl _ commits)
   where
     below_open : (o : Option ℕ) → o ≡ None → (ps : List Version)
@@ -95,5 +95,5 @@ stamps_fall kind journal running own touching horizon contents is k =
     on_top by [] e below fall = fall
     on_top by (w ∷ ws) e below fall =
         let none : stamp_in journal by ≡ None = stamp_none journal by (λ i c at. false_from_ne_true _ (λ same.
-              let empty : own by ≡ [] = ap own (sym (name_eq c.by by same)) ∙ (is.settled i c at).0 in cc)) in
+        let empty : own by ≡ [] = ap own (sym (name_eq c.by by same)) ∙ (is.settled i c at).0 in cc)) in
         (layers_fall (stamp_in journal) kind k by (w ∷ ws) below (below_open (stamp_in journal by) none below) fall).1

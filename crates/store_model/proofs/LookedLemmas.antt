@@ -57,14 +57,13 @@ leaves_drop : (kind : Kind) (ws : List Write) (v : ℕ)
 leaves_drop kind [] v h = cc
 leaves_drop kind (w ∷ ws) v h = elim (either_of _ (any_leaves kind no_value ws (vertex_key v)) h)
     as (λ _. any_drops (w ∷ ws) (vertex_key v) ≡ true) [
-  | inl e ↦ or_left _ _ (drop_only kind w v e)
-  | inr e ↦ or_right (drops_at w (vertex_key v)) _ (leaves_drop kind ws v e)
-]
+      | inl e ↦ or_left _ _ (drop_only kind w v e)
+      | inr e ↦ or_right (drops_at w (vertex_key v)) _ (leaves_drop kind ws v e)
+    ]
 
 module _ (kind : Kind) (journal : List Commit) (running : TxnName → Option Running) (own : TxnName → List Write)
     (touching : TxnName → Key → Bool) (horizon : ℕ) (contents : Key → Versions)
     (is : IsStore kind journal running own touching horizon contents) (n : TxnName) where
-
   -- it has laid such writes, or committed such
   module _ (ws : List Write) where
     abbrev Either : (List Write → Bool) → Type 0
@@ -80,15 +79,18 @@ module _ (kind : Kind) (journal : List Commit) (running : TxnName → Option Run
       left_either f k h =
           let r = is.rows k in
           elim (either_of (any_leaves kind f (own n) k) (left_in kind f (drop r.cut journal) n k)
-            (sym (marked_row kind k f n journal own touching r.cut r.since r.keeper (contents k) r.row) ∙ h))
+          (sym (marked_row kind k f n journal own touching r.cut r.since r.keeper (contents k) r.row) ∙ h))
           as (λ _. Either (λ us. any_leaves kind f us k)) [
             | inl e ↦ inl (leaves_front kind f (own n) ws k front e)
             | inr e ↦
-              let c = committed_at (λ us. any_leaves kind f us k) (drop r.cut journal) n e in
-              inr (record {
-                place = r.cut + c.place; commit = c.commit; at = get_drop r.cut journal c.place c.commit c.at;
-                named = c.named; wrote = c.wrote;
-              })
+                let c = committed_at (λ us. any_leaves kind f us k) (drop r.cut journal) n e in
+                inr (record {
+                  place = r.cut + c.place;
+                  commit = c.commit;
+                  at = get_drop r.cut journal c.place c.commit c.at;
+                  named = c.named;
+                  wrote = c.wrote;
+                })
           ]
 
       newest_either : (k : Key) → has_name (newest (contents k)) n ≡ true → Either (λ us. any_writes kind us k)
@@ -112,20 +114,20 @@ module _ (kind : Kind) (journal : List Commit) (running : TxnName → Option Run
             as (λ _. Either (met kind (DropVertex v))) [
               | inl e ↦ more _ _ (λ us l. or_left _ _ l) (newest_either (vertex_key v) e)
               | inr e ↦ more _ _ (λ us l. or_right (any_writes kind us (vertex_key v)) _ l)
-                (touched_either (vertex_key v) e)
+                  (touched_either (vertex_key v) e)
             ]
         met_either (AddEdge u v weight) h =
             elim (in_either (newest (contents (arc_key u v))) _ n h) as (λ _. Either (met kind (AddEdge u v weight))) [
               | inl e ↦ more _ _ (λ us l. or_left _ _ l) (newest_either (arc_key u v) e)
               | inr e ↦ elim (in_either (droppers (contents (vertex_key u))) (droppers (contents (vertex_key v))) n e)
-                as (λ _. Either (met kind (AddEdge u v weight))) [
-                  | inl g ↦ more _ _ (λ us l. or_right (any_writes kind us (arc_key u v)) _ (or_left _ _ l))
-                    (dropped_either (vertex_key u) g)
-                  | inr g ↦ more _ _
-                    (λ us l. or_right (any_writes kind us (arc_key u v)) _
-                      (or_right (any_leaves kind no_value us (vertex_key u)) _ l))
-                    (dropped_either (vertex_key v) g)
-                ]
+                  as (λ _. Either (met kind (AddEdge u v weight))) [
+                    | inl g ↦ more _ _ (λ us l. or_right (any_writes kind us (arc_key u v)) _ (or_left _ _ l))
+                        (dropped_either (vertex_key u) g)
+                    | inr g ↦ more _ _
+                        (λ us l. or_right (any_writes kind us (arc_key u v)) _
+                        (or_right (any_leaves kind no_value us (vertex_key u)) _ l))
+                        (dropped_either (vertex_key v) g)
+                  ]
             ]
         met_either (SetEdge u v weight) h = newest_either (arc_key u v) h
         met_either (DropEdge u v) h = newest_either (arc_key u v) h
@@ -158,14 +160,14 @@ looked_in_row w contents k n h =
     elim (either_of (same_key k (row_key w) && has_name (newest (contents k)) n) _ h)
     as (λ _. has_name (looked w contents) n ≡ true) [
       | inl e ↦
-        let p = both_of (same_key k (row_key w)) _ e in
-        at_row w (ap (λ q. has_name (newest (contents q)) n) (sym (same_key_eq k (row_key w) p.0)) ∙ p.1)
+          let p = both_of (same_key k (row_key w)) _ e in
+          at_row w (ap (λ q. has_name (newest (contents q)) n) (sym (same_key_eq k (row_key w) p.0)) ∙ p.1)
       | inr e ↦
-        elim (either_of (touches_at w k && has_name (droppers (contents k)) n) _ e)
-        as (λ _. has_name (looked w contents) n ≡ true) [
-          | inl f ↦ let p = both_of (touches_at w k) _ f in at_end w p.0 p.1
-          | inr f ↦ let p = both_of (drops_at w k) _ f in at_drop w p.0 p.1
-        ]
+          elim (either_of (touches_at w k && has_name (droppers (contents k)) n) _ e)
+          as (λ _. has_name (looked w contents) n ≡ true) [
+            | inl f ↦ let p = both_of (touches_at w k) _ f in at_end w p.0 p.1
+            | inr f ↦ let p = both_of (drops_at w k) _ f in at_drop w p.0 p.1
+          ]
     ]
   where
     at_row : (u : Write) → has_name (newest (contents (row_key u))) n ≡ true → has_name (looked u contents) n ≡ true
@@ -183,16 +185,16 @@ looked_in_row w contents k n h =
     at_end (AddEdge a b weight) t e =
         has-append (newest (contents (arc_key a b))) _ n
         ∙ or_right (has_name (newest (contents (arc_key a b))) n) _
-          (has-append (droppers (contents (vertex_key a))) (droppers (contents (vertex_key b))) n
-          ∙ elim (either_of (same_key k (vertex_key a)) (same_key k (vertex_key b)) t)
-            as (λ _. (has_name (droppers (contents (vertex_key a))) n || has_name (droppers (contents (vertex_key b))) n)
-              ≡ true) [
-              | inl g ↦
-                or_left _ _ (ap (λ q. has_name (droppers (contents q)) n) (sym (same_key_eq k (vertex_key a) g)) ∙ e)
-              | inr g ↦
-                or_right (has_name (droppers (contents (vertex_key a))) n) _
-                (ap (λ q. has_name (droppers (contents q)) n) (sym (same_key_eq k (vertex_key b) g)) ∙ e)
-            ])
+        (has-append (droppers (contents (vertex_key a))) (droppers (contents (vertex_key b))) n
+        ∙ elim (either_of (same_key k (vertex_key a)) (same_key k (vertex_key b)) t)
+        as (λ _. (has_name (droppers (contents (vertex_key a))) n || has_name (droppers (contents (vertex_key b))) n)
+        ≡ true) [
+          | inl g ↦
+              or_left _ _ (ap (λ q. has_name (droppers (contents q)) n) (sym (same_key_eq k (vertex_key a) g)) ∙ e)
+          | inr g ↦
+              or_right (has_name (droppers (contents (vertex_key a))) n) _
+              (ap (λ q. has_name (droppers (contents q)) n) (sym (same_key_eq k (vertex_key b) g)) ∙ e)
+        ])
     at_end (SetEdge a b weight) t e = cc
     at_end (DropEdge a b) t e = cc
 
@@ -202,7 +204,7 @@ looked_in_row w contents k n h =
     at_drop (DropVertex v) t e =
         has-append (newest (contents (vertex_key v))) _ n
         ∙ or_right (has_name (newest (contents (vertex_key v))) n) _
-          (ap (λ q. has_name (contents q).touches n) (sym (same_key_eq k (vertex_key v) t)) ∙ e)
+        (ap (λ q. has_name (contents q).touches n) (sym (same_key_eq k (vertex_key v) t)) ∙ e)
     at_drop (AddEdge a b weight) t e = cc
     at_drop (SetEdge a b weight) t e = cc
     at_drop (DropEdge a b) t e = cc

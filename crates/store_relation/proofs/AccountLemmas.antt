@@ -1,5 +1,5 @@
 -- What the steps of a call do to the account of its pass, and that this is valid between calls.
-use Rattle.std.proofs.Common.{◌≡◌, ℕ, suc, ◌+◌, ◌<◌, ◌≤◌, List, [], ◌∷◌, ◌++◌, length, refl, sym, ◌∙◌, ap, subst, cond, arith, inl, inr, append_assoc}
+use Rattle.std.proofs.Common.{◌≡◌, ℕ, suc, ◌+◌, ◌<◌, ◌≤◌, List, [], ◌∷◌, ◌++◌, length, refl, sym, ◌∙◌, ap, subst, cond, arith, inl, inr}
 use Rattle.std.specs.Prelude.{◌⊎◌, Bool, true, false, nat_le, map, Option, Some, None, slice_get, IfSome, IfNone}
 use Rattle.std.specs.List.{filter_map}
 use Rattle.std.specs.declared.result.Result.TheVariants.{Ok}
@@ -53,7 +53,8 @@ stamps_more past ws stamp =
     filter_map-append (λ (t : EndedTxn). t.stamp) past (record { writes = ws; stamp = Some stamp } ∷ [])
 
 stamps_same : (past : List EndedTxn) (ws : List Write)
-    → filter_map (λ t. t.stamp) (past ++ record { writes = ws; stamp = None } ∷ []) ≡ filter_map (λ t. t.stamp) past
+    → filter_map (λ t. t.stamp) (past ++ record { writes = ws; stamp = None } ∷ []) ≡ filter_map (λ t. t.stamp)
+    past
 stamps_same past ws =
     filter_map-append (λ (t : EndedTxn). t.stamp) past (record { writes = ws; stamp = None } ∷ [])
     ∙ append-nil (filter_map (λ (t : EndedTxn). t.stamp) past)
@@ -70,12 +71,13 @@ module _ (z : Config) (p : ℕ) (st : PassState) where
   pub account_begins : (j : JournalState) → st.stage ≡ Idle → st.own ≡ [] → IsPrefix st.seen j.commits
       → number_of st < z.txns_per_pass
       → BeginsBy (account_of z p st) (Ok (record { by = name_at p (begun st j); start = length j.commits }))
-        (account_of z p (begun st j))
+      (account_of z p (begun st j))
   account_begins j is none front more =
       let off : is_active st.stage ≡ false = ap is_active is in
       let was : made_of st ≡ ended_writes st = made_idle st off in
       let now : number_of (begun st j) ≡ number_of st + 1
-            = number_active (begun st j) refl ∙ plus_one (length st.past) ∙ ap (λ n. n + 1) (sym (number_idle st off)) in
+      = number_active (begun st j) refl ∙ plus_one (length st.past)
+      ∙ ap (λ n. n + 1) (sym (number_idle st off)) in
       let made : made_of (begun st j) ≡ made_of st ++ [] ∷ [] = (λ k. sym was k ++ none k ∷ []) in
       record {
         room = more;
@@ -85,9 +87,18 @@ module _ (z : Config) (p : ℕ) (st : PassState) where
         opened = record {
           seen = (front.0, sym front.1);
           others = λ i. record {
-            job = p; kind = z.kind; leaves = z.leaves; seen = j.commits; made = made i; sighted = st.sighted;
-            start = Some (length j.commits); own = none i; filled = st.filled; begun = now i;
-            allowed = z.txns_per_pass; stamps = stamps_of_pass st;
+            job = p;
+            kind = z.kind;
+            leaves = z.leaves;
+            seen = j.commits;
+            made = made i;
+            sighted = st.sighted;
+            start = Some (length j.commits);
+            own = none i;
+            filled = st.filled;
+            begun = now i;
+            allowed = z.txns_per_pass;
+            stamps = stamps_of_pass st;
           };
         };
       }
@@ -100,19 +111,30 @@ module _ (z : Config) (p : ℕ) (st : PassState) where
       let same : st.start ≡ start = start_is start at in
       let was : made_of st ≡ ended_writes st ++ st.own ∷ [] = made_active st active in
       let now : made_of (written_by st w) ≡ ended_writes st ++ (st.own ++ w ∷ []) ∷ []
-            = made_active (written_by st w) active in
+      = made_active (written_by st w) active in
       let made : made_of (written_by st w) ≡ last_with (made_of st) w
-            = now ∙ sym (last_is (ended_writes st) st.own w) ∙ ap (λ m. last_with m w) (sym was) in
+      = now ∙ sym (last_is (ended_writes st) st.own w) ∙ ap (λ m. last_with m w) (sym was) in
       let number : number_of (written_by st w) ≡ number_of st
-            = number_active (written_by st w) active ∙ sym (number_active st active) in
-      (ap (λ n. refused (view z.kind st.seen n st.own) w) (sym same) ∙ allowed, record {
-        seen = ([], sym (append-nil st.seen));
-        others = λ i. record {
-          job = p; kind = z.kind; leaves = z.leaves; seen = st.seen; made = made i; sighted = st.sighted;
-          start = start_of st; own = st.own ++ w ∷ []; filled = st.filled; begun = number i;
-          allowed = z.txns_per_pass; stamps = stamps_of_pass st;
-        };
-      })
+      = number_active (written_by st w) active ∙ sym (number_active st active) in (
+        ap (λ n. refused (view z.kind st.seen n st.own) w) (sym same) ∙ allowed,
+        record {
+          seen = ([], sym (append-nil st.seen));
+          others = λ i. record {
+            job = p;
+            kind = z.kind;
+            leaves = z.leaves;
+            seen = st.seen;
+            made = made i;
+            sighted = st.sighted;
+            start = start_of st;
+            own = st.own ++ w ∷ [];
+            filled = st.filled;
+            begun = number i;
+            allowed = z.txns_per_pass;
+            stamps = stamps_of_pass st;
+          };
+        },
+      )
 
   -- END: the transaction's writes are the last of those that have ended, and it has this stamp or none
   module _ (stamp : Option ℕ) (st' : PassState) (ends : EndsWith stamp st st') where
@@ -122,15 +144,26 @@ module _ (z : Config) (p : ℕ) (st : PassState) where
         ∙ made_ended st stamp (ap is_active ends.opened)
 
     account_ends : (changed : List ℕ) → stamps_of_pass st' ≡ changed
-        → GoesOn (account_of z p st) (record (steps.ended (account_of z p st)) { stamps = changed }) (account_of z p st')
+        → GoesOn (account_of z p st) (record (steps.ended (account_of z p st)) { stamps = changed })
+        (account_of z p st')
     account_ends changed stamped =
-        let closed : start_of st' ≡ None = ap (λ (g : Stage). cond (is_active g) (Some st'.start) None) ends.idle in
+        let closed : start_of st' ≡ None = ap (λ (g : Stage). cond (is_active g) (Some st'.start) None)
+        ends.idle in
         record {
           seen = (ends.seen.0, sym ends.seen.1);
           others = λ i. record {
-            job = p; kind = z.kind; leaves = z.leaves; seen = st'.seen; made = made_then i; sighted = ends.sighted i;
-            start = closed i; own = ends.own i; filled = ends.filled i; begun = length (made_then i);
-            allowed = z.txns_per_pass; stamps = stamped i;
+            job = p;
+            kind = z.kind;
+            leaves = z.leaves;
+            seen = st'.seen;
+            made = made_then i;
+            sighted = ends.sighted i;
+            start = closed i;
+            own = ends.own i;
+            filled = ends.filled i;
+            begun = length (made_then i);
+            allowed = z.txns_per_pass;
+            stamps = stamped i;
           };
         }
 
@@ -146,22 +179,25 @@ module _ (z : Config) (p : ℕ) (st : PassState) where
       → EndsWith (Some (length j.commits + 1)) st st' → st'.seen ≡ j.commits ++ entry_of j p st ∷ []
       → CommitsBy (account_of z p st) (Some (length j.commits + 1)) (account_of z p st')
   account_commits j st' wrote front ends seen =
-      let c : Commit = entry_of j p st in
-      (λ start at. record {
-        wrote = wrote;
-        place = length j.commits;
-        commit = c;
-        at = ap (λ l. slice_get l (length j.commits)) seen ∙ get_end j.commits c;
-        stamped = refl;
-        begun = start_is start at;
-        by = refl;
-        writes = refl;
-      },
-      account_ends (Some (length j.commits + 1)) st' ends (stamps_of_pass st ++ (length j.commits + 1) ∷ [])
-        (ap (filter_map (λ (t : EndedTxn). t.stamp)) ends.past ∙ stamps_more st.past st.own (length j.commits + 1)))
+      let c : Commit = entry_of j p st in (
+        λ start at. record {
+          wrote = wrote;
+          place = length j.commits;
+          commit = c;
+          at = ap (λ l. slice_get l (length j.commits)) seen ∙ get_end j.commits c;
+          stamped = refl;
+          begun = start_is start at;
+          by = refl;
+          writes = refl;
+        },
+        account_ends (Some (length j.commits + 1)) st' ends (stamps_of_pass st ++ (length j.commits + 1) ∷ [])
+            (ap (filter_map (λ (t : EndedTxn). t.stamp)) ends.past
+            ∙ stamps_more st.past st.own (length j.commits + 1)),
+      )
 
   -- ABORT, and a commit without writes
-  pub account_aborts : (st' : PassState) → EndsWith None st st' → AbortsBy (account_of z p st) (account_of z p st')
+  pub account_aborts : (st' : PassState) → EndsWith None st st'
+      → AbortsBy (account_of z p st) (account_of z p st')
   account_aborts = ends_without
 
   pub account_commits_none : (st' : PassState) → st.own ≡ [] → EndsWith None st st'
@@ -176,25 +212,27 @@ module _ (z : Config) (p : ℕ) (st : PassState) where
   -- a holder is noted
   pub account_sights : (w : Write) (by : TxnName) (seen : List Commit) → IsPrefix st.seen seen
       → GoesOn (account_of z p st) (with_cause (account_of z p st) st.start w (Holder by))
-        (account_of z p (refreshed (with_sighting st (sighting by w st.start)) seen))
+      (account_of z p (refreshed (with_sighting st (sighting by w st.start)) seen))
   account_sights w by seen front = record { seen = (front.0, sym front.1); others = refl }
 
 -- ---- meet
 
 -- MEET: what one has seen and what another has told are prefixes of one journal, and so is the longer of them
 pub meets_told : (seen told commits : List Commit) → IsPrefix seen commits → IsPrefix told commits
-    → IsPrefix seen (longer_of seen told) × IsPrefix told (longer_of seen told) × IsPrefix (longer_of seen told) commits
+    → IsPrefix seen (longer_of seen told) × IsPrefix told (longer_of seen told)
+    × IsPrefix (longer_of seen told) commits
 meets_told seen told commits a b = by_test (nat_le (length seen) (length told)) refl
   where
     by_test : (t : Bool) → nat_le (length seen) (length told) ≡ t
-        → IsPrefix seen (cond t told seen) × IsPrefix told (cond t told seen) × IsPrefix (cond t told seen) commits
+        → IsPrefix seen (cond t told seen) × IsPrefix told (cond t told seen)
+        × IsPrefix (cond t told seen) commits
     by_test true e =
         let le : length seen ≤ length told = grind (arith, nat_tests) in
         (prefix_either seen told commits a b le, prefix_all told, b)
     by_test false e =
         let le : length told ≤ length seen = dite (dec_le (length told) (length seen)) (λ l. l)
-              (λ n. let up : nat_le (length seen) (length told) ≡ true = grind (arith, nat_tests) in
-                absurd (true≢false (sym up ∙ e))) in
+        (λ n. let up : nat_le (length seen) (length told) ≡ true = grind (arith, nat_tests) in
+        absurd (true≢false (sym up ∙ e))) in
         (prefix_all seen, prefix_either told seen commits b a le, a)
 
 -- ---- between calls
@@ -212,17 +250,19 @@ module _ {z : Config} {word : ℕ → ℕ} {pass : ℕ → PassState} {j : Journ
         current = elim is as (λ _. IfSome (start_of (pass p)) (IsOpenTxn (account_of z p (pass p)))) [
           | inl idle ↦ subst (λ o. IfSome o (IsOpenTxn (account_of z p (pass p)))) (sym (ap start_at idle)) tt
           | inr opened ↦
-            let t = s.store.transactions.each (name_of pass p) (now_of (pass p)) (runs s p (ap may_commit opened)) in
-            subst (λ o. IfSome o (IsOpenTxn (account_of z p (pass p)))) (sym (ap start_at opened)) (record {
-              seen = h.started;
-              allowed = subst (λ g. AllAllowed z.kind g (pass p).own)
-                  (sym (same_graph s p (pass p).seen (pass p).start h.seen h.started)) t.allowed;
-              within = t.within;
-              last = (ended_writes (pass p), made_active (pass p) (ap is_active opened));
-            })
+              let t = s.store.transactions.each (name_of pass p) (now_of (pass p))
+              (runs s p (ap may_commit opened)) in
+              subst (λ o. IfSome o (IsOpenTxn (account_of z p (pass p)))) (sym (ap start_at opened)) (record {
+                seen = h.started;
+                allowed = subst (λ g. AllAllowed z.kind g (pass p).own)
+                    (sym (same_graph s p (pass p).seen (pass p).start h.seen h.started)) t.allowed;
+                within = t.within;
+                last = (ended_writes (pass p), made_active (pass p) (ap is_active opened));
+              })
         ];
         idle = elim is as (λ _. IfNone (start_of (pass p)) ((pass p).own ≡ [])) [
-          | inl idle ↦ subst (λ o. IfNone o ((pass p).own ≡ [])) (sym (ap start_at idle)) (laid_by s p Idle idle).1
+          | inl idle ↦ subst (λ o. IfNone o ((pass p).own ≡ [])) (sym (ap start_at idle))
+              (laid_by s p Idle idle).1
           | inr opened ↦ subst (λ o. IfNone o ((pass p).own ≡ [])) (sym (ap start_at opened)) tt
         ];
         counted = refl;

@@ -1,12 +1,9 @@
 -- What one load of the clock, or of a writer's word, tells a pass of rows that it holds.
-use Rattle.std.proofs.Common.{◌≡◌, ℕ, zero, suc, ◌+◌, ◌-◌, ◌<◌, ◌≤◌, List, [], ◌∷◌, length, map, refl, sym, ◌∙◌, ap, subst, arith, inl, inr}
-use Rattle.std.specs.Prelude.{◌⊎◌, Bool, true, false, nat_le, IfSome, Option, Some, None, slice_get}
-use Rattle.std.specs.List.{AllByRecursion}
+use Rattle.std.proofs.Common.{◌≡◌, ℕ, zero, suc, ◌-◌, ◌<◌, ◌≤◌, List, [], ◌∷◌, length, map, refl, sym, ◌∙◌, ap, subst, arith, inl, inr}
+use Rattle.std.specs.Prelude.{true, IfSome, Some, None, slice_get}
 use Rattle.std.proofs.lemmas.Bool.{or_left, or_right}
 use Rattle.graph_model.specs.declared.write.Write.{Write}
 use Rattle.graph_model.specs.declared.row.Key.{Key}
-use Rattle.graph_model.specs.declared.journal.TxnName.{TxnName}
-use Rattle.graph_model.specs.declared.journal.Commit.{Commit}
 use Rattle.graph_model.specs.Conflict.{same_name}
 use Rattle.graph_model.specs.Transactions.{stamp_in, reached, has_name}
 use Rattle.graph_model.proofs.HistoryLemmas.{each_item}
@@ -98,8 +95,8 @@ module _ {z : Config} {word : ℕ → ℕ} {pass : ℕ → PassState} {j : Journ
         answers = λ seen front names vouched.
             subst
             (λ by. IsAnswer
-              (record { known = length seen; stamps = stamp_in seen; names = names; vouched = vouched }) by
-              (state_of_word (word x.by.job))) (sym latest)
+            (record { known = length seen; stamps = stamp_in seen; names = names; vouched = vouched }) by
+            (state_of_word (word x.by.job))) (sym latest)
             (word_answers s x.by.job (word x.by.job) seen names vouched refl front);
         look = λ until within.
             subst (λ by. IsLook j (record { by = by; word = word x.by.job; until = until })) (sym latest)

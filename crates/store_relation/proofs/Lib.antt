@@ -3,6 +3,7 @@ pub mod MadeLemmas
 pub mod FrameLemmas
 pub mod CurrentLemmas
 pub mod SpokenLemmas
+pub mod KeptLemmas
 pub mod SharedLemmas
 pub mod StepLemmas
 pub mod ReadLemmas
@@ -16,3 +17,4 @@ pub mod EndLemmas
 pub mod CheckLemmas
 pub mod KeyLemmas
 pub mod LearnLemmas
+pub mod ExampleLemmas

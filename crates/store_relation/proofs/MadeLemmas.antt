@@ -1,5 +1,5 @@
 -- The transactions of a pass by their numbers: what each made, and the stamp that is kept of it.
-use Rattle.std.proofs.Common.{◌≡◌, ℕ, zero, suc, ◌+◌, ◌<◌, ◌≤◌, List, [], ◌∷◌, ◌++◌, length, map, refl, sym, ◌∙◌, ap, arith, cond, length-append}
+use Rattle.std.proofs.Common.{◌≡◌, ℕ, zero, suc, ◌+◌, ◌<◌, ◌≤◌, List, [], ◌∷◌, ◌++◌, length, refl, sym, ◌∙◌, ap, arith, cond, length-append}
 use Rattle.std.specs.Prelude.{true, false, slice_get, Contains, Option, Some, None, unwrap_or}
 use Rattle.std.specs.List.{filter_map, flat_map}
 use Rattle.std.proofs.lemmas.List.{append-nil, length-map, map-append}
@@ -46,7 +46,7 @@ made_at_none xs (suc i) = at_place xs i
   where
     at_place : (ys : List (List Write)) (k : ℕ)
         → (let none : List Write = [] in
-          unwrap_or (slice_get (ys ++ none ∷ []) k) none ≡ unwrap_or (slice_get ys k) none)
+        unwrap_or (slice_get (ys ++ none ∷ []) k) none ≡ unwrap_or (slice_get ys k) none)
     at_place [] zero = refl
     at_place [] (suc k) = refl
     at_place (y ∷ ys) zero = refl
@@ -68,8 +68,9 @@ pub made_grows : (kind : Kind) (xs : List (List Write)) (ws : List Write) (w v :
     → meets kind v (made_at (xs ++ ws ∷ []) n) ≡ true
     → meets kind v (made_at (xs ++ (ws ++ w ∷ []) ∷ []) n) ≡ true
 made_grows kind xs ws w v n h = dite (ℕ_discrete n (suc (length xs)))
-    (λ same. ap (meets kind v) (made_at_end xs (ws ++ w ∷ []) n same) ∙ list_any-append (clash kind v) ws (w ∷ [])
-      ∙ or_left _ _ (ap (meets kind v) (sym (made_at_end xs ws n same)) ∙ h))
+    (λ same. ap (meets kind v) (made_at_end xs (ws ++ w ∷ []) n same)
+    ∙ list_any-append (clash kind v) ws (w ∷ [])
+    ∙ or_left _ _ (ap (meets kind v) (sym (made_at_end xs ws n same)) ∙ h))
     (λ other. ap (meets kind v) (made_at_other xs (ws ++ w ∷ []) ws n other) ∙ h)
 
 -- ---- the transactions of a pass
@@ -94,7 +95,7 @@ made_ended st stamp e =
 pub number_active : (st : PassState) → is_active st.stage ≡ true → number_of st ≡ suc (length st.past)
 number_active st e =
     let n : length (ended_writes st ++ st.own ∷ []) ≡ length (ended_writes st) + 1
-          = length-append (ended_writes st) (st.own ∷ []) in
+    = length-append (ended_writes st) (st.own ∷ []) in
     let m : length (ended_writes st) ≡ length st.past = ended_length st in
     ap length (made_active st e) ∙ omega (arith, n, m)
 
@@ -172,13 +173,15 @@ kept_is_answered xs (suc i) stamp e = at_place xs i e
     at_place (y ∷ ys) zero h = here y.stamp h
       where
         here : (o : Option ℕ) → o ≡ Some stamp
-            → Contains (Rattle.std.specs.List.filter_map (λ (t : EndedTxn). t.stamp) (record { writes = y.writes; stamp = o } ∷ ys)) stamp
+            → Contains (Rattle.std.specs.List.filter_map (λ (t : EndedTxn). t.stamp)
+            (record { writes = y.writes; stamp = o } ∷ ys)) stamp
         here None g = cc
         here (Some c) g = (0, omega arith, Rattle.graph_model.proofs.PlaceLemmas.some_eq c stamp g)
     at_place (y ∷ ys) (suc k) h = behind y.stamp (at_place ys k h)
       where
         behind : (o : Option ℕ) → Contains (filter_map (λ (t : EndedTxn). t.stamp) ys) stamp
-            → Contains (filter_map (λ (t : EndedTxn). t.stamp) (record { writes = y.writes; stamp = o } ∷ ys)) stamp
+            → Contains (filter_map (λ (t : EndedTxn). t.stamp) (record { writes = y.writes; stamp = o } ∷ ys))
+            stamp
         behind None r = r
         behind (Some c) r =
             let b : r.0 < length (filter_map (λ (t : EndedTxn). t.stamp) ys) = r.1 in
@@ -187,13 +190,14 @@ kept_is_answered xs (suc i) stamp e = at_place xs i e
 -- ---- rows that may have been inserted
 
 pub inserted_more : (kind : Kind) (xs : List (List Write)) (ws more : List Write)
-    → inserted kind (flat_map (λ us. us) (xs ++ ws ∷ [])) ≤ inserted kind (flat_map (λ us. us) (xs ++ (ws ++ more) ∷ []))
+    → inserted kind (flat_map (λ us. us) (xs ++ ws ∷ [])) ≤ inserted kind
+    (flat_map (λ us. us) (xs ++ (ws ++ more) ∷ []))
 inserted_more kind xs ws more =
     let f : List Write → ℕ = inserted kind in
     let all : (us : List Write) → f (flat_map (λ us. us) (xs ++ us ∷ [])) ≡ f (flat_map (λ us. us) xs) + f us
-          = (λ us. ap f (flat_map-append (λ vs. vs) xs (us ∷ [])
-              ∙ ap (λ vs. flat_map (λ us. us) xs ++ vs) (append-nil us))
-            ∙ sum_by-append (inserted_by kind) (flat_map (λ us. us) xs) us) in
+    = (λ us. ap f (flat_map-append (λ vs. vs) xs (us ∷ [])
+    ∙ ap (λ vs. flat_map (λ us. us) xs ++ vs) (append-nil us))
+    ∙ sum_by-append (inserted_by kind) (flat_map (λ us. us) xs) us) in
     let a = all ws in
     let b = all (ws ++ more) in
     let c : f (ws ++ more) ≡ f ws + f more = sum_by-append (inserted_by kind) ws more in

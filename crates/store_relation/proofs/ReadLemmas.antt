@@ -1,5 +1,5 @@
 -- What a pass reads in rows, whoever has told it where the writers of records without a stamp stand.
-use Rattle.std.proofs.Common.{◌≡◌, ℕ, ◌≤◌, List, [], length, refl, sym, ◌∙◌, ap, subst, arith}
+use Rattle.std.proofs.Common.{◌≡◌, ℕ, ◌≤◌, List, [], length, sym, ◌∙◌, ap, subst, arith}
 use Rattle.std.specs.Prelude.{Option}
 use mathlib.Core.List.{IsPrefix}
 use Rattle.graph_model.specs.declared.row.Key.{Key}
@@ -30,7 +30,7 @@ module _ {z : Config} {word : ℕ → ℕ} {pass : ℕ → PassState} {j : Journ
   seen_reached seen start front within by =
       ap (λ cs. reached (stamp_in cs by) start) (sym front.1)
       ∙ reached_longer z.kind seen front.0 (subst (IsLegal z.kind) (sym front.1) s.store.transactions.legal) by start
-        within
+      within
 
   module _ (p : ℕ) (is : (pass p).stage ≡ Open) where
     -- READ: an open transaction reads its view, by whatever tells it of the writers of records without a stamp;
@@ -48,9 +48,9 @@ module _ {z : Config} {word : ℕ → ℕ} {pass : ℕ → PassState} {j : Journ
         read_agrees stamps (stamp_in j.commits) start (name_of pass p) (rows k) told
         ∙ read_forgets (stamp_in j.commits) start (name_of pass p) (rows k) (s.stamps k)
         ∙ value_at_stamp z.kind j.commits (running_of pass) (laid_of pass) (touching_by pass) s.horizon
-          (λ q. forget_row (rows q)) s.store start (name_of pass p) k live (not_committed s p (omega (arith, w)))
+        (λ q. forget_row (rows q)) s.store start (name_of pass p) k live (not_committed s p (omega (arith, w)))
         ∙ ap (λ ws. value_at (apply_all z.kind (graph_at z.kind j.commits start) ws) k)
-          (latest_here number_of (λ st. st.laid) [] pass p ∙ laid)
+        (latest_here number_of (λ st. st.laid) [] pass p ∙ laid)
         ∙ ap (λ g. value_at (apply_all z.kind g (pass p).own) k) (sym (same_graph s p seen start front within))
 
     -- by what the pass has seen itself
@@ -61,4 +61,4 @@ module _ {z : Config} {word : ℕ → ℕ} {pass : ℕ → PassState} {j : Journ
         let h = s.each p in
         reads_right (pass p).seen h.seen h.started (stamp_in (pass p).seen) k
         (told_all (stamp_in (pass p).seen) (stamp_in j.commits) (pass p).start
-          (λ n. sym (seen_reached (pass p).seen (pass p).start h.seen h.started n)) (rows k))
+        (λ n. sym (seen_reached (pass p).seen (pass p).start h.seen h.started n)) (rows k))

@@ -1,6 +1,6 @@
 -- What every step of one pass owes, and what it leaves of the others.
 use Rattle.std.proofs.Common.{◌≡◌, ℕ, ◌+◌, ◌*◌, ◌<◌, ◌≤◌, List, [], length, refl, sym, ◌∙◌, ap, subst, cond, arith, inl, inr}
-use Rattle.std.specs.Prelude.{◌⊎◌, Bool, true, false, ◌==◌, Some, None, slice_get}
+use Rattle.std.specs.Prelude.{◌⊎◌, Bool, true, false, Some, None, slice_get}
 use mathlib.Core.List.{IsPrefix}
 use mathlib.Core.Logic.{dite}
 use native.Mathlib.Decide.{ℕ_discrete, dec_le}
@@ -17,7 +17,7 @@ use Rattle.graph_model.specs.Passes.{revised}
 use Rattle.graph_model.specs.Transactions.{stamp_in, HasNotCommitted}
 use Rattle.graph_model.proofs.LegalLemmas.{graph_at-append, get_front}
 use Rattle.graph_model.proofs.PassLemmas.{latest_here}
-use Rattle.graph_model.proofs.TestLemmas.{eq_of, name_eq}
+use Rattle.graph_model.proofs.TestLemmas.{name_eq}
 use Rattle.txn_manager.specs.declared.config.Config.{Config}
 use Rattle.store_model.specs.Stamped.{StampedVersions, IsStamped, forget_row}
 use Rattle.store_model.specs.Store.{IsStore}
@@ -48,7 +48,7 @@ pub room_stays : (pass : ℕ → PassState) (p : ℕ) (st' : PassState) (n room 
     → sum_below (λ q. room_needed (revised pass p st' q)) n ≤ room
 room_stays pass p st' n room le less =
     let down = sum_le (λ q. room_needed (revised pass p st' q)) (λ q. room_needed (pass q)) n
-          (term_put room_needed pass p st' less) in
+    (term_put room_needed pass p st' less) in
     omega (arith, le, down)
 
 -- a step that publishes nothing, of a pass that comes to this state
@@ -66,10 +66,10 @@ pub counted_put : (z : Config) (pass : ℕ → PassState) (j j' : JournalState) 
     → AreCounted z (revised pass p st') j'
 counted_put z pass j j' p st' c same n =
     let up : inserted_by_all z pass ≤ inserted_by_all z (revised pass p st')
-          = sum_le _ _ z.passes (term_more (inserted_by_pass z.kind) pass p st' n.inserted) in
+    = sum_le _ _ z.passes (term_more (inserted_by_pass z.kind) pass p st' n.inserted) in
     let longer : sum_below (λ q. length (pass q).past) z.passes
-          ≤ sum_below (λ q. length (revised pass p st' q).past) z.passes
-          = sum_le _ _ z.passes (term_more (λ u. length u.past) pass p st' n.past) in
+    ≤ sum_below (λ q. length (revised pass p st' q).past) z.passes
+    = sum_le _ _ z.passes (term_more (λ u. length u.past) pass p st' n.past) in
     let long : length j'.commits ≡ length j.commits = ap length same in
     let old : length j.commits ≤ sum_below (λ q. length (pass q).past) z.passes = c.clock in
     record {
@@ -80,14 +80,14 @@ counted_put z pass j j' p st' c same n =
           (λ q _. c.outside q);
       filled = all_put
           (λ q u. u.filled ≡ true → SPLIT_ROWS * z.leaves ≤ inserted_by_all z (revised pass p st')) pass p st'
-          (λ e. let b = n.filled e in omega (arith, b, up)) (λ q _ e. let b = c.filled q e in omega (arith, b, up));
+          (λ e. let b = n.filled e in omega (arith, b, up))
+          (λ q _ e. let b = c.filled q e in omega (arith, b, up));
     }
 
 -- ---- facts of the pass that steps
 
 module _ {z : Config} {word : ℕ → ℕ} {pass : ℕ → PassState} {j : JournalState} {rows : Key → StampedVersions}
     {clock : ℕ} (s : IsShared z word pass j rows clock) where
-
   -- whoever has a record in a row has laid it, or has committed
   abbrev pub Stands : Key → TxnName → Type 0
   Stands k n = ((any_writes z.kind (laid_of pass n) k ≡ true) ⊎ (touching_by pass n k ≡ true))
@@ -96,11 +96,11 @@ module _ {z : Config} {word : ℕ → ℕ} {pass : ℕ → PassState} {j : Journ
   pub stander : (k : Key) (n : TxnName) → StandsIn (rows k) n → Stands k n
   stander k n (inl h) =
       elim (writer_of z.kind j.commits (running_of pass) (laid_of pass) (touching_by pass) s.horizon
-        (λ q. forget_row (rows q)) s.store n k h)
+      (λ q. forget_row (rows q)) s.store n k h)
       as (λ _. Stands k n) [ inl e ↦ inl (inl e) | inr c ↦ inr (c.place, c.commit, c.at, c.named) ]
   stander k n (inr h) =
       elim (toucher_of z.kind j.commits (running_of pass) (laid_of pass) (touching_by pass) s.horizon
-        (λ q. forget_row (rows q)) s.store n k h)
+      (λ q. forget_row (rows q)) s.store n k h)
       as (λ _. Stands k n) [ inl e ↦ inl (inr e) | inr c ↦ inr (c.place, c.commit, c.at, c.named) ]
 
   module _ (p : ℕ) where
@@ -128,7 +128,7 @@ module _ {z : Config} {word : ℕ → ℕ} {pass : ℕ → PassState} {j : Journ
     unnamed_next number lt i c at named =
         let m = s.made i c at in
         let none : c.writes ≡ [] = sym m.1 ∙ ap (λ (b : TxnName). writes_by (pass b.job) b.number) named
-              ∙ made_at_behind (made_of (pass p)) number lt in
+        ∙ made_at_behind (made_of (pass p)) number lt in
         let wrote : 0 < length c.writes = m.0 in
         let empty : length c.writes ≡ 0 = ap length none in
         omega (arith, wrote, empty)
@@ -168,7 +168,7 @@ module _ {z : Config} {word : ℕ → ℕ} {pass : ℕ → PassState} {j : Journ
         let room : room_needed st' ≡ room_needed (pass p) = ap (λ g. cond (needs_room g) 1 0) stage in
         let long : length st'.past ≡ length (pass p).past = ap length past in
         let rows : inserted_by_pass z.kind st' ≡ inserted_by_pass z.kind (pass p)
-              = inserted_same z.kind (pass p) st' made in
+        = inserted_same z.kind (pass p) st' made in
         counted_put z pass j j p st' s.counted refl (record {
           room = room_stays pass p st' z.passes j.room s.counted.room (omega (arith, room));
           past = omega (arith, long);
@@ -187,7 +187,7 @@ module _ {z : Config} {word : ℕ → ℕ} {pass : ℕ → PassState} {j : Journ
         let b : number_of (pass p) ≤ z.txns_per_pass = s.counted.begun p in
         let number : number_of st' ≡ number_of (pass p) = ap length made in
         let rows : inserted_by_pass z.kind st' ≡ inserted_by_pass z.kind (pass p)
-              = inserted_same z.kind (pass p) st' made in
+        = inserted_same z.kind (pass p) st' made in
         counted_put z pass j j' p st' s.counted same (record {
           room = room;
           past = past;
@@ -214,8 +214,10 @@ module _ {z : Config} {word : ℕ → ℕ} {pass : ℕ → PassState} {j : Journ
       -- an entry was there, or is of this transaction, and its word says so
       pub listed : (i : ℕ) (c : Commit) → slice_get (entries j') i ≡ Some c
           → (slice_get (entries j) i ≡ Some c)
-          ⊎ ((c.by ≡ name_at p st') × (word' ≡ i + 3) × (0 < length c.writes) × (writes_by st' c.by.number ≡ c.writes))
-      pub stamped : (i : ℕ) (c : Commit) → slice_get (entries j) i ≡ Some c → c.by ≡ name_at p st' → word' ≡ i + 3
+          ⊎ ((c.by ≡ name_at p st') × (word' ≡ i + 3) × (0 < length c.writes)
+          × (writes_by st' c.by.number ≡ c.writes))
+      pub stamped : (i : ℕ) (c : Commit) → slice_get (entries j) i ≡ Some c → c.by ≡ name_at p st'
+          → word' ≡ i + 3
       pub entered : (n : ℕ) → word' ≡ n + 3
           → (c : Commit) × (slice_get (entries j') n ≡ Some c) × (c.by ≡ name_at p st')
       pub made : (i : ℕ) (c : Commit) → slice_get (entries j) i ≡ Some c → c.by.job ≡ p
@@ -225,7 +227,8 @@ module _ {z : Config} {word : ℕ → ℕ} {pass : ℕ → PassState} {j : Journ
       pub counted : AreCounted z (revised pass p st') j'
 
     -- STEPS: so the rule is kept
-    pub steps : (st' : PassState) (word' : ℕ) (j' : JournalState) (rows' : Key → StampedVersions) (clock' horizon' : ℕ)
+    pub steps : (st' : PassState) (word' : ℕ) (j' : JournalState) (rows' : Key → StampedVersions)
+        (clock' horizon' : ℕ)
         → Moves st' word' j' rows' clock' horizon'
         → IsShared z (revised word p word') (revised pass p st') j' rows' clock'
     steps st' word' j' rows' clock' horizon' m = record {
@@ -236,45 +239,54 @@ module _ {z : Config} {word : ℕ → ℕ} {pass : ℕ → PassState} {j : Journ
       spoken = m.spoken;
       stamped = λ i c at named. elim (m.listed i c at) as (λ _. revised word p word' c.by.job ≡ i + 3) [
         | inl old ↦ dite (ℕ_discrete c.by.job p)
-          (λ same. ap (revised word p word') same ∙ revised_here word p word'
+            (λ same. ap (revised word p word') same ∙ revised_here word p word'
             ∙ m.stamped i c old (named ∙ ap (λ q. name_at q (revised pass p st' q)) same
-              ∙ ap (name_at p) (revised_here pass p st')))
-          (λ other. revised_else word p word' c.by.job other
+            ∙ ap (name_at p) (revised_here pass p st')))
+            (λ other. revised_else word p word' c.by.job other
             ∙ s.stamped i c old (named ∙ ap (name_at c.by.job) (revised_else pass p st' c.by.job other)))
         | inr new ↦ ap (λ (b : TxnName). revised word p word' b.job) new.0 ∙ revised_here word p word' ∙ new.1
       ];
       entered = all_put
           (λ q u. (n : ℕ) → revised word p word' q ≡ n + 3
-            → (c : Commit) × (slice_get (entries j') n ≡ Some c) × (c.by ≡ name_at q u))
+          → (c : Commit) × (slice_get (entries j') n ≡ Some c) × (c.by ≡ name_at q u))
           pass p st'
           (λ n e. m.entered n (sym (revised_here word p word') ∙ e))
           (λ q other n e.
-            let r = s.entered q n (sym (revised_else word p word' q other) ∙ e) in
-            (r.0, prefix_get (entries j) (entries j') m.follows.listed n r.0 r.1, r.2));
+          let r = s.entered q n (sym (revised_else word p word' q other) ∙ e) in
+          (r.0, prefix_get (entries j) (entries j') m.follows.listed n r.0 r.1, r.2));
       made = λ i c at. elim (m.listed i c at)
-        as (λ _. (0 < length c.writes) × (writes_by (revised pass p st' c.by.job) c.by.number ≡ c.writes)) [
-          | inl old ↦ ((s.made i c old).0, dite (ℕ_discrete c.by.job p)
-            (λ same. ap (λ q. writes_by (revised pass p st' q) c.by.number) same
-              ∙ ap (λ u. writes_by u c.by.number) (revised_here pass p st') ∙ m.made i c old same
-              ∙ ap (λ q. writes_by (pass q) c.by.number) (sym same) ∙ (s.made i c old).1)
-            (λ other. ap (λ u. writes_by u c.by.number) (revised_else pass p st' c.by.job other)
-              ∙ (s.made i c old).1))
-          | inr new ↦ (new.2, ap (λ (b : TxnName). writes_by (revised pass p st' b.job) c.by.number) new.0
-            ∙ ap (λ u. writes_by u c.by.number) (revised_here pass p st') ∙ new.3)
-        ];
+          as (λ _. (0 < length c.writes) × (writes_by (revised pass p st' c.by.job) c.by.number ≡ c.writes)) [
+            | inl old ↦ (
+              (s.made i c old).0,
+              dite (ℕ_discrete c.by.job p)
+                  (λ same. ap (λ q. writes_by (revised pass p st' q) c.by.number) same
+                  ∙ ap (λ u. writes_by u c.by.number) (revised_here pass p st') ∙ m.made i c old same
+                  ∙ ap (λ q. writes_by (pass q) c.by.number) (sym same) ∙ (s.made i c old).1)
+                  (λ other. ap (λ u. writes_by u c.by.number) (revised_else pass p st' c.by.job other)
+                  ∙ (s.made i c old).1),
+            )
+            | inr new ↦ (
+              new.2,
+              ap (λ (b : TxnName). writes_by (revised pass p st' b.job) c.by.number) new.0
+                  ∙ ap (λ u. writes_by u c.by.number) (revised_here pass p st') ∙ new.3,
+            )
+          ];
       kept = m.kept;
       each = all_put (λ q u. IsPass z.kind (revised pass p st') j' (revised word p word' q) q u) pass p st'
           (subst (λ w. IsPass z.kind (revised pass p st') j' w p st') (sym (revised_here word p word')) m.this)
           (λ q other.
-            subst (λ w. IsPass z.kind (revised pass p st') j' w q (pass q)) (sym (revised_else word p word' q other))
-            (other_stays z.kind pass j (revised pass p st') j' m.follows (word q) q (pass q) (m.others q other) (s.each q)));
+          subst (λ w. IsPass z.kind (revised pass p st') j' w q (pass q))
+          (sym (revised_else word p word' q other))
+          (other_stays z.kind pass j (revised pass p st') j' m.follows (word q) q (pass q) (m.others q other)
+          (s.each q)));
       counted = m.counted;
     }
 
     -- ---- a step that leaves the journal's commits and entries
 
     pub follows : (st' : PassState)
-        → ((n : ℕ) (w : Write) → meets z.kind w (writes_by (pass p) n) ≡ true → meets z.kind w (writes_by st' n) ≡ true)
+        → ((n : ℕ) (w : Write) → meets z.kind w (writes_by (pass p) n) ≡ true
+        → meets z.kind w (writes_by st' n) ≡ true)
         → Follows z.kind pass j (revised pass p st') j
     follows st' grows = record {
       legal = s.store.transactions.legal;
@@ -282,7 +294,8 @@ module _ {z : Config} {word : ℕ → ℕ} {pass : ℕ → PassState} {j : Journ
       listed = prefix_all (entries j);
       late = λ i c at. inl at;
       made = λ o n w. all_put
-          (λ q u. meets z.kind w (writes_by (pass q) n) ≡ true → meets z.kind w (writes_by u n) ≡ true) pass p st'
+          (λ q u. meets z.kind w (writes_by (pass q) n) ≡ true → meets z.kind w (writes_by u n) ≡ true) pass p
+          st'
           (grows n w) (λ q _ e. e) o;
     }
 
@@ -290,25 +303,28 @@ module _ {z : Config} {word : ℕ → ℕ} {pass : ℕ → PassState} {j : Journ
     pub kept_put : (st' : PassState) → ((n : ℕ) → kept_stamp st'.past n ≡ kept_stamp (pass p).past n)
         → (by : TxnName) → stamp_by (revised pass p st') by ≡ stamp_in j.commits by
     kept_put st' same by =
-        all_put (λ q u. (n : ℕ) → kept_stamp u.past n ≡ kept_stamp (pass q).past n) pass p st' same (λ q _ n. refl)
-          by.job by.number
+        all_put (λ q u. (n : ℕ) → kept_stamp u.past n ≡ kept_stamp (pass q).past n) pass p st' same
+        (λ q _ n. refl)
+        by.job by.number
         ∙ s.kept by
 
-    pub record GoesOn (st' : PassState) (word' : ℕ) (rows' : Key → StampedVersions) (horizon' : ℕ) : Type 0 where
-      pub store : IsStore z.kind j.commits (running_of (revised pass p st')) (laid_of (revised pass p st'))
-          (touching_by (revised pass p st')) horizon' (λ k. forget_row (rows' k))
-      pub stamps : (k : Key) → IsStamped (stamp_in j.commits) (rows' k)
-      pub spoken : (k : Key) → AreSpokenFor (revised pass p st') k (rows' k)
-      pub stamped : (i : ℕ) (c : Commit) → slice_get (entries j) i ≡ Some c → c.by ≡ name_at p st' → word' ≡ i + 3
-      pub entered : (n : ℕ) → word' ≡ n + 3
-          → (c : Commit) × (slice_get (entries j) n ≡ Some c) × (c.by ≡ name_at p st')
-      pub made : (i : ℕ) (c : Commit) → slice_get (entries j) i ≡ Some c → c.by.job ≡ p
-          → writes_by st' c.by.number ≡ writes_by (pass p) c.by.number
-      pub grows : (n : ℕ) (w : Write) → meets z.kind w (writes_by (pass p) n) ≡ true
-          → meets z.kind w (writes_by st' n) ≡ true
-      pub kept : (n : ℕ) → kept_stamp st'.past n ≡ kept_stamp (pass p).past n
-      pub this : Follows z.kind pass j (revised pass p st') j → IsPass z.kind (revised pass p st') j word' p st'
-      pub counted : AreCounted z (revised pass p st') j
+    pub record GoesOn (st' : PassState) (word' : ℕ) (rows' : Key → StampedVersions) (horizon' : ℕ) : Type 0
+      where
+        pub store : IsStore z.kind j.commits (running_of (revised pass p st')) (laid_of (revised pass p st'))
+            (touching_by (revised pass p st')) horizon' (λ k. forget_row (rows' k))
+        pub stamps : (k : Key) → IsStamped (stamp_in j.commits) (rows' k)
+        pub spoken : (k : Key) → AreSpokenFor (revised pass p st') k (rows' k)
+        pub stamped : (i : ℕ) (c : Commit) → slice_get (entries j) i ≡ Some c → c.by ≡ name_at p st'
+            → word' ≡ i + 3
+        pub entered : (n : ℕ) → word' ≡ n + 3
+            → (c : Commit) × (slice_get (entries j) n ≡ Some c) × (c.by ≡ name_at p st')
+        pub made : (i : ℕ) (c : Commit) → slice_get (entries j) i ≡ Some c → c.by.job ≡ p
+            → writes_by st' c.by.number ≡ writes_by (pass p) c.by.number
+        pub grows : (n : ℕ) (w : Write) → meets z.kind w (writes_by (pass p) n) ≡ true
+            → meets z.kind w (writes_by st' n) ≡ true
+        pub kept : (n : ℕ) → kept_stamp st'.past n ≡ kept_stamp (pass p).past n
+        pub this : Follows z.kind pass j (revised pass p st') j → IsPass z.kind (revised pass p st') j word' p st'
+        pub counted : AreCounted z (revised pass p st') j
 
     pub goes_on : (st' : PassState) (word' : ℕ) (rows' : Key → StampedVersions) (horizon' : ℕ)
         → GoesOn st' word' rows' horizon'
@@ -316,10 +332,19 @@ module _ {z : Config} {word : ℕ → ℕ} {pass : ℕ → PassState} {j : Journ
     goes_on st' word' rows' horizon' g =
         let f = follows st' g.grows in
         steps st' word' j rows' clock horizon' (record {
-          published = s.published; store = g.store; stamps = g.stamps; spoken = g.spoken; follows = f;
-          others = λ q _ _. (refl, refl); listed = λ i c at. inl at;
-          stamped = g.stamped; entered = g.entered; made = g.made; kept = kept_put st' g.kept;
-          this = g.this f; counted = g.counted;
+          published = s.published;
+          store = g.store;
+          stamps = g.stamps;
+          spoken = g.spoken;
+          follows = f;
+          others = λ q _ _. (refl, refl);
+          listed = λ i c at. inl at;
+          stamped = g.stamped;
+          entered = g.entered;
+          made = g.made;
+          kept = kept_put st' g.kept;
+          this = g.this f;
+          counted = g.counted;
         })
 
     -- ---- and one that leaves the word, and what the pass has made
@@ -331,7 +356,8 @@ module _ {z : Config} {word : ℕ → ℕ} {pass : ℕ → PassState} {j : Journ
       pub spoken : (k : Key) → AreSpokenFor (revised pass p st') k (rows' k)
       pub made : made_of st' ≡ made_of (pass p)
       pub kept : (n : ℕ) → kept_stamp st'.past n ≡ kept_stamp (pass p).past n
-      pub this : Follows z.kind pass j (revised pass p st') j → IsPass z.kind (revised pass p st') j (word p) p st'
+      pub this : Follows z.kind pass j (revised pass p st') j
+          → IsPass z.kind (revised pass p st') j (word p) p st'
       pub counted : AreCounted z (revised pass p st') j
 
     pub quiet : (st' : PassState) (rows' : Key → StampedVersions) (horizon' : ℕ) → IsQuiet st' rows' horizon'
@@ -341,7 +367,9 @@ module _ {z : Config} {word : ℕ → ℕ} {pass : ℕ → PassState} {j : Journ
         let name : name_at p st' ≡ name_of pass p = ap (λ n. record { job = p; number = n }) number in
         subst (λ w. IsShared z w (revised pass p st') j rows' clock) (λ i o. revised_same word p o i)
         (goes_on st' (word p) rows' horizon' (record {
-          store = q.store; stamps = q.stamps; spoken = q.spoken;
+          store = q.store;
+          stamps = q.stamps;
+          spoken = q.spoken;
           stamped = λ i c at named.
               let me : c.by ≡ name_of pass p = named ∙ name in
               let job : c.by.job ≡ p = ap (λ (b : TxnName). b.job) me in
@@ -349,5 +377,7 @@ module _ {z : Config} {word : ℕ → ℕ} {pass : ℕ → PassState} {j : Journ
           entered = λ n e. let r = s.entered p n e in (r.0, r.1, r.2 ∙ sym name);
           made = λ i c at _. ap (λ m. made_at m c.by.number) q.made;
           grows = λ n w e. ap (λ m. meets z.kind w (made_at m n)) q.made ∙ e;
-          kept = q.kept; this = q.this; counted = q.counted;
+          kept = q.kept;
+          this = q.this;
+          counted = q.counted;
         }))

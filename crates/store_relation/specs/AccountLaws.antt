@@ -1,4 +1,5 @@
--- What the steps of a call do to the account of its pass. Each law is the contract of a function in `laws`.
+-- What the steps of a call do to the account of its pass. Each law is the contract of a function in
+-- `laws`.
 use Rattle.std.specs.Prelude.{◌≡◌, ℕ, ◌+◌, ◌<◌, ◌++◌, List, [], ◌∷◌, length, Option, Some, None}
 use Rattle.std.specs.declared.result.Result.TheVariants.{Ok}
 use mathlib.Core.List.{IsPrefix}
@@ -11,11 +12,12 @@ use Rattle.graph_model.specs.History.{view}
 use Rattle.graph_model.specs.Refused.{refused}
 use Rattle.txn_manager.specs.declared.config.Config.{Config}
 use Rattle.store_relation.specs.declared.stage.Stage.TheVariants.{Idle, Open}
-use Rattle.store_relation.specs.Passes.{PassState, EndedTxn, number_of, name_at, account_of}
+use Rattle.store_relation.specs.Passes.{PassState, number_of, name_at, account_of}
 use Rattle.store_relation.specs.Shared.{JournalState, entry_of}
 use Rattle.store_relation.specs.Steps.{begun, written_by, refreshed, with_sighting, sighting}
 
--- whatever steps lie between, the transaction has ended with this stamp or with none, and more was seen
+-- whatever steps lie between, the transaction has ended with this stamp or with none, and more was
+-- seen
 pub record EndsWith (stamp : Option ℕ) (old new : PassState) : Type 0 where
   pub opened : old.stage ≡ Open
   pub idle : new.stage ≡ Idle
@@ -31,15 +33,18 @@ module _ (z : Config) (p : ℕ) (st : PassState) where
   AccountBegins = (j : JournalState) → st.stage ≡ Idle → st.own ≡ [] → IsPrefix st.seen j.commits
       → number_of st < z.txns_per_pass
       → BeginsBy (account_of z p st)
-        (Ok (record { by = name_at p (begun st j); start = length j.commits })) (account_of z p (begun st j))
+      (Ok (record { by = name_at p (begun st j); start = length j.commits }))
+      (account_of z p (begun st j))
 
   abbrev pub AccountWrites : Type 0
-  AccountWrites = (w : Write) → st.stage ≡ Open → refused (view z.kind st.seen st.start st.own) w ≡ None
+  AccountWrites = (w : Write) → st.stage ≡ Open
+      → refused (view z.kind st.seen st.start st.own) w ≡ None
       → WritesBy (account_of z p st) w (Ok tt) (account_of z p (written_by st w))
 
   -- a commit answers the stamp of its entry, and has seen it
   abbrev pub AccountCommits : Type 0
-  AccountCommits = (j : JournalState) (now : PassState) → 0 < length st.own → IsPrefix st.seen j.commits
+  AccountCommits = (j : JournalState) (now : PassState) → 0 < length st.own
+      → IsPrefix st.seen j.commits
       → EndsWith (Some (length j.commits + 1)) st now → now.seen ≡ j.commits ++ entry_of j p st ∷ []
       → CommitsBy (account_of z p st) (Some (length j.commits + 1)) (account_of z p now)
 
@@ -61,7 +66,7 @@ module _ (z : Config) (p : ℕ) (st : PassState) where
   abbrev pub AccountSights : Type 0
   AccountSights = (w : Write) (by : TxnName) (seen : List Commit) → IsPrefix st.seen seen
       → GoesOn (account_of z p st) (with_cause (account_of z p st) st.start w (Holder by))
-        (account_of z p (refreshed (with_sighting st (sighting by w st.start)) seen))
+      (account_of z p (refreshed (with_sighting st (sighting by w st.start)) seen))
 
 -- a law of the account of each pass
 abbrev pub OfEachPass : (Config → ℕ → PassState → Type 0) → Type 0

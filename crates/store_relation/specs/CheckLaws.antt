@@ -1,5 +1,6 @@
--- What the checks of a segment say: where they find nobody the row may be written, and else whom they name.
-use Rattle.std.specs.Prelude.{◌≡◌, ◌⊎◌, ℕ, ◌<◌, ◌≤◌, ◌||◌, Bool, true, false, nat_le, List, slice_get, Option, Some, None}
+-- What the checks of a segment say: where they find nobody the row may be written, and else whom
+-- they name.
+use Rattle.std.specs.Prelude.{◌≡◌, ◌⊎◌, ℕ, ◌<◌, ◌≤◌, Bool, true, false, nat_le, List, slice_get, Option, Some, None}
 use Rattle.std.specs.List.{AllByRecursion}
 use Rattle.graph_model.specs.declared.write.Kind.{Kind}
 use Rattle.graph_model.specs.declared.write.Write.{Write}
@@ -11,7 +12,7 @@ use Rattle.graph_model.specs.declared.state.State.TheVariants.{Live, Committed, 
 use Rattle.graph_model.specs.declared.refusal.Cause.{Cause}
 use Rattle.graph_model.specs.declared.refusal.Cause.TheVariants.{Later, Holder}
 use Rattle.graph_model.specs.Conflict.{same_name}
-use Rattle.graph_model.specs.Effects.{same_key, writes_at, touches_at, any_writes, any_touches}
+use Rattle.graph_model.specs.Effects.{writes_at, touches_at}
 use Rattle.graph_model.specs.Transactions.{reached}
 use Rattle.store_model.specs.Check.{MayWrite}
 use Rattle.store_model.specs.Stamped.{Stamped, StampedVersions, forget_row}
@@ -19,17 +20,17 @@ use Rattle.store_model.specs.Versions.{sees}
 use Rattle.undo_chain.specs.declared.states.Snapshot.{Snapshot}
 use Rattle.undo_chain.specs.States.{Knowledge}
 use Rattle.version_segment.specs.Checks.{blocked, IsStateOf, IsChecked, newest_of, newest_and_touches, drops_of}
-use Rattle.store_relation.specs.Keys.{has_key, keys_but, changed_keys}
 
 -- a record's stamp says whether the snapshot sees its writer
 abbrev pub IsRightFor : (TxnName → Option ℕ) → ℕ → Stamped → Type 0
-IsRightFor stamps start x = (c : ℕ) → x.stamp ≡ Some c → reached (stamps x.by) start ≡ nat_le c start
+IsRightFor stamps start x = (c : ℕ) → x.stamp ≡ Some c
+    → reached (stamps x.by) start ≡ nat_le c start
 
 abbrev pub AreSeen : (TxnName → Bool) → List Stamped → Type 0
 AreSeen seen xs = AllByRecursion (λ x. seen x.by ≡ true) xs
 
--- FREE: a check that finds nobody has looked at none but writers that are seen, where no writer of a record
--- without a stamp is said to have aborted
+-- FREE: a check that finds nobody has looked at none but writers that are seen, where no writer of
+-- a record without a stamp is said to have aborted
 abbrev pub CheckedIsFree : Type 0
 CheckedIsFree = (old new : Knowledge) (snapshot : Snapshot) → snapshot.start ≤ old.known
     → ((n : TxnName) → new.vouched n Aborted ≡ false)
@@ -46,7 +47,8 @@ FreeMayBeWritten = (kind : Kind) (seen : TxnName → Bool) (w : Write) (q : Key)
     → MayWrite kind seen w q (forget_row r)
 
 -- one of the records is the cause
-pub record IsCause (old new : Knowledge) (snapshot : Snapshot) (xs : List Stamped) (cause : Cause) : Type 0 where
+pub record IsCause (old new : Knowledge) (snapshot : Snapshot) (xs : List Stamped) (cause : Cause)
+    : Type 0 where
   pub place : ℕ
   pub stamped : Stamped
   pub state : State
@@ -66,21 +68,10 @@ LaterIsStamped = (old new : Knowledge) (snapshot : Snapshot) (xs : List Stamped)
     × ((c.stamped.stamp ≡ Some stamp)
     ⊎ ((c.stamped.stamp ≡ None) × (new.vouched c.stamped.by (Committed stamp) ≡ true)))
 
--- an open transaction: its record has no stamp, it is not the asker's own, and no stamp of it was seen
+-- an open transaction: its record has no stamp, it is not the asker's own, and no stamp of it was
+-- seen
 abbrev pub HolderIsOther : Type 0
 HolderIsOther = (old new : Knowledge) (snapshot : Snapshot) (xs : List Stamped) (by : TxnName)
     → (c : IsCause old new snapshot xs (Holder by))
     → (c.stamped.by ≡ by) × (c.stamped.stamp ≡ None) × (same_name c.stamped.by snapshot.own ≡ false)
     × (old.stamps c.stamped.by ≡ None) × (new.vouched c.stamped.by Live ≡ true)
-
--- ---- the rows of a commit
-
--- all rows that writes write or touch are among those that they change
-abbrev pub ChangedKeysCover : Type 0
-ChangedKeysCover = (kind : Kind) (ws : List Write) (q : Key)
-    → (any_writes kind ws q || any_touches ws q) ≡ true → has_key (changed_keys kind ws) q ≡ true
-
--- when one is stamped the others are still left
-abbrev pub OthersAreLeft : Type 0
-OthersAreLeft = (k : Key) (ks : List Key) (q : Key) → same_key q k ≡ false → has_key ks q ≡ true
-    → has_key (keys_but k ks) q ≡ true

@@ -23,8 +23,10 @@ use Rattle.store_relation.specs.Shared.{inserted_by_all}
 abbrev pub AreAtEnd : Config → (ℕ → PassState) → Type 0
 AreAtEnd z pass = (p : ℕ) → p < z.passes → ((pass p).stage ≡ Idle) × ((pass p).unstamped ≡ [])
 
--- the transaction that was named made a clashing write, and its commit, if it has one, is later than the start
-pub record IsMatched (kind : Kind) (pass : ℕ → PassState) (journal : List Commit) (x : Sighting) : Type 0 where
+-- the transaction that was named made a clashing write, and its commit, if it has one, is later
+-- than the start
+pub record IsMatched (kind : Kind) (pass : ℕ → PassState) (journal : List Commit) (x : Sighting)
+    : Type 0 where
   pub made : meets kind x.write (writes_by (pass x.by.job) x.by.number) ≡ true
   pub behind : (i : ℕ) (c : Commit) → slice_get journal i ≡ Some c → c.by ≡ x.by → x.start < c.stamp
 
@@ -36,11 +38,16 @@ pub record IsMade (z : Config) (pass : ℕ → PassState) (c : Commit) : Type 0 
   pub stamped : stamp_by pass c.by ≡ Some c.stamp
   pub answered : Contains (stamps_of_pass (pass c.by.job)) c.stamp
 
+-- a row that is a value alone
+abbrev pub only_value : Option ℕ → StampedVersions
+only_value value = record { pairs = []; oldest = value; touches = [] }
+
 abbrev pub HasStamp : Stamped → Type 0
 HasStamp x = x.stamp ≡ None → ⊥
 
 -- WHAT A CLOSED STORE SHOWS
-pub record IsClosed (z : Config) (pass : ℕ → PassState) (journal : List Commit) (rows : Key → StampedVersions)
+pub record IsClosed (z : Config) (pass : ℕ → PassState) (journal : List Commit)
+    (rows : Key → StampedVersions)
     : Type 0 where
   pub legal : IsLegal z.kind journal
   pub made : (i : ℕ) (c : Commit) → slice_get journal i ≡ Some c → IsMade z pass c
@@ -51,7 +58,8 @@ pub record IsClosed (z : Config) (pass : ℕ → PassState) (journal : List Comm
   pub filled : (p : ℕ) → (pass p).filled ≡ true → SPLIT_ROWS * z.leaves ≤ inserted_by_all z pass
   pub outside : (p : ℕ) → z.passes ≤ p → made_of (pass p) ≡ []
   -- each record has its stamp, and a prune of a row leaves the newest graph's value alone
-  pub stamped : (k : Key) → AllByRecursion HasStamp (rows k).pairs × AllByRecursion HasStamp (rows k).touches
+  pub stamped : (k : Key) → AllByRecursion HasStamp (rows k).pairs
+      × AllByRecursion HasStamp (rows k).touches
   pub settled : (stamps : TxnName → Option ℕ) (k : Key)
       → prune_stamped stamps (length journal) (rows k)
-      ≡ record { pairs = []; oldest = value_at (graph_at z.kind journal (length journal)) k; touches = [] }
+      ≡ only_value (value_at (graph_at z.kind journal (length journal)) k)

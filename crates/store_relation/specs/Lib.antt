@@ -10,3 +10,5 @@ pub mod StepLaws
 pub mod ReadLaws
 pub mod AccountLaws
 pub mod CheckLaws
+pub mod RowLaws
+pub mod Examples

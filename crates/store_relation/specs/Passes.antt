@@ -1,8 +1,8 @@
--- A pass of a shared store: its transactions, and what it knows of the journal and of other writers.
-use Rattle.std.specs.Prelude.{◌≡◌, ℕ, zero, suc, ◌+◌, ◌<◌, Bool, true, false, ◌&&◌, ◌||◌, not, cond, List, [], ◌∷◌, ◌++◌, map, length, drop, slice_get, Option, Some, None, unwrap_or}
+-- A pass of a shared store: its transactions, and what it knows of the journal and of other
+-- writers.
+use Rattle.std.specs.Prelude.{◌≡◌, ℕ, zero, suc, ◌<◌, Bool, true, false, ◌&&◌, ◌||◌, not, cond, List, [], ◌∷◌, ◌++◌, map, length, drop, slice_get, Option, Some, None, unwrap_or}
 use Rattle.std.specs.List.{filter_map}
 use mathlib.Core.List.{IsPrefix}
-use Rattle.graph_model.specs.declared.write.Kind.{Kind}
 use Rattle.graph_model.specs.declared.write.Write.{Write}
 use Rattle.graph_model.specs.declared.row.Key.{Key}
 use Rattle.graph_model.specs.declared.journal.Commit.{Commit}
@@ -10,8 +10,9 @@ use Rattle.graph_model.specs.declared.journal.TxnName.{TxnName}
 use Rattle.graph_model.specs.Account.{Sighting, Account}
 use Rattle.graph_model.specs.Effects.{any_touches}
 use Rattle.graph_model.specs.Passes.{of_latest}
-use Rattle.graph_model.specs.Transactions.{Running}
+use Rattle.graph_model.specs.Transactions.{Running, stamp_in}
 use Rattle.txn_manager.specs.declared.config.Config.{Config}
+use Rattle.store_model.specs.Versions.{sees}
 use Rattle.store_relation.specs.declared.stage.Stage.{Stage}
 use Rattle.store_relation.specs.declared.stage.Stage.TheVariants.{Idle, Open, Aborting, Committing}
 use Rattle.store_relation.specs.Keys.{has_key}
@@ -55,8 +56,19 @@ pub record PassState : Type 0 where
 -- a pass that has begun nothing
 abbrev pub fresh_pass : PassState
 fresh_pass = record {
-  stage = Idle; start = 0; own = []; laid = []; unstamped = []; past = []; seen = [];
-  met = []; holders = []; looks = []; sighted = []; filled = false; readers_out = 0;
+  stage = Idle;
+  start = 0;
+  own = [];
+  laid = [];
+  unstamped = [];
+  past = [];
+  seen = [];
+  met = [];
+  holders = [];
+  looks = [];
+  sighted = [];
+  filled = false;
+  readers_out = 0;
 }
 
 -- ---- stages
@@ -158,6 +170,10 @@ stands laid own k = any_touches own k && not (any_touches (drop (length laid) ow
 
 abbrev pub touching_by : (ℕ → PassState) → TxnName → Key → Bool
 touching_by pass by k = of_latest number_of (λ st. stands st.laid st.own k) false pass by
+
+-- whom its snapshot sees, by as much of the journal as was seen
+abbrev pub sees_by : ℕ → PassState → TxnName → Bool
+sees_by p st = sees (stamp_in st.seen) st.start (name_at p st)
 
 -- the row may have a record without a stamp of the pass's latest transaction
 abbrev pub may_stand : PassState → Key → Bool

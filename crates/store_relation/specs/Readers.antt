@@ -34,7 +34,8 @@ abbrev pub readers_of : ℕ → List ReaderState → ℕ
 readers_of p readers = count_by (λ x. x.by.job == p) readers
 
 -- all readers that are out, whoever has them, and no pass counts more or fewer
-pub record AreReaders (pass : ℕ → PassState) (commits : List Commit) (readers : List ReaderState) : Type 0 where
+pub record AreReaders (pass : ℕ → PassState) (commits : List Commit) (readers : List ReaderState)
+    : Type 0 where
   pub each : AllByRecursion (IsReader pass commits) readers
   pub out : (p : ℕ) → readers_of p readers ≡ (pass p).readers_out
 

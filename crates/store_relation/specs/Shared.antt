@@ -1,6 +1,6 @@
--- THE RULE OF A SHARED STORE, as between two steps: the words and states of all passes, the journal, and
--- the rows with their stamps. All are plain functions, wherever words and rows lie.
-use Rattle.std.specs.Prelude.{◌≡◌, ℕ, zero, suc, ◌+◌, ◌-◌, ◌*◌, ◌<◌, ◌≤◌, ◌++◌, Bool, true, false, cond, nat_le, List, [], ◌∷◌, length, slice_get, Option, Some, None}
+-- THE RULE OF A SHARED STORE, as between two steps: the words and states of all passes, the
+-- journal, and the rows with their stamps. All are plain functions, wherever words and rows lie.
+use Rattle.std.specs.Prelude.{◌≡◌, ℕ, zero, suc, ◌+◌, ◌-◌, ◌*◌, ◌<◌, ◌≤◌, ◌++◌, true, cond, nat_le, List, [], ◌∷◌, length, slice_get, Some, None}
 use Rattle.std.specs.List.{AllByRecursion, flat_map}
 use mathlib.Core.List.{IsPrefix}
 use Rattle.graph_model.specs.declared.limits.TheConstants.{SPLIT_ROWS}
@@ -21,8 +21,8 @@ use Rattle.store_relation.specs.Words.{Look, IsMarked, commit_word, stamp_of_wor
 
 -- ---- the journal
 
--- the commits that are published, the entry whose stamp is stored and not published, and for how many more
--- there is room
+-- the commits that are published, the entry whose stamp is stored and not published, and for how
+-- many more there is room
 pub record JournalState : Type 0 where
   pub commits : List Commit
   pub next : List Commit
@@ -46,10 +46,12 @@ longer_of xs ys = cond (nat_le (length xs) (length ys)) ys xs
 
 -- the entry at that place clashes
 abbrev pub IsMet : Kind → JournalState → Meeting → Type 0
-IsMet kind j m = (c : Commit) × (slice_get (entries j) m.place ≡ Some c) × (meets kind m.write c.writes ≡ true)
+IsMet kind j m = (c : Commit) × (slice_get (entries j) m.place ≡ Some c)
+    × (meets kind m.write c.writes ≡ true)
 
 -- the transaction made a write that clashes, and its commit, if it has one, is later than the start
-pub record IsSighted (kind : Kind) (pass : ℕ → PassState) (j : JournalState) (x : Sighting) : Type 0 where
+pub record IsSighted (kind : Kind) (pass : ℕ → PassState) (j : JournalState) (x : Sighting)
+    : Type 0 where
   pub made : meets kind x.write (writes_by (pass x.by.job) x.by.number) ≡ true
   pub behind : (i : ℕ) (c : Commit) → slice_get (entries j) i ≡ Some c → c.by ≡ x.by → x.start ≤ i
   pub begun : x.start ≤ length j.commits
@@ -57,15 +59,18 @@ pub record IsSighted (kind : Kind) (pass : ℕ → PassState) (j : JournalState)
 -- up to its number the look says whether the writer has committed, and a stamp is that of its entry
 pub record IsLook (j : JournalState) (l : Look) : Type 0 where
   pub known : l.until ≤ length j.commits
-  pub says : (s : ℕ) → s ≤ l.until → reached (stamp_in j.commits l.by) s ≡ reached (stamp_of_word l.word) s
-  pub entry : 2 < l.word → (c : Commit) × (slice_get (entries j) (l.word - 3) ≡ Some c) × (c.by ≡ l.by)
+  pub says : (s : ℕ) → s ≤ l.until
+      → reached (stamp_in j.commits l.by) s ≡ reached (stamp_of_word l.word) s
+  pub entry : 2 < l.word → (c : Commit) × (slice_get (entries j) (l.word - 3) ≡ Some c)
+      × (c.by ≡ l.by)
 
 -- ---- records without a stamp
 
--- the writer of such a record is the transaction of which its pass's word speaks; where that has ended, the
--- row is one that is still to be stamped
+-- the writer of such a record is the transaction of which its pass's word speaks; where that has
+-- ended, the row is one that is still to be stamped
 abbrev pub IsSpokenFor : (ℕ → PassState) → Key → Stamped → Type 0
-IsSpokenFor pass k x = x.stamp ≡ None → (x.by ≡ name_of pass x.by.job) × (may_stand (pass x.by.job) k ≡ true)
+IsSpokenFor pass k x = x.stamp ≡ None → (x.by ≡ name_of pass x.by.job)
+    × (may_stand (pass x.by.job) k ≡ true)
 
 pub record AreSpokenFor (pass : ℕ → PassState) (k : Key) (r : StampedVersions) : Type 0 where
   pub pairs : AllByRecursion (IsSpokenFor pass k) r.pairs
@@ -102,7 +107,8 @@ pub record AreCounted (z : Config) (pass : ℕ → PassState) (j : JournalState)
 -- ---- the rule
 
 -- a pass with this number, this word and this state
-pub record IsPass (kind : Kind) (pass : ℕ → PassState) (j : JournalState) (word p : ℕ) (st : PassState) : Type 0 where
+pub record IsPass (kind : Kind) (pass : ℕ → PassState) (j : JournalState) (word p : ℕ)
+    (st : PassState) : Type 0 where
   pub marked : IsMarked st.stage word (length j.commits)
   -- what was seen is published, and the snapshot is part of it
   pub seen : IsPrefix st.seen j.commits
@@ -127,7 +133,8 @@ pub record IsShared (z : Config) (word : ℕ → ℕ) (pass : ℕ → PassState)
   pub stamps : (k : Key) → IsStamped (stamp_in j.commits) (rows k)
   pub spoken : (k : Key) → AreSpokenFor pass k (rows k)
   -- of latest transactions entries and words say the same
-  pub stamped : (i : ℕ) (c : Commit) → slice_get (entries j) i ≡ Some c → c.by ≡ name_of pass c.by.job
+  pub stamped : (i : ℕ) (c : Commit) → slice_get (entries j) i ≡ Some c
+      → c.by ≡ name_of pass c.by.job
       → word c.by.job ≡ commit_word i
   pub entered : (p n : ℕ) → word p ≡ commit_word n
       → (c : Commit) × (slice_get (entries j) n ≡ Some c) × (c.by ≡ name_of pass p)

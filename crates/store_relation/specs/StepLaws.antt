@@ -1,5 +1,5 @@
--- What each step of a transaction asks, and that it keeps the rule. Each law is the contract of a function
--- in `laws`; `InEachStore` says it of every store under the rule.
+-- What each step of a transaction asks, and that it keeps the rule. Each law is the contract of a
+-- function in `laws`; `InEachStore` says it of every store under the rule.
 use Rattle.std.specs.Prelude.{◌≡◌, ◌⊎◌, ℕ, ◌+◌, ◌-◌, ◌*◌, ◌<◌, ◌≤◌, ◌++◌, ◌||◌, true, List, [], ◌∷◌, length, slice_get, Option, Some, None}
 use Rattle.std.specs.List.{AllByRecursion}
 use mathlib.Core.List.{IsPrefix}
@@ -17,11 +17,10 @@ use Rattle.graph_model.specs.Transactions.{stamp_in}
 use Rattle.txn_manager.specs.declared.config.Config.{Config}
 use Rattle.store_model.specs.Check.{MayWrite}
 use Rattle.store_model.specs.Stamped.{StampedVersions, AreTold, forget_row, prune_stamped, stamp}
-use Rattle.store_model.specs.Versions.{sees}
 use Rattle.version_segment.specs.Rows.{nothing}
 use Rattle.store_relation.specs.declared.stage.Stage.TheVariants.{Idle, Open, Aborting, Committing}
 use Rattle.store_relation.specs.Keys.{has_key}
-use Rattle.store_relation.specs.Passes.{Meeting, PassState, fresh_pass, may_commit, number_of, name_of}
+use Rattle.store_relation.specs.Passes.{Meeting, PassState, fresh_pass, may_commit, number_of, name_of, sees_by}
 use Rattle.store_relation.specs.Readers.{ReaderState, AreReaders, IsSameTxn, reader_of}
 use Rattle.store_relation.specs.Rows.{row_after, row_before}
 use Rattle.store_relation.specs.Shared.{JournalState, no_journal, longer_of, IsMet, IsSighted, IsLook, inserted_by_all, IsShared}
@@ -30,8 +29,8 @@ use Rattle.store_relation.specs.Words.{Look, open_word, ended_word, commit_word}
 
 -- a law of one store
 abbrev pub StoreLaw : Type 1
-StoreLaw = (z : Config) (word : ℕ → ℕ) (pass : ℕ → PassState) (j : JournalState) (rows : Key → StampedVersions)
-    (clock : ℕ) → IsShared z word pass j rows clock → Type 0
+StoreLaw = (z : Config) (word : ℕ → ℕ) (pass : ℕ → PassState) (j : JournalState)
+    (rows : Key → StampedVersions) (clock : ℕ) → IsShared z word pass j rows clock → Type 0
 
 abbrev pub InEachStore : StoreLaw → Type 0
 InEachStore Law = (z : Config) (word : ℕ → ℕ) (pass : ℕ → PassState) (j : JournalState)
@@ -42,17 +41,17 @@ InEachStore Law = (z : Config) (word : ℕ → ℕ) (pass : ℕ → PassState) (
 abbrev pub NewStore : Type 0
 NewStore = (z : Config) → IsShared z (λ p. 0) (λ p. fresh_pass) no_journal (λ k. nothing) 0
 
-module _ (z : Config) (word : ℕ → ℕ) (pass : ℕ → PassState) (j : JournalState) (rows : Key → StampedVersions)
-    (clock : ℕ) (s : IsShared z word pass j rows clock) where
-
+module _ (z : Config) (word : ℕ → ℕ) (pass : ℕ → PassState) (j : JournalState)
+    (rows : Key → StampedVersions) (clock : ℕ) (s : IsShared z word pass j rows clock) where
   -- ---- begin
 
   -- the journal gets room for more entries
   abbrev pub RoomIsMade : Type 0
-  RoomIsMade = (room : ℕ) → j.room ≤ room → IsShared z word pass (record j { room = room }) rows clock
+  RoomIsMade = (room : ℕ) → j.room ≤ room
+      → IsShared z word pass (record j { room = room }) rows clock
 
-  -- BEGIN, the store of 'open': the clock is what it was when it was loaded, since whoever begins holds the
-  -- journal; and the records of the last commit all have their stamps
+  -- BEGIN, the store of 'open': the clock is what it was when it was loaded, since whoever begins
+  -- holds the journal; and the records of the last commit all have their stamps
   abbrev pub TransactionBegins : Type 0
   TransactionBegins = (p : ℕ) → (pass p).stage ≡ Idle → (pass p).unstamped ≡ []
       → p < z.passes → number_of (pass p) < z.txns_per_pass → z.passes ≤ j.room
@@ -60,13 +59,12 @@ module _ (z : Config) (word : ℕ → ℕ) (pass : ℕ → PassState) (j : Journ
 
   -- ---- writes
 
-  -- WRITE, of any of the five kinds: the view allows it, and in each row whoever stands where the write looks
-  -- is seen by the snapshot
+  -- WRITE, of any of the five kinds: the view allows it, and in each row whoever stands where the
+  -- write looks is seen by the snapshot
   abbrev pub WriteIsMade : Type 0
   WriteIsMade = (p : ℕ) (w : Write) (rows' : Key → StampedVersions) → (pass p).stage ≡ Open
       → refused (view z.kind (pass p).seen (pass p).start (pass p).own) w ≡ None → IsWithinLimits w
-      → ((k : Key) → MayWrite z.kind (sees (stamp_in (pass p).seen) (pass p).start (name_of pass p)) w k
-        (forget_row (rows k)))
+      → ((k : Key) → MayWrite z.kind (sees_by p (pass p)) w k (forget_row (rows k)))
       → ((k : Key) → rows' k ≡ row_after z.kind (name_of pass p) w k (rows k))
       → IsShared z word (revised pass p (written_by (pass p) w)) j rows' clock
 
@@ -80,22 +78,27 @@ module _ (z : Config) (word : ℕ → ℕ) (pass : ℕ → PassState) (j : Journ
   -- STAMP, the store of the stamp: its entry is the journal's next
   abbrev pub StampIsStored : Type 0
   StampIsStored = (p : ℕ) → (pass p).stage ≡ Open → 0 < length (pass p).own → j.next ≡ []
-      → IsShared z (revised word p (commit_word (length j.commits))) (revised pass p (committing (pass p)))
-        (with_entry j p (pass p)) rows clock
+      → IsShared z (revised word p (commit_word (length j.commits)))
+      (revised pass p (committing (pass p)))
+      (with_entry j p (pass p)) rows clock
 
-  -- PUBLISH, the store of the clock: a stamp is stored, and all rows of the commit are left to be stamped
+  -- PUBLISH, the store of the clock: a stamp is stored, and all rows of the commit are left to be
+  -- stamped
   abbrev pub CommitIsPublished : Type 0
   CommitIsPublished = (p : ℕ) (unstamped : List Key) → (pass p).stage ≡ Committing
       → ((k : Key) → (any_writes z.kind (pass p).own k || any_touches (pass p).own k) ≡ true
-        → has_key unstamped k ≡ true)
-      → IsShared z word (revised pass p (committed (pass p) j unstamped)) (published_now j) rows (clock + 1)
+      → has_key unstamped k ≡ true)
+      → IsShared z word (revised pass p (committed (pass p) j unstamped)) (published_now j) rows
+      (clock + 1)
 
-  -- STAMP ROWS: each row has the stamp in the records of the commit, or is as it was and is still to be stamped
+  -- STAMP ROWS: each row has the stamp in the records of the commit, or is as it was and is still
+  -- to be stamped
   abbrev pub RowsAreStamped : Type 0
-  RowsAreStamped = (p : ℕ) (unstamped : List Key) (c : Commit) (i : ℕ) (rows' : Key → StampedVersions)
+  RowsAreStamped = (p : ℕ) (unstamped : List Key) (c : Commit) (i : ℕ)
+      (rows' : Key → StampedVersions)
       → (pass p).stage ≡ Idle → slice_get (pass p).seen i ≡ Some c → c.by ≡ name_of pass p
       → ((k : Key) → (rows' k ≡ stamp (name_of pass p) c.stamp (rows k))
-        ⊎ ((rows' k ≡ rows k) × (has_key (pass p).unstamped k ≡ true → has_key unstamped k ≡ true)))
+      ⊎ ((rows' k ≡ rows k) × (has_key (pass p).unstamped k ≡ true → has_key unstamped k ≡ true)))
       → IsShared z word (revised pass p (with_unstamped (pass p) unstamped)) j rows' clock
 
   -- ---- abort
@@ -124,29 +127,34 @@ module _ (z : Config) (word : ℕ → ℕ) (pass : ℕ → PassState) (j : Journ
   NotesAreKept = (p : ℕ) (met : List Meeting) (holders sighted : List Sighting) (looks : List Look)
       → AllByRecursion (IsMet z.kind j) met → AllByRecursion (IsSighted z.kind pass j) holders
       → AllByRecursion (IsSighted z.kind pass j) sighted → AllByRecursion (IsLook j) looks
-      → IsShared z word (revised pass p (with_notes (pass p) met holders sighted looks)) j rows clock
+      → IsShared z word (revised pass p (with_notes (pass p) met holders sighted looks)) j rows
+      clock
 
   -- REFRESH: the journal is seen further, or as far as another pass has told
   abbrev pub JournalIsSeen : Type 0
-  JournalIsSeen = (p : ℕ) (seen : List Commit) → IsPrefix seen j.commits → (pass p).start ≤ length seen
+  JournalIsSeen = (p : ℕ) (seen : List Commit) → IsPrefix seen j.commits
+      → (pass p).start ≤ length seen
       → IsShared z word (revised pass p (refreshed (pass p) seen)) j rows clock
 
   -- MEET: of what a pass has seen and what another tells the longer one has both, and is published
   abbrev pub PassesMeet : Type 0
   PassesMeet = (p : ℕ) (told : List Commit) → IsPrefix told j.commits
-      → IsPrefix (pass p).seen (longer_of (pass p).seen told) × IsPrefix told (longer_of (pass p).seen told)
-      × IsShared z word (revised pass p (refreshed (pass p) (longer_of (pass p).seen told))) j rows clock
+      → IsPrefix (pass p).seen (longer_of (pass p).seen told)
+      × IsPrefix told (longer_of (pass p).seen told)
+      × IsShared z word (revised pass p (refreshed (pass p) (longer_of (pass p).seen told))) j rows
+      clock
 
   -- ---- prune
 
-  -- PRUNE, at a stamp up to a horizon that is above no start of a transaction that may still commit, by
-  -- whatever tells of the writers of records without a stamp
+  -- PRUNE, at a stamp up to a horizon that is above no start of a transaction that may still
+  -- commit, by whatever tells of the writers of records without a stamp
   abbrev pub RowsArePruned : Type 0
   RowsArePruned = (stamps : TxnName → Option ℕ) (at horizon : ℕ) (rows' : Key → StampedVersions)
       → s.horizon ≤ horizon → at ≤ horizon → horizon ≤ length j.commits
       → ((p : ℕ) → may_commit (pass p).stage ≡ true → horizon ≤ (pass p).start)
       → ((k : Key) → (rows' k ≡ rows k)
-        ⊎ ((rows' k ≡ prune_stamped stamps at (rows k)) × AreTold stamps (stamp_in j.commits) at (rows k)))
+      ⊎ ((rows' k ≡ prune_stamped stamps at (rows k))
+      × AreTold stamps (stamp_in j.commits) at (rows k)))
       → IsShared z word pass j rows' clock
 
   -- ---- readers

@@ -1,5 +1,5 @@
 -- What the steps of a transaction make of its pass and of the journal.
-use Rattle.std.specs.Prelude.{ℕ, ◌+◌, ◌-◌, ◌++◌, true, List, [], ◌∷◌, length, Option, Some, None}
+use Rattle.std.specs.Prelude.{ℕ, ◌+◌, ◌-◌, ◌++◌, true, List, [], ◌∷◌, length, Option, Some}
 use Rattle.graph_model.specs.declared.write.Write.{Write}
 use Rattle.graph_model.specs.declared.row.Key.{Key}
 use Rattle.graph_model.specs.declared.journal.TxnName.{TxnName}
@@ -31,7 +31,10 @@ filled_up st = record st { filled = true }
 -- the latest transaction has ended, with this stamp or with none
 abbrev pub ended : PassState → Option ℕ → PassState
 ended st stamp = record st {
-  stage = Idle; past = st.past ++ record { writes = st.own; stamp = stamp } ∷ []; own = []; laid = [];
+  stage = Idle;
+  past = st.past ++ record { writes = st.own; stamp = stamp } ∷ [];
+  own = [];
+  laid = [];
 }
 
 -- it gives up: it can't commit any more, and its writes still stand
@@ -93,7 +96,8 @@ abbrev pub with_look : PassState → Look → PassState
 with_look st l = record st { looks = l ∷ st.looks }
 
 -- these are all notes that the pass keeps
-abbrev pub with_notes : PassState → List Meeting → List Sighting → List Sighting → List Look → PassState
+abbrev pub with_notes : PassState → List Meeting → List Sighting → List Sighting → List Look
+    → PassState
 with_notes st met holders sighted looks =
     record st { met = met; holders = holders; sighted = sighted; looks = looks }
 

@@ -1,5 +1,6 @@
--- The word of a pass: where its latest transaction stands, in one number that other passes may load.
-use Rattle.std.specs.Prelude.{◌≡◌, ℕ, ◌+◌, ◌-◌, Bool, true, false, ◌==◌, ◌&&◌, cond, nat_lt, nat_le, List, [], ◌∷◌, Option, Some, None}
+-- The word of a pass: where its latest transaction stands, in one number that other passes may
+-- load.
+use Rattle.std.specs.Prelude.{◌≡◌, ℕ, ◌+◌, ◌-◌, Bool, false, ◌==◌, ◌&&◌, cond, nat_lt, nat_le, List, [], ◌∷◌, Option, Some, None}
 use Rattle.std.specs.List.{list_any}
 use Rattle.graph_model.specs.declared.journal.TxnName.{TxnName}
 use Rattle.graph_model.specs.declared.state.State.{State}
@@ -22,8 +23,8 @@ ended_word = 2
 abbrev pub commit_word : ℕ → ℕ
 commit_word place = place + 3
 
--- the word of a pass whose latest transaction is there, where so many commits are published; of an idle
--- pass it says how that transaction ended
+-- the word of a pass whose latest transaction is there, where so many commits are published; of an
+-- idle pass it says how that transaction ended
 abbrev pub IsMarked : Stage → ℕ → ℕ → Type 0
 IsMarked Idle word count = Unit {0}
 IsMarked Open word count = word ≡ open_word
@@ -62,7 +63,8 @@ has_word ls by n = list_any (λ l. same_name l.by by && (l.word == n)) ls
 -- the first that is of the writer serves up to this stamp
 abbrev pub has_look : ℕ → List Look → TxnName → Bool
 has_look horizon [] by = false
-has_look horizon (l ∷ ls) by = cond (same_name l.by by) (nat_le horizon l.until) (has_look horizon ls by)
+has_look horizon (l ∷ ls) by = cond (same_name l.by by) (nat_le horizon l.until)
+    (has_look horizon ls by)
 
 -- some look vouches for this state of the writer
 abbrev pub is_said : List Look → TxnName → State → Bool

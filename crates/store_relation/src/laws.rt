@@ -2,8 +2,10 @@
 //! pass that makes it. Each law is a function whose contract is the law.
 
 ghost use Rattle.store_relation.specs.AccountLaws.{OfEachPass, AccountBegins, AccountWrites, AccountCommits, AccountCommitsNone, AccountAborts, AccountSees, AccountSights};
-ghost use Rattle.store_relation.specs.CheckLaws.{CheckedIsFree, FreeMayBeWritten, CauseIsFound, LaterIsStamped, HolderIsOther, ChangedKeysCover, OthersAreLeft};
-ghost use Rattle.store_relation.specs.ReadLaws.{ReadIsOfView, ReaderReadsView, PassLearns, WordTells, LooksTell, LookedHasMade, WordIsMet, StampIsMet, LookIsMet, HolderIsSighted, MetIsLater, ClockIsBounded, AccountIsValid, StoreCloses};
+ghost use Rattle.store_relation.specs.CheckLaws.{CheckedIsFree, FreeMayBeWritten, CauseIsFound, LaterIsStamped, HolderIsOther};
+ghost use Rattle.store_relation.specs.Examples.{RightSteps, WrongSteps, WrongReads};
+ghost use Rattle.store_relation.specs.ReadLaws.{ReadIsOfView, ReaderReadsView, PassLearns, WordTells, LooksTell, LooksTellRow, LookedHasMade, WordIsMet, StampIsMet, LookIsMet, HolderIsSighted, MetIsLater, ClockIsBounded, AccountIsValid, StoreCloses};
+ghost use Rattle.store_relation.specs.RowLaws.{RowAfterIsWrite, RowBeforeIsUndo, RowKeepsStamps, OtherRowsStay, KeysAreAll, ChangedKeysCover, OthersAreLeft, NoneIsDone, OneMoreIsDone, AllAreDone};
 ghost use Rattle.store_relation.specs.StepLaws.{InEachStore, NewStore, RoomIsMade, TransactionBegins, WriteIsMade, WriteIsFull, StampIsStored, CommitIsPublished, RowsAreStamped, AbortBegins, WriteIsUndone, TransactionEnds, NotesAreKept, JournalIsSeen, PassesMeet, RowsArePruned, ReaderIsSplit, ReaderIsJoined, ReadersStay};
 
 /// A new store, room in its journal, and the begin of a transaction.
@@ -63,6 +65,7 @@ pub fn reads_are_of_the_view()
 pub fn words_tell_of_writers()
     ensures word { InEachStore WordTells }
     ensures looks { InEachStore LooksTell }
+    ensures row { InEachStore LooksTellRow }
 {}
 
 /// Whom a write meets: commits by their words, stamps and looks, and open transactions.
@@ -75,15 +78,31 @@ pub fn conflicts_are_noted()
     ensures later { InEachStore MetIsLater }
 {}
 
-/// What the checks of a segment say of a write, and which rows it changes.
+/// What the checks of a segment say of a write.
 pub fn checks_allow_writes()
     ensures free { CheckedIsFree }
     ensures may_write { FreeMayBeWritten }
     ensures cause { CauseIsFound }
     ensures later { LaterIsStamped }
     ensures holder { HolderIsOther }
+{}
+
+/// What a write, or its undo, does to rows, and to which.
+pub fn rows_change_by_writes()
+    ensures write { RowAfterIsWrite }
+    ensures undo { RowBeforeIsUndo }
+    ensures stamps { RowKeepsStamps }
+    ensures others { OtherRowsStay }
+    ensures keys { KeysAreAll }
     ensures changed { ChangedKeysCover }
     ensures left { OthersAreLeft }
+{}
+
+/// The rows of a segment are changed key after key.
+pub fn segments_change_by_key()
+    ensures none { NoneIsDone }
+    ensures more { OneMoreIsDone }
+    ensures all { AllAreDone }
 {}
 
 /// What the steps of a call do to the account of its pass.
@@ -102,4 +121,11 @@ pub fn stores_close()
     ensures clock { InEachStore ClockIsBounded }
     ensures account { InEachStore AccountIsValid }
     ensures close { InEachStore StoreCloses }
+{}
+
+/// Two passes on one store, step by step; and rules that would be wrong, each by the state to which it leads.
+pub fn examples_hold()
+    ensures right { RightSteps }
+    ensures wrong { WrongSteps }
+    ensures reads { WrongReads }
 {}

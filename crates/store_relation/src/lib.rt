@@ -9,8 +9,8 @@ mod stage;
 
 pub use laws::{
     aborts_keep_the_rule, accounts_follow_steps, begins_keep_the_rule, checks_allow_writes,
-    commits_keep_the_rule, conflicts_are_noted, notes_keep_the_rule, prunes_keep_the_rule,
-    readers_keep_the_rule, reads_are_of_the_view, stores_close, words_tell_of_writers,
-    writes_keep_the_rule,
+    commits_keep_the_rule, conflicts_are_noted, examples_hold, notes_keep_the_rule,
+    prunes_keep_the_rule, readers_keep_the_rule, reads_are_of_the_view, rows_change_by_writes,
+    segments_change_by_key, stores_close, words_tell_of_writers, writes_keep_the_rule,
 };
 pub use stage::Stage;

@@ -1,5 +1,4 @@
 use Rattle.store_relation.proofs.CheckLemmas.{checked_free, may_write, checked_cause, later_cause, holder_cause}
-use Rattle.store_relation.proofs.KeyLemmas.{changed_covers, left_still}
 use Rattle.store_relation.proofs.laws.checks_allow_writes.Goals as goal
 
 pub returns-clause-free : goal.returns-clause-free
@@ -16,9 +15,3 @@ returns-clause-later c = later_cause
 
 pub returns-clause-holder : goal.returns-clause-holder
 returns-clause-holder c = holder_cause
-
-pub returns-clause-changed : goal.returns-clause-changed
-returns-clause-changed c = changed_covers
-
-pub returns-clause-left : goal.returns-clause-left
-returns-clause-left c = left_still
