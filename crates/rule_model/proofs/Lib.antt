@@ -6,3 +6,5 @@ pub mod TxnLemmas
 pub mod NoteStepLemmas
 pub mod BlockFrame
 pub mod BlockStepLemmas
+pub mod RowFrame
+pub mod RowStepLemmas

@@ -5,3 +5,4 @@ pub mod Steps
 pub mod TxnSteps
 pub mod NoteSteps
 pub mod BlockSteps
+pub mod RowSteps
