@@ -8,3 +8,6 @@ pub mod BlockFrame
 pub mod BlockStepLemmas
 pub mod RowFrame
 pub mod RowStepLemmas
+pub mod PinFrame
+pub mod PinStepLemmas
+pub mod MoveStepLemmas

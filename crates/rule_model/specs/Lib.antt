@@ -6,3 +6,5 @@ pub mod TxnSteps
 pub mod NoteSteps
 pub mod BlockSteps
 pub mod RowSteps
+pub mod PinSteps
+pub mod MoveSteps
