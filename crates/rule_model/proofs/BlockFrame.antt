@@ -37,22 +37,22 @@ by_block {z} {at} {heap} {s} r id me here k c has inside F keeps_contents i n sm
     let index = (r.known.index 0).index in
     let same : ◌≡◌ {A = ℕ → VersionedRows} (segment_of cell) (segment_of (put cell k c')) = sym (part_same (λ (d : CellState). d.segment) cell k c' (keeps_contents (cell k))) in
     subst (λ (d : CellState). IsStoreRule z at heap (stepped s (block_place at k i) n id me.1 (with_cell me.0 k (F d)) keeps)) (cell_is r id me here k c has)
-      (steps_to r id me here (block_place at k i) n (record words { block = put_word words.block k i n }) news me.0.reads
-        (block_word_stored at z.passes (cells_of z) s.words r.apart k i n inside small)
-        (record { passes = none_kept me.0.passes; pins = none_kept me.0.pins; cells = one_kept me.0.cells k c c' has; indexes = none_kept me.0.indexes; journals = none_kept me.0.journals })
-        (record {
-          grows = prefix_all (r.known.journal 0).commits;
-          readers = r.readers;
-          others = kept.reads;
-          own = λ q e. kept.reads q (own_read r id me here q e);
-        })
-        (record {
-          shared = subst (λ (seg : ℕ → VersionedRows). IsShared z words.pass r.known.pass (r.known.journal 0) (versions_of (store_of heap index seg)) words.clock) same old.shared;
-          indexed = subst (IsIndexed heap index) same old.indexed;
-          leaves = old.leaves;
-          weighed = subst (λ (seg : ℕ → VersionedRows). weight (store_of heap index seg) ≤ inserted_by_all z r.known.pass) same old.weighed;
-          blocks = kept.blocks;
-          pinned = old.pinned;
-          noted = old.noted;
-          fast = old.fast;
-        }))
+    (steps_to r id me here (block_place at k i) n (record words { block = put_word words.block k i n }) news me.0.reads
+    (block_word_stored at z.passes (cells_of z) s.words r.apart k i n inside small)
+    (record { passes = none_kept me.0.passes; pins = none_kept me.0.pins; cells = one_kept me.0.cells k c c' has; indexes = none_kept me.0.indexes; journals = none_kept me.0.journals })
+    (record {
+      grows = prefix_all (r.known.journal 0).commits;
+      readers = r.readers;
+      others = kept.reads;
+      own = λ q e. kept.reads q (own_read r id me here q e);
+    })
+    (record {
+      shared = subst (λ (seg : ℕ → VersionedRows). IsShared z words.pass r.known.pass (r.known.journal 0) (versions_of (store_of heap index seg)) words.clock) same old.shared;
+      indexed = subst (IsIndexed heap index) same old.indexed;
+      leaves = old.leaves;
+      weighed = subst (λ (seg : ℕ → VersionedRows). weight (store_of heap index seg) ≤ inserted_by_all z r.known.pass) same old.weighed;
+      blocks = kept.blocks;
+      pinned = old.pinned;
+      noted = old.noted;
+      fast = old.fast;
+    }))

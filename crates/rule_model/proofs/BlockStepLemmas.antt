@@ -29,7 +29,7 @@ use Rattle.cells_model.proofs.IndexedLemmas.{cells_show}
 use Rattle.cells_model.proofs.ReadLemmas.{first_load_begins, second_load_goes_on, second_load_validates, word_load_goes_on}
 use Rattle.rule_model.specs.Places.{Layout, block_place, put_word}
 use Rattle.rule_model.specs.Sight.{Sight, HasPass, cells_of, with_cell, with_found, with_reading}
-use Rattle.rule_model.specs.Rule.{IsStoreRule, rows_of, words_of}
+use Rattle.rule_model.specs.Rule.{IsStoreRule, rows_now, words_of}
 use Rattle.rule_model.specs.Steps.{OfEachSeat}
 use Rattle.rule_model.specs.BlockSteps.{GiveView, HolderLoads, CellIsUnpacked, WordIsStored, CellIsPacked, ReadBegins, WordIsRead, ReadEnds, ReaderReadEnds}
 use Rattle.rule_model.proofs.BlockFrame.{by_block}
@@ -67,7 +67,7 @@ cell_is_unpacked z at heap slots id me k c has inside free s r homes here bound 
       keeps,
       tt,
       by_block r id me here k c has inside unpacked (λ d. refl) 0 (raised_word (version_word c)) (omega arith)
-        (subst (λ (d : CellState). KeepsBlocks (cells_of z) (put_word block k 0 (raised_word (version_word d))) cell (revised cell ((k, unpacked (cell k)) ∷ []))) c_is
+          (subst (λ (d : CellState). KeepsBlocks (cells_of z) (put_word block k 0 (raised_word (version_word d))) cell (revised cell ((k, unpacked (cell k)) ∷ []))) c_is
           (unpacks_cell (cells_of z) block (put_word block k 0 (raised_word (version_word (cell k)))) cell old.blocks k inside free' (word_put block k 0 (raised_word (version_word (cell k)))))),
       (refl, subst (λ (d : CellState). Spells d.block d.segment) c_is (old.blocks.spells k inside free')),
     )
@@ -81,7 +81,7 @@ word_is_stored z at heap slots id me k i n c has inside least less loose s r hom
       keeps,
       tt,
       by_block r id me here k c has inside (λ d. stored d i n) (λ d. refl) i n less
-        (stores_word (cells_of z) block (put_word block k i n) cell r.stored.blocks k i n inside least less (ap (λ (d : CellState). d.unpacked) c_is ∙ loose) (word_put block k i n)),
+          (stores_word (cells_of z) block (put_word block k i n) cell r.stored.blocks k i n inside least less (ap (λ (d : CellState). d.unpacked) c_is ∙ loose) (word_put block k i n)),
       refl,
     )
 
@@ -95,9 +95,9 @@ cell_is_packed z at heap slots id me k c has inside loose spells s r homes here 
       keeps,
       tt,
       by_block r id me here k c has inside packed (λ d. refl) 0 (word c) (omega arith)
-        (subst (λ (d : CellState). KeepsBlocks (cells_of z) (put_word block k 0 (word d)) cell (revised cell ((k, packed (cell k)) ∷ []))) c_is
+          (subst (λ (d : CellState). KeepsBlocks (cells_of z) (put_word block k 0 (word d)) cell (revised cell ((k, packed (cell k)) ∷ []))) c_is
           (packs_cell (cells_of z) block (put_word block k 0 (word (cell k))) cell r.stored.blocks k inside (ap (λ (d : CellState). d.unpacked) c_is ∙ loose)
-            (subst (λ (d : CellState). Spells d.block d.segment) (sym c_is) spells) (word_put block k 0 (word (cell k))))),
+          (subst (λ (d : CellState). Spells d.block d.segment) (sym c_is) spells) (word_put block k 0 (word (cell k))))),
       refl,
     )
 
@@ -110,7 +110,7 @@ read_begins z at heap slots id me k inside s r homes here bound =
       keeps,
       tt,
       by_nothing r id me here (block_place at k 0) (record { reading = first_loaded k n; found = record { cell = k; word = n } ∷ me.0.reads.found })
-        (λ q e. first_load_begins (cells_of z) (words_of z at s.words).block r.known.cell r.stored.blocks k q inside
+          (λ q e. first_load_begins (cells_of z) (words_of z at s.words).block r.known.cell r.stored.blocks k q inside
           (subst (λ m. first_loaded k m ≡ Some q) (word_in r k 0 inside (omega arith)) e)),
       (refl, tt),
     )
@@ -124,7 +124,7 @@ word_is_read z at heap slots id me q i reading least less s r homes here bound =
       keeps,
       tt,
       by_nothing r id me here (block_place at q.cell i) (record me.0.reads { reading = Some (word_loaded q i n) })
-        (λ u e. subst (IsReading (cells_of z) r.known.cell) (some_is (word_loaded q i n) u e)
+          (λ u e. subst (IsReading (cells_of z) r.known.cell) (some_is (word_loaded q i n) u e)
           (subst (λ m. IsReading (cells_of z) r.known.cell (word_loaded q i m)) (sym (word_in r q.cell i h.inside less)) goes)),
       (refl, tt),
     )
@@ -144,7 +144,7 @@ module _ {z : Config} {at : Layout} {heap : Global} {s : S} (r : IsStoreRule z a
       record { block = v.block; segment = v.segment; loaded = v.loaded; spells = v.spells; fact = subst holds (sym v.fact) fact }
 
   -- the cell's contents are those of its keys
-  shown : (key : Key) → covers (r.known.cell q.cell).segment key ≡ true → versions_at (r.known.cell q.cell).segment key ≡ rows_of heap r.known key
+  shown : (key : Key) → covers (r.known.cell q.cell).segment key ≡ true → versions_at (r.known.cell q.cell).segment key ≡ rows_now heap r.known key
   shown key covered =
       let h = (own_read r id me here q reading).inside in
       let leaves = r.stored.leaves in
@@ -158,10 +158,13 @@ read_ends z at heap slots id me p st q has opened reading s r homes here bound =
       keeps,
       tt,
       second_keeps r id me here q reading n,
-      (refl, validated r id me here q reading (GiveView z st.seen st.start st.own (name_at p st)) (λ key covered.
-          ap (read_stamped (stamp_in st.seen) st.start (name_at p st)) (shown r id me here q reading key covered)
-          ∙ subst (λ (u : PassState). SeesValue z u.seen u.start u.own (name_at p u) (stamp_in u.seen) key (rows_of heap r.known key)) st_is
-            (reads_seen r.stored.shared p (ap (λ (u : PassState). u.stage) st_is ∙ opened) key))),
+      (
+        refl,
+        validated r id me here q reading (GiveView z st.seen st.start st.own (name_at p st)) (λ key covered.
+            ap (read_stamped (stamp_in st.seen) st.start (name_at p st)) (shown r id me here q reading key covered)
+            ∙ subst (λ (u : PassState). SeesValue z u.seen u.start u.own (name_at p u) (stamp_in u.seen) key (rows_now heap r.known key)) st_is
+            (reads_seen r.stored.shared p (ap (λ (u : PassState). u.stage) st_is ∙ opened) key)),
+      ),
     )
 
 pub reader_read_ends : OfEachSeat ReaderReadEnds
@@ -172,6 +175,9 @@ reader_read_ends z at heap slots id me x q has reading s r homes here bound =
       keeps,
       tt,
       second_keeps r id me here q reading n,
-      (refl, validated r id me here q reading (GiveView z x.seen x.start x.own x.by) (λ key covered.
-          ap (read_stamped (stamp_in x.seen) x.start x.by) (shown r id me here q reading key covered) ∙ reader_reads r.stored.shared x reader key)),
+      (
+        refl,
+        validated r id me here q reading (GiveView z x.seen x.start x.own x.by) (λ key covered.
+            ap (read_stamped (stamp_in x.seen) x.start x.by) (shown r id me here q reading key covered) ∙ reader_reads r.stored.shared x reader key),
+      ),
     )

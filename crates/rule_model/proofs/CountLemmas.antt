@@ -20,7 +20,7 @@ use Rattle.store_relation.proofs.ListLemmas.{sum_le}
 pub inserted_front : (kind : Kind) (xs ys : List (List Write)) → inserted kind (flat_map (λ us. us) xs) ≤ inserted kind (flat_map (λ us. us) (xs ++ ys))
 inserted_front kind xs ys =
     let a : inserted kind (flat_map (λ us. us) (xs ++ ys)) ≡ inserted kind (flat_map (λ us. us) xs) + inserted kind (flat_map (λ us. us) ys)
-        = ap (inserted kind) (flat_map-append (λ us. us) xs ys) ∙ sum_by-append (inserted_by kind) (flat_map (λ us. us) xs) (flat_map (λ us. us) ys) in
+    = ap (inserted kind) (flat_map-append (λ us. us) xs ys) ∙ sum_by-append (inserted_by kind) (flat_map (λ us. us) xs) (flat_map (λ us. us) ys) in
     omega (arith, a)
 
 -- where one pass has inserted no fewer, so have all
@@ -48,8 +48,8 @@ made_one : (kind : Kind) (xs : List (List Write)) (ws : List Write) (w : Write)
 made_one kind xs ws w =
     let f : List Write → ℕ = inserted kind in
     let flat : (us : List Write) → f (flat_map (λ us. us) (xs ++ us ∷ [])) ≡ f (flat_map (λ us. us) xs) + f us
-        = (λ us. ap f (flat_map-append (λ vs. vs) xs (us ∷ []) ∙ ap (λ vs. flat_map (λ us. us) xs ++ vs) (append-nil us))
-        ∙ sum_by-append (inserted_by kind) (flat_map (λ us. us) xs) us) in
+    = (λ us. ap f (flat_map-append (λ vs. vs) xs (us ∷ []) ∙ ap (λ vs. flat_map (λ us. us) xs ++ vs) (append-nil us))
+    ∙ sum_by-append (inserted_by kind) (flat_map (λ us. us) xs) us) in
     let a = flat ws in
     let b = flat (ws ++ w ∷ []) in
     let c : f (ws ++ w ∷ []) ≡ f ws + f (w ∷ []) = sum_by-append (inserted_by kind) ws (w ∷ []) in
@@ -60,7 +60,7 @@ pub write_counts : (kind : Kind) (st st' : PassState) (w : Write) → is_active 
 write_counts kind st st' w on on' past own =
     let before : made_of st ≡ ended_writes st ++ st.own ∷ [] = ap (λ b. cond b (ended_writes st ++ st.own ∷ []) (ended_writes st)) on in
     let after : made_of st' ≡ ended_writes st ++ (st.own ++ w ∷ []) ∷ []
-        = ap (λ b. cond b (ended_writes st' ++ st'.own ∷ []) (ended_writes st')) on' ∙ (λ i. map (λ t. t.writes) (past i) ++ own i ∷ []) in
+    = ap (λ b. cond b (ended_writes st' ++ st'.own ∷ []) (ended_writes st')) on' ∙ (λ i. map (λ t. t.writes) (past i) ++ own i ∷ []) in
     let one = made_one kind (ended_writes st) st.own w in
     let x : inserted_by_pass kind st ≡ inserted kind (flat_map (λ us. us) (ended_writes st ++ st.own ∷ [])) = ap (λ m. inserted kind (flat_map (λ us. us) m)) before in
     let y : inserted_by_pass kind st' ≡ inserted kind (flat_map (λ us. us) (ended_writes st ++ (st.own ++ w ∷ []) ∷ [])) = ap (λ m. inserted kind (flat_map (λ us. us) m)) after in

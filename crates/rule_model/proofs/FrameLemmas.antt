@@ -70,7 +70,11 @@ readers_set (x ∷ views) (suc id) v w at same =
 
 pub nothing_new : (v : Sight) → AreNews v no_news
 nothing_new v = record {
-  passes = none_kept v.passes; pins = none_kept v.pins; cells = none_kept v.cells; indexes = none_kept v.indexes; journals = none_kept v.journals;
+  passes = none_kept v.passes;
+  pins = none_kept v.pins;
+  cells = none_kept v.cells;
+  indexes = none_kept v.indexes;
+  journals = none_kept v.journals;
 }
 
 -- ---- what a step asks besides the words and contents
@@ -129,9 +133,9 @@ module _ {z : Config} {at : Layout} {heap : Global} {s : S} (r : IsStoreRule z a
         journals = kept_news (λ (u : Sight). u.journals) s.views r.known.journal r.journal_keeper r.journals id v here new n.journals refl news.journals;
         told = λ seat u at_u. prefix_trans u.told (r.known.journal 0).commits ((after r.known n).journal 0).commits
             (⊎_elim
-              (λ (t : (seat ≡ id) × (new ≡ u)). subst (λ l. IsPrefix l (r.known.journal 0).commits) (ap (λ (x : Sight). x.told) t.1) (r.told id v here))
-              (λ (t : (seat ≢ id) × (get_elem? s.views seat ≡ some u)). r.told seat u t.1)
-              (at_set s.views id seat new u at_u)) sound.grows;
+            (λ (t : (seat ≡ id) × (new ≡ u)). subst (λ l. IsPrefix l (r.known.journal 0).commits) (ap (λ (x : Sight). x.told) t.1) (r.told id v here))
+            (λ (t : (seat ≢ id) × (get_elem? s.views seat ≡ some u)). r.told seat u t.1)
+            (at_set s.views id seat new u at_u)) sound.grows;
         readers = subst (AreReaders (after r.known n).pass ((after r.known n).journal 0).commits) (sym (readers_set s.views id v new here refl)) sound.readers;
         reads = λ seat u q at_u has. ⊎_elim
             (λ (t : (seat ≡ id) × (new ≡ u)). sound.own q (ap (λ (x : Sight). x.reads.reading) t.1 ∙ has))

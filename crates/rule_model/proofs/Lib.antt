@@ -11,3 +11,6 @@ pub mod RowStepLemmas
 pub mod PinFrame
 pub mod PinStepLemmas
 pub mod MoveStepLemmas
+pub mod ViewLemmas
+pub mod EndLemmas
+pub mod ExampleLemmas

@@ -27,7 +27,7 @@ use Rattle.cells_model.proofs.MovedLemmas.{merges_cells, splits_cells, spreads_c
 use Rattle.cells_model.proofs.NoteLemmas.{retires_leaves}
 use Rattle.rule_model.specs.Places.{Layout}
 use Rattle.rule_model.specs.Sight.{IndexState, Sight, no_news, with_news}
-use Rattle.rule_model.specs.Rule.{IsStoreRule, active_of, noted_of, rows_of, start_of, sweep_of, words_of}
+use Rattle.rule_model.specs.Rule.{IsStoreRule, active_of, noted_of, rows_now, start_of, sweep_of, words_of}
 use Rattle.rule_model.specs.Steps.{OfEachSeat}
 use Rattle.rule_model.specs.MoveSteps.{CanMove, IsMove, MergeIsMove, RowsAreMoved, SplitIsMove, SpreadIsMove}
 use Rattle.rule_model.proofs.FrameLemmas.{cells_agree, index_is}
@@ -128,10 +128,10 @@ merge_is_move heap index new stamp cell cell' is m below small_left small_right 
       indexed = t.indexed;
       keeps = keeps_versions _ _ t.compacts.moves;
       live = λ l on. elim (live_but_one l m.front m.left (record m.left { cuts = lows_of (leaf_cells cell' m.left.leaf) }) m.right m.back refl (sym (ap (list_any (λ (x : Entry). x.leaf == l)) m.is) ∙ on))
-        as (λ _. (is_live new l ≡ true) ⊎ ((r : Retired) × IsAmong r new.retired × (r.leaf ≡ l) × (r.stamp ≡ stamp))) [
-          | inl still ↦ inl (ap (λ (x : Index). is_live x l) m.now ∙ still)
-          | inr one ↦ inr (gone, subst (λ (x : Index). IsAmong gone x.retired) (sym m.now) (among_last gone index.retired), one, refl)
-        ];
+          as (λ _. (is_live new l ≡ true) ⊎ ((r : Retired) × IsAmong r new.retired × (r.leaf ≡ l) × (r.stamp ≡ stamp))) [
+            | inl still ↦ inl (ap (λ (x : Index). is_live x l) m.now ∙ still)
+            | inr one ↦ inr (gone, subst (λ (x : Index). IsAmong gone x.retired) (sym m.now) (among_last gone index.retired), one, refl)
+          ];
       retired = λ r among. subst (λ (x : Index). IsAmong r x.retired) (sym m.now) (among_front r index.retired (gone ∷ []) among);
     }
 
@@ -145,31 +145,31 @@ rows_are_moved z at heap slots id me y now news can s r homes here small =
     let n : ℕ = slice_index s.words at.clock in
     let y_is = index_is r id me here y can.index in
     let done = can.moves n (clock_bound old.shared) k.cell (cells_agree r id me here) (subst (λ (u : IndexState). IsIndexed heap u.index (segment_of k.cell)) y_is old.indexed) in
-    let same : ◌≡◌ {A = Key → StampedVersions} (rows_of heap k) (versions_of (store_of heap (now n) (segment_of (revised k.cell news))))
-        = (λ i q. (ap (λ (u : IndexState). versions_of (store_of heap u.index (segment_of k.cell)) q) y_is ∙ sym (done.keeps.versions q)) i) in
+    let same : ◌≡◌ {A = Key → StampedVersions} (rows_now heap k) (versions_of (store_of heap (now n) (segment_of (revised k.cell news))))
+    = (λ i q. (ap (λ (u : IndexState). versions_of (store_of heap u.index (segment_of k.cell)) q) y_is ∙ sym (done.keeps.versions q)) i) in
     let weight_old : weight (store_of heap y.index (segment_of k.cell)) ≤ inserted_by_all z k.pass = subst (λ (u : IndexState). weight (store_of heap u.index (segment_of k.cell)) ≤ inserted_by_all z k.pass) y_is old.weighed in
     let weight_new = done.keeps.weight in
     let published = old.shared.published in
     let began : (o : ℕ) → active_of k.pass o ≡ true → start_of k.pass o ≤ n = (λ o _.
-          let h = old.shared.each o in
-          let a = h.started in
-          let b = prefix_length (k.pass o).seen (k.journal 0).commits h.seen in
-          omega (arith, a, b, published)) in (
+    let h = old.shared.each o in
+    let a = h.started in
+    let b = prefix_length (k.pass o).seen (k.journal 0).commits h.seen in
+    omega (arith, a, b, published)) in (
       with_news me.0 (record no_news { cells = news; indexes = (0, record y { index = now n }) ∷ [] }) me.0.reads,
       keeps,
       tt,
       by_change r id me here news can.held [] ((0, record y { index = now n }) ∷ []) (none_kept me.0.passes) (one_kept me.0.indexes 0 y (record y { index = now n }) can.index)
-        (record {
-          readers = r.readers;
-          active = refl;
-          start = refl;
-          shared = subst (λ rows. IsShared z words.pass k.pass (k.journal 0) rows words.clock) same old.shared;
-          indexed = done.indexed;
-          leaves = done.keeps.limit ∙ ap (λ (u : IndexState). u.index.leaves) (sym y_is) ∙ old.leaves;
-          weighed = omega (arith, weight_old, weight_new);
-          noted = retires_leaves y.index (now n) (active_of k.pass) (start_of k.pass) (noted_of k.pin) (sweep_of k.pin) y.sweeper n
-              (subst (λ (u : IndexState). AreNoted u.index (active_of k.pass) (start_of k.pass) (noted_of k.pin) (sweep_of k.pin) u.sweeper) y_is old.noted)
-              began done.live done.retired;
-        }),
+          (record {
+            readers = r.readers;
+            active = refl;
+            start = refl;
+            shared = subst (λ rows. IsShared z words.pass k.pass (k.journal 0) rows words.clock) same old.shared;
+            indexed = done.indexed;
+            leaves = done.keeps.limit ∙ ap (λ (u : IndexState). u.index.leaves) (sym y_is) ∙ old.leaves;
+            weighed = omega (arith, weight_old, weight_new);
+            noted = retires_leaves y.index (now n) (active_of k.pass) (start_of k.pass) (noted_of k.pin) (sweep_of k.pin) y.sweeper n
+                (subst (λ (u : IndexState). AreNoted u.index (active_of k.pass) (start_of k.pass) (noted_of k.pin) (sweep_of k.pin) u.sweeper) y_is old.noted)
+                began done.live done.retired;
+          }),
       (refl, tt),
     )

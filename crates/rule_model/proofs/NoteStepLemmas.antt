@@ -41,7 +41,7 @@ use Rattle.cells_model.specs.InPlace.{segment_of}
 use Rattle.cells_model.proofs.IndexedLemmas.{cells_show}
 use Rattle.rule_model.specs.Places.{Layout}
 use Rattle.rule_model.specs.Sight.{Sight, HasCell, HasPass, with_pass}
-use Rattle.rule_model.specs.Rule.{IsStoreRule, rows_of, words_of}
+use Rattle.rule_model.specs.Rule.{IsStoreRule, rows_now, words_of}
 use Rattle.rule_model.specs.Steps.{OfEachSeat}
 use Rattle.rule_model.specs.NoteSteps.{HasRow, HasRecordIn, LooksAtRecord, TellsWriter, PassLearns, ReaderLearns, WordIsLooked, LookIsKept, ReaderLooks, HolderIsFound, HolderIsAnswered, StampIsMet, LookIsMet}
 use Rattle.rule_model.proofs.FrameLemmas.{S, M, by_nothing, cell_is, own_read, pass_is}
@@ -50,22 +50,22 @@ use Rattle.rule_model.proofs.TxnLemmas.{knows_more}
 
 module _ {z : Config} {at : Layout} {heap : Global} {s : S} (r : IsStoreRule z at heap s) (id : ℕ) (me : M) (here : get_elem? s.views id ≡ some me.0) where
   -- a held cell that covers a key has the key's row
-  pub row_is : (k : ℕ) (c : CellState) (q : Key) → HasRow z me.0 k c q → versions_at c.segment q ≡ rows_of heap r.known q
+  pub row_is : (k : ℕ) (c : CellState) (q : Key) → HasRow z me.0 k c q → versions_at c.segment q ≡ rows_now heap r.known q
   row_is k c q row =
       let is = cell_is r id me here k c row.cell in
       let leaves = r.stored.leaves in
       let inside = row.inside in
       ap (λ (d : CellState). versions_at d.segment q) (sym is)
       ∙ sym (cells_show heap (r.known.index 0).index (segment_of r.known.cell) r.stored.indexed k q (omega (arith, leaves, inside))
-        (ap (λ (d : CellState). covers d.segment q) is ∙ row.covered))
+      (ap (λ (d : CellState). covers d.segment q) is ∙ row.covered))
 
   -- so its records are those of the row
-  pub record_is : (k : ℕ) (c : CellState) (q : Key) (x : Stamped) → HasRecordIn z me.0 k c q x → HasRecord (rows_of heap r.known q) x
+  pub record_is : (k : ℕ) (c : CellState) (q : Key) (x : Stamped) → HasRecordIn z me.0 k c q x → HasRecord (rows_now heap r.known q) x
   record_is k c q x there = subst (λ vs. HasRecord vs x) (row_is k c q there.row) there.there
 
   -- and whoever a write looks at there it looks at
-  pub looks_there : (w : Write) (x : Stamped) → LooksAtRecord z me.0 w x → has_name (looked w (λ q. forget_row (rows_of heap r.known q))) x.by ≡ true
-  looks_there w x l = looked_in_row w (λ q. forget_row (rows_of heap r.known q)) l.key x.by
+  pub looks_there : (w : Write) (x : Stamped) → LooksAtRecord z me.0 w x → has_name (looked w (λ q. forget_row (rows_now heap r.known q))) x.by ≡ true
+  looks_there w x l = looked_in_row w (λ q. forget_row (rows_now heap r.known q)) l.key x.by
       (ap (λ vs. looks_at w l.key (forget_row vs) x.by) (sym (row_is l.number l.cell l.key l.record_in.row)) ∙ l.looks)
 
   -- what the word that a load found tells of the record's writer
@@ -109,16 +109,19 @@ pass_learns z at heap slots id me p st has opened s r homes here small =
       keeps,
       tt,
       by_nothing r id me here at.clock me.0.reads (own_read r id me here),
-      (refl, record {
-        reads = λ k c q row.
-            ap (read_stamped (stamp_in st.seen) st.start (name_at p st)) (row_is r id me here k c q row)
-            ∙ subst (λ (u : PassState). SeesValue z u.seen u.start u.own (name_at p u) (stamp_in u.seen) q (rows_of heap r.known q)) st_is (l.reads q);
-        writers = λ k c q x there bare. l.writers q x (record_is r id me here k c q x there) bare;
-        others = λ k c q x there bare away. l.others q x (record_is r id me here k c q x there) bare (ap (λ (u : PassState). same_name x.by (name_at p u)) st_is ∙ away);
-        stamps = λ k c q x there stamp e. subst (λ (u : PassState). reached (stamp_in u.seen x.by) u.start ≡ nat_le stamp u.start) st_is
-            (l.stamps q x (record_is r id me here k c q x there) stamp e);
-        published = subst (λ (u : PassState). length u.seen ≤ slice_index s.words at.clock) st_is l.published;
-      }),
+      (
+        refl,
+        record {
+          reads = λ k c q row.
+              ap (read_stamped (stamp_in st.seen) st.start (name_at p st)) (row_is r id me here k c q row)
+              ∙ subst (λ (u : PassState). SeesValue z u.seen u.start u.own (name_at p u) (stamp_in u.seen) q (rows_now heap r.known q)) st_is (l.reads q);
+          writers = λ k c q x there bare. l.writers q x (record_is r id me here k c q x there) bare;
+          others = λ k c q x there bare away. l.others q x (record_is r id me here k c q x there) bare (ap (λ (u : PassState). same_name x.by (name_at p u)) st_is ∙ away);
+          stamps = λ k c q x there stamp e. subst (λ (u : PassState). reached (stamp_in u.seen x.by) u.start ≡ nat_le stamp u.start) st_is
+              (l.stamps q x (record_is r id me here k c q x there) stamp e);
+          published = subst (λ (u : PassState). length u.seen ≤ slice_index s.words at.clock) st_is l.published;
+        },
+      ),
     )
 
 pub reader_learns : OfEachSeat ReaderLearns
@@ -128,9 +131,13 @@ reader_learns z at heap slots id me x has s r homes here small =
       keeps,
       tt,
       by_nothing r id me here at.clock me.0.reads (own_read r id me here),
-      (refl,
-        ((λ k c q row. ap (read_stamped (stamp_in x.seen) x.start x.by) (row_is r id me here k c q row) ∙ reader_reads r.stored.shared x reader q),
-        (λ k c q y there bare. (tells r.stored.shared q y (record_is r id me here k c q y there) bare).inside))),
+      (
+        refl,
+        (
+          (λ k c q row. ap (read_stamped (stamp_in x.seen) x.start x.by) (row_is r id me here k c q row) ∙ reader_reads r.stored.shared x reader q),
+          (λ k c q y there bare. (tells r.stored.shared q y (record_is r id me here k c q y there) bare).inside),
+        ),
+      ),
     )
 
 -- ---- loads of a writer's word
@@ -164,14 +171,14 @@ look_is_kept z at heap slots id me p st k c q x has there bare s r homes here sm
     let word : (words_of z at s.words).pass x.by.job ≡ n = ap (λ b. cond b n 0) test in
     let until = length (r.known.pass p).seen in
     let look : IsLook (r.known.journal 0) (record { by = x.by; word = n; until = until })
-        = subst (λ m. IsLook (r.known.journal 0) (record { by = x.by; word = m; until = until })) word
-          (t.look until (prefix_length (r.known.pass p).seen (r.known.journal 0).commits h.seen)) in (
+    = subst (λ m. IsLook (r.known.journal 0) (record { by = x.by; word = m; until = until })) word
+    (t.look until (prefix_length (r.known.pass p).seen (r.known.journal 0).commits h.seen)) in (
       with_pass me.0 p (with_look st (look_at st x.by n)),
       keeps,
       tt,
       by_quiet r id me here p st has (λ u. with_look u (look_at u x.by n)) (at.pass x.by.job)
-        (knows_more r id me here p (with_look (r.known.pass p) (look_at (r.known.pass p) x.by n)) refl refl refl refl refl)
-        (notes r.stored.shared p (r.known.pass p).met (r.known.pass p).holders (r.known.pass p).sighted (look_at (r.known.pass p) x.by n ∷ (r.known.pass p).looks)
+          (knows_more r id me here p (with_look (r.known.pass p) (look_at (r.known.pass p) x.by n)) refl refl refl refl refl)
+          (notes r.stored.shared p (r.known.pass p).met (r.known.pass p).holders (r.known.pass p).sighted (look_at (r.known.pass p) x.by n ∷ (r.known.pass p).looks)
           h.met h.holders h.sighted (look, h.looks)),
       (refl, writer_told r id me here st.seen (seen_front r id me here p st has) k c q x there bare),
     )
@@ -185,12 +192,12 @@ holder_is_found z at heap slots id me p st w x has looks out s r homes here smal
     let st_is = pass_is r id me here p st has in
     let F : PassState → PassState = (λ u. with_holder u (sighting x.by w u.start)) in
     let sighted = sights r.stored.shared p w x.by (looks_there r id me here w x looks)
-          (subst (λ (u : PassState). reached (stamp_in u.seen x.by) u.start ≡ false) (sym st_is) out) in (
+    (subst (λ (u : PassState). reached (stamp_in u.seen x.by) u.start ≡ false) (sym st_is) out) in (
       with_pass me.0 p (F st),
       keeps,
       tt,
       by_quiet r id me here p st has F at.clock (knows_more r id me here p (F (k.pass p)) refl refl refl refl refl)
-        (notes r.stored.shared p (k.pass p).met (sighting x.by w (k.pass p).start ∷ (k.pass p).holders) (k.pass p).sighted (k.pass p).looks
+          (notes r.stored.shared p (k.pass p).met (sighting x.by w (k.pass p).start ∷ (k.pass p).holders) (k.pass p).sighted (k.pass p).looks
           h.met (sighted, h.holders) h.sighted h.looks),
       (refl, tt),
     )
@@ -206,7 +213,7 @@ holder_is_answered z at heap slots id me p st i x has there s r homes here small
       keeps,
       tt,
       by_quiet r id me here p st has F at.clock (knows_more r id me here p (F (k.pass p)) refl refl refl refl refl)
-        (notes r.stored.shared p (k.pass p).met (k.pass p).holders ((k.pass p).sighted ++ x ∷ []) (k.pass p).looks
+          (notes r.stored.shared p (k.pass p).met (k.pass p).holders ((k.pass p).sighted ++ x ∷ []) (k.pass p).looks
           h.met h.holders (all_end (IsSighted z.kind k.pass (k.journal 0)) (k.pass p).sighted x h.sighted mine) h.looks),
       (refl, tt),
     )
@@ -219,7 +226,7 @@ met_is_noted {z} {at} r id me here p st has m is =
     let k = r.known in
     let h = r.stored.shared.each p in
     by_quiet r id me here p st has (λ u. with_meeting u m) at.clock (knows_more r id me here p (with_meeting (k.pass p) m) refl refl refl refl refl)
-      (notes r.stored.shared p (m ∷ (k.pass p).met) (k.pass p).holders (k.pass p).sighted (k.pass p).looks (is, h.met) h.holders h.sighted h.looks)
+    (notes r.stored.shared p (m ∷ (k.pass p).met) (k.pass p).holders (k.pass p).sighted (k.pass p).looks (is, h.met) h.holders h.sighted h.looks)
 
 pub stamp_is_met : OfEachSeat StampIsMet
 stamp_is_met z at heap slots id me p st w x stamp has looks e s r homes here small =
@@ -228,7 +235,7 @@ stamp_is_met z at heap slots id me p st w x stamp has looks e s r homes here sma
       keeps,
       tt,
       met_is_noted r id me here p st has (meeting w (stamp - 1))
-        (meets_stamp r.stored.shared w x.by stamp (record_stamp r.stored.shared looks.key x there stamp e) (looks_there r id me here w x looks)),
+          (meets_stamp r.stored.shared w x.by stamp (record_stamp r.stored.shared looks.key x there stamp e) (looks_there r id me here w x looks)),
       (refl, tt),
     )
 
@@ -241,6 +248,6 @@ look_is_met z at heap slots id me p st w x i l has looks kept same up s r homes 
       keeps,
       tt,
       met_is_noted r id me here p st has (meeting w (l.word - 3))
-        (meets_look r.stored.shared w l look up (ap (has_name (looked w (λ q. forget_row (rows_of heap r.known q)))) same ∙ looks_there r id me here w x looks)),
+          (meets_look r.stored.shared w l look up (ap (has_name (looked w (λ q. forget_row (rows_now heap r.known q)))) same ∙ looks_there r id me here w x looks)),
       (refl, tt),
     )

@@ -23,7 +23,7 @@ use Rattle.store_relation.specs.declared.stage.Stage.TheVariants.{Open}
 use Rattle.cells_model.specs.Noted.{IsAmong, AreNoted}
 use Rattle.rule_model.specs.Places.{Layout, Words}
 use Rattle.rule_model.specs.Sight.{Sight, Known, News, HasPass, HasJournal, no_news, with_news, with_commit, with_pass}
-use Rattle.rule_model.specs.Rule.{IsStoreRule, active_of, announced_of, noted_of, rows_of, start_of, sweep_of, words_of}
+use Rattle.rule_model.specs.Rule.{IsStoreRule, active_of, announced_of, noted_of, rows_now, start_of, sweep_of, words_of}
 use Rattle.rule_model.proofs.CountLemmas.{count_grows, made_counts}
 use Rattle.rule_model.proofs.FrameLemmas.{S, M, journal_is, loaded, own_read, part_put, part_same, pass_is, steps_to}
 
@@ -40,7 +40,7 @@ module _ {z : Config} {at : Layout} {heap : Global} {s : S} (r : IsStoreRule z a
 
   -- what a step has to show of the pass's state, of the journal, of its words and of the clock then
   pub record PassMoves (st' : PassState) (j' : JournalState) (word' : ℕ → ℕ) (clock' : ℕ) : Type 0 where
-    pub shared : IsShared z word' (put r.known.pass p st') j' (rows_of heap r.known) clock'
+    pub shared : IsShared z word' (put r.known.pass p st') j' (rows_now heap r.known) clock'
     pub journal : IsPrefix (r.known.journal 0).commits j'.commits
     pub readers : ((r.known.pass p).readers_out ≡ 0) ⊎ IsSameTxn (r.known.pass p) st'
     pub out : st'.readers_out ≡ (r.known.pass p).readers_out
@@ -66,26 +66,26 @@ module _ {z : Config} {at : Layout} {heap : Global} {s : S} (r : IsStoreRule z a
       let weight = old.weighed in
       let more = count_grows z k.pass p st' m.grows in
       steps_to r id me here i x (record (words_of z at s.words) { pass = word'; clock = clock' }) (News_of st' js) me.0.reads is
-        (record { passes = one_kept me.0.passes p st st' has; pins = none_kept me.0.pins; cells = none_kept me.0.cells; indexes = none_kept me.0.indexes; journals = has_js })
-        (record {
-          grows = m.journal;
-          readers = readers_put k.pass (k.journal 0).commits (flat_map (λ (u : Sight). u.readers) s.views) r.readers p st' (revised k.journal js 0).commits m.journal m.readers m.out;
-          others = λ q h. h;
-          own = own_read r id me here;
-        })
-        (record {
-          shared = m.shared;
-          indexed = old.indexed;
-          leaves = old.leaves;
-          weighed = omega (arith, weight, more);
-          blocks = old.blocks;
-          pinned = subst (λ (u : (ℕ → Bool) × (ℕ → ℕ)). IsPinned pin u.0 u.1 (announced_of k.pin) (sweep_of k.pin) clock') (λ i. (actives i, starts i)) m.pinned;
-          noted = subst (λ (u : (ℕ → Bool) × (ℕ → ℕ)). AreNoted (k.index 0).index u.0 u.1 (noted_of k.pin) (sweep_of k.pin) (k.index 0).sweeper) (λ i. (actives i, starts i)) m.noted;
-          fast = λ o l. dite (ℕ_discrete o p)
-              (λ same on among. ap (announced_of k.pin) same
-              ∙ m.fast (ap (λ (u : PassState). is_active u.stage) (sym (ap (put k.pass p st') same ∙ put_here k.pass p st')) ∙ on) l (subst (λ n. IsAmong l (noted_of k.pin n)) same among))
-              (λ other on. old.fast o l (ap (λ (u : PassState). is_active u.stage) (sym (put_else k.pass p st' o other)) ∙ on));
-        })
+      (record { passes = one_kept me.0.passes p st st' has; pins = none_kept me.0.pins; cells = none_kept me.0.cells; indexes = none_kept me.0.indexes; journals = has_js })
+      (record {
+        grows = m.journal;
+        readers = readers_put k.pass (k.journal 0).commits (flat_map (λ (u : Sight). u.readers) s.views) r.readers p st' (revised k.journal js 0).commits m.journal m.readers m.out;
+        others = λ q h. h;
+        own = own_read r id me here;
+      })
+      (record {
+        shared = m.shared;
+        indexed = old.indexed;
+        leaves = old.leaves;
+        weighed = omega (arith, weight, more);
+        blocks = old.blocks;
+        pinned = subst (λ (u : (ℕ → Bool) × (ℕ → ℕ)). IsPinned pin u.0 u.1 (announced_of k.pin) (sweep_of k.pin) clock') (λ i. (actives i, starts i)) m.pinned;
+        noted = subst (λ (u : (ℕ → Bool) × (ℕ → ℕ)). AreNoted (k.index 0).index u.0 u.1 (noted_of k.pin) (sweep_of k.pin) (k.index 0).sweeper) (λ i. (actives i, starts i)) m.noted;
+        fast = λ o l. dite (ℕ_discrete o p)
+            (λ same on among. ap (announced_of k.pin) same
+            ∙ m.fast (ap (λ (u : PassState). is_active u.stage) (sym (ap (put k.pass p st') same ∙ put_here k.pass p st')) ∙ on) l (subst (λ n. IsAmong l (noted_of k.pin n)) same among))
+            (λ other on. old.fast o l (ap (λ (u : PassState). is_active u.stage) (sym (put_else k.pass p st' o other)) ∙ on));
+      })
 
   module _ (st : PassState) (has : HasPass me.0 p st) (F : PassState → PassState) where
     -- the pass alone
@@ -121,7 +121,7 @@ module _ {z : Config} {at : Layout} {heap : Global} {s : S} (r : IsStoreRule z a
 
   -- then pins and notes stay
   pub still_moves : (st' : PassState) (j' : JournalState) (word' : ℕ → ℕ) → GoesOn st' → IsPrefix (r.known.journal 0).commits j'.commits
-      → IsShared z word' (put r.known.pass p st') j' (rows_of heap r.known) clock → PassMoves st' j' word' clock
+      → IsShared z word' (put r.known.pass p st') j' (rows_now heap r.known) clock → PassMoves st' j' word' clock
   still_moves st' j' word' on journal shared =
       let k = r.known in
       let old = r.stored in
@@ -138,7 +138,7 @@ module _ {z : Config} {at : Layout} {heap : Global} {s : S} (r : IsStoreRule z a
 
   -- a load after which the pass says or has seen more
   pub by_quiet : (st : PassState) → HasPass me.0 p st → (F : PassState → PassState) (i : ℕ) → GoesOn (F (r.known.pass p))
-      → IsShared z word (put r.known.pass p (F (r.known.pass p))) (r.known.journal 0) (rows_of heap r.known) clock
+      → IsShared z word (put r.known.pass p (F (r.known.pass p))) (r.known.journal 0) (rows_now heap r.known) clock
       → IsStoreRule z at heap (stepped s i (slice_index s.words i) id me.1 (with_pass me.0 p (F st)) keeps)
   by_quiet st has F i on shared = by_pass st has F i (slice_index s.words i) word (loaded r id me here i)
       (still_moves (F (r.known.pass p)) (r.known.journal 0) word on (prefix_all (r.known.journal 0).commits) shared)

@@ -68,10 +68,10 @@ module _ {z : Config} {at : Layout} {heap : Global} {s : S} (r : IsStoreRule z a
     by_pin m =
         let news : PinState → News = (λ u. record no_news { pins = (p, F u) ∷ [] }) in
         subst (λ (u : PinState). IsStoreRule z at heap (stepped s i n id me.1 (with_pin me.0 p (F u)) keeps)) (pin_is r id me here p x has)
-          (steps_to r id me here i n (record (words_of z at s.words) { pin = pin' }) (news (r.known.pin p)) me.0.reads is
-            (record { passes = none_kept me.0.passes; pins = one_kept me.0.pins p x (F (r.known.pin p)) has; cells = none_kept me.0.cells; indexes = none_kept me.0.indexes; journals = none_kept me.0.journals })
-            (is_sound r id me here (news (r.known.pin p)) me.0.reads.reading refl refl refl (own_read r id me here))
-            (pins_stored pin' (F (r.known.pin p)) [] refl m))
+        (steps_to r id me here i n (record (words_of z at s.words) { pin = pin' }) (news (r.known.pin p)) me.0.reads is
+        (record { passes = none_kept me.0.passes; pins = one_kept me.0.pins p x (F (r.known.pin p)) has; cells = none_kept me.0.cells; indexes = none_kept me.0.indexes; journals = none_kept me.0.journals })
+        (is_sound r id me here (news (r.known.pin p)) me.0.reads.reading refl refl refl (own_read r id me here))
+        (pins_stored pin' (F (r.known.pin p)) [] refl m))
 
     -- with who sweeps under the index
     pub by_sweeper : (y : IndexState) → HasIndex me.0 y → (sweeper' : Option ℕ) → PinMoves pin' (F (r.known.pin p)) sweeper'
@@ -81,8 +81,8 @@ module _ {z : Config} {at : Layout} {heap : Global} {s : S} (r : IsStoreRule z a
         let ys : List (ℕ × IndexState) = (0, y' (r.known.index 0)) ∷ [] in
         let news : News = record no_news { pins = (p, F (r.known.pin p)) ∷ []; indexes = ys } in
         subst (λ (u : PinState × IndexState). IsStoreRule z at heap (stepped s i n id me.1 (with_sweeper me.0 p (F u.0) (y' u.1)) keeps))
-          (λ t. (pin_is r id me here p x has t, index_is r id me here y has_y t))
-          (steps_to r id me here i n (record (words_of z at s.words) { pin = pin' }) news me.0.reads is
-            (record { passes = none_kept me.0.passes; pins = one_kept me.0.pins p x (F (r.known.pin p)) has; cells = none_kept me.0.cells; indexes = one_kept me.0.indexes 0 y (y' (r.known.index 0)) has_y; journals = none_kept me.0.journals })
-            (is_sound r id me here news me.0.reads.reading refl refl refl (own_read r id me here))
-            (pins_stored pin' (F (r.known.pin p)) ys refl m))
+        (λ t. (pin_is r id me here p x has t, index_is r id me here y has_y t))
+        (steps_to r id me here i n (record (words_of z at s.words) { pin = pin' }) news me.0.reads is
+        (record { passes = none_kept me.0.passes; pins = one_kept me.0.pins p x (F (r.known.pin p)) has; cells = none_kept me.0.cells; indexes = one_kept me.0.indexes 0 y (y' (r.known.index 0)) has_y; journals = none_kept me.0.journals })
+        (is_sound r id me here news me.0.reads.reading refl refl refl (own_read r id me here))
+        (pins_stored pin' (F (r.known.pin p)) ys refl m))

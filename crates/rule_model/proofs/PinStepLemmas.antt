@@ -29,7 +29,7 @@ use Rattle.cells_model.proofs.MovedLemmas.{frees_cells}
 use Rattle.cells_model.proofs.NoteLemmas.{among_none, forgets_leaves, notes_leaf, other_sweep_begins, other_sweep_ends, sweep_looks_on, sweeper_begins, sweeper_ends, sweeper_frees}
 use Rattle.rule_model.specs.Places.{Layout}
 use Rattle.rule_model.specs.Sight.{PinState, IndexState, Sight, HasPass, HasPin, HasIndex, with_index, with_pin}
-use Rattle.rule_model.specs.Rule.{IsStoreRule, active_of, announced_of, noted_of, rows_of, start_of, sweep_of, words_of}
+use Rattle.rule_model.specs.Rule.{IsStoreRule, active_of, announced_of, noted_of, rows_now, start_of, sweep_of, words_of}
 use Rattle.rule_model.specs.Steps.{OfEachSeat}
 use Rattle.rule_model.specs.PinSteps.{LeafIsNoted, LeavesAreFreed, OtherSweepBegins, OtherSweepEnds, PassAnnounces, PassPins, PassUnpins, SweepLooksOn, SweeperBegins, SweeperEnds, with_sweeper}
 use Rattle.rule_model.proofs.FrameLemmas.{S, M, index_is, loaded, pass_is, pin_is, put_same}
@@ -49,13 +49,13 @@ pass_announces z at heap slots id me p st x has has_x idle in_p s r homes here s
       keeps,
       tt,
       by_pin r id me here p x has_x (λ u. record u { announced = true }) (at.pin p) announced_word (put words.pin p announced_word) (pin_stored at z.passes _ s.words r.apart p announced_word in_p)
-        (record {
-          pinned = subst (λ u. IsPinned (put words.pin p announced_word) (active_of k.pass) (start_of k.pass) (put (announced_of k.pin) p true) u words.clock) (sym (put_same (sweep_of k.pin) p (k.pin p).sweep refl))
-              (announces words.pin (active_of k.pass) (start_of k.pass) (announced_of k.pin) (sweep_of k.pin) words.clock old.pinned p closed);
-          noted = subst (λ (u : (ℕ → List ℕ) × (ℕ → Option Sweep)). AreNoted (k.index 0).index (active_of k.pass) (start_of k.pass) u.0 u.1 (k.index 0).sweeper)
-              (λ i. (sym (put_same (noted_of k.pin) p (k.pin p).noted refl) i, sym (put_same (sweep_of k.pin) p (k.pin p).sweep refl) i)) old.noted;
-          fast = λ l on among. absurd (true≢false (sym on ∙ closed));
-        }),
+          (record {
+            pinned = subst (λ u. IsPinned (put words.pin p announced_word) (active_of k.pass) (start_of k.pass) (put (announced_of k.pin) p true) u words.clock) (sym (put_same (sweep_of k.pin) p (k.pin p).sweep refl))
+                (announces words.pin (active_of k.pass) (start_of k.pass) (announced_of k.pin) (sweep_of k.pin) words.clock old.pinned p closed);
+            noted = subst (λ (u : (ℕ → List ℕ) × (ℕ → Option Sweep)). AreNoted (k.index 0).index (active_of k.pass) (start_of k.pass) u.0 u.1 (k.index 0).sweeper)
+                (λ i. (sym (put_same (noted_of k.pin) p (k.pin p).noted refl) i, sym (put_same (sweep_of k.pin) p (k.pin p).sweep refl) i)) old.noted;
+            fast = λ l on among. absurd (true≢false (sym on ∙ closed));
+          }),
       refl,
     )
 
@@ -71,14 +71,14 @@ pass_pins z at heap slots id me p st x has has_x opened in_p s r homes here smal
       keeps,
       tt,
       by_pin r id me here p x has_x (λ u. record u { announced = false }) (at.pin p) word (put words.pin p word) (pin_stored at z.passes _ s.words r.apart p word in_p)
-        (record {
-          pinned = subst (λ (u : (ℕ → Option Sweep) × ℕ). IsPinned (put words.pin p (pinned_word u.1)) (active_of k.pass) (start_of k.pass) (put (announced_of k.pin) p false) u.0 words.clock)
-              (λ i. (sym (put_same (sweep_of k.pin) p (k.pin p).sweep refl) i, (st_is i).start))
-              (pins words.pin (active_of k.pass) (start_of k.pass) (announced_of k.pin) (sweep_of k.pin) words.clock old.pinned p on);
-          noted = subst (λ (u : (ℕ → List ℕ) × (ℕ → Option Sweep)). AreNoted (k.index 0).index (active_of k.pass) (start_of k.pass) u.0 u.1 (k.index 0).sweeper)
-              (λ i. (sym (put_same (noted_of k.pin) p (k.pin p).noted refl) i, sym (put_same (sweep_of k.pin) p (k.pin p).sweep refl) i)) old.noted;
-          fast = λ l _ among. refl;
-        }),
+          (record {
+            pinned = subst (λ (u : (ℕ → Option Sweep) × ℕ). IsPinned (put words.pin p (pinned_word u.1)) (active_of k.pass) (start_of k.pass) (put (announced_of k.pin) p false) u.0 words.clock)
+                (λ i. (sym (put_same (sweep_of k.pin) p (k.pin p).sweep refl) i, (st_is i).start))
+                (pins words.pin (active_of k.pass) (start_of k.pass) (announced_of k.pin) (sweep_of k.pin) words.clock old.pinned p on);
+            noted = subst (λ (u : (ℕ → List ℕ) × (ℕ → Option Sweep)). AreNoted (k.index 0).index (active_of k.pass) (start_of k.pass) u.0 u.1 (k.index 0).sweeper)
+                (λ i. (sym (put_same (noted_of k.pin) p (k.pin p).noted refl) i, sym (put_same (sweep_of k.pin) p (k.pin p).sweep refl) i)) old.noted;
+            fast = λ l _ among. refl;
+          }),
       refl,
     )
 
@@ -92,14 +92,14 @@ pass_unpins z at heap slots id me p st x has has_x idle in_p s r homes here smal
       keeps,
       tt,
       by_pin r id me here p x has_x (λ u. record u { announced = false; noted = [] }) (at.pin p) unpinned (put words.pin p unpinned) (pin_stored at z.passes _ s.words r.apart p unpinned in_p)
-        (record {
-          pinned = subst (λ u. IsPinned (put words.pin p unpinned) (active_of k.pass) (start_of k.pass) (put (announced_of k.pin) p false) u words.clock) (sym (put_same (sweep_of k.pin) p (k.pin p).sweep refl))
-              (unpins words.pin (active_of k.pass) (start_of k.pass) (announced_of k.pin) (sweep_of k.pin) words.clock old.pinned p closed);
-          noted = subst (λ (u : ℕ → Option Sweep). AreNoted (k.index 0).index (active_of k.pass) (start_of k.pass) (put (noted_of k.pin) p []) u (k.index 0).sweeper)
-              (sym (put_same (sweep_of k.pin) p (k.pin p).sweep refl))
-              (forgets_leaves (k.index 0).index (active_of k.pass) (start_of k.pass) (noted_of k.pin) (sweep_of k.pin) (k.index 0).sweeper old.noted p);
-          fast = λ l on among. absurd (true≢false (sym on ∙ closed));
-        }),
+          (record {
+            pinned = subst (λ u. IsPinned (put words.pin p unpinned) (active_of k.pass) (start_of k.pass) (put (announced_of k.pin) p false) u words.clock) (sym (put_same (sweep_of k.pin) p (k.pin p).sweep refl))
+                (unpins words.pin (active_of k.pass) (start_of k.pass) (announced_of k.pin) (sweep_of k.pin) words.clock old.pinned p closed);
+            noted = subst (λ (u : ℕ → Option Sweep). AreNoted (k.index 0).index (active_of k.pass) (start_of k.pass) (put (noted_of k.pin) p []) u (k.index 0).sweeper)
+                (sym (put_same (sweep_of k.pin) p (k.pin p).sweep refl))
+                (forgets_leaves (k.index 0).index (active_of k.pass) (start_of k.pass) (noted_of k.pin) (sweep_of k.pin) (k.index 0).sweeper old.noted p);
+            fast = λ l on among. absurd (true≢false (sym on ∙ closed));
+          }),
       refl,
     )
 
@@ -113,19 +113,19 @@ leaf_is_noted z at heap slots id me p l x y has_x has_y calm live pinned s r hom
     let nobody : (k.index 0).sweeper ≡ None = ap (λ (u : IndexState). u.sweeper) y_is ∙ calm in
     let not_announced : announced_of k.pin p ≡ false = ap (λ (u : PinState). u.announced) x_is ∙ pinned in
     let now = notes_leaf (k.index 0).index (active_of k.pass) (start_of k.pass) (noted_of k.pin) (sweep_of k.pin)
-          (subst (AreNoted (k.index 0).index (active_of k.pass) (start_of k.pass) (noted_of k.pin) (sweep_of k.pin)) nobody old.noted)
-          p l (ap (λ (u : IndexState). is_live u.index l) y_is ∙ live) in (
+    (subst (AreNoted (k.index 0).index (active_of k.pass) (start_of k.pass) (noted_of k.pin) (sweep_of k.pin)) nobody old.noted)
+    p l (ap (λ (u : IndexState). is_live u.index l) y_is ∙ live) in (
       with_pin me.0 p (record x { noted = l ∷ x.noted }),
       keeps,
       tt,
       by_pin r id me here p x has_x (λ u. record u { noted = l ∷ u.noted }) at.clock (slice_index s.words at.clock) words.pin (loaded r id me here at.clock)
-        (record {
-          pinned = subst (λ (u : (ℕ → Bool) × (ℕ → Option Sweep)). IsPinned words.pin (active_of k.pass) (start_of k.pass) u.0 u.1 words.clock)
-              (λ i. (sym (put_same (announced_of k.pin) p (k.pin p).announced refl) i, sym (put_same (sweep_of k.pin) p (k.pin p).sweep refl) i)) old.pinned;
-          noted = subst (λ (u : (ℕ → Option Sweep) × Option ℕ). AreNoted (k.index 0).index (active_of k.pass) (start_of k.pass) (put (noted_of k.pin) p (l ∷ noted_of k.pin p)) u.0 u.1)
-              (λ i. (sym (put_same (sweep_of k.pin) p (k.pin p).sweep refl) i, sym nobody i)) now;
-          fast = λ m _ among. not_announced;
-        }),
+          (record {
+            pinned = subst (λ (u : (ℕ → Bool) × (ℕ → Option Sweep)). IsPinned words.pin (active_of k.pass) (start_of k.pass) u.0 u.1 words.clock)
+                (λ i. (sym (put_same (announced_of k.pin) p (k.pin p).announced refl) i, sym (put_same (sweep_of k.pin) p (k.pin p).sweep refl) i)) old.pinned;
+            noted = subst (λ (u : (ℕ → Option Sweep) × Option ℕ). AreNoted (k.index 0).index (active_of k.pass) (start_of k.pass) (put (noted_of k.pin) p (l ∷ noted_of k.pin p)) u.0 u.1)
+                (λ i. (sym (put_same (sweep_of k.pin) p (k.pin p).sweep refl) i, sym nobody i)) now;
+            fast = λ m _ among. not_announced;
+          }),
       (refl, tt),
     )
 
@@ -173,12 +173,12 @@ sweeper_begins_step z at heap slots id me p x y has_x has_y calm s r homes here 
       keeps,
       tt,
       by_sweeper r id me here p x has_x (λ u. record u { sweep = Some (begun n) }) at.clock n words.pin (loaded r id me here at.clock) y has_y (Some p)
-        (record {
-          pinned = sweeps_pinned r p (Some (begun n)) (sweep_begins words.pin (active_of k.pass) (start_of k.pass) (announced_of k.pin) (sweep_of k.pin) words.clock old.pinned p);
-          noted = sweeps_noted r p (Some (begun n)) (Some p) (sweeper_begins (k.index 0).index (active_of k.pass) (start_of k.pass) (noted_of k.pin) (sweep_of k.pin)
-              (subst (AreNoted (k.index 0).index (active_of k.pass) (start_of k.pass) (noted_of k.pin) (sweep_of k.pin)) nobody old.noted) p n);
-          fast = λ l on among. old.fast p l on among;
-        }),
+          (record {
+            pinned = sweeps_pinned r p (Some (begun n)) (sweep_begins words.pin (active_of k.pass) (start_of k.pass) (announced_of k.pin) (sweep_of k.pin) words.clock old.pinned p);
+            noted = sweeps_noted r p (Some (begun n)) (Some p) (sweeper_begins (k.index 0).index (active_of k.pass) (start_of k.pass) (noted_of k.pin) (sweep_of k.pin)
+                (subst (AreNoted (k.index 0).index (active_of k.pass) (start_of k.pass) (noted_of k.pin) (sweep_of k.pin)) nobody old.noted) p n);
+            fast = λ l on among. old.fast p l on among;
+          }),
       (refl, tt),
     )
 
@@ -192,11 +192,11 @@ other_sweep_begins_step z at heap slots id me p x has_x s r homes here small =
       keeps,
       tt,
       by_pin r id me here p x has_x (λ u. record u { sweep = Some (begun n) }) at.clock n words.pin (loaded r id me here at.clock)
-        (record {
-          pinned = sweeps_pinned r p (Some (begun n)) (sweep_begins words.pin (active_of k.pass) (start_of k.pass) (announced_of k.pin) (sweep_of k.pin) words.clock old.pinned p);
-          noted = sweeps_noted r p (Some (begun n)) (k.index 0).sweeper (other_sweep_begins (k.index 0).index (active_of k.pass) (start_of k.pass) (noted_of k.pin) (sweep_of k.pin) (k.index 0).sweeper old.noted p n);
-          fast = λ l on among. old.fast p l on among;
-        }),
+          (record {
+            pinned = sweeps_pinned r p (Some (begun n)) (sweep_begins words.pin (active_of k.pass) (start_of k.pass) (announced_of k.pin) (sweep_of k.pin) words.clock old.pinned p);
+            noted = sweeps_noted r p (Some (begun n)) (k.index 0).sweeper (other_sweep_begins (k.index 0).index (active_of k.pass) (start_of k.pass) (noted_of k.pin) (sweep_of k.pin) (k.index 0).sweeper old.noted p n);
+            fast = λ l on among. old.fast p l on among;
+          }),
       (refl, tt),
     )
 
@@ -213,13 +213,13 @@ sweep_looks_step z at heap slots id me p x w has_x sweeps in_w s r homes here sm
       keeps,
       tt,
       by_pin r id me here p x has_x (λ u. record u { sweep = Some (looked_at w n) }) (at.pin w.looked) n words.pin (loaded r id me here (at.pin w.looked))
-        (record {
-          pinned = sweeps_pinned r p (Some (looked_at w n)) (subst (λ m. IsPinned words.pin (active_of k.pass) (start_of k.pass) (announced_of k.pin) (put (sweep_of k.pin) p (Some (looked_at w m))) words.clock) found
-              (sweep_looks words.pin (active_of k.pass) (start_of k.pass) (announced_of k.pin) (sweep_of k.pin) words.clock old.pinned p w sweeping));
-          noted = sweeps_noted r p (Some (looked_at w n)) (k.index 0).sweeper (sweep_looks_on (k.index 0).index (active_of k.pass) (start_of k.pass) (noted_of k.pin) (sweep_of k.pin) (k.index 0).sweeper p w n old.noted sweeping
-              (λ on l among. sym found ∙ old.pinned.held w.looked on (old.fast w.looked l on among)));
-          fast = λ l on among. old.fast p l on among;
-        }),
+          (record {
+            pinned = sweeps_pinned r p (Some (looked_at w n)) (subst (λ m. IsPinned words.pin (active_of k.pass) (start_of k.pass) (announced_of k.pin) (put (sweep_of k.pin) p (Some (looked_at w m))) words.clock) found
+                (sweep_looks words.pin (active_of k.pass) (start_of k.pass) (announced_of k.pin) (sweep_of k.pin) words.clock old.pinned p w sweeping));
+            noted = sweeps_noted r p (Some (looked_at w n)) (k.index 0).sweeper (sweep_looks_on (k.index 0).index (active_of k.pass) (start_of k.pass) (noted_of k.pin) (sweep_of k.pin) (k.index 0).sweeper p w n old.noted sweeping
+                (λ on l among. sym found ∙ old.pinned.held w.looked on (old.fast w.looked l on among)));
+            fast = λ l on among. old.fast p l on among;
+          }),
       (refl, tt),
     )
 
@@ -232,11 +232,11 @@ sweeper_ends_step z at heap slots id me p x y has_x has_y s r homes here small =
       keeps,
       tt,
       by_sweeper r id me here p x has_x (λ u. record u { sweep = None }) at.clock (slice_index s.words at.clock) words.pin (loaded r id me here at.clock) y has_y None
-        (record {
-          pinned = sweeps_pinned r p None (sweep_gone r p);
-          noted = sweeps_noted r p None None (sweeper_ends (k.index 0).index (active_of k.pass) (start_of k.pass) (noted_of k.pin) (sweep_of k.pin) (k.index 0).sweeper p old.noted);
-          fast = λ l on among. old.fast p l on among;
-        }),
+          (record {
+            pinned = sweeps_pinned r p None (sweep_gone r p);
+            noted = sweeps_noted r p None None (sweeper_ends (k.index 0).index (active_of k.pass) (start_of k.pass) (noted_of k.pin) (sweep_of k.pin) (k.index 0).sweeper p old.noted);
+            fast = λ l on among. old.fast p l on among;
+          }),
       (refl, tt),
     )
 
@@ -249,11 +249,11 @@ other_sweep_ends_step z at heap slots id me p x has_x s r homes here small =
       keeps,
       tt,
       by_pin r id me here p x has_x (λ u. record u { sweep = None }) at.clock (slice_index s.words at.clock) words.pin (loaded r id me here at.clock)
-        (record {
-          pinned = sweeps_pinned r p None (sweep_gone r p);
-          noted = sweeps_noted r p None (k.index 0).sweeper (other_sweep_ends (k.index 0).index (active_of k.pass) (start_of k.pass) (noted_of k.pin) (sweep_of k.pin) (k.index 0).sweeper p old.noted);
-          fast = λ l on among. old.fast p l on among;
-        }),
+          (record {
+            pinned = sweeps_pinned r p None (sweep_gone r p);
+            noted = sweeps_noted r p None (k.index 0).sweeper (other_sweep_ends (k.index 0).index (active_of k.pass) (start_of k.pass) (noted_of k.pin) (sweep_of k.pin) (k.index 0).sweeper p old.noted);
+            fast = λ l on among. old.fast p l on among;
+          }),
       (refl, tt),
     )
 
@@ -266,29 +266,29 @@ leaves_are_freed z at heap slots id me p x y w until most has_x has_y sweeper sw
     let indexed : IsIndexed heap y.index (segment_of k.cell) = subst (λ (u : IndexState). IsIndexed heap u.index (segment_of k.cell)) y_is old.indexed in
     let done = frees_cells heap y.index (segment_of k.cell) until most indexed ready few in
     let kept = done.frees.keeps in
-    let same : ◌≡◌ {A = Key → StampedVersions} (rows_of heap k) (versions_of (store_of heap new (segment_of k.cell)))
-        = (λ i q. (ap (λ (u : IndexState). versions_of (store_of heap u.index (segment_of k.cell)) q) y_is ∙ sym (kept.versions q)) i) in
+    let same : ◌≡◌ {A = Key → StampedVersions} (rows_now heap k) (versions_of (store_of heap new (segment_of k.cell)))
+    = (λ i q. (ap (λ (u : IndexState). versions_of (store_of heap u.index (segment_of k.cell)) q) y_is ∙ sym (kept.versions q)) i) in
     let weight_old : weight (store_of heap y.index (segment_of k.cell)) ≤ inserted_by_all z k.pass = subst (λ (u : IndexState). weight (store_of heap u.index (segment_of k.cell)) ≤ inserted_by_all z k.pass) y_is old.weighed in
     let weight_new = kept.weight in
     let was : AreNoted y.index (active_of k.pass) (start_of k.pass) (noted_of k.pin) (sweep_of k.pin) (Some p)
-        = subst (AreNoted y.index (active_of k.pass) (start_of k.pass) (noted_of k.pin) (sweep_of k.pin)) sweeper
-          (subst (λ (u : IndexState). AreNoted u.index (active_of k.pass) (start_of k.pass) (noted_of k.pin) (sweep_of k.pin) u.sweeper) y_is old.noted) in
+    = subst (AreNoted y.index (active_of k.pass) (start_of k.pass) (noted_of k.pin) (sweep_of k.pin)) sweeper
+    (subst (λ (u : IndexState). AreNoted u.index (active_of k.pass) (start_of k.pass) (noted_of k.pin) (sweep_of k.pin) u.sweeper) y_is old.noted) in
     let now = sweeper_frees z.passes y.index new (active_of k.pass) (start_of k.pass) (noted_of k.pin) (sweep_of k.pin) p w was
-          (ap (λ (u : PinState). u.sweep) (pin_is r id me here p x has_x) ∙ sweeps) whole (λ o on. inside old.shared o on) refl
-          (λ m e. subst (λ n. new.retired ≡ kept_of n y.index.retired) (least m e) done.frees.retired) in (
+    (ap (λ (u : PinState). u.sweep) (pin_is r id me here p x has_x) ∙ sweeps) whole (λ o on. inside old.shared o on) refl
+    (λ m e. subst (λ n. new.retired ≡ kept_of n y.index.retired) (least m e) done.frees.retired) in (
       with_index me.0 (record y { index = new }),
       keeps,
       tt,
       by_change r id me here [] tt [] ((0, record y { index = new }) ∷ []) (none_kept me.0.passes) (one_kept me.0.indexes 0 y (record y { index = new }) has_y)
-        (record {
-          readers = r.readers;
-          active = refl;
-          start = refl;
-          shared = subst (λ rows. IsShared z (words_of z at s.words).pass k.pass (k.journal 0) rows (words_of z at s.words).clock) same old.shared;
-          indexed = done.indexed;
-          leaves = ap (λ (u : IndexState). u.index.leaves) (sym y_is) ∙ old.leaves;
-          weighed = omega (arith, weight_old, weight_new);
-          noted = subst (AreNoted new (active_of k.pass) (start_of k.pass) (noted_of k.pin) (sweep_of k.pin)) (sym sweeper) now;
-        }),
+          (record {
+            readers = r.readers;
+            active = refl;
+            start = refl;
+            shared = subst (λ rows. IsShared z (words_of z at s.words).pass k.pass (k.journal 0) rows (words_of z at s.words).clock) same old.shared;
+            indexed = done.indexed;
+            leaves = ap (λ (u : IndexState). u.index.leaves) (sym y_is) ∙ old.leaves;
+            weighed = omega (arith, weight_old, weight_new);
+            noted = subst (AreNoted new (active_of k.pass) (start_of k.pass) (noted_of k.pin) (sweep_of k.pin)) (sym sweeper) now;
+          }),
       (refl, tt),
     )

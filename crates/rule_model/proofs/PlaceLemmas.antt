@@ -102,7 +102,7 @@ module _ (at : Layout) (passes cells : ℕ) (words : List ℕ) (a : KeepsApart a
   module _ (k i n : ℕ) (inside : k < cells) (small : i < block_words) where
     -- a place outside the block is none of its words
     other_place : (place : ℕ) → IsOutside place (at.cell k) → place ≢ at.cell k + i
-    other_place place outside same = elim outside as (λ _. ⊥) [ | inl low ↦ omega (arith, low, same) | inr high ↦ omega (arith, high, same, small) ]
+    other_place place outside same = elim outside as (λ _. ⊥) [ inl low ↦ omega (arith, low, same) | inr high ↦ omega (arith, high, same, small) ]
 
     block_place_in : at.cell k + i < length words
     block_place_in = let w = a.cell_in k inside in omega (arith, w, small)
@@ -120,18 +120,18 @@ module _ (at : Layout) (passes cells : ℕ) (words : List ℕ) (a : KeepsApart a
             ≡ cond ((l == k) && (j == i)) n (cond (nat_lt l cells && nat_lt j block_words) (slice_index words (at.cell l + j)) 0)
         each l j = dite (ℕ_discrete l k)
             (λ same_l. dite (ℕ_discrete j i)
-              (λ same_j.
-              let b : (nat_lt l cells && nat_lt j block_words) ≡ true = (let x : l < cells = omega (arith, inside, same_l) in let y : j < block_words = omega (arith, small, same_j) in grind (arith, nat_tests)) in
-              let u : ((l == k) && (j == i)) ≡ true = grind (arith, nat_tests) in
-              ap (λ x. cond x (slice_index (set words (at.cell k + i) n) (at.cell l + j)) 0) b
-              ∙ (λ t. slice_index (set words (at.cell k + i) n) (at.cell (same_l t) + same_j t))
-              ∙ get_or-set_same words (at.cell k + i) n 0 block_place_in
-              ∙ ap (λ x. cond x n (cond (nat_lt l cells && nat_lt j block_words) (slice_index words (at.cell l + j)) 0)) (sym u))
-              (λ other_j.
-              let u : ((l == k) && (j == i)) ≡ false = grind (arith, nat_tests) in
-              let e : at.cell l + j ≢ at.cell k + i = (λ same. other_j (let c : at.cell l ≡ at.cell k = ap at.cell same_l in omega (arith, same, c))) in
-              ap (λ m. cond (nat_lt l cells && nat_lt j block_words) m 0) (get_or-set_other words (at.cell k + i) (at.cell l + j) n 0 e)
-              ∙ ap (λ x. cond x n (cond (nat_lt l cells && nat_lt j block_words) (slice_index words (at.cell l + j)) 0)) (sym u)))
+            (λ same_j.
+            let b : (nat_lt l cells && nat_lt j block_words) ≡ true = (let x : l < cells = omega (arith, inside, same_l) in let y : j < block_words = omega (arith, small, same_j) in grind (arith, nat_tests)) in
+            let u : ((l == k) && (j == i)) ≡ true = grind (arith, nat_tests) in
+            ap (λ x. cond x (slice_index (set words (at.cell k + i) n) (at.cell l + j)) 0) b
+            ∙ (λ t. slice_index (set words (at.cell k + i) n) (at.cell (same_l t) + same_j t))
+            ∙ get_or-set_same words (at.cell k + i) n 0 block_place_in
+            ∙ ap (λ x. cond x n (cond (nat_lt l cells && nat_lt j block_words) (slice_index words (at.cell l + j)) 0)) (sym u))
+            (λ other_j.
+            let u : ((l == k) && (j == i)) ≡ false = grind (arith, nat_tests) in
+            let e : at.cell l + j ≢ at.cell k + i = (λ same. other_j (let c : at.cell l ≡ at.cell k = ap at.cell same_l in omega (arith, same, c))) in
+            ap (λ m. cond (nat_lt l cells && nat_lt j block_words) m 0) (get_or-set_other words (at.cell k + i) (at.cell l + j) n 0 e)
+            ∙ ap (λ x. cond x n (cond (nat_lt l cells && nat_lt j block_words) (slice_index words (at.cell l + j)) 0)) (sym u)))
             (λ other_l.
             let u : ((l == k) && (j == i)) ≡ false = grind (arith, nat_tests) in
             by_test l j (nat_lt l cells) (nat_lt j block_words) refl refl other_l

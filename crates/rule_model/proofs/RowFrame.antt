@@ -23,7 +23,7 @@ use Rattle.cells_model.specs.Noted.{AreNoted}
 use Rattle.cells_model.proofs.BlockLemmas.{changes_cells}
 use Rattle.rule_model.specs.Places.{Layout}
 use Rattle.rule_model.specs.Sight.{IndexState, Sight, Known, News, Agrees, after, cells_of, no_news, with_news}
-use Rattle.rule_model.specs.Rule.{IsStoreRule, active_of, announced_of, leaves_now, noted_of, rows_of, start_of, sweep_of, words_of}
+use Rattle.rule_model.specs.Rule.{IsStoreRule, active_of, announced_of, leaves_now, noted_of, rows_now, start_of, sweep_of, words_of}
 use Rattle.rule_model.specs.RowSteps.{AreChanges, AreHeld, IsChange, IsHeldNews}
 use Rattle.rule_model.proofs.FrameLemmas.{S, M, cell_is, loaded, own_read, steps_to}
 
@@ -89,7 +89,7 @@ module _ {z : Config} {at : Layout} {heap : Global} {s : S} (r : IsStoreRule z a
     pub readers : AreReaders k'.pass (r.known.journal 0).commits (flat_map (λ (u : Sight). u.readers) s.views)
     pub active : ◌≡◌ {A = ℕ → Bool} (active_of r.known.pass) (active_of k'.pass)
     pub start : ◌≡◌ {A = ℕ → ℕ} (start_of r.known.pass) (start_of k'.pass)
-    pub shared : IsShared z (words_of z at s.words).pass k'.pass (r.known.journal 0) (rows_of heap k') (words_of z at s.words).clock
+    pub shared : IsShared z (words_of z at s.words).pass k'.pass (r.known.journal 0) (rows_now heap k') (words_of z at s.words).clock
     pub indexed : IsIndexed heap (k'.index 0).index (segment_of k'.cell)
     pub leaves : (k'.index 0).index.leaves ≡ z.leaves
     pub weighed : weight (leaves_now heap k') ≤ inserted_by_all z k'.pass
@@ -105,15 +105,15 @@ module _ {z : Config} {at : Layout} {heap : Global} {s : S} (r : IsStoreRule z a
       let words = words_of z at s.words in
       let kept = changes_cells (cells_of z) words.block k.cell (revised k.cell news) old.blocks contents_change in
       steps_to r id me here at.clock (slice_index s.words at.clock) words (record no_news { passes = passes; cells = news; indexes = indexes }) me.0.reads (loaded r id me here at.clock)
-        (record { passes = of_passes; pins = none_kept me.0.pins; cells = of_held; indexes = of_indexes; journals = none_kept me.0.journals })
-        (record { grows = prefix_all (k.journal 0).commits; readers = m.readers; others = kept.reads; own = λ q e. kept.reads q (own_read r id me here q e) })
-        (record {
-          shared = m.shared;
-          indexed = m.indexed;
-          leaves = m.leaves;
-          weighed = m.weighed;
-          blocks = kept.blocks;
-          pinned = subst (λ (u : (ℕ → Bool) × (ℕ → ℕ)). IsPinned words.pin u.0 u.1 (announced_of k.pin) (sweep_of k.pin) words.clock) (λ i. (m.active i, m.start i)) old.pinned;
-          noted = subst (λ (u : (ℕ → Bool) × (ℕ → ℕ)). AreNoted (revised k.index indexes 0).index u.0 u.1 (noted_of k.pin) (sweep_of k.pin) (revised k.index indexes 0).sweeper) (λ i. (m.active i, m.start i)) m.noted;
-          fast = λ o l on among. old.fast o l (ap (λ (u : ℕ → Bool). u o) m.active ∙ on) among;
-        })
+      (record { passes = of_passes; pins = none_kept me.0.pins; cells = of_held; indexes = of_indexes; journals = none_kept me.0.journals })
+      (record { grows = prefix_all (k.journal 0).commits; readers = m.readers; others = kept.reads; own = λ q e. kept.reads q (own_read r id me here q e) })
+      (record {
+        shared = m.shared;
+        indexed = m.indexed;
+        leaves = m.leaves;
+        weighed = m.weighed;
+        blocks = kept.blocks;
+        pinned = subst (λ (u : (ℕ → Bool) × (ℕ → ℕ)). IsPinned words.pin u.0 u.1 (announced_of k.pin) (sweep_of k.pin) words.clock) (λ i. (m.active i, m.start i)) old.pinned;
+        noted = subst (λ (u : (ℕ → Bool) × (ℕ → ℕ)). AreNoted (revised k.index indexes 0).index u.0 u.1 (noted_of k.pin) (sweep_of k.pin) (revised k.index indexes 0).sweeper) (λ i. (m.active i, m.start i)) m.noted;
+        fast = λ o l on among. old.fast o l (ap (λ (u : ℕ → Bool). u o) m.active ∙ on) among;
+      })

@@ -38,7 +38,7 @@ module _ (z : Config) (at : Layout) (heap : Global) (slots id : ℕ) (me : Me (U
   abbrev pub CellIsUnpacked : Type 0
   CellIsUnpacked = (k : ℕ) (c : CellState) → HasCell me.0 k c → k < cells_of z → c.unpacked ≡ false
       → MayStoreTelling z at heap slots id me (block_place at k 0) (raised_word (version_word c))
-        (with_cell me.0 k (unpacked c)) (Spells c.block c.segment)
+      (with_cell me.0 k (unpacked c)) (Spells c.block c.segment)
 
   -- WORD: of an unpacked cell any word but the version word is stored
   abbrev pub WordIsStored : Type 0
@@ -51,7 +51,7 @@ module _ (z : Config) (at : Layout) (heap : Global) (slots id : ℕ) (me : Me (U
   CellIsPacked = (k : ℕ) (c : CellState) → HasCell me.0 k c → k < cells_of z → c.unpacked ≡ true
       → Spells c.block c.segment
       → MayStore z at heap slots id me (block_place at k 0) (lowered_word c.changed (version_word c))
-        (with_cell me.0 k (packed c))
+      (with_cell me.0 k (packed c))
 
   -- ---- by a read
 
@@ -70,12 +70,12 @@ module _ (z : Config) (at : Layout) (heap : Global) (slots id : ℕ) (me : Me (U
   ReadEnds = (p : ℕ) (st : PassState) (q : Reading) → HasPass me.0 p st → st.stage ≡ Open
       → me.0.reads.reading ≡ Some q
       → MayLoad z at heap slots id me (block_place at q.cell 0)
-        (λ n. with_found me.0 (Some (second_loaded q n)) q.cell n)
-        (λ n. n ≡ q.first → IsValidated (GiveView z st.seen st.start st.own (name_at p st)) q)
+      (λ n. with_found me.0 (Some (second_loaded q n)) q.cell n)
+      (λ n. n ≡ q.first → IsValidated (GiveView z st.seen st.start st.own (name_at p st)) q)
 
   -- SECOND, of a reader
   abbrev pub ReaderReadEnds : Type 0
   ReaderReadEnds = (x : ReaderState) (q : Reading) → me.0.readers ≡ x ∷ [] → me.0.reads.reading ≡ Some q
       → MayLoad z at heap slots id me (block_place at q.cell 0)
-        (λ n. with_found me.0 (Some (second_loaded q n)) q.cell n)
-        (λ n. n ≡ q.first → IsValidated (GiveView z x.seen x.start x.own x.by) q)
+      (λ n. with_found me.0 (Some (second_loaded q n)) q.cell n)
+      (λ n. n ≡ q.first → IsValidated (GiveView z x.seen x.start x.own x.by) q)

@@ -8,3 +8,6 @@ pub mod BlockSteps
 pub mod RowSteps
 pub mod PinSteps
 pub mod MoveSteps
+pub mod ViewSteps
+pub mod EndSteps
+pub mod Examples

@@ -41,7 +41,7 @@ SpreadIsMove =
     → KeepsOtherLeaves cell cell' e.leaf e.leaf → Respreads (leaf_cells cell e.leaf) (leaf_cells cell' e.leaf)
     → IsIndex (with_entry index front (record e { cuts = lows_of (leaf_cells cell' e.leaf) }) back)
     → IsMove heap index (with_entry index front (record e { cuts = lows_of (leaf_cells cell' e.leaf) }) back) stamp
-      cell cell'
+    cell cell'
 
 abbrev pub SplitIsMove : Type 0
 SplitIsMove =
@@ -75,5 +75,5 @@ module _ (z : Config) (at : Layout) (heap : Global) (slots id : ℕ) (me : Me (U
   abbrev pub RowsAreMoved : Type 0
   RowsAreMoved = (y : IndexState) (now : ℕ → Index) (news : List (ℕ × CellState)) → CanMove z heap me.0 y now news
       → MayLoad z at heap slots id me at.clock
-        (λ n. with_news me.0 (record no_news { cells = news; indexes = (0, record y { index = now n }) ∷ [] })
-          me.0.reads) Nothing
+      (λ n. with_news me.0 (record no_news { cells = news; indexes = (0, record y { index = now n }) ∷ [] })
+      me.0.reads) Nothing

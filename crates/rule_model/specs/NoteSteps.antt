@@ -78,10 +78,10 @@ module _ (z : Config) (at : Layout) (heap : Global) (slots id : ℕ) (me : Me (U
   abbrev pub ReaderLearns : Type 0
   ReaderLearns = (x : ReaderState) → me.0.readers ≡ x ∷ []
       → MayLoad z at heap slots id me at.clock (λ _. me.0) (λ _.
-        ((k : ℕ) (c : CellState) (q : Key) → HasRow z me.0 k c q
-          → SeesValue z x.seen x.start x.own x.by (stamp_in x.seen) q (versions_at c.segment q))
-        × ((k : ℕ) (c : CellState) (q : Key) (y : Stamped) → HasRecordIn z me.0 k c q y → y.stamp ≡ None
-          → y.by.job < z.passes))
+      ((k : ℕ) (c : CellState) (q : Key) → HasRow z me.0 k c q
+      → SeesValue z x.seen x.start x.own x.by (stamp_in x.seen) q (versions_at c.segment q))
+      × ((k : ℕ) (c : CellState) (q : Key) (y : Stamped) → HasRecordIn z me.0 k c q y → y.stamp ≡ None
+      → y.by.job < z.passes))
 
   -- ---- what one load of a writer's word tells
 
@@ -96,7 +96,7 @@ module _ (z : Config) (at : Layout) (heap : Global) (slots id : ℕ) (me : Me (U
   LookIsKept = (p : ℕ) (st : PassState) (k : ℕ) (c : CellState) (q : Key) (x : Stamped)
       → HasPass me.0 p st → HasRecordIn z me.0 k c q x → x.stamp ≡ None
       → MayLoad z at heap slots id me (at.pass x.by.job) (λ n. with_pass me.0 p (with_look st (look_at st x.by n)))
-        (TellsWriter st.seen x)
+      (TellsWriter st.seen x)
 
   -- LOOK, by a reader
   abbrev pub ReaderLooks : Type 0

@@ -38,7 +38,7 @@ module _ (z : Config) (at : Layout) (heap : Global) (slots id : ℕ) (me : Me (U
   PassUnpins = (p : ℕ) (st : PassState) (x : PinState) → HasPass me.0 p st → HasPin me.0 p x
       → st.stage ≡ Idle → p < z.passes
       → MayStore z at heap slots id me (at.pin p) unpinned
-        (with_pin me.0 p (record x { announced = false; noted = [] }))
+      (with_pin me.0 p (record x { announced = false; noted = [] }))
 
   -- NOTE: a load by a pass that is pinned and has the index, under which nobody sweeps
   abbrev pub LeafIsNoted : Type 0
@@ -52,7 +52,7 @@ module _ (z : Config) (at : Layout) (heap : Global) (slots id : ℕ) (me : Me (U
   abbrev pub SweeperBegins : Type 0
   SweeperBegins = (p : ℕ) (x : PinState) (y : IndexState) → HasPin me.0 p x → HasIndex me.0 y → y.sweeper ≡ None
       → MayLoad z at heap slots id me at.clock
-        (λ n. with_sweeper me.0 p (record x { sweep = Some (begun n) }) (record y { sweeper = Some p })) Nothing
+      (λ n. with_sweeper me.0 p (record x { sweep = Some (begun n) }) (record y { sweeper = Some p })) Nothing
 
   abbrev pub OtherSweepBegins : Type 0
   OtherSweepBegins = (p : ℕ) (x : PinState) → HasPin me.0 p x
@@ -62,7 +62,7 @@ module _ (z : Config) (at : Layout) (heap : Global) (slots id : ℕ) (me : Me (U
   abbrev pub SweepLooksOn : Type 0
   SweepLooksOn = (p : ℕ) (x : PinState) (w : Sweep) → HasPin me.0 p x → x.sweep ≡ Some w → w.looked < z.passes
       → MayLoad z at heap slots id me (at.pin w.looked)
-        (λ n. with_pin me.0 p (record x { sweep = Some (looked_at w n) })) Nothing
+      (λ n. with_pin me.0 p (record x { sweep = Some (looked_at w n) })) Nothing
 
   -- FREE: a load by the sweeper, once it has looked at all pins
   abbrev pub LeavesAreFreed : Type 0
@@ -71,13 +71,13 @@ module _ (z : Config) (at : Layout) (heap : Global) (slots id : ℕ) (me : Me (U
       → ((least : ℕ) → w.least ≡ Some least → until ≡ least) → y.index.leaves ≤ most
       → IsIndex (freed until most y.index)
       → MayLoad z at heap slots id me at.clock (λ _. with_index me.0 (record y { index = freed until most y.index }))
-        Nothing
+      Nothing
 
   -- END of a sweep, with the index or without it
   abbrev pub SweeperEnds : Type 0
   SweeperEnds = (p : ℕ) (x : PinState) (y : IndexState) → HasPin me.0 p x → HasIndex me.0 y
       → MayLoad z at heap slots id me at.clock
-        (λ _. with_sweeper me.0 p (record x { sweep = None }) (record y { sweeper = None })) Nothing
+      (λ _. with_sweeper me.0 p (record x { sweep = None }) (record y { sweeper = None })) Nothing
 
   abbrev pub OtherSweepEnds : Type 0
   OtherSweepEnds = (p : ℕ) (x : PinState) → HasPin me.0 p x

@@ -123,7 +123,7 @@ pub record CanStamp (z : Config) (v : Sight) (p : ℕ) (st : PassState) (unstamp
       → covers a.segment q ≡ true
       → (versions_at d.segment q ≡ stamp (name_at p st) c.stamp (versions_at a.segment q))
       ⊎ ((versions_at d.segment q ≡ versions_at a.segment q)
-        × (has_key st.unstamped q ≡ true → has_key unstamped q ≡ true))
+      × (has_key st.unstamped q ≡ true → has_key unstamped q ≡ true))
   pub rest : (q : Key) → IsBeside news q → has_key st.unstamped q ≡ true → has_key unstamped q ≡ true
   pub grows : GrowsBy v news 0
 

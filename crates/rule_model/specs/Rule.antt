@@ -47,14 +47,14 @@ abbrev pub leaves_now : Global → Known → Leaves
 leaves_now heap k = store_of heap (k.index 0).index (segment_of k.cell)
 
 -- what each key has
-abbrev pub rows_of : Global → Known → Key → StampedVersions
-rows_of heap k q = versions_of (leaves_now heap k) q
+abbrev pub rows_now : Global → Known → Key → StampedVersions
+rows_now heap k q = versions_of (leaves_now heap k) q
 
 -- ---- words and contents, whoever knows them
 
 pub record IsStored (z : Config) (heap : Global) (w : Words) (k : Known) : Type 0 where
   -- transactions of all passes over the rows
-  pub shared : IsShared z w.pass k.pass (k.journal 0) (rows_of heap k) w.clock
+  pub shared : IsShared z w.pass k.pass (k.journal 0) (rows_now heap k) w.clock
   -- the index against the cells, and how full they are
   pub indexed : IsIndexed heap (k.index 0).index (segment_of k.cell)
   pub leaves : (k.index 0).index.leaves ≡ z.leaves

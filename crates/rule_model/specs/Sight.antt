@@ -54,7 +54,14 @@ pub record Sight : Type 0 where
 
 abbrev pub no_sight : Sight
 no_sight = record {
-  passes = []; pins = []; cells = []; indexes = []; journals = []; told = []; readers = []; reads = no_reads;
+  passes = [];
+  pins = [];
+  cells = [];
+  indexes = [];
+  journals = [];
+  told = [];
+  readers = [];
+  reads = no_reads;
 }
 
 abbrev pub HasPass : Sight → ℕ → PassState → Type 0

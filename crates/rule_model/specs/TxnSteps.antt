@@ -59,7 +59,7 @@ module _ (z : Config) (at : Layout) (heap : Global) (slots id : ℕ) (me : Me (U
   StampIsStored = (p : ℕ) (st : PassState) (j : JournalState) → HasPass me.0 p st → HasJournal me.0 j
       → st.stage ≡ Open → st.readers_out ≡ 0 → 0 < length st.own → j.next ≡ []
       → MayStore z at heap slots id me (at.pass p) (commit_word (length j.commits))
-        (with_commit me.0 p (committing st) (with_entry j p st))
+      (with_commit me.0 p (committing st) (with_entry j p st))
 
   -- PUBLISH: the store of the clock, once the stamp is stored; its rows are left to be stamped
   abbrev pub CommitIsPublished : Type 0
@@ -67,7 +67,7 @@ module _ (z : Config) (at : Layout) (heap : Global) (slots id : ℕ) (me : Me (U
       → HasPass me.0 p st → HasJournal me.0 j → st.stage ≡ Committing
       → ((q : Key) → (any_writes z.kind st.own q || any_touches st.own q) ≡ true → has_key unstamped q ≡ true)
       → MayStore z at heap slots id me at.clock (length j.commits + 1)
-        (with_commit me.0 p (committed st j unstamped) (published_now j))
+      (with_commit me.0 p (committed st j unstamped) (published_now j))
 
   -- ---- abort
 
@@ -99,7 +99,7 @@ module _ (z : Config) (at : Layout) (heap : Global) (slots id : ℕ) (me : Me (U
   abbrev pub PassesMeet : Type 0
   PassesMeet = (p : ℕ) (st : PassState) → HasPass me.0 p st
       → MayLoad z at heap slots id me at.clock (λ _. with_pass me.0 p (refreshed st (longer_of st.seen me.0.told)))
-        (λ _. IsPrefix st.seen (longer_of st.seen me.0.told) × IsPrefix me.0.told (longer_of st.seen me.0.told))
+      (λ _. IsPrefix st.seen (longer_of st.seen me.0.told) × IsPrefix me.0.told (longer_of st.seen me.0.told))
 
   -- ---- full
 
