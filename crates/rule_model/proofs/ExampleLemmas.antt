@@ -1,5 +1,5 @@
 -- The worked examples hold, and the wrong rules are refused.
-use Rattle.std.proofs.Common.{◌≡◌, ℕ, zero, suc, ◌+◌, ◌≤◌, refl, sym, ◌∙◌, ap, subst, cond, arith}
+use Rattle.std.proofs.Common.{◌≡◌, ℕ, ◌≤◌, refl, sym, cond, arith}
 use Rattle.std.specs.Prelude.{Bool, true, false, ◌==◌, Some, None}
 use Rattle.std.proofs.lemmas.Bool.{true≢false}
 use Rattle.seat_views.specs.Keeping.{put}

@@ -1,6 +1,7 @@
--- THE FRAME: one step of one seat, by what it changes. All else is as it was, and no law of a kind of step says so again.
-use Rattle.std.proofs.Common.{◌≡◌, ◌≢◌, ◌⊎◌, inl, inr, ⊎_elim, ℕ, zero, suc, ◌+◌, ◌<◌, ◌≤◌, List, [], ◌∷◌, ◌++◌, length, set, refl, sym, ◌∙◌, ap, subst, arith, length-set}
-use Rattle.std.specs.Prelude.{Bool, true, false, cond, ◌==◌, Option, Some, None, slice_index, slice_get}
+-- THE FRAME: one step of one seat, by what it changes. All else is as it was, and no law of a kind of step says
+-- so again.
+use Rattle.std.proofs.Common.{◌≡◌, ◌≢◌, ⊎_elim, ℕ, zero, suc, List, [], ◌∷◌, ◌++◌, set, refl, sym, ◌∙◌, ap, subst, length-set}
+use Rattle.std.specs.Prelude.{Bool, true, false, cond, ◌==◌, Option, Some, slice_index}
 use Rattle.std.specs.List.{flat_map}
 use Rattle.std.specs.declared.alloc.Global.{Global}
 use Rattle.std.proofs.lemmas.List.Concat.{flat_map-cons}
@@ -15,7 +16,7 @@ use Rattle.seat_views.specs.Keeping.{put, revised}
 use Rattle.seat_views.proofs.KeepLemmas.{kept_news}
 use Rattle.seat_views.proofs.NumberLemmas.{at_set, none_kept, put_here, put_else}
 use Rattle.store_relation.specs.Passes.{PassState}
-use Rattle.store_relation.specs.Readers.{ReaderState, AreReaders}
+use Rattle.store_relation.specs.Readers.{AreReaders}
 use Rattle.store_relation.specs.Shared.{JournalState}
 use Rattle.store_relation.proofs.ListLemmas.{prefix_all, prefix_trans}
 use Rattle.cells_model.specs.Cells.{CellState}
@@ -36,7 +37,8 @@ M = Me (Unit {0}) Sight
 -- ---- functions of numbers that have changed at one
 
 -- a part of each, where one has changed
-pub part_put : {A B : Type 0} (F : A → B) (f : ℕ → A) (p : ℕ) (x : A) → ◌≡◌ {A = ℕ → B} (λ o. F (put f p x o)) (put (λ o. F (f o)) p (F x))
+pub part_put : {A B : Type 0} (F : A → B) (f : ℕ → A) (p : ℕ) (x : A)
+    → ◌≡◌ {A = ℕ → B} (λ o. F (put f p x o)) (put (λ o. F (f o)) p (F x))
 part_put {A} {B} F f p x = λ t o. by_test o (o == p) t
   where
     by_test : (o : ℕ) (b : Bool) → F (cond b x (f o)) ≡ cond b (F x) (F (f o))
@@ -44,7 +46,8 @@ part_put {A} {B} F f p x = λ t o. by_test o (o == p) t
     by_test o false = refl
 
 -- stays, where the one has it as before
-pub part_same : {A B : Type 0} (F : A → B) (f : ℕ → A) (p : ℕ) (x : A) → F x ≡ F (f p) → ◌≡◌ {A = ℕ → B} (λ o. F (put f p x o)) (λ o. F (f o))
+pub part_same : {A B : Type 0} (F : A → B) (f : ℕ → A) (p : ℕ) (x : A) → F x ≡ F (f p)
+    → ◌≡◌ {A = ℕ → B} (λ o. F (put f p x o)) (λ o. F (f o))
 part_same {A} {B} F f p x same = λ t o. dite (ℕ_discrete o p)
     (λ here. ap F (ap (put f p x) here ∙ put_here f p x) ∙ same ∙ ap (λ q. F (f q)) (sym here))
     (λ other. ap F (put_else f p x o other)) t
@@ -55,7 +58,8 @@ put_same f p x same = part_same (λ y. y) f p x same
 
 -- ---- readers of all views
 
-pub readers_set : (views : List Sight) (id : ℕ) (v w : Sight) → get_elem? views id ≡ some v → w.readers ≡ v.readers
+pub readers_set : (views : List Sight) (id : ℕ) (v w : Sight) → get_elem? views id ≡ some v
+    → w.readers ≡ v.readers
     → flat_map (λ (u : Sight). u.readers) (set views id w) ≡ flat_map (λ (u : Sight). u.readers) views
 readers_set [] id v w at same = refl
 readers_set (x ∷ views) zero v w at same =
@@ -79,13 +83,15 @@ nothing_new v = record {
 
 -- ---- what a step asks besides the words and contents
 
-pub record StaysSound (z : Config) (old new : Known) (views : List Sight) (reading : Option Reading) : Type 0 where
+pub record StaysSound (z : Config) (old new : Known) (views : List Sight)
+    (reading : Option Reading) : Type 0 where
   pub grows : IsPrefix (old.journal 0).commits (new.journal 0).commits
   pub readers : AreReaders new.pass (new.journal 0).commits (flat_map (λ (u : Sight). u.readers) views)
   pub others : (q : Reading) → IsReading (cells_of z) old.cell q → IsReading (cells_of z) new.cell q
   pub own : (q : Reading) → reading ≡ Some q → IsReading (cells_of z) new.cell q
 
-module _ {z : Config} {at : Layout} {heap : Global} {s : S} (r : IsStoreRule z at heap s) (id : ℕ) (me : M) (here : get_elem? s.views id ≡ some me.0) where
+module _ {z : Config} {at : Layout} {heap : Global} {s : S} (r : IsStoreRule z at heap s) (id : ℕ) (me : M)
+    (here : get_elem? s.views id ≡ some me.0) where
   -- ---- what the seat has is known
 
   pub pass_is : (p : ℕ) (st : PassState) → HasPass me.0 p st → r.known.pass p ≡ st
@@ -112,7 +118,8 @@ module _ {z : Config} {at : Layout} {heap : Global} {s : S} (r : IsStoreRule z a
   -- ---- the step
 
   -- A word is stored, or is loaded and stays; the seat has news of what it keeps, and reads on.
-  pub steps_to : (i x : ℕ) (w : Words) (n : News) (reads : ReadState) → words_of z at (set s.words i x) ≡ w → AreNews me.0 n
+  pub steps_to : (i x : ℕ) (w : Words) (n : News) (reads : ReadState) → words_of z at (set s.words i x) ≡ w
+      → AreNews me.0 n
       → StaysSound z r.known (after r.known n) s.views reads.reading → IsStored z heap w (after r.known n)
       → IsStoreRule z at heap (stepped s i x id me.1 (with_news me.0 n reads) keeps)
   steps_to i x w n reads is news sound stored =
@@ -126,17 +133,25 @@ module _ {z : Config} {at : Layout} {heap : Global} {s : S} (r : IsStoreRule z a
         cell_keeper = r.cell_keeper;
         index_keeper = r.index_keeper;
         journal_keeper = r.journal_keeper;
-        passes = kept_news (λ (u : Sight). u.passes) s.views r.known.pass r.pass_keeper r.passes id v here new n.passes refl news.passes;
-        pins = kept_news (λ (u : Sight). u.pins) s.views r.known.pin r.pin_keeper r.pins id v here new n.pins refl news.pins;
-        cells = kept_news (λ (u : Sight). u.cells) s.views r.known.cell r.cell_keeper r.cells id v here new n.cells refl news.cells;
-        indexes = kept_news (λ (u : Sight). u.indexes) s.views r.known.index r.index_keeper r.indexes id v here new n.indexes refl news.indexes;
-        journals = kept_news (λ (u : Sight). u.journals) s.views r.known.journal r.journal_keeper r.journals id v here new n.journals refl news.journals;
-        told = λ seat u at_u. prefix_trans u.told (r.known.journal 0).commits ((after r.known n).journal 0).commits
+        passes = kept_news (λ (u : Sight). u.passes) s.views r.known.pass r.pass_keeper r.passes id v here new
+            n.passes refl news.passes;
+        pins = kept_news (λ (u : Sight). u.pins) s.views r.known.pin r.pin_keeper r.pins id v here new n.pins
+            refl news.pins;
+        cells = kept_news (λ (u : Sight). u.cells) s.views r.known.cell r.cell_keeper r.cells id v here new
+            n.cells refl news.cells;
+        indexes = kept_news (λ (u : Sight). u.indexes) s.views r.known.index r.index_keeper r.indexes id v here
+            new n.indexes refl news.indexes;
+        journals = kept_news (λ (u : Sight). u.journals) s.views r.known.journal r.journal_keeper r.journals id
+            v here new n.journals refl news.journals;
+        told = λ seat u at_u. prefix_trans u.told (r.known.journal 0).commits
+            ((after r.known n).journal 0).commits
             (⊎_elim
-            (λ (t : (seat ≡ id) × (new ≡ u)). subst (λ l. IsPrefix l (r.known.journal 0).commits) (ap (λ (x : Sight). x.told) t.1) (r.told id v here))
+            (λ (t : (seat ≡ id) × (new ≡ u)). subst (λ l. IsPrefix l (r.known.journal 0).commits)
+            (ap (λ (x : Sight). x.told) t.1) (r.told id v here))
             (λ (t : (seat ≢ id) × (get_elem? s.views seat ≡ some u)). r.told seat u t.1)
             (at_set s.views id seat new u at_u)) sound.grows;
-        readers = subst (AreReaders (after r.known n).pass ((after r.known n).journal 0).commits) (sym (readers_set s.views id v new here refl)) sound.readers;
+        readers = subst (AreReaders (after r.known n).pass ((after r.known n).journal 0).commits)
+            (sym (readers_set s.views id v new here refl)) sound.readers;
         reads = λ seat u q at_u has. ⊎_elim
             (λ (t : (seat ≡ id) × (new ≡ u)). sound.own q (ap (λ (x : Sight). x.reads.reading) t.1 ∙ has))
             (λ (t : (seat ≢ id) × (get_elem? s.views seat ≡ some u)). sound.others q (r.reads seat u q t.1 has))
@@ -150,21 +165,27 @@ module _ {z : Config} {at : Layout} {heap : Global} {s : S} (r : IsStoreRule z a
 
   -- a step that changes no pass, journal or cell asks for nothing besides
   pub is_sound : (n : News) (reading : Option Reading) → n.passes ≡ [] → n.cells ≡ [] → n.journals ≡ []
-      → ((q : Reading) → reading ≡ Some q → IsReading (cells_of z) r.known.cell q) → StaysSound z r.known (after r.known n) s.views reading
+      → ((q : Reading) → reading ≡ Some q → IsReading (cells_of z) r.known.cell q)
+      → StaysSound z r.known (after r.known n) s.views reading
   is_sound n reading no_passes no_cells no_journals own =
       let passes : r.known.pass ≡ (after r.known n).pass = ap (λ ns. revised r.known.pass ns) (sym no_passes) in
       let cells : r.known.cell ≡ (after r.known n).cell = ap (λ ns. revised r.known.cell ns) (sym no_cells) in
-      let journals : r.known.journal ≡ (after r.known n).journal = ap (λ ns. revised r.known.journal ns) (sym no_journals) in
+      let journals : r.known.journal ≡ (after r.known n).journal =
+      ap (λ ns. revised r.known.journal ns) (sym no_journals) in
       record {
-        grows = subst (λ (j : ℕ → JournalState). IsPrefix (r.known.journal 0).commits (j 0).commits) journals (prefix_all (r.known.journal 0).commits);
-        readers = subst (λ (x : (ℕ → PassState) × (ℕ → JournalState)). AreReaders x.0 (x.1 0).commits (flat_map (λ (u : Sight). u.readers) s.views))
+        grows = subst (λ (j : ℕ → JournalState). IsPrefix (r.known.journal 0).commits (j 0).commits) journals
+            (prefix_all (r.known.journal 0).commits);
+        readers = subst (λ (x : (ℕ → PassState) × (ℕ → JournalState)).
+            AreReaders x.0 (x.1 0).commits (flat_map (λ (u : Sight). u.readers) s.views))
             (λ i. (passes i, journals i)) r.readers;
         others = λ q h. subst (λ c. IsReading (cells_of z) c q) cells h;
         own = λ q e. subst (λ c. IsReading (cells_of z) c q) cells (own q e);
       }
 
   -- A load after which the seat knows nothing new. It may read on.
-  pub by_nothing : (i : ℕ) (reads : ReadState) → ((q : Reading) → reads.reading ≡ Some q → IsReading (cells_of z) r.known.cell q)
+  pub by_nothing : (i : ℕ) (reads : ReadState)
+      → ((q : Reading) → reads.reading ≡ Some q → IsReading (cells_of z) r.known.cell q)
       → IsStoreRule z at heap (stepped s i (slice_index s.words i) id me.1 (with_news me.0 no_news reads) keeps)
-  by_nothing i reads own = steps_to i (slice_index s.words i) (words_of z at s.words) no_news reads (loaded i) (nothing_new me.0)
+  by_nothing i reads own = steps_to i (slice_index s.words i) (words_of z at s.words) no_news reads (loaded i)
+      (nothing_new me.0)
       (is_sound no_news reads.reading refl refl refl own) r.stored

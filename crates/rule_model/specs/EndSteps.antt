@@ -1,6 +1,5 @@
 -- A new table, and what one shows who has all of a store at its end.
-use Rattle.std.specs.Prelude.{◌≡◌, ℕ, zero, suc, ◌+◌, ◌<◌, ◌≤◌, ◌*◌, cond, ◌==◌, Bool, true, false, List, [], ◌∷◌, length, slice_index, None}
-use Rattle.std.specs.List.{AllByRecursion}
+use Rattle.std.specs.Prelude.{◌≡◌, ℕ, zero, suc, ◌+◌, ◌<◌, ◌≤◌, false, List, [], ◌∷◌, length, slice_index, None}
 use Rattle.std.specs.declared.alloc.Global.{Global}
 use mathlib.Core.Option.{some}
 use lib.ListN.{get_elem?}
@@ -8,7 +7,7 @@ use Rattle.atomic_table.specs.Table.{State, opening}
 use Rattle.graph_model.specs.declared.row.Key.{Key}
 use Rattle.txn_manager.specs.declared.config.Config.{Config}
 use Rattle.store_model.specs.Stamped.{StampedVersions}
-use Rattle.version_segment.specs.Rows.{VersionedRows, versions_at}
+use Rattle.version_segment.specs.Rows.{versions_at}
 use Rattle.leaf_index.specs.Index.{IsIndex}
 use Rattle.leaf_index.specs.Calls.{new_index}
 use Rattle.store_relation.specs.declared.stage.Stage.TheVariants.{Idle}
@@ -19,8 +18,8 @@ use Rattle.cells_model.specs.Cells.{CellState}
 use Rattle.cells_model.specs.Indexed.{new_cell}
 use Rattle.cells_model.specs.Words.{block_words}
 use Rattle.rule_model.specs.NoteSteps.{HasRow}
-use Rattle.rule_model.specs.Places.{Layout, KeepsApart, words_at}
-use Rattle.rule_model.specs.Sight.{IndexState, Known, Sight, HasJournal, HasPass, cells_of, fresh_pin, no_reads}
+use Rattle.rule_model.specs.Places.{Layout, KeepsApart}
+use Rattle.rule_model.specs.Sight.{Known, Sight, HasJournal, HasPass, cells_of, fresh_pin, no_reads}
 use Rattle.rule_model.specs.Rule.{IsStoreRule}
 
 -- ---- a new store
@@ -36,7 +35,12 @@ new_block k = 0 ∷ 0 ∷ (new_cell k).low.src ∷ (new_cell k).low.second ∷ (
     ∷ (new_cell k).high.second ∷ zeros 96
 
 abbrev pub new_state : ℕ → CellState
-new_state k = record { segment = new_cell k; block = new_block k; unpacked = false; changed = false }
+new_state k = record {
+  segment = new_cell k;
+  block = new_block k;
+  unpacked = false;
+  changed = false;
+}
 
 abbrev pub new_known : Config → Known
 new_known z = record {
@@ -65,7 +69,8 @@ first_sight z = record {
   reads = no_reads;
 }
 
--- the clock and all words of passes are 0, and blocks are those of cells without rows; pins may be anything
+-- the clock and all words of passes are 0, and blocks are those of cells without rows; pins may
+-- be anything
 pub record AreNewWords (z : Config) (at : Layout) (words : List ℕ) : Type 0 where
   pub apart : KeepsApart at z.passes (cells_of z) (length words)
   pub clock : slice_index words at.clock ≡ 0
@@ -76,12 +81,14 @@ pub record AreNewWords (z : Config) (at : Layout) (words : List ℕ) : Type 0 wh
 -- NEW
 abbrev pub NewTable : Type 0
 NewTable =
-    (z : Config) (at : Layout) (heap : Global) (words : List ℕ) → 1 ≤ z.leaves → IsIndex (new_index z.leaves)
+    (z : Config) (at : Layout) (heap : Global) (words : List ℕ) → 1 ≤ z.leaves
+    → IsIndex (new_index z.leaves)
     → AreNewWords z at words → IsStoreRule z at heap (opening words [] (first_sight z))
 
 -- ---- the end
 
--- the view has the journal and all passes, and each has ended its last transaction and stamped its rows
+-- the view has the journal and all passes, and each has ended its last transaction and stamped
+-- its rows
 pub record HasAll (z : Config) (v : Sight) (j : JournalState) : Type 0 where
   pub journal : HasJournal v j
   pub passes : (p : ℕ) → p < z.passes
@@ -93,10 +100,13 @@ pub record IsLast (z : Config) (v : Sight) (j : JournalState) : Type 0 where
   pub passes : (p : ℕ) → p < z.passes → HasPass v p (pass p)
   pub rows : Key → StampedVersions
   pub closed : IsClosed z pass j.commits rows
-  pub shown : (k : ℕ) (c : CellState) (q : Key) → HasRow z v k c q → versions_at c.segment q ≡ rows q
+  pub shown : (k : ℕ) (c : CellState) (q : Key) → HasRow z v k c q
+      → versions_at c.segment q ≡ rows q
 
 -- CLOSE
 abbrev pub TableCloses : Type 0
 TableCloses =
-    (z : Config) (at : Layout) (heap : Global) (s : State (Unit {0}) Sight) → IsStoreRule z at heap s
-    → (id : ℕ) (v : Sight) → get_elem? s.views id ≡ some v → (j : JournalState) → HasAll z v j → IsLast z v j
+    (z : Config) (at : Layout) (heap : Global) (s : State (Unit {0}) Sight)
+    → IsStoreRule z at heap s
+    → (id : ℕ) (v : Sight) → get_elem? s.views id ≡ some v → (j : JournalState) → HasAll z v j
+    → IsLast z v j

@@ -23,9 +23,10 @@ use Rattle.rule_model.specs.Sight.{IndexState, Sight, Agrees, HasIndex, no_news,
 use Rattle.rule_model.specs.RowSteps.{AreHeld}
 use Rattle.rule_model.specs.Steps.{MayLoad, Nothing}
 
--- The index is sound against the new cells and each key has its versions; a leaf that was live is so still, or is retired
--- with this stamp; and those that were retired are.
-pub record IsMove (heap : Global) (index index' : Index) (stamp : ℕ) (cell cell' : ℕ → VersionedRows) : Type 0 where
+-- The index is sound against the new cells and each key has its versions; a leaf that was live is
+-- so still, or is retired with this stamp; and those that were retired are.
+pub record IsMove (heap : Global) (index index' : Index) (stamp : ℕ)
+    (cell cell' : ℕ → VersionedRows) : Type 0 where
   pub indexed : IsIndexed heap index' cell'
   pub keeps : KeepsVersions (store_of heap index cell) (store_of heap index' cell')
   pub live : (l : ℕ) → is_live index l ≡ true → (is_live index' l ≡ true)
@@ -36,17 +37,23 @@ pub record IsMove (heap : Global) (index index' : Index) (stamp : ℕ) (cell cel
 
 abbrev pub SpreadIsMove : Type 0
 SpreadIsMove =
-    (heap : Global) (index : Index) (stamp : ℕ) (cell cell' : ℕ → VersionedRows) (front : List Entry) (e : Entry)
-    (back : List Entry) → IsIndexed heap index cell → index.entries ≡ front ++ e ∷ back → e.leaf < index.leaves
-    → KeepsOtherLeaves cell cell' e.leaf e.leaf → Respreads (leaf_cells cell e.leaf) (leaf_cells cell' e.leaf)
-    → IsIndex (with_entry index front (record e { cuts = lows_of (leaf_cells cell' e.leaf) }) back)
-    → IsMove heap index (with_entry index front (record e { cuts = lows_of (leaf_cells cell' e.leaf) }) back) stamp
+    (heap : Global) (index : Index) (stamp : ℕ) (cell cell' : ℕ → VersionedRows)
+    (front : List Entry) (e : Entry)
+    (back : List Entry) → IsIndexed heap index cell → index.entries ≡ front ++ e ∷ back
+    → e.leaf < index.leaves
+    → KeepsOtherLeaves cell cell' e.leaf e.leaf
+    → Respreads (leaf_cells cell e.leaf) (leaf_cells cell' e.leaf)
+    → IsIndex (with_entry index front
+    (record e { cuts = lows_of (leaf_cells cell' e.leaf) }) back)
+    → IsMove heap index (with_entry index front
+    (record e { cuts = lows_of (leaf_cells cell' e.leaf) }) back) stamp
     cell cell'
 
 abbrev pub SplitIsMove : Type 0
 SplitIsMove =
     (heap : Global) (index new : Index) (stamp : ℕ) (cell cell' : ℕ → VersionedRows) (key : Key)
-    (leaf segment other : ℕ) → IsIndexed heap index cell → IsRoutedTo key index.entries leaf segment
+    (leaf segment other : ℕ) → IsIndexed heap index cell
+    → IsRoutedTo key index.entries leaf segment
     → is_below key end_key ≡ true → SplitsInTwo index new cell cell' leaf other
     → 207 ≤ length (rows_of (leaf_cells cell leaf)) → leaf < index.leaves → IsIndex new
     → IsMove heap index new stamp cell cell'
@@ -54,8 +61,10 @@ SplitIsMove =
 -- the right one of two leaves that become one is retired with the stamp
 abbrev pub MergeIsMove : Type 0
 MergeIsMove =
-    (heap : Global) (index new : Index) (stamp : ℕ) (cell cell' : ℕ → VersionedRows) → IsIndexed heap index cell
-    → (m : MergesInOne index new cell cell' stamp) → stamp < STAMPS_END → m.left.leaf < index.leaves
+    (heap : Global) (index new : Index) (stamp : ℕ) (cell cell' : ℕ → VersionedRows)
+    → IsIndexed heap index cell
+    → (m : MergesInOne index new cell cell' stamp) → stamp < STAMPS_END
+    → m.left.leaf < index.leaves
     → m.right.leaf < index.leaves → IsIndex new → IsMove heap index new stamp cell cell'
 
 -- ---- the step
@@ -70,10 +79,15 @@ pub record CanMove (z : Config) (heap : Global) (v : Sight) (y : IndexState) (no
       → IsIndexed heap y.index (segment_of cell)
       → IsMove heap y.index (now n) n (segment_of cell) (segment_of (revised cell news))
 
-module _ (z : Config) (at : Layout) (heap : Global) (slots id : ℕ) (me : Me (Unit {0}) Sight) where
+module _ (z : Config) (at : Layout) (heap : Global) (slots id : ℕ)
+    (me : Me (Unit {0}) Sight) where
   -- MOVE: a load of the clock
   abbrev pub RowsAreMoved : Type 0
-  RowsAreMoved = (y : IndexState) (now : ℕ → Index) (news : List (ℕ × CellState)) → CanMove z heap me.0 y now news
+  RowsAreMoved = (y : IndexState) (now : ℕ → Index) (news : List (ℕ × CellState))
+      → CanMove z heap me.0 y now news
       → MayLoad z at heap slots id me at.clock
-      (λ n. with_news me.0 (record no_news { cells = news; indexes = (0, record y { index = now n }) ∷ [] })
+      (λ n. with_news me.0 (record no_news {
+        cells = news;
+        indexes = (0, record y { index = now n }) ∷ [];
+      })
       me.0.reads) Nothing

@@ -1,9 +1,9 @@
--- What an open transaction learns of the rows in cells that it holds, and of the writers of their records.
-use Rattle.std.specs.Prelude.{◌≡◌, ◌⊎◌, ℕ, ◌-◌, ◌<◌, ◌≤◌, nat_le, Bool, true, false, List, [], ◌∷◌, length, slice_get, Some, None}
+-- What an open transaction learns of the rows in cells that it holds, and of the writers of their
+-- records.
+use Rattle.std.specs.Prelude.{◌≡◌, ◌⊎◌, ℕ, ◌-◌, ◌<◌, ◌≤◌, nat_le, true, false, List, [], ◌∷◌, length, slice_get, Some, None}
 use Rattle.std.specs.declared.alloc.Global.{Global}
 use Rattle.atomic_table.specs.Table.{Me}
 use Rattle.graph_model.specs.declared.journal.Commit.{Commit}
-use Rattle.graph_model.specs.declared.journal.TxnName.{TxnName}
 use Rattle.graph_model.specs.declared.row.Key.{Key}
 use Rattle.graph_model.specs.declared.write.Write.{Write}
 use Rattle.graph_model.specs.Account.{Sighting}
@@ -14,7 +14,7 @@ use Rattle.store_model.specs.Check.{looks_at}
 use Rattle.store_model.specs.Stamped.{Stamped, forget_row}
 use Rattle.version_segment.specs.Rows.{versions_at}
 use Rattle.store_relation.specs.declared.stage.Stage.TheVariants.{Open}
-use Rattle.store_relation.specs.Passes.{Meeting, PassState, name_at}
+use Rattle.store_relation.specs.Passes.{PassState, name_at}
 use Rattle.store_relation.specs.ReadLaws.{Answers, SeesValue}
 use Rattle.store_relation.specs.Readers.{ReaderState}
 use Rattle.store_relation.specs.Rows.{HasRecord}
@@ -35,7 +35,8 @@ pub record HasRow (z : Config) (v : Sight) (k : ℕ) (c : CellState) (q : Key) :
   pub covered : covers c.segment q ≡ true
 
 -- and in the key's row there is this record
-pub record HasRecordIn (z : Config) (v : Sight) (k : ℕ) (c : CellState) (q : Key) (x : Stamped) : Type 0 where
+pub record HasRecordIn (z : Config) (v : Sight) (k : ℕ) (c : CellState) (q : Key)
+    (x : Stamped) : Type 0 where
   pub row : HasRow z v k c q
   pub there : HasRecord (versions_at c.segment q) x
 
@@ -52,21 +53,25 @@ pub record TellsWriter (seen : List Commit) (x : Stamped) (n : ℕ) : Type 0 whe
   pub answers : Answers seen x.by n
   pub open_or_stamped : (n ≡ 1) ⊎ (2 < n)
 
-module _ (z : Config) (at : Layout) (heap : Global) (slots id : ℕ) (me : Me (Unit {0}) Sight) where
+module _ (z : Config) (at : Layout) (heap : Global) (slots id : ℕ)
+    (me : Me (Unit {0}) Sight) where
   -- ---- what one load of the clock tells
 
   pub record LearnsRows (p : ℕ) (st : PassState) (n : ℕ) : Type 0 where
     -- by what was seen, the rows give the view
     pub reads : (k : ℕ) (c : CellState) (q : Key) → HasRow z me.0 k c q
-        → SeesValue z st.seen st.start st.own (name_at p st) (stamp_in st.seen) q (versions_at c.segment q)
-    -- writers of records without a stamp are passes, and but for the pass's own transaction other passes
+        → SeesValue z st.seen st.start st.own (name_at p st) (stamp_in st.seen) q
+        (versions_at c.segment q)
+    -- writers of records without a stamp are passes, and but for the pass's own transaction other
+    -- passes
     pub writers : (k : ℕ) (c : CellState) (q : Key) (x : Stamped) → HasRecordIn z me.0 k c q x
         → x.stamp ≡ None → x.by.job < z.passes
     pub others : (k : ℕ) (c : CellState) (q : Key) (x : Stamped) → HasRecordIn z me.0 k c q x
         → x.stamp ≡ None → same_name x.by (name_at p st) ≡ false → x.by.job ≡ p → ⊥
     -- a stamp says whether the snapshot sees the record
     pub stamps : (k : ℕ) (c : CellState) (q : Key) (x : Stamped) → HasRecordIn z me.0 k c q x
-        → (stamp : ℕ) → x.stamp ≡ Some stamp → reached (stamp_in st.seen x.by) st.start ≡ nat_le stamp st.start
+        → (stamp : ℕ) → x.stamp ≡ Some stamp
+        → reached (stamp_in st.seen x.by) st.start ≡ nat_le stamp st.start
     pub published : length st.seen ≤ n
 
   -- LEARN
@@ -80,7 +85,8 @@ module _ (z : Config) (at : Layout) (heap : Global) (slots id : ℕ) (me : Me (U
       → MayLoad z at heap slots id me at.clock (λ _. me.0) (λ _.
       ((k : ℕ) (c : CellState) (q : Key) → HasRow z me.0 k c q
       → SeesValue z x.seen x.start x.own x.by (stamp_in x.seen) q (versions_at c.segment q))
-      × ((k : ℕ) (c : CellState) (q : Key) (y : Stamped) → HasRecordIn z me.0 k c q y → y.stamp ≡ None
+      × ((k : ℕ) (c : CellState) (q : Key) (y : Stamped) → HasRecordIn z me.0 k c q y
+      → y.stamp ≡ None
       → y.by.job < z.passes))
 
   -- ---- what one load of a writer's word tells
@@ -95,12 +101,14 @@ module _ (z : Config) (at : Layout) (heap : Global) (slots id : ℕ) (me : Me (U
   abbrev pub LookIsKept : Type 0
   LookIsKept = (p : ℕ) (st : PassState) (k : ℕ) (c : CellState) (q : Key) (x : Stamped)
       → HasPass me.0 p st → HasRecordIn z me.0 k c q x → x.stamp ≡ None
-      → MayLoad z at heap slots id me (at.pass x.by.job) (λ n. with_pass me.0 p (with_look st (look_at st x.by n)))
+      → MayLoad z at heap slots id me (at.pass x.by.job)
+      (λ n. with_pass me.0 p (with_look st (look_at st x.by n)))
       (TellsWriter st.seen x)
 
   -- LOOK, by a reader
   abbrev pub ReaderLooks : Type 0
-  ReaderLooks = (x : ReaderState) (k : ℕ) (c : CellState) (q : Key) (y : Stamped) → me.0.readers ≡ x ∷ []
+  ReaderLooks = (x : ReaderState) (k : ℕ) (c : CellState) (q : Key) (y : Stamped)
+      → me.0.readers ≡ x ∷ []
       → HasRecordIn z me.0 k c q y → y.stamp ≡ None
       → MayLoad z at heap slots id me (at.pass y.by.job) (λ _. me.0) (TellsWriter x.seen y)
 
@@ -110,21 +118,27 @@ module _ (z : Config) (at : Layout) (heap : Global) (slots id : ℕ) (me : Me (U
   abbrev pub HolderIsFound : Type 0
   HolderIsFound = (p : ℕ) (st : PassState) (w : Write) (x : Stamped) → HasPass me.0 p st
       → LooksAtRecord z me.0 w x → reached (stamp_in st.seen x.by) st.start ≡ false
-      → MayLoad z at heap slots id me at.clock (λ _. with_pass me.0 p (with_holder st (sighting x.by w st.start))) Nothing
+      → MayLoad z at heap slots id me at.clock
+      (λ _. with_pass me.0 p (with_holder st (sighting x.by w st.start))) Nothing
 
   -- and is answered as the cause
   abbrev pub HolderIsAnswered : Type 0
   HolderIsAnswered = (p : ℕ) (st : PassState) (i : ℕ) (x : Sighting) → HasPass me.0 p st
       → slice_get st.holders i ≡ Some x
-      → MayLoad z at heap slots id me at.clock (λ _. with_pass me.0 p (with_sighting st x)) Nothing
+      → MayLoad z at heap slots id me at.clock
+      (λ _. with_pass me.0 p (with_sighting st x)) Nothing
 
   -- MET: of a record with a stamp, or of one whose writer has a look with a stamp
   abbrev pub StampIsMet : Type 0
-  StampIsMet = (p : ℕ) (st : PassState) (w : Write) (x : Stamped) (stamp : ℕ) → HasPass me.0 p st
+  StampIsMet = (p : ℕ) (st : PassState) (w : Write) (x : Stamped) (stamp : ℕ)
+      → HasPass me.0 p st
       → LooksAtRecord z me.0 w x → x.stamp ≡ Some stamp
-      → MayLoad z at heap slots id me at.clock (λ _. with_pass me.0 p (with_meeting st (meeting w (stamp - 1)))) Nothing
+      → MayLoad z at heap slots id me at.clock
+      (λ _. with_pass me.0 p (with_meeting st (meeting w (stamp - 1)))) Nothing
 
   abbrev pub LookIsMet : Type 0
-  LookIsMet = (p : ℕ) (st : PassState) (w : Write) (x : Stamped) (i : ℕ) (l : Look) → HasPass me.0 p st
+  LookIsMet = (p : ℕ) (st : PassState) (w : Write) (x : Stamped) (i : ℕ) (l : Look)
+      → HasPass me.0 p st
       → LooksAtRecord z me.0 w x → slice_get st.looks i ≡ Some l → l.by ≡ x.by → 2 < l.word
-      → MayLoad z at heap slots id me at.clock (λ _. with_pass me.0 p (with_meeting st (meeting w (l.word - 3)))) Nothing
+      → MayLoad z at heap slots id me at.clock
+      (λ _. with_pass me.0 p (with_meeting st (meeting w (l.word - 3)))) Nothing

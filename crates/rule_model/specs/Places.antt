@@ -36,8 +36,8 @@ pub record KeepsApart (at : Layout) (passes cells width : ℕ) : Type 0 where
   pub pass_cell : (p k : ℕ) → p < passes → k < cells → IsOutside (at.pass p) (at.cell k)
   pub pin_cell : (p k : ℕ) → p < passes → k < cells → IsOutside (at.pin p) (at.cell k)
 
--- Word 0 is never written, since each join and split loads it. The clock, and each pass's word and pin, have a line of
--- eight words each; cells follow without gaps.
+-- Word 0 is never written, since each join and split loads it. The clock, and each pass's word
+-- and pin, have a line of eight words each; cells follow without gaps.
 abbrev pub lines : ℕ → Layout
 lines passes = record {
   clock = 8;
@@ -65,7 +65,8 @@ words_at at passes cells words = record {
   clock = slice_index words at.clock;
   pass = λ p. cond (nat_lt p passes) (slice_index words (at.pass p)) 0;
   pin = λ p. cond (nat_lt p passes) (slice_index words (at.pin p)) 0;
-  block = λ k i. cond (nat_lt k cells && nat_lt i block_words) (slice_index words (at.cell k + i)) 0;
+  block = λ k i. cond (nat_lt k cells && nat_lt i block_words)
+      (slice_index words (at.cell k + i)) 0;
 }
 
 -- one word of one block is that, and all others are as they were
@@ -76,25 +77,35 @@ put_word block k i n l j = cond ((l == k) && (j == i)) n (block l j)
 
 abbrev pub ClockIsStored : Type 0
 ClockIsStored =
-    (at : Layout) (passes cells : ℕ) (words : List ℕ) → KeepsApart at passes cells (length words)
+    (at : Layout) (passes cells : ℕ) (words : List ℕ)
+    → KeepsApart at passes cells (length words)
     → (n : ℕ) → words_at at passes cells (slice_set words at.clock n)
     ≡ record (words_at at passes cells words) { clock = n }
 
 abbrev pub PassIsStored : Type 0
 PassIsStored =
-    (at : Layout) (passes cells : ℕ) (words : List ℕ) → KeepsApart at passes cells (length words)
+    (at : Layout) (passes cells : ℕ) (words : List ℕ)
+    → KeepsApart at passes cells (length words)
     → (p n : ℕ) → p < passes → words_at at passes cells (slice_set words (at.pass p) n)
-    ≡ record (words_at at passes cells words) { pass = put (words_at at passes cells words).pass p n }
+    ≡ record (words_at at passes cells words) {
+      pass = put
+          (words_at at passes cells words).pass p n;
+    }
 
 abbrev pub PinIsStored : Type 0
 PinIsStored =
-    (at : Layout) (passes cells : ℕ) (words : List ℕ) → KeepsApart at passes cells (length words)
+    (at : Layout) (passes cells : ℕ) (words : List ℕ)
+    → KeepsApart at passes cells (length words)
     → (p n : ℕ) → p < passes → words_at at passes cells (slice_set words (at.pin p) n)
-    ≡ record (words_at at passes cells words) { pin = put (words_at at passes cells words).pin p n }
+    ≡ record (words_at at passes cells words) {
+      pin = put
+          (words_at at passes cells words).pin p n;
+    }
 
 abbrev pub BlockWordIsStored : Type 0
 BlockWordIsStored =
-    (at : Layout) (passes cells : ℕ) (words : List ℕ) → KeepsApart at passes cells (length words)
+    (at : Layout) (passes cells : ℕ) (words : List ℕ)
+    → KeepsApart at passes cells (length words)
     → (k i n : ℕ) → k < cells → i < block_words
     → words_at at passes cells (slice_set words (block_place at k i) n)
     ≡ record (words_at at passes cells words) {

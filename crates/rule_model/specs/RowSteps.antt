@@ -1,5 +1,6 @@
--- Steps that change rows of held cells: a write, its undo, the stamping of a commit's rows, and a prune.
-use Rattle.std.specs.Prelude.{◌≡◌, ◌⊎◌, ℕ, ◌≤◌, ◌<◌, ◌++◌, ◌||◌, Bool, true, false, List, [], ◌∷◌, slice_get, Option, Some, None, count_by}
+-- Steps that change rows of held cells: a write, its undo, the stamping of a commit's rows, and a
+-- prune.
+use Rattle.std.specs.Prelude.{◌≡◌, ◌⊎◌, ℕ, ◌≤◌, ◌<◌, ◌++◌, ◌||◌, Bool, true, false, List, [], ◌∷◌, slice_get, Some, None, count_by}
 use Rattle.std.specs.List.{AllByRecursion}
 use Rattle.std.specs.declared.alloc.Global.{Global}
 use Rattle.atomic_table.specs.Table.{Me}
@@ -72,7 +73,8 @@ HoldsKeys z w news = (q : Key) → (writes_at z.kind w q || touches_at w q) ≡ 
 
 -- ---- a write
 
-pub record CanWrite (z : Config) (v : Sight) (p : ℕ) (st : PassState) (w : Write) (news : List (ℕ × CellState))
+pub record CanWrite (z : Config) (v : Sight) (p : ℕ) (st : PassState) (w : Write)
+    (news : List (ℕ × CellState))
     : Type 0 where
   pub has : HasPass v p st
   pub stage : st.stage ≡ Open
@@ -81,7 +83,8 @@ pub record CanWrite (z : Config) (v : Sight) (p : ℕ) (st : PassState) (w : Wri
   pub allowed : refused (view z.kind st.seen st.start st.own) w ≡ None
   pub within : IsWithinLimits w
   pub may : (k : ℕ) (c : CellState) (q : Key) → HasRow z v k c q
-      → MayWrite z.kind (sees (stamp_in st.seen) st.start (name_at p st)) w q (forget_row (versions_at c.segment q))
+      → MayWrite z.kind (sees (stamp_in st.seen) st.start (name_at p st)) w q
+      (forget_row (versions_at c.segment q))
   pub held : HoldsKeys z w news
   pub changes : AreChanges z v news
   pub rows : (k : ℕ) (c d : CellState) (q : Key) → HasCell v k c → kept_at news k ≡ Some d
@@ -91,7 +94,8 @@ pub record CanWrite (z : Config) (v : Sight) (p : ℕ) (st : PassState) (w : Wri
 
 -- ---- its undo
 
-pub record CanUndo (z : Config) (v : Sight) (p : ℕ) (st : PassState) (front : List Write) (w : Write)
+pub record CanUndo (z : Config) (v : Sight) (p : ℕ) (st : PassState) (front : List Write)
+    (w : Write)
     (news : List (ℕ × CellState)) : Type 0 where
   pub has : HasPass v p st
   pub stage : st.stage ≡ Aborting
@@ -110,7 +114,8 @@ pub record CanUndo (z : Config) (v : Sight) (p : ℕ) (st : PassState) (front : 
 abbrev pub IsBeside : List (ℕ × CellState) → Key → Type 0
 IsBeside news q = (k : ℕ) (d : CellState) → kept_at news k ≡ Some d → covers d.segment q ≡ false
 
-pub record CanStamp (z : Config) (v : Sight) (p : ℕ) (st : PassState) (unstamped : List Key) (i : ℕ) (c : Commit)
+pub record CanStamp (z : Config) (v : Sight) (p : ℕ) (st : PassState) (unstamped : List Key)
+    (i : ℕ) (c : Commit)
     (news : List (ℕ × CellState)) : Type 0 where
   pub has : HasPass v p st
   pub stage : st.stage ≡ Idle
@@ -124,13 +129,15 @@ pub record CanStamp (z : Config) (v : Sight) (p : ℕ) (st : PassState) (unstamp
       → (versions_at d.segment q ≡ stamp (name_at p st) c.stamp (versions_at a.segment q))
       ⊎ ((versions_at d.segment q ≡ versions_at a.segment q)
       × (has_key st.unstamped q ≡ true → has_key unstamped q ≡ true))
-  pub rest : (q : Key) → IsBeside news q → has_key st.unstamped q ≡ true → has_key unstamped q ≡ true
+  pub rest : (q : Key) → IsBeside news q → has_key st.unstamped q ≡ true
+      → has_key unstamped q ≡ true
   pub grows : GrowsBy v news 0
 
 -- ---- a prune
 
 -- at the horizon of a sweep that has looked at all pins, by looks that the pass has kept
-pub record CanPrune (z : Config) (v : Sight) (p : ℕ) (st : PassState) (x : PinState) (sweep : Sweep)
+pub record CanPrune (z : Config) (v : Sight) (p : ℕ) (st : PassState) (x : PinState)
+    (sweep : Sweep)
     (news : List (ℕ × CellState)) : Type 0 where
   pub has : HasPass v p st
   pub pin : HasPin v p x
@@ -139,15 +146,20 @@ pub record CanPrune (z : Config) (v : Sight) (p : ℕ) (st : PassState) (x : Pin
   pub changes : AreChanges z v news
   pub rows : (k : ℕ) (c d : CellState) (q : Key) → HasCell v k c → kept_at news k ≡ Some d
       → covers c.segment q ≡ true
-      → (versions_at d.segment q ≡ prune_stamped (stamps_of st.looks) (horizon_of sweep) (versions_at c.segment q))
+      → (versions_at d.segment q ≡ prune_stamped (stamps_of st.looks) (horizon_of sweep)
+      (versions_at c.segment q))
       × AreLookedUp (horizon_of sweep) st.looks (versions_at c.segment q)
   pub grows : GrowsBy v news 0
 
-module _ (z : Config) (at : Layout) (heap : Global) (slots id : ℕ) (me : Me (Unit {0}) Sight) where
-  -- WRITE: a load of the clock, after which the pass has one more write and the cells have its rows
+module _ (z : Config) (at : Layout) (heap : Global) (slots id : ℕ)
+    (me : Me (Unit {0}) Sight) where
+  -- WRITE: a load of the clock, after which the pass has one more write and the cells have its
+  -- rows
   abbrev pub WriteIsMade : Type 0
-  WriteIsMade = (p : ℕ) (st : PassState) (w : Write) (news : List (ℕ × CellState)) → CanWrite z me.0 p st w news
-      → MayLoad z at heap slots id me at.clock (λ _. with_rows me.0 p (written_by st w) news) Nothing
+  WriteIsMade = (p : ℕ) (st : PassState) (w : Write) (news : List (ℕ × CellState))
+      → CanWrite z me.0 p st w news
+      → MayLoad z at heap slots id me at.clock
+      (λ _. with_rows me.0 p (written_by st w) news) Nothing
 
   -- what a write adds, change of row by change of row, over however many cells
   abbrev pub WriteGrowsByRows : Type 0
@@ -157,18 +169,22 @@ module _ (z : Config) (at : Layout) (heap : Global) (slots id : ℕ) (me : Me (U
 
   -- UNDO
   abbrev pub WriteIsUndone : Type 0
-  WriteIsUndone = (p : ℕ) (st : PassState) (front : List Write) (w : Write) (news : List (ℕ × CellState))
+  WriteIsUndone = (p : ℕ) (st : PassState) (front : List Write) (w : Write)
+      (news : List (ℕ × CellState))
       → CanUndo z me.0 p st front w news
-      → MayLoad z at heap slots id me at.clock (λ _. with_rows me.0 p (taken_back st front) news) Nothing
+      → MayLoad z at heap slots id me at.clock
+      (λ _. with_rows me.0 p (taken_back st front) news) Nothing
 
   -- STAMP ROWS
   abbrev pub RowsAreStamped : Type 0
   RowsAreStamped = (p : ℕ) (st : PassState) (unstamped : List Key) (i : ℕ) (c : Commit)
       (news : List (ℕ × CellState)) → CanStamp z me.0 p st unstamped i c news
-      → MayLoad z at heap slots id me at.clock (λ _. with_rows me.0 p (with_unstamped st unstamped) news) Nothing
+      → MayLoad z at heap slots id me at.clock
+      (λ _. with_rows me.0 p (with_unstamped st unstamped) news) Nothing
 
   -- PRUNE
   abbrev pub RowsArePruned : Type 0
-  RowsArePruned = (p : ℕ) (st : PassState) (x : PinState) (sweep : Sweep) (news : List (ℕ × CellState))
+  RowsArePruned = (p : ℕ) (st : PassState) (x : PinState) (sweep : Sweep)
+      (news : List (ℕ × CellState))
       → CanPrune z me.0 p st x sweep news
       → MayLoad z at heap slots id me at.clock (λ _. with_cells me.0 news) Nothing

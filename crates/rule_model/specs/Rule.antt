@@ -1,5 +1,6 @@
--- THE RULE OF THE ACCOUNT TABLE: transactions, cells under their index, blocks of words, pins and noted leaves.
-use Rattle.std.specs.Prelude.{◌≡◌, ℕ, ◌+◌, ◌*◌, ◌≤◌, ◌<◌, Bool, true, false, List, length, Option, Some}
+-- THE RULE OF THE ACCOUNT TABLE: transactions, cells under their index, blocks of words, pins and
+-- noted leaves.
+use Rattle.std.specs.Prelude.{◌≡◌, ℕ, ◌≤◌, Bool, true, false, List, length, Option, Some}
 use Rattle.std.specs.List.{flat_map}
 use Rattle.std.specs.declared.alloc.Global.{Global}
 use mathlib.Core.List.{IsPrefix}
@@ -9,7 +10,6 @@ use Rattle.atomic_table.specs.Table.{State}
 use Rattle.graph_model.specs.declared.row.Key.{Key}
 use Rattle.txn_manager.specs.declared.config.Config.{Config}
 use Rattle.store_model.specs.Stamped.{StampedVersions}
-use Rattle.version_segment.specs.Rows.{VersionedRows}
 use Rattle.leaf_store.specs.Leaves.{Leaves, versions_of, weight}
 use Rattle.seat_views.specs.Keeping.{Keeps}
 use Rattle.epoch_reclaim.specs.declared.sweep.Sweep.{Sweep}
@@ -17,7 +17,7 @@ use Rattle.epoch_reclaim.specs.Pinned.{IsPinned}
 use Rattle.store_relation.specs.Passes.{PassState, is_active}
 use Rattle.store_relation.specs.Readers.{AreReaders}
 use Rattle.store_relation.specs.Shared.{IsShared, inserted_by_all}
-use Rattle.cells_model.specs.Cells.{AreBlocks, CellState}
+use Rattle.cells_model.specs.Cells.{AreBlocks}
 use Rattle.cells_model.specs.Reads.{Reading, IsReading}
 use Rattle.cells_model.specs.Indexed.{store_of, IsIndexed}
 use Rattle.cells_model.specs.InPlace.{segment_of}
@@ -62,11 +62,14 @@ pub record IsStored (z : Config) (heap : Global) (w : Words) (k : Known) : Type 
   -- the words of blocks
   pub blocks : AreBlocks (cells_of z) w.block k.cell
   -- pins, and leaves that passes have noted
-  pub pinned : IsPinned w.pin (active_of k.pass) (start_of k.pass) (announced_of k.pin) (sweep_of k.pin) w.clock
-  pub noted : AreNoted (k.index 0).index (active_of k.pass) (start_of k.pass) (noted_of k.pin) (sweep_of k.pin)
+  pub pinned : IsPinned w.pin (active_of k.pass) (start_of k.pass) (announced_of k.pin)
+      (sweep_of k.pin) w.clock
+  pub noted : AreNoted (k.index 0).index (active_of k.pass) (start_of k.pass) (noted_of k.pin)
+      (sweep_of k.pin)
       (k.index 0).sweeper
   -- a pass that is announced and not pinned has noted no leaf
-  pub fast : (p l : ℕ) → active_of k.pass p ≡ true → IsAmong l (noted_of k.pin p) → announced_of k.pin p ≡ false
+  pub fast : (p l : ℕ) → active_of k.pass p ≡ true → IsAmong l (noted_of k.pin p)
+      → announced_of k.pin p ≡ false
 
 -- ---- the rule
 
@@ -74,7 +77,8 @@ pub record IsStored (z : Config) (heap : Global) (w : Words) (k : Known) : Type 
 abbrev pub words_of : Config → Layout → List ℕ → Words
 words_of z at words = words_at at z.passes (cells_of z) words
 
-pub record IsStoreRule (z : Config) (at : Layout) (heap : Global) (s : State (Unit {0}) Sight) : Type 0 where
+pub record IsStoreRule (z : Config) (at : Layout) (heap : Global)
+    (s : State (Unit {0}) Sight) : Type 0 where
   pub apart : KeepsApart at z.passes (cells_of z) (length s.words)
   -- each pass, pin, cell, the index and the journal are known to one seat
   pub known : Known
@@ -89,8 +93,10 @@ pub record IsStoreRule (z : Config) (at : Layout) (heap : Global) (s : State (Un
   pub indexes : Keeps (λ (v : Sight). v.indexes) s.views known.index index_keeper
   pub journals : Keeps (λ (v : Sight). v.journals) s.views known.journal journal_keeper
   -- several seats may know of the same commits, readers and reads
-  pub told : (seat : ℕ) (v : Sight) → get_elem? s.views seat ≡ some v → IsPrefix v.told (known.journal 0).commits
-  pub readers : AreReaders known.pass (known.journal 0).commits (flat_map (λ v. v.readers) s.views)
+  pub told : (seat : ℕ) (v : Sight) → get_elem? s.views seat ≡ some v
+      → IsPrefix v.told (known.journal 0).commits
+  pub readers : AreReaders known.pass (known.journal 0).commits
+      (flat_map (λ v. v.readers) s.views)
   pub reads : (seat : ℕ) (v : Sight) (q : Reading) → get_elem? s.views seat ≡ some v
       → v.reads.reading ≡ Some q → IsReading (cells_of z) known.cell q
   pub stored : IsStored z heap (words_of z at s.words) known

@@ -1,13 +1,13 @@
 -- What a seat of the account table knows, and what it knows after a step.
-use Rattle.std.specs.Prelude.{◌≡◌, ℕ, ◌*◌, ◌++◌, Bool, true, false, List, [], ◌∷◌, Option, Some, None}
+use Rattle.std.specs.Prelude.{◌≡◌, ℕ, ◌*◌, ◌++◌, Bool, false, List, [], ◌∷◌, Option, Some, None}
 use Rattle.graph_model.specs.declared.journal.Commit.{Commit}
 use Rattle.txn_manager.specs.declared.config.Config.{Config}
 use Rattle.leaf_index.specs.Index.{Index}
 use Rattle.seat_views.specs.Keeping.{kept_at, revised, AreKept}
 use Rattle.epoch_reclaim.specs.declared.sweep.Sweep.{Sweep}
-use Rattle.store_relation.specs.Passes.{PassState, fresh_pass}
+use Rattle.store_relation.specs.Passes.{PassState}
 use Rattle.store_relation.specs.Readers.{ReaderState}
-use Rattle.store_relation.specs.Shared.{JournalState, no_journal}
+use Rattle.store_relation.specs.Shared.{JournalState}
 use Rattle.cells_model.specs.Cells.{CellState}
 use Rattle.cells_model.specs.Reads.{Reading}
 
@@ -40,8 +40,8 @@ pub record ReadState : Type 0 where
 abbrev pub no_reads : ReadState
 no_reads = record { reading = None; found = [] }
 
--- What a seat keeps of passes, pins, cells, the index and the journal, by their numbers; commits of which it was told;
--- readers that it has; and its read.
+-- What a seat keeps of passes, pins, cells, the index and the journal, by their numbers; commits
+-- of which it was told; readers that it has; and its read.
 pub record Sight : Type 0 where
   pub passes : List (ℕ × PassState)
   pub pins : List (ℕ × PinState)
@@ -156,10 +156,16 @@ abbrev pub with_journal : Sight → JournalState → Sight
 with_journal v j = with_news v (record no_news { journals = (0, j) ∷ [] }) v.reads
 
 abbrev pub with_commit : Sight → ℕ → PassState → JournalState → Sight
-with_commit v p st j = with_news v (record no_news { passes = (p, st) ∷ []; journals = (0, j) ∷ [] }) v.reads
+with_commit v p st j = with_news v (record no_news {
+  passes = (p, st) ∷ [];
+  journals = (0, j) ∷ [];
+}) v.reads
 
 abbrev pub with_rows : Sight → ℕ → PassState → List (ℕ × CellState) → Sight
-with_rows v p st cells = with_news v (record no_news { passes = (p, st) ∷ []; cells = cells }) v.reads
+with_rows v p st cells = with_news v (record no_news {
+  passes = (p, st) ∷ [];
+  cells = cells;
+}) v.reads
 
 -- a read goes on, and a version word was found
 abbrev pub with_reading : Sight → Option Reading → Sight
@@ -167,4 +173,7 @@ with_reading v reading = with_news v no_news (record v.reads { reading = reading
 
 abbrev pub with_found : Sight → Option Reading → ℕ → ℕ → Sight
 with_found v reading k n =
-    with_news v no_news (record { reading = reading; found = record { cell = k; word = n } ∷ v.reads.found })
+    with_news v no_news (record {
+      reading = reading;
+      found = record { cell = k; word = n } ∷ v.reads.found;
+    })

@@ -1,5 +1,6 @@
--- Steps of a transaction that change no row: begin, commit, abort, and what was seen of the journal.
-use Rattle.std.specs.Prelude.{◌≡◌, ℕ, ◌+◌, ◌*◌, ◌<◌, ◌≤◌, ◌||◌, Bool, true, false, List, [], length}
+-- Steps of a transaction that change no row: begin, commit, abort, and what was seen of the
+-- journal.
+use Rattle.std.specs.Prelude.{◌≡◌, ℕ, ◌+◌, ◌*◌, ◌<◌, ◌≤◌, ◌||◌, true, List, [], length}
 use Rattle.std.specs.List.{AllByRecursion}
 use Rattle.std.specs.declared.alloc.Global.{Global}
 use mathlib.Core.List.{IsPrefix}
@@ -25,7 +26,8 @@ use Rattle.rule_model.specs.Places.{Layout}
 use Rattle.rule_model.specs.Sight.{PinState, IndexState, Sight, Agrees, HasPass, HasPin, HasIndex, HasJournal, with_pass, with_journal, with_commit}
 use Rattle.rule_model.specs.Steps.{MayLoad, MayStore, Nothing}
 
-module _ (z : Config) (at : Layout) (heap : Global) (slots id : ℕ) (me : Me (Unit {0}) Sight) where
+module _ (z : Config) (at : Layout) (heap : Global) (slots id : ℕ)
+    (me : Me (Unit {0}) Sight) where
   -- ---- begin
 
   -- what the clock tells a pass that has the journal
@@ -36,27 +38,33 @@ module _ (z : Config) (at : Layout) (heap : Global) (slots id : ℕ) (me : Me (U
 
   -- CLOCK: a load by a pass that has the journal
   abbrev pub ClockIsLoaded : Type 0
-  ClockIsLoaded = (p : ℕ) (st : PassState) (j : JournalState) → HasPass me.0 p st → HasJournal me.0 j
+  ClockIsLoaded = (p : ℕ) (st : PassState) (j : JournalState) → HasPass me.0 p st
+      → HasJournal me.0 j
       → MayLoad z at heap slots id me at.clock (λ _. me.0) (TellsClock st j)
 
   -- ROOM: a load, after which the journal has room for more entries
   abbrev pub RoomIsMade : Type 0
   RoomIsMade = (j : JournalState) (room : ℕ) → HasJournal me.0 j → j.room ≤ room
-      → MayLoad z at heap slots id me at.clock (λ _. with_journal me.0 (record j { room = room })) Nothing
+      → MayLoad z at heap slots id me at.clock
+      (λ _. with_journal me.0 (record j { room = room })) Nothing
 
-  -- BEGIN: the store of 'open' at the pass's word. The pass has the journal, has announced, and has noted no leaf
+  -- BEGIN: the store of 'open' at the pass's word. The pass has the journal, has announced, and
+  -- has noted no leaf
   abbrev pub TransactionBegins : Type 0
   TransactionBegins = (p : ℕ) (st : PassState) (x : PinState) (j : JournalState)
       → HasPass me.0 p st → HasPin me.0 p x → HasJournal me.0 j
-      → st.stage ≡ Idle → st.unstamped ≡ [] → p < z.passes → number_of st < z.txns_per_pass → z.passes ≤ j.room
+      → st.stage ≡ Idle → st.unstamped ≡ [] → p < z.passes → number_of st < z.txns_per_pass
+      → z.passes ≤ j.room
       → x.announced ≡ true → x.noted ≡ []
       → MayStore z at heap slots id me (at.pass p) open_word (with_pass me.0 p (begun st j))
 
   -- ---- commit
 
-  -- STAMP: the store of the stamp at the pass's word, by a pass that has the journal and no reader out
+  -- STAMP: the store of the stamp at the pass's word, by a pass that has the journal and no
+  -- reader out
   abbrev pub StampIsStored : Type 0
-  StampIsStored = (p : ℕ) (st : PassState) (j : JournalState) → HasPass me.0 p st → HasJournal me.0 j
+  StampIsStored = (p : ℕ) (st : PassState) (j : JournalState) → HasPass me.0 p st
+      → HasJournal me.0 j
       → st.stage ≡ Open → st.readers_out ≡ 0 → 0 < length st.own → j.next ≡ []
       → MayStore z at heap slots id me (at.pass p) (commit_word (length j.commits))
       (with_commit me.0 p (committing st) (with_entry j p st))
@@ -65,7 +73,8 @@ module _ (z : Config) (at : Layout) (heap : Global) (slots id : ℕ) (me : Me (U
   abbrev pub CommitIsPublished : Type 0
   CommitIsPublished = (p : ℕ) (st : PassState) (j : JournalState) (unstamped : List Key)
       → HasPass me.0 p st → HasJournal me.0 j → st.stage ≡ Committing
-      → ((q : Key) → (any_writes z.kind st.own q || any_touches st.own q) ≡ true → has_key unstamped q ≡ true)
+      → ((q : Key) → (any_writes z.kind st.own q || any_touches st.own q) ≡ true
+      → has_key unstamped q ≡ true)
       → MayStore z at heap slots id me at.clock (length j.commits + 1)
       (with_commit me.0 p (committed st j unstamped) (published_now j))
 
@@ -73,12 +82,14 @@ module _ (z : Config) (at : Layout) (heap : Global) (slots id : ℕ) (me : Me (U
 
   -- STOP: a load, after which the transaction can't commit any more
   abbrev pub AbortBegins : Type 0
-  AbortBegins = (p : ℕ) (st : PassState) → HasPass me.0 p st → st.stage ≡ Open → st.readers_out ≡ 0
+  AbortBegins = (p : ℕ) (st : PassState) → HasPass me.0 p st → st.stage ≡ Open
+      → st.readers_out ≡ 0
       → MayLoad z at heap slots id me at.clock (λ _. with_pass me.0 p (stopped st)) Nothing
 
   -- END: the store of 'ended' at the pass's word, once no write stands
   abbrev pub TransactionEnds : Type 0
-  TransactionEnds = (p : ℕ) (st : PassState) → HasPass me.0 p st → st.stage ≡ Aborting → st.laid ≡ []
+  TransactionEnds = (p : ℕ) (st : PassState) → HasPass me.0 p st → st.stage ≡ Aborting
+      → st.laid ≡ []
       → MayStore z at heap slots id me (at.pass p) ended_word (with_pass me.0 p (ended st None))
 
   -- ---- what was seen
@@ -92,19 +103,23 @@ module _ (z : Config) (at : Layout) (heap : Global) (slots id : ℕ) (me : Me (U
 
   -- REFRESH: a load by a pass that has the journal
   abbrev pub JournalIsSeen : Type 0
-  JournalIsSeen = (p : ℕ) (st : PassState) (j : JournalState) → HasPass me.0 p st → HasJournal me.0 j
-      → MayLoad z at heap slots id me at.clock (λ _. with_pass me.0 p (refreshed st j.commits)) (TellsJournal st j)
+  JournalIsSeen = (p : ℕ) (st : PassState) (j : JournalState) → HasPass me.0 p st
+      → HasJournal me.0 j
+      → MayLoad z at heap slots id me at.clock (λ _. with_pass me.0 p (refreshed st j.commits))
+      (TellsJournal st j)
 
   -- MEET: a load, after which a pass has seen what another has told it
   abbrev pub PassesMeet : Type 0
   PassesMeet = (p : ℕ) (st : PassState) → HasPass me.0 p st
-      → MayLoad z at heap slots id me at.clock (λ _. with_pass me.0 p (refreshed st (longer_of st.seen me.0.told)))
-      (λ _. IsPrefix st.seen (longer_of st.seen me.0.told) × IsPrefix me.0.told (longer_of st.seen me.0.told))
+      → MayLoad z at heap slots id me at.clock
+      (λ _. with_pass me.0 p (refreshed st (longer_of st.seen me.0.told)))
+      (λ _. IsPrefix st.seen (longer_of st.seen me.0.told)
+      × IsPrefix me.0.told (longer_of st.seen me.0.told))
 
   -- ---- full
 
-  -- FULL: a load by a pass that has the index, under which no leaf is free, and the cells of a leaf, in which no window
-  -- round the key's cell fits
+  -- FULL: a load by a pass that has the index, under which no leaf is free, and the cells of a
+  -- leaf, in which no window round the key's cell fits
   pub record IsFullAt (y : IndexState) (key : Key) (leaf segment need : ℕ) : Type 0 where
     pub index : HasIndex me.0 y
     pub routed : IsRoutedTo key y.index.entries leaf segment
@@ -113,7 +128,8 @@ module _ (z : Config) (at : Layout) (heap : Global) (slots id : ℕ) (me : Me (U
     pub inside : leaf < y.index.leaves
     pub free : y.index.free ≡ []
     pub windows : (cell : ℕ → CellState) → Agrees me.0 cell
-        → IsSmallestWindow (Fits (counts_of (leaf_cells (segment_of cell) leaf)) need) segment None
+        → IsSmallestWindow (Fits (counts_of (leaf_cells (segment_of cell) leaf)) need) segment
+        None
 
   abbrev pub WriteIsFull : Type 0
   WriteIsFull = (p : ℕ) (st : PassState) (y : IndexState) (key : Key) (leaf segment need : ℕ)

@@ -1,8 +1,9 @@
--- Seats whose views are cut in two and joined: notes that are laid beside values, and readers that a pass splits off.
+-- Seats whose views are cut in two and joined: notes that are laid beside values, and readers
+-- that a pass splits off.
 use Rattle.std.specs.Prelude.{◌≡◌, ◌⊎◌, ℕ, ◌+◌, ◌-◌, ◌++◌, List, [], ◌∷◌, Some, None}
 use Rattle.std.specs.declared.alloc.Global.{Global}
 use mathlib.Core.List.{IsPrefix}
-use Rattle.atomic_table.specs.Table.{Me, Allows, Splits, Joins}
+use Rattle.atomic_table.specs.Table.{Splits, Joins}
 use Rattle.graph_model.specs.declared.journal.Commit.{Commit}
 use Rattle.txn_manager.specs.declared.config.Config.{Config}
 use Rattle.seat_views.specs.Keeping.{kept_at}
@@ -18,10 +19,12 @@ use Rattle.rule_model.specs.Rule.{IsStoreRule, IsStoreTable}
 -- ---- a view is cut in two
 
 -- of what is kept, each number goes to one side
-pub record IsCut {A : Type 0} (part : Sight → List (ℕ × A)) (v left right : Sight) : Type 0 where
+pub record IsCut {A : Type 0} (part : Sight → List (ℕ × A))
+    (v left right : Sight) : Type 0 where
   pub left_kept : (k : ℕ) (a : A) → kept_at (part left) k ≡ Some a
       → (kept_at (part v) k ≡ Some a) × (kept_at (part right) k ≡ None)
-  pub right_kept : (k : ℕ) (a : A) → kept_at (part right) k ≡ Some a → kept_at (part v) k ≡ Some a
+  pub right_kept : (k : ℕ) (a : A) → kept_at (part right) k ≡ Some a
+      → kept_at (part v) k ≡ Some a
 
 -- commits that the view knows of: it was told of them, or one of its passes has seen them
 abbrev pub IsKnownTo : Sight → List Commit → Type 0
@@ -62,7 +65,8 @@ reader_seat x told reads = record no_sight { told = told; readers = x ∷ []; re
 module _ (z : Config) (at : Layout) (heap : Global) (id : ℕ) (v : Sight) where
   -- SPLIT: notes of any kind are cut off
   abbrev pub SeatSplits : Type 0
-  SeatSplits = (left right : Sight) → IsSplit v left right → Splits (IsStoreRule z at heap) id v left right
+  SeatSplits = (left right : Sight) → IsSplit v left right
+      → Splits (IsStoreRule z at heap) id v left right
 
   -- JOIN: they are taken in again
   abbrev pub SeatsJoin : Type 0
@@ -72,22 +76,26 @@ module _ (z : Config) (at : Layout) (heap : Global) (id : ℕ) (v : Sight) where
   -- SPLIT of a reader: the pass counts it, and it has the pass's open transaction
   abbrev pub ReaderIsSplit : Type 0
   ReaderIsSplit = (p : ℕ) (st : PassState) → HasPass v p st → st.stage ≡ Open
-      → Splits (IsStoreRule z at heap) id v (with_pass v p (with_readers st (st.readers_out + 1)))
+      → Splits (IsStoreRule z at heap) id v
+      (with_pass v p (with_readers st (st.readers_out + 1)))
       (reader_seat (reader_of (λ _. st) p) [] no_reads)
 
   -- JOIN of a reader that holds no cell: the pass counts one less
   abbrev pub ReaderIsJoined : Type 0
-  ReaderIsJoined = (p : ℕ) (st : PassState) (other : ℕ) (x : ReaderState) (told : List Commit) (reads : ReadState)
+  ReaderIsJoined = (p : ℕ) (st : PassState) (other : ℕ) (x : ReaderState) (told : List Commit)
+      (reads : ReadState)
       → HasPass v p st → x.by.job ≡ p
       → Joins (IsStoreRule z at heap) id v other (reader_seat x told reads)
       (with_pass v p (with_readers st (st.readers_out - 1))) no_sight
 
 -- a law of views
 abbrev pub OfEachView : (Config → Layout → Global → ℕ → Sight → Type 0) → Type 0
-OfEachView Law = (z : Config) (at : Layout) (heap : Global) (id : ℕ) (v : Sight) → Law z at heap id v
+OfEachView Law = (z : Config) (at : Layout) (heap : Global) (id : ℕ) (v : Sight)
+    → Law z at heap id v
 
 -- what may be done wherever the leaves would lie may be done under the rule of a table
 abbrev pub HeapIsOfNoAccount : Type 0
 HeapIsOfNoAccount =
     (z : Config) (at : Layout) (id : ℕ) (v left right : Sight)
-    → ((heap : Global) → Splits (IsStoreRule z at heap) id v left right) → Splits (IsStoreTable z at) id v left right
+    → ((heap : Global) → Splits (IsStoreRule z at heap) id v left right)
+    → Splits (IsStoreTable z at) id v left right
