@@ -1,12 +1,12 @@
 -- The worked examples hold.
-use Rattle.std.proofs.Common.{◌≡◌, inl, inr, ℕ, zero, suc, ◌≤◌, List, [], ◌∷◌, map, length, refl, sym, ◌∙◌, ap, subst, arith}
-use Rattle.std.specs.Prelude.{true, false, slice_get, slice_index, Option, Some, None}
+use Rattle.std.proofs.Common.{◌≡◌, inl, inr, ℕ, zero, suc, List, [], ◌∷◌, map, length, refl, sym, ◌∙◌, ap, subst, arith}
+use Rattle.std.specs.Prelude.{true, false, slice_get, slice_index, Some, None}
 use Rattle.std.specs.List.{AllByRecursion}
 use Rattle.graph_model.specs.declared.row.Key.{Key}
 use Rattle.graph_model.specs.Rows.{is_between}
 use Rattle.store_model.specs.Stamped.{StampedVersions}
 use Rattle.version_segment.specs.Rows.{VersionedRows}
-use Rattle.seat_views.proofs.NumberLemmas.{some_is, eq_of}
+use Rattle.seat_views.proofs.NumberLemmas.{some_is}
 use Rattle.cells_model.specs.Words.{Spells, word_row}
 use Rattle.cells_model.specs.Reads.{AreLoadedFrom}
 use Rattle.cells_model.specs.Noted.{IsAmong}

@@ -1,7 +1,7 @@
 -- A change of one row adds a row at most, and none where the key had one.
-use Rattle.std.proofs.Common.{◌≡◌, ℕ, ◌+◌, ◌-◌, ◌≤◌, List, [], ◌∷◌, length, refl, sym, ◌∙◌, ap, subst, cond, arith}
+use Rattle.std.proofs.Common.{◌≡◌, ◌+◌, ◌-◌, ◌≤◌, List, [], ◌∷◌, length, refl, sym, subst, cond, arith}
 use Rattle.std.specs.Prelude.{Bool, true, false, ◌&&◌, T, count_by, is_some, not}
-use Rattle.std.specs.List.{AllByRecursion, filter}
+use Rattle.std.specs.List.{AllByRecursion}
 use Rattle.std.specs.FinMap.Entries.{below_all, find, is_sorted, put, where_key, length-put}
 use Rattle.std.specs.Ordering.{eq_by_cmp}
 use Rattle.leaf_index.proofs.CountLemmas.{count_cons}
@@ -11,10 +11,9 @@ use Rattle.graph_model.proofs.OrderLemmas.{keys_total}
 use Rattle.store_model.specs.Stamped.{StampedVersions}
 use Rattle.seat_views.specs.Keeping.{revised}
 use Rattle.version_segment.specs.Keyed.{RisesBy}
-use Rattle.version_segment.specs.Rows.{VersionedRows, is_nothing, with_versions}
-use Rattle.cells_model.specs.Cells.{CellState}
+use Rattle.version_segment.specs.Rows.{VersionedRows, is_nothing}
 use Rattle.cells_model.specs.InPlace.{growth}
-use Rattle.cells_model.specs.Growth.{ChangesRow, ChangeRows, GrowthIsByRows}
+use Rattle.cells_model.specs.Growth.{ChangesRow, GrowthIsByRows}
 
 -- rows whose keys rise are sorted
 sorted_rows : (rows : List (Key × StampedVersions)) → RisesBy (λ row. row.0) rows → T (is_sorted key_cmp rows)

@@ -8,13 +8,13 @@ use Rattle.graph_model.specs.declared.row.Key.{Key}
 use Rattle.graph_model.specs.Rows.{is_between}
 use Rattle.store_model.specs.Stamped.{StampedVersions}
 use Rattle.seat_views.specs.Keeping.{kept_at, revised}
-use Rattle.seat_views.proofs.NumberLemmas.{some_is, eq_of, same_number, revised-some}
+use Rattle.seat_views.proofs.NumberLemmas.{eq_of, same_number, revised-some}
 use Rattle.version_segment.specs.Rows.{VersionedRows, versions_at}
 use Rattle.leaf_index.specs.Index.{Index}
 use Rattle.leaf_store.specs.Leaves.{versions_of, weight}
 use Rattle.cells_model.specs.Cells.{CellState}
 use Rattle.cells_model.specs.Indexed.{store_of, covers, IsIndexed}
-use Rattle.cells_model.specs.InPlace.{segment_of, IsInPlace, AreInPlace, growth, ChangesInPlace, CellsChangeInPlace}
+use Rattle.cells_model.specs.InPlace.{segment_of, AreInPlace, growth, ChangesInPlace, CellsChangeInPlace}
 use Rattle.cells_model.proofs.IndexedLemmas.{cell_tells, cells_show, cell_changes}
 
 module _ (heap : Global) (index : Index) (cell : ℕ

@@ -16,7 +16,7 @@ use Rattle.leaf_array.specs.declared.leaf.Leaf.{Leaf}
 use Rattle.leaf_array.specs.Segments.{lows_of}
 use Rattle.leaf_index.specs.Index.{Index, Entry, end_of}
 use Rattle.leaf_index.specs.Calls.{new_index}
-use Rattle.leaf_store.specs.Leaves.{cell_at, versions_of}
+use Rattle.leaf_store.specs.Leaves.{cell_at}
 use Rattle.leaf_store.specs.Changes.{ChangesCell}
 use Rattle.leaf_store.specs.Table.{IsKept, IsTied, AreTied, segments_at, part_of}
 use Rattle.leaf_store.proofs.CellLemmas.{sound_middle}

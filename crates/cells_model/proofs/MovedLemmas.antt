@@ -28,7 +28,7 @@ use Rattle.leaf_store.proofs.SplitLemmas.{above_from, rising_at}
 use Rattle.leaf_store.proofs.TableLemmas.{OtherLeaves, Table, cuts_at, one_entry, tied_at}
 use Rattle.seat_views.proofs.NumberLemmas.{same_number, other_number}
 use Rattle.cells_model.specs.Indexed.{leaf_cells, table_of, store_of, is_live, IsIdle, IsIndexed}
-use Rattle.cells_model.specs.Moved.{IsRoutedTo, FullIsCounted, with_entry, MovesCells, SpreadsCells, FreesCells, SplitsInTwo, SplitsCells, MergesInOne, MergesCells}
+use Rattle.cells_model.specs.Moved.{IsRoutedTo, FullIsCounted, with_entry, SpreadsCells, FreesCells, SplitsInTwo, SplitsCells, MergesCells}
 use Rattle.cells_model.proofs.RunLemmas.{length_from, segments_table, same_leaf}
 use Rattle.cells_model.proofs.IndexedLemmas.{moves_indexed}
 

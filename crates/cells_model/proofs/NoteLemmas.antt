@@ -1,5 +1,5 @@
 -- A leaf that a pinned pass has noted isn't freed.
-use Rattle.std.proofs.Common.{◌≡◌, ◌⊎◌, inl, inr, ℕ, zero, suc, ◌+◌, ◌-◌, ◌<◌, ◌≤◌, List, [], ◌∷◌, Option, Some, None, refl, sym, ◌∙◌, ap, subst, cond, arith, min}
+use Rattle.std.proofs.Common.{◌≡◌, ◌⊎◌, inl, inr, ℕ, zero, suc, ◌<◌, ◌≤◌, List, [], ◌∷◌, Option, Some, None, refl, sym, ◌∙◌, ap, subst, cond, arith, min}
 use Rattle.std.specs.Prelude.{Bool, true, false, ◌==◌, not, nat_lt, slice_get}
 use Rattle.std.specs.List.{list_any}
 use Rattle.std.proofs.lemmas.Bool.{true≢false}
@@ -8,7 +8,7 @@ use mathlib.Core.Logic.{dite}
 use native.Mathlib.Decide.{ℕ_discrete}
 use Rattle.graph_model.proofs.PlaceLemmas.{some_eq}
 use Rattle.seat_views.specs.Keeping.{put}
-use Rattle.seat_views.proofs.NumberLemmas.{put_here, put_else, some_is, other_number}
+use Rattle.seat_views.proofs.NumberLemmas.{put_here, put_else, some_is}
 use Rattle.epoch_reclaim.specs.declared.sweep.Sweep.{Sweep}
 use Rattle.epoch_reclaim.specs.Pinned.{begun, least_after, looked_at, start_in}
 use Rattle.epoch_reclaim.proofs.PinLemmas.{start_pinned}

@@ -1,9 +1,9 @@
 -- The loads of a read keep what holds of it, and the last one validates it.
-use Rattle.std.proofs.Common.{◌≡◌, inl, ℕ, ◌%◌, ◌<◌, ◌≤◌, [], ◌∷◌, refl, sym, ◌∙◌, ap, subst, cond, arith}
-use Rattle.std.specs.Prelude.{Bool, true, false, ◌==◌, slice_index, Option, Some, None}
+use Rattle.std.proofs.Common.{◌≡◌, inl, ℕ, ◌%◌, [], refl, sym, ◌∙◌, subst, cond, arith}
+use Rattle.std.specs.Prelude.{Bool, true, false, ◌==◌, Some, None}
 use Rattle.seat_views.proofs.NumberLemmas.{eq_of, some_is}
 use Rattle.cells_model.specs.Cells.{CellState, version_word}
-use Rattle.cells_model.specs.Reads.{Reading, IsReading, first_loaded}
+use Rattle.cells_model.specs.Reads.{IsReading}
 use Rattle.cells_model.specs.BlockLaws.{FirstLoadBegins, WordLoadGoesOn, SecondLoadGoesOn, SecondLoadValidates}
 use Rattle.cells_model.proofs.BlockLemmas.{is_odd}
 

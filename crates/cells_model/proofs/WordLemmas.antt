@@ -1,5 +1,5 @@
 -- What the words of a block tell of the contents that it spells.
-use Rattle.std.proofs.Common.{◌≡◌, ◌≢◌, ◌⊎◌, inl, inr, ℕ, zero, suc, ◌+◌, ◌*◌, ◌-◌, ◌<◌, ◌≤◌, List, [], ◌∷◌, map, length, take, drop, refl, sym, ◌∙◌, ap, subst, cond, arith, Option, Some, None, get_or}
+use Rattle.std.proofs.Common.{◌≡◌, ◌⊎◌, inl, inr, ℕ, zero, suc, ◌+◌, ◌*◌, ◌-◌, ◌<◌, ◌≤◌, List, [], ◌∷◌, map, length, take, drop, refl, sym, ◌∙◌, ap, subst, cond, arith, Option, Some, None, get_or}
 use Rattle.std.specs.Prelude.{Bool, true, false, ◌==◌, nat_le, slice_get, slice_index, IfSome}
 use Rattle.std.specs.List.{AllByRecursion}
 use Rattle.std.specs.FinMap.Entries.{find}
@@ -11,8 +11,8 @@ use Rattle.graph_model.specs.Rows.{key_cmp, is_below}
 use Rattle.graph_model.proofs.PlaceLemmas.{some_eq}
 use Rattle.store_model.specs.Stamped.{StampedVersions}
 use Rattle.version_segment.specs.Keyed.{RisesBy, IsPlaceBy, IsGapBy, entries_by}
-use Rattle.version_segment.specs.Rows.{VersionedRows, IsSegment, versions_at, or_nothing, nothing, is_empty}
-use Rattle.cells_model.specs.Words.{newest_value, value_word, value_in_word, is_chained, word_of, chain_mark, no_value, word_row, word_rows, HasSmallWeights, flat, spelled, Spells, IsRowAt, IsHeadOf}
+use Rattle.version_segment.specs.Rows.{VersionedRows, IsSegment, versions_at, or_nothing, is_empty}
+use Rattle.cells_model.specs.Words.{newest_value, value_word, value_in_word, is_chained, word_of, chain_mark, no_value, word_row, word_rows, flat}
 use Rattle.version_segment.proofs.KeyedLemmas.{find_there, find_gap, gap_of_place}
 use Rattle.cells_model.specs.BlockLaws.{HeadIsTold, RowIsTold, TellsVersions, ValueIsTold, NoRowIsTold, row_key}
 

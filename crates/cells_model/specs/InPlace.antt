@@ -1,12 +1,11 @@
 -- Held cells get other contents between the same fence keys: the index stays, and each key has
 -- what its cell has.
-use Rattle.std.specs.Prelude.{◌≡◌, ℕ, ◌+◌, ◌-◌, ◌*◌, ◌<◌, ◌≤◌, Bool, true, false, not, cond, List, [], ◌∷◌, length, Option, Some}
+use Rattle.std.specs.Prelude.{◌≡◌, ℕ, ◌+◌, ◌-◌, ◌*◌, ◌<◌, ◌≤◌, true, false, List, [], ◌∷◌, length, Some}
 use Rattle.std.specs.List.{AllByRecursion}
 use Rattle.std.specs.declared.alloc.Global.{Global}
 use Rattle.graph_model.specs.declared.row.Key.{Key}
-use Rattle.store_model.specs.Stamped.{StampedVersions}
 use Rattle.seat_views.specs.Keeping.{kept_at, revised}
-use Rattle.version_segment.specs.Rows.{VersionedRows, IsSegment, ChangesKey, has_row, versions_at}
+use Rattle.version_segment.specs.Rows.{VersionedRows, IsSegment, versions_at}
 use Rattle.leaf_index.specs.Index.{Index}
 use Rattle.leaf_store.specs.Leaves.{versions_of, weight}
 use Rattle.cells_model.specs.Cells.{CellState}

@@ -6,13 +6,11 @@ use Rattle.std.specs.declared.alloc.Global.{Global}
 use denote.RawPtr.{null_ptr}
 use Rattle.graph_model.specs.declared.row.Key.{Key}
 use Rattle.graph_model.specs.Rows.{is_between, first_key, end_key}
-use Rattle.seat_views.specs.Keeping.{revised}
-use Rattle.version_segment.specs.Rows.{VersionedRows, IsSegment, versions_at}
+use Rattle.version_segment.specs.Rows.{VersionedRows, versions_at}
 use Rattle.leaf_array.specs.declared.leaf.Leaf.{Leaf}
 use Rattle.leaf_index.specs.Index.{Index, IsIndex}
 use Rattle.leaf_index.specs.Calls.{new_index}
 use Rattle.leaf_store.specs.Leaves.{Leaves, cell_at, versions_of}
-use Rattle.leaf_store.specs.Changes.{ChangesCell}
 use Rattle.leaf_store.specs.Table.{IsKept, leaves_of}
 
 -- ---- numbered cells, as the definitions of a store of one owner want them
