@@ -30,7 +30,7 @@ pub has-append : (xs ys : List TxnName) (n : TxnName) → has_name (xs ++ ys) n 
 has-append xs ys n = list_any-append (same_name n) xs ys
 
 -- whoever is in a list of two parts is in one of them
-in_either : (xs ys : List TxnName) (n : TxnName) → has_name (xs ++ ys) n ≡ true → (has_name xs n ≡ true) ⊎ (has_name ys n ≡ true)
+pub in_either : (xs ys : List TxnName) (n : TxnName) → has_name (xs ++ ys) n ≡ true → (has_name xs n ≡ true) ⊎ (has_name ys n ≡ true)
 in_either xs ys n h = either_of (has_name xs n) (has_name ys n) (sym (has-append xs ys n) ∙ h)
 
 has-writers : (ps : List Version) (n : TxnName) → has_name (map (λ p. p.by) ps) n ≡ marked any ps n
@@ -39,7 +39,7 @@ has-writers (p ∷ ps) n = λ i. sym (and-true (same_name n p.by)) i || has-writ
 
 -- ---- commits that pass a test
 
-passes : (cs : List Commit) (n : TxnName) (p q : List Write → Bool) → ((ws : List Write) → p ws ≡ true → q ws ≡ true) → IsCommitted cs n p → IsCommitted cs n q
+pub passes : (cs : List Commit) (n : TxnName) (p q : List Write → Bool) → ((ws : List Write) → p ws ≡ true → q ws ≡ true) → IsCommitted cs n p → IsCommitted cs n q
 passes cs n p q more r = record { place = r.place; commit = r.commit; at = r.at; named = r.named; wrote = more r.commit.writes r.wrote }
 
 behind : (cs : List Commit) (from : ℕ) (n : TxnName) (p : List Write → Bool) → IsCommitted (drop from cs) n p → IsCommitted cs n p

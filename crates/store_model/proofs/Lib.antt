@@ -15,5 +15,8 @@ pub mod ConflictLemmas
 pub mod CellLemmas
 pub mod SeenLemmas
 pub mod StampedLemmas
+pub mod ToldLemmas
+pub mod LookedLemmas
+pub mod FallLemmas
 pub mod ExampleLemmas
 pub mod LoadLemmas

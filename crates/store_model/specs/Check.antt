@@ -1,6 +1,6 @@
 -- What a write looks at before it is made, and what it answers.
-use Rattle.std.specs.Prelude.{◌≡◌, ℕ, ◌≤◌, Bool, true, ◌&&◌, not, cond, nat_lt, nat_le, List, [], ◌∷◌, ◌++◌, map, take, slice_get, Option, Some, None, is_some}
-use Rattle.std.specs.List.{filter, AllByRecursion}
+use Rattle.std.specs.Prelude.{◌≡◌, ℕ, ◌≤◌, Bool, true, false, ◌&&◌, ◌||◌, not, cond, nat_lt, nat_le, List, [], ◌∷◌, ◌++◌, map, take, slice_get, Option, Some, None, is_some}
+use Rattle.std.specs.List.{filter, list_any, AllByRecursion}
 use Rattle.graph_model.specs.declared.write.Kind.{Kind}
 use Rattle.graph_model.specs.declared.write.Write.{Write}
 use Rattle.graph_model.specs.declared.write.Write.TheVariants.{AddVertex, DropVertex, AddEdge, SetEdge, DropEdge}
@@ -11,10 +11,11 @@ use Rattle.graph_model.specs.declared.refusal.Cause.{Cause}
 use Rattle.graph_model.specs.declared.refusal.Cause.TheVariants.{Later, Holder}
 use Rattle.graph_model.specs.Conflict.{same_name, least_job, greatest, cause_of}
 use Rattle.graph_model.specs.Rows.{vertex_key, arc_key}
-use Rattle.graph_model.specs.Effects.{writes_at, touches_at}
+use Rattle.graph_model.specs.Effects.{same_key, writes_at, touches_at}
 use Rattle.graph_model.specs.Transactions.{stamp_in, has_name}
 use Rattle.store_model.specs.declared.version.Version.{Version}
 use Rattle.store_model.specs.declared.versions.Versions.{Versions}
+use Rattle.store_model.specs.Layers.{row_key}
 
 -- the writers of a row's pairs
 abbrev pub writers : Versions → List TxnName
@@ -40,6 +41,24 @@ looked (AddEdge u v weight) contents =
     newest (contents (arc_key u v)) ++ (droppers (contents (vertex_key u)) ++ droppers (contents (vertex_key v)))
 looked (SetEdge u v weight) contents = newest (contents (arc_key u v))
 looked (DropEdge u v) contents = newest (contents (arc_key u v))
+
+-- the write removes the vertex of this row
+abbrev pub drops_at : Write → Key → Bool
+drops_at (AddVertex v) k = false
+drops_at (DropVertex v) k = same_key k (vertex_key v)
+drops_at (AddEdge u v weight) k = false
+drops_at (SetEdge u v weight) k = false
+drops_at (DropEdge u v) k = false
+
+-- one of the writes does
+abbrev pub any_drops : List Write → Key → Bool
+any_drops ws k = list_any (λ w. drops_at w k) ws
+
+-- the same writers, row by row
+abbrev pub looks_at : Write → Key → Versions → TxnName → Bool
+looks_at w k vs n =
+    (same_key k (row_key w) && has_name (newest vs) n)
+    || ((touches_at w k && has_name (droppers vs) n) || (drops_at w k && has_name vs.touches n))
 
 -- ---- the check of one owner, who knows which transactions are open
 
@@ -85,6 +104,19 @@ pub record IsReached (cs : List Commit) (names : List TxnName) (least : ℕ) : T
   pub found : has_name names name ≡ true
   pub stamped : stamp_in cs name ≡ Some stamp
   pub late : least ≤ stamp
+
+-- ---- stamps down a row
+
+-- above a pair stands an open writer, or one that committed no earlier
+abbrev pub IsNotAbove : Option ℕ → Option ℕ → Type 0
+IsNotAbove None below = Unit {0}
+IsNotAbove (Some upper) below = (lower : ℕ) × (below ≡ Some lower) × (lower ≤ upper)
+
+-- from the newest pair down the stamps of the writers never rise
+abbrev pub NeverRise : (TxnName → Option ℕ) → List Version → Type 0
+NeverRise stamps [] = Unit {0}
+NeverRise stamps (p ∷ ps) =
+    AllByRecursion (λ q. IsNotAbove (stamps p.by) (stamps q.by)) ps × NeverRise stamps ps
 
 -- ---- the check row by row, for whoever knows only whom its snapshot sees
 

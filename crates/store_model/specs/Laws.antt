@@ -2,6 +2,7 @@
 -- contract of a function in `laws`; none speaks of a struct.
 use Rattle.std.specs.Prelude.{◌≡◌, ◌⊎◌, ℕ, ◌<◌, ◌≤◌, Bool, true, false, List, [], ◌∷◌, ◌++◌, length, slice_get, slice_set, Option, Some, None, is_some}
 use Rattle.std.specs.List.{AllByRecursion}
+use mathlib.Core.List.{IsPrefix}
 use Rattle.graph_model.specs.declared.write.Kind.{Kind}
 use Rattle.graph_model.specs.declared.write.Write.{Write}
 use Rattle.graph_model.specs.declared.row.Key.{Key}
@@ -13,13 +14,13 @@ use Rattle.graph_model.specs.Effects.{any_writes, any_touches}
 use Rattle.graph_model.specs.History.{graph_at, view}
 use Rattle.graph_model.specs.Graph.{empty_graph}
 use Rattle.graph_model.specs.Refused.{refused, AllAllowed, IsWithinLimits}
-use Rattle.graph_model.specs.Rows.{value_at, is_between}
+use Rattle.graph_model.specs.Rows.{vertex_key, value_at, is_between}
 use Rattle.graph_model.specs.Transactions.{Running, Changes, own_of, commit_of, stamp_in, has_name, HasNotCommitted, MeetsNoHolder, IsListed}
 use Rattle.store_model.specs.declared.versions.Versions.{Versions}
 use Rattle.store_model.specs.Versions.{no_versions, first_seen, sees, read, prune, IsPruned}
 use Rattle.store_model.specs.Layers.{row_key, after_write, laid, undone}
 use Rattle.store_model.specs.Store.{alone, IsStore, IsPlainStore, MeetsNobody, Lays, TakesBack, Settles}
-use Rattle.store_model.specs.Check.{writers, looked, check, combine, IsCommitted, IsReached, MayWrite}
+use Rattle.store_model.specs.Check.{writers, droppers, looked, any_drops, looks_at, check, combine, IsCommitted, IsReached, NeverRise, MayWrite}
 use Rattle.store_model.specs.Cells.{Cell, all_cells, contents_in, AreCells}
 
 -- ---- reads
@@ -266,6 +267,41 @@ LookedLate =
     → ((n : TxnName) → same_name n by ≡ false → any_writes kind (own n) (row_key w) ≡ false)
     → (i : ℕ) (d : Commit) → slice_get journal i ≡ Some d → t.start < d.stamp → meets kind w d.writes ≡ true
     → IsReached journal (looked w contents) d.stamp
+
+-- Whoever a write looks at has laid a write that clashes, or has committed one. An abort may have taken some of
+-- its writes back: `ws` are all that it made.
+abbrev pub LookedLaid : Type 0
+LookedLaid =
+    (kind : Kind) (journal : List Commit) (running : TxnName → Option Running) (own : TxnName → List Write)
+    (touching : TxnName → Key → Bool) (horizon : ℕ) (contents : Key → Versions)
+    → IsStore kind journal running own touching horizon contents
+    → (n : TxnName) (ws : List Write) → IsPrefix (own n) ws
+    → ((k : Key) → touching n k ≡ true → any_touches ws k ≡ true)
+    → (w : Write) → has_name (looked w contents) n ≡ true
+    → (meets kind w ws ≡ true) ⊎ IsCommitted journal n (meets kind w)
+
+-- At whom a write looks in one row, it looks.
+abbrev pub LookedInRow : Type 0
+LookedInRow =
+    (w : Write) (contents : Key → Versions) (k : Key) (n : TxnName)
+    → looks_at w k (contents k) n ≡ true → has_name (looked w contents) n ≡ true
+
+-- A pair without value in the row of a vertex is of one who removed it, and who has laid or committed that.
+abbrev pub DroppedVertex : Type 0
+DroppedVertex =
+    (kind : Kind) (journal : List Commit) (running : TxnName → Option Running) (own : TxnName → List Write)
+    (touching : TxnName → Key → Bool) (horizon : ℕ) (contents : Key → Versions)
+    → IsStore kind journal running own touching horizon contents
+    → (n : TxnName) (v : ℕ) → has_name (droppers (contents (vertex_key v))) n ≡ true
+    → (any_drops (own n) (vertex_key v) ≡ true) ⊎ IsCommitted journal n (λ ws. any_drops ws (vertex_key v))
+
+-- The stamps of a row's writers never rise from the newest pair down, and open writers stand on top.
+abbrev pub StampsNeverRise : Type 0
+StampsNeverRise =
+    (kind : Kind) (journal : List Commit) (running : TxnName → Option Running) (own : TxnName → List Write)
+    (touching : TxnName → Key → Bool) (horizon : ℕ) (contents : Key → Versions)
+    → IsStore kind journal running own touching horizon contents
+    → (k : Key) → NeverRise (stamp_in journal) (contents k).pairs
 
 -- ---- the check
 

@@ -1,9 +1,10 @@
 -- What reads, writes and prunes do to one row's versions. Each law is the contract of a function in `laws`.
 use Rattle.std.specs.Prelude.{◌≡◌, ℕ, ◌≤◌, false, Option, Some}
 use Rattle.graph_model.specs.declared.journal.TxnName.{TxnName}
+use Rattle.graph_model.specs.Transactions.{reached}
 use Rattle.store_model.specs.declared.versions.Versions.{Versions}
 use Rattle.store_model.specs.Versions.{sees, read, write, undo, touch, prune}
-use Rattle.store_model.specs.Stamped.{StampedVersions, IsStamped, forget_row, read_stamped, prune_stamped, stamp}
+use Rattle.store_model.specs.Stamped.{StampedVersions, IsStamped, AreTold, forget_row, read_stamped, prune_stamped, stamp}
 
 -- a transaction sees what it wrote
 abbrev pub OwnWriteIsSeen : Type 0
@@ -60,3 +61,21 @@ abbrev pub StampsStayRight : Type 0
 StampsStayRight =
     (old new : TxnName → Option ℕ) → ((n : TxnName) (c : ℕ) → old n ≡ Some c → new n ≡ Some c)
     → (r : StampedVersions) → IsStamped old r → IsStamped new r
+
+-- whoever is told the same of the writers of records without a stamp reads the same
+abbrev pub ToldReadsAgree : Type 0
+ToldReadsAgree =
+    (a b : TxnName → Option ℕ) (start : ℕ) (own : TxnName) (r : StampedVersions) → AreTold a b start r
+    → read_stamped a start own r ≡ read_stamped b start own r
+
+-- and prunes the same
+abbrev pub ToldPrunesAgree : Type 0
+ToldPrunesAgree =
+    (a b : TxnName → Option ℕ) (horizon : ℕ) (r : StampedVersions) → AreTold a b horizon r
+    → prune_stamped a horizon r ≡ prune_stamped b horizon r
+
+-- where two agree on every name each row is told the same
+abbrev pub AgreedIsTold : Type 0
+AgreedIsTold =
+    (a b : TxnName → Option ℕ) (start : ℕ) → ((n : TxnName) → reached (a n) start ≡ reached (b n) start)
+    → (r : StampedVersions) → AreTold a b start r

@@ -73,3 +73,14 @@ stamp_one by stamp p = cond (same_name p.by by) (record { by = p.by; stamp = Som
 abbrev pub stamp : TxnName → ℕ → StampedVersions → StampedVersions
 stamp by c r =
     record { pairs = map (stamp_one by c) r.pairs; oldest = r.oldest; touches = map (stamp_one by c) r.touches }
+
+-- ---- two that know stamps
+
+-- they say the same of a record without one: whether its writer had committed by the start
+abbrev pub AgreeOn : (TxnName → Option ℕ) → (TxnName → Option ℕ) → ℕ → Stamped → Type 0
+AgreeOn a b start p = p.stamp ≡ None → reached (a p.by) start ≡ reached (b p.by) start
+
+-- and so they do of each record of the row
+pub record AreTold (a b : TxnName → Option ℕ) (start : ℕ) (r : StampedVersions) : Type 0 where
+  pub pairs : AllByRecursion (AgreeOn a b start) r.pairs
+  pub touches : AllByRecursion (AgreeOn a b start) r.touches

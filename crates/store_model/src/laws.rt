@@ -2,8 +2,8 @@
 //! function whose contract is the law. A store of any kind cites them, and no store proves them again.
 
 ghost use Rattle.store_model.specs.Examples.{LayerExamples, ReadExamples, PruneExamples, CheckExamples, StampExamples, CellExamples, StoreExample};
-ghost use Rattle.store_model.specs.Laws.{ValueAtStamp, ValueOfView, ValueAtEnd, StoreNew, StoreBegun, OwnerBegun, StoreStopped, StoreWritten, OwnerWritten, OwnerLoaded, StoreCommitted, OwnerCommitted, StoreUndone, OwnerAborted, StorePruned, RowSettled, StoreSame, OwnerMoved, WriterOfPair, WriterOfTouch, LookedOpen, LookedCommitted, LookedLate, CheckIsConflict, CheckAllows, CheckByParts, SeenAllows, SeenByRow, ContentsRouted, CellChanged};
-ghost use Rattle.store_model.specs.RowLaws.{OwnWriteIsSeen, OtherWriteIsNotSeen, UndoTakesBack, TouchIsNotRead, PruneKeepsValues, ReadForgetsStamps, PruneForgetsStamps, StampKeepsVersions, StampsStayRight};
+ghost use Rattle.store_model.specs.Laws.{ValueAtStamp, ValueOfView, ValueAtEnd, StoreNew, StoreBegun, OwnerBegun, StoreStopped, StoreWritten, OwnerWritten, OwnerLoaded, StoreCommitted, OwnerCommitted, StoreUndone, OwnerAborted, StorePruned, RowSettled, StoreSame, OwnerMoved, WriterOfPair, WriterOfTouch, LookedOpen, LookedCommitted, LookedLate, LookedLaid, LookedInRow, DroppedVertex, StampsNeverRise, CheckIsConflict, CheckAllows, CheckByParts, SeenAllows, SeenByRow, ContentsRouted, CellChanged};
+ghost use Rattle.store_model.specs.RowLaws.{OwnWriteIsSeen, OtherWriteIsNotSeen, UndoTakesBack, TouchIsNotRead, PruneKeepsValues, ReadForgetsStamps, PruneForgetsStamps, StampKeepsVersions, StampsStayRight, ToldReadsAgree, ToldPrunesAgree, AgreedIsTold};
 
 /// What reads, writes and prunes do to one row.
 pub fn rows_keep_values()
@@ -20,6 +20,13 @@ pub fn stamps_change_no_value()
     ensures prune { PruneForgetsStamps }
     ensures stamp { StampKeepsVersions }
     ensures grow { StampsStayRight }
+{}
+
+/// Whoever is told the same of the writers of records without a stamp reads and prunes the same.
+pub fn tellers_agree()
+    ensures read { ToldReadsAgree }
+    ensures prune { ToldPrunesAgree }
+    ensures all { AgreedIsTold }
 {}
 
 /// Rows give an open transaction its view, each stamp from the horizon on its graph, and at the end the
@@ -76,6 +83,14 @@ pub fn rows_name_their_writers()
     ensures open { LookedOpen }
     ensures committed { LookedCommitted }
     ensures late { LookedLate }
+    ensures laid { LookedLaid }
+    ensures by_row { LookedInRow }
+    ensures dropped { DroppedVertex }
+{}
+
+/// Open writers stand on top of a row, and below them stamps never rise.
+pub fn stamps_never_rise()
+    ensures { StampsNeverRise }
 {}
 
 /// A check of the names at which a write looks answers exactly what snapshot isolation answers.

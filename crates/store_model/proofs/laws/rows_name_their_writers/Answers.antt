@@ -1,4 +1,5 @@
 use Rattle.store_model.proofs.CheckLemmas.{writer_of, toucher_of, looked_open, looked_committed, looked_late}
+use Rattle.store_model.proofs.LookedLemmas.{looked_laid, looked_in_row, dropped_vertex}
 use Rattle.store_model.proofs.laws.rows_name_their_writers.Goals as goal
 
 pub returns-clause-pairs : goal.returns-clause-pairs
@@ -15,3 +16,12 @@ returns-clause-committed c = looked_committed
 
 pub returns-clause-late : goal.returns-clause-late
 returns-clause-late c = looked_late
+
+pub returns-clause-laid : goal.returns-clause-laid
+returns-clause-laid c = looked_laid
+
+pub returns-clause-by_row : goal.returns-clause-by_row
+returns-clause-by_row c = looked_in_row
+
+pub returns-clause-dropped : goal.returns-clause-dropped
+returns-clause-dropped c = dropped_vertex

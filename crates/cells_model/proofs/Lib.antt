@@ -1,0 +1,10 @@
+pub mod WordLemmas
+pub mod BlockLemmas
+pub mod ReadLemmas
+pub mod NoteLemmas
+pub mod RunLemmas
+pub mod IndexedLemmas
+pub mod MovedLemmas
+pub mod InPlaceLemmas
+pub mod GrowthLemmas
+pub mod ExampleLemmas

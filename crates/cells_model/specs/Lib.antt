@@ -1,0 +1,10 @@
+pub mod Words
+pub mod Cells
+pub mod Reads
+pub mod BlockLaws
+pub mod Indexed
+pub mod InPlace
+pub mod Moved
+pub mod Noted
+pub mod Growth
+pub mod Examples

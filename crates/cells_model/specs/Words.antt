@@ -1,0 +1,96 @@
+-- The words of a cell's block: its version word, the number of its rows, its fence keys, and
+-- three words a row.
+use Rattle.std.specs.Prelude.{◌≡◌, ℕ, ◌+◌, ◌-◌, ◌*◌, ◌≤◌, ◌==◌, nat_le, Bool, true, false, cond, List, [], ◌∷◌, map, length, slice_index, slice_get, Option, Some, None, IfSome}
+use Rattle.std.specs.List.{AllByRecursion}
+use Rattle.graph_model.specs.declared.row.Key.{Key}
+use Rattle.graph_model.specs.declared.row.Row.{Row}
+use Rattle.graph_model.specs.declared.limits.TheConstants.{MAX_WEIGHT}
+use Rattle.store_model.specs.Stamped.{Stamped, StampedVersions}
+use Rattle.version_segment.specs.Rows.{VersionedRows, IsSegment, is_empty}
+
+-- ---- the word of a row's newest value
+
+-- the value that a row's newest pair left, or its oldest value where it has no pair
+abbrev pub newest_in : List Stamped → Option ℕ → Option ℕ
+newest_in [] oldest = oldest
+newest_in (p ∷ ps) oldest = p.value
+
+abbrev pub newest_value : StampedVersions → Option ℕ
+newest_value vs = newest_in vs.pairs vs.oldest
+
+-- 2^63, which is added where the row has pairs: there may be other values
+abbrev pub chain_mark : ℕ
+chain_mark = 9223372036854775808
+
+-- 2^64 - 1, which stands for no value
+abbrev pub no_value : ℕ
+no_value = 18446744073709551615
+
+-- the word of a newest value, of a row without pairs or with some
+abbrev pub word_of : Option ℕ → Bool → ℕ
+word_of None settled = no_value
+word_of (Some weight) true = weight
+word_of (Some weight) false = chain_mark + weight
+
+abbrev pub value_word : StampedVersions → ℕ
+value_word vs = word_of (newest_value vs) (is_empty vs.pairs)
+
+-- the newest value that a word tells
+abbrev pub value_in_word : ℕ → Option ℕ
+value_in_word n = cond (n == no_value) None
+    (cond (nat_le chain_mark n) (Some (n - chain_mark)) (Some n))
+
+-- whether it tells that there may be other values
+abbrev pub is_chained : ℕ → Bool
+is_chained n = nat_le chain_mark n
+
+-- ---- the words of a block
+
+-- a row as words have it: its key, and the word of its newest value
+abbrev pub word_row : Key × StampedVersions → Row
+word_row row = record { key = row.0; weight = value_word row.1 }
+
+abbrev pub word_rows : VersionedRows → List Row
+word_rows s = map word_row s.rows
+
+-- the words of rows, one row after the other
+abbrev pub flat : List Row → List ℕ
+flat [] = []
+flat (row ∷ rows) = row.key.src ∷ row.key.second ∷ row.weight ∷ flat rows
+
+-- what stands in a block from its second word on
+abbrev pub spelled : Key → Key → List Row → List ℕ
+spelled low high rows = length rows ∷ low.src ∷ low.second ∷ high.src ∷ high.second ∷ flat rows
+
+-- a version word, five words, and three for each of 32 rows
+abbrev pub block_words : ℕ
+block_words = 102
+
+-- each newest value is a weight that may be stored, so that its word tells it
+abbrev pub HasSmallWeights : VersionedRows → Type 0
+HasSmallWeights s = AllByRecursion (λ row. IfSome (newest_value row.1)
+    (λ weight. weight ≤ MAX_WEIGHT)) s.rows
+
+-- the block spells these contents; what stands after its last row is not read
+pub record Spells (block : List ℕ) (s : VersionedRows) : Type 0 where
+  pub wide : length block ≡ block_words
+  pub words : (i n : ℕ) → slice_get (spelled s.low s.high (word_rows s)) i ≡ Some n
+      → slice_index block (i + 1) ≡ n
+  pub sound : IsSegment s
+  pub small : HasSmallWeights s
+
+-- ---- what words tell
+
+-- the three words of the row at this place are those of the row
+pub record IsRowAt (block : List ℕ) (place : ℕ) (row : Row) : Type 0 where
+  pub src : slice_index block (6 + 3 * place) ≡ row.key.src
+  pub second : slice_index block (7 + 3 * place) ≡ row.key.second
+  pub value : slice_index block (8 + 3 * place) ≡ row.weight
+
+-- the first words of the block tell the number of rows and the fence keys
+pub record IsHeadOf (block : List ℕ) (s : VersionedRows) : Type 0 where
+  pub count : slice_index block 1 ≡ length s.rows
+  pub low_src : slice_index block 2 ≡ s.low.src
+  pub low_second : slice_index block 3 ≡ s.low.second
+  pub high_src : slice_index block 4 ≡ s.high.src
+  pub high_second : slice_index block 5 ≡ s.high.second

@@ -1,0 +1,16 @@
+pub mod PlaceLemmas
+pub mod FrameLemmas
+pub mod CountLemmas
+pub mod PassFrame
+pub mod TxnLemmas
+pub mod NoteStepLemmas
+pub mod BlockFrame
+pub mod BlockStepLemmas
+pub mod RowFrame
+pub mod RowStepLemmas
+pub mod PinFrame
+pub mod PinStepLemmas
+pub mod MoveStepLemmas
+pub mod ViewLemmas
+pub mod EndLemmas
+pub mod ExampleLemmas

@@ -1,0 +1,8 @@
+use Rattle.rule_model.proofs.EndLemmas.{new_table, table_closes}
+use Rattle.rule_model.proofs.laws.stores_begin_and_close.Goals as goal
+
+pub returns-clause-new : goal.returns-clause-new
+returns-clause-new c = new_table
+
+pub returns-clause-close : goal.returns-clause-close
+returns-clause-close c = table_closes

@@ -1,0 +1,112 @@
+-- A new table, and what one shows who has all of a store at its end.
+use Rattle.std.specs.Prelude.{◌≡◌, ℕ, zero, suc, ◌+◌, ◌<◌, ◌≤◌, false, List, [], ◌∷◌, length, slice_index, None}
+use Rattle.std.specs.declared.alloc.Global.{Global}
+use mathlib.Core.Option.{some}
+use lib.ListN.{get_elem?}
+use Rattle.atomic_table.specs.Table.{State, opening}
+use Rattle.graph_model.specs.declared.row.Key.{Key}
+use Rattle.txn_manager.specs.declared.config.Config.{Config}
+use Rattle.store_model.specs.Stamped.{StampedVersions}
+use Rattle.version_segment.specs.Rows.{versions_at}
+use Rattle.leaf_index.specs.Index.{IsIndex}
+use Rattle.leaf_index.specs.Calls.{new_index}
+use Rattle.store_relation.specs.declared.stage.Stage.TheVariants.{Idle}
+use Rattle.store_relation.specs.Ends.{IsClosed}
+use Rattle.store_relation.specs.Passes.{PassState, fresh_pass}
+use Rattle.store_relation.specs.Shared.{JournalState, no_journal}
+use Rattle.cells_model.specs.Cells.{CellState}
+use Rattle.cells_model.specs.Indexed.{new_cell}
+use Rattle.cells_model.specs.Words.{block_words}
+use Rattle.rule_model.specs.NoteSteps.{HasRow}
+use Rattle.rule_model.specs.Places.{Layout, KeepsApart}
+use Rattle.rule_model.specs.Sight.{Known, Sight, HasJournal, HasPass, cells_of, fresh_pin, no_reads}
+use Rattle.rule_model.specs.Rule.{IsStoreRule}
+
+-- ---- a new store
+
+-- so many zeros
+abbrev pub zeros : ℕ → List ℕ
+zeros zero = []
+zeros (suc n) = 0 ∷ zeros n
+
+-- the words of a cell without rows: version, number of rows, fence keys, and places for rows
+abbrev pub new_block : ℕ → List ℕ
+new_block k = 0 ∷ 0 ∷ (new_cell k).low.src ∷ (new_cell k).low.second ∷ (new_cell k).high.src
+    ∷ (new_cell k).high.second ∷ zeros 96
+
+abbrev pub new_state : ℕ → CellState
+new_state k = record {
+  segment = new_cell k;
+  block = new_block k;
+  unpacked = false;
+  changed = false;
+}
+
+abbrev pub new_known : Config → Known
+new_known z = record {
+  pass = λ _. fresh_pass;
+  pin = λ _. fresh_pin;
+  cell = new_state;
+  index = λ _. record { index = new_index z.leaves; sweeper = None };
+  journal = λ _. no_journal;
+}
+
+-- what is known of the first so many numbers
+abbrev pub numbered : {A : Type 0} → (ℕ → A) → ℕ → List (ℕ × A)
+numbered f zero = []
+numbered f (suc n) = (n, f n) ∷ numbered f n
+
+-- the one view of a new table keeps everything
+abbrev pub first_sight : Config → Sight
+first_sight z = record {
+  passes = numbered (new_known z).pass z.passes;
+  pins = numbered (new_known z).pin z.passes;
+  cells = numbered (new_known z).cell (cells_of z);
+  indexes = numbered (new_known z).index 1;
+  journals = numbered (new_known z).journal 1;
+  told = [];
+  readers = [];
+  reads = no_reads;
+}
+
+-- the clock and all words of passes are 0, and blocks are those of cells without rows; pins may
+-- be anything
+pub record AreNewWords (z : Config) (at : Layout) (words : List ℕ) : Type 0 where
+  pub apart : KeepsApart at z.passes (cells_of z) (length words)
+  pub clock : slice_index words at.clock ≡ 0
+  pub passes : (p : ℕ) → p < z.passes → slice_index words (at.pass p) ≡ 0
+  pub blocks : (k i : ℕ) → k < cells_of z → i < block_words
+      → slice_index words (at.cell k + i) ≡ slice_index (new_block k) i
+
+-- NEW
+abbrev pub NewTable : Type 0
+NewTable =
+    (z : Config) (at : Layout) (heap : Global) (words : List ℕ) → 1 ≤ z.leaves
+    → IsIndex (new_index z.leaves)
+    → AreNewWords z at words → IsStoreRule z at heap (opening words [] (first_sight z))
+
+-- ---- the end
+
+-- the view has the journal and all passes, and each has ended its last transaction and stamped
+-- its rows
+pub record HasAll (z : Config) (v : Sight) (j : JournalState) : Type 0 where
+  pub journal : HasJournal v j
+  pub passes : (p : ℕ) → p < z.passes
+      → (st : PassState) × HasPass v p st × (st.stage ≡ Idle) × (st.unstamped ≡ [])
+
+-- the passes of the view and the rows of its cells are those of a closed store
+pub record IsLast (z : Config) (v : Sight) (j : JournalState) : Type 0 where
+  pub pass : ℕ → PassState
+  pub passes : (p : ℕ) → p < z.passes → HasPass v p (pass p)
+  pub rows : Key → StampedVersions
+  pub closed : IsClosed z pass j.commits rows
+  pub shown : (k : ℕ) (c : CellState) (q : Key) → HasRow z v k c q
+      → versions_at c.segment q ≡ rows q
+
+-- CLOSE
+abbrev pub TableCloses : Type 0
+TableCloses =
+    (z : Config) (at : Layout) (heap : Global) (s : State (Unit {0}) Sight)
+    → IsStoreRule z at heap s
+    → (id : ℕ) (v : Sight) → get_elem? s.views id ≡ some v → (j : JournalState) → HasAll z v j
+    → IsLast z v j

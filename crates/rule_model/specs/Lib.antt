@@ -1,0 +1,13 @@
+pub mod Places
+pub mod Sight
+pub mod Rule
+pub mod Steps
+pub mod TxnSteps
+pub mod NoteSteps
+pub mod BlockSteps
+pub mod RowSteps
+pub mod PinSteps
+pub mod MoveSteps
+pub mod ViewSteps
+pub mod EndSteps
+pub mod Examples

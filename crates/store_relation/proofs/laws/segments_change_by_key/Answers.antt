@@ -1,0 +1,11 @@
+use Rattle.store_relation.proofs.KeyLemmas.{done_none, done_next, done_all}
+use Rattle.store_relation.proofs.laws.segments_change_by_key.Goals as goal
+
+pub returns-clause-none : goal.returns-clause-none
+returns-clause-none c = done_none
+
+pub returns-clause-more : goal.returns-clause-more
+returns-clause-more c = done_next
+
+pub returns-clause-all : goal.returns-clause-all
+returns-clause-all c = done_all

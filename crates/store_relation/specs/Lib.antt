@@ -1,0 +1,14 @@
+pub mod Keys
+pub mod Words
+pub mod Passes
+pub mod Rows
+pub mod Shared
+pub mod Steps
+pub mod Readers
+pub mod Ends
+pub mod StepLaws
+pub mod ReadLaws
+pub mod AccountLaws
+pub mod CheckLaws
+pub mod RowLaws
+pub mod Examples
