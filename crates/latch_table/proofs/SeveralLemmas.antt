@@ -67,3 +67,8 @@ module _ {S : Type 0} where
   pub stored_words : (hs : List (Held S)) (stored : List CellWord) → stored_after (words_of hs) stored ≡ map held_word hs ++ stored
   stored_words [] stored = refl
   stored_words (h ∷ hs) stored = stored-snoc (words_of hs) (held_word h) stored ∙ ap (λ l. held_word h ∷ l) (stored_words hs stored)
+
+  -- so are cells that were all put back and then released
+  pub given_back : (ls : List Laid) (hs : List (Held S)) (now stored new : List CellWord) → map laid_word ls ≡ words_of hs → now ≡ stored
+      → new ≡ stored_after (map laid_word ls) now → new ≡ map held_word hs ++ stored
+  given_back ls hs now stored new put same released = released ∙ (λ i. stored_after (put i) (same i)) ∙ stored_words hs stored

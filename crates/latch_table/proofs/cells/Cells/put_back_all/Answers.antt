@@ -31,10 +31,10 @@ back-preserved g c =
       fit.0,
       (let room = h.3 in let cap = c.push.ensures.capacity in let more = ap length pushed ∙ length-append c.back.laid.items (done ∷ []) in let fewer = ap length items ∙ length-append left (one ∷ []) in omega arith),
       (
-        let same = same_word _ done one e.laid.0 e.laid.1 e.laid.2 in
-        let before = h.4 ∙ ap (λ l. map laid_word c.back.laid.items ++ words_of l) items in
-        subst (λ l. words_of c.args.held.now.items ≡ map laid_word l ++ words_of left) (sym pushed) (more_words c.back.laid.items done one left _ same before)
-      ),
+          let same = same_word _ done one e.laid.0 e.laid.1 e.laid.2 in
+          let before = h.4 ∙ ap (λ l. map laid_word c.back.laid.items ++ words_of l) items in
+          subst (λ l. words_of c.args.held.now.items ≡ map laid_word l ++ words_of left) (sym pushed) (more_words c.back.laid.items done one left _ same before)
+          ),
       (
         h.5.0 ++ (one.cell, one.value) ∷ [],
         e.slots ∙ ap (λ l. rest l ++ (one.cell, one.value) ∷ []) lies ∙ append_assoc (taken_of vacant left) h.5.0 ((one.cell, one.value) ∷ []),
