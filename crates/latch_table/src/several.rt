@@ -25,6 +25,7 @@ impl<'a, K, V: Slot<K>> Cells<'a, V, K> {
         ensures pass { IsPassOf (V.passes self.now.table.now.key) self.now.table.now.key self.now.table.now.table_id pass.new }
         ensures number { number_of pass.new.me.0 ≡ number_of pass.old.me.0 }
         ensures none { (pass.new.me.1 ≡ []) × (held.new.items ≡ []) × (laid.new.items ≡ []) }
+        ensures capacity { (vec_capacity held.old ≤ vec_capacity held.new) × (vec_capacity laid.old ≤ vec_capacity laid.new) }
         ensures stored { pass.new.me.0.stored ≡ map held_word held.old.items ++ pass.old.me.0.stored }
     {
         self.put_back_all(pass, held, laid);
@@ -43,6 +44,7 @@ impl<'a, K, V: Slot<K>> Cells<'a, V, K> {
         ensures laid { AreLaid (V.fits self.now.table.now.key) self.now.table.now.table_id.words laid.new.items pass.new.me.1 }
         ensures words { map laid_word laid.new.items ≡ words_of held.old.items }
         ensures none { held.new.items ≡ [] }
+        ensures capacity { (vec_capacity held.old ≤ vec_capacity held.new) × (vec_capacity laid.old ≤ vec_capacity laid.new) }
     {
         'back: while let Some(one) = held.pop() {
             let done = self.put_back(pass, one);
@@ -60,7 +62,7 @@ impl<'a, K, V: Slot<K>> Cells<'a, V, K> {
         ensures pass { IsPassOf (V.passes self.now.table.now.key) self.now.table.now.key self.now.table.now.table_id pass.new }
         ensures number { number_of pass.new.me.0 ≡ number_of pass.old.me.0 }
         ensures stored { pass.new.me.0.stored ≡ stored_after (map laid_word laid.old.items) pass.old.me.0.stored }
-        ensures none { (pass.new.me.1 ≡ []) × (laid.new.items ≡ []) }
+        ensures none { (pass.new.me.1 ≡ []) × (laid.new.items ≡ []) × (vec_capacity laid.old ≤ vec_capacity laid.new) }
     {
         'cells: while !laid.is_empty() {
             let one = laid.remove(0);
