@@ -160,6 +160,19 @@ impl<'a, K, V: Slot<K>> Cells<'a, V, K> {
         self.table.store::<Gives>(pass, cell as usize, word);
     }
 
+    /// Puts the value of a cell back and releases the cell. The pass holds no other one.
+    pub fn give(&self, pass: &mut Pass<V, K>, held: Held<V>)
+        requires pass { IsPassOf (V.passes self.now.table.now.key) self.now.table.now.key self.now.table.now.table_id pass.old }
+        requires cell { held.cell < self.now.table.now.table_id.words }
+        requires holds { pass.old.me.1 ≡ (held.cell, V.vacant) ∷ [] }
+        requires fits { V.fits self.now.table.now.key held.cell held.value }
+        ensures pass { IsPassOf (V.passes self.now.table.now.key) self.now.table.now.key self.now.table.now.table_id pass.new }
+        ensures released { pass.new.me ≡ (gave pass.old.me.0 held.cell (word_after held.found held.changed), []) }
+    {
+        let laid = self.put_back(pass, held);
+        self.release(pass, laid);
+    }
+
     /// The version word of a cell. It may be another one by the time that the caller reads it.
     pub fn version(&self, pass: &mut Pass<V, K>, cell: u32) -> u64
         requires pass { IsPassOf (V.passes self.now.table.now.key) self.now.table.now.key self.now.table.now.table_id pass.old }

@@ -17,7 +17,7 @@ use crate::slot::Slot;
 impl<'a, K, V: Slot<K>> Cells<'a, V, K> {
     /// Gives all cells of a pass back, as they were taken: puts each value back, and then releases each cell. The
     /// second list is work space with room for all.
-    pub fn give_back(&self, pass: &mut Pass<V, K>, held: &mut Vec<Held<V>>, laid: &mut Vec<Laid>)
+    pub fn give_all(&self, pass: &mut Pass<V, K>, held: &mut Vec<Held<V>>, laid: &mut Vec<Laid>)
         requires pass { IsPassOf (V.passes self.now.table.now.key) self.now.table.now.key self.now.table.now.table_id pass.old }
         requires holds { pass.old.me.1 ≡ taken_of V.vacant held.old.items }
         requires fits { AreHeldFit (V.fits self.now.table.now.key) self.now.table.now.table_id.words held.old.items }

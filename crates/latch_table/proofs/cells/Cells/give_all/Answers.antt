@@ -1,7 +1,7 @@
 use Rattle.std.proofs.Common.{ap}
 use Rattle.latch_table.specs.declared.sight.LatchSight.{LatchSight}
 use Rattle.latch_table.proofs.SeveralLemmas.{given_back}
-use Rattle.latch_table.proofs.cells.Cells.give_back.Goals as goal
+use Rattle.latch_table.proofs.cells.Cells.give_all.Goals as goal
 
 pub returns-clause-stored : goal.returns-clause-stored
 returns-clause-stored g c =
