@@ -1,10 +1,11 @@
 //! A table of counters under latches, on which two passes count.
 
-ghost use Rattle.std.specs.Prelude.{◌≡◌, ◌<◌, ◌≤◌, []};
+ghost use Rattle.std.specs.Prelude.{◌≡◌, ◌<◌, ◌≤◌, [], ◌∷◌, ◌++◌, length};
+ghost use Rattle.std.specs.Vec.{vec_capacity};
 ghost use Rattle.latch_table.specs.Latched.{number_of};
 ghost use Rattle.cases_latches.specs.Idle.{IsIdle};
 
-use latch_table::{Cells, Pass, Slot};
+use latch_table::{Cells, Held, Laid, Pass, Slot};
 use std::sync::Wait;
 
 /// A counter in its slot.
@@ -47,6 +48,47 @@ pub fn add(
     let mut held = counters.take(rt, pass, cell);
     held.changed = true;
     held.value.count = held.value.count.wrapping_add(amount);
-    let laid = counters.put_back(pass, held);
-    counters.release(pass, laid);
+    counters.give(pass, held);
+}
+
+/// Evens two counters out: each gets half of what both have. Whoever holds several cells takes them in one order, so
+/// that no two passes wait for each other. The lists have room for two.
+pub fn even_out(
+    rt: &impl Wait,
+    counters: &Cells<'_, Counter, ()>,
+    pass: &mut Pass<Counter, ()>,
+    low: u32,
+    high: u32,
+    held: &mut Vec<Held<Counter>>,
+    laid: &mut Vec<Laid>,
+)
+    requires pass { IsIdle counters.now.table.now.table_id pass.old }
+    requires cells { (low < high) × (high < counters.now.table.now.table_id.words) }
+    requires room { (held.old.items ≡ []) × (laid.old.items ≡ []) × (2 ≤ vec_capacity held.old) × (2 ≤ vec_capacity laid.old) }
+    ensures pass { IsIdle counters.now.table.now.table_id pass.new }
+    ensures number { number_of pass.new.me.0 ≡ number_of pass.old.me.0 }
+    ensures room { (held.new.items ≡ []) × (laid.new.items ≡ []) × (2 ≤ vec_capacity held.new) × (2 ≤ vec_capacity laid.new) }
+{
+    let mut a = counters.take(rt, pass, low);
+    let mut b = counters.take(rt, pass, high);
+    let sum = a.value.count.wrapping_add(b.value.count);
+    a.changed = true;
+    a.value.count = sum - sum / 2;
+    b.changed = true;
+    b.value.count = sum / 2;
+    keep(held, a);
+    keep(held, b);
+    counters.give_all(pass, held, laid);
+}
+
+/// Puts a held counter at the end of a list that has the room.
+fn keep(list: &mut Vec<Held<Counter>>, held: Held<Counter>)
+    requires room { length list.old.items < vec_capacity list.old }
+    ensures put { list.new.items ≡ list.old.items ++ held ∷ [] }
+    ensures capacity { vec_capacity list.old ≤ vec_capacity list.new }
+{
+    match list.push(held) {
+        Ok(()) => {}
+        Err(_) => unreachable!(),
+    }
 }

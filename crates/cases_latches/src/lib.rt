@@ -2,5 +2,6 @@
 #![tactic(auto)]
 
 mod counters;
+mod counting;
 
-pub use counters::{Counter, add};
+pub use counters::{Counter, add, even_out};

@@ -26,6 +26,7 @@ use atomic_table::{Play, Seat, Shared, TableRule};
 pub type Pass<V> = Seat<(), V>;
 
 /// The pins of a table, and its clock.
+#[derive(Drop)]
 pub struct Pins<'a, V, K, P: TableRule<(), V, K>> {
     pub table: &'a Shared<(), V, K, P>,
     pub places: PinPlaces,

@@ -145,7 +145,7 @@ module _ {S K : Type 0} (fits : K → ℕ → S → Type 0) (passes : ℕ) (k : 
         some = subst (λ (l : List (ℕ × List ℕ)). kept_at l (first_number l) ≡ Some (first_cells l)) (sym first) (ap (λ b. cond b (Some []) None) (same_number count));
         only = subst (λ (l : List (ℕ × List ℕ)). (p : ℕ) → p ≢ first_number l → kept_at l p ≡ None) (sym first) (λ p other. ap (λ b. cond b (Some []) None) (other_number p count other));
         same = λ c. ap (λ (l : List (ℕ × List ℕ)). is_held c (first_cells l)) first;
-        once = tt;
+        once = refl;
       }
 
   -- the passes that are left, and the number of the one that went

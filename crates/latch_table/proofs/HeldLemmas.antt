@@ -1,13 +1,13 @@
 -- Lists of cells that are held, and a seat through the steps of its pass.
 use Rattle.std.proofs.Common.{◌≡◌, ◌≢◌, ℕ, ◌<◌, List, [], ◌∷◌, ◌++◌, refl, sym, ◌∙◌, ap, subst, cond, arith, Option, Some, None}
-use Rattle.std.specs.Prelude.{Bool, true, false, ◌==◌, ◌||◌, not}
+use Rattle.std.specs.Prelude.{Bool, true, false, ◌==◌, ◌||◌, ◌&&◌, not}
 use Rattle.std.proofs.lemmas.Bool.Decides.{nat_tests}
 use mathlib.Core.Logic.{dite}
 use native.Mathlib.Decide.{ℕ_discrete}
 use Rattle.seat_views.specs.Keeping.{kept_at}
 use Rattle.seat_views.proofs.NumberLemmas.{same_number, other_number, eq_of}
 use Rattle.latch_table.specs.declared.sight.LatchSight.{LatchSight}
-use Rattle.latch_table.specs.Latched.{is_held, without_cell, out_of, IsOnce, IsPassSeat, number_of, cells_of, looked, took, gave}
+use Rattle.latch_table.specs.Latched.{is_held, without_cell, out_of, is_once, IsPassSeat, number_of, cells_of, looked, took, gave}
 
 -- ---- lists of cells
 
@@ -46,10 +46,23 @@ out-snoc : {S : Type 0} (xs : List (ℕ × S)) (x : ℕ × S) → out_of (xs ++ 
 out-snoc [] x = refl
 out-snoc (y ∷ xs) x = ap (λ l. y.0 ∷ l) (out-snoc xs x)
 
-once-snoc : (cs : List ℕ) (c : ℕ) → IsOnce cs → is_held c cs ≡ false → IsOnce (cs ++ c ∷ [])
-once-snoc [] c once new = (refl, tt)
+-- a cell that is new in front of others
+once_more : (c : ℕ) (cs : List ℕ) → is_held c cs ≡ false → is_once cs ≡ true → is_once (c ∷ cs) ≡ true
+once_more c cs new once = λ i. not (new i) && once i
+
+once_first : (c : ℕ) (cs : List ℕ) → is_once (c ∷ cs) ≡ true → (is_held c cs ≡ false) × (is_once cs ≡ true)
+once_first c cs once = parts (is_held c cs) (is_once cs) once
+  where
+    parts : (a b : Bool) → (not a && b) ≡ true → (a ≡ false) × (b ≡ true)
+    parts true b e = cc
+    parts false b e = (refl, e)
+
+once-snoc : (cs : List ℕ) (c : ℕ) → is_once cs ≡ true → is_held c cs ≡ false → is_once (cs ++ c ∷ []) ≡ true
+once-snoc [] c once new = refl
 once-snoc (x ∷ cs) c once new =
-    (held-snoc x c cs ∙ two (x == c) (is_held x cs) (flip (parts (c == x) (is_held c cs) new).0) once.0, once-snoc cs c once.1 (parts (c == x) (is_held c cs) new).1)
+    let first = once_first x cs once in
+    let apart = parts (c == x) (is_held c cs) new in
+    once_more x (cs ++ c ∷ []) (held-snoc x c cs ∙ two (x == c) (is_held x cs) (flip apart.0) first.0) (once-snoc cs c first.1 apart.1)
   where
     parts : (a b : Bool) → (a || b) ≡ false → (a ≡ false) × (b ≡ false)
     parts true b e = cc
@@ -93,7 +106,7 @@ module _ {S K : Type 0} (passes : ℕ) (k : K) (v : LatchSight K) (slots : List 
     some = first_some (number_of v) (c ∷ cells_of v) v.passes;
     only = other_none (c ∷ cells_of v);
     same = λ d. ap (λ t. (d == c) || t) (is.same d);
-    once = (sym (is.same c) ∙ new, is.once);
+    once = once_more c (out_of slots) (sym (is.same c) ∙ new) is.once;
   }
 
   -- it has given a cell back
@@ -109,8 +122,8 @@ module _ {S K : Type 0} (passes : ℕ) (k : K) (v : LatchSight K) (slots : List 
     once = mine.1;
   }
     where
-      mine : IsOnce (c ∷ out_of others)
-      mine = subst (λ l. IsOnce (out_of l)) lies is.once
+      mine : (is_held c (out_of others) ≡ false) × (is_once (out_of others) ≡ true)
+      mine = once_first c (out_of others) (subst (λ l. is_once (out_of l) ≡ true) lies is.once)
 
   -- it has put a value back, and the slot goes behind the others
   pub seat_put : (c : ℕ) (x y : S) (others : List (ℕ × S)) → slots ≡ (c, x) ∷ others → IsPassSeat passes k (v, others ++ (c, y) ∷ [])
@@ -120,11 +133,11 @@ module _ {S K : Type 0} (passes : ℕ) (k : K) (v : LatchSight K) (slots : List 
     some = is.some;
     only = is.only;
     same = λ d. is.same d ∙ ap (λ l. is_held d (out_of l)) lies ∙ sym (ap (is_held d) (out-snoc others (c, y)) ∙ held-snoc d c (out_of others));
-    once = subst IsOnce (sym (out-snoc others (c, y))) (once-snoc (out_of others) c mine.1 mine.0);
+    once = ap is_once (out-snoc others (c, y)) ∙ once-snoc (out_of others) c mine.1 mine.0;
   }
     where
-      mine : IsOnce (c ∷ out_of others)
-      mine = subst (λ l. IsOnce (out_of l)) lies is.once
+      mine : (is_held c (out_of others) ≡ false) × (is_once (out_of others) ≡ true)
+      mine = once_first c (out_of others) (subst (λ l. is_once (out_of l) ≡ true) lies is.once)
 
   -- a pass that has no slot holds no cell
   pub seat_idle : slots ≡ [] → kept_at v.passes (number_of v) ≡ Some []

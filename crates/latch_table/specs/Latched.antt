@@ -1,5 +1,5 @@
 -- Who holds which cell, and what lies in the slots of all others: the rule of the latch table.
-use Rattle.std.specs.Prelude.{◌≡◌, ◌⊎◌, ◌≢◌, ℕ, ◌==◌, ◌+◌, ◌<◌, ◌%◌, ◌^◌, ◌-◌, Bool, true, false, not, cond, List, [], ◌∷◌, map, length, slice_index, Option, Some, None}
+use Rattle.std.specs.Prelude.{◌≡◌, ◌⊎◌, ◌≢◌, ℕ, ◌==◌, ◌+◌, ◌<◌, ◌%◌, ◌^◌, ◌-◌, Bool, true, false, not, ◌&&◌, cond, List, [], ◌∷◌, map, length, slice_index, Option, Some, None}
 use Rattle.std.specs.List.{list_any, filter}
 use mathlib.Core.Option.{some}
 use lib.ListN.{get_elem?}
@@ -42,9 +42,9 @@ abbrev pub out_of : {S : Type 0} → List (ℕ × S) → List ℕ
 out_of slots = map (λ x. x.0) slots
 
 -- no cell stands twice
-abbrev pub IsOnce : List ℕ → Type 0
-IsOnce [] = Unit {0}
-IsOnce (c ∷ cs) = (is_held c cs ≡ false) × IsOnce cs
+abbrev pub is_once : List ℕ → Bool
+is_once [] = true
+is_once (c ∷ cs) = not (is_held c cs) && is_once cs
 
 -- ---- what a seat knows
 
@@ -115,7 +115,7 @@ module _ {S K : Type 0} where
     pub some : kept_at me.0.passes (number_of me.0) ≡ Some (cells_of me.0)
     pub only : (p : ℕ) → p ≢ number_of me.0 → kept_at me.0.passes p ≡ None
     pub same : (c : ℕ) → is_held c (cells_of me.0) ≡ is_held c (out_of me.1)
-    pub once : IsOnce (out_of me.1)
+    pub once : is_once (out_of me.1) ≡ true
 
   -- the seat is of this table
   pub record IsPassOf (passes : ℕ) (k : K) (id : TableId) (pass : Seat S (LatchSight K)) : Type 0 where

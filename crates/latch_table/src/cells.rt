@@ -26,6 +26,7 @@ use std::sync::Wait;
 const LAST_WORD: u64 = u64::MAX - 1;
 
 /// The cells of a table.
+#[derive(Drop)]
 pub struct Cells<'a, V: Slot<K>, K> {
     pub table: &'a Shared<V, LatchSight<K>, K, LatchRule<V>>,
     pub ghost square: { table.now.table_id.words ≡ table.now.table_id.slots },

@@ -17,6 +17,7 @@ use atomic_table::{Join, Refused, Split, Table};
 use std::alloc::{AllocError, Global};
 
 /// A latch table with its memory.
+#[derive(Drop)]
 pub struct LatchTable<V: Slot<K>, K> {
     pub table: Table<V, LatchSight<K>, K, LatchRule<V>, Global>,
     pub ghost square: { table.shared.table_id.words ≡ table.shared.table_id.slots },
