@@ -49,3 +49,57 @@ fn zeros(alloc: Global) -> Result<Vec<Counter>, AllocError>
     }
     Ok(counters)
 }
+
+/// Two threads count on four counters, each so many rounds. Answers the counters.
+pub fn count_by_two<R: Threads + Wait + Sync>(
+    rt: &R,
+    alloc: Global,
+    rounds: u32,
+) -> Result<Vec<Counter>, AllocError>
+    ensures { IfOk result (λ v. length v.items ≡ 4) }
+{
+    let mut counted = Vec::with_capacity(alloc, 4)?;
+    let Opened {
+        table,
+        mut all,
+        one,
+        two,
+    } = open(alloc)?;
+    let cells = table.cells();
+    let (one, two) = join(
+        rt,
+        || -> Pass<Counter, ()>
+            requires { IsIdle cells.now.table.now.table_id one × (number_of one.me.0 ≡ 0) }
+            ensures { IsIdle cells.now.table.now.table_id result × (number_of result.me.0 ≡ 0) }
+        { count(rt, &cells, one, rounds) },
+        || -> Pass<Counter, ()>
+            requires { IsIdle cells.now.table.now.table_id two × (number_of two.me.0 ≡ 1) }
+            ensures { IsIdle cells.now.table.now.table_id result × (number_of result.me.0 ≡ 1) }
+        { count(rt, &cells, two, rounds) },
+    );
+    cells.merge(&mut all, one);
+    cells.merge(&mut all, two);
+    drop(cells);
+    table.close(all, &mut counted);
+    Ok(counted)
+}
+
+/// Adds 1 to each of the four counters in each round.
+fn count(
+    rt: &impl Wait,
+    counters: &Cells<'_, Counter, ()>,
+    mut pass: Pass<Counter, ()>,
+    rounds: u32,
+) -> Pass<Counter, ()>
+    requires pass { IsIdle counters.now.table.now.table_id pass }
+    requires cells { counters.now.table.now.table_id.words ≡ 4 }
+    ensures pass { IsIdle counters.now.table.now.table_id result }
+    ensures number { number_of result.me.0 ≡ number_of pass.me.0 }
+{
+    'rounds: for _round in 0..rounds {
+        'cells: for cell in 0..4 {
+            add(rt, counters, &mut pass, cell, 1);
+        }
+    }
+    pass
+}

@@ -4,7 +4,7 @@
 //! 2. A pass that holds no cell may be merged back into a seat. A seat that has all of them back closes the table, and
 //!    then each slot has a value that fits.
 
-ghost use Rattle.std.specs.Prelude.{◌≡◌, ◌<◌, ◌≤◌, ◌+◌, ℕ, suc, [], length, replicate, IfOk, IfErr};
+ghost use Rattle.std.specs.Prelude.{◌≡◌, ◌<◌, ◌≤◌, ◌+◌, ℕ, [], length, replicate, IfOk, IfErr};
 ghost use Rattle.std.specs.Vec.{vec_capacity};
 ghost use Rattle.latch_table.specs.Latched.{IsPassOf, number_of};
 ghost use Rattle.latch_table.specs.Opening.{first_pass, other_passes, merged, spent, HasPasses, IsBack, IsWhole, AreFit};
@@ -101,13 +101,13 @@ fn even_words(alloc: Global, count: usize) -> Result<Vec<u64>, AllocError>
 }
 
 impl<'a, K, V: Slot<K>> Cells<'a, V, K> {
-    /// A seat for the last of the passes that are still to be dealt.
-    pub fn deal(&self, all: &mut Pass<V, K>) -> Pass<V, K>
+    /// A seat for the last of the passes that are still to be dealt, which has this number.
+    pub fn deal(&self, all: &mut Pass<V, K>, number: u32) -> Pass<V, K>
         requires table { (all.old.table_id ≡ self.now.table.now.table_id) × (0 < self.now.table.now.table_id.words) }
-        requires passes { (count : ℕ) × HasPasses self.now.table.now.key (suc count) all.old.me.0 × (count < V.passes self.now.table.now.key) }
+        requires passes { HasPasses self.now.table.now.key (number + 1) all.old.me.0 × (number < V.passes self.now.table.now.key) }
         ensures pass { IsPassOf (V.passes self.now.table.now.key) self.now.table.now.key self.now.table.now.table_id result }
-        ensures idle { result.me.1 ≡ [] }
-        ensures number { (count : ℕ) → HasPasses self.now.table.now.key (suc count) all.old.me.0 → (number_of result.me.0 ≡ count) × HasPasses self.now.table.now.key count all.new.me.0 }
+        ensures dealt { (result.me.1 ≡ []) × (number_of result.me.0 ≡ number) }
+        ensures passes { HasPasses self.now.table.now.key number all.new.me.0 }
         ensures rest { (all.new.table_id ≡ all.old.table_id) × (all.new.me.1 ≡ all.old.me.1) }
     {
         self.table.split_seat::<Deals>(all)
