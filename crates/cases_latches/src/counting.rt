@@ -7,7 +7,7 @@ ghost use Rattle.latch_table.specs.Latched.{number_of};
 ghost use Rattle.cases_latches.specs.Idle.{IsIdle};
 
 use crate::counters::{Counter, add, even_out};
-use latch_table::{Busy, Cells, LatchTable, Pass};
+use latch_table::{LatchTable, Pass};
 use std::alloc::{AllocError, Global};
 use std::sync::Wait;
 use std::thread::{Threads, join};
@@ -30,8 +30,10 @@ pub fn open(alloc: Global) -> Result<Opened, AllocError> {
         Ok(opened) => opened,
         Err(_) => return Err(AllocError),
     };
-    let two = table.cells().deal(&mut all);
-    let one = table.cells().deal(&mut all);
+    let cells = table.cells();
+    let two = cells.deal(&mut all, 1);
+    let one = cells.deal(&mut all, 0);
+    drop(cells);
     Ok(Opened {
         table,
         all,
@@ -44,7 +46,7 @@ fn zeros(alloc: Global) -> Result<Vec<Counter>, AllocError>
     ensures { IfOk result (λ v. length v.items ≡ 4) }
 {
     let mut counters = Vec::with_capacity(alloc, 4)?;
-    'counters: for _counter in 0..4 {
+    'counters: for _counter in 0..4u32 {
         counters.push(Counter { count: 0 })?;
     }
     Ok(counters)
@@ -65,18 +67,19 @@ pub fn count_by_two<R: Threads + Wait + Sync>(
         one,
         two,
     } = open(alloc)?;
-    let cells = table.cells();
+    let shared = &table;
     let (one, two) = join(
         rt,
-        || -> Pass<Counter, ()>
-            requires { IsIdle cells.now.table.now.table_id one × (number_of one.me.0 ≡ 0) }
-            ensures { IsIdle cells.now.table.now.table_id result × (number_of result.me.0 ≡ 0) }
-        { count(rt, &cells, one, rounds) },
-        || -> Pass<Counter, ()>
-            requires { IsIdle cells.now.table.now.table_id two × (number_of two.me.0 ≡ 1) }
-            ensures { IsIdle cells.now.table.now.table_id result × (number_of result.me.0 ≡ 1) }
-        { count(rt, &cells, two, rounds) },
+        move ||
+            requires { IsIdle shared.now.table.shared.table_id one × (number_of one.me.0 ≡ 0) × (shared.now.table.shared.table_id.words ≡ 4) }
+            ensures { IsIdle shared.entry.now.table.shared.table_id result × (number_of result.me.0 ≡ 0) }
+        { count(rt, shared, one, rounds) },
+        move ||
+            requires { IsIdle shared.now.table.shared.table_id two × (number_of two.me.0 ≡ 1) × (shared.now.table.shared.table_id.words ≡ 4) }
+            ensures { IsIdle shared.entry.now.table.shared.table_id result × (number_of result.me.0 ≡ 1) }
+        { count(rt, shared, two, rounds) },
     );
+    let cells = table.cells();
     cells.merge(&mut all, one);
     cells.merge(&mut all, two);
     drop(cells);
@@ -87,18 +90,19 @@ pub fn count_by_two<R: Threads + Wait + Sync>(
 /// Adds 1 to each of the four counters in each round.
 fn count(
     rt: &impl Wait,
-    counters: &Cells<'_, Counter, ()>,
+    table: &LatchTable<Counter, ()>,
     mut pass: Pass<Counter, ()>,
     rounds: u32,
 ) -> Pass<Counter, ()>
-    requires pass { IsIdle counters.now.table.now.table_id pass }
-    requires cells { counters.now.table.now.table_id.words ≡ 4 }
-    ensures pass { IsIdle counters.now.table.now.table_id result }
+    requires pass { IsIdle table.now.table.shared.table_id pass }
+    requires cells { table.now.table.shared.table_id.words ≡ 4 }
+    ensures pass { IsIdle table.now.table.shared.table_id result }
     ensures number { number_of result.me.0 ≡ number_of pass.me.0 }
 {
+    let counters = table.cells();
     'rounds: for _round in 0..rounds {
         'cells: for cell in 0..4 {
-            add(rt, counters, &mut pass, cell, 1);
+            add(rt, &counters, &mut pass, cell, 1);
         }
     }
     pass
