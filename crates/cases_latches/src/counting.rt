@@ -107,3 +107,56 @@ fn count(
     }
     pass
 }
+
+/// What a thread is answered that wants a counter: the word that is in the way, while another pass holds it and once
+/// that has given it back, and the version that it then has. The holder changes it.
+pub fn want_by_two<R: Threads + Sync>(
+    rt: &R,
+    alloc: Global,
+) -> Result<Option<(Option<u64>, Option<u64>, u64)>, AllocError> {
+    let Opened {
+        table,
+        all,
+        mut one,
+        two,
+    } = open(alloc)?;
+    drop(all);
+    let cells = table.cells();
+    let Ok(mut held) = cells.try_take(&mut one, 0) else {
+        return Ok(None);
+    };
+    let shared = &table;
+    let ((in_between, mut two), ()) = join(
+        rt,
+        move ||
+            requires { IsIdle shared.now.table.shared.table_id two × (shared.now.table.shared.table_id.words ≡ 4) }
+            ensures { IsIdle shared.entry.now.table.shared.table_id result.1 }
+        { want(shared, two) },
+        || (),
+    );
+    held.changed = true;
+    cells.give(&mut one, held);
+    let version = cells.version(&mut two, 0);
+    let (behind, two) = want(&table, two);
+    drop(two);
+    Ok(Some((in_between, behind, version)))
+}
+
+/// The word that is in the way of the first counter, if one is.
+fn want(
+    table: &LatchTable<Counter, ()>,
+    mut pass: Pass<Counter, ()>,
+) -> (Option<u64>, Pass<Counter, ()>)
+    requires pass { IsIdle table.now.table.shared.table_id pass }
+    requires cells { table.now.table.shared.table_id.words ≡ 4 }
+    ensures pass { IsIdle table.now.table.shared.table_id result.1 }
+{
+    let cells = table.cells();
+    match cells.try_take(&mut pass, 0) {
+        Ok(held) => {
+            cells.give(&mut pass, held);
+            (None, pass)
+        }
+        Err(busy) => (Some(busy.found), pass),
+    }
+}

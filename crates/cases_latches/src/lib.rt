@@ -3,5 +3,8 @@
 
 mod counters;
 mod counting;
+#[cfg(test)]
+mod tests;
 
 pub use counters::{Counter, add, even_out};
+pub use counting::{Opened, count_by_two, open, want_by_two};

@@ -1,0 +1,19 @@
+//! What two threads find and leave on one table of counters.
+
+use crate::counting::{count_by_two, want_by_two};
+use std::test::Fail;
+
+#[test]
+fn two_threads_lose_no_count(rt: HostRuntime) -> Result<(), Fail> {
+    let counted = count_by_two(&rt, rt.alloc(), 20000)?;
+    for counter in counted.iter() {
+        assert_eq!(rt; counter.count, 40000);
+    }
+    Ok(())
+}
+
+#[test]
+fn a_counter_that_another_pass_holds_is_busy_with_its_odd_word(rt: HostRuntime) -> Result<(), Fail> {
+    assert_eq!(rt; want_by_two(&rt, rt.alloc())?, Some((Some(1), None, 2)));
+    Ok(())
+}
