@@ -2,8 +2,7 @@
 
 ghost use Rattle.std.specs.Prelude.{◌≡◌, ◌<◌, ◌≤◌, [], ◌∷◌, ◌++◌, length};
 ghost use Rattle.std.specs.Vec.{vec_capacity};
-ghost use Rattle.latch_table.specs.Latched.{number_of};
-ghost use Rattle.cases_latches.specs.Idle.{IsIdle};
+ghost use Rattle.latch_table.specs.Latched.{IsIdle, number_of};
 
 use latch_table::{Cells, Held, Laid, Pass, Slot};
 use std::sync::Wait;
@@ -40,9 +39,9 @@ pub fn add(
     cell: u32,
     amount: u64,
 )
-    requires pass { IsIdle counters.now.table.now.table_id pass.old }
+    requires pass { IsIdle 2 tt counters.now.table.now.table_id pass.old }
     requires cell { cell < counters.now.table.now.table_id.words }
-    ensures pass { IsIdle counters.now.table.now.table_id pass.new }
+    ensures pass { IsIdle 2 tt counters.now.table.now.table_id pass.new }
     ensures number { number_of pass.new.me.0 ≡ number_of pass.old.me.0 }
 {
     let mut held = counters.take(rt, pass, cell);
@@ -62,10 +61,10 @@ pub fn even_out(
     held: &mut Vec<Held<Counter>>,
     laid: &mut Vec<Laid>,
 )
-    requires pass { IsIdle counters.now.table.now.table_id pass.old }
+    requires pass { IsIdle 2 tt counters.now.table.now.table_id pass.old }
     requires cells { (low < high) × (high < counters.now.table.now.table_id.words) }
     requires room { (held.old.items ≡ []) × (laid.old.items ≡ []) × (2 ≤ vec_capacity held.old) × (2 ≤ vec_capacity laid.old) }
-    ensures pass { IsIdle counters.now.table.now.table_id pass.new }
+    ensures pass { IsIdle 2 tt counters.now.table.now.table_id pass.new }
     ensures number { number_of pass.new.me.0 ≡ number_of pass.old.me.0 }
     ensures room { (held.new.items ≡ []) × (laid.new.items ≡ []) × (2 ≤ vec_capacity held.new) × (2 ≤ vec_capacity laid.new) }
 {

@@ -3,8 +3,7 @@
 ghost use Rattle.std.specs.Prelude.{◌≡◌, ◌<◌, ◌≤◌, [], length, replicate, IfOk};
 ghost use Rattle.std.specs.Vec.{vec_capacity};
 ghost use Rattle.std.specs.Thread.{IsSync};
-ghost use Rattle.latch_table.specs.Latched.{number_of};
-ghost use Rattle.cases_latches.specs.Idle.{IsIdle};
+ghost use Rattle.latch_table.specs.Latched.{IsIdle, number_of};
 
 use crate::counters::{Counter, add, even_out};
 use latch_table::{LatchTable, Pass};
@@ -19,8 +18,8 @@ pub struct Opened {
     pub one: Pass<Counter, ()>,
     pub two: Pass<Counter, ()>,
     pub ghost of_table: { (all.table_id ≡ table.table.shared.table_id) × (table.table.shared.table_id.words ≡ 4) },
-    pub ghost first: { IsIdle table.table.shared.table_id one × (number_of one.me.0 ≡ 0) },
-    pub ghost second: { IsIdle table.table.shared.table_id two × (number_of two.me.0 ≡ 1) },
+    pub ghost first: { IsIdle 2 tt table.table.shared.table_id one × (number_of one.me.0 ≡ 0) },
+    pub ghost second: { IsIdle 2 tt table.table.shared.table_id two × (number_of two.me.0 ≡ 1) },
 }
 
 /// Four counters at 0.
@@ -71,12 +70,12 @@ pub fn count_by_two<R: Threads + Wait + Sync>(
     let (one, two) = join(
         rt,
         move ||
-            requires { IsIdle shared.now.table.shared.table_id one × (number_of one.me.0 ≡ 0) × (shared.now.table.shared.table_id.words ≡ 4) }
-            ensures { IsIdle shared.entry.now.table.shared.table_id result × (number_of result.me.0 ≡ 0) }
+            requires { IsIdle 2 tt shared.now.table.shared.table_id one × (number_of one.me.0 ≡ 0) × (shared.now.table.shared.table_id.words ≡ 4) }
+            ensures { IsIdle 2 tt shared.entry.now.table.shared.table_id result × (number_of result.me.0 ≡ 0) }
         { count(rt, shared, one, rounds) },
         move ||
-            requires { IsIdle shared.now.table.shared.table_id two × (number_of two.me.0 ≡ 1) × (shared.now.table.shared.table_id.words ≡ 4) }
-            ensures { IsIdle shared.entry.now.table.shared.table_id result × (number_of result.me.0 ≡ 1) }
+            requires { IsIdle 2 tt shared.now.table.shared.table_id two × (number_of two.me.0 ≡ 1) × (shared.now.table.shared.table_id.words ≡ 4) }
+            ensures { IsIdle 2 tt shared.entry.now.table.shared.table_id result × (number_of result.me.0 ≡ 1) }
         { count(rt, shared, two, rounds) },
     );
     let cells = table.cells();
@@ -94,9 +93,9 @@ fn count(
     mut pass: Pass<Counter, ()>,
     rounds: u32,
 ) -> Pass<Counter, ()>
-    requires pass { IsIdle table.now.table.shared.table_id pass }
+    requires pass { IsIdle 2 tt table.now.table.shared.table_id pass }
     requires cells { table.now.table.shared.table_id.words ≡ 4 }
-    ensures pass { IsIdle table.now.table.shared.table_id result }
+    ensures pass { IsIdle 2 tt table.now.table.shared.table_id result }
     ensures number { number_of result.me.0 ≡ number_of pass.me.0 }
 {
     let counters = table.cells();
@@ -129,8 +128,8 @@ pub fn want_by_two<R: Threads + Sync>(
     let ((in_between, mut two), ()) = join(
         rt,
         move ||
-            requires { IsIdle shared.now.table.shared.table_id two × (shared.now.table.shared.table_id.words ≡ 4) }
-            ensures { IsIdle shared.entry.now.table.shared.table_id result.1 }
+            requires { IsIdle 2 tt shared.now.table.shared.table_id two × (shared.now.table.shared.table_id.words ≡ 4) }
+            ensures { IsIdle 2 tt shared.entry.now.table.shared.table_id result.1 }
         { want(shared, two) },
         || (),
     );
@@ -147,9 +146,9 @@ fn want(
     table: &LatchTable<Counter, ()>,
     mut pass: Pass<Counter, ()>,
 ) -> (Option<u64>, Pass<Counter, ()>)
-    requires pass { IsIdle table.now.table.shared.table_id pass }
+    requires pass { IsIdle 2 tt table.now.table.shared.table_id pass }
     requires cells { table.now.table.shared.table_id.words ≡ 4 }
-    ensures pass { IsIdle table.now.table.shared.table_id result.1 }
+    ensures pass { IsIdle 2 tt table.now.table.shared.table_id result.1 }
 {
     let cells = table.cells();
     match cells.try_take(&mut pass, 0) {

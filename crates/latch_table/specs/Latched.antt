@@ -122,6 +122,11 @@ module _ {S K : Type 0} where
     pub table : pass.table_id ≡ id
     pub seat : IsPassSeat passes k pass.me
 
+  -- and its pass holds no cell
+  pub record IsIdle (passes : ℕ) (k : K) (id : TableId) (pass : Seat S (LatchSight K)) : Type 0 where
+    pub of : IsPassOf passes k id pass
+    pub none : pass.me.1 ≡ []
+
 -- ---- why a cell wasn't taken
 
 -- the load of this call found an odd word or the last one, or its compare-exchange found another word than the load
