@@ -83,7 +83,8 @@ fn rounds<R: Threads + Wait + Clock + Sync>(
     seed: u64,
 ) -> Shown
     requires sync { IsSync R.row }
-    requires table { (all.old.table_id ≡ table.now.table.shared.table_id) × (table.now.table.shared.table_id.words ≡ 1048576) }
+    requires table { (all.old.table_id ≡ table.now.table.shared.table_id)
+        × (table.now.table.shared.table_id.words ≡ 1048576) }
     requires passes { HasPasses tt (from + 32) all.old.me.0 × (from ≤ 32) }
     ensures table { all.new.table_id ≡ all.old.table_id }
     ensures passes { HasPasses tt from all.new.me.0 }
@@ -142,17 +143,23 @@ fn by_four<R: Threads + Wait + Clock + Sync>(
     seed: u64,
 ) -> [Lap; 4]
     requires sync { IsSync R.row }
-    requires first { IsIdle 64 tt table.now.table.shared.table_id a × IsIdle 64 tt table.now.table.shared.table_id b }
-    requires second { IsIdle 64 tt table.now.table.shared.table_id c × IsIdle 64 tt table.now.table.shared.table_id d }
+    requires first { IsIdle 64 tt table.now.table.shared.table_id a
+        × IsIdle 64 tt table.now.table.shared.table_id b }
+    requires second { IsIdle 64 tt table.now.table.shared.table_id c
+        × IsIdle 64 tt table.now.table.shared.table_id d }
     requires table { table.now.table.shared.table_id.words ≡ 1048576 }
 {
     let ((a, b), (c, d)) = join(
         rt,
         move ||
-            requires { IsSync R.row × IsIdle 64 tt table.now.table.shared.table_id a × IsIdle 64 tt table.now.table.shared.table_id b × (table.now.table.shared.table_id.words ≡ 1048576) }
+            requires { IsSync R.row × IsIdle 64 tt table.now.table.shared.table_id a
+                × IsIdle 64 tt table.now.table.shared.table_id b
+                × (table.now.table.shared.table_id.words ≡ 1048576) }
         { by_two(rt, table, a, b, work, seed) },
         move ||
-            requires { IsSync R.row × IsIdle 64 tt table.now.table.shared.table_id c × IsIdle 64 tt table.now.table.shared.table_id d × (table.now.table.shared.table_id.words ≡ 1048576) }
+            requires { IsSync R.row × IsIdle 64 tt table.now.table.shared.table_id c
+                × IsIdle 64 tt table.now.table.shared.table_id d
+                × (table.now.table.shared.table_id.words ≡ 1048576) }
         { by_two(rt, table, c, d, work, seed.wrapping_add(2)) },
     );
     [a, b, c, d]
@@ -167,16 +174,19 @@ fn by_two<R: Threads + Wait + Clock + Sync>(
     seed: u64,
 ) -> (Lap, Lap)
     requires sync { IsSync R.row }
-    requires passes { IsIdle 64 tt table.now.table.shared.table_id a × IsIdle 64 tt table.now.table.shared.table_id b }
+    requires passes { IsIdle 64 tt table.now.table.shared.table_id a
+        × IsIdle 64 tt table.now.table.shared.table_id b }
     requires table { table.now.table.shared.table_id.words ≡ 1048576 }
 {
     join(
         rt,
         move ||
-            requires { IsIdle 64 tt table.now.table.shared.table_id a × (table.now.table.shared.table_id.words ≡ 1048576) }
+            requires { IsIdle 64 tt table.now.table.shared.table_id a
+                × (table.now.table.shared.table_id.words ≡ 1048576) }
         { by_one(rt, table, a, work, seed) },
         move ||
-            requires { IsIdle 64 tt table.now.table.shared.table_id b × (table.now.table.shared.table_id.words ≡ 1048576) }
+            requires { IsIdle 64 tt table.now.table.shared.table_id b
+                × (table.now.table.shared.table_id.words ≡ 1048576) }
         { by_one(rt, table, b, work, seed.wrapping_add(1)) },
     )
 }

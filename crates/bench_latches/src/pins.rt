@@ -47,8 +47,10 @@ pub fn time<R: Clock + Print>(rt: &R, alloc: Global) -> Result<()> {
 
 /// Announces, loads the clock and pins, again and again.
 fn pin_often(pins: &Pins<'_, (), (), Anything>, pass: &mut Pass<()>) -> u64
-    requires table { (pass.old.table_id ≡ pins.now.table.now.table_id) × (pins.now.table.now.table_id.words ≡ 1024) }
-    requires places { (pins.now.places.first ≡ 16) × (pins.now.places.stride ≡ 8) × (pins.now.places.passes ≡ 64) × (pins.now.places.clock ≡ 8) }
+    requires table { (pass.old.table_id ≡ pins.now.table.now.table_id)
+        × (pins.now.table.now.table_id.words ≡ 1024) }
+    requires places { (pins.now.places.first ≡ 16) × (pins.now.places.stride ≡ 8)
+        × (pins.now.places.passes ≡ 64) × (pins.now.places.clock ≡ 8) }
     ensures table { pass.new.table_id ≡ pass.old.table_id }
 {
     let mut sum: u64 = 0;

@@ -41,7 +41,8 @@ pub fn open(
     count: usize,
 ) -> Result<(LatchTable<Spot, ()>, Pass<Spot, ()>), AllocError>
     requires { 0 < count }
-    ensures table { IfOk result (λ t. (t.0.table.shared.table_id.words ≡ count) × (t.1.table_id ≡ t.0.table.shared.table_id)) }
+    ensures table { IfOk result (λ t. (t.0.table.shared.table_id.words ≡ count)
+        × (t.1.table_id ≡ t.0.table.shared.table_id)) }
     ensures passes { IfOk result (λ t. HasPasses tt 64 t.1.me.0) }
 {
     let spots = vec![in alloc; Spot { count: 0, sum: 0 }; count]?;

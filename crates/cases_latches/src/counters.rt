@@ -63,10 +63,12 @@ pub fn even_out(
 )
     requires pass { IsIdle 2 tt counters.now.table.now.table_id pass.old }
     requires cells { (low < high) × (high < counters.now.table.now.table_id.words) }
-    requires room { (held.old.items ≡ []) × (laid.old.items ≡ []) × (2 ≤ vec_capacity held.old) × (2 ≤ vec_capacity laid.old) }
+    requires room { (held.old.items ≡ []) × (laid.old.items ≡ []) × (2 ≤ vec_capacity held.old)
+        × (2 ≤ vec_capacity laid.old) }
     ensures pass { IsIdle 2 tt counters.now.table.now.table_id pass.new }
     ensures number { number_of pass.new.me.0 ≡ number_of pass.old.me.0 }
-    ensures room { (held.new.items ≡ []) × (laid.new.items ≡ []) × (2 ≤ vec_capacity held.new) × (2 ≤ vec_capacity laid.new) }
+    ensures room { (held.new.items ≡ []) × (laid.new.items ≡ []) × (2 ≤ vec_capacity held.new)
+        × (2 ≤ vec_capacity laid.new) }
 {
     let mut a = counters.take(rt, pass, low);
     let mut b = counters.take(rt, pass, high);

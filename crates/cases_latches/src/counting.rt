@@ -70,11 +70,13 @@ pub fn count_by_two<R: Threads + Wait + Sync>(
     let (one, two) = join(
         rt,
         move ||
-            requires { IsIdle 2 tt shared.now.table.shared.table_id one × (number_of one.me.0 ≡ 0) × (shared.now.table.shared.table_id.words ≡ 4) }
+            requires { IsIdle 2 tt shared.now.table.shared.table_id one × (number_of one.me.0 ≡ 0)
+                × (shared.now.table.shared.table_id.words ≡ 4) }
             ensures { IsIdle 2 tt shared.entry.now.table.shared.table_id result × (number_of result.me.0 ≡ 0) }
         { count(rt, shared, one, rounds) },
         move ||
-            requires { IsIdle 2 tt shared.now.table.shared.table_id two × (number_of two.me.0 ≡ 1) × (shared.now.table.shared.table_id.words ≡ 4) }
+            requires { IsIdle 2 tt shared.now.table.shared.table_id two × (number_of two.me.0 ≡ 1)
+                × (shared.now.table.shared.table_id.words ≡ 4) }
             ensures { IsIdle 2 tt shared.entry.now.table.shared.table_id result × (number_of result.me.0 ≡ 1) }
         { count(rt, shared, two, rounds) },
     );
@@ -128,7 +130,8 @@ pub fn want_by_two<R: Threads + Sync>(
     let ((in_between, mut two), ()) = join(
         rt,
         move ||
-            requires { IsIdle 2 tt shared.now.table.shared.table_id two × (shared.now.table.shared.table_id.words ≡ 4) }
+            requires { IsIdle 2 tt shared.now.table.shared.table_id two
+                × (shared.now.table.shared.table_id.words ≡ 4) }
             ensures { IsIdle 2 tt shared.entry.now.table.shared.table_id result.1 }
         { want(shared, two) },
         || (),

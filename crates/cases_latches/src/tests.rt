@@ -1,6 +1,7 @@
 //! What two threads find and leave on one table of counters.
 
 use crate::counting::{count_by_two, want_by_two};
+use crate::retired::reclaim_three_times;
 use std::test::Fail;
 
 #[test]
@@ -15,5 +16,11 @@ fn two_threads_lose_no_count(rt: HostRuntime) -> Result<(), Fail> {
 #[test]
 fn a_counter_that_another_pass_holds_is_busy_with_its_odd_word(rt: HostRuntime) -> Result<(), Fail> {
     assert_eq!(rt; want_by_two(&rt, rt.alloc())?, Some((Some(1), None, 2)));
+    Ok(())
+}
+
+#[test]
+fn what_a_pass_may_read_is_held_back_until_it_unpins(rt: HostRuntime) -> Result<(), Fail> {
+    assert_eq!(rt; reclaim_three_times(rt.alloc())?, [3, 2, 0]);
     Ok(())
 }

@@ -13,10 +13,8 @@
 //!    kind of step says of it.
 
 ghost use Rattle.std.specs.Prelude.{◌≡◌, ℕ, ◌<◌, ◌+◌, ◌^◌};
-ghost use mathlib.Core.Option.{none};
-ghost use Rattle.atomic_table.specs.Table.{step};
 ghost use Rattle.epoch_reclaim.specs.Pinned.{announced_word, pinned_word, unpinned, begun, looked_at, horizon_of};
-ghost use Rattle.epoch_reclaim.specs.Steps.{pin_place, MayStore, MayLoad, Stepped};
+ghost use Rattle.epoch_reclaim.specs.Steps.{pin_place, MayStore, MayLoad, HasStored, HasLoaded};
 
 use crate::places::PinPlaces;
 use crate::sweep::Sweep;
@@ -36,9 +34,10 @@ impl<'a, V, K, P: TableRule<(), V, K>> Pins<'a, V, K, P> {
     /// Holds everything back, before the pass loads the clock.
     pub fn announce<M: Play<(), V>>(&self, pass: &mut Pass<V>, number: u32)
         requires number { number < self.now.places.passes }
-        requires keeps { MayStore (P.holds self.now.table.now.key) self.now.table.now.table_id pass.old (pin_place self.now.places number) announced_word M.then }
-        ensures seat { Stepped self.now.table.now.table_id pass.old pass.new }
-        ensures announced { M.then (step self.now.table.now.table_id.slots (pin_place self.now.places number) announced_word 0 none) pass.old.me announced_word pass.new.me }
+        requires keeps { MayStore (P.holds self.now.table.now.key) self.now.table.now.table_id pass.old
+            (pin_place self.now.places number) announced_word M.then }
+        ensures announced { HasStored self.now.table.now.table_id pass.old pass.new
+            (pin_place self.now.places number) announced_word M.then }
     {
         self.table.store::<M>(pass, self.places.pin(number), 1);
     }
@@ -47,9 +46,10 @@ impl<'a, V, K, P: TableRule<(), V, K>> Pins<'a, V, K, P> {
     pub fn pin<M: Play<(), V>>(&self, pass: &mut Pass<V>, number: u32, start: u64)
         requires number { number < self.now.places.passes }
         requires start { start < 2 ^ 63 }
-        requires keeps { MayStore (P.holds self.now.table.now.key) self.now.table.now.table_id pass.old (pin_place self.now.places number) (pinned_word start) M.then }
-        ensures seat { Stepped self.now.table.now.table_id pass.old pass.new }
-        ensures pinned { M.then (step self.now.table.now.table_id.slots (pin_place self.now.places number) (pinned_word start) 0 none) pass.old.me (pinned_word start) pass.new.me }
+        requires keeps { MayStore (P.holds self.now.table.now.key) self.now.table.now.table_id pass.old
+            (pin_place self.now.places number) (pinned_word start) M.then }
+        ensures pinned { HasStored self.now.table.now.table_id pass.old pass.new
+            (pin_place self.now.places number) (pinned_word start) M.then }
     {
         self.table
             .store::<M>(pass, self.places.pin(number), start + 2);
@@ -58,19 +58,21 @@ impl<'a, V, K, P: TableRule<(), V, K>> Pins<'a, V, K, P> {
     /// Holds nothing back any more.
     pub fn unpin<M: Play<(), V>>(&self, pass: &mut Pass<V>, number: u32)
         requires number { number < self.now.places.passes }
-        requires keeps { MayStore (P.holds self.now.table.now.key) self.now.table.now.table_id pass.old (pin_place self.now.places number) unpinned M.then }
-        ensures seat { Stepped self.now.table.now.table_id pass.old pass.new }
-        ensures unpinned { M.then (step self.now.table.now.table_id.slots (pin_place self.now.places number) unpinned 0 none) pass.old.me unpinned pass.new.me }
+        requires keeps { MayStore (P.holds self.now.table.now.key) self.now.table.now.table_id pass.old
+            (pin_place self.now.places number) unpinned M.then }
+        ensures unpinned { HasStored self.now.table.now.table_id pass.old pass.new
+            (pin_place self.now.places number) unpinned M.then }
     {
         self.table.store::<M>(pass, self.places.pin(number), 0);
     }
 
     /// A sweep that has loaded the clock, and no pin yet.
     pub fn sweep_begin<M: Play<(), V>>(&self, pass: &mut Pass<V>) -> Sweep
-        requires keeps { MayLoad (P.holds self.now.table.now.key) self.now.table.now.table_id pass.old self.now.places.clock M.then }
-        ensures seat { Stepped self.now.table.now.table_id pass.old pass.new }
+        requires keeps { MayLoad (P.holds self.now.table.now.key) self.now.table.now.table_id pass.old
+            self.now.places.clock M.then }
         ensures begun { result ≡ begun result.clock }
-        ensures loaded { M.then (step self.now.table.now.table_id.slots self.now.places.clock 0 0 none) pass.old.me result.clock pass.new.me }
+        ensures loaded { HasLoaded self.now.table.now.table_id pass.old pass.new self.now.places.clock
+            result.clock M.then }
     {
         let clock = self.table.load::<M>(pass, self.places.clock as usize);
         Sweep {
@@ -83,9 +85,11 @@ impl<'a, V, K, P: TableRule<(), V, K>> Pins<'a, V, K, P> {
     /// Looks at the pin of the next pass.
     pub fn sweep_look<M: Play<(), V>>(&self, pass: &mut Pass<V>, sweep: &mut Sweep)
         requires left { sweep.old.looked < self.now.places.passes }
-        requires keeps { MayLoad (P.holds self.now.table.now.key) self.now.table.now.table_id pass.old (pin_place self.now.places sweep.old.looked) M.then }
-        ensures seat { Stepped self.now.table.now.table_id pass.old pass.new }
-        ensures looked { (word : ℕ) × (sweep.new ≡ looked_at sweep.old word) × M.then (step self.now.table.now.table_id.slots (pin_place self.now.places sweep.old.looked) 0 0 none) pass.old.me word pass.new.me }
+        requires keeps { MayLoad (P.holds self.now.table.now.key) self.now.table.now.table_id pass.old
+            (pin_place self.now.places sweep.old.looked) M.then }
+        ensures looked { (word : ℕ) × (sweep.new ≡ looked_at sweep.old word)
+            × HasLoaded self.now.table.now.table_id pass.old pass.new (pin_place self.now.places sweep.old.looked)
+            word M.then }
     {
         let word = self.table.load::<M>(pass, self.places.pin(sweep.looked));
         sweep.add(word);

@@ -28,7 +28,8 @@ pub gone : (c : ℕ) (cells : List ℕ) → is_held c (without_cell c cells) ≡
 gone c [] = refl
 gone c (x ∷ xs) = by_test (c == x) refl (gone c xs)
   where
-    by_test : (b : Bool) → (c == x) ≡ b → is_held c (without_cell c xs) ≡ false → is_held c (cond (not b) (x ∷ without_cell c xs) (without_cell c xs)) ≡ false
+    by_test : (b : Bool) → (c == x) ≡ b → is_held c (without_cell c xs) ≡ false
+        → is_held c (cond (not b) (x ∷ without_cell c xs) (without_cell c xs)) ≡ false
     by_test true e ih = ih
     by_test false e ih = ap (λ t. t || is_held c (without_cell c xs)) e ∙ ih
 
@@ -62,7 +63,8 @@ once-snoc [] c once new = refl
 once-snoc (x ∷ cs) c once new =
     let first = once_first x cs once in
     let apart = parts (c == x) (is_held c cs) new in
-    once_more x (cs ++ c ∷ []) (held-snoc x c cs ∙ two (x == c) (is_held x cs) (flip apart.0) first.0) (once-snoc cs c first.1 apart.1)
+    once_more x (cs ++ c ∷ []) (held-snoc x c cs ∙ two (x == c) (is_held x cs) (flip apart.0) first.0)
+    (once-snoc cs c first.1 apart.1)
   where
     parts : (a b : Bool) → (a || b) ≡ false → (a ≡ false) × (b ≡ false)
     parts true b e = cc
@@ -80,26 +82,37 @@ pub none_held : (cells : List ℕ) → ((c : ℕ) → is_held c cells ≡ false)
 none_held [] h = refl
 none_held (c ∷ cs) h =
     let e : ((c == c) || is_held c cs) ≡ false = h c in
-    let f : ((c == c) || is_held c cs) ≡ true = ap (λ t. t || is_held c cs) (same_number c) in absurd (apart (sym e ∙ f))
+    let f : ((c == c) || is_held c cs) ≡ true = ap (λ t. t || is_held c cs) (same_number c) in
+    absurd (apart (sym e ∙ f))
   where
     apart : false ≡ true → ⊥
     apart e = cc
 
 -- ---- the seat of a pass
 
-module _ {S K : Type 0} (passes : ℕ) (k : K) (v : LatchSight K) (slots : List (ℕ × S)) (is : IsPassSeat passes k (v, slots)) where
+module _ {S K : Type 0} (passes : ℕ) (k : K) (v : LatchSight K) (slots : List (ℕ × S))
+    (is : IsPassSeat passes k (v, slots)) where
   -- it has looked at a word
   pub seat_looked : (c n : ℕ) → IsPassSeat passes k (looked v c n, slots)
-  seat_looked c n = record { key = is.key; small = is.small; some = is.some; only = is.only; same = is.same; once = is.once }
+  seat_looked c n = record {
+    key = is.key;
+    small = is.small;
+    some = is.some;
+    only = is.only;
+    same = is.same;
+    once = is.once;
+  }
 
   first_some : (p : ℕ) (cells : List ℕ) (rest : List (ℕ × List ℕ)) → kept_at ((p, cells) ∷ rest) p ≡ Some cells
   first_some p cells rest = ap (λ b. cond b (Some cells) (kept_at rest p)) (same_number p)
 
   other_none : (cells : List ℕ) (p : ℕ) → p ≢ number_of v → kept_at ((number_of v, cells) ∷ v.passes) p ≡ None
-  other_none cells p other = ap (λ b. cond b (Some cells) (kept_at v.passes p)) (other_number p (number_of v) other) ∙ is.only p other
+  other_none cells p other = ap (λ b. cond b (Some cells) (kept_at v.passes p))
+      (other_number p (number_of v) other) ∙ is.only p other
 
   -- it has taken a cell
-  pub seat_took : (c n : ℕ) (x : S) → is_held c (cells_of v) ≡ false → IsPassSeat passes k (took v c n, (c, x) ∷ slots)
+  pub seat_took : (c n : ℕ) (x : S) → is_held c (cells_of v) ≡ false
+      → IsPassSeat passes k (took v c n, (c, x) ∷ slots)
   seat_took c n x new = record {
     key = is.key;
     small = is.small;
@@ -110,15 +123,18 @@ module _ {S K : Type 0} (passes : ℕ) (k : K) (v : LatchSight K) (slots : List 
   }
 
   -- it has given a cell back
-  pub seat_gave : (c n : ℕ) (x : S) (others : List (ℕ × S)) → slots ≡ (c, x) ∷ others → IsPassSeat passes k (gave v c n, others)
+  pub seat_gave : (c n : ℕ) (x : S) (others : List (ℕ × S)) → slots ≡ (c, x) ∷ others
+      → IsPassSeat passes k (gave v c n, others)
   seat_gave c n x others lies = record {
     key = is.key;
     small = is.small;
     some = first_some (number_of v) (without_cell c (cells_of v)) v.passes;
     only = other_none (without_cell c (cells_of v));
     same = λ d. dite (ℕ_discrete d c)
-        (λ same. ap (λ e. is_held e (without_cell c (cells_of v))) same ∙ gone c (cells_of v) ∙ sym (ap (λ e. is_held e (out_of others)) same ∙ mine.0))
-        (λ other. held_without d c (cells_of v) other ∙ is.same d ∙ ap (λ l. is_held d (out_of l)) lies ∙ ap (λ t. t || is_held d (out_of others)) (other_number d c other));
+        (λ same. ap (λ e. is_held e (without_cell c (cells_of v))) same ∙ gone c (cells_of v)
+        ∙ sym (ap (λ e. is_held e (out_of others)) same ∙ mine.0))
+        (λ other. held_without d c (cells_of v) other ∙ is.same d ∙ ap (λ l. is_held d (out_of l)) lies
+        ∙ ap (λ t. t || is_held d (out_of others)) (other_number d c other));
     once = mine.1;
   }
     where
@@ -126,13 +142,15 @@ module _ {S K : Type 0} (passes : ℕ) (k : K) (v : LatchSight K) (slots : List 
       mine = once_first c (out_of others) (subst (λ l. is_once (out_of l) ≡ true) lies is.once)
 
   -- it has put a value back, and the slot goes behind the others
-  pub seat_put : (c : ℕ) (x y : S) (others : List (ℕ × S)) → slots ≡ (c, x) ∷ others → IsPassSeat passes k (v, others ++ (c, y) ∷ [])
+  pub seat_put : (c : ℕ) (x y : S) (others : List (ℕ × S)) → slots ≡ (c, x) ∷ others
+      → IsPassSeat passes k (v, others ++ (c, y) ∷ [])
   seat_put c x y others lies = record {
     key = is.key;
     small = is.small;
     some = is.some;
     only = is.only;
-    same = λ d. is.same d ∙ ap (λ l. is_held d (out_of l)) lies ∙ sym (ap (is_held d) (out-snoc others (c, y)) ∙ held-snoc d c (out_of others));
+    same = λ d. is.same d ∙ ap (λ l. is_held d (out_of l)) lies
+        ∙ sym (ap (is_held d) (out-snoc others (c, y)) ∙ held-snoc d c (out_of others));
     once = ap is_once (out-snoc others (c, y)) ∙ once-snoc (out_of others) c mine.1 mine.0;
   }
     where
@@ -141,4 +159,5 @@ module _ {S K : Type 0} (passes : ℕ) (k : K) (v : LatchSight K) (slots : List 
 
   -- a pass that has no slot holds no cell
   pub seat_idle : slots ≡ [] → kept_at v.passes (number_of v) ≡ Some []
-  seat_idle none = is.some ∙ ap (λ l. Some l) (none_held (cells_of v) (λ c. is.same c ∙ ap (λ l. is_held c (out_of l)) none))
+  seat_idle none = is.some ∙ ap (λ l. Some l) (none_held (cells_of v) (λ c. is.same c
+      ∙ ap (λ l. is_held c (out_of l)) none))

@@ -78,32 +78,40 @@ module _ {K : Type 0} where
 
   -- the cell was given back with this word
   abbrev pub gave : LatchSight K → ℕ → ℕ → LatchSight K
-  gave v c n = record v { passes = (number_of v, without_cell c (cells_of v)) ∷ v.passes; stored = cell_word c n ∷ v.stored }
+  gave v c n = record v {
+    passes = (number_of v, without_cell c (cells_of v)) ∷ v.passes;
+    stored = cell_word c n ∷ v.stored;
+  }
 
 -- ---- the rule
 
 module _ {S K : Type 0} where
-  pub record IsLatched (fits : K → ℕ → S → Type 0) (passes : ℕ) (k : K) (s : State S (LatchSight K)) : Type 0 where
+  pub record IsLatched (fits : K → ℕ → S → Type 0) (passes : ℕ) (k : K)
+      (s : State S (LatchSight K)) : Type 0 where
     -- each word has a slot
     pub wide : length s.words ≡ length s.homes
     -- whoever knows a key knows the table's
     pub known : (j : ℕ) (v : LatchSight K) (x : K) → get_elem? s.views j ≡ some v → v.key ≡ Some x → x ≡ k
     -- the slot of a free cell is at home, with a value that fits
-    pub home : (c : ℕ) → c < length s.homes → IsEven (slice_index s.words c) → (v : S) × (get_elem? s.homes c ≡ some (some v)) × fits k c v
+    pub home : (c : ℕ) → c < length s.homes → IsEven (slice_index s.words c)
+        → (v : S) × (get_elem? s.homes c ≡ some (some v)) × fits k c v
     -- the cells that each pass holds, known to its seat
     pub holds : ℕ → List ℕ
     pub keeper : ℕ → ℕ
     pub kept : Keeps (λ (v : LatchSight K). v.passes) s.views holds keeper
     -- a word is odd exactly where a pass holds the cell
-    pub held : (c : ℕ) → c < length s.homes → IsOdd (slice_index s.words c) → (p : ℕ) × (p < passes) × (is_held c (holds p) ≡ true)
+    pub held : (c : ℕ) → c < length s.homes → IsOdd (slice_index s.words c)
+        → (p : ℕ) × (p < passes) × (is_held c (holds p) ≡ true)
     pub odd : (c p : ℕ) → is_held c (holds p) ≡ true → IsOdd (slice_index s.words c)
     -- no two passes hold one cell
     pub alone : (c p q : ℕ) → is_held c (holds p) ≡ true → is_held c (holds q) ≡ true → p ≡ q
 
   -- a compare-exchange took the cell's slot with a value that fits, where it found the word that was expected
-  pub record Took (fits : K → ℕ → S → Type 0) (st : Step S) (before : Me S (LatchSight K)) (n : ℕ) (after : Me S (LatchSight K)) : Type 0 where
+  pub record Took (fits : K → ℕ → S → Type 0) (st : Step S) (before : Me S (LatchSight K)) (n : ℕ)
+      (after : Me S (LatchSight K)) : Type 0 where
     pub hit : n ≡ st.first → (value : S) × (after ≡ (took before.0 st.word n, (st.word, value) ∷ before.1))
-        × ((k : K) → before.0.key ≡ Some k → fits k st.word value) × (is_held st.word (cells_of before.0) ≡ false)
+        × ((k : K) → before.0.key ≡ Some k → fits k st.word value)
+        × (is_held st.word (cells_of before.0) ≡ false)
     pub miss : n ≢ st.first → after ≡ (looked before.0 st.word n, before.1)
 
   -- ---- a seat of one pass
@@ -129,7 +137,8 @@ module _ {S K : Type 0} where
 
 -- ---- why a cell wasn't taken
 
--- the load of this call found an odd word or the last one, or its compare-exchange found another word than the load
+-- the load of this call found an odd word or the last one, or its compare-exchange found another word than the
+-- load
 abbrev pub IsBusy : ℕ → ℕ → List CellWord → List CellWord → Type 0
 IsBusy cell found old new =
     ((new ≡ cell_word cell found ∷ old) × (IsOdd found ⊎ (found ≡ last_word)))

@@ -20,8 +20,10 @@ AreApart a b = (a + 8 ≤ b) ⊎ (b + 8 ≤ a)
 pub record AreLaidOut (common wanted : ℕ) : Type 0 where
   pub first : (c : ℕ) → c < common → AreApart 0 (place_of_common c)
   pub zero : (w : ℕ) → w < wanted → AreApart 0 (place_of_wanted common w)
-  pub common_apart : (c w : ℕ) → c < common → w < wanted → AreApart (place_of_common c) (place_of_wanted common w)
-  pub wanted_apart : (v w : ℕ) → v < wanted → w < wanted → v ≢ w → AreApart (place_of_wanted common v) (place_of_wanted common w)
+  pub common_apart : (c w : ℕ) → c < common → w < wanted
+      → AreApart (place_of_common c) (place_of_wanted common w)
+  pub wanted_apart : (v w : ℕ) → v < wanted → w < wanted → v ≢ w
+      → AreApart (place_of_wanted common v) (place_of_wanted common w)
   pub each_once : (c d : ℕ) → c < common → d < common → place_of_common c ≡ place_of_common d → c ≡ d
   pub common_inside : (c : ℕ) → c < common → place_of_common c < words_of_places common wanted
   pub wanted_inside : (w : ℕ) → w < wanted → place_of_wanted common w < words_of_places common wanted

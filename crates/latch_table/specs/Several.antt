@@ -41,6 +41,7 @@ module _ {S : Type 0} where
   -- these were laid in these slots, in this order
   abbrev pub AreLaid : (ℕ → S → Type 0) → ℕ → List Laid → List (ℕ × S) → Type 0
   AreLaid fits words [] [] = Unit {0}
-  AreLaid fits words (l ∷ ls) (x ∷ xs) = ((value : S) × (x ≡ (l.cell, value)) × fits l.cell value × l.cell < words) × AreLaid fits words ls xs
+  AreLaid fits words (l ∷ ls) (x ∷ xs) = ((value : S) × (x ≡ (l.cell, value)) × fits l.cell value
+      × l.cell < words) × AreLaid fits words ls xs
   AreLaid fits words [] (x ∷ xs) = ⊥
   AreLaid fits words (l ∷ ls) [] = ⊥

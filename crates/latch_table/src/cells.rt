@@ -61,15 +61,20 @@ pub struct Busy {
 impl<'a, K, V: Slot<K>> Cells<'a, V, K> {
     /// Takes a cell, if this call's look finds it free. It waits for nobody and takes no memory.
     pub fn try_take(&self, pass: &mut Pass<V, K>, cell: u32) -> Result<Held<V>, Busy>
-        requires pass { IsPassOf (V.passes self.now.table.now.key) self.now.table.now.key self.now.table.now.table_id pass.old }
+        requires pass { IsPassOf (V.passes self.now.table.now.key) self.now.table.now.key
+            self.now.table.now.table_id pass.old }
         requires cell { cell < self.now.table.now.table_id.words }
-        ensures pass { IsPassOf (V.passes self.now.table.now.key) self.now.table.now.key self.now.table.now.table_id pass.new }
+        ensures pass { IsPassOf (V.passes self.now.table.now.key) self.now.table.now.key
+            self.now.table.now.table_id pass.new }
         ensures number { number_of pass.new.me.0 ≡ number_of pass.old.me.0 }
-        ensures held { IfOk result (λ h. (h.cell ≡ cell) × (h.changed ≡ false) × V.fits self.now.table.now.key cell h.value) }
+        ensures held { IfOk result (λ h. (h.cell ≡ cell) × (h.changed ≡ false)
+            × V.fits self.now.table.now.key cell h.value) }
         ensures slots { IfOk result (λ h. pass.new.me.1 ≡ (cell, V.vacant) ∷ pass.old.me.1) }
-        ensures found { IfOk result (λ h. pass.new.me.0.looks ≡ cell_word cell h.found ∷ cell_word cell h.found ∷ pass.old.me.0.looks) }
+        ensures found { IfOk result (λ h. pass.new.me.0.looks
+            ≡ cell_word cell h.found ∷ cell_word cell h.found ∷ pass.old.me.0.looks) }
         ensures stored { pass.new.me.0.stored ≡ pass.old.me.0.stored }
-        ensures busy { IfErr result (λ b. (pass.new.me.1 ≡ pass.old.me.1) × IsBusy cell b.found pass.old.me.0.looks pass.new.me.0.looks) }
+        ensures busy { IfErr result (λ b. (pass.new.me.1 ≡ pass.old.me.1)
+            × IsBusy cell b.found pass.old.me.0.looks pass.new.me.0.looks) }
     {
         let place = cell as usize;
         // Loads the word first, since a compare-exchange that must fail would take the line of the cache from the
@@ -96,13 +101,17 @@ impl<'a, K, V: Slot<K>> Cells<'a, V, K> {
     /// Takes a cell as soon as this call's look finds it free: pauses between looks, twice as long each time, and
     /// after some of them leaves the processor to others. A pass that takes a cell that it holds waits for ever.
     pub fn take(&self, rt: &impl Wait, pass: &mut Pass<V, K>, cell: u32) -> Held<V>
-        requires pass { IsPassOf (V.passes self.now.table.now.key) self.now.table.now.key self.now.table.now.table_id pass.old }
+        requires pass { IsPassOf (V.passes self.now.table.now.key) self.now.table.now.key
+            self.now.table.now.table_id pass.old }
         requires cell { cell < self.now.table.now.table_id.words }
-        ensures pass { IsPassOf (V.passes self.now.table.now.key) self.now.table.now.key self.now.table.now.table_id pass.new }
+        ensures pass { IsPassOf (V.passes self.now.table.now.key) self.now.table.now.key
+            self.now.table.now.table_id pass.new }
         ensures number { number_of pass.new.me.0 ≡ number_of pass.old.me.0 }
-        ensures held { (result.cell ≡ cell) × (result.changed ≡ false) × V.fits self.now.table.now.key cell result.value }
+        ensures held { (result.cell ≡ cell) × (result.changed ≡ false)
+            × V.fits self.now.table.now.key cell result.value }
         ensures slots { pass.new.me.1 ≡ (cell, V.vacant) ∷ pass.old.me.1 }
-        ensures found { (before : List CellWord) × (pass.new.me.0.looks ≡ cell_word cell result.found ∷ cell_word cell result.found ∷ before) }
+        ensures found { (before : List CellWord)
+            × (pass.new.me.0.looks ≡ cell_word cell result.found ∷ cell_word cell result.found ∷ before) }
         ensures stored { pass.new.me.0.stored ≡ pass.old.me.0.stored }
     {
         let mut backoff = Backoff::new();
@@ -117,10 +126,13 @@ impl<'a, K, V: Slot<K>> Cells<'a, V, K> {
 
     /// Lays the value back in its slot. The cell stays held until it is released. Cells that are out longer come next.
     pub fn put_back(&self, pass: &mut Pass<V, K>, held: Held<V>) -> Laid
-        requires pass { IsPassOf (V.passes self.now.table.now.key) self.now.table.now.key self.now.table.now.table_id pass.old }
+        requires pass { IsPassOf (V.passes self.now.table.now.key) self.now.table.now.key
+            self.now.table.now.table_id pass.old }
         requires holds { pass.old.me.1 ≡ (held.cell, V.vacant) ∷ rest pass.old.me.1 }
-        ensures pass { IsPassOf (V.passes self.now.table.now.key) self.now.table.now.key self.now.table.now.table_id pass.new }
-        ensures laid { (result.cell ≡ held.cell) × (result.found ≡ held.found) × (result.changed ≡ held.changed) }
+        ensures pass { IsPassOf (V.passes self.now.table.now.key) self.now.table.now.key
+            self.now.table.now.table_id pass.new }
+        ensures laid { (result.cell ≡ held.cell) × (result.found ≡ held.found)
+            × (result.changed ≡ held.changed) }
         ensures view { pass.new.me.0 ≡ pass.old.me.0 }
         ensures slots { pass.new.me.1 ≡ rest pass.old.me.1 ++ (held.cell, held.value) ∷ [] }
     {
@@ -142,11 +154,17 @@ impl<'a, K, V: Slot<K>> Cells<'a, V, K> {
 
     /// Makes the version word even again. Whoever takes the cell next finds the value that was put back.
     pub fn release(&self, pass: &mut Pass<V, K>, laid: Laid)
-        requires pass { IsPassOf (V.passes self.now.table.now.key) self.now.table.now.key self.now.table.now.table_id pass.old }
+        requires pass { IsPassOf (V.passes self.now.table.now.key) self.now.table.now.key
+            self.now.table.now.table_id pass.old }
         requires cell { laid.cell < self.now.table.now.table_id.words }
-        requires lies { (value : V) × (pass.old.me.1 ≡ (laid.cell, value) ∷ rest pass.old.me.1) × V.fits self.now.table.now.key laid.cell value }
-        ensures pass { IsPassOf (V.passes self.now.table.now.key) self.now.table.now.key self.now.table.now.table_id pass.new }
-        ensures released { pass.new.me ≡ (gave pass.old.me.0 laid.cell (word_after laid.found laid.changed), rest pass.old.me.1) }
+        requires lies { (value : V) × (pass.old.me.1 ≡ (laid.cell, value) ∷ rest pass.old.me.1)
+            × V.fits self.now.table.now.key laid.cell value }
+        ensures pass { IsPassOf (V.passes self.now.table.now.key) self.now.table.now.key
+            self.now.table.now.table_id pass.new }
+        ensures released { pass.new.me ≡ (
+          gave pass.old.me.0 laid.cell (word_after laid.found laid.changed),
+          rest pass.old.me.1,
+        ) }
     {
         let word = if laid.changed {
             laid.found + 2
@@ -163,12 +181,17 @@ impl<'a, K, V: Slot<K>> Cells<'a, V, K> {
 
     /// Puts the value of a cell back and releases the cell. The pass holds no other one.
     pub fn give(&self, pass: &mut Pass<V, K>, held: Held<V>)
-        requires pass { IsPassOf (V.passes self.now.table.now.key) self.now.table.now.key self.now.table.now.table_id pass.old }
+        requires pass { IsPassOf (V.passes self.now.table.now.key) self.now.table.now.key
+            self.now.table.now.table_id pass.old }
         requires cell { held.cell < self.now.table.now.table_id.words }
         requires holds { pass.old.me.1 ≡ (held.cell, V.vacant) ∷ [] }
         requires fits { V.fits self.now.table.now.key held.cell held.value }
-        ensures pass { IsPassOf (V.passes self.now.table.now.key) self.now.table.now.key self.now.table.now.table_id pass.new }
-        ensures released { pass.new.me ≡ (gave pass.old.me.0 held.cell (word_after held.found held.changed), []) }
+        ensures pass { IsPassOf (V.passes self.now.table.now.key) self.now.table.now.key
+            self.now.table.now.table_id pass.new }
+        ensures released { pass.new.me ≡ (
+          gave pass.old.me.0 held.cell (word_after held.found held.changed),
+          [],
+        ) }
     {
         let laid = self.put_back(pass, held);
         self.release(pass, laid);
@@ -176,9 +199,11 @@ impl<'a, K, V: Slot<K>> Cells<'a, V, K> {
 
     /// The version word of a cell. It may be another one by the time that the caller reads it.
     pub fn version(&self, pass: &mut Pass<V, K>, cell: u32) -> u64
-        requires pass { IsPassOf (V.passes self.now.table.now.key) self.now.table.now.key self.now.table.now.table_id pass.old }
+        requires pass { IsPassOf (V.passes self.now.table.now.key) self.now.table.now.key
+            self.now.table.now.table_id pass.old }
         requires cell { cell < self.now.table.now.table_id.words }
-        ensures pass { IsPassOf (V.passes self.now.table.now.key) self.now.table.now.key self.now.table.now.table_id pass.new }
+        ensures pass { IsPassOf (V.passes self.now.table.now.key) self.now.table.now.key
+            self.now.table.now.table_id pass.new }
         ensures found { pass.new.me ≡ (looked pass.old.me.0 cell result, pass.old.me.1) }
     {
         self.table.load::<Looks>(pass, cell as usize)

@@ -18,14 +18,18 @@ impl<'a, K, V: Slot<K>> Cells<'a, V, K> {
     /// Gives all cells of a pass back, as they were taken: puts each value back, and then releases each cell. The
     /// second list is work space with room for all.
     pub fn give_all(&self, pass: &mut Pass<V, K>, held: &mut Vec<Held<V>>, laid: &mut Vec<Laid>)
-        requires pass { IsPassOf (V.passes self.now.table.now.key) self.now.table.now.key self.now.table.now.table_id pass.old }
+        requires pass { IsPassOf (V.passes self.now.table.now.key) self.now.table.now.key
+            self.now.table.now.table_id pass.old }
         requires holds { pass.old.me.1 ≡ taken_of V.vacant held.old.items }
-        requires fits { AreHeldFit (V.fits self.now.table.now.key) self.now.table.now.table_id.words held.old.items }
+        requires fits { AreHeldFit (V.fits self.now.table.now.key) self.now.table.now.table_id.words
+            held.old.items }
         requires room { (laid.old.items ≡ []) × (length held.old.items ≤ vec_capacity laid.old) }
-        ensures pass { IsPassOf (V.passes self.now.table.now.key) self.now.table.now.key self.now.table.now.table_id pass.new }
+        ensures pass { IsPassOf (V.passes self.now.table.now.key) self.now.table.now.key
+            self.now.table.now.table_id pass.new }
         ensures number { number_of pass.new.me.0 ≡ number_of pass.old.me.0 }
         ensures none { (pass.new.me.1 ≡ []) × (held.new.items ≡ []) × (laid.new.items ≡ []) }
-        ensures capacity { (vec_capacity held.old ≤ vec_capacity held.new) × (vec_capacity laid.old ≤ vec_capacity laid.new) }
+        ensures capacity { (vec_capacity held.old ≤ vec_capacity held.new)
+            × (vec_capacity laid.old ≤ vec_capacity laid.new) }
         ensures stored { pass.new.me.0.stored ≡ map held_word held.old.items ++ pass.old.me.0.stored }
     {
         self.put_back_all(pass, held, laid);
@@ -34,17 +38,22 @@ impl<'a, K, V: Slot<K>> Cells<'a, V, K> {
 
     /// Puts all values back, the cell that was taken last first. The pass holds no other cell.
     pub fn put_back_all(&self, pass: &mut Pass<V, K>, held: &mut Vec<Held<V>>, laid: &mut Vec<Laid>)
-        requires pass { IsPassOf (V.passes self.now.table.now.key) self.now.table.now.key self.now.table.now.table_id pass.old }
+        requires pass { IsPassOf (V.passes self.now.table.now.key) self.now.table.now.key
+            self.now.table.now.table_id pass.old }
         requires holds { pass.old.me.1 ≡ taken_of V.vacant held.old.items }
-        requires fits { AreHeldFit (V.fits self.now.table.now.key) self.now.table.now.table_id.words held.old.items }
+        requires fits { AreHeldFit (V.fits self.now.table.now.key) self.now.table.now.table_id.words
+            held.old.items }
         requires room { (laid.old.items ≡ []) × (length held.old.items ≤ vec_capacity laid.old) }
-        ensures pass { IsPassOf (V.passes self.now.table.now.key) self.now.table.now.key self.now.table.now.table_id pass.new }
+        ensures pass { IsPassOf (V.passes self.now.table.now.key) self.now.table.now.key
+            self.now.table.now.table_id pass.new }
         ensures view { pass.new.me.0 ≡ pass.old.me.0 }
         ensures slots { pass.new.me.1 ≡ laid_of held.old.items }
-        ensures laid { AreLaid (V.fits self.now.table.now.key) self.now.table.now.table_id.words laid.new.items pass.new.me.1 }
+        ensures laid { AreLaid (V.fits self.now.table.now.key) self.now.table.now.table_id.words
+            laid.new.items pass.new.me.1 }
         ensures words { map laid_word laid.new.items ≡ words_of held.old.items }
         ensures none { held.new.items ≡ [] }
-        ensures capacity { (vec_capacity held.old ≤ vec_capacity held.new) × (vec_capacity laid.old ≤ vec_capacity laid.new) }
+        ensures capacity { (vec_capacity held.old ≤ vec_capacity held.new)
+            × (vec_capacity laid.old ≤ vec_capacity laid.new) }
     {
         'back: while let Some(one) = held.pop() {
             let done = self.put_back(pass, one);
@@ -57,12 +66,17 @@ impl<'a, K, V: Slot<K>> Cells<'a, V, K> {
 
     /// Releases all cells that were put back, in the order of their slots.
     pub fn release_all(&self, pass: &mut Pass<V, K>, laid: &mut Vec<Laid>)
-        requires pass { IsPassOf (V.passes self.now.table.now.key) self.now.table.now.key self.now.table.now.table_id pass.old }
-        requires laid { AreLaid (V.fits self.now.table.now.key) self.now.table.now.table_id.words laid.old.items pass.old.me.1 }
-        ensures pass { IsPassOf (V.passes self.now.table.now.key) self.now.table.now.key self.now.table.now.table_id pass.new }
+        requires pass { IsPassOf (V.passes self.now.table.now.key) self.now.table.now.key
+            self.now.table.now.table_id pass.old }
+        requires laid { AreLaid (V.fits self.now.table.now.key) self.now.table.now.table_id.words
+            laid.old.items pass.old.me.1 }
+        ensures pass { IsPassOf (V.passes self.now.table.now.key) self.now.table.now.key
+            self.now.table.now.table_id pass.new }
         ensures number { number_of pass.new.me.0 ≡ number_of pass.old.me.0 }
-        ensures stored { pass.new.me.0.stored ≡ stored_after (map laid_word laid.old.items) pass.old.me.0.stored }
-        ensures none { (pass.new.me.1 ≡ []) × (laid.new.items ≡ []) × (vec_capacity laid.old ≤ vec_capacity laid.new) }
+        ensures stored { pass.new.me.0.stored ≡ stored_after
+            (map laid_word laid.old.items) pass.old.me.0.stored }
+        ensures none { (pass.new.me.1 ≡ []) × (laid.new.items ≡ [])
+            × (vec_capacity laid.old ≤ vec_capacity laid.new) }
     {
         'cells: while !laid.is_empty() {
             let one = laid.remove(0);

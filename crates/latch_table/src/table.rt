@@ -49,8 +49,10 @@ impl<K, V: Slot<K>> LatchTable<V, K> {
         about: &K,
     ) -> Result<(LatchTable<V, K>, Pass<V, K>), Refused<V, Global>>
         requires fits { AreFit (V.fits about.now) values.items }
-        ensures table { IfOk result (λ t. (t.0.table.shared.table_id.words ≡ length values.items) × (t.0.table.shared.key ≡ about.now)) }
-        ensures pass { IfOk result (λ t. (t.1.table_id ≡ t.0.table.shared.table_id) × HasPasses about.now (V.passes about.now) t.1.me.0 × (t.1.me.1 ≡ [])) }
+        ensures table { IfOk result (λ t. (t.0.table.shared.table_id.words ≡ length values.items)
+            × (t.0.table.shared.key ≡ about.now)) }
+        ensures pass { IfOk result (λ t. (t.1.table_id ≡ t.0.table.shared.table_id)
+            × HasPasses about.now (V.passes about.now) t.1.me.0 × (t.1.me.1 ≡ [])) }
         ensures err { IfErr result (λ r. r.slots.items ≡ values.items) }
     {
         let Ok(words) = even_words(alloc, values.len()) else {
@@ -103,9 +105,12 @@ fn even_words(alloc: Global, count: usize) -> Result<Vec<u64>, AllocError>
 impl<'a, K, V: Slot<K>> Cells<'a, V, K> {
     /// A seat for the last of the passes that are still to be dealt, which has this number.
     pub fn deal(&self, all: &mut Pass<V, K>, number: u32) -> Pass<V, K>
-        requires table { (all.old.table_id ≡ self.now.table.now.table_id) × (0 < self.now.table.now.table_id.words) }
-        requires passes { HasPasses self.now.table.now.key (number + 1) all.old.me.0 × (number < V.passes self.now.table.now.key) }
-        ensures pass { IsPassOf (V.passes self.now.table.now.key) self.now.table.now.key self.now.table.now.table_id result }
+        requires table { (all.old.table_id ≡ self.now.table.now.table_id)
+            × (0 < self.now.table.now.table_id.words) }
+        requires passes { HasPasses self.now.table.now.key (number + 1) all.old.me.0
+            × (number < V.passes self.now.table.now.key) }
+        ensures pass { IsPassOf (V.passes self.now.table.now.key) self.now.table.now.key
+            self.now.table.now.table_id result }
         ensures dealt { (result.me.1 ≡ []) × (number_of result.me.0 ≡ number) }
         ensures passes { HasPasses self.now.table.now.key number all.new.me.0 }
         ensures rest { (all.new.table_id ≡ all.old.table_id) × (all.new.me.1 ≡ all.old.me.1) }
@@ -115,8 +120,10 @@ impl<'a, K, V: Slot<K>> Cells<'a, V, K> {
 
     /// Takes a pass that holds no cell into a seat.
     pub fn merge(&self, all: &mut Pass<V, K>, pass: Pass<V, K>)
-        requires table { (all.old.table_id ≡ self.now.table.now.table_id) × (0 < self.now.table.now.table_id.words) }
-        requires pass { IsPassOf (V.passes self.now.table.now.key) self.now.table.now.key self.now.table.now.table_id pass }
+        requires table { (all.old.table_id ≡ self.now.table.now.table_id)
+            × (0 < self.now.table.now.table_id.words) }
+        requires pass { IsPassOf (V.passes self.now.table.now.key) self.now.table.now.key
+            self.now.table.now.table_id pass }
         requires idle { pass.me.1 ≡ [] }
         ensures back { IsBack all.new.me.0 (number_of pass.me.0) }
         ensures others { (p : ℕ) → IsBack all.old.me.0 p → IsBack all.new.me.0 p }

@@ -6,7 +6,8 @@ use Rattle.cases_latches.proofs.counting.count_by_two.Goals as goal
 pub close-requires-clause-whole : goal.close-requires-clause-whole
 close-requires-clause-whole g c p few =
     elim p as (λ q. q < 2 → IsBack c.merge-2.new.all.me.0 q) [
-      | zero ↦ λ _. c.merge-2.ensures.others 0 (subst (IsBack c.merge.new.all.me.0) c.join-one.ensures.first.1 c.merge.ensures.back)
+      | zero ↦ λ _. c.merge-2.ensures.others 0
+          (subst (IsBack c.merge.new.all.me.0) c.join-one.ensures.first.1 c.merge.ensures.back)
       | suc q ↦ λ lt. second q lt
     ] few
   where

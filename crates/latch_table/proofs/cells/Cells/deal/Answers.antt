@@ -11,7 +11,8 @@ split_seat-requires g c =
     let last : number + 1 ≡ suc number = omega arith in (
       c.requires.table.0,
       c.requires.table.1,
-      deals g.V.Slot.fits (g.V.Slot.passes key) key c.args.all.now.id number c.args.all.now.me.0 (c.requires.passes.0.passes ∙ ap idle_below last),
+      deals g.V.Slot.fits (g.V.Slot.passes key) key c.args.all.now.id number c.args.all.now.me.0
+          (c.requires.passes.0.passes ∙ ap idle_below last),
     )
 
 pub returns-clause-pass : goal.returns-clause-pass
@@ -20,8 +21,12 @@ returns-clause-pass g c =
     let number = c.args.number in
     let last : number + 1 ≡ suc number = omega arith in
     let has = subst (λ n. HasPasses key n c.args.all.now.me.0) last c.requires.passes.0 in
-    let seat = dealt g.V.Slot.fits (g.V.Slot.passes key) key number c.args.all.now.me.0 has c.requires.passes.1 in
-    record { table = c.split_seat.ensures.3 ∙ c.requires.table.0; seat = subst (IsPassSeat (g.V.Slot.passes key) key) (sym c.split_seat.ensures.4) seat }
+    let seat = dealt g.V.Slot.fits (g.V.Slot.passes key) key number c.args.all.now.me.0 has c.requires.passes.1
+    in
+    record {
+      table = c.split_seat.ensures.3 ∙ c.requires.table.0;
+      seat = subst (IsPassSeat (g.V.Slot.passes key) key) (sym c.split_seat.ensures.4) seat;
+    }
 
 pub returns-clause-dealt : goal.returns-clause-dealt
 returns-clause-dealt g c =

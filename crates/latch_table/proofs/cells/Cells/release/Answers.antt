@@ -15,9 +15,17 @@ store-requires g c =
     let even = c.args.laid.even in (
       c.requires.pass.table,
       c.requires.cell,
-      gives_cell g.V.Slot.fits (g.V.Slot.passes key) key slots c.args.pass.now.id c.args.pass.now.me c.args.laid.cell c.if-laid.word lies.0
+      gives_cell g.V.Slot.fits (g.V.Slot.passes key) key slots c.args.pass.now.id c.args.pass.now.me
+          c.args.laid.cell c.if-laid.word lies.0
           (subst (λ n. c.args.laid.cell < n) c.args.self.now.square inside)
-          (elim c.if-laid.branch as (λ _. c.if-laid.word % 2 ≡ 0) [ then-laid w ↦ omega (arith, even, w) | else-laid w ↦ omega (arith, even, w) ])
+          (elim c.if-laid.branch as (λ _. c.if-laid.word % 2 ≡ 0) [
+            | then-laid w ↦ omega (
+              arith,
+              even,
+              w,
+            )
+            | else-laid w ↦ omega (arith, even, w)
+          ])
           c.requires.pass.seat lies.1 lies.2,
     )
 
@@ -26,5 +34,9 @@ returns-clause-pass g c =
     let key = c.args.self.now.table.now.key in
     let me = c.args.pass.now.me in
     let lies = c.requires.lies in
-    let seat = seat_gave (g.V.Slot.passes key) key me.0 me.1 c.requires.pass.seat c.args.laid.cell c.if-laid.word lies.0 (rest me.1) lies.1 in
-    record { table = c.store.ensures.0 ∙ c.requires.pass.table; seat = subst (IsPassSeat (g.V.Slot.passes key) key) (sym c.store.ensures.2) seat }
+    let seat = seat_gave (g.V.Slot.passes key) key me.0 me.1 c.requires.pass.seat c.args.laid.cell
+    c.if-laid.word lies.0 (rest me.1) lies.1 in
+    record {
+      table = c.store.ensures.0 ∙ c.requires.pass.table;
+      seat = subst (IsPassSeat (g.V.Slot.passes key) key) (sym c.store.ensures.2) seat;
+    }
