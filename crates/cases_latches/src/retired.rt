@@ -27,11 +27,7 @@ pub struct Retired {
 }
 
 /// Frees the buffers that nobody can read any more: those that were taken out below the horizon.
-pub fn reclaim(
-    pins: &Pins<'_, (), (), AnyStep>,
-    pass: &mut Pass<()>,
-    retired: &mut Vec<Retired>,
-)
+pub fn reclaim(pins: &Pins<'_, (), (), AnyStep>, pass: &mut Pass<()>, retired: &mut Vec<Retired>)
     requires table { (pass.old.table_id ≡ pins.now.table.now.table_id)
         × (pins.now.table.now.table_id.words ≡ 48) }
     requires places { (pins.now.places.clock ≡ 8) × (pins.now.places.first ≡ 16)

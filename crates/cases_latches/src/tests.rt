@@ -14,7 +14,9 @@ fn two_threads_lose_no_count(rt: HostRuntime) -> Result<(), Fail> {
 }
 
 #[test]
-fn a_counter_that_another_pass_holds_is_busy_with_its_odd_word(rt: HostRuntime) -> Result<(), Fail> {
+fn a_counter_that_another_pass_holds_is_busy_with_its_odd_word(
+    rt: HostRuntime,
+) -> Result<(), Fail> {
     assert_eq!(rt; want_by_two(&rt, rt.alloc())?, Some((Some(1), None, 2)));
     Ok(())
 }

@@ -1,6 +1,6 @@
 -- What each step of a pass does to who is pinned, and what a whole sweep may rely on. Each law is a clause of a
 -- function in `laws`.
-use Rattle.std.specs.Prelude.{◌≡◌, ℕ, ◌<◌, ◌≤◌, ◌+◌, Bool, true, false, Option, Some}
+use Rattle.std.specs.Prelude.{◌≡◌, ℕ, ◌<◌, ◌≤◌, Bool, true, false, Option, Some}
 use Rattle.seat_views.specs.Keeping.{put}
 use Rattle.epoch_reclaim.specs.declared.sweep.Sweep.{Sweep}
 use Rattle.epoch_reclaim.specs.Pinned.{announced_word, unpinned, pinned_word, begun, looked_at, horizon_of, IsPinned}

@@ -1,6 +1,6 @@
 //! Where the clock and the pins of passes lie.
 
-ghost use Rattle.std.specs.Prelude.{◌≡◌, ◌<◌, ◌≤◌, ◌+◌, ◌*◌, ◌^◌};
+ghost use Rattle.std.specs.Prelude.{◌≡◌, ◌<◌, ◌+◌, ◌*◌, ◌^◌};
 
 /// The places of the clock and of the pin words in a table of words. A pass writes its own pin word at each
 /// transaction, so a stride of 8 words spares the others its line of the cache. Word 0 is best left alone: each split

@@ -1,6 +1,6 @@
 -- A new latch table keeps the rule, and so do seats that are dealt and merged. At the end each slot has a value
 -- that fits.
-use Rattle.std.proofs.Common.{◌≡◌, ◌≢◌, ◌⊎◌, inl, inr, ⊎_elim, ℕ, zero, suc, ◌+◌, ◌%◌, ◌<◌, ◌≤◌, List, [], ◌∷◌, ◌++◌, map, length, set, refl, sym, ◌∙◌, ap, subst, cond, arith, Option, Some, None, replicate, get_or-set_other}
+use Rattle.std.proofs.Common.{◌≡◌, ◌≢◌, ◌⊎◌, inl, inr, ⊎_elim, ℕ, zero, suc, ◌+◌, ◌%◌, ◌<◌, ◌≤◌, List, [], ◌∷◌, ◌++◌, map, length, set, refl, sym, ◌∙◌, ap, subst, cond, arith, Some, None, replicate, get_or-set_other}
 use Rattle.std.specs.Prelude.{Bool, true, false, ◌==◌, slice_index, slice_index_or, slice_get, take, drop}
 use Rattle.std.proofs.lemmas.List.{length-replicate}
 use mathlib.Core.Option.{some, some-injective, some-ne-none}

@@ -1,5 +1,5 @@
 -- Each step on a version word keeps the rule of the latch table.
-use Rattle.std.proofs.Common.{◌≡◌, ◌≢◌, ⊎_elim, ℕ, ◌+◌, ◌%◌, ◌<◌, eqb, List, [], ◌∷◌, length, set, refl, sym, ◌∙◌, ap, subst, arith, Option, Some, length-set, get_or-set_other, get_or-set_same, eq-eqb, ne_eqb}
+use Rattle.std.proofs.Common.{◌≡◌, ◌≢◌, ⊎_elim, ℕ, ◌+◌, ◌%◌, ◌<◌, eqb, List, [], ◌∷◌, length, set, refl, sym, ◌∙◌, ap, subst, arith, Some, length-set, get_or-set_other, get_or-set_same, eq-eqb, ne_eqb}
 use Rattle.std.specs.Prelude.{Bool, true, false, ◌==◌, ◌||◌, slice_index}
 use mathlib.Core.Option.{some, none}
 use mathlib.Core.Logic.{dite}
@@ -13,7 +13,7 @@ use Rattle.seat_views.specs.Keeping.{kept_at, put}
 use Rattle.seat_views.proofs.NumberLemmas.{at_set, one_kept, put_here, put_else, same_number, other_number}
 use Rattle.seat_views.proofs.KeepLemmas.{kept_news, kept_same}
 use Rattle.latch_table.specs.declared.sight.LatchSight.{LatchSight}
-use Rattle.latch_table.specs.Latched.{IsEven, IsOdd, is_held, without_cell, number_of, cells_of, looked, took, gave, out_of, IsLatched, Took, IsPassSeat}
+use Rattle.latch_table.specs.Latched.{IsEven, is_held, without_cell, number_of, cells_of, looked, took, gave, out_of, IsLatched, Took, IsPassSeat}
 use Rattle.latch_table.proofs.HeldLemmas.{held_without, gone}
 
 apart : false ≡ true → ⊥

@@ -1,8 +1,8 @@
 -- Words of cells lie apart.
-use Rattle.std.proofs.Common.{◌≡◌, ◌≢◌, ◌⊎◌, inl, inr, ℕ, ◌+◌, ◌*◌, ◌<◌, ◌≤◌, arith}
+use Rattle.std.proofs.Common.{inl, inr, ℕ, arith}
 use mathlib.Core.Logic.{dite}
 use native.Mathlib.Decide.{dec_le}
-use Rattle.latch_table.specs.Places.{AreApart, AreLaidOut, place_of_common, place_of_wanted}
+use Rattle.latch_table.specs.Places.{AreLaidOut}
 
 pub places_apart : (common wanted : ℕ) → AreLaidOut common wanted
 places_apart common wanted = record {

@@ -1,5 +1,5 @@
 -- Who holds which cell, and what lies in the slots of all others: the rule of the latch table.
-use Rattle.std.specs.Prelude.{◌≡◌, ◌⊎◌, ◌≢◌, ℕ, ◌==◌, ◌+◌, ◌<◌, ◌%◌, ◌^◌, ◌-◌, Bool, true, false, not, ◌&&◌, cond, List, [], ◌∷◌, map, length, slice_index, Option, Some, None}
+use Rattle.std.specs.Prelude.{◌≡◌, ◌⊎◌, ◌≢◌, ℕ, ◌==◌, ◌+◌, ◌<◌, ◌%◌, ◌^◌, ◌-◌, Bool, true, false, not, ◌&&◌, cond, List, [], ◌∷◌, map, length, slice_index, Some, None}
 use Rattle.std.specs.List.{list_any, filter}
 use mathlib.Core.Option.{some}
 use lib.ListN.{get_elem?}

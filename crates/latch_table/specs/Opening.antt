@@ -1,5 +1,5 @@
 -- A new latch table, how its passes are dealt and come back, and how it is closed.
-use Rattle.std.specs.Prelude.{◌≡◌, ℕ, zero, suc, ◌<◌, List, [], ◌∷◌, ◌++◌, drop, take, Option, Some, None, slice_get}
+use Rattle.std.specs.Prelude.{◌≡◌, ℕ, zero, suc, ◌<◌, List, [], ◌∷◌, ◌++◌, drop, take, Some, None, slice_get}
 use Rattle.seat_views.specs.Keeping.{kept_at}
 use Rattle.latch_table.specs.declared.sight.LatchSight.{LatchSight}
 

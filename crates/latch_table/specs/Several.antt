@@ -1,5 +1,5 @@
 -- Several cells at once, in the order in which they were taken.
-use Rattle.std.specs.Prelude.{◌≡◌, ℕ, ◌<◌, List, [], ◌∷◌, ◌++◌, map}
+use Rattle.std.specs.Prelude.{◌≡◌, ℕ, ◌<◌, List, [], ◌∷◌, ◌++◌}
 use Rattle.std.specs.List.{AllByRecursion}
 use Rattle.latch_table.specs.declared.sight.CellWord.{CellWord}
 use Rattle.latch_table.specs.declared.cells.Held.{Held}

@@ -10,7 +10,7 @@
 //!    the last holder left it; the store of `release` needs to be a release, for the next holder; a load of `version`
 //!    needs what its caller makes of it.
 
-ghost use Rattle.std.specs.Prelude.{◌≡◌, ◌≢◌, ◌<◌, ◌%◌, ◌+◌, ◌^◌, ◌-◌, [], ◌∷◌, ◌++◌, List, true, false, IfErr, IfOk};
+ghost use Rattle.std.specs.Prelude.{◌≡◌, ◌<◌, ◌%◌, ◌+◌, ◌-◌, [], ◌∷◌, ◌++◌, List, false, IfErr, IfOk};
 ghost use Rattle.atomic_table.specs.Table.{rest};
 ghost use Rattle.latch_table.specs.declared.sight.CellWord.{CellWord};
 ghost use Rattle.latch_table.specs.Latched.{IsPassOf, IsBusy, IsEven, number_of, gave, looked, last_word, word_after, cell_word};

@@ -4,7 +4,7 @@
 //!    each other, so that whoever takes one doesn't take the line of another's word from the cache.
 //! 2. Word 0 is no cell's: each split and join of a seat loads it, and nobody writes it.
 
-ghost use Rattle.std.specs.Prelude.{◌≡◌, ◌<◌, ◌≤◌, ◌+◌, ◌*◌, ◌^◌};
+ghost use Rattle.std.specs.Prelude.{◌≡◌, ◌<◌, ◌+◌, ◌*◌, ◌^◌};
 ghost use Rattle.latch_table.specs.Places.{place_of_common, place_of_wanted, words_of_places};
 
 /// So many words of 8 bytes fill a line of the cache.

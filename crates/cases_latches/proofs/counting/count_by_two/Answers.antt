@@ -1,4 +1,4 @@
-use Rattle.std.proofs.Common.{◌≡◌, ◌<◌, ℕ, zero, suc, subst, arith}
+use Rattle.std.proofs.Common.{◌<◌, ℕ, zero, suc, subst, arith}
 use Rattle.latch_table.specs.Opening.{IsBack}
 use Rattle.cases_latches.proofs.counting.count_by_two.Goals as goal
 

@@ -1,5 +1,4 @@
-use Rattle.std.proofs.Common.{◌≡◌, ◌∙◌, [], Some, ℕ, sym, ap, subst}
-use Rattle.seat_views.specs.Keeping.{kept_at}
+use Rattle.std.proofs.Common.{[], sym, subst}
 use Rattle.seat_views.proofs.NumberLemmas.{kept-append}
 use Rattle.latch_table.specs.Latched.{IsPassSeat, number_of}
 use Rattle.latch_table.specs.Opening.{IsBack}

@@ -1,4 +1,4 @@
-use Rattle.std.proofs.Common.{◌≡◌, ◌∙◌, ◌∷◌, ◌≤◌, ◌+◌, [], sym, ap, arith, length, length-append, false}
+use Rattle.std.proofs.Common.{◌∙◌, ◌∷◌, ◌≤◌, ◌+◌, [], sym, ap, arith, length, length-append, false}
 use Rattle.std.specs.Prelude.{slice_index_or, slice_get}
 use lib.ListN.{get_elem?}
 use Rattle.std.specs.Mem.Slots.{slots_items, slots_filled, slots_len, slots_counts}
