@@ -1,6 +1,6 @@
 //! One thread, on cells that nobody else wants.
 
-ghost use Rattle.std.specs.Prelude.{◌≡◌, ◌<◌, ◌≤◌};
+ghost use Rattle.std.specs.Prelude.{◌<◌, ◌≤◌};
 ghost use Rattle.latch_table.specs.Latched.{IsIdle};
 
 use crate::best::{Best, CALLS, ROUNDS};

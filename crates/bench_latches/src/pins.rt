@@ -1,6 +1,6 @@
 //! A pass that announces, loads the clock and pins itself, and a sweep over the pins of 64 passes.
 
-ghost use Rattle.std.specs.Prelude.{◌≡◌, ◌<◌, ◌≤◌};
+ghost use Rattle.std.specs.Prelude.{◌≡◌, ◌<◌};
 
 use crate::best::{Best, CALLS, ROUNDS};
 use anyhow::Result;

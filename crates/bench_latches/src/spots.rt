@@ -1,6 +1,6 @@
 //! A table of cells with 16 bytes in each slot, and what a call on one of them does.
 
-ghost use Rattle.std.specs.Prelude.{◌≡◌, ◌<◌, ◌≤◌, ◌+◌, length, IfOk};
+ghost use Rattle.std.specs.Prelude.{◌≡◌, ◌<◌, ◌≤◌, IfOk};
 ghost use Rattle.latch_table.specs.Latched.{IsIdle};
 ghost use Rattle.latch_table.specs.Opening.{HasPasses};
 

@@ -1,10 +1,11 @@
 //! A table of counters under latches, on which two passes count.
 
-ghost use Rattle.std.specs.Prelude.{◌≡◌, ◌<◌, ◌≤◌, [], ◌∷◌, ◌++◌, length};
+ghost use Rattle.std.specs.Prelude.{◌≡◌, ◌<◌, ◌≤◌, [], ◌∷◌, ◌++◌, length, IfOk};
 ghost use Rattle.std.specs.Vec.{vec_capacity};
 ghost use Rattle.latch_table.specs.Latched.{IsIdle, number_of};
 
 use latch_table::{Cells, Held, Laid, Pass, Slot};
+use std::alloc::{AllocError, Global};
 use std::sync::Wait;
 
 /// A counter in its slot.
@@ -80,6 +81,38 @@ pub fn even_out(
     keep(held, a);
     keep(held, b);
     counters.give_all(pass, held, laid);
+}
+
+/// Empty lists with room for two counters.
+pub fn lists_for_two(alloc: Global) -> Result<(Vec<Held<Counter>>, Vec<Laid>), AllocError>
+    ensures empty { IfOk result (λ l. (l.0.items ≡ []) × (l.1.items ≡ [])) }
+    ensures room { IfOk result (λ l. (2 ≤ vec_capacity l.0) × (2 ≤ vec_capacity l.1)) }
+{
+    let held = Vec::with_capacity(alloc, 2)?;
+    match Vec::with_capacity(alloc, 2) {
+        Ok(laid) => Ok((held, laid)),
+        Err(refused) => {
+            held.destroy_empty();
+            Err(refused)
+        }
+    }
+}
+
+/// What a counter has, as soon as no other pass has it.
+pub fn count_of(
+    rt: &impl Wait,
+    counters: &Cells<'_, Counter, ()>,
+    pass: &mut Pass<Counter, ()>,
+    cell: u32,
+) -> u64
+    requires pass { IsIdle 2 tt counters.now.table.now.table_id pass.old }
+    requires cell { cell < counters.now.table.now.table_id.words }
+    ensures pass { IsIdle 2 tt counters.now.table.now.table_id pass.new }
+{
+    let held = counters.take(rt, pass, cell);
+    let count = held.value.count;
+    counters.give(pass, held);
+    count
 }
 
 /// Puts a held counter at the end of a list that has the room.

@@ -1,11 +1,9 @@
 //! Two threads that count on one table, and what a thread is answered that wants a counter of another.
 
-ghost use Rattle.std.specs.Prelude.{◌≡◌, ◌<◌, ◌≤◌, [], length, replicate, IfOk};
-ghost use Rattle.std.specs.Vec.{vec_capacity};
-ghost use Rattle.std.specs.Thread.{IsSync};
+ghost use Rattle.std.specs.Prelude.{◌≡◌, ◌<◌, length, IfOk};
 ghost use Rattle.latch_table.specs.Latched.{IsIdle, number_of};
 
-use crate::counters::{Counter, add, even_out};
+use crate::counters::{Counter, add, count_of, even_out, lists_for_two};
 use latch_table::{LatchTable, Pass};
 use std::alloc::{AllocError, Global};
 use std::sync::Wait;
@@ -161,4 +159,24 @@ fn want(
         }
         Err(busy) => (Some(busy.found), pass),
     }
+}
+
+/// What two counters have after one pass has added 7 to the first and evened them out.
+pub fn share_seven(rt: &impl Wait, alloc: Global) -> Result<(u64, u64), AllocError> {
+    let Opened {
+        table,
+        all,
+        mut one,
+        two,
+    } = open(alloc)?;
+    drop(all);
+    drop(two);
+    let (mut held, mut laid) = lists_for_two(alloc)?;
+    let cells = table.cells();
+    add(rt, &cells, &mut one, 0, 7);
+    even_out(rt, &cells, &mut one, 0, 1, &mut held, &mut laid);
+    held.destroy_empty();
+    laid.destroy_empty();
+    let first = count_of(rt, &cells, &mut one, 0);
+    Ok((first, count_of(rt, &cells, &mut one, 1)))
 }

@@ -7,6 +7,6 @@ mod retired;
 #[cfg(test)]
 mod tests;
 
-pub use counters::{Counter, add, even_out};
-pub use counting::{Opened, count_by_two, open, want_by_two};
+pub use counters::{Counter, add, count_of, even_out, lists_for_two};
+pub use counting::{Opened, count_by_two, open, share_seven, want_by_two};
 pub use retired::{AnyStep, Retired, reclaim, reclaim_three_times};

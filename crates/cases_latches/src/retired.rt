@@ -1,6 +1,6 @@
 //! A list of retired buffers under pins.
 
-ghost use Rattle.std.specs.Prelude.{◌≡◌, ◌<◌, ◌≤◌};
+ghost use Rattle.std.specs.Prelude.{◌≡◌, ◌<◌};
 
 use atomic_table::{Play, Table, TableRule};
 use epoch_reclaim::{Pass, PinPlaces, Pins};

@@ -1,6 +1,6 @@
 //! What two threads find and leave on one table of counters.
 
-use crate::counting::{count_by_two, want_by_two};
+use crate::counting::{count_by_two, share_seven, want_by_two};
 use crate::retired::reclaim_three_times;
 use std::test::Fail;
 
@@ -18,6 +18,12 @@ fn a_counter_that_another_pass_holds_is_busy_with_its_odd_word(
     rt: HostRuntime,
 ) -> Result<(), Fail> {
     assert_eq!(rt; want_by_two(&rt, rt.alloc())?, Some((Some(1), None, 2)));
+    Ok(())
+}
+
+#[test]
+fn two_counters_are_changed_and_given_back_together(rt: HostRuntime) -> Result<(), Fail> {
+    assert_eq!(rt; share_seven(&rt, rt.alloc())?, (4, 3));
     Ok(())
 }
 

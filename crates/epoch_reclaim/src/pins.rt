@@ -6,9 +6,7 @@
 //!    is no less.
 //! 3. A sweep reads the pins with no latch. A pin found may be gone by now: then the horizon is too old, which keeps
 //!    records that nobody reads, and throws away none that somebody may. The cost is their memory, until the next sweep.
-//! 4. Each step is sequentially consistent, and `announce` needs to be: its store must come before the pass's load of
-//!    the clock for all others. So must the sweep's load of the clock before its loads of the pins. To pin and unpin
-//!    needs a release, so that the reads of a transaction are done when its pin is seen to be gone.
+//! 4. Each step is sequentially consistent, and says which order it needs.
 //! 5. The rule of the table is its owner's. Each call asks that the step keeps the rule, and tells what the owner's
 //!    kind of step says of it.
 
@@ -39,6 +37,8 @@ impl<'a, V, K, P: TableRule<(), V, K>> Pins<'a, V, K, P> {
         ensures announced { HasStored self.now.table.now.table_id pass.old pass.new
             (pin_place self.now.places number) announced_word M.then }
     {
+        // Sequentially consistent, and has to be: the store comes before this pass's load of the clock for all others. A
+        // sweep that has looked before it finds a horizon that is no higher than the clock that this pass will load.
         self.table.store::<M>(pass, self.places.pin(number), 1);
     }
 
@@ -51,6 +51,7 @@ impl<'a, V, K, P: TableRule<(), V, K>> Pins<'a, V, K, P> {
         ensures pinned { HasStored self.now.table.now.table_id pass.old pass.new
             (pin_place self.now.places number) (pinned_word start) M.then }
     {
+        // Sequentially consistent, and needs no order: a sweep that still finds the announcement keeps more than it must.
         self.table
             .store::<M>(pass, self.places.pin(number), start + 2);
     }
@@ -63,6 +64,8 @@ impl<'a, V, K, P: TableRule<(), V, K>> Pins<'a, V, K, P> {
         ensures unpinned { HasStored self.now.table.now.table_id pass.old pass.new
             (pin_place self.now.places number) unpinned M.then }
     {
+        // Sequentially consistent, and has to be a release: what the transaction read, it has read before. A sweep that
+        // still finds the pin keeps more than it must.
         self.table.store::<M>(pass, self.places.pin(number), 0);
     }
 
@@ -74,6 +77,8 @@ impl<'a, V, K, P: TableRule<(), V, K>> Pins<'a, V, K, P> {
         ensures loaded { HasLoaded self.now.table.now.table_id pass.old pass.new self.now.places.clock
             result.clock M.then }
     {
+        // Sequentially consistent, and has to come before the loads of the pins for all. The clock may have risen since:
+        // then the horizon is too old.
         let clock = self.table.load::<M>(pass, self.places.clock as usize);
         Sweep {
             clock,
@@ -91,6 +96,7 @@ impl<'a, V, K, P: TableRule<(), V, K>> Pins<'a, V, K, P> {
             × HasLoaded self.now.table.now.table_id pass.old pass.new (pin_place self.now.places sweep.old.looked)
             word M.then }
     {
+        // Sequentially consistent, and has to be an acquire: where the pin is gone, the reads under it are done.
         let word = self.table.load::<M>(pass, self.places.pin(sweep.looked));
         sweep.add(word);
     }

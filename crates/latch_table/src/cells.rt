@@ -6,9 +6,7 @@
 //!    an even word. Between the two nobody else reads or writes the slot, so it needs no atomic step.
 //! 3. The word is two higher after each hold that changed the cell. A hold that changed nothing leaves the word that
 //!    it found.
-//! 4. Each step is sequentially consistent. The compare-exchange needs to be an acquire, so that the slot is read as
-//!    the last holder left it; the store of `release` needs to be a release, for the next holder; a load of `version`
-//!    needs what its caller makes of it.
+//! 4. Each step is sequentially consistent, and says which order it needs.
 
 ghost use Rattle.std.specs.Prelude.{◌≡◌, ◌<◌, ◌%◌, ◌+◌, ◌-◌, [], ◌∷◌, ◌++◌, List, false, IfErr, IfOk};
 ghost use Rattle.atomic_table.specs.Table.{rest};
@@ -83,6 +81,7 @@ impl<'a, K, V: Slot<K>> Cells<'a, V, K> {
         if found % 2 == 1 || found == LAST_WORD {
             return Err(Busy { found });
         }
+        // Sequentially consistent, and has to be an acquire: what the last holder wrote in the slot is there.
         let seen = self
             .table
             .compare_exchange::<Takes<V>>(pass, place, found, found + 1);
@@ -176,6 +175,8 @@ impl<'a, K, V: Slot<K>> Cells<'a, V, K> {
             found: _,
             changed: _,
         } = laid;
+        // Sequentially consistent, and has to be a release: the slot was written before. Whoever looks meanwhile finds
+        // the odd word, and is told that the cell is busy, which it was.
         self.table.store::<Gives>(pass, cell as usize, word);
     }
 
@@ -206,6 +207,8 @@ impl<'a, K, V: Slot<K>> Cells<'a, V, K> {
             self.now.table.now.table_id pass.new }
         ensures found { pass.new.me ≡ (looked pass.old.me.0 cell result, pass.old.me.1) }
     {
+        // Sequentially consistent, so two loads with reads between them come in that order for all. A holder may have
+        // come and gone since: then the word is higher, and the next load tells.
         self.table.load::<Looks>(pass, cell as usize)
     }
 }
