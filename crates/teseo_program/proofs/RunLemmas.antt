@@ -192,10 +192,12 @@ left_by_run inputs leaves schedule listed engine new jobs r ends same leaves_is 
       served = ends.served (omega (arith, zero_served)) ∙ ap (λ n. min n (2 ^ 64 - 1)) (omega (arith, zero_served));
     }))))
 
-pub counts_of : (asked : Kind) (new : Core) (r : RunResult) → new.kind ≡ asked → r.ran ≡ new → r.vertices ≡ length (vertices_of (newest_graph new)) → r.edges ≡ edges_of new.kind (newest_graph new) → HasCounts asked r
-counts_of asked new r kind ran vertices edges = record {
+pub counts_of : (asked : Kind) (new : Core) (r : RunResult) → new.kind ≡ asked → r.ran ≡ new → r.totals.vertices ≡ length (vertices_of (newest_graph new)) → r.totals.edges ≡ edges_of new.kind (newest_graph new) → (r.totals.undo ≡ 0) × (r.totals.retired ≡ 0) → HasCounts asked r
+counts_of asked new r kind ran vertices edges none = record {
   vertices = vertices ∙ ap (λ g. length (vertices_of g)) graphs_agree;
   edges = edges ∙ (λ i. edges_of (kind i) (graphs_agree i));
+  undo = none.0;
+  retired = none.1;
 }
   where
     graphs_agree : newest_graph new ≡ graph_at asked r.ran.journal (length r.ran.journal)

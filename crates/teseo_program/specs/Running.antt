@@ -1,5 +1,5 @@
 -- What the run of the scripts leaves, as the code has it.
-use Rattle.std.specs.Prelude.{◌≡◌, ℕ, suc, ◌-◌, ◌*◌, ◌^◌, ◌<◌, ◌≤◌, min, List, map, length, All, slice_get, Some}
+use Rattle.std.specs.Prelude.{◌≡◌, ℕ, suc, ◌-◌, ◌*◌, ◌^◌, ◌<◌, ◌≤◌, ◌⊎◌, min, List, map, length, All, slice_get, Some}
 use Rattle.std.specs.List.{AllByRecursion}
 use Rattle.graph_model.specs.declared.limits.TheConstants.{SPLIT_ROWS, MAX_LEAVES}
 use Rattle.graph_model.specs.declared.write.Kind.{Kind}
@@ -52,10 +52,12 @@ IsSteppedRun kind leaves input r =
 abbrev pub HavePrintableNames : List Progress → Type 0
 HavePrintableNames jobs = AllByRecursion (λ job. AllByRecursion (λ t. All IsNameByte t.name) job.tables) jobs
 
--- the counts are those of the newest graph
+-- the counts are those of the newest graph, in a settled store
 pub record HasCounts (kind : Kind) (r : RunResult) : Type 0 where
-  pub vertices : r.vertices ≡ length (vertices_of (graph_at kind r.ran.journal (length r.ran.journal)))
-  pub edges : r.edges ≡ edges_in kind (graph_at kind r.ran.journal (length r.ran.journal))
+  pub vertices : r.totals.vertices ≡ length (vertices_of (graph_at kind r.ran.journal (length r.ran.journal)))
+  pub edges : r.totals.edges ≡ edges_in kind (graph_at kind r.ran.journal (length r.ran.journal))
+  pub undo : r.totals.undo ≡ 0
+  pub retired : r.totals.retired ≡ 0
 
 -- ---- the engine
 
@@ -68,13 +70,20 @@ abbrev pub MayBegin : List (List Command) → ℕ → Type 0
 MayBegin scripts most =
     (k : ℕ) (commands : List Command) → slice_get scripts k ≡ Some commands → begun_by 0 commands ≤ most
 
--- so many leaves, a pass for each script, and one for the load
+-- one of the scripts begins so many
+abbrev pub Begins : List (List Command) → ℕ → Type 0
+Begins scripts count =
+    (k : ℕ) × (commands : List Command) × (slice_get scripts k ≡ Some commands) × (begun_by 0 commands ≡ count)
+
+-- So many leaves, a pass for each script, and one for the load. A pass may begin as many transactions as the script with
+-- most of them, and at least one.
 pub record IsConfig (kind : Kind) (leaves : ℕ) (scripts : List (List Command)) (config : Config) : Type 0 where
   pub kind_is : config.kind ≡ kind
   pub leaves_are : config.leaves ≡ leaves
   pub passes : config.passes ≡ suc (length scripts)
   pub begins : MayBegin scripts config.txns_per_pass
   pub some : 0 < config.txns_per_pass
+  pub no_more : (config.txns_per_pass ≡ 1) ⊎ Begins scripts config.txns_per_pass
 
 -- the engine of some scripts before its first call
 abbrev pub IsNewEngine : Core → Type 0
