@@ -1,5 +1,5 @@
 #!/usr/bin/env python3
-"""Runs engine_bench with a sixth number, and prints a row of a table for each line of it.
+"""Runs bench_engine with a sixth number, and prints a row of a table for each line of it.
 
     churn.py -- COMMAND...
 
@@ -45,7 +45,7 @@ def print_rows(command):
         for line in process.stdout:
             found = LINE.match(line)
             if not found:
-                sys.exit(f"churn.py: not a line of engine_bench: {line!r}")
+                sys.exit(f"churn.py: not a line of bench_engine: {line!r}")
             made += int(found["made"])
             memory = resident_mebibytes(process.pid)
             rest = memory - made * KEPT_BYTES // BYTES_IN_A_MEBIBYTE

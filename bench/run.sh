@@ -10,8 +10,8 @@ set -euo pipefail
 top=$(cd "$(dirname "$0")/.." && pwd)
 program=$top/crates/teseo/out/teseo
 kernels=$top/crates/bench_kernels/out/bench_kernels
-segments=$top/crates/store_bench/out/store_bench
-engine=$top/crates/engine_bench/out/engine_bench
+segments=$top/crates/bench_store/out/bench_store
+engine=$top/crates/bench_engine/out/bench_engine
 runs=${RUNS:-3}
 seed=${SEED:-1}
 
@@ -130,7 +130,7 @@ print_kernels() {
     echo
 }
 
-# Prints the table of the parts of the store over leaves, in the order in which store_bench has them.
+# Prints the table of the parts of the store over leaves, in the order in which bench_store has them.
 print_segments() {
     echo '| Part               | ns a call |'
     echo '|--------------------|----------:|'
@@ -139,7 +139,7 @@ print_segments() {
         $2 + 0 < least[$1] + 0 { least[$1] = $2 }
         END { for (part = 1; part <= parts; part++) printf "| %-18s | %9s |\n", names[part], least[names[part]] }'
     echo
-    echo "Nanoseconds of a call in the best round of all runs. What a part does is told in crates/store_bench/README.md."
+    echo "Nanoseconds of a call in the best round of all runs. What a part does is told in crates/bench_store/README.md."
     echo "Load is $(load) now."
 }
 
@@ -159,7 +159,7 @@ print_engine() {
     echo
     echo "A graph of 1,000,000 vertices and 3,500,000 edges, $2, is loaded, 262,144 transactions of"
     echo "one edge each are run by one pass, and all rows are scanned. What is counted is told in"
-    echo "crates/engine_bench/README.md. Load is $(load) now."
+    echo "crates/bench_engine/README.md. Load is $(load) now."
     echo
 }
 
@@ -220,8 +220,8 @@ is_wanted() {
 build() {
     if is_wanted runs; then make -s -C "$top" build >/dev/null; fi
     if is_wanted kernels; then (cd "$top/crates/bench_kernels" && rt run >/dev/null 2>&1); fi
-    if is_wanted segments; then (cd "$top/crates/store_bench" && rt run >/dev/null 2>&1); fi
-    if is_wanted engine || is_wanted churn; then (cd "$top/crates/engine_bench" && rt run >/dev/null 2>&1); fi
+    if is_wanted segments; then (cd "$top/crates/bench_store" && rt run >/dev/null 2>&1); fi
+    if is_wanted engine || is_wanted churn; then (cd "$top/crates/bench_engine" && rt run >/dev/null 2>&1); fi
 }
 
 build

@@ -2,7 +2,6 @@
 //!
 //! 1. Keys strictly rise, from the low fence key on and below the high one.
 //! 2. There is room for 32 rows at any time.
-//! 3. Where the last two keys stand that were looked up is kept in mind, so that calls to come look there first.
 
 ghost use Rattle.std.specs.Prelude.{◌≡◌, ◌==◌, ◌+◌, ◌-◌, ◌*◌, ◌^◌, ◌<◌, ◌≤◌, if◌then◌else◌, true, false, [], ◌++◌, length, take, drop, insert, remove, slice_get, IfOk, IfSome, Some};
 ghost use Rattle.std.specs.Vec.{vec_capacity};
@@ -20,17 +19,6 @@ pub struct Segment {
     pub(crate) low: Key,
     pub(crate) high: Key,
     pub(crate) rows: Vec<Row>,
-    recent: RecentPlaces,
-}
-
-/// Stands for no place, which is behind all rows.
-const NO_PLACE: u8 = 255;
-
-/// Where two keys stood when they were looked up, the later one first. No clause speaks of it.
-#[derive(Clone, Copy, Debug, PartialEq, Eq)]
-struct RecentPlaces {
-    first: u8,
-    second: u8,
 }
 
 impl Model for Segment {
@@ -53,16 +41,7 @@ impl Segment {
         ensures { IfOk result (λ s. s ≡ record { low = low; high = high; rows = [] }) }
     {
         let rows = Vec::with_capacity(alloc, SEGMENT_ROWS)?;
-        let recent = RecentPlaces {
-            first: NO_PLACE,
-            second: NO_PLACE,
-        };
-        Ok(Segment {
-            low,
-            high,
-            rows,
-            recent,
-        })
+        Ok(Segment { low, high, rows })
     }
 
     /// The low fence key. A row may have it.
@@ -92,7 +71,15 @@ impl Segment {
         self.rows.is_empty()
     }
 
-    /// Lends all rows. What holds of each segment is a clause of this call.
+    /// What holds of each segment.
+    pub fn is_fenced(&self)
+        ensures fenced { AreFenced self.now }
+        ensures small { length self.now.rows ≤ SEGMENT_ROWS }
+    {
+        let _ = &self.rows;
+    }
+
+    /// Lends all rows.
     pub fn rows(&self) -> &[Row]
         ensures rows { result.now ≡ self.now.rows }
         ensures fenced { AreFenced self.now }
@@ -104,7 +91,19 @@ impl Segment {
     pub fn find(&self, key: Key) -> Result<usize, usize>
         ensures { IsFound self.now.rows key result }
     {
-        find_near(self.rows.as_slice(), key, self.recent)
+        find_in(self.rows.as_slice(), key)
+    }
+
+    /// The same, for a caller that found the key before: two rows tell whether it stands at that place, or would stand
+    /// there, and else all rows are searched. Any place is allowed, a wrong one costs time alone.
+    pub fn find_near(&self, key: Key, near: usize) -> Result<usize, usize>
+        ensures { IsFound self.now.rows key result }
+    {
+        let rows = self.rows.as_slice();
+        match find_at(rows, key, near) {
+            Some(found) => found,
+            None => find_in(rows, key),
+        }
     }
 
     /// The sum of what a look-up reads first. Whoever keeps it keeps a compiler from leaving out the reads.
@@ -145,17 +144,6 @@ impl Segment {
             quarter + 3
         };
         sum_of_some(rows, start, count)
-    }
-
-    /// Looks the key up for the calls to come. Nothing that contracts see changes.
-    pub fn look_up(&mut self, key: Key)
-        ensures { self.new ≡ self.old }
-    {
-        let place = place_in(self.rows.as_slice(), key);
-        self.recent = RecentPlaces {
-            first: place as u8,
-            second: self.recent.first,
-        };
     }
 
     /// Puts a row at the place where it has to stand.
@@ -337,23 +325,6 @@ fn sum_of_some(rows: &[Row], start: usize, count: usize) -> u64 {
         place += 2;
     }
     sum
-}
-
-/// Looks the key up at two places, and else in all rows.
-fn find_near(rows: &[Row], key: Key, recent: RecentPlaces) -> Result<usize, usize>
-    requires { AreSorted rows.now }
-    ensures { IsFound rows.now key result }
-{
-    if recent.first == NO_PLACE {
-        return find_in(rows, key);
-    }
-    if let Some(found) = find_at(rows, key, recent.first as usize) {
-        return found;
-    }
-    match find_at(rows, key, recent.second as usize) {
-        Some(found) => found,
-        None => find_in(rows, key),
-    }
 }
 
 /// Whether the key's row stands at the place, or would stand there; nothing where it is elsewhere.

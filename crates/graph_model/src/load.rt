@@ -1,6 +1,6 @@
 //! A whole graph at once, as the first transaction of an engine.
 
-ghost use Rattle.std.specs.Prelude.{◌≡◌, [], OnOk, OnErr, IfErr};
+ghost use Rattle.std.specs.Prelude.{◌≡◌, OnOk, OnErr, IfErr};
 ghost use Rattle.graph_model.specs.Loading.{IsNew, IsLoad, IsLoadRefusal, loaded};
 
 use crate::engine::StepEngine;
@@ -38,5 +38,5 @@ pub trait LoadEngine: StepEngine {
         requires load { IsLoad (Self.core self.old) load }
         ensures loaded { OnOk result (Self.core self.new ≡ loaded (Self.core self.old) load) }
         ensures refused { IfErr result (IsLoadRefusal (Self.core self.old) load) }
-        ensures err { OnErr result ((Self.core self.new).journal ≡ []) };
+        ensures err { OnErr result (Self.core self.new ≡ Self.core self.old) };
 }

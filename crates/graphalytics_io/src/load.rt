@@ -2,7 +2,7 @@
 //!
 //! The vertices are written in file order and then the edges in file order, and all of them are handed over at once.
 
-ghost use Rattle.std.specs.Prelude.{◌≡◌, [], OnOk, OnErr, IfOk, IfErr};
+ghost use Rattle.std.specs.Prelude.{◌≡◌, OnOk, OnErr, IfOk, IfErr};
 ghost use Rattle.graph_model.specs.Loading.{IsNew, IsLoad, IsLoadRefusal, loaded};
 ghost use Rattle.graphalytics_io.specs.Load.{load_of};
 
@@ -22,7 +22,7 @@ pub fn load_graph<E: LoadEngine>(
     requires load { IsLoad (E.core engine.old) (load_of ids.now edges.now) }
     ensures loaded { OnOk result (E.core engine.new ≡ loaded (E.core engine.old) (load_of ids.now edges.now)) }
     ensures refused { IfErr result (IsLoadRefusal (E.core engine.old) (load_of ids.now edges.now)) }
-    ensures err { OnErr result ((E.core engine.new).journal ≡ []) }
+    ensures err { OnErr result (E.core engine.new ≡ E.core engine.old) }
 {
     let load = writes_of(alloc, ids, edges)?;
     engine.load(load)

@@ -5,5 +5,5 @@ pub mod SlotLemmas
 pub mod IndexLemmas
 pub mod ChangeLemmas
 pub mod ReleaseLemmas
-pub mod RecentLemmas
+pub mod CutLemmas
 pub mod HintLemmas

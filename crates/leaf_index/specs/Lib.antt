@@ -3,4 +3,3 @@ pub mod Index
 pub mod Idle
 pub mod Slots
 pub mod Calls
-pub mod Recent

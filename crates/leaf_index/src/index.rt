@@ -2,9 +2,9 @@
 //!
 //! 1. What the trie doesn't need lies in a table by the numbers of leaves: cuts, and the end of a live leaf's range.
 //! 2. The lists of free and of retired leaves have room for all leaves from the start.
-//! 3. A call that changes ranges lets go of the routes that are kept.
-//! 4. Only slots of live leaves hold keys. So a hint is right where the slot of the leaf that it names holds the key,
+//! 3. Only slots of live leaves hold keys. So a hint is right where the slot of the leaf that it names holds the key,
 //!    and the trie is asked only where it doesn't. Where leaves come or go, hints are told of it.
+//! 4. So it is with a cell that was found before: its leaf's slot says whether it still holds the key.
 
 ghost use Rattle.std.specs.Prelude.{◌≡◌, ◌<◌, ◌≤◌, ◌+◌, [], ◌∷◌, ◌++◌, IfOk, IfSome, OnOk, OnErr, length, take, ◌-◌};
 ghost use Rattle.graph_model.specs.Rows.{end_key, first_key};
@@ -15,10 +15,9 @@ ghost use Rattle.leaf_index.specs.Calls.{CanAdd, CanCut, CanDrop, IsLeafBefore, 
 
 use crate::hints::Hints;
 use crate::idle::IdleLeaves;
-use crate::recent::RecentRoutes;
 use crate::route::{LeafRange, Route};
-use crate::slot::{Slot, high_of, segment_of};
-use graph_model::{Key, NoMemory};
+use crate::slot::{Slot, high_of, segment_near};
+use graph_model::{Key, LEAF_SEGMENTS, NoMemory};
 use leaf_trie::{LeafStart, LeafTrie};
 use std::alloc::Global;
 use std::marker::Model;
@@ -29,7 +28,6 @@ pub struct LeafIndex {
     trie: LeafTrie,
     slots: Vec<Slot>,
     idle: IdleLeaves,
-    recent: RecentRoutes,
     hints: Hints,
 }
 
@@ -40,7 +38,6 @@ impl Model for LeafIndex {
     ghost Value = { Index };
 
     ghost use Rattle.leaf_index.specs.Slots.{IsKept, OnlyLiveHold, entries_of};
-    ghost use Rattle.leaf_index.specs.Recent.{AreRightRoutes};
 
     ghost view = { λ i. record {
       leaves = length i.slots.items;
@@ -50,8 +47,7 @@ impl Model for LeafIndex {
     } };
 
     ghost invariant = { λ i. IsKept i.slots.items i.trie i.idle.free i.idle.retired
-        × (i.idle.leaves ≡ length i.slots.items) × AreRightRoutes (entries_of i.slots.items i.trie) i.recent
-        × OnlyLiveHold i.slots.items i.trie };
+        × (i.idle.leaves ≡ length i.slots.items) × OnlyLiveHold i.slots.items i.trie };
 }
 
 /// So many slots. The first has the whole key range, all of it in its first segment, and the others hold no key.
@@ -143,21 +139,26 @@ impl LeafIndex {
         let trie = LeafTrie::new(alloc, LeafStart { low, leaf: 0 })?;
         let slots = new_slots(alloc, leaves)?;
         let idle = IdleLeaves::new(alloc, leaves)?;
-        let recent = RecentRoutes::new();
         let hints = Hints::new(alloc, leaves)?;
         Ok(LeafIndex {
             trie,
             slots,
             idle,
-            recent,
             hints,
         })
     }
 
-    /// How many leaves there are, in use or not. What holds of each index is a clause of this call.
-    pub fn leaves(&self) -> u32
-        ensures leaves { result ≡ self.now.leaves }
+    /// What holds of each index.
+    pub fn is_index(&self)
         ensures index { IsIndex self.now }
+        ensures few { self.now.leaves ≤ MAX_LEAVES }
+    {
+        let _ = &self.slots;
+    }
+
+    /// How many leaves there are, in use or not.
+    pub fn leaves(&self) -> u32
+        ensures { result ≡ self.now.leaves }
     {
         self.slots.len() as u32
     }
@@ -200,7 +201,6 @@ impl LeafIndex {
         let high = self.slots[before as usize].high;
         self.slots[before as usize].high = low;
         self.slots[leaf as usize] = Slot { cuts, high };
-        self.recent = RecentRoutes::new();
         self.hints.note(&self.slots, low, leaf);
         Ok(())
     }
@@ -221,7 +221,6 @@ impl LeafIndex {
         let Slot { cuts, high } = self.slots[dropped as usize];
         self.slots[before as usize].high = high;
         self.slots[dropped as usize] = Slot { cuts, high: low };
-        self.recent = RecentRoutes::new();
         self.hints.note_change(&self.slots);
     }
 
@@ -235,7 +234,6 @@ impl LeafIndex {
         let leaf = leaf_of(&self.trie, &self.slots, self.hints.of(low), low);
         let high = self.slots[leaf as usize].high;
         self.slots[leaf as usize] = Slot { cuts, high };
-        self.recent = RecentRoutes::new();
     }
 
     /// Takes a free leaf, if there is one.
@@ -287,24 +285,22 @@ impl LeafIndex {
         self.idle.free_retired(until, upto)
     }
 
-    /// The cell whose range holds the key. It does as long as the index doesn't change, so a caller may keep the
-    /// answer for further keys that `Route::holds`.
+    /// The cell whose range holds the key. It does as long as the index doesn't change.
     pub fn route(&self, key: Key) -> Route
         ensures { IsRoute key self.now.entries result }
     {
-        match self.recent.find(key) {
-            Some(route) => *route,
-            None => self.find_route(key, self.hints.of(key)),
-        }
+        self.find_route(key, self.hints.of(key), LEAF_SEGMENTS)
     }
 
-    /// Looks the key's route up and keeps it, so that `route` need not look for it nor for other keys of its cell.
-    pub fn keep_route(&mut self, key: Key)
-        ensures { self.new ≡ self.old }
+    /// The same, for a caller that found the key in a cell before: that one is looked at first, and where it doesn't hold
+    /// the key the key is looked for anew. Any cell is allowed, a wrong one costs time alone.
+    pub fn route_near(&self, key: Key, near: u32) -> Route
+        ensures { IsRoute key self.now.entries result }
     {
-        if self.recent.find(key).is_none() {
-            let route = self.find_route(key, self.hints.of(key));
-            self.recent.push(key, route);
+        let leaf = near / 8;
+        match self.slots.get(leaf as usize) {
+            Some(slot) if slot.holds(key) => self.find_route(key, leaf, (near % 8) as usize),
+            _ => self.route(key),
         }
     }
 
@@ -317,26 +313,20 @@ impl LeafIndex {
         likely
     }
 
-    /// Looks the routes of four keys up and keeps them, by the leaves in which they are likely to be, and answers their
-    /// cells. No clause says that these are right: they are for calls that read ahead.
-    pub fn keep_routes(&mut self, keys: [Key; 4], likely: [u32; 4]) -> [u32; 4]
-        ensures { self.new ≡ self.old }
+    /// The same in the leaf in which the key is likely to be, or by the trie.
+    pub fn route_in(&self, key: Key, likely: u32) -> Route
+        ensures { IsRoute key self.now.entries result }
     {
-        let first = self.find_route(keys[0], likely[0]);
-        let second = self.find_route(keys[1], likely[1]);
-        let third = self.find_route(keys[2], likely[2]);
-        let fourth = self.find_route(keys[3], likely[3]);
-        self.recent = RecentRoutes::of_four(keys, [first, second, third, fourth]);
-        [first.cell, second.cell, third.cell, fourth.cell]
+        self.find_route(key, likely, LEAF_SEGMENTS)
     }
 
-    /// The key's route, by the hint or by the trie.
-    fn find_route(&self, key: Key, hint: u32) -> Route
+    /// The key's route: the hinted leaf and segment are looked at first.
+    fn find_route(&self, key: Key, hint: u32, near: usize) -> Route
         ensures { IsRoute key self.now.entries result }
     {
         let leaf = leaf_of(&self.trie, &self.slots, hint, key);
         let slot = &self.slots[leaf as usize];
-        let segment = segment_of(&slot.cuts, key);
+        let segment = segment_near(&slot.cuts, key, near);
         Route {
             cell: 8 * leaf + segment as u32,
             low: slot.cuts[segment],

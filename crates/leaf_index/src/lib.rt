@@ -10,7 +10,6 @@ mod chain;
 mod hints;
 mod idle;
 mod index;
-mod recent;
 mod release;
 mod route;
 mod slot;

@@ -2,7 +2,7 @@
 
 ghost use Rattle.std.specs.Prelude.{◌≡◌, ◌+◌, ◌<◌, false, Some, slice_get, unwrap_or};
 ghost use Rattle.graph_model.specs.Rows.{is_below};
-ghost use Rattle.leaf_index.specs.Index.{IsSegment, NotAbove};
+ghost use Rattle.leaf_index.specs.Index.{AreSorted, IsSegment, NotAbove};
 ghost use Rattle.leaf_index.specs.Slots.{holds_key};
 
 use graph_model::{Key, LEAF_SEGMENTS};
@@ -23,8 +23,20 @@ impl Slot {
     }
 }
 
-/// The last segment whose cut is not above the key.
-pub fn segment_of(cuts: &[Key; 8], key: Key) -> usize
+/// The last segment whose cut is not above the key. The one that is near is looked at first, if there is such a one.
+pub fn segment_near(cuts: &[Key; 8], key: Key, near: usize) -> usize
+    requires low { (low : _) × (slice_get cuts.now 0 ≡ Some low) × NotAbove low key }
+    requires sorted { (high : _) × AreSorted cuts.now high }
+    ensures { IsSegment cuts.now key result }
+{
+    if near < LEAF_SEGMENTS - 1 && !key.is_below(cuts[near]) && key.is_below(cuts[near + 1]) {
+        return near;
+    }
+    segment_of(cuts, key)
+}
+
+/// The same, by a look at one cut after the other, the last one first.
+fn segment_of(cuts: &[Key; 8], key: Key) -> usize
     requires { (low : _) × (slice_get cuts.now 0 ≡ Some low) × NotAbove low key }
     ensures { IsSegment cuts.now key result }
 {

@@ -1,28 +1,25 @@
--- Room for the rows of a write, and what an edge lays, one row after another.
-use Rattle.std.proofs.Common.{◌≡◌, ℕ, ◌+◌, ◌<◌, ◌≤◌, List, [], ◌∷◌, length, refl, sym, ◌∙◌, ap, cond, arith, Some}
+-- Room for the rows of a write, and what it puts into them, one row after another.
+use Rattle.std.proofs.Common.{◌≡◌, ℕ, ◌+◌, ◌<◌, ◌≤◌, List, [], ◌∷◌, length, refl, sym, ◌∙◌, ap, cond, arith, Some, None}
 use Rattle.std.specs.Prelude.{◌==◌, Bool, true, false, ◌&&◌, ◌||◌, not, Option, count_by}
 use Rattle.std.specs.Prelude.{Result, Ok, Err, OnErr}
 use Rattle.std.specs.List.{list_any}
 use Rattle.std.proofs.lemmas.Bool.Decides.{nat_tests}
 use Rattle.graph_model.specs.declared.limits.TheConstants.{MAX_ID}
 use Rattle.graph_model.specs.declared.row.Key.{Key}
-use Rattle.graph_model.specs.declared.write.Kind.{Kind}
-use Rattle.graph_model.specs.declared.write.Kind.TheVariants.{Directed, Undirected}
-use Rattle.graph_model.specs.declared.write.Write.{Write}
-use Rattle.graph_model.specs.declared.write.Write.TheVariants.{AddVertex, DropVertex, AddEdge, SetEdge, DropEdge}
 use Rattle.graph_model.specs.declared.journal.TxnName.{TxnName}
-use Rattle.graph_model.specs.Effects.{same_key, arc_keys, writes_at}
+use Rattle.graph_model.specs.Effects.{same_key}
 use Rattle.graph_model.specs.Rows.{is_below, is_between, end_key, vertex_key, arc_key}
 use Rattle.graph_model.proofs.TestLemmas.{self_eq, eq_symm}
 use Rattle.store_model.specs.declared.versions.Versions.{Versions}
 use Rattle.store_model.specs.Versions.{write, touch}
-use Rattle.store_model.specs.Layers.{after_write}
 use Rattle.store_model.specs.Stamped.{forget_row}
 use Rattle.version_segment.specs.Rows.{versions_at, has_row as has_row_in}
 use Rattle.leaf_store.specs.Leaves.{Leaves, KeysHaveCells, cell_at, contents_of, has_row, room_at, spare_at, shares, weight}
-use Rattle.leaf_store.specs.Changes.{KeepsCells, UsesOneRecord}
-use Rattle.leaf_rows.specs.Laying.{wanted, HasEnds, MayLay, Stays}
-use Rattle.leaf_rows.specs.Steps.{ChangesRow, KeepsPlaces, FillsPlace, Reserves, HaveRoom, HasRecordRoom}
+use Rattle.leaf_store.specs.Changes.{KeepsCells, KeepsRecordRoom, UsesRecords}
+use Rattle.leaf_rows.specs.declared.written.WrittenRows.{WrittenRows}
+use Rattle.leaf_rows.specs.Laying.{HaveRoom, HaveRows, Stays, wanted}
+use Rattle.leaf_rows.specs.Steps.{ChangesRow, FillsPlace, HaveRecordRoom, KeepsPlaces, Reserves}
+use Rattle.leaf_rows.specs.Written.{rows_after, touched_keys, with_back, written_keys}
 use Rattle.leaf_rows.proofs.StepLemmas.{key_eq}
 
 -- the key of an id within its limit is below the end
@@ -87,19 +84,9 @@ kept_room old new keys kept room k none =
 pub kept_missing : (old new : Leaves) (keys : List Key) → KeepsPlaces old new → count_by (λ k. not (has_row new k)) keys ≡ count_by (λ k. not (has_row old k)) keys
 kept_missing old new keys kept = λ i. count_by (λ k. not (kept.rows k i)) keys
 
-pub kept_ends : (old new : Leaves) (u v : ℕ) → KeepsPlaces old new → HasEnds old u v → HasEnds new u v
-kept_ends old new u v kept ends = record {
-  apart = ends.apart;
-  source = kept.rows (vertex_key u) ∙ ends.source;
-  target = kept.rows (vertex_key v) ∙ ends.target;
-}
-
-pub kept_may : (old new : Leaves) (w : Write) → KeepsPlaces old new → MayLay old w → MayLay new w
-kept_may old new (AddVertex v) kept may = may
-kept_may old new (DropVertex v) kept may = may
-kept_may old new (AddEdge u v weight) kept may = kept_ends old new u v kept may
-kept_may old new (SetEdge u v weight) kept may = may
-kept_may old new (DropEdge u v) kept may = may
+pub kept_rows : (old new : Leaves) (keys : List Key) → KeepsPlaces old new → HaveRows old keys → HaveRows new keys
+kept_rows old new [] kept have = tt
+kept_rows old new (k ∷ ks) kept have = (kept.rows k ∙ have.0, kept_rows old new ks kept have.1)
 
 pub places_chain : (a b c : Leaves) → KeepsPlaces a b → KeepsPlaces b c → KeepsPlaces a c
 places_chain a b c one two = record {
@@ -115,164 +102,154 @@ one_place s there key within room none =
     let one : ◌≡◌ {A = ℕ} (cond (not (has_row s key) && shares s key key) 1 0) 1 = λ i. cond (not (none i) && there key within i) 1 0 in
     omega (arith, h, one)
 
--- the first arc of an edge finds its place
-pub first_place : (s : Leaves) → KeysHaveCells s → (kind : Kind) (u v : ℕ) → u ≤ MAX_ID → HaveRoom s (arc_keys kind u v) → has_row s (arc_key u v) ≡ false → 0 < room_at s (arc_key u v)
-first_place s there Directed u v within room none = one_place s there (arc_key u v) (below_end u (v + 1) within) room none
-first_place s there Undirected u v within room none =
-    let key = arc_key u v in
-    let h : wanted s key (arc_keys Undirected u v) ≤ room_at s key = room key none in
-    let one : ◌≡◌ {A = ℕ} (cond (not (has_row s key) && shares s key key) 1 0) 1 = λ i. cond (not (none i) && there key (below_end u (v + 1) within) i) 1 0 in
+-- a row finds its place, with or without the one that goes the other way
+pub row_place : (s : Leaves) → KeysHaveCells s → (back : Option Key) (row : Key) → is_below row end_key ≡ true → HaveRoom s (with_back back row) → has_row s row ≡ false → 0 < room_at s row
+row_place s there None row within room none = one_place s there row within room none
+row_place s there (Some back) row within room none =
+    let h : wanted s row (back ∷ row ∷ []) ≤ room_at s row = room row none in
+    let one : ◌≡◌ {A = ℕ} (cond (not (has_row s row) && shares s row row) 1 0) 1 = λ i. cond (not (none i) && there row within i) 1 0 in
     omega (arith, h, one)
+
+-- and the other finds its place behind it
+pub back_place : (old mid : Leaves) → KeysHaveCells old → (back row : Key) → is_below back end_key ≡ true → same_key back row ≡ false → FillsPlace old mid row → HaveRoom old (back ∷ row ∷ [])
+    → has_row mid back ≡ false → 0 < room_at mid back
+back_place old mid there back row within apart fills room none =
+    let none_before : has_row old back ≡ false = sym (fills.rows back apart) ∙ none in
+    let h : wanted old back (back ∷ row ∷ []) ≤ room_at old back = room back none_before in
+    let one : ◌≡◌ {A = ℕ} (cond (not (has_row old back) && shares old back back) 1 0) 1 = λ i. cond (not (none_before i) && there back within i) 1 0 in
+    let more = fills.room back in
+    omega (arith, h, one, more)
+
+-- ---- what becomes of versions
+
+-- no key is both of two
+pub keys_apart : (a b q : Key) → same_key a b ≡ false → (same_key q a && same_key q b) ≡ false
+keys_apart a b q apart = go (same_key q a) refl
+  where
+    go : (t : Bool) → same_key q a ≡ t → (t && same_key q b) ≡ false
+    go true e = ap (λ k. same_key k b) (key_eq q a e) ∙ apart
+    go false e = refl
 
 -- the arcs of an edge have two keys
 pub other_arc : (u v : ℕ) → (u == v) ≡ false → same_key (arc_key v u) (arc_key u v) ≡ false
 other_arc u v apart = ap (λ t. t && (u + 1 == v + 1)) (eq_symm v u ∙ apart)
 
--- and the second finds its place behind the first
-pub second_place : (old mid : Leaves) → KeysHaveCells old → (u v : ℕ) → v ≤ MAX_ID → (u == v) ≡ false → FillsPlace old mid (arc_key u v) → HaveRoom old (arc_keys Undirected u v)
-    → has_row mid (arc_key v u) ≡ false → 0 < room_at mid (arc_key v u)
-second_place old mid there u v within apart fills room none =
-    let back = arc_key v u in
-    let none_before : has_row old back ≡ false = sym (fills.rows back (other_arc u v apart)) ∙ none in
-    let h : wanted old back (arc_keys Undirected u v) ≤ room_at old back = room back none_before in
-    let one : ◌≡◌ {A = ℕ} (cond (not (has_row old back) && shares old back back) 1 0) 1 = λ i. cond (not (none_before i) && there back (below_end v (u + 1) within) i) 1 0 in
-    let more = fills.room back in
-    omega (arith, h, one, more)
-
--- ---- what is laid
-
--- a key isn't that of both arcs
 pub arcs_apart : (u v : ℕ) (q : Key) → (u == v) ≡ false → (same_key q (arc_key v u) && same_key q (arc_key u v)) ≡ false
-arcs_apart u v q apart = go (same_key q (arc_key v u)) refl
-  where
-    go : (t : Bool) → same_key q (arc_key v u) ≡ t → (t && same_key q (arc_key u v)) ≡ false
-    go true e = ap (λ k. same_key k (arc_key u v)) (key_eq q (arc_key v u) e) ∙ other_arc u v apart
-    go false e = refl
+arcs_apart u v q apart = keys_apart (arc_key v u) (arc_key u v) q (other_arc u v apart)
 
--- two changes of two keys
-pub both_change : (s t : Bool) (change : Versions → Versions) (x y z : Versions) → (s && t) ≡ false → y ≡ cond t (change x) x → z ≡ cond s (change y) y → z ≡ cond (s || (t || false)) (change x) x
+-- and so have its ends
+pub other_end : (u v : ℕ) → (u == v) ≡ false → same_key (vertex_key v) (vertex_key u) ≡ false
+other_end u v apart = ap (λ t. t && true) (eq_symm v u ∙ apart)
+
+-- two changes of two keys, the second one's first
+both_change : (s t : Bool) (change : Versions → Versions) (x y z : Versions) → (s && t) ≡ false → y ≡ cond t (change x) x → z ≡ cond s (change y) y → z ≡ cond (s || (t || false)) (change x) x
 both_change true true change x y z apart one two = cc
 both_change true false change x y z apart one two = two ∙ ap change one
 both_change false true change x y z apart one two = two ∙ one
 both_change false false change x y z apart one two = two ∙ one
 
-pub arcs_change : (old mid new : Leaves) (u v : ℕ) (change : Versions → Versions) → (u == v) ≡ false
-    → ChangesRow old mid (arc_key u v) change → ChangesRow mid new (arc_key v u) change
-    → (q : Key) → contents_of new q ≡ cond (list_any (same_key q) (arc_keys Undirected u v)) (change (contents_of old q)) (contents_of old q)
-arcs_change old mid new u v change apart one two q =
-    both_change (same_key q (arc_key v u)) (same_key q (arc_key u v)) change (contents_of old q) (contents_of mid q) (contents_of new q) (arcs_apart u v q apart) (one.contents q) (two.contents q)
+-- a change of the second key and then of the first one
+pub two_change : (old mid new : Leaves) (first second : Key) (change : Versions → Versions) → same_key first second ≡ false
+    → ChangesRow old mid second change → ChangesRow mid new first change
+    → (q : Key) → contents_of new q ≡ cond (list_any (same_key q) (first ∷ second ∷ [])) (change (contents_of old q)) (contents_of old q)
+two_change old mid new first second change apart one two q =
+    both_change (same_key q first) (same_key q second) change (contents_of old q) (contents_of mid q) (contents_of new q) (keys_apart first second q apart) (one.contents q) (two.contents q)
 
-pub arc_changes : (old new : Leaves) (u v : ℕ) (change : Versions → Versions) → ChangesRow old new (arc_key u v) change
-    → (q : Key) → contents_of new q ≡ cond (list_any (same_key q) (arc_keys Directed u v)) (change (contents_of old q)) (contents_of old q)
-arc_changes old new u v change one q = one.contents q ∙ go (same_key q (arc_key u v))
+pub one_change : (old new : Leaves) (key : Key) (change : Versions → Versions) → ChangesRow old new key change
+    → (q : Key) → contents_of new q ≡ cond (list_any (same_key q) (key ∷ [])) (change (contents_of old q)) (contents_of old q)
+one_change old new key change one q = one.contents q ∙ go (same_key q key)
   where
     go : (t : Bool) → cond t (change (contents_of old q)) (contents_of old q) ≡ cond (t || false) (change (contents_of old q)) (contents_of old q)
     go true = refl
     go false = refl
 
-pub other_end : (u v : ℕ) → (u == v) ≡ false → same_key (vertex_key v) (vertex_key u) ≡ false
-other_end u v apart = ap (λ t. t && true) (eq_symm v u ∙ apart)
+-- the first of two keys is changed, and then the second one
+ends_change : (s t : Bool) (change : Versions → Versions) (x y z : Versions) → (s && t) ≡ false → y ≡ cond s (change x) x → z ≡ cond t (change y) y → z ≡ cond (s || (t || false)) (change x) x
+ends_change true true change x y z apart one two = cc
+ends_change true false change x y z apart one two = two ∙ one
+ends_change false true change x y z apart one two = two ∙ ap change one
+ends_change false false change x y z apart one two = two ∙ one
 
--- the ends of an edge have two keys
-pub ends_apart : (u v : ℕ) (q : Key) → (u == v) ≡ false → (same_key q (vertex_key u) && same_key q (vertex_key v)) ≡ false
-ends_apart u v q apart = go (same_key q (vertex_key u)) refl
+pub both_ends_change : (old mid new : Leaves) (first second : Key) (change : Versions → Versions) → same_key second first ≡ false
+    → ChangesRow old mid first change → ChangesRow mid new second change
+    → (q : Key) → contents_of new q ≡ cond (list_any (same_key q) (first ∷ second ∷ [])) (change (contents_of old q)) (contents_of old q)
+both_ends_change old mid new first second change apart one two q =
+    ends_change (same_key q first) (same_key q second) change (contents_of old q) (contents_of mid q) (contents_of new q) (flip (same_key q first) (same_key q second) (keys_apart second first q apart)) (one.contents q) (two.contents q)
   where
-    go : (t : Bool) → same_key q (vertex_key u) ≡ t → (t && same_key q (vertex_key v)) ≡ false
-    go true e = ap (λ k. same_key k (vertex_key v)) (key_eq q (vertex_key u) e) ∙ ap (λ t. t && (0 == 0)) apart
-    go false e = refl
+    flip : (s t : Bool) → (t && s) ≡ false → (s && t) ≡ false
+    flip true true e = e
+    flip true false e = refl
+    flip false t e = refl
 
--- two ends are touched and then the arcs written
-edge_laid : (s t w : Bool) (by : TxnName) (value : Option ℕ) (x a b c : Versions) → (s && t) ≡ false
-    → a ≡ cond s (touch by x) x → b ≡ cond t (touch by a) a → c ≡ cond w (write by value b) b
-    → c ≡ cond (s || t) (touch by (cond w (write by value x) x)) (cond w (write by value x) x)
-edge_laid true true w by value x a b c apart one two three = cc
-edge_laid true false w by value x a b c apart one two three = three ∙ (λ i. cond w (write by value ((two ∙ one) i)) ((two ∙ one) i)) ∙ swap w
-  where
-    swap : (w : Bool) → cond w (write by value (touch by x)) (touch by x) ≡ touch by (cond w (write by value x) x)
-    swap true = refl
-    swap false = refl
-edge_laid false true w by value x a b c apart one two three = three ∙ (λ i. cond w (write by value ((two ∙ ap (touch by) one) i)) ((two ∙ ap (touch by) one) i)) ∙ swap w
-  where
-    swap : (w : Bool) → cond w (write by value (touch by x)) (touch by x) ≡ touch by (cond w (write by value x) x)
-    swap true = refl
-    swap false = refl
-edge_laid false false w by value x a b c apart one two three = three ∙ (λ i. cond w (write by value ((two ∙ one) i)) ((two ∙ one) i))
+-- rows are touched and then written
+written_behind : (t w : Bool) (by : TxnName) (value : Option ℕ) (x b c : Versions) → b ≡ cond t (touch by x) x → c ≡ cond w (write by value b) b
+    → c ≡ cond t (touch by (cond w (write by value x) x)) (cond w (write by value x) x)
+written_behind true true by value x b c one two = two ∙ ap (write by value) one
+written_behind true false by value x b c one two = two ∙ one
+written_behind false true by value x b c one two = two ∙ ap (write by value) one
+written_behind false false by value x b c one two = two ∙ one
 
-pub edge_is_laid : (old a b new : Leaves) (kind : Kind) (by : TxnName) (u v weight : ℕ) → (u == v) ≡ false
-    → ChangesRow old a (vertex_key u) (touch by) → ChangesRow a b (vertex_key v) (touch by)
-    → ((q : Key) → contents_of new q ≡ cond (list_any (same_key q) (arc_keys kind u v)) (write by (Some weight) (contents_of b q)) (contents_of b q))
-    → (q : Key) → contents_of new q ≡ after_write kind by (AddEdge u v weight) q (contents_of old q)
-edge_is_laid old a b new kind by u v weight apart one two three q =
-    edge_laid (same_key q (vertex_key u)) (same_key q (vertex_key v)) (list_any (same_key q) (arc_keys kind u v)) by (Some weight) (contents_of old q) (contents_of a q) (contents_of b q) (contents_of new q) (ends_apart u v q apart) (one.contents q) (two.contents q) (three q)
+pub rows_are_laid : (r : WrittenRows) (by : TxnName) (old mid new : Leaves)
+    → ((q : Key) → contents_of mid q ≡ cond (list_any (same_key q) (touched_keys r)) (touch by (contents_of old q)) (contents_of old q))
+    → ((q : Key) → contents_of new q ≡ cond (list_any (same_key q) (written_keys r)) (write by r.value (contents_of mid q)) (contents_of mid q))
+    → (q : Key) → contents_of new q ≡ rows_after by r q (contents_of old q)
+rows_are_laid r by old mid new one two q =
+    written_behind (list_any (same_key q) (touched_keys r)) (list_any (same_key q) (written_keys r)) by r.value (contents_of old q) (contents_of mid q) (contents_of new q) (one q) (two q)
 
 -- ---- room for records
 
 -- a cell with room for four has room for two after two changes
-pub two_left : (a b c : Leaves) (q : Key) → UsesOneRecord a b → UsesOneRecord b c → 4 ≤ spare_at a q → 2 ≤ spare_at c q
-two_left a b c q one two h = let x = one q in let y = two q in omega (arith, x, y, h)
+pub two_left : (a c : Leaves) (q : Key) → UsesRecords 2 a c → 4 ≤ spare_at a q → 2 ≤ spare_at c q
+two_left a c q used h = let x = used q in omega (arith, x, h)
 
-pub source_spare : (s : Leaves) (kind : Kind) (u v weight : ℕ) → HasRecordRoom s kind (AddEdge u v weight) → 4 ≤ spare_at s (vertex_key u)
-source_spare s kind u v weight room = room (vertex_key u) (last (writes_at kind (AddEdge u v weight) (vertex_key u)) (same_key (vertex_key u) (vertex_key v)) (key_self (vertex_key u)))
+pub one_record : (s : Leaves) (k : Key) → 4 ≤ spare_at s k → HaveRecordRoom s (k ∷ [])
+one_record s k room q = go (same_key q k) refl
   where
-    last : (s r : Bool) → same_key (vertex_key u) (vertex_key u) ≡ true → (s || (same_key (vertex_key u) (vertex_key u) || r)) ≡ true
-    last true r e = refl
-    last false r e = ap (λ t. t || r) e
-
-pub target_spare : (s : Leaves) (kind : Kind) (u v weight : ℕ) → HasRecordRoom s kind (AddEdge u v weight) → 4 ≤ spare_at s (vertex_key v)
-target_spare s kind u v weight room = room (vertex_key v) (last (writes_at kind (AddEdge u v weight) (vertex_key v)) (same_key (vertex_key v) (vertex_key u)) (key_self (vertex_key v)))
-  where
-    last : (s r : Bool) → same_key (vertex_key v) (vertex_key v) ≡ true → (s || (r || same_key (vertex_key v) (vertex_key v))) ≡ true
-    last true r e = refl
-    last false true e = refl
-    last false false e = e
-
--- where the write writes
-pub left_true : (s t : Bool) → s ≡ true → (s || t) ≡ true
-left_true s t e = ap (λ x. x || t) e
-
--- all rows of an edge that is added
-pub edge_spare : (s : Leaves) (kind : Kind) (u v : ℕ) → 4 ≤ spare_at s (vertex_key u) → 4 ≤ spare_at s (vertex_key v)
-    → ((q : Key) → list_any (same_key q) (arc_keys kind u v) ≡ true → 4 ≤ spare_at s q) → HasRecordRoom s kind (AddEdge u v 0)
-edge_spare s kind u v source target arcs q = go (list_any (same_key q) (arc_keys kind u v)) (same_key q (vertex_key u)) (same_key q (vertex_key v)) refl refl refl
-  where
-    go : (w a b : Bool) → list_any (same_key q) (arc_keys kind u v) ≡ w → same_key q (vertex_key u) ≡ a → same_key q (vertex_key v) ≡ b → (w || (a || b)) ≡ true → 4 ≤ spare_at s q
-    go true a b e f g h = arcs q e
-    go false true b e f g h = rw (key_eq q (vertex_key u) f) source
-    go false false true e f g h = rw (key_eq q (vertex_key v) g) target
-    go false false false e f g h = cc
-
--- one key alone
-pub key_spare : (s : Leaves) (k q : Key) → 4 ≤ spare_at s k → ((same_key q k || false) || false) ≡ true → 4 ≤ spare_at s q
-key_spare s k q room = go (same_key q k) refl
-  where
-    go : (t : Bool) → same_key q k ≡ t → ((t || false) || false) ≡ true → 4 ≤ spare_at s q
+    go : (t : Bool) → same_key q k ≡ t → (t || false) ≡ true → 4 ≤ spare_at s q
     go true e h = rw (key_eq q k e) room
     go false e h = cc
 
--- the keys of an edge's rows
-pub arcs_spare : (s : Leaves) (kind : Kind) (u v : ℕ) → 4 ≤ spare_at s (arc_key u v) → (kind ≡ Undirected → 4 ≤ spare_at s (arc_key v u))
-    → (q : Key) → list_any (same_key q) (arc_keys kind u v) ≡ true → 4 ≤ spare_at s q
-arcs_spare s Directed u v one two q = go (same_key q (arc_key u v)) refl
+pub two_records : (s : Leaves) (a b : Key) → 4 ≤ spare_at s a → 4 ≤ spare_at s b → HaveRecordRoom s (a ∷ b ∷ [])
+two_records s a b one two q = go (same_key q a) (same_key q b) refl refl
   where
-    go : (t : Bool) → same_key q (arc_key u v) ≡ t → (t || false) ≡ true → 4 ≤ spare_at s q
-    go true e h = rw (key_eq q (arc_key u v) e) one
-    go false e h = cc
-arcs_spare s Undirected u v one two q = go (same_key q (arc_key v u)) (same_key q (arc_key u v)) refl refl
-  where
-    go : (a b : Bool) → same_key q (arc_key v u) ≡ a → same_key q (arc_key u v) ≡ b → (a || (b || false)) ≡ true → 4 ≤ spare_at s q
-    go true b e f h = rw (key_eq q (arc_key v u) e) (two refl)
-    go false true e f h = rw (key_eq q (arc_key u v) f) one
+    go : (x y : Bool) → same_key q a ≡ x → same_key q b ≡ y → (x || (y || false)) ≡ true → 4 ≤ spare_at s q
+    go true y e f h = rw (key_eq q a e) one
+    go false true e f h = rw (key_eq q b f) two
     go false false e f h = cc
 
--- the places that both arcs take
-pub arcs_weight : (old mid new : Leaves) (u v : ℕ) → (u == v) ≡ false → FillsPlace old mid (arc_key u v) → FillsPlace mid new (arc_key v u)
-    → weight new ≤ weight old + count_by (λ k. not (has_row old k)) (arc_keys Undirected u v)
-arcs_weight old mid new u v apart one two =
-    let back : ◌≡◌ {A = ℕ} (cond (not (has_row mid (arc_key v u))) 1 0) (cond (not (has_row old (arc_key v u))) 1 0) =
-    ap (λ t. cond (not t) 1 0) (one.rows (arc_key v u) (other_arc u v apart)) in
+pub kept_records : (old new : Leaves) (keys : List Key) → KeepsRecordRoom old new → HaveRecordRoom old keys → HaveRecordRoom new keys
+kept_records old new keys kept have q e = let x = have q e in let y = kept q in omega (arith, x, y)
+
+pub first_key : (a b : Key) → list_any (same_key a) (a ∷ b ∷ []) ≡ true
+first_key a b = ap (λ t. t || (same_key a b || false)) (key_self a)
+
+second_key : (a b : Key) → list_any (same_key b) (a ∷ b ∷ []) ≡ true
+second_key a b = ap (λ t. same_key b a || (t || false)) (key_self b) ∙ either_true (same_key b a)
+  where
+    either_true : (t : Bool) → (t || true) ≡ true
+    either_true true = refl
+    either_true false = refl
+
+pub first_spare : (s : Leaves) (a b : Key) → HaveRecordRoom s (a ∷ b ∷ []) → 4 ≤ spare_at s a
+first_spare s a b have = have a (first_key a b)
+
+pub second_spare : (s : Leaves) (a b : Key) → HaveRecordRoom s (a ∷ b ∷ []) → 4 ≤ spare_at s b
+second_spare s a b have = have b (second_key a b)
+
+-- a row that is written is one of the keys
+pub row_among : (back : Option Key) (row : Key) → list_any (same_key row) (with_back back row) ≡ true
+row_among None row = ap (λ t. t || false) (key_self row)
+row_among (Some back) row = second_key back row
+
+-- the places that two rows take
+pub two_weight : (old mid new : Leaves) (back row : Key) → same_key back row ≡ false → FillsPlace old mid row → FillsPlace mid new back
+    → weight new ≤ weight old + count_by (λ k. not (has_row old k)) (back ∷ row ∷ [])
+two_weight old mid new back row apart one two =
+    let same : ◌≡◌ {A = ℕ} (cond (not (has_row mid back)) 1 0) (cond (not (has_row old back)) 1 0) =
+    ap (λ t. cond (not t) 1 0) (one.rows back apart) in
     let x = one.weight in
     let y = two.weight in
-    omega (arith, back, x, y)
+    omega (arith, same, x, y)
 
 pub on_err_of : {X E : Type 0} (r : Result X E) {P : Type 0} → P → OnErr r P
 on_err_of (Ok x) p = tt

@@ -13,3 +13,4 @@ pub mod CountLemmas
 pub mod FillLemmas
 pub mod SweepLemmas
 pub mod MergeLemmas
+pub mod WrittenLemmas

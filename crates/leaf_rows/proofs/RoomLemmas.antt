@@ -19,7 +19,8 @@ use Rattle.leaf_store.specs.Changes.{MovesRows, IsRoomRefusal}
 use Rattle.leaf_store.specs.Merging.{FreesRetired}
 use Rattle.leaf_rows.specs.Laying.{KeepsContents, Stays, wanted, IsNoRoom, IsSpent}
 use Rattle.leaf_rows.specs.Readers.{AreUnstamped}
-use Rattle.leaf_rows.specs.Steps.{HaveRoom, KeepsRoom, IsNoPlace, wanted_in, keys_with}
+use Rattle.leaf_rows.specs.Steps.{KeepsRoom, wanted_in, keys_with}
+use Rattle.leaf_rows.specs.Laying.{HaveRoom, IsNoPlace}
 use Rattle.leaf_rows.proofs.CellLemmas.{rows_by_versions}
 
 -- ---- what stays

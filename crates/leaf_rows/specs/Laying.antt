@@ -1,5 +1,6 @@
 -- When a write may be laid in rows, the room that it wants, and what calls leave.
 use Rattle.std.specs.Prelude.{◌≡◌, ◌==◌, ◌&&◌, ℕ, ◌-◌, ◌*◌, ◌^◌, ◌<◌, ◌≤◌, min, true, false, not, List, [], count_by, Option}
+use Rattle.std.specs.List.{AllByRecursion}
 use Rattle.graph_model.specs.declared.limits.TheConstants.{SPLIT_ROWS}
 use Rattle.graph_model.specs.declared.row.Key.{Key}
 use Rattle.graph_model.specs.declared.journal.TxnName.{TxnName}
@@ -20,6 +21,10 @@ use Rattle.leaf_store.specs.declared.store.Pruned.{Pruned}
 -- how many of the rows that a write writes are missing
 abbrev pub missing : Leaves → Kind → Write → ℕ
 missing s kind w = count_by (λ k. not (has_row s k)) (keys_of kind w)
+
+-- each of these keys has a row
+abbrev pub HaveRows : Leaves → List Key → Type 0
+HaveRows s keys = AllByRecursion (λ k. has_row s k ≡ true) keys
 
 -- both ends of an edge have a row
 pub record HasEnds (s : Leaves) (u v : ℕ) : Type 0 where
@@ -43,6 +48,10 @@ HasTouchedNone s by = (k : Key) → has_name (contents_of s k).touches by ≡ fa
 abbrev pub wanted : Leaves → Key → List Key → ℕ
 wanted s k keys = count_by (λ q. not (has_row s q) && shares s k q) keys
 
+-- each of these keys that is missing finds a place, those that share a cell together
+abbrev pub HaveRoom : Leaves → List Key → Type 0
+HaveRoom s keys = (k : Key) → has_row s k ≡ false → wanted s k keys ≤ room_at s k
+
 -- each missing row of the write finds its place, those that share a cell together
 abbrev pub HasRoomFor : Leaves → Kind → Write → Type 0
 HasRoomFor s kind w = (k : Key) → has_row s k ≡ false → wanted s k (keys_of kind w) ≤ room_at s k
@@ -61,6 +70,13 @@ pub record Stays (old new : Leaves) : Type 0 where
   pub limit : new.limit ≡ old.limit
   pub weight : weight new ≤ weight old
   pub retired : new.retired ≡ old.retired
+
+-- why there is no room for rows with these keys
+abbrev pub IsNoPlace : Leaves → List Key → RoomRefusal → Type 0
+IsNoPlace s keys (refusals.Full leaves) =
+    (leaves ≡ s.limit) × (SPLIT_ROWS * leaves ≤ weight s)
+    × ((k : Key) × (need : ℕ) × (need ≡ wanted s k keys) × (room_at s k < need) × IsFull s k need)
+IsNoPlace s keys refusals.NoMemory = Unit {0}
 
 -- why there is no room for a write: a key's cell is too full, no window round it has room, and no leaf is free
 abbrev pub IsNoRoom : Leaves → Kind → Write → RoomRefusal → Type 0

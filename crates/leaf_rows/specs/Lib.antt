@@ -8,3 +8,4 @@ pub mod Runs
 pub mod Loaded
 pub mod Counted
 pub mod Filling
+pub mod Written

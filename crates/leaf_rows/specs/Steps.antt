@@ -1,10 +1,9 @@
 -- What changes one row does to all of them. Only the crate itself speaks of it.
-use Rattle.std.specs.Prelude.{◌≡◌, ◌⊎◌, ℕ, ◌+◌, ◌-◌, ◌*◌, ◌<◌, ◌≤◌, true, false, ◌&&◌, ◌||◌, not, cond}
+use Rattle.std.specs.Prelude.{◌≡◌, ◌⊎◌, ℕ, ◌+◌, ◌-◌, ◌*◌, ◌<◌, ◌≤◌, true, false, ◌&&◌, not, cond}
 use Rattle.std.specs.Prelude.{List, [], ◌∷◌, Option, Some, None, length, count_by}
 use Rattle.graph_model.specs.declared.row.Key.{Key}
-use Rattle.graph_model.specs.declared.write.Kind.{Kind}
-use Rattle.graph_model.specs.declared.write.Write.{Write}
-use Rattle.graph_model.specs.Effects.{same_key, writes_at, touches_at}
+use Rattle.std.specs.List.{list_any}
+use Rattle.graph_model.specs.Effects.{same_key}
 use Rattle.store_model.specs.declared.versions.Versions.{Versions}
 use Rattle.leaf_store.specs.Leaves.{Leaves, contents_of, has_row, room_at, spare_at, shares, weight}
 use Rattle.leaf_store.specs.Changes.{KeepsCells, KeepsRecordRoom, IsFull}
@@ -38,13 +37,9 @@ pub record Reserves (old new : Leaves) : Type 0 where
   pub room : KeepsRecordRoom old new
   pub cells : KeepsCells old new
 
--- each of these keys that is missing finds a place, those that share a cell together
-abbrev pub HaveRoom : Leaves → List Key → Type 0
-HaveRoom s keys = (k : Key) → has_row s k ≡ false → wanted s k keys ≤ room_at s k
-
--- each cell that a write changes has room for four records
-abbrev pub HasRecordRoom : Leaves → Kind → Write → Type 0
-HasRecordRoom s kind w = (q : Key) → (writes_at kind w q || touches_at w q) ≡ true → 4 ≤ spare_at s q
+-- the cells of these keys have room for four records each
+abbrev pub HaveRecordRoom : Leaves → List Key → Type 0
+HaveRecordRoom s keys = (q : Key) → list_any (same_key q) keys ≡ true → 4 ≤ spare_at s q
 
 -- one key or two
 abbrev pub keys_with : Key → Option Key → List Key
@@ -54,13 +49,6 @@ keys_with key (Some other) = key ∷ other ∷ []
 -- a cell keeps its room, or has changed and then has room for two rows
 abbrev pub KeepsRoom : Leaves → Leaves → Type 0
 KeepsRoom old new = (q : Key) → (room_at old q ≤ room_at new q) ⊎ (2 ≤ room_at new q)
-
--- why there is no room for rows with these keys
-abbrev pub IsNoPlace : Leaves → List Key → RoomRefusal → Type 0
-IsNoPlace s keys (refusals.Full leaves) =
-    (leaves ≡ s.limit) × (SPLIT_ROWS * leaves ≤ weight s)
-    × ((k : Key) × (need : ℕ) × (need ≡ wanted s k keys) × (room_at s k < need) × IsFull s k need)
-IsNoPlace s keys refusals.NoMemory = Unit {0}
 
 -- how many of these keys a cell holds without a row
 abbrev pub wanted_in : VersionedRows → List Key → ℕ

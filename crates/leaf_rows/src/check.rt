@@ -19,10 +19,11 @@ ghost use Rattle.leaf_rows.specs.Readers.{Shows, cause_for};
 use crate::reader::Reader;
 use crate::row::{FoundRow, combined};
 use crate::rows::LeafRows;
+use crate::written::Fingers;
 use graph_model::{Cause, Key, Kind, Refusal, Write};
 
 /// The rows of an edge's ends.
-#[derive(Clone, Copy)]
+#[derive(Drop)]
 struct Ends<'a> {
     source: FoundRow<'a>,
     target: FoundRow<'a>,
@@ -31,7 +32,13 @@ struct Ends<'a> {
 impl LeafRows {
     /// Whether a write of an open transaction may be made. Of several writers that stand against it the one is named
     /// that counts.
-    pub fn check(&self, kind: Kind, reader: &Reader, write: Write) -> Result<(), Refusal>
+    pub fn check(
+        &self,
+        kind: Kind,
+        reader: &Reader,
+        write: Write,
+        near: &Fingers,
+    ) -> Result<(), Refusal>
         requires within { IsWithinLimits write }
         requires started { reader.now.start ≤ length reader.now.manager.now.journal }
         requires is_open { IsSome (open_start reader.now.manager.now reader.now.by) }
@@ -39,23 +46,23 @@ impl LeafRows {
             → IsChecked reader.now self.now g write result }
     {
         match write {
-            Write::AddVertex { v } => self.check_new_vertex(reader, v),
-            Write::DropVertex { v } => self.check_old_vertex(kind, reader, v),
-            Write::AddEdge { u, v, weight: _ } => self.check_new_edge(reader, u, v),
-            Write::SetEdge { u, v, weight: _ } => self.check_old_edge(reader, u, v),
-            Write::DropEdge { u, v } => self.check_old_edge(reader, u, v),
+            Write::AddVertex { v } => self.check_new_vertex(reader, v, near),
+            Write::DropVertex { v } => self.check_old_vertex(kind, reader, v, near),
+            Write::AddEdge { u, v, weight: _ } => self.check_new_edge(reader, u, v, near),
+            Write::SetEdge { u, v, weight: _ } => self.check_old_edge(reader, u, v, near),
+            Write::DropEdge { u, v } => self.check_old_edge(reader, u, v, near),
         }
     }
 
     /// Whether a vertex may be added.
-    fn check_new_vertex(&self, reader: &Reader, v: u64) -> Result<(), Refusal>
+    fn check_new_vertex(&self, reader: &Reader, v: u64, near: &Fingers) -> Result<(), Refusal>
         requires within { v ≤ MAX_ID }
         requires started { reader.now.start ≤ length reader.now.manager.now.journal }
         requires is_open { IsSome (open_start reader.now.manager.now reader.now.by) }
         ensures { (g : Graph) → Shows reader.now self.now g
             → IsChecked reader.now self.now g (writes.AddVertex v) result }
     {
-        let row = self.row(Key::of_vertex(v));
+        let row = self.row(Key::of_vertex(v), near.row);
         if row.value(reader).is_some() {
             return Err(Refusal::VertexExists);
         }
@@ -63,14 +70,20 @@ impl LeafRows {
     }
 
     /// Whether a vertex may be removed.
-    fn check_old_vertex(&self, kind: Kind, reader: &Reader, v: u64) -> Result<(), Refusal>
+    fn check_old_vertex(
+        &self,
+        kind: Kind,
+        reader: &Reader,
+        v: u64,
+        near: &Fingers,
+    ) -> Result<(), Refusal>
         requires within { v ≤ MAX_ID }
         requires started { reader.now.start ≤ length reader.now.manager.now.journal }
         requires is_open { IsSome (open_start reader.now.manager.now reader.now.by) }
         ensures { (g : Graph) → Shows reader.now self.now g → FitsKind kind g
             → IsChecked reader.now self.now g (writes.DropVertex v) result }
     {
-        let row = self.row(Key::of_vertex(v));
+        let row = self.row(Key::of_vertex(v), near.row);
         if row.value(reader).is_none() {
             return Err(Refusal::NoVertex { v });
         }
@@ -81,7 +94,13 @@ impl LeafRows {
     }
 
     /// Whether the ends of an edge are two vertices. Lends their rows.
-    fn check_ends(&self, reader: &Reader, u: u64, v: u64) -> Result<Ends<'_>, Refusal>
+    fn check_ends(
+        &self,
+        reader: &Reader,
+        u: u64,
+        v: u64,
+        near: &Fingers,
+    ) -> Result<Ends<'_>, Refusal>
         requires source_within { u ≤ MAX_ID }
         requires target_within { v ≤ MAX_ID }
         requires started { reader.now.start ≤ length reader.now.manager.now.journal }
@@ -92,11 +111,11 @@ impl LeafRows {
         if u == v {
             return Err(Refusal::SelfLoop);
         }
-        let source = self.row(Key::of_vertex(u));
+        let source = self.row(Key::of_vertex(u), near.source);
         if source.value(reader).is_none() {
             return Err(Refusal::NoVertex { v: u });
         }
-        let target = self.row(Key::of_vertex(v));
+        let target = self.row(Key::of_vertex(v), near.target);
         if target.value(reader).is_none() {
             return Err(Refusal::NoVertex { v });
         }
@@ -104,7 +123,7 @@ impl LeafRows {
     }
 
     /// Whether an edge may be added.
-    fn check_new_edge(&self, reader: &Reader, u: u64, v: u64) -> Result<(), Refusal>
+    fn check_new_edge(&self, reader: &Reader, u: u64, v: u64, near: &Fingers) -> Result<(), Refusal>
         requires source_within { u ≤ MAX_ID }
         requires target_within { v ≤ MAX_ID }
         requires started { reader.now.start ≤ length reader.now.manager.now.journal }
@@ -112,8 +131,8 @@ impl LeafRows {
         ensures { (g : Graph) (weight : ℕ) → Shows reader.now self.now g
             → IsChecked reader.now self.now g (writes.AddEdge u v weight) result }
     {
-        let ends = self.check_ends(reader, u, v)?;
-        let arc = self.row(Key::of_arc(u, v));
+        let ends = self.check_ends(reader, u, v, near)?;
+        let arc = self.row(Key::of_arc(u, v), near.row);
         if arc.value(reader).is_some() {
             return Err(Refusal::EdgeExists);
         }
@@ -125,7 +144,7 @@ impl LeafRows {
     }
 
     /// Whether an edge may be set or removed.
-    fn check_old_edge(&self, reader: &Reader, u: u64, v: u64) -> Result<(), Refusal>
+    fn check_old_edge(&self, reader: &Reader, u: u64, v: u64, near: &Fingers) -> Result<(), Refusal>
         requires source_within { u ≤ MAX_ID }
         requires target_within { v ≤ MAX_ID }
         requires started { reader.now.start ≤ length reader.now.manager.now.journal }
@@ -134,8 +153,8 @@ impl LeafRows {
             ≡ answer_of (unless_ends g u v (cond (has_arc g u v) None (Some refusals.NoEdge)))
             (cause_for reader.now (newest (contents_of self.now (arc_key u v)))) }
     {
-        self.check_ends(reader, u, v)?;
-        let arc = self.row(Key::of_arc(u, v));
+        self.check_ends(reader, u, v, near)?;
+        let arc = self.row(Key::of_arc(u, v), near.row);
         if arc.value(reader).is_none() {
             return Err(Refusal::NoEdge);
         }

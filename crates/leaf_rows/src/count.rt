@@ -19,7 +19,7 @@ impl LeafRows {
         ensures vertices { (g : Graph) → Shows reader.now self.now g → result.vertices ≡ length (vertices_of g) }
         ensures arcs { (g : Graph) → Shows reader.now self.now g → result.arcs ≡ fin_map.len g.arcs }
     {
-        self.store.limit();
+        self.store.is_sound();
         let mut counts = Counts {
             vertices: 0,
             arcs: 0,

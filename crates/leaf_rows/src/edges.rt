@@ -22,7 +22,7 @@ impl LeafRows {
         requires started { reader.now.start ≤ length reader.now.manager.now.journal }
         ensures { (g : Graph) → Shows reader.now self.now g → FitsKind kind g → result ≡ has_edges g v }
     {
-        self.store.limit();
+        self.store.is_sound();
         let first = Key { src: v, second: 1 };
         if self.sees_any(reader, first, Key::of_vertex(v + 1), None) {
             return true;

@@ -23,7 +23,9 @@ mod scan;
 mod settle;
 mod steps;
 mod undo;
+mod written;
 
 pub use leaf_store::{Pruned, STAMPS_END};
 pub use reader::Reader;
 pub use rows::{Counts, LeafRows};
+pub use written::{EndKeys, Fingers, FoundRows, WrittenRows};

@@ -1,40 +1,50 @@
-//! The cells of a write are looked up once, for all that its check and its laying ask of them.
+//! The rows of a write are found once, for all that its check, its room and its writing ask of them.
 
-ghost use Rattle.std.specs.Prelude.{◌≡◌, ◌≤◌};
-ghost use Rattle.graph_model.specs.declared.limits.TheConstants.{MAX_ID};
+ghost use Rattle.std.specs.Prelude.{◌≡◌};
 ghost use Rattle.graph_model.specs.Refused.{IsWithinLimits};
+ghost use Rattle.leaf_rows.specs.Written.{rows_of};
 
 use crate::rows::LeafRows;
-use graph_model::{Key, Write};
+use crate::written::{EndKeys, Fingers, FoundRows, WrittenRows};
+use graph_model::{Kind, Write};
+use leaf_store::Finger;
 
 impl LeafRows {
-    /// Looks the cells of a write's rows up for the calls to come. Nothing that contracts see changes.
-    pub fn look_up(&mut self, write: Write)
+    /// Finds the rows of a write, and those of an edge's ends. Nothing that contracts see changes.
+    pub fn find(&mut self, kind: Kind, write: Write) -> FoundRows
         requires { IsWithinLimits write }
-        ensures { self.new ≡ self.old }
+        ensures rows { result.rows ≡ rows_of kind write }
+        ensures kept { self.new ≡ self.old }
     {
-        match write {
-            Write::AddVertex { v } => self.store.look_up(Key::of_vertex(v)),
-            Write::DropVertex { v } => self.store.look_up(Key::of_vertex(v)),
-            Write::AddEdge { u, v, weight: _ } => self.look_up_edge(u, v, true),
-            Write::SetEdge { u, v, weight: _ } => self.look_up_edge(u, v, false),
-            Write::DropEdge { u, v } => self.look_up_edge(u, v, false),
-        }
+        let rows = WrittenRows::of(kind, write);
+        let near = match rows.ends {
+            Some(ends) => self.find_edge(&rows, ends),
+            None => Fingers {
+                row: self.store.find(rows.row),
+                back: Finger::nowhere(),
+                source: Finger::nowhere(),
+                target: Finger::nowhere(),
+            },
+        };
+        FoundRows { rows, near }
     }
 
-    /// Looks the cells of an edge's rows up, and those of its ends.
-    fn look_up_edge(&mut self, u: u64, v: u64, rows_come: bool)
-        requires source_within { u ≤ MAX_ID }
-        requires target_within { v ≤ MAX_ID }
+    /// Finds the rows of an edge and of its ends side by side.
+    fn find_edge(&mut self, rows: &WrittenRows, ends: EndKeys) -> Fingers
         ensures { self.new ≡ self.old }
     {
-        // First the key that is asked for most often.
         let keys = [
-            Key::of_arc(u, v),
-            Key::of_arc(v, u),
-            Key::of_vertex(u),
-            Key::of_vertex(v),
+            rows.row,
+            rows.back.unwrap_or(rows.row),
+            ends.source,
+            ends.target,
         ];
-        self.store.look_up_four(keys, rows_come);
+        let [row, back, source, target] = self.store.find_four(keys, rows.touches);
+        Fingers {
+            row,
+            back,
+            source,
+            target,
+        }
     }
 }

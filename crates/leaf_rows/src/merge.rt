@@ -3,17 +3,18 @@
 //! Each key keeps what it has, whatever a call answers.
 
 ghost use Rattle.std.specs.Prelude.{◌≡◌, ◌<◌, ◌≤◌, [], false, true, length, IfErr, IsOk, OnOk};
-ghost use Rattle.graph_model.specs.Refused.{IsWithinLimits};
 ghost use Rattle.graph_model.specs.Rows.{is_below, end_key};
 ghost use Rattle.leaf_index.specs.Calls.{freed_of};
 ghost use Rattle.leaf_store.specs.declared.pair.TheConstants.{STAMPS_END};
 ghost use Rattle.leaf_store.specs.Changes.{IsRoomRefusal};
 ghost use Rattle.leaf_store.specs.Leaves.{record_count, room_at};
 ghost use Rattle.leaf_store.specs.Merging.{FreesRetired, IsCompact, IsMergeStep};
-ghost use Rattle.leaf_rows.specs.Laying.{HasRoomFor, IsNoRoom, IsSpent, KeepsContents};
+ghost use Rattle.leaf_rows.specs.Written.{AreRows, written_keys};
+ghost use Rattle.leaf_rows.specs.Laying.{HaveRoom, IsNoPlace, IsSpent, KeepsContents};
 
 use crate::rows::LeafRows;
-use graph_model::{Key, Kind, NoMemory, Write};
+use crate::written::FoundRows;
+use graph_model::{Key, NoMemory};
 use txn_manager::RoomRefusal;
 
 impl LeafRows {
@@ -25,9 +26,9 @@ impl LeafRows {
         ensures steps { IsMergeStep self.old self.new stamp result }
         ensures settled { record_count self.old ≡ 0 → IsOk result }
     {
-        self.store.limit();
+        self.store.is_sound();
         let did = self.store.merge_step(stamp);
-        self.store.limit();
+        self.store.is_sound();
         did
     }
 
@@ -38,7 +39,7 @@ impl LeafRows {
         ensures compact { record_count self.old ≡ 0 → IsCompact self.new }
     {
         'steps: loop {
-            self.store.limit();
+            self.store.is_sound();
             match self.merge_step(stamp) {
                 Ok(true) => {}
                 Ok(false) => return,
@@ -59,26 +60,21 @@ impl LeafRows {
 
     /// Makes room for the rows of a write that are missing. Where no leaf is free the retired ones with a stamp below
     /// the given one are freed for it.
-    pub fn make_room_or_free(
-        &mut self,
-        kind: Kind,
-        write: Write,
-        until: u64,
-    ) -> Result<(), RoomRefusal>
-        requires { IsWithinLimits write }
+    pub fn make_room_or_free(&mut self, found: &FoundRows, until: u64) -> Result<(), RoomRefusal>
+        requires { AreRows found.now.rows }
         ensures contents { KeepsContents self.old self.new }
-        ensures ok { OnOk result (HasRoomFor self.new kind write) }
-        ensures full { IfErr result (λ refusal. IsNoRoom self.new kind write refusal) }
+        ensures ok { OnOk result (HaveRoom self.new (written_keys found.now.rows)) }
+        ensures full { IfErr result (λ refusal. IsNoPlace self.new (written_keys found.now.rows) refusal) }
         ensures spent { IfErr result (λ refusal. IsSpent until self.new refusal) }
     {
-        match self.make_room(kind, write) {
+        match self.make_room(found) {
             Ok(()) => Ok(()),
             Err(RoomRefusal::NoMemory) => Err(RoomRefusal::NoMemory),
             Err(RoomRefusal::Full { leaves }) => {
                 if self.free_retired(until) == 0 {
                     return Err(RoomRefusal::Full { leaves });
                 }
-                self.make_room(kind, write)
+                self.make_room(found)
             }
         }
     }

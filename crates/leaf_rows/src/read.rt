@@ -10,16 +10,16 @@ use crate::reader::Reader;
 use crate::row::FoundRow;
 use crate::rows::LeafRows;
 use graph_model::Key;
+use leaf_store::Finger;
 
 impl LeafRows {
     /// Lends what a key has.
-    pub(crate) fn row(&self, key: Key) -> FoundRow<'_>
+    pub(crate) fn row(&self, key: Key, near: Finger) -> FoundRow<'_>
         requires { is_below key end_key ≡ true }
         ensures { contents_at result ≡ contents_of self.now key }
     {
         FoundRow {
-            cell: self.store.segment(key),
-            key,
+            row: self.store.segment(key, near).row(key, near.row),
         }
     }
 
@@ -29,6 +29,6 @@ impl LeafRows {
         requires started { reader.now.start ≤ length reader.now.manager.now.journal }
         ensures { result ≡ value_for reader.now (contents_of self.now key) }
     {
-        self.row(key).value(reader)
+        self.row(key, Finger::nowhere()).value(reader)
     }
 }

@@ -1,39 +1,60 @@
 //! Room for the rows of a write.
 //!
-//! 1. The row with the lesser key is looked at first, and each by a route of its own.
+//! 1. The row with the lesser key is looked at first.
 //! 2. Where both rows of an edge are missing and share a cell, it gets room for two.
+//! 3. Rows may move when room is made for one of them, so the other is looked at anew behind that.
 
 ghost use Rattle.std.specs.Prelude.{◌≡◌, ◌-◌, ◌<◌, ◌≤◌, ◌∷◌, [], true, false, cond, not, ◌&&◌, length};
 ghost use Rattle.std.specs.Prelude.{None, IfSome, OnOk, IfErr};
-ghost use Rattle.graph_model.specs.declared.limits.TheConstants.{MAX_ID, SEGMENT_ROWS};
-ghost use Rattle.graph_model.specs.Effects.{arc_keys};
-ghost use Rattle.graph_model.specs.Refused.{IsWithinLimits};
-ghost use Rattle.graph_model.specs.Rows.{is_below, is_between, end_key, vertex_key};
+ghost use Rattle.graph_model.specs.declared.limits.TheConstants.{SEGMENT_ROWS};
+ghost use Rattle.graph_model.specs.Rows.{is_below, is_between, end_key};
 ghost use Rattle.version_segment.specs.Rows as segments;
 ghost use Rattle.leaf_store.specs.Leaves.{KeysHaveCells, has_row, room_at};
 ghost use Rattle.leaf_store.specs.Changes.{IsRoomRefusal};
-ghost use Rattle.leaf_rows.specs.Laying.{HasRoomFor, IsNoRoom, Stays, wanted};
-ghost use Rattle.leaf_rows.specs.Steps.{HaveRoom, IsNeed, IsNoPlace, KeepsRoom, keys_with, wanted_in};
+ghost use Rattle.leaf_rows.specs.Laying.{IsNoPlace, Stays, wanted};
+ghost use Rattle.leaf_rows.specs.Steps.{IsNeed, KeepsRoom, keys_with, wanted_in};
+ghost use Rattle.leaf_rows.specs.Laying.{HaveRoom};
+ghost use Rattle.leaf_rows.specs.Written.{AreRows, written_keys};
 
 use crate::rows::LeafRows;
-use graph_model::{Key, Kind, Write};
+use crate::written::FoundRows;
+use graph_model::Key;
+use leaf_store::Finger;
 use txn_manager::RoomRefusal;
 use version_segment::VersionSegment;
 
+/// A key, and where it was found.
+#[derive(Clone, Copy)]
+struct KeyAt {
+    key: Key,
+    near: Finger,
+}
+
 impl LeafRows {
     /// Makes room for the rows of a write that are missing, that of the lesser key first.
-    pub fn make_room(&mut self, kind: Kind, write: Write) -> Result<(), RoomRefusal>
-        requires { IsWithinLimits write }
+    pub fn make_room(&mut self, found: &FoundRows) -> Result<(), RoomRefusal>
+        requires { AreRows found.now.rows }
         ensures stays { Stays self.old self.new }
-        ensures ok { OnOk result (HasRoomFor self.new kind write) }
-        ensures full { IfErr result (λ refusal. IsNoRoom self.new kind write refusal) }
+        ensures ok { OnOk result (HaveRoom self.new (written_keys found.now.rows)) }
+        ensures full { IfErr result (λ refusal. IsNoPlace self.new (written_keys found.now.rows) refusal) }
     {
-        match write {
-            Write::AddVertex { v } => self.make_vertex_room(v),
-            Write::DropVertex { v } => self.make_vertex_room(v),
-            Write::AddEdge { u, v, weight: _ } => self.make_arc_room(kind, u, v),
-            Write::SetEdge { u, v, weight: _ } => self.make_arc_room(kind, u, v),
-            Write::DropEdge { u, v } => self.make_arc_room(kind, u, v),
+        let row = KeyAt {
+            key: found.rows.row,
+            near: found.near.row,
+        };
+        match found.rows.back {
+            None => self.make_one(row),
+            Some(key) => {
+                let back = KeyAt {
+                    key,
+                    near: found.near.back,
+                };
+                if back.key.is_below(row.key) {
+                    self.make_both(back, row)
+                } else {
+                    self.make_both(row, back)
+                }
+            }
         }
     }
 
@@ -47,118 +68,87 @@ impl LeafRows {
         ensures ok { OnOk result (need ≤ room_at self.new key) }
         ensures refused { IfErr result (λ refusal. IsRoomRefusal self.old key need refusal self.new) }
     {
-        self.store.limit();
+        self.store.is_sound();
         let made = self.store.make_room(key, need);
-        self.store.limit();
+        self.store.is_sound();
         made
     }
 
-    /// Makes room for the row of a vertex.
-    fn make_vertex_room(&mut self, v: u64) -> Result<(), RoomRefusal>
-        requires { v ≤ MAX_ID }
-        ensures stays { Stays self.old self.new }
-        ensures ok { OnOk result (HaveRoom self.new (vertex_key v ∷ [])) }
-        ensures full { IfErr result (λ refusal. IsNoPlace self.new (vertex_key v ∷ []) refusal) }
-    {
-        self.make_one(Key::of_vertex(v))
-    }
-
-    /// Makes room for the rows of an edge.
-    fn make_arc_room(&mut self, kind: Kind, u: u64, v: u64) -> Result<(), RoomRefusal>
-        requires source_within { u ≤ MAX_ID }
-        requires target_within { v ≤ MAX_ID }
-        ensures stays { Stays self.old self.new }
-        ensures ok { OnOk result (HaveRoom self.new (arc_keys kind u v)) }
-        ensures full { IfErr result (λ refusal. IsNoPlace self.new (arc_keys kind u v) refusal) }
-    {
-        let there = Key::of_arc(u, v);
-        let back = Key::of_arc(v, u);
-        match kind {
-            Kind::Directed => self.make_one(there),
-            Kind::Undirected => {
-                if back.is_below(there) {
-                    self.make_both(back, there)
-                } else {
-                    self.make_both(there, back)
-                }
-            }
-        }
-    }
-
     /// Makes room for the row of one key.
-    fn make_one(&mut self, key: Key) -> Result<(), RoomRefusal>
-        requires { is_below key end_key ≡ true }
+    fn make_one(&mut self, at: KeyAt) -> Result<(), RoomRefusal>
+        requires { is_below at.key end_key ≡ true }
         ensures stays { Stays self.old self.new }
-        ensures ok { OnOk result (HaveRoom self.new (key ∷ [])) }
-        ensures full { IfErr result (λ refusal. IsNoPlace self.new (key ∷ []) refusal) }
+        ensures ok { OnOk result (HaveRoom self.new (at.key ∷ [])) }
+        ensures full { IfErr result (λ refusal. IsNoPlace self.new (at.key ∷ []) refusal) }
     {
-        let made = self.make_place(key, None);
-        self.store.limit();
+        let made = self.make_place(at, None);
+        self.store.is_sound();
         made
     }
 
     /// Makes room for the rows of two keys, that of the first one first.
-    fn make_both(&mut self, first: Key, second: Key) -> Result<(), RoomRefusal>
-        requires first { is_below first end_key ≡ true }
-        requires second { is_below second end_key ≡ true }
+    fn make_both(&mut self, first: KeyAt, second: KeyAt) -> Result<(), RoomRefusal>
+        requires first { is_below first.key end_key ≡ true }
+        requires second { is_below second.key end_key ≡ true }
         ensures stays { Stays self.old self.new }
-        ensures ok { OnOk result (HaveRoom self.new (first ∷ second ∷ [])) }
-        ensures full { IfErr result (λ refusal. IsNoPlace self.new (first ∷ second ∷ []) refusal) }
+        ensures ok { OnOk result (HaveRoom self.new (first.key ∷ second.key ∷ [])) }
+        ensures full { IfErr result (λ refusal. IsNoPlace self.new (first.key ∷ second.key ∷ []) refusal) }
     {
-        self.make_place(first, Some(second))?;
-        if self.has_place(second, Some(first)) {
-            self.store.limit();
+        self.make_place(first, Some(second.key))?;
+        if self.has_place(second, Some(first.key)) {
+            self.store.is_sound();
             return Ok(());
         }
-        self.make_place(second, Some(first))?;
+        self.make_place(second, Some(first.key))?;
         // where the second one's room has brought both into one cell, that has room for two
-        let made = self.make_place(first, Some(second));
-        self.store.limit();
+        let made = self.make_place(first, Some(second.key));
+        self.store.is_sound();
         made
     }
 
     /// Whether a key has a row, or its cell has room for its row, and for that of the other key if it is missing too
     /// and shares the cell.
-    fn has_place(&self, key: Key, other: Option<Key>) -> bool
-        requires { is_below key end_key ≡ true }
-        ensures { result ≡ true → has_row self.now key ≡ false
-            → wanted self.now key (keys_with key other) ≤ room_at self.now key }
+    fn has_place(&self, at: KeyAt, other: Option<Key>) -> bool
+        requires { is_below at.key end_key ≡ true }
+        ensures { result ≡ true → has_row self.now at.key ≡ false
+            → wanted self.now at.key (keys_with at.key other) ≤ room_at self.now at.key }
     {
-        self.store.limit();
-        need_at(self.store.segment(key), key, other).is_none()
+        self.store.is_sound();
+        need_at(self.store.segment(at.key, at.near), at, other).is_none()
     }
 
     /// Makes room in a key's cell, if the key has no row: for its row, and that of the other key if it is missing too
     /// and shares the cell.
-    fn make_place(&mut self, key: Key, other: Option<Key>) -> Result<(), RoomRefusal>
-        requires { is_below key end_key ≡ true }
+    fn make_place(&mut self, at: KeyAt, other: Option<Key>) -> Result<(), RoomRefusal>
+        requires { is_below at.key end_key ≡ true }
         ensures stays { Stays self.old self.new }
         ensures room { KeepsRoom self.old self.new }
-        ensures ok { OnOk result (has_row self.old key ≡ false
-            → wanted self.old key (keys_with key other) ≤ room_at self.new key) }
-        ensures kept { wanted self.old key (keys_with key other) ≤ room_at self.old key → self.new ≡ self.old }
-        ensures full { IfErr result (λ refusal. IsNoPlace self.new (keys_with key other) refusal) }
+        ensures ok { OnOk result (has_row self.old at.key ≡ false
+            → wanted self.old at.key (keys_with at.key other) ≤ room_at self.new at.key) }
+        ensures kept { wanted self.old at.key (keys_with at.key other) ≤ room_at self.old at.key
+            → self.new ≡ self.old }
+        ensures full { IfErr result (λ refusal. IsNoPlace self.new (keys_with at.key other) refusal) }
         ensures there { KeysHaveCells self.old }
     {
-        self.store.limit();
-        let need = match need_at(self.store.segment(key), key, other) {
+        self.store.is_sound();
+        let need = match need_at(self.store.segment(at.key, at.near), at, other) {
             Some(need) => need,
             None => return Ok(()),
         };
-        let made = self.store.make_room(key, need);
-        self.store.limit();
+        let made = self.store.make_room(at.key, need);
+        self.store.is_sound();
         made
     }
 }
 
 /// For how many rows a key's cell should get room: none, if the key has a row or the cell has enough.
-fn need_at(cell: &VersionSegment, key: Key, other: Option<Key>) -> Option<u8>
-    requires { is_between cell.now.low cell.now.high key ≡ true }
-    ensures need { IfSome result (λ need. IsNeed cell.now key (keys_with key other) need) }
-    ensures none { result ≡ None → segments.has_row cell.now key ≡ false
-        → wanted_in cell.now (keys_with key other) ≤ SEGMENT_ROWS - length cell.now.rows }
+fn need_at(cell: &VersionSegment, at: KeyAt, other: Option<Key>) -> Option<u8>
+    requires { is_between cell.now.low cell.now.high at.key ≡ true }
+    ensures need { IfSome result (λ need. IsNeed cell.now at.key (keys_with at.key other) need) }
+    ensures none { result ≡ None → segments.has_row cell.now at.key ≡ false
+        → wanted_in cell.now (keys_with at.key other) ≤ SEGMENT_ROWS - length cell.now.rows }
 {
-    if cell.has_row(key) {
+    if cell.row(at.key, at.near.row).is_there() {
         return None;
     }
     let need = 1

@@ -1,22 +1,22 @@
 //! One row as readers find it.
+//!
+//! It is looked for once, for its value and for all who may stand against a write of it.
 
 ghost use Rattle.std.specs.Prelude.{◌≡◌};
 ghost use Rattle.std.proofs.Props.{props};
 ghost use Rattle.store_model.specs.Check.{combine};
-ghost use Rattle.version_segment.specs.Checks.{cause_in};
-ghost use Rattle.version_segment.specs.Rows.{versions_at};
+ghost use Rattle.version_segment.specs.Rows.{or_nothing};
 ghost use Rattle.leaf_rows.specs.Readers.{IsUnstamped};
 
 use crate::reader::Reader;
-use graph_model::{Cause, Key};
-use version_segment::VersionSegment;
+use graph_model::Cause;
+use version_segment::RowView;
 
-/// What a key has, in the cell that is lent.
-#[derive(Clone, Copy)]
+/// What a key has.
+#[derive(Drop)]
 pub(crate) struct FoundRow<'a> {
-    pub(crate) cell: &'a VersionSegment,
-    pub(crate) key: Key,
-    ghost unstamped: { IsUnstamped (versions_at cell.now key) } by { Prim.hlevel props },
+    pub(crate) row: RowView<'a>,
+    ghost unstamped: { IsUnstamped (or_nothing row) } by { Prim.hlevel props },
 }
 
 impl FoundRow<'_> {
@@ -31,8 +31,7 @@ impl FoundRow<'_> {
         requires { reader.now.start ≤ length reader.now.manager.now.journal }
         ensures { result ≡ value_for reader.now (contents_at self.now) }
     {
-        self.cell
-            .read(self.key, &reader.snapshot(), &mut reader.known())
+        self.row.value(&reader.snapshot(), &mut reader.known())
     }
 
     /// Who stands against a write of the row: the newest writer, or nobody.
@@ -41,10 +40,7 @@ impl FoundRow<'_> {
         ensures { result ≡ cause_for reader.now (newest (contents_at self.now)) }
     {
         reader.manager.clock();
-        let checked = self
-            .cell
-            .check(self.key, &reader.snapshot(), &mut reader.known());
-        cause_of(checked)
+        self.row.cause(&reader.snapshot(), &mut reader.known())
     }
 
     /// Who stands against the removal of the row's vertex: the newest writer, and those who have added an edge there.
@@ -54,10 +50,8 @@ impl FoundRow<'_> {
             ≡ cause_for reader.now (newest (contents_at self.now) ++ (contents_at self.now).touches) }
     {
         reader.manager.clock();
-        let checked = self
-            .cell
-            .check_drop(self.key, &reader.snapshot(), &mut reader.known());
-        cause_of(checked)
+        self.row
+            .removal_cause(&reader.snapshot(), &mut reader.known())
     }
 
     /// Who stands against an edge at the row's vertex: those who have removed it.
@@ -66,20 +60,7 @@ impl FoundRow<'_> {
         ensures { result ≡ cause_for reader.now (droppers (contents_at self.now)) }
     {
         reader.manager.clock();
-        let checked = self
-            .cell
-            .check_end(self.key, &reader.snapshot(), &mut reader.known());
-        cause_of(checked)
-    }
-}
-
-/// The cause that a check answers.
-fn cause_of(checked: Result<(), Cause>) -> Option<Cause>
-    ensures { result ≡ cause_in checked }
-{
-    match checked {
-        Ok(()) => None,
-        Err(cause) => Some(cause),
+        self.row.drop_cause(&reader.snapshot(), &mut reader.known())
     }
 }
 

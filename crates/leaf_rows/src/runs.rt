@@ -14,6 +14,7 @@ ghost use Rattle.leaf_rows.specs.Runs.{KnowsAll, ShowsBy, run_end, lesser};
 use crate::reader::Reader;
 use crate::rows::LeafRows;
 use graph_model::{Key, Row};
+use leaf_store::Finger;
 use undo_chain::{Snapshot, States};
 use version_segment::Rows32;
 
@@ -44,8 +45,8 @@ impl LeafRows {
         ensures few { length result.rows.now ≤ SEGMENT_ROWS }
         ensures grows { Grows (S.knowledge states.old) (S.knowledge states.new) }
     {
-        let cell = self.store.segment(from);
-        cell.len();
+        let cell = self.store.segment(from, Finger::nowhere());
+        cell.is_segment();
         let end = lesser(cell.high(), until);
         let rows = cell.run_at(from, end, snapshot, states, buffer);
         Run { rows, end }

@@ -23,7 +23,7 @@ impl LeafRows {
         requires started { reader.now.start ≤ length reader.now.manager.now.journal }
         ensures { (g : Graph) → Shows reader.now self.now g → ScansBy g cursor.old cursor.new rows.new }
     {
-        self.store.limit();
+        self.store.is_sound();
         rows.clear();
         let mut buffer = Rows32::new();
         'cells: while cursor.next.is_below(cursor.until) && cursor.next.is_below(Key::end()) {

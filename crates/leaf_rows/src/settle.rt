@@ -24,15 +24,20 @@ impl LeafRows {
             ≡ prune (stamp_in manager.now.journal) horizon (contents_of self.old q) }
         ensures limit { self.new.limit ≡ self.old.limit }
         ensures weight { weight self.new ≤ weight self.old }
-        ensures settled { (g : Graph) → AreSettled self.new g → record_count self.new ≡ 0 }
     {
-        self.store.limit();
+        self.store.is_sound();
         let mut key = Key::of_vertex(0);
         'cells: while key.is_below(Key::end()) {
             let pruned = self.sweep(key, manager, horizon);
             key = pruned.high;
         }
-        self.store.limit();
+    }
+
+    /// Rows that have nothing but the values of a graph have no records.
+    pub fn settled_rows_have_no_records(&self)
+        ensures { (g : Graph) → AreSettled self.now g → record_count self.now ≡ 0 }
+    {
+        self.store.is_sound();
     }
 
     /// Takes it away in the rows of the leaf that has the key. Answers how many records went, up to the last number,
@@ -89,9 +94,9 @@ impl LeafRows {
         ensures limit { self.new.limit ≡ self.old.limit }
         ensures weight { weight self.new ≤ weight self.old }
     {
-        self.store.limit();
+        self.store.is_sound();
         let pruned = self.store.prune(key, horizon, &mut Known { manager });
-        self.store.limit();
+        self.store.is_sound();
         pruned
     }
 }

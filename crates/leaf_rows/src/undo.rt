@@ -2,36 +2,52 @@
 
 ghost use Rattle.std.specs.Prelude.{◌≡◌, ◌≤◌, cond};
 ghost use Rattle.std.specs.List.{AllByRecursion, list_any};
-ghost use Rattle.graph_model.specs.declared.limits.TheConstants.{MAX_ID};
 ghost use Rattle.graph_model.specs.declared.row.Key.{Key};
-ghost use Rattle.graph_model.specs.Effects.{same_key, arc_keys};
 ghost use Rattle.graph_model.specs.Refused.{IsWithinLimits};
+ghost use Rattle.graph_model.specs.Effects.{same_key};
 ghost use Rattle.store_model.specs.Layers.{before_write, undone};
-ghost use Rattle.store_model.specs.Versions.{undo};
+ghost use Rattle.store_model.specs.Versions.{undo, untouch};
 ghost use Rattle.leaf_store.specs.Leaves.{contents_of, weight};
+ghost use Rattle.leaf_rows.specs.Written.{AreBelowEnd, touched_keys, written_keys};
 
 use crate::rows::LeafRows;
-use graph_model::{Key, Kind, TxnName, Write};
+use crate::written::WrittenRows;
+use graph_model::{Kind, TxnName, Write};
 
 impl LeafRows {
-    /// Takes the front pair of each row of an edge away.
-    fn undo_arcs(&mut self, kind: Kind, u: u64, v: u64)
-        requires source_within { u ≤ MAX_ID }
-        requires target_within { v ≤ MAX_ID }
+    /// Takes the front pair of each written row away.
+    fn undo_written(&mut self, by: TxnName, rows: &WrittenRows)
+        requires { AreBelowEnd rows.now }
         ensures contents { (q : Key) → contents_of self.new q
-            ≡ cond (list_any (same_key q) (arc_keys kind u v)) (undo (contents_of self.old q))
+            ≡ cond (list_any (same_key q) (written_keys rows.now)) (undo (contents_of self.old q))
             (contents_of self.old q) }
         ensures limit { self.new.limit ≡ self.old.limit }
         ensures weight { weight self.new ≤ weight self.old }
     {
-        self.take_back(Key::of_arc(u, v));
-        match kind {
-            Kind::Directed => {}
-            Kind::Undirected => {
-                if u != v {
-                    self.take_back(Key::of_arc(v, u));
+        self.take_back(rows.row, by);
+        match rows.back {
+            Some(back) if back != rows.row => self.take_back(back, by),
+            _ => {}
+        }
+    }
+
+    /// Takes the transaction's touches of the ends of an added edge away.
+    fn untouch_ends(&mut self, by: TxnName, rows: &WrittenRows)
+        requires { AreBelowEnd rows.now }
+        ensures contents { (q : Key) → contents_of self.new q
+            ≡ cond (list_any (same_key q) (touched_keys rows.now)) (untouch by (contents_of self.old q))
+            (contents_of self.old q) }
+        ensures limit { self.new.limit ≡ self.old.limit }
+        ensures weight { weight self.new ≤ weight self.old }
+    {
+        match rows.ends {
+            Some(ends) if rows.touches => {
+                self.untouch(ends.source, by);
+                if ends.target != ends.source {
+                    self.untouch(ends.target, by);
                 }
             }
+            _ => {}
         }
     }
 
@@ -42,22 +58,12 @@ impl LeafRows {
         ensures limit { self.new.limit ≡ self.old.limit }
         ensures weight { weight self.new ≤ weight self.old }
     {
-        match write {
-            Write::AddVertex { v } => self.take_back(Key::of_vertex(v)),
-            Write::DropVertex { v } => self.take_back(Key::of_vertex(v)),
-            Write::AddEdge { u, v, weight: _ } => {
-                self.undo_arcs(kind, u, v);
-                self.untouch(Key::of_vertex(u), by);
-                if u != v {
-                    self.untouch(Key::of_vertex(v), by);
-                }
-            }
-            Write::SetEdge { u, v, weight: _ } => self.undo_arcs(kind, u, v),
-            Write::DropEdge { u, v } => self.undo_arcs(kind, u, v),
-        }
+        let rows = WrittenRows::of(kind, write);
+        self.undo_written(by, &rows);
+        self.untouch_ends(by, &rows);
     }
 
-    /// Takes back the newest writes that a transaction has laid, the last one first.
+    /// Takes back the newest writes that a transaction has made, the last one first.
     pub fn undo_all(&mut self, kind: Kind, by: TxnName, writes: &[Write])
         requires { AllByRecursion IsWithinLimits writes.now }
         ensures contents { (q : Key) → contents_of self.new q ≡ undone kind by writes.now q (contents_of self.old q) }

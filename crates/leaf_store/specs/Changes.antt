@@ -34,9 +34,9 @@ abbrev pub ChangesVersions : Leaves → Leaves → Key → StampedVersions → T
 ChangesVersions old new key versions =
     (cell : VersionedRows) × ChangesCell old new key cell × ChangesKey (cell_at old key) cell key versions
 
--- a write or a touch of a key may use up the room for one record in the key's cell
-abbrev pub UsesOneRecord : Leaves → Leaves → Type 0
-UsesOneRecord old new = (q : Key) → spare_at old q ≤ spare_at new q + 1
+-- a change of a key may use up the room for so many records in the key's cell
+abbrev pub UsesRecords : ℕ → Leaves → Leaves → Type 0
+UsesRecords count old new = (q : Key) → spare_at old q ≤ spare_at new q + count
 
 -- no room for records is used up
 abbrev pub KeepsRecordRoom : Leaves → Leaves → Type 0

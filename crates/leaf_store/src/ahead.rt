@@ -1,4 +1,4 @@
-//! Reads what the calls to come will read, and looks up what they will look for.
+//! Reads what the calls to come will read, and finds what they will look for.
 //!
 //! 1. A write waits for memory most of the time: for where the leaf of each of its cells lies, then for what the cell
 //!    says of itself, and then for its rows.
@@ -6,12 +6,11 @@
 //!    at once, and finds them near by when the calls come. Where leaves lie is read beside their slots in the index.
 //! 3. It changes nothing that a clause speaks of.
 
-ghost use Rattle.std.specs.Prelude.{◌≡◌};
-
+use crate::finger::Finger;
 use crate::place::Place;
-use graph_model::{Key, LEAF_SEGMENTS};
+use graph_model::Key;
 use leaf_array::Leaf;
-use version_segment::VersionSegment;
+use version_segment::{NOWHERE, VersionSegment};
 
 /// How many of four leaves have memory, which takes a look at where each of them lies.
 pub(crate) fn count_with_memory(leaves: &Vec<Option<Box<Leaf>>>, likely: [u32; 4]) -> u64 {
@@ -57,27 +56,27 @@ pub(crate) fn sum_leaf_ahead(leaves: &Vec<Option<Box<Leaf>>>, place: usize) -> u
     sum
 }
 
-/// Looks keys up in the cells at their places.
-pub(crate) fn look_up_in(leaves: &mut Vec<Option<Box<Leaf>>>, keys: [Key; 4], places: [Place; 4])
-    ensures { leaves.new.items ≡ leaves.old.items }
-{
-    look_up_at(leaves, keys[0], places[0]);
-    look_up_at(leaves, keys[1], places[1]);
-    look_up_at(leaves, keys[2], places[2]);
-    look_up_at(leaves, keys[3], places[3]);
+/// Where four keys stand in the cells with these numbers, or would stand.
+pub(crate) fn fingers_at(
+    leaves: &Vec<Option<Box<Leaf>>>,
+    keys: [Key; 4],
+    cells: [u32; 4],
+) -> [Finger; 4] {
+    [
+        finger_at(leaves, keys[0], cells[0]),
+        finger_at(leaves, keys[1], cells[1]),
+        finger_at(leaves, keys[2], cells[2]),
+        finger_at(leaves, keys[3], cells[3]),
+    ]
 }
 
-/// Looks a key up in the cell at its place.
-fn look_up_at(leaves: &mut Vec<Option<Box<Leaf>>>, key: Key, place: Place)
-    ensures { leaves.new.items ≡ leaves.old.items }
-{
-    if place.leaf >= leaves.len() || place.segment >= LEAF_SEGMENTS {
-        return;
-    }
-    match &mut leaves[place.leaf] {
-        Some(leaf) => leaf.segments[place.segment].look_up(key),
-        None => {}
-    }
+/// Where a key stands in the cell with this number, or would stand.
+fn finger_at(leaves: &Vec<Option<Box<Leaf>>>, key: Key, cell: u32) -> Finger {
+    let row = match cell_at(leaves, Place::of_cell(cell)) {
+        Some(segment) => segment.row(key, NOWHERE).place(),
+        None => NOWHERE,
+    };
+    Finger { cell, row }
 }
 
 /// The cell at a place, where there is one.

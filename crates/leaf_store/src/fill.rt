@@ -101,7 +101,7 @@ fn fill_next(
     let high = begin_of(behind, Key::END);
     let memory = settled_leaf(alloc, low, high, here)?;
     index.add_leaf(alloc, low, leaf, cuts_of(&memory))?;
-    let _leaves = index.leaves();
+    index.is_index();
     put_leaf(leaves, leaf as usize, memory);
     Ok(at + here.len())
 }
@@ -125,7 +125,7 @@ fn fill_first(
     let high = begin_of(behind, Key::END);
     let memory = settled_leaf(alloc, low, high, here)?;
     index.set_separators(low, cuts_of(&memory));
-    let _leaves = index.leaves();
+    index.is_index();
     put_leaf(leaves, 0, memory);
     Ok(here.len())
 }

@@ -11,6 +11,7 @@ mod ahead;
 mod change;
 mod count;
 mod fill;
+mod finger;
 mod leaf_range;
 mod look;
 mod merge;
@@ -27,5 +28,6 @@ mod work;
 #[cfg(test)]
 mod worked;
 
+pub use finger::Finger;
 pub use pair::{MERGE_ROWS, STAMPS_END};
 pub use store::{KeyRange, LeafStore, Pruned};

@@ -17,7 +17,7 @@ pub(crate) fn cuts_of(leaf: &Leaf) -> [Key; LEAF_SEGMENTS]
     let mut cuts = [Key::END; LEAF_SEGMENTS];
     'segments: for place in 0..LEAF_SEGMENTS {
         let segment = &leaf.segments[place];
-        let _rows = segment.len();
+        segment.is_segment();
         cuts[place] = segment.low();
     }
     cuts

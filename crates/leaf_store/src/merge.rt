@@ -61,7 +61,7 @@ impl LeafStore {
         ensures all { until ≡ STAMPS_END → self.new.retired ≡ [] }
     {
         let freed = self.index.free_retired(until, usize::MAX);
-        let _leaves = self.index.leaves();
+        self.index.is_index();
         freed
     }
 }

@@ -148,7 +148,7 @@ pub(crate) fn merge_pair(
     };
     match merged {
         Ok(()) => {
-            let _leaves = index.leaves();
+            index.is_index();
             Ok(())
         }
         Err(refused) => {

@@ -32,3 +32,10 @@ pub(crate) fn place_of(index: &LeafIndex, key: Key) -> Place
 {
     Place::of_cell(index.route(key).cell)
 }
+
+/// The same, where the key was found in a cell before.
+pub(crate) fn place_near(index: &LeafIndex, key: Key, near: u32) -> Place
+    ensures { IsPlace key index.now.entries result }
+{
+    Place::of_cell(index.route_near(key, near).cell)
+}

@@ -110,7 +110,7 @@ pub(crate) fn spread_window(
             spread(leaf, window, alloc)?;
             let cuts = cuts_of(leaf);
             index.set_separators(cuts[0], cuts);
-            let _leaves = index.leaves();
+            index.is_index();
             Ok(())
         }
         None => unreachable!(),
@@ -144,7 +144,7 @@ fn split_at(
     watch.watch(leaf as usize);
     match split_with(index, leaves, alloc, place.leaf, leaf) {
         Ok(()) => {
-            let _leaves = index.leaves();
+            index.is_index();
             Ok(())
         }
         Err(_) => {

@@ -7,9 +7,10 @@ ghost use Rattle.graph_model.specs.Rows.{is_below, is_between, end_key};
 ghost use Rattle.leaf_store.specs.Leaves.{AreLeaves, CellsAreApart, KeysHaveCells, cell_at, room_at};
 ghost use Rattle.leaf_store.specs.Changes.{AreFilled, AreNew, AreRising, IsFillRefusal, IsRoomRefusal, MovesRows};
 
-use crate::ahead::{count_with_memory, look_up_in, sum_ahead, sum_leaf_ahead};
+use crate::ahead::{count_with_memory, fingers_at, sum_ahead, sum_leaf_ahead};
+use crate::finger::Finger;
 use crate::look::cuts_of;
-use crate::place::{Place, place_of};
+use crate::place::{Place, place_near};
 use crate::table::{empty_table, put_leaf};
 use crate::watch::Watch;
 use graph_model::{Key, NoMemory, Row};
@@ -18,7 +19,7 @@ use leaf_index::LeafIndex;
 use std::alloc::Global;
 use std::marker::Model;
 use txn_manager::RoomRefusal;
-use version_segment::VersionSegment;
+use version_segment::{NOWHERE, VersionSegment};
 
 /// The live leaves of a store. A leaf that was never live has no memory.
 #[derive(Drop)]
@@ -51,7 +52,7 @@ impl LeafStore {
         ensures { IfOk result (λ s. AreNew leaves s) }
     {
         let index = LeafIndex::new(alloc, leaves)?;
-        let _leaves = index.leaves();
+        index.is_index();
         let first = Leaf::new(alloc, Key { src: 0, second: 0 }, Key::END)?;
         let _cuts = cuts_of(&first);
         let memory = Box::new(alloc, first)?;
@@ -68,13 +69,20 @@ impl LeafStore {
         })
     }
 
-    /// How many leaves there are, live or not. What holds of each store is a clause of this call.
-    pub fn limit(&self) -> u32
-        ensures limit { result ≡ self.now.limit }
+    /// What holds of each store.
+    pub fn is_sound(&self)
         ensures sound { AreLeaves self.now }
         ensures there { KeysHaveCells self.now }
         ensures apart { CellsAreApart self.now }
         ensures few { length self.now.parts ≤ self.now.limit }
+        ensures limit { self.now.limit ≤ MAX_LEAVES }
+    {
+        self.index.is_index();
+    }
+
+    /// How many leaves there are, live or not.
+    pub fn limit(&self) -> u32
+        ensures { result ≡ self.now.limit }
     {
         self.index.leaves()
     }
@@ -86,26 +94,34 @@ impl LeafStore {
         self.index.in_use()
     }
 
-    /// Looks the key's cell up for the calls to come, which then look neither for it nor for other keys of the cell.
-    /// Nothing that contracts see changes.
-    pub fn look_up(&mut self, key: Key)
-        ensures { self.new ≡ self.old }
-    {
-        self.index.keep_route(key);
+    /// Finds a key's cell for the calls to come.
+    pub fn find(&self, key: Key) -> Finger {
+        Finger {
+            cell: self.index.route(key).cell,
+            row: NOWHERE,
+        }
     }
 
-    /// Looks the cells of four keys up, as for one, and reads ahead what the calls to come will read of them, which is
-    /// more where rows come into those of the first two.
-    pub fn look_up_four(&mut self, keys: [Key; 4], rows_come: bool)
+    /// Finds the cells of four keys side by side, and their rows there. What the calls to come will read of them is read
+    /// ahead, which is more where rows come into the cells of the first two.
+    pub fn find_four(&mut self, keys: [Key; 4], rows_come: bool) -> [Finger; 4]
         ensures { self.new ≡ self.old }
     {
         let likely = self.index.likely_leaves(keys);
         self.ahead = count_with_memory(&self.leaves, likely);
-        let places = self.index.keep_routes(keys, likely).map(Place::of_cell);
-        self.ahead = self
-            .ahead
-            .wrapping_add(sum_ahead(&self.leaves, keys, places, rows_come));
-        look_up_in(&mut self.leaves, keys, places);
+        let cells = [
+            self.index.route_in(keys[0], likely[0]).cell,
+            self.index.route_in(keys[1], likely[1]).cell,
+            self.index.route_in(keys[2], likely[2]).cell,
+            self.index.route_in(keys[3], likely[3]).cell,
+        ];
+        self.ahead = self.ahead.wrapping_add(sum_ahead(
+            &self.leaves,
+            keys,
+            cells.map(Place::of_cell),
+            rows_come,
+        ));
+        fingers_at(&self.leaves, keys, cells)
     }
 
     /// Reads ahead the changed rows of the leaf that has the key, as for one.
@@ -117,14 +133,14 @@ impl LeafStore {
     }
 
     /// Lends the cell whose fence keys hold the key.
-    pub fn segment(&self, key: Key) -> &VersionSegment
+    pub fn segment(&self, key: Key, near: Finger) -> &VersionSegment
         requires { is_below key end_key ≡ true }
         ensures cell { result.now ≡ cell_at self.now key }
         ensures holds { is_between result.now.low result.now.high key ≡ true }
         ensures same { (q : Key) → is_between result.now.low result.now.high q ≡ true
             → cell_at self.now q ≡ result.now }
     {
-        let place = place_of(&self.index, key);
+        let place = place_near(&self.index, key, near.cell);
         match &self.leaves[place.leaf] {
             Some(leaf) => &leaf.segments[place.segment],
             None => unreachable!(),

@@ -1,6 +1,6 @@
 -- What a write of the open transaction answers, and what it leaves.
 use Rattle.std.proofs.Common.{◌≡◌, ℕ, ◌*◌, ◌≤◌, ◌<◌, List, refl, sym, ◌∙◌, ap, subst, cond, arith, inl, inr}
-use Rattle.std.specs.Prelude.{◌⊎◌, Bool, true, false, ◌==◌, Option, Some, None, slice_set, Result, Ok, Err}
+use Rattle.std.specs.Prelude.{◌⊎◌, Bool, true, false, not, count_by, ◌==◌, Option, Some, None, slice_set, Result, Ok, Err}
 use Rattle.graph_model.specs.declared.limits.TheConstants.{SPLIT_ROWS}
 use Rattle.graph_model.specs.declared.write.Kind.{Kind}
 use Rattle.graph_model.specs.declared.write.Kind.TheVariants.{Directed, Undirected}
@@ -20,9 +20,13 @@ use Rattle.graph_model.proofs.WriteLemmas.{allowed_ends}
 use Rattle.txn_manager.specs.Manager.{Manager}
 use Rattle.leaf_rows.specs.declared.reader.Reader.{Reader}
 use Rattle.leaf_rows.specs.Checks.{answer_of, refusal_in, IsChecked, FitsKind}
+use Rattle.leaf_rows.specs.declared.written.WrittenRows.{WrittenRows}
 use Rattle.leaf_rows.specs.Laying.{MayLay, missing}
+use Rattle.leaf_rows.specs.Written.{rows_after, rows_of, written_keys}
+use Rattle.leaf_rows.proofs.WrittenLemmas.{after_is, keys_are}
+use Rattle.store_model.specs.Layers.{after_write}
 use Rattle.leaf_rows.specs.Readers.{Shows}
-use Rattle.leaf_store.specs.Leaves.{Leaves, contents_of, weight}
+use Rattle.leaf_store.specs.Leaves.{Leaves, contents_of, has_row, weight}
 use Rattle.teseo_core.specs.Passes.{RoomyPass, FindsFull, Notes, Puts, noted, sighted_by, with_one_write}
 use Rattle.teseo_core.specs.Keeping.{states_of, core_of, IsKept}
 use Rattle.teseo_core.proofs.FieldLemmas.{put_core, kept_core, kept_back, set_same}
@@ -239,54 +243,60 @@ module _ (kind : Kind) (leaves : ℕ) (m : Manager) (passes : List RoomyPass) (s
         by_write (SetEdge u v weight) some = absurd (omega (arith, some))
         by_write (DropEdge u v) some = absurd (omega (arith, some))
 
-    -- it is made, or found no place or no memory
-    pub put_kept : IsWithinLimits w → (until : ℕ) (done : Result (Unit {0}) Refusal) (p p' : RoomyPass) (rows' : Leaves) → p.state ≡ current core
-        → Puts kind r.by w until rows rows' p.state p'.state done → IsKept (core_of kind leaves m (slice_set passes selected p') selected served) m rows'
-    put_kept within until (Ok u) p p' rows' here laid = subst (λ c. IsKept c m rows') (sym (put_core kind leaves m passes selected served rows is p' m refl))
-        (kept_written core m rows is start opened w p'.state rows' within nothing.0 nothing.1 (laid.noted_in ∙ ap (λ s. with_one_write s w) here)
-        (λ q. laid.contents q ∙ ap (λ n. Rattle.store_model.specs.Layers.after_write kind n w q (contents_of rows q)) reader.by) (let more = laid.weight_is in omega (arith, more, few)) laid.limit)
-    put_kept within until (Err e) p p' rows' here puts = by_refusal e puts
-      where
-        full : (l : ℕ) → FindsFull kind w until l rows rows' p.state p'.state → IsKept (core_of kind leaves m (slice_set passes selected p') selected served) m rows'
-        full l finds = subst (λ c. IsKept c m rows') (sym (put_core kind leaves m passes selected served rows is p' m refl)) (kept_moved (with_current core p'.state) m rows filled rows' finds.keeps)
-          where
-            same : p'.state ≡ record (current core) { filled = true }
-            same = finds.noted_in ∙ ap (λ (s : PassState). record s { filled = true }) here
+    -- its rows are those that were found
+    module _ (found : WrittenRows) (found_is : found ≡ rows_of kind w) where
+      missing_is : count_by (λ k. not (has_row rows k)) (written_keys found) ≡ missing rows kind w
+      missing_is = ap (count_by (λ k. not (has_row rows k))) (ap written_keys found_is ∙ keys_are kind w)
 
-            filled : IsKept (with_current core p'.state) m rows
-            filled = kept_noted core m rows is p'.state (ap (λ (s : PassState). s.start) same) (ap (λ (s : PassState). s.own) same) (ap (λ (s : PassState). s.begun) same) (ap (λ (s : PassState). s.made) same) (ap (λ (s : PassState). s.allowed) same)
+      -- it is made, or found no place or no memory
+      pub put_kept : IsWithinLimits w → (until : ℕ) (done : Result (Unit {0}) Refusal) (p p' : RoomyPass) (rows' : Leaves) → p.state ≡ current core
+          → Puts found r.by w until rows rows' p.state p'.state done → IsKept (core_of kind leaves m (slice_set passes selected p') selected served) m rows'
+      put_kept within until (Ok u) p p' rows' here laid = subst (λ c. IsKept c m rows') (sym (put_core kind leaves m passes selected served rows is p' m refl))
+          (kept_written core m rows is start opened w p'.state rows' within nothing.0 nothing.1 (laid.noted_in ∙ ap (λ s. with_one_write s w) here)
+          (λ q. laid.contents q ∙ ap (λ x. rows_after r.by x q (contents_of rows q)) found_is ∙ after_is kind r.by w q (contents_of rows q) ∙ ap (λ n. after_write kind n w q (contents_of rows q)) reader.by)
+          (let more = laid.weight_is in omega (arith, more, missing_is, few)) laid.limit)
+      put_kept within until (Err e) p p' rows' here puts = by_refusal e puts
+        where
+          full : (l : ℕ) → FindsFull found until l rows rows' p.state p'.state → IsKept (core_of kind leaves m (slice_set passes selected p') selected served) m rows'
+          full l finds = subst (λ c. IsKept c m rows') (sym (put_core kind leaves m passes selected served rows is p' m refl)) (kept_moved (with_current core p'.state) m rows filled rows' finds.keeps)
+            where
+              same : p'.state ≡ record (current core) { filled = true }
+              same = finds.noted_in ∙ ap (λ (s : PassState). record s { filled = true }) here
 
-        by_refusal : (e : Refusal) → Puts kind r.by w until rows rows' p.state p'.state (Err e) → IsKept (core_of kind leaves m (slice_set passes selected p') selected served) m rows'
-        by_refusal refusals.SelfLoop none = absurd none
-        by_refusal (refusals.NoVertex v) none = absurd none
-        by_refusal refusals.VertexExists none = absurd none
-        by_refusal refusals.EdgeExists none = absurd none
-        by_refusal refusals.NoEdge none = absurd none
-        by_refusal refusals.HasEdges none = absurd none
-        by_refusal (refusals.Conflict cause) none = absurd none
-        by_refusal (refusals.Full l) finds = full l finds
-        by_refusal refusals.NoMemory stays = subst (λ c. IsKept c m rows') (sym (kept_core kind leaves m passes selected served rows is p' m refl (stays.1 ∙ here))) (kept_moved core m rows is rows' stays.0)
+              filled : IsKept (with_current core p'.state) m rows
+              filled = kept_noted core m rows is p'.state (ap (λ (s : PassState). s.start) same) (ap (λ (s : PassState). s.own) same) (ap (λ (s : PassState). s.begun) same) (ap (λ (s : PassState). s.made) same) (ap (λ (s : PassState). s.allowed) same)
 
-    pub put_answer : (until : ℕ) (done : Result (Unit {0}) Refusal) (p p' : RoomyPass) (rows' : Leaves) → p.state ≡ current core
-        → Puts kind r.by w until rows rows' p.state p'.state done → WritesHere core w done (core_of kind leaves m (slice_set passes selected p') selected served)
-    put_answer until (Ok u) p p' rows' here laid =
-        (start, opened, (nothing.0, nothing.1, put_core kind leaves m passes selected served rows is p' m refl ∙ ap (with_current core) (laid.noted_in ∙ ap (λ s. with_one_write s w) here)))
-    put_answer until (Err e) p p' rows' here puts = by_refusal e puts
-      where
-        full : (l : ℕ) → FindsFull kind w until l rows rows' p.state p'.state → WritesHere core w (Err (refusals.Full l)) (core_of kind leaves m (slice_set passes selected p') selected served)
-        full l finds =
-            (start, opened, (nothing.0, nothing.1, may_insert finds.wants, finds.limit ∙ is.limit, many, put_core kind leaves m passes selected served rows is p' m refl ∙ ap (with_current core) (finds.noted_in ∙ ap (λ (s : PassState). record s { filled = true }) here)))
-          where
-            many : SPLIT_ROWS * l ≤ inserted_here core
-            many = let heavy = finds.heavy in let light = is.weight_is in omega (arith, heavy, light)
+          by_refusal : (e : Refusal) → Puts found r.by w until rows rows' p.state p'.state (Err e) → IsKept (core_of kind leaves m (slice_set passes selected p') selected served) m rows'
+          by_refusal refusals.SelfLoop none = absurd none
+          by_refusal (refusals.NoVertex v) none = absurd none
+          by_refusal refusals.VertexExists none = absurd none
+          by_refusal refusals.EdgeExists none = absurd none
+          by_refusal refusals.NoEdge none = absurd none
+          by_refusal refusals.HasEdges none = absurd none
+          by_refusal (refusals.Conflict cause) none = absurd none
+          by_refusal (refusals.Full l) finds = full l finds
+          by_refusal refusals.NoMemory stays = subst (λ c. IsKept c m rows') (sym (kept_core kind leaves m passes selected served rows is p' m refl (stays.1 ∙ here))) (kept_moved core m rows is rows' stays.0)
 
-        by_refusal : (e : Refusal) → Puts kind r.by w until rows rows' p.state p'.state (Err e) → WritesHere core w (Err e) (core_of kind leaves m (slice_set passes selected p') selected served)
-        by_refusal refusals.SelfLoop none = absurd none
-        by_refusal (refusals.NoVertex v) none = absurd none
-        by_refusal refusals.VertexExists none = absurd none
-        by_refusal refusals.EdgeExists none = absurd none
-        by_refusal refusals.NoEdge none = absurd none
-        by_refusal refusals.HasEdges none = absurd none
-        by_refusal (refusals.Conflict cause) none = absurd none
-        by_refusal (refusals.Full l) finds = full l finds
-        by_refusal refusals.NoMemory stays = (start, opened, kept_core kind leaves m passes selected served rows is p' m refl (stays.1 ∙ here))
+      pub put_answer : (until : ℕ) (done : Result (Unit {0}) Refusal) (p p' : RoomyPass) (rows' : Leaves) → p.state ≡ current core
+          → Puts found r.by w until rows rows' p.state p'.state done → WritesHere core w done (core_of kind leaves m (slice_set passes selected p') selected served)
+      put_answer until (Ok u) p p' rows' here laid =
+          (start, opened, (nothing.0, nothing.1, put_core kind leaves m passes selected served rows is p' m refl ∙ ap (with_current core) (laid.noted_in ∙ ap (λ s. with_one_write s w) here)))
+      put_answer until (Err e) p p' rows' here puts = by_refusal e puts
+        where
+          full : (l : ℕ) → FindsFull found until l rows rows' p.state p'.state → WritesHere core w (Err (refusals.Full l)) (core_of kind leaves m (slice_set passes selected p') selected served)
+          full l finds =
+              (start, opened, (nothing.0, nothing.1, may_insert (let wants = finds.wants in omega (arith, wants, missing_is)), finds.limit ∙ is.limit, many, put_core kind leaves m passes selected served rows is p' m refl ∙ ap (with_current core) (finds.noted_in ∙ ap (λ (s : PassState). record s { filled = true }) here)))
+            where
+              many : SPLIT_ROWS * l ≤ inserted_here core
+              many = let heavy = finds.heavy in let light = is.weight_is in omega (arith, heavy, light)
+
+          by_refusal : (e : Refusal) → Puts found r.by w until rows rows' p.state p'.state (Err e) → WritesHere core w (Err e) (core_of kind leaves m (slice_set passes selected p') selected served)
+          by_refusal refusals.SelfLoop none = absurd none
+          by_refusal (refusals.NoVertex v) none = absurd none
+          by_refusal refusals.VertexExists none = absurd none
+          by_refusal refusals.EdgeExists none = absurd none
+          by_refusal refusals.NoEdge none = absurd none
+          by_refusal refusals.HasEdges none = absurd none
+          by_refusal (refusals.Conflict cause) none = absurd none
+          by_refusal (refusals.Full l) finds = full l finds
+          by_refusal refusals.NoMemory stays = (start, opened, kept_core kind leaves m passes selected served rows is p' m refl (stays.1 ∙ here))

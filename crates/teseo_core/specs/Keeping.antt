@@ -1,5 +1,5 @@
 -- An engine of one owner over rows in leaves: which transactions are open, and what the engine keeps.
-use Rattle.std.specs.Prelude.{◌≡◌, ℕ, ◌<◌, ◌≤◌, ◌/◌, List, [], map, length, replicate, Option, Some, None}
+use Rattle.std.specs.Prelude.{◌≡◌, ℕ, ◌<◌, ◌≤◌, ◌/◌, Bool, List, [], map, length, replicate, Option, Some, None}
 use Rattle.std.specs.FinMap as fin_map
 use Rattle.graph_model.specs.declared.limits.TheConstants.{MAX_LEAVES}
 use Rattle.graph_model.specs.declared.write.Kind.{Kind}
@@ -16,7 +16,7 @@ use Rattle.graph_model.specs.Transactions.{Running}
 use Rattle.txn_manager.specs.declared.config.Config.{Config}
 use Rattle.txn_manager.specs.Manager.{Manager, PassTxns, txns_of}
 use Rattle.store_model.specs.Store.{IsPlainStore}
-use Rattle.leaf_store.specs.Leaves.{Leaves, contents_of, weight}
+use Rattle.leaf_store.specs.Leaves.{Leaves, contents_of, record_count, weight}
 use Rattle.leaf_store.specs.Merging.{IsCompact}
 use Rattle.leaf_rows.specs.Loaded.{AreNone, AreSettled}
 use Rattle.teseo_core.specs.declared.serve.ServiceTurn.{ServiceTurn}
@@ -116,5 +116,11 @@ pub record IsNewStore (config : Config) (s : Store) : Type 0 where
 -- is to be spread, and no two neighbours are to become one leaf.
 pub record IsSettled (s : Store) : Type 0 where
   pub rows : AreSettled s.rows (newest_graph s.core)
+  pub records : record_count s.rows ≡ 0
   pub retired : s.rows.retired ≡ []
   pub compact : IsCompact s.rows
+
+-- what an engine leaves: its core, and whether its rows had no record, and no leaf was retired
+pub record LeftStore : Type 0 where
+  pub core : Core
+  pub settled : Bool

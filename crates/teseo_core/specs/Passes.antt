@@ -1,7 +1,6 @@
 -- What an engine of one owner keeps of a pass, with the room that it has for more.
-use Rattle.std.specs.Prelude.{◌≡◌, ◌⊎◌, ℕ, true, ◌+◌, ◌*◌, ◌<◌, ◌≤◌, List, [], ◌∷◌, ◌++◌, Option, None, Some, Result, Ok, Err}
+use Rattle.std.specs.Prelude.{◌≡◌, ◌⊎◌, ℕ, true, not, count_by, ◌+◌, ◌*◌, ◌<◌, ◌≤◌, List, [], ◌∷◌, ◌++◌, Option, None, Some, Result, Ok, Err}
 use Rattle.graph_model.specs.declared.limits.TheConstants.{SPLIT_ROWS}
-use Rattle.graph_model.specs.declared.write.Kind.{Kind}
 use Rattle.graph_model.specs.declared.write.Write.{Write}
 use Rattle.graph_model.specs.declared.row.Key.{Key}
 use Rattle.graph_model.specs.declared.journal.TxnName.{TxnName}
@@ -11,9 +10,10 @@ use Rattle.graph_model.specs.declared.refusal.Cause.{Cause}
 use Rattle.graph_model.specs.declared.refusal.Cause.TheVariants.{Later, Holder}
 use Rattle.graph_model.specs.AccountSteps.{last_with}
 use Rattle.graph_model.specs.OwnerCalls.{PassState, no_pass}
-use Rattle.store_model.specs.Layers.{after_write}
-use Rattle.leaf_store.specs.Leaves.{Leaves, contents_of, weight}
-use Rattle.leaf_rows.specs.Laying.{IsNoRoom, IsSpent, KeepsContents, missing}
+use Rattle.leaf_store.specs.Leaves.{Leaves, contents_of, has_row, weight}
+use Rattle.leaf_rows.specs.declared.written.WrittenRows.{WrittenRows}
+use Rattle.leaf_rows.specs.Laying.{IsNoPlace, IsSpent, KeepsContents}
+use Rattle.leaf_rows.specs.Written.{rows_after, written_keys}
 use Rattle.txn_manager.specs.declared.config.RoomRefusal.TheVariants as room_refusals
 
 pub record RoomyPass : Type 0 where
@@ -66,34 +66,33 @@ abbrev pub Notes : PassState → ℕ → Write → Refusal → Refusal → PassS
 Notes old start w refusal answer new =
     ((answer ≡ refusal) × (new ≡ noted old start w refusal)) ⊎ ((answer ≡ refusals.NoMemory) × (new ≡ old))
 
--- a write stands in the rows and in its pass
-pub record Laid (kind : Kind) (by : TxnName) (w : Write) (rows rows' : Leaves) (old new : PassState) : Type 0 where
-  pub contents : (k : Key) → contents_of rows' k ≡ after_write kind by w k (contents_of rows k)
-  pub weight_is : weight rows' ≤ weight rows + missing rows kind w
+-- a write stands in its rows and in its pass
+pub record Laid (r : WrittenRows) (by : TxnName) (w : Write) (rows rows' : Leaves) (old new : PassState) : Type 0 where
+  pub contents : (k : Key) → contents_of rows' k ≡ rows_after by r k (contents_of rows k)
+  pub weight_is : weight rows' ≤ weight rows + count_by (λ k. not (has_row rows k)) (written_keys r)
   pub limit : rows'.limit ≡ rows.limit
   pub noted_in : new ≡ with_one_write old w
 
 -- there was no place for one of its rows, no retired leaf could be freed for it, and its pass notes that
-pub record FindsFull (kind : Kind) (w : Write) (until leaves : ℕ) (rows rows' : Leaves) (old new : PassState)
-    : Type 0 where
+pub record FindsFull (r : WrittenRows) (until leaves : ℕ) (rows rows' : Leaves) (old new : PassState) : Type 0 where
   pub keeps : KeepsContents rows rows'
-  pub no_room : IsNoRoom rows' kind w (room_refusals.Full leaves)
+  pub no_room : IsNoPlace rows' (written_keys r) (room_refusals.Full leaves)
   pub spent : IsSpent until rows' (room_refusals.Full leaves)
   pub limit : leaves ≡ rows.limit
   pub heavy : SPLIT_ROWS * leaves ≤ weight rows
-  pub wants : 0 < missing rows kind w
+  pub wants : 0 < count_by (λ k. not (has_row rows k)) (written_keys r)
   pub noted_in : new ≡ record old { filled = true }
 
--- what a write that may be made comes to: it is laid, or it finds no place or no memory
-abbrev pub Puts : Kind → TxnName → Write → ℕ → Leaves → Leaves → PassState → PassState → Result (Unit {0}) Refusal
+-- what a write that may be made comes to: it is made, or it finds no place or no memory
+abbrev pub Puts : WrittenRows → TxnName → Write → ℕ → Leaves → Leaves → PassState → PassState → Result (Unit {0}) Refusal
     → Type 0
-Puts kind by w until rows rows' old new (Ok done) = Laid kind by w rows rows' old new
-Puts kind by w until rows rows' old new (Err refusals.SelfLoop) = ⊥
-Puts kind by w until rows rows' old new (Err (refusals.NoVertex v)) = ⊥
-Puts kind by w until rows rows' old new (Err refusals.VertexExists) = ⊥
-Puts kind by w until rows rows' old new (Err refusals.EdgeExists) = ⊥
-Puts kind by w until rows rows' old new (Err refusals.NoEdge) = ⊥
-Puts kind by w until rows rows' old new (Err refusals.HasEdges) = ⊥
-Puts kind by w until rows rows' old new (Err (refusals.Conflict cause)) = ⊥
-Puts kind by w until rows rows' old new (Err (refusals.Full leaves)) = FindsFull kind w until leaves rows rows' old new
-Puts kind by w until rows rows' old new (Err refusals.NoMemory) = KeepsContents rows rows' × (new ≡ old)
+Puts r by w until rows rows' old new (Ok done) = Laid r by w rows rows' old new
+Puts r by w until rows rows' old new (Err refusals.SelfLoop) = ⊥
+Puts r by w until rows rows' old new (Err (refusals.NoVertex v)) = ⊥
+Puts r by w until rows rows' old new (Err refusals.VertexExists) = ⊥
+Puts r by w until rows rows' old new (Err refusals.EdgeExists) = ⊥
+Puts r by w until rows rows' old new (Err refusals.NoEdge) = ⊥
+Puts r by w until rows rows' old new (Err refusals.HasEdges) = ⊥
+Puts r by w until rows rows' old new (Err (refusals.Conflict cause)) = ⊥
+Puts r by w until rows rows' old new (Err (refusals.Full leaves)) = FindsFull r until leaves rows rows' old new
+Puts r by w until rows rows' old new (Err refusals.NoMemory) = KeepsContents rows rows' × (new ≡ old)

@@ -27,7 +27,7 @@ impl Core {
         requires load { IsLoad self.old.core load }
         ensures loaded { OnOk result (self.new.core ≡ loaded self.old.core load) }
         ensures refused { IfErr result (IsLoadRefusal self.old.core load) }
-        ensures err { OnErr result (self.new.core.journal ≡ []) }
+        ensures err { OnErr result (self.new.core ≡ self.old.core) }
     {
         let rows = load_rows(self.alloc, self.leaves, self.kind, load.as_slice())?;
         let copy = copy_of(self.alloc, &load)?;

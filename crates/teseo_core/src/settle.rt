@@ -1,47 +1,50 @@
-//! The end of a run: rows without records, what the store holds, and the journal.
+//! The end of a run: rows without records, and the journal.
 
-ghost use Rattle.std.specs.Prelude.{◌≡◌, length};
-ghost use Rattle.graph_model.specs.Graph.{vertices_of};
-ghost use Rattle.teseo_core.specs.Keeping.{IsSettled, KeepsService, NoneOpen, edges_of, newest_graph};
+ghost use Rattle.std.specs.Prelude.{◌≡◌, [], true};
+ghost use Rattle.leaf_store.specs.Leaves.{record_count};
+ghost use Rattle.teseo_core.specs.Keeping.{IsSettled, KeepsService, NoneOpen};
 
 use crate::pass::Pass;
 use crate::store::Core;
 use graph_model::{Journal, Kind};
-use leaf_rows::STAMPS_END;
+use leaf_rows::{LeafRows, STAMPS_END};
 use std::marker::Model;
-use txn_manager::Totals;
 
-/// The journal that an engine leaves behind, with what each of its passes did. Nothing but an engine makes one.
+/// The journal that an engine leaves behind, with what each of its passes did, and whether its store was settled.
+/// Nothing but an engine makes one.
 #[derive(Drop)]
 pub struct CoreJournal {
-    pub journal: Journal,
+    journal: Journal,
     kind: Kind,
     leaves: u32,
     passes: Vec<Pass>,
     selected: u32,
     served: u64,
+    settled: bool,
 }
 
 impl Model for CoreJournal {
-    ghost use Rattle.graph_model.specs.OwnerCalls.{Core};
-    ghost use Rattle.teseo_core.specs.Keeping.{states_of};
+    ghost use Rattle.teseo_core.specs.Keeping.{LeftStore, states_of};
 
-    ghost Value = { Core };
+    ghost Value = { LeftStore };
 
     ghost view = { λ c. record {
-      kind = c.kind;
-      leaves = c.leaves;
-      journal = c.journal;
-      passes = states_of c.passes.items;
-      selected = c.selected;
-      served = c.served;
+      core = record {
+        kind = c.kind;
+        leaves = c.leaves;
+        journal = c.journal;
+        passes = states_of c.passes.items;
+        selected = c.selected;
+        served = c.served;
+      };
+      settled = c.settled;
     } };
 }
 
 impl CoreJournal {
     /// Lends the journal.
     pub fn journal(&self) -> &Journal
-        ensures { result.now ≡ self.now.journal }
+        ensures { result.now ≡ self.now.core.journal }
     {
         &self.journal
     }
@@ -59,25 +62,21 @@ impl Core {
     {
         let stamp = self.retire_stamp();
         self.rows.settle(&self.manager, self.manager.clock());
+        self.rows.settled_rows_have_no_records();
         self.rows.merge_all(stamp);
         self.rows.free_retired(STAMPS_END);
+        self.rows.settled_rows_have_no_records();
     }
 
-    /// The vertices and the edges of the newest graph, behind `settle`.
-    pub fn settled_totals(&self) -> Totals
-        requires { IsSettled self.now }
-        ensures vertices { result.vertices ≡ length (vertices_of (newest_graph self.now.core)) }
-        ensures edges { result.edges ≡ edges_of self.now.core.kind (newest_graph self.now.core) }
-        ensures none { (result.undo ≡ 0) × (result.retired ≡ 0) }
-    {
-        self.newest_totals()
-    }
-
-    /// The journal, with what each pass did. Takes no memory.
+    /// The journal, with what each pass did, and whether no record and no retired leaf was left. Takes no memory.
     pub fn into_journal(self) -> CoreJournal
-        ensures { result ≡ self.core }
+        ensures core { result.core ≡ self.core }
+        ensures settled { result.settled ≡ true → (record_count self.rows ≡ 0) × (self.rows.retired ≡ []) }
+        ensures unsettled { record_count self.rows ≡ 0 → self.rows.retired ≡ [] → result.settled ≡ true }
     {
+        let settled = has_nothing_left(&self.rows);
         CoreJournal {
+            settled,
             journal: self.manager.into_journal(),
             kind: self.kind,
             leaves: self.leaves,
@@ -86,4 +85,15 @@ impl Core {
             served: self.served,
         }
     }
+}
+
+/// Whether no record and no retired leaf is left.
+fn has_nothing_left(rows: &LeafRows) -> bool
+    ensures nothing { result ≡ true → (record_count rows.now ≡ 0) × (rows.now.retired ≡ []) }
+    ensures something { record_count rows.now ≡ 0 → rows.now.retired ≡ [] → result ≡ true }
+{
+    if rows.record_count() > 0 {
+        return false;
+    }
+    rows.retired_count() == 0
 }

@@ -6,7 +6,8 @@ ghost use Rattle.graph_model.specs.OwnerLaws.{DidWrite};
 ghost use Rattle.graph_model.specs.Refused.{IsWithinLimits};
 ghost use Rattle.graph_model.specs.Rows.{is_below, end_key};
 ghost use Rattle.leaf_store.specs.Leaves.{room_at};
-ghost use Rattle.leaf_rows.specs.Laying.{HasRoomFor, HasTouchedNone, KeepsContents, MayLay, Stays};
+ghost use Rattle.leaf_rows.specs.Laying.{HasTouchedNone, HaveRoom, HaveRows, KeepsContents, Stays};
+ghost use Rattle.leaf_rows.specs.Written.{AreRows, rows_of, touched_keys, written_keys};
 ghost use Rattle.undo_chain.specs.declared.touched.Touched.TheVariants.{Never};
 ghost use Rattle.teseo_core.specs.Freeing.{RefusesRoom};
 ghost use Rattle.teseo_core.specs.Keeping.{KeepsService};
@@ -15,8 +16,8 @@ ghost use Rattle.teseo_core.specs.Passes.{Laid, Puts};
 use crate::free::free_bound;
 use crate::pass::Pass;
 use crate::store::{Core, reader_of};
-use graph_model::{Key, Kind, NoMemory, Refusal, TxnName, Write};
-use leaf_rows::LeafRows;
+use graph_model::{Key, NoMemory, Refusal, TxnName, Write};
+use leaf_rows::{FoundRows, LeafRows};
 use txn_manager::RoomRefusal;
 use undo_chain::Touched;
 
@@ -40,30 +41,31 @@ impl Core {
         self.rows.make_cell_room_or_free(key, need, until)
     }
 
-    /// Makes a write of the open transaction, or says why it isn't made. The cells of its rows are looked up first, and
-    /// once.
+    /// Makes a write of the open transaction, or says why it isn't made. Its rows are found first, and once.
     pub(crate) fn make_write(&mut self, write: Write) -> Result<(), Refusal>
         requires current { IsSome (current self.old.core).start }
         requires within { IsWithinLimits write }
         ensures did { DidWrite self.old.core write result self.new.core }
         ensures service { KeepsService self.old self.new }
     {
-        self.look_up(write);
-        self.write_here(write)
+        let found = self.find(write);
+        self.write_here(write, &found)
     }
 
-    /// Looks the cells of a write's rows up for the calls to come.
-    fn look_up(&mut self, write: Write)
+    /// Finds the rows of a write for the calls to come.
+    fn find(&mut self, write: Write) -> FoundRows
         requires { IsWithinLimits write }
-        ensures { self.new ≡ self.old }
+        ensures rows { result.rows ≡ rows_of self.old.core.kind write }
+        ensures kept { self.new ≡ self.old }
     {
-        self.rows.look_up(write);
+        self.rows.find(self.kind, write)
     }
 
-    /// Makes a write of the open transaction, or says why it isn't made.
-    fn write_here(&mut self, write: Write) -> Result<(), Refusal>
+    /// Makes a write whose rows are found, or says why it isn't made.
+    fn write_here(&mut self, write: Write, found: &FoundRows) -> Result<(), Refusal>
         requires current { IsSome (current self.old.core).start }
         requires within { IsWithinLimits write }
+        requires rows { found.now.rows ≡ rows_of self.old.core.kind write }
         ensures did { DidWrite self.old.core write result self.new.core }
         ensures service { KeepsService self.old self.new }
     {
@@ -71,7 +73,7 @@ impl Core {
         let reader = reader_of(&self.manager, &self.passes[pass], self.selected);
         let start = reader.start;
         let by = reader.by;
-        match self.rows.check(self.kind, &reader, write) {
+        match self.rows.check(self.kind, &reader, write, &found.near) {
             Ok(()) => {}
             Err(refusal) => return Err(self.passes[pass].note_refusal(start, write, refusal)),
         }
@@ -80,9 +82,9 @@ impl Core {
         put(
             &mut self.rows,
             &mut self.passes[pass],
-            self.kind,
             by,
             write,
+            found,
             until,
             earlier,
         )
@@ -93,19 +95,19 @@ impl Core {
 fn put(
     rows: &mut LeafRows,
     pass: &mut Pass,
-    kind: Kind,
     by: TxnName,
     write: Write,
+    found: &FoundRows,
     until: u64,
     earlier: Touched,
 ) -> Result<(), Refusal>
     requires current { IsSome pass.old.state.start }
-    requires within { IsWithinLimits write }
-    requires may { MayLay rows.old write }
+    requires rows { AreRows found.now.rows }
+    requires ends { HaveRows rows.old (touched_keys found.now.rows) }
     requires never { earlier ≡ Never → HasTouchedNone rows.old by }
-    ensures { Puts kind by write until rows.old rows.new pass.old.state pass.new.state result }
+    ensures { Puts found.now.rows by write until rows.old rows.new pass.old.state pass.new.state result }
 {
-    match rows.make_room_or_free(kind, write, until) {
+    match rows.make_room_or_free(found, until) {
         Ok(()) => {}
         Err(RoomRefusal::Full { leaves }) => {
             pass.fill();
@@ -113,31 +115,32 @@ fn put(
         }
         Err(RoomRefusal::NoMemory) => return Err(Refusal::NoMemory),
     }
-    match lay(rows, pass, kind, by, write, earlier) {
+    match lay(rows, pass, by, write, found, earlier) {
         Ok(()) => Ok(()),
         Err(NoMemory) => Err(Refusal::NoMemory),
     }
 }
 
-/// Lays a write in the rows and notes it in its pass.
+/// Puts a write into its rows and notes it in its pass.
 fn lay(
     rows: &mut LeafRows,
     pass: &mut Pass,
-    kind: Kind,
     by: TxnName,
     write: Write,
+    found: &FoundRows,
     earlier: Touched,
 ) -> Result<(), NoMemory>
     requires current { IsSome pass.old.state.start }
-    requires within { IsWithinLimits write }
-    requires may { MayLay rows.old write }
+    requires rows { AreRows found.now.rows }
+    requires ends { HaveRows rows.old (touched_keys found.now.rows) }
     requires never { earlier ≡ Never → HasTouchedNone rows.old by }
-    requires room { HasRoomFor rows.old kind write }
-    ensures ok { OnOk result (Laid kind by write rows.old rows.new pass.old.state pass.new.state) }
+    requires room { HaveRoom rows.old (written_keys found.now.rows) }
+    ensures ok { OnOk result
+        (Laid found.now.rows by write rows.old rows.new pass.old.state pass.new.state) }
     ensures err { OnErr result (Stays rows.old rows.new × (pass.new.state ≡ pass.old.state)) }
 {
     pass.reserve_write()?;
-    rows.lay(kind, by, write, earlier)?;
+    rows.lay(by, found, earlier)?;
     pass.note(write);
     Ok(())
 }

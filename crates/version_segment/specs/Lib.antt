@@ -1,5 +1,6 @@
 pub mod Rows
 pub mod Checks
+pub mod Changes
 pub mod Keyed
 pub mod Heads
 pub mod Lists

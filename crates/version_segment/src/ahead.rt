@@ -1,10 +1,8 @@
-//! Reads what later calls will read, and looks up what they will look for.
+//! Reads what later calls will read.
 //!
 //! A call that looks for a row waits for memory again and again: for the rows that it looks at first, for the changed
 //! rows and their records. Whoever has several segments to look at reads these in all of them first, so that the reads
-//! wait together. Then it looks each key up, and the calls find its row where it was found then. It changes nothing, and no clause speaks of it.
-
-ghost use Rattle.std.specs.Prelude.{◌≡◌};
+//! wait together. It changes nothing, and no clause speaks of it.
 
 use crate::segment::VersionSegment;
 use graph_model::Key;
@@ -26,12 +24,5 @@ impl VersionSegment {
     /// The sum of what is read ahead of the changed rows alone.
     pub fn sum_records_ahead(&self) -> u64 {
         (self.rows.sum_ahead() as u64).wrapping_add(self.chains.sum_ahead())
-    }
-
-    /// Looks the key up for the calls to come. Two keys are kept in mind, the ones that were looked up last.
-    pub fn look_up(&mut self, key: Key)
-        ensures { self.new ≡ self.old }
-    {
-        self.rows.look_up(key);
     }
 }

@@ -31,11 +31,11 @@ pub struct FoundRow {
     pub touches: Option<usize>,
 }
 
-/// The key's row, or the place where it would stand.
-pub(crate) fn find_row(rows: &RowTable, key: Key) -> Result<FoundRow, usize>
+/// The key's row, or the place where it would stand. It is looked for near a place first, which may be any.
+pub(crate) fn find_row(rows: &RowTable, key: Key, near: usize) -> Result<FoundRow, usize>
     ensures { IsRowFound rows.now.fenced.rows rows.now.heads.entries key result }
 {
-    match rows.segment().find(key) {
+    match rows.segment().find_near(key, near) {
         Ok(place) => Ok(row_at(rows, key, place)),
         Err(place) => Err(place),
     }

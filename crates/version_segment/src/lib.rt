@@ -8,6 +8,7 @@
 
 mod ahead;
 mod buffer;
+mod change;
 mod checks;
 mod fill;
 mod found;
@@ -18,9 +19,12 @@ mod moves;
 mod packed;
 mod rows;
 mod segment;
+mod view;
 
 pub use buffer::Rows32;
+pub use change::RowChange;
 pub use laws::{
     changes_are_by_key, changes_are_of_versions, checks_are_by_names, segments_are_cells,
 };
 pub use segment::VersionSegment;
+pub use view::{NOWHERE, RowView};

@@ -5,6 +5,7 @@ ghost use Rattle.version_segment.specs.Rows.{versions_at, has_row, newest_writer
 
 use crate::found::find_row;
 use crate::segment::VersionSegment;
+use crate::view::NOWHERE;
 use graph_model::{Key, TxnName};
 
 impl VersionSegment {
@@ -22,7 +23,7 @@ impl VersionSegment {
     pub fn newest(&self, key: Key) -> Option<TxnName>
         ensures { result ≡ newest_writer (versions_at self.now key).pairs }
     {
-        match find_row(&self.rows, key) {
+        match find_row(&self.rows, key, NOWHERE) {
             Ok(row) => self.chains.newest(row.undos),
             Err(_) => None,
         }
@@ -33,7 +34,7 @@ impl VersionSegment {
         ensures undone { ChangesKey self.old self.new key (undone (versions_at self.old key)) }
         ensures spare { self.old.spare ≤ self.new.spare }
     {
-        let _rows = self.len();
+        self.is_segment();
         match self.newest(key) {
             Some(by) => self.undo(key, by),
             None => {}
@@ -45,7 +46,7 @@ impl VersionSegment {
         ensures untouched { ChangesKey self.old self.new key (untouched by (versions_at self.old key)) }
         ensures spare { self.old.spare ≤ self.new.spare }
     {
-        let _rows = self.len();
+        self.is_segment();
         if self.has_row(key) {
             self.untouch(key, by);
         }

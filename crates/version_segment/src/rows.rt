@@ -87,8 +87,7 @@ impl RowTable {
         ensures below { IfSome result (λ p. p < place) }
         ensures between { AreSettledRows self.now.fenced.rows self.now.heads.entries (place_behind result) place }
     {
-        // Nobody reads it: that rows are sorted is a clause of this call.
-        let _rows = self.rows.rows();
+        self.rows.is_fenced();
         self.heads.last_before(place)
     }
 
@@ -96,8 +95,7 @@ impl RowTable {
     pub(crate) fn first_place(&self, key: Key) -> usize
         ensures { IsPlaceOf self.now.fenced.rows key result }
     {
-        // Nobody reads it: that rows are sorted is a clause of this call.
-        let _rows = self.rows.rows();
+        self.rows.is_fenced();
         match self.rows.find(key) {
             Ok(place) => place,
             Err(place) => place,
@@ -110,16 +108,8 @@ impl RowTable {
         ensures { result ≡ heads_at self.now.heads.entries key }
     {
         let _ = key;
-        // Nobody reads it: that rows are sorted is a clause of this call.
-        let _rows = self.rows.rows();
+        self.rows.is_fenced();
         self.heads.get(place)
-    }
-
-    /// Looks the key up for the calls to come.
-    pub(crate) fn look_up(&mut self, key: Key)
-        ensures { self.new ≡ self.old }
-    {
-        self.rows.look_up(key);
     }
 
     /// The sum of what is read ahead of the changed rows.
@@ -198,9 +188,7 @@ impl RowTable {
             → self.old.heads.spare ≤ self.new.heads.spare }
     {
         let _ = key;
-        // Nobody reads them: that rows are sorted, and 32 at most, are clauses of these calls.
-        let _rows = self.rows.rows();
-        let _most = self.rows.len();
+        self.rows.is_fenced();
         self.heads.put(place, heads);
     }
 
@@ -214,8 +202,7 @@ impl RowTable {
         ensures spare { self.old.heads.spare ≤ self.new.heads.spare }
     {
         let _ = key;
-        // Nobody reads it: that rows are sorted is a clause of this call.
-        let _rows = self.rows.rows();
+        self.rows.is_fenced();
         self.rows.remove_at(place);
         self.heads.close(place);
     }
@@ -300,8 +287,7 @@ impl RowTable {
             (all_records (versioned right_chains.old right.old.heads.entries (take rows right.old.fenced.rows))) }
     {
         let len = self.rows.len();
-        // Nobody reads it: that there are 32 rows at most is a clause of this call.
-        let _most = right.rows.len();
+        right.rows.is_fenced();
         let count = len + rows;
         if self.heads.is_empty() && right.heads.is_empty() {
             self.rows.share(&mut right.rows, count);

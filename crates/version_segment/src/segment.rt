@@ -13,9 +13,9 @@ ghost use Rattle.undo_chain.specs.declared.touched.Touched.TheVariants.{Never};
 ghost use Rattle.version_segment.specs.Rows.{versions_at, has_row, has_record, records_in, rows_at, all_records, PrunesRows, ChangesKey, IsSegment, IsSameSegment, written, undone, touched, untouched, newest_writer};
 
 use crate::buffer::Rows32;
-use crate::checks::{combined, drop_cause, newest_cause, touch_cause};
 use crate::found::{FoundRow, find_row, insert_row, prune_row, set_row, value_in};
 use crate::rows::RowTable;
+use crate::view::NOWHERE;
 use graph_model::{Cause, Key, NoMemory, Row, SEGMENT_ROWS, TxnName};
 use std::alloc::Global;
 use std::marker::Model;
@@ -72,7 +72,14 @@ impl VersionSegment {
         self.rows.segment().high()
     }
 
-    /// How many rows there are. What holds of each segment is a clause of this call.
+    /// What holds of each segment.
+    pub fn is_segment(&self)
+        ensures { IsSegment self.now }
+    {
+        self.rows.segment().is_fenced();
+    }
+
+    /// How many rows there are.
     pub fn len(&self) -> usize
         ensures len { result ≡ length self.now.rows }
         ensures sound { IsSegment self.now }
@@ -162,10 +169,7 @@ impl VersionSegment {
             (versions_at self.now key) }
         ensures grows { Grows (S.knowledge states.old) (S.knowledge states.new) }
     {
-        match find_row(&self.rows, key) {
-            Ok(row) => self.chains.value_at(row.undos, row.value, snapshot, states),
-            Err(_) => None,
-        }
+        self.row(key, NOWHERE).value(snapshot, states)
     }
 
     /// The rows of a key range for a snapshot. Where all rows of the range are settled they are lent as they stand,
@@ -187,8 +191,8 @@ impl VersionSegment {
         if self.rows.are_settled(from, until) {
             return run;
         }
-        // Nobody reads it: that a segment has 32 rows at most, so that the buffer has room, is a clause of this call.
-        let _most = self.rows.segment().len();
+        // so the buffer has room for all of them
+        self.rows.segment().is_fenced();
         buffer.clear();
         let mut place = self.rows.first_place(from);
         'rows: for row in run {
@@ -213,10 +217,7 @@ impl VersionSegment {
             (newest_of (versions_at self.now key)) (cause_in result) }
         ensures grows { Grows (S.knowledge states.old) (S.knowledge states.new) }
     {
-        match find_row(&self.rows, key) {
-            Ok(row) => unless_met(newest_cause(&self.chains, row.undos, snapshot, states)),
-            Err(_) => Ok(()),
-        }
+        unless_met(self.row(key, NOWHERE).cause(snapshot, states))
     }
 
     /// Who stands against the removal of a key's vertex: the newest writer, and those who have added an edge there.
@@ -231,14 +232,7 @@ impl VersionSegment {
             (newest_and_touches (versions_at self.now key)) (cause_in result) }
         ensures grows { Grows (S.knowledge states.old) (S.knowledge states.new) }
     {
-        match find_row(&self.rows, key) {
-            Ok(row) => {
-                let newest = newest_cause(&self.chains, row.undos, snapshot, states);
-                let touches = touch_cause(&self.chains, row.touches, snapshot, states);
-                unless_met(combined(newest, touches))
-            }
-            Err(_) => Ok(()),
-        }
+        unless_met(self.row(key, NOWHERE).removal_cause(snapshot, states))
     }
 
     /// Who stands against an edge at a key's vertex: those who have removed it.
@@ -253,12 +247,7 @@ impl VersionSegment {
             (drops_of (versions_at self.now key)) (cause_in result) }
         ensures grows { Grows (S.knowledge states.old) (S.knowledge states.new) }
     {
-        match find_row(&self.rows, key) {
-            Ok(row) => {
-                unless_met(drop_cause(&self.chains, row.undos, row.value, snapshot, states))
-            }
-            Err(_) => Ok(()),
-        }
+        unless_met(self.row(key, NOWHERE).drop_cause(snapshot, states))
     }
 
     /// Gives the memory of spare records back, where all rows are settled.
@@ -279,7 +268,18 @@ impl VersionSegment {
         ensures written { ChangesKey self.old self.new key (written by value (versions_at self.old key)) }
         ensures spare { self.old.spare ≤ self.new.spare + 1 }
     {
-        match find_row(&self.rows, key) {
+        self.write_near(key, NOWHERE, value, by);
+    }
+
+    /// The same, where the key may stand near a place.
+    pub(crate) fn write_near(&mut self, key: Key, near: usize, value: Option<u64>, by: TxnName)
+        requires within { is_between self.old.low self.old.high key ≡ true }
+        requires spare { 0 < self.old.spare }
+        requires room { has_row self.old key ≡ false → length self.old.rows < SEGMENT_ROWS }
+        ensures written { ChangesKey self.old self.new key (written by value (versions_at self.old key)) }
+        ensures spare { self.old.spare ≤ self.new.spare + 1 }
+    {
+        match find_row(&self.rows, key, near) {
             Ok(row) => {
                 let undos = put_record(&mut self.chains, row.undos, by, row.value);
                 let row = FoundRow {
@@ -309,7 +309,7 @@ impl VersionSegment {
         ensures spare { self.old.spare ≤ self.new.spare }
     {
         let _ = by;
-        let Ok(row) = find_row(&self.rows, key) else {
+        let Ok(row) = find_row(&self.rows, key, NOWHERE) else {
             unreachable!()
         };
         let Some(head) = row.undos else {
@@ -332,7 +332,18 @@ impl VersionSegment {
         ensures touched { ChangesKey self.old self.new key (touched by (versions_at self.old key)) }
         ensures spare { self.old.spare ≤ self.new.spare + 1 }
     {
-        let Ok(row) = find_row(&self.rows, key) else {
+        self.touch_near(key, NOWHERE, by, earlier);
+    }
+
+    /// The same, where the key may stand near a place.
+    pub(crate) fn touch_near(&mut self, key: Key, near: usize, by: TxnName, earlier: Touched)
+        requires row { has_row self.old key ≡ true }
+        requires never { earlier ≡ Never → has_record by (versions_at self.old key).touches ≡ false }
+        requires spare { 0 < self.old.spare }
+        ensures touched { ChangesKey self.old self.new key (touched by (versions_at self.old key)) }
+        ensures spare { self.old.spare ≤ self.new.spare + 1 }
+    {
+        let Ok(row) = find_row(&self.rows, key, near) else {
             unreachable!()
         };
         let Ok(touches) = self.chains.touch(row.touches, by, earlier) else {
@@ -351,7 +362,7 @@ impl VersionSegment {
         ensures untouched { ChangesKey self.old self.new key (untouched by (versions_at self.old key)) }
         ensures spare { self.old.spare ≤ self.new.spare }
     {
-        let Ok(row) = find_row(&self.rows, key) else {
+        let Ok(row) = find_row(&self.rows, key, NOWHERE) else {
             unreachable!()
         };
         let touches = self.chains.untouch(row.touches, by);
@@ -365,7 +376,7 @@ impl VersionSegment {
             (stamped_versions.stamp by stamp (versions_at self.old key)) }
         ensures spare { self.old.spare ≤ self.new.spare }
     {
-        if let Ok(row) = find_row(&self.rows, key) {
+        if let Ok(row) = find_row(&self.rows, key, NOWHERE) {
             self.chains.stamp(row.undos, by, stamp);
             self.chains.stamp(row.touches, by, stamp);
             set_row(&mut self.rows, &self.chains, key, row);

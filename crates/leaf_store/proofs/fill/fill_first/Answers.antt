@@ -28,5 +28,5 @@ returns-clause-ok c =
     let first = first_rows c.args.rows.now c.split_at.result.0.now c.split_at.result.1.now c.requires.sorted c.requires.within is (λ some. omega (arith, some, c.min.ensures, c.split_at.ensures.front_len, c.split_at.ensures.back_len)) in
     let settled = rw c.begin_of-high.ensures at c.in_ok-memory.ensures.settled in
     first_filling c.args.rows.now c.split_at.result.0.now c.split_at.result.1.now c.args.index.now c.set_separators.new.self c.args.leaves.now.items c.put_leaf.new.table.items c.in_ok-memory.memory c.cuts_of.result first is c.requires.index c.requires.some
-    settled c.in_ok-memory.ensures.leaf (rw c.deref.ensures at c.cuts_of.ensures.sound) (rw c.deref.ensures at c.cuts_of.ensures.cuts) c.set_separators.ensures.entries c.set_separators.ensures.others c.leaves-leaves.ensures.index c.put_leaf.ensures
+    settled c.in_ok-memory.ensures.leaf (rw c.deref.ensures at c.cuts_of.ensures.sound) (rw c.deref.ensures at c.cuts_of.ensures.cuts) c.set_separators.ensures.entries c.set_separators.ensures.others c.is_index.ensures.index c.put_leaf.ensures
     (omega (arith, c.min.ensures, c.split_at.ensures.front_len))

@@ -41,5 +41,5 @@ returns-clause-ok c =
     let adds = rw c.begin_of-low.ensures at c.in_ok-add_leaf.ensures.ok in
     filling_more c.args.rows.now c.split_at-2.result.0.now c.split_at-2.result.1.now c.args.at c.args.index.now c.take_free.new.self c.args.leaves.now.items c.in-Some.leaf c.requires.filling c.requires.more c.in-Some.ensures.0 c.in-Some.ensures.1 next
     c.in_ok-memory.memory.value.segments settled c.in_ok-memory.ensures.leaf (rw c.deref.ensures at c.cuts_of.ensures.sound) c.cuts_of.result (rw c.deref.ensures at c.cuts_of.ensures.cuts)
-    c.add_leaf.new.self c.in_ok-memory.memory c.put_leaf.new.table.items adds c.add_leaf.ensures.others c.leaves-leaves-2.ensures.index refl c.put_leaf.ensures (omega (arith, c.requires.filling.count, c.in-Some.ensures.1.exists, ap (λ (i : Index). i.leaves) c.in-Some.ensures.0))
+    c.add_leaf.new.self c.in_ok-memory.memory c.put_leaf.new.table.items adds c.add_leaf.ensures.others c.is_index.ensures.index refl c.put_leaf.ensures (omega (arith, c.requires.filling.count, c.in-Some.ensures.1.exists, ap (λ (i : Index). i.leaves) c.in-Some.ensures.0))
     (omega (arith, c.split_at.ensures.back_len, c.min.ensures, c.split_at-2.ensures.front_len, c.split_at-2.ensures.back_len)) (omega (arith, c.requires.more, c.split_at.ensures.back_len, c.min.ensures, c.split_at-2.ensures.front_len))

@@ -59,7 +59,7 @@ returns-in-Ok-clause-tended c =
     let right = (stands_segments c.args.index.now c.args.leaves.now.items c.args.pair.right c.requires.tended.kept (right_stands c.args.index.now c.args.leaves.now.items c.args.pair c.requires.tended.kept c.requires.pair)
     c.index_mut.result.now c.in-Some.right c.deref_mut-in-Some-index_mut.result.now c.index_mut.ensures.value (sym c.replace.ensures.value ∙ c.in-Some.is) c.deref_mut-in-Some-index_mut.ensures.value) in
     let kept = (pair_merged c.args.index.now c.args.leaves.now.items c.args.pair c.requires.tended.kept c.requires.pair c.merge_entries-merged.new.index _ c.args.stamp c.merge_entries-merged.new.left.segments c.requires.stamp (after_others c.args.index.now c.args.leaves.now.items c.args.pair c.requires.tended.kept c.requires.pair c.replace.new.dest (Some (with_value c.in-Some-index_mut.left c.merge_entries-merged.new.left)))
-    (after_left c.args.index.now c.args.leaves.now.items c.args.pair c.requires.tended.kept c.requires.pair c.replace.new.dest (Some (with_value c.in-Some-index_mut.left c.merge_entries-merged.new.left))) (after_count c.args.index.now c.args.leaves.now.items c.args.pair c.requires.tended.kept c.requires.pair c.replace.new.dest (Some (with_value c.in-Some-index_mut.left c.merge_entries-merged.new.left))) c.in-Ok.ensures.sound c.leaves-leaves.ensures.index
+    (after_left c.args.index.now c.args.leaves.now.items c.args.pair c.requires.tended.kept c.requires.pair c.replace.new.dest (Some (with_value c.in-Some-index_mut.left c.merge_entries-merged.new.left))) (after_count c.args.index.now c.args.leaves.now.items c.args.pair c.requires.tended.kept c.requires.pair c.replace.new.dest (Some (with_value c.in-Some-index_mut.left c.merge_entries-merged.new.left))) c.in-Ok.ensures.sound c.is_index.ensures.index
     (subst (λ ts. (live : AreNeighbours c.args.index.now.entries (segments_at c.args.leaves.now.items c.args.pair.left) ts c.args.pair.right) → MergesEntries c.args.stamp c.args.pair.right c.args.index.now c.merge_entries-merged.new.index (segments_at c.args.leaves.now.items c.args.pair.left) ts c.merge_entries-merged.new.left.segments live) (sym right)
     (subst (λ ss. (live : AreNeighbours c.args.index.now.entries ss c.deref_mut-in-Some-index_mut.result.now.segments c.args.pair.right) → MergesEntries c.args.stamp c.args.pair.right c.args.index.now c.merge_entries-merged.new.index ss c.deref_mut-in-Some-index_mut.result.now.segments c.merge_entries-merged.new.left.segments live) (sym left) c.in-Ok.ensures.ok))).0 in
     let two = merges_two c.args.index.now c.args.leaves.now.items c.args.pair c.requires.tended.kept c.requires.pair c.merge_entries-merged.new.index _ c.args.stamp c.merge_entries-merged.new.left.segments (after_others c.args.index.now c.args.leaves.now.items c.args.pair c.requires.tended.kept c.requires.pair c.replace.new.dest (Some (with_value c.in-Some-index_mut.left c.merge_entries-merged.new.left)))
@@ -80,7 +80,7 @@ returns-in-Ok-clause-compacts c =
     let right = (stands_segments c.args.index.now c.args.leaves.now.items c.args.pair.right c.requires.tended.kept (right_stands c.args.index.now c.args.leaves.now.items c.args.pair c.requires.tended.kept c.requires.pair)
     c.index_mut.result.now c.in-Some.right c.deref_mut-in-Some-index_mut.result.now c.index_mut.ensures.value (sym c.replace.ensures.value ∙ c.in-Some.is) c.deref_mut-in-Some-index_mut.ensures.value) in
     (pair_merged c.args.index.now c.args.leaves.now.items c.args.pair c.requires.tended.kept c.requires.pair c.merge_entries-merged.new.index _ c.args.stamp c.merge_entries-merged.new.left.segments c.requires.stamp (after_others c.args.index.now c.args.leaves.now.items c.args.pair c.requires.tended.kept c.requires.pair c.replace.new.dest (Some (with_value c.in-Some-index_mut.left c.merge_entries-merged.new.left)))
-    (after_left c.args.index.now c.args.leaves.now.items c.args.pair c.requires.tended.kept c.requires.pair c.replace.new.dest (Some (with_value c.in-Some-index_mut.left c.merge_entries-merged.new.left))) (after_count c.args.index.now c.args.leaves.now.items c.args.pair c.requires.tended.kept c.requires.pair c.replace.new.dest (Some (with_value c.in-Some-index_mut.left c.merge_entries-merged.new.left))) c.in-Ok.ensures.sound c.leaves-leaves.ensures.index
+    (after_left c.args.index.now c.args.leaves.now.items c.args.pair c.requires.tended.kept c.requires.pair c.replace.new.dest (Some (with_value c.in-Some-index_mut.left c.merge_entries-merged.new.left))) (after_count c.args.index.now c.args.leaves.now.items c.args.pair c.requires.tended.kept c.requires.pair c.replace.new.dest (Some (with_value c.in-Some-index_mut.left c.merge_entries-merged.new.left))) c.in-Ok.ensures.sound c.is_index.ensures.index
     (subst (λ ts. (live : AreNeighbours c.args.index.now.entries (segments_at c.args.leaves.now.items c.args.pair.left) ts c.args.pair.right) → MergesEntries c.args.stamp c.args.pair.right c.args.index.now c.merge_entries-merged.new.index (segments_at c.args.leaves.now.items c.args.pair.left) ts c.merge_entries-merged.new.left.segments live) (sym right)
     (subst (λ ss. (live : AreNeighbours c.args.index.now.entries ss c.deref_mut-in-Some-index_mut.result.now.segments c.args.pair.right) → MergesEntries c.args.stamp c.args.pair.right c.args.index.now c.merge_entries-merged.new.index ss c.deref_mut-in-Some-index_mut.result.now.segments c.merge_entries-merged.new.left.segments live) (sym left) c.in-Ok.ensures.ok))).1
 

@@ -29,7 +29,7 @@ pub returns-in-Ok-clause-ok : goal.returns-in-Ok-clause-ok
 returns-in-Ok-clause-ok c = λ key is below.
     let l = live_at c.args.index.now c.args.leaves.now.items key c.args.place c.take_free.new.self.entries c.requires.tended.kept is below (sym (ap (λ (i : Index). i.entries) c.in-Some.ensures.0)) in
     (half_moved c.args.index.now c.take_free.new.self c.split_with.new.index c.args.leaves.now.items c.split_with.new.leaves.items key c.args.place c.in-Some.leaf c.requires.tended.kept is below c.in-Some.ensures.0 c.in-Some.ensures.1
-    (c.in-Ok.ensures.ok l.live l.number) c.requires.many c.leaves-leaves-in-Ok.ensures.index).room
+    (c.in-Ok.ensures.ok l.live l.number) c.requires.many c.is_index.ensures.index).room
 
 pub returns-in-Ok-clause-tended : goal.returns-in-Ok-clause-tended
 returns-in-Ok-clause-tended c =
@@ -38,14 +38,14 @@ returns-in-Ok-clause-tended c =
     let halves = c.in-Ok.ensures.ok l.live l.number in
     subst (IsTended _ _) (sym (c.watch-2.ensures ∙ ap (λ (f : List Bool). set f c.in-Some.leaf true) c.watch.ensures))
     (half_tended c.args.index.now c.take_free.new.self c.split_with.new.index c.args.leaves.now.items c.split_with.new.leaves.items p.0 c.args.place c.in-Some.leaf c.requires.tended.kept p.1 p.2 c.in-Some.ensures.0 c.in-Some.ensures.1
-    halves c.requires.many c.leaves-leaves-in-Ok.ensures.index c.args.watch.now c.requires.tended)
+    halves c.requires.many c.is_index.ensures.index c.args.watch.now c.requires.tended)
 
 pub returns-in-Ok-clause-moved : goal.returns-in-Ok-clause-moved
 returns-in-Ok-clause-moved c =
     let p = c.requires.place in
     let l = live_at c.args.index.now c.args.leaves.now.items p.0 c.args.place c.take_free.new.self.entries c.requires.tended.kept p.1 p.2 (sym (ap (λ (i : Index). i.entries) c.in-Some.ensures.0)) in
     (half_moved c.args.index.now c.take_free.new.self c.split_with.new.index c.args.leaves.now.items c.split_with.new.leaves.items p.0 c.args.place c.in-Some.leaf c.requires.tended.kept p.1 p.2 c.in-Some.ensures.0 c.in-Some.ensures.1
-    (c.in-Ok.ensures.ok l.live l.number) c.requires.many c.leaves-leaves-in-Ok.ensures.index).moves
+    (c.in-Ok.ensures.ok l.live l.number) c.requires.many c.is_index.ensures.index).moves
 
 pub returns-in-Err-clause-tended : goal.returns-in-Err-clause-tended
 returns-in-Err-clause-tended c =

@@ -51,7 +51,7 @@ returns-clause-tended c =
     let a = stands_at c.args.index.now c.args.leaves.now.items c.args.leaf c.requires.tended.kept c.requires.stands c.index_mut.result.now c.in-Some.leaf c.deref_mut.result.now c.index_mut.ensures.value c.in-Some.is c.deref_mut.ensures.value in
     let respreads = spread_here c.args.index.now c.args.leaves.now.items c.args.leaf c.requires.tended.kept c.requires.stands c.args.window c.deref_mut.result.now.segments c.spread.new.leaf.segments a c.requires.window c.requires.few (rw c.deref.ensures at c.cuts_of-cuts.ensures.sound) c.in_ok-spread-in-Some.ensures.ok in
     let kept = (cut_moved c.args.index.now c.args.leaves.now.items c.args.leaf c.deref_mut.result.now.segments a c.requires.tended.kept c.in-Some.leaf c.spread.new.leaf c.set_separators.new.self c.cuts_of-cuts.result respreads (rw c.deref.ensures at c.cuts_of-cuts.ensures.cuts)
-    c.leaves-leaves.ensures.index c.set_separators.ensures.entries c.set_separators.ensures.others).kept in
+    c.is_index.ensures.index c.set_separators.ensures.entries c.set_separators.ensures.others).kept in
     let spreads = cut_spread c.args.index.now c.args.leaves.now.items c.args.leaf c.deref_mut.result.now.segments a c.requires.tended.kept c.in-Some.leaf c.spread.new.leaf c.set_separators.new.self c.cuts_of-cuts.result c.args.window respreads (rw c.deref.ensures at c.cuts_of-cuts.ensures.cuts)
     c.set_separators.ensures.entries c.set_separators.ensures.others c.in_ok-spread-in-Some.ensures.ok in
     let seen = watched_now c.args.watch.now c.args.leaf (omega (arith, a.within, c.requires.tended.kept.count, c.requires.tended.count)) in
@@ -62,7 +62,7 @@ returns-clause-moved c =
     let a = stands_at c.args.index.now c.args.leaves.now.items c.args.leaf c.requires.tended.kept c.requires.stands c.index_mut.result.now c.in-Some.leaf c.deref_mut.result.now c.index_mut.ensures.value c.in-Some.is c.deref_mut.ensures.value in
     let respreads = spread_here c.args.index.now c.args.leaves.now.items c.args.leaf c.requires.tended.kept c.requires.stands c.args.window c.deref_mut.result.now.segments c.spread.new.leaf.segments a c.requires.window c.requires.few (rw c.deref.ensures at c.cuts_of-cuts.ensures.sound) c.in_ok-spread-in-Some.ensures.ok in
     (cut_moved c.args.index.now c.args.leaves.now.items c.args.leaf c.deref_mut.result.now.segments a c.requires.tended.kept c.in-Some.leaf c.spread.new.leaf c.set_separators.new.self c.cuts_of-cuts.result respreads (rw c.deref.ensures at c.cuts_of-cuts.ensures.cuts)
-    c.leaves-leaves.ensures.index c.set_separators.ensures.entries c.set_separators.ensures.others).moves
+    c.is_index.ensures.index c.set_separators.ensures.entries c.set_separators.ensures.others).moves
 
 pub returns-clause-ok : goal.returns-clause-ok
 returns-clause-ok c = λ key place same is below round.
@@ -71,7 +71,7 @@ returns-clause-ok c = λ key place same is below round.
     let here : LeafAt c.args.index.now c.args.leaves.now.items place.leaf c.deref_mut.result.now.segments = subst (λ n. LeafAt c.args.index.now c.args.leaves.now.items n c.deref_mut.result.now.segments) (sym same) a in
     let few = subst (λ n. length (rows_of (window_of c.args.window (segments_at c.args.leaves.now.items n))) ≤ 30 * c.args.window.len) (sym same) c.requires.few in
     room_in_leaf c.args.index.now c.args.leaves.now.items c.args.leaf c.deref_mut.result.now.segments a c.requires.tended.kept c.in-Some.leaf c.spread.new.leaf c.set_separators.new.self c.cuts_of-cuts.result key respreads (rw c.deref.ensures at c.cuts_of-cuts.ensures.cuts)
-    c.leaves-leaves.ensures.index c.set_separators.ensures.entries c.set_separators.ensures.others
+    c.is_index.ensures.index c.set_separators.ensures.entries c.set_separators.ensures.others
     (spread_leaf c.args.index.now c.args.leaves.now.items key place c.requires.tended.kept is below c.args.window c.deref_mut.result.now.segments c.spread.new.leaf.segments here round c.requires.window few (rw c.deref.ensures at c.cuts_of-cuts.ensures.sound) c.in_ok-spread-in-Some.ensures.ok)
 
 pub returns-in_err-spread-in-Some-clause-err : goal.returns-in_err-spread-in-Some-clause-err

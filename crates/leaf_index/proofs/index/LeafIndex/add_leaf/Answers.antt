@@ -24,7 +24,7 @@ invariant_of-self-2 c =
     let same = same_some (sym (slice_get_read slots _ c.leaf_of-before.result c.index_mut.result.now refl lt c.index_mut.ensures.value) ∙ there) in
     let u = unused _ _ _ _ _ c.args.leaf c.self.view_is c.requires.taken in
     let x = add_changed slots _ c.insert.new.self _ _ _ c.args.low c.args.leaf c.args.cuts c.leaf_of-before.result c.index.result.now (ap (λ (i : Index). i.entries) c.self.view_is) c.self.invariant.0 u c.requires.place c.leaf_of-before.ensures there c.in_ok-insert.ensures.ok in
-    rw same (x.kept, omega (arith, x.count, c.self.invariant.1), c.new-self-inside.ensures _, add_live slots _ c.insert.new.self c.args.low c.args.leaf c.leaf_of-before.result _ _ c.self.invariant.3 c.leaf_of-before.ensures c.in_ok-insert.ensures.ok)
+    rw same (x.kept, omega (arith, x.count, c.self.invariant.1), add_live slots _ c.insert.new.self c.args.low c.args.leaf c.leaf_of-before.result _ _ c.self.invariant.2 c.leaf_of-before.ensures c.in_ok-insert.ensures.ok)
 
 pub returns-clause-ok : goal.returns-clause-ok
 returns-clause-ok c = λ can.

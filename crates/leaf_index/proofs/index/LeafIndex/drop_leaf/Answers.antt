@@ -38,8 +38,8 @@ invariant_of-self c =
     let gone = slice_get_read slots _ c.leaf_of-dropped.result c.index.result.now refl (floor_within slots _ _ c.leaf_of-dropped.result c.self.invariant.0.have c.leaf_of-dropped.ensures) c.index.ensures in
     let now = slice_get_read slots _ c.in-Some.before c.index_mut.result.now refl (before_within slots _ _ c.in-Some.before c.self.invariant.0.have c.in-Some.ensures) c.index_mut.ensures.value in
     let x = drop_changed slots _ c.remove.new.self _ _ _ c.args.low c.leaf_of-dropped.result c.in-Some.before c.index.result.now c.index_mut.result.now _ c.self.invariant.0 c.requires n c.leaf_of-dropped.ensures gone c.in-Some.ensures now c.remove.ensures in
-    let live = drop_live slots _ c.remove.new.self c.args.low c.leaf_of-dropped.result c.in-Some.before c.index.result.now _ c.self.invariant.0.rising c.self.invariant.0.have c.self.invariant.3 c.leaf_of-dropped.ensures gone c.in-Some.ensures c.remove.ensures in
-    (x.kept, omega (arith, x.count, c.self.invariant.1), c.new-self-inside.ensures _, live)
+    let live = drop_live slots _ c.remove.new.self c.args.low c.leaf_of-dropped.result c.in-Some.before c.index.result.now _ c.self.invariant.0.rising c.self.invariant.0.have c.self.invariant.2 c.leaf_of-dropped.ensures gone c.in-Some.ensures c.remove.ensures in
+    (x.kept, omega (arith, x.count, c.self.invariant.1), live)
 
 pub returns-clause-entries : goal.returns-clause-entries
 returns-clause-entries c = λ can.

@@ -11,4 +11,4 @@ pub invariant_of-self : goal.invariant_of-self
 invariant_of-self c =
     let idle = c.self.inside.idle in
     let u = unused _ _ _ _ _ c.args.leaf c.self.view_is c.requires in
-    (kept_with _ _ _ _ c.retire.ensures (retired_more _ _ idle.free idle.retired (record { leaf = c.args.leaf; stamp = c.args.stamp }) _ c.self.invariant.0 u refl), ap (λ (i : Idle). i.leaves) c.retire.ensures ∙ c.self.invariant.1, c.self.invariant.2, c.self.invariant.3)
+    (kept_with _ _ _ _ c.retire.ensures (retired_more _ _ idle.free idle.retired (record { leaf = c.args.leaf; stamp = c.args.stamp }) _ c.self.invariant.0 u refl), ap (λ (i : Idle). i.leaves) c.retire.ensures ∙ c.self.invariant.1, c.self.invariant.2)

@@ -18,7 +18,7 @@ invariant_of-self c =
     let lt = floor_within slots _ _ c.leaf_of-leaf.result c.self.invariant.0.have c.leaf_of-leaf.ensures in
     let there = slice_get_read slots _ c.leaf_of-leaf.result c.index.result.now refl lt c.index.ensures in
     let x = cut_changed slots _ _ _ _ c.args.low c.args.cuts c.leaf_of-leaf.result c.index.result.now (ap (λ (i : Index). i.entries) c.self.view_is) c.self.invariant.0 c.requires c.leaf_of-leaf.ensures there in
-    (x.kept, omega (arith, x.count, c.self.invariant.1), c.new-self-inside.ensures _, cut_live slots _ c.args.low c.leaf_of-leaf.result _ c.self.invariant.3 c.leaf_of-leaf.ensures)
+    (x.kept, omega (arith, x.count, c.self.invariant.1), cut_live slots _ c.args.low c.leaf_of-leaf.result _ c.self.invariant.2 c.leaf_of-leaf.ensures)
 
 pub returns-clause-entries : goal.returns-clause-entries
 returns-clause-entries c = λ can.

@@ -9,7 +9,7 @@ invariant_of-self c =
     let inside = c.self.inside in
     let same = ap (λ (i : Idle). i.retired) c.take_free.ensures.leaf in
     let kept = subst (λ rs. IsKept inside.slots.items inside.trie inside.idle.free rs) same c.self.invariant.0 in
-    (fewer_free _ _ inside.idle.free _ _ c.take_free.result kept (ap (λ (i : Idle). i.free) c.take_free.ensures.leaf), sym (ap (λ (i : Idle). i.leaves) c.take_free.ensures.leaf) ∙ c.self.invariant.1, c.self.invariant.2, c.self.invariant.3)
+    (fewer_free _ _ inside.idle.free _ _ c.take_free.result kept (ap (λ (i : Idle). i.free) c.take_free.ensures.leaf), sym (ap (λ (i : Idle). i.leaves) c.take_free.ensures.leaf) ∙ c.self.invariant.1, c.self.invariant.2)
 
 pub returns : goal.returns
 returns c =

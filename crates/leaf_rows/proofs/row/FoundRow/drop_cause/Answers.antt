@@ -1,15 +1,15 @@
 use Rattle.std.proofs.Common.{◌∙◌, ap}
-use Rattle.version_segment.specs.Rows.{versions_at}
-use Rattle.version_segment.specs.Checks.{cause_in, drops_of}
+use Rattle.version_segment.specs.Rows.{or_nothing}
+use Rattle.version_segment.specs.Checks.{drops_of}
 use Rattle.leaf_rows.specs.Readers.{cause_for}
 use Rattle.leaf_rows.proofs.CauseLemmas.{cause_is, drops_none, drops_names}
 use Rattle.leaf_rows.proofs.row.FoundRow.drop_cause.Goals as goal
 
 pub returns : goal.returns
 returns c =
-    let vs = versions_at c.args.self.now.cell.now c.args.self.now.key in
-    let checked = rw c.known.ensures at c.check_end-checked.ensures.checked in
-    let grows = rw c.known.ensures at c.check_end-checked.ensures.grows in
+    let vs = or_nothing c.args.self.now.row in
+    let checked = rw c.known.ensures at c.drop_cause.ensures.checked in
+    let grows = rw c.known.ensures at c.drop_cause.ensures.grows in
     let own = rw (← c.snapshot.ensures.own) at c.requires in
-    let cause = cause_is c.args.reader.now.manager.now c.check_end-checked.new.states.manager.now c.snapshot.result (drops_of vs) (cause_in c.check_end-checked.result) c.clock.ensures.valid own grows (drops_none vs c.args.self.now.unstamped) checked in
-    c.cause_of.ensures ∙ (rw (c.snapshot.ensures.start, c.snapshot.ensures.own) at cause) ∙ ap (cause_for c.args.reader.now) (drops_names vs)
+    let cause = cause_is c.args.reader.now.manager.now c.drop_cause.new.states.manager.now c.snapshot.result (drops_of vs) c.drop_cause.result c.clock.ensures.valid own grows (drops_none vs c.args.self.now.unstamped) checked in
+    (rw (c.snapshot.ensures.start, c.snapshot.ensures.own) at cause) ∙ ap (cause_for c.args.reader.now) (drops_names vs)

@@ -13,7 +13,7 @@ use Rattle.leaf_rows.proofs.rows.LeafRows.count.Goals as goal
 
 pub cells-init : goal.cells-init
 cells-init c =
-    let few = few_runs c.self.inside.store first_key end_key c.limit.ensures.sound c.limit.ensures.few (rw c.limit.ensures.limit at c.limit.type_inv) in
+    let few = few_runs c.self.inside.store first_key end_key c.is_sound.ensures.sound c.is_sound.ensures.few (let most = c.is_sound.ensures.limit in omega (arith, most)) in
     let none = λ (g : _). none_between g first_key first_key (below_self first_key) in
     rw c.of_vertex-next.ensures (record {
       behind = below_self first_key;
@@ -62,12 +62,12 @@ returns-clause-vertices c = λ g shows.
     let r = c.args.reader.now in
     let at_end = tied_keys c.cells.next end_key (rw c.end.ensures at (sym c.is_below.ensures ∙ c.cells-test.false)) c.cells.invariant.within in
     c.cells.invariant.vertices g shows ∙ ap (λ k. count_by is_vertex_row (rows g first_key k)) at_end
-    ∙ vertices_counted (stamp_in r.manager.now.journal) (record { start = r.start; own = r.by }) c.args.self.now (rw c.self.view_is at c.limit.ensures.sound) g shows
+    ∙ vertices_counted (stamp_in r.manager.now.journal) (record { start = r.start; own = r.by }) c.args.self.now (rw c.self.view_is at c.is_sound.ensures.sound) g shows
 
 pub returns-clause-arcs : goal.returns-clause-arcs
 returns-clause-arcs c = λ g shows.
     let r = c.args.reader.now in
     let at_end = tied_keys c.cells.next end_key (rw c.end.ensures at (sym c.is_below.ensures ∙ c.cells-test.false)) c.cells.invariant.within in
-    others_counted (stamp_in r.manager.now.journal) (record { start = r.start; own = r.by }) c.args.self.now (rw c.self.view_is at c.limit.ensures.sound) g shows c.cells.counts.vertices c.cells.counts.arcs
+    others_counted (stamp_in r.manager.now.journal) (record { start = r.start; own = r.by }) c.args.self.now (rw c.self.view_is at c.is_sound.ensures.sound) g shows c.cells.counts.vertices c.cells.counts.arcs
     (c.cells.invariant.vertices g shows ∙ ap (λ k. count_by is_vertex_row (rows g first_key k)) at_end)
     (c.cells.invariant.all g shows ∙ ap (λ k. length (rows g first_key k)) at_end)

@@ -7,15 +7,15 @@ returns-clause-ok c =
     let one = c.make_place.ensures in
     let two = c.make_place-2.ensures in
     let three = c.make_place-made.ensures in
-    let there = rw c.self-2.view_is at c.limit-2.ensures.there in
-    let apart = rw c.self-2.view_is at c.limit-2.ensures.apart in
+    let there = rw c.self-2.view_is at c.is_sound-2.ensures.there in
+    let apart = rw c.self-2.view_is at c.is_sound-2.ensures.apart in
     on_ok_weaker c.make_place-made.result (λ fits.
-    three_steps c.args.self.now c.make_place.new.self c.make_place-2.new.self c.make_place-made.new.self one.there two.there three.there there apart c.args.first c.args.second c.requires.first c.requires.second
+    three_steps c.args.self.now c.make_place.new.self c.make_place-2.new.self c.make_place-made.new.self one.there two.there three.there there apart c.args.first.key c.args.second.key c.requires.first c.requires.second
     one.stays two.stays three.stays two.room three.room c.in_ok-make_place.ensures.ok c.in_ok-make_place-2.ensures.ok fits three.kept) three.ok
 
 pub returns-then-has_place-clause-ok : goal.returns-then-has_place-clause-ok
 returns-then-has_place-clause-ok c =
     let one = c.make_place.ensures in
-    let there = rw c.self.view_is at c.limit.ensures.there in
-    let apart = rw c.self.view_is at c.limit.ensures.apart in
-    two_steps c.args.self.now c.make_place.new.self one.there there apart c.args.first c.args.second c.requires.first c.requires.second one.stays c.in_ok-make_place.ensures.ok (c.has_place.ensures c.if-has_place.true)
+    let there = rw c.self.view_is at c.is_sound.ensures.there in
+    let apart = rw c.self.view_is at c.is_sound.ensures.apart in
+    two_steps c.args.self.now c.make_place.new.self one.there there apart c.args.first.key c.args.second.key c.requires.first c.requires.second one.stays c.in_ok-make_place.ensures.ok (c.has_place.ensures c.if-has_place.true)

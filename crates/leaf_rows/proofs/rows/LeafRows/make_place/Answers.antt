@@ -7,28 +7,28 @@ use Rattle.leaf_rows.proofs.rows.LeafRows.make_place.Goals as goal
 pub returns-in-None-clause-ok : goal.returns-in-None-clause-ok
 returns-in-None-clause-ok c = λ missing.
     let old = c.self.inside.store in
-    let keys = keys_with c.args.key c.args.other in
+    let keys = keys_with c.args.at.key c.args.other in
     let none = rw (← c.self.view_is) at missing in
     let fits = rw c.segment.ensures.cell at (c.need_at.ensures.none c.in-None.is) in
-    rw (← c.self.view_is) (rw (wanted_is old c.limit.ensures.apart c.args.key keys) (fits none))
+    rw (← c.self.view_is) (rw (wanted_is old c.is_sound.ensures.apart c.args.at.key keys) (fits none))
 
 pub returns-clause-stays : goal.returns-clause-stays
-returns-clause-stays c = rw (← c.self.view_is) (moved_stays c.self.inside.store c.make_room-made.new.self c.limit.ensures.sound c.limit-2.ensures.sound c.make_room-made.ensures.moved c.make_room-made.ensures.retired)
+returns-clause-stays c = rw (← c.self.view_is) (moved_stays c.self.inside.store c.make_room-made.new.self c.is_sound.ensures.sound c.is_sound-2.ensures.sound c.make_room-made.ensures.moved c.make_room-made.ensures.retired)
 
 pub returns-clause-ok : goal.returns-clause-ok
 returns-clause-ok c =
     let old = c.self.inside.store in
-    let keys = keys_with c.args.key c.args.other in
+    let keys = keys_with c.args.at.key c.args.other in
     let need = rw c.segment.ensures.cell at c.in-Some.ensures.need in
-    let is = need.is ∙ sym (wanted_is old c.limit.ensures.apart c.args.key keys) in
+    let is = need.is ∙ sym (wanted_is old c.is_sound.ensures.apart c.args.at.key keys) in
     rw (← c.self.view_is) (on_ok_weaker c.make_room-made.result (λ fits missing. omega (arith, fits, is)) c.make_room-made.ensures.ok)
 
 pub returns-clause-kept : goal.returns-clause-kept
 returns-clause-kept c = λ fits.
     let old = c.self.inside.store in
-    let keys = keys_with c.args.key c.args.other in
+    let keys = keys_with c.args.at.key c.args.other in
     let need = rw c.segment.ensures.cell at c.in-Some.ensures.need in
-    let is = need.is ∙ sym (wanted_is old c.limit.ensures.apart c.args.key keys) in
+    let is = need.is ∙ sym (wanted_is old c.is_sound.ensures.apart c.args.at.key keys) in
     let short = need.short in
     let enough = rw (← c.self.view_is) at fits in
     absurd (omega (arith, short, is, enough))
@@ -36,7 +36,7 @@ returns-clause-kept c = λ fits.
 pub returns-clause-full : goal.returns-clause-full
 returns-clause-full c =
     let old = c.self.inside.store in
-    let keys = keys_with c.args.key c.args.other in
+    let keys = keys_with c.args.at.key c.args.other in
     let need = rw c.segment.ensures.cell at c.in-Some.ensures.need in
-    let is = need.is ∙ sym (wanted_is old c.limit.ensures.apart c.args.key keys) in
-    IfErr-weaker c.make_room-made.result _ _ (λ refusal why. refused_is old c.make_room-made.new.self c.args.key c.in-Some.need keys refusal is need.short why) c.make_room-made.ensures.refused
+    let is = need.is ∙ sym (wanted_is old c.is_sound.ensures.apart c.args.at.key keys) in
+    IfErr-weaker c.make_room-made.result _ _ (λ refusal why. refused_is old c.make_room-made.new.self c.args.at.key c.in-Some.need keys refusal is need.short why) c.make_room-made.ensures.refused

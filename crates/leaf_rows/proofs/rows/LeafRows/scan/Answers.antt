@@ -49,7 +49,7 @@ returns c = λ g shows.
     let none : rows g c.cells.cursor.next c.cells.cursor.until ≡ [] =
     elim c.cells-test.branch [
       | then-cells-test+else-is_below w ↦
-          no_rows_beyond _ (record { start = c.args.reader.now.start; own = c.args.reader.now.by }) c.self.inside.store g c.limit.ensures.sound (rw (← c.self.view_is) at shows)
+          no_rows_beyond _ (record { start = c.args.reader.now.start; own = c.args.reader.now.by }) c.self.inside.store g c.is_sound.ensures.sound (rw (← c.self.view_is) at shows)
           c.cells.cursor.next c.cells.cursor.until (rw w.end.ensures at (sym w.is_below-in-cells.ensures ∙ w.if-is_below.false))
       | else-cells-test w ↦ none_between g c.cells.cursor.next c.cells.cursor.until (sym c.is_below.ensures ∙ w.cells-test.false)
     ] in

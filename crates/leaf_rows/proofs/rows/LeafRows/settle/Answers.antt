@@ -2,7 +2,6 @@ use Rattle.std.proofs.Common.{◌∙◌, refl, sym, arith}
 use Rattle.graph_model.specs.Rows.{end_key}
 use Rattle.graph_model.proofs.KeyLemmas.{between_parts}
 use Rattle.leaf_store.specs.Leaves.{cell_at}
-use Rattle.leaf_rows.proofs.MergeLemmas.{settled_without_records}
 use Rattle.leaf_rows.proofs.SettleLemmas.{pruned_none, pruned_more, pruned_all, rank_rises}
 use Rattle.leaf_rows.proofs.rows.LeafRows.settle.Goals as goal
 
@@ -30,7 +29,4 @@ cells-smaller c =
 
 pub returns-clause-contents : goal.returns-clause-contents
 returns-clause-contents c =
-    pruned_all _ _ c.args.self.now c.cells.self c.cells.key (rw c.self.view_is at c.limit.ensures.sound) c.cells.invariant.pruned (rw c.end.ensures at (sym c.is_below.ensures ∙ c.cells-test.false))
-
-pub returns-clause-settled : goal.returns-clause-settled
-returns-clause-settled c = λ g settled. settled_without_records c.cells.self g (rw c.self-2.view_is at c.limit-2.ensures.sound) settled
+    pruned_all _ _ c.args.self.now c.cells.self c.cells.key (rw c.self.view_is at c.is_sound.ensures.sound) c.cells.invariant.pruned (rw c.end.ensures at (sym c.is_below.ensures ∙ c.cells-test.false))

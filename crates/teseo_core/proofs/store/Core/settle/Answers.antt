@@ -1,4 +1,5 @@
 use Rattle.std.proofs.Common.{ℕ, ◌∙◌, ap, refl}
+use Rattle.graph_model.specs.declared.row.Key.{Key}
 use Rattle.graph_model.specs.Transactions.{stamp_in}
 use Rattle.store_model.specs.Versions.{prune}
 use Rattle.leaf_store.specs.Leaves.{contents_of}
@@ -22,8 +23,10 @@ returns-clause-settled c =
     let core = core_of f.kind f.leaves f.manager f.passes.items f.selected f.served in
     let settled = all_settled core f.manager f.rows c.self.invariant (rw (← c.self.view_is) at c.requires) c.settle.new.self
     (λ k. c.settle.ensures.contents k ∙ ap (λ (n : ℕ). prune (stamp_in f.manager.journal) n (contents_of f.rows k)) c.clock.ensures.clock) in
+    let rows = λ (k : Key). c.free_retired.ensures.contents.contents k ∙ c.merge_all.ensures.contents.contents k ∙ settled k in
     record {
-      rows = λ k. c.free_retired.ensures.contents.contents k ∙ c.merge_all.ensures.contents.contents k ∙ settled k;
+      rows = rows;
+      records = c.settled_rows_have_no_records-2.ensures _ rows;
       retired = c.free_retired.ensures.all refl;
-      compact = same_parts_compact _ _ c.free_retired.ensures.freed.parts (c.merge_all.ensures.compact (c.settle.ensures.settled _ settled));
+      compact = same_parts_compact _ _ c.free_retired.ensures.freed.parts (c.merge_all.ensures.compact (c.settled_rows_have_no_records.ensures _ settled));
     }

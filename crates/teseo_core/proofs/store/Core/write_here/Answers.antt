@@ -1,5 +1,9 @@
 use Rattle.std.proofs.Common.{ℕ, sym, ◌∙◌, ap, subst}
 use Rattle.graph_model.specs.OwnerCalls.{current}
+use Rattle.leaf_rows.specs.declared.written.WrittenRows.{WrittenRows}
+use Rattle.leaf_rows.specs.Laying.{HaveRows}
+use Rattle.leaf_rows.specs.Written.{AreRows, touched_keys}
+use Rattle.leaf_rows.proofs.WrittenLemmas.{are_rows, have_rows}
 use Rattle.teseo_core.specs.Passes.{Notes}
 use Rattle.teseo_core.specs.Keeping.{core_of}
 use Rattle.teseo_core.proofs.FieldLemmas.{is_open_here, lent_state, start_of, some_nat}
@@ -43,8 +47,8 @@ returns-in-Err-clause-did c =
       legal = c.self.invariant.store.transactions.legal;
     })
 
-pub put-requires-clause-may : goal.put-requires-clause-may
-put-requires-clause-may c =
+pub put-requires-clause-rows : goal.put-requires-clause-rows
+put-requires-clause-rows c =
     let f = c.self.inside in
     let core = core_of f.kind f.leaves f.manager f.passes.items f.selected f.served in
     let start = start_of (current core).start (rw (← c.self.view_is) at c.requires.current) in
@@ -55,7 +59,23 @@ put-requires-clause-may c =
       start_is = some_nat r.result.start start.0 (sym r.ensures.start ∙ ap (λ s. s.start) (sym here) ∙ start.1);
       by = r.ensures.by ∙ (λ i. record { job = f.selected; number = (sym here i).begun });
     } in
-    may_lay f.kind f.leaves f.manager f.passes.items f.selected f.served f.rows c.self.invariant r.result start.0 start.1 reader c.args.write c.check.result c.check.ensures c.in-Ok.field-0 c.in-Ok.is
+    let rows = rw (← c.self.view_is) at c.requires.rows in
+    subst AreRows (sym rows) (are_rows f.kind c.args.write f.rows c.requires.within (may_lay f.kind f.leaves f.manager f.passes.items f.selected f.served f.rows c.self.invariant r.result start.0 start.1 reader c.args.write c.check.result c.check.ensures c.in-Ok.field-0 c.in-Ok.is))
+
+pub put-requires-clause-ends : goal.put-requires-clause-ends
+put-requires-clause-ends c =
+    let f = c.self.inside in
+    let core = core_of f.kind f.leaves f.manager f.passes.items f.selected f.served in
+    let start = start_of (current core).start (rw (← c.self.view_is) at c.requires.current) in
+    let here = lent_state f.passes.items f.selected c.index.result.now c.self.invariant.chosen c.index.ensures in
+    let r = c.reader_of-reader in
+    let reader : IsReader core f.manager f.rows c.self.invariant r.result start.0 = record {
+      manager = r.ensures.manager;
+      start_is = some_nat r.result.start start.0 (sym r.ensures.start ∙ ap (λ s. s.start) (sym here) ∙ start.1);
+      by = r.ensures.by ∙ (λ i. record { job = f.selected; number = (sym here i).begun });
+    } in
+    let rows = rw (← c.self.view_is) at c.requires.rows in
+    subst (λ (r : WrittenRows). HaveRows f.rows (touched_keys r)) (sym rows) (have_rows f.kind c.args.write f.rows (may_lay f.kind f.leaves f.manager f.passes.items f.selected f.served f.rows c.self.invariant r.result start.0 start.1 reader c.args.write c.check.result c.check.ensures c.in-Ok.field-0 c.in-Ok.is))
 
 pub put-requires-clause-never : goal.put-requires-clause-never
 put-requires-clause-never c = λ never.
@@ -85,7 +105,7 @@ invariant_of-self-2 c =
       by = r.ensures.by ∙ (λ i. record { job = f.selected; number = (sym here i).begun });
     } in
     let last = lent_state f.passes.items f.selected c.index_mut-2.result.now c.self.invariant.chosen c.index_mut-2.ensures.value in
-    put_kept f.kind f.leaves f.manager f.passes.items f.selected f.served f.rows c.self.invariant r.result start.0 start.1 reader c.args.write c.check.result c.check.ensures c.in-Ok.field-0 c.in-Ok.is c.requires.within _ c.put.result c.index_mut-2.result.now c.put.new.pass c.put.new.rows (sym last) c.put.ensures
+    put_kept f.kind f.leaves f.manager f.passes.items f.selected f.served f.rows c.self.invariant r.result start.0 start.1 reader c.args.write c.check.result c.check.ensures c.in-Ok.field-0 c.in-Ok.is c.args.found.now.rows (rw (← c.self.view_is) at c.requires.rows) c.requires.within _ c.put.result c.index_mut-2.result.now c.put.new.pass c.put.new.rows (sym last) c.put.ensures
 
 pub returns-clause-did : goal.returns-clause-did
 returns-clause-did c =
@@ -102,7 +122,7 @@ returns-clause-did c =
     let last = lent_state f.passes.items f.selected c.index_mut-2.result.now c.self.invariant.chosen c.index_mut-2.ensures.value in
     rw (← c.self.view_is) (record {
       chosen = c.self.invariant.chosen;
-      here = put_answer f.kind f.leaves f.manager f.passes.items f.selected f.served f.rows c.self.invariant r.result start.0 start.1 reader c.args.write c.check.result c.check.ensures c.in-Ok.field-0 c.in-Ok.is _ c.put.result c.index_mut-2.result.now c.put.new.pass c.put.new.rows (sym last) c.put.ensures;
+      here = put_answer f.kind f.leaves f.manager f.passes.items f.selected f.served f.rows c.self.invariant r.result start.0 start.1 reader c.args.write c.check.result c.check.ensures c.in-Ok.field-0 c.in-Ok.is c.args.found.now.rows (rw (← c.self.view_is) at c.requires.rows) _ c.put.result c.index_mut-2.result.now c.put.new.pass c.put.new.rows (sym last) c.put.ensures;
       legal = c.self.invariant.store.transactions.legal;
     })
 

@@ -6,7 +6,7 @@ pub put-requires-clause-room : goal.put-requires-clause-room
 put-requires-clause-room c =
     let at = rw (← c.self.view_is) at c.requires.at in
     let room = rw (← c.self.view_is) at c.requires.room in
-    elim room [ inl lt ↦ inl lt | inr stays ↦ inr (λ e. stays (table_there c.self.inside.rows.rows _ c.args.key c.args.place c.rows-rows.ensures.fenced.sorted at ∙ e)) ]
+    elim room [ inl lt ↦ inl lt | inr stays ↦ inr (λ e. stays (table_there c.self.inside.rows.rows _ c.args.key c.args.place c.is_fenced.ensures.fenced.sorted at ∙ e)) ]
 
 pub invariant_of-self : goal.invariant_of-self
 invariant_of-self c =
@@ -16,9 +16,9 @@ invariant_of-self c =
 pub returns-clause-heads : goal.returns-clause-heads
 returns-clause-heads c =
     let at = rw (← c.self.view_is) at c.requires.at in
-    rw (← c.self.view_is) (table_put c.self.inside.rows.rows _ _ c.args.key c.args.place c.args.heads c.rows-rows.ensures.fenced.sorted at c.put.ensures.heads)
+    rw (← c.self.view_is) (table_put c.self.inside.rows.rows _ _ c.args.key c.args.place c.args.heads c.is_fenced.ensures.fenced.sorted at c.put.ensures.heads)
 
 pub returns-clause-kept : goal.returns-clause-kept
 returns-clause-kept c =
     let at = rw (← c.self.view_is) at c.requires.at in
-    rw (← c.self.view_is) (λ stays. c.put.ensures.kept (λ e. stays (table_there c.self.inside.rows.rows _ c.args.key c.args.place c.rows-rows.ensures.fenced.sorted at ∙ e)))
+    rw (← c.self.view_is) (λ stays. c.put.ensures.kept (λ e. stays (table_there c.self.inside.rows.rows _ c.args.key c.args.place c.is_fenced.ensures.fenced.sorted at ∙ e)))

@@ -16,4 +16,4 @@ invariant_of-self c =
 pub returns-clause-heads : goal.returns-clause-heads
 returns-clause-heads c =
     let at = rw (← c.self.view_is) at c.requires.at in
-    rw (c.remove_at.ensures.removed, ← c.self.view_is) (table_remove c.self.inside.rows.rows _ _ c.args.key c.args.place settled_heads refl c.rows-rows.ensures.fenced.sorted at c.close.ensures.heads)
+    rw (c.remove_at.ensures.removed, ← c.self.view_is) (table_remove c.self.inside.rows.rows _ _ c.args.key c.args.place settled_heads refl c.is_fenced.ensures.fenced.sorted at c.close.ensures.heads)

@@ -15,7 +15,7 @@ returns-then-is_empty-2-clause-moved c =
     (none_placed c.self.inside.heads.entries (sym c.is_empty.ensures ∙ c.if-is_empty.true)) (none_placed c.right.inside.heads.entries (sym c.is_empty-then-is_empty.ensures ∙ c.if-is_empty-2.true)))
 
 pub raise-requires-clause-low : goal.raise-requires-clause-low
-raise-requires-clause-low c = λ p le. c.right.invariant p (omega (arith, le, c.len-most.ensures.len, c.len-most.ensures.small))
+raise-requires-clause-low c = λ p le. c.right.invariant p (omega (arith, le, c.is_fenced.ensures.small))
 
 pub hand_each-requires : goal.hand_each-requires
 hand_each-requires c =

@@ -31,8 +31,8 @@ pub overflow_add-place : goal.overflow_add-place
 overflow_add-place g c =
     let run = c.run-run.ensures ∙ ap (λ (s : FencedRows). rows_between c.args.from c.args.until s.rows) c.segment.ensures in
     let below : c.rows.row-index < length (rows_between c.args.from c.args.until c.self.inside.rows.fenced.rows) = subst (λ (rs : List Row). c.rows.row-index < length rs) run c.rows-test.true in
-    let most = rw c.segment-2.ensures at c.len-most.ensures.len in
-    omega (arith, c.rows.invariant.0, below, most, c.len-most.ensures.small, c.first_place-place.ensures.within, fewer_between c.args.from c.args.until c.self.inside.rows.fenced.rows)
+    let most = rw c.segment-2.ensures at c.is_fenced.ensures.small in
+    omega (arith, c.rows.invariant.0, below, most, c.first_place-place.ensures.within, fewer_between c.args.from c.args.until c.self.inside.rows.fenced.rows)
 
 pub value_at-value-requires-clause-known : goal.value_at-value-requires-clause-known
 value_at-value-requires-clause-known g c = still_known _ _ _ c.rows.invariant.1.grows c.requires.known
@@ -54,7 +54,7 @@ push_value-requires g c =
     let blank : Row = record { key = record { src = 0; second = 0 }; weight = 0 } in
     let below : c.rows.row-index < length (rows_between c.args.from c.args.until c.self.inside.rows.fenced.rows) = subst (λ (rs : List Row). c.rows.row-index < length rs) run c.rows-test.true in
     let is = rw run at c.rows.invariant.1 in
-    filled_room c.self.inside.rows.fenced c.self.inside.rows.heads c.self.inside.chains (g.S.States.knowledge c.args.states.now) c.args.snapshot.now c.args.from c.args.until (g.S.States.knowledge c.rows.states) c.rows.buffer c.rows.row-index blank below is (omega (arith, rw c.segment-2.ensures at c.len-most.ensures.len, c.len-most.ensures.small))
+    filled_room c.self.inside.rows.fenced c.self.inside.rows.heads c.self.inside.chains (g.S.States.knowledge c.args.states.now) c.args.snapshot.now c.args.from c.args.until (g.S.States.knowledge c.rows.states) c.rows.buffer c.rows.row-index blank below is (omega (arith, rw c.segment-2.ensures at c.is_fenced.ensures.small))
 
 pub rows-preserved : goal.rows-preserved
 rows-preserved g c =

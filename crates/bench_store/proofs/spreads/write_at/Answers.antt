@@ -1,0 +1,5 @@
+use Rattle.leaf_array.proofs.StayLemmas.{leaf-stays}
+use Rattle.bench_store.proofs.spreads.write_at.Goals as goal
+
+pub invariant_of-whole : goal.invariant_of-whole
+invariant_of-whole c = leaf-stays _ _ _ _ c.whole.invariant c.requires c.write.ensures

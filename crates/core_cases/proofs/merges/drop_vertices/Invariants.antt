@@ -1,6 +1,0 @@
-use Rattle.std.specs.Prelude.{IsSome}
-use Rattle.core_cases.proofs.merges.drop_vertices.Given as goal
-
--- the transaction stays open
-abbrev pub invariant-vertices : goal.invariant-vertices
-invariant-vertices g l = IsSome (g.E.Engine.account l.engine).start

@@ -1,5 +1,0 @@
-use Rattle.std.proofs.Common.{◌≡◌, None}
-use Rattle.engine_bench.proofs.churn.run_rounds.Given as goal
-
-abbrev pub invariant-rounds : goal.invariant-rounds
-invariant-rounds g l = (g.E.Engine.account l.engine).start ≡ None

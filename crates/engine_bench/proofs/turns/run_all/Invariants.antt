@@ -1,5 +1,0 @@
-use Rattle.std.proofs.Common.{◌≡◌, None}
-use Rattle.engine_bench.proofs.turns.run_all.Given as goal
-
-abbrev pub invariant-edits : goal.invariant-edits
-invariant-edits g l = (g.E.Engine.account l.engine).start ≡ None

@@ -1,0 +1,10 @@
+use Rattle.std.proofs.Common.{arith}
+use Rattle.version_segment.proofs.ChangeLemmas.{row_count}
+use Rattle.version_segment.proofs.SegmentLemmas.{is_segment}
+use Rattle.version_segment.proofs.segment.VersionSegment.is_segment.Goals as goal
+
+pub returns : goal.returns
+returns c =
+    let count = row_count c.self.inside.rows.fenced c.self.inside.rows.heads c.self.inside.chains in
+    let small = rw c.segment.ensures at c.is_fenced.ensures.small in
+    rw (← c.self.view_is) (is_segment c.self.inside.rows.fenced c.self.inside.rows.heads c.self.inside.chains c.self.invariant (omega (arith, count, small)))
