@@ -29,7 +29,7 @@ use Rattle.run_model.specs.Jobs.{load_journal}
 use Rattle.run_model.proofs.SetLemmas.{sum_cons}
 use Rattle.txn_manager.specs.declared.config.Config.{Config}
 use Rattle.teseo_core.specs.Passes.{new_pass}
-use Rattle.teseo_core.specs.Keeping.{LeftStore, new_core, newest_graph, edges_of}
+use Rattle.teseo_core.specs.Keeping.{new_core, newest_graph, edges_of}
 use Rattle.job_runner.specs.Progress.{Progress}
 use Rattle.job_runner.specs.Runs.{new_jobs, IsUnused, AreNew, outputs_of, Ends}
 use Rattle.command_words.specs.Words.{RunRequest}
@@ -183,18 +183,15 @@ module _ (inputs : Inputs) (leaves : ℕ) (config : Config) (is : IsConfig input
 pub left_by_run : (inputs : Inputs) (leaves : ℕ) (schedule listed : List ℕ) (engine new : Core) (jobs : List Progress) (r : RunResult) → Ends inputs listed engine new jobs → listed ≡ schedule → engine.leaves ≡ leaves
     → engine.served ≡ 0 → r.ran.core ≡ new → r.ran.settled ≡ true → r.jobs ≡ jobs → IsLeftBy inputs leaves schedule (run_outputs r) r.ran
 left_by_run inputs leaves schedule listed engine new jobs r ends same leaves_is zero_served ran settled jobs_are =
-    subst (λ (x : Core). IsLeftBy inputs leaves schedule (outputs_of x r.jobs) (left_of x)) (sym ran)
-    (subst (λ js. IsLeftBy inputs leaves schedule (outputs_of new js) (left_of new)) (sym jobs_are)
-    (subst (λ n. IsLeftBy inputs n schedule (outputs_of new jobs) (left_of new)) leaves_is (subst (λ turns. IsLeftBy inputs engine.leaves turns (outputs_of new jobs) (left_of new)) same (record {
+    subst (λ (x : Core). IsLeftBy inputs leaves schedule (outputs_of x r.jobs) (record { core = x; settled = r.ran.settled })) (sym ran)
+    (subst (λ js. IsLeftBy inputs leaves schedule (outputs_of new js) (record { core = new; settled = r.ran.settled })) (sym jobs_are)
+    (subst (λ n. IsLeftBy inputs n schedule (outputs_of new jobs) (record { core = new; settled = r.ran.settled })) leaves_is (subst (λ turns. IsLeftBy inputs engine.leaves turns (outputs_of new jobs) (record { core = new; settled = r.ran.settled })) same (record {
       stepped = ends.run;
       journal = refl;
       passes = ends.passes;
       served = ends.served (omega (arith, zero_served)) ∙ ap (λ n. min n (2 ^ 64 - 1)) (omega (arith, zero_served));
       settled = settled;
     }))))
-  where
-    left_of : Core → LeftStore
-    left_of core = record { core = core; settled = r.ran.settled }
 
 pub counts_of : (asked : Kind) (new : Core) (r : RunResult) → new.kind ≡ asked → r.ran.core ≡ new → r.totals.vertices ≡ length (vertices_of (newest_graph new)) → r.totals.edges ≡ edges_of new.kind (newest_graph new) → (r.totals.undo ≡ 0) × (r.totals.retired ≡ 0) → HasCounts asked r
 counts_of asked new r kind ran vertices edges none = record {
