@@ -7,11 +7,12 @@ COMPLETIONS = $(PREFIX)/share/bash-completion/completions
 PROGRAM = crates/teseo/out/teseo
 ARCHIVE = teseo-$(shell git rev-parse --short HEAD).tar.gz
 
-.PHONY: help demo build install uninstall test bench dist clean
+.PHONY: help demo quick build install uninstall test bench dist clean
 
 help:
-	@echo 'make demo       runs an example, checked and not proved, in half a minute: EXAMPLE=first'
+	@echo 'make demo       runs an example, checked and not proved, in two minutes: EXAMPLE=first'
 	@echo '                or fraud, routes, network, conflict, kernels'
+	@echo 'make quick      runs all tests, the examples and the guide, checked and not proved (5 minutes)'
 	@echo 'make build      proves and builds the program: 6 to 20 minutes the first time'
 	@echo 'make install    builds, and puts teseo, its manual page and its completion below PREFIX ($(PREFIX))'
 	@echo 'make uninstall  removes them from there'
@@ -22,6 +23,9 @@ help:
 
 demo:
 	@examples/demo.sh $(EXAMPLE)
+
+quick:
+	.ci/quick
 
 build:
 	@echo 'Proving and building takes 6 to 20 minutes the first time, and seconds where nothing changed.'

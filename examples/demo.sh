@@ -1,6 +1,6 @@
 #!/usr/bin/env bash
-# Runs an example with `rt try` in a temporary folder, shows what the run says and the first lines of what it writes, and
-# compares all of it with what is stored.
+# Runs an example in a temporary folder, shows what the run says and the first lines of what it writes, and compares all
+# of it with what is stored. The program is the one that `make build` has left, and else what `rt try` compiles.
 #
 #     demo.sh EXAMPLE
 #
@@ -17,9 +17,15 @@ mkdir "$work/outputs"
     echo "There is no example $example. There are: $(cd "$examples" && echo */run.sh | sed 's|/run.sh||g')"
     exit 1
 }
-echo "This runs the checked build and not the proved one (that is 'make build'). Compiling takes half a minute or more."
+command=("$(cd "$examples/../crates/teseo" && pwd)/out/teseo")
+if [ -x "${command[0]}" ]; then
+    echo "This runs the program that 'make build' has proved and built."
+else
+    echo "This runs the checked build and not the proved one (that is 'make build'). Compiling takes two minutes."
+    command=(rt try --)
+fi
 cd "$examples/../crates/teseo"
-"$examples/$example/run.sh" "$work/outputs" rt try -- 2>"$work/told" || {
+"$examples/$example/run.sh" "$work/outputs" "${command[@]}" 2>"$work/told" || {
     cat "$work/outputs/"*said "$work/told"
     exit 1
 }

@@ -16,25 +16,15 @@ const ROOT: u64 = 1;
 const ROUNDS: u32 = 10;
 
 /// A kernel that gives a table of an image.
-pub trait BenchKernel {
-    fn table<R: Threads + Sync>(
-        &self,
-        rt: &R,
-        alloc: Global,
-        image: &Image,
-    ) -> Result<Table, KernelRefusal>;
+pub trait BenchKernel<R: Threads + Sync> {
+    fn table(&self, rt: &R, alloc: Global, image: &Image) -> Result<Table, KernelRefusal>;
 }
 
 #[derive(Drop)]
 pub struct Bfs;
 
-impl BenchKernel for Bfs {
-    fn table<R: Threads + Sync>(
-        &self,
-        rt: &R,
-        alloc: Global,
-        image: &Image,
-    ) -> Result<Table, KernelRefusal> {
+impl<R: Threads + Sync> BenchKernel<R> for Bfs {
+    fn table(&self, rt: &R, alloc: Global, image: &Image) -> Result<Table, KernelRefusal> {
         kernel_bfs::run(rt, alloc, image, ROOT)
     }
 }
@@ -42,13 +32,8 @@ impl BenchKernel for Bfs {
 #[derive(Drop)]
 pub struct FastBfs;
 
-impl BenchKernel for FastBfs {
-    fn table<R: Threads + Sync>(
-        &self,
-        rt: &R,
-        alloc: Global,
-        image: &Image,
-    ) -> Result<Table, KernelRefusal> {
+impl<R: Threads + Sync> BenchKernel<R> for FastBfs {
+    fn table(&self, rt: &R, alloc: Global, image: &Image) -> Result<Table, KernelRefusal> {
         fast_bfs::run(rt, alloc, image, ROOT)
     }
 }
@@ -56,13 +41,8 @@ impl BenchKernel for FastBfs {
 #[derive(Drop)]
 pub struct Wcc;
 
-impl BenchKernel for Wcc {
-    fn table<R: Threads + Sync>(
-        &self,
-        rt: &R,
-        alloc: Global,
-        image: &Image,
-    ) -> Result<Table, KernelRefusal> {
+impl<R: Threads + Sync> BenchKernel<R> for Wcc {
+    fn table(&self, rt: &R, alloc: Global, image: &Image) -> Result<Table, KernelRefusal> {
         Ok(kernel_wcc::run(rt, alloc, image)?)
     }
 }
@@ -70,13 +50,8 @@ impl BenchKernel for Wcc {
 #[derive(Drop)]
 pub struct Cdlp;
 
-impl BenchKernel for Cdlp {
-    fn table<R: Threads + Sync>(
-        &self,
-        rt: &R,
-        alloc: Global,
-        image: &Image,
-    ) -> Result<Table, KernelRefusal> {
+impl<R: Threads + Sync> BenchKernel<R> for Cdlp {
+    fn table(&self, rt: &R, alloc: Global, image: &Image) -> Result<Table, KernelRefusal> {
         Ok(kernel_cdlp::run(rt, alloc, image, ROUNDS)?)
     }
 }
@@ -84,13 +59,8 @@ impl BenchKernel for Cdlp {
 #[derive(Drop)]
 pub struct Sssp;
 
-impl BenchKernel for Sssp {
-    fn table<R: Threads + Sync>(
-        &self,
-        rt: &R,
-        alloc: Global,
-        image: &Image,
-    ) -> Result<Table, KernelRefusal> {
+impl<R: Threads + Sync> BenchKernel<R> for Sssp {
+    fn table(&self, rt: &R, alloc: Global, image: &Image) -> Result<Table, KernelRefusal> {
         kernel_sssp::run(rt, alloc, image, ROOT)
     }
 }
@@ -102,13 +72,8 @@ pub struct FastSssp {
     ghost positive: { 0 < width },
 }
 
-impl BenchKernel for FastSssp {
-    fn table<R: Threads + Sync>(
-        &self,
-        rt: &R,
-        alloc: Global,
-        image: &Image,
-    ) -> Result<Table, KernelRefusal> {
+impl<R: Threads + Sync> BenchKernel<R> for FastSssp {
+    fn table(&self, rt: &R, alloc: Global, image: &Image) -> Result<Table, KernelRefusal> {
         delta_sssp::run(rt, alloc, image, ROOT, self.width)
     }
 }

@@ -91,7 +91,7 @@ fn time_kernels<R: Threads + Sync + Clock + Print>(
 }
 
 /// Runs a kernel, and prints its name and the microseconds that it took.
-fn time_kernel<R: Threads + Sync + Clock + Print, K: BenchKernel>(
+fn time_kernel<R: Threads + Sync + Clock + Print, K: BenchKernel<R>>(
     rt: &R,
     alloc: Global,
     image: &Image,

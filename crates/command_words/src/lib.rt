@@ -17,6 +17,3 @@ pub use laws::words_ask_for_one_request;
 pub use names::TakenName;
 pub use refusal::WordsRefusal;
 pub use words::read_words;
-
-#[cfg(test)]
-mod tests;

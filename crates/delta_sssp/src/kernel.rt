@@ -5,7 +5,6 @@ ghost use Rattle.graph_model.specs.Graph.{Graph, has_vertex};
 ghost use Rattle.graph_model.specs.Tables.{IsSssp};
 ghost use Rattle.graph_model.specs.declared.table.KernelRefusal.TheVariants as KernelRefusal;
 ghost use Rattle.graph_image.specs.Images.{IsImageOf};
-ghost use Rattle.graph_image.specs.Building.{AreStorable, AreEnded};
 ghost use Rattle.kernel_sssp.specs.Search.{LinkOut, IsSearched};
 
 use crate::search::Search;

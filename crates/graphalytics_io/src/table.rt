@@ -34,26 +34,3 @@ impl Spelling<Entry> for EntryLine {
         }
     }
 }
-
-#[cfg(test)]
-mod tests {
-    use super::*;
-    use std::test::Fail;
-
-    #[test]
-    fn a_table_is_written_behind_what_stands_in_the_text(rt: HostRuntime) -> Result<(), Fail> {
-        let number = Value::Number {
-            n: 18446744073709551615,
-        };
-        let mut table = Table::new(rt.alloc());
-        for (vertex, value) in [(1, number), (9223372036854775806, Value::Infinity)] {
-            table.push(Entry { vertex, value })?;
-        }
-        let mut text = Text::new(rt.alloc());
-        text.push_bytes(b"# ")?;
-        write_table(&table, &mut text)?;
-        let want = b"# 1 18446744073709551615\n9223372036854775806 infinity\n";
-        assert_eq!(rt; text.as_slice(), want.as_slice());
-        Ok(())
-    }
-}

@@ -1,9 +1,8 @@
 //! The table of a search.
 
-ghost use Rattle.std.specs.Prelude.{◌≡◌, ℕ, false, map, min, IfOk, IsTrue};
+ghost use Rattle.std.specs.Prelude.{◌≡◌, false, IfOk, IsTrue};
 ghost use Rattle.graph_model.specs.Graph.{Graph, has_vertex};
 ghost use Rattle.graph_model.specs.Tables.{IsBfs};
-ghost use Rattle.graph_image.specs.Building.{AreStorable, AreEnded};
 ghost use Rattle.graph_image.specs.Images.{IsImageOf};
 
 use crate::distances::table_by;

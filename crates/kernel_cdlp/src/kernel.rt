@@ -1,11 +1,10 @@
 //! The table of the labels.
 
-ghost use Rattle.std.specs.Prelude.{◌≡◌, length, IfOk};
+ghost use Rattle.std.specs.Prelude.{length, IfOk};
 ghost use Rattle.graph_model.specs.Graph.{Graph, IsSymmetric};
 ghost use Rattle.graph_model.specs.Tables.{IsCdlp};
 ghost use Rattle.graph_model.specs.declared.write.Kind.TheVariants.{Directed, Undirected};
 ghost use Rattle.graph_image.specs.Images.{IsImageOf};
-ghost use Rattle.graph_image.specs.Building.{AreStorable, AreEnded};
 ghost use Rattle.kernel_cdlp.specs.Rounds.{AreBelow, AreValues};
 
 use crate::rounds::labels_after;

@@ -1,9 +1,8 @@
 //! The table of components.
 
-ghost use Rattle.std.specs.Prelude.{◌≡◌, ℕ, length, map, min, IfOk};
+ghost use Rattle.std.specs.Prelude.{◌≡◌, length, map, IfOk};
 ghost use Rattle.graph_model.specs.Graph.{Graph};
 ghost use Rattle.graph_model.specs.Tables.{IsWcc};
-ghost use Rattle.graph_image.specs.Building.{AreStorable, AreEnded};
 ghost use Rattle.graph_image.specs.Images.{IsImageOf};
 ghost use Rattle.kernel_wcc.specs.Labels.{value_of, AreLow};
 

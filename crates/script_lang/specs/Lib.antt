@@ -8,3 +8,4 @@ pub mod Runnable
 pub mod Readings
 pub mod Schedules
 pub mod Places
+pub mod LimitLaws

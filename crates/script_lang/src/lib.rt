@@ -9,6 +9,7 @@
 
 mod arguments;
 mod command;
+mod laws;
 mod names;
 mod reading;
 mod refusal;
@@ -16,6 +17,7 @@ mod schedule;
 mod script;
 mod word;
 
+pub use laws::limits_are_as_written;
 pub use names::Names;
 pub use refusal::{ScheduleRefusal, ScheduleWhat, ScriptRefusal, ScriptWhat};
 pub use schedule::{Schedule, read_schedule};

@@ -51,7 +51,7 @@ told_at files (n ∷ names) [] told place name at = absurd told
 told_at files (n ∷ names) (text ∷ texts) told zero name at = let here : n ≡ name = cc in (text, subst (λ m. IsTold files m text) here told.0)
 told_at files (n ∷ names) (text ∷ texts) told (suc place) name at = told_at files names texts told.1 place name at
 
-read_told : (files : Files) (names texts read : List (List ℕ)) → AllZip (IsTold files) names texts → AreRead MAX_SOURCE_BYTES files names read → read ≡ texts
+pub read_told : (files : Files) (names texts read : List (List ℕ)) → AllZip (IsTold files) names texts → AreRead MAX_SOURCE_BYTES files names read → read ≡ texts
 read_told files [] [] [] told are = refl
 read_told files [] [] (r ∷ read) told are = absurd are
 read_told files [] (t ∷ texts) read told are = absurd told
@@ -126,7 +126,7 @@ module _ (request : RunRequest) (sources : List (List ℕ)) (m : Meaning) (old n
       absurd (stands_still old.write_faults new.write_faults no_fault.writes (subst (Rose old.write_faults) (sym kept) is.cause.1.2.rose))
 
 -- words ask for one thing, so the call ends as that does
-asked_ends : (outcome : Outcome) (words : List (List ℕ)) (request other : Request) (old new : Files) (left left' : Left) → IsTaken words request → IsTaken words other → Ends outcome other old new left left' → Ends outcome request old new left left'
+pub asked_ends : (outcome : Outcome) (words : List (List ℕ)) (request other : Request) (old new : Files) (left left' : Left) → IsTaken words request → IsTaken words other → Ends outcome other old new left left' → Ends outcome request old new left left'
 asked_ends outcome words request other old new left left' taken also = subst (λ asked. Ends outcome asked old new left left') (taken_once words other request also taken)
 
 -- an accepted run without a fault is done, or finds no place, or wants memory

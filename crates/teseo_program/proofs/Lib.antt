@@ -11,3 +11,4 @@ mod OutcomeLemmas
 mod RunLemmas
 pub mod LeavesLemmas
 pub mod RoomLawLemmas
+mod EndLemmas

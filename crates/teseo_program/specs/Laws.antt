@@ -12,8 +12,9 @@ use Rattle.teseo_program.specs.declared.outcome.Outcome.{Outcome}
 use Rattle.teseo_program.specs.declared.outcome.Outcome.TheVariants.{Done}
 use Rattle.command_words.specs.Words.{RunRequest, MakeRequest, run, make, IsTaken}
 use Rattle.teseo_program.specs.declared.left.Left.{Left}
-use Rattle.teseo_program.specs.Requests.{source_names}
-use Rattle.teseo_program.specs.Input.{Meaning, texts_of, IsAccepted}
+use Rattle.teseo_program.specs.Requests.{source_names, kind_of}
+use Rattle.teseo_program.specs.Input.{Meaning, texts_of, IsAccepted, inputs_of}
+use Rattle.teseo_program.specs.declared.leaves.TheConstants.{MOST_ROWS}
 use Rattle.teseo_program.specs.Leaves.{leaves_for, most_rows}
 use Rattle.teseo_program.specs.Outcomes.{status_of, IsOutcome}
 
@@ -46,6 +47,17 @@ AcceptedRunsEndWell =
     → (left left' : Left) → IsOutcome outcome words old new left left'
     → (outcome ≡ Done) ⊎ ((status_of outcome ≡ 6) ⊎ (status_of outcome ≡ 3))
 
+-- and where no leaves are stated, and the rows of the load and of all lines together fill fewer leaves than there may
+-- be, it is done, or wants memory: the status is 0 or 3
+abbrev pub RunsWithRoomEndWell : Type 0
+RunsWithRoomEndWell =
+    (outcome : Outcome) (words : List (List ℕ)) (request : RunRequest) (sources : List (List ℕ)) (m : Meaning)
+    (old new : Files) → IsTaken words (run request) → request.leaves ≡ None → AreTold request old sources
+    → IsAccepted request (texts_of request sources) m
+    → most_rows (inputs_of (kind_of request) m) < SPLIT_ROWS * MAX_LEAVES → HasNoFault old new
+    → (left left' : Left) → IsOutcome outcome words old new left left'
+    → (status_of outcome ≡ 0) ⊎ (status_of outcome ≡ 3)
+
 -- a graph that is asked for is made and written, if no fault is met, or memory is wanted
 abbrev pub GraphsAreMade : Type 0
 GraphsAreMade =
@@ -53,6 +65,12 @@ GraphsAreMade =
     → IsTaken words (make request) → HasNoFault old new
     → (left left' : Left) → IsOutcome outcome words old new left left'
     → (outcome ≡ Done) ⊎ (status_of outcome ≡ 3)
+
+-- ---- limits
+
+-- the count of rows ends where they fill the greatest number of leaves
+pub record LimitsAre : Type 0 where
+  pub most_rows : MOST_ROWS ≡ SPLIT_ROWS * MAX_LEAVES
 
 -- ---- room without stated leaves
 

@@ -10,6 +10,7 @@ use Rattle.run_model.specs.Answering.{edges_in}
 use Rattle.run_model.specs.Inputs.{Outputs, File}
 use Rattle.run_model.specs.Texts.{field, journal_text, report_text}
 use Rattle.desk_io.specs.Outputs.{NamedText}
+use Rattle.txn_manager.specs.declared.config.Totals.{Totals}
 
 abbrev pub file_output : File → NamedText
 file_output f = record { name = f.name; text = table_text f.table }
@@ -28,14 +29,16 @@ sinks_of journal reports o =
     ∷ report_outputs reports o.reports
     ++ flat_map (λ files. map file_output files) o.files
 
--- the counts of a graph after this many commits
-abbrev pub summary_line : ℕ → ℕ → ℕ → List ℕ
-summary_line commits vertices edges =
-    codes "commits" ++ field commits ++ codes " vertices" ++ field vertices ++ codes " edges" ++ field edges
-    ++ codes " undo 0 retired 0\n"
+-- what a store holds after this many commits
+abbrev pub summary_line : ℕ → Totals → List ℕ
+summary_line commits totals =
+    codes "commits" ++ field commits ++ codes " vertices" ++ field totals.vertices
+    ++ codes " edges" ++ field totals.edges ++ codes " undo" ++ field totals.undo
+    ++ codes " retired" ++ field totals.retired ++ 10 ∷ []
 
--- how many commits the journal has, and the vertices and edges of its graph
+-- how many commits the journal has, and what a store holds that has the vertices and the edges of its graph alone
 abbrev pub summary_text : Kind → Outputs → List ℕ
 summary_text kind o =
     let g = graph_at kind o.journal (length o.journal) in
-    summary_line (length o.journal) (length (vertices_of g)) (edges_in kind g)
+    summary_line (length o.journal)
+    (record { vertices = length (vertices_of g); edges = edges_in kind g; undo = 0; retired = 0 })

@@ -1,17 +1,25 @@
 //! Laws of how calls end, each the contract of a function.
 
-ghost use Rattle.teseo_program.specs.Laws.{AcceptedRunsEndWell, GraphsAreMade, LoadsFindRoom, RunsFindRoom};
+ghost use Rattle.teseo_program.specs.Laws.{AcceptedRunsEndWell, RunsWithRoomEndWell, GraphsAreMade, LoadsFindRoom, RunsFindRoom, LimitsAre};
 
 /// A run whose words and sources are accepted, and whose calls of the desk all succeed, ends with status 0, with 6
-/// where a write found no place, or with 3 for want of memory.
+/// where a write found no place, or with 3 for want of memory. With 0 or 3 alone where no leaves are stated, and the
+/// rows that the graph and the lines of the scripts may insert are fewer than 103 for each of the leaves that there
+/// may be.
 pub fn accepted_runs_end_well()
-    ensures { AcceptedRunsEndWell }
+    ensures ends { AcceptedRunsEndWell }
+    ensures room { RunsWithRoomEndWell }
 {}
 
 /// A graph that is asked for is made and written with status 0, or ends with 3 for want of memory, if all calls of the
 /// desk succeed.
 pub fn graphs_are_made()
     ensures { GraphsAreMade }
+{}
+
+/// Rows are counted up to as many as fill the greatest number of leaves.
+pub fn limits_are_as_written()
+    ensures { LimitsAre }
 {}
 
 /// Without stated leaves a store has room for all rows that the graph and the lines of the scripts may insert, if these

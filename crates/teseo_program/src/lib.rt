@@ -20,7 +20,10 @@ mod run;
 mod say;
 
 pub use fault::{ParseStop, SourceFault};
-pub use laws::{accepted_runs_end_well, graphs_are_made, stores_without_stated_leaves_have_room};
+pub use laws::{
+    accepted_runs_end_well, graphs_are_made, limits_are_as_written,
+    stores_without_stated_leaves_have_room,
+};
 pub use left::Left;
 pub use outcome::Outcome;
 pub use program::{end_with, teseo};

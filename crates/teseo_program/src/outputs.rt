@@ -24,6 +24,7 @@ use job_runner::NamedTable;
 use report_lang::{write_journal, write_report};
 use run_model::{Answer, Name};
 use std::alloc::Global;
+use txn_manager::Totals;
 
 /// The journal, the reports and the kernel files, in the order in which they are written.
 pub fn outputs_of(
@@ -140,17 +141,21 @@ fn is_full_answer(answer: &Answer) -> bool
     matches!(answer, Answer::Full)
 }
 
-/// The summary, by its counts.
-pub fn summary_of(alloc: Global, commits: u64, vertices: u64, edges: u64) -> Result<Text, NoMemory>
-    ensures { IfOk result (λ text. text ≡ summary_line commits vertices edges) }
+/// The summary: how many commits there are, and what the store holds.
+pub fn summary_of(alloc: Global, commits: u64, totals: Totals) -> Result<Text, NoMemory>
+    ensures { IfOk result (λ text. text ≡ summary_line commits totals) }
 {
     let mut text = Text::new(alloc);
     text.push_bytes(b"commits ")?;
     text.push_number(commits)?;
     text.push_bytes(b" vertices ")?;
-    text.push_number(vertices)?;
+    text.push_number(totals.vertices)?;
     text.push_bytes(b" edges ")?;
-    text.push_number(edges)?;
-    text.push_bytes(b" undo 0 retired 0\n")?;
+    text.push_number(totals.edges)?;
+    text.push_bytes(b" undo ")?;
+    text.push_number(totals.undo)?;
+    text.push_bytes(b" retired ")?;
+    text.push_number(totals.retired)?;
+    text.push_bytes(b"\n")?;
     Ok(text)
 }

@@ -83,7 +83,7 @@ fn make<R: Threads + Sync>(
     let leaves = leaves_of(words.leaves, kind, &input);
     let run = run_scripts(rt, alloc, kind, leaves, input)?;
     let commits = run.ran.journal().len() as u64;
-    let summary = summary_of(alloc, commits, run.vertices, run.edges)?;
+    let summary = summary_of(alloc, commits, run.totals)?;
     let outputs = outputs_of(alloc, words, &run)?;
     let is_full = is_full(&run);
     Ok(Prepared {

@@ -30,16 +30,15 @@ use run_model::{Command, Script, stepped_runs_are_runs};
 use std::alloc::Global;
 use std::thread::Threads;
 use teseo_core::{Core, CoreJournal};
-use txn_manager::{Config, StoreRefusal};
+use txn_manager::{Config, StoreRefusal, Totals};
 
-/// What the run of the scripts leaves: the engine's journal, the scripts with their answers and tables, and how many
-/// vertices and edges the newest graph has.
+/// What the run of the scripts leaves: the engine's journal, the scripts with their answers and tables, and what the
+/// settled store holds.
 #[derive(Drop)]
 pub struct RunResult {
     pub ran: CoreJournal,
     pub jobs: Jobs,
-    pub vertices: u64,
-    pub edges: u64,
+    pub totals: Totals,
 }
 
 /// Loads the graph, and runs the scripts on it by their turns.
@@ -66,12 +65,11 @@ pub fn run_scripts<R: Threads + Sync>(
     let mut jobs = jobs_of(alloc, input.scripts)?;
     run_stepped(rt, &mut engine, &mut jobs, input.schedule.as_slice())?;
     engine.settle();
-    let totals = engine.settled_totals();
+    let totals = engine.totals();
     Ok(RunResult {
         ran: engine.into_journal(),
         jobs,
-        vertices: totals.vertices,
-        edges: totals.edges,
+        totals,
     })
 }
 

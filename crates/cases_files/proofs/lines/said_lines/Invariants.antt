@@ -1,6 +1,6 @@
 -- each turn takes a line or a field
 use Rattle.std.proofs.Common.{length}
-use Rattle.graphalytics_io.proofs.lines.tests.said_lines.Given as goal
+use Rattle.cases_files.proofs.lines.said_lines.Given as goal
 
 abbrev pub decreases-lines : goal.decreases-lines
 decreases-lines l = length l.lines

@@ -1,6 +1,6 @@
 //! Words that are taken, and words that are not.
 
-use crate::{Command, RunWords, read_words};
+use command_words::{Command, RunWords, read_words};
 use std::alloc::Global;
 use std::test::Fail;
 
