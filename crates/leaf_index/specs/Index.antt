@@ -120,3 +120,7 @@ pub record IsRoute (key : Key) (entries : List Entry) (route : Route) : Type 0 w
   pub cell : route.cell ≡ 8 * entry.leaf + segment
   pub low : slice_get entry.cuts segment ≡ Some route.low
   pub high : route.high ≡ unwrap_or (slice_get entry.cuts (segment + 1)) (end_of floor.back)
+
+-- the cell of the key's route
+abbrev pub IsCell : Key → List Entry → ℕ → Type 0
+IsCell key entries cell = (route : Route) × IsRoute key entries route × (route.cell ≡ cell)

@@ -9,15 +9,15 @@
 ghost use Rattle.std.specs.Prelude.{◌≡◌, ◌<◌, ◌≤◌, ◌+◌, [], ◌∷◌, ◌++◌, IfOk, IfSome, OnOk, OnErr, length, take, ◌-◌};
 ghost use Rattle.graph_model.specs.Rows.{end_key, first_key};
 ghost use Rattle.graph_model.specs.declared.limits.TheConstants.{MAX_LEAVES};
-ghost use Rattle.leaf_index.specs.Index.{IsIndex, IsRoute, IsTaken};
+ghost use Rattle.leaf_index.specs.Index.{IsCell, IsIndex, IsRoute, IsTaken};
 ghost use Rattle.leaf_index.specs.Slots.{AreRisingStarts, HasSlot, HaveSlots, IsBeforeStart, IsFloorStart, IsRange, OnlyLiveHold, begin_or, first_slots};
 ghost use Rattle.leaf_index.specs.Calls.{CanAdd, CanCut, CanDrop, IsLeafBefore, IsLeafRange, TakesFree, freed, freed_of, new_index, with_cuts, with_leaf, without_leaf};
 
 use crate::hints::Hints;
 use crate::idle::IdleLeaves;
 use crate::route::{LeafRange, Route};
-use crate::slot::{Slot, high_of, segment_near};
-use graph_model::{Key, LEAF_SEGMENTS, NoMemory};
+use crate::slot::{Slot, high_of, segment_near, segment_of};
+use graph_model::{Key, NoMemory};
 use leaf_trie::{LeafStart, LeafTrie};
 use std::alloc::Global;
 use std::marker::Model;
@@ -289,18 +289,20 @@ impl LeafIndex {
     pub fn route(&self, key: Key) -> Route
         ensures { IsRoute key self.now.entries result }
     {
-        self.find_route(key, self.hints.of(key), LEAF_SEGMENTS)
+        self.find_route(key, self.hints.of(key))
     }
 
-    /// The same, for a caller that found the key in a cell before: that one is looked at first, and where it doesn't hold
-    /// the key the key is looked for anew. Any cell is allowed, a wrong one costs time alone.
-    pub fn route_near(&self, key: Key, near: u32) -> Route
-        ensures { IsRoute key self.now.entries result }
+    /// The cell alone, for a caller that found the key in one before: that one is looked at first, and where it doesn't
+    /// hold the key the key is looked for anew. Any cell is allowed, a wrong one costs time alone.
+    pub fn cell_near(&self, key: Key, near: u32) -> u32
+        ensures { IsCell key self.now.entries result }
     {
         let leaf = near / 8;
         match self.slots.get(leaf as usize) {
-            Some(slot) if slot.holds(key) => self.find_route(key, leaf, (near % 8) as usize),
-            _ => self.route(key),
+            Some(slot) if slot.holds(key) => {
+                8 * leaf + segment_near(&slot.cuts, key, (near % 8) as usize) as u32
+            }
+            _ => self.route(key).cell,
         }
     }
 
@@ -317,16 +319,16 @@ impl LeafIndex {
     pub fn route_in(&self, key: Key, likely: u32) -> Route
         ensures { IsRoute key self.now.entries result }
     {
-        self.find_route(key, likely, LEAF_SEGMENTS)
+        self.find_route(key, likely)
     }
 
-    /// The key's route: the hinted leaf and segment are looked at first.
-    fn find_route(&self, key: Key, hint: u32, near: usize) -> Route
+    /// The key's route: the hinted leaf is looked at first.
+    fn find_route(&self, key: Key, hint: u32) -> Route
         ensures { IsRoute key self.now.entries result }
     {
         let leaf = leaf_of(&self.trie, &self.slots, hint, key);
         let slot = &self.slots[leaf as usize];
-        let segment = segment_near(&slot.cuts, key, near);
+        let segment = segment_of(&slot.cuts, key);
         Route {
             cell: 8 * leaf + segment as u32,
             low: slot.cuts[segment],

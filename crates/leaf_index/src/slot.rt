@@ -36,7 +36,7 @@ pub fn segment_near(cuts: &[Key; 8], key: Key, near: usize) -> usize
 }
 
 /// The same, by a look at one cut after the other, the last one first.
-fn segment_of(cuts: &[Key; 8], key: Key) -> usize
+pub fn segment_of(cuts: &[Key; 8], key: Key) -> usize
     requires { (low : _) × (slice_get cuts.now 0 ≡ Some low) × NotAbove low key }
     ensures { IsSegment cuts.now key result }
 {

@@ -148,7 +148,7 @@ fn need_at(cell: &VersionSegment, at: KeyAt, other: Option<Key>) -> Option<u8>
     ensures none { result ≡ None → segments.has_row cell.now at.key ≡ false
         → wanted_in cell.now (keys_with at.key other) ≤ SEGMENT_ROWS - length cell.now.rows }
 {
-    if cell.row(at.key, at.near.row).is_there() {
+    if cell.has_row_near(at.key, at.near.row) {
         return None;
     }
     let need = 1

@@ -73,7 +73,7 @@ pub(crate) fn fingers_at(
 /// Where a key stands in the cell with this number, or would stand.
 fn finger_at(leaves: &Vec<Option<Box<Leaf>>>, key: Key, cell: u32) -> Finger {
     let row = match cell_at(leaves, Place::of_cell(cell)) {
-        Some(segment) => segment.row(key, NOWHERE).place(),
+        Some(segment) => segment.place_of(key),
         None => NOWHERE,
     };
     Finger { cell, row }

@@ -37,5 +37,5 @@ pub(crate) fn place_of(index: &LeafIndex, key: Key) -> Place
 pub(crate) fn place_near(index: &LeafIndex, key: Key, near: u32) -> Place
     ensures { IsPlace key index.now.entries result }
 {
-    Place::of_cell(index.route_near(key, near).cell)
+    Place::of_cell(index.cell_near(key, near))
 }

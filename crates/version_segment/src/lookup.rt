@@ -13,9 +13,25 @@ impl VersionSegment {
     pub fn has_row(&self, key: Key) -> bool
         ensures { result ≡ has_row self.now key }
     {
-        match self.rows.segment().find(key) {
+        self.has_row_near(key, NOWHERE)
+    }
+
+    /// The same, where it is looked for near a place first.
+    pub fn has_row_near(&self, key: Key, near: usize) -> bool
+        ensures { result ≡ has_row self.now key }
+    {
+        match self.rows.segment().find_near(key, near) {
             Ok(_) => true,
             Err(_) => false,
+        }
+    }
+
+    /// Where the key's row stands, or would stand. No clause says so: the calls that are given a place look whether it
+    /// is right.
+    pub fn place_of(&self, key: Key) -> usize {
+        match self.rows.segment().find(key) {
+            Ok(place) => place,
+            Err(place) => place,
         }
     }
 

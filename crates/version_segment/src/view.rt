@@ -3,7 +3,7 @@
 //! 1. What a key without a row has is nothing.
 //! 2. The view lends the records of the segment, so nothing changes while somebody asks.
 
-ghost use Rattle.std.specs.Prelude.{◌≡◌, ◌≤◌, is_some};
+ghost use Rattle.std.specs.Prelude.{◌≡◌, ◌≤◌};
 ghost use Rattle.std.specs.FinMap.Entries.{find};
 ghost use Rattle.graph_model.specs.Rows.{key_cmp};
 ghost use Rattle.store_model.specs.Stamped.{read_stamped};
@@ -26,7 +26,6 @@ pub const NOWHERE: usize = 18446744073709551615;
 pub struct RowView<'a> {
     chains: &'a Chains,
     row: Option<FoundRow>,
-    place: usize,
 }
 
 impl<'a> Model for RowView<'a> {
@@ -53,31 +52,16 @@ impl VersionSegment {
             Ok(row) => RowView {
                 chains: &self.chains,
                 row: Some(row),
-                place: row.place,
             },
-            Err(place) => RowView {
+            Err(_) => RowView {
                 chains: &self.chains,
                 row: None,
-                place,
             },
         }
     }
 }
 
 impl RowView<'_> {
-    /// Where the row stands in its segment, or would stand. No clause says so: the calls that are given a place look
-    /// whether it is right.
-    pub fn place(&self) -> usize {
-        self.place
-    }
-
-    /// Whether the key has a row.
-    pub fn is_there(&self) -> bool
-        ensures { result ≡ is_some self.now }
-    {
-        self.row.is_some()
-    }
-
     /// The value for a snapshot.
     pub fn value<S: States>(&self, snapshot: &Snapshot, states: &mut S) -> Option<u64>
         requires known { snapshot.now.start ≤ (S.knowledge states.old).known }

@@ -8,4 +8,4 @@ returns-in-Ok c =
 
 pub returns-in-Err : goal.returns-in-Err
 returns-in-Err c =
-    rw (← c.self.view_is) (sym (versions_gap c.self.inside.rows.fenced c.self.inside.rows.heads.entries c.self.inside.chains c.args.key c.self.invariant c.in-Err.place c.in-Err.ensures))
+    rw (← c.self.view_is) (sym (versions_gap c.self.inside.rows.fenced c.self.inside.rows.heads.entries c.self.inside.chains c.args.key c.self.invariant c.in-Err.field-0 c.in-Err.ensures))

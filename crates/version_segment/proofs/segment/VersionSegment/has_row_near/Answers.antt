@@ -8,7 +8,7 @@ use Rattle.version_segment.specs.Rows.{VersionedRows, has_row}
 use Rattle.version_segment.proofs.HeadLemmas.{found_at}
 use Rattle.version_segment.proofs.ChangeLemmas.{no_row}
 use Rattle.version_segment.proofs.PartLemmas.{versions_there}
-use Rattle.version_segment.proofs.segment.VersionSegment.has_row.Goals as goal
+use Rattle.version_segment.proofs.segment.VersionSegment.has_row_near.Goals as goal
 
 pub returns-in-Ok : goal.returns-in-Ok
 returns-in-Ok c =
