@@ -15,7 +15,6 @@ use Rattle.txn_manager.specs.declared.config.Config.{Config}
 use Rattle.store_model.specs.Stamped.{StampedVersions}
 use Rattle.version_segment.specs.Rows.{IsSegment, nothing, or_nothing, versions_at}
 use Rattle.leaf_array.specs.Segments.{rows_of}
-use Rattle.leaf_index.specs.Index.{IsIndex}
 use Rattle.leaf_index.specs.Calls.{new_index}
 use Rattle.leaf_store.specs.Leaves.{Part, versions_of, weight}
 use Rattle.leaf_store.specs.Table.{segments_at}
@@ -62,10 +61,10 @@ new_spells k = record { wide = refl; words = each; sound = new_sound k; small = 
 -- ---- the contents of a new store
 
 new_stored : (z : Config) (at : Layout) (heap : Global) (words : List ℕ) → 1 ≤ z.leaves
-    → IsIndex (new_index z.leaves) → AreNewWords z at words
+    → AreNewWords z at words
     → IsStored z heap (words_of z at words) (new_known z)
-new_stored z at heap words some_leaves ready new =
-    let is : IsIndexed heap (new_index z.leaves) new_cell = new_indexed heap z.leaves some_leaves ready in
+new_stored z at heap words some_leaves new =
+    let is : IsIndexed heap (new_index z.leaves) new_cell = new_indexed heap z.leaves some_leaves in
     let table = table_of heap new_cell z.leaves in
     let first : segments_at table 0 ≡ leaf_cells new_cell 0 =
     segments_table heap new_cell z.leaves 0 (omega (arith, some_leaves)) in
@@ -145,7 +144,7 @@ only_one part v f n is seat u k a here has =
     (sym t.0, numbered_is f n k a (ap (λ l. kept_at l k) (sym is ∙ ap part t.1) ∙ has))
 
 pub new_table : NewTable
-new_table z at heap words some_leaves ready new =
+new_table z at heap words some_leaves new =
     let v = first_sight z in
     let k = new_known z in
     record {
@@ -165,7 +164,7 @@ new_table z at heap words some_leaves ready new =
       readers = record { each = tt; out = λ p. refl };
       reads = λ seat u q here has. let f : None ≡ Some q =
           ap (λ (x : Sight). x.reads.reading) (first_only v u seat here).1 ∙ has in cc;
-      stored = new_stored z at heap words some_leaves ready new;
+      stored = new_stored z at heap words some_leaves new;
     }
 
 -- ---- the end

@@ -8,7 +8,6 @@ use Rattle.graph_model.specs.declared.row.Key.{Key}
 use Rattle.txn_manager.specs.declared.config.Config.{Config}
 use Rattle.store_model.specs.Stamped.{StampedVersions}
 use Rattle.version_segment.specs.Rows.{versions_at}
-use Rattle.leaf_index.specs.Index.{IsIndex}
 use Rattle.leaf_index.specs.Calls.{new_index}
 use Rattle.store_relation.specs.declared.stage.Stage.TheVariants.{Idle}
 use Rattle.store_relation.specs.Ends.{IsClosed}
@@ -82,7 +81,6 @@ pub record AreNewWords (z : Config) (at : Layout) (words : List ℕ) : Type 0 wh
 abbrev pub NewTable : Type 0
 NewTable =
     (z : Config) (at : Layout) (heap : Global) (words : List ℕ) → 1 ≤ z.leaves
-    → IsIndex (new_index z.leaves)
     → AreNewWords z at words → IsStoreRule z at heap (opening words [] (first_sight z))
 
 -- ---- the end
