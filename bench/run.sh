@@ -1,10 +1,10 @@
 #!/usr/bin/env bash
 # Builds the program, runs the whole command on graphs of three sizes and two kinds, and prints a table. Then come a table
 # of what it takes to read and load a graph with weights, one of many scripts of short transactions, one of the image and
-# the kernels by themselves, one of the parts of the store over leaves, and one of transactions by calls of the engine. All
-# inputs are made from a seed in a temporary folder, which is removed at the end. RUNS=N and SEED=N change how often each is
-# run (3), and which inputs they are (1). ONLY=kernels, ONLY=segments, ONLY=engine and ONLY=churn print
-# one of the last tables alone.
+# the kernels by themselves, one of the parts of the store over leaves, one of latches and pins, and one of transactions by
+# calls of the engine. All inputs are made from a seed in a temporary folder, which is removed at the end. RUNS=N and SEED=N change how often each is
+# run (3), and which inputs they are (1). ONLY=kernels, ONLY=segments, ONLY=latches,
+# ONLY=engine and ONLY=churn print one of the last tables alone.
 set -euo pipefail
 
 top=$(cd "$(dirname "$0")/.." && pwd)
@@ -12,6 +12,7 @@ program=$top/crates/teseo/out/teseo
 kernels=$top/crates/kernel_bench/out/kernel_bench
 segments=$top/crates/store_bench/out/store_bench
 engine=$top/crates/engine_bench/out/engine_bench
+latches=$top/crates/bench_latches/out/bench_latches
 runs=${RUNS:-3}
 seed=${SEED:-1}
 
@@ -211,6 +212,29 @@ print_runs() {
     echo
 }
 
+# Prints the table of latches and pins, with the same steps by std::atomic, by turns. Of one-cell-least it is the most.
+print_latches() {
+    g++ -O3 -march=x86-64-v2 -std=c++20 "$top/bench/latches.cpp" -o latches_by_atomics -lpthread
+    for _run in $(seq "$runs"); do
+        "$latches" "$seed" 1 >>ours
+        ./latches_by_atomics "$seed" 1 >>theirs
+    done
+    echo '| Part           | Least | Most | std::atomic, least | Most |'
+    echo '|----------------|------:|-----:|-------------------:|-----:|'
+    join <(spread ours) <(spread theirs) | awk '{ printf "| %-14s | %5s | %4s | %18s | %4s |\n", $1, $2, $3, $4, $5 }'
+    echo
+    echo "Nanoseconds of a call in the best round of a run; of one-cell-least hundredths of the mean. What a part does is told in"
+    echo "crates/bench_latches/README.md. Load is $(load) now."
+}
+
+# The least and the most of each name's numbers, by name.
+spread() {
+    sort -k 1,1 -k 2,2n "$1" | awk '
+        $1 != name { if (name != "") print name, least, most; name = $1; least = $2 }
+        { most = $2 }
+        END { print name, least, most }'
+}
+
 # Whether this part of the tables is wanted.
 is_wanted() {
     [ -z "${ONLY:-}" ] || [ "$ONLY" = "$1" ]
@@ -221,6 +245,7 @@ build() {
     if is_wanted runs; then make -s -C "$top" build >/dev/null; fi
     if is_wanted kernels; then (cd "$top/crates/kernel_bench" && rt run >/dev/null 2>&1); fi
     if is_wanted segments; then (cd "$top/crates/store_bench" && rt run >/dev/null 2>&1); fi
+    if is_wanted latches; then (cd "$top/crates/bench_latches" && rt run >/dev/null 2>&1); fi
     if is_wanted engine || is_wanted churn; then (cd "$top/crates/engine_bench" && rt run >/dev/null 2>&1); fi
 }
 
@@ -237,6 +262,7 @@ if is_wanted kernels; then
     print_kernels 0 'path of 1,000,000 vertices with weights'
 fi
 if is_wanted segments; then print_segments; fi
+if is_wanted latches; then print_latches; fi
 if is_wanted engine; then
     print_engine 0 'each pair of whose vertices has the same chance'
     print_engine 1 'drawn by R-MAT'

@@ -1,5 +1,5 @@
 -- Each step of a pass and of a sweep keeps what the pins say.
-use Rattle.std.proofs.Common.{◌≡◌, ℕ, zero, suc, ◌+◌, ◌-◌, ◌<◌, ◌≤◌, min, refl, sym, ◌∙◌, ap, subst, cond, arith}
+use Rattle.std.proofs.Common.{◌≡◌, ℕ, ◌+◌, ◌-◌, ◌<◌, ◌≤◌, refl, sym, ◌∙◌, ap, subst, cond, arith}
 use Rattle.std.specs.Prelude.{Bool, true, false, ◌==◌, Option, Some, None}
 use Rattle.std.proofs.lemmas.Bool.Decides.{nat_tests}
 use mathlib.Core.Logic.{dite}
@@ -33,7 +33,8 @@ horizon_falls w word = falls w.least (start_in word)
 
 -- it is at or below each start that was found
 pub horizon_found : (w : Sweep) (word s : ℕ) → start_in word ≡ Some s → horizon_of (looked_at w word) ≤ s
-horizon_found w word s found = subst (λ x. least_with (least_after w.least x) w.clock ≤ s) (sym found) (lower w.least)
+horizon_found w word s found = subst (λ x. least_with (least_after w.least x) w.clock ≤ s) (sym found)
+    (lower w.least)
   where
     lower : (least : Option ℕ) → least_with (least_after least (Some s)) w.clock ≤ s
     lower None = omega arith
@@ -49,9 +50,11 @@ start_pinned start =
 
 -- ---- steps
 
-module _ (pin : ℕ → ℕ) (active : ℕ → Bool) (start : ℕ → ℕ) (announced : ℕ → Bool) (sweep : ℕ → Option Sweep) (clock : ℕ) (s : IsPinned pin active start announced sweep clock) where
+module _ (pin : ℕ → ℕ) (active : ℕ → Bool) (start : ℕ → ℕ) (announced : ℕ → Bool) (sweep : ℕ → Option Sweep)
+    (clock : ℕ) (s : IsPinned pin active start announced sweep clock) where
   -- a pass that has no transaction announces
-  pub announces : (p : ℕ) → active p ≡ false → IsPinned (put pin p announced_word) active start (put announced p true) sweep clock
+  pub announces : (p : ℕ) → active p ≡ false
+      → IsPinned (put pin p announced_word) active start (put announced p true) sweep clock
   announces p idle = record {
     held = λ o. dite (ℕ_discrete o p)
         (λ same _ e. absurd (true_false (sym (ap (put announced p true) same ∙ put_here announced p true) ∙ e)))
@@ -64,36 +67,46 @@ module _ (pin : ℕ → ℕ) (active : ℕ → Bool) (start : ℕ → ℕ) (anno
   }
 
   -- one that has announced begins: the clock is at or above each horizon
-  pub begins_pinned : (p : ℕ) → announced p ≡ true → IsPinned pin (put active p true) (put start p clock) announced sweep clock
+  pub begins_pinned : (p : ℕ) → announced p ≡ true
+      → IsPinned pin (put active p true) (put start p clock) announced sweep clock
   begins_pinned p ready = record {
     held = λ o. dite (ℕ_discrete o p)
         (λ same _ e. absurd (true_false (sym (ap announced same ∙ ready) ∙ e)))
-        (λ other on e. s.held o (sym (put_else active p true o other) ∙ on) e ∙ ap (λ n. n + 2) (sym (put_else start p clock o other)));
+        (λ other on e. s.held o (sym (put_else active p true o other) ∙ on) e
+        ∙ ap (λ n. n + 2) (sym (put_else start p clock o other)));
     ready = s.ready;
     within = s.within;
     swept = λ q w at o lt. dite (ℕ_discrete o p)
         (λ same _.
         let low = horizon_below w in
         let up = s.within q w at in
-        subst (λ n. horizon_of w ≤ n) (sym (ap (put start p clock) same ∙ put_here start p clock)) (omega arith))
-        (λ other e. subst (λ n. horizon_of w ≤ n) (sym (put_else start p clock o other)) (s.swept q w at o lt (sym (put_else active p true o other) ∙ e)));
+        subst (λ n. horizon_of w ≤ n) (sym (ap (put start p clock) same ∙ put_here start p clock))
+        (omega arith))
+        (λ other e. subst (λ n. horizon_of w ≤ n) (sym (put_else start p clock o other))
+        (s.swept q w at o lt (sym (put_else active p true o other) ∙ e)));
   }
 
   -- and pins itself at its start
-  pub pins : (p : ℕ) → active p ≡ true → IsPinned (put pin p (pinned_word (start p))) active start (put announced p false) sweep clock
+  pub pins : (p : ℕ) → active p ≡ true → IsPinned (put pin p (pinned_word (start p))) active start
+      (put announced p false) sweep clock
   pins p on = record {
     held = λ o. dite (ℕ_discrete o p)
-        (λ same _ _. ap (put pin p (start p + 2)) same ∙ put_here pin p (start p + 2) ∙ ap (λ q. start q + 2) (sym same))
-        (λ other on e. put_else pin p (start p + 2) o other ∙ s.held o on (sym (put_else announced p false o other) ∙ e));
+        (λ same _ _. ap (put pin p (start p + 2)) same ∙ put_here pin p (start p + 2)
+        ∙ ap (λ q. start q + 2) (sym same))
+        (λ other on e. put_else pin p (start p + 2) o other
+        ∙ s.held o on (sym (put_else announced p false o other) ∙ e));
     ready = λ o. dite (ℕ_discrete o p)
-        (λ same e. let f : false ≡ true = sym (ap (put announced p false) same ∙ put_here announced p false) ∙ e in cc)
-        (λ other e. put_else pin p (start p + 2) o other ∙ s.ready o (sym (put_else announced p false o other) ∙ e));
+        (λ same e. let f : false ≡ true = sym (ap (put announced p false) same ∙ put_here announced p false)
+        ∙ e in cc)
+        (λ other e. put_else pin p (start p + 2) o other
+        ∙ s.ready o (sym (put_else announced p false o other) ∙ e));
     within = s.within;
     swept = s.swept;
   }
 
   -- a transaction ends, and the clock may rise
-  pub ends_pinned : (p later : ℕ) → clock ≤ later → IsPinned pin (put active p false) start announced sweep later
+  pub ends_pinned : (p later : ℕ) → clock ≤ later
+      → IsPinned pin (put active p false) start announced sweep later
   ends_pinned p later le = record {
     held = λ o e f. s.held o (was o e) f;
     ready = s.ready;
@@ -103,23 +116,27 @@ module _ (pin : ℕ → ℕ) (active : ℕ → Bool) (start : ℕ → ℕ) (anno
     where
       was : (o : ℕ) → put active p false o ≡ true → active o ≡ true
       was o = dite (ℕ_discrete o p)
-          (λ same e. let f : false ≡ true = sym (ap (put active p false) same ∙ put_here active p false) ∙ e in cc)
+          (λ same e. let f : false ≡ true = sym (ap (put active p false) same ∙ put_here active p false) ∙ e in
+          cc)
           (λ other e. sym (put_else active p false o other) ∙ e)
 
   -- a pass that has no transaction takes its pin away
-  pub unpins : (p : ℕ) → active p ≡ false → IsPinned (put pin p unpinned) active start (put announced p false) sweep clock
+  pub unpins : (p : ℕ) → active p ≡ false
+      → IsPinned (put pin p unpinned) active start (put announced p false) sweep clock
   unpins p idle = record {
     held = λ o. dite (ℕ_discrete o p)
         (λ same on _. absurd (true_false (sym on ∙ ap active same ∙ idle)))
         (λ other on e. put_else pin p 0 o other ∙ s.held o on (sym (put_else announced p false o other) ∙ e));
     ready = λ o. dite (ℕ_discrete o p)
-        (λ same e. let f : false ≡ true = sym (ap (put announced p false) same ∙ put_here announced p false) ∙ e in cc)
+        (λ same e. let f : false ≡ true = sym (ap (put announced p false) same ∙ put_here announced p false)
+        ∙ e in cc)
         (λ other e. put_else pin p 0 o other ∙ s.ready o (sym (put_else announced p false o other) ∙ e));
     within = s.within;
     swept = s.swept;
   }
 
-  has_swept : (p : ℕ) (w : Sweep) → w.clock ≤ clock → ((o : ℕ) → o < w.looked → active o ≡ true → horizon_of w ≤ start o)
+  has_swept : (p : ℕ) (w : Sweep) → w.clock ≤ clock
+      → ((o : ℕ) → o < w.looked → active o ≡ true → horizon_of w ≤ start o)
       → IsPinned pin active start announced (put sweep p (Some w)) clock
   has_swept p w within swept = record {
     held = s.held;
@@ -127,8 +144,10 @@ module _ (pin : ℕ → ℕ) (active : ℕ → Bool) (start : ℕ → ℕ) (anno
     within = all_put (λ q x. (u : Sweep) → x ≡ Some u → u.clock ≤ clock) sweep p (Some w)
         (λ u e. subst (λ (v : Sweep). v.clock ≤ clock) (some_is w u e) within)
         (λ q _. s.within q);
-    swept = all_put (λ q x. (u : Sweep) → x ≡ Some u → (o : ℕ) → o < u.looked → active o ≡ true → horizon_of u ≤ start o) sweep p (Some w)
-        (λ u e. subst (λ (v : Sweep). (o : ℕ) → o < v.looked → active o ≡ true → horizon_of v ≤ start o) (some_is w u e) swept)
+    swept = all_put (λ q x. (u : Sweep) → x ≡ Some u → (o : ℕ) → o < u.looked → active o ≡ true
+        → horizon_of u ≤ start o) sweep p (Some w)
+        (λ u e. subst (λ (v : Sweep). (o : ℕ) → o < v.looked → active o ≡ true
+        → horizon_of v ≤ start o) (some_is w u e) swept)
         (λ q _. s.swept q);
   }
 
@@ -137,7 +156,8 @@ module _ (pin : ℕ → ℕ) (active : ℕ → Bool) (start : ℕ → ℕ) (anno
   sweep_begins p = has_swept p (begun clock) (omega arith) (λ o lt. absurd (omega arith))
 
   -- and looks at one pin after another
-  pub sweep_looks : (p : ℕ) (w : Sweep) → sweep p ≡ Some w → IsPinned pin active start announced (put sweep p (Some (looked_at w (pin w.looked)))) clock
+  pub sweep_looks : (p : ℕ) (w : Sweep) → sweep p ≡ Some w
+      → IsPinned pin active start announced (put sweep p (Some (looked_at w (pin w.looked)))) clock
   sweep_looks p w at =
       has_swept p (looked_at w (pin w.looked)) (s.within p w at)
       (λ o lt on. dite (ℕ_discrete o w.looked)
@@ -147,15 +167,18 @@ module _ (pin : ℕ → ℕ) (active : ℕ → Bool) (start : ℕ → ℕ) (anno
       let before = s.swept p w at o (omega arith) on in omega arith))
     where
       -- the pass at which it looks now
-      at_next : (b : Bool) (o : ℕ) → announced o ≡ b → active o ≡ true → o ≡ w.looked → horizon_of (looked_at w (pin w.looked)) ≤ start o
+      at_next : (b : Bool) (o : ℕ) → announced o ≡ b → active o ≡ true → o ≡ w.looked
+          → horizon_of (looked_at w (pin w.looked)) ≤ start o
       at_next true o e on same =
           let found : start_in (pin w.looked) ≡ Some 0 = ap start_in (ap pin (sym same) ∙ s.ready o e) in
           let low = horizon_found w (pin w.looked) 0 found in omega arith
       at_next false o e on same =
-          horizon_found w (pin w.looked) (start o) (ap start_in (ap pin (sym same) ∙ s.held o on e) ∙ start_pinned (start o))
+          horizon_found w (pin w.looked) (start o) (ap start_in (ap pin (sym same) ∙ s.held o on e)
+          ∙ start_pinned (start o))
 
   -- what a whole sweep has found holds back all that is needed
-  pub horizon_safe : (p passes : ℕ) (w : Sweep) → sweep p ≡ Some w → passes ≤ w.looked → ((o : ℕ) → active o ≡ true → o < passes)
+  pub horizon_safe : (p passes : ℕ) (w : Sweep) → sweep p ≡ Some w → passes ≤ w.looked
+      → ((o : ℕ) → active o ≡ true → o < passes)
       → (horizon_of w ≤ clock) × ((o : ℕ) → active o ≡ true → horizon_of w ≤ start o)
   horizon_safe p passes w at all few =
       let low = horizon_below w in

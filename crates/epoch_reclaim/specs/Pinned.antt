@@ -38,7 +38,11 @@ begun clock = record { clock = clock; looked = 0; least = None }
 
 -- a sweep after the pin word of the next pass
 abbrev pub looked_at : Sweep → ℕ → Sweep
-looked_at w word = record { clock = w.clock; looked = w.looked + 1; least = least_after w.least (start_in word) }
+looked_at w word = record {
+  clock = w.clock;
+  looked = w.looked + 1;
+  least = least_after w.least (start_in word);
+}
 
 -- the horizon of a sweep: the least of its clock and of the starts that it found
 abbrev pub horizon_of : Sweep → ℕ
@@ -46,12 +50,16 @@ horizon_of w = least_with w.least w.clock
 
 -- ---- who is pinned
 
--- each pass's pin word; whether it has an open transaction, and its start; whether it has announced; its sweep; the clock
-pub record IsPinned (pin : ℕ → ℕ) (active : ℕ → Bool) (start : ℕ → ℕ) (announced : ℕ → Bool) (sweep : ℕ → Option Sweep) (clock : ℕ) : Type 0 where
+-- each pass's pin word; whether it has an open transaction, and its start; whether it has announced; its sweep;
+-- the clock
+pub record IsPinned (pin : ℕ → ℕ) (active : ℕ → Bool) (start : ℕ → ℕ) (announced : ℕ → Bool)
+    (sweep : ℕ → Option Sweep) (clock : ℕ) : Type 0 where
   -- an open transaction is pinned at its start, unless its pass is still announced
   pub held : (p : ℕ) → active p ≡ true → announced p ≡ false → pin p ≡ pinned_word (start p)
   pub ready : (p : ℕ) → announced p ≡ true → pin p ≡ announced_word
   -- the clock never falls
   pub within : (p : ℕ) (w : Sweep) → sweep p ≡ Some w → w.clock ≤ clock
-  -- a sweep's horizon is at or below the start of each open transaction of the passes looked at, also one loaded since
-  pub swept : (p : ℕ) (w : Sweep) → sweep p ≡ Some w → (o : ℕ) → o < w.looked → active o ≡ true → horizon_of w ≤ start o
+  -- a sweep's horizon is at or below the start of each open transaction of the passes looked at, also one
+  -- loaded since
+  pub swept : (p : ℕ) (w : Sweep) → sweep p ≡ Some w → (o : ℕ) → o < w.looked → active o ≡ true
+      → horizon_of w ≤ start o

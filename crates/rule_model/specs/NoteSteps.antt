@@ -24,7 +24,7 @@ use Rattle.cells_model.specs.Cells.{CellState}
 use Rattle.cells_model.specs.Indexed.{covers}
 use Rattle.rule_model.specs.Places.{Layout}
 use Rattle.rule_model.specs.Sight.{Sight, HasCell, HasPass, cells_of, with_pass}
-use Rattle.rule_model.specs.Steps.{MayLoad, Nothing}
+use Rattle.rule_model.specs.Steps.{AllowsLoad, Nothing}
 
 -- ---- rows of held cells
 
@@ -77,12 +77,12 @@ module _ (z : Config) (at : Layout) (heap : Global) (slots id : ℕ)
   -- LEARN
   abbrev pub PassLearns : Type 0
   PassLearns = (p : ℕ) (st : PassState) → HasPass me.0 p st → st.stage ≡ Open
-      → MayLoad z at heap slots id me at.clock (λ _. me.0) (LearnsRows p st)
+      → AllowsLoad z at heap slots id me at.clock (λ _. me.0) (LearnsRows p st)
 
   -- LEARN, by a reader: the view of the account that it was split from
   abbrev pub ReaderLearns : Type 0
   ReaderLearns = (x : ReaderState) → me.0.readers ≡ x ∷ []
-      → MayLoad z at heap slots id me at.clock (λ _. me.0) (λ _.
+      → AllowsLoad z at heap slots id me at.clock (λ _. me.0) (λ _.
       ((k : ℕ) (c : CellState) (q : Key) → HasRow z me.0 k c q
       → SeesValue z x.seen x.start x.own x.by (stamp_in x.seen) q (versions_at c.segment q))
       × ((k : ℕ) (c : CellState) (q : Key) (y : Stamped) → HasRecordIn z me.0 k c q y
@@ -95,13 +95,13 @@ module _ (z : Config) (at : Layout) (heap : Global) (slots id : ℕ)
   abbrev pub WordIsLooked : Type 0
   WordIsLooked = (p : ℕ) (st : PassState) (k : ℕ) (c : CellState) (q : Key) (x : Stamped)
       → HasPass me.0 p st → HasRecordIn z me.0 k c q x → x.stamp ≡ None
-      → MayLoad z at heap slots id me (at.pass x.by.job) (λ _. me.0) (TellsWriter st.seen x)
+      → AllowsLoad z at heap slots id me (at.pass x.by.job) (λ _. me.0) (TellsWriter st.seen x)
 
   -- LOOK, which is kept
   abbrev pub LookIsKept : Type 0
   LookIsKept = (p : ℕ) (st : PassState) (k : ℕ) (c : CellState) (q : Key) (x : Stamped)
       → HasPass me.0 p st → HasRecordIn z me.0 k c q x → x.stamp ≡ None
-      → MayLoad z at heap slots id me (at.pass x.by.job)
+      → AllowsLoad z at heap slots id me (at.pass x.by.job)
       (λ n. with_pass me.0 p (with_look st (look_at st x.by n)))
       (TellsWriter st.seen x)
 
@@ -110,7 +110,7 @@ module _ (z : Config) (at : Layout) (heap : Global) (slots id : ℕ)
   ReaderLooks = (x : ReaderState) (k : ℕ) (c : CellState) (q : Key) (y : Stamped)
       → me.0.readers ≡ x ∷ []
       → HasRecordIn z me.0 k c q y → y.stamp ≡ None
-      → MayLoad z at heap slots id me (at.pass y.by.job) (λ _. me.0) (TellsWriter x.seen y)
+      → AllowsLoad z at heap slots id me (at.pass y.by.job) (λ _. me.0) (TellsWriter x.seen y)
 
   -- ---- whom a write meets: each by a load of the clock
 
@@ -118,14 +118,14 @@ module _ (z : Config) (at : Layout) (heap : Global) (slots id : ℕ)
   abbrev pub HolderIsFound : Type 0
   HolderIsFound = (p : ℕ) (st : PassState) (w : Write) (x : Stamped) → HasPass me.0 p st
       → LooksAtRecord z me.0 w x → reached (stamp_in st.seen x.by) st.start ≡ false
-      → MayLoad z at heap slots id me at.clock
+      → AllowsLoad z at heap slots id me at.clock
       (λ _. with_pass me.0 p (with_holder st (sighting x.by w st.start))) Nothing
 
   -- and is answered as the cause
   abbrev pub HolderIsAnswered : Type 0
   HolderIsAnswered = (p : ℕ) (st : PassState) (i : ℕ) (x : Sighting) → HasPass me.0 p st
       → slice_get st.holders i ≡ Some x
-      → MayLoad z at heap slots id me at.clock
+      → AllowsLoad z at heap slots id me at.clock
       (λ _. with_pass me.0 p (with_sighting st x)) Nothing
 
   -- MET: of a record with a stamp, or of one whose writer has a look with a stamp
@@ -133,12 +133,12 @@ module _ (z : Config) (at : Layout) (heap : Global) (slots id : ℕ)
   StampIsMet = (p : ℕ) (st : PassState) (w : Write) (x : Stamped) (stamp : ℕ)
       → HasPass me.0 p st
       → LooksAtRecord z me.0 w x → x.stamp ≡ Some stamp
-      → MayLoad z at heap slots id me at.clock
+      → AllowsLoad z at heap slots id me at.clock
       (λ _. with_pass me.0 p (with_meeting st (meeting w (stamp - 1)))) Nothing
 
   abbrev pub LookIsMet : Type 0
   LookIsMet = (p : ℕ) (st : PassState) (w : Write) (x : Stamped) (i : ℕ) (l : Look)
       → HasPass me.0 p st
       → LooksAtRecord z me.0 w x → slice_get st.looks i ≡ Some l → l.by ≡ x.by → 2 < l.word
-      → MayLoad z at heap slots id me at.clock
+      → AllowsLoad z at heap slots id me at.clock
       (λ _. with_pass me.0 p (with_meeting st (meeting w (l.word - 3)))) Nothing

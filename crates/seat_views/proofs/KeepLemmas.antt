@@ -6,9 +6,11 @@ use lib.ListN.{get_elem?}
 use Rattle.seat_views.specs.Keeping.{kept_at, revised, moved, AreKept, Keeps}
 use Rattle.seat_views.proofs.NumberLemmas.{at_set, at_end, none_or_some, some_is, kept-append, revised-none, revised-some, moved-none, moved-some}
 
-module _ {A V : Type 0} (part : V → List (ℕ × A)) (views : List V) (content : ℕ → A) (keeper : ℕ → ℕ) (keeps : Keeps part views content keeper) (id : ℕ) (v : V) (at : get_elem? views id ≡ some v) where
+module _ {A V : Type 0} (part : V → List (ℕ × A)) (views : List V) (content : ℕ → A) (keeper : ℕ → ℕ)
+    (keeps : Keeps part views content keeper) (id : ℕ) (v : V) (at : get_elem? views id ≡ some v) where
   -- a seat puts news of what it keeps in front
-  pub kept_news : (w : V) (news : List (ℕ × A)) → part w ≡ news ++ part v → AreKept (part v) news → Keeps part (set views id w) (revised content news) keeper
+  pub kept_news : (w : V) (news : List (ℕ × A)) → part w ≡ news ++ part v → AreKept (part v) news
+      → Keeps part (set views id w) (revised content news) keeper
   kept_news w news is known seat u k a at_u has =
       ⊎_elim
       (λ (t : (seat ≡ id) × (w ≡ u)).
@@ -37,11 +39,13 @@ module _ {A V : Type 0} (part : V → List (ℕ × A)) (views : List V) (content
 
   -- a view is cut in two
   pub kept_split : (left right : V)
-      → ((k : ℕ) (a : A) → kept_at (part left) k ≡ Some a → (kept_at (part v) k ≡ Some a) × (kept_at (part right) k ≡ None))
+      → ((k : ℕ) (a : A) → kept_at (part left) k ≡ Some a
+      → (kept_at (part v) k ≡ Some a) × (kept_at (part right) k ≡ None))
       → ((k : ℕ) (a : A) → kept_at (part right) k ≡ Some a → kept_at (part v) k ≡ Some a)
       → Keeps part (set views id left ++ right ∷ []) content (moved keeper (part right) (length views))
   kept_split left right of_left of_right seat u k a at_u has =
-      elim (at_end (set views id left) right u seat at_u) as (λ _. (moved keeper (part right) (length views) k ≡ seat) × (content k ≡ a)) [
+      elim (at_end (set views id left) right u seat at_u) as
+      (λ _. (moved keeper (part right) (length views) k ≡ seat) × (content k ≡ a)) [
         | inr t ↦
             let mine = ap (λ x. kept_at (part x) k) t.1 ∙ has in
             let r = keeps id v k a at (of_right k a mine) in
@@ -54,7 +58,8 @@ module _ {A V : Type 0} (part : V → List (ℕ × A)) (views : List V) (content
             (moved-none keeper (part right) (length views) k mine.1 ∙ r.0 ∙ sym t.0, r.1))
             (λ (t : (seat ≢ id) × (get_elem? views seat ≡ some u)).
             let r = keeps seat u k a t.1 has in
-            elim (none_or_some (kept_at (part right) k)) as (λ _. (moved keeper (part right) (length views) k ≡ seat) × (content k ≡ a)) [
+            elim (none_or_some (kept_at (part right) k)) as
+            (λ _. (moved keeper (part right) (length views) k ≡ seat) × (content k ≡ a)) [
               | inl none ↦ (moved-none keeper (part right) (length views) k none ∙ r.0, r.1)
               | inr h ↦ let o = keeps id v k h.0 at (of_right k h.0 h.1) in absurd (t.0 (sym r.0 ∙ o.0))
             ])
@@ -62,7 +67,8 @@ module _ {A V : Type 0} (part : V → List (ℕ × A)) (views : List V) (content
       ]
 
   -- another seat's view is taken in, and nothing is left of that one
-  pub kept_join : (other : ℕ) (o both spent : V) → (other ≡ id → ⊥) → get_elem? (set views id both) other ≡ some o → part both ≡ part o ++ part v → part spent ≡ []
+  pub kept_join : (other : ℕ) (o both spent : V) → (other ≡ id → ⊥)
+      → get_elem? (set views id both) other ≡ some o → part both ≡ part o ++ part v → part spent ≡ []
       → Keeps part (set (set views id both) other spent) content (moved keeper (part o) id)
   kept_join other o both spent apart there is none_left seat u k a at_u has =
       ⊎_elim

@@ -8,7 +8,8 @@ module _ (A V : Type 0) where
   -- a seat puts news of what it keeps in front: the contents are those after the news, and no keeper changes
   abbrev pub KeepsNews : Type 0
   KeepsNews =
-      (part : V → List (ℕ × A)) (views : List V) (content : ℕ → A) (keeper : ℕ → ℕ) → Keeps part views content keeper
+      (part : V → List (ℕ × A)) (views : List V) (content : ℕ → A) (keeper : ℕ → ℕ)
+      → Keeps part views content keeper
       → (id : ℕ) (v : V) → get_elem? views id ≡ some v
       → (w : V) (news : List (ℕ × A)) → part w ≡ news ++ part v → AreKept (part v) news
       → Keeps part (slice_set views id w) (revised content news) keeper
@@ -16,17 +17,20 @@ module _ (A V : Type 0) where
   -- a view is cut in two, of which each has entries of the old one, and no number is in both
   abbrev pub KeepsSplit : Type 0
   KeepsSplit =
-      (part : V → List (ℕ × A)) (views : List V) (content : ℕ → A) (keeper : ℕ → ℕ) → Keeps part views content keeper
+      (part : V → List (ℕ × A)) (views : List V) (content : ℕ → A) (keeper : ℕ → ℕ)
+      → Keeps part views content keeper
       → (id : ℕ) (v : V) → get_elem? views id ≡ some v
       → (left right : V)
-      → ((k : ℕ) (a : A) → kept_at (part left) k ≡ Some a → (kept_at (part v) k ≡ Some a) × (kept_at (part right) k ≡ None))
+      → ((k : ℕ) (a : A) → kept_at (part left) k ≡ Some a
+      → (kept_at (part v) k ≡ Some a) × (kept_at (part right) k ≡ None))
       → ((k : ℕ) (a : A) → kept_at (part right) k ≡ Some a → kept_at (part v) k ≡ Some a)
       → Keeps part (slice_set views id left ++ right ∷ []) content (moved keeper (part right) (length views))
 
   -- another seat's view is taken in, and nothing is left of that one
   abbrev pub KeepsJoin : Type 0
   KeepsJoin =
-      (part : V → List (ℕ × A)) (views : List V) (content : ℕ → A) (keeper : ℕ → ℕ) → Keeps part views content keeper
+      (part : V → List (ℕ × A)) (views : List V) (content : ℕ → A) (keeper : ℕ → ℕ)
+      → Keeps part views content keeper
       → (id : ℕ) (v : V) → get_elem? views id ≡ some v
       → (other : ℕ) (o both spent : V) → ¬ (other ≡ id) → get_elem? (slice_set views id both) other ≡ some o
       → part both ≡ part o ++ part v → part spent ≡ []

@@ -1,0 +1,4 @@
+pub mod Latched
+pub mod Opening
+pub mod Several
+pub mod Places
