@@ -224,3 +224,7 @@ module _ {z : Config} {word : ℕ → ℕ} {pass : ℕ → PassState} {j : Journ
       → AreReaders (revised pass p now) j'.commits readers
   readers_stay p now j' readers are front is same =
       readers_put pass j.commits readers are p now j'.commits front is same
+
+  pub only_open_lends : (p : ℕ) (readers : List ReaderState) → AreReaders pass j.commits readers
+      → ((pass p).stage ≡ Open → ⊥) → (pass p).readers_out ≡ 0
+  only_open_lends p readers are closed = none_out pass j.commits readers are p closed

@@ -181,3 +181,8 @@ module _ (z : Config) (word : ℕ → ℕ) (pass : ℕ → PassState) (j : Journ
       → AreReaders pass j.commits readers → IsPrefix j.commits j'.commits
       → ((pass p).readers_out ≡ 0) ⊎ IsSameTxn (pass p) now → now.readers_out ≡ (pass p).readers_out
       → AreReaders (revised pass p now) j'.commits readers
+
+  -- only a pass whose transaction is open has readers out
+  abbrev pub OnlyOpenLends : Type 0
+  OnlyOpenLends = (p : ℕ) (readers : List ReaderState) → AreReaders pass j.commits readers
+      → ((pass p).stage ≡ Open → ⊥) → (pass p).readers_out ≡ 0
