@@ -222,7 +222,7 @@ no_readers = record { each = tt; out = all_put (λ q u. 0 ≡ u.readers_out) fre
 
 lent_allowed : IsAllowed (lending 1 (beginning 1 fresh))
     × AreReaders (lending 1 (beginning 1 fresh)).pass [] (reader_of (beginning 1 fresh).pass 1 ∷ [])
-lent_allowed = reader_is_split one_begun 1 [] no_readers refl _ refl
+lent_allowed = reader_is_split one_begun 1 [] no_readers refl
 
 pub right_steps : RightSteps
 right_steps = record {

@@ -16,7 +16,7 @@ use Rattle.store_relation.specs.Passes.{PassState, fresh_pass, name_of}
 use Rattle.store_relation.specs.Readers.{AreReaders, reader_of}
 use Rattle.store_relation.specs.Rows.{row_after}
 use Rattle.store_relation.specs.Shared.{JournalState, no_journal, entries, IsShared}
-use Rattle.store_relation.specs.Steps.{begun, written_by, committing, with_entry, committed, published_now, with_unstamped, refreshed, with_readers}
+use Rattle.store_relation.specs.Steps.{begun, written_by, committing, with_entry, committed, published_now, with_unstamped, refreshed, with_reader}
 use Rattle.store_relation.specs.Words.{open_word, commit_word, stamp_of_word}
 
 -- three passes on one leaf: 0 is not used here, 1 writes and 2 reads
@@ -82,7 +82,7 @@ pruning at s = record s { rows = λ k. prune_stamped (stamp_in s.journal.commits
 
 abbrev pub lending : ℕ → SharedState → SharedState
 lending p s =
-    record s { pass = revised s.pass p (with_readers (s.pass p) ((s.pass p).readers_out + 1)) }
+    record s { pass = revised s.pass p (with_reader (s.pass p)) }
 
 -- ---- right steps: the writer makes two vertices and an edge, and commits them
 

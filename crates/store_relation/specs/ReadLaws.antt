@@ -24,7 +24,7 @@ use Rattle.store_relation.specs.Readers.{ReaderState, IsReader, reader_of}
 use Rattle.store_relation.specs.Rows.{HasRecord, AreLookedUp}
 use Rattle.store_relation.specs.Shared.{JournalState, IsMet, IsSighted, IsLook, sum_below, IsShared}
 use Rattle.store_relation.specs.Steps.{meeting, sighting}
-use Rattle.store_relation.specs.Words.{Look, commit_word, state_of_word, stamps_of, has_look}
+use Rattle.store_relation.specs.Words.{Look, open_word, commit_word, state_of_word, stamps_of, has_look}
 
 -- what a word tells whoever has seen these commits: an answer about its pass's latest transaction
 abbrev pub Answers : List Commit → TxnName → ℕ → Type 0
@@ -88,7 +88,7 @@ module _ (z : Config) (word : ℕ → ℕ) (pass : ℕ → PassState) (j : Journ
   pub record Tells (k : Key) (x : Stamped) : Type 0 where
     pub latest : x.by ≡ name_of pass x.by.job
     pub inside : x.by.job < z.passes
-    pub open_or_stamped : (word x.by.job ≡ 1) ⊎ (2 < word x.by.job)
+    pub open_or_stamped : (word x.by.job ≡ open_word) ⊎ (2 < word x.by.job)
     pub answers : (seen : List Commit) → IsPrefix seen j.commits → Answers seen x.by (word x.by.job)
     -- and what was found may be kept
     pub look : (until : ℕ) → until ≤ length j.commits
@@ -155,7 +155,7 @@ module _ (z : Config) (word : ℕ → ℕ) (pass : ℕ → PassState) (j : Journ
       → reached (stamp_in (pass p).seen n) (pass p).start ≡ false
       → IsSighted z.kind pass j (sighting n w (pass p).start)
 
-  -- LATER: once the journal was seen so far, what was met at or behind the start is answered by its
+  -- LATER: once the journal was seen so far, what was met after the start is answered by its
   -- stamp
   abbrev pub MetIsLater : Type 0
   MetIsLater = (m : Meeting) → IsMet z.kind j m → (start : ℕ) → start ≤ m.place
