@@ -3,7 +3,7 @@
 
 ghost use Rattle.store_relation.specs.AccountLaws.{OfEachPass, AccountBegins, AccountWrites, AccountCommits, AccountCommitsNone, AccountAborts, AccountSees, AccountSights};
 ghost use Rattle.store_relation.specs.CheckLaws.{CheckedIsFree, FreeMayBeWritten, CauseIsFound, LaterIsStamped, HolderIsOther};
-ghost use Rattle.store_relation.specs.Examples.{RightSteps, WrongSteps, WrongReads};
+ghost use Rattle.store_relation.specs.Examples.{RightSteps, StepResults, WrongSteps, WrongReads};
 ghost use Rattle.store_relation.specs.ReadLaws.{ReadIsOfView, ReaderReadsView, PassLearns, ReaderLearns, WordTells, StampIsPlace, LooksTell, LooksTellRow, LookedHasMade, DropperHasRemoved, WordIsMet, StampIsMet, LookIsMet, HolderIsSighted, MetIsLater, ClockIsBounded, AccountIsValid, StoreCloses};
 ghost use Rattle.store_relation.specs.RowLaws.{RowAfterIsWrite, RowBeforeIsUndo, RowKeepsStamps, OtherRowsStay, KeysAreAll, ChangedKeysCover, OthersAreLeft, NoneIsDone, OneMoreIsDone, AllAreDone};
 ghost use Rattle.store_relation.specs.StepLaws.{InEachStore, NewStore, RoomIsMade, TransactionBegins, WriteIsMade, WriteIsFull, StampIsStored, CommitIsPublished, RowsAreStamped, AbortBegins, WriteIsUndone, TransactionEnds, NotesAreKept, JournalIsSeen, PassesMeet, RowsArePruned, ReaderIsSplit, ReaderIsJoined, ReadersStay, OnlyOpenLends};
@@ -130,6 +130,7 @@ pub fn stores_close()
 /// Two passes on one store, step by step; and rules that would be wrong, each by the state to which it leads.
 pub fn examples_hold()
     ensures right { RightSteps }
+    ensures results { StepResults }
     ensures wrong { WrongSteps }
     ensures reads { WrongReads }
 {}
