@@ -9,11 +9,11 @@ use Rattle.graph_model.specs.declared.journal.TxnName.{TxnName}
 use Rattle.graph_model.specs.Conflict.{same_name}
 use Rattle.graph_model.specs.Transactions.{stamp_in, reached, has_name}
 use Rattle.graph_model.proofs.HistoryLemmas.{each_item}
-use Rattle.graph_model.proofs.LegalLemmas.{below_length}
 use Rattle.graph_model.proofs.PlaceLemmas.{some_eq}
 use Rattle.graph_model.proofs.TestLemmas.{name_self}
 use Rattle.txn_manager.specs.declared.config.Config.{Config}
 use Rattle.store_model.specs.Check.{looked}
+use Rattle.store_model.proofs.StampPlaceLemmas.{stamp_place}
 use Rattle.store_model.specs.Stamped.{Stamped, StampedVersions, forget, forget_row}
 use Rattle.undo_chain.specs.States.{IsAnswer}
 use Rattle.store_relation.specs.declared.stage.Stage.TheVariants.{Open}
@@ -27,7 +27,7 @@ use Rattle.store_relation.proofs.ListLemmas.{prefix_length}
 use Rattle.store_relation.proofs.ReadLemmas.{seen_reached}
 use Rattle.store_relation.proofs.ReaderLemmas.{reader_reads}
 use Rattle.store_relation.proofs.SpokenLemmas.{StandsIn}
-use Rattle.store_relation.proofs.WordLemmas.{stamp_place, word_known, word_answers, bare_latest, bare_word, bare_inside, bare_other}
+use Rattle.store_relation.proofs.WordLemmas.{word_known, word_answers, bare_latest, bare_word, bare_inside, bare_other}
 use Rattle.store_relation.proofs.MeetLemmas.{meets_entry}
 
 -- the writer of a record in a list stands there
@@ -108,10 +108,9 @@ module _ {z : Config} {word : ℕ → ℕ} {pass : ℕ → PassState} {j : Journ
       × (stamp ≤ clock)
   stamp_is_place by stamp e =
       let r = stamp_place z.kind j.commits s.store.transactions.legal by stamp e in
-      let within : r.0 < length j.commits = below_length j.commits r.0 r.1 r.2 in
+      let within : stamp ≤ length j.commits = r.5 in
       let clocked : clock ≡ length j.commits = s.published in
-      let place : stamp ≡ r.0 + 1 = r.4 in
-      (r.0, r.1, r.2, r.3, r.4, omega (arith, within, clocked, place))
+      (r.0, r.1, r.2, r.3, r.4, omega (arith, within, clocked))
 
   -- LOOK: at the writer of a record without a stamp
   pub tells : (k : Key) (x : Stamped) → HasRecord (rows k) x → x.stamp ≡ None

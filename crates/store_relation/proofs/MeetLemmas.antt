@@ -31,10 +31,11 @@ use Rattle.store_relation.proofs.ListLemmas.{prefix_length, get_below}
 use Rattle.store_relation.proofs.MadeLemmas.{latest_writes}
 use Rattle.store_relation.proofs.CurrentLemmas.{stands_none, stands_own}
 use Rattle.store_model.proofs.LookedLemmas.{looked_laid, dropped_vertex}
+use Rattle.store_model.proofs.StampPlaceLemmas.{stamp_place}
 use Rattle.store_relation.proofs.ReadLemmas.{seen_reached}
 use Rattle.store_relation.proofs.StepLemmas.{refreshes}
 use Rattle.store_relation.proofs.AccountLemmas.{meets_told}
-use Rattle.store_relation.proofs.WordLemmas.{stamp_place, laid_front}
+use Rattle.store_relation.proofs.WordLemmas.{laid_front}
 use Rattle.graph_model.specs.Passes.{revised}
 use Rattle.store_relation.specs.Passes.{IsLaid, Meeting, PassState, is_active, laid_of, name_of, number_of, running_of, stands, touching_by, writes_by}
 use Rattle.store_relation.specs.Shared.{IsMet, IsShared, IsSighted, JournalState, entries, longer_of}
