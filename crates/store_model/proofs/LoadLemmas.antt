@@ -1,6 +1,6 @@
 -- One transaction lays its writes in a new store.
 use Rattle.std.proofs.Common.{◌≡◌, List, [], ◌∷◌, ◌++◌, refl, sym, ◌∙◌, ap, subst, cond}
-use Rattle.std.specs.Prelude.{false, Some, None}
+use Rattle.std.specs.Prelude.{false, Option, Some, None}
 use Rattle.std.specs.List.{AllByRecursion}
 use Rattle.std.proofs.lemmas.List.{append-nil}
 use Rattle.std.proofs.Math.Seq.{append_snoc}
@@ -11,7 +11,7 @@ use Rattle.graph_model.specs.declared.journal.TxnName.{TxnName}
 use Rattle.graph_model.specs.Conflict.{same_name, meets}
 use Rattle.graph_model.specs.Graph.{Graph, empty_graph, apply_all}
 use Rattle.graph_model.specs.Refused.{AllAllowed, IsWithinLimits}
-use Rattle.graph_model.specs.Transactions.{Changes, writes_of_running, MeetsNoHolder}
+use Rattle.graph_model.specs.Transactions.{Running, Changes, writes_of_running, MeetsNoHolder}
 use Rattle.graph_model.proofs.HistoryLemmas.{apply_all-append}
 use Rattle.graph_model.proofs.TestLemmas.{name_self}
 use Rattle.store_model.specs.declared.versions.Versions.{Versions}
