@@ -5,7 +5,7 @@ ghost use Rattle.store_relation.specs.AccountLaws.{OfEachPass, AccountBegins, Ac
 ghost use Rattle.store_relation.specs.CheckLaws.{CheckedIsFree, FreeMayBeWritten, CauseIsFound, LaterIsStamped, HolderIsOther};
 ghost use Rattle.store_relation.specs.Examples.{RightSteps, StepResults, WrongSteps, WrongReads};
 ghost use Rattle.store_relation.specs.ReadLaws.{ReadIsOfView, ReaderReadsView, PassLearns, ReaderLearns, WordTells, StampIsPlace, LooksTell, LooksTellRow, LookedHasMade, DropperHasRemoved, WordIsMet, StampIsMet, LookIsMet, HolderIsSighted, MetIsLater, ClockIsBounded, AccountIsValid, StoreCloses};
-ghost use Rattle.store_relation.specs.RowLaws.{RowAfterIsWrite, RowBeforeIsUndo, RowKeepsStamps, OtherRowsStay, KeysAreAll, ChangedKeysCover, OthersAreLeft, NoneIsDone, OneMoreIsDone, AllAreDone};
+ghost use Rattle.store_relation.specs.RowLaws.{RowAfterIsWrite, RowBeforeIsUndo, RowKeepsStamps, OtherRowsStay, KeysAreAll, ChangedKeysCover, OthersAreLeft, NoneIsDone, OneMoreIsDone, AllAreDone, RowsGrowByOne, RowsAreKept, TouchedIsSomething};
 ghost use Rattle.store_relation.specs.StepLaws.{InEachStore, NewStore, RoomIsMade, TransactionBegins, WriteIsMade, WriteIsFull, StampIsStored, CommitIsPublished, RowsAreStamped, AbortBegins, WriteIsUndone, TransactionEnds, NotesAreKept, JournalIsSeen, PassesMeet, RowsArePruned, ReaderIsSplit, ReaderIsJoined, ReadersStay, OnlyOpenLends};
 
 /// A new store, room in its journal, and the begin of a transaction.
@@ -107,6 +107,9 @@ pub fn segments_change_by_key()
     ensures none { NoneIsDone }
     ensures more { OneMoreIsDone }
     ensures all { AllAreDone }
+    ensures grow { RowsGrowByOne }
+    ensures stay { RowsAreKept }
+    ensures touched { TouchedIsSomething }
 {}
 
 /// What the steps of a call do to the account of its pass.
