@@ -17,7 +17,7 @@ use Rattle.store_model.proofs.StampPlaceLemmas.{stamp_place}
 use Rattle.store_model.specs.Stamped.{Stamped, StampedVersions, forget, forget_row}
 use Rattle.undo_chain.specs.States.{IsAnswer}
 use Rattle.store_relation.specs.declared.stage.Stage.TheVariants.{Open}
-use Rattle.store_relation.specs.Passes.{PassState, name_of}
+use Rattle.store_relation.specs.Passes.{PassState}
 use Rattle.store_relation.specs.ReadLaws.{Learns, Tells}
 use Rattle.store_relation.specs.Readers.{IsReader, ReaderState, reader_of}
 use Rattle.store_relation.specs.Rows.{HasRecord}
@@ -75,6 +75,9 @@ module _ {z : Config} {word : ℕ → ℕ} {pass : ℕ → PassState} {j : Journ
     reads = reader_reads s x is;
     writers = λ k r there bare. bare_inside s k r bare (record_spoken k r there)
         (record_stands (rows k) r there);
+    others = λ k r there bare away same.
+        bare_other s k r bare (record_spoken k r there) (record_stands (rows k) r there) x.by.job
+        (ap (same_name r.by) (sym is.by) ∙ away) same;
     stamps = λ k r there c e.
         sym (seen_reached s x.seen x.start is.seen is.started r.by)
         ∙ ap (λ o. reached o x.start) (record_stamp k r there c e);
@@ -85,22 +88,15 @@ module _ {z : Config} {word : ℕ → ℕ} {pass : ℕ → PassState} {j : Journ
   }
 
   -- an open transaction is a reader of itself
-  pub learns : (p : ℕ) → (pass p).stage ≡ Open
-      → Learns z word pass j rows clock s (reader_of pass p)
-      × ((k : Key) (r : Stamped) → HasRecord (rows k) r → r.stamp ≡ None
-      → same_name r.by (name_of pass p) ≡ false → r.by.job ≡ p → ⊥)
-  learns p is = (
-    reader_learns (reader_of pass p) (record {
-      stage = is;
-      by = refl;
-      start = refl;
-      own = refl;
-      seen = (s.each p).seen;
-      started = (s.each p).started;
-    }),
-    (λ k r there bare away same.
-        bare_other s k r bare (record_spoken k r there) (record_stands (rows k) r there) p away same),
-  )
+  pub learns : (p : ℕ) → (pass p).stage ≡ Open → Learns z word pass j rows clock s (reader_of pass p)
+  learns p is = reader_learns (reader_of pass p) (record {
+    stage = is;
+    by = refl;
+    start = refl;
+    own = refl;
+    seen = (s.each p).seen;
+    started = (s.each p).started;
+  })
 
   -- STAMP: it is of the commit before it, which is published
   pub stamp_is_place : (by : TxnName) (stamp : ℕ) → stamp_in j.commits by ≡ Some stamp

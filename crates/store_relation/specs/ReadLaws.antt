@@ -33,10 +33,11 @@ Answers seen by n = (names : TxnName → Bool) (vouched : TxnName → State → 
     (record { known = length seen; stamps = stamp_in seen; names = names; vouched = vouched }) by
     (state_of_word n)
 
--- one who knows stamps reads the row as its snapshot, and what it has written itself, show it
-abbrev pub SeesValue : Config → ReaderState → (TxnName → Option ℕ) → Key → StampedVersions → Type 0
-SeesValue z x stamps k r =
-    read_stamped stamps x.start x.by r ≡ value_at (view z.kind x.seen x.start x.own) k
+-- by these stamps the row gives the value that a snapshot sees at the key, under its own writes
+abbrev pub SeesValue : Config → List Commit → ℕ → List Write → TxnName → (TxnName → Option ℕ) → Key
+    → StampedVersions → Type 0
+SeesValue z seen start own by stamps k r =
+    read_stamped stamps start by r ≡ value_at (view z.kind seen start own) k
 
 module _ (z : Config) (word : ℕ → ℕ) (pass : ℕ → PassState) (j : JournalState)
     (rows : Key → StampedVersions) (clock : ℕ) (s : IsShared z word pass j rows clock) where
@@ -49,34 +50,33 @@ module _ (z : Config) (word : ℕ → ℕ) (pass : ℕ → PassState) (j : Journ
       → (seen : List Commit) → IsPrefix seen j.commits → (pass p).start ≤ length seen
       → (stamps : TxnName → Option ℕ) (k : Key)
       → AreTold stamps (stamp_in j.commits) (pass p).start (rows k)
-      → SeesValue z (record (reader_of pass p) { seen = seen }) stamps k (rows k)
+      → SeesValue z seen (pass p).start (pass p).own (name_of pass p) stamps k (rows k)
 
   -- a reader reads the view of the account that it was split from
   abbrev pub ReaderReadsView : Type 0
   ReaderReadsView = (x : ReaderState) → IsReader pass j.commits x → (k : Key)
-      → SeesValue z x (stamp_in x.seen) k (rows k)
+      → SeesValue z x.seen x.start x.own x.by (stamp_in x.seen) k (rows k)
 
   -- ---- what one load of the clock tells of all rows that are held
 
   pub record Learns (x : ReaderState) : Type 0 where
     -- by what was seen the view is read
-    pub reads : (k : Key) → SeesValue z x (stamp_in x.seen) k (rows k)
-    -- the writers of records without a stamp are passes of the store
+    pub reads : (k : Key) → SeesValue z x.seen x.start x.own x.by (stamp_in x.seen) k (rows k)
+    -- the writers of records without a stamp are passes of the store, and but for this transaction
+    -- other passes
     pub writers : (k : Key) (r : Stamped) → HasRecord (rows k) r → r.stamp ≡ None
         → r.by.job < z.passes
+    pub others : (k : Key) (r : Stamped) → HasRecord (rows k) r → r.stamp ≡ None
+        → same_name r.by x.by ≡ false → r.by.job ≡ x.by.job → ⊥
     -- a record's stamp says whether the snapshot sees it
     pub stamps : (k : Key) (r : Stamped) → HasRecord (rows k) r → (stamp : ℕ) → r.stamp ≡ Some stamp
         → reached (stamp_in x.seen r.by) x.start ≡ nat_le stamp x.start
     -- the clock has come at least as far as was seen
     pub published : length x.seen ≤ clock
 
-  -- LEARN: an open transaction; and the writers of records without a stamp, but for itself, are
-  -- other passes
+  -- LEARN: an open transaction
   abbrev pub PassLearns : Type 0
-  PassLearns = (p : ℕ) → (pass p).stage ≡ Open
-      → Learns (reader_of pass p)
-      × ((k : Key) (r : Stamped) → HasRecord (rows k) r → r.stamp ≡ None
-      → same_name r.by (name_of pass p) ≡ false → r.by.job ≡ p → ⊥)
+  PassLearns = (p : ℕ) → (pass p).stage ≡ Open → Learns (reader_of pass p)
 
   -- and a reader
   abbrev pub ReaderLearns : Type 0
