@@ -1,7 +1,8 @@
 -- The fence keys of a cell tell whether it is a key's, and a cell that changes in place keeps the index sound.
-use Rattle.std.proofs.Common.{◌≡◌, inl, inr, ℕ, zero, suc, ◌+◌, ◌*◌, ◌-◌, ◌/◌, ◌%◌, ◌<◌, List, [], ◌∷◌, ◌++◌, Option, map, refl, sym, ◌∙◌, ap, subst, cond, arith, length-append}
+use Rattle.std.proofs.Common.{◌≡◌, inl, inr, ℕ, zero, suc, ◌+◌, ◌*◌, ◌-◌, ◌/◌, ◌%◌, ◌<◌, ◌≤◌, nat_lt, List, [], ◌∷◌, ◌++◌, Option, map, refl, sym, ◌∙◌, ap, subst, cond, arith, eqb-true, length-append}
 use Rattle.std.specs.Prelude.{Bool, true, false, ◌==◌, ◌||◌}
 use Rattle.std.specs.List.{AllByRecursion, list_any}
+use Rattle.std.proofs.lemmas.Bool.Decides.{nat_tests}
 use Rattle.std.specs.declared.boxed.Box.{Box}
 use Rattle.std.specs.declared.alloc.Global.{Global}
 use Rattle.graph_model.specs.declared.row.Key.{Key}
@@ -14,8 +15,9 @@ use Rattle.seat_views.proofs.NumberLemmas.{eq_of, other_number}
 use Rattle.version_segment.specs.Rows.{VersionedRows, IsSegment, versions_at}
 use Rattle.leaf_array.specs.declared.leaf.Leaf.{Leaf}
 use Rattle.leaf_array.specs.Segments.{lows_of}
-use Rattle.leaf_index.specs.Index.{Index, Entry, end_of}
+use Rattle.leaf_index.specs.Index.{Index, Entry, IsIndex, end_of, uses}
 use Rattle.leaf_index.specs.Calls.{new_index}
+use Rattle.leaf_index.proofs.CountLemmas.{worth, count_cons, count_range}
 use Rattle.leaf_store.specs.Leaves.{cell_at}
 use Rattle.leaf_store.specs.Changes.{ChangesCell}
 use Rattle.leaf_store.specs.Table.{IsKept, IsTied, AreTied, segments_at, part_of}
@@ -239,13 +241,54 @@ moves_indexed heap index index' cell cell' is kept leaves idle = record {
       ];
 }
 
+-- the entry of the one leaf of a new index
+abbrev whole : Entry
+whole = record {
+  low = first_key;
+  leaf = 0;
+  cuts = first_key ∷ end_key ∷ end_key ∷ end_key ∷ end_key ∷ end_key ∷ end_key ∷ end_key ∷ [];
+}
+
+pub new_is_index : (leaves : ℕ) → 1 ≤ leaves → IsIndex (new_index leaves)
+new_is_index leaves some = record {
+  first = refl;
+  rising = (tt, tt);
+  cuts = (
+    record {
+      count = refl;
+      begin = refl;
+      sorted = (refl, (refl, (refl, (refl, (refl, (refl, (refl, (refl, tt))))))));
+    },
+    tt,
+  );
+  once = λ leaf. by_test leaf (0 == leaf) refl;
+}
+  where
+    by_test : (leaf : ℕ) (t : Bool) → (0 == leaf) ≡ t
+        → uses (new_index leaves) leaf ≤ cond (nat_lt leaf leaves) 1 0
+    by_test leaf true t =
+        let zeroth = eqb-true 0 leaf t in
+        let free = (count_range 1 (leaves - 1) leaf).1 (omega (arith, zeroth)) in
+        let live = count_cons (λ (e : Entry). e.leaf == leaf) whole [] in
+        let value = ap worth t in
+        let inside : worth (nat_lt leaf leaves) ≡ 1 =
+        grind (arith, nat_tests, zeroth, some) in
+        omega (arith, free, live, value, inside)
+    by_test leaf false t =
+        let free = (count_range 1 (leaves - 1) leaf).0 in
+        let live = count_cons (λ (e : Entry). e.leaf == leaf) whole [] in
+        let value = ap worth t in
+        let same : worth (nat_lt leaf (1 + (leaves - 1))) ≡ worth (nat_lt leaf leaves) =
+        ap (λ n. worth (nat_lt leaf n)) (omega (arith, some)) in
+        omega (arith, free, live, value, same)
+
 pub new_indexed : NewIsIndexed
-new_indexed heap leaves some ready = record {
+new_indexed heap leaves some = record {
   kept = record {
     count = length_from heap new_cell 0 leaves;
-    index_is = ready;
+    index_is = new_is_index leaves some;
     tied = (
-      subst (λ ss. IsTied ss first end_key)
+      subst (λ ss. IsTied ss whole end_key)
           (sym (segments_table heap new_cell leaves 0 (omega arith))) first_tied,
       tt,
     );
@@ -256,18 +299,11 @@ new_indexed heap leaves some ready = record {
       (is_live (new_index leaves)) (sym z) ∙ dead in let g : true ≡ false = f in cc);
 }
   where
-    first : Entry
-    first = record {
-      low = first_key;
-      leaf = 0;
-      cuts = first_key ∷ end_key ∷ end_key ∷ end_key ∷ end_key ∷ end_key ∷ end_key ∷ end_key ∷ [];
-    }
-
     empty : (low : Key) → is_below end_key low ≡ false
         → IsSegment (record { low = low; high = end_key; rows = []; spare = 0 })
     empty low fences = record { fences = fences; rising = tt; within = tt; something = tt; small = omega arith }
 
-    first_tied : IsTied (leaf_cells new_cell 0) first end_key
+    first_tied : IsTied (leaf_cells new_cell 0) whole end_key
     first_tied = record {
       leaf = record {
         segments = refl;

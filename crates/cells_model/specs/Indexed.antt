@@ -8,7 +8,7 @@ use Rattle.graph_model.specs.declared.row.Key.{Key}
 use Rattle.graph_model.specs.Rows.{is_between, first_key, end_key}
 use Rattle.version_segment.specs.Rows.{VersionedRows, versions_at}
 use Rattle.leaf_array.specs.declared.leaf.Leaf.{Leaf}
-use Rattle.leaf_index.specs.Index.{Index, IsIndex}
+use Rattle.leaf_index.specs.Index.{Index}
 use Rattle.leaf_index.specs.Calls.{new_index}
 use Rattle.leaf_store.specs.Leaves.{Leaves, cell_at, versions_of}
 use Rattle.leaf_store.specs.Table.{IsKept, leaves_of}
@@ -105,5 +105,4 @@ new_cell k = record {
 
 abbrev pub NewIsIndexed : Type 0
 NewIsIndexed =
-    (heap : Global) (leaves : ℕ) → 1 ≤ leaves → IsIndex (new_index leaves)
-    → IsIndexed heap (new_index leaves) new_cell
+    (heap : Global) (leaves : ℕ) → 1 ≤ leaves → IsIndexed heap (new_index leaves) new_cell

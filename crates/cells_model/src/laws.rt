@@ -78,8 +78,8 @@ pub fn sweeps_keep_noted_leaves()
     ensures other_ends { OtherSweepEnds }
 {}
 
-/// Worked examples of the definitions, with values reckoned by hand: a read that is torn is of no block, and a leaf that
-/// a pinned pass has noted may not go.
+/// Worked examples of the definitions, with values reckoned by hand: a read that is torn is of no block, and a leaf
+/// that a pinned pass has noted may not go.
 pub fn examples_hold()
     ensures words { WordExamples }
     ensures reads { ReadExamples }

@@ -1,11 +1,12 @@
 -- A new table keeps the rule, and one view that has all of a store shows a closed one.
-use Rattle.std.proofs.Common.{◌≡◌, inl, ℕ, zero, suc, ◌+◌, ◌-◌, ◌<◌, ◌≤◌, List, [], ◌∷◌, ◌++◌, length, refl, sym, ◌∙◌, ap, subst, cond, arith, append-nil}
+use Rattle.std.proofs.Common.{◌≡◌, inl, ℕ, zero, suc, ◌+◌, ◌*◌, ◌-◌, ◌<◌, ◌≤◌, List, [], ◌∷◌, ◌++◌, length, refl, sym, ◌∙◌, ap, subst, cond, arith, append-nil, length-append}
 use Rattle.std.specs.Prelude.{Bool, true, false, ◌==◌, ◌&&◌, nat_lt, Some, None, slice_get, slice_index}
 use Rattle.std.specs.List.{range_with_len}
 use Rattle.std.specs.FinMap.Entries.{find}
 use Rattle.std.specs.declared.alloc.Global.{Global}
 use Rattle.std.proofs.lemmas.Bool.{true≢false}
 use Rattle.std.proofs.lemmas.Bool.Decides.{nat_tests}
+use Rattle.std.proofs.lemmas.List.{get_or_append_left, get_or-append_right}
 use Rattle.std.proofs.lemmas.List.FromFn.{length-range_with_len}
 use mathlib.Core.Option.{some, some-injective, some-ne-none}
 use lib.ListN.{get_elem?}
@@ -15,7 +16,6 @@ use Rattle.txn_manager.specs.declared.config.Config.{Config}
 use Rattle.store_model.specs.Stamped.{StampedVersions}
 use Rattle.version_segment.specs.Rows.{IsSegment, nothing, or_nothing, versions_at}
 use Rattle.leaf_array.specs.Segments.{rows_of}
-use Rattle.leaf_index.specs.Index.{IsIndex}
 use Rattle.leaf_index.specs.Calls.{new_index}
 use Rattle.leaf_store.specs.Leaves.{Part, versions_of, weight}
 use Rattle.leaf_store.specs.Table.{segments_at}
@@ -33,10 +33,11 @@ use Rattle.cells_model.specs.InPlace.{segment_of}
 use Rattle.cells_model.specs.Words.{Spells, block_words, spelled, word_rows}
 use Rattle.cells_model.proofs.IndexedLemmas.{cells_show, new_indexed}
 use Rattle.cells_model.proofs.RunLemmas.{segments_table}
-use Rattle.rule_model.specs.EndSteps.{AreNewWords, NewTable, TableCloses, first_sight, new_block, new_known, numbered}
+use Rattle.rule_model.specs.EndSteps.{AreNewWords, LinesAreNew, NewTable, TableCloses, first_sight, new_block, new_blocks, new_known, new_words, numbered, zeros}
 use Rattle.rule_model.specs.Places.{Layout}
 use Rattle.rule_model.specs.Sight.{Sight, HasPass, cells_of}
 use Rattle.rule_model.specs.Rule.{IsStored, rows_now, words_of}
+use Rattle.rule_model.proofs.PlaceLemmas.{lines_keep_apart}
 
 -- ---- a block without rows
 
@@ -59,13 +60,69 @@ new_spells k = record { wide = refl; words = each; sound = new_sound k; small = 
     each (suc (suc (suc (suc zero)))) n e = some_is (new_cell k).high.second n e
     each (suc (suc (suc (suc (suc i))))) n e = cc
 
+-- ---- words in lines
+
+zeros_length : (n : ℕ) → length (zeros n) ≡ n
+zeros_length zero = refl
+zeros_length (suc n) = ap suc (zeros_length n)
+
+zeros_zero : (n i : ℕ) → slice_index (zeros n) i ≡ 0
+zeros_zero zero i = refl
+zeros_zero (suc n) zero = refl
+zeros_zero (suc n) (suc i) = zeros_zero n i
+
+blocks_length : (k n : ℕ) → length (new_blocks k n) ≡ block_words * n
+blocks_length k zero = refl
+blocks_length k (suc n) =
+    let both = length-append (new_block k) (new_blocks (k + 1) n) in
+    let rest = blocks_length (k + 1) n in
+    omega (arith, both, rest)
+
+block_word : (k n l i : ℕ) → l < n → i < block_words
+    → slice_index (new_blocks k n) (block_words * l + i) ≡ slice_index (new_block (k + l)) i
+block_word k zero l i inside within = absurd (omega (arith, inside))
+block_word k (suc n) zero i inside within =
+    let front : block_words * 0 + i ≡ i = omega arith in
+    ap (slice_index (new_blocks k (suc n))) front
+    ∙ get_or_append_left (new_block k) (new_blocks (k + 1) n) 0 i within
+    ∙ ap (λ m. slice_index (new_block m) i) (omega arith)
+block_word k (suc n) (suc l) i inside within =
+    get_or-append_right (new_block k) (new_blocks (k + 1) n) block_words (block_words * suc l + i) 0 refl
+    (omega arith)
+    ∙ ap (slice_index (new_blocks (k + 1) n)) (omega arith)
+    ∙ block_word (k + 1) n l i (omega (arith, inside)) within
+    ∙ ap (λ m. slice_index (new_block m) i) (omega arith)
+
+pub lines_are_new : LinesAreNew
+lines_are_new z = record {
+  apart = lines_keep_apart z.passes (cells_of z) (length (new_words z))
+      (omega (arith, length-append (zeros head) blocks, zeros_length head, blocks_length 0 (cells_of z)));
+  clock = in_head 8 (omega arith);
+  passes = λ p inside. in_head (16 + 16 * p) (omega (arith, inside));
+  blocks = λ k i inside within.
+      get_or-append_right (zeros head) blocks head (head + block_words * k + i) 0 (zeros_length head) (omega arith)
+      ∙ ap (slice_index blocks) (omega arith)
+      ∙ block_word 0 (cells_of z) k i inside within
+      ∙ ap (λ m. slice_index (new_block m) i) (omega arith);
+}
+  where
+    head : ℕ
+    head = 16 + 16 * z.passes
+
+    blocks : List ℕ
+    blocks = new_blocks 0 (cells_of z)
+
+    in_head : (i : ℕ) → i < head → slice_index (new_words z) i ≡ 0
+    in_head i inside = get_or_append_left (zeros head) blocks 0 i (omega (arith, inside, zeros_length head))
+        ∙ zeros_zero head i
+
 -- ---- the contents of a new store
 
 new_stored : (z : Config) (at : Layout) (heap : Global) (words : List ℕ) → 1 ≤ z.leaves
-    → IsIndex (new_index z.leaves) → AreNewWords z at words
+    → AreNewWords z at words
     → IsStored z heap (words_of z at words) (new_known z)
-new_stored z at heap words some_leaves ready new =
-    let is : IsIndexed heap (new_index z.leaves) new_cell = new_indexed heap z.leaves some_leaves ready in
+new_stored z at heap words some_leaves new =
+    let is : IsIndexed heap (new_index z.leaves) new_cell = new_indexed heap z.leaves some_leaves in
     let table = table_of heap new_cell z.leaves in
     let first : segments_at table 0 ≡ leaf_cells new_cell 0 =
     segments_table heap new_cell z.leaves 0 (omega (arith, some_leaves)) in
@@ -145,7 +202,7 @@ only_one part v f n is seat u k a here has =
     (sym t.0, numbered_is f n k a (ap (λ l. kept_at l k) (sym is ∙ ap part t.1) ∙ has))
 
 pub new_table : NewTable
-new_table z at heap words some_leaves ready new =
+new_table z at heap words some_leaves new =
     let v = first_sight z in
     let k = new_known z in
     record {
@@ -165,7 +222,7 @@ new_table z at heap words some_leaves ready new =
       readers = record { each = tt; out = λ p. refl };
       reads = λ seat u q here has. let f : None ≡ Some q =
           ap (λ (x : Sight). x.reads.reading) (first_only v u seat here).1 ∙ has in cc;
-      stored = new_stored z at heap words some_leaves ready new;
+      stored = new_stored z at heap words some_leaves new;
     }
 
 -- ---- the end

@@ -1,6 +1,6 @@
 -- What loads tell of held rows and of writers keeps the rule, and is right.
 use Rattle.std.proofs.Common.{◌≡◌, ◌⊎◌, ℕ, zero, suc, ◌-◌, ◌<◌, ◌≤◌, List, [], ◌∷◌, ◌++◌, length, refl, sym, ◌∙◌, ap, subst, cond, arith}
-use Rattle.std.specs.Prelude.{true, false, nat_le, nat_lt, None, slice_get, slice_index}
+use Rattle.std.specs.Prelude.{true, false, nat_lt, None, slice_get, slice_index}
 use Rattle.std.specs.List.{AllByRecursion, flat_map}
 use Rattle.std.specs.declared.alloc.Global.{Global}
 use Rattle.std.proofs.lemmas.Bool.Decides.{nat_tests}
@@ -12,7 +12,6 @@ use Rattle.atomic_table.specs.Table.{keeps, stepped}
 use Rattle.graph_model.specs.declared.journal.Commit.{Commit}
 use Rattle.graph_model.specs.declared.row.Key.{Key}
 use Rattle.graph_model.specs.declared.write.Write.{Write}
-use Rattle.graph_model.specs.Conflict.{same_name}
 use Rattle.graph_model.specs.Transactions.{has_name, reached, stamp_in}
 use Rattle.graph_model.proofs.HistoryLemmas.{each_item}
 use Rattle.txn_manager.specs.declared.config.Config.{Config}
@@ -21,15 +20,14 @@ use Rattle.store_model.specs.Stamped.{Stamped, forget_row, read_stamped}
 use Rattle.store_model.proofs.LookedLemmas.{looked_in_row}
 use Rattle.version_segment.specs.Rows.{versions_at}
 use Rattle.store_relation.specs.Passes.{Meeting, PassState, name_at}
-use Rattle.store_relation.specs.ReadLaws.{Answers, SeesValue}
-use Rattle.store_relation.specs.Readers.{IsReader, ReaderState}
+use Rattle.store_relation.specs.ReadLaws.{Answers}
+use Rattle.store_relation.specs.Readers.{IsReader, ReaderState, reader_of}
 use Rattle.store_relation.specs.Rows.{HasRecord}
 use Rattle.store_relation.specs.Shared.{IsLook, IsMet, IsSighted}
 use Rattle.store_relation.specs.Steps.{look_at, meeting, sighting, with_holder, with_look, with_meeting, with_sighting}
-use Rattle.store_relation.proofs.LearnLemmas.{learns, meets_look, record_stamp, tells}
+use Rattle.store_relation.proofs.LearnLemmas.{meets_look, reader_learns as row_learns, record_stamp, tells}
 use Rattle.store_relation.proofs.ListLemmas.{all_end, prefix_length}
 use Rattle.store_relation.proofs.MeetLemmas.{meets_stamp, sights}
-use Rattle.store_relation.proofs.ReaderLemmas.{reader_reads}
 use Rattle.store_relation.proofs.StepLemmas.{notes}
 use Rattle.cells_model.specs.Cells.{CellState}
 use Rattle.cells_model.specs.Indexed.{covers}
@@ -39,7 +37,7 @@ use Rattle.rule_model.specs.Places.{Layout}
 use Rattle.rule_model.specs.Sight.{Sight, HasPass, with_pass}
 use Rattle.rule_model.specs.Rule.{IsStoreRule, rows_now, words_of}
 use Rattle.rule_model.specs.Steps.{OfEachSeat}
-use Rattle.rule_model.specs.NoteSteps.{HasRow, HasRecordIn, LooksAtRecord, TellsWriter, PassLearns, ReaderLearns, WordIsLooked, LookIsKept, ReaderLooks, HolderIsFound, HolderIsAnswered, StampIsMet, LookIsMet}
+use Rattle.rule_model.specs.NoteSteps.{HasRow, HasRecordIn, LearnsRows, LooksAtRecord, TellsWriter, PassLearns, ReaderLearns, WordIsLooked, LookIsKept, ReaderLooks, HolderIsFound, HolderIsAnswered, StampIsMet, LookIsMet}
 use Rattle.rule_model.proofs.FrameLemmas.{S, M, by_nothing, cell_is, own_read, pass_is}
 use Rattle.rule_model.proofs.PassFrame.{by_quiet}
 use Rattle.rule_model.proofs.TxnLemmas.{knows_more}
@@ -111,29 +109,39 @@ reader_is P (u ∷ views) (suc id) v x here has all =
 
 -- ---- loads of the clock
 
+rows_learnt : (z : Config) (at : Layout) (heap : Global) (slots id : ℕ) (me : M) (s : S)
+    (r : IsStoreRule z at heap s) → get_elem? s.views id ≡ some me.0
+    → (x : ReaderState) → IsReader r.known.pass (r.known.journal 0).commits x
+    → LearnsRows z at heap slots id me x (slice_index s.words at.clock)
+rows_learnt z at heap slots id me s r here x is =
+    let l = row_learns r.stored.shared x is in
+    record {
+      reads = λ k c q row. ap (read_stamped (stamp_in x.seen) x.start x.by) (row_is r id me here k c q row)
+          ∙ l.reads q;
+      writers = λ k c q y there bare. l.writers q y (record_is r id me here k c q y there) bare;
+      others = λ k c q y there bare away. l.others q y (record_is r id me here k c q y there) bare away;
+      stamps = λ k c q y there stamp e. l.stamps q y (record_is r id me here k c q y there) stamp e;
+      published = l.published;
+    }
+
 pub pass_learns : OfEachSeat PassLearns
 pass_learns z at heap slots id me p st has opened s r homes here small =
     let st_is = pass_is r id me here p st has in
-    let l = learns r.stored.shared p (ap (λ (u : PassState). u.stage) st_is ∙ opened) in (
+    let h = r.stored.shared.each p in (
       me.0,
       keeps,
       tt,
       by_nothing r id me here at.clock me.0.reads (own_read r id me here),
       (
         refl,
-        record {
-          reads = λ k c q row.
-              ap (read_stamped (stamp_in st.seen) st.start (name_at p st)) (row_is r id me here k c q row)
-              ∙ subst (λ (u : PassState). SeesValue z u.seen u.start u.own (name_at p u) (stamp_in u.seen) q
-              (rows_now heap r.known q)) st_is (l.reads q);
-          writers = λ k c q x there bare. l.writers q x (record_is r id me here k c q x there) bare;
-          others = λ k c q x there bare away. l.others q x (record_is r id me here k c q x there) bare
-              (ap (λ (u : PassState). same_name x.by (name_at p u)) st_is ∙ away);
-          stamps = λ k c q x there stamp e. subst
-              (λ (u : PassState). reached (stamp_in u.seen x.by) u.start ≡ nat_le stamp u.start) st_is
-              (l.stamps q x (record_is r id me here k c q x there) stamp e);
-          published = subst (λ (u : PassState). length u.seen ≤ slice_index s.words at.clock) st_is l.published;
-        },
+        rows_learnt z at heap slots id me s r here (reader_of (λ _. st) p) (record {
+          stage = ap (λ (u : PassState). u.stage) st_is ∙ opened;
+          by = ap (name_at p) (sym st_is);
+          start = ap (λ (u : PassState). u.start) (sym st_is);
+          own = ap (λ (u : PassState). u.own) (sym st_is);
+          seen = subst (λ (u : PassState). IsPrefix u.seen (r.known.journal 0).commits) st_is h.seen;
+          started = subst (λ (u : PassState). u.start ≤ length u.seen) st_is h.started;
+        }),
       ),
     )
 
@@ -145,15 +153,7 @@ reader_learns z at heap slots id me x has s r homes here small =
       keeps,
       tt,
       by_nothing r id me here at.clock me.0.reads (own_read r id me here),
-      (
-        refl,
-        (
-          (λ k c q row. ap (read_stamped (stamp_in x.seen) x.start x.by) (row_is r id me here k c q row)
-              ∙ reader_reads r.stored.shared x reader q),
-          (λ k c q y there bare. (tells r.stored.shared q y
-              (record_is r id me here k c q y there) bare).inside),
-        ),
-      ),
+      (refl, rows_learnt z at heap slots id me s r here x reader),
     )
 
 -- ---- loads of a writer's word

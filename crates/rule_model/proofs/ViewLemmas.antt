@@ -7,6 +7,7 @@ use Rattle.std.proofs.lemmas.List.Concat.{flat_map-append, flat_map-cons}
 use mathlib.Core.List.{IsPrefix}
 use mathlib.Core.Option.{some, some-injective, some-ne-none}
 use lib.ListN.{get_elem?}
+use Rattle.atomic_table.specs.Table.{Allows}
 use Rattle.graph_model.specs.declared.journal.Commit.{Commit}
 use Rattle.txn_manager.specs.declared.config.Config.{Config}
 use Rattle.leaf_store.specs.Leaves.{weight}
@@ -26,9 +27,9 @@ use Rattle.cells_model.specs.Noted.{AreNoted}
 use Rattle.cells_model.specs.Reads.{IsReading}
 use Rattle.rule_model.specs.Places.{Layout}
 use Rattle.rule_model.specs.Sight.{ReadState, Sight, HasPass, cells_of, no_reads, no_sight, with_pass}
-use Rattle.rule_model.specs.Rule.{IsStored, IsStoreRule, active_of, announced_of, leaves_now, noted_of, rows_now, start_of, sweep_of, words_of}
+use Rattle.rule_model.specs.Rule.{IsStored, IsStoreRule, IsStoreTable, active_of, announced_of, leaves_now, noted_of, rows_now, start_of, sweep_of, words_of}
 use Rattle.rule_model.specs.ViewSteps.{HeapIsOfNoAccount, IsKnownTo, OfEachView, ReaderIsJoined, ReaderIsSplit, SeatSplits, SeatsJoin, joined, reader_seat}
-use Rattle.rule_model.proofs.FrameLemmas.{S, part_same, readers_set}
+use Rattle.rule_model.proofs.FrameLemmas.{M, S, part_same, readers_set}
 
 -- no commits are of every journal
 no_commits : (commits : List Commit) → IsPrefix [] commits
@@ -146,6 +147,14 @@ seats_join z at heap id v other w alone s r here apart there =
 
 pub heap_is_of_no_account : HeapIsOfNoAccount
 heap_is_of_no_account z at id v left right all s r here = (r.0, all r.0 s r.1 here)
+
+-- so may each step; a lemma and no clause, since what a step tells is any type
+pub any_heap : (z : Config) (at : Layout) (slots id : ℕ) (me : M) (i : ℕ) (f : ℕ → ℕ) (told : ℕ → M → Type 0)
+    → ((heap : Global) → Allows (IsStoreRule z at heap) slots id me i f told)
+    → Allows (IsStoreTable z at) slots id me i f told
+any_heap z at slots id me i f told all s r homes here small =
+    let t = all r.0 s r.1 homes here small in
+    (t.0, t.1, t.2, (r.0, t.3), t.4)
 
 -- ---- readers
 

@@ -1,5 +1,5 @@
 -- A new table, and what one shows who has all of a store at its end.
-use Rattle.std.specs.Prelude.{◌≡◌, ℕ, zero, suc, ◌+◌, ◌<◌, ◌≤◌, false, List, [], ◌∷◌, length, slice_index, None}
+use Rattle.std.specs.Prelude.{◌≡◌, ℕ, zero, suc, ◌+◌, ◌*◌, ◌<◌, ◌≤◌, false, List, [], ◌∷◌, ◌++◌, length, slice_index, None}
 use Rattle.std.specs.declared.alloc.Global.{Global}
 use mathlib.Core.Option.{some}
 use lib.ListN.{get_elem?}
@@ -8,7 +8,6 @@ use Rattle.graph_model.specs.declared.row.Key.{Key}
 use Rattle.txn_manager.specs.declared.config.Config.{Config}
 use Rattle.store_model.specs.Stamped.{StampedVersions}
 use Rattle.version_segment.specs.Rows.{versions_at}
-use Rattle.leaf_index.specs.Index.{IsIndex}
 use Rattle.leaf_index.specs.Calls.{new_index}
 use Rattle.store_relation.specs.declared.stage.Stage.TheVariants.{Idle}
 use Rattle.store_relation.specs.Ends.{IsClosed}
@@ -18,7 +17,7 @@ use Rattle.cells_model.specs.Cells.{CellState}
 use Rattle.cells_model.specs.Indexed.{new_cell}
 use Rattle.cells_model.specs.Words.{block_words}
 use Rattle.rule_model.specs.NoteSteps.{HasRow}
-use Rattle.rule_model.specs.Places.{Layout, KeepsApart}
+use Rattle.rule_model.specs.Places.{Layout, KeepsApart, lines}
 use Rattle.rule_model.specs.Sight.{Known, Sight, HasJournal, HasPass, cells_of, fresh_pin, no_reads}
 use Rattle.rule_model.specs.Rule.{IsStoreRule}
 
@@ -78,11 +77,22 @@ pub record AreNewWords (z : Config) (at : Layout) (words : List ℕ) : Type 0 wh
   pub blocks : (k i : ℕ) → k < cells_of z → i < block_words
       → slice_index words (at.cell k + i) ≡ slice_index (new_block k) i
 
+-- the blocks of so many cells
+abbrev pub new_blocks : ℕ → ℕ → List ℕ
+new_blocks k zero = []
+new_blocks k (suc n) = new_block k ++ new_blocks (k + 1) n
+
+-- words in lines that are such
+abbrev pub new_words : Config → List ℕ
+new_words z = zeros (16 + 16 * z.passes) ++ new_blocks 0 (cells_of z)
+
+abbrev pub LinesAreNew : Type 0
+LinesAreNew = (z : Config) → AreNewWords z (lines z.passes) (new_words z)
+
 -- NEW
 abbrev pub NewTable : Type 0
 NewTable =
     (z : Config) (at : Layout) (heap : Global) (words : List ℕ) → 1 ≤ z.leaves
-    → IsIndex (new_index z.leaves)
     → AreNewWords z at words → IsStoreRule z at heap (opening words [] (first_sight z))
 
 -- ---- the end

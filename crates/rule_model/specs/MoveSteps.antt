@@ -21,7 +21,7 @@ use Rattle.cells_model.specs.Noted.{IsAmong}
 use Rattle.rule_model.specs.Places.{Layout}
 use Rattle.rule_model.specs.Sight.{IndexState, Sight, Agrees, HasIndex, no_news, with_news}
 use Rattle.rule_model.specs.RowSteps.{AreHeld}
-use Rattle.rule_model.specs.Steps.{MayLoad, Nothing}
+use Rattle.rule_model.specs.Steps.{AllowsLoad, Nothing}
 
 -- The index is sound against the new cells and each key has its versions; a leaf that was live is
 -- so still, or is retired with this stamp; and those that were retired are.
@@ -85,7 +85,7 @@ module _ (z : Config) (at : Layout) (heap : Global) (slots id : ℕ)
   abbrev pub RowsAreMoved : Type 0
   RowsAreMoved = (y : IndexState) (now : ℕ → Index) (news : List (ℕ × CellState))
       → CanMove z heap me.0 y now news
-      → MayLoad z at heap slots id me at.clock
+      → AllowsLoad z at heap slots id me at.clock
       (λ n. with_news me.0 (record no_news {
         cells = news;
         indexes = (0, record y { index = now n }) ∷ [];

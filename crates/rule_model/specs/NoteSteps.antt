@@ -14,9 +14,9 @@ use Rattle.store_model.specs.Check.{looks_at}
 use Rattle.store_model.specs.Stamped.{Stamped, forget_row}
 use Rattle.version_segment.specs.Rows.{versions_at}
 use Rattle.store_relation.specs.declared.stage.Stage.TheVariants.{Open}
-use Rattle.store_relation.specs.Passes.{PassState, name_at}
+use Rattle.store_relation.specs.Passes.{PassState}
 use Rattle.store_relation.specs.ReadLaws.{Answers, SeesValue}
-use Rattle.store_relation.specs.Readers.{ReaderState}
+use Rattle.store_relation.specs.Readers.{ReaderState, reader_of}
 use Rattle.store_relation.specs.Rows.{HasRecord}
 use Rattle.store_relation.specs.Steps.{look_at, meeting, sighting, with_holder, with_look, with_meeting, with_sighting}
 use Rattle.store_relation.specs.Words.{Look}
@@ -24,7 +24,7 @@ use Rattle.cells_model.specs.Cells.{CellState}
 use Rattle.cells_model.specs.Indexed.{covers}
 use Rattle.rule_model.specs.Places.{Layout}
 use Rattle.rule_model.specs.Sight.{Sight, HasCell, HasPass, cells_of, with_pass}
-use Rattle.rule_model.specs.Steps.{MayLoad, Nothing}
+use Rattle.rule_model.specs.Steps.{AllowsLoad, Nothing}
 
 -- ---- rows of held cells
 
@@ -57,37 +57,31 @@ module _ (z : Config) (at : Layout) (heap : Global) (slots id : ℕ)
     (me : Me (Unit {0}) Sight) where
   -- ---- what one load of the clock tells
 
-  pub record LearnsRows (p : ℕ) (st : PassState) (n : ℕ) : Type 0 where
-    -- by what was seen, the rows give the view
+  -- by what a reader has seen: an open transaction is one of itself
+  pub record LearnsRows (x : ReaderState) (n : ℕ) : Type 0 where
+    -- the rows give the view
     pub reads : (k : ℕ) (c : CellState) (q : Key) → HasRow z me.0 k c q
-        → SeesValue z st.seen st.start st.own (name_at p st) (stamp_in st.seen) q
-        (versions_at c.segment q)
-    -- writers of records without a stamp are passes, and but for the pass's own transaction other
-    -- passes
-    pub writers : (k : ℕ) (c : CellState) (q : Key) (x : Stamped) → HasRecordIn z me.0 k c q x
-        → x.stamp ≡ None → x.by.job < z.passes
-    pub others : (k : ℕ) (c : CellState) (q : Key) (x : Stamped) → HasRecordIn z me.0 k c q x
-        → x.stamp ≡ None → same_name x.by (name_at p st) ≡ false → x.by.job ≡ p → ⊥
+        → SeesValue z x.seen x.start x.own x.by (stamp_in x.seen) q (versions_at c.segment q)
+    -- writers of records without a stamp are passes, and but for this transaction other passes
+    pub writers : (k : ℕ) (c : CellState) (q : Key) (r : Stamped) → HasRecordIn z me.0 k c q r
+        → r.stamp ≡ None → r.by.job < z.passes
+    pub others : (k : ℕ) (c : CellState) (q : Key) (r : Stamped) → HasRecordIn z me.0 k c q r
+        → r.stamp ≡ None → same_name r.by x.by ≡ false → r.by.job ≡ x.by.job → ⊥
     -- a stamp says whether the snapshot sees the record
-    pub stamps : (k : ℕ) (c : CellState) (q : Key) (x : Stamped) → HasRecordIn z me.0 k c q x
-        → (stamp : ℕ) → x.stamp ≡ Some stamp
-        → reached (stamp_in st.seen x.by) st.start ≡ nat_le stamp st.start
-    pub published : length st.seen ≤ n
+    pub stamps : (k : ℕ) (c : CellState) (q : Key) (r : Stamped) → HasRecordIn z me.0 k c q r
+        → (stamp : ℕ) → r.stamp ≡ Some stamp
+        → reached (stamp_in x.seen r.by) x.start ≡ nat_le stamp x.start
+    pub published : length x.seen ≤ n
 
   -- LEARN
   abbrev pub PassLearns : Type 0
   PassLearns = (p : ℕ) (st : PassState) → HasPass me.0 p st → st.stage ≡ Open
-      → MayLoad z at heap slots id me at.clock (λ _. me.0) (LearnsRows p st)
+      → AllowsLoad z at heap slots id me at.clock (λ _. me.0) (LearnsRows (reader_of (λ _. st) p))
 
-  -- LEARN, by a reader: the view of the account that it was split from
+  -- LEARN, by a reader
   abbrev pub ReaderLearns : Type 0
   ReaderLearns = (x : ReaderState) → me.0.readers ≡ x ∷ []
-      → MayLoad z at heap slots id me at.clock (λ _. me.0) (λ _.
-      ((k : ℕ) (c : CellState) (q : Key) → HasRow z me.0 k c q
-      → SeesValue z x.seen x.start x.own x.by (stamp_in x.seen) q (versions_at c.segment q))
-      × ((k : ℕ) (c : CellState) (q : Key) (y : Stamped) → HasRecordIn z me.0 k c q y
-      → y.stamp ≡ None
-      → y.by.job < z.passes))
+      → AllowsLoad z at heap slots id me at.clock (λ _. me.0) (LearnsRows x)
 
   -- ---- what one load of a writer's word tells
 
@@ -95,13 +89,13 @@ module _ (z : Config) (at : Layout) (heap : Global) (slots id : ℕ)
   abbrev pub WordIsLooked : Type 0
   WordIsLooked = (p : ℕ) (st : PassState) (k : ℕ) (c : CellState) (q : Key) (x : Stamped)
       → HasPass me.0 p st → HasRecordIn z me.0 k c q x → x.stamp ≡ None
-      → MayLoad z at heap slots id me (at.pass x.by.job) (λ _. me.0) (TellsWriter st.seen x)
+      → AllowsLoad z at heap slots id me (at.pass x.by.job) (λ _. me.0) (TellsWriter st.seen x)
 
   -- LOOK, which is kept
   abbrev pub LookIsKept : Type 0
   LookIsKept = (p : ℕ) (st : PassState) (k : ℕ) (c : CellState) (q : Key) (x : Stamped)
       → HasPass me.0 p st → HasRecordIn z me.0 k c q x → x.stamp ≡ None
-      → MayLoad z at heap slots id me (at.pass x.by.job)
+      → AllowsLoad z at heap slots id me (at.pass x.by.job)
       (λ n. with_pass me.0 p (with_look st (look_at st x.by n)))
       (TellsWriter st.seen x)
 
@@ -110,7 +104,7 @@ module _ (z : Config) (at : Layout) (heap : Global) (slots id : ℕ)
   ReaderLooks = (x : ReaderState) (k : ℕ) (c : CellState) (q : Key) (y : Stamped)
       → me.0.readers ≡ x ∷ []
       → HasRecordIn z me.0 k c q y → y.stamp ≡ None
-      → MayLoad z at heap slots id me (at.pass y.by.job) (λ _. me.0) (TellsWriter x.seen y)
+      → AllowsLoad z at heap slots id me (at.pass y.by.job) (λ _. me.0) (TellsWriter x.seen y)
 
   -- ---- whom a write meets: each by a load of the clock
 
@@ -118,14 +112,14 @@ module _ (z : Config) (at : Layout) (heap : Global) (slots id : ℕ)
   abbrev pub HolderIsFound : Type 0
   HolderIsFound = (p : ℕ) (st : PassState) (w : Write) (x : Stamped) → HasPass me.0 p st
       → LooksAtRecord z me.0 w x → reached (stamp_in st.seen x.by) st.start ≡ false
-      → MayLoad z at heap slots id me at.clock
+      → AllowsLoad z at heap slots id me at.clock
       (λ _. with_pass me.0 p (with_holder st (sighting x.by w st.start))) Nothing
 
   -- and is answered as the cause
   abbrev pub HolderIsAnswered : Type 0
   HolderIsAnswered = (p : ℕ) (st : PassState) (i : ℕ) (x : Sighting) → HasPass me.0 p st
       → slice_get st.holders i ≡ Some x
-      → MayLoad z at heap slots id me at.clock
+      → AllowsLoad z at heap slots id me at.clock
       (λ _. with_pass me.0 p (with_sighting st x)) Nothing
 
   -- MET: of a record with a stamp, or of one whose writer has a look with a stamp
@@ -133,12 +127,12 @@ module _ (z : Config) (at : Layout) (heap : Global) (slots id : ℕ)
   StampIsMet = (p : ℕ) (st : PassState) (w : Write) (x : Stamped) (stamp : ℕ)
       → HasPass me.0 p st
       → LooksAtRecord z me.0 w x → x.stamp ≡ Some stamp
-      → MayLoad z at heap slots id me at.clock
+      → AllowsLoad z at heap slots id me at.clock
       (λ _. with_pass me.0 p (with_meeting st (meeting w (stamp - 1)))) Nothing
 
   abbrev pub LookIsMet : Type 0
   LookIsMet = (p : ℕ) (st : PassState) (w : Write) (x : Stamped) (i : ℕ) (l : Look)
       → HasPass me.0 p st
       → LooksAtRecord z me.0 w x → slice_get st.looks i ≡ Some l → l.by ≡ x.by → 2 < l.word
-      → MayLoad z at heap slots id me at.clock
+      → AllowsLoad z at heap slots id me at.clock
       (λ _. with_pass me.0 p (with_meeting st (meeting w (l.word - 3)))) Nothing

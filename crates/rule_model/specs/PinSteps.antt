@@ -12,7 +12,7 @@ use Rattle.store_relation.specs.Passes.{PassState}
 use Rattle.cells_model.specs.Indexed.{is_live}
 use Rattle.rule_model.specs.Places.{Layout}
 use Rattle.rule_model.specs.Sight.{PinState, IndexState, Sight, HasPass, HasPin, HasIndex, no_news, with_news, with_index, with_pin}
-use Rattle.rule_model.specs.Steps.{MayLoad, MayStore, Nothing}
+use Rattle.rule_model.specs.Steps.{AllowsLoad, AllowsStore, Nothing}
 
 -- news of a pass's pin and of who sweeps under the index
 abbrev pub with_sweeper : Sight → ℕ → PinState → IndexState → Sight
@@ -29,14 +29,14 @@ module _ (z : Config) (at : Layout) (heap : Global) (slots id : ℕ)
   abbrev pub PassAnnounces : Type 0
   PassAnnounces = (p : ℕ) (st : PassState) (x : PinState) → HasPass me.0 p st → HasPin me.0 p x
       → st.stage ≡ Idle → p < z.passes
-      → MayStore z at heap slots id me (at.pin p) announced_word
+      → AllowsStore z at heap slots id me (at.pin p) announced_word
       (with_pin me.0 p (record x { announced = true }))
 
   -- PIN: the store of its start, once a transaction has begun
   abbrev pub PassPins : Type 0
   PassPins = (p : ℕ) (st : PassState) (x : PinState) → HasPass me.0 p st → HasPin me.0 p x
       → st.stage ≡ Open → p < z.passes
-      → MayStore z at heap slots id me (at.pin p) (pinned_word st.start)
+      → AllowsStore z at heap slots id me (at.pin p) (pinned_word st.start)
       (with_pin me.0 p (record x { announced = false }))
 
   -- UNPIN: a store at the pin of a pass whose transaction has ended; it forgets the leaves that
@@ -44,14 +44,14 @@ module _ (z : Config) (at : Layout) (heap : Global) (slots id : ℕ)
   abbrev pub PassUnpins : Type 0
   PassUnpins = (p : ℕ) (st : PassState) (x : PinState) → HasPass me.0 p st → HasPin me.0 p x
       → st.stage ≡ Idle → p < z.passes
-      → MayStore z at heap slots id me (at.pin p) unpinned
+      → AllowsStore z at heap slots id me (at.pin p) unpinned
       (with_pin me.0 p (record x { announced = false; noted = [] }))
 
   -- NOTE: a load by a pass that is pinned and has the index, under which nobody sweeps
   abbrev pub LeafIsNoted : Type 0
   LeafIsNoted = (p l : ℕ) (x : PinState) (y : IndexState) → HasPin me.0 p x → HasIndex me.0 y
       → y.sweeper ≡ None → is_live y.index l ≡ true → x.announced ≡ false
-      → MayLoad z at heap slots id me at.clock
+      → AllowsLoad z at heap slots id me at.clock
       (λ _. with_pin me.0 p (record x { noted = l ∷ x.noted })) Nothing
 
   -- ---- sweeps
@@ -61,20 +61,20 @@ module _ (z : Config) (at : Layout) (heap : Global) (slots id : ℕ)
   abbrev pub SweeperBegins : Type 0
   SweeperBegins = (p : ℕ) (x : PinState) (y : IndexState) → HasPin me.0 p x → HasIndex me.0 y
       → y.sweeper ≡ None
-      → MayLoad z at heap slots id me at.clock
+      → AllowsLoad z at heap slots id me at.clock
       (λ n. with_sweeper me.0 p (record x { sweep = Some (begun n) })
       (record y { sweeper = Some p })) Nothing
 
   abbrev pub OtherSweepBegins : Type 0
   OtherSweepBegins = (p : ℕ) (x : PinState) → HasPin me.0 p x
-      → MayLoad z at heap slots id me at.clock
+      → AllowsLoad z at heap slots id me at.clock
       (λ n. with_pin me.0 p (record x { sweep = Some (begun n) })) Nothing
 
   -- LOOK: the load of the next pin
   abbrev pub SweepLooksOn : Type 0
   SweepLooksOn = (p : ℕ) (x : PinState) (w : Sweep) → HasPin me.0 p x → x.sweep ≡ Some w
       → w.looked < z.passes
-      → MayLoad z at heap slots id me (at.pin w.looked)
+      → AllowsLoad z at heap slots id me (at.pin w.looked)
       (λ n. with_pin me.0 p (record x { sweep = Some (looked_at w n) })) Nothing
 
   -- FREE: a load by the sweeper, once it has looked at all pins
@@ -84,18 +84,18 @@ module _ (z : Config) (at : Layout) (heap : Global) (slots id : ℕ)
       → z.passes ≤ w.looked
       → ((least : ℕ) → w.least ≡ Some least → until ≡ least) → y.index.leaves ≤ most
       → IsIndex (freed until most y.index)
-      → MayLoad z at heap slots id me at.clock
+      → AllowsLoad z at heap slots id me at.clock
       (λ _. with_index me.0 (record y { index = freed until most y.index }))
       Nothing
 
   -- END of a sweep, with the index or without it
   abbrev pub SweeperEnds : Type 0
   SweeperEnds = (p : ℕ) (x : PinState) (y : IndexState) → HasPin me.0 p x → HasIndex me.0 y
-      → MayLoad z at heap slots id me at.clock
+      → AllowsLoad z at heap slots id me at.clock
       (λ _. with_sweeper me.0 p (record x { sweep = None })
       (record y { sweeper = None })) Nothing
 
   abbrev pub OtherSweepEnds : Type 0
   OtherSweepEnds = (p : ℕ) (x : PinState) → HasPin me.0 p x
-      → MayLoad z at heap slots id me at.clock
+      → AllowsLoad z at heap slots id me at.clock
       (λ _. with_pin me.0 p (record x { sweep = None })) Nothing

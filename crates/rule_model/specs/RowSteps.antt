@@ -33,7 +33,7 @@ use Rattle.cells_model.specs.InPlace.{growth}
 use Rattle.rule_model.specs.NoteSteps.{HasRow}
 use Rattle.rule_model.specs.Places.{Layout}
 use Rattle.rule_model.specs.Sight.{PinState, Sight, Agrees, HasCell, HasPass, HasPin, cells_of, with_cells, with_rows}
-use Rattle.rule_model.specs.Steps.{MayLoad, Nothing}
+use Rattle.rule_model.specs.Steps.{AllowsLoad, Nothing}
 
 -- ---- news of held cells
 
@@ -158,7 +158,7 @@ module _ (z : Config) (at : Layout) (heap : Global) (slots id : ℕ)
   abbrev pub WriteIsMade : Type 0
   WriteIsMade = (p : ℕ) (st : PassState) (w : Write) (news : List (ℕ × CellState))
       → CanWrite z me.0 p st w news
-      → MayLoad z at heap slots id me at.clock
+      → AllowsLoad z at heap slots id me at.clock
       (λ _. with_rows me.0 p (written_by st w) news) Nothing
 
   -- what a write adds, change of row by change of row, over however many cells
@@ -172,14 +172,14 @@ module _ (z : Config) (at : Layout) (heap : Global) (slots id : ℕ)
   WriteIsUndone = (p : ℕ) (st : PassState) (front : List Write) (w : Write)
       (news : List (ℕ × CellState))
       → CanUndo z me.0 p st front w news
-      → MayLoad z at heap slots id me at.clock
+      → AllowsLoad z at heap slots id me at.clock
       (λ _. with_rows me.0 p (taken_back st front) news) Nothing
 
   -- STAMP ROWS
   abbrev pub RowsAreStamped : Type 0
   RowsAreStamped = (p : ℕ) (st : PassState) (unstamped : List Key) (i : ℕ) (c : Commit)
       (news : List (ℕ × CellState)) → CanStamp z me.0 p st unstamped i c news
-      → MayLoad z at heap slots id me at.clock
+      → AllowsLoad z at heap slots id me at.clock
       (λ _. with_rows me.0 p (with_unstamped st unstamped) news) Nothing
 
   -- PRUNE
@@ -187,4 +187,4 @@ module _ (z : Config) (at : Layout) (heap : Global) (slots id : ℕ)
   RowsArePruned = (p : ℕ) (st : PassState) (x : PinState) (sweep : Sweep)
       (news : List (ℕ × CellState))
       → CanPrune z me.0 p st x sweep news
-      → MayLoad z at heap slots id me at.clock (λ _. with_cells me.0 news) Nothing
+      → AllowsLoad z at heap slots id me at.clock (λ _. with_cells me.0 news) Nothing

@@ -26,18 +26,18 @@ module _ (z : Config) (at : Layout) (heap : Global) (slots id : ℕ)
     (me : Me (Unit {0}) Sight) where
   -- the word at the place may be loaded: the seat knows this then, and the number that was found
   -- tells that
-  abbrev pub MayLoad : ℕ → (ℕ → Sight) → (ℕ → Type 0) → Type 0
-  MayLoad place then told =
+  abbrev pub AllowsLoad : ℕ → (ℕ → Sight) → (ℕ → Type 0) → Type 0
+  AllowsLoad place then told =
       Allows (IsStoreRule z at heap) slots id me place (λ n. n)
       (λ n m. (m ≡ (then n, me.1)) × told n)
 
   -- this number may be stored there: the seat knows that then
-  abbrev pub MayStore : ℕ → ℕ → Sight → Type 0
-  MayStore place word then =
+  abbrev pub AllowsStore : ℕ → ℕ → Sight → Type 0
+  AllowsStore place word then =
       Allows (IsStoreRule z at heap) slots id me place (λ _. word) (λ _ m. m ≡ (then, me.1))
 
   -- and the seat is told that
-  abbrev pub MayStoreTelling : ℕ → ℕ → Sight → Type 0 → Type 0
-  MayStoreTelling place word then told =
+  abbrev pub AllowsStoreTelling : ℕ → ℕ → Sight → Type 0 → Type 0
+  AllowsStoreTelling place word then told =
       Allows (IsStoreRule z at heap) slots id me place (λ _. word)
       (λ _ m. (m ≡ (then, me.1)) × told)

@@ -24,7 +24,7 @@ use Rattle.cells_model.specs.InPlace.{segment_of}
 use Rattle.cells_model.specs.Moved.{IsRoutedTo}
 use Rattle.rule_model.specs.Places.{Layout}
 use Rattle.rule_model.specs.Sight.{PinState, IndexState, Sight, Agrees, HasPass, HasPin, HasIndex, HasJournal, with_pass, with_journal, with_commit}
-use Rattle.rule_model.specs.Steps.{MayLoad, MayStore, Nothing}
+use Rattle.rule_model.specs.Steps.{AllowsLoad, AllowsStore, Nothing}
 
 module _ (z : Config) (at : Layout) (heap : Global) (slots id : ℕ)
     (me : Me (Unit {0}) Sight) where
@@ -40,12 +40,12 @@ module _ (z : Config) (at : Layout) (heap : Global) (slots id : ℕ)
   abbrev pub ClockIsLoaded : Type 0
   ClockIsLoaded = (p : ℕ) (st : PassState) (j : JournalState) → HasPass me.0 p st
       → HasJournal me.0 j
-      → MayLoad z at heap slots id me at.clock (λ _. me.0) (TellsClock st j)
+      → AllowsLoad z at heap slots id me at.clock (λ _. me.0) (TellsClock st j)
 
   -- ROOM: a load, after which the journal has room for more entries
   abbrev pub RoomIsMade : Type 0
   RoomIsMade = (j : JournalState) (room : ℕ) → HasJournal me.0 j → j.room ≤ room
-      → MayLoad z at heap slots id me at.clock
+      → AllowsLoad z at heap slots id me at.clock
       (λ _. with_journal me.0 (record j { room = room })) Nothing
 
   -- BEGIN: the store of 'open' at the pass's word. The pass has the journal, has announced, and
@@ -56,7 +56,7 @@ module _ (z : Config) (at : Layout) (heap : Global) (slots id : ℕ)
       → st.stage ≡ Idle → st.unstamped ≡ [] → p < z.passes → number_of st < z.txns_per_pass
       → z.passes ≤ j.room
       → x.announced ≡ true → x.noted ≡ []
-      → MayStore z at heap slots id me (at.pass p) open_word (with_pass me.0 p (begun st j))
+      → AllowsStore z at heap slots id me (at.pass p) open_word (with_pass me.0 p (begun st j))
 
   -- ---- commit
 
@@ -66,7 +66,7 @@ module _ (z : Config) (at : Layout) (heap : Global) (slots id : ℕ)
   StampIsStored = (p : ℕ) (st : PassState) (j : JournalState) → HasPass me.0 p st
       → HasJournal me.0 j
       → st.stage ≡ Open → st.readers_out ≡ 0 → 0 < length st.own → j.next ≡ []
-      → MayStore z at heap slots id me (at.pass p) (commit_word (length j.commits))
+      → AllowsStore z at heap slots id me (at.pass p) (commit_word (length j.commits))
       (with_commit me.0 p (committing st) (with_entry j p st))
 
   -- PUBLISH: the store of the clock, once the stamp is stored; its rows are left to be stamped
@@ -75,7 +75,7 @@ module _ (z : Config) (at : Layout) (heap : Global) (slots id : ℕ)
       → HasPass me.0 p st → HasJournal me.0 j → st.stage ≡ Committing
       → ((q : Key) → (any_writes z.kind st.own q || any_touches st.own q) ≡ true
       → has_key unstamped q ≡ true)
-      → MayStore z at heap slots id me at.clock (length j.commits + 1)
+      → AllowsStore z at heap slots id me at.clock (length j.commits + 1)
       (with_commit me.0 p (committed st j unstamped) (published_now j))
 
   -- ---- abort
@@ -84,13 +84,13 @@ module _ (z : Config) (at : Layout) (heap : Global) (slots id : ℕ)
   abbrev pub AbortBegins : Type 0
   AbortBegins = (p : ℕ) (st : PassState) → HasPass me.0 p st → st.stage ≡ Open
       → st.readers_out ≡ 0
-      → MayLoad z at heap slots id me at.clock (λ _. with_pass me.0 p (stopped st)) Nothing
+      → AllowsLoad z at heap slots id me at.clock (λ _. with_pass me.0 p (stopped st)) Nothing
 
   -- END: the store of 'ended' at the pass's word, once no write stands
   abbrev pub TransactionEnds : Type 0
   TransactionEnds = (p : ℕ) (st : PassState) → HasPass me.0 p st → st.stage ≡ Aborting
       → st.laid ≡ []
-      → MayStore z at heap slots id me (at.pass p) ended_word (with_pass me.0 p (ended st None))
+      → AllowsStore z at heap slots id me (at.pass p) ended_word (with_pass me.0 p (ended st None))
 
   -- ---- what was seen
 
@@ -105,13 +105,13 @@ module _ (z : Config) (at : Layout) (heap : Global) (slots id : ℕ)
   abbrev pub JournalIsSeen : Type 0
   JournalIsSeen = (p : ℕ) (st : PassState) (j : JournalState) → HasPass me.0 p st
       → HasJournal me.0 j
-      → MayLoad z at heap slots id me at.clock (λ _. with_pass me.0 p (refreshed st j.commits))
+      → AllowsLoad z at heap slots id me at.clock (λ _. with_pass me.0 p (refreshed st j.commits))
       (TellsJournal st j)
 
   -- MEET: a load, after which a pass has seen what another has told it
   abbrev pub PassesMeet : Type 0
   PassesMeet = (p : ℕ) (st : PassState) → HasPass me.0 p st
-      → MayLoad z at heap slots id me at.clock
+      → AllowsLoad z at heap slots id me at.clock
       (λ _. with_pass me.0 p (refreshed st (longer_of st.seen me.0.told)))
       (λ _. IsPrefix st.seen (longer_of st.seen me.0.told)
       × IsPrefix me.0.told (longer_of st.seen me.0.told))
@@ -134,4 +134,4 @@ module _ (z : Config) (at : Layout) (heap : Global) (slots id : ℕ)
   abbrev pub WriteIsFull : Type 0
   WriteIsFull = (p : ℕ) (st : PassState) (y : IndexState) (key : Key) (leaf segment need : ℕ)
       → HasPass me.0 p st → IsFullAt y key leaf segment need
-      → MayLoad z at heap slots id me at.clock (λ _. with_pass me.0 p (filled_up st)) Nothing
+      → AllowsLoad z at heap slots id me at.clock (λ _. with_pass me.0 p (filled_up st)) Nothing

@@ -1,6 +1,6 @@
 -- Seats whose views are cut in two and joined: notes that are laid beside values, and readers
 -- that a pass splits off.
-use Rattle.std.specs.Prelude.{◌≡◌, ◌⊎◌, ℕ, ◌+◌, ◌-◌, ◌++◌, List, [], ◌∷◌, Some, None}
+use Rattle.std.specs.Prelude.{◌≡◌, ◌⊎◌, ℕ, ◌++◌, List, [], ◌∷◌, Some, None}
 use Rattle.std.specs.declared.alloc.Global.{Global}
 use mathlib.Core.List.{IsPrefix}
 use Rattle.atomic_table.specs.Table.{Splits, Joins}
@@ -11,7 +11,7 @@ use Rattle.store_relation.specs.declared.stage.Stage.TheVariants.{Open}
 use Rattle.store_relation.specs.Passes.{PassState}
 use Rattle.store_relation.specs.Readers.{ReaderState, reader_of}
 use Rattle.store_relation.specs.Shared.{longer_of}
-use Rattle.store_relation.specs.Steps.{with_readers}
+use Rattle.store_relation.specs.Steps.{with_reader, without_reader}
 use Rattle.rule_model.specs.Places.{Layout}
 use Rattle.rule_model.specs.Sight.{ReadState, Sight, HasPass, no_reads, no_sight, with_pass}
 use Rattle.rule_model.specs.Rule.{IsStoreRule, IsStoreTable}
@@ -77,7 +77,7 @@ module _ (z : Config) (at : Layout) (heap : Global) (id : ℕ) (v : Sight) where
   abbrev pub ReaderIsSplit : Type 0
   ReaderIsSplit = (p : ℕ) (st : PassState) → HasPass v p st → st.stage ≡ Open
       → Splits (IsStoreRule z at heap) id v
-      (with_pass v p (with_readers st (st.readers_out + 1)))
+      (with_pass v p (with_reader st))
       (reader_seat (reader_of (λ _. st) p) [] no_reads)
 
   -- JOIN of a reader that holds no cell: the pass counts one less
@@ -86,7 +86,7 @@ module _ (z : Config) (at : Layout) (heap : Global) (id : ℕ) (v : Sight) where
       (reads : ReadState)
       → HasPass v p st → x.by.job ≡ p
       → Joins (IsStoreRule z at heap) id v other (reader_seat x told reads)
-      (with_pass v p (with_readers st (st.readers_out - 1))) no_sight
+      (with_pass v p (without_reader st)) no_sight
 
 -- a law of views
 abbrev pub OfEachView : (Config → Layout → Global → ℕ → Sight → Type 0) → Type 0

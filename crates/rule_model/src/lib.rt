@@ -2,7 +2,8 @@
 //!
 //! 1. Words, wherever they lie, and what all seats know say one thing: transactions over rows, cells under their index,
 //!    blocks of words, pins and noted leaves.
-//! 2. Each pass, pin and cell, the index and the journal are known to one seat. Several may know commits, readers and reads.
+//! 2. Each pass, pin and cell, the index and the journal are known to one seat. Several may know commits, readers and
+//!    reads.
 //! 3. A step of a seat loads or stores one word, and is of a kind. Each kind has a law; there is nothing to run.
 #![tactic(auto)]
 

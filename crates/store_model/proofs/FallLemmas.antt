@@ -1,6 +1,6 @@
 -- The stamps of a row's writers never rise from the newest pair down.
-use Rattle.std.proofs.Common.{◌≡◌, ℕ, zero, suc, ◌+◌, ◌≤◌, List, [], ◌∷◌, drop, refl, sym, ◌∙◌, ap, subst, cond, arith, inl, inr}
-use Rattle.std.specs.Prelude.{◌⊎◌, Bool, true, false, slice_get, Option, Some, None}
+use Rattle.std.proofs.Common.{◌≡◌, ℕ, suc, ◌+◌, ◌≤◌, List, [], ◌∷◌, drop, refl, sym, ◌∙◌, ap, subst, cond, arith}
+use Rattle.std.specs.Prelude.{Bool, true, false, slice_get, Option, Some, None}
 use Rattle.std.specs.List.{AllByRecursion}
 use Rattle.std.proofs.lemmas.Bool.{false_from_ne_true}
 use Rattle.graph_model.specs.declared.write.Kind.{Kind}
@@ -35,7 +35,8 @@ module _ (stamps : TxnName → Option ℕ) (kind : Kind) (k : Key) where
   layers_fall by [] below low fall = (low, fall)
   layers_fall by (w ∷ ws) below low fall =
       let next = one (writes_at kind w k) in
-      layers_fall by ws (cond (writes_at kind w k) (record { by = by; value = value_left w } ∷ below) below) next.0 next.1
+      layers_fall by ws (cond (writes_at kind w k) (record { by = by; value = value_left w } ∷ below) below)
+      next.0 next.1
     where
       one : (t : Bool)
           → AllBelow (stamps by) (cond t (record { by = by; value = value_left w } ∷ below) below)
@@ -64,7 +65,8 @@ module _ (stamps : TxnName → Option ℕ) (kind : Kind) (k : Key) where
       commits_fall cs (from + 1)
       (λ i d at. each (suc i) d at
       ∙ ap (λ n. Some n) (let same : from + suc i + 1 ≡ from + 1 + i + 1 = omega arith in same))
-      (layered kind k c.by c.writes below) (subst (λ o. AllBelow o (layered kind k c.by c.writes below)) here next.0)
+      (layered kind k c.by c.writes below)
+      (subst (λ o. AllBelow o (layered kind k c.by c.writes below)) here next.0)
       next.1
 
 -- and on all of them lie those of one that has not committed
@@ -96,4 +98,5 @@ stamps_fall kind journal running own touching horizon contents is k =
     on_top by (w ∷ ws) e below fall =
         let none : stamp_in journal by ≡ None = stamp_none journal by (λ i c at. false_from_ne_true _ (λ same.
         let empty : own by ≡ [] = ap own (sym (name_eq c.by by same)) ∙ (is.settled i c at).0 in cc)) in
-        (layers_fall (stamp_in journal) kind k by (w ∷ ws) below (below_open (stamp_in journal by) none below) fall).1
+        (layers_fall (stamp_in journal) kind k by (w ∷ ws) below (below_open (stamp_in journal by) none below)
+        fall).1

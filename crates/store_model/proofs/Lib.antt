@@ -18,5 +18,6 @@ pub mod StampedLemmas
 pub mod ToldLemmas
 pub mod LookedLemmas
 pub mod FallLemmas
+pub mod StampPlaceLemmas
 pub mod ExampleLemmas
 pub mod LoadLemmas

@@ -1,8 +1,8 @@
 -- Whoever a write looks at clashes, also one that is being aborted and has taken some of its writes back; and
 -- what a pair without value says of its writer.
-use Rattle.std.proofs.Common.{◌≡◌, ℕ, ◌+◌, List, [], ◌∷◌, ◌++◌, drop, refl, sym, ◌∙◌, ap, subst, cond, arith, inl, inr}
+use Rattle.std.proofs.Common.{◌≡◌, ℕ, ◌+◌, List, [], ◌∷◌, drop, sym, ◌∙◌, ap, arith, inl, inr}
 use Rattle.std.specs.Prelude.{◌⊎◌, Bool, true, false, ◌&&◌, ◌||◌, Option}
-use Rattle.std.proofs.Math.Bool.{and-false, or-false}
+use Rattle.std.proofs.Math.Bool.{or-false}
 use Rattle.std.proofs.lemmas.Bool.{or_left, or_right}
 use Rattle.std.proofs.lemmas.Bool.Decides.{nat_tests}
 use Rattle.std.proofs.lemmas.List.Folds.{list_any-append}
@@ -44,11 +44,14 @@ drop_only : (kind : Kind) (w : Write) (v : ℕ)
     → (writes_at kind w (vertex_key v) && no_value (value_left w)) ≡ true → drops_at w (vertex_key v) ≡ true
 drop_only kind (AddVertex u) v h = absurd (both_false (writes_at kind (AddVertex u) (vertex_key v)) h)
 drop_only kind (DropVertex u) v h = sym (or-false _) ∙ (both_of _ _ h).0
-drop_only kind (AddEdge a b weight) v h = absurd (both_false (writes_at kind (AddEdge a b weight) (vertex_key v)) h)
-drop_only kind (SetEdge a b weight) v h = absurd (both_false (writes_at kind (SetEdge a b weight) (vertex_key v)) h)
+drop_only kind (AddEdge a b weight) v h =
+    absurd (both_false (writes_at kind (AddEdge a b weight) (vertex_key v)) h)
+drop_only kind (SetEdge a b weight) v h =
+    absurd (both_false (writes_at kind (SetEdge a b weight) (vertex_key v)) h)
 drop_only kind (DropEdge a b) v h = no_arc kind (both_of _ _ h).0
   where
-    no_arc : (way : Kind) → writes_at way (DropEdge a b) (vertex_key v) ≡ true → drops_at (DropEdge a b) (vertex_key v) ≡ true
+    no_arc : (way : Kind) → writes_at way (DropEdge a b) (vertex_key v) ≡ true
+        → drops_at (DropEdge a b) (vertex_key v) ≡ true
     no_arc Directed e = grind (arith, nat_tests)
     no_arc Undirected e = grind (arith, nat_tests)
 
@@ -95,7 +98,8 @@ module _ (kind : Kind) (journal : List Commit) (running : TxnName → Option Run
 
       newest_either : (k : Key) → has_name (newest (contents k)) n ≡ true → Either (λ us. any_writes kind us k)
       newest_either k h =
-          more _ _ (λ us e. sym (all_leave kind us k) ∙ e) (left_either any k (head_marked (contents k).pairs n h))
+          more _ _ (λ us e. sym (all_leave kind us k) ∙ e)
+          (left_either any k (head_marked (contents k).pairs n h))
 
       dropped_either : (k : Key) → has_name (droppers (contents k)) n ≡ true
           → Either (λ us. any_leaves kind no_value us k)
@@ -117,9 +121,11 @@ module _ (kind : Kind) (journal : List Commit) (running : TxnName → Option Run
                   (touched_either (vertex_key v) e)
             ]
         met_either (AddEdge u v weight) h =
-            elim (in_either (newest (contents (arc_key u v))) _ n h) as (λ _. Either (met kind (AddEdge u v weight))) [
+            elim (in_either (newest (contents (arc_key u v))) _ n h) as
+            (λ _. Either (met kind (AddEdge u v weight))) [
               | inl e ↦ more _ _ (λ us l. or_left _ _ l) (newest_either (arc_key u v) e)
-              | inr e ↦ elim (in_either (droppers (contents (vertex_key u))) (droppers (contents (vertex_key v))) n e)
+              | inr e ↦ elim (in_either (droppers (contents (vertex_key u)))
+                  (droppers (contents (vertex_key v))) n e)
                   as (λ _. Either (met kind (AddEdge u v weight))) [
                     | inl g ↦ more _ _ (λ us l. or_right (any_writes kind us (arc_key u v)) _ (or_left _ _ l))
                         (dropped_either (vertex_key u) g)
@@ -151,7 +157,8 @@ module _ (kind : Kind) (journal : List Commit) (running : TxnName → Option Run
 
 pub same_key_eq : (a b : Key) → same_key a b ≡ true → a ≡ b
 same_key_eq a b e =
-    let p = both_of _ _ e in λ i. record { src = eq_of a.src b.src p.0 i; second = eq_of a.second b.second p.1 i }
+    let p = both_of _ _ e in λ i. record
+    { src = eq_of a.src b.src p.0 i; second = eq_of a.second b.second p.1 i }
 
 -- ROW: at whom a write looks in one row, it looks
 pub looked_in_row : (w : Write) (contents : Key → Versions) (k : Key) (n : TxnName)
@@ -170,7 +177,8 @@ looked_in_row w contents k n h =
           ]
     ]
   where
-    at_row : (u : Write) → has_name (newest (contents (row_key u))) n ≡ true → has_name (looked u contents) n ≡ true
+    at_row : (u : Write) → has_name (newest (contents (row_key u))) n ≡ true
+        → has_name (looked u contents) n ≡ true
     at_row (AddVertex v) e = e
     at_row (DropVertex v) e = has-append (newest (contents (vertex_key v))) _ n ∙ or_left _ _ e
     at_row (AddEdge a b weight) e = has-append (newest (contents (arc_key a b))) _ n ∙ or_left _ _ e
@@ -187,10 +195,12 @@ looked_in_row w contents k n h =
         ∙ or_right (has_name (newest (contents (arc_key a b))) n) _
         (has-append (droppers (contents (vertex_key a))) (droppers (contents (vertex_key b))) n
         ∙ elim (either_of (same_key k (vertex_key a)) (same_key k (vertex_key b)) t)
-        as (λ _. (has_name (droppers (contents (vertex_key a))) n || has_name (droppers (contents (vertex_key b))) n)
+        as (λ _. (has_name (droppers (contents (vertex_key a))) n || has_name
+        (droppers (contents (vertex_key b))) n)
         ≡ true) [
           | inl g ↦
-              or_left _ _ (ap (λ q. has_name (droppers (contents q)) n) (sym (same_key_eq k (vertex_key a) g)) ∙ e)
+              or_left _ _ (ap (λ q. has_name (droppers (contents q)) n) (sym (same_key_eq k (vertex_key a) g))
+              ∙ e)
           | inr g ↦
               or_right (has_name (droppers (contents (vertex_key a))) n) _
               (ap (λ q. has_name (droppers (contents q)) n) (sym (same_key_eq k (vertex_key b) g)) ∙ e)

@@ -1,6 +1,6 @@
 -- What a store keeps through each kind of change, and what reads and checks get out of it. Each law is the
 -- contract of a function in `laws`; none speaks of a struct.
-use Rattle.std.specs.Prelude.{◌≡◌, ◌⊎◌, ℕ, ◌<◌, ◌≤◌, Bool, true, false, List, [], ◌∷◌, ◌++◌, length, slice_get, slice_set, Option, Some, None, is_some}
+use Rattle.std.specs.Prelude.{◌≡◌, ◌⊎◌, ℕ, ◌+◌, ◌<◌, ◌≤◌, Bool, true, false, List, [], ◌∷◌, ◌++◌, length, slice_get, slice_set, Option, Some, None, is_some}
 use Rattle.std.specs.List.{AllByRecursion}
 use mathlib.Core.List.{IsPrefix}
 use Rattle.graph_model.specs.declared.write.Kind.{Kind}
@@ -13,6 +13,7 @@ use Rattle.graph_model.specs.ConflictLaws.{NoLater}
 use Rattle.graph_model.specs.Effects.{any_writes, any_touches}
 use Rattle.graph_model.specs.History.{graph_at, view}
 use Rattle.graph_model.specs.Graph.{empty_graph}
+use Rattle.graph_model.specs.Legal.{IsLegal}
 use Rattle.graph_model.specs.Refused.{refused, AllAllowed, IsWithinLimits}
 use Rattle.graph_model.specs.Rows.{vertex_key, value_at, is_between}
 use Rattle.graph_model.specs.Transactions.{Running, Changes, own_of, commit_of, stamp_in, has_name, HasNotCommitted, MeetsNoHolder, IsListed}
@@ -294,6 +295,14 @@ DroppedVertex =
     → IsStore kind journal running own touching horizon contents
     → (n : TxnName) (v : ℕ) → has_name (droppers (contents (vertex_key v))) n ≡ true
     → (any_drops (own n) (vertex_key v) ≡ true) ⊎ IsCommitted journal n (λ ws. any_drops ws (vertex_key v))
+
+-- In a legal journal a stamp is the place of a commit, counted from 1: whoever has one has that commit.
+abbrev pub StampIsPlace : Type 0
+StampIsPlace =
+    (kind : Kind) (journal : List Commit) → IsLegal kind journal
+    → (by : TxnName) (stamp : ℕ) → stamp_in journal by ≡ Some stamp
+    → (i : ℕ) × (c : Commit) × (slice_get journal i ≡ Some c) × (c.by ≡ by) × (stamp ≡ i + 1)
+    × (stamp ≤ length journal)
 
 -- The stamps of a row's writers never rise from the newest pair down, and open writers stand on top.
 abbrev pub StampsNeverRise : Type 0

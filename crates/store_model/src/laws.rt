@@ -2,7 +2,7 @@
 //! function whose contract is the law. A store of any kind cites them, and no store proves them again.
 
 ghost use Rattle.store_model.specs.Examples.{LayerExamples, ReadExamples, PruneExamples, CheckExamples, StampExamples, CellExamples, StoreExample};
-ghost use Rattle.store_model.specs.Laws.{ValueAtStamp, ValueOfView, ValueAtEnd, StoreNew, StoreBegun, OwnerBegun, StoreStopped, StoreWritten, OwnerWritten, OwnerLoaded, StoreCommitted, OwnerCommitted, StoreUndone, OwnerAborted, StorePruned, RowSettled, StoreSame, OwnerMoved, WriterOfPair, WriterOfTouch, LookedOpen, LookedCommitted, LookedLate, LookedLaid, LookedInRow, DroppedVertex, StampsNeverRise, CheckIsConflict, CheckAllows, CheckByParts, SeenAllows, SeenByRow, ContentsRouted, CellChanged};
+ghost use Rattle.store_model.specs.Laws.{ValueAtStamp, ValueOfView, ValueAtEnd, StoreNew, StoreBegun, OwnerBegun, StoreStopped, StoreWritten, OwnerWritten, OwnerLoaded, StoreCommitted, OwnerCommitted, StoreUndone, OwnerAborted, StorePruned, RowSettled, StoreSame, OwnerMoved, WriterOfPair, WriterOfTouch, LookedOpen, LookedCommitted, LookedLate, LookedLaid, LookedInRow, DroppedVertex, StampIsPlace, StampsNeverRise, CheckIsConflict, CheckAllows, CheckByParts, SeenAllows, SeenByRow, ContentsRouted, CellChanged};
 ghost use Rattle.store_model.specs.RowLaws.{OwnWriteIsSeen, OtherWriteIsNotSeen, UndoTakesBack, TouchIsNotRead, PruneKeepsValues, ReadForgetsStamps, PruneForgetsStamps, StampKeepsVersions, StampsStayRight, ToldReadsAgree, ToldPrunesAgree, AgreedIsTold};
 
 /// What reads, writes and prunes do to one row.
@@ -88,9 +88,10 @@ pub fn rows_name_their_writers()
     ensures dropped { DroppedVertex }
 {}
 
-/// Open writers stand on top of a row, and below them stamps never rise.
-pub fn stamps_never_rise()
-    ensures { StampsNeverRise }
+/// A stamp is the place of a commit; open writers stand on top of a row, and below them stamps never rise.
+pub fn stamps_follow_the_journal()
+    ensures place { StampIsPlace }
+    ensures fall { StampsNeverRise }
 {}
 
 /// A check of the names at which a write looks answers exactly what snapshot isolation answers.

@@ -9,7 +9,7 @@ mod versions;
 pub use laws::{
     begins_keep_stores, cells_hold_contents, checks_are_exact, commits_keep_stores, examples_hold,
     moves_keep_stores, prunes_keep_stores, rows_give_views, rows_keep_values,
-    rows_name_their_writers, stamps_change_no_value, stamps_never_rise, tellers_agree,
+    rows_name_their_writers, stamps_change_no_value, stamps_follow_the_journal, tellers_agree,
     undos_keep_stores, writes_keep_stores,
 };
 pub use touches::touch_examples_hold;

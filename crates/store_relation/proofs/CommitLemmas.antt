@@ -268,7 +268,8 @@ module _ {z : Config} {word : ℕ → ℕ} {pass : ℕ → PassState} {j : Journ
         made = λ i d at _. ap (λ q. made_at q d.by.number) same;
         -- its pass keeps the stamp of the commit
         kept = λ by. kept_published pass p j.commits c
-            (ap (λ n. record { job = p; number = n }) (number_active (pass p) active)) unnamed st' (pass p).own refl s.kept by
+            (ap (λ n. record { job = p; number = n }) (number_active (pass p) active)) unnamed st' (pass p).own
+            refl s.kept by
             ∙ ap (λ cs. stamp_in cs by) (sym listed);
         this = record {
           marked = tt;

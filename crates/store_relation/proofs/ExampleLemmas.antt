@@ -27,7 +27,7 @@ use Rattle.store_model.proofs.NewLemmas.{value_of_empty}
 use Rattle.store_model.proofs.ToldLemmas.{told_all}
 use Rattle.version_segment.specs.Rows.{nothing}
 use Rattle.store_relation.specs.declared.stage.Stage.TheVariants.{Open}
-use Rattle.store_relation.specs.Examples.{IsAllowed, RightSteps, SharedState, WrongReads, WrongSteps, all_writes, alone, beginning, begun_unannounced, config, fresh, lending, pruned_at_clock, pruning, published, settled, stored, touches_forgotten, watched, writing}
+use Rattle.store_relation.specs.Examples.{IsAllowed, RightSteps, SharedState, StepResults, WrongReads, WrongSteps, all_writes, alone, beginning, begun_unannounced, config, fresh, lending, pruned_at_clock, pruning, published, settled, stored, touches_forgotten, watched, writer, writing}
 use Rattle.store_relation.specs.Keys.{changed_keys}
 use Rattle.store_relation.specs.Passes.{PassState, fresh_pass, is_active, may_commit, name_of, touching_by}
 use Rattle.store_relation.specs.Readers.{AreReaders, reader_of}
@@ -104,9 +104,6 @@ both_begun =
 
 one_begun : IsAllowed (beginning 1 fresh)
 one_begun = begins fresh_allowed 1 refl refl (omega arith) (omega arith) (omega arith)
-
-abbrev writer : TxnName
-writer = record { job = 1; number = 1 }
 
 -- the writer is in its first transaction, which began on the empty journal and has written this, and nobody
 -- else has
@@ -222,7 +219,7 @@ no_readers = record { each = tt; out = all_put (λ q u. 0 ≡ u.readers_out) fre
 
 lent_allowed : IsAllowed (lending 1 (beginning 1 fresh))
     × AreReaders (lending 1 (beginning 1 fresh)).pass [] (reader_of (beginning 1 fresh).pass 1 ∷ [])
-lent_allowed = reader_is_split one_begun 1 [] no_readers refl _ refl
+lent_allowed = reader_is_split one_begun 1 [] no_readers refl
 
 pub right_steps : RightSteps
 right_steps = record {
@@ -281,6 +278,21 @@ wrong_steps = record {
   where
     no_more : IsPrefix (entries (stored watched).journal) [] → ⊥
     no_more front = let e = front.1 in cc
+
+pub step_results : StepResults
+step_results = record {
+  open_word = refl;
+  stored_word = refl;
+  stored_clock = refl;
+  clock = refl;
+  unstamped = refl;
+  bare = refl;
+  stamped = refl;
+  touched = refl;
+  made = refl;
+  answered = refl;
+  kept = refl;
+}
 
 pub wrong_reads : WrongReads
 wrong_reads = record { right = refl; any_stamp = refl; pruned = refl }

@@ -22,7 +22,8 @@ stamp_other [] c by away = ap (λ t. cond t (Some c.stamp) None) away
 stamp_other (d ∷ js) c by away = ap (λ o. cond (same_name d.by by) (Some d.stamp) o) (stamp_other js c by away)
 
 -- and its own name has its stamp, if it had none before
-stamp_last : (js : List Commit) (c : Commit) → HasNotCommitted js c.by → stamp_in (js ++ c ∷ []) c.by ≡ Some c.stamp
+stamp_last : (js : List Commit) (c : Commit) → HasNotCommitted js c.by
+    → stamp_in (js ++ c ∷ []) c.by ≡ Some c.stamp
 stamp_last [] c none = ap (λ t. cond t (Some c.stamp) None) (name_self c.by)
 stamp_last (d ∷ js) c none =
     ap (λ t. cond t (Some d.stamp) (stamp_in (js ++ c ∷ []) c.by)) (none 0 d refl)
@@ -30,7 +31,8 @@ stamp_last (d ∷ js) c none =
 
 -- a pass ends its latest transaction with the stamp of the commit that follows the journal
 module _ (pass : ℕ → PassState) (p : ℕ) (commits : List Commit) (c : Commit)
-    (named : c.by ≡ record { job = p; number = suc (length (pass p).past) }) (none : HasNotCommitted commits c.by)
+    (named : c.by ≡ record { job = p; number = suc (length (pass p).past) })
+    (none : HasNotCommitted commits c.by)
     (st' : PassState) (ws : List Write)
     (past : st'.past ≡ (pass p).past ++ record { writes = ws; stamp = Some c.stamp } ∷ [])
     (kept : (by : TxnName) → stamp_by pass by ≡ stamp_in commits by) where
@@ -60,5 +62,6 @@ module _ (pass : ℕ → PassState) (p : ℕ) (commits : List Commit) (c : Commi
           → stamp_by (revised pass p st') by ≡ stamp_in (commits ++ c ∷ []) by
       kept_of_latest same latest =
           let me : c.by ≡ by = named ∙ (λ i. record { job = sym same i; number = sym latest i }) in
-          kept_here by same ∙ ap (λ l. kept_stamp l by.number) past ∙ kept_at_end (pass p).past _ by.number latest
+          kept_here by same ∙ ap (λ l. kept_stamp l by.number) past
+          ∙ kept_at_end (pass p).past _ by.number latest
           ∙ sym (ap (stamp_in (commits ++ c ∷ [])) (sym me) ∙ stamp_last commits c none)

@@ -1,9 +1,11 @@
 -- What one load of the clock, or of a writer's word, tells a pass of rows that it holds.
-use Rattle.std.proofs.Common.{◌≡◌, ℕ, zero, suc, ◌-◌, ◌<◌, ◌≤◌, List, [], ◌∷◌, length, map, refl, sym, ◌∙◌, ap, subst, arith, inl, inr}
-use Rattle.std.specs.Prelude.{true, IfSome, Some, None, slice_get}
+use Rattle.std.proofs.Common.{◌≡◌, ℕ, zero, suc, ◌+◌, ◌-◌, ◌<◌, ◌≤◌, List, [], ◌∷◌, length, map, refl, sym, ◌∙◌, ap, subst, arith, inl, inr}
+use Rattle.std.specs.Prelude.{true, false, IfSome, Some, None, slice_get}
 use Rattle.std.proofs.lemmas.Bool.{or_left, or_right}
 use Rattle.graph_model.specs.declared.write.Write.{Write}
 use Rattle.graph_model.specs.declared.row.Key.{Key}
+use Rattle.graph_model.specs.declared.journal.Commit.{Commit}
+use Rattle.graph_model.specs.declared.journal.TxnName.{TxnName}
 use Rattle.graph_model.specs.Conflict.{same_name}
 use Rattle.graph_model.specs.Transactions.{stamp_in, reached, has_name}
 use Rattle.graph_model.proofs.HistoryLemmas.{each_item}
@@ -11,16 +13,19 @@ use Rattle.graph_model.proofs.PlaceLemmas.{some_eq}
 use Rattle.graph_model.proofs.TestLemmas.{name_self}
 use Rattle.txn_manager.specs.declared.config.Config.{Config}
 use Rattle.store_model.specs.Check.{looked}
+use Rattle.store_model.proofs.StampPlaceLemmas.{stamp_place}
 use Rattle.store_model.specs.Stamped.{Stamped, StampedVersions, forget, forget_row}
 use Rattle.undo_chain.specs.States.{IsAnswer}
 use Rattle.store_relation.specs.declared.stage.Stage.TheVariants.{Open}
 use Rattle.store_relation.specs.Passes.{PassState}
 use Rattle.store_relation.specs.ReadLaws.{Learns, Tells}
+use Rattle.store_relation.specs.Readers.{IsReader, ReaderState, reader_of}
 use Rattle.store_relation.specs.Rows.{HasRecord}
 use Rattle.store_relation.specs.Shared.{IsLook, IsMet, IsShared, IsSpokenFor, JournalState}
 use Rattle.store_relation.specs.Words.{Look, state_of_word}
 use Rattle.store_relation.proofs.ListLemmas.{prefix_length}
-use Rattle.store_relation.proofs.ReadLemmas.{seen_reached, reads_seen}
+use Rattle.store_relation.proofs.ReadLemmas.{seen_reached}
+use Rattle.store_relation.proofs.ReaderLemmas.{reader_reads}
 use Rattle.store_relation.proofs.SpokenLemmas.{StandsIn}
 use Rattle.store_relation.proofs.WordLemmas.{word_known, word_answers, bare_latest, bare_word, bare_inside, bare_other}
 use Rattle.store_relation.proofs.MeetLemmas.{meets_entry}
@@ -64,26 +69,48 @@ module _ {z : Config} {word : ℕ → ℕ} {pass : ℕ → PassState} {j : Journ
       by_place (inl at) = right (each_item _ (rows k).pairs (s.stamps k).pairs at.0 x at.1)
       by_place (inr at) = right (each_item _ (rows k).touches (s.stamps k).touches at.0 x at.1)
 
-  -- LEARN: an open transaction, of all rows that it holds
-  pub learns : (p : ℕ) → (pass p).stage ≡ Open → Learns z word pass j rows clock s p
-  learns p is =
-      let h = s.each p in
-      record {
-        reads = reads_seen s p is;
-        writers = λ k x there bare. bare_inside s k x bare (record_spoken k x there) (record_stands (rows k) x there);
-        others = λ k x there bare away same.
-            bare_other s k x bare (record_spoken k x there) (record_stands (rows k) x there) p away same;
-        stamps = λ k x there c e.
-            sym (seen_reached s (pass p).seen (pass p).start h.seen h.started x.by)
-            ∙ ap (λ o. reached o (pass p).start) (record_stamp k x there c e);
-        published =
-            let a : length (pass p).seen ≤ length j.commits = prefix_length (pass p).seen j.commits h.seen in
-            let b : clock ≡ length j.commits = s.published in
-            omega (arith, a, b);
-      }
+  -- LEARN: a reader, of all rows that are held
+  pub reader_learns : (x : ReaderState) → IsReader pass j.commits x → Learns z word pass j rows clock s x
+  reader_learns x is = record {
+    reads = reader_reads s x is;
+    writers = λ k r there bare. bare_inside s k r bare (record_spoken k r there)
+        (record_stands (rows k) r there);
+    others = λ k r there bare away same.
+        bare_other s k r bare (record_spoken k r there) (record_stands (rows k) r there) x.by.job
+        (ap (same_name r.by) (sym is.by) ∙ away) same;
+    stamps = λ k r there c e.
+        sym (seen_reached s x.seen x.start is.seen is.started r.by)
+        ∙ ap (λ o. reached o x.start) (record_stamp k r there c e);
+    published =
+        let a : length x.seen ≤ length j.commits = prefix_length x.seen j.commits is.seen in
+        let b : clock ≡ length j.commits = s.published in
+        omega (arith, a, b);
+  }
+
+  -- an open transaction is a reader of itself
+  pub learns : (p : ℕ) → (pass p).stage ≡ Open → Learns z word pass j rows clock s (reader_of pass p)
+  learns p is = reader_learns (reader_of pass p) (record {
+    stage = is;
+    by = refl;
+    start = refl;
+    own = refl;
+    seen = (s.each p).seen;
+    started = (s.each p).started;
+  })
+
+  -- STAMP: it is of the commit before it, which is published
+  pub stamp_is_place : (by : TxnName) (stamp : ℕ) → stamp_in j.commits by ≡ Some stamp
+      → (i : ℕ) × (c : Commit) × (slice_get j.commits i ≡ Some c) × (c.by ≡ by) × (stamp ≡ i + 1)
+      × (stamp ≤ clock)
+  stamp_is_place by stamp e =
+      let r = stamp_place z.kind j.commits s.store.transactions.legal by stamp e in
+      let within : stamp ≤ length j.commits = r.5 in
+      let clocked : clock ≡ length j.commits = s.published in
+      (r.0, r.1, r.2, r.3, r.4, omega (arith, within, clocked))
 
   -- LOOK: at the writer of a record without a stamp
-  pub tells : (k : Key) (x : Stamped) → HasRecord (rows k) x → x.stamp ≡ None → Tells z word pass j rows clock s k x
+  pub tells : (k : Key) (x : Stamped) → HasRecord (rows k) x → x.stamp ≡ None
+      → Tells z word pass j rows clock s k x
   tells k x there bare =
       let spoken = record_spoken k x there in
       let stands_there = record_stands (rows k) x there in

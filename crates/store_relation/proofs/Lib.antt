@@ -16,5 +16,6 @@ pub mod AccountLemmas
 pub mod EndLemmas
 pub mod CheckLemmas
 pub mod KeyLemmas
+pub mod GrowLemmas
 pub mod LearnLemmas
 pub mod ExampleLemmas

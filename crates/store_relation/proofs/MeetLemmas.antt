@@ -2,8 +2,9 @@
 use Rattle.std.proofs.Common.{◌≡◌, ℕ, zero, suc, ◌+◌, ◌-◌, ◌<◌, ◌≤◌, List, [], ◌∷◌, length, map, refl, sym, ◌∙◌, ap, subst, cond, arith, inl, inr}
 use Rattle.std.specs.Prelude.{Bool, true, false, ◌==◌, ◌&&◌, nat_lt, Some, slice_get, Contains}
 use Rattle.std.specs.List.{filter}
-use Rattle.std.proofs.lemmas.Bool.{true≢false}
+use Rattle.std.proofs.lemmas.Bool.{or_left, true≢false}
 use Rattle.std.proofs.lemmas.Bool.Decides.{nat_tests}
+use Rattle.std.proofs.lemmas.List.Folds.{list_any-append}
 use mathlib.Core.List.{IsPrefix}
 use mathlib.Core.Logic.{dite}
 use native.Mathlib.Decide.{dec_le}
@@ -15,24 +16,26 @@ use Rattle.graph_model.specs.declared.journal.Commit.{Commit}
 use Rattle.graph_model.specs.Conflict.{meets, later}
 use Rattle.graph_model.specs.Effects.{any_touches}
 use Rattle.graph_model.specs.Legal.{IsLegal}
+use Rattle.graph_model.specs.Rows.{vertex_key}
 use Rattle.graph_model.specs.Transactions.{stamp_in, reached, has_name}
 use Rattle.graph_model.proofs.LegalLemmas.{get_front}
 use Rattle.graph_model.proofs.PlaceLemmas.{some_eq}
 use Rattle.graph_model.proofs.StampLemmas.{reached_at}
 use Rattle.graph_model.proofs.TestLemmas.{eq_of}
 use Rattle.txn_manager.specs.declared.config.Config.{Config}
-use Rattle.store_model.specs.Check.{looked}
+use Rattle.store_model.specs.Check.{looked, droppers, drops_at, any_drops, IsCommitted}
 use Rattle.store_model.specs.Stamped.{StampedVersions, forget_row}
 use Rattle.store_relation.specs.declared.stage.Stage.{Stage}
 use Rattle.store_relation.specs.declared.stage.Stage.TheVariants.{Idle, Open, Aborting, Committing}
 use Rattle.store_relation.proofs.ListLemmas.{prefix_length, get_below}
 use Rattle.store_relation.proofs.MadeLemmas.{latest_writes}
 use Rattle.store_relation.proofs.CurrentLemmas.{stands_none, stands_own}
-use Rattle.store_model.proofs.LookedLemmas.{looked_laid}
+use Rattle.store_model.proofs.LookedLemmas.{looked_laid, dropped_vertex}
+use Rattle.store_model.proofs.StampPlaceLemmas.{stamp_place}
 use Rattle.store_relation.proofs.ReadLemmas.{seen_reached}
 use Rattle.store_relation.proofs.StepLemmas.{refreshes}
 use Rattle.store_relation.proofs.AccountLemmas.{meets_told}
-use Rattle.store_relation.proofs.WordLemmas.{stamp_place, laid_front}
+use Rattle.store_relation.proofs.WordLemmas.{laid_front}
 use Rattle.graph_model.specs.Passes.{revised}
 use Rattle.store_relation.specs.Passes.{IsLaid, Meeting, PassState, is_active, laid_of, name_of, number_of, running_of, stands, touching_by, writes_by}
 use Rattle.store_relation.specs.Shared.{IsMet, IsShared, IsSighted, JournalState, entries, longer_of}
@@ -40,61 +43,92 @@ use Rattle.store_relation.specs.Steps.{refreshed}
 
 module _ {z : Config} {word : ℕ → ℕ} {pass : ℕ → PassState} {j : JournalState} {rows : Key → StampedVersions}
     {clock : ℕ} (s : IsShared z word pass j rows clock) where
-  -- whoever a write looks at has made a write that clashes
+  -- ---- what a name has laid it has made
+
+  module _ (n : TxnName) where
+    own_is : (n.number == number_of (pass n.job)) ≡ true → is_active (pass n.job).stage ≡ true
+        → writes_by (pass n.job) n.number ≡ (pass n.job).own
+    own_is e active =
+        ap (writes_by (pass n.job)) (eq_of n.number (number_of (pass n.job)) e)
+        ∙ latest_writes (pass n.job) active
+
+    idle_laid : (stage : Stage) → is_active stage ≡ false → IsLaid stage (pass n.job).laid (pass n.job).own
+        → (pass n.job).laid ≡ []
+    idle_laid Idle e l = l.0
+    idle_laid Open e l = cc
+    idle_laid Aborting e l = cc
+    idle_laid Committing e l = cc
+
+    laid_made : IsPrefix (laid_of pass n) (writes_by (pass n.job) n.number)
+    laid_made = by_name (n.number == number_of (pass n.job)) refl
+      where
+        by_active : (n.number == number_of (pass n.job)) ≡ true → (b : Bool) → is_active (pass n.job).stage ≡ b
+            → IsPrefix (pass n.job).laid (writes_by (pass n.job) n.number)
+        by_active e true a = subst (λ ws. IsPrefix (pass n.job).laid ws) (sym (own_is e a))
+            (laid_front (pass n.job).stage (pass n.job).laid (pass n.job).own (s.each n.job).laid)
+        by_active e false a = subst (λ l. IsPrefix l (writes_by (pass n.job) n.number))
+            (sym (idle_laid (pass n.job).stage a (s.each n.job).laid)) (writes_by (pass n.job) n.number, refl)
+
+        by_name : (t : Bool) → (n.number == number_of (pass n.job)) ≡ t
+            → IsPrefix (cond t (pass n.job).laid []) (writes_by (pass n.job) n.number)
+        by_name false e = (writes_by (pass n.job) n.number, refl)
+        by_name true e = by_active e (is_active (pass n.job).stage) refl
+
+    touched_made : (k : Key) → touching_by pass n k ≡ true
+        → any_touches (writes_by (pass n.job) n.number) k ≡ true
+    touched_made k = by_name (n.number == number_of (pass n.job)) refl
+      where
+        by_active : (n.number == number_of (pass n.job)) ≡ true
+            → stands (pass n.job).laid (pass n.job).own k ≡ true
+            → (b : Bool) → is_active (pass n.job).stage ≡ b
+            → any_touches (writes_by (pass n.job) n.number) k ≡ true
+        by_active e h true a = ap (λ ws. any_touches ws k) (own_is e a)
+            ∙ stands_own (pass n.job).laid (pass n.job).own k h
+        by_active e h false a = absurd (true≢false (sym h
+            ∙ stands_none (pass n.job).laid (pass n.job).own k
+            (idle_laid (pass n.job).stage a (s.each n.job).laid)))
+
+        by_name : (t : Bool) → (n.number == number_of (pass n.job)) ≡ t
+            → cond t (stands (pass n.job).laid (pass n.job).own k) false ≡ true
+            → any_touches (writes_by (pass n.job) n.number) k ≡ true
+        by_name false e h = cc
+        by_name true e h = by_active e h (is_active (pass n.job).stage) refl
+
+    -- what it has committed it has made, too
+    committed_made : (test : List Write → Bool) → IsCommitted j.commits n test
+        → test (writes_by (pass n.job) n.number) ≡ true
+    committed_made test c =
+        let made = s.made c.place c.commit (get_front j.commits j.next c.place c.commit c.at) in
+        subst (λ ws. test ws ≡ true)
+        (sym made.1 ∙ ap (λ (b : TxnName). writes_by (pass b.job) b.number) c.named) c.wrote
+
+    -- whoever a write looks at has made a write that clashes
+    pub looked_by : (w : Write) → has_name (looked w (λ k. forget_row (rows k))) n ≡ true
+        → meets z.kind w (writes_by (pass n.job) n.number) ≡ true
+    looked_by w h =
+        elim (looked_laid z.kind j.commits (running_of pass) (laid_of pass) (touching_by pass) s.horizon
+        (λ k. forget_row (rows k)) s.store n (writes_by (pass n.job) n.number) laid_made touched_made w h)
+        as (λ _. meets z.kind w (writes_by (pass n.job) n.number) ≡ true) [
+          | inl e ↦ e
+          | inr c ↦ committed_made (meets z.kind w) c
+        ]
+
+    -- DROPPED: whoever left no value in the row of a vertex has removed the vertex
+    pub dropper_removed : (v : ℕ) → has_name (droppers (forget_row (rows (vertex_key v)))) n ≡ true
+        → any_drops (writes_by (pass n.job) n.number) (vertex_key v) ≡ true
+    dropper_removed v h =
+        elim (dropped_vertex z.kind j.commits (running_of pass) (laid_of pass) (touching_by pass) s.horizon
+        (λ k. forget_row (rows k)) s.store n v h)
+        as (λ _. any_drops (writes_by (pass n.job) n.number) (vertex_key v) ≡ true) [
+          | inl e ↦
+              ap (λ ws. any_drops ws (vertex_key v)) (sym laid_made.1)
+              ∙ list_any-append (λ w. drops_at w (vertex_key v)) (laid_of pass n) laid_made.0 ∙ or_left _ _ e
+          | inr c ↦ committed_made (λ ws. any_drops ws (vertex_key v)) c
+        ]
+
   pub looked_made : (w : Write) (n : TxnName) → has_name (looked w (λ k. forget_row (rows k))) n ≡ true
       → meets z.kind w (writes_by (pass n.job) n.number) ≡ true
-  looked_made w n h =
-      elim (looked_laid z.kind j.commits (running_of pass) (laid_of pass) (touching_by pass) s.horizon
-      (λ k. forget_row (rows k)) s.store n (writes_by (pass n.job) n.number)
-      (front (n.number == number_of (pass n.job)) refl) (touches (n.number == number_of (pass n.job)) refl) w h)
-      as (λ _. meets z.kind w (writes_by (pass n.job) n.number) ≡ true) [
-        | inl e ↦ e
-        | inr c ↦
-            let made = s.made c.place c.commit (get_front j.commits j.next c.place c.commit c.at) in
-            subst (λ ws. meets z.kind w ws ≡ true)
-            (sym made.1 ∙ ap (λ (b : TxnName). writes_by (pass b.job) b.number) c.named) c.wrote
-      ]
-    where
-      own_is : (n.number == number_of (pass n.job)) ≡ true → is_active (pass n.job).stage ≡ true
-          → writes_by (pass n.job) n.number ≡ (pass n.job).own
-      own_is e active =
-          ap (writes_by (pass n.job)) (eq_of n.number (number_of (pass n.job)) e)
-          ∙ latest_writes (pass n.job) active
-
-      idle_laid : (stage : Stage) → is_active stage ≡ false → IsLaid stage (pass n.job).laid (pass n.job).own
-          → (pass n.job).laid ≡ []
-      idle_laid Idle e l = l.0
-      idle_laid Open e l = cc
-      idle_laid Aborting e l = cc
-      idle_laid Committing e l = cc
-
-      -- what it has laid it has made
-      front : (t : Bool) → (n.number == number_of (pass n.job)) ≡ t
-          → IsPrefix (cond t (pass n.job).laid []) (writes_by (pass n.job) n.number)
-      front false e = (writes_by (pass n.job) n.number, refl)
-      front true e = by_active (is_active (pass n.job).stage) refl
-        where
-          by_active : (b : Bool) → is_active (pass n.job).stage ≡ b
-              → IsPrefix (pass n.job).laid (writes_by (pass n.job) n.number)
-          by_active true a = subst (λ ws. IsPrefix (pass n.job).laid ws) (sym (own_is e a))
-              (laid_front (pass n.job).stage (pass n.job).laid (pass n.job).own (s.each n.job).laid)
-          by_active false a = subst (λ l. IsPrefix l (writes_by (pass n.job) n.number))
-              (sym (idle_laid (pass n.job).stage a (s.each n.job).laid)) (writes_by (pass n.job) n.number, refl)
-
-      -- and so its touches
-      touches : (t : Bool) → (n.number == number_of (pass n.job)) ≡ t → (k : Key)
-          → cond t (stands (pass n.job).laid (pass n.job).own k) false ≡ true
-          → any_touches (writes_by (pass n.job) n.number) k ≡ true
-      touches false e k g = cc
-      touches true e k g = by_active (is_active (pass n.job).stage) refl
-        where
-          by_active : (b : Bool) → is_active (pass n.job).stage ≡ b
-              → any_touches (writes_by (pass n.job) n.number) k ≡ true
-          by_active true a =
-              ap (λ ws. any_touches ws k) (own_is e a) ∙ stands_own (pass n.job).laid (pass n.job).own k g
-          by_active false a = absurd (true≢false (sym g
-              ∙ stands_none (pass n.job).laid (pass n.job).own k
-              (idle_laid (pass n.job).stage a (s.each n.job).laid)))
+  looked_made w n h = looked_by n w h
 
   -- LATER: an entry by one at whom the write looks clashes
   pub meets_entry : (w : Write) (i : ℕ) (c : Commit) → slice_get (entries j) i ≡ Some c

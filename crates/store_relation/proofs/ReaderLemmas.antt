@@ -22,7 +22,7 @@ use Rattle.store_model.proofs.ToldLemmas.{told_all}
 use Rattle.store_relation.specs.Passes.{PassState, name_at, number_of}
 use Rattle.store_relation.specs.Readers.{AreReaders, IsReader, IsSameTxn, ReaderState, reader_of, readers_of}
 use Rattle.store_relation.specs.Shared.{IsShared, JournalState}
-use Rattle.store_relation.specs.Steps.{with_readers}
+use Rattle.store_relation.specs.Steps.{with_reader, with_readers, without_reader}
 use Rattle.store_relation.proofs.ReadLemmas.{reads_right, seen_reached}
 use Rattle.store_relation.proofs.StepLemmas.{lends}
 
@@ -197,26 +197,22 @@ module _ {z : Config} {word : ℕ → ℕ} {pass : ℕ → PassState} {j : Journ
   -- a pass has counted one reader more, or one less, and nothing else of the store has changed
   pub reader_is_split : (p : ℕ) (readers : List ReaderState) → AreReaders pass j.commits readers
       → (pass p).stage ≡ Open
-      → (now : PassState) → now ≡ with_readers (pass p) ((pass p).readers_out + 1)
-      → IsShared z word (revised pass p now) j rows clock
-      × AreReaders (revised pass p now) j.commits (readers ++ reader_of pass p ∷ [])
-  reader_is_split p readers are is now e =
-      let h = s.each p in
-      subst
-      (λ u. IsShared z word (revised pass p u) j rows clock
-      × AreReaders (revised pass p u) j.commits (readers ++ reader_of pass p ∷ [])) (sym e)
-      (lends s p ((pass p).readers_out + 1), readers_split pass j.commits readers are p is h.seen h.started)
+      → IsShared z word (revised pass p (with_reader (pass p))) j rows clock
+      × AreReaders (revised pass p (with_reader (pass p))) j.commits (readers ++ reader_of pass p ∷ [])
+  reader_is_split p readers are is =
+      let h = s.each p in (
+        lends s p ((pass p).readers_out + 1),
+        readers_split pass j.commits readers are p is h.seen h.started,
+      )
 
   pub reader_is_joined : (front back : List ReaderState) (x : ReaderState)
       → AreReaders pass j.commits (front ++ x ∷ back)
-      → (now : PassState) → now ≡ with_readers (pass x.by.job) ((pass x.by.job).readers_out - 1)
-      → IsShared z word (revised pass x.by.job now) j rows clock
-      × AreReaders (revised pass x.by.job now) j.commits (front ++ back)
-  reader_is_joined front back x are now e =
-      subst
-      (λ u. IsShared z word (revised pass x.by.job u) j rows clock
-      × AreReaders (revised pass x.by.job u) j.commits (front ++ back)) (sym e)
-      (lends s x.by.job ((pass x.by.job).readers_out - 1), readers_joined pass j.commits front back x are)
+      → IsShared z word (revised pass x.by.job (without_reader (pass x.by.job))) j rows clock
+      × AreReaders (revised pass x.by.job (without_reader (pass x.by.job))) j.commits (front ++ back)
+  reader_is_joined front back x are = (
+    lends s x.by.job ((pass x.by.job).readers_out - 1),
+    readers_joined pass j.commits front back x are,
+  )
 
   pub readers_stay : (p : ℕ) (now : PassState) (j' : JournalState) (readers : List ReaderState)
       → AreReaders pass j.commits readers → IsPrefix j.commits j'.commits
@@ -224,3 +220,7 @@ module _ {z : Config} {word : ℕ → ℕ} {pass : ℕ → PassState} {j : Journ
       → AreReaders (revised pass p now) j'.commits readers
   readers_stay p now j' readers are front is same =
       readers_put pass j.commits readers are p now j'.commits front is same
+
+  pub only_open_lends : (p : ℕ) (readers : List ReaderState) → AreReaders pass j.commits readers
+      → ((pass p).stage ≡ Open → ⊥) → (pass p).readers_out ≡ 0
+  only_open_lends p readers are closed = none_out pass j.commits readers are p closed

@@ -9,7 +9,6 @@ use mathlib.Core.Logic.{dite}
 use native.Mathlib.Decide.{dec_le}
 use Rattle.graph_model.specs.declared.state.State.{State}
 use Rattle.graph_model.specs.declared.state.State.TheVariants.{Live, Committed, Aborted}
-use Rattle.graph_model.specs.declared.write.Kind.{Kind}
 use Rattle.graph_model.specs.declared.write.Write.{Write}
 use Rattle.graph_model.specs.declared.row.Key.{Key}
 use Rattle.graph_model.specs.declared.journal.TxnName.{TxnName}
@@ -19,7 +18,6 @@ use Rattle.graph_model.specs.Effects.{any_writes}
 use Rattle.graph_model.specs.Legal.{IsLegal}
 use Rattle.graph_model.specs.Transactions.{stamp_in, reached}
 use Rattle.graph_model.proofs.LegalLemmas.{get_front, below_length, legal_prefix}
-use Rattle.graph_model.proofs.PlaceLemmas.{some_eq}
 use Rattle.graph_model.proofs.StampLemmas.{stamped_or_none, stamp_at}
 use Rattle.graph_model.proofs.TestLemmas.{name_self, name_eq}
 use Rattle.txn_manager.specs.declared.config.Config.{Config}
@@ -39,21 +37,7 @@ use Rattle.store_relation.proofs.SpokenLemmas.{StandsIn}
 use Rattle.store_relation.proofs.SharedLemmas.{stander, marked_by, laid_by}
 use Rattle.store_relation.proofs.StepLemmas.{nothing_either}
 
--- ---- stamps
-
--- whoever has a stamp has the commit of that place
-pub stamp_place : (kind : Kind) (js : List Commit) → IsLegal kind js → (by : TxnName) (d : ℕ)
-    → stamp_in js by ≡ Some d → (i : ℕ) × (c : Commit) × (slice_get js i ≡ Some c) × (c.by ≡ by) × (d ≡ i + 1)
-stamp_place kind js legal by d e =
-    elim (stamped_or_none js by) as
-    (λ _. (i : ℕ) × (c : Commit) × (slice_get js i ≡ Some c) × (c.by ≡ by) × (d ≡ i + 1)) [
-      | inl r ↦
-          let own : stamp_in js (r.1).by ≡ Some (r.1).stamp = stamp_at js legal.names r.0 r.1 r.2 in
-          let both : ◌≡◌ {A = Option ℕ} (Some d) (Some (r.1).stamp) = sym e ∙ ap (stamp_in js) (sym r.3) ∙ own in
-          let place : (r.1).stamp ≡ r.0 + 1 = (legal.each r.0 r.1 r.2).stamped in
-          (r.0, r.1, r.2, r.3, some_eq d (r.1).stamp both ∙ place)
-      | inr none ↦ let no : ◌≡◌ {A = Option ℕ} (Some d) None = sym e ∙ none in cc
-    ]
+-- ---- words
 
 word_says : (n : ℕ) → 2 < n → stamp_of_word n ≡ Some (n - 2)
 word_says n lt = let t : nat_lt 2 n ≡ true = grind (arith, nat_tests) in ap (λ b. cond b (Some (n - 2)) None) t
@@ -86,7 +70,8 @@ module _ {z : Config} {word : ℕ → ℕ} {pass : ℕ → PassState} {j : Journ
       (named ∙ ap (name_of pass) (sym job))
 
   -- where it has no stamp in what was seen, the entry of which its word speaks stands behind that
-  entry_behind : (p n : ℕ) (seen : List Commit) → IsPrefix seen j.commits → stamp_in seen (name_of pass p) ≡ None
+  entry_behind : (p n : ℕ) (seen : List Commit) → IsPrefix seen j.commits
+      → stamp_in seen (name_of pass p) ≡ None
       → word p ≡ n → 3 ≤ n → length seen ≤ n - 3
   entry_behind p n seen front none is up =
       let e : word p ≡ (n - 3) + 3 = is ∙ omega (arith, up) in
@@ -150,7 +135,8 @@ module _ {z : Config} {word : ℕ → ℕ} {pass : ℕ → PassState} {j : Journ
     where
       Says : State → Type 0
       Says state = IsAnswer
-          (record { known = length seen; stamps = stamp_in seen; names = names; vouched = vouched }) (name_of pass p)
+          (record { known = length seen; stamps = stamp_in seen; names = names; vouched = vouched })
+          (name_of pass p)
           state
 
       committed : (k : ℕ) → 2 < k
@@ -164,7 +150,8 @@ module _ {z : Config} {word : ℕ → ℕ} {pass : ℕ → PassState} {j : Journ
       open_or_ended : (k : ℕ) → k < 3 → stamp_in seen (name_of pass p) ≡ None → Says (state_of_word k)
       open_or_ended k lt h =
           let t : nat_lt 2 k ≡ false = grind (arith, nat_tests) in
-          subst Says (sym (ap (λ b. cond b (Committed (k - 2)) (cond (k == 1) Live Aborted)) t)) (either (k == 1))
+          subst Says (sym (ap (λ b. cond b (Committed (k - 2)) (cond (k == 1) Live Aborted)) t))
+          (either (k == 1))
         where
           either : (b : Bool) → Says (cond b Live Aborted)
           either true = h

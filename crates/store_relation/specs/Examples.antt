@@ -5,18 +5,19 @@ use Rattle.graph_model.specs.declared.write.Kind.TheVariants.{Directed}
 use Rattle.graph_model.specs.declared.write.Write.{Write}
 use Rattle.graph_model.specs.declared.write.Write.TheVariants.{AddVertex, AddEdge}
 use Rattle.graph_model.specs.declared.row.Key.{Key}
+use Rattle.graph_model.specs.declared.journal.TxnName.{TxnName}
 use Rattle.graph_model.specs.Passes.{revised}
-use Rattle.graph_model.specs.Rows.{vertex_key}
+use Rattle.graph_model.specs.Rows.{vertex_key, arc_key}
 use Rattle.graph_model.specs.Transactions.{stamp_in}
 use Rattle.txn_manager.specs.declared.config.Config.{Config}
 use Rattle.store_model.specs.Stamped.{StampedVersions, AreTold, prune_stamped, read_stamped, stamp}
 use Rattle.version_segment.specs.Rows.{nothing}
 use Rattle.store_relation.specs.Keys.{changed_keys}
-use Rattle.store_relation.specs.Passes.{PassState, fresh_pass, name_of}
+use Rattle.store_relation.specs.Passes.{PassState, fresh_pass, name_of, stamp_by, account_of}
 use Rattle.store_relation.specs.Readers.{AreReaders, reader_of}
 use Rattle.store_relation.specs.Rows.{row_after}
 use Rattle.store_relation.specs.Shared.{JournalState, no_journal, entries, IsShared}
-use Rattle.store_relation.specs.Steps.{begun, written_by, committing, with_entry, committed, published_now, with_unstamped, refreshed, with_readers}
+use Rattle.store_relation.specs.Steps.{begun, written_by, committing, with_entry, committed, published_now, with_unstamped, refreshed, with_reader}
 use Rattle.store_relation.specs.Words.{open_word, commit_word, stamp_of_word}
 
 -- three passes on one leaf: 0 is not used here, 1 writes and 2 reads
@@ -82,7 +83,10 @@ pruning at s = record s { rows = λ k. prune_stamped (stamp_in s.journal.commits
 
 abbrev pub lending : ℕ → SharedState → SharedState
 lending p s =
-    record s { pass = revised s.pass p (with_readers (s.pass p) ((s.pass p).readers_out + 1)) }
+    record s { pass = revised s.pass p (with_reader (s.pass p)) }
+
+abbrev pub writer : TxnName
+writer = record { job = 1; number = 1 }
 
 -- ---- right steps: the writer makes two vertices and an edge, and commits them
 
@@ -119,6 +123,34 @@ pub record RightSteps : Type 0 where
   pub lent : IsAllowed (lending 1 (beginning 1 fresh))
   pub readers : AreReaders (lending 1 (beginning 1 fresh)).pass []
       (reader_of (beginning 1 fresh).pass 1 ∷ [])
+
+-- the numbers, rows and lists that come of it
+pub record StepResults : Type 0 where
+  pub open_word : watched.word 1 ≡ 1
+  pub stored_word : (stored watched).word 1 ≡ 3
+  pub stored_clock : (stored watched).clock ≡ 0
+  pub clock : (published watched).clock ≡ 1
+  -- the row of each vertex is written once, and touched once by the edge
+  pub unstamped : ((published watched).pass 1).unstamped
+      ≡ vertex_key 1 ∷ vertex_key 2 ∷ arc_key 1 2 ∷ vertex_key 1 ∷ vertex_key 2 ∷ []
+  pub bare : (published watched).rows (arc_key 1 2)
+      ≡ record {
+        pairs = record { by = writer; stamp = None; value = Some 5 } ∷ [];
+        oldest = None;
+        touches = [];
+      }
+  pub stamped : (settled watched).rows (arc_key 1 2)
+      ≡ record {
+        pairs = record { by = writer; stamp = Some 1; value = Some 5 } ∷ [];
+        oldest = None;
+        touches = [];
+      }
+  pub touched : ((settled watched).rows (vertex_key 2)).touches
+      ≡ record { by = writer; stamp = Some 1; value = None } ∷ []
+  pub made : (account_of config 1 ((settled watched).pass 1)).made
+      ≡ (AddVertex 1 ∷ AddVertex 2 ∷ AddEdge 1 2 5 ∷ []) ∷ []
+  pub answered : (account_of config 1 ((settled watched).pass 1)).stamps ≡ 1 ∷ []
+  pub kept : stamp_by (settled watched).pass writer ≡ Some 1
 
 -- ---- wrong ones, each from a state that is allowed
 

@@ -91,7 +91,7 @@ may_commit Committing = true
 abbrev pub needs_room : Stage → Bool
 needs_room Idle = false
 needs_room Open = true
-needs_room Aborting = true
+needs_room Aborting = false
 needs_room Committing = false
 
 -- which of its writes stand in rows: all, or where it aborts the first ones

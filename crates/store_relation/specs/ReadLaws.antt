@@ -1,6 +1,6 @@
 -- What a pass that holds rows learns of them, and of the writers of their records by words, stamps
 -- and looks.
-use Rattle.std.specs.Prelude.{◌≡◌, ◌⊎◌, ℕ, ◌+◌, ◌-◌, ◌*◌, ◌<◌, ◌≤◌, Bool, true, false, nat_le, List, length, Contains, Option, Some, None}
+use Rattle.std.specs.Prelude.{◌≡◌, ◌⊎◌, ℕ, ◌+◌, ◌-◌, ◌*◌, ◌<◌, ◌≤◌, Bool, true, false, nat_le, List, length, slice_get, Contains, Option, Some, None}
 use Rattle.std.specs.List.{AllByRecursion}
 use mathlib.Core.List.{IsPrefix}
 use Rattle.graph_model.specs.declared.write.Write.{Write}
@@ -11,20 +11,20 @@ use Rattle.graph_model.specs.declared.state.State.{State}
 use Rattle.graph_model.specs.Account.{IsValid}
 use Rattle.graph_model.specs.Conflict.{meets, same_name, later}
 use Rattle.graph_model.specs.History.{view}
-use Rattle.graph_model.specs.Rows.{value_at}
+use Rattle.graph_model.specs.Rows.{vertex_key, value_at}
 use Rattle.graph_model.specs.Transactions.{stamp_in, reached, has_name}
 use Rattle.txn_manager.specs.declared.config.Config.{Config}
-use Rattle.store_model.specs.Check.{looked}
+use Rattle.store_model.specs.Check.{looked, droppers, any_drops}
 use Rattle.store_model.specs.Stamped.{Stamped, StampedVersions, AreTold, forget_row, read_stamped}
 use Rattle.undo_chain.specs.States.{IsAnswer}
 use Rattle.store_relation.specs.declared.stage.Stage.TheVariants.{Idle, Open}
 use Rattle.store_relation.specs.Ends.{AreAtEnd, IsClosed}
 use Rattle.store_relation.specs.Passes.{Meeting, PassState, number_of, writes_by, name_of, account_of}
-use Rattle.store_relation.specs.Readers.{ReaderState, IsReader}
+use Rattle.store_relation.specs.Readers.{ReaderState, IsReader, reader_of}
 use Rattle.store_relation.specs.Rows.{HasRecord, AreLookedUp}
 use Rattle.store_relation.specs.Shared.{JournalState, IsMet, IsSighted, IsLook, sum_below, IsShared}
 use Rattle.store_relation.specs.Steps.{meeting, sighting}
-use Rattle.store_relation.specs.Words.{Look, commit_word, state_of_word, stamps_of, has_look}
+use Rattle.store_relation.specs.Words.{Look, open_word, commit_word, state_of_word, stamps_of, has_look}
 
 -- what a word tells whoever has seen these commits: an answer about its pass's latest transaction
 abbrev pub Answers : List Commit → TxnName → ℕ → Type 0
@@ -33,7 +33,7 @@ Answers seen by n = (names : TxnName → Bool) (vouched : TxnName → State → 
     (record { known = length seen; stamps = stamp_in seen; names = names; vouched = vouched }) by
     (state_of_word n)
 
--- the value that a snapshot sees at a key
+-- by these stamps the row gives the value that a snapshot sees at the key, under its own writes
 abbrev pub SeesValue : Config → List Commit → ℕ → List Write → TxnName → (TxnName → Option ℕ) → Key
     → StampedVersions → Type 0
 SeesValue z seen start own by stamps k r =
@@ -57,28 +57,30 @@ module _ (z : Config) (word : ℕ → ℕ) (pass : ℕ → PassState) (j : Journ
   ReaderReadsView = (x : ReaderState) → IsReader pass j.commits x → (k : Key)
       → SeesValue z x.seen x.start x.own x.by (stamp_in x.seen) k (rows k)
 
-  -- ---- what one load of the clock tells an open transaction of all rows that it holds
+  -- ---- what one load of the clock tells of all rows that are held
 
-  pub record Learns (p : ℕ) : Type 0 where
-    -- by what it has seen it reads its view
-    pub reads : (k : Key)
-        → SeesValue z (pass p).seen (pass p).start (pass p).own (name_of pass p)
-        (stamp_in (pass p).seen) k
-        (rows k)
-    -- the writers of records without a stamp are passes of the store, and but for itself other
-    -- passes
-    pub writers : (k : Key) (x : Stamped) → HasRecord (rows k) x → x.stamp ≡ None
-        → x.by.job < z.passes
-    pub others : (k : Key) (x : Stamped) → HasRecord (rows k) x → x.stamp ≡ None
-        → same_name x.by (name_of pass p) ≡ false → x.by.job ≡ p → ⊥
+  pub record Learns (x : ReaderState) : Type 0 where
+    -- by what was seen the view is read
+    pub reads : (k : Key) → SeesValue z x.seen x.start x.own x.by (stamp_in x.seen) k (rows k)
+    -- the writers of records without a stamp are passes of the store, and but for this transaction
+    -- other passes
+    pub writers : (k : Key) (r : Stamped) → HasRecord (rows k) r → r.stamp ≡ None
+        → r.by.job < z.passes
+    pub others : (k : Key) (r : Stamped) → HasRecord (rows k) r → r.stamp ≡ None
+        → same_name r.by x.by ≡ false → r.by.job ≡ x.by.job → ⊥
     -- a record's stamp says whether the snapshot sees it
-    pub stamps : (k : Key) (x : Stamped) → HasRecord (rows k) x → (stamp : ℕ) → x.stamp ≡ Some stamp
-        → reached (stamp_in (pass p).seen x.by) (pass p).start ≡ nat_le stamp (pass p).start
+    pub stamps : (k : Key) (r : Stamped) → HasRecord (rows k) r → (stamp : ℕ) → r.stamp ≡ Some stamp
+        → reached (stamp_in x.seen r.by) x.start ≡ nat_le stamp x.start
     -- the clock has come at least as far as was seen
-    pub published : length (pass p).seen ≤ clock
+    pub published : length x.seen ≤ clock
 
+  -- LEARN: an open transaction
   abbrev pub PassLearns : Type 0
-  PassLearns = (p : ℕ) → (pass p).stage ≡ Open → Learns p
+  PassLearns = (p : ℕ) → (pass p).stage ≡ Open → Learns (reader_of pass p)
+
+  -- and a reader
+  abbrev pub ReaderLearns : Type 0
+  ReaderLearns = (x : ReaderState) → IsReader pass j.commits x → Learns x
 
   -- ---- what one load of a word tells of the writer of a record without a stamp
 
@@ -86,7 +88,7 @@ module _ (z : Config) (word : ℕ → ℕ) (pass : ℕ → PassState) (j : Journ
   pub record Tells (k : Key) (x : Stamped) : Type 0 where
     pub latest : x.by ≡ name_of pass x.by.job
     pub inside : x.by.job < z.passes
-    pub open_or_stamped : (word x.by.job ≡ 1) ⊎ (2 < word x.by.job)
+    pub open_or_stamped : (word x.by.job ≡ open_word) ⊎ (2 < word x.by.job)
     pub answers : (seen : List Commit) → IsPrefix seen j.commits → Answers seen x.by (word x.by.job)
     -- and what was found may be kept
     pub look : (until : ℕ) → until ≤ length j.commits
@@ -94,6 +96,12 @@ module _ (z : Config) (word : ℕ → ℕ) (pass : ℕ → PassState) (j : Journ
 
   abbrev pub WordTells : Type 0
   WordTells = (k : Key) (x : Stamped) → HasRecord (rows k) x → x.stamp ≡ None → Tells k x
+
+  -- STAMP: whoever has one has the commit of that place, and it is published
+  abbrev pub StampIsPlace : Type 0
+  StampIsPlace = (by : TxnName) (stamp : ℕ) → stamp_in j.commits by ≡ Some stamp
+      → (i : ℕ) × (c : Commit) × (slice_get j.commits i ≡ Some c) × (c.by ≡ by) × (stamp ≡ i + 1)
+      × (stamp ≤ clock)
 
   -- looks that were kept say up to a horizon who had committed
   abbrev pub LooksTell : Type 0
@@ -114,6 +122,12 @@ module _ (z : Config) (word : ℕ → ℕ) (pass : ℕ → PassState) (j : Journ
   LookedHasMade = (w : Write) (n : TxnName)
       → has_name (looked w (λ k. forget_row (rows k))) n ≡ true
       → meets z.kind w (writes_by (pass n.job) n.number) ≡ true
+
+  -- a pair without value in the row of a vertex is of one who has removed the vertex
+  abbrev pub DropperHasRemoved : Type 0
+  DropperHasRemoved = (n : TxnName) (v : ℕ)
+      → has_name (droppers (forget_row (rows (vertex_key v)))) n ≡ true
+      → any_drops (writes_by (pass n.job) n.number) (vertex_key v) ≡ true
 
   -- MET: a commit by one at whom the write looks clashes, be it known by its writer's word or by a
   -- stamp
@@ -141,7 +155,7 @@ module _ (z : Config) (word : ℕ → ℕ) (pass : ℕ → PassState) (j : Journ
       → reached (stamp_in (pass p).seen n) (pass p).start ≡ false
       → IsSighted z.kind pass j (sighting n w (pass p).start)
 
-  -- LATER: once the journal was seen so far, what was met at or behind the start is answered by its
+  -- LATER: once the journal was seen so far, what was met after the start is answered by its
   -- stamp
   abbrev pub MetIsLater : Type 0
   MetIsLater = (m : Meeting) → IsMet z.kind j m → (start : ℕ) → start ≤ m.place

@@ -1,5 +1,5 @@
 -- What writes change in rows, and which rows. Each law is the contract of a function in `laws`.
-use Rattle.std.specs.Prelude.{◌≡◌, ◌⊎◌, ℕ, ◌||◌, true, false, cond, List, [], ◌∷◌, ◌++◌, Option}
+use Rattle.std.specs.Prelude.{◌≡◌, ◌⊎◌, ℕ, ◌||◌, true, false, cond, List, [], ◌∷◌, ◌++◌, Option, ◌+◌, ◌≤◌, length}
 use Rattle.graph_model.specs.declared.write.Kind.{Kind}
 use Rattle.graph_model.specs.declared.write.Write.{Write}
 use Rattle.graph_model.specs.declared.row.Key.{Key}
@@ -7,7 +7,7 @@ use Rattle.graph_model.specs.declared.journal.TxnName.{TxnName}
 use Rattle.graph_model.specs.Effects.{same_key, keys_of, writes_at, touches_at, any_writes, any_touches}
 use Rattle.store_model.specs.Layers.{after_write, before_write}
 use Rattle.store_model.specs.Stamped.{StampedVersions, IsStamped, forget_row}
-use Rattle.version_segment.specs.Rows.{VersionedRows, ChangesKey, versions_at}
+use Rattle.version_segment.specs.Rows.{VersionedRows, IsSegment, ChangesKey, versions_at, has_row, is_nothing, touched}
 use Rattle.store_relation.specs.Keys.{has_key, keys_but, ends_of, changed_keys}
 use Rattle.store_relation.specs.Rows.{row_after, row_before}
 
@@ -80,3 +80,20 @@ AllAreDone = (f : Key → StampedVersions → StampedVersions) (done : List Key)
     → IsDone f done old new
     → (q : Key) → (has_key done q ≡ true) ⊎ (f q (versions_at old q) ≡ versions_at old q)
     → versions_at new q ≡ f q (versions_at old q)
+
+-- ---- which rows a segment has
+
+-- a change of one key that leaves something there brings one row at most
+abbrev pub RowsGrowByOne : Type 0
+RowsGrowByOne = (old new : VersionedRows) (key : Key) (vs : StampedVersions) → IsSegment old
+    → is_nothing vs ≡ false → ChangesKey old new key vs → length new.rows ≤ length old.rows + 1
+
+-- and takes none away
+abbrev pub RowsAreKept : Type 0
+RowsAreKept = (old new : VersionedRows) (key : Key) (vs : StampedVersions)
+    → is_nothing vs ≡ false → ChangesKey old new key vs
+    → (q : Key) → has_row old q ≡ true → has_row new q ≡ true
+
+-- a row that somebody has touched is something
+abbrev pub TouchedIsSomething : Type 0
+TouchedIsSomething = (by : TxnName) (vs : StampedVersions) → is_nothing (touched by vs) ≡ false

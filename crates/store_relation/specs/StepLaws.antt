@@ -1,6 +1,6 @@
 -- What each step of a transaction asks, and that it keeps the rule. Each law is the contract of a
 -- function in `laws`; `InEachStore` says it of every store under the rule.
-use Rattle.std.specs.Prelude.{◌≡◌, ◌⊎◌, ℕ, ◌+◌, ◌-◌, ◌*◌, ◌<◌, ◌≤◌, ◌++◌, ◌||◌, true, List, [], ◌∷◌, length, slice_get, Option, Some, None}
+use Rattle.std.specs.Prelude.{◌≡◌, ◌⊎◌, ℕ, ◌+◌, ◌*◌, ◌<◌, ◌≤◌, ◌++◌, ◌||◌, true, List, [], ◌∷◌, length, slice_get, Option, Some, None}
 use Rattle.std.specs.List.{AllByRecursion}
 use mathlib.Core.List.{IsPrefix}
 use Rattle.graph_model.specs.declared.limits.TheConstants.{SPLIT_ROWS}
@@ -24,7 +24,7 @@ use Rattle.store_relation.specs.Passes.{Meeting, PassState, fresh_pass, may_comm
 use Rattle.store_relation.specs.Readers.{ReaderState, AreReaders, IsSameTxn, reader_of}
 use Rattle.store_relation.specs.Rows.{row_after, row_before}
 use Rattle.store_relation.specs.Shared.{JournalState, no_journal, longer_of, IsMet, IsSighted, IsLook, inserted_by_all, IsShared}
-use Rattle.store_relation.specs.Steps.{begun, written_by, filled_up, ended, stopped, taken_back, committing, with_entry, committed, published_now, with_unstamped, refreshed, with_notes, with_readers}
+use Rattle.store_relation.specs.Steps.{begun, written_by, filled_up, ended, stopped, taken_back, committing, with_entry, committed, published_now, with_unstamped, refreshed, with_notes, with_reader, without_reader}
 use Rattle.store_relation.specs.Words.{Look, open_word, ended_word, commit_word}
 
 -- a law of one store
@@ -163,17 +163,17 @@ module _ (z : Config) (word : ℕ → ℕ) (pass : ℕ → PassState) (j : Journ
   abbrev pub ReaderIsSplit : Type 0
   ReaderIsSplit = (p : ℕ) (readers : List ReaderState) → AreReaders pass j.commits readers
       → (pass p).stage ≡ Open
-      → (now : PassState) → now ≡ with_readers (pass p) ((pass p).readers_out + 1)
-      → IsShared z word (revised pass p now) j rows clock
-      × AreReaders (revised pass p now) j.commits (readers ++ reader_of pass p ∷ [])
+      → IsShared z word (revised pass p (with_reader (pass p))) j rows clock
+      × AreReaders (revised pass p (with_reader (pass p))) j.commits
+      (readers ++ reader_of pass p ∷ [])
 
   -- JOIN: the pass takes it back
   abbrev pub ReaderIsJoined : Type 0
   ReaderIsJoined = (front back : List ReaderState) (x : ReaderState)
       → AreReaders pass j.commits (front ++ x ∷ back)
-      → (now : PassState) → now ≡ with_readers (pass x.by.job) ((pass x.by.job).readers_out - 1)
-      → IsShared z word (revised pass x.by.job now) j rows clock
-      × AreReaders (revised pass x.by.job now) j.commits (front ++ back)
+      → IsShared z word (revised pass x.by.job (without_reader (pass x.by.job))) j rows clock
+      × AreReaders (revised pass x.by.job (without_reader (pass x.by.job))) j.commits
+      (front ++ back)
 
   -- any other step leaves them: of a pass that has none out, or one that leaves its transaction
   abbrev pub ReadersStay : Type 0
@@ -181,3 +181,8 @@ module _ (z : Config) (word : ℕ → ℕ) (pass : ℕ → PassState) (j : Journ
       → AreReaders pass j.commits readers → IsPrefix j.commits j'.commits
       → ((pass p).readers_out ≡ 0) ⊎ IsSameTxn (pass p) now → now.readers_out ≡ (pass p).readers_out
       → AreReaders (revised pass p now) j'.commits readers
+
+  -- only a pass whose transaction is open has readers out
+  abbrev pub OnlyOpenLends : Type 0
+  OnlyOpenLends = (p : ℕ) (readers : List ReaderState) → AreReaders pass j.commits readers
+      → ((pass p).stage ≡ Open → ⊥) → (pass p).readers_out ≡ 0

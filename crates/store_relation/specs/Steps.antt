@@ -106,3 +106,10 @@ with_notes st met holders sighted looks =
 -- so many readers are out
 abbrev pub with_readers : PassState → ℕ → PassState
 with_readers st n = record st { readers_out = n }
+
+-- one more is split off, and one is joined
+abbrev pub with_reader : PassState → PassState
+with_reader st = with_readers st (st.readers_out + 1)
+
+abbrev pub without_reader : PassState → PassState
+without_reader st = with_readers st (st.readers_out - 1)

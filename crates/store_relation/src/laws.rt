@@ -3,10 +3,10 @@
 
 ghost use Rattle.store_relation.specs.AccountLaws.{OfEachPass, AccountBegins, AccountWrites, AccountCommits, AccountCommitsNone, AccountAborts, AccountSees, AccountSights};
 ghost use Rattle.store_relation.specs.CheckLaws.{CheckedIsFree, FreeMayBeWritten, CauseIsFound, LaterIsStamped, HolderIsOther};
-ghost use Rattle.store_relation.specs.Examples.{RightSteps, WrongSteps, WrongReads};
-ghost use Rattle.store_relation.specs.ReadLaws.{ReadIsOfView, ReaderReadsView, PassLearns, WordTells, LooksTell, LooksTellRow, LookedHasMade, WordIsMet, StampIsMet, LookIsMet, HolderIsSighted, MetIsLater, ClockIsBounded, AccountIsValid, StoreCloses};
-ghost use Rattle.store_relation.specs.RowLaws.{RowAfterIsWrite, RowBeforeIsUndo, RowKeepsStamps, OtherRowsStay, KeysAreAll, ChangedKeysCover, OthersAreLeft, NoneIsDone, OneMoreIsDone, AllAreDone};
-ghost use Rattle.store_relation.specs.StepLaws.{InEachStore, NewStore, RoomIsMade, TransactionBegins, WriteIsMade, WriteIsFull, StampIsStored, CommitIsPublished, RowsAreStamped, AbortBegins, WriteIsUndone, TransactionEnds, NotesAreKept, JournalIsSeen, PassesMeet, RowsArePruned, ReaderIsSplit, ReaderIsJoined, ReadersStay};
+ghost use Rattle.store_relation.specs.Examples.{RightSteps, StepResults, WrongSteps, WrongReads};
+ghost use Rattle.store_relation.specs.ReadLaws.{ReadIsOfView, ReaderReadsView, PassLearns, ReaderLearns, WordTells, StampIsPlace, LooksTell, LooksTellRow, LookedHasMade, DropperHasRemoved, WordIsMet, StampIsMet, LookIsMet, HolderIsSighted, MetIsLater, ClockIsBounded, AccountIsValid, StoreCloses};
+ghost use Rattle.store_relation.specs.RowLaws.{RowAfterIsWrite, RowBeforeIsUndo, RowKeepsStamps, OtherRowsStay, KeysAreAll, ChangedKeysCover, OthersAreLeft, NoneIsDone, OneMoreIsDone, AllAreDone, RowsGrowByOne, RowsAreKept, TouchedIsSomething};
+ghost use Rattle.store_relation.specs.StepLaws.{InEachStore, NewStore, RoomIsMade, TransactionBegins, WriteIsMade, WriteIsFull, StampIsStored, CommitIsPublished, RowsAreStamped, AbortBegins, WriteIsUndone, TransactionEnds, NotesAreKept, JournalIsSeen, PassesMeet, RowsArePruned, ReaderIsSplit, ReaderIsJoined, ReadersStay, OnlyOpenLends};
 
 /// A new store, room in its journal, and the begin of a transaction.
 pub fn begins_keep_the_rule()
@@ -52,6 +52,7 @@ pub fn readers_keep_the_rule()
     ensures split { InEachStore ReaderIsSplit }
     ensures join { InEachStore ReaderIsJoined }
     ensures others { InEachStore ReadersStay }
+    ensures none { InEachStore OnlyOpenLends }
 {}
 
 /// An open transaction and its readers read their view, and what one load of the clock tells.
@@ -59,11 +60,13 @@ pub fn reads_are_of_the_view()
     ensures read { InEachStore ReadIsOfView }
     ensures reader { InEachStore ReaderReadsView }
     ensures learn { InEachStore PassLearns }
+    ensures reader_learns { InEachStore ReaderLearns }
 {}
 
 /// What the word of a pass tells of the writer of a record, and what may be kept of it.
 pub fn words_tell_of_writers()
     ensures word { InEachStore WordTells }
+    ensures stamp { InEachStore StampIsPlace }
     ensures looks { InEachStore LooksTell }
     ensures row { InEachStore LooksTellRow }
 {}
@@ -71,6 +74,7 @@ pub fn words_tell_of_writers()
 /// Whom a write meets: commits by their words, stamps and looks, and open transactions.
 pub fn conflicts_are_noted()
     ensures made { InEachStore LookedHasMade }
+    ensures dropped { InEachStore DropperHasRemoved }
     ensures word { InEachStore WordIsMet }
     ensures stamp { InEachStore StampIsMet }
     ensures look { InEachStore LookIsMet }
@@ -103,6 +107,9 @@ pub fn segments_change_by_key()
     ensures none { NoneIsDone }
     ensures more { OneMoreIsDone }
     ensures all { AllAreDone }
+    ensures grow { RowsGrowByOne }
+    ensures stay { RowsAreKept }
+    ensures touched { TouchedIsSomething }
 {}
 
 /// What the steps of a call do to the account of its pass.
@@ -126,6 +133,7 @@ pub fn stores_close()
 /// Two passes on one store, step by step; and rules that would be wrong, each by the state to which it leads.
 pub fn examples_hold()
     ensures right { RightSteps }
+    ensures results { StepResults }
     ensures wrong { WrongSteps }
     ensures reads { WrongReads }
 {}

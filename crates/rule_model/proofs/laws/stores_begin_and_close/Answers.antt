@@ -1,5 +1,8 @@
-use Rattle.rule_model.proofs.EndLemmas.{new_table, table_closes}
+use Rattle.rule_model.proofs.EndLemmas.{lines_are_new, new_table, table_closes}
 use Rattle.rule_model.proofs.laws.stores_begin_and_close.Goals as goal
+
+pub returns-clause-words : goal.returns-clause-words
+returns-clause-words c = lines_are_new
 
 pub returns-clause-new : goal.returns-clause-new
 returns-clause-new c = new_table

@@ -1,4 +1,4 @@
-use Rattle.store_relation.proofs.MeetLemmas.{looked_made, meets_word, meets_stamp, sights, later_found}
+use Rattle.store_relation.proofs.MeetLemmas.{looked_made, dropper_removed, meets_word, meets_stamp, sights, later_found}
 use Rattle.store_relation.proofs.LearnLemmas.{meets_look}
 use Rattle.store_relation.proofs.laws.conflicts_are_noted.Goals as goal
 
@@ -19,3 +19,6 @@ returns-clause-holder c = λ z word pass j rows clock s. sights s
 
 pub returns-clause-later : goal.returns-clause-later
 returns-clause-later c = λ z word pass j rows clock s. λ m is. later_found z.kind j m is s.store.transactions.legal
+
+pub returns-clause-dropped : goal.returns-clause-dropped
+returns-clause-dropped c = λ z word pass j rows clock s. dropper_removed s

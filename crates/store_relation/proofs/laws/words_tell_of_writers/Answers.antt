@@ -1,4 +1,4 @@
-use Rattle.store_relation.proofs.LearnLemmas.{tells}
+use Rattle.store_relation.proofs.LearnLemmas.{tells, stamp_is_place}
 use Rattle.store_relation.proofs.WordLemmas.{told_by_looks, looks_tell_row}
 use Rattle.store_relation.proofs.laws.words_tell_of_writers.Goals as goal
 
@@ -10,3 +10,6 @@ returns-clause-looks c = λ z word pass j rows clock s. told_by_looks j
 
 pub returns-clause-row : goal.returns-clause-row
 returns-clause-row c = λ z word pass j rows clock s. looks_tell_row j
+
+pub returns-clause-stamp : goal.returns-clause-stamp
+returns-clause-stamp c = λ z word pass j rows clock s. stamp_is_place s
