@@ -1,7 +1,7 @@
 -- A call ends as its outputs are written, or as its preparation stopped.
 use Rattle.std.proofs.Common.{◌≡◌, ℕ, List, [], refl, sym, ◌∙◌, subst, true, false}
 use Rattle.graph_model.specs.declared.write.Kind.TheVariants.{Directed}
-use Rattle.graph_model.specs.OwnerCalls.{Core}
+use Rattle.teseo_core.specs.Keeping.{LeftStore}
 use Rattle.desk_io.specs.Files.{Files}
 use Rattle.desk_io.specs.Outputs.{names_of, WritesAll, FailsAtPlace}
 use Rattle.command_words.specs.declared.refusal.WordsRefusal.{WordsRefusal}
@@ -55,8 +55,8 @@ module _ (request : RunRequest) (old : Files) where
           left_is = subst (λ ran. IsLeft outcome ran left left') of_run.left left_is;
         }
 
-  no_core : Core
-  no_core = record { kind = Directed; leaves = 0; journal = []; passes = []; selected = 0; served = 0 }
+  no_core : LeftStore
+  no_core = record { core = record { kind = Directed; leaves = 0; journal = []; passes = []; selected = 0; served = 0 }; settled = true }
 
   nothing : Made
   nothing = record { run = record { journal = []; reports = []; files = [] }; ran = no_core; outputs = []; summary = [] }

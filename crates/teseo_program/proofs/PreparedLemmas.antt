@@ -96,12 +96,12 @@ module _ (allows : LoadIsAllowed) (limits : LoadIsWithinLimits) (files : FilesAr
         (files_apart (taken_names request) m.scripts (distinct_names request asked) can))
 
 -- the summary has the counts of the journal's graph
-pub same_summary : (kind : Kind) (r : RunResult) → HasCounts kind r → (commits : ℕ) → commits ≡ length r.ran.journal → summary_line commits r.totals ≡ summary_text kind (run_outputs r)
+pub same_summary : (kind : Kind) (r : RunResult) → HasCounts kind r → (commits : ℕ) → commits ≡ length r.ran.core.journal → summary_line commits r.totals ≡ summary_text kind (run_outputs r)
 same_summary kind r has commits is = λ i. summary_line (is i) (record { vertices = has.vertices i; edges = has.edges i; undo = has.undo i; retired = has.retired i })
 
 -- what was made of a run is of what the sources stand for
 pub made_from : (request : RunRequest) (m : Meaning) (p : Prepared) (r : RunResult) (kind : Kind) (leaves commits : ℕ) → kind ≡ kind_of request → leaves ≡ leaves_for request.leaves (most_rows (inputs_of kind m))
-    → IsRun (inputs_of kind m) leaves (run_outputs r) → IsLeftBy (inputs_of kind m) leaves m.schedule (run_outputs r) r.ran → HasCounts kind r → commits ≡ length r.ran.journal
+    → IsRun (inputs_of kind m) leaves (run_outputs r) → IsLeftBy (inputs_of kind m) leaves m.schedule (run_outputs r) r.ran → HasCounts kind r → commits ≡ length r.ran.core.journal
     → p.outputs ≡ sinks_of request.journal (report_names request) (run_outputs r) → p.summary ≡ summary_line commits r.totals → shows_full (run_outputs r) ≡ p.is_full
     → p.left ≡ Stepped r.ran → IsMadeOf request m p
 made_from request m p r kind leaves commits is leaves_are run left_by counts counted outputs summary full left = record {

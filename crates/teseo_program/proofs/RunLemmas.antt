@@ -1,6 +1,6 @@
 -- The engine of a run before its first turn, and what the run leaves.
 use Rattle.std.proofs.Common.{◌≡◌, ℕ, zero, suc, ◌+◌, ◌*◌, ◌<◌, ◌≤◌, List, [], ◌∷◌, length, map, take, get_or, All, refl, sym, ◌∙◌, ap, subst, arith, replicate}
-use Rattle.std.specs.Prelude.{Bool, cond, min, ◌-◌, ◌^◌, slice_get, Some, unwrap_or, Result, Ok, Err, IsErrAnd, IfErr}
+use Rattle.std.specs.Prelude.{true, Bool, cond, min, ◌-◌, ◌^◌, slice_get, Some, unwrap_or, Result, Ok, Err, IsErrAnd, IfErr}
 use Rattle.std.specs.List.{AllByRecursion}
 use Rattle.std.proofs.lemmas.List.{append-nil}
 use Rattle.std.proofs.lemmas.List.Elements.{All-tail, All-head}
@@ -181,18 +181,19 @@ module _ (inputs : Inputs) (leaves : ℕ) (config : Config) (is : IsConfig input
 
 -- the run, as the code hands it on
 pub left_by_run : (inputs : Inputs) (leaves : ℕ) (schedule listed : List ℕ) (engine new : Core) (jobs : List Progress) (r : RunResult) → Ends inputs listed engine new jobs → listed ≡ schedule → engine.leaves ≡ leaves
-    → engine.served ≡ 0 → r.ran ≡ new → r.jobs ≡ jobs → IsLeftBy inputs leaves schedule (run_outputs r) r.ran
-left_by_run inputs leaves schedule listed engine new jobs r ends same leaves_is zero_served ran jobs_are =
-    subst (λ (x : Core). IsLeftBy inputs leaves schedule (outputs_of x r.jobs) x) (sym ran)
-    (subst (λ js. IsLeftBy inputs leaves schedule (outputs_of new js) new) (sym jobs_are)
-    (subst (λ n. IsLeftBy inputs n schedule (outputs_of new jobs) new) leaves_is (subst (λ turns. IsLeftBy inputs engine.leaves turns (outputs_of new jobs) new) same (record {
+    → engine.served ≡ 0 → r.ran.core ≡ new → r.ran.settled ≡ true → r.jobs ≡ jobs → IsLeftBy inputs leaves schedule (run_outputs r) r.ran
+left_by_run inputs leaves schedule listed engine new jobs r ends same leaves_is zero_served ran settled jobs_are =
+    subst (λ (x : Core). IsLeftBy inputs leaves schedule (outputs_of x r.jobs) (record { core = x; settled = r.ran.settled })) (sym ran)
+    (subst (λ js. IsLeftBy inputs leaves schedule (outputs_of new js) (record { core = new; settled = r.ran.settled })) (sym jobs_are)
+    (subst (λ n. IsLeftBy inputs n schedule (outputs_of new jobs) (record { core = new; settled = r.ran.settled })) leaves_is (subst (λ turns. IsLeftBy inputs engine.leaves turns (outputs_of new jobs) (record { core = new; settled = r.ran.settled })) same (record {
       stepped = ends.run;
       journal = refl;
       passes = ends.passes;
       served = ends.served (omega (arith, zero_served)) ∙ ap (λ n. min n (2 ^ 64 - 1)) (omega (arith, zero_served));
+      settled = settled;
     }))))
 
-pub counts_of : (asked : Kind) (new : Core) (r : RunResult) → new.kind ≡ asked → r.ran ≡ new → r.totals.vertices ≡ length (vertices_of (newest_graph new)) → r.totals.edges ≡ edges_of new.kind (newest_graph new) → (r.totals.undo ≡ 0) × (r.totals.retired ≡ 0) → HasCounts asked r
+pub counts_of : (asked : Kind) (new : Core) (r : RunResult) → new.kind ≡ asked → r.ran.core ≡ new → r.totals.vertices ≡ length (vertices_of (newest_graph new)) → r.totals.edges ≡ edges_of new.kind (newest_graph new) → (r.totals.undo ≡ 0) × (r.totals.retired ≡ 0) → HasCounts asked r
 counts_of asked new r kind ran vertices edges none = record {
   vertices = vertices ∙ ap (λ g. length (vertices_of g)) graphs_agree;
   edges = edges ∙ (λ i. edges_of (kind i) (graphs_agree i));
@@ -200,7 +201,7 @@ counts_of asked new r kind ran vertices edges none = record {
   retired = none.1;
 }
   where
-    graphs_agree : newest_graph new ≡ graph_at asked r.ran.journal (length r.ran.journal)
+    graphs_agree : newest_graph new ≡ graph_at asked r.ran.core.journal (length r.ran.core.journal)
     graphs_agree = λ i. graph_at (kind i) (sym ran i).journal (length (sym ran i).journal)
 
 -- ---- what the code asks for

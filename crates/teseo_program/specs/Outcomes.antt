@@ -5,7 +5,6 @@ use Rattle.graph_model.specs.declared.limits.TheConstants.{MAX_SOURCE_BYTES, SPL
 use Rattle.graph_model.specs.declared.load.LoadRefusal.{LoadRefusal}
 use Rattle.graph_model.specs.declared.load.LoadRefusal.TheVariants as loads
 use Rattle.graph_model.specs.Inserted.{inserted}
-use Rattle.graph_model.specs.OwnerCalls.{Core}
 use Rattle.graphalytics_io.specs.Load.{load_of}
 use Rattle.run_model.specs.declared.answer.Answer.{Answer}
 use Rattle.run_model.specs.declared.answer.Answer.TheVariants as answers
@@ -32,6 +31,7 @@ use Rattle.teseo_program.specs.Input.{Meaning, Texts, texts_of, IsAccepted, IsNo
 use Rattle.teseo_program.specs.Leaves.{leaves_of}
 use Rattle.teseo_program.specs.declared.left.Left.{Left}
 use Rattle.teseo_program.specs.declared.left.Left.TheVariants.{Stepped}
+use Rattle.teseo_core.specs.Keeping.{LeftStore}
 use Rattle.teseo_program.specs.Running.{IsLeftBy}
 use Rattle.teseo_program.specs.Sinks.{sinks_of, summary_text}
 use Rattle.teseo_program.specs.MadeGraphs.{graph_outputs, made_text}
@@ -131,7 +131,7 @@ SaysOutcome request outputs summary outcome old new =
 -- what a run gives, the engine that is left of it, the texts, each with its name, and the summary
 pub record Made : Type 0 where
   pub run : Outputs
-  pub ran : Core
+  pub ran : LeftStore
   pub outputs : List NamedText
   pub summary : List ℕ
 

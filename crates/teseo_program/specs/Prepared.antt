@@ -4,7 +4,6 @@ use Rattle.graph_model.specs.declared.limits.TheConstants.{MAX_SOURCE_BYTES, SPL
 use Rattle.graph_model.specs.declared.load.LoadRefusal.{LoadRefusal}
 use Rattle.graph_model.specs.declared.load.LoadRefusal.TheVariants as refusals
 use Rattle.graph_model.specs.Inserted.{inserted}
-use Rattle.graph_model.specs.OwnerCalls.{Core}
 use Rattle.graphalytics_io.specs.Load.{load_of}
 use Rattle.run_model.specs.Inputs.{Outputs}
 use Rattle.run_model.specs.Run.{IsRun}
@@ -19,6 +18,7 @@ use Rattle.teseo_program.specs.declared.prepare.Prepared.{Prepared}
 use Rattle.teseo_program.specs.declared.left.Left.TheVariants.{Stepped}
 use Rattle.teseo_program.specs.Input.{Meaning, inputs_of}
 use Rattle.teseo_program.specs.Leaves.{leaves_of}
+use Rattle.teseo_core.specs.Keeping.{LeftStore}
 use Rattle.teseo_program.specs.Running.{IsLeftBy}
 use Rattle.teseo_program.specs.Sinks.{sinks_of, summary_text}
 use Rattle.teseo_program.specs.MadeGraphs.{graph_outputs, made_text}
@@ -39,13 +39,13 @@ IsUnprepared request old new (NotWritten stop) = ⊥
 
 -- ---- what was made
 
-abbrev pub made_of : Outputs → Core → Prepared → Made
+abbrev pub made_of : Outputs → LeftStore → Prepared → Made
 made_of run ran p = record { run = run; ran = ran; outputs = p.outputs; summary = p.summary }
 
 -- of a run of these files
 pub record IsPreparedOf (request : RunRequest) (files : Files) (p : Prepared) : Type 0 where
   pub run : Outputs
-  pub ran : Core
+  pub ran : LeftStore
   pub of_run : AreOfRun request files (made_of run ran p)
   pub full : shows_full run ≡ p.is_full
   pub left : p.left ≡ Stepped ran
@@ -53,7 +53,7 @@ pub record IsPreparedOf (request : RunRequest) (files : Files) (p : Prepared) : 
 -- of a run of what the sources stand for
 pub record IsMadeOf (request : RunRequest) (m : Meaning) (p : Prepared) : Type 0 where
   pub outputs : Outputs
-  pub ran : Core
+  pub ran : LeftStore
   pub run : IsRun (inputs_of (kind_of request) m) (leaves_of request m) outputs
   pub left_by : IsLeftBy (inputs_of (kind_of request) m) (leaves_of request m) m.schedule outputs ran
   pub outputs_are : p.outputs ≡ sinks_of request.journal (report_names request) outputs

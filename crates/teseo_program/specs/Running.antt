@@ -1,5 +1,5 @@
 -- What the run of the scripts leaves, as the code has it.
-use Rattle.std.specs.Prelude.{◌≡◌, ℕ, suc, ◌-◌, ◌*◌, ◌^◌, ◌<◌, ◌≤◌, ◌⊎◌, min, List, map, length, All, slice_get, Some}
+use Rattle.std.specs.Prelude.{◌≡◌, ℕ, suc, ◌-◌, ◌*◌, ◌^◌, ◌<◌, ◌≤◌, ◌⊎◌, min, true, List, map, length, All, slice_get, Some}
 use Rattle.std.specs.List.{AllByRecursion}
 use Rattle.graph_model.specs.declared.limits.TheConstants.{SPLIT_ROWS, MAX_LEAVES}
 use Rattle.graph_model.specs.declared.write.Kind.{Kind}
@@ -18,7 +18,7 @@ use Rattle.script_lang.specs.FieldFaults.{IsNameByte}
 use Rattle.txn_manager.specs.declared.config.Config.{Config}
 use Rattle.graph_model.specs.declared.load.LoadRefusal.{LoadRefusal}
 use Rattle.graph_model.specs.declared.load.LoadRefusal.TheVariants as refusals
-use Rattle.teseo_core.specs.Keeping.{new_core}
+use Rattle.teseo_core.specs.Keeping.{LeftStore, new_core}
 use Rattle.job_runner.specs.Lines.{file_of}
 use Rattle.job_runner.specs.Progress.{Progress}
 use Rattle.job_runner.specs.Runs.{HaveDone}
@@ -30,18 +30,21 @@ use Rattle.teseo_program.specs.Parsing.{meaning_of}
 -- the journal, the reports and the kernel files
 abbrev pub run_outputs : RunResult → Outputs
 run_outputs r = record {
-  journal = r.ran.journal;
+  journal = r.ran.core.journal;
   reports = map (λ job. job.answers) r.jobs;
   files = map (λ job. map file_of job.tables) r.jobs;
 }
 
 -- What a run by turns leaves: the run is one of these inputs on so many leaves, by the turns of the schedule, and the
--- engine has its journal, has done for each script what its lines were answered, and has counted the service's turns.
-pub record IsLeftBy (inputs : Inputs) (leaves : ℕ) (schedule : List ℕ) (run : Outputs) (ran : Core) : Type 0 where
+-- engine has its journal, has done for each script what its lines were answered, has counted the service's turns, and
+-- was settled.
+pub record IsLeftBy (inputs : Inputs) (leaves : ℕ) (schedule : List ℕ) (run : Outputs) (ran : LeftStore)
+    : Type 0 where
   pub stepped : IsStepped inputs leaves schedule run
-  pub journal : ran.journal ≡ run.journal
-  pub passes : HaveDone inputs.scripts run.reports ran
-  pub served : ran.served ≡ min (service_turns (length inputs.scripts) schedule stepped.turns) (2 ^ 64 - 1)
+  pub journal : ran.core.journal ≡ run.journal
+  pub passes : HaveDone inputs.scripts run.reports ran.core
+  pub served : ran.core.served ≡ min (service_turns (length inputs.scripts) schedule stepped.turns) (2 ^ 64 - 1)
+  pub settled : ran.settled ≡ true
 
 -- what was left is of a run of this input
 abbrev pub IsSteppedRun : Kind → ℕ → Input → RunResult → Type 0
@@ -54,8 +57,8 @@ HavePrintableNames jobs = AllByRecursion (λ job. AllByRecursion (λ t. All IsNa
 
 -- the counts are those of the newest graph, in a settled store
 pub record HasCounts (kind : Kind) (r : RunResult) : Type 0 where
-  pub vertices : r.totals.vertices ≡ length (vertices_of (graph_at kind r.ran.journal (length r.ran.journal)))
-  pub edges : r.totals.edges ≡ edges_in kind (graph_at kind r.ran.journal (length r.ran.journal))
+  pub vertices : r.totals.vertices ≡ length (vertices_of (graph_at kind r.ran.core.journal (length r.ran.core.journal)))
+  pub edges : r.totals.edges ≡ edges_in kind (graph_at kind r.ran.core.journal (length r.ran.core.journal))
   pub undo : r.totals.undo ≡ 0
   pub retired : r.totals.retired ≡ 0
 

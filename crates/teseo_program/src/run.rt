@@ -65,7 +65,7 @@ pub fn run_scripts<R: Threads + Sync>(
     let mut jobs = jobs_of(alloc, input.scripts)?;
     run_stepped(rt, &mut engine, &mut jobs, input.schedule.as_slice())?;
     engine.settle();
-    let totals = engine.settled_totals();
+    let totals = engine.totals();
     Ok(RunResult {
         ran: engine.into_journal(),
         jobs,

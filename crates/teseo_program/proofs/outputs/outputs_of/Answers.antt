@@ -20,7 +20,7 @@ reports-preserved c =
 pub returns : goal.returns
 returns c =
     c.jobs.invariant
-    ∙ ap (λ rest. record { name = c.args.words.now.journal.now; text = journal_text c.args.run.now.ran.journal }
+    ∙ ap (λ rest. record { name = c.args.words.now.journal.now; text = journal_text c.args.run.now.ran.core.journal }
     ∷ (report_outputs (map report_name (run_request c.args.words.now).scripts) (map (λ job. job.answers) c.args.run.now.jobs) ++ rest))
     (all_results c.as_slice-jobs.result.now c.jobs.job-index (omega arith)
     ∙ ap (λ js. flat_map (λ files. map file_output files) (map (λ job. map file_of job.tables) js)) c.as_slice-jobs.ensures)
