@@ -16,7 +16,7 @@ mod path;
 mod power_law;
 
 use anyhow::Result;
-use bench_kernel::{BenchKernel, Bfs, Cdlp, FastBfs, FastSssp, Sssp, Wcc};
+use bench_kernel::{BenchKernel, table_of};
 use checks::{are_ended, are_storable};
 use graph_image::{Builder, Image};
 use graph_model::Row;
@@ -26,6 +26,15 @@ use std::env::Env;
 use std::rt::Clock;
 use std::thread::Threads;
 use std::time::Instant;
+
+/// The kernels that have no width.
+const KERNELS: [(&str, BenchKernel); 5] = [
+    ("bfs", BenchKernel::Bfs),
+    ("fastbfs", BenchKernel::FastBfs),
+    ("wcc", BenchKernel::Wcc),
+    ("cdlp", BenchKernel::Cdlp),
+    ("sssp", BenchKernel::Sssp),
+];
 
 /// The widths of buckets; weights are up to 1,000,000.
 const WIDTHS: [u32; 6] = [10_000, 50_000, 100_000, 200_000, 400_000, 4_294_967_295];
@@ -69,37 +78,27 @@ fn time<R: Threads + Sync + Clock + Print>(rt: &R, alloc: Global, rows: &[Row]) 
     builder.push(rows)?;
     let image = builder.finish()?;
     say(rt, "image", begun)?;
-    time_kernels(rt, alloc, &image)?;
+    'kernels: for (name, kernel) in KERNELS {
+        time_kernel(rt, alloc, &image, name, kernel)?;
+    }
     'widths: for width in WIDTHS {
         let name = format!(in alloc; "fastsssp/{width}")?;
-        time_kernel(rt, alloc, &image, name.as_str(), &FastSssp { width })?;
+        let kernel = BenchKernel::FastSssp { width };
+        time_kernel(rt, alloc, &image, name.as_str(), kernel)?;
     }
     Ok(())
 }
 
-/// Runs each kernel that has no width.
-fn time_kernels<R: Threads + Sync + Clock + Print>(
-    rt: &R,
-    alloc: Global,
-    image: &Image,
-) -> Result<()> {
-    time_kernel(rt, alloc, image, "bfs", &Bfs)?;
-    time_kernel(rt, alloc, image, "fastbfs", &FastBfs)?;
-    time_kernel(rt, alloc, image, "wcc", &Wcc)?;
-    time_kernel(rt, alloc, image, "cdlp", &Cdlp)?;
-    time_kernel(rt, alloc, image, "sssp", &Sssp)
-}
-
 /// Runs a kernel, and prints its name and the microseconds that it took.
-fn time_kernel<R: Threads + Sync + Clock + Print, K: BenchKernel<R>>(
+fn time_kernel<R: Threads + Sync + Clock + Print>(
     rt: &R,
     alloc: Global,
     image: &Image,
     name: &str,
-    kernel: &K,
+    kernel: BenchKernel,
 ) -> Result<()> {
     let begun = Instant::now(rt)?;
-    let _table = kernel.table(rt, alloc, image)?;
+    let _table = table_of(rt, alloc, image, kernel)?;
     say(rt, name, begun)
 }
 

@@ -1,6 +1,6 @@
 -- The engine of a run before its first turn, and what the run leaves.
 use Rattle.std.proofs.Common.{◌≡◌, ℕ, zero, suc, ◌+◌, ◌*◌, ◌<◌, ◌≤◌, List, [], ◌∷◌, length, map, take, get_or, All, refl, sym, ◌∙◌, ap, subst, arith, replicate}
-use Rattle.std.specs.Prelude.{Bool, cond, min, ◌-◌, ◌^◌, slice_get, Some, unwrap_or, Result, Ok, Err, IsErrAnd, IfErr}
+use Rattle.std.specs.Prelude.{true, Bool, cond, min, ◌-◌, ◌^◌, slice_get, Some, unwrap_or, Result, Ok, Err, IsErrAnd, IfErr}
 use Rattle.std.specs.List.{AllByRecursion}
 use Rattle.std.proofs.lemmas.List.{append-nil}
 use Rattle.std.proofs.lemmas.List.Elements.{All-tail, All-head}
