@@ -4,10 +4,12 @@ ghost use Rattle.std.specs.Prelude.{◌≡◌, ◌≤◌, true, OnOk};
 ghost use Rattle.graph_model.specs.Rows.{is_below, end_key};
 ghost use Rattle.leaf_store.specs.Leaves.{room_at};
 
+use crate::finger::Finger;
 use crate::store::LeafStore;
 use graph_model::{Key, NoMemory, TxnName};
 use std::test::Fail;
 use txn_manager::RoomRefusal;
+use version_segment::RowChange;
 
 const WRITER: TxnName = TxnName { job: 1, number: 1 };
 
@@ -26,7 +28,7 @@ fn make_some_room(store: &mut LeafStore, key: Key) -> Result<(), RoomRefusal>
     requires { is_below key end_key ≡ true }
     ensures { OnOk result (1 ≤ room_at store.new key) }
 {
-    if store.segment(key).room() > 0 {
+    if store.segment(key, Finger::nowhere()).room() > 0 {
         return Ok(());
     }
     store.make_room(key, 1)
@@ -37,8 +39,14 @@ fn put(store: &mut LeafStore, key: Key) -> Result<(), RoomRefusal>
     requires { is_below key end_key ≡ true }
 {
     make_some_room(store, key)?;
-    store.reserve(key)?;
-    store.write(key, Some(0), WRITER);
+    store.reserve(key, Finger::nowhere())?;
+    store.is_sound();
+    store.change(
+        key,
+        Finger::nowhere(),
+        WRITER,
+        RowChange::Write { value: Some(0) },
+    );
     Ok(())
 }
 
@@ -50,8 +58,8 @@ fn a_full_segment_is_spread_and_one_leaf_is_not_split(rt: HostRuntime) -> Result
             put(&mut store, vertex(id))?;
         }
         let got = (
-            store.segment(vertex(1)).len(),
-            store.segment(vertex(until)).len(),
+            store.segment(vertex(1), Finger::nowhere()).len(),
+            store.segment(vertex(until), Finger::nowhere()).len(),
         );
         assert_eq!(rt; got, (first, last), "of the rows below {until}");
     }
@@ -88,7 +96,7 @@ fn leaves_that_lose_rows_are_spread_and_become_one(rt: HostRuntime) -> Result<()
         }
         let full = store.leaves_in_use();
         'fewer: for id in 1..until {
-            store.undo(vertex(id));
+            store.change(vertex(id), Finger::nowhere(), WRITER, RowChange::Undo);
         }
         let steps = merge_all(&mut store)?;
         let got = (full, steps, store.leaves_in_use(), store.retired_count());
