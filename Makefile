@@ -10,9 +10,9 @@ ARCHIVE = teseo-$(shell git rev-parse --short HEAD).tar.gz
 .PHONY: help demo quick build install uninstall test bench dist clean
 
 help:
-	@echo 'make demo       runs an example, checked and not proved, in two minutes: EXAMPLE=first'
+	@echo 'make demo       runs an example, checked and not proved, in a minute: EXAMPLE=first'
 	@echo '                or fraud, routes, network, conflict, kernels'
-	@echo 'make quick      runs all tests, the examples and the guide, checked and not proved (some minutes)'
+	@echo 'make quick      runs all tests, the examples and the guide, checked and not proved, in 3 minutes'
 	@echo 'make build      proves and builds the program: 6 to 20 minutes the first time'
 	@echo 'make install    builds, and puts teseo, its manual page and its completion below PREFIX ($(PREFIX))'
 	@echo 'make uninstall  removes them from there'

@@ -21,7 +21,7 @@ command=("$(cd "$examples/../crates/teseo" && pwd)/out/teseo")
 if [ -x "${command[0]}" ]; then
     echo "This runs the program that 'make build' has proved and built."
 else
-    echo "This runs the checked build and not the proved one (that is 'make build'). Compiling takes two minutes."
+    echo "This runs the checked build and not the proved one (that is 'make build'). Compiling takes a minute."
     command=(rt try --)
 fi
 cd "$examples/../crates/teseo"
