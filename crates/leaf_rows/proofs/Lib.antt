@@ -14,3 +14,4 @@ pub mod FillLemmas
 pub mod SweepLemmas
 pub mod MergeLemmas
 pub mod WrittenLemmas
+pub mod PlacingLemmas

@@ -9,3 +9,4 @@ pub mod Loaded
 pub mod Counted
 pub mod Filling
 pub mod Written
+pub mod Placing

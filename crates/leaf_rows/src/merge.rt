@@ -11,6 +11,7 @@ ghost use Rattle.leaf_store.specs.Leaves.{record_count, room_at};
 ghost use Rattle.leaf_store.specs.Merging.{FreesRetired, IsCompact, IsMergeStep};
 ghost use Rattle.leaf_rows.specs.Written.{AreRows, written_keys};
 ghost use Rattle.leaf_rows.specs.Laying.{HaveRoom, IsNoPlace, IsSpent, KeepsContents};
+ghost use Rattle.leaf_rows.specs.Placing.{MakesRoomOrFrees, PlacesOrFrees};
 
 use crate::rows::LeafRows;
 use crate::written::FoundRows;
@@ -64,6 +65,7 @@ impl LeafRows {
         requires { AreRows found.now.rows }
         ensures contents { KeepsContents self.old self.new }
         ensures ok { OnOk result (HaveRoom self.new (written_keys found.now.rows)) }
+        ensures places { PlacesOrFrees until (written_keys found.now.rows) self.old self.new result }
         ensures full { IfErr result (λ refusal. IsNoPlace self.new (written_keys found.now.rows) refusal) }
         ensures spent { IfErr result (λ refusal. IsSpent until self.new refusal) }
     {
@@ -92,6 +94,7 @@ impl LeafRows {
         requires short { room_at self.old key < need }
         ensures contents { KeepsContents self.old self.new }
         ensures ok { OnOk result (need ≤ room_at self.new key) }
+        ensures made { OnOk result (MakesRoomOrFrees until self.old self.new key need) }
         ensures refused { IfErr result (λ refusal. IsRoomRefusal self.old key need refusal self.new) }
         ensures spent { IfErr result (λ refusal. IsSpent until self.new refusal) }
     {

@@ -11,9 +11,11 @@ ghost use Rattle.graph_model.specs.Rows.{is_below, is_between, end_key};
 ghost use Rattle.version_segment.specs.Rows as segments;
 ghost use Rattle.leaf_store.specs.Leaves.{KeysHaveCells, has_row, room_at};
 ghost use Rattle.leaf_store.specs.Changes.{IsRoomRefusal};
+ghost use Rattle.leaf_store.specs.Making.{MakesRoom};
 ghost use Rattle.leaf_rows.specs.Laying.{IsNoPlace, Stays, wanted};
 ghost use Rattle.leaf_rows.specs.Steps.{IsNeed, KeepsRoom, keys_with, wanted_in};
 ghost use Rattle.leaf_rows.specs.Laying.{HaveRoom};
+ghost use Rattle.leaf_rows.specs.Placing.{PlacesKeys};
 ghost use Rattle.leaf_rows.specs.Written.{AreRows, written_keys};
 
 use crate::rows::LeafRows;
@@ -36,6 +38,7 @@ impl LeafRows {
         requires { AreRows found.now.rows }
         ensures stays { Stays self.old self.new }
         ensures ok { OnOk result (HaveRoom self.new (written_keys found.now.rows)) }
+        ensures places { PlacesKeys (written_keys found.now.rows) self.old self.new result }
         ensures full { IfErr result (λ refusal. IsNoPlace self.new (written_keys found.now.rows) refusal) }
     {
         let row = KeyAt {
@@ -66,6 +69,7 @@ impl LeafRows {
         requires short { room_at self.old key < need }
         ensures stays { Stays self.old self.new }
         ensures ok { OnOk result (need ≤ room_at self.new key) }
+        ensures made { OnOk result (MakesRoom self.old self.new key need) }
         ensures refused { IfErr result (λ refusal. IsRoomRefusal self.old key need refusal self.new) }
     {
         self.store.is_sound();
@@ -79,6 +83,7 @@ impl LeafRows {
         requires { is_below at.key end_key ≡ true }
         ensures stays { Stays self.old self.new }
         ensures ok { OnOk result (HaveRoom self.new (at.key ∷ [])) }
+        ensures places { PlacesKeys (at.key ∷ []) self.old self.new result }
         ensures full { IfErr result (λ refusal. IsNoPlace self.new (at.key ∷ []) refusal) }
     {
         let made = self.make_place(at, None);
@@ -92,6 +97,7 @@ impl LeafRows {
         requires second { is_below second.key end_key ≡ true }
         ensures stays { Stays self.old self.new }
         ensures ok { OnOk result (HaveRoom self.new (first.key ∷ second.key ∷ [])) }
+        ensures places { PlacesKeys (first.key ∷ second.key ∷ []) self.old self.new result }
         ensures full { IfErr result (λ refusal. IsNoPlace self.new (first.key ∷ second.key ∷ []) refusal) }
     {
         self.make_place(first, Some(second.key))?;
@@ -127,6 +133,7 @@ impl LeafRows {
             → wanted self.old at.key (keys_with at.key other) ≤ room_at self.new at.key) }
         ensures kept { wanted self.old at.key (keys_with at.key other) ≤ room_at self.old at.key
             → self.new ≡ self.old }
+        ensures places { PlacesKeys (keys_with at.key other) self.old self.new result }
         ensures full { IfErr result (λ refusal. IsNoPlace self.new (keys_with at.key other) refusal) }
         ensures there { KeysHaveCells self.old }
     {

@@ -1,6 +1,6 @@
 -- A leaf that is split, as the whole store sees it.
 use Rattle.std.proofs.Math.ListN.{length-set}
-use Rattle.std.proofs.Common.{◌≡◌, ◌≢◌, ℕ, zero, suc, ◌+◌, ◌-◌, ◌*◌, ◌/◌, ◌<◌, ◌≤◌, List, [], ◌∷◌, ◌++◌, length, map, sum, refl, sym, ◌∙◌, ap, ap₂, subst, arith, length-append, set}
+use Rattle.std.proofs.Common.{◌≡◌, ◌≢◌, ℕ, zero, suc, ◌+◌, ◌-◌, ◌*◌, ◌/◌, ◌<◌, ◌≤◌, List, [], ◌∷◌, ◌++◌, length, map, sum, refl, sym, ◌∙◌, ap, ap₂, subst, arith, length-append, set, inl, inr}
 use Rattle.std.specs.Prelude.{Bool, true, Some, None, slice_get, Result, Ok, Err, IfErr}
 use Rattle.std.specs.List.{AllByRecursion}
 use Rattle.std.proofs.lemmas.List.{append-nil, take_all}
@@ -11,6 +11,7 @@ use Rattle.version_segment.specs.Rows.{VersionedRows, IsSegment}
 use Rattle.density_tree.specs.declared.window.Window.{Window}
 use Rattle.density_tree.specs.Windows.{Fits, IsSmallestWindow, rows_in, window_round}
 use Rattle.density_tree.proofs.DivisionLemmas.{shares_are_all}
+use Rattle.leaf_array.specs.Leaves.{Splits, SpreadsWindow}
 use Rattle.leaf_array.specs.Segments.{rows_of, counts_of, lows_of, high_or}
 use Rattle.leaf_array.proofs.LeafLemmas.{Follow, follow-of, follow-low, follow-both}
 use Rattle.leaf_array.proofs.PairLemmas.{rows-append, high-append}
@@ -20,6 +21,8 @@ use Rattle.txn_manager.specs.declared.config.RoomRefusal.TheVariants as refusals
 use Rattle.leaf_store.specs.declared.place.Place.{Place}
 use Rattle.leaf_store.specs.Leaves.{Part, Leaves, cells_of, cell_in, cell_at, room_at, weight}
 use Rattle.leaf_store.specs.Changes.{IsFull, IsRoomRefusal, MovesRows}
+use Rattle.leaf_store.specs.Making.{MakesRoom}
+use Rattle.leaf_store.specs.Pairs.{DividesLeaf, SpreadsLeaf}
 use Rattle.leaf_store.specs.Ranges.{IsLive, IsOutOfLeaves, KeepsLeaves, SplitsLeaf}
 use Rattle.leaf_store.specs.Table.{AreStamped, IsKept, IsTied, AreTied, IsPlace, segments_at, part_of, leaves_of}
 use Rattle.leaf_store.proofs.CellLemmas.{AreSound, holds, cell_here, few_in, held_in_both, middle_part}
@@ -242,6 +245,36 @@ module _ (index taken new : Index) (table table' : Table) (key : Key) (place : P
       (map (part_of table) live.front) (part_of table live.entry ∷ []) (part_of table' e1) (part_of table' e2 ∷ []) (map (part_of table) live.back) old_parts new_parts
       (subst (Watches (set one other true)) (sym s.number) (watched_still one other place.leaf here), (fresh_here, tt))
 
+  -- the rows are divided between both, as contracts say it
+  pub half_divides : DividesLeaf (segments_at table place.leaf) (leaves_of index table) (leaves_of new table')
+  unfolding ss left right
+  half_divides =
+      let live = s.live in
+      let e1 : Entry = record live.entry { cuts = lows_of left } in
+      let e2 : Entry = record { low = s.splits.key; leaf = other; cuts = lows_of right } in
+      let left_is : segments_at table' live.entry.leaf ≡ left = ap (segments_at table') s.number in
+      let parts = ap (map (part_of table')) s.splits.entries ∙ parts_append table' live.front (e1 ∷ e2 ∷ live.back)
+          ∙ (λ i. parts_same table table' live.front half_same.0 i ++ part_of table' e1 ∷ part_of table' e2 ∷ parts_same table table' live.back half_same.1 i) in
+      record {
+        front = map (part_of table) live.front;
+        part = part_of table live.entry;
+        back = map (part_of table) live.back;
+        leaf = other;
+        low = s.splits.key;
+        left = segments_at table' live.entry.leaf;
+        right = right;
+        was = ap (map (part_of table)) half_entries ∙ parts_append table live.front (live.entry ∷ live.back);
+        same = ap (segments_at table) s.number;
+        free = ap (λ (i : Index). i.free) takes ∙ ap (λ xs. xs ++ other ∷ []) (sym (ap (λ (i : Index). i.free) s.index_is));
+        splits = subst (λ ls. Splits ss ls right s.splits.key) (sym left_is) s.splits.splits;
+        now = λ i. record {
+          limit = (ap (λ (i : Index). i.leaves) s.index_is ∙ sym (ap (λ (i : Index). i.leaves) takes)) i;
+          parts = parts i;
+          free = new.free;
+          retired = (ap (λ (i : Index). i.retired) s.index_is ∙ sym (ap (λ (i : Index). i.retired) takes)) i;
+        };
+      }
+
 -- where a split wants memory only the room for records may have changed
 pub split_refused : (index : Index) (table table' : Table) (key : Key) (place : Place) → IsKept index table → IsPlace key index.entries place → is_below key end_key ≡ true → KeepsLeaves table table' place.leaf → LeafMoved index index table table'
 split_refused index table table' key place kept is below keeps =
@@ -274,6 +307,37 @@ cell_there [] c ys (suc n) e = absurd (omega (arith, e))
 cell_there (x ∷ xs) c ys zero e = absurd (omega (arith, e))
 cell_there (x ∷ xs) c ys (suc n) e = cell_there xs c ys n (omega (arith, e))
 
+-- the cell of a key, among the segments of its leaf
+pub record CellHeld (index : Index) (table : Table) (key : Key) (place : Place) : Type 0 where
+  pub front : List Entry
+  pub entry : Entry
+  pub back : List Entry
+  pub entries : index.entries ≡ front ++ entry ∷ back
+  pub number : segments_at table entry.leaf ≡ segments_at table place.leaf
+  pub eight : length (segments_at table place.leaf) ≡ 8
+  pub within : place.segment < 8
+  pub holds_cell : slice_get (segments_at table place.leaf) place.segment ≡ Some (cell_at (leaves_of index table) key)
+
+pub cell_held : (index : Index) (table : Table) (key : Key) (place : Place) → IsKept index table → IsPlace key index.entries place → is_below key end_key ≡ true → CellHeld index table key place
+cell_held index table key place kept is below =
+    let l = located index table key place kept is below in
+    let ss = segments_at table place.leaf in
+    let tied = subst (λ n. IsTied (segments_at table n) l.entry (end_of l.back)) (sym l.leaf) (tied_at table l.front (l.entry ∷ l.back) (subst (AreTied table) l.entries kept.tied)).0 in
+    let same : segments_at table l.entry.leaf ≡ ss = ap (segments_at table) (sym l.leaf) in
+    let follow = tied_follow ss l.entry (end_of l.back) tied (cuts_at l.front (l.entry ∷ l.back) (subst HaveCuts l.entries kept.index_is.cuts)).0 in
+    let own : cell_in ss key ≡ l.cell = ap (λ cs. cell_in cs key) l.segments ∙ cell_here l.entry.low key l.before l.cell l.behind (subst (Follow l.entry.low) l.segments follow) (subst AreSound l.segments tied.sound) l.held in
+    let cell : cell_at (leaves_of index table) key ≡ l.cell = cell_in_leaf index table l.front l.entry l.back key ss kept l.entries same (subst (λ c. holds c key ≡ true) (sym own) l.held) ∙ own in
+    record {
+      front = l.front;
+      entry = l.entry;
+      back = l.back;
+      entries = l.entries;
+      number = same;
+      eight = tied.leaf.segments;
+      within = l.within;
+      holds_cell = ap (λ cs. slice_get cs place.segment) l.segments ∙ cell_there l.before l.cell l.behind place.segment l.at ∙ ap Some (sym cell);
+    }
+
 -- and no leaf is free
 pub record OutOfLeaves (s : Leaves) (key : Key) (need : ℕ) : Type 0 where
   pub full : IsFull s key need
@@ -282,34 +346,62 @@ pub record OutOfLeaves (s : Leaves) (key : Key) (need : ℕ) : Type 0 where
 pub out_of_leaves : (index : Index) (table : Table) (key : Key) (place : Place) (need : ℕ) → IsKept index table → IsPlace key index.entries place → is_below key end_key ≡ true → need ≤ 2 → IsSmallestWindow (Fits (counts_of (segments_at table place.leaf)) need) place.segment None → index.free ≡ []
     → OutOfLeaves (leaves_of index table) key need
 out_of_leaves index table key place need kept is below few none no_free =
-    let l = located index table key place kept is below in
+    let c = cell_held index table key place kept is below in
     let ss = segments_at table place.leaf in
-    let tied = subst (λ n. IsTied (segments_at table n) l.entry (end_of l.back)) (sym l.leaf) (tied_at table l.front (l.entry ∷ l.back) (subst (AreTied table) l.entries kept.tied)).0 in
-    let rows = full_rows ss need place.segment tied.leaf.segments l.within few none in
-    let part = part_of table l.entry in
-    let before = map (part_of table) l.front in
-    let behind = map (part_of table) l.back in
-    let parts : map (part_of table) index.entries ≡ before ++ part ∷ behind = ap (map (part_of table)) l.entries ∙ parts_append table l.front (l.entry ∷ l.back) in
-    let same : segments_at table l.entry.leaf ≡ ss = ap (segments_at table) (sym l.leaf) in
-    let follow = tied_follow ss l.entry (end_of l.back) tied (cuts_at l.front (l.entry ∷ l.back) (subst HaveCuts l.entries kept.index_is.cuts)).0 in
-    let own : cell_in ss key ≡ l.cell = ap (λ cs. cell_in cs key) l.segments ∙ cell_here l.entry.low key l.before l.cell l.behind (subst (Follow l.entry.low) l.segments follow) (subst AreSound l.segments tied.sound) l.held in
-    let cell : cell_at (leaves_of index table) key ≡ l.cell = cell_in_leaf index table l.front l.entry l.back key ss kept l.entries same (subst (λ c. holds c key ≡ true) (sym own) l.held) ∙ own in
+    let rows = full_rows ss need place.segment c.eight c.within few none in
+    let part = part_of table c.entry in
+    let before = map (part_of table) c.front in
+    let behind = map (part_of table) c.back in
+    let parts : map (part_of table) index.entries ≡ before ++ part ∷ behind = ap (map (part_of table)) c.entries ∙ parts_append table c.front (c.entry ∷ c.back) in
     record {
       full = record {
         part = part;
         place = length before;
         segment = place.segment;
         there = ap (λ ps. slice_get ps (length before)) parts ∙ part_there before part behind;
-        holds = ap (λ cs. slice_get cs place.segment) (same ∙ l.segments) ∙ cell_there l.before l.cell l.behind place.segment l.at ∙ ap Some (sym cell);
-        windows = subst (λ cs. IsSmallestWindow (Fits (counts_of cs) need) place.segment None) (sym same) none;
+        holds = ap (λ cs. slice_get cs place.segment) c.number ∙ c.holds_cell;
+        windows = subst (λ cs. IsSmallestWindow (Fits (counts_of cs) need) place.segment None) (sym c.number) none;
         free = no_free;
       };
       count =
           let all = ap weight_in parts ∙ weight_split before (part ∷ []) behind in
-          let count : length (rows_of part.segments) ≡ length (rows_of ss) = ap (λ cs. length (rows_of cs)) same in
+          let count : length (rows_of part.segments) ≡ length (rows_of ss) = ap (λ cs. length (rows_of cs)) c.number in
           let idle : length index.free ≡ 0 = ap length no_free in
           omega (arith, all, weight_one part, count, rows, idle);
     }
+
+-- ---- where room is made
+
+-- by a spread of the window round the cell
+pub spread_makes : (index : Index) (table : Table) (key : Key) (place : Place) (need : ℕ) (window : Window) (new : Leaves) → IsKept index table → IsPlace key index.entries place → is_below key end_key ≡ true → IsSmallestWindow (Fits (counts_of (segments_at table place.leaf)) need) place.segment (Some window)
+    → SpreadsLeaf window place.leaf (segments_at table place.leaf) (leaves_of index table) new → MakesRoom (leaves_of index table) new key need
+spread_makes index table key place need window new kept is below smallest s =
+    let c = cell_held index table key place kept is below in
+    inl (record {
+      at = record { front = s.front; part = s.part; back = s.back; segment = place.segment; is = s.was; holds = ap (λ cs. slice_get cs place.segment) s.same ∙ c.holds_cell };
+      window = window;
+      segments = s.segments;
+      smallest = subst (λ cs. IsSmallestWindow (Fits (counts_of cs) need) place.segment (Some window)) (sym s.same) smallest;
+      spreads = subst (λ cs. SpreadsWindow window cs s.segments) (sym s.same) s.spreads;
+      now = s.now;
+    })
+
+-- or by a split of its leaf
+pub split_makes : (index : Index) (table : Table) (key : Key) (place : Place) (need : ℕ) (new : Leaves) → IsKept index table → IsPlace key index.entries place → is_below key end_key ≡ true → IsSmallestWindow (Fits (counts_of (segments_at table place.leaf)) need) place.segment None
+    → DividesLeaf (segments_at table place.leaf) (leaves_of index table) new → MakesRoom (leaves_of index table) new key need
+split_makes index table key place need new kept is below none d =
+    let c = cell_held index table key place kept is below in
+    inr (record {
+      at = record { front = d.front; part = d.part; back = d.back; segment = place.segment; is = d.was; holds = ap (λ cs. slice_get cs place.segment) d.same ∙ c.holds_cell };
+      leaf = d.leaf;
+      low = d.low;
+      left = d.left;
+      right = d.right;
+      windows = subst (λ cs. IsSmallestWindow (Fits (counts_of cs) need) place.segment None) (sym d.same) none;
+      free = d.free;
+      splits = subst (λ cs. Splits cs d.left d.right d.low) (sym d.same) d.splits;
+      now = d.now;
+    })
 
 pub room_refused : (index index' : Index) (table table' : Table) (old : Leaves) (key : Key) (place : Place) (need : ℕ) → leaves_of index table ≡ old → IsKept index table → IsPlace key index.entries place → is_below key end_key ≡ true → need ≤ 2 → IsSmallestWindow (Fits (counts_of (segments_at table place.leaf)) need) place.segment None
     → (refusal : RoomRefusal) → IsOutOfLeaves refusal index index' table table' → IsRoomRefusal old key need refusal (leaves_of index' table')

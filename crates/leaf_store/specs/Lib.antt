@@ -4,6 +4,7 @@ pub mod Ranges
 pub mod Fill
 pub mod Changes
 pub mod Merging
+pub mod Making
 pub mod Pairs
 pub mod Grouped
 pub mod Watched

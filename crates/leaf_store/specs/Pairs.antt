@@ -2,6 +2,7 @@
 use Rattle.std.specs.Prelude.{◌≡◌, ℕ, ◌+◌, ◌≤◌, length, List, [], ◌∷◌, ◌++◌, Option, map}
 use Rattle.std.specs.declared.boxed.Box.{Box}
 use Rattle.std.specs.declared.alloc.Global.{Global}
+use Rattle.graph_model.specs.declared.row.Key.{Key}
 use Rattle.version_segment.specs.Rows.{VersionedRows}
 use Rattle.leaf_array.specs.declared.leaf.Leaf.{Leaf}
 use Rattle.leaf_array.specs.Leaves as leaves
@@ -41,6 +42,24 @@ pub record SpreadsLeaf (window : Window) (leaf : ℕ) (ss : List VersionedRows) 
   pub number : part.leaf ≡ leaf
   pub same : part.segments ≡ ss
   pub spreads : leaves.SpreadsWindow window ss segments
+
+-- the rows of the live leaf with these segments are divided between it and the next free one, and all else is as it was
+pub record DividesLeaf (ss : List VersionedRows) (old new : Leaves) : Type 0 where
+  pub front : List Part
+  pub part : Part
+  pub back : List Part
+  pub leaf : ℕ
+  pub low : Key
+  pub left : List VersionedRows
+  pub right : List VersionedRows
+  pub was : old.parts ≡ front ++ part ∷ back
+  pub same : part.segments ≡ ss
+  pub free : old.free ≡ new.free ++ leaf ∷ []
+  pub splits : leaves.Splits ss left right low
+  pub now : new ≡ record old {
+    parts = front ++ record part { segments = left } ∷ record { leaf = leaf; segments = right } ∷ back;
+    free = new.free;
+  }
 
 -- the range is that of a live leaf
 pub record IsRangeIn (entries : List Entry) (range : LeafRange) : Type 0 where

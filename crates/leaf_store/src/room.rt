@@ -11,8 +11,9 @@ ghost use Rattle.leaf_array.specs.Leaves.{IsLeaf, IsWindow, window_of};
 ghost use Rattle.leaf_array.specs.Segments.{rows_of};
 ghost use Rattle.leaf_store.specs.Leaves.{record_count, room_at};
 ghost use Rattle.leaf_store.specs.Changes.{IsRoomRefusal, MovesRows};
+ghost use Rattle.leaf_store.specs.Making.{MakesRoom};
 ghost use Rattle.leaf_store.specs.Merging.{KeepsParts};
-ghost use Rattle.leaf_store.specs.Pairs.{SpreadsLeaf, Stands};
+ghost use Rattle.leaf_store.specs.Pairs.{DividesLeaf, SpreadsLeaf, Stands};
 ghost use Rattle.leaf_store.specs.Ranges.{HasRoomWithin, IsOutOfLeaves};
 ghost use Rattle.leaf_store.specs.Table.{IsPlace, IsRoomyWindow, leaves_of, segments_at};
 ghost use Rattle.leaf_store.specs.Watched.{IsTended};
@@ -40,6 +41,7 @@ impl LeafStore {
         ensures ok { OnOk result (need ≤ room_at self.new key) }
         ensures moved { MovesRows self.old self.new }
         ensures retired { self.new.retired ≡ self.old.retired }
+        ensures made { OnOk result (MakesRoom self.old self.new key need) }
         ensures refused { IfErr result (λ refusal. IsRoomRefusal self.old key need refusal self.new) }
     {
         let place = place_of(&self.index, key);
@@ -133,6 +135,8 @@ fn split_at(
     ensures tended { IsTended index.new leaves.new.items watch.new }
     ensures moved { MovesRows (leaves_of index.old leaves.old.items) (leaves_of index.new leaves.new.items) }
     ensures retired { index.new.retired ≡ index.old.retired }
+    ensures divides { OnOk result (DividesLeaf (segments_at leaves.old.items place.leaf)
+        (leaves_of index.old leaves.old.items) (leaves_of index.new leaves.new.items)) }
     ensures refused { IfErr result (λ refusal.
         IsOutOfLeaves refusal index.old index.new leaves.old.items leaves.new.items) }
 {

@@ -27,6 +27,7 @@ use Rattle.leaf_rows.proofs.WrittenLemmas.{after_is, keys_are}
 use Rattle.store_model.specs.Layers.{after_write}
 use Rattle.leaf_rows.specs.Readers.{Shows}
 use Rattle.leaf_store.specs.Leaves.{Leaves, contents_of, has_row, weight}
+use Rattle.teseo_core.specs.Placed.{PlacesWrite}
 use Rattle.teseo_core.specs.Passes.{RoomyPass, FindsFull, Notes, Puts, noted, sighted_by, with_one_write}
 use Rattle.teseo_core.specs.Keeping.{states_of, core_of, IsKept}
 use Rattle.teseo_core.proofs.FieldLemmas.{put_core, kept_core, kept_back, set_same}
@@ -209,6 +210,28 @@ module _ (kind : Kind) (leaves : ℕ) (m : Manager) (passes : List RoomyPass) (s
     subst (λ e. RefusesHere core start w e (core_of kind leaves m (slice_set passes selected p') selected served)) (sym back.0)
         (kept_core kind leaves m passes selected served rows is p' m refl (back.1 ∙ here)),
   )
+
+  -- a write that is refused so isn't full
+  pub refused_places : {X : Type 0} (result : Result X Refusal) → ((h : Graph) → Shows r rows h → FitsKind kind h → IsChecked r rows h w result) → (refusal said : Refusal) → result ≡ Err refusal
+      → (old new : PassState) → Notes old start w refusal said new → (until : ℕ) (found : WrittenRows) (a b : Leaves) → PlacesWrite until found a b (Err said)
+  refused_places result checked refusal said is_err old new (inr back) until found a b = subst (λ e. PlacesWrite until found a b (Err e)) (sym back.0) tt
+  refused_places result checked refusal said is_err old new (inl noted_is) until found a b = subst (λ e. PlacesWrite until found a b (Err e)) (sym noted_is.0)
+      (by_case (answer_cases (refused g w) (conflict_here core start w) refusal (refused_of_view g w) (sym (answer result checked) ∙ ap refusal_in is_err)))
+    where
+      of_view : (e : Refusal) → IsOfView e → PlacesWrite until found a b (Err e)
+      of_view refusals.SelfLoop is = tt
+      of_view (refusals.NoVertex v) is = tt
+      of_view refusals.VertexExists is = tt
+      of_view refusals.EdgeExists is = tt
+      of_view refusals.NoEdge is = tt
+      of_view refusals.HasEdges is = tt
+      of_view (refusals.Conflict cause) is = tt
+      of_view (refusals.Full l) is = absurd is
+      of_view refusals.NoMemory is = tt
+
+      by_case : ((refused g w ≡ Some refusal) × IsOfView refusal) ⊎ ((refused g w ≡ None) × (cause : Cause) × (conflict_here core start w ≡ Some cause) × (refusal ≡ refusals.Conflict cause)) → PlacesWrite until found a b (Err refusal)
+      by_case (inl p) = of_view refusal p.1
+      by_case (inr p) = subst (λ e. PlacesWrite until found a b (Err e)) (sym p.3) tt
 
   -- ---- a write that may be made
 

@@ -6,3 +6,4 @@ pub mod Horizons
 pub mod Freeing
 pub mod Sweeping
 pub mod Serving
+pub mod Placed

@@ -6,6 +6,7 @@ ghost use Rattle.graph_model.specs.OwnerCalls.{account_here};
 ghost use Rattle.graph_model.specs.OwnerLaws.{DidBegin, DidWrite, DidRead, DidCommit, DidAbort, DidServe};
 ghost use Rattle.graph_model.proofs.OwnerLemmas.{begins_by, writes_by, reads_by, commits_by, aborts_by, serves_by};
 ghost use Rattle.teseo_core.specs.Keeping.{KeepsService};
+ghost use Rattle.teseo_core.specs.Placed.{FullIsExact};
 ghost use Rattle.teseo_core.specs.Serving.{ServesTurn};
 
 use crate::store::Core;
@@ -21,7 +22,7 @@ impl Engine for Core {
 
     ghost did_begin = { λ s r t. DidBegin s.core r t.core × KeepsService s t };
 
-    ghost did_write = { λ s w r t. DidWrite s.core w r t.core × KeepsService s t };
+    ghost did_write = { λ s w r t. DidWrite s.core w r t.core × KeepsService s t × FullIsExact s w r t };
 
     ghost did_read = { λ s t. DidRead s.core t.core × KeepsService s t };
 

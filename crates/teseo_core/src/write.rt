@@ -1,6 +1,6 @@
 //! Writes of the open transaction.
 
-ghost use Rattle.std.specs.Prelude.{◌≡◌, ◌<◌, ◌≤◌, true, IsSome, IfErr, OnOk, OnErr};
+ghost use Rattle.std.specs.Prelude.{◌≡◌, ℕ, ◌<◌, ◌≤◌, true, IsSome, IfErr, OnOk, OnErr};
 ghost use Rattle.graph_model.specs.OwnerCalls.{current};
 ghost use Rattle.graph_model.specs.OwnerLaws.{DidWrite};
 ghost use Rattle.graph_model.specs.Refused.{IsWithinLimits};
@@ -9,7 +9,9 @@ ghost use Rattle.leaf_store.specs.Leaves.{room_at};
 ghost use Rattle.leaf_rows.specs.Laying.{HasTouchedNone, HaveRoom, HaveRows, KeepsContents, Stays};
 ghost use Rattle.leaf_rows.specs.Written.{AreRows, rows_of, touched_keys, written_keys};
 ghost use Rattle.undo_chain.specs.declared.touched.Touched.TheVariants.{Never};
-ghost use Rattle.teseo_core.specs.Freeing.{RefusesRoom};
+ghost use Rattle.leaf_rows.specs.Placing.{MakesRoomOrFrees};
+ghost use Rattle.teseo_core.specs.Freeing.{IsFreeBound, RefusesRoom};
+ghost use Rattle.teseo_core.specs.Placed.{FullIsExact, PlacesWrite};
 ghost use Rattle.teseo_core.specs.Keeping.{KeepsService};
 ghost use Rattle.teseo_core.specs.Passes.{Laid, Puts};
 
@@ -34,6 +36,8 @@ impl Core {
         ensures service { KeepsService self.old self.new }
         ensures contents { KeepsContents self.old.rows self.new.rows }
         ensures ok { OnOk result (need ≤ room_at self.new.rows key) }
+        ensures made { OnOk result ((until : ℕ) × IsFreeBound self.old.core until
+            × MakesRoomOrFrees until self.old.rows self.new.rows key need) }
         ensures refused { IfErr result (λ refusal. RefusesRoom self.old key need refusal self.new) }
     {
         self.manager.clock();
@@ -47,6 +51,7 @@ impl Core {
         requires within { IsWithinLimits write }
         ensures did { DidWrite self.old.core write result self.new.core }
         ensures service { KeepsService self.old self.new }
+        ensures places { FullIsExact self.old write result self.new }
     {
         let found = self.find(write);
         self.write_here(write, &found)
@@ -68,7 +73,9 @@ impl Core {
         requires rows { found.now.rows ≡ rows_of self.old.core.kind write }
         ensures did { DidWrite self.old.core write result self.new.core }
         ensures service { KeepsService self.old self.new }
+        ensures places { FullIsExact self.old write result self.new }
     {
+        self.manager.clock();
         let pass = self.selected as usize;
         let reader = reader_of(&self.manager, &self.passes[pass], self.selected);
         let start = reader.start;
@@ -105,7 +112,8 @@ fn put(
     requires rows { AreRows found.now.rows }
     requires ends { HaveRows rows.old (touched_keys found.now.rows) }
     requires never { earlier ≡ Never → HasTouchedNone rows.old by }
-    ensures { Puts found.now.rows by write until rows.old rows.new pass.old.state pass.new.state result }
+    ensures puts { Puts found.now.rows by write until rows.old rows.new pass.old.state pass.new.state result }
+    ensures places { PlacesWrite until found.now.rows rows.old rows.new result }
 {
     match rows.make_room_or_free(found, until) {
         Ok(()) => {}

@@ -5,7 +5,7 @@ use Rattle.leaf_index.specs.Index.{Index}
 use Rattle.leaf_store.specs.Changes.{MovesRows}
 use Rattle.leaf_store.specs.Table.{leaves_of}
 use Rattle.leaf_store.specs.Watched.{IsTended}
-use Rattle.leaf_store.proofs.HalfLemmas.{half_moved, half_tended, live_at, split_refused}
+use Rattle.leaf_store.proofs.HalfLemmas.{half_divides, half_moved, half_tended, live_at, split_refused}
 use Rattle.leaf_store.proofs.RoomLemmas.{place_stands, stands_within}
 use Rattle.leaf_store.proofs.SameLemmas.{keeps_parts, one_same}
 use Rattle.leaf_store.proofs.TendLemmas.{tended_more, tended_same}
@@ -67,3 +67,10 @@ returns-in-Ok-clause-retired c =
     let p = c.requires.place in
     let l = live_at c.args.index.now c.args.leaves.now.items p.0 c.args.place c.take_free.new.self.entries c.requires.tended.kept p.1 p.2 (sym (ap (λ (i : Index). i.entries) c.in-Some.ensures.0)) in
     ap (λ (i : Index). i.retired) (c.in-Ok.ensures.ok l.live l.number).index_is ∙ sym (ap (λ (i : Index). i.retired) c.in-Some.ensures.0)
+
+pub returns-in-Ok-clause-divides : goal.returns-in-Ok-clause-divides
+returns-in-Ok-clause-divides c =
+    let p = c.requires.place in
+    let l = live_at c.args.index.now c.args.leaves.now.items p.0 c.args.place c.take_free.new.self.entries c.requires.tended.kept p.1 p.2 (sym (ap (λ (i : Index). i.entries) c.in-Some.ensures.0)) in
+    half_divides c.args.index.now c.take_free.new.self c.split_with.new.index c.args.leaves.now.items c.split_with.new.leaves.items p.0 c.args.place c.in-Some.leaf c.requires.tended.kept p.1 p.2 c.in-Some.ensures.0 c.in-Some.ensures.1
+    (c.in-Ok.ensures.ok l.live l.number) c.requires.many c.is_index.ensures.index

@@ -1,7 +1,8 @@
-use Rattle.std.proofs.Common.{sym, ◌∙◌, arith}
+use Rattle.std.proofs.Common.{refl, sym, ◌∙◌, arith}
 use Rattle.std.proofs.lemmas.Result.{on_ok_weaker, IfErr-weaker}
 use Rattle.leaf_rows.specs.Steps.{keys_with}
 use Rattle.leaf_rows.proofs.RoomLemmas.{wanted_is, moved_stays, refused_is}
+use Rattle.leaf_rows.proofs.PlacingLemmas.{one_placed}
 use Rattle.leaf_rows.proofs.rows.LeafRows.make_place.Goals as goal
 
 pub returns-in-None-clause-ok : goal.returns-in-None-clause-ok
@@ -40,3 +41,14 @@ returns-clause-full c =
     let need = rw c.segment.ensures.cell at c.in-Some.ensures.need in
     let is = need.is ∙ sym (wanted_is old c.is_sound.ensures.apart c.args.at.key keys) in
     IfErr-weaker c.make_room-made.result _ _ (λ refusal why. refused_is old c.make_room-made.new.self c.args.at.key c.in-Some.need keys refusal is need.short why) c.make_room-made.ensures.refused
+
+pub returns-in-None-clause-places : goal.returns-in-None-clause-places
+returns-in-None-clause-places c = (0, refl)
+
+pub returns-clause-places : goal.returns-clause-places
+returns-clause-places c =
+    let old = c.self.inside.store in
+    let keys = keys_with c.args.at.key c.args.other in
+    let need = rw c.segment.ensures.cell at c.in-Some.ensures.need in
+    let is = need.is ∙ sym (wanted_is old c.is_sound.ensures.apart c.args.at.key keys) in
+    rw (← c.self.view_is) (one_placed old c.make_room-made.new.self c.args.at.key c.args.other c.in-Some.need c.make_room-made.result need.missing is need.short c.make_room-made.ensures.made c.make_room-made.ensures.refused)

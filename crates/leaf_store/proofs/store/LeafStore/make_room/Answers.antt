@@ -1,5 +1,6 @@
 use Rattle.std.proofs.Common.{refl, arith}
-use Rattle.leaf_store.proofs.HalfLemmas.{full_rows, if_err, room_refused}
+use Rattle.std.proofs.lemmas.Result.{on_ok_weaker}
+use Rattle.leaf_store.proofs.HalfLemmas.{full_rows, if_err, room_refused, split_makes, spread_makes}
 use Rattle.leaf_store.proofs.RoomLemmas.{few_in_window, place_stands, stands_leaf}
 use Rattle.leaf_store.proofs.store.LeafStore.make_room.Goals as goal
 
@@ -33,3 +34,12 @@ pub returns-in_ok-spread_window-in-Some-clause-ok : goal.returns-in_ok-spread_wi
 returns-in_ok-spread_window-in-Some-clause-ok c =
     let two = c.in_ok-spread_window-in-Some.ensures.ok c.args.key c.place_of-place.result refl c.place_of-place.ensures c.requires.within c.in-Some.ensures.round in
     omega (arith, two, c.requires.few)
+
+pub returns-in_ok-spread_window-in-Some-clause-made : goal.returns-in_ok-spread_window-in-Some-clause-made
+returns-in_ok-spread_window-in-Some-clause-made c =
+    rw (← c.self.view_is)
+    (spread_makes c.self.inside.index c.self.inside.leaves.items c.args.key c.place_of-place.result c.args.need c.in-Some.window _ c.self.invariant.kept c.place_of-place.ensures c.requires.within c.in-Some.ensures.smallest c.in_ok-spread_window-in-Some.ensures.spreads)
+
+pub returns-in-None-clause-made : goal.returns-in-None-clause-made
+returns-in-None-clause-made c =
+    rw (← c.self.view_is) (on_ok_weaker c.split_at.result (split_makes c.self.inside.index c.self.inside.leaves.items c.args.key c.place_of-place.result c.args.need _ c.self.invariant.kept c.place_of-place.ensures c.requires.within c.in-None.ensures.smallest) c.split_at.ensures.divides)

@@ -4,11 +4,13 @@ use Rattle.leaf_rows.specs.declared.written.WrittenRows.{WrittenRows}
 use Rattle.leaf_rows.specs.Laying.{HaveRows}
 use Rattle.leaf_rows.specs.Written.{AreRows, touched_keys}
 use Rattle.leaf_rows.proofs.WrittenLemmas.{are_rows, have_rows}
+use Rattle.teseo_core.specs.Freeing.{free_bound}
 use Rattle.teseo_core.specs.Passes.{Notes}
 use Rattle.teseo_core.specs.Keeping.{core_of}
 use Rattle.teseo_core.proofs.FieldLemmas.{is_open_here, lent_state, start_of, some_nat}
 use Rattle.teseo_core.proofs.KeepLemmas.{IsReader, reader_started, touched_none}
-use Rattle.teseo_core.proofs.WriteLemmas.{refused_kept, refused_answer, may_lay, put_kept, put_answer}
+use Rattle.teseo_core.proofs.FreeLemmas.{is_free_bound}
+use Rattle.teseo_core.proofs.WriteLemmas.{refused_kept, refused_answer, refused_places, may_lay, put_kept, put_answer}
 use Rattle.teseo_core.proofs.store.Core.write_here.Goals as goal
 
 pub invariant_of-self : goal.invariant_of-self
@@ -105,7 +107,7 @@ invariant_of-self-2 c =
       by = r.ensures.by ∙ (λ i. record { job = f.selected; number = (sym here i).begun });
     } in
     let last = lent_state f.passes.items f.selected c.index_mut-2.result.now c.self.invariant.chosen c.index_mut-2.ensures.value in
-    put_kept f.kind f.leaves f.manager f.passes.items f.selected f.served f.rows c.self.invariant r.result start.0 start.1 reader c.args.write c.check.result c.check.ensures c.in-Ok.field-0 c.in-Ok.is c.args.found.now.rows (rw (← c.self.view_is) at c.requires.rows) c.requires.within _ c.put.result c.index_mut-2.result.now c.put.new.pass c.put.new.rows (sym last) c.put.ensures
+    put_kept f.kind f.leaves f.manager f.passes.items f.selected f.served f.rows c.self.invariant r.result start.0 start.1 reader c.args.write c.check.result c.check.ensures c.in-Ok.field-0 c.in-Ok.is c.args.found.now.rows (rw (← c.self.view_is) at c.requires.rows) c.requires.within _ c.put.result c.index_mut-2.result.now c.put.new.pass c.put.new.rows (sym last) c.put.ensures.puts
 
 pub returns-clause-did : goal.returns-clause-did
 returns-clause-did c =
@@ -122,7 +124,7 @@ returns-clause-did c =
     let last = lent_state f.passes.items f.selected c.index_mut-2.result.now c.self.invariant.chosen c.index_mut-2.ensures.value in
     rw (← c.self.view_is) (record {
       chosen = c.self.invariant.chosen;
-      here = put_answer f.kind f.leaves f.manager f.passes.items f.selected f.served f.rows c.self.invariant r.result start.0 start.1 reader c.args.write c.check.result c.check.ensures c.in-Ok.field-0 c.in-Ok.is c.args.found.now.rows (rw (← c.self.view_is) at c.requires.rows) _ c.put.result c.index_mut-2.result.now c.put.new.pass c.put.new.rows (sym last) c.put.ensures;
+      here = put_answer f.kind f.leaves f.manager f.passes.items f.selected f.served f.rows c.self.invariant r.result start.0 start.1 reader c.args.write c.check.result c.check.ensures c.in-Ok.field-0 c.in-Ok.is c.args.found.now.rows (rw (← c.self.view_is) at c.requires.rows) _ c.put.result c.index_mut-2.result.now c.put.new.pass c.put.new.rows (sym last) c.put.ensures.puts;
       legal = c.self.invariant.store.transactions.legal;
     })
 
@@ -146,3 +148,28 @@ check-requires-clause-is_open c =
     let r = c.reader_of-reader.ensures in
     rw (r.manager, r.by ∙ (λ i. record { job = f.selected; number = (sym here i).begun }))
     (is_open_here f.kind f.leaves f.manager f.passes.items f.selected f.served f.rows c.self.invariant (rw (← c.self.view_is) at c.requires.current))
+
+pub returns-in-Err-clause-places : goal.returns-in-Err-clause-places
+returns-in-Err-clause-places c =
+    let f = c.self.inside in
+    let core = core_of f.kind f.leaves f.manager f.passes.items f.selected f.served in
+    let start = start_of (current core).start (rw (← c.self.view_is) at c.requires.current) in
+    let here = lent_state f.passes.items f.selected c.index.result.now c.self.invariant.chosen c.index.ensures in
+    let r = c.reader_of-reader in
+    let reader : IsReader core f.manager f.rows c.self.invariant r.result start.0 = record {
+      manager = r.ensures.manager;
+      start_is = some_nat r.result.start start.0 (sym r.ensures.start ∙ ap (λ s. s.start) (sym here) ∙ start.1);
+      by = r.ensures.by ∙ (λ i. record { job = f.selected; number = (sym here i).begun });
+    } in
+    let notes = subst (λ (s : ℕ). Notes c.index_mut.result.now.state s c.args.write c.in-Err.refusal c.note_refusal.result c.note_refusal.new.self.state) reader.start_is c.note_refusal.ensures in
+    rw (← c.self.view_is) (
+      free_bound f.manager,
+      is_free_bound core f.manager c.self.invariant.tied c.clock.ensures.valid,
+      refused_places f.kind f.leaves f.manager f.passes.items f.selected f.served f.rows c.self.invariant r.result start.0 start.1 reader c.args.write c.check.result c.check.ensures c.in-Err.refusal c.note_refusal.result c.in-Err.is _ _ notes _ _ _ _,
+    )
+
+pub returns-clause-places : goal.returns-clause-places
+returns-clause-places c =
+    let f = c.self.inside in
+    let core = core_of f.kind f.leaves f.manager f.passes.items f.selected f.served in
+    rw (← c.self.view_is) (free_bound f.manager, is_free_bound core f.manager c.self.invariant.tied c.clock.ensures.valid, rw (c.free_bound-until.ensures, (rw (← c.self.view_is) at c.requires.rows)) at c.put.ensures.places)
