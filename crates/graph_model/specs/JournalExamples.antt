@@ -253,4 +253,5 @@ pub record CommitExamples : Type 0 where
   pub not_of_other_writes : CommitsBy account (Some 3) (committed 1 (name 2 2) (AddEdge 1 3 1 ∷ [])) → ⊥
   pub not_at_another_stamp : CommitsBy account (Some 2) (committed 1 (name 2 2) account.own) → ⊥
   pub not_without_a_stamp : CommitsBy account None (committed 1 (name 2 2) account.own) → ⊥
-  pub not_of_no_writes : CommitsBy (with_own []) (Some 3) (record (committed 1 (name 2 2) []) { made = [] ∷ [] ∷ [] }) → ⊥
+  pub not_of_no_writes :
+      CommitsBy (with_own []) (Some 3) (record (committed 1 (name 2 2) []) { made = [] ∷ [] ∷ [] }) → ⊥

@@ -2,8 +2,9 @@
 //!
 //! 1. No contract says that a hint is right, or even that there is such a leaf. Whoever takes one looks whether that
 //!    leaf's slot holds the key, which only the slot of the key's own leaf does.
-//! 2. The first hints are in the order of their keys, and are searched. Those that came since stand behind them, and are
-//!    found when all are put in order anew: when a sixteenth of them came or went, or there is no place for one more.
+//! 2. The first hints are in the order of their keys, and are searched. Those that came since stand behind them, and
+//!    are found when all are put in order anew: when a sixteenth of them came or went, or there is no place for one
+//!    more.
 //! 3. Sources are divided into groups of the same width, and where the hints of a group begin is kept. So few hints
 //!    are searched for most keys.
 

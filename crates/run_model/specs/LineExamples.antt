@@ -146,4 +146,5 @@ pub record LineTurnExamples : Type 0 where
   -- no other line scans, and a line that is skipped takes one turn
   pub weight : turns_on Directed (star 64) reading (commands.Weight 65 1) ≡ 1
   pub write : turns_on Directed (star 64) reading (commands.DropEdge 65 1) ≡ 1
-  pub skipped : turns_on Undirected (vertices_to 64) (record reading { start = None; skipping = true }) commands.Count ≡ 1
+  pub skipped :
+      turns_on Undirected (vertices_to 64) (record reading { start = None; skipping = true }) commands.Count ≡ 1

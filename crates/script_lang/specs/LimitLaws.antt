@@ -1,4 +1,4 @@
--- The limit that only scripts have, written out once more: one that is changed by mistake is changed in one place alone.
+-- The limit that only scripts have, written out once more: one that is changed by mistake is changed in one place.
 use Rattle.std.specs.Prelude.{◌≡◌}
 use Rattle.script_lang.specs.declared.arguments.TheConstants.{MAX_WIDTH}
 

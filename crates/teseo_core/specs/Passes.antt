@@ -84,8 +84,8 @@ pub record FindsFull (r : WrittenRows) (until leaves : ℕ) (rows rows' : Leaves
   pub noted_in : new ≡ record old { filled = true }
 
 -- what a write that may be made comes to: it is made, or it finds no place or no memory
-abbrev pub Puts : WrittenRows → TxnName → Write → ℕ → Leaves → Leaves → PassState → PassState → Result (Unit {0}) Refusal
-    → Type 0
+abbrev pub Puts : WrittenRows → TxnName → Write → ℕ → Leaves → Leaves → PassState → PassState
+    → Result (Unit {0}) Refusal → Type 0
 Puts r by w until rows rows' old new (Ok done) = Laid r by w rows rows' old new
 Puts r by w until rows rows' old new (Err refusals.SelfLoop) = ⊥
 Puts r by w until rows rows' old new (Err (refusals.NoVertex v)) = ⊥

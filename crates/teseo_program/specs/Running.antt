@@ -78,8 +78,8 @@ abbrev pub Begins : List (List Command) → ℕ → Type 0
 Begins scripts count =
     (k : ℕ) × (commands : List Command) × (slice_get scripts k ≡ Some commands) × (begun_by 0 commands ≡ count)
 
--- So many leaves, a pass for each script, and one for the load. A pass may begin as many transactions as the script with
--- most of them, and at least one.
+-- So many leaves, a pass for each script, and one for the load. A pass may begin as many transactions as the script
+-- with most of them, and at least one.
 pub record IsConfig (kind : Kind) (leaves : ℕ) (scripts : List (List Command)) (config : Config) : Type 0 where
   pub kind_is : config.kind ≡ kind
   pub leaves_are : config.leaves ≡ leaves
