@@ -7,7 +7,7 @@ COMPLETIONS = $(PREFIX)/share/bash-completion/completions
 PROGRAM = crates/teseo/out/teseo
 ARCHIVE = teseo-$(shell git rev-parse --short HEAD).tar.gz
 
-.PHONY: help demo quick build install uninstall test bench dist clean
+.PHONY: help demo quick build install uninstall test wrong bench dist clean
 
 help:
 	@echo 'make demo       runs an example, checked and not proved, in a minute: EXAMPLE=first'
@@ -17,6 +17,7 @@ help:
 	@echo 'make install    builds, and puts teseo, its manual page and its completion below PREFIX ($(PREFIX))'
 	@echo 'make uninstall  removes them from there'
 	@echo 'make test       the gate: proves every crate from nothing, and runs all tests (an hour)'
+	@echo 'make wrong      tries the wrong bodies that the gate leaves out (half an hour)'
 	@echo 'make bench      builds, and prints a table of times and of memory (some minutes)'
 	@echo 'make dist       packs the last commit into teseo-COMMIT.tar.gz'
 	@echo 'make clean      removes all that was built'
@@ -42,6 +43,9 @@ uninstall:
 
 test:
 	.ci/run
+
+wrong:
+	.ci/wrong
 
 bench:
 	bench/run.sh
