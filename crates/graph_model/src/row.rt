@@ -4,7 +4,7 @@
 //!    stands directly before those of its arcs.
 //! 2. A buffer holds at most 64 rows and never takes memory.
 
-ghost use Rattle.std.specs.Prelude.{◌≡◌, ◌<◌, ◌≤◌, [], ◌∷◌, ◌++◌, ◌==◌, length};
+ghost use Rattle.std.specs.Prelude.{◌≡◌, ◌<◌, ◌≤◌, ◌+◌, ◌*◌, ◌^◌, [], ◌∷◌, ◌++◌, ◌==◌, length};
 ghost use Rattle.graph_model.specs.declared.limits.TheConstants.{MAX_ID};
 ghost use Rattle.graph_model.specs.Rows.{vertex_key, arc_key, end_key, is_below};
 
@@ -50,11 +50,19 @@ impl Key {
         }
     }
 
-    /// Whether its row stands before the other's.
+    /// Whether its row stands before the other's. Both numbers are compared as one, which takes a processor less than
+    /// half of what the two take.
     pub fn is_below(self, other: Key) -> bool
         ensures { result ≡ is_below self other }
     {
-        self < other
+        self.as_one() < other.as_one()
+    }
+
+    /// Both numbers as one, in the order of keys.
+    fn as_one(self) -> u128
+        ensures { result ≡ self.src * 2 ^ 64 + self.second }
+    {
+        (u128::from(self.src) << 64) + u128::from(self.second)
     }
 }
 
