@@ -7,7 +7,7 @@ ghost use Rattle.graph_model.specs.Refused.{IsWithinLimits};
 ghost use Rattle.graph_model.specs.Rows.{is_below, end_key};
 ghost use Rattle.leaf_store.specs.Leaves.{room_at};
 ghost use Rattle.leaf_rows.specs.Laying.{HasTouchedNone, HaveRoom, HaveRows, KeepsContents, Stays};
-ghost use Rattle.leaf_rows.specs.Written.{AreRows, rows_of, touched_keys, written_keys};
+ghost use Rattle.row_writes.specs.Written.{AreRows, rows_of, touched_keys, written_keys};
 ghost use Rattle.undo_chain.specs.declared.touched.Touched.TheVariants.{Never};
 ghost use Rattle.teseo_core.specs.Freeing.{RefusesRoom};
 ghost use Rattle.teseo_core.specs.Keeping.{KeepsService};
@@ -36,7 +36,7 @@ impl Core {
         ensures ok { OnOk result (need ≤ room_at self.new.rows key) }
         ensures refused { IfErr result (λ refusal. RefusesRoom self.old key need refusal self.new) }
     {
-        self.manager.clock();
+        self.manager.is_managed();
         let until = free_bound(&self.manager);
         self.rows.make_cell_room_or_free(key, need, until)
     }

@@ -17,5 +17,5 @@ returns-clause-refused c =
     let f = c.self.inside in
     let core = core_of f.kind f.leaves f.manager f.passes.items f.selected f.served in
     rw (← c.self.view_is) (refuses c.make_cell_room_or_free.result (record { core = core; rows = f.rows; next = f.next.key; turn = f.turn }) (record { core = core; rows = c.make_cell_room_or_free.new.self; next = f.next.key; turn = f.turn }) c.args.key c.args.need (free_bound f.manager)
-    (is_free_bound core f.manager c.self.invariant.tied c.clock.ensures.valid) c.make_cell_room_or_free.ensures.refused
+    (is_free_bound core f.manager c.self.invariant.tied c.is_managed.ensures) c.make_cell_room_or_free.ensures.refused
     (subst (λ n. IfErr c.make_cell_room_or_free.result (λ x. IsSpent n c.make_cell_room_or_free.new.self x)) c.free_bound-until.ensures c.make_cell_room_or_free.ensures.spent))

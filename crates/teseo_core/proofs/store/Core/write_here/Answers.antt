@@ -1,9 +1,10 @@
 use Rattle.std.proofs.Common.{ℕ, sym, ◌∙◌, ap, subst}
 use Rattle.graph_model.specs.OwnerCalls.{current}
-use Rattle.leaf_rows.specs.declared.written.WrittenRows.{WrittenRows}
+use Rattle.row_writes.specs.declared.written.WrittenRows.{WrittenRows}
+use Rattle.leaf_rows.specs.Held.{rows_in}
 use Rattle.leaf_rows.specs.Laying.{HaveRows}
-use Rattle.leaf_rows.specs.Written.{AreRows, touched_keys}
-use Rattle.leaf_rows.proofs.WrittenLemmas.{are_rows, have_rows}
+use Rattle.row_writes.specs.Written.{AreRows, touched_keys}
+use Rattle.row_writes.proofs.WrittenLemmas.{are_rows, have_rows}
 use Rattle.teseo_core.specs.Passes.{Notes}
 use Rattle.teseo_core.specs.Keeping.{core_of}
 use Rattle.teseo_core.proofs.FieldLemmas.{is_open_here, lent_state, start_of, some_nat}
@@ -60,7 +61,7 @@ put-requires-clause-rows c =
       by = r.ensures.by ∙ (λ i. record { job = f.selected; number = (sym here i).begun });
     } in
     let rows = rw (← c.self.view_is) at c.requires.rows in
-    subst AreRows (sym rows) (are_rows f.kind c.args.write f.rows c.requires.within (may_lay f.kind f.leaves f.manager f.passes.items f.selected f.served f.rows c.self.invariant r.result start.0 start.1 reader c.args.write c.check.result c.check.ensures c.in-Ok.field-0 c.in-Ok.is))
+    subst AreRows (sym rows) (are_rows f.kind c.args.write (rows_in f.rows) c.requires.within (may_lay f.kind f.leaves f.manager f.passes.items f.selected f.served f.rows c.self.invariant r.result start.0 start.1 reader c.args.write c.check.result c.check.ensures c.in-Ok.field-0 c.in-Ok.is))
 
 pub put-requires-clause-ends : goal.put-requires-clause-ends
 put-requires-clause-ends c =
@@ -75,7 +76,7 @@ put-requires-clause-ends c =
       by = r.ensures.by ∙ (λ i. record { job = f.selected; number = (sym here i).begun });
     } in
     let rows = rw (← c.self.view_is) at c.requires.rows in
-    subst (λ (r : WrittenRows). HaveRows f.rows (touched_keys r)) (sym rows) (have_rows f.kind c.args.write f.rows (may_lay f.kind f.leaves f.manager f.passes.items f.selected f.served f.rows c.self.invariant r.result start.0 start.1 reader c.args.write c.check.result c.check.ensures c.in-Ok.field-0 c.in-Ok.is))
+    subst (λ (r : WrittenRows). HaveRows f.rows (touched_keys r)) (sym rows) (have_rows f.kind c.args.write (rows_in f.rows) (may_lay f.kind f.leaves f.manager f.passes.items f.selected f.served f.rows c.self.invariant r.result start.0 start.1 reader c.args.write c.check.result c.check.ensures c.in-Ok.field-0 c.in-Ok.is))
 
 pub put-requires-clause-never : goal.put-requires-clause-never
 put-requires-clause-never c = λ never.
