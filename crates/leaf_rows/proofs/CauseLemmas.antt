@@ -11,15 +11,21 @@ use Rattle.graph_model.specs.Transactions.{stamp_in}
 use Rattle.graph_model.proofs.StampLemmas.{stamp_none}
 use Rattle.graph_model.proofs.TestLemmas.{name_eq}
 use Rattle.store_model.specs.Stamped.{Stamped, StampedVersions, forget, forget_row}
-use Rattle.store_model.specs.Check.{check, newest, droppers, no_value}
+use Rattle.store_model.specs.Check.{check, looked, newest, droppers, no_value}
 use Rattle.txn_manager.specs.Manager.{Manager, IsManaged, open_start, state_from, state_of}
 use Rattle.undo_chain.specs.declared.states.Snapshot.{Snapshot}
 use Rattle.undo_chain.specs.States.{Grows}
 use Rattle.version_segment.specs.Checks.{IsChecked, IsStateBy, AreStatesOf, newest_of, newest_and_touches, drops_in, drops_of}
 use Rattle.version_segment.specs.Laws.{IsFit, AreFit}
 use Rattle.version_segment.proofs.LawLemmas.{blocked_is_check}
+use Rattle.graph_model.specs.declared.row.Key.{Key}
+use Rattle.graph_model.specs.declared.write.Write.{Write}
+use Rattle.graph_model.specs.declared.write.Write.TheVariants.{AddVertex, DropVertex, AddEdge, SetEdge, DropEdge}
+use Rattle.graph_model.specs.Rows.{vertex_key, arc_key}
+use Rattle.leaf_store.specs.Leaves.{Leaves, contents_of, versions_of}
+use Rattle.row_writes.specs.Checks.{looked_at}
 use Rattle.leaf_rows.specs.Known.{knowledge_of, same_state}
-use Rattle.leaf_rows.specs.Readers.{HaveNoStamp, IsUnstamped}
+use Rattle.leaf_rows.specs.Readers.{AreUnstamped, HaveNoStamp, IsUnstamped}
 use Rattle.leaf_rows.proofs.KnownLemmas.{state_self, state_eq}
 
 -- ---- states
@@ -77,13 +83,13 @@ both_none : (ps qs : List Stamped) → HaveNoStamp ps → HaveNoStamp qs → Hav
 both_none [] qs one two = two
 both_none (p ∷ ps) qs one two = (one.0, both_none ps qs one.1 two)
 
-pub newest_none : (vs : StampedVersions) → IsUnstamped vs → HaveNoStamp (newest_of vs)
+newest_none : (vs : StampedVersions) → IsUnstamped vs → HaveNoStamp (newest_of vs)
 newest_none vs none = first_none vs.pairs none.pairs
 
-pub removal_none : (vs : StampedVersions) → IsUnstamped vs → HaveNoStamp (newest_and_touches vs)
+removal_none : (vs : StampedVersions) → IsUnstamped vs → HaveNoStamp (newest_and_touches vs)
 removal_none vs none = both_none (take 1 vs.pairs) vs.touches (first_none vs.pairs none.pairs) none.touches
 
-pub drops_none : (vs : StampedVersions) → IsUnstamped vs → HaveNoStamp (drops_of vs)
+drops_none : (vs : StampedVersions) → IsUnstamped vs → HaveNoStamp (drops_of vs)
 drops_none vs none = go vs.pairs none.pairs
   where
     go : (ps : List Stamped) → HaveNoStamp ps → HaveNoStamp (drops_in ps)
@@ -94,21 +100,21 @@ drops_none vs none = go vs.pairs none.pairs
         keep true rest = (h.0, rest)
         keep false rest = rest
 
-pub newest_names : (vs : StampedVersions) → map (λ p. p.by) (newest_of vs) ≡ newest (forget_row vs)
+newest_names : (vs : StampedVersions) → map (λ p. p.by) (newest_of vs) ≡ newest (forget_row vs)
 newest_names vs = go vs.pairs
   where
     go : (ps : List Stamped) → map (λ p. p.by) (take 1 ps) ≡ map (λ p. p.by) (take 1 (map forget ps))
     go [] = refl
     go (p ∷ ps) = refl
 
-pub removal_names : (vs : StampedVersions) → map (λ p. p.by) (newest_and_touches vs) ≡ newest (forget_row vs) ++ (forget_row vs).touches
+removal_names : (vs : StampedVersions) → map (λ p. p.by) (newest_and_touches vs) ≡ newest (forget_row vs) ++ (forget_row vs).touches
 removal_names vs = go vs.pairs
   where
     go : (ps : List Stamped) → map (λ p. p.by) (take 1 ps ++ vs.touches) ≡ map (λ p. p.by) (take 1 (map forget ps)) ++ map (λ p. p.by) vs.touches
     go [] = refl
     go (p ∷ ps) = refl
 
-pub drops_names : (vs : StampedVersions) → map (λ p. p.by) (drops_of vs) ≡ droppers (forget_row vs)
+drops_names : (vs : StampedVersions) → map (λ p. p.by) (drops_of vs) ≡ droppers (forget_row vs)
 drops_names vs = go vs.pairs
   where
     go : (ps : List Stamped) → map (λ p. p.by) (drops_in ps) ≡ map (λ p. p.by) (filter (λ p. no_value p.value) (map forget ps))
@@ -119,3 +125,33 @@ drops_names vs = go vs.pairs
             → map (λ p. p.by) (cond t (p ∷ drops_in ps) (drops_in ps)) ≡ map (λ p. p.by) (cond t (forget p ∷ filter (λ p. no_value p.value) (map forget ps)) (filter (λ p. no_value p.value) (map forget ps)))
         keep true rest = ap (λ ns. p.by ∷ ns) rest
         keep false rest = rest
+
+-- ---- at whom a write looks
+
+module _ (s : Leaves) (none : AreUnstamped s) where
+  at_row : (k : Key) → IsUnstamped (versions_of s k)
+  at_row k = record { pairs = none.pairs k; touches = none.touches k }
+
+  -- none of the records has a stamp
+  pub looked_none : (w : Write) → HaveNoStamp (looked_at w (versions_of s))
+  looked_none (AddVertex v) = newest_none _ (at_row (vertex_key v))
+  looked_none (DropVertex v) = removal_none _ (at_row (vertex_key v))
+  looked_none (AddEdge u v weight) =
+      both_none _ _ (newest_none _ (at_row (arc_key u v))) (both_none _ _ (drops_none _ (at_row (vertex_key u))) (drops_none _ (at_row (vertex_key v))))
+  looked_none (SetEdge u v weight) = newest_none _ (at_row (arc_key u v))
+  looked_none (DropEdge u v) = newest_none _ (at_row (arc_key u v))
+
+names_of_both : (ps qs : List Stamped) → map (λ p. p.by) (ps ++ qs) ≡ map (λ p. p.by) ps ++ map (λ p. p.by) qs
+names_of_both [] qs = refl
+names_of_both (p ∷ ps) qs = ap (λ ns. p.by ∷ ns) (names_of_both ps qs)
+
+-- and their writers are those at whom the write looks
+pub looked_names : (s : Leaves) (w : Write) → map (λ p. p.by) (looked_at w (versions_of s)) ≡ looked w (contents_of s)
+looked_names s (AddVertex v) = newest_names (versions_of s (vertex_key v))
+looked_names s (DropVertex v) = removal_names (versions_of s (vertex_key v))
+looked_names s (AddEdge u v weight) =
+    names_of_both (newest_of (versions_of s (arc_key u v))) _
+    ∙ (λ i. newest_names (versions_of s (arc_key u v)) i ++ (names_of_both (drops_of (versions_of s (vertex_key u))) (drops_of (versions_of s (vertex_key v)))
+    ∙ (λ j. drops_names (versions_of s (vertex_key u)) j ++ drops_names (versions_of s (vertex_key v)) j)) i)
+looked_names s (SetEdge u v weight) = newest_names (versions_of s (arc_key u v))
+looked_names s (DropEdge u v) = newest_names (versions_of s (arc_key u v))

@@ -17,6 +17,7 @@ use Rattle.store_model.specs.Stamped.{forget_row}
 use Rattle.undo_chain.specs.declared.states.Snapshot.{Snapshot}
 use Rattle.version_segment.specs.Rows.{VersionedRows, versions_at}
 use Rattle.leaf_store.specs.Leaves.{Leaves, AreLeaves, cells_of, cell_at}
+use Rattle.row_writes.proofs.CheckLemmas.{not_zero, weight_is_value}
 use Rattle.leaf_rows.specs.Runs.{ShowsBy, lesser, run_end, has_second}
 use Rattle.leaf_rows.proofs.ScanLemmas.{none_beyond, below_lesser}
 
@@ -82,15 +83,6 @@ out_key v k between = (grind (arith, nat_tests), grind (arith, nat_tests))
 
 key_out : (v w : ℕ) → is_between (first_arc v) (vertex_key (v + 1)) (arc_key v w) ≡ true
 key_out v w = grind (arith, nat_tests)
-
-not_zero : (n : ℕ) → (n + 1 == 0) ≡ false
-not_zero n = grind (arith, nat_tests)
-
--- an arc's row has its weight
-pub weight_is_value : (g : Graph) (u v : ℕ) → value_at g (arc_key u v) ≡ weight_of g u v
-weight_is_value g u v =
-    let back : v + 1 - 1 ≡ v = omega arith in
-    ap (λ t. cond t (cond (has_vertex g u) (Some 0) None) (weight_of g u (v + 1 - 1))) (not_zero v) ∙ ap (weight_of g u) back
 
 -- the value of an arc's key
 arc_value : (g : Graph) (k : Key) (w : ℕ) → (k.second == 0) ≡ false → value_at g k ≡ Some w → weight_of g k.src (k.second - 1) ≡ Some w

@@ -35,9 +35,8 @@ use Rattle.leaf_rows.specs.Checks.{FitsKind}
 use Rattle.leaf_rows.specs.Filling.{row_at, write_rows, load_rows, times, code, code_at}
 use Rattle.leaf_rows.specs.Loaded.{AreLoaded, IsLoadTooLarge}
 use Rattle.leaf_rows.specs.Readers.{AreUnstamped}
-use Rattle.leaf_rows.proofs.EdgeLemmas.{weight_is_value}
-use Rattle.leaf_rows.proofs.LayLemmas.{below_end, key_self, arcs_apart}
-use Rattle.leaf_rows.proofs.StepLemmas.{key_eq}
+use Rattle.row_writes.proofs.CheckLemmas.{weight_is_value}
+use Rattle.row_writes.proofs.KeyLemmas.{arcs_apart, below_end, key_eq, key_self}
 
 -- ---- sums over rows
 

@@ -2,8 +2,7 @@ pub mod KnownLemmas
 pub mod CauseLemmas
 pub mod CheckLemmas
 pub mod CellLemmas
-pub mod StepLemmas
-pub mod LayLemmas
+pub mod HeldLemmas
 pub mod RoomLemmas
 pub mod RunLemmas
 pub mod ScanLemmas
@@ -13,5 +12,4 @@ pub mod CountLemmas
 pub mod FillLemmas
 pub mod SweepLemmas
 pub mod MergeLemmas
-pub mod WrittenLemmas
 pub mod PlacingLemmas

@@ -1,14 +1,12 @@
 -- When a write may be laid in rows, the room that it wants, and what calls leave.
-use Rattle.std.specs.Prelude.{◌≡◌, ◌==◌, ◌&&◌, ℕ, ◌-◌, ◌*◌, ◌^◌, ◌<◌, ◌≤◌, min, true, false, not, List, [], count_by, Option}
-use Rattle.std.specs.List.{AllByRecursion}
+use Rattle.std.specs.Prelude.{◌≡◌, ℕ, ◌-◌, ◌*◌, ◌^◌, ◌<◌, ◌≤◌, min, true, false, not, List, [], count_by, Option}
 use Rattle.graph_model.specs.declared.limits.TheConstants.{SPLIT_ROWS}
 use Rattle.graph_model.specs.declared.row.Key.{Key}
 use Rattle.graph_model.specs.declared.journal.TxnName.{TxnName}
 use Rattle.graph_model.specs.declared.write.Kind.{Kind}
 use Rattle.graph_model.specs.declared.write.Write.{Write}
-use Rattle.graph_model.specs.declared.write.Write.TheVariants.{AddVertex, DropVertex, AddEdge, SetEdge, DropEdge}
 use Rattle.graph_model.specs.Effects.{keys_of}
-use Rattle.graph_model.specs.Rows.{is_between, vertex_key}
+use Rattle.graph_model.specs.Rows.{is_between}
 use Rattle.graph_model.specs.Transactions.{has_name}
 use Rattle.txn_manager.specs.declared.config.RoomRefusal.{RoomRefusal}
 use Rattle.txn_manager.specs.declared.config.RoomRefusal.TheVariants as refusals
@@ -17,6 +15,9 @@ use Rattle.leaf_store.specs.Leaves.{Leaves, IsLeafOf, contents_of, has_row, reco
 use Rattle.leaf_index.specs.Calls.{freed_of}
 use Rattle.leaf_store.specs.Changes.{IsFull}
 use Rattle.leaf_store.specs.declared.store.Pruned.{Pruned}
+use Rattle.row_writes.specs.Held as held
+use Rattle.row_writes.specs.Laying as laying
+use Rattle.leaf_rows.specs.Held.{rows_in}
 
 -- how many of the rows that a write writes are missing
 abbrev pub missing : Leaves → Kind → Write → ℕ
@@ -24,21 +25,11 @@ missing s kind w = count_by (λ k. not (has_row s k)) (keys_of kind w)
 
 -- each of these keys has a row
 abbrev pub HaveRows : Leaves → List Key → Type 0
-HaveRows s keys = AllByRecursion (λ k. has_row s k ≡ true) keys
-
--- both ends of an edge have a row
-pub record HasEnds (s : Leaves) (u v : ℕ) : Type 0 where
-  pub apart : (u == v) ≡ false
-  pub source : has_row s (vertex_key u) ≡ true
-  pub target : has_row s (vertex_key v) ≡ true
+HaveRows s keys = held.HaveRows (rows_in s) keys
 
 -- a write may be laid: an edge has two ends, and one that is added touches them
 abbrev pub MayLay : Leaves → Write → Type 0
-MayLay s (AddVertex v) = Unit {0}
-MayLay s (DropVertex v) = Unit {0}
-MayLay s (AddEdge u v weight) = HasEnds s u v
-MayLay s (SetEdge u v weight) = (u == v) ≡ false
-MayLay s (DropEdge u v) = (u == v) ≡ false
+MayLay s w = laying.MayLay (rows_in s) w
 
 -- the transaction has touched no row
 abbrev pub HasTouchedNone : Leaves → TxnName → Type 0
@@ -46,11 +37,11 @@ HasTouchedNone s by = (k : Key) → has_name (contents_of s k).touches by ≡ fa
 
 -- how many of these keys have no row and share the key's cell
 abbrev pub wanted : Leaves → Key → List Key → ℕ
-wanted s k keys = count_by (λ q. not (has_row s q) && shares s k q) keys
+wanted s k keys = held.wanted (rows_in s) k keys
 
 -- each of these keys that is missing finds a place, those that share a cell together
 abbrev pub HaveRoom : Leaves → List Key → Type 0
-HaveRoom s keys = (k : Key) → has_row s k ≡ false → wanted s k keys ≤ room_at s k
+HaveRoom s keys = held.HaveRoom (rows_in s) keys
 
 -- each missing row of the write finds its place, those that share a cell together
 abbrev pub HasRoomFor : Leaves → Kind → Write → Type 0

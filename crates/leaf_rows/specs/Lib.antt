@@ -1,12 +1,11 @@
 pub mod Readers
 pub mod Known
-pub mod Found
 pub mod Checks
+pub mod Held
 pub mod Laying
 pub mod Steps
 pub mod Runs
 pub mod Loaded
 pub mod Counted
 pub mod Filling
-pub mod Written
 pub mod Placing

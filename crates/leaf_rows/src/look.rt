@@ -2,12 +2,13 @@
 
 ghost use Rattle.std.specs.Prelude.{◌≡◌};
 ghost use Rattle.graph_model.specs.Refused.{IsWithinLimits};
-ghost use Rattle.leaf_rows.specs.Written.{rows_of};
+ghost use Rattle.row_writes.specs.Written.{rows_of};
 
+use crate::held::{Fingers, FoundRows};
 use crate::rows::LeafRows;
-use crate::written::{EndKeys, Fingers, FoundRows, WrittenRows};
 use graph_model::{Kind, Write};
 use leaf_store::Finger;
+use row_writes::{EndKeys, WrittenRows};
 
 impl LeafRows {
     /// Finds the rows of a write, and those of an edge's ends. Nothing that contracts see changes.
@@ -21,9 +22,7 @@ impl LeafRows {
             Some(ends) => self.find_edge(&rows, ends),
             None => Fingers {
                 row: self.store.find(rows.row),
-                back: Finger::nowhere(),
-                source: Finger::nowhere(),
-                target: Finger::nowhere(),
+                ..Fingers::alike(Finger::nowhere())
             },
         };
         FoundRows { rows, near }

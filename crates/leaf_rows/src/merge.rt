@@ -9,12 +9,12 @@ ghost use Rattle.leaf_store.specs.declared.pair.TheConstants.{STAMPS_END};
 ghost use Rattle.leaf_store.specs.Changes.{IsRoomRefusal};
 ghost use Rattle.leaf_store.specs.Leaves.{record_count, room_at};
 ghost use Rattle.leaf_store.specs.Merging.{FreesRetired, IsCompact, IsMergeStep};
-ghost use Rattle.leaf_rows.specs.Written.{AreRows, written_keys};
+ghost use Rattle.row_writes.specs.Written.{AreRows, written_keys};
 ghost use Rattle.leaf_rows.specs.Laying.{HaveRoom, IsNoPlace, IsSpent, KeepsContents};
 ghost use Rattle.leaf_rows.specs.Placing.{MakesRoomOrFrees, PlacesOrFrees};
 
+use crate::held::FoundRows;
 use crate::rows::LeafRows;
-use crate::written::FoundRows;
 use graph_model::{Key, NoMemory};
 use txn_manager::RoomRefusal;
 

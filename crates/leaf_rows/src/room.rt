@@ -16,10 +16,10 @@ ghost use Rattle.leaf_rows.specs.Laying.{IsNoPlace, Stays, wanted};
 ghost use Rattle.leaf_rows.specs.Steps.{IsNeed, KeepsRoom, keys_with, wanted_in};
 ghost use Rattle.leaf_rows.specs.Laying.{HaveRoom};
 ghost use Rattle.leaf_rows.specs.Placing.{PlacesKeys};
-ghost use Rattle.leaf_rows.specs.Written.{AreRows, written_keys};
+ghost use Rattle.row_writes.specs.Written.{AreRows, written_keys};
 
+use crate::held::FoundRows;
 use crate::rows::LeafRows;
-use crate::written::FoundRows;
 use graph_model::Key;
 use leaf_store::Finger;
 use txn_manager::RoomRefusal;

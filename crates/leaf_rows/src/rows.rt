@@ -3,6 +3,7 @@
 ghost use Rattle.std.specs.Prelude.{◌≡◌, ◌≤◌, ◌-◌, IfOk, length};
 ghost use Rattle.graph_model.specs.declared.limits.TheConstants.{MAX_LEAVES};
 ghost use Rattle.leaf_rows.specs.Loaded.{AreNone};
+ghost use Rattle.leaf_rows.specs.Readers.{AreUnstamped};
 
 use graph_model::NoMemory;
 use leaf_store::LeafStore;
@@ -43,6 +44,13 @@ impl LeafRows {
         Ok(LeafRows {
             store: LeafStore::new(alloc, leaves)?,
         })
+    }
+
+    /// No record in the rows has a stamp.
+    pub(crate) fn is_unstamped(&self)
+        ensures { AreUnstamped self.now }
+    {
+        self.store.is_sound();
     }
 
     /// How many leaves are neither free nor retired.

@@ -19,11 +19,12 @@ use Rattle.graph_model.proofs.ViewLemmas.{view_symmetric}
 use Rattle.graph_model.proofs.WriteLemmas.{allowed_ends}
 use Rattle.txn_manager.specs.Manager.{Manager}
 use Rattle.leaf_rows.specs.declared.reader.Reader.{Reader}
-use Rattle.leaf_rows.specs.Checks.{answer_of, refusal_in, IsChecked, FitsKind}
-use Rattle.leaf_rows.specs.declared.written.WrittenRows.{WrittenRows}
+use Rattle.row_writes.specs.Checks.{answer_of, refusal_in}
+use Rattle.leaf_rows.specs.Checks.{IsChecked, FitsKind}
+use Rattle.row_writes.specs.declared.written.WrittenRows.{WrittenRows}
 use Rattle.leaf_rows.specs.Laying.{MayLay, missing}
-use Rattle.leaf_rows.specs.Written.{rows_after, rows_of, written_keys}
-use Rattle.leaf_rows.proofs.WrittenLemmas.{after_is, keys_are}
+use Rattle.row_writes.specs.Written.{rows_after, rows_of, written_keys}
+use Rattle.row_writes.proofs.WrittenLemmas.{after_is, keys_are}
 use Rattle.store_model.specs.Layers.{after_write}
 use Rattle.leaf_rows.specs.Readers.{Shows}
 use Rattle.leaf_store.specs.Leaves.{Leaves, contents_of, has_row, weight}
@@ -276,7 +277,7 @@ module _ (kind : Kind) (leaves : ℕ) (m : Manager) (passes : List RoomyPass) (s
           → Puts found r.by w until rows rows' p.state p'.state done → IsKept (core_of kind leaves m (slice_set passes selected p') selected served) m rows'
       put_kept within until (Ok u) p p' rows' here laid = subst (λ c. IsKept c m rows') (sym (put_core kind leaves m passes selected served rows is p' m refl))
           (kept_written core m rows is start opened w p'.state rows' within nothing.0 nothing.1 (laid.noted_in ∙ ap (λ s. with_one_write s w) here)
-          (λ q. laid.contents q ∙ ap (λ x. rows_after r.by x q (contents_of rows q)) found_is ∙ after_is kind r.by w q (contents_of rows q) ∙ ap (λ n. after_write kind n w q (contents_of rows q)) reader.by)
+          (λ q. laid.contents q ∙ ap (λ x. rows_after r.by x q (contents_of rows q)) found_is ∙ after_is kind w q r.by (contents_of rows q) ∙ ap (λ n. after_write kind n w q (contents_of rows q)) reader.by)
           (let more = laid.weight_is in omega (arith, more, missing_is, few)) laid.limit)
       put_kept within until (Err e) p p' rows' here puts = by_refusal e puts
         where

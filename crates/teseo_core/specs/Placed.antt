@@ -7,10 +7,10 @@ use Rattle.graph_model.specs.declared.refusal.Refusal.TheVariants as refusals
 use Rattle.graph_model.specs.declared.write.Write.{Write}
 use Rattle.txn_manager.specs.declared.config.RoomRefusal.TheVariants as room_refusals
 use Rattle.leaf_store.specs.Leaves.{Leaves, contents_of, has_row, weight}
-use Rattle.leaf_rows.specs.declared.written.WrittenRows.{WrittenRows}
+use Rattle.row_writes.specs.declared.written.WrittenRows.{WrittenRows}
 use Rattle.leaf_rows.specs.Laying.{HaveRoom, IsNoPlace, IsSpent}
 use Rattle.leaf_rows.specs.Placing.{FindsPlaces}
-use Rattle.leaf_rows.specs.Written.{rows_of, written_keys}
+use Rattle.row_writes.specs.Written.{rows_of, written_keys}
 use Rattle.teseo_core.specs.Freeing.{IsFreeBound}
 use Rattle.teseo_core.specs.Keeping.{Store}
 

@@ -66,7 +66,7 @@ fn end_load(manager: &mut TxnManager, by: TxnName, load: Writes)
     if load.is_empty() {
         manager.end_txn(by);
     } else {
-        let _stamp = manager.push_commit(by, load);
+        manager.push_commit(by, load);
     }
 }
 

@@ -47,7 +47,7 @@ impl Core {
     pub fn sweep_step(&mut self) -> bool
         ensures { Sweeps self.old self.new result }
     {
-        self.manager.clock();
+        self.manager.is_managed();
         let horizon = self.manager.horizon();
         let pruned = self.rows.sweep_leaf(self.next.key, &self.manager, horizon);
         self.next = SweepKey::from_first(pruned.high);

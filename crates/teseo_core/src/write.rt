@@ -7,7 +7,7 @@ ghost use Rattle.graph_model.specs.Refused.{IsWithinLimits};
 ghost use Rattle.graph_model.specs.Rows.{is_below, end_key};
 ghost use Rattle.leaf_store.specs.Leaves.{room_at};
 ghost use Rattle.leaf_rows.specs.Laying.{HasTouchedNone, HaveRoom, HaveRows, KeepsContents, Stays};
-ghost use Rattle.leaf_rows.specs.Written.{AreRows, rows_of, touched_keys, written_keys};
+ghost use Rattle.row_writes.specs.Written.{AreRows, rows_of, touched_keys, written_keys};
 ghost use Rattle.undo_chain.specs.declared.touched.Touched.TheVariants.{Never};
 ghost use Rattle.leaf_rows.specs.Placing.{MakesRoomOrFrees};
 ghost use Rattle.teseo_core.specs.Freeing.{IsFreeBound, RefusesRoom};
@@ -40,7 +40,7 @@ impl Core {
             × MakesRoomOrFrees until self.old.rows self.new.rows key need) }
         ensures refused { IfErr result (λ refusal. RefusesRoom self.old key need refusal self.new) }
     {
-        self.manager.clock();
+        self.manager.is_managed();
         let until = free_bound(&self.manager);
         self.rows.make_cell_room_or_free(key, need, until)
     }
@@ -75,7 +75,7 @@ impl Core {
         ensures service { KeepsService self.old self.new }
         ensures places { FullIsExact self.old write result self.new }
     {
-        self.manager.clock();
+        self.manager.is_managed();
         let pass = self.selected as usize;
         let reader = reader_of(&self.manager, &self.passes[pass], self.selected);
         let start = reader.start;

@@ -124,10 +124,16 @@ impl TxnManager {
         }
     }
 
+    /// What holds of each manager.
+    pub fn is_managed(&self)
+        ensures { IsManaged self.now }
+    {
+        let _ = &self.journal;
+    }
+
     /// How many transactions have committed.
     pub fn clock(&self) -> u64
-        ensures clock { result ≡ length self.now.journal }
-        ensures valid { IsManaged self.now }
+        ensures { result ≡ length self.now.journal }
     {
         self.journal.len() as u64
     }

@@ -18,11 +18,11 @@ returns-clause-refused c =
     let f = c.self.inside in
     let core = core_of f.kind f.leaves f.manager f.passes.items f.selected f.served in
     rw (← c.self.view_is) (refuses c.make_cell_room_or_free.result (record { core = core; rows = f.rows; next = f.next.key; turn = f.turn }) (record { core = core; rows = c.make_cell_room_or_free.new.self; next = f.next.key; turn = f.turn }) c.args.key c.args.need (free_bound f.manager)
-    (is_free_bound core f.manager c.self.invariant.tied c.clock.ensures.valid) c.make_cell_room_or_free.ensures.refused
+    (is_free_bound core f.manager c.self.invariant.tied c.is_managed.ensures) c.make_cell_room_or_free.ensures.refused
     (subst (λ n. IfErr c.make_cell_room_or_free.result (λ x. IsSpent n c.make_cell_room_or_free.new.self x)) c.free_bound-until.ensures c.make_cell_room_or_free.ensures.spent))
 
 pub returns-clause-made : goal.returns-clause-made
 returns-clause-made c =
     let f = c.self.inside in
     let core = core_of f.kind f.leaves f.manager f.passes.items f.selected f.served in
-    rw (← c.self.view_is) (on_ok_weaker c.make_cell_room_or_free.result (λ made. (free_bound f.manager, is_free_bound core f.manager c.self.invariant.tied c.clock.ensures.valid, rw c.free_bound-until.ensures at made)) c.make_cell_room_or_free.ensures.made)
+    rw (← c.self.view_is) (on_ok_weaker c.make_cell_room_or_free.result (λ made. (free_bound f.manager, is_free_bound core f.manager c.self.invariant.tied c.is_managed.ensures, rw c.free_bound-until.ensures at made)) c.make_cell_room_or_free.ensures.made)

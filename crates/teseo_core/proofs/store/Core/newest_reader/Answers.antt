@@ -6,4 +6,4 @@ pub returns-clause-shows : goal.returns-clause-shows
 returns-clause-shows c =
     let f = c.self.inside in
     let core = core_of f.kind f.leaves f.manager f.passes.items f.selected f.served in
-    rw (← c.self.view_is) (newest_read core f.manager f.rows c.self.invariant c.outsider.result (rw (← c.self.view_is) at c.outsider.ensures) c.clock.result c.clock.ensures.clock)
+    rw (← c.self.view_is) (newest_read core f.manager f.rows c.self.invariant c.outsider.result (rw (← c.self.view_is) at c.outsider.ensures) c.clock.result c.clock.ensures)

@@ -13,7 +13,7 @@ invariant_of-self c =
     let f = c.self.inside in
     let core = core_of f.kind f.leaves f.manager f.passes.items f.selected f.served in
     let settled = kept_settled core f.manager f.rows c.self.invariant (rw (← c.self.view_is) at c.requires) c.settle.new.self
-    (λ k. c.settle.ensures.contents k ∙ ap (λ (n : ℕ). prune (stamp_in f.manager.journal) n (contents_of f.rows k)) c.clock.ensures.clock) c.settle.ensures.limit c.settle.ensures.weight in
+    (λ k. c.settle.ensures.contents k ∙ ap (λ (n : ℕ). prune (stamp_in f.manager.journal) n (contents_of f.rows k)) c.clock.ensures) c.settle.ensures.limit c.settle.ensures.weight in
     let merged = kept_moved core f.manager c.settle.new.self settled c.merge_all.new.self c.merge_all.ensures.contents in
     kept_moved core f.manager c.merge_all.new.self merged c.free_retired.new.self c.free_retired.ensures.contents
 
@@ -22,7 +22,7 @@ returns-clause-settled c =
     let f = c.self.inside in
     let core = core_of f.kind f.leaves f.manager f.passes.items f.selected f.served in
     let settled = all_settled core f.manager f.rows c.self.invariant (rw (← c.self.view_is) at c.requires) c.settle.new.self
-    (λ k. c.settle.ensures.contents k ∙ ap (λ (n : ℕ). prune (stamp_in f.manager.journal) n (contents_of f.rows k)) c.clock.ensures.clock) in
+    (λ k. c.settle.ensures.contents k ∙ ap (λ (n : ℕ). prune (stamp_in f.manager.journal) n (contents_of f.rows k)) c.clock.ensures) in
     let rows = λ (k : Key). c.free_retired.ensures.contents.contents k ∙ c.merge_all.ensures.contents.contents k ∙ settled k in
     record {
       rows = rows;

@@ -1,9 +1,10 @@
 use Rattle.std.proofs.Common.{ℕ, sym, ◌∙◌, ap, subst}
 use Rattle.graph_model.specs.OwnerCalls.{current}
-use Rattle.leaf_rows.specs.declared.written.WrittenRows.{WrittenRows}
+use Rattle.row_writes.specs.declared.written.WrittenRows.{WrittenRows}
+use Rattle.leaf_rows.specs.Held.{rows_in}
 use Rattle.leaf_rows.specs.Laying.{HaveRows}
-use Rattle.leaf_rows.specs.Written.{AreRows, touched_keys}
-use Rattle.leaf_rows.proofs.WrittenLemmas.{are_rows, have_rows}
+use Rattle.row_writes.specs.Written.{AreRows, touched_keys}
+use Rattle.row_writes.proofs.WrittenLemmas.{are_rows, have_rows}
 use Rattle.teseo_core.specs.Freeing.{free_bound}
 use Rattle.teseo_core.specs.Passes.{Notes}
 use Rattle.teseo_core.specs.Keeping.{core_of}
@@ -62,7 +63,7 @@ put-requires-clause-rows c =
       by = r.ensures.by ∙ (λ i. record { job = f.selected; number = (sym here i).begun });
     } in
     let rows = rw (← c.self.view_is) at c.requires.rows in
-    subst AreRows (sym rows) (are_rows f.kind c.args.write f.rows c.requires.within (may_lay f.kind f.leaves f.manager f.passes.items f.selected f.served f.rows c.self.invariant r.result start.0 start.1 reader c.args.write c.check.result c.check.ensures c.in-Ok.field-0 c.in-Ok.is))
+    subst AreRows (sym rows) (are_rows f.kind c.args.write (rows_in f.rows) c.requires.within (may_lay f.kind f.leaves f.manager f.passes.items f.selected f.served f.rows c.self.invariant r.result start.0 start.1 reader c.args.write c.check.result c.check.ensures c.in-Ok.field-0 c.in-Ok.is))
 
 pub put-requires-clause-ends : goal.put-requires-clause-ends
 put-requires-clause-ends c =
@@ -77,7 +78,7 @@ put-requires-clause-ends c =
       by = r.ensures.by ∙ (λ i. record { job = f.selected; number = (sym here i).begun });
     } in
     let rows = rw (← c.self.view_is) at c.requires.rows in
-    subst (λ (r : WrittenRows). HaveRows f.rows (touched_keys r)) (sym rows) (have_rows f.kind c.args.write f.rows (may_lay f.kind f.leaves f.manager f.passes.items f.selected f.served f.rows c.self.invariant r.result start.0 start.1 reader c.args.write c.check.result c.check.ensures c.in-Ok.field-0 c.in-Ok.is))
+    subst (λ (r : WrittenRows). HaveRows f.rows (touched_keys r)) (sym rows) (have_rows f.kind c.args.write (rows_in f.rows) (may_lay f.kind f.leaves f.manager f.passes.items f.selected f.served f.rows c.self.invariant r.result start.0 start.1 reader c.args.write c.check.result c.check.ensures c.in-Ok.field-0 c.in-Ok.is))
 
 pub put-requires-clause-never : goal.put-requires-clause-never
 put-requires-clause-never c = λ never.
@@ -164,7 +165,7 @@ returns-in-Err-clause-places c =
     let notes = subst (λ (s : ℕ). Notes c.index_mut.result.now.state s c.args.write c.in-Err.refusal c.note_refusal.result c.note_refusal.new.self.state) reader.start_is c.note_refusal.ensures in
     rw (← c.self.view_is) (
       free_bound f.manager,
-      is_free_bound core f.manager c.self.invariant.tied c.clock.ensures.valid,
+      is_free_bound core f.manager c.self.invariant.tied c.is_managed.ensures,
       refused_places f.kind f.leaves f.manager f.passes.items f.selected f.served f.rows c.self.invariant r.result start.0 start.1 reader c.args.write c.check.result c.check.ensures c.in-Err.refusal c.note_refusal.result c.in-Err.is _ _ notes _ _ _ _,
     )
 
@@ -172,4 +173,4 @@ pub returns-clause-places : goal.returns-clause-places
 returns-clause-places c =
     let f = c.self.inside in
     let core = core_of f.kind f.leaves f.manager f.passes.items f.selected f.served in
-    rw (← c.self.view_is) (free_bound f.manager, is_free_bound core f.manager c.self.invariant.tied c.clock.ensures.valid, rw (c.free_bound-until.ensures, (rw (← c.self.view_is) at c.requires.rows)) at c.put.ensures.places)
+    rw (← c.self.view_is) (free_bound f.manager, is_free_bound core f.manager c.self.invariant.tied c.is_managed.ensures, rw (c.free_bound-until.ensures, (rw (← c.self.view_is) at c.requires.rows)) at c.put.ensures.places)

@@ -1,0 +1,4 @@
+pub mod KeyLemmas
+pub mod WrittenLemmas
+pub mod CheckLemmas
+pub mod LayLemmas
