@@ -5,18 +5,16 @@ ghost use Rattle.graph_model.specs.declared.limits.TheConstants.{SEGMENT_ROWS};
 ghost use Rattle.graph_model.specs.Rows.{is_below, is_between};
 ghost use Rattle.store_model.specs.Stamped as stamped_versions;
 ghost use Rattle.store_model.specs.Stamped.{read_stamped};
-ghost use Rattle.version_segment.specs.Checks.{IsNamed, AreNamedRows, IsChecked, cause_in, newest_of, newest_and_touches, drops_of};
+ghost use Rattle.row_table.specs.Checks.{IsNamed, AreNamedRows, IsChecked, cause_in, newest_of, newest_and_touches, drops_of};
 ghost use Rattle.undo_chain.specs.Records.{new_record};
 ghost use Rattle.undo_chain.specs.Chains.{list_at, IsHeadOf, ChangesOneList};
 ghost use Rattle.undo_chain.specs.States.{Grows};
 ghost use Rattle.undo_chain.specs.declared.touched.Touched.TheVariants.{Never};
-ghost use Rattle.version_segment.specs.Rows.{versions_at, has_row, has_record, records_in, rows_at, all_records, PrunesRows, ChangesKey, IsSegment, IsSameSegment, written, undone, touched, untouched, newest_writer};
+ghost use Rattle.row_table.specs.Rows.{versions_at, has_row, has_record, records_in, rows_at, all_records, PrunesRows, ChangesKey, IsSegment, IsSameSegment, written, undone, touched, untouched, newest_writer};
 
 use crate::buffer::Rows32;
-use crate::found::{FoundRow, find_row, insert_row, prune_row, set_row, value_in};
-use crate::rows::RowTable;
-use crate::view::NOWHERE;
 use graph_model::{Cause, Key, NoMemory, Row, SEGMENT_ROWS, TxnName};
+use row_table::{FoundRow, NOWHERE, RowTable, find_row, insert_row, prune_row, set_row, value_in};
 use std::alloc::Global;
 use std::marker::Model;
 use undo_chain::{Chains, Snapshot, States, Touched};
@@ -33,8 +31,8 @@ pub struct VersionSegment {
 }
 
 impl Model for VersionSegment {
-    ghost use Rattle.version_segment.specs.Rows.{VersionedRows};
-    ghost use Rattle.version_segment.specs.Parts.{view_of, AreParts};
+    ghost use Rattle.row_table.specs.Rows.{VersionedRows};
+    ghost use Rattle.row_table.specs.Parts.{view_of, AreParts};
 
     ghost Value = { VersionedRows };
 
