@@ -1,10 +1,7 @@
-pub mod Rows
-pub mod Checks
 pub mod Changes
-pub mod Keyed
-pub mod Heads
-pub mod Lists
-pub mod Parts
-pub mod Moves
-pub mod Walks
 pub mod Laws
+pub use Rattle.row_table.specs.Rows
+pub use Rattle.row_table.specs.Checks
+pub use Rattle.row_table.specs.Parts
+pub use Rattle.row_table.specs.Walks
+pub use Rattle.head_map.specs.Keyed

@@ -9,22 +9,16 @@
 mod ahead;
 mod buffer;
 mod change;
-mod checks;
 mod fill;
-mod found;
-mod heads;
 mod laws;
 mod lookup;
 mod moves;
-mod packed;
-mod rows;
 mod segment;
-mod view;
 
 pub use buffer::Rows32;
 pub use change::RowChange;
 pub use laws::{
     changes_are_by_key, changes_are_of_versions, checks_are_by_names, segments_are_cells,
 };
+pub use row_table::{NOWHERE, RowView};
 pub use segment::VersionSegment;
-pub use view::{NOWHERE, RowView};
