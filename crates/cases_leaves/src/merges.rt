@@ -22,9 +22,9 @@ struct Case {
 // last four of the right one 4 or 5 and 13, 13 and 14. No window has enough to be spread, and 104 rows are few enough
 // for one leaf, which divides them evenly.
 //
-// Of 600 rows 110 are in the first of five leaves, 108 in each of the next three, and 166 in the fifth. Without the first
-// 16 the first leaf has a segment with none and one with 12, which is enough to spread both. Where the last 11 alone are
-// left they stand in one segment, which is too few to spread. So four leaves become one with the next one.
+// Of 600 rows 110 are in the first of five leaves, 108 in each of the next three, and 166 in the fifth. Without the
+// first 16 the first leaf has a segment with none and one with 12, which is enough to spread both. Where the last 11
+// alone are left they stand in one segment, which is too few to spread. So four leaves become one with the next one.
 #[test]
 fn leaves_that_lose_rows_are_spread_and_become_one(rt: HostRuntime) -> Result<(), Fail> {
     for case in [

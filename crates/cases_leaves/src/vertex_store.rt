@@ -26,8 +26,8 @@ pub trait VertexStore {
     /// Brings rows together once, and answers whether there was anything to bring together.
     fn merge_step(&mut self) -> Result<bool, NoMemory>;
 
-    /// How many rows the vertex's segment has, and each of the next seven, without those that can have none, since their
-    /// fence keys are equal.
+    /// How many rows the vertex's segment has, and each of the next seven, without those that can have none, since
+    /// their fence keys are equal.
     fn counts(&self, id: u32) -> [usize; 8];
 
     /// How many leaves are live, and how many are retired.

@@ -10,7 +10,7 @@ ghost use Rattle.graph_model.specs.declared.row.Key.{Key};
 ghost use Rattle.graph_model.specs.declared.limits.TheConstants.{SEGMENT_ROWS};
 ghost use Rattle.graph_model.specs.Rows.{key_cmp, is_below, is_between};
 ghost use Rattle.gap_segment.specs.Fenced.{IsFound, IsGapFor, IsPlaceOf, AreSorted, AreWithin, with_weight};
-ghost use Rattle.head_map.specs.Heads.{heads_at, place_behind, settled_heads, AreSettledRows};
+ghost use Rattle.head_map.specs.Heads.{heads_at, keyed_table, place_behind, settled_heads, AreSettledRows, AreWithinPlaces};
 ghost use Rattle.row_table.specs.Rows.{all_records};
 ghost use Rattle.row_table.specs.Parts.{versioned, AreParts};
 ghost use Rattle.row_table.specs.Moves.{SharesTables, MovesRoom};
@@ -53,6 +53,24 @@ impl RowTable {
             rows,
             heads: HeadMap::new(alloc),
         })
+    }
+
+    /// The rows, and where the records of those that are changed begin.
+    pub fn into_parts(self) -> (Segment, HeadMap)
+        ensures rows { result.0 ≡ self.fenced }
+        ensures heads { keyed_table result.0.rows result.1 ≡ self.heads }
+        ensures within { AreWithinPlaces (length result.0.rows) result.1.entries }
+    {
+        let RowTable { rows, heads } = self;
+        (rows, heads)
+    }
+
+    /// A table of these rows and heads.
+    pub fn of_parts(rows: Segment, heads: HeadMap) -> RowTable
+        requires { AreWithinPlaces (length rows.rows) heads.entries }
+        ensures { result ≡ record { fenced = rows; heads = keyed_table rows.rows heads } }
+    {
+        RowTable { rows, heads }
     }
 
     /// Lends the rows alone.

@@ -13,12 +13,17 @@ mod fill;
 mod laws;
 mod lookup;
 mod moves;
+mod resting;
 mod segment;
+mod value_word;
 
 pub use buffer::Rows32;
 pub use change::RowChange;
 pub use laws::{
     changes_are_by_key, changes_are_of_versions, checks_are_by_names, segments_are_cells,
+    segments_rest_and_wake, value_words_tell_values,
 };
+pub use resting::Resting;
 pub use row_table::{NOWHERE, RowView};
 pub use segment::VersionSegment;
+pub use value_word::{is_marked, value_in_word};

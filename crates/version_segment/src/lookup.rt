@@ -1,5 +1,5 @@
-//! A row that is looked for: what it has, whether there is something to take back, and calls that do nothing where there
-//! isn't.
+//! A row that is looked for: what it has, whether there is something to take back, and calls that do nothing where
+//! there isn't.
 
 ghost use Rattle.std.specs.Prelude.{◌≡◌, ◌≤◌};
 ghost use Rattle.std.specs.FinMap.Entries.{find};
