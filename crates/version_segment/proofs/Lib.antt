@@ -5,3 +5,4 @@ pub mod LookupLemmas
 pub mod WordLemmas
 pub mod RestLemmas
 pub use Rattle.head_map.proofs.KeyedLemmas
+pub use Rattle.row_table.proofs.WalkLemmas
