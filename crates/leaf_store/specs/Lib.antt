@@ -5,5 +5,4 @@ pub mod Fill
 pub mod Changes
 pub mod Merging
 pub mod Pairs
-pub mod Grouped
-pub mod Watched
+pub mod Queued

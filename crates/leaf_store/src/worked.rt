@@ -105,3 +105,31 @@ fn leaves_that_lose_rows_are_spread_and_become_one(rt: HostRuntime) -> Result<()
     }
     Ok(())
 }
+
+/// How many rows the key's cell has.
+fn rows_at(store: &LeafStore, id: u32) -> usize {
+    store.segment(vertex(id), Finger::nowhere()).len()
+}
+
+#[test]
+fn the_first_window_in_key_order_is_spread_first(rt: HostRuntime) -> Result<(), Fail> {
+    // Free leaves are taken from the last one on, so leaf 7 has the keys from 111 on, and leaf 4 those from 435 on. The
+    // first segments of both have 14 rows, and so have the second ones.
+    let mut store = LeafStore::new(rt.alloc(), 8)?;
+    'more: for id in 1..601 {
+        put(&mut store, vertex(id))?;
+    }
+    for (from, until) in [(435, 448), (111, 124)] {
+        'fewer: for id in from..until {
+            store.change(vertex(id), Finger::nowhere(), WRITER, RowChange::Undo);
+        }
+    }
+    for (step, want) in [(0, (1, 1)), (1, (8, 1)), (2, (8, 8))] {
+        if step > 0 {
+            assert_eq!(rt; store.merge_step(7)?, true, "step {step}");
+        }
+        let got = (rows_at(&store, 124), rows_at(&store, 448));
+        assert_eq!(rt; got, want, "after {step} steps");
+    }
+    Ok(())
+}
