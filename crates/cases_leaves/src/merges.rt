@@ -93,3 +93,32 @@ fn merge_all<S: VertexStore>(store: &mut S) -> Result<u32, NoMemory> {
     }
     Ok(100)
 }
+
+// Of the vertices 1 to 600 the second leaf has those from 111 on, and the fifth those from 435 on. Free leaves are taken
+// from the last one on, so the second leaf's number is greater than the fifth's. The first two segments of both have 14
+// rows each. Where the first ones lose 13, both have a window of 15 rows to be spread, 8 and 7.
+#[test]
+fn the_first_window_in_key_order_is_spread_first(rt: HostRuntime) -> Result<(), Fail> {
+    let store = LeafStore::new(rt.alloc(), 8)?;
+    check_order(&rt, store)
+}
+
+/// Asserts in which order two windows are spread, in a store that has no rows.
+fn check_order<S: VertexStore + Drop>(rt: &impl Abort, mut store: S) -> Result<(), Fail> {
+    'more: for id in 1..601 {
+        store.put(id)?;
+    }
+    'ranges: for (from, until) in [(435, 448), (111, 124)] {
+        'fewer: for id in from..until {
+            store.take_back(id);
+        }
+    }
+    for (step, want) in [(0, (1, 1)), (1, (8, 1)), (2, (8, 8))] {
+        if step > 0 {
+            assert_eq!(rt; store.merge_step()?, true, "step {step}");
+        }
+        let got = (store.counts(124)[0], store.counts(448)[0]);
+        assert_eq!(rt; got, want, "behind {step} steps");
+    }
+    Ok(())
+}

@@ -163,7 +163,7 @@ module _ (old new : Leaves) (stamp : ℕ) where
   pub step_lowers : AreLeaves old → SpreadsOne old new ⊎ MergesTwo old new stamp → steps_left new.parts < steps_left old.parts
   step_lowers sound (inl s) =
       let eight = (all_back IsPart s.front (s.part ∷ s.back) (subst (AllByRecursion IsPart) s.was sound.parts)).0 in
-      let fewer = spread_thins s.window s.part.segments s.segments s.spreads eight s.sparse in
+      let fewer = spread_thins s.window s.part.segments s.segments s.spreads eight s.first.leftmost.sparse in
       let was = ap steps_left s.was ∙ steps_at s.front s.part s.back in
       let now = ap (λ (x : Leaves). steps_left x.parts) s.now ∙ steps_at s.front (record s.part { segments = s.segments }) s.back in
       omega (arith, fewer, was, now)

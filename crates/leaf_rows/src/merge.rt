@@ -19,8 +19,9 @@ use graph_model::{Key, NoMemory};
 use txn_manager::RoomRefusal;
 
 impl LeafRows {
-    /// Spreads a window that has a segment with too few rows and enough rows in all, or makes one leaf of two
-    /// neighbours with few rows. Answers whether there was either. The stamp is for the leaf that goes.
+    /// Spreads the first window in key order that has a segment with too few rows and enough rows in all. Where no leaf
+    /// has one it makes one leaf of the first two neighbours with few rows. Answers whether there was either. The stamp
+    /// is for the leaf that goes.
     pub fn merge_step(&mut self, stamp: u64) -> Result<bool, NoMemory>
         requires { stamp < STAMPS_END }
         ensures contents { KeepsContents self.old self.new }

@@ -26,7 +26,8 @@ use Rattle.leaf_store.specs.Leaves.{Leaves, AreLeaves, cell_at, versions_of, spa
 use Rattle.leaf_store.specs.Changes.{ChangesCell, ChangesVersions, KeepsCells, PrunesCell}
 use Rattle.leaf_store.specs.Table.{IsKept, IsTied, AreTied, IsPlace, segments_or_none, segments_at, part_of, leaves_of}
 use Rattle.leaf_store.proofs.CellLemmas.{holds, follow_middle, sound_middle}
-use Rattle.leaf_store.proofs.ListLemmas.{set_between, get_set_same}
+use Rattle.leaf_queue.proofs.ListLemmas.{get_set_same}
+use Rattle.leaf_store.proofs.ListLemmas.{set_between}
 use Rattle.leaf_store.proofs.StoreLemmas.{OtherCell, old_cell, new_cell, changes_cell, spare_kept, fewer_records, keeps_cells}
 use Rattle.leaf_store.proofs.TableLemmas.{Table, Located, KeepsOthers, kept_leaves, located, one_entry, others_kept, parts_append, parts_kept, tied_at, tied_front, tied_kept}
 

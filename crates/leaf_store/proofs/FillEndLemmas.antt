@@ -33,7 +33,7 @@ use Rattle.leaf_store.proofs.CellLemmas.{AreSound}
 use Rattle.leaf_store.proofs.FillLemmas.{cut_until, sorted_front, within_front}
 use Rattle.leaf_store.proofs.FillStepLemmas.{sorted_further}
 use Rattle.leaf_store.proofs.KeyLemmas.{from_above}
-use Rattle.leaf_store.proofs.ListLemmas.{get_set_same}
+use Rattle.leaf_queue.proofs.ListLemmas.{get_set_same}
 use Rattle.leaf_store.proofs.SplitLemmas.{are_cuts}
 use Rattle.leaf_store.proofs.StoreLemmas.{cells_in, none_below_first, versions_in_rows, weight_one}
 use Rattle.leaf_store.proofs.TableLemmas.{Table, kept_leaves}

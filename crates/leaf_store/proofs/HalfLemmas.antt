@@ -1,7 +1,6 @@
 -- A leaf that is split, as the whole store sees it.
-use Rattle.std.proofs.Math.ListN.{length-set}
-use Rattle.std.proofs.Common.{◌≡◌, ◌≢◌, ℕ, zero, suc, ◌+◌, ◌-◌, ◌*◌, ◌/◌, ◌<◌, ◌≤◌, List, [], ◌∷◌, ◌++◌, length, map, sum, refl, sym, ◌∙◌, ap, ap₂, subst, arith, length-append, set, inl, inr}
-use Rattle.std.specs.Prelude.{Bool, true, Some, None, slice_get, Result, Ok, Err, IfErr}
+use Rattle.std.proofs.Common.{◌≡◌, ◌≢◌, ℕ, zero, suc, ◌+◌, ◌-◌, ◌*◌, ◌/◌, ◌<◌, ◌≤◌, List, [], ◌∷◌, ◌++◌, length, map, sum, refl, sym, ◌∙◌, ap, ap₂, subst, arith, length-append, inl, inr}
+use Rattle.std.specs.Prelude.{true, Some, None, slice_get, Result, Ok, Err, IfErr}
 use Rattle.std.specs.List.{AllByRecursion}
 use Rattle.std.proofs.lemmas.List.{append-nil, take_all}
 use Rattle.graph_model.specs.declared.limits.TheConstants.{SPLIT_ROWS}
@@ -22,19 +21,15 @@ use Rattle.leaf_store.specs.declared.place.Place.{Place}
 use Rattle.leaf_store.specs.Leaves.{Part, Leaves, cells_of, cell_in, cell_at, room_at, weight}
 use Rattle.leaf_store.specs.Changes.{IsFull, IsRoomRefusal, MovesRows}
 use Rattle.leaf_store.specs.Making.{MakesRoom}
-use Rattle.leaf_store.specs.Pairs.{DividesLeaf, SpreadsLeaf}
-use Rattle.leaf_store.specs.Ranges.{IsLive, IsOutOfLeaves, KeepsLeaves, SplitsLeaf}
+use Rattle.leaf_store.specs.Pairs.{HalvesLeaf, SpreadsLeaf}
+use Rattle.leaf_store.specs.Ranges.{DividesLeaf, IsLive, IsOutOfLeaves, KeepsLeaves, SplitsLeaf}
 use Rattle.leaf_store.specs.Table.{AreStamped, IsKept, IsTied, AreTied, IsPlace, segments_at, part_of, leaves_of}
 use Rattle.leaf_store.proofs.CellLemmas.{AreSound, holds, cell_here, few_in, held_in_both, middle_part}
 use Rattle.graph_model.proofs.KeyLemmas.{below_chain}
 use Rattle.leaf_store.proofs.KeyLemmas.{split_key_within}
 use Rattle.leaf_store.proofs.ListLemmas.{all_append, all_front, all_back}
 use Rattle.leaf_store.proofs.MoveLemmas.{KeepRoom, LeafMoved, cell_in_leaf, few_each, few_keep_room, Respreads, leaf_moved, moves_parts, room_of, same_lows, same_respreads}
-use Rattle.leaf_store.proofs.RoomLemmas.{count_rows, place_stands, stands_within, window_rows}
-use Rattle.leaf_store.proofs.TendLemmas.{tended_middle, tended_more}
-use Rattle.leaf_store.proofs.GroupLemmas.{watched_now, watched_still}
-use Rattle.leaf_store.specs.Grouped.{Watches}
-use Rattle.leaf_store.specs.Watched.{IsTended}
+use Rattle.leaf_store.proofs.RoomLemmas.{count_rows, window_rows}
 use Rattle.leaf_store.proofs.SplitLemmas.{above_from, rising_at, taken_apart}
 use Rattle.leaf_store.proofs.StoreLemmas.{cells_in, cells_follow, cells_split, weight_in, weight_one, weight_split, weight_two}
 use Rattle.leaf_store.proofs.TableLemmas.{KeepsOthers, OtherLeaves, Table, cuts_at, kept_leaves, located, one_entry, parts_append, tied_at, tied_follow}
@@ -224,10 +219,10 @@ module _ (index taken new : Index) (table table' : Table) (key : Key) (place : P
         room = omega (arith, few_in 30 key (left ++ right) few, ap room_of now);
       }
 
-  -- both leaves are watched then
-  pub half_tended : (flags : List Bool) → IsTended index table flags → IsTended new table' (set (set flags place.leaf true) other true)
+  -- as contracts say it
+  pub half_divides : DividesLeaf place.leaf other (leaves_of index table) (leaves_of new table')
   unfolding ss left right
-  half_tended flags t =
+  half_divides =
       let live = s.live in
       let entries = half_entries in
       let e1 : Entry = record live.entry { cuts = lows_of left } in
@@ -236,19 +231,22 @@ module _ (index taken new : Index) (table table' : Table) (key : Key) (place : P
       let same_back = half_same.1 in
       let old_parts = ap (map (part_of table)) entries ∙ parts_append table live.front (live.entry ∷ live.back) in
       let new_parts = ap (map (part_of table')) s.splits.entries ∙ parts_append table' live.front (e1 ∷ e2 ∷ live.back) ∙ (λ i. parts_same table table' live.front same_front i ++ part_of table' e1 ∷ part_of table' e2 ∷ parts_same table table' live.back same_back i) in
-      let limit : new.leaves ≡ index.leaves = ap (λ (i : Index). i.leaves) s.index_is ∙ sym (ap (λ (i : Index). i.leaves) takes) in
-      let one = set flags place.leaf true in
-      let many : length one ≡ index.leaves = length-set flags place.leaf true ∙ t.count in
-      let here : Watches one place.leaf = watched_now flags place.leaf (omega (arith, stands_within index table place.leaf kept (place_stands index table key place kept is below), kept.count, t.count)) in
-      let fresh_here : Watches (set one other true) other = watched_now one other (omega (arith, free.exists, many, ap (λ (i : Index). i.leaves) takes)) in
-      tended_middle index new table table' (set one other true) (tended_more index table one other (tended_more index table flags place.leaf t)) half_moved.kept limit
-      (map (part_of table) live.front) (part_of table live.entry ∷ []) (part_of table' e1) (part_of table' e2 ∷ []) (map (part_of table) live.back) old_parts new_parts
-      (subst (Watches (set one other true)) (sym s.number) (watched_still one other place.leaf here), (fresh_here, tt))
+      record {
+        front = map (part_of table) live.front;
+        part = part_of table live.entry;
+        left = part_of table' e1;
+        right = part_of table' e2;
+        back = map (part_of table) live.back;
+        was = old_parts;
+        now = new_parts;
+        left_number = s.number;
+        right_number = refl;
+      }
 
   -- the rows are divided between both, as contracts say it
-  pub half_divides : DividesLeaf (segments_at table place.leaf) (leaves_of index table) (leaves_of new table')
+  pub half_halves : HalvesLeaf (segments_at table place.leaf) (leaves_of index table) (leaves_of new table')
   unfolding ss left right
-  half_divides =
+  half_halves =
       let live = s.live in
       let e1 : Entry = record live.entry { cuts = lows_of left } in
       let e2 : Entry = record { low = s.splits.key; leaf = other; cuts = lows_of right } in
@@ -388,7 +386,7 @@ spread_makes index table key place need window new kept is below smallest s =
 
 -- or by a split of its leaf
 pub split_makes : (index : Index) (table : Table) (key : Key) (place : Place) (need : ℕ) (new : Leaves) → IsKept index table → IsPlace key index.entries place → is_below key end_key ≡ true → IsSmallestWindow (Fits (counts_of (segments_at table place.leaf)) need) place.segment None
-    → DividesLeaf (segments_at table place.leaf) (leaves_of index table) new → MakesRoom (leaves_of index table) new key need
+    → HalvesLeaf (segments_at table place.leaf) (leaves_of index table) new → MakesRoom (leaves_of index table) new key need
 split_makes index table key place need new kept is below none d =
     let c = cell_held index table key place kept is below in
     inr (record {

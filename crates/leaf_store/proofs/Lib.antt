@@ -8,8 +8,8 @@ pub mod NewLemmas
 pub mod MoveLemmas
 pub mod SameLemmas
 pub mod RoomLemmas
-pub mod GroupLemmas
-pub mod WatchLemmas
+pub mod QueueLemmas
+pub mod PassLemmas
 pub mod TendLemmas
 pub mod RangeLemmas
 pub mod KeyLemmas

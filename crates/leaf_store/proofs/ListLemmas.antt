@@ -1,5 +1,5 @@
--- Lists in parts, and one item of a list that is another one now.
-use Rattle.std.proofs.Common.{◌≡◌, ◌≢◌, ℕ, zero, suc, ◌<◌, List, [], ◌∷◌, ◌++◌, length, take, drop, set, refl, ap, arith}
+-- Lists in parts.
+use Rattle.std.proofs.Common.{◌≡◌, ℕ, zero, suc, List, [], ◌∷◌, ◌++◌, length, take, drop, set, refl, ap, arith}
 use Rattle.std.specs.Prelude.{Some, slice_get}
 use Rattle.std.specs.List.{AllByRecursion}
 
@@ -30,15 +30,3 @@ module _ {X : Type 0} where
   set_between [] x y ys (suc i) e = absurd (omega (arith, e))
   set_between (z ∷ xs) x y ys zero e = absurd (omega (arith, e))
   set_between (z ∷ xs) x y ys (suc i) e = ap (λ zs. z ∷ zs) (set_between xs x y ys i (omega (arith, e)))
-
-  pub get_set_same : (xs : List X) (i : ℕ) (x : X) → i < length xs → slice_get (set xs i x) i ≡ Some x
-  get_set_same [] i x lt = absurd (omega (arith, lt))
-  get_set_same (y ∷ ys) zero x lt = refl
-  get_set_same (y ∷ ys) (suc i) x lt = get_set_same ys i x (omega (arith, lt))
-
-  pub get_set_other : (xs : List X) (i j : ℕ) (x : X) → j ≢ i → slice_get (set xs i x) j ≡ slice_get xs j
-  get_set_other [] i j x ne = refl
-  get_set_other (y ∷ ys) zero zero x ne = absurd (ne refl)
-  get_set_other (y ∷ ys) zero (suc j) x ne = refl
-  get_set_other (y ∷ ys) (suc i) zero x ne = refl
-  get_set_other (y ∷ ys) (suc i) (suc j) x ne = get_set_other ys i j x (λ e. ne (ap suc e))

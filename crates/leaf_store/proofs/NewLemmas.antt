@@ -18,7 +18,7 @@ use Rattle.leaf_store.specs.Leaves.{Part}
 use Rattle.leaf_store.specs.Changes.{AreNew}
 use Rattle.leaf_store.specs.Table.{IsKept, segments_or_none, segments_at, leaves_of}
 use Rattle.leaf_store.proofs.CellLemmas.{AreSound}
-use Rattle.leaf_store.proofs.ListLemmas.{get_set_same}
+use Rattle.leaf_queue.proofs.ListLemmas.{get_set_same}
 use Rattle.leaf_store.proofs.StoreLemmas.{versions_in_rows, weight_one}
 use Rattle.leaf_store.proofs.TableLemmas.{Table, kept_leaves}
 

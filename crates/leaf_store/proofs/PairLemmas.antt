@@ -24,19 +24,20 @@ use Rattle.leaf_store.specs.declared.pair.Pair.{Pair}
 use Rattle.leaf_store.specs.declared.pair.TheConstants.{MERGE_ROWS, STAMPS_END}
 use Rattle.leaf_store.specs.Changes.{MovesRows}
 use Rattle.leaf_store.specs.Leaves.{record_count}
-use Rattle.leaf_store.specs.Merging.{Compacts, IsApart, KeepsParts, MergesTwo}
-use Rattle.leaf_store.specs.Pairs.{AreNeighbours, IsFoundPair, MergesEntries, Stands}
+use Rattle.leaf_store.specs.Merging.{AreApart, AreLevel, Compacts, IsApart, KeepsParts}
+use Rattle.leaf_store.specs.Pairs.{AreNeighbours, IsFoundPair, IsPairBehind, MergesEntries, MergesLeaf, Stands}
 use Rattle.leaf_store.specs.Table.{AreStamped, AreTied, IsKept, IsTied, leaves_of, part_of, segments_at, segments_or_none}
 use Rattle.leaf_store.proofs.CellLemmas.{AreSound, clash}
 use Rattle.leaf_store.proofs.HalfLemmas.{SameMemory, any_high, parts_same, same_memory, tied_before, tied_same}
-use Rattle.leaf_store.proofs.ListLemmas.{all_append, all_back, all_front, get_set_other, get_set_same}
+use Rattle.leaf_queue.proofs.ListLemmas.{get_set_other, get_set_same}
+use Rattle.leaf_store.proofs.ListLemmas.{all_append, all_back, all_front}
 use Rattle.leaf_store.proofs.MoveLemmas.{KeepRoom, few_each, few_keep_room, moves_parts, same_append, same_keep_room, same_lows, same_respreads}
 use Rattle.leaf_store.proofs.RangeLemmas.{moved_over, same_index}
 use Rattle.leaf_store.proofs.SameLemmas.{keeps_parts, leaf_settled, two_same}
 use Rattle.leaf_store.proofs.RoomLemmas.{memory_segments, memory_some, memory_within, stands_leaf, stands_within}
 use Rattle.leaf_store.proofs.SplitLemmas.{are_cuts}
 use Rattle.leaf_store.proofs.StoreLemmas.{cells_in, weight_in, weight_one, weight_split, weight_two}
-use Rattle.leaf_store.proofs.TableLemmas.{Table, cuts_at, kept_leaves, one_entry, tied_at, tied_follow}
+use Rattle.leaf_store.proofs.TableLemmas.{Table, cuts_at, kept_leaves, one_entry, parts_append, tied_at, tied_follow}
 use Rattle.leaf_store.proofs.WalkLemmas.{floor_here}
 
 -- ---- a leaf and the next one
@@ -77,21 +78,24 @@ module _ (index : Index) (table : Table) (kept : IsKept index table) (range : Le
       subst (λ bs. IsApart (part_of table e) (map (part_of table) bs)) (sym n.is) (omega (arith, one, two, many))
 
   pub pair_found : (next : LeafRange) → is_below range.high end_key ≡ true → IsLeafRange range.high index.entries next → length (rows_of (segments_at table range.leaf)) + length (rows_of (segments_at table next.leaf)) ≤ MERGE_ROWS → (low : Key)
-      → IsFoundPair index table (record { left = range.leaf; right = next.leaf; low = low })
+      → IsPairBehind index table range (record { left = range.leaf; right = next.leaf; low = low })
   pair_found next more at few low =
       let n = next_leaf next more at in
       record {
-        front = front;
-        left = e;
-        right = n.right;
-        back = n.rest;
-        is = is ∙ ap (λ bs. front ++ e ∷ bs) n.is;
-        left_is = range_is.leaf;
-        right_is = n.number;
-        few =
-            let one : length (rows_of (segments_at table range.leaf)) ≡ length (rows_of (segments_at table e.leaf)) = ap (λ l. length (rows_of (segments_at table l))) range_is.leaf in
-            let two : length (rows_of (segments_at table next.leaf)) ≡ length (rows_of (segments_at table n.right.leaf)) = ap (λ l. length (rows_of (segments_at table l))) n.number in
-            omega (arith, one, two, few);
+        found = record {
+          front = front;
+          left = e;
+          right = n.right;
+          back = n.rest;
+          is = is ∙ ap (λ bs. front ++ e ∷ bs) n.is;
+          left_is = range_is.leaf;
+          right_is = n.number;
+          few =
+              let one : length (rows_of (segments_at table range.leaf)) ≡ length (rows_of (segments_at table e.leaf)) = ap (λ l. length (rows_of (segments_at table l))) range_is.leaf in
+              let two : length (rows_of (segments_at table next.leaf)) ≡ length (rows_of (segments_at table n.right.leaf)) = ap (λ l. length (rows_of (segments_at table l))) n.number in
+              omega (arith, one, two, few);
+        };
+        range_is = subst (λ bs. IsRangeOf e bs range) n.is range_is;
       }
 
 -- ---- entries in the middle become others
@@ -278,10 +282,10 @@ module _ (index : Index) (table : Table) (pair : Pair) (kept : IsKept index tabl
       (moved.kept, record { moves = moved.moves; free = ap (λ (i : Index). i.free) m.index_is; retired = inr (pair.right, ap (λ (i : Index). i.retired) m.index_is) })
 
   -- as contracts say it
-  pub merges_two : (new : Index) (table' : Table) (stamp : ℕ) (us : List VersionedRows) → ((n : ℕ) → n ≢ pair.left → n ≢ pair.right → segments_at table' n ≡ segments_at table n) → segments_at table' pair.left ≡ us
-      → ((live : AreNeighbours index.entries (segments_at table pair.left) (segments_at table pair.right) pair.right) → MergesEntries stamp pair.right index new (segments_at table pair.left) (segments_at table pair.right) us live) → MergesTwo (leaves_of index table) (leaves_of new table') stamp
+  pub merges_leaf : AreLevel (map (part_of table) index.entries) → AreApart (map (part_of table) (found.front ++ found.left ∷ [])) → (new : Index) (table' : Table) (stamp : ℕ) (us : List VersionedRows) → ((n : ℕ) → n ≢ pair.left → n ≢ pair.right → segments_at table' n ≡ segments_at table n) → segments_at table' pair.left ≡ us
+      → ((live : AreNeighbours index.entries (segments_at table pair.left) (segments_at table pair.right) pair.right) → MergesEntries stamp pair.right index new (segments_at table pair.left) (segments_at table pair.right) us live) → MergesLeaf pair.left (leaves_of index table) (leaves_of new table') stamp
   unfolding neighbours
-  merges_two new table' stamp us keeps own merges_of =
+  merges_leaf level apart new table' stamp us keeps own merges_of =
       let m = merges_of (neighbours (segments_at table pair.left) (segments_at table pair.right) refl refl) in
       let same = others_same table' keeps in
       let left_is : segments_at table' found.left.leaf ≡ us = ap (segments_at table') (sym found.left_is) ∙ own in
@@ -290,22 +294,21 @@ module _ (index : Index) (table : Table) (pair : Pair) (kept : IsKept index tabl
       ∙ (λ i. parts_same table table' found.front same.0 i ++ record { leaf = found.left.leaf; segments = left_is i } ∷ parts_same table table' found.back same.1 i) in
       let retired : new.retired ≡ index.retired ++ record { leaf = found.right.leaf; stamp = stamp } ∷ [] = ap (λ (i : Index). i.retired) m.index_is ∙ ap (λ n. index.retired ++ record { leaf = n; stamp = stamp } ∷ []) found.right_is in
       record {
-        front = map (part_of table) found.front;
-        left = part_of table found.left;
-        right = part_of table found.right;
-        back = map (part_of table) found.back;
-        segments = us;
-        rest = m.rest;
-        was = ap (map (part_of table)) found.is ∙ map-append (part_of table) found.front (found.left ∷ found.right ∷ found.back);
-        now = λ i. record { limit = ap (λ (x : Index). x.leaves) m.index_is i; parts = parts i; free = ap (λ (x : Index). x.free) m.index_is i; retired = retired i };
-        few = found.few;
-        merges = subst (λ n. Merges (segments_at table n) (segments_at table found.right.leaf) us m.rest) found.left_is (subst (λ n. Merges (segments_at table pair.left) (segments_at table n) us m.rest) found.right_is m.merges);
+        two = record {
+          front = map (part_of table) found.front;
+          left = part_of table found.left;
+          right = part_of table found.right;
+          back = map (part_of table) found.back;
+          segments = us;
+          rest = m.rest;
+          was = ap (map (part_of table)) found.is ∙ map-append (part_of table) found.front (found.left ∷ found.right ∷ found.back);
+          now = λ i. record { limit = ap (λ (x : Index). x.leaves) m.index_is i; parts = parts i; free = ap (λ (x : Index). x.free) m.index_is i; retired = retired i };
+          level = level;
+          first = record { apart = subst AreApart (parts_append table found.front (found.left ∷ [])) apart; few = found.few };
+          merges = subst (λ n. Merges (segments_at table n) (segments_at table found.right.leaf) us m.rest) found.left_is (subst (λ n. Merges (segments_at table pair.left) (segments_at table n) us m.rest) found.right_is m.merges);
+        };
+        number = sym found.left_is;
       }
-
-  pub merged_left : (new : Index) (table' : Table) (stamp : ℕ) (us : List VersionedRows) (keeps : (n : ℕ) → n ≢ pair.left → n ≢ pair.right → segments_at table' n ≡ segments_at table n) (own : segments_at table' pair.left ≡ us)
-      (merges_of : (live : AreNeighbours index.entries (segments_at table pair.left) (segments_at table pair.right) pair.right) → MergesEntries stamp pair.right index new (segments_at table pair.left) (segments_at table pair.right) us live) → (merges_two new table' stamp us keeps own merges_of).left.leaf ≡ pair.left
-  unfolding merges_two
-  merged_left new table' stamp us keeps own merges_of = sym found.left_is
 
   -- ---- or only room for records has changed
 

@@ -27,7 +27,7 @@ use Rattle.leaf_store.specs.Pairs.{SpreadsLeaf, Stands}
 use Rattle.leaf_store.specs.Table.{IsKept, IsTied, AreTied, IsPlace, part_of, segments_or_none, segments_at, leaves_of}
 use Rattle.leaf_store.proofs.CellLemmas.{AreSound, holds}
 use Rattle.leaf_store.proofs.ChangeLemmas.{beyond_table}
-use Rattle.leaf_store.proofs.ListLemmas.{get_set_same}
+use Rattle.leaf_queue.proofs.ListLemmas.{get_set_same}
 use Rattle.leaf_store.proofs.MoveLemmas.{LeafMoved, Respreads, cell_in_leaf, leaf_moved, room_in_spread, room_of, same_lows, same_respreads, sorted_lows, spread_respreads}
 use Rattle.leaf_store.proofs.SameLemmas.{keeps_parts, leaf_settled, one_same, window_settled}
 use Rattle.leaf_store.proofs.TableLemmas.{Table, KeepsOthers, Located, cuts_at, located, other_leaf, others_kept, parts_append, tied_at, tied_follow}

@@ -1,5 +1,5 @@
 -- Leaves of which only the room for records has changed, and leaves without records.
-use Rattle.std.proofs.Common.{◌≡◌, ◌≢◌, ℕ, zero, suc, ◌+◌, ◌-◌, ◌*◌, List, [], ◌∷◌, ◌++◌, length, map, take, drop, refl, sym, ◌∙◌, ap, ap₂, subst, arith, inl, inr}
+use Rattle.std.proofs.Common.{◌≡◌, ◌≢◌, ℕ, ◌+◌, ◌-◌, ◌*◌, List, [], ◌∷◌, ◌++◌, length, map, take, drop, refl, sym, ◌∙◌, ap, ap₂, subst, arith, inl, inr}
 use Rattle.std.specs.Prelude.{Bool, true, false, cond, sum, ◌⊎◌}
 use Rattle.std.proofs.lemmas.Grind.{flat_map-append}
 use Rattle.graph_model.specs.declared.limits.TheConstants.{SPLIT_ROWS}
@@ -13,6 +13,7 @@ use Rattle.leaf_array.proofs.CountLemmas.{same-rows}
 use Rattle.leaf_array.proofs.PairLemmas.{rows-append}
 use Rattle.leaf_array.proofs.SegmentLemmas.{records-append}
 use Rattle.leaf_index.specs.Index.{Index, Entry}
+use Rattle.leaf_queue.proofs.ListLemmas.{same_or_not}
 use Rattle.leaf_store.specs.Leaves.{Part, cell_in, record_count, weight_of_part}
 use Rattle.leaf_store.specs.Merging.{AreSameParts, KeepsParts}
 use Rattle.leaf_store.specs.Pairs.{Stands}
@@ -24,7 +25,7 @@ use Rattle.leaf_store.proofs.TableLemmas.{Table, KeepsOthers, parts_append}
 
 -- ---- the same leaves, as lists
 
-same_self : (ss : List VersionedRows) → AreSame ss ss
+pub same_self : (ss : List VersionedRows) → AreSame ss ss
 same_self [] = tt
 same_self (s ∷ ss) = (record { low = refl; high = refl; rows = refl }, same_self ss)
 
@@ -58,16 +59,6 @@ weights_same (p ∷ ps) [] same = absurd same
 -- of no leaf has more than the room for records changed
 abbrev pub SameTable : Table → Table → Type 0
 SameTable table new = (n : ℕ) → AreSame (segments_at table n) (segments_at new n)
-
-pub same_or_not : (n m : ℕ) → (n ≡ m) ⊎ (n ≢ m)
-same_or_not zero zero = inl refl
-same_or_not zero (suc m) = inr (λ e. absurd (omega (arith, e)))
-same_or_not (suc n) zero = inr (λ e. absurd (omega (arith, e)))
-same_or_not (suc n) (suc m) = by_case (same_or_not n m)
-  where
-    by_case : (n ≡ m) ⊎ (n ≢ m) → (suc n ≡ suc m) ⊎ (suc n ≢ suc m)
-    by_case (inl same) = inl (ap suc same)
-    by_case (inr other) = inr (λ e. other (omega (arith, e)))
 
 pub one_same : (table new : Table) (leaf : ℕ) → KeepsOthers table new leaf → AreSame (segments_at table leaf) (segments_at new leaf) → SameTable table new
 one_same table new leaf keeps same n = by_case (same_or_not n leaf)

@@ -3,13 +3,13 @@ use Rattle.std.proofs.Common.{◌≡◌, ℕ, zero, suc, ◌+◌, ◌*◌, ◌<�
 use Rattle.std.specs.Prelude.{slice_index}
 use Rattle.version_segment.specs.Rows.{VersionedRows}
 use Rattle.density_tree.specs.declared.window.Window.{Window}
-use Rattle.density_tree.specs.Windows.{IsDense}
+use Rattle.density_tree.specs.Windows.{IsDense, IsRound, IsSmallest}
 use Rattle.leaf_array.specs.Leaves.{IsWindow, window_of}
 use Rattle.leaf_array.specs.Segments.{rows_of, counts_of}
 use Rattle.leaf_index.specs.Index.{Index}
 use Rattle.leaf_store.specs.declared.sparse.SparseWindow.{SparseWindow}
 use Rattle.leaf_store.specs.Leaves.{Leaves, Part}
-use Rattle.leaf_store.specs.Merging.{AreApart, AreLevel, IsCompact, IsLevel, IsSparseWindow, MergesTwo, SpreadsOne, rows_in_part}
+use Rattle.leaf_store.specs.Merging.{AreApart, AreLevel, HasNoWindow, IsCompact, IsLeftmostWindow, IsLevel, IsSparseWindow, MergesTwo, SpreadsOne, rows_in_part}
 use Rattle.leaf_store.specs.Pairs.{IsFoundWindow}
 use Rattle.leaf_store.specs.Table.{IsKept, segments_at}
 use Rattle.leaf_store.proofs.CellLemmas.{AreSound}
@@ -73,6 +73,12 @@ sparse_few ss window eight sound sparse =
 pub sparse_wide : (counts : List ℕ) (window : Window) → IsSparseWindow counts window → IsWindow window
 sparse_wide counts window sparse = record { some = omega (arith, sparse.round.from, sparse.round.until); within = sparse.round.within }
 
+-- a segment has such a window, and none before it has one
+pub leftmost : (counts : List ℕ) (ss : List VersionedRows) (segment : ℕ) (window : Window) → counts ≡ counts_of ss → segment < 8 → slice_index counts segment < 4 → IsSmallest (IsDense counts) segment window → IsRound segment window → ((s : ℕ) → s < segment → HasNoWindow counts s) → IsLeftmostWindow (counts_of ss) window
+leftmost counts ss segment window are within few smallest round before =
+    subst (λ cs. IsLeftmostWindow cs window) are
+    (record { sparse = record { segment = segment; within = within; few = few; smallest = smallest; round = round }; before = before })
+
 -- ---- what is there to do
 
 not_level : (ss : List VersionedRows) (window : Window) → IsSparseWindow (counts_of ss) window → IsLevel ss → ⊥
@@ -83,7 +89,7 @@ not_level ss window sparse level =
 -- where a window was spread the store wasn't compact
 pub spread_undone : (old new : Leaves) → SpreadsOne old new → IsCompact old → ⊥
 spread_undone old new s compact =
-    not_level s.part.segments s.window s.sparse (all_back (λ (p : Part). IsLevel p.segments) s.front (s.part ∷ s.back) (subst AreLevel s.was compact.level)).0
+    not_level s.part.segments s.window s.first.leftmost.sparse (all_back (λ (p : Part). IsLevel p.segments) s.front (s.part ∷ s.back) (subst AreLevel s.was compact.level)).0
 
 apart_at : (ps : List Part) (p q : Part) (qs : List Part) → AreApart (ps ++ p ∷ q ∷ qs) → rows_in_part p + rows_in_part q ≤ 104 → ⊥
 apart_at [] p q qs apart few = absurd (omega (arith, apart.0, few))
@@ -91,10 +97,10 @@ apart_at (x ∷ ps) p q qs apart few = apart_at ps p q qs apart.1 few
 
 -- nor was it where two leaves became one
 pub merge_undone : (old new : Leaves) (stamp : ℕ) → MergesTwo old new stamp → IsCompact old → ⊥
-merge_undone old new stamp m compact = apart_at m.front m.left m.right m.back (subst AreApart m.was compact.apart) m.few
+merge_undone old new stamp m compact = apart_at m.front m.left m.right m.back (subst AreApart m.was compact.apart) m.first.few
 
 -- the rows of a window that was found are few
 pub found_few : (index : Index) (table : Table) (found : SparseWindow) → IsKept index table → IsFoundWindow index table found → length (rows_of (window_of found.window (segments_at table found.leaf))) ≤ 30 * found.window.len
 found_few index table found kept is =
     let tied = stands_tied index table found.leaf kept is.stands in
-    sparse_few (segments_at table found.leaf) found.window tied.leaf.segments tied.sound is.sparse
+    sparse_few (segments_at table found.leaf) found.window tied.leaf.segments tied.sound is.leftmost.sparse

@@ -21,7 +21,8 @@ use Rattle.leaf_store.specs.Ranges.{CanHalve, CanJoin, IsLive, KeepsLeaves, Spli
 use Rattle.leaf_store.specs.Table.{segments_or_none, segments_at}
 use Rattle.leaf_store.proofs.CellLemmas.{AreSound}
 use Rattle.leaf_store.proofs.KeyLemmas.{one_split_key, split_key_within}
-use Rattle.leaf_store.proofs.ListLemmas.{all_back, get_set_same, get_set_other}
+use Rattle.leaf_queue.proofs.ListLemmas.{get_set_same, get_set_other}
+use Rattle.leaf_store.proofs.ListLemmas.{all_back}
 use Rattle.leaf_store.proofs.MoveLemmas.{sorted_lows}
 use Rattle.leaf_store.proofs.RangeLemmas.{moved_over, same_index}
 use Rattle.leaf_store.proofs.TableLemmas.{OtherLeaves, Table, tied_follow}

@@ -21,7 +21,8 @@ use Rattle.leaf_store.specs.declared.place.Place.{Place}
 use Rattle.leaf_store.specs.Leaves.{Part, AreLeaves, IsPart, cells_of}
 use Rattle.leaf_store.specs.Table.{IsKept, IsTied, AreTied, IsPlace, segments_or_none, segments_at, part_of, leaves_of}
 use Rattle.leaf_store.proofs.CellLemmas.{AreSound, holds}
-use Rattle.leaf_store.proofs.ListLemmas.{all_append, get_set_other}
+use Rattle.leaf_queue.proofs.ListLemmas.{get_set_other}
+use Rattle.leaf_store.proofs.ListLemmas.{all_append}
 use Rattle.leaf_store.proofs.StoreLemmas.{cells_in}
 
 -- what stands by the numbers of leaves

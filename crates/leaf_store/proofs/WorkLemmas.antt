@@ -1,33 +1,44 @@
--- Leaves that are looked at: which there is something to do with.
-use Rattle.std.proofs.Common.{◌≡◌, ◌≢◌, ℕ, List, [], ◌∷◌, ◌++◌, Option, Some, None, map, set, get_or, refl, sym, ◌∙◌, ap, subst, inl, inr}
-use Rattle.std.specs.Prelude.{Bool, true, false, ◌⊎◌}
+-- Leaves that are looked at: what there is to do with them, and that it is first in key order.
+use Rattle.std.proofs.Common.{◌≡◌, ◌≢◌, ℕ, List, [], ◌∷◌, ◌++◌, Option, Some, None, length, map, set, get_or, refl, sym, ◌∙◌, ap, subst, arith, inl, inr, append_assoc}
+use Rattle.std.specs.Prelude.{true, false, IfSome, ◌⊎◌}
 use Rattle.std.specs.List.{AllByRecursion}
 use Rattle.std.specs.declared.boxed.Box.{Box}
 use Rattle.std.specs.declared.alloc.Global.{Global}
 use Rattle.std.proofs.Math.ListN.{length-set}
+use Rattle.std.proofs.lemmas.Option.{slice_get_within}
 use Rattle.graph_model.specs.declared.row.Key.{Key}
-use Rattle.graph_model.specs.Rows.{is_below}
-use Rattle.graph_model.proofs.KeyLemmas.{below_flip, below_self}
+use Rattle.graph_model.specs.Rows.{is_below, end_key}
+use Rattle.graph_model.proofs.KeyLemmas.{below_chain, below_flip, below_self, tied_keys}
+use Rattle.density_tree.specs.declared.window.Window.{Window}
 use Rattle.version_segment.specs.Rows.{VersionedRows}
 use Rattle.leaf_array.specs.declared.leaf.Leaf.{Leaf}
+use Rattle.leaf_array.specs.Segments.{counts_of, low_or}
+use Rattle.leaf_array.proofs.LeafLemmas.{Follow}
 use Rattle.leaf_index.specs.declared.route.LeafRange.{LeafRange}
-use Rattle.leaf_index.specs.Calls.{BeginsBelow, IsLeafRange}
-use Rattle.leaf_index.specs.Index.{AreRising, BeginAbove, Entry, Index, NotAbove, end_of}
+use Rattle.leaf_index.specs.Calls.{BeginsBelow, IsLeafRange, IsRangeOf}
+use Rattle.leaf_index.specs.Index.{AreCuts, AreRising, BeginAbove, Entry, HaveCuts, Index, NotAbove, end_of}
+use Rattle.leaf_queue.specs.declared.waiting.Stage.{Stage}
+use Rattle.leaf_queue.specs.declared.waiting.Stage.TheVariants.{Windows, Neighbours}
+use Rattle.leaf_queue.specs.declared.waiting.Waiting.{Waiting}
+use Rattle.leaf_queue.specs.Queue.{IsFirst, Waits, next_at, next_of}
+use Rattle.leaf_store.specs.declared.pair.Pair.{Pair}
 use Rattle.leaf_store.specs.declared.sparse.SparseWindow.{SparseWindow}
 use Rattle.leaf_store.specs.declared.work.Work.{Work}
 use Rattle.leaf_store.specs.declared.work.Work.TheVariants.{Spread}
-use Rattle.leaf_store.specs.Merging.{IsApart, IsCompact, IsLevel}
-use Rattle.leaf_store.specs.Pairs.{IsApartBehind, IsFoundWindow, Stands}
-use Rattle.leaf_store.specs.Table.{IsKept, leaves_of, part_of, segments_at}
-use Rattle.leaf_store.specs.Grouped.{Watches}
-use Rattle.leaf_store.specs.Watched.{AreWatched, IsApartAhead, IsApartBefore, IsInOrder, IsNotLive, IsTended, IsWork}
+use Rattle.leaf_store.specs.Leaves.{Part}
+use Rattle.leaf_store.specs.Merging.{AreApart, IsApart, IsCompact, IsLeftmostWindow, IsLevel}
+use Rattle.leaf_store.specs.Pairs.{IsApartBehind, IsFirstFoundPair, IsFoundPair, IsFoundWindow, IsPairAhead, IsPairBehind, Stands}
+use Rattle.leaf_store.specs.Table.{AreTied, IsKept, IsTied, leaves_of, part_of, segments_at}
+use Rattle.leaf_store.specs.Queued.{AreQueued, IsApartAhead, IsApartBefore, IsDone, IsDoneAt, IsNextPair, IsNotLive, IsNotLiveAs, IsTended, IsWork, waiting_of}
 use Rattle.leaf_store.proofs.CellLemmas.{clash}
+use Rattle.leaf_store.proofs.ListLemmas.{all_append}
 use Rattle.leaf_store.proofs.PairLemmas.{first_begin}
+use Rattle.leaf_store.proofs.PassLemmas.{PartsBelow, RisingParts, all_level, apart_before, apart_with, front_below, level_before, neighbours_passed, none_waits, windows_passed}
+use Rattle.leaf_store.proofs.QueueLemmas.{Places}
 use Rattle.leaf_store.proofs.RoomLemmas.{memory_some, stands_cuts, stands_segments, stands_tied}
-use Rattle.leaf_store.proofs.SameLemmas.{same_or_not}
-use Rattle.leaf_store.proofs.TableLemmas.{OtherLeaves, Table, one_entry, parts_append}
+use Rattle.leaf_store.proofs.TableLemmas.{Table, cuts_at, parts_append, tied_at, tied_follow}
+use Rattle.leaf_store.proofs.TendLemmas.{alone, part_entry}
 use Rattle.leaf_store.proofs.WalkLemmas.{begin_above, floor_here, head_of}
-use Rattle.leaf_store.proofs.WatchLemmas.{OtherParts, none_watched, others_watched, watched_passed}
 
 -- ---- the leaf before
 
@@ -73,72 +84,222 @@ module _ (index : Index) (table : Table) (kept : IsKept index table) (range : Le
       apart_ahead table front e back l.front at.entry l.back (subst AreRising is kept.index_is.rising) (sym is ∙ l.is) (subst (λ k. is_below at.entry.low k ≡ true) range_is.low l.below)
       (subst (λ k. AllByRecursion (λ (y : Entry). NotAbove k y.low) l.back) range_is.low l.rest) (apart l.front at.entry l.back l.is at.range_is)
 
--- ---- the leaf with a number
+-- ---- where leaves begin
 
-module _ (index : Index) (table : Table) (leaf : ℕ) (kept : IsKept index table) where
-  -- a leaf without memory isn't live
-  pub no_memory : (item : Option (Box Leaf Global)) → item ≡ get_or table leaf item → item ≡ None → IsNotLive index.entries leaf
-  no_memory item is none front e back at number =
-      let s : Stands index.entries leaf = record { front = front; entry = e; back = back; is = at; number = sym number } in
-      memory_some table leaf (stands_tied index table leaf kept s).leaf.segments item is none
+-- a live leaf's segments begin where its entry does
+tied_low : (ss : List VersionedRows) (e : Entry) (high : Key) → IsTied ss e high → AreCuts e.low e.cuts high → low_or ss end_key ≡ e.low
+tied_low ss e high tied cuts = by_list ss (tied_follow ss e high tied cuts) tied.leaf.segments
+  where
+    by_list : (ss : List VersionedRows) → Follow e.low ss → length ss ≡ 8 → low_or ss end_key ≡ e.low
+    by_list [] follow eight = absurd (omega (arith, eight))
+    by_list (x ∷ xs) follow eight = follow.0
 
-  module _ (item : Option (Box Leaf Global)) (box : Box Leaf Global) (memory : Leaf) (is : item ≡ get_or table leaf item) (some : item ≡ Some box) (value : memory ≡ box.value) where
-    segments_are : Stands index.entries leaf → segments_at table leaf ≡ memory.segments
-    segments_are s = stands_segments index table leaf kept s item box memory is some value
+-- so leaves rise as their entries do
+rising_parts : (table : Table) (es : List Entry) → AreTied table es → HaveCuts es → AreRising es → RisingParts (map (part_of table) es)
+rising_parts table [] tied cuts rising = tt
+rising_parts table (e ∷ es) tied cuts rising = (above es tied.1 cuts.1 rising.0, rising_parts table es tied.1 cuts.1 rising.1)
+  where
+    low : low_or (segments_at table e.leaf) end_key ≡ e.low
+    low = tied_low (segments_at table e.leaf) e (end_of es) tied.0 cuts.0
 
-    -- nor is one whose first key is in the range of another
-    pub other_range : (low : Key) (d : VersionedRows) (range : LeafRange) → low ≡ (get_or memory.segments 0 d).low → IsLeafRange low index.entries range → range.leaf ≢ leaf → IsNotLive index.entries leaf
-    other_range low d range low_is at other front e back here number =
+    above : (xs : List Entry) → AreTied table xs → HaveCuts xs → BeginAbove e.low xs → AllByRecursion (λ (q : Part). is_below (low_or (segments_at table e.leaf) end_key) (low_or q.segments end_key) ≡ true) (map (part_of table) xs)
+    above [] t c a = tt
+    above (x ∷ xs) t c a = ((λ i. is_below (low i) (tied_low (segments_at table x.leaf) x (end_of xs) t.0 c.0 i)) ∙ a.0, above xs t.1 c.1 a.1)
+
+parts_below_chain : (a b : Key) (ps : List Part) → is_below a b ≡ true → PartsBelow a ps → PartsBelow b ps
+parts_below_chain a b [] below all = tt
+parts_below_chain a b (p ∷ ps) below all = (below_chain (low_or p.segments end_key) a b all.0 below, parts_below_chain a b ps below all.1)
+
+module _ (index : Index) (table : Table) (kept : IsKept index table) where
+  abbrev parts : List Part
+  parts = map (part_of table) index.entries
+
+  rising : RisingParts parts
+  rising = rising_parts table index.entries kept.tied kept.index_is.cuts kept.index_is.rising
+
+  entry_low : (front : List Entry) (e : Entry) (back : List Entry) → index.entries ≡ front ++ e ∷ back → low_or (segments_at table e.leaf) end_key ≡ e.low
+  entry_low front e back is =
+      tied_low (segments_at table e.leaf) e (end_of back) (tied_at table front (e ∷ back) (subst (AreTied table) is kept.tied)).0 (cuts_at front (e ∷ back) (subst HaveCuts is kept.index_is.cuts)).0
+
+  -- ---- the leaf that waits
+
+  module _ (low : Key) (range : LeafRange) (at : IsLeafRange low index.entries range) where
+    -- where the leaf that has the key doesn't begin below it, it begins there
+    pub live_low : is_below range.low low ≡ false → range.low ≡ low
+    live_low above = tied_keys range.low low above (ap (is_below low) at.range_is.low ∙ at.floor.from)
+
+    -- and is the only one that does
+    range_of_entry : (front : List Entry) (e : Entry) (back : List Entry) → index.entries ≡ front ++ e ∷ back → e.low ≡ low → IsRangeOf e back range
+    range_of_entry front e back is same =
+        let f = floor_here index.entries front e back low at.entry is (sym same) kept.index_is.rising at.floor in
+        subst (λ x. IsRangeOf x back range) f.entry (subst (λ ys. IsRangeOf at.entry ys range) f.back at.range_is)
+
+    pub other_leaf_there : (waiting : Waiting) → waiting.low ≡ low → range.leaf ≢ waiting.leaf → IsNotLiveAs index.entries waiting
+    other_leaf_there waiting same other front e back is number begins = other ((range_of_entry front e back is (begins ∙ same)).leaf ∙ number)
+
+    pub other_low_there : (waiting : Waiting) → waiting.low ≡ low → is_below range.low low ≡ true → IsNotLiveAs index.entries waiting
+    other_low_there waiting same below front e back is number begins =
+        clash (is_below range.low low) below (ap (λ k. is_below k low) ((range_of_entry front e back is (begins ∙ same)).low ∙ begins ∙ same) ∙ below_self low)
+
+  -- ---- the leaf with a number
+
+  module _ (leaf : ℕ) (item : Option (Box Leaf Global)) (is : item ≡ get_or table leaf item) where
+    -- a leaf without memory isn't live
+    pub no_memory : item ≡ None → IsNotLive index.entries leaf
+    no_memory none front e back at number =
+        let s : Stands index.entries leaf = record { front = front; entry = e; back = back; is = at; number = sym number } in
+        memory_some table leaf (stands_tied index table leaf kept s).leaf.segments item is none
+
+    -- nor is one where no leaf waits so that begins with its first segment
+    pub not_live : (box : Box Leaf Global) (memory : Leaf) → item ≡ Some box → memory ≡ box.value → (waiting : Waiting) (d : VersionedRows) → waiting.leaf ≡ leaf → waiting.low ≡ (get_or memory.segments 0 d).low → IsNotLiveAs index.entries waiting → IsNotLive index.entries leaf
+    not_live box memory some value waiting d leaf_is low_is none front e back here number =
         let s : Stands index.entries leaf = record { front = front; entry = e; back = back; is = here; number = sym number } in
         let begin = first_begin (segments_at table leaf) e (end_of back) d (stands_tied index table leaf kept s) (stands_cuts index table leaf kept s) in
-        let same = low_is ∙ ap (λ ss. (get_or ss 0 d).low) (sym (segments_are s)) ∙ begin in
-        let floor = floor_here index.entries front e back low at.entry here same kept.index_is.rising at.floor in
-        other (at.range_is.leaf ∙ ap (λ (x : Entry). x.leaf) floor.entry ∙ number)
+        let same = low_is ∙ ap (λ ss. (get_or ss 0 d).low) (sym (stands_segments index table leaf kept s item box memory is some value)) ∙ begin in
+        none front e back here (number ∙ sym leaf_is) (sym same)
 
--- ---- leaves that are passed
+  -- ---- nothing to do
 
-find_number : (leaf : ℕ) (es : List Entry) → Stands es leaf ⊎ OtherLeaves leaf es
-find_number leaf [] = inr tt
-find_number leaf (e ∷ es) = by_case (same_or_not e.leaf leaf) (find_number leaf es)
-  where
-    by_case : (e.leaf ≡ leaf) ⊎ (e.leaf ≢ leaf) → Stands es leaf ⊎ OtherLeaves leaf es → Stands (e ∷ es) leaf ⊎ OtherLeaves leaf (e ∷ es)
-    by_case (inl here) rest = inl (record { front = []; entry = e; back = es; is = refl; number = sym here })
-    by_case (inr other) (inl s) = inl (record { front = e ∷ s.front; entry = s.entry; back = s.back; is = ap (λ ys. e ∷ ys) s.is; number = s.number })
-    by_case (inr other) (inr none) = inr (other, none)
+  module _ (low : Key) (leaf : ℕ) where
+    abbrev at_stage : Stage → Waiting
+    at_stage stage = record { stage = stage; low = low; leaf = leaf }
 
-other_parts : (table : Table) (leaf : ℕ) (es : List Entry) → OtherLeaves leaf es → OtherParts leaf (map (part_of table) es)
-other_parts table leaf [] others = tt
-other_parts table leaf (e ∷ es) others = (others.0, other_parts table leaf es others.1)
+    idle_windows : IsNotLiveAs index.entries (at_stage Windows) → (front es : List Entry) → index.entries ≡ front ++ es → AllByRecursion (λ (p : Part). waiting_of Windows p ≡ at_stage Windows → IsLevel p.segments) (map (part_of table) es)
+    idle_windows none front [] is = tt
+    idle_windows none front (e ∷ es) is = (
+      (λ same. absurd (none front e es is (ap (λ (w : Waiting). w.leaf) same) (sym (entry_low front e es is) ∙ ap (λ (w : Waiting). w.low) same))),
+      idle_windows none (front ++ e ∷ []) es (is ∙ sym (append_assoc front (e ∷ []) es)),
+    )
 
--- a leaf that is in order isn't watched any more
-pub tended_passed : (index : Index) (table : Table) (flags : List Bool) (leaf : ℕ) → IsTended index table flags → IsInOrder index.entries table leaf → IsTended index table (set flags leaf false)
-tended_passed index table flags leaf t order = record {
+    idle_neighbours : IsNotLiveAs index.entries (at_stage Neighbours) → IsDoneAt Neighbours parts (at_stage Neighbours)
+    idle_neighbours none front p back is same =
+        let e = part_entry table index.entries front p back is in
+        let waits : waiting_of Neighbours (part_of table e.entry) ≡ at_stage Neighbours = ap (waiting_of Neighbours) (sym e.part_is) ∙ same in
+        absurd (none e.before e.entry e.behind e.is (ap (λ (w : Waiting). w.leaf) waits) (sym (entry_low e.before e.entry e.behind e.is) ∙ ap (λ (w : Waiting). w.low) waits))
+
+    idle_at : (stage : Stage) → IsNotLiveAs index.entries (at_stage stage) → IsDoneAt stage parts (at_stage stage)
+    idle_at Windows none = idle_windows none [] index.entries refl
+    idle_at Neighbours none = idle_neighbours none
+
+    level_done : IsLevel (segments_at table leaf) → (es : List Entry) → AllByRecursion (λ (p : Part). waiting_of Windows p ≡ at_stage Windows → IsLevel p.segments) (map (part_of table) es)
+    level_done level [] = tt
+    level_done level (e ∷ es) = ((λ same. subst (λ n. IsLevel (segments_at table n)) (sym (ap (λ (w : Waiting). w.leaf) same)) level), level_done level es)
+
+    apart_done : (range : LeafRange) → IsLeafRange low index.entries range → IsApartAhead index.entries table range → IsApartBehind index.entries table range → IsDoneAt Neighbours parts (at_stage Neighbours)
+    apart_done range at ahead behind front p back is same =
+        let e = part_entry table index.entries front p back is in
+        let begins : e.entry.low ≡ low = sym (entry_low e.before e.entry e.behind e.is) ∙ ap (λ (q : Part). low_or q.segments end_key) (sym e.part_is) ∙ ap (λ (w : Waiting). w.low) same in
+        let here = range_of_entry low range at e.before e.entry e.behind e.is begins in
+        let before = subst (λ q. IsApartBefore front q) (sym e.part_is) (subst (λ ps. IsApartBefore ps (part_of table e.entry)) (sym e.front_is) (ahead e.before e.entry e.behind e.is here)) in
+        (before, subst (λ q. IsApart q back) (sym e.part_is) (subst (λ ps. IsApart (part_of table e.entry) ps) (sym e.back_is) (behind e.before e.entry e.behind e.is here)))
+
+    passed_at : (places : Places) (stage : Stage) → Waits places (at_stage stage) → IsDoneAt stage parts (at_stage stage) → AreQueued places parts → AreQueued (set places leaf (next_at stage low leaf)) parts
+    passed_at places Windows waits done was = windows_passed places low leaf waits (slice_get_within places leaf (Some (at_stage Windows)) waits) parts done was
+    passed_at places Neighbours waits done was = neighbours_passed places low leaf waits parts done [] parts refl was
+
+  -- a leaf that isn't live has nothing to do
+  pub idle_done : (waiting : Waiting) → IsNotLiveAs index.entries waiting → IsDone parts waiting
+  idle_done waiting none = idle_at waiting.low waiting.leaf waiting.stage none
+
+  -- nor one without a sparse window
+  pub windows_done : (waiting : Waiting) → waiting.stage ≡ Windows → IsLevel (segments_at table waiting.leaf) → IsDone parts waiting
+  windows_done waiting stage level = subst (λ s. IsDoneAt s parts (record waiting { stage = s })) (sym stage) (level_done waiting.low waiting.leaf level index.entries)
+
+  -- nor one that is apart from its neighbours
+  pub neighbours_done : (waiting : Waiting) → waiting.stage ≡ Neighbours → (range : LeafRange) → IsLeafRange waiting.low index.entries range → IsApartAhead index.entries table range → IsApartBehind index.entries table range → IsDone parts waiting
+  neighbours_done waiting stage range at ahead behind = subst (λ s. IsDoneAt s parts (record waiting { stage = s })) (sym stage) (apart_done waiting.low waiting.leaf range at ahead behind)
+
+-- a leaf with which nothing is to be done is passed
+pub tended_passed : (index : Index) (table : Table) (places : Places) (waiting : Waiting) → IsTended index table places → Waits places waiting → IsDone (map (part_of table) index.entries) waiting → IsTended index table (set places waiting.leaf (next_of waiting))
+tended_passed index table places waiting t waits done = record {
   kept = t.kept;
-  count = length-set flags leaf false ∙ t.count;
-  watched = by_case order;
+  count = length-set places waiting.leaf (next_of waiting) ∙ t.count;
+  queued = passed_at index table t.kept waiting.low waiting.leaf places waiting.stage waits done t.queued;
 }
-  where
-    by_number : IsNotLive index.entries leaf → Stands index.entries leaf ⊎ OtherLeaves leaf index.entries → AreWatched (set flags leaf false) (map (part_of table) index.entries)
-    by_number none (inl s) = absurd (none s.front s.entry s.back s.is (sym s.number))
-    by_number none (inr others) = others_watched flags leaf (map (part_of table) index.entries) (other_parts table leaf index.entries others) t.watched
 
-    by_case : IsInOrder index.entries table leaf → AreWatched (set flags leaf false) (map (part_of table) index.entries)
-    by_case (inl none) = by_number none (find_number leaf index.entries)
-    by_case (inr r) =
-        let others = one_entry index r.front r.entry r.back t.kept.index_is.once r.is in
-        let parts = ap (map (part_of table)) r.is ∙ parts_append table r.front (r.entry ∷ r.back) in
-        subst (AreWatched (set flags leaf false)) (sym parts)
-        (watched_passed flags leaf (map (part_of table) r.front) (part_of table r.entry) (map (part_of table) r.back)
-        (other_parts table leaf r.front (subst (λ n. OtherLeaves n r.front) r.number others.0)) (other_parts table leaf r.back (subst (λ n. OtherLeaves n r.back) r.number others.1))
-        (subst (λ n. IsLevel (segments_at table n)) (sym r.number) r.level) r.behind r.ahead (subst (AreWatched flags) parts t.watched))
-
--- where none is watched the store is compact
-pub all_in_order : (index : Index) (table : Table) (flags : List Bool) → IsTended index table flags → ((n : ℕ) → Watches flags n → ⊥) → IsCompact (leaves_of index table)
-all_in_order index table flags t none =
-    let done = none_watched flags (map (part_of table) index.entries) none t.watched in
+-- where none waits the store is compact
+pub all_done : (index : Index) (table : Table) (places : Places) → IsTended index table places → ((w : Waiting) → Waits places w → ⊥) → IsCompact (leaves_of index table)
+all_done index table places t none =
+    let done = none_waits places (map (part_of table) index.entries) none t.queued in
     record { level = done.0; apart = done.1 }
 
 -- ---- what there is to do
 
-pub window_of_work : (index : Index) (table : Table) (work : Work) (found : SparseWindow) → work ≡ Spread found → IsWork index table work → IsFoundWindow index table found
-window_of_work index table work found is work_is = subst (IsWork index table) is work_is
+module _ (index : Index) (table : Table) (places : Places) (t : IsTended index table places) (range : LeafRange) where
+  module _ (low : Key) (leaf : ℕ) (first : IsFirst places (record { stage = Windows; low = low; leaf = leaf })) (at : IsLeafRange low index.entries range) (same : range.low ≡ low) (number : range.leaf ≡ leaf) where
+    begins_there : (p : Part) → p.segments ≡ segments_at table p.leaf → p.leaf ≡ leaf → low_or p.segments end_key ≡ low
+    begins_there p segments is =
+        ap (λ ss. low_or ss end_key) (segments ∙ ap (segments_at table) (is ∙ sym number ∙ at.range_is.leaf))
+        ∙ entry_low index table t.kept at.floor.front at.entry at.floor.back at.floor.is ∙ sym at.range_is.low ∙ same
+
+    first_window : (window : Window) → IsLeftmostWindow (counts_of (segments_at table leaf)) window → IsFoundWindow index table (record { leaf = leaf; window = window })
+    first_window window leftmost = record {
+      stands = record { front = at.floor.front; entry = at.entry; back = at.floor.back; is = at.floor.is; number = sym number ∙ at.range_is.leaf };
+      before = λ front p back is here.
+          let below = front_below front p back (subst RisingParts is (rising index table t.kept)) in
+          level_before places low leaf first front (p ∷ back) (subst (λ k. PartsBelow k front) (begins_there p (alone index table t.kept front p back is).segments here) below) (subst (AreQueued places) is t.queued);
+      leftmost = leftmost;
+    }
+
+  module _ (low : Key) (leaf : ℕ) (first : IsFirst places (record { stage = Neighbours; low = low; leaf = leaf })) (same : range.low ≡ low) (pair : Pair) (next : IsNextPair index table range pair) where
+    abbrev found : IsFoundPair index table pair
+    found = next.found
+
+    parts_are : map (part_of table) index.entries ≡ map (part_of table) found.front ++ part_of table found.left ∷ map (part_of table) (found.right ∷ found.back)
+    parts_are = ap (map (part_of table)) found.is ∙ parts_append table found.front (found.left ∷ found.right ∷ found.back)
+
+    front_low : PartsBelow found.left.low (map (part_of table) found.front)
+    front_low =
+        subst (λ k. PartsBelow k (map (part_of table) found.front)) (entry_low index table t.kept found.front found.left (found.right ∷ found.back) found.is)
+        (front_below (map (part_of table) found.front) (part_of table found.left) (map (part_of table) (found.right ∷ found.back)) (subst RisingParts parts_are (rising index table t.kept)))
+
+    by_side : (is_below found.left.low range.low ≡ true) ⊎ ((found.left.low ≡ range.low) × IsApartBefore (map (part_of table) found.front) (part_of table found.left)) → AreApart (map (part_of table) found.front ++ part_of table found.left ∷ [])
+    by_side (inl below) =
+        let all = map (part_of table) found.front ++ part_of table found.left ∷ [] in
+        let left : is_below (low_or (segments_at table found.left.leaf) end_key) low ≡ true = (λ i. is_below (entry_low index table t.kept found.front found.left (found.right ∷ found.back) found.is i) (sym same i)) ∙ below in
+        let before = parts_below_chain found.left.low low (map (part_of table) found.front) (ap (is_below found.left.low) (sym same) ∙ below) front_low in
+        apart_before places low leaf first all (map (part_of table) (found.right ∷ found.back)) (all_append (λ (p : Part). is_below (low_or p.segments end_key) low ≡ true) (map (part_of table) found.front) (part_of table found.left ∷ []) before (left, tt))
+        (subst (AreQueued places) (parts_are ∙ sym (append_assoc (map (part_of table) found.front) (part_of table found.left ∷ []) (map (part_of table) (found.right ∷ found.back)))) t.queued)
+    by_side (inr here) =
+        apart_with (map (part_of table) found.front) (part_of table found.left)
+        (apart_before places low leaf first (map (part_of table) found.front) (part_of table found.left ∷ map (part_of table) (found.right ∷ found.back)) (subst (λ k. PartsBelow k (map (part_of table) found.front)) (here.0 ∙ same) front_low) (subst (AreQueued places) parts_are t.queued)) here.1
+
+    first_pair : IsFirstFoundPair index table pair
+    first_pair = record {
+      found = found;
+      level = all_level places low leaf first (map (part_of table) index.entries) t.queued;
+      apart = subst AreApart (sym (parts_append table found.front (found.left ∷ []))) (by_side next.left);
+    }
+
+  module _ (waiting : Waiting) (first : IsFirst places waiting) where
+    -- the window that is found is the first
+    pub window_work : waiting.stage ≡ Windows → IsLeafRange waiting.low index.entries range → range.low ≡ waiting.low → range.leaf ≡ waiting.leaf → (window : Window) → IsLeftmostWindow (counts_of (segments_at table waiting.leaf)) window → IsFoundWindow index table (record { leaf = waiting.leaf; window = window })
+    window_work stage at same number window leftmost =
+        first_window waiting.low waiting.leaf (subst (λ s. IsFirst places (record waiting { stage = s })) stage first) at same number window leftmost
+
+    -- and so is the pair
+    pub pair_work : waiting.stage ≡ Neighbours → range.low ≡ waiting.low → (pair : Pair) → IsNextPair index table range pair → IsFirstFoundPair index table pair
+    pair_work stage same pair next = first_pair waiting.low waiting.leaf (subst (λ s. IsFirst places (record waiting { stage = s })) stage first) same pair next
+
+-- ---- pairs
+
+pub if_some_on : {X : Type 0} (P Q : X → Type 0) (x : Option X) → IfSome x P → ((v : X) → P v → Q v) → IfSome x Q
+if_some_on P Q None has then = tt
+if_some_on P Q (Some v) has then = then v has
+
+-- the pair whose left leaf is the last that begins below the key
+pub pair_ahead : (index : Index) (table : Table) (key : Key) (range : LeafRange) (pair : Pair) → BeginsBelow key index.entries range → IsPairBehind index table range pair → IsPairAhead index table key pair
+pair_ahead index table key range pair at b = record {
+  found = b.found;
+  below = ap (λ k. is_below k key) (sym b.range_is.low ∙ at.range_is.low) ∙ at.last.below;
+}
+
+-- where the leaf is apart from the one before the pair with the next is the first
+pub pair_behind : (index : Index) (table : Table) (range : LeafRange) (pair : Pair) → IsApartAhead index.entries table range → IsPairBehind index table range pair → IsNextPair index table range pair
+pair_behind index table range pair ahead b = record {
+  found = b.found;
+  left = inr (sym b.range_is.low, ahead b.found.front b.found.left (b.found.right ∷ b.found.back) b.found.is b.range_is);
+}
+
+pub work_window : (index : Index) (table : Table) (work : Work) (found : SparseWindow) → work ≡ Spread found → IsWork index table work → IsFoundWindow index table found
+work_window index table work found is work_is = subst (IsWork index table) is work_is

@@ -6,5 +6,4 @@ pub mod Changes
 pub mod Merging
 pub mod Making
 pub mod Pairs
-pub mod Grouped
-pub mod Watched
+pub mod Queued

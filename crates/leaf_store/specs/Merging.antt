@@ -24,14 +24,28 @@ pub record IsSparseWindow (counts : List ℕ) (window : Window) : Type 0 where
   pub smallest : IsSmallest (IsDense counts) segment window
   pub round : IsRound segment window
 
--- round none of the segments that have too few rows a window has enough
+-- the segment has enough rows, or no window round it has
+abbrev pub HasNoWindow : List ℕ → ℕ → Type 0
+HasNoWindow counts segment = slice_index counts segment < slice_index LOWER_LIMITS 0
+    → IsSmallestWindow (IsDense counts) segment None
+
+-- no segment of the leaf has a sparse window
 abbrev pub IsLevel : List VersionedRows → Type 0
-IsLevel ss = (segment : ℕ) → segment < 8 → slice_index (counts_of ss) segment < slice_index LOWER_LIMITS 0
-    → IsSmallestWindow (IsDense (counts_of ss)) segment None
+IsLevel ss = (segment : ℕ) → segment < 8 → HasNoWindow (counts_of ss) segment
 
 -- so are all leaves
 abbrev pub AreLevel : List Part → Type 0
 AreLevel parts = AllByRecursion (λ p. IsLevel p.segments) parts
+
+-- it is the sparse window of the first segment that has one
+pub record IsLeftmostWindow (counts : List ℕ) (window : Window) : Type 0 where
+  pub sparse : IsSparseWindow counts window
+  pub before : (segment : ℕ) → segment < sparse.segment → HasNoWindow counts segment
+
+-- It is the first sparse window in key order: no leaf before this one has any, and no segment before its own.
+pub record IsFirstWindow (front : List Part) (part : Part) (window : Window) : Type 0 where
+  pub level : AreLevel front
+  pub leftmost : IsLeftmostWindow (counts_of part.segments) window
 
 -- ---- neighbours
 
@@ -47,6 +61,11 @@ IsApart p (q ∷ qs) = MERGE_ROWS < rows_in_part p + rows_in_part q
 abbrev pub AreApart : List Part → Type 0
 AreApart [] = Unit {0}
 AreApart (p ∷ ps) = IsApart p ps × AreApart ps
+
+-- They are the first two neighbours in key order that have few rows together: no two before them have.
+pub record IsFirstPair (front : List Part) (left right : Part) : Type 0 where
+  pub apart : AreApart (front ++ left ∷ [])
+  pub few : rows_in_part left + rows_in_part right ≤ MERGE_ROWS
 
 -- ---- what calls do
 
@@ -65,7 +84,7 @@ pub record Compacts (old new : Leaves) (stamp : ℕ) : Type 0 where
   pub free : new.free ≡ old.free
   pub retired : RetiresOne old.retired new.retired stamp
 
--- the sparse window of one leaf is spread, and all else is as it was
+-- the first sparse window in key order is spread, and all else is as it was
 pub record SpreadsOne (old new : Leaves) : Type 0 where
   pub front : List Part
   pub part : Part
@@ -74,11 +93,11 @@ pub record SpreadsOne (old new : Leaves) : Type 0 where
   pub window : Window
   pub was : old.parts ≡ front ++ part ∷ back
   pub now : new ≡ record old { parts = front ++ record part { segments = segments } ∷ back }
-  pub sparse : IsSparseWindow (counts_of part.segments) window
+  pub first : IsFirstWindow front part window
   pub spreads : SpreadsWindow window part.segments segments
 
--- One leaf has all rows of two neighbours with few rows, and the right one is retired with the stamp. All else is as it
--- was.
+-- No leaf has a sparse window. Of the first two neighbours in key order with few rows the left one has all rows now, and
+-- the right one is retired with the stamp. All else is as it was.
 pub record MergesTwo (old new : Leaves) (stamp : ℕ) : Type 0 where
   pub front : List Part
   pub left : Part
@@ -91,7 +110,8 @@ pub record MergesTwo (old new : Leaves) (stamp : ℕ) : Type 0 where
     parts = front ++ record left { segments = segments } ∷ back;
     retired = old.retired ++ record { leaf = right.leaf; stamp = stamp } ∷ [];
   }
-  pub few : rows_in_part left + rows_in_part right ≤ MERGE_ROWS
+  pub level : AreLevel old.parts
+  pub first : IsFirstPair front left right
   pub merges : Merges left.segments right.segments segments rest
 
 -- the leaves are as they were, but for the room for records in their segments
@@ -106,7 +126,8 @@ pub record KeepsParts (old new : Leaves) : Type 0 where
   pub cells : KeepsCells old new
   pub parts : AreSameParts old.parts new.parts
 
--- A window is spread or two neighbours become one leaf; or there is neither; or memory is wanted.
+-- The first window is spread, or where there is none the first two neighbours become one leaf; or there are neither; or
+-- memory is wanted.
 abbrev pub IsMergeStep : {E : Type 0} → Leaves → Leaves → ℕ → Result Bool E → Type 0
 IsMergeStep old new stamp (Ok true) = SpreadsOne old new ⊎ MergesTwo old new stamp
 IsMergeStep old new stamp (Ok false) = IsCompact old × (new ≡ old)

@@ -1,8 +1,9 @@
 -- Windows and neighbours that were found, by their entries in the index. Only the crate itself speaks of it.
-use Rattle.std.specs.Prelude.{◌≡◌, ℕ, ◌+◌, ◌≤◌, length, List, [], ◌∷◌, ◌++◌, Option, map}
+use Rattle.std.specs.Prelude.{◌≡◌, ℕ, ◌+◌, ◌≤◌, true, length, List, [], ◌∷◌, ◌++◌, Option, map}
 use Rattle.std.specs.declared.boxed.Box.{Box}
 use Rattle.std.specs.declared.alloc.Global.{Global}
 use Rattle.graph_model.specs.declared.row.Key.{Key}
+use Rattle.graph_model.specs.Rows.{is_below}
 use Rattle.version_segment.specs.Rows.{VersionedRows}
 use Rattle.leaf_array.specs.declared.leaf.Leaf.{Leaf}
 use Rattle.leaf_array.specs.Leaves as leaves
@@ -15,7 +16,7 @@ use Rattle.leaf_store.specs.declared.pair.TheConstants.{MERGE_ROWS}
 use Rattle.leaf_store.specs.declared.sparse.SparseWindow.{SparseWindow}
 use Rattle.density_tree.specs.declared.window.Window.{Window}
 use Rattle.leaf_store.specs.Leaves.{Leaves, Part}
-use Rattle.leaf_store.specs.Merging.{IsApart, IsSparseWindow}
+use Rattle.leaf_store.specs.Merging.{AreApart, AreLevel, IsApart, IsLeftmostWindow, MergesTwo}
 use Rattle.leaf_store.specs.Table.{IsTied, part_of, segments_at}
 
 -- a live leaf's entry stands among others
@@ -26,10 +27,16 @@ pub record Stands (entries : List Entry) (leaf : ℕ) : Type 0 where
   pub is : entries ≡ front ++ entry ∷ back
   pub number : leaf ≡ entry.leaf
 
--- the window of a live leaf is to be spread
+-- no leaf before the one with this number has a sparse window
+abbrev pub AreLevelBefore : List Part → ℕ → Type 0
+AreLevelBefore parts leaf = (front : List Part) (part : Part) (back : List Part)
+    → parts ≡ front ++ part ∷ back → part.leaf ≡ leaf → AreLevel front
+
+-- the first sparse window in key order, by the number of its leaf
 pub record IsFoundWindow (index : Index) (table : List (Option (Box Leaf Global))) (found : SparseWindow) : Type 0 where
   pub stands : Stands index.entries found.leaf
-  pub sparse : IsSparseWindow (counts_of (segments_at table found.leaf)) found.window
+  pub before : AreLevelBefore (map (part_of table) index.entries) found.leaf
+  pub leftmost : IsLeftmostWindow (counts_of (segments_at table found.leaf)) found.window
 
 -- the window of the live leaf with this number and these segments is spread, and all else is as it was
 pub record SpreadsLeaf (window : Window) (leaf : ℕ) (ss : List VersionedRows) (old new : Leaves) : Type 0 where
@@ -44,7 +51,7 @@ pub record SpreadsLeaf (window : Window) (leaf : ℕ) (ss : List VersionedRows) 
   pub spreads : leaves.SpreadsWindow window ss segments
 
 -- the rows of the live leaf with these segments are divided between it and the next free one, and all else is as it was
-pub record DividesLeaf (ss : List VersionedRows) (old new : Leaves) : Type 0 where
+pub record HalvesLeaf (ss : List VersionedRows) (old new : Leaves) : Type 0 where
   pub front : List Part
   pub part : Part
   pub back : List Part
@@ -87,6 +94,24 @@ pub record IsFoundPair (index : Index) (table : List (Option (Box Leaf Global)))
   pub few : length (rows_of (segments_at table left.leaf)) + length (rows_of (segments_at table right.leaf))
       ≤ MERGE_ROWS
 
+-- and the left one has this range
+pub record IsPairBehind (index : Index) (table : List (Option (Box Leaf Global))) (range : LeafRange) (pair : Pair)
+    : Type 0 where
+  pub found : IsFoundPair index table pair
+  pub range_is : IsRangeOf found.left (found.right ∷ found.back) range
+
+-- and the left one begins before this key
+pub record IsPairAhead (index : Index) (table : List (Option (Box Leaf Global))) (key : Key) (pair : Pair)
+    : Type 0 where
+  pub found : IsFoundPair index table pair
+  pub below : is_below found.left.low key ≡ true
+
+-- no leaf has a sparse window, and the two are the first neighbours in key order with few rows
+pub record IsFirstFoundPair (index : Index) (table : List (Option (Box Leaf Global))) (pair : Pair) : Type 0 where
+  pub found : IsFoundPair index table pair
+  pub level : AreLevel (map (part_of table) index.entries)
+  pub apart : AreApart (map (part_of table) (found.front ++ found.left ∷ []))
+
 -- the segments are those of two entries, one behind the other
 pub record AreNeighbours (entries : List Entry) (ss ts : List VersionedRows) (number : ℕ) : Type 0 where
   pub front : List Entry
@@ -110,3 +135,8 @@ pub record MergesEntries (stamp number : ℕ) (old new : Index) (ss ts us : List
     entries = new.entries;
     retired = old.retired ++ record { leaf = number; stamp = stamp } ∷ [];
   }
+
+-- the first two neighbours with few rows become one leaf, with this number
+pub record MergesLeaf (leaf : ℕ) (old new : Leaves) (stamp : ℕ) : Type 0 where
+  pub two : MergesTwo old new stamp
+  pub number : two.left.leaf ≡ leaf

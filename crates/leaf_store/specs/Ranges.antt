@@ -17,7 +17,7 @@ use Rattle.txn_manager.specs.declared.config.RoomRefusal.TheVariants as refusals
 use Rattle.density_tree.specs.declared.window.Window.{Window}
 use Rattle.density_tree.specs.Windows.{IsRound}
 use Rattle.leaf_store.specs.declared.place.Place.{Place}
-use Rattle.leaf_store.specs.Leaves.{Leaves, room_at}
+use Rattle.leaf_store.specs.Leaves.{Leaves, Part, room_at}
 use Rattle.leaf_store.specs.Table.{IsPlace, IsTied, segments_at}
 
 -- the entry that begins at the low key has these cuts, and the other key is within its range
@@ -85,6 +85,18 @@ pub record SplitsLeaf (old new : Index) (table table' : List (Option (Box Leaf G
   pub index_is : new ≡ record old { entries = new.entries }
   pub others : (n : ℕ) → n ≢ leaf → n ≢ other → segments_at table' n ≡ segments_at table n
   pub count : length table' ≡ length table
+
+-- one leaf has become two with these numbers, and all others are as they were
+pub record DividesLeaf (leaf other : ℕ) (old new : Leaves) : Type 0 where
+  pub front : List Part
+  pub part : Part
+  pub left : Part
+  pub right : Part
+  pub back : List Part
+  pub was : old.parts ≡ front ++ part ∷ back
+  pub now : new.parts ≡ front ++ left ∷ right ∷ back
+  pub left_number : left.leaf ≡ leaf
+  pub right_number : right.leaf ≡ other
 
 -- only the room for records of one leaf has changed
 pub record KeepsLeaves (table table' : List (Option (Box Leaf Global))) (leaf : ℕ) : Type 0 where

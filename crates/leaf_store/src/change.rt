@@ -2,7 +2,7 @@
 //!
 //! 1. A call changes the cell of its key alone, and keeps its fence keys.
 //! 2. Only `reserve` takes memory.
-//! 3. Where the number of rows has changed the leaf is watched, unless it is thick.
+//! 3. Where the number of rows has changed the leaf waits to be looked at, unless it is thick.
 
 ghost use Rattle.std.specs.Prelude.{◌≡◌, ◌≤◌, true, OnOk};
 ghost use Rattle.graph_model.specs.Rows.{is_below, end_key};
@@ -14,8 +14,8 @@ ghost use Rattle.leaf_store.specs.Changes.{ChangesVersions, KeepsCells, KeepsRec
 
 use crate::finger::Finger;
 use crate::place::{place_near, place_of};
+use crate::queue::queue_change;
 use crate::store::{LeafStore, Pruned};
-use crate::work::watch_change;
 use graph_model::{Key, NoMemory, TxnName};
 use undo_chain::States;
 use version_segment::RowChange;
@@ -57,7 +57,7 @@ impl LeafStore {
             }
             None => unreachable!(),
         };
-        watch_change(&mut self.watch, &self.leaves, place.leaf, before, rows);
+        queue_change(&mut self.queue, &self.leaves, place.leaf, before, rows);
     }
 
     /// Takes away what nobody can see from the horizon on, in the rows of the key's cell, and answers how many records
@@ -83,7 +83,7 @@ impl LeafStore {
             }
             None => unreachable!(),
         };
-        watch_change(&mut self.watch, &self.leaves, place.leaf, before, rows);
+        queue_change(&mut self.queue, &self.leaves, place.leaf, before, rows);
         pruned
     }
 }

@@ -14,13 +14,13 @@ ghost use Rattle.leaf_store.specs.Changes.{AreFilled, AreRising, IsFillRefusal};
 ghost use Rattle.leaf_store.specs.Fill.{AreSettled, IsFilling, IsFillStop};
 
 use crate::look::cuts_of;
+use crate::queue::queue_thin;
 use crate::store::LeafStore;
 use crate::table::{empty_table, put_leaf};
-use crate::watch::Watch;
-use crate::work::watch_thin;
 use graph_model::{Key, LEAF_SEGMENTS, NoMemory, Row};
 use leaf_array::Leaf;
 use leaf_index::LeafIndex;
+use leaf_queue::LeafQueue;
 use std::alloc::Global;
 use txn_manager::RoomRefusal;
 use version_segment::VersionSegment;
@@ -166,13 +166,13 @@ impl LeafStore {
         let mut table = empty_table(alloc, leaves)?;
         let laid = fill_first(&mut index, &mut table, alloc, rows)?;
         fill_rest(&mut index, &mut table, alloc, rows, laid)?;
-        let mut watch = Watch::new(alloc, leaves)?;
-        watch_thin(&index, &table, &mut watch);
+        let mut queue = LeafQueue::new(alloc, leaves)?;
+        queue_thin(&index, &table, &mut queue);
         Ok(LeafStore {
             alloc,
             index,
             leaves: table,
-            watch,
+            queue,
             ahead: 0,
         })
     }

@@ -4,7 +4,7 @@
 //!    whose fence keys hold its key. So what a key has is what its cell has.
 //! 2. The index has the leaves in the order of their keys, and the least keys of their segments.
 //! 3. A spread and a split keep each key's versions. Memory is taken before anything moves.
-//! 4. Where a window is to be spread, or two neighbours are to become one leaf, a leaf of it is watched.
+//! 4. Where a window is to be spread, or two neighbours are to become one leaf, a leaf of it waits in the queue.
 #![tactic(auto)]
 
 mod ahead;
@@ -17,13 +17,14 @@ mod look;
 mod merge;
 mod pair;
 mod place;
+mod queue;
 mod range;
 mod room;
 mod sparse;
 mod split;
+mod spread;
 mod store;
 mod table;
-mod watch;
 mod work;
 
 pub use finger::Finger;

@@ -1,38 +1,47 @@
 //! Rows of leaves with few rows are brought together, and retired leaves are freed.
 //!
 //! 1. Each key keeps its versions.
-//! 2. A sparse window of a watched leaf is spread first. Else the leaf becomes one with the next or with the one
-//!    before, where both have few rows.
+//! 2. The first sparse window in key order is spread. Only where no leaf has one the first two neighbours with few rows
+//!    become one leaf.
 
-ghost use Rattle.std.specs.Prelude.{◌≡◌, ◌<◌, [], length, IsOk};
+ghost use Rattle.std.specs.Prelude.{◌≡◌, ◌<◌, [], length, IsOk, OnErr, OnOk};
 ghost use Rattle.leaf_index.specs.Calls.{freed_of};
 ghost use Rattle.leaf_store.specs.Leaves.{record_count};
-ghost use Rattle.leaf_store.specs.Merging.{Compacts, FreesRetired, IsMergeStep, KeepsVersions};
+ghost use Rattle.leaf_store.specs.Merging.{Compacts, FreesRetired, IsMergeStep, KeepsParts, KeepsVersions, MergesTwo};
+ghost use Rattle.leaf_store.specs.Pairs.{IsFirstFoundPair};
+ghost use Rattle.leaf_store.specs.Queued.{IsTended};
+ghost use Rattle.leaf_store.specs.Table.{leaves_of};
 
-use crate::pair::{STAMPS_END, merge_pair};
-use crate::room::spread_window;
+use crate::pair::{Pair, STAMPS_END, merge_pair};
+use crate::queue::enqueue;
+use crate::room::spread_queued;
 use crate::store::LeafStore;
 use crate::work::{Work, find_work};
 use graph_model::NoMemory;
+use leaf_array::Leaf;
+use leaf_index::LeafIndex;
+use leaf_queue::LeafQueue;
+use std::alloc::Global;
 
 impl LeafStore {
-    /// Spreads a window that has a segment with too few rows and enough rows in all, or makes one leaf of two
-    /// neighbours with few rows. Answers whether there was either. The stamp is for the leaf that goes.
+    /// Spreads the first window in key order that has a segment with too few rows and enough rows in all. Where no leaf
+    /// has one it makes one leaf of the first two neighbours with few rows. Answers whether there was either. The stamp
+    /// is for the leaf that goes.
     ///
-    /// It looks at watched leaves alone: those whose number of rows may have changed since it last passed them.
+    /// It looks at leaves that wait alone: those whose number of rows may have changed since it last passed them.
     pub fn merge_step(&mut self, stamp: u64) -> Result<bool, NoMemory>
         requires { stamp < STAMPS_END }
         ensures compacts { Compacts self.old self.new stamp }
         ensures steps { IsMergeStep self.old self.new stamp result }
         ensures settled { record_count self.old ≡ 0 → IsOk result }
     {
-        match find_work(&self.index, &self.leaves, &mut self.watch) {
+        match find_work(&self.index, &self.leaves, &mut self.queue) {
             Some(Work::Spread(found)) => {
                 let (leaf, window) = (found.leaf, found.window);
-                spread_window(
+                spread_queued(
                     &mut self.index,
                     &mut self.leaves,
-                    &mut self.watch,
+                    &mut self.queue,
                     self.alloc,
                     leaf,
                     window,
@@ -40,10 +49,10 @@ impl LeafStore {
                 Ok(true)
             }
             Some(Work::Merge(pair)) => {
-                merge_pair(
+                merge_queued(
                     &mut self.index,
                     &mut self.leaves,
-                    &mut self.watch,
+                    &mut self.queue,
                     self.alloc,
                     pair,
                     stamp,
@@ -64,4 +73,29 @@ impl LeafStore {
         self.index.is_index();
         freed
     }
+}
+
+/// Makes one leaf of two neighbours, which waits to be looked at then.
+fn merge_queued(
+    index: &mut LeafIndex,
+    leaves: &mut Vec<Option<Box<Leaf>>>,
+    queue: &mut LeafQueue,
+    alloc: Global,
+    pair: Pair,
+    stamp: u64,
+) -> Result<(), NoMemory>
+    requires tended { IsTended index.old leaves.old.items queue.old }
+    requires pair { IsFirstFoundPair index.old leaves.old.items pair }
+    requires stamp { stamp < STAMPS_END }
+    ensures tended { IsTended index.new leaves.new.items queue.new }
+    ensures compacts { Compacts (leaves_of index.old leaves.old.items) (leaves_of index.new leaves.new.items) stamp }
+    ensures ok { OnOk result (MergesTwo
+        (leaves_of index.old leaves.old.items) (leaves_of index.new leaves.new.items) stamp) }
+    ensures err { OnErr result (KeepsParts
+        (leaves_of index.old leaves.old.items) (leaves_of index.new leaves.new.items)) }
+    ensures settled { record_count (leaves_of index.old leaves.old.items) ≡ 0 → IsOk result }
+{
+    merge_pair(index, leaves, alloc, pair, stamp)?;
+    enqueue(queue, leaves, pair.left as usize);
+    Ok(())
 }

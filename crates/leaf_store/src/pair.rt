@@ -10,14 +10,12 @@ ghost use Rattle.version_segment.specs.Rows.{IsSegment};
 ghost use Rattle.leaf_array.specs.Leaves.{IsLeaf};
 ghost use Rattle.leaf_array.specs.Segments.{AreSame, records_of, rows_of};
 ghost use Rattle.leaf_store.specs.Leaves.{record_count};
-ghost use Rattle.leaf_store.specs.Merging.{Compacts, KeepsParts, MergesTwo};
-ghost use Rattle.leaf_store.specs.Pairs.{AreNeighbours, IsFoundPair, IsApartBehind, IsRangeIn, MergesEntries};
+ghost use Rattle.leaf_store.specs.Merging.{Compacts, KeepsParts};
+ghost use Rattle.leaf_store.specs.Pairs.{AreNeighbours, IsApartBehind, IsFirstFoundPair, IsPairBehind, IsRangeIn, MergesEntries, MergesLeaf};
 ghost use Rattle.leaf_store.specs.Table.{IsKept, leaves_of, segments_at};
-ghost use Rattle.leaf_store.specs.Watched.{IsTended};
 
 use crate::look::{counts_of, cuts_of};
 use crate::table::put_leaf;
-use crate::watch::Watch;
 use graph_model::{Key, NoMemory};
 use leaf_array::{Leaf, merge_leaves};
 use leaf_index::{LeafIndex, LeafRange};
@@ -46,7 +44,7 @@ pub(crate) fn pair_at(
 ) -> Option<Pair>
     requires kept { IsKept index.now leaves.now.items }
     requires range { IsRangeIn index.now.entries range }
-    ensures some { IfSome result (IsFoundPair index.now leaves.now.items) }
+    ensures some { IfSome result (IsPairBehind index.now leaves.now.items range) }
     ensures none { result ≡ None → IsApartBehind index.now.entries leaves.now.items range }
 {
     if !range.high.is_below(Key::END) {
@@ -118,27 +116,25 @@ fn merge_entries(
     Ok(())
 }
 
-/// Makes one leaf of two neighbours.
+/// Makes one leaf of the first two neighbours with few rows, where no leaf has a sparse window.
 pub(crate) fn merge_pair(
     index: &mut LeafIndex,
     leaves: &mut Vec<Option<Box<Leaf>>>,
-    watch: &mut Watch,
     alloc: Global,
     pair: Pair,
     stamp: u64,
 ) -> Result<(), NoMemory>
-    requires tended { IsTended index.old leaves.old.items watch.old }
-    requires pair { IsFoundPair index.old leaves.old.items pair }
+    requires kept { IsKept index.old leaves.old.items }
+    requires pair { IsFirstFoundPair index.old leaves.old.items pair }
     requires stamp { stamp < STAMPS_END }
-    ensures tended { IsTended index.new leaves.new.items watch.new }
+    ensures kept { IsKept index.new leaves.new.items }
     ensures compacts { Compacts (leaves_of index.old leaves.old.items) (leaves_of index.new leaves.new.items) stamp }
-    ensures ok { OnOk result (MergesTwo
+    ensures ok { OnOk result (MergesLeaf pair.left
         (leaves_of index.old leaves.old.items) (leaves_of index.new leaves.new.items) stamp) }
     ensures err { OnErr result (KeepsParts
         (leaves_of index.old leaves.old.items) (leaves_of index.new leaves.new.items)) }
     ensures settled { record_count (leaves_of index.old leaves.old.items) ≡ 0 → IsOk result }
 {
-    watch.watch(pair.left as usize);
     let Some(mut right) = replace(&mut leaves[pair.right as usize], None) else {
         unreachable!()
     };

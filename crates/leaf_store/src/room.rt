@@ -1,7 +1,7 @@
 //! Room for rows: windows that are spread, and leaves that are split.
 //!
 //! 1. Each key keeps its versions, whatever the answer is.
-//! 2. Cuts are set in the index as soon as the rows of a leaf have moved.
+//! 2. The leaves that are left wait to be looked at.
 
 ghost use Rattle.std.specs.Prelude.{◌≡◌, ◌<◌, ◌≤◌, ◌*◌, true, length, IfErr, IfSome, IsOk, OnErr, OnOk};
 ghost use Rattle.graph_model.specs.declared.row.Key.{Key};
@@ -13,20 +13,22 @@ ghost use Rattle.leaf_store.specs.Leaves.{record_count, room_at};
 ghost use Rattle.leaf_store.specs.Changes.{IsRoomRefusal, MovesRows};
 ghost use Rattle.leaf_store.specs.Making.{MakesRoom};
 ghost use Rattle.leaf_store.specs.Merging.{KeepsParts};
-ghost use Rattle.leaf_store.specs.Pairs.{DividesLeaf, SpreadsLeaf, Stands};
+ghost use Rattle.leaf_store.specs.Pairs.{HalvesLeaf, SpreadsLeaf, Stands};
 ghost use Rattle.leaf_store.specs.Ranges.{HasRoomWithin, IsOutOfLeaves};
 ghost use Rattle.leaf_store.specs.Table.{IsPlace, IsRoomyWindow, leaves_of, segments_at};
-ghost use Rattle.leaf_store.specs.Watched.{IsTended};
+ghost use Rattle.leaf_store.specs.Queued.{IsTended};
 
-use crate::look::{counts_of, cuts_of};
+use crate::look::counts_of;
 use crate::place::{Place, place_of};
-use crate::split::split_with;
+use crate::queue::enqueue;
+use crate::split::split_at;
+use crate::spread::spread_window;
 use crate::store::LeafStore;
-use crate::watch::Watch;
 use density_tree::{Window, window_for_insert};
 use graph_model::{Key, NoMemory};
-use leaf_array::{Leaf, spread};
+use leaf_array::Leaf;
 use leaf_index::LeafIndex;
+use leaf_queue::LeafQueue;
 use std::alloc::Global;
 use txn_manager::RoomRefusal;
 
@@ -47,20 +49,20 @@ impl LeafStore {
         let place = place_of(&self.index, key);
         match window_at(&self.leaves, place, need) {
             Some(window) => {
-                spread_window(
+                spread_queued(
                     &mut self.index,
                     &mut self.leaves,
-                    &mut self.watch,
+                    &mut self.queue,
                     self.alloc,
                     place.leaf,
                     window,
                 )?;
                 Ok(())
             }
-            None => split_at(
+            None => split_queued(
                 &mut self.index,
                 &mut self.leaves,
-                &mut self.watch,
+                &mut self.queue,
                 self.alloc,
                 place,
             ),
@@ -83,21 +85,21 @@ fn window_at(leaves: &Vec<Option<Box<Leaf>>>, place: Place, need: u8) -> Option<
     }
 }
 
-/// Divides the rows of a window of a live leaf anew, and sets the cuts of the leaf.
-pub(crate) fn spread_window(
+/// Spreads the window of a live leaf, which waits to be looked at then.
+pub(crate) fn spread_queued(
     index: &mut LeafIndex,
     leaves: &mut Vec<Option<Box<Leaf>>>,
-    watch: &mut Watch,
+    queue: &mut LeafQueue,
     alloc: Global,
     leaf: usize,
     window: Window,
 ) -> Result<(), NoMemory>
-    requires tended { IsTended index.old leaves.old.items watch.old }
+    requires tended { IsTended index.old leaves.old.items queue.old }
     requires stands { Stands index.old.entries leaf }
     requires window { IsWindow window }
     requires few { length (rows_of (window_of window (segments_at leaves.old.items leaf))) ≤ 30 * window.len }
     ensures ok { OnOk result (HasRoomWithin window leaf index.old.entries (leaves_of index.new leaves.new.items)) }
-    ensures tended { IsTended index.new leaves.new.items watch.new }
+    ensures tended { IsTended index.new leaves.new.items queue.new }
     ensures moved { MovesRows (leaves_of index.old leaves.old.items) (leaves_of index.new leaves.new.items) }
     ensures others { index.new ≡ record index.old { entries = index.new.entries } }
     ensures spreads { OnOk result (SpreadsLeaf window leaf (segments_at leaves.old.items leaf)
@@ -106,54 +108,34 @@ pub(crate) fn spread_window(
         (leaves_of index.old leaves.old.items) (leaves_of index.new leaves.new.items)) }
     ensures settled { record_count (leaves_of index.old leaves.old.items) ≡ 0 → IsOk result }
 {
-    watch.watch(leaf);
-    match &mut leaves[leaf] {
-        Some(leaf) => {
-            spread(leaf, window, alloc)?;
-            let cuts = cuts_of(leaf);
-            index.set_separators(cuts[0], cuts);
-            index.is_index();
-            Ok(())
-        }
-        None => unreachable!(),
-    }
+    spread_window(index, leaves, alloc, leaf, window)?;
+    enqueue(queue, leaves, leaf);
+    Ok(())
 }
 
-/// Splits the leaf at the place, in which no window has room. Where no leaf is free nothing happens.
-fn split_at(
+/// Splits the leaf at the place, and both halves wait to be looked at then.
+fn split_queued(
     index: &mut LeafIndex,
     leaves: &mut Vec<Option<Box<Leaf>>>,
-    watch: &mut Watch,
+    queue: &mut LeafQueue,
     alloc: Global,
     place: Place,
 ) -> Result<(), RoomRefusal>
-    requires tended { IsTended index.old leaves.old.items watch.old }
+    requires tended { IsTended index.old leaves.old.items queue.old }
     requires place { (key : Key) × IsPlace key index.old.entries place × (is_below key end_key ≡ true) }
     requires many { 207 ≤ length (rows_of (segments_at leaves.old.items place.leaf)) }
     ensures ok { OnOk result ((key : Key) → IsPlace key index.old.entries place → is_below key end_key ≡ true
         → 2 ≤ room_at (leaves_of index.new leaves.new.items) key) }
-    ensures tended { IsTended index.new leaves.new.items watch.new }
+    ensures tended { IsTended index.new leaves.new.items queue.new }
     ensures moved { MovesRows (leaves_of index.old leaves.old.items) (leaves_of index.new leaves.new.items) }
     ensures retired { index.new.retired ≡ index.old.retired }
-    ensures divides { OnOk result (DividesLeaf (segments_at leaves.old.items place.leaf)
+    ensures halves { OnOk result (HalvesLeaf (segments_at leaves.old.items place.leaf)
         (leaves_of index.old leaves.old.items) (leaves_of index.new leaves.new.items)) }
     ensures refused { IfErr result (λ refusal.
         IsOutOfLeaves refusal index.old index.new leaves.old.items leaves.new.items) }
 {
-    let Some(leaf) = index.take_free() else {
-        let leaves = index.leaves();
-        return Err(RoomRefusal::Full { leaves });
-    };
-    watch.watch(place.leaf);
-    watch.watch(leaf as usize);
-    match split_with(index, leaves, alloc, place.leaf, leaf) {
-        Ok(()) => {
-            index.is_index();
-            Ok(())
-        }
-        Err(_) => {
-            index.give_back(leaf);
-            Err(RoomRefusal::NoMemory)
-        }
-    }
+    let right = split_at(index, leaves, alloc, place)?;
+    enqueue(queue, leaves, place.leaf);
+    enqueue(queue, leaves, right as usize);
+    Ok(())
 }

@@ -3,7 +3,7 @@
 ghost use Rattle.std.specs.Prelude.{◌≡◌, None, IfSome, length};
 ghost use Rattle.leaf_array.specs.Leaves.{IsLeaf};
 ghost use Rattle.leaf_array.specs.Segments.{counts_of};
-ghost use Rattle.leaf_store.specs.Merging.{IsLevel, IsSparseWindow};
+ghost use Rattle.leaf_store.specs.Merging.{IsLeftmostWindow, IsLevel};
 ghost use Rattle.leaf_store.specs.Table.{segments_at};
 
 use crate::look::counts_of;
@@ -18,10 +18,10 @@ pub(crate) struct SparseWindow {
     pub(crate) window: Window,
 }
 
-/// Such a window of a leaf, if it has one.
+/// The window of the first segment of a leaf that has one, if there is any.
 pub(crate) fn sparse_at(leaves: &Vec<Option<Box<Leaf>>>, leaf: usize) -> Option<Window>
     requires { IsLeaf (segments_at leaves.now.items leaf) }
-    ensures some { IfSome result (IsSparseWindow (counts_of (segments_at leaves.now.items leaf))) }
+    ensures some { IfSome result (IsLeftmostWindow (counts_of (segments_at leaves.now.items leaf))) }
     ensures none { result ≡ None → IsLevel (segments_at leaves.now.items leaf) }
 {
     match &leaves[leaf] {
@@ -33,7 +33,7 @@ pub(crate) fn sparse_at(leaves: &Vec<Option<Box<Leaf>>>, leaf: usize) -> Option<
 /// The smallest window with enough rows, round the first segment with too few that has one.
 fn sparse_window(leaf: &Leaf) -> Option<Window>
     requires { length leaf.now.segments ≡ 8 }
-    ensures some { IfSome result (IsSparseWindow (counts_of leaf.now.segments)) }
+    ensures some { IfSome result (IsLeftmostWindow (counts_of leaf.now.segments)) }
     ensures none { result ≡ None → IsLevel leaf.now.segments }
 {
     let counts = counts_of(leaf);

@@ -3,22 +3,30 @@
 //! 1. The index has the new entry before rows move, so that want of memory leaves all as it was.
 //! 2. The key at which the right leaf begins is asked for before.
 
-ghost use Rattle.std.specs.Prelude.{◌≡◌, ◌≤◌, [], length, IfOk, OnErr, OnOk};
+ghost use Rattle.std.specs.Prelude.{◌≡◌, ◌≤◌, true, [], length, IfErr, IfOk, OnErr, OnOk};
+ghost use Rattle.graph_model.specs.declared.row.Key.{Key};
+ghost use Rattle.graph_model.specs.Rows.{is_below, end_key};
 ghost use Rattle.std.specs.List.{AllByRecursion};
 ghost use Rattle.version_segment.specs.Rows.{IsSegment};
 ghost use Rattle.leaf_array.specs.Leaves.{IsLeaf};
 ghost use Rattle.leaf_array.specs.Segments.{AreSame, rows_of};
 ghost use Rattle.leaf_index.specs.Index.{IsTaken};
-ghost use Rattle.leaf_store.specs.Ranges.{IsLive, KeepsLeaves, SplitsEntry, SplitsLeaf};
-ghost use Rattle.leaf_store.specs.Table.{segments_at};
+ghost use Rattle.leaf_store.specs.Changes.{MovesRows};
+ghost use Rattle.leaf_store.specs.Leaves.{room_at};
+ghost use Rattle.leaf_store.specs.Merging.{KeepsParts};
+ghost use Rattle.leaf_store.specs.Pairs.{HalvesLeaf};
+ghost use Rattle.leaf_store.specs.Ranges.{DividesLeaf, IsLive, IsOutOfLeaves, KeepsLeaves, SplitsEntry, SplitsLeaf};
+ghost use Rattle.leaf_store.specs.Table.{IsKept, IsPlace, leaves_of, segments_at};
 
 use crate::look::cuts_of;
+use crate::place::Place;
 use crate::range::{halve_range, join_range};
 use crate::table::put_leaf;
 use graph_model::{Key, NoMemory};
 use leaf_array::{Leaf, split_key, split_leaf};
 use leaf_index::LeafIndex;
 use std::alloc::Global;
+use txn_manager::RoomRefusal;
 
 /// Memory for a leaf, all of whose segments are empty at the last key.
 fn empty_leaf(alloc: Global) -> Result<Box<Leaf>, NoMemory>
@@ -67,7 +75,7 @@ fn split_entry(
 }
 
 /// Divides the rows of a live leaf between it and a taken one.
-pub(crate) fn split_with(
+fn split_with(
     index: &mut LeafIndex,
     leaves: &mut Vec<Option<Box<Leaf>>>,
     alloc: Global,
@@ -91,4 +99,45 @@ pub(crate) fn split_with(
     }
     put_leaf(leaves, other as usize, right);
     Ok(())
+}
+
+/// Splits the leaf at the place, in which no window has room, and answers the number of the right half.
+/// Where no leaf is free nothing happens.
+pub(crate) fn split_at(
+    index: &mut LeafIndex,
+    leaves: &mut Vec<Option<Box<Leaf>>>,
+    alloc: Global,
+    place: Place,
+) -> Result<u32, RoomRefusal>
+    requires kept { IsKept index.old leaves.old.items }
+    requires place { (key : Key) × IsPlace key index.old.entries place × (is_below key end_key ≡ true) }
+    requires many { 207 ≤ length (rows_of (segments_at leaves.old.items place.leaf)) }
+    ensures ok { OnOk result ((key : Key) → IsPlace key index.old.entries place → is_below key end_key ≡ true
+        → 2 ≤ room_at (leaves_of index.new leaves.new.items) key) }
+    ensures kept { IsKept index.new leaves.new.items }
+    ensures two { IfOk result (λ other. DividesLeaf place.leaf other
+        (leaves_of index.old leaves.old.items) (leaves_of index.new leaves.new.items)) }
+    ensures moved { MovesRows (leaves_of index.old leaves.old.items) (leaves_of index.new leaves.new.items) }
+    ensures retired { index.new.retired ≡ index.old.retired }
+    ensures halves { OnOk result (HalvesLeaf (segments_at leaves.old.items place.leaf)
+        (leaves_of index.old leaves.old.items) (leaves_of index.new leaves.new.items)) }
+    ensures err { OnErr result (KeepsParts
+        (leaves_of index.old leaves.old.items) (leaves_of index.new leaves.new.items)) }
+    ensures refused { IfErr result (λ refusal.
+        IsOutOfLeaves refusal index.old index.new leaves.old.items leaves.new.items) }
+{
+    let Some(leaf) = index.take_free() else {
+        let leaves = index.leaves();
+        return Err(RoomRefusal::Full { leaves });
+    };
+    match split_with(index, leaves, alloc, place.leaf, leaf) {
+        Ok(()) => {
+            index.is_index();
+            Ok(leaf)
+        }
+        Err(_) => {
+            index.give_back(leaf);
+            Err(RoomRefusal::NoMemory)
+        }
+    }
 }

@@ -11,11 +11,12 @@ use crate::ahead::{count_with_memory, fingers_at, sum_ahead, sum_leaf_ahead};
 use crate::finger::Finger;
 use crate::look::cuts_of;
 use crate::place::{Place, place_near};
+use crate::queue::queue_thin;
 use crate::table::{empty_table, put_leaf};
-use crate::watch::Watch;
 use graph_model::{Key, NoMemory, Row};
 use leaf_array::Leaf;
 use leaf_index::LeafIndex;
+use leaf_queue::LeafQueue;
 use std::alloc::Global;
 use std::marker::Model;
 use txn_manager::RoomRefusal;
@@ -27,7 +28,7 @@ pub struct LeafStore {
     pub(crate) alloc: Global,
     pub(crate) index: LeafIndex,
     pub(crate) leaves: Vec<Option<Box<Leaf>>>,
-    pub(crate) watch: Watch,
+    pub(crate) queue: LeafQueue,
     /// What was read ahead, so that it is read.
     pub(crate) ahead: u64,
 }
@@ -35,13 +36,13 @@ pub struct LeafStore {
 impl Model for LeafStore {
     ghost use Rattle.leaf_store.specs.Leaves.{Leaves};
     ghost use Rattle.leaf_store.specs.Table.{leaves_of};
-    ghost use Rattle.leaf_store.specs.Watched.{IsTended};
+    ghost use Rattle.leaf_store.specs.Queued.{IsTended};
 
     ghost Value = { Leaves };
 
     ghost view = { λ s. leaves_of s.index s.leaves.items };
 
-    ghost invariant = { λ s. IsTended s.index s.leaves.items s.watch };
+    ghost invariant = { λ s. IsTended s.index s.leaves.items s.queue };
 }
 
 impl LeafStore {
@@ -58,13 +59,13 @@ impl LeafStore {
         let memory = Box::new(alloc, first)?;
         let mut table = empty_table(alloc, leaves)?;
         put_leaf(&mut table, 0, memory);
-        let mut watch = Watch::new(alloc, leaves)?;
-        watch.watch(0);
+        let mut queue = LeafQueue::new(alloc, leaves)?;
+        queue_thin(&index, &table, &mut queue);
         Ok(LeafStore {
             alloc,
             index,
             leaves: table,
-            watch,
+            queue,
             ahead: 0,
         })
     }

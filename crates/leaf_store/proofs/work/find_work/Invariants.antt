@@ -1,10 +1,10 @@
-use Rattle.leaf_store.specs.Watched.{IsTended}
-use Rattle.leaf_store.proofs.GroupLemmas.{watched_count}
+use Rattle.leaf_store.specs.Queued.{IsTended}
+use Rattle.leaf_store.proofs.PassLemmas.{looks_left}
 use Rattle.leaf_store.proofs.work.find_work.Given as goal
 
--- those that were passed are in order
-abbrev pub invariant-watched : goal.invariant-watched
-invariant-watched l = IsTended l.index l.leaves.items l.watch
+-- with those that were passed nothing is to be done
+abbrev pub invariant-waiting : goal.invariant-waiting
+invariant-waiting l = IsTended l.index l.leaves.items l.queue
 
-abbrev pub decreases-watched : goal.decreases-watched
-decreases-watched l = watched_count l.watch
+abbrev pub decreases-waiting : goal.decreases-waiting
+decreases-waiting l = looks_left l.queue

@@ -19,15 +19,15 @@ change-requires c =
     c.index_mut.result.now c.in-Some.leaf c.deref_mut.result.now c.index-deref_mut-place.result c.index_mut.ensures.value c.in-Some.is c.deref_mut.ensures.value).0 in
     subst (MayChange c.args.change c.args.by c.args.key) read c.requires.may
 
-pub watch_change-requires-clause-leaf : goal.watch_change-requires-clause-leaf
-watch_change-requires-clause-leaf c =
+pub queue_change-requires-clause-leaf : goal.queue_change-requires-clause-leaf
+queue_change-requires-clause-leaf c =
     let kept = (changed_cell c.self.inside.index c.self.inside.leaves.items c.args.self.now c.args.key c.place_near-place.result c.self.view_is c.self.invariant.kept c.place_near-place.ensures c.requires.within
     c.index_mut.result.now c.in-Some.leaf c.deref_mut.result.now c.index-deref_mut-place.result c.change.new.self c.index_mut.ensures.value c.in-Some.is c.deref_mut.ensures.value
     c.len-rows.ensures.sound c.change.ensures.changed.low c.change.ensures.changed.high).kept in
     stands_leaf c.self.inside.index _ c.place_near-place.result.leaf kept (place_stands c.self.inside.index c.self.inside.leaves.items c.args.key c.place_near-place.result c.self.invariant.kept c.place_near-place.ensures c.requires.within)
 
-pub watch_change-requires-clause-within : goal.watch_change-requires-clause-within
-watch_change-requires-clause-within c =
+pub queue_change-requires-clause-within : goal.queue_change-requires-clause-within
+queue_change-requires-clause-within c =
     omega (arith, is_within c.self.inside.index c.self.inside.leaves.items c.args.self.now c.args.key c.place_near-place.result c.self.view_is c.self.invariant.kept c.place_near-place.ensures c.requires.within, c.self.invariant.kept.count, c.self.invariant.count)
 
 pub invariant_of-self : goal.invariant_of-self
@@ -36,7 +36,7 @@ invariant_of-self c =
     c.index_mut.result.now c.in-Some.leaf c.deref_mut.result.now c.index-deref_mut-place.result c.change.new.self c.index_mut.ensures.value c.in-Some.is c.deref_mut.ensures.value
     c.len-rows.ensures.sound c.change.ensures.changed.low c.change.ensures.changed.high).kept in
     tended_change c.self.inside.index c.self.inside.leaves.items c.args.key c.place_near-place.result c.self.invariant.kept c.place_near-place.ensures c.requires.within c.index_mut.result.now c.in-Some.leaf c.deref_mut.result.now c.index-deref_mut-place.result c.change.new.self c.index_mut.ensures.value c.in-Some.is c.deref_mut.ensures.value
-    c.self.inside.watch c.watch_change.new.watch c.len-before.result c.len-rows.result c.len-before.ensures.len c.len-rows.ensures.len c.watch_change.ensures kept c.self.invariant
+    c.self.inside.queue c.queue_change.new.queue c.len-before.result c.len-rows.result c.len-before.ensures.len c.len-rows.ensures.len c.change.ensures.changed.low c.queue_change.ensures kept c.self.invariant
 
 pub returns-clause-changed : goal.returns-clause-changed
 returns-clause-changed c =

@@ -1,5 +1,5 @@
 use Rattle.std.proofs.Common.{length, sym, ◌∙◌, ap}
-use Rattle.std.specs.Prelude.{false}
+use Rattle.leaf_store.proofs.QueueLemmas.{nobody}
 use Rattle.std.proofs.lemmas.List.{length-replicate}
 use Rattle.leaf_index.specs.Index.{Index}
 use Rattle.leaf_store.proofs.FillEndLemmas.{is_filled, rising_sorted, rising_within}
@@ -22,17 +22,17 @@ pub invariant_of-result : goal.invariant_of-result
 invariant_of-result c =
     let kept = (is_filled c.args.leaves c.args.rows.now c.fill_rest.new.index c.fill_rest.new.leaves.items c.in_ok-fill_rest.ensures.ok
     (c.in_ok-fill_rest.ensures.limit ∙ c.fill_first.ensures.limit ∙ ap (λ (i : Index). i.leaves) c.in_ok-index.ensures)).kept in
-    thin_tended c.fill_rest.new.index c.fill_rest.new.leaves.items c.watch_thin.new.watch kept
-    (c.watch_thin.ensures.count ∙ ap length c.in_ok-watch.ensures ∙ length-replicate c.args.leaves false ∙ sym (c.in_ok-fill_rest.ensures.limit ∙ c.fill_first.ensures.limit ∙ ap (λ (i : Index). i.leaves) c.in_ok-index.ensures)) c.watch_thin.ensures.each
+    thin_tended c.fill_rest.new.index c.fill_rest.new.leaves.items c.queue_thin.new.queue kept
+    (c.queue_thin.ensures.count ∙ ap length c.in_ok-queue.ensures ∙ length-replicate c.args.leaves nobody ∙ sym (c.in_ok-fill_rest.ensures.limit ∙ c.fill_first.ensures.limit ∙ ap (λ (i : Index). i.leaves) c.in_ok-index.ensures)) c.queue_thin.ensures.each
 
-pub watch_thin-requires-clause-kept : goal.watch_thin-requires-clause-kept
-watch_thin-requires-clause-kept c =
+pub queue_thin-requires-clause-kept : goal.queue_thin-requires-clause-kept
+queue_thin-requires-clause-kept c =
     (is_filled c.args.leaves c.args.rows.now c.fill_rest.new.index c.fill_rest.new.leaves.items c.in_ok-fill_rest.ensures.ok (c.in_ok-fill_rest.ensures.limit ∙ c.fill_first.ensures.limit ∙ ap (λ (i : Index). i.leaves) c.in_ok-index.ensures)).kept
 
-pub watch_thin-requires-clause-count : goal.watch_thin-requires-clause-count
-watch_thin-requires-clause-count c =
+pub queue_thin-requires-clause-count : goal.queue_thin-requires-clause-count
+queue_thin-requires-clause-count c =
     let kept = (is_filled c.args.leaves c.args.rows.now c.fill_rest.new.index c.fill_rest.new.leaves.items c.in_ok-fill_rest.ensures.ok (c.in_ok-fill_rest.ensures.limit ∙ c.fill_first.ensures.limit ∙ ap (λ (i : Index). i.leaves) c.in_ok-index.ensures)).kept in
-    ap length c.in_ok-watch.ensures ∙ length-replicate c.args.leaves false ∙ sym (kept.count ∙ (c.in_ok-fill_rest.ensures.limit ∙ c.fill_first.ensures.limit ∙ ap (λ (i : Index). i.leaves) c.in_ok-index.ensures))
+    ap length c.in_ok-queue.ensures ∙ length-replicate c.args.leaves nobody ∙ sym (kept.count ∙ (c.in_ok-fill_rest.ensures.limit ∙ c.fill_first.ensures.limit ∙ ap (λ (i : Index). i.leaves) c.in_ok-index.ensures))
 
 pub returns-clause-ok : goal.returns-clause-ok
 returns-clause-ok c =

@@ -11,7 +11,7 @@ pub invariant_of-self : goal.invariant_of-self
 invariant_of-self c =
     let kept = freed_kept c.self.inside.index c.free_retired-freed.new.self c.self.inside.leaves.items c.args.until 18446744073709551615 c.self.invariant.kept c.free_retired-freed.ensures.freed c.is_index.ensures.index
     (omega (arith, c.is_index.ensures.few, ap (λ (i : Index). i.leaves) c.free_retired-freed.ensures.freed)) in
-    tended_entries c.self.inside.index c.free_retired-freed.new.self c.self.inside.leaves.items c.self.inside.leaves.items c.self.inside.watch c.self.invariant kept (ap (λ (i : Index). i.leaves) c.free_retired-freed.ensures.freed)
+    tended_entries c.self.inside.index c.free_retired-freed.new.self c.self.inside.leaves.items c.self.inside.leaves.items c.self.inside.queue c.self.invariant kept (ap (λ (i : Index). i.leaves) c.free_retired-freed.ensures.freed)
     (ap (λ (i : Index). map (part_of c.self.inside.leaves.items) i.entries) c.free_retired-freed.ensures.freed)
 
 pub returns-clause-freed : goal.returns-clause-freed

@@ -8,38 +8,38 @@ pub window_at-requires-clause-leaf : goal.window_at-requires-clause-leaf
 window_at-requires-clause-leaf c =
     stands_leaf c.self.inside.index c.self.inside.leaves.items c.place_of-place.result.leaf c.self.invariant.kept (place_stands c.self.inside.index c.self.inside.leaves.items c.args.key c.place_of-place.result c.self.invariant.kept c.place_of-place.ensures c.requires.within)
 
-pub spread_window-requires-clause-stands : goal.spread_window-requires-clause-stands
-spread_window-requires-clause-stands c =
+pub spread_queued-requires-clause-stands : goal.spread_queued-requires-clause-stands
+spread_queued-requires-clause-stands c =
     place_stands c.self.inside.index c.self.inside.leaves.items c.args.key c.place_of-place.result c.self.invariant.kept c.place_of-place.ensures c.requires.within
 
-pub spread_window-requires-clause-window : goal.spread_window-requires-clause-window
-spread_window-requires-clause-window c =
+pub spread_queued-requires-clause-window : goal.spread_queued-requires-clause-window
+spread_queued-requires-clause-window c =
     let round = c.in-Some.ensures.round in
     record { some = omega (arith, round.from, round.until); within = round.within }
 
-pub spread_window-requires-clause-few : goal.spread_window-requires-clause-few
-spread_window-requires-clause-few c = few_in_window c.args.need c.place_of-place.result.segment c.in-Some.window _ c.in-Some.ensures.smallest
+pub spread_queued-requires-clause-few : goal.spread_queued-requires-clause-few
+spread_queued-requires-clause-few c = few_in_window c.args.need c.place_of-place.result.segment c.in-Some.window _ c.in-Some.ensures.smallest
 
-pub split_at-requires-clause-many : goal.split_at-requires-clause-many
-split_at-requires-clause-many c =
+pub split_queued-requires-clause-many : goal.split_queued-requires-clause-many
+split_queued-requires-clause-many c =
     let leaf = stands_leaf c.self.inside.index c.self.inside.leaves.items c.place_of-place.result.leaf c.self.invariant.kept (place_stands c.self.inside.index c.self.inside.leaves.items c.args.key c.place_of-place.result c.self.invariant.kept c.place_of-place.ensures c.requires.within) in
     full_rows _ c.args.need c.place_of-place.result.segment leaf.segments c.place_of-place.ensures.last.within c.requires.few c.in-None.ensures.smallest
 
 pub returns-in-None-clause-refused : goal.returns-in-None-clause-refused
 returns-in-None-clause-refused c =
-    if_err _ _ c.split_at.result c.split_at.ensures.refused (room_refused c.self.inside.index c.split_at.new.index c.self.inside.leaves.items c.split_at.new.leaves.items c.args.self.now c.args.key c.place_of-place.result c.args.need
+    if_err _ _ c.split_queued.result c.split_queued.ensures.refused (room_refused c.self.inside.index c.split_queued.new.index c.self.inside.leaves.items c.split_queued.new.leaves.items c.args.self.now c.args.key c.place_of-place.result c.args.need
     c.self.view_is c.self.invariant.kept c.place_of-place.ensures c.requires.within c.requires.few c.in-None.ensures.smallest)
 
-pub returns-in_ok-spread_window-in-Some-clause-ok : goal.returns-in_ok-spread_window-in-Some-clause-ok
-returns-in_ok-spread_window-in-Some-clause-ok c =
-    let two = c.in_ok-spread_window-in-Some.ensures.ok c.args.key c.place_of-place.result refl c.place_of-place.ensures c.requires.within c.in-Some.ensures.round in
+pub returns-in_ok-spread_queued-in-Some-clause-ok : goal.returns-in_ok-spread_queued-in-Some-clause-ok
+returns-in_ok-spread_queued-in-Some-clause-ok c =
+    let two = c.in_ok-spread_queued-in-Some.ensures.ok c.args.key c.place_of-place.result refl c.place_of-place.ensures c.requires.within c.in-Some.ensures.round in
     omega (arith, two, c.requires.few)
 
-pub returns-in_ok-spread_window-in-Some-clause-made : goal.returns-in_ok-spread_window-in-Some-clause-made
-returns-in_ok-spread_window-in-Some-clause-made c =
+pub returns-in_ok-spread_queued-in-Some-clause-made : goal.returns-in_ok-spread_queued-in-Some-clause-made
+returns-in_ok-spread_queued-in-Some-clause-made c =
     rw (← c.self.view_is)
-    (spread_makes c.self.inside.index c.self.inside.leaves.items c.args.key c.place_of-place.result c.args.need c.in-Some.window _ c.self.invariant.kept c.place_of-place.ensures c.requires.within c.in-Some.ensures.smallest c.in_ok-spread_window-in-Some.ensures.spreads)
+    (spread_makes c.self.inside.index c.self.inside.leaves.items c.args.key c.place_of-place.result c.args.need c.in-Some.window _ c.self.invariant.kept c.place_of-place.ensures c.requires.within c.in-Some.ensures.smallest c.in_ok-spread_queued-in-Some.ensures.spreads)
 
 pub returns-in-None-clause-made : goal.returns-in-None-clause-made
 returns-in-None-clause-made c =
-    rw (← c.self.view_is) (on_ok_weaker c.split_at.result (split_makes c.self.inside.index c.self.inside.leaves.items c.args.key c.place_of-place.result c.args.need _ c.self.invariant.kept c.place_of-place.ensures c.requires.within c.in-None.ensures.smallest) c.split_at.ensures.divides)
+    rw (← c.self.view_is) (on_ok_weaker c.split_queued.result (split_makes c.self.inside.index c.self.inside.leaves.items c.args.key c.place_of-place.result c.args.need _ c.self.invariant.kept c.place_of-place.ensures c.requires.within c.in-None.ensures.smallest) c.split_queued.ensures.halves)

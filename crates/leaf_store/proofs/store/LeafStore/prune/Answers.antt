@@ -20,15 +20,15 @@ prune-records-requires-clause-named g c =
     c.index_mut.result.now c.in-Some.leaf c.deref_mut.result.now c.index-deref_mut-place.result c.index_mut.ensures.value c.in-Some.is c.deref_mut.ensures.value).0 in
     subst (λ x. AreNamedRows (g.S.States.knowledge c.args.states.now).names x.rows) read c.requires.named
 
-pub watch_change-requires-clause-leaf : goal.watch_change-requires-clause-leaf
-watch_change-requires-clause-leaf g c =
+pub queue_change-requires-clause-leaf : goal.queue_change-requires-clause-leaf
+queue_change-requires-clause-leaf g c =
     let kept = (changed_cell c.self.inside.index c.self.inside.leaves.items c.args.self.now c.args.key c.place_of-place.result c.self.view_is c.self.invariant.kept c.place_of-place.ensures c.requires.within
     c.index_mut.result.now c.in-Some.leaf c.deref_mut.result.now c.index-deref_mut-place.result c.release.new.self c.index_mut.ensures.value c.in-Some.is c.deref_mut.ensures.value
     c.len-rows.ensures.sound (c.release.ensures.low ∙ c.prune-records.ensures.pruned.low) (c.release.ensures.high ∙ c.prune-records.ensures.pruned.high)).kept in
     stands_leaf c.self.inside.index _ c.place_of-place.result.leaf kept (place_stands c.self.inside.index c.self.inside.leaves.items c.args.key c.place_of-place.result c.self.invariant.kept c.place_of-place.ensures c.requires.within)
 
-pub watch_change-requires-clause-within : goal.watch_change-requires-clause-within
-watch_change-requires-clause-within g c =
+pub queue_change-requires-clause-within : goal.queue_change-requires-clause-within
+queue_change-requires-clause-within g c =
     omega (arith, is_within c.self.inside.index c.self.inside.leaves.items c.args.self.now c.args.key c.place_of-place.result c.self.view_is c.self.invariant.kept c.place_of-place.ensures c.requires.within, c.self.invariant.kept.count, c.self.invariant.count)
 
 pub invariant_of-self : goal.invariant_of-self
@@ -37,7 +37,7 @@ invariant_of-self g c =
     c.index_mut.result.now c.in-Some.leaf c.deref_mut.result.now c.index-deref_mut-place.result c.release.new.self c.index_mut.ensures.value c.in-Some.is c.deref_mut.ensures.value
     c.len-rows.ensures.sound (c.release.ensures.low ∙ c.prune-records.ensures.pruned.low) (c.release.ensures.high ∙ c.prune-records.ensures.pruned.high)).kept in
     tended_change c.self.inside.index c.self.inside.leaves.items c.args.key c.place_of-place.result c.self.invariant.kept c.place_of-place.ensures c.requires.within c.index_mut.result.now c.in-Some.leaf c.deref_mut.result.now c.index-deref_mut-place.result c.release.new.self c.index_mut.ensures.value c.in-Some.is c.deref_mut.ensures.value
-    c.self.inside.watch c.watch_change.new.watch c.len-before.result c.len-rows.result c.len-before.ensures.len c.len-rows.ensures.len c.watch_change.ensures kept c.self.invariant
+    c.self.inside.queue c.queue_change.new.queue c.len-before.result c.len-rows.result c.len-before.ensures.len c.len-rows.ensures.len (c.release.ensures.low ∙ c.prune-records.ensures.pruned.low) c.queue_change.ensures kept c.self.invariant
 
 pub returns-clause-pruned : goal.returns-clause-pruned
 returns-clause-pruned g c =

@@ -18,7 +18,7 @@ invariant_of-self c =
     c.index_mut.result.now c.in-Some.leaf c.deref_mut.result.now c.index-deref_mut-place.result c.reserve.new.self c.index_mut.ensures.value c.in-Some.is c.deref_mut.ensures.value
     (same_sound _ _ c.is_segment.ensures c.reserve.ensures.kept) c.reserve.ensures.kept.low c.reserve.ensures.kept.high).kept in
     tended_change c.self.inside.index c.self.inside.leaves.items c.args.key c.place_near-place.result c.self.invariant.kept c.place_near-place.ensures c.requires c.index_mut.result.now c.in-Some.leaf c.deref_mut.result.now c.index-deref_mut-place.result c.reserve.new.self c.index_mut.ensures.value c.in-Some.is c.deref_mut.ensures.value
-    c.self.inside.watch c.self.inside.watch _ _ refl refl (inl (ap length c.reserve.ensures.kept.rows, refl)) kept c.self.invariant
+    c.self.inside.queue c.self.inside.queue _ _ refl refl c.reserve.ensures.kept.low (inl (ap length c.reserve.ensures.kept.rows, refl)) kept c.self.invariant
 
 pub returns-clause-ok : goal.returns-clause-ok
 returns-clause-ok c =

@@ -1,0 +1,69 @@
+//! A leaf that waits, and which of two comes first.
+
+ghost use Rattle.std.specs.Prelude.{◌≡◌, true, IfSome};
+ghost use Rattle.leaf_queue.specs.Queue.{comes_before, first_of, next_of};
+
+use graph_model::Key;
+
+/// For what a leaf waits. All windows are looked at before any neighbours are.
+#[derive(Clone, Copy, Debug, PartialEq, Eq)]
+pub enum Stage {
+    /// That its windows are looked at, and then its neighbours.
+    Windows,
+    /// That its neighbours are looked at.
+    Neighbours,
+}
+
+/// A leaf that waits: for what, and by its least key and its number.
+#[derive(Clone, Copy, Debug, PartialEq, Eq)]
+pub struct Waiting {
+    pub stage: Stage,
+    pub low: Key,
+    pub leaf: usize,
+}
+
+impl Waiting {
+    /// Whether it comes before the other.
+    fn is_before(self, other: Waiting) -> bool
+        ensures { result ≡ comes_before self other }
+    {
+        match (self.stage, other.stage) {
+            (Stage::Windows, Stage::Neighbours) => true,
+            (Stage::Neighbours, Stage::Windows) => false,
+            (Stage::Windows, Stage::Windows) => self.low.is_below(other.low),
+            (Stage::Neighbours, Stage::Neighbours) => self.low.is_below(other.low),
+        }
+    }
+
+    /// For what it waits next, if it was looked at and nothing is to be done.
+    pub(crate) fn next(self) -> Option<Waiting>
+        ensures next { result ≡ next_of self }
+        ensures same { IfSome result (λ w. w.leaf ≡ self.leaf) }
+    {
+        match self.stage {
+            Stage::Windows => Some(Waiting {
+                stage: Stage::Neighbours,
+                ..self
+            }),
+            Stage::Neighbours => None,
+        }
+    }
+
+    /// Whether both are the same: the same leaf, and neither comes before the other.
+    pub(crate) fn is_same(self, other: Waiting) -> bool
+        ensures { result ≡ true → self ≡ other }
+    {
+        self.leaf == other.leaf && !self.is_before(other) && !other.is_before(self)
+    }
+}
+
+/// The one of two that comes first, the left one where neither does.
+pub(crate) fn first_of(left: Option<Waiting>, right: Option<Waiting>) -> Option<Waiting>
+    ensures { result ≡ first_of left right }
+{
+    match (left, right) {
+        (Some(a), Some(b)) => { if b.is_before(a) { right } else { left } }
+        (Some(_), None) => left,
+        (None, _) => right,
+    }
+}
