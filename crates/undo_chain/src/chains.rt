@@ -93,8 +93,7 @@ impl Chains {
         requires apart { AreApart one other }
         ensures { result ≡ length (list_at self.now one) + length (list_at self.now other) }
     {
-        // Nobody reads it: that the number of all records fits is why the sum below does.
-        let _most = self.records.len();
+        self.records.keys_can_be_named();
         self.records(one) + self.records(other)
     }
 
@@ -103,8 +102,7 @@ impl Chains {
         requires { IsHeadOf self.now head }
         ensures { result ≡ head }
     {
-        // Nobody reads it: that each key can be named is a clause of this call.
-        let _most = self.records.len();
+        self.records.keys_can_be_named();
         Link::new(head)
     }
 
@@ -344,8 +342,7 @@ impl Chains {
         ensures others { ChangesOneList self.old self.new head (Some result) }
         ensures spare { self.old.spare ≡ self.new.spare + 1 }
     {
-        // Nobody reads it: that each key can be named is a clause of this call.
-        let _most = self.records.len();
+        self.records.keys_can_be_named();
         self.records.insert(Undo { next: head, ..undo })
     }
 

@@ -54,10 +54,17 @@ impl Slots {
         }
     }
 
-    /// How many records there are. That each key can be named is a clause of this call.
+    /// Each key can be named, so there are no more records than that.
+    pub(crate) fn keys_can_be_named(&self)
+        ensures keys { length self.now.slots ≤ MOST_RECORDS }
+        ensures records { count_by is_some self.now.slots ≤ MOST_RECORDS }
+    {
+        let _ = &self.slots;
+    }
+
+    /// How many records there are.
     pub(crate) fn len(&self) -> usize
-        ensures len { result ≡ count_by is_some self.now.slots }
-        ensures few { length self.now.slots ≤ MOST_RECORDS }
+        ensures { result ≡ count_by is_some self.now.slots }
     {
         self.len
     }

@@ -1,5 +1,6 @@
-use Rattle.std.proofs.Common.{◌≡◌, refl, subst, arith}
+use Rattle.std.proofs.Common.{◌≤◌, refl, subst, arith}
 use Rattle.std.specs.Prelude.{count_by, is_some}
+use Rattle.undo_chain.specs.declared.link.TheConstants.{MOST_RECORDS}
 use Rattle.undo_chain.specs.Chains.{ChainMap}
 use Rattle.undo_chain.specs.Links.{AreLinked}
 use Rattle.undo_chain.proofs.CountLemmas.{lists_count}
@@ -8,6 +9,6 @@ use Rattle.undo_chain.proofs.chains.Chains.records_in_both.Goals as goal
 pub overflow_add-result : goal.overflow_add-result
 overflow_add-result c =
     let is = subst (λ (m : ChainMap). AreLinked m.slots) c.self.view_is c.self.invariant in
-    let most = subst (λ (m : ChainMap). c.len-most.result ≡ count_by is_some m.slots) c.self.view_is c.len-most.ensures.len in
+    let few = subst (λ (m : ChainMap). count_by is_some m.slots ≤ MOST_RECORDS) c.self.view_is c.keys_can_be_named.ensures.records in
     let bound = lists_count _ c.args.self.now is c.args.one c.args.other c.requires.one c.requires.other c.requires.apart refl in
-    omega (arith, bound, most, c.records.ensures, c.records-2.ensures)
+    omega (arith, bound, few, c.records.ensures, c.records-2.ensures)
