@@ -89,7 +89,9 @@ fn merge_all(store: &mut LeafStore) -> Result<u32, NoMemory> {
 
 #[test]
 fn leaves_that_lose_rows_are_spread_and_become_one(rt: HostRuntime) -> Result<(), Fail> {
-    for (until, want) in [(17, (5, 1, 5, 0)), (551, (5, 4, 1, 4))] {
+    // The last 50 rows stand in the last two of eight segments, so the window of the last four is spread before any
+    // leaves become one.
+    for (until, want) in [(17, (5, 1, 5, 0)), (551, (5, 5, 1, 4))] {
         let mut store = LeafStore::new(rt.alloc(), 8)?;
         'more: for id in 1..601 {
             put(&mut store, vertex(id))?;
