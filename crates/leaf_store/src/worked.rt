@@ -4,9 +4,9 @@ ghost use Rattle.std.specs.Prelude.{◌≡◌, ◌≤◌, true, OnOk};
 ghost use Rattle.graph_model.specs.Rows.{is_below, end_key};
 ghost use Rattle.leaf_store.specs.Leaves.{room_at};
 
-use crate::finger::Finger;
 use crate::store::LeafStore;
 use graph_model::{Key, NoMemory, TxnName};
+use leaf_table::Finger;
 use std::test::Fail;
 use txn_manager::RoomRefusal;
 use version_segment::RowChange;
