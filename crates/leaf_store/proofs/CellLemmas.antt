@@ -15,7 +15,8 @@ use Rattle.version_segment.specs.Rows.{VersionedRows, IsSegment, or_nothing, ver
 use Rattle.leaf_array.specs.Segments.{rows_of, high_or}
 use Rattle.leaf_array.proofs.LeafLemmas.{Follow, follow-front, follow-behind, follow-both}
 use Rattle.leaf_array.proofs.PairLemmas.{high-append}
-use Rattle.leaf_store.proofs.ListLemmas.{all_append, all_front, all_back}
+use Rattle.leaf_store.proofs.ListLemmas.{all_front, all_back}
+use Rattle.gap_segment.proofs.FencedLemmas.{all_append}
 use Rattle.leaf_store.specs.Leaves.{cell_in}
 
 -- ---- tests

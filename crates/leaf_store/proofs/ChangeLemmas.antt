@@ -20,7 +20,7 @@ use Rattle.leaf_array.specs.Segments.{lows_of, low_or, high_or, AreChained}
 use Rattle.leaf_array.proofs.LeafLemmas.{Follow, follow-of, follow-chained, own-low, no_key}
 use Rattle.leaf_array.proofs.PairLemmas.{high-append}
 use Rattle.leaf_index.specs.Index.{Index, Entry, end_of}
-use Rattle.leaf_store.specs.declared.place.Place.{Place}
+use Rattle.leaf_table.specs.declared.place.Place.{Place}
 use Rattle.leaf_store.specs.declared.store.Pruned.{Pruned}
 use Rattle.leaf_store.specs.Leaves.{Leaves, AreLeaves, cell_at, versions_of, spare_at}
 use Rattle.leaf_store.specs.Changes.{ChangesCell, ChangesVersions, KeepsCells, PrunesCell}

@@ -28,7 +28,8 @@ use Rattle.leaf_store.proofs.CellLemmas.{AreSound}
 use Rattle.leaf_store.proofs.FillLemmas.{all_within_back, cut_until, sorted_back, sorted_front, within_back, within_front}
 use Rattle.leaf_store.proofs.HalfLemmas.{SameMemory}
 use Rattle.leaf_queue.proofs.ListLemmas.{get_set_same, get_set_other}
-use Rattle.leaf_store.proofs.ListLemmas.{all_append, all_back}
+use Rattle.leaf_store.proofs.ListLemmas.{all_back}
+use Rattle.gap_segment.proofs.FencedLemmas.{all_append}
 use Rattle.leaf_store.proofs.MoveLemmas.{sorted_lows}
 use Rattle.leaf_store.proofs.SplitLemmas.{are_cuts, taken_apart}
 use Rattle.leaf_store.proofs.StoreLemmas.{cells_in, cells_split, weight_in, weight_one, weight_split}

@@ -17,7 +17,7 @@ use Rattle.leaf_array.proofs.PairLemmas.{rows-append, high-append}
 use Rattle.leaf_index.specs.Index.{Index, Entry, AreRising, BeginBelow, HaveCuts, IsIndex, IsTaken, end_of}
 use Rattle.txn_manager.specs.declared.config.RoomRefusal.{RoomRefusal}
 use Rattle.txn_manager.specs.declared.config.RoomRefusal.TheVariants as refusals
-use Rattle.leaf_store.specs.declared.place.Place.{Place}
+use Rattle.leaf_table.specs.declared.place.Place.{Place}
 use Rattle.leaf_store.specs.Leaves.{Part, Leaves, cells_of, cell_in, cell_at, room_at, weight}
 use Rattle.leaf_store.specs.Changes.{IsFull, IsRoomRefusal, MovesRows}
 use Rattle.leaf_store.specs.Making.{MakesRoom}
@@ -27,7 +27,8 @@ use Rattle.leaf_store.specs.Table.{AreStamped, IsKept, IsTied, AreTied, IsPlace,
 use Rattle.leaf_store.proofs.CellLemmas.{AreSound, holds, cell_here, few_in, held_in_both, middle_part}
 use Rattle.graph_model.proofs.KeyLemmas.{below_chain}
 use Rattle.leaf_store.proofs.KeyLemmas.{split_key_within}
-use Rattle.leaf_store.proofs.ListLemmas.{all_append, all_front, all_back}
+use Rattle.leaf_store.proofs.ListLemmas.{all_front, all_back}
+use Rattle.gap_segment.proofs.FencedLemmas.{all_append}
 use Rattle.leaf_store.proofs.MoveLemmas.{KeepRoom, LeafMoved, cell_in_leaf, few_each, few_keep_room, Respreads, leaf_moved, moves_parts, room_of, same_lows, same_respreads}
 use Rattle.leaf_store.proofs.RoomLemmas.{count_rows, window_rows}
 use Rattle.leaf_store.proofs.SplitLemmas.{above_from, rising_at, taken_apart}

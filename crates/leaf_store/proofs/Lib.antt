@@ -3,7 +3,6 @@ pub mod CellLemmas
 pub mod StoreLemmas
 pub mod TableLemmas
 pub mod ChangeLemmas
-pub mod LookLemmas
 pub mod NewLemmas
 pub mod MoveLemmas
 pub mod SameLemmas

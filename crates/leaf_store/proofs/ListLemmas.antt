@@ -4,12 +4,7 @@ use Rattle.std.specs.Prelude.{Some, slice_get}
 use Rattle.std.specs.List.{AllByRecursion}
 
 module _ {X : Type 0} where
-  -- what holds of all items of both parts holds of all
-  pub all_append : (P : X → Type 0) (xs ys : List X) → AllByRecursion P xs → AllByRecursion P ys → AllByRecursion P (xs ++ ys)
-  all_append P [] ys h k = k
-  all_append P (x ∷ xs) ys h k = (h.0, all_append P xs ys h.1 k)
-
-  -- and the other way round
+  -- what holds of all items holds of those of both parts
   pub all_front : (P : X → Type 0) (xs ys : List X) → AllByRecursion P (xs ++ ys) → AllByRecursion P xs
   all_front P [] ys h = tt
   all_front P (x ∷ xs) ys h = (h.0, all_front P xs ys h.1)

@@ -24,7 +24,8 @@ use Rattle.leaf_store.specs.Changes.{MovesRows}
 use Rattle.leaf_store.specs.Table.{AreStamped, IsKept, IsTied, AreTied, segments_at, part_of, leaves_of}
 use Rattle.leaf_store.proofs.CellLemmas.{AreSound, holds, cell_here, few_in, held_in_both, middle_part, moved_cell}
 use Rattle.leaf_store.proofs.ChangeLemmas.{high_between, same_sound}
-use Rattle.leaf_store.proofs.ListLemmas.{all_append, all_front, all_back}
+use Rattle.leaf_store.proofs.ListLemmas.{all_front, all_back}
+use Rattle.gap_segment.proofs.FencedLemmas.{all_append}
 use Rattle.leaf_store.proofs.StoreLemmas.{cells_in, cells_follow, cells_split, versions_in_rows, weight_in, weight_one, weight_split}
 use Rattle.leaf_store.proofs.TableLemmas.{Table, KeepsOthers, kept_leaves, one_entry, parts_append, parts_kept, tied_at, tied_front, tied_kept}
 

@@ -30,7 +30,8 @@ use Rattle.leaf_store.specs.Table.{AreStamped, AreTied, IsKept, IsTied, leaves_o
 use Rattle.leaf_store.proofs.CellLemmas.{AreSound, clash}
 use Rattle.leaf_store.proofs.HalfLemmas.{SameMemory, any_high, parts_same, same_memory, tied_before, tied_same}
 use Rattle.leaf_queue.proofs.ListLemmas.{get_set_other, get_set_same}
-use Rattle.leaf_store.proofs.ListLemmas.{all_append, all_back, all_front}
+use Rattle.leaf_store.proofs.ListLemmas.{all_back, all_front}
+use Rattle.gap_segment.proofs.FencedLemmas.{all_append}
 use Rattle.leaf_store.proofs.MoveLemmas.{KeepRoom, few_each, few_keep_room, moves_parts, same_append, same_keep_room, same_lows, same_respreads}
 use Rattle.leaf_store.proofs.RangeLemmas.{moved_over, same_index}
 use Rattle.leaf_store.proofs.SameLemmas.{keeps_parts, leaf_settled, two_same}

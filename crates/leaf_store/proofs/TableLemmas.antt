@@ -17,12 +17,12 @@ use Rattle.leaf_array.proofs.LeafLemmas.{Follow, follow-of, follow-chained, foll
 use Rattle.leaf_array.proofs.PairLemmas.{high-append}
 use Rattle.leaf_index.specs.Index.{Index, Entry, AreCuts, AreOnce, BeginAbove, HaveCuts, end_of}
 use Rattle.leaf_index.proofs.CountLemmas.{count_append, count_cons, none_counted, at_most_one, worth}
-use Rattle.leaf_store.specs.declared.place.Place.{Place}
+use Rattle.leaf_table.specs.declared.place.Place.{Place}
 use Rattle.leaf_store.specs.Leaves.{Part, AreLeaves, IsPart, cells_of}
 use Rattle.leaf_store.specs.Table.{IsKept, IsTied, AreTied, IsPlace, segments_or_none, segments_at, part_of, leaves_of}
 use Rattle.leaf_store.proofs.CellLemmas.{AreSound, holds}
 use Rattle.leaf_queue.proofs.ListLemmas.{get_set_other}
-use Rattle.leaf_store.proofs.ListLemmas.{all_append}
+use Rattle.gap_segment.proofs.FencedLemmas.{all_append}
 use Rattle.leaf_store.proofs.StoreLemmas.{cells_in}
 
 -- what stands by the numbers of leaves

@@ -16,7 +16,7 @@ use Rattle.leaf_array.specs.Segments.{counts_of}
 use Rattle.leaf_index.specs.Index.{Index, Entry}
 use Rattle.leaf_queue.specs.declared.waiting.Stage.TheVariants.{Windows}
 use Rattle.leaf_queue.proofs.ListLemmas.{get_set_other, get_set_same, same_or_not}
-use Rattle.leaf_store.specs.declared.place.Place.{Place}
+use Rattle.leaf_table.specs.declared.place.Place.{Place}
 use Rattle.leaf_store.specs.Leaves.{Leaves, Part}
 use Rattle.leaf_store.specs.Merging.{AreSameParts}
 use Rattle.leaf_store.specs.Pairs.{MergesLeaf, SpreadsLeaf, Stands}

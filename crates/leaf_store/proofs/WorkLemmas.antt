@@ -31,7 +31,7 @@ use Rattle.leaf_store.specs.Pairs.{IsApartBehind, IsFirstFoundPair, IsFoundPair,
 use Rattle.leaf_store.specs.Table.{AreTied, IsKept, IsTied, leaves_of, part_of, segments_at}
 use Rattle.leaf_store.specs.Queued.{AreQueued, IsApartAhead, IsApartBefore, IsDone, IsDoneAt, IsNextPair, IsNotLive, IsNotLiveAs, IsTended, IsWork, waiting_of}
 use Rattle.leaf_store.proofs.CellLemmas.{clash}
-use Rattle.leaf_store.proofs.ListLemmas.{all_append}
+use Rattle.gap_segment.proofs.FencedLemmas.{all_append}
 use Rattle.leaf_store.proofs.PairLemmas.{first_begin}
 use Rattle.leaf_store.proofs.PassLemmas.{PartsBelow, RisingParts, all_level, apart_before, apart_with, front_below, level_before, neighbours_passed, none_waits, windows_passed}
 use Rattle.leaf_store.proofs.QueueLemmas.{Places}

@@ -15,7 +15,7 @@ use Rattle.leaf_index.specs.declared.route.Retired.{Retired}
 use Rattle.leaf_index.specs.Index as leaf_index
 use Rattle.leaf_index.specs.Index.{Index, Entry, BeginBelow, IsFloor, IsIndex, end_of}
 use Rattle.leaf_store.specs.declared.pair.TheConstants.{STAMPS_END}
-use Rattle.leaf_store.specs.declared.place.Place.{Place}
+use Rattle.leaf_table.specs.declared.place.Place.{Place}
 use Rattle.leaf_store.specs.Leaves.{Leaves, Part}
 
 abbrev pub segments_or_none : Option (Option (Box Leaf Global)) → List VersionedRows

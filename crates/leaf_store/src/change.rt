@@ -12,11 +12,11 @@ ghost use Rattle.version_segment.specs.Changes.{MayChange, changed, records_for}
 ghost use Rattle.leaf_store.specs.Leaves.{cell_at, spare_at, versions_of};
 ghost use Rattle.leaf_store.specs.Changes.{ChangesVersions, KeepsCells, KeepsRecordRoom, PrunesCell, UsesRecords};
 
-use crate::finger::Finger;
 use crate::place::{place_near, place_of};
 use crate::queue::queue_change;
 use crate::store::{LeafStore, Pruned};
 use graph_model::{Key, NoMemory, TxnName};
+use leaf_table::Finger;
 use undo_chain::States;
 use version_segment::RowChange;
 

@@ -13,14 +13,13 @@ ghost use Rattle.leaf_index.specs.Calls.{new_index};
 ghost use Rattle.leaf_store.specs.Changes.{AreFilled, AreRising, IsFillRefusal};
 ghost use Rattle.leaf_store.specs.Fill.{AreSettled, IsFilling, IsFillStop};
 
-use crate::look::cuts_of;
 use crate::queue::queue_thin;
 use crate::store::LeafStore;
-use crate::table::{empty_table, put_leaf};
 use graph_model::{Key, LEAF_SEGMENTS, NoMemory, Row};
 use leaf_array::Leaf;
 use leaf_index::LeafIndex;
 use leaf_queue::LeafQueue;
+use leaf_table::{cuts_of, empty_table, put_leaf};
 use std::alloc::Global;
 use txn_manager::RoomRefusal;
 use version_segment::VersionSegment;

@@ -7,13 +7,10 @@
 //! 4. Where a window is to be spread, or two neighbours are to become one leaf, a leaf of it waits in the queue.
 #![tactic(auto)]
 
-mod ahead;
 mod change;
 mod count;
 mod fill;
-mod finger;
 mod leaf_range;
-mod look;
 mod merge;
 mod pair;
 mod place;
@@ -24,9 +21,8 @@ mod sparse;
 mod split;
 mod spread;
 mod store;
-mod table;
 mod work;
 
-pub use finger::Finger;
+pub use leaf_table::Finger;
 pub use pair::{MERGE_ROWS, STAMPS_END};
 pub use store::{KeyRange, LeafStore, Pruned};

@@ -14,11 +14,10 @@ ghost use Rattle.leaf_store.specs.Merging.{Compacts, KeepsParts};
 ghost use Rattle.leaf_store.specs.Pairs.{AreNeighbours, IsApartBehind, IsFirstFoundPair, IsPairBehind, IsRangeIn, MergesEntries, MergesLeaf};
 ghost use Rattle.leaf_store.specs.Table.{IsKept, leaves_of, segments_at};
 
-use crate::look::{counts_of, cuts_of};
-use crate::table::put_leaf;
 use graph_model::{Key, NoMemory};
 use leaf_array::{Leaf, merge_leaves};
 use leaf_index::{LeafIndex, LeafRange};
+use leaf_table::{counts_of, cuts_of, put_leaf};
 use std::alloc::Global;
 use std::mem::replace;
 

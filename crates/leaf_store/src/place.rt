@@ -1,30 +1,10 @@
-//! Where a cell stands.
+//! Where the cell of a key stands.
 
-ghost use Rattle.std.specs.Prelude.{◌≡◌, ◌/◌, ◌%◌};
 ghost use Rattle.leaf_store.specs.Table.{IsPlace};
 
-use graph_model::{Key, LEAF_SEGMENTS};
+use graph_model::Key;
 use leaf_index::LeafIndex;
-
-/// The number of a leaf, and that of a segment in it.
-#[derive(Clone, Copy, Debug, PartialEq, Eq)]
-pub(crate) struct Place {
-    pub(crate) leaf: usize,
-    pub(crate) segment: usize,
-}
-
-impl Place {
-    /// That of a cell by its number.
-    pub(crate) fn of_cell(cell: u32) -> Place
-        ensures { result ≡ record { leaf = cell / 8; segment = cell % 8 } }
-    {
-        let cell = cell as usize;
-        Place {
-            leaf: cell / LEAF_SEGMENTS,
-            segment: cell % LEAF_SEGMENTS,
-        }
-    }
-}
+use leaf_table::Place;
 
 /// Where the cell of the key stands.
 pub(crate) fn place_of(index: &LeafIndex, key: Key) -> Place

@@ -8,13 +8,13 @@ ghost use Rattle.leaf_queue.specs.declared.waiting.Stage.TheVariants.{Windows};
 ghost use Rattle.leaf_store.specs.Queued.{IsNotLiveAs, IsThick, IsThickOrQueued, QueuesChange, waiting_with, with_leaf};
 ghost use Rattle.leaf_store.specs.Table.{IsKept, segments_at};
 
-use crate::look::counts_of;
 use crate::pair::{MERGE_ROWS, total};
 use density_tree::LOWER_LIMITS;
 use graph_model::LEAF_SEGMENTS;
 use leaf_array::Leaf;
 use leaf_index::{LeafIndex, LeafRange};
 use leaf_queue::{LeafQueue, Stage, Waiting};
+use leaf_table::counts_of;
 
 /// A leaf that waits that its windows are looked at.
 fn waiting(leaf: &Leaf, number: usize) -> Waiting

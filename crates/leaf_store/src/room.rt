@@ -18,8 +18,7 @@ ghost use Rattle.leaf_store.specs.Ranges.{HasRoomWithin, IsOutOfLeaves};
 ghost use Rattle.leaf_store.specs.Table.{IsPlace, IsRoomyWindow, leaves_of, segments_at};
 ghost use Rattle.leaf_store.specs.Queued.{IsTended};
 
-use crate::look::counts_of;
-use crate::place::{Place, place_of};
+use crate::place::place_of;
 use crate::queue::enqueue;
 use crate::split::split_at;
 use crate::spread::spread_window;
@@ -29,6 +28,7 @@ use graph_model::{Key, NoMemory};
 use leaf_array::Leaf;
 use leaf_index::LeafIndex;
 use leaf_queue::LeafQueue;
+use leaf_table::{Place, counts_of};
 use std::alloc::Global;
 use txn_manager::RoomRefusal;
 

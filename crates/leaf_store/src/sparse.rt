@@ -6,10 +6,10 @@ ghost use Rattle.leaf_array.specs.Segments.{counts_of};
 ghost use Rattle.leaf_store.specs.Merging.{IsLeftmostWindow, IsLevel};
 ghost use Rattle.leaf_store.specs.Table.{segments_at};
 
-use crate::look::counts_of;
 use density_tree::{LOWER_LIMITS, Window, window_for_sparse};
 use graph_model::LEAF_SEGMENTS;
 use leaf_array::Leaf;
+use leaf_table::counts_of;
 
 /// A window that is to be spread, in the live leaf with this number.
 #[derive(Clone, Copy, Debug, PartialEq, Eq)]

@@ -18,13 +18,11 @@ ghost use Rattle.leaf_store.specs.Pairs.{HalvesLeaf};
 ghost use Rattle.leaf_store.specs.Ranges.{DividesLeaf, IsLive, IsOutOfLeaves, KeepsLeaves, SplitsEntry, SplitsLeaf};
 ghost use Rattle.leaf_store.specs.Table.{IsKept, IsPlace, leaves_of, segments_at};
 
-use crate::look::cuts_of;
-use crate::place::Place;
 use crate::range::{halve_range, join_range};
-use crate::table::put_leaf;
 use graph_model::{Key, NoMemory};
 use leaf_array::{Leaf, split_key, split_leaf};
 use leaf_index::LeafIndex;
+use leaf_table::{Place, cuts_of, put_leaf};
 use std::alloc::Global;
 use txn_manager::RoomRefusal;
 

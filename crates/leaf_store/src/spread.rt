@@ -12,11 +12,11 @@ ghost use Rattle.leaf_store.specs.Pairs.{SpreadsLeaf, Stands};
 ghost use Rattle.leaf_store.specs.Ranges.{HasRoomWithin};
 ghost use Rattle.leaf_store.specs.Table.{IsKept, leaves_of, segments_at};
 
-use crate::look::cuts_of;
 use density_tree::Window;
 use graph_model::NoMemory;
 use leaf_array::{Leaf, spread};
 use leaf_index::LeafIndex;
+use leaf_table::cuts_of;
 use std::alloc::Global;
 
 /// Divides the rows of a window of a live leaf anew, and sets the cuts of the leaf.

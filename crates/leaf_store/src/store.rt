@@ -7,16 +7,16 @@ ghost use Rattle.graph_model.specs.Rows.{is_below, is_between, end_key};
 ghost use Rattle.leaf_store.specs.Leaves.{AreLeaves, CellsAreApart, KeysHaveCells, cell_at, room_at};
 ghost use Rattle.leaf_store.specs.Changes.{AreFilled, AreNew, AreRising, IsFillRefusal, IsRoomRefusal, MovesRows};
 
-use crate::ahead::{count_with_memory, fingers_at, sum_ahead, sum_leaf_ahead};
-use crate::finger::Finger;
-use crate::look::cuts_of;
-use crate::place::{Place, place_near};
+use crate::place::place_near;
 use crate::queue::queue_thin;
-use crate::table::{empty_table, put_leaf};
 use graph_model::{Key, NoMemory, Row};
 use leaf_array::Leaf;
 use leaf_index::LeafIndex;
 use leaf_queue::LeafQueue;
+use leaf_table::{
+    Finger, Place, count_with_memory, cuts_of, empty_table, fingers_at, put_leaf, sum_ahead,
+    sum_leaf_ahead,
+};
 use std::alloc::Global;
 use std::marker::Model;
 use txn_manager::RoomRefusal;

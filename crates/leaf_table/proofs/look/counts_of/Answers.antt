@@ -1,7 +1,7 @@
 use Rattle.std.proofs.Common.{refl, sym, arith}
 use Rattle.leaf_array.specs.Segments.{count_of}
-use Rattle.leaf_store.proofs.LookLemmas.{read_all, all_sound}
-use Rattle.leaf_store.proofs.look.counts_of.Goals as goal
+use Rattle.leaf_table.proofs.LookLemmas.{read_all, all_sound}
+use Rattle.leaf_table.proofs.look.counts_of.Goals as goal
 
 pub segments-init : goal.segments-init
 segments-init c = record { wide = sym c.requires; same = refl; sound = tt }

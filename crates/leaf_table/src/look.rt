@@ -9,7 +9,7 @@ use graph_model::{Key, LEAF_SEGMENTS};
 use leaf_array::Leaf;
 
 /// The least keys of the segments. What holds of each segment is a clause of this call.
-pub(crate) fn cuts_of(leaf: &Leaf) -> [Key; LEAF_SEGMENTS]
+pub fn cuts_of(leaf: &Leaf) -> [Key; LEAF_SEGMENTS]
     requires { length leaf.now.segments ≡ 8 }
     ensures cuts { result ≡ lows_of leaf.now.segments }
     ensures sound { AllByRecursion IsSegment leaf.now.segments }
@@ -24,7 +24,7 @@ pub(crate) fn cuts_of(leaf: &Leaf) -> [Key; LEAF_SEGMENTS]
 }
 
 /// How many rows the segments have.
-pub(crate) fn counts_of(leaf: &Leaf) -> [u8; LEAF_SEGMENTS]
+pub fn counts_of(leaf: &Leaf) -> [u8; LEAF_SEGMENTS]
     requires { length leaf.now.segments ≡ 8 }
     ensures counts { result ≡ counts_of leaf.now.segments }
     ensures sound { AllByRecursion IsSegment leaf.now.segments }

@@ -13,7 +13,7 @@ use leaf_array::Leaf;
 use version_segment::{NOWHERE, VersionSegment};
 
 /// How many of four leaves have memory, which takes a look at where each of them lies.
-pub(crate) fn count_with_memory(leaves: &Vec<Option<Box<Leaf>>>, likely: [u32; 4]) -> u64 {
+pub fn count_with_memory(leaves: &Vec<Option<Box<Leaf>>>, likely: [u32; 4]) -> u64 {
     sum_of(likely.map(|leaf| match leaves.get(leaf as usize) {
         Some(Some(_)) => 1,
         _ => 0,
@@ -22,7 +22,7 @@ pub(crate) fn count_with_memory(leaves: &Vec<Option<Box<Leaf>>>, likely: [u32; 4
 
 /// The sum of what four cells have. Nobody asks for it: it is kept so that no compiler leaves out the reads. Where rows
 /// come into the first two, it takes more of them, and how many rows their leaves have.
-pub(crate) fn sum_ahead(
+pub fn sum_ahead(
     leaves: &Vec<Option<Box<Leaf>>>,
     keys: [Key; 4],
     places: [Place; 4],
@@ -46,7 +46,7 @@ pub(crate) fn sum_ahead(
 }
 
 /// The sum of what the changed rows of a leaf's cells have, for whoever goes over all of them.
-pub(crate) fn sum_leaf_ahead(leaves: &Vec<Option<Box<Leaf>>>, place: usize) -> u64 {
+pub fn sum_leaf_ahead(leaves: &Vec<Option<Box<Leaf>>>, place: usize) -> u64 {
     let mut sum: u64 = 0;
     if let Some(Some(leaf)) = leaves.get(place) {
         'cells: for cell in &leaf.segments {
@@ -57,11 +57,7 @@ pub(crate) fn sum_leaf_ahead(leaves: &Vec<Option<Box<Leaf>>>, place: usize) -> u
 }
 
 /// Where four keys stand in the cells with these numbers, or would stand.
-pub(crate) fn fingers_at(
-    leaves: &Vec<Option<Box<Leaf>>>,
-    keys: [Key; 4],
-    cells: [u32; 4],
-) -> [Finger; 4] {
+pub fn fingers_at(leaves: &Vec<Option<Box<Leaf>>>, keys: [Key; 4], cells: [u32; 4]) -> [Finger; 4] {
     [
         finger_at(leaves, keys[0], cells[0]),
         finger_at(leaves, keys[1], cells[1]),

@@ -7,7 +7,7 @@ use leaf_array::Leaf;
 use std::alloc::Global;
 
 /// No leaf has memory yet.
-pub(crate) fn empty_table(alloc: Global, leaves: u32) -> Result<Vec<Option<Box<Leaf>>>, NoMemory>
+pub fn empty_table(alloc: Global, leaves: u32) -> Result<Vec<Option<Box<Leaf>>>, NoMemory>
     ensures { IfOk result (λ table. table.items ≡ replicate leaves None) }
 {
     let mut table = Vec::with_capacity(alloc, leaves as usize)?;
@@ -18,7 +18,7 @@ pub(crate) fn empty_table(alloc: Global, leaves: u32) -> Result<Vec<Option<Box<L
 }
 
 /// The leaf with this number has this memory now.
-pub(crate) fn put_leaf(table: &mut Vec<Option<Box<Leaf>>>, leaf: usize, memory: Box<Leaf>)
+pub fn put_leaf(table: &mut Vec<Option<Box<Leaf>>>, leaf: usize, memory: Box<Leaf>)
     requires { leaf < length table.old.items }
     ensures { table.new.items ≡ slice_set table.old.items leaf (Some memory) }
 {
