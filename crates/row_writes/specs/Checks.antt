@@ -75,14 +75,15 @@ refusal_in (Err refusal) = Some refusal
 
 -- The answer where this is refused by the view: else the conflict with whoever stands in these records against the
 -- write.
-pub record Answers {X : Type 0} (old new : Knowledge) (snapshot : Snapshot) (view : Option Refusal) (records : List Stamped)
-    (result : Result X Refusal) : Type 0 where
+pub record Answers {X : Type 0} (old new : Knowledge) (snapshot : Snapshot) (view : Option Refusal)
+    (records : List Stamped) (result : Result X Refusal) : Type 0 where
   pub cause : Option Cause
   pub checked : view ≡ None → IsChecked old new snapshot records cause
   pub is : refusal_in result ≡ answer_of view cause
 
 -- the answer to a write, where the snapshot sees this graph
-abbrev pub IsAnswer : {X : Type 0} → Knowledge → Knowledge → Snapshot → HeldRows → Graph → Write → Result X Refusal → Type 0
+abbrev pub IsAnswer : {X : Type 0} → Knowledge → Knowledge → Snapshot → HeldRows → Graph → Write → Result X Refusal
+    → Type 0
 IsAnswer old new snapshot c g w result = Answers old new snapshot (refused g w) (looked_at w c.versions) result
 
 -- the ends of an edge are two vertices of the graph, or the graph refuses the edge

@@ -86,7 +86,8 @@ rows_for Untouch has_row = 0
 -- The versions of one key are changed, and no others. No key's cell becomes another, and the key's own is the only one
 -- with less room.
 pub record Changes (change : RowChange) (by : TxnName) (old new : HeldRows) (key : Key) : Type 0 where
-  pub versions : (q : Key) → new.versions q ≡ cond (same_key q key) (changed change by (old.versions q)) (old.versions q)
+  pub versions : (q : Key) → new.versions q
+      ≡ cond (same_key q key) (changed change by (old.versions q)) (old.versions q)
   pub others : (q : Key) → same_key q key ≡ false → new.has_row q ≡ old.has_row q
   -- a record that is put stands in a row
   pub stands : 0 < records_for change → new.has_row key ≡ true
