@@ -5,6 +5,7 @@ EXAMPLE ?= first
 MANUALS = $(PREFIX)/share/man/man1
 COMPLETIONS = $(PREFIX)/share/bash-completion/completions
 PROGRAM = crates/teseo/out/teseo
+FOLD = examples/handoff/fold
 ARCHIVE = teseo-$(shell git rev-parse --short HEAD).tar.gz
 
 .PHONY: help demo quick build install uninstall test bench dist clean
@@ -34,10 +35,13 @@ build:
 install: build
 	install -d $(DESTDIR)$(PREFIX)/bin $(DESTDIR)$(MANUALS) $(DESTDIR)$(COMPLETIONS)
 	install -m 755 $(PROGRAM) $(DESTDIR)$(PREFIX)/bin/teseo
+	@if $(MAKE) -s -C $(FOLD); then install -m 755 $(FOLD)/out/fold $(DESTDIR)$(PREFIX)/bin/teseo-fold; \
+	else echo 'There is no teseo-fold without a C++17 compiler.'; fi
 	install -m 644 docs/teseo.1 $(DESTDIR)$(MANUALS)/teseo.1
 	install -m 644 docs/teseo.bash $(DESTDIR)$(COMPLETIONS)/teseo
 
 uninstall:
+	rm -f $(DESTDIR)$(PREFIX)/bin/teseo-fold
 	rm -f $(DESTDIR)$(PREFIX)/bin/teseo $(DESTDIR)$(MANUALS)/teseo.1 $(DESTDIR)$(COMPLETIONS)/teseo
 
 test:
