@@ -35,13 +35,14 @@ build:
 install: build
 	install -d $(DESTDIR)$(PREFIX)/bin $(DESTDIR)$(MANUALS) $(DESTDIR)$(COMPLETIONS)
 	install -m 755 $(PROGRAM) $(DESTDIR)$(PREFIX)/bin/teseo
+	install -m 755 $(wildcard tools/teseo-*) $(DESTDIR)$(PREFIX)/bin
 	@if $(MAKE) -s -C $(FOLD); then install -m 755 $(FOLD)/out/fold $(DESTDIR)$(PREFIX)/bin/teseo-fold; \
 	else echo 'There is no teseo-fold without a C++17 compiler.'; fi
 	install -m 644 docs/teseo.1 $(DESTDIR)$(MANUALS)/teseo.1
 	install -m 644 docs/teseo.bash $(DESTDIR)$(COMPLETIONS)/teseo
 
 uninstall:
-	rm -f $(DESTDIR)$(PREFIX)/bin/teseo-fold
+	rm -f $(addprefix $(DESTDIR)$(PREFIX)/bin/,teseo-fold $(notdir $(wildcard tools/teseo-*)))
 	rm -f $(DESTDIR)$(PREFIX)/bin/teseo $(DESTDIR)$(MANUALS)/teseo.1 $(DESTDIR)$(COMPLETIONS)/teseo
 
 test:
