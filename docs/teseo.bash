@@ -1,7 +1,23 @@
-# Completes the words of teseo in bash: the subcommand, its options, and names of files.
+# Completes the words of teseo in bash: the subcommand, its options, those first that it needs and none twice, and names of
+# files, where reports aren't offered as sources.
+
+# Whether an option stands on the line already.
+_teseo_has() {
+    local word
+    for word in "${COMP_WORDS[@]}"; do
+        [[ $word == "$1" || $word == "$1="* ]] && return 0
+    done
+    return 1
+}
+
+# Offers names of files, without reports.
+_teseo_files() {
+    mapfile -t COMPREPLY < <(compgen -f -X '*.report' -- "$1")
+}
 
 _teseo() {
-    local current=${COMP_WORDS[COMP_CWORD]} previous=${COMP_WORDS[COMP_CWORD - 1]} options
+    local current=${COMP_WORDS[COMP_CWORD]} previous=${COMP_WORDS[COMP_CWORD - 1]} option
+    local needed='' other='' missing=() left=()
     COMPREPLY=()
     if [ "$COMP_CWORD" -eq 1 ]; then
         mapfile -t COMPREPLY < <(compgen -W 'run make' -- "$current")
@@ -14,19 +30,24 @@ _teseo() {
         ;;
     run:--leaves | make:--seed | make:--vertices | make:--edges) return ;;
     run:--vertices | run:--edges | run:--journal | run:--schedule | make:--out | make:--edges-out)
-        mapfile -t COMPREPLY < <(compgen -f -- "$current")
+        _teseo_files "$current"
         return
         ;;
     esac
     case ${COMP_WORDS[1]} in
-    run) options='--vertices --edges --journal --directed --weights --cut --schedule --leaves' ;;
-    make) options='--seed --vertices --edges --out --edges-out' ;;
+    run) needed='--vertices --edges --journal' other='--directed --weights --cut --schedule --leaves' ;;
+    make) needed='--seed --vertices --edges --out --edges-out' ;;
     *) return ;;
     esac
-    case $current in
-    -*) mapfile -t COMPREPLY < <(compgen -W "$options" -- "$current") ;;
-    *) [ "${COMP_WORDS[1]}" = make ] || mapfile -t COMPREPLY < <(compgen -f -- "$current") ;;
-    esac
+    for option in $needed; do _teseo_has "$option" || missing+=("$option"); done
+    for option in $other; do _teseo_has "$option" || left+=("$option"); done
+    if [[ $current == -* ]]; then
+        mapfile -t COMPREPLY < <(compgen -W "${missing[*]} ${left[*]}" -- "$current")
+    elif [[ -z $current && ${#missing[@]} -gt 0 ]]; then
+        COMPREPLY=("${missing[@]}")
+    elif [ "${COMP_WORDS[1]}" = run ]; then
+        _teseo_files "$current"
+    fi
 }
 
 complete -o filenames -F _teseo teseo

@@ -7,6 +7,7 @@
 # FOLDER is there and empty. COMMAND gets the words of the run behind its own: `teseo`, or `rt try --`. The run names
 # each file from the root on, since the command may run in another folder.
 set -euo pipefail
+[ $# -ge 2 ] || { echo "call it as $0 FOLDER COMMAND.., such as: $0 out teseo"; exit 2; }
 example=$(cd "$(dirname "$0")" && pwd)
 folder=$(cd "$1" && pwd)
 shift
