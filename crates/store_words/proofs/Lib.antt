@@ -1,0 +1,5 @@
+pub mod StepLemmas
+pub mod CellLemmas
+pub mod ReadLemmas
+pub mod NoteLemmas
+pub mod OpeningLemmas

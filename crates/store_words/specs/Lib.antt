@@ -1,0 +1,4 @@
+pub mod Steps
+pub mod Opening
+pub mod Reads
+pub mod Notes
