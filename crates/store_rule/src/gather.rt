@@ -1,0 +1,100 @@
+//! Values that a pass has taken, and whose notes it takes in.
+
+ghost use Rattle.std.specs.Prelude.{◌≡◌, false, None};
+ghost use Rattle.cells_model.specs.Cells.{CellState};
+ghost use Rattle.rule_model.specs.Sight.{IndexState, with_cell, with_index, with_journal};
+ghost use Rattle.store_relation.specs.Shared.{JournalState};
+ghost use Rattle.store_rule.specs.Passes.{OnlyAccount};
+ghost use Rattle.store_rule.specs.Slots.{IsCellSlot, IsIndexSlot, IsJournalSlot, IsListOf, RestsAs};
+
+use crate::slot::{Resting, StoreSlot};
+use crate::store::{Pass, Store};
+use graph_model::RoomyJournal;
+use latch_table::Held;
+use leaf_index::LeafIndex;
+
+impl Store {
+    /// Takes in the note of a cell that the pass holds.
+    pub fn gather_cell(&self, pass: &mut Pass, held: Held<StoreSlot>) -> Held<Resting>
+        requires table { pass.old.account.table_id ≡ self.now.accounts.table.shared.table_id }
+        requires slot { IsCellSlot self.now.accounts.table.shared.table_id held.cell held.value }
+        ensures held { (result.cell ≡ held.cell) × (result.found ≡ held.found)
+            × (result.changed ≡ held.changed) }
+        ensures gathered { (c : CellState)
+            × OnlyAccount pass.old pass.new (with_cell pass.old.account.me.0 held.cell c)
+            × (c.unpacked ≡ false) × RestsAs c.segment result.value }
+    {
+        let Held {
+            cell,
+            found,
+            changed,
+            value,
+        } = held;
+        let StoreSlot::Cell { resting, note } = value else {
+            unreachable!()
+        };
+        self.accounts.join(&mut pass.account, note);
+        Held {
+            cell,
+            found,
+            changed,
+            value: resting,
+        }
+    }
+
+    /// Takes in the note of the index.
+    pub fn gather_index(&self, pass: &mut Pass, held: Held<StoreSlot>) -> Held<Box<LeafIndex>>
+        requires table { pass.old.account.table_id ≡ self.now.accounts.table.shared.table_id }
+        requires slot { IsIndexSlot self.now.accounts.table.shared.table_id held.value }
+        ensures held { (result.cell ≡ held.cell) × (result.found ≡ held.found)
+            × (result.changed ≡ held.changed) }
+        ensures gathered { (y : IndexState)
+            × OnlyAccount pass.old pass.new (with_index pass.old.account.me.0 y)
+            × (y.sweeper ≡ None) × (result.value.value ≡ y.index) }
+    {
+        let Held {
+            cell,
+            found,
+            changed,
+            value,
+        } = held;
+        let StoreSlot::Index { index, note } = value else {
+            unreachable!()
+        };
+        self.accounts.join(&mut pass.account, note);
+        Held {
+            cell,
+            found,
+            changed,
+            value: index,
+        }
+    }
+
+    /// Takes in the note of the journal.
+    pub fn gather_journal(&self, pass: &mut Pass, held: Held<StoreSlot>) -> Held<RoomyJournal>
+        requires table { pass.old.account.table_id ≡ self.now.accounts.table.shared.table_id }
+        requires slot { IsJournalSlot self.now.accounts.table.shared.table_id held.value }
+        ensures held { (result.cell ≡ held.cell) × (result.found ≡ held.found)
+            × (result.changed ≡ held.changed) }
+        ensures gathered { (j : JournalState)
+            × OnlyAccount pass.old pass.new (with_journal pass.old.account.me.0 j)
+            × IsListOf j result.value }
+    {
+        let Held {
+            cell,
+            found,
+            changed,
+            value,
+        } = held;
+        let StoreSlot::Journal { journal, note } = value else {
+            unreachable!()
+        };
+        self.accounts.join(&mut pass.account, note);
+        Held {
+            cell,
+            found,
+            changed,
+            value: journal,
+        }
+    }
+}
