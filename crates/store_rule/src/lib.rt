@@ -9,6 +9,7 @@
 #![tactic(auto)]
 
 mod change;
+mod close;
 mod gather;
 mod lay;
 mod make;
@@ -16,5 +17,6 @@ mod slot;
 mod store;
 
 pub use change::Change;
+pub use close::Content;
 pub use slot::{Resting, Room, StoreSlot};
 pub use store::{LatchPass, Pass, Passes, Store};
