@@ -12,6 +12,7 @@ mod lines;
 mod notes;
 mod reads;
 mod rule;
+mod spell;
 mod steps;
 
 pub use accounts::{Accounts, low_of};
