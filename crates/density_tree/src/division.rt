@@ -47,16 +47,3 @@ pub fn spread_counts(rows: u32, segs: u32) -> Counts
         len: segs as usize,
     }
 }
-
-#[cfg(test)]
-mod tests {
-    use super::*;
-
-    #[test]
-    fn the_last_of_eight_segments_gets_one_less(rt: HostRuntime) {
-        assert_eq!(rt;
-            spread_counts(175, 8).as_slice(),
-            [22, 22, 22, 22, 22, 22, 22, 21].as_slice()
-        );
-    }
-}

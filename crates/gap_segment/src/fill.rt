@@ -1,4 +1,4 @@
-//! Rows laid all at once.
+//! Rows laid all at once, and taken away all at once.
 
 ghost use Rattle.std.specs.Prelude.{◌≡◌, ◌≤◌, false, [], length};
 ghost use Rattle.graph_model.specs.Rows.{is_below};
@@ -21,5 +21,12 @@ impl Segment {
         copy_rows(&mut self.rows, rows);
         self.low = low;
         self.high = high;
+    }
+
+    /// Takes all rows away. Their memory stays.
+    pub fn clear(&mut self)
+        ensures { self.new ≡ record self.old { rows = [] } }
+    {
+        self.rows.clear();
     }
 }

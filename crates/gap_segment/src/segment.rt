@@ -426,19 +426,3 @@ fn cut_in(rows: &[Row], key: Key) -> usize
         _ => place_in(rows, key),
     }
 }
-
-#[cfg(test)]
-mod tests {
-    use super::*;
-    use std::test::Fail;
-
-    #[test]
-    fn a_segment_is_made_with_ample_memory(rt: HostRuntime) -> Result<(), Fail> {
-        let low = Key { src: 1, second: 0 };
-        let high = Key { src: 9, second: 0 };
-        let segment = Segment::new(rt.alloc(), low, high)?;
-        assert_eq!(rt; segment.len(), 0, "a new segment");
-        assert_eq!(rt; segment.high(), high, "its high fence key");
-        Ok(())
-    }
-}

@@ -4,7 +4,7 @@ use Rattle.std.specs.declared.result.Result.{Result}
 use Rattle.std.specs.declared.result.Result.TheVariants.{Ok, Err}
 use Rattle.graph_model.specs.declared.row.Key.{Key}
 use Rattle.version_segment.specs.Rows.{VersionedRows}
-use Rattle.leaf_array.specs.Segments.{low_or, high_or, AreChained, AreSame, KeepsFences}
+use Rattle.leaf_array.specs.Segments.{low_or, AreChained, AreSame, KeepsFences}
 use Rattle.leaf_array.specs.Leaves.{IsLeaf}
 use Rattle.leaf_array.proofs.CountLemmas.{same-length, same-low}
 
@@ -39,16 +39,3 @@ same-leaf ss ts same leaf = record { segments = same-length ss ts same ∙ leaf.
 pub leaf-after : {X E : Type 0} (P : Type 0) (ss ts : List VersionedRows) (r : Result X E) → OnOk r P → (P → IsLeaf ts) → OnErr r (AreSame ss ts) → IsLeaf ss → IsLeaf ts
 leaf-after P ss ts (Ok x) ok is err leaf = is ok
 leaf-after P ss ts (Err e) ok is err leaf = same-leaf ss ts err leaf
-
--- ---- the outer fence keys
-
-pub first-low : (ss : List VersionedRows) (d : VersionedRows) (other : Key) → 0 < length ss → low_or ss other ≡ (get_or ss 0 d).low
-first-low [] d other lt = absurd (omega arith)
-first-low (s ∷ ss) d other lt = refl
-
-pub last-high : (ss : List VersionedRows) (n : ℕ) (d : VersionedRows) (other : Key) → length ss ≡ suc n → high_or ss other ≡ (get_or ss n d).high
-last-high [] n d other e = absurd (omega (arith, e))
-last-high (s ∷ []) zero d other e = refl
-last-high (s ∷ []) (suc n) d other e = absurd (omega (arith, e))
-last-high (s ∷ t ∷ ss) zero d other e = absurd (omega (arith, e))
-last-high (s ∷ t ∷ ss) (suc n) d other e = last-high (t ∷ ss) n d s.high (omega (arith, e))

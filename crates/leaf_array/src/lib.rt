@@ -13,8 +13,6 @@ mod neighbours;
 mod pairs;
 mod rows;
 mod window;
-#[cfg(test)]
-mod worked;
 
 pub use leaf::Leaf;
 pub use pairs::{merge_leaves, split_leaf};

@@ -25,8 +25,6 @@ mod store;
 mod table;
 mod watch;
 mod work;
-#[cfg(test)]
-mod worked;
 
 pub use finger::Finger;
 pub use pair::{MERGE_ROWS, STAMPS_END};

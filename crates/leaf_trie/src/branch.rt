@@ -320,18 +320,6 @@ fn branch_at(branches: &[Branch], place: usize, byte: u8) -> Option<&Branch>
     }
 }
 
-#[cfg(test)]
-impl Branch {
-    /// How many places the node has, and how many children.
-    pub fn shape(&self) -> (usize, usize) {
-        match &self.node {
-            Node::End(_) => (0, 0),
-            Node::Few(branches) => (0, branches.len()),
-            Node::Many(wide) => (wide.places.len(), wide.branches.len()),
-        }
-    }
-}
-
 /// Puts a leaf below the branch of its byte, or below one of its own where there is none, and answers which: true is a
 /// branch of its own.
 #[cycle(insertion)]

@@ -24,19 +24,3 @@ fn byte_among(src: u64, second: u64, level: u8) -> u8
         ((src >> (8 * (level - 8))) % 256) as u8
     }
 }
-
-#[cfg(test)]
-mod tests {
-    use super::*;
-
-    #[test]
-    fn a_key_is_read_from_the_first_byte_of_its_source(rt: HostRuntime) {
-        let key = Key {
-            src: 258,
-            second: 3,
-        };
-        for (level, want) in [(15, 0), (9, 1), (8, 2), (7, 0), (0, 3)] {
-            assert_eq!(rt; byte_of(key, level), want, "level {level}");
-        }
-    }
-}

@@ -78,33 +78,3 @@ pub struct Totals {
     pub undo: u64,
     pub retired: u64,
 }
-
-#[cfg(test)]
-mod tests {
-    use super::*;
-
-    #[test]
-    fn a_store_has_leaves_passes_and_transactions_within_its_limits(rt: HostRuntime) {
-        for (leaves, passes, txns_per_pass, want) in [
-            (1, 1, 1, false),
-            (131072, 64, 4294967295, false),
-            (131073, 64, 4294967295, true),
-            (131072, 65, 4294967295, true),
-            (0, 1, 1, true),
-            (1, 0, 1, true),
-            (1, 1, 0, true),
-        ] {
-            let config = Config {
-                kind: Kind::Directed,
-                leaves,
-                passes,
-                txns_per_pass,
-            };
-            assert_eq!(rt;
-                config.is_too_large(),
-                want,
-                "{leaves}, {passes}, {txns_per_pass}"
-            );
-        }
-    }
-}

@@ -20,13 +20,13 @@ use Rattle.graph_model.specs.declared.refusal.Cause.TheVariants.{Later, Holder}
 use Rattle.store_model.specs.Check.{combine}
 use Rattle.store_model.proofs.CombineLemmas.{says, check-cons}
 use Rattle.undo_chain.specs.declared.states.Snapshot.{Snapshot}
-use Rattle.version_segment.specs.Checks.{blocked}
+use Rattle.row_table.specs.Checks.{blocked}
 use Rattle.store_model.specs.Stamped.{Stamped, StampedVersions, AreStamped, forget, forget_row, prune_stamped}
 use Rattle.store_model.specs.Cells.{contents_in, or_none}
-use Rattle.version_segment.specs.Rows.{nothing, or_nothing, is_empty, is_nothing, versions_at, unless_nothing, pruned_rows, new_record, has_record}
-use Rattle.version_segment.specs.Keyed.{RisesBy}
+use Rattle.row_table.specs.Rows.{nothing, or_nothing, is_empty, is_nothing, versions_at, unless_nothing, pruned_rows, new_record, has_record}
+use Rattle.head_map.specs.Keyed.{RisesBy}
 use Rattle.version_segment.specs.Laws.{WrittenIsWrite, UndoneIsUndo, TouchedIsTouch, UntouchedIsUntouch, StampsStayRight, KeyChanged, KeysPruned, RowsShared, ContentsOfSegment, IsFit, BlockedIsCheck}
-use Rattle.version_segment.proofs.KeyedLemmas.{tied_same, tied_flip, below_untied}
+use Rattle.head_map.proofs.KeyedLemmas.{tied_same, tied_flip, below_untied}
 
 -- ---- one row
 

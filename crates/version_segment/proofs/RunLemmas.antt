@@ -14,13 +14,13 @@ use Rattle.undo_chain.specs.Records.{value_of}
 use Rattle.undo_chain.specs.Chains.{ChainMap, list_at}
 use Rattle.undo_chain.specs.States.{Knowledge, Grows, AreNamed}
 use Rattle.undo_chain.proofs.ListLemmas.{grows_start, grows_chain}
-use Rattle.version_segment.specs.Heads.{ChangedRow}
-use Rattle.version_segment.specs.Rows.{with_row, rows_read, range_of, rows_at}
-use Rattle.version_segment.specs.Checks.{IsNamed, AreNamedRows}
-use Rattle.version_segment.specs.Heads.{HeadTable, heads_at, settled_heads}
-use Rattle.version_segment.specs.Parts.{versioned, versions_in, value_in, view_of}
-use Rattle.version_segment.specs.Walks.{IsFilled}
-use Rattle.version_segment.proofs.WalkLemmas.{named_pairs}
+use Rattle.head_map.specs.Heads.{ChangedRow}
+use Rattle.row_table.specs.Rows.{with_row, rows_read, range_of, rows_at}
+use Rattle.row_table.specs.Checks.{IsNamed, AreNamedRows}
+use Rattle.head_map.specs.Heads.{HeadTable, heads_at, settled_heads}
+use Rattle.row_table.specs.Parts.{versioned, versions_in, value_in, view_of}
+use Rattle.row_table.specs.Walks.{IsFilled}
+use Rattle.row_table.proofs.WalkLemmas.{named_pairs}
 
 -- the range of rows with their versions is the rows of the range with theirs
 range_versioned : (c : ChainMap) (heads : List ChangedRow) (from until : Key) (rows : List Row) → range_of from until (versioned c heads rows) ≡ versioned c heads (rows_between from until rows)

@@ -7,13 +7,13 @@ use Rattle.graph_model.specs.declared.limits.TheConstants.{SEGMENT_ROWS}
 use Rattle.graph_model.specs.Rows.{is_between}
 use Rattle.gap_segment.specs.Fenced.{FencedRows, AreWithin}
 use Rattle.undo_chain.specs.Chains.{ChainMap, list_at}
-use Rattle.version_segment.specs.declared.heads.Heads.{Heads}
-use Rattle.version_segment.specs.Rows.{IsSegment, is_nothing}
-use Rattle.version_segment.specs.Heads.{HeadTable, heads_at}
-use Rattle.version_segment.specs.Lists.{AreHeads, HasRest}
-use Rattle.version_segment.specs.Parts.{versioned, versions_in, value_in, view_of, AreParts}
-use Rattle.version_segment.proofs.PartLemmas.{rows_rise, list_there, nothing_of}
-use Rattle.version_segment.proofs.PruneLemmas.{versioned_rise}
+use Rattle.head_map.specs.declared.heads.Heads.{Heads}
+use Rattle.row_table.specs.Rows.{IsSegment, is_nothing}
+use Rattle.head_map.specs.Heads.{HeadTable, heads_at}
+use Rattle.row_table.specs.Lists.{AreHeads, HasRest}
+use Rattle.row_table.specs.Parts.{versioned, versions_in, value_in, view_of, AreParts}
+use Rattle.row_table.proofs.PartLemmas.{rows_rise, list_there, nothing_of}
+use Rattle.row_table.proofs.PruneLemmas.{versioned_rise}
 
 -- a row is never nothing
 row_something : (c : ChainMap) (h : Heads) (w : ℕ) → AreHeads c h → HasRest h → is_nothing (versions_in c h w) ≡ false

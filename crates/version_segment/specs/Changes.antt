@@ -9,7 +9,7 @@ use Rattle.undo_chain.specs.declared.touched.Touched.{Touched}
 use Rattle.undo_chain.specs.declared.touched.Touched.TheVariants.{Never}
 use Rattle.version_segment.specs.declared.change.RowChange.{RowChange}
 use Rattle.version_segment.specs.declared.change.RowChange.TheVariants.{Write, Undo, Touch, Untouch}
-use Rattle.version_segment.specs.Rows.{VersionedRows, versions_at, has_row, has_record, written, undone, touched, untouched}
+use Rattle.row_table.specs.Rows.{VersionedRows, versions_at, has_row, has_record, written, undone, touched, untouched}
 
 -- what a change makes of a row's versions
 abbrev pub changed : RowChange → TxnName → StampedVersions → StampedVersions

@@ -1,10 +1,9 @@
-pub mod Rows
-pub mod Checks
 pub mod Changes
-pub mod Keyed
-pub mod Heads
-pub mod Lists
-pub mod Parts
-pub mod Moves
-pub mod Walks
 pub mod Laws
+pub mod Resting
+pub mod RestingParts
+pub use Rattle.row_table.specs.Rows
+pub use Rattle.row_table.specs.Checks
+pub use Rattle.row_table.specs.Parts
+pub use Rattle.row_table.specs.Walks
+pub use Rattle.head_map.specs.Keyed

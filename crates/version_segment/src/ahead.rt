@@ -16,7 +16,8 @@ impl VersionSegment {
             .wrapping_add(self.sum_records_ahead())
     }
 
-    /// The sum of what a look-up of the key reads behind that, and where a row comes of the rows that would have to move.
+    /// The sum of what a look-up of the key reads behind that, and where a row comes of the rows that would have to
+    /// move.
     pub fn sum_near(&self, key: Key, row_comes: bool) -> u64 {
         self.rows.segment().sum_near(key, row_comes)
     }

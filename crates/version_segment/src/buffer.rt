@@ -1,7 +1,7 @@
 //! A buffer for the rows of one segment.
 
 ghost use Rattle.std.specs.Prelude.{◌≡◌, ◌<◌, ◌==◌, [], ◌∷◌, ◌++◌, length};
-ghost use Rattle.version_segment.specs.Rows.{with_row};
+ghost use Rattle.row_table.specs.Rows.{with_row};
 
 use graph_model::{Key, Row};
 use std::marker::Model;

@@ -1,7 +1,7 @@
 //! The changes that a transaction makes of a row, as one value.
 
 ghost use Rattle.std.specs.Prelude.{◌≤◌, ◌+◌};
-ghost use Rattle.version_segment.specs.Rows.{versions_at, ChangesKey};
+ghost use Rattle.row_table.specs.Rows.{versions_at, ChangesKey};
 ghost use Rattle.version_segment.specs.Changes.{MayChange, changed, records_for};
 
 use crate::segment::VersionSegment;

@@ -4,7 +4,7 @@ ghost use Rattle.std.specs.Prelude.{◌≡◌, ◌≤◌, false, [], length};
 ghost use Rattle.graph_model.specs.Rows.{is_below};
 ghost use Rattle.graph_model.specs.declared.limits.TheConstants.{SEGMENT_ROWS};
 ghost use Rattle.gap_segment.specs.Fenced.{AreSorted, AreWithin};
-ghost use Rattle.version_segment.specs.Rows.{settled_rows};
+ghost use Rattle.row_table.specs.Rows.{settled_rows};
 
 use crate::segment::VersionSegment;
 use graph_model::{Key, Row};

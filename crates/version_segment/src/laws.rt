@@ -1,6 +1,7 @@
 //! What a segment's calls do is what the definitions of a store say.
 
 ghost use Rattle.version_segment.specs.Laws.{WrittenIsWrite, UndoneIsUndo, TouchedIsTouch, UntouchedIsUntouch, StampsStayRight, KeyChanged, KeysPruned, RowsShared, ContentsOfSegment, BlockedIsCheck};
+ghost use Rattle.version_segment.specs.Resting.{RestedCanWake, RestsWoken, ValueWordsAre, WakesRested, WordsTell};
 
 /// What the calls make of a key's versions, apart from the stamps.
 pub fn changes_are_of_versions()
@@ -26,4 +27,18 @@ pub fn segments_are_cells()
 /// Where all transactions are known, a check answers what the check over names answers.
 pub fn checks_are_by_names()
     ensures { BlockedIsCheck }
+{}
+
+/// A segment that is laid to rest may wake with its own fence keys and rows, and is as it was. One that is woken rests
+/// as before.
+pub fn segments_rest_and_wake()
+    ensures wakes { WakesRested }
+    ensures can { RestedCanWake }
+    ensures rests { RestsWoken }
+{}
+
+/// The value words of settled rows, of changed ones and of no value, each written out once more; and what they tell.
+pub fn value_words_tell_values()
+    ensures numbers { ValueWordsAre }
+    ensures tell { WordsTell }
 {}

@@ -9,22 +9,21 @@
 mod ahead;
 mod buffer;
 mod change;
-mod checks;
 mod fill;
-mod found;
-mod heads;
 mod laws;
 mod lookup;
 mod moves;
-mod packed;
-mod rows;
+mod resting;
 mod segment;
-mod view;
+mod value_word;
 
 pub use buffer::Rows32;
 pub use change::RowChange;
 pub use laws::{
     changes_are_by_key, changes_are_of_versions, checks_are_by_names, segments_are_cells,
+    segments_rest_and_wake, value_words_tell_values,
 };
+pub use resting::Resting;
+pub use row_table::{NOWHERE, RowView};
 pub use segment::VersionSegment;
-pub use view::{NOWHERE, RowView};
+pub use value_word::{is_marked, value_in_word};

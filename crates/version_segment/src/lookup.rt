@@ -1,14 +1,24 @@
-//! Whether there is something to take back, and calls that do nothing where there isn't.
+//! A row that is looked for: what it has, whether there is something to take back, and calls that do nothing where
+//! there isn't.
 
 ghost use Rattle.std.specs.Prelude.{◌≡◌, ◌≤◌};
-ghost use Rattle.version_segment.specs.Rows.{versions_at, has_row, newest_writer, ChangesKey, undone, untouched};
+ghost use Rattle.std.specs.FinMap.Entries.{find};
+ghost use Rattle.graph_model.specs.Rows.{key_cmp};
+ghost use Rattle.row_table.specs.Rows.{versions_at, has_row, newest_writer, ChangesKey, undone, untouched};
 
-use crate::found::find_row;
 use crate::segment::VersionSegment;
-use crate::view::NOWHERE;
 use graph_model::{Key, TxnName};
+use row_table::{NOWHERE, RowView, find_row, look_up};
 
 impl VersionSegment {
+    /// Looks the key's row up, first at the place where it was found before, for all that is asked of it. Any place is
+    /// allowed.
+    pub fn row(&self, key: Key, near: usize) -> RowView<'_>
+        ensures { result ≡ find key_cmp key self.now.rows }
+    {
+        look_up(&self.rows, &self.chains, key, near)
+    }
+
     /// Whether the key has a row.
     pub fn has_row(&self, key: Key) -> bool
         ensures { result ≡ has_row self.now key }

@@ -5,18 +5,16 @@ ghost use Rattle.graph_model.specs.declared.limits.TheConstants.{SEGMENT_ROWS};
 ghost use Rattle.graph_model.specs.Rows.{is_below, is_between};
 ghost use Rattle.store_model.specs.Stamped as stamped_versions;
 ghost use Rattle.store_model.specs.Stamped.{read_stamped};
-ghost use Rattle.version_segment.specs.Checks.{IsNamed, AreNamedRows, IsChecked, cause_in, newest_of, newest_and_touches, drops_of};
+ghost use Rattle.row_table.specs.Checks.{IsNamed, AreNamedRows, IsChecked, cause_in, newest_of, newest_and_touches, drops_of};
 ghost use Rattle.undo_chain.specs.Records.{new_record};
 ghost use Rattle.undo_chain.specs.Chains.{list_at, IsHeadOf, ChangesOneList};
 ghost use Rattle.undo_chain.specs.States.{Grows};
 ghost use Rattle.undo_chain.specs.declared.touched.Touched.TheVariants.{Never};
-ghost use Rattle.version_segment.specs.Rows.{versions_at, has_row, has_record, records_in, rows_at, all_records, PrunesRows, ChangesKey, IsSegment, IsSameSegment, written, undone, touched, untouched, newest_writer};
+ghost use Rattle.row_table.specs.Rows.{versions_at, has_row, has_record, records_in, rows_at, all_records, PrunesRows, ChangesKey, IsSegment, IsSameSegment, written, undone, touched, untouched, newest_writer};
 
 use crate::buffer::Rows32;
-use crate::found::{FoundRow, find_row, insert_row, prune_row, set_row, value_in};
-use crate::rows::RowTable;
-use crate::view::NOWHERE;
 use graph_model::{Cause, Key, NoMemory, Row, SEGMENT_ROWS, TxnName};
+use row_table::{FoundRow, NOWHERE, RowTable, find_row, insert_row, prune_row, set_row, value_in};
 use std::alloc::Global;
 use std::marker::Model;
 use undo_chain::{Chains, Snapshot, States, Touched};
@@ -33,8 +31,8 @@ pub struct VersionSegment {
 }
 
 impl Model for VersionSegment {
-    ghost use Rattle.version_segment.specs.Rows.{VersionedRows};
-    ghost use Rattle.version_segment.specs.Parts.{view_of, AreParts};
+    ghost use Rattle.row_table.specs.Rows.{VersionedRows};
+    ghost use Rattle.row_table.specs.Parts.{view_of, AreParts};
 
     ghost Value = { VersionedRows };
 
@@ -438,96 +436,5 @@ fn put_record(chains: &mut Chains, head: Option<usize>, by: TxnName, older: Opti
     match chains.push(head, by, older) {
         Ok(key) => key,
         Err(_) => unreachable!(),
-    }
-}
-
-#[cfg(test)]
-mod tests {
-    use super::*;
-    use graph_model::State;
-    use std::test::Fail;
-
-    /// One transaction may be asked for. It committed as the third.
-    #[derive(Drop)]
-    struct Done {
-        by: TxnName,
-    }
-
-    impl States for Done {
-        ghost use Rattle.std.specs.Prelude.{true, Some};
-
-        ghost knowledge = { λ s. record {
-          known = 18446744073709551615;
-          stamps = λ by. Some 3;
-          names = λ by. true;
-          vouched = λ by state. true;
-        } };
-
-        fn state(&mut self, _by: TxnName) -> State {
-            State::Committed { stamp: 3 }
-        }
-    }
-
-    /// One transaction may be asked for. It is open.
-    #[derive(Drop)]
-    struct Open {
-        by: TxnName,
-    }
-
-    impl States for Open {
-        ghost use Rattle.std.specs.Prelude.{true, None};
-
-        ghost knowledge = { λ s. record {
-          known = 18446744073709551615;
-          stamps = λ by. None;
-          names = λ by. true;
-          vouched = λ by state. true;
-        } };
-
-        fn state(&mut self, _by: TxnName) -> State {
-            State::Live
-        }
-    }
-
-    const FIRST: TxnName = TxnName { job: 1, number: 1 };
-
-    const SECOND: TxnName = TxnName { job: 2, number: 1 };
-
-    const READER: Snapshot = Snapshot {
-        start: 3,
-        own: TxnName { job: 3, number: 1 },
-    };
-
-    const LOW: Key = Key { src: 0, second: 0 };
-
-    const HIGH: Key = Key { src: 9, second: 0 };
-
-    const VERTEX: Key = Key { src: 1, second: 0 };
-
-    const ARC: Key = Key { src: 1, second: 3 };
-
-    #[test]
-    fn an_open_write_is_not_read_by_others(rt: HostRuntime) -> Result<(), Fail> {
-        let mut segment = VersionSegment::new(rt.alloc(), LOW, HIGH)?;
-        segment.reserve()?;
-        segment.write(VERTEX, Some(0), FIRST);
-        segment.write(ARC, Some(7), FIRST);
-        let went = segment.prune(3, &mut Done { by: FIRST });
-        assert_eq!(rt; went, 2, "records that went");
-        segment.write(ARC, Some(9), SECOND);
-        let mut buffer = Rows32::new();
-        let run = segment.run_at(LOW, HIGH, &READER, &mut Open { by: SECOND }, &mut buffer);
-        let want = [
-            Row {
-                key: VERTEX,
-                weight: 0,
-            },
-            Row {
-                key: ARC,
-                weight: 7,
-            },
-        ];
-        assert_eq!(rt; run, &want[..], "the rows of the range");
-        Ok(())
     }
 }

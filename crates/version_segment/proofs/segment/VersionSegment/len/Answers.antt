@@ -1,5 +1,5 @@
 use Rattle.std.proofs.Common.{arith}
-use Rattle.version_segment.proofs.ChangeLemmas.{row_count}
+use Rattle.row_table.proofs.ChangeLemmas.{row_count}
 use Rattle.version_segment.proofs.SegmentLemmas.{is_segment}
 use Rattle.version_segment.proofs.segment.VersionSegment.len.Goals as goal
 

@@ -1,5 +1,5 @@
 use Rattle.std.proofs.Common.{arith}
-use Rattle.version_segment.proofs.ShareLemmas.{taken_records}
+use Rattle.row_table.proofs.ShareLemmas.{taken_records}
 use Rattle.version_segment.proofs.segment.VersionSegment.move_left.Goals as goal
 
 pub take-requires-clause-spare : goal.take-requires-clause-spare

@@ -1,5 +1,5 @@
 use Rattle.std.proofs.Common.{arith}
-use Rattle.version_segment.proofs.ShareLemmas.{dropped_records}
+use Rattle.row_table.proofs.ShareLemmas.{dropped_records}
 use Rattle.version_segment.proofs.segment.VersionSegment.move_right.Goals as goal
 
 pub give-requires-clause-spare : goal.give-requires-clause-spare

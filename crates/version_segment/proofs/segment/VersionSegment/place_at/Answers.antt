@@ -2,8 +2,8 @@ use Rattle.std.proofs.Common.{◌∙◌, ap, sym, subst, List}
 use Rattle.graph_model.specs.declared.row.Row.{Row}
 use Rattle.gap_segment.specs.Fenced.{AreWithin}
 use Rattle.graph_model.proofs.KeyLemmas.{below_self}
-use Rattle.version_segment.specs.Rows.{VersionedRows}
-use Rattle.version_segment.proofs.ChangeLemmas.{no_rows}
+use Rattle.row_table.specs.Rows.{VersionedRows}
+use Rattle.row_table.proofs.ChangeLemmas.{no_rows}
 use Rattle.version_segment.proofs.segment.VersionSegment.place_at.Goals as goal
 
 pub set_fences-requires-clause-within : goal.set_fences-requires-clause-within

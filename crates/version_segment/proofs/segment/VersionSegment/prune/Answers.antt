@@ -1,5 +1,5 @@
 use Rattle.std.proofs.Common.{refl}
-use Rattle.version_segment.proofs.ChangeLemmas.{nothing_pruned}
+use Rattle.row_table.proofs.ChangeLemmas.{nothing_pruned}
 use Rattle.version_segment.proofs.segment.VersionSegment.prune.Goals as goal
 
 pub returns-then-is_settled-clause-pruned : goal.returns-then-is_settled-clause-pruned

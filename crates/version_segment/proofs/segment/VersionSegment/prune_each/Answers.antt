@@ -1,7 +1,7 @@
 use Rattle.std.proofs.Common.{◌-◌, suc, refl, arith}
 use Rattle.undo_chain.proofs.ListLemmas.{grows_start, grows_chain, still_known}
-use Rattle.version_segment.proofs.ChangeLemmas.{spare_stays}
-use Rattle.version_segment.proofs.PruneLemmas.{pruned_start, skip_settled, next_below, next_named, pruned_next, pruned_all, pruned_went}
+use Rattle.row_table.proofs.ChangeLemmas.{spare_stays}
+use Rattle.row_table.proofs.PruneLemmas.{pruned_start, skip_settled, next_below, next_named, pruned_next, pruned_all, pruned_went}
 use Rattle.version_segment.proofs.segment.VersionSegment.prune_each.Goals as goal
 
 pub rows-init : goal.rows-init

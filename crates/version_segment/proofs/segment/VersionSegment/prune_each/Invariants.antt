@@ -1,5 +1,5 @@
 use Rattle.undo_chain.specs.States.{Grows}
-use Rattle.version_segment.specs.Walks.{ArePruned}
+use Rattle.row_table.specs.Walks.{ArePruned}
 use Rattle.version_segment.proofs.segment.VersionSegment.prune_each.Given as goal
 
 abbrev pub invariant-rows : goal.invariant-rows

@@ -5,11 +5,11 @@ use Rattle.graph_model.specs.declared.row.Row.{Row}
 use Rattle.gap_segment.specs.Fenced.{FencedRows}
 use Rattle.store_model.specs.Stamped.{StampedVersions}
 use Rattle.undo_chain.specs.Chains.{list_at}
-use Rattle.version_segment.specs.declared.heads.Heads.{Heads}
-use Rattle.version_segment.specs.Parts.{versions_in}
-use Rattle.version_segment.specs.Rows.{records_in}
-use Rattle.version_segment.proofs.VersionLemmas.{records_of_lists}
-use Rattle.version_segment.proofs.ChangeLemmas.{entry_at, row_count}
+use Rattle.head_map.specs.declared.heads.Heads.{Heads}
+use Rattle.row_table.specs.Parts.{versions_in}
+use Rattle.row_table.specs.Rows.{records_in}
+use Rattle.row_table.proofs.VersionLemmas.{records_of_lists}
+use Rattle.row_table.proofs.ChangeLemmas.{entry_at, row_count}
 use Rattle.version_segment.proofs.segment.VersionSegment.records_at.Goals as goal
 
 pub returns : goal.returns

@@ -1,7 +1,7 @@
 use Rattle.std.proofs.Common.{ap, ◌∙◌}
 use Rattle.gap_segment.specs.Fenced.{FencedRows}
-use Rattle.version_segment.specs.Parts.{versioned}
-use Rattle.version_segment.proofs.ChangeLemmas.{settled_rows}
+use Rattle.row_table.specs.Parts.{versioned}
+use Rattle.row_table.proofs.ChangeLemmas.{settled_rows}
 use Rattle.version_segment.proofs.segment.VersionSegment.release.Goals as goal
 
 pub returns-then-is_settled : goal.returns-then-is_settled

@@ -1,4 +1,4 @@
-use Rattle.version_segment.proofs.ChangeLemmas.{same_parts}
+use Rattle.row_table.proofs.ChangeLemmas.{same_parts}
 use Rattle.version_segment.proofs.segment.VersionSegment.reserve_records.Goals as goal
 
 pub invariant_of-self : goal.invariant_of-self

@@ -1,5 +1,5 @@
 use Rattle.std.proofs.Common.{◌≡◌, ◌+◌}
-use Rattle.version_segment.specs.Walks.{IsFilled}
+use Rattle.row_table.specs.Walks.{IsFilled}
 use Rattle.version_segment.proofs.segment.VersionSegment.run_at.Given as goal
 
 abbrev pub invariant-rows : goal.invariant-rows

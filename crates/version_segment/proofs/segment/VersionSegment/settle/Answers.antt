@@ -1,8 +1,8 @@
 use Rattle.std.proofs.Common.{◌∙◌, ap, sym, subst}
 use Rattle.gap_segment.specs.Fenced.{FencedRows, AreFenced}
-use Rattle.version_segment.specs.Parts.{versioned}
-use Rattle.version_segment.specs.Rows.{VersionedRows}
-use Rattle.version_segment.proofs.ChangeLemmas.{no_rows, all_settled_parts, all_settled_rows}
+use Rattle.row_table.specs.Parts.{versioned}
+use Rattle.row_table.specs.Rows.{VersionedRows}
+use Rattle.row_table.proofs.ChangeLemmas.{no_rows, all_settled_parts, all_settled_rows}
 use Rattle.version_segment.proofs.segment.VersionSegment.settle.Goals as goal
 
 pub settle-requires-clause-empty : goal.settle-requires-clause-empty

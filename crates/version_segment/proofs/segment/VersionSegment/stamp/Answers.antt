@@ -2,11 +2,11 @@ use Rattle.std.proofs.Common.{◌∙◌, ap, refl, map, arith}
 use Rattle.store_model.specs.Stamped.{stamp}
 use Rattle.undo_chain.specs.Records.{stamped_by}
 use Rattle.undo_chain.specs.Chains.{list_at}
-use Rattle.version_segment.specs.Rows.{is_empty}
-use Rattle.version_segment.specs.Parts.{of_lists}
-use Rattle.version_segment.proofs.ListLemmas.{undos_change, undos_leave_touches, touches_change, touches_leave_undos}
-use Rattle.version_segment.proofs.VersionLemmas.{stamped_lists}
-use Rattle.version_segment.proofs.ChangeLemmas.{row_begin, later_parts, later_changes, no_change, stays_settled, settled_undos, settled_touches, spare_stays}
+use Rattle.row_table.specs.Rows.{is_empty}
+use Rattle.row_table.specs.Parts.{of_lists}
+use Rattle.row_table.proofs.ListLemmas.{undos_change, undos_leave_touches, touches_change, touches_leave_undos}
+use Rattle.row_table.proofs.VersionLemmas.{stamped_lists}
+use Rattle.row_table.proofs.ChangeLemmas.{row_begin, later_parts, later_changes, no_change, stays_settled, settled_undos, settled_touches, spare_stays}
 use Rattle.version_segment.proofs.segment.VersionSegment.stamp.Goals as goal
 
 pub invariant_of-self : goal.invariant_of-self

@@ -1,10 +1,10 @@
 use Rattle.std.proofs.Common.{◌∙◌, sym, ap}
 use Rattle.store_model.specs.Stamped.{StampedVersions}
-use Rattle.version_segment.specs.Rows.{VersionedRows, has_record, touched, versions_at}
-use Rattle.version_segment.specs.Parts.{of_lists}
-use Rattle.version_segment.proofs.ListLemmas.{touches_change, touches_leave_undos}
-use Rattle.version_segment.proofs.VersionLemmas.{any_touch, touched_lists}
-use Rattle.version_segment.proofs.ChangeLemmas.{row_missed, key_there, versions_now, row_begin, later_parts, later_changes}
+use Rattle.row_table.specs.Rows.{VersionedRows, has_record, touched, versions_at}
+use Rattle.row_table.specs.Parts.{of_lists}
+use Rattle.row_table.proofs.ListLemmas.{touches_change, touches_leave_undos}
+use Rattle.row_table.proofs.VersionLemmas.{any_touch, touched_lists}
+use Rattle.row_table.proofs.ChangeLemmas.{row_missed, key_there, versions_now, row_begin, later_parts, later_changes}
 use Rattle.version_segment.proofs.segment.VersionSegment.touch_near.Goals as goal
 
 pub unreachable-requires : goal.unreachable-requires

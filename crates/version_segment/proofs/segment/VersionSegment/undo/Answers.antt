@@ -2,11 +2,11 @@ use Rattle.std.proofs.Common.{◌∙◌, ap, sym, subst, ◌≡◌, ℕ, Some, N
 use Rattle.std.specs.Prelude.{Option}
 use Rattle.undo_chain.specs.Chains.{list_at, ChangesOneList}
 use Rattle.store_model.specs.Stamped.{StampedVersions}
-use Rattle.version_segment.specs.Rows.{undone}
-use Rattle.version_segment.specs.Parts.{of_lists}
-use Rattle.version_segment.proofs.ListLemmas.{undos_change, undos_leave_touches}
-use Rattle.version_segment.proofs.VersionLemmas.{undone_list, no_writer}
-use Rattle.version_segment.proofs.ChangeLemmas.{no_versions, versions_now, key_there, row_begin, later_parts, later_changes, settled_undos, spare_stays}
+use Rattle.row_table.specs.Rows.{undone}
+use Rattle.row_table.specs.Parts.{of_lists}
+use Rattle.row_table.proofs.ListLemmas.{undos_change, undos_leave_touches}
+use Rattle.row_table.proofs.VersionLemmas.{undone_list, no_writer}
+use Rattle.row_table.proofs.ChangeLemmas.{no_versions, versions_now, key_there, row_begin, later_parts, later_changes, settled_undos, spare_stays}
 use Rattle.version_segment.proofs.segment.VersionSegment.undo.Goals as goal
 
 pub unreachable-requires : goal.unreachable-requires

@@ -1,11 +1,11 @@
 use Rattle.std.proofs.Common.{◌∙◌, ap}
 use Rattle.undo_chain.specs.Records.{without_touch}
 use Rattle.undo_chain.specs.Chains.{list_at}
-use Rattle.version_segment.specs.Rows.{is_empty, untouched}
-use Rattle.version_segment.specs.Parts.{of_lists}
-use Rattle.version_segment.proofs.ListLemmas.{touches_change, touches_leave_undos}
-use Rattle.version_segment.proofs.VersionLemmas.{untouched_lists}
-use Rattle.version_segment.proofs.ChangeLemmas.{row_missed, key_there, row_begin, later_parts, later_changes, stays_settled, settled_undos, settled_touches, spare_stays}
+use Rattle.row_table.specs.Rows.{is_empty, untouched}
+use Rattle.row_table.specs.Parts.{of_lists}
+use Rattle.row_table.proofs.ListLemmas.{touches_change, touches_leave_undos}
+use Rattle.row_table.proofs.VersionLemmas.{untouched_lists}
+use Rattle.row_table.proofs.ChangeLemmas.{row_missed, key_there, row_begin, later_parts, later_changes, stays_settled, settled_undos, settled_touches, spare_stays}
 use Rattle.version_segment.proofs.segment.VersionSegment.untouch.Goals as goal
 
 pub unreachable-requires : goal.unreachable-requires

@@ -1,9 +1,9 @@
 use Rattle.std.proofs.Common.{None}
 use Rattle.undo_chain.specs.Chains.{list_at}
-use Rattle.version_segment.specs.Rows.{written}
-use Rattle.version_segment.specs.Parts.{of_lists}
-use Rattle.version_segment.proofs.ListLemmas.{undos_change, undos_leave_touches}
-use Rattle.version_segment.proofs.ChangeLemmas.{no_row, row_count, row_begin, later_parts, later_changes, first_parts, first_changes}
+use Rattle.row_table.specs.Rows.{written}
+use Rattle.row_table.specs.Parts.{of_lists}
+use Rattle.row_table.proofs.ListLemmas.{undos_change, undos_leave_touches}
+use Rattle.row_table.proofs.ChangeLemmas.{no_row, row_count, row_begin, later_parts, later_changes, first_parts, first_changes}
 use Rattle.version_segment.proofs.segment.VersionSegment.write_near.Goals as goal
 
 pub invariant_of-self : goal.invariant_of-self

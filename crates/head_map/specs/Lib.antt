@@ -1,0 +1,3 @@
+pub mod Keyed
+pub mod Heads
+pub use Rattle.gap_segment.specs.Fenced

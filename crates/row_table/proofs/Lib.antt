@@ -1,0 +1,10 @@
+pub mod TableLemmas
+pub mod ListLemmas
+pub mod PartLemmas
+pub mod VersionLemmas
+pub mod ChangeLemmas
+pub mod WalkLemmas
+pub mod PruneLemmas
+pub mod MoveLemmas
+pub mod HandLemmas
+pub mod ShareLemmas

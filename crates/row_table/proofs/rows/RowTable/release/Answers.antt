@@ -1,0 +1,7 @@
+use Rattle.std.proofs.Common.{ap}
+use Rattle.head_map.specs.Heads.{heads_placed}
+use Rattle.row_table.proofs.TableLemmas.{all_settled}
+use Rattle.row_table.proofs.rows.RowTable.release.Goals as goal
+
+pub returns-clause-settled : goal.returns-clause-settled
+returns-clause-settled c = all_settled c.self.inside.rows.rows _ (λ p. ap (λ es. heads_placed es p) c.new.ensures)

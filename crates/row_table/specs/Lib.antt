@@ -1,0 +1,9 @@
+pub mod Rows
+pub mod Checks
+pub mod Lists
+pub mod Parts
+pub mod Moves
+pub mod Walks
+pub use Rattle.head_map.specs.Keyed
+pub use Rattle.head_map.specs.Heads
+pub use Rattle.gap_segment.specs.Fenced

@@ -1,5 +1,0 @@
-use Rattle.std.proofs.Common.{◌-◌}
-use Rattle.version_segment.proofs.moves.+hand_each.Given as goal
-
-abbrev pub decreases-hand_each : goal.decreases-hand_each
-decreases-hand_each l = l.until - l.place

@@ -1,0 +1,57 @@
+-- The parts of a segment at rest. Only the crate itself speaks of them.
+use Rattle.std.specs.Prelude.{◌≡◌, ℕ, zero, suc, ◌≤◌, not, is_some, min, List, [], ◌∷◌, map, Some, None}
+use Rattle.graph_model.specs.declared.row.Row.{Row}
+use Rattle.graph_model.specs.declared.limits.TheConstants.{MAX_WEIGHT}
+use Rattle.undo_chain.specs.Chains.{ChainMap, list_at}
+use Rattle.head_map.specs.declared.heads.Heads.{Heads}
+use Rattle.head_map.specs.Heads.{PlacedRow, PlaceTable, heads_placed, settled_heads}
+use Rattle.row_table.specs.Lists.{AreHeads, AreOthers, HasRest}
+use Rattle.row_table.specs.Parts.{of_lists, value_in}
+use Rattle.version_segment.specs.Resting.{RestingRow, RestingRows, word_of, weight_in_word}
+
+-- ---- heads and records without rows
+
+abbrev pub resting_at : ChainMap → Heads → RestingRow
+resting_at c h =
+    record { has_value = h.has_value; versions = of_lists None (list_at c h.undos) (list_at c h.touches) }
+
+-- what is left of the rows at so many places
+abbrev pub resting_places : ChainMap → ℕ → (ℕ → Heads) → List RestingRow
+resting_places c zero f = []
+resting_places c (suc count) f = resting_at c (f 0) ∷ resting_places c count (λ p. f (suc p))
+
+abbrev pub resting_view : ChainMap → PlaceTable → ℕ → RestingRows
+resting_view c heads count =
+    record { rows = resting_places c count (heads_placed heads.entries); spare = min c.spare heads.spare }
+
+-- no two places share a list, a row without value has a record, and behind so many places all rows are settled
+pub record AreRestingParts (c : ChainMap) (f : ℕ → Heads) (count : ℕ) : Type 0 where
+  pub heads : (p : ℕ) → AreHeads c (f p)
+  pub apart : (p q : ℕ) → (p ≡ q → ⊥) → AreOthers (f q) (f p).undos (f p).touches
+  pub rest : (p : ℕ) → HasRest (f p)
+  pub behind : (p : ℕ) → count ≤ p → f p ≡ settled_heads
+
+-- ---- rows with words, and with weights
+
+-- the word of a row with these heads
+abbrev pub head_word : Heads → ℕ → ℕ
+head_word h weight = word_of (value_in h weight) (not (is_some h.undos))
+
+abbrev pub words_from : (ℕ → Heads) → List Row → List Row
+words_from f [] = []
+words_from f (row ∷ rows) =
+    record { key = row.key; weight = head_word (f 0) row.weight } ∷ words_from (λ p. f (suc p)) rows
+
+-- the rows with the words of their values
+abbrev pub placed_words : List PlacedRow → List Row → List Row
+placed_words entries rows = words_from (heads_placed entries) rows
+
+-- the rows with the weights that their words tell
+abbrev pub plain_rows : List Row → List Row
+plain_rows rows = map (λ row. record { key = row.key; weight = weight_in_word row.weight }) rows
+
+-- each value is within its limit
+abbrev pub AreSmallAt : (ℕ → Heads) → List Row → Type 0
+AreSmallAt f [] = Unit {0}
+AreSmallAt f (row ∷ rows) =
+    (value_in (f 0) row.weight ≡ Some row.weight → row.weight ≤ MAX_WEIGHT) × AreSmallAt (λ p. f (suc p)) rows
