@@ -2,3 +2,4 @@ pub mod Slots
 pub mod Passes
 pub mod Making
 pub mod Closing
+pub mod Packing

@@ -13,6 +13,7 @@ mod close;
 mod gather;
 mod lay;
 mod make;
+mod pack;
 mod slot;
 mod store;
 

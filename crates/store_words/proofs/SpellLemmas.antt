@@ -1,5 +1,5 @@
 -- Words of a block that are stored one after the other.
-use Rattle.std.proofs.Common.{◌≡◌, ℕ, suc, ◌+◌, ◌*◌, ◌<◌, List, length, set, refl, sym, ◌∙◌, ap, cond, arith, length-set, get_or-set_other, get_or-set_same}
+use Rattle.std.proofs.Common.{◌≡◌, ℕ, zero, suc, ◌+◌, ◌*◌, ◌<◌, List, [], ◌∷◌, length, set, refl, sym, ◌∙◌, ap, subst, cond, arith, length-set, get_or-set_other, get_or-set_same}
 use Rattle.std.specs.Prelude.{true, slice_get, slice_index, Some}
 use mathlib.Core.Logic.{dite}
 use native.Mathlib.Decide.{ℕ_discrete}
@@ -7,11 +7,11 @@ use Rattle.graph_model.specs.declared.row.Key.{Key}
 use Rattle.graph_model.specs.declared.row.Row.{Row}
 use Rattle.seat_views.specs.Keeping.{kept_at}
 use Rattle.seat_views.proofs.NumberLemmas.{other_number, same_number, some_is}
-use Rattle.cells_model.specs.Cells.{CellState, stored}
-use Rattle.cells_model.specs.Words.{block_words, spelled}
+use Rattle.cells_model.specs.Cells.{CellState, packed, stored}
+use Rattle.cells_model.specs.Words.{Spells, block_words, flat, spelled}
 use Rattle.cells_model.proofs.WordLemmas.{flat_at}
 use Rattle.rule_model.specs.Sight.{HasCell, Sight, with_cell}
-use Rattle.store_words.specs.Spelling.{IsSpelling, KeepsOtherCells}
+use Rattle.store_words.specs.Spelling.{CanSpell, IsPackedAgain, IsSpelling, KeepsOtherCells}
 
 -- ---- the view
 
@@ -128,3 +128,53 @@ spelled_row low high rows p row e =
       ap (slice_get (spelled low high rows)) b ∙ h.1,
       ap (slice_get (spelled low high rows)) d ∙ h.2,
     )
+
+-- ---- all words
+
+length-flat : (rows : List Row) → length (flat rows) ≡ 3 * length rows
+length-flat [] = refl
+length-flat (r ∷ rs) = let rest = length-flat rs in omega (arith, rest)
+
+get_inside : (xs : List ℕ) (i n : ℕ) → slice_get xs i ≡ Some n → i < length xs
+get_inside [] i n e = cc
+get_inside (x ∷ xs) zero n e = omega arith
+get_inside (x ∷ xs) (suc i) n e = let less = get_inside xs i n e in omega arith
+
+-- once all words are stored the block spells the contents
+pub spells_all : (k : ℕ) (u : Sight) (c : CellState) (low high : Key) (rows : List Row) (w : Sight)
+    → CanSpell low high rows c.segment
+    → (is : IsSpelling k u c low high rows (5 + 3 * length rows) w) → Spells is.cell.block is.cell.segment
+spells_all k u c low high rows w can is = subst (Spells is.cell.block) (sym is.segment) (record {
+  wide = is.wide;
+  words = λ i n at.
+      let here : slice_get (spelled low high rows) i ≡ Some n =
+      (λ t. slice_get (spelled (can.low_is t) (can.high_is t) (can.rows_are t)) i) ∙ at in
+      let inside = get_inside (spelled low high rows) i n here in
+      let all = length-flat rows in
+      is.words i n (omega (arith, inside, all)) here;
+  sound = can.sound;
+  small = can.small;
+})
+
+-- ---- a cell that is packed
+
+pub packs_spelled : (k : ℕ) (u : Sight) (c : CellState) (low high : Key) (rows : List Row) (count : ℕ) (v w : Sight)
+    → (is : IsSpelling k u c low high rows count v) → w ≡ with_cell v k (packed is.cell)
+    → IsPackedAgain k u c w
+packs_spelled k u c low high rows count v w is w_is = record {
+  cell = packed is.cell;
+  has = has_now v w k (packed is.cell) w_is;
+  segment = is.segment;
+  packed = refl;
+  others = others_on k u v w is.others (others_now v w k (packed is.cell) w_is);
+}
+
+pub packs_same : (k : ℕ) (u : Sight) (c : CellState) (w : Sight) → w ≡ with_cell u k (packed c)
+    → IsPackedAgain k u c w
+packs_same k u c w w_is = record {
+  cell = packed c;
+  has = has_now u w k (packed c) w_is;
+  segment = refl;
+  packed = refl;
+  others = others_now u w k (packed c) w_is;
+}

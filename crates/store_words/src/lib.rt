@@ -10,6 +10,7 @@ mod accounts;
 mod blocks;
 mod lines;
 mod notes;
+mod pack;
 mod reads;
 mod rule;
 mod spell;
