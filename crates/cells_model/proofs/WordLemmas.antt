@@ -17,7 +17,7 @@ use Rattle.version_segment.proofs.KeyedLemmas.{find_there, find_gap, gap_of_plac
 use Rattle.cells_model.specs.BlockLaws.{HeadIsTold, RowIsTold, TellsVersions, ValueIsTold, NoRowIsTold, row_key}
 
 -- the words of the row at a place stand at three times the place
-flat_at : (rows : List Row) (p m : ℕ) (row : Row) → m ≡ 3 * p → slice_get rows p ≡ Some row
+pub flat_at : (rows : List Row) (p m : ℕ) (row : Row) → m ≡ 3 * p → slice_get rows p ≡ Some row
     → (slice_get (flat rows) m ≡ Some row.key.src) × (slice_get (flat rows) (suc m) ≡ Some row.key.second)
     × (slice_get (flat rows) (suc (suc m)) ≡ Some row.weight)
 flat_at [] p m row is e = cc

@@ -1,0 +1,3 @@
+pub mod MakeLemmas
+pub mod CloseLemmas
+pub mod PackLemmas

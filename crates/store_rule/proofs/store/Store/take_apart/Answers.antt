@@ -1,0 +1,63 @@
+use Rattle.std.proofs.Common.{◌∙◌, arith, refl}
+use Rattle.seat_views.specs.Keeping.{kept_at}
+use Rattle.rule_model.specs.Sight.{HasJournal}
+use Rattle.store_rule.specs.Closing.{HasJoined}
+use Rattle.store_rule.proofs.CloseLemmas.{all_back, all_below}
+use Rattle.store_rule.proofs.store.Store.take_apart.Goals as goal
+
+pub take_in_journal-journal-requires-clause-slot : goal.take_in_journal-journal-requires-clause-slot
+take_in_journal-journal-requires-clause-slot c =
+    let store = c.args.self in
+    let all = all_below store c.close.new.values.items c.close.ensures.count c.close.ensures.fits in
+    (c.pop_slot.ensures store.accounts.config store.accounts.table.shared.table_id _ all).0.journal refl
+
+pub pop_slot-requires-2 : goal.pop_slot-requires-2
+pop_slot-requires-2 c =
+    let store = c.args.self in
+    let all = all_below store c.close.new.values.items c.close.ensures.count c.close.ensures.fits in
+    let count = (c.pop_slot.ensures store.accounts.config store.accounts.table.shared.table_id _ all).1.count_is in
+    omega (arith, count)
+
+pub take_in_index-index-requires-clause-slot : goal.take_in_index-index-requires-clause-slot
+take_in_index-index-requires-clause-slot c =
+    let store = c.args.self in
+    let all = all_below store c.close.new.values.items c.close.ensures.count c.close.ensures.fits in
+    let z = store.accounts.config in
+    let table = store.accounts.table.shared.table_id in
+    (c.pop_slot-2.ensures z table _ (c.pop_slot.ensures z table _ all).1).0.index refl
+
+pub take_cells-requires-clause-slots : goal.take_cells-requires-clause-slots
+take_cells-requires-clause-slots c =
+    let store = c.args.self in
+    let all = all_below store c.close.new.values.items c.close.ensures.count c.close.ensures.fits in
+    let z = store.accounts.config in
+    let table = store.accounts.table.shared.table_id in
+    (c.pop_slot-2.ensures z table _ (c.pop_slot.ensures z table _ all).1).1
+
+pub returns : goal.returns
+returns c =
+    let z = c.args.self.accounts.config in
+    let list = c.args.passes.list.items in
+    let sight = c.take_cells.new.account.me.0 in
+    let journal = c.take_in_journal-journal.ensures in
+    let j = journal.0 in
+    let index = c.take_in_index-index.ensures in
+    let others = c.take_cells.ensures.others in
+    let joined = c.join_passes.ensures.joined in
+    let has_journal : HasJournal sight j =
+    (λ i. kept_at (others.journals i) 0) ∙ (λ i. kept_at ((index.1.me i).0).journals 0)
+    ∙ (λ i. kept_at ((journal.1.me i).0).journals 0) in
+    let has_passes : HasJoined list 0 sight = λ p pass least there.
+    (λ i. kept_at (others.passes i) p) ∙ (λ i. kept_at ((index.1.me i).0).passes p)
+    ∙ (λ i. kept_at ((journal.1.me i).0).passes p) ∙ joined p pass least there in
+    record {
+      sight = sight;
+      state = j;
+      last = c.close-2.ensures.last j (all_back z list sight j has_journal has_passes c.requires.passes.count
+          c.requires.passes.each);
+      passes = has_passes;
+      journal = journal.2;
+      count = c.take_cells.ensures.count;
+      cells = c.take_cells.ensures.cells;
+      index = (index.0, (λ i. kept_at (others.indexes i) 0) ∙ (λ i. kept_at ((index.1.me i).0).indexes 0), index.3);
+    }

@@ -1,0 +1,5 @@
+pub mod Slots
+pub mod Passes
+pub mod Making
+pub mod Closing
+pub mod Packing

@@ -1,0 +1,72 @@
+//! What lies in the slots of the latch table.
+
+ghost use Rattle.std.specs.Prelude.{◌≡◌};
+
+use graph_model::RoomyJournal;
+use latch_table::Slot;
+use leaf_index::LeafIndex;
+use std::marker::Model;
+use store_words::Account;
+use txn_manager::Config;
+use version_segment::VersionSegment;
+
+/// What is kept of a cell that is packed, beside the words of its block: today its rows as well, so that nothing is
+/// read from words to unpack it.
+#[derive(Drop)]
+pub struct Resting {
+    pub(crate) segment: VersionSegment,
+}
+
+impl Model for Resting {
+    ghost use Rattle.version_segment.specs.Rows.{VersionedRows};
+
+    ghost Value = { VersionedRows };
+
+    ghost view = { λ r. r.segment };
+}
+
+/// A value with the note of its contents, or nothing where a pass has it.
+#[derive(Drop)]
+pub enum StoreSlot {
+    Out,
+    Cell {
+        resting: Resting,
+        note: Account,
+    },
+    /// In a box, since slots are as large as the largest value.
+    Index {
+        index: Box<LeafIndex>,
+        note: Account,
+    },
+    Journal {
+        journal: RoomyJournal,
+        note: Account,
+    },
+}
+
+/// What the latch table is told once: of which account table the notes are, by a seat of it, and how the store is made.
+#[derive(Drop)]
+pub struct Room {
+    pub seat: Account,
+    pub config: Config,
+}
+
+impl Slot<Room> for StoreSlot {
+    ghost use Rattle.std.specs.Prelude.{ℕ};
+    ghost use Rattle.store_rule.specs.Slots.{FitsPlace};
+    ghost use Rattle.store_rule.specs.declared.slot.StoreSlot.TheVariants as slots;
+
+    ghost fits = { λ room place slot. FitsPlace room.config room.seat.table_id place slot };
+
+    ghost passes = { λ room. room.config.passes };
+
+    ghost vacant = { slots.Out };
+
+    fn new_vacant() -> StoreSlot {
+        StoreSlot::Out
+    }
+
+    fn forget_vacant(self) {
+        drop(self);
+    }
+}

@@ -1,0 +1,99 @@
+//! A store, and the passes on it.
+
+ghost use Rattle.std.specs.Prelude.{◌≡◌, ◌≤◌, ◌+◌, [], vec_capacity};
+ghost use Rattle.rule_model.specs.Sight.{cells_of};
+
+use crate::slot::{Room, StoreSlot};
+use epoch_reclaim::{PinPlaces, Pins};
+use latch_table::{Cells, LatchTable};
+use store_words::{Account, AccountRule, AccountSight, Accounts};
+use txn_manager::Config;
+use version_segment::VersionSegment;
+
+/// The seat of a pass on the latch table.
+pub type LatchPass = latch_table::Pass<StoreSlot, Room>;
+
+/// A graph under transactions of many passes.
+///
+/// | Place of the latch table | What lies there |
+/// |---|---|
+/// | below `8 * leaves` | the cell of that number |
+/// | `8 * leaves` | the index |
+/// | one more | the journal |
+#[derive(Drop)]
+pub struct Store {
+    pub accounts: Accounts,
+    pub latches: LatchTable<StoreSlot, Room>,
+    /// Empty lists with room for what lies in the slots, and for the segments, once the store is closed.
+    pub(crate) slots: Vec<StoreSlot>,
+    pub(crate) cells: Vec<VersionSegment>,
+    pub ghost same: { (latches.table.shared.key.config ≡ accounts.config)
+        × (latches.table.shared.key.seat.table_id ≡ accounts.table.shared.table_id) },
+    pub ghost places: { latches.table.shared.table_id.words ≡ cells_of accounts.config + 2 },
+    ghost room: { (slots.items ≡ []) × (cells_of accounts.config + 2 ≤ vec_capacity slots) },
+    ghost list: { (cells.items ≡ []) × (cells_of accounts.config ≤ vec_capacity cells) },
+}
+
+/// Whoever runs transactions on a store, one after the other: a seat of each of its tables.
+#[derive(Drop)]
+pub struct Pass {
+    pub number: u32,
+    pub latch: LatchPass,
+    pub account: Account,
+}
+
+/// The passes of a store, in the order of their numbers, with the seats that take them back.
+#[derive(Drop)]
+pub struct Passes {
+    pub list: Vec<Pass>,
+    pub latch: LatchPass,
+    pub account: Account,
+}
+
+impl Store {
+    /// How the store was made.
+    pub fn config(&self) -> Config
+        ensures { result ≡ self.now.accounts.config }
+    {
+        self.accounts.config
+    }
+
+    /// The cells, the index and the journal, to be taken and given back.
+    pub fn cells(&self) -> Cells<'_, StoreSlot, Room>
+        ensures { result.table.now ≡ self.now.latches.table.shared }
+    {
+        self.latches.cells()
+    }
+
+    /// The pins of passes, and the clock.
+    pub fn pins(&self) -> Pins<'_, AccountSight, Config, AccountRule>
+        ensures table { result.table.now ≡ self.now.accounts.table.shared }
+        ensures clock { result.places.clock ≡ 8 }
+        ensures pins { (result.places.first ≡ 24) × (result.places.stride ≡ 16) }
+        ensures passes { result.places.passes ≡ self.now.accounts.config.passes }
+    {
+        Pins {
+            table: &self.accounts.table.shared,
+            places: PinPlaces {
+                clock: 8,
+                first: 24,
+                stride: 16,
+                passes: self.accounts.config.passes,
+            },
+        }
+    }
+
+    /// The place of the index.
+    pub fn index_place(&self) -> u32
+        ensures { result ≡ cells_of self.now.accounts.config }
+    {
+        8 * self.accounts.config.leaves
+    }
+
+    /// The place of the journal.
+    pub fn journal_place(&self) -> u32
+        ensures { result ≡ cells_of self.now.accounts.config + 1 }
+    {
+        8 * self.accounts.config.leaves + 1
+    }
+}

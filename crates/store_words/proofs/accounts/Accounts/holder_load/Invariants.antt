@@ -1,0 +1,10 @@
+use Rattle.std.specs.Prelude.{◌≡◌, slice_index}
+use Rattle.cells_model.specs.Cells.{CellState}
+use Rattle.rule_model.specs.Sight.{HasCell}
+use Rattle.store_words.proofs.accounts.Accounts.holder_load.Given as given
+
+abbrev pub ghosts-load_as : given.ghosts-load_as
+ghosts-load_as a = record {
+  next = λ n v. v;
+  told = λ n v. (c : CellState) → HasCell v a._about.now.0 c → n ≡ slice_index c.block a._about.now.1;
+}

@@ -1,0 +1,5 @@
+use Rattle.store_words.specs.Reads.{PassIsTold, read_ended}
+use Rattle.store_words.proofs.accounts.Accounts.second_load.Given as given
+
+abbrev pub ghosts-load_as : given.ghosts-load_as
+ghosts-load_as a = record { next = λ n v. read_ended v n; told = λ n v. PassIsTold a._about.now v n }

@@ -1,0 +1,5 @@
+pub mod Steps
+pub mod Opening
+pub mod Reads
+pub mod Spelling
+pub mod Notes

@@ -1,0 +1,97 @@
+//! A new account table, with the words of a store without rows, and its end.
+
+ghost use Rattle.std.specs.Prelude.{◌≡◌, ◌<◌, ◌++◌, [], false, length, IfOk, OnOk};
+ghost use Rattle.cells_model.specs.Indexed.{new_cell};
+ghost use Rattle.rule_model.specs.EndSteps.{HasAll, IsLast, first_sight, new_words, zeros};
+ghost use Rattle.store_relation.specs.Shared.{JournalState};
+ghost use Rattle.store_words.specs.Opening.{empty_block};
+ghost use Rattle.store_words.specs.Steps.{word_count};
+ghost use Rattle.txn_manager.specs.Config.{too_large};
+
+use crate::rule::{Account, AccountRule, AccountSight};
+use atomic_table::Table;
+use graph_model::{Key, NoMemory};
+use std::alloc::Global;
+use txn_manager::Config;
+
+/// The account table with its memory.
+#[derive(Drop)]
+pub struct Accounts {
+    pub table: Table<(), AccountSight, Config, AccountRule, Global>,
+    pub config: Config,
+    pub ghost key: { table.shared.key ≡ config },
+    pub ghost sized: { too_large config ≡ false },
+    pub ghost words: { table.shared.table_id.words ≡ word_count config },
+    pub ghost slots: { table.shared.table_id.slots ≡ 0 },
+}
+
+impl Accounts {
+    /// The words of a store without rows. The seat knows all of it.
+    pub fn open(alloc: Global, config: Config) -> Result<(Accounts, Account), NoMemory>
+        requires { too_large config ≡ false }
+        ensures config { IfOk result (λ opened. opened.0.config ≡ config) }
+        ensures table { IfOk result (λ opened. opened.1.table_id ≡ opened.0.table.shared.table_id) }
+        ensures seat { IfOk result (λ opened. opened.1.me ≡ (first_sight config, [])) }
+    {
+        let words = words_of(alloc, &config)?;
+        let (table, seat) = Table::of_words(alloc, words.as_slice(), &config)?;
+        Ok((Accounts { table, config }, seat))
+    }
+
+    /// The end of a store. What a seat knows that has all of it is a closed store.
+    pub fn close(self, seat: Account)
+        requires table { seat.table_id ≡ self.table.shared.table_id }
+        ensures last { (j : JournalState) → HasAll self.config seat.me.0 j → IsLast self.config seat.me.0 j }
+    {
+        let Accounts { table, config: _ } = self;
+        let closed = table.close_with(seat);
+        closed.free();
+    }
+}
+
+/// The words of a store without rows.
+fn words_of(alloc: Global, config: &Config) -> Result<Vec<u64>, NoMemory>
+    requires { too_large config.now ≡ false }
+    ensures { IfOk result (λ words. words.items ≡ new_words config.now) }
+{
+    let passes = 16 + 16 * config.passes as usize;
+    let cells = 8 * config.leaves as usize;
+    let mut words = Vec::with_capacity(alloc, passes + 102 * cells)?;
+    push_zeros(&mut words, passes)?;
+    'cells: for cell in 0..cells {
+        push_block(&mut words, low_of(cell))?;
+    }
+    Ok(words)
+}
+
+/// The low fence key of a cell of a new store: the first one covers all keys.
+pub fn low_of(cell: usize) -> Key
+    ensures { result ≡ (new_cell cell).low }
+{
+    if cell == 0 {
+        Key { src: 0, second: 0 }
+    } else {
+        Key::END
+    }
+}
+
+/// The block of a cell without rows, from its low fence key on.
+fn push_block(words: &mut Vec<u64>, low: Key) -> Result<(), NoMemory>
+    ensures { OnOk result (words.new.items ≡ words.old.items ++ empty_block low) }
+{
+    push_zeros(words, 2)?;
+    words.push(low.src)?;
+    words.push(low.second)?;
+    words.push(Key::END.src)?;
+    words.push(Key::END.second)?;
+    push_zeros(words, 96)
+}
+
+fn push_zeros(words: &mut Vec<u64>, count: usize) -> Result<(), NoMemory>
+    ensures { OnOk result (words.new.items ≡ words.old.items ++ zeros count) }
+{
+    'zeros: for _word in 0..count {
+        words.push(0)?;
+    }
+    Ok(())
+}

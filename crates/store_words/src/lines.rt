@@ -1,0 +1,50 @@
+//! Where the words of a store lie.
+
+ghost use Rattle.std.specs.Prelude.{◌≡◌, ◌<◌, ◌+◌};
+ghost use Rattle.cells_model.specs.Words.{block_words};
+ghost use Rattle.rule_model.specs.Places.{lines, block_place};
+ghost use Rattle.rule_model.specs.Sight.{cells_of};
+ghost use Rattle.store_words.specs.Steps.{word_count};
+
+use crate::accounts::Accounts;
+
+/// The first word that is written: word 0 is left alone, since each split and join of a seat loads it.
+const CLOCK: usize = 8;
+
+/// The word of the first pass.
+const PASSES: usize = 16;
+
+/// From one pass's word to the next one's: a line of the cache for the word, and one for the pin.
+const PASS_STRIDE: usize = 16;
+
+/// The words of a cell's block.
+const BLOCK: usize = 102;
+
+impl Accounts {
+    /// The place of the clock.
+    pub fn clock_place(&self) -> usize
+        ensures place { result ≡ (lines self.now.config.passes).clock }
+        ensures inside { result < word_count self.now.config }
+    {
+        CLOCK
+    }
+
+    /// The place of a pass's word.
+    pub fn pass_place(&self, pass: u32) -> usize
+        requires { pass < self.now.config.passes }
+        ensures place { result ≡ (lines self.now.config.passes).pass pass }
+        ensures inside { result < word_count self.now.config }
+    {
+        PASSES + PASS_STRIDE * pass as usize
+    }
+
+    /// The place of a word of a cell's block.
+    pub fn block_place(&self, cell: u32, word: u32) -> usize
+        requires cell { cell < cells_of self.now.config }
+        requires word { word < block_words }
+        ensures place { result ≡ block_place (lines self.now.config.passes) cell word }
+        ensures inside { result < word_count self.now.config }
+    {
+        PASSES + PASS_STRIDE * self.config.passes as usize + BLOCK * cell as usize + word as usize
+    }
+}
