@@ -25,6 +25,7 @@ struct Case {
 // Of 600 rows 110 are in the first of five leaves, 108 in each of the next three, and 166 in the fifth. Without the
 // first 16 the first leaf has a segment with none and one with 12, which is enough to spread both. Where the last 11
 // alone are left they stand in one segment, which is too few to spread. So four leaves become one with the next one.
+// Where the last 50 are left they stand in two segments, which are spread over four before any leaves become one.
 #[test]
 fn leaves_that_lose_rows_are_spread_and_become_one(rt: HostRuntime) -> Result<(), Fail> {
     for case in [
@@ -51,6 +52,14 @@ fn leaves_that_lose_rows_are_spread_and_become_one(rt: HostRuntime) -> Result<()
             leaves: (5, 0),
             first: 16,
             counts: [6, 6, 14, 14, 14, 14, 13, 13],
+        },
+        Case {
+            rows: 600,
+            gone: [(0, 550), (0, 0)],
+            steps: 5,
+            leaves: (1, 4),
+            first: 550,
+            counts: [7, 7, 6, 6, 6, 6, 6, 6],
         },
         Case {
             rows: 600,
