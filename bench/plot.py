@@ -1,68 +1,92 @@
 #!/usr/bin/python3
-"""Draws what bench_kernels printed, as docs/kernels.svg: the searches and the shortest paths on a power-law graph and on a
-path, and the shortest paths by buckets over the width of a bucket.
+"""Draws docs/kernels.svg from the table of docs/BENCHMARKS.md, "Which kernel for which graph": the searches and the shortest
+paths on a power-law graph and on a path, and the shortest paths by buckets over the width of a bucket.
 
-    crates/bench_kernels/out/bench_kernels 1000000 3500000 1 5 >power_law
-    crates/bench_kernels/out/bench_kernels 1000000 0 1 5 >path
-    bench/plot.py power_law path docs/kernels.svg
+    bench/plot.py
 
-It needs matplotlib (Debian: python3-matplotlib). It is run by hand, and not by the gate.
+A bar or a point is the best run, and the line above it reaches to the worst. All three parts have one scale. It needs
+matplotlib (Debian: python3-matplotlib), is run by hand, and not by the gate.
 """
 
-import sys
+import pathlib
+import re
 
 import matplotlib
 
 matplotlib.use("svg")
 import matplotlib.pyplot as plt  # noqa: E402
 
+TOP = pathlib.Path(__file__).resolve().parent.parent
+SECTION = "## Which kernel for which graph"
 WIDEST = 4294967295
+COLOURS = {"power law": "#226666", "path": "#885522"}
+TITLE = "Milliseconds of the kernels on a power-law graph and on a path"
+DESCRIPTION = ("Best and worst runs, on one logarithmic scale. On the power-law graph fastsssp with buckets 50,000 wide is the fastest of the "
+               "shortest paths; on the path it is the slower the narrower its buckets are, and as fast as sssp with one bucket.")
 
 
-def best_of(path):
-    """The least time of each part in milliseconds, by its name."""
-    best = {}
-    with open(path, encoding="utf-8") as lines:
-        for line in lines:
-            name, microseconds = line.split()
-            best[name] = min(best.get(name, float("inf")), int(microseconds) / 1000)
-    return best
+def ranges_of(text):
+    """The best and the worst milliseconds of a cell."""
+    numbers = [float(number) for number in re.findall(r"[\d.]+", text.replace(",", ""))]
+    return numbers[0], numbers[-1]
 
 
-def widths_of(best):
-    """The widths and the times of the shortest paths by buckets, without the one bucket for all."""
-    pairs = sorted((int(name.split("/")[1]), time) for name, time in best.items() if "/" in name)
-    return [width for width, _ in pairs if width < WIDEST], [time for width, time in pairs if width < WIDEST]
+def read_table():
+    """For each graph the best and the worst run of each part: by the kernel's name, and by the width of buckets."""
+    section = (TOP / "docs" / "BENCHMARKS.md").read_text(encoding="utf-8").partition(SECTION)[2]
+    found = {"power law": {}, "path": {}}
+    for line in section.partition("\n## ")[0].splitlines():
+        cells = [cell.strip() for cell in line.strip("|").split("|")]
+        width = re.search(r"([\d,]+) wide", cells[0])
+        kernel = re.search(r"`(\w+)`", cells[0])
+        if len(cells) < 3 or not re.match(r"\d", cells[1]):
+            continue
+        name = int(width[1].replace(",", "")) if width else kernel[1]
+        found["power law"][name], found["path"][name] = ranges_of(cells[1]), ranges_of(cells[2])
+    return found
 
 
-def draw(axes, title, best):
-    """Bars for the kernels without a width, and one for the best width."""
-    widths, times = widths_of(best)
-    fastest = min(zip(times, widths))
-    names = ["bfs", "fastbfs", "sssp", f"fastsssp\n{fastest[1]:,}"]
-    heights = [best["bfs"], best["fastbfs"], best["sssp"], fastest[0]]
-    axes.bar(names, heights, color=["#8aa", "#266", "#ca8", "#852"])
-    for place, height in enumerate(heights):
-        axes.text(place, height, f"{height:.0f}", ha="center", va="bottom")
-    axes.set_title(title)
-    axes.set_ylabel("milliseconds, best run")
+def draw_bars(axes, title, runs):
+    """Bars for the kernels without a width, for the best width, and for one bucket for all."""
+    widths = [width for width in runs if isinstance(width, int) and width < WIDEST]
+    fastest = min(widths, key=lambda width: runs[width][0])
+    named = {"bfs": "bfs", "fastbfs": "fastbfs", "sssp": "sssp", f"fastsssp\n{fastest:,} wide": fastest,
+             "fastsssp\none bucket": WIDEST}
+    for place, name in enumerate(named.values()):
+        best, worst = runs[name]
+        axes.bar(place, best, color=COLOURS[title])
+        axes.plot([place, place], [best, worst], color="#333333", lw=1.2)
+        axes.text(place, worst * 1.06, f"{best:.0f}", ha="center", va="bottom", fontsize=8)
+    axes.set_xticks(range(len(named)), named, fontsize=7)
+    axes.set_title(f"on a {title}" + (" graph" if title == "power law" else ""), fontsize=10)
+
+
+def draw_widths(axes, title, runs):
+    widths = sorted(width for width in runs if isinstance(width, int) and width < WIDEST)
+    axes.plot(widths, [runs[width][0] for width in widths], marker="o", color=COLOURS[title], label=title)
+    axes.vlines(widths, *zip(*(runs[width] for width in widths)), color=COLOURS[title], lw=1.2)
 
 
 def main():
-    power_law, path, out = best_of(sys.argv[1]), best_of(sys.argv[2]), sys.argv[3]
-    figure, (first, second, third) = plt.subplots(1, 3, figsize=(12, 3.6))
-    draw(first, "power law", power_law)
-    draw(second, "path", path)
-    for title, best in ("power law", power_law), ("path", path):
-        third.plot(*widths_of(best), marker="o", label=title)
-    third.set_xscale("log")
-    third.set_ylim(bottom=0)
-    third.set_title("fastsssp by the width of a bucket")
-    third.set_xlabel("width; weights are 1 to 1,000,000")
-    third.legend()
-    figure.tight_layout()
-    plt.rcParams["svg.hashsalt"] = "kernels"
+    found = read_table()
+    plt.rcParams.update({"svg.hashsalt": "kernels", "svg.fonttype": "none"})
+    figure, parts = plt.subplots(1, 3, figsize=(12, 3.8), sharey=True, layout="constrained")
+    for axes, title in zip(parts, found):
+        draw_bars(axes, title, found[title])
+        draw_widths(parts[2], title, found[title])
+    parts[0].set_yscale("log")
+    parts[0].set_ylim(10, 1500)
+    parts[0].set_ylabel("milliseconds: best run, line to the worst")
+    parts[2].set_xscale("log")
+    parts[2].set_title("fastsssp by the width of a bucket", fontsize=10)
+    parts[2].set_xlabel("width; weights are 1 to 1,000,000")
+    parts[2].legend()
+    out = TOP / "docs" / "kernels.svg"
     figure.savefig(out, metadata={"Date": None})
+    text = re.sub(r"\d+\.\d{3,}", lambda number: f"{float(number[0]):.2f}", out.read_text(encoding="utf-8"))
+    head = f"\\1<title>{TITLE}</title>\n <desc>{DESCRIPTION}</desc>\n"
+    out.write_text(re.sub(r"(<svg [^>]*>\n)", head, text, count=1), encoding="utf-8")
 
 
-main()
+if __name__ == "__main__":
+    main()

@@ -17,15 +17,18 @@ import sys
 import matplotlib
 
 matplotlib.use("svg")
-from matplotlib import pyplot  # noqa: E402
+from matplotlib import lines, pyplot  # noqa: E402
 
 HERE = pathlib.Path(__file__).resolve().parent
 NOTHING = ("9223372036854775807", "infinity")
 RED, GREY, PALE = "#c1272d", "#9a9a9a", "#ffffff"
 GROUPS = ["#4c78a8", "#76b7b2", "#b279a2", "#bab0ac", "#f2a541", "#9c755f", "#59a14f", "#edc948"]
 
-Panel = collections.namedtuple("Panel", "title result gone new", defaults=((), ()))
+Panel = collections.namedtuple("Panel", "title result gone new changed", defaults=((), (), ()))
 Graph = collections.namedtuple("Graph", "folder places names edges directed")
+
+# edges that are drawn as bows, since a straight line would cross vertices that have no part in them
+BENDS = {(1046, 1020): 0.28}
 
 HARBOUR_FAILS, HILLS_FAIL, RING_FAILS = (1, 11), (141, 142), (11, 12)
 
@@ -52,21 +55,24 @@ def values_of(graph, result):
 
 
 def draw_edges(axes, graph, panel):
-    def draw(edge, colour, style, width):
+    def draw(edge, colour, style, width, bend=0):
         ends = [graph.places[vertex] for vertex in edge]
         if graph.directed:
-            form = {"arrowstyle": "-|>", "color": colour, "linewidth": width, "linestyle": style, "mutation_scale": 6}
+            form = {"arrowstyle": "-|>", "color": colour, "linewidth": width, "linestyle": style, "mutation_scale": 6,
+                    "connectionstyle": f"arc3,rad={bend}"}
             axes.annotate("", xy=ends[1], xytext=ends[0], arrowprops={**form, "shrinkA": 3, "shrinkB": 3}, zorder=1)
         else:
             axes.plot(*zip(*ends), color=colour, ls=style, lw=width, zorder=1)
 
     for edge in graph.edges:
-        if edge not in panel.gone:
+        if edge not in panel.gone and edge not in panel.changed:
             draw(edge, GREY, "-", 0.8)
     for edge in panel.gone:
         draw(edge, RED, (0, (2, 2)), 1.4)
     for edge in panel.new:
-        draw(edge, RED, "-", 1.8)
+        draw(edge, RED, "-", 1.8, BENDS.get(edge, 0))
+    for edge in panel.changed:
+        draw(edge, RED, (0, (1, 1)), 1.8)
 
 
 def draw_vertices(axes, graph, colour_of, size):
@@ -94,19 +100,34 @@ def panels(graph, rows, columns, width, height, listed):
         yield figure, axes, panel
 
 
-def say(axes, graph, vertex, text):
+def say(axes, graph, vertex, text, size=6.5, offset=(4, 4)):
     """Puts a text beside a vertex."""
-    axes.annotate(text, graph.places[vertex], xytext=(4, 4), textcoords="offset points", fontsize=6.5, zorder=3)
+    axes.annotate(text, graph.places[vertex], xytext=offset, textcoords="offset points", fontsize=size, zorder=3)
+
+
+def dot(colour, edge="#333333"):
+    return lines.Line2D([], [], ls="", marker="o", markersize=6, markerfacecolor=colour, markeredgecolor=edge)
+
+
+def stroke(colour, style="-", width=1.8):
+    return lines.Line2D([], [], color=colour, ls=style, lw=width)
+
+
+def add_legend(figure, entries):
+    """A legend below all panels: each entry is a sign and what it means."""
+    signs, meanings = zip(*entries)
+    figure.get_layout_engine().set(rect=(0, 0.07, 1, 0.93))
+    figure.legend(signs, meanings, loc="lower center", ncols=len(entries), fontsize=8, frameon=False)
 
 
 def fraud():
     graph = graph_of("fraud", "accounts.csv", "transfers.e", directed=True)
     closing = ((1065, 1071), (1074, 1061))
-    bought = ((1046, 1020),)
+    bought, changed = ((1046, 1020),), ((1021, 1020),)
     listed = [Panel("components, before", "parts.before"),
-              Panel("components, after", "parts.after", (), closing + bought),
+              Panel("components, after", "parts.after", (), closing + bought, changed),
               Panel("labels, before", "groups.before"),
-              Panel("labels, after", "groups.after", (), closing + bought)]
+              Panel("labels, after", "groups.after", (), closing + bought, changed)]
     labels = set()
     for panel in listed:
         labels |= set(values_of(graph, panel.result).values())
@@ -116,6 +137,8 @@ def fraud():
         draw_vertices(axes, graph, colour_of, 34)
         for vertex in (1001, 1014, 1015, 1020, 1040, 1061, 1065, 1071, 1074):
             say(axes, graph, vertex, graph.names[vertex])
+    add_legend(figure, [(dot(GROUPS[0]), "one colour: one component, or one label"), (stroke(GREY, width=0.8), "payments of the load"),
+                        (stroke(RED), "booked meanwhile"), (stroke(RED, (0, (1, 1))), "its sum changed meanwhile")])
     return figure
 
 
@@ -125,14 +148,25 @@ def routes():
     listed = [Panel("from the Depot, before", "way.before"), Panel("Old Bridge is closed", "way.after", (old,)),
               Panel("tried: all three bridges closed", "way.cut", (old, timber, motorway))]
     most = max(value for panel in listed for value in values_of(graph, panel.result).values() if value is not None)
-    for figure, axes, panel in panels(graph, 1, 3, 11, 3.6, listed):
+
+    def scale(value):
+        return shades_of({0: value}, most)[0]
+
+    for figure, axes, panel in panels(graph, 1, 3, 13, 4.0, listed):
         axes.axhspan(800, 1020, color="#d6e8f5", zorder=0)
         values = values_of(graph, panel.result)
         draw_vertices(axes, graph, shades_of(values, most), 34)
-        say(axes, graph, 1, graph.names[1])
+        say(axes, graph, 1, graph.names[1], 9)
         for vertex in (20, 27, 34):
             value = values[vertex]
-            say(axes, graph, vertex, "no way" if value is None else f"{value / 10000:.1f} km")
+            far = "no way" if value is None else f"{value / 10000:.1f} km"
+            say(axes, graph, vertex, f"{graph.names[vertex]}\n{far}", 9, (5, -20))
+        for (source, target), name in ((old, "Old Bridge"), (timber, "Timber Bridge"), (motorway, "Motorway")):
+            middle = [sum(both) / 2 for both in zip(graph.places[source], graph.places[target])]
+            axes.annotate(name, middle, xytext=(3, -3), textcoords="offset points", fontsize=8, style="italic", zorder=3)
+    add_legend(figure, [(dot(scale(0)), "the depot"), (dot(scale(most / 2)), f"{most / 20000:.1f} km from it"),
+                        (dot(scale(most)), f"{most / 10000:.1f} km"), (dot(PALE, RED), "no way"),
+                        (stroke(RED, (0, (2, 2))), "a closed bridge"), (stroke("#d6e8f5", width=8), "the river")])
     return figure
 
 
@@ -148,14 +182,34 @@ def network():
             colour = "white" if value is not None and value > 3 else "black"
             number = "x" if value is None else str(value)
             axes.annotate(number, graph.places[vertex], ha="center", va="center", fontsize=7, color=colour, zorder=3)
+        for vertex in (1, 11, 15, 101, 141, 142, 143):
+            say(axes, graph, vertex, graph.names[vertex], 7, (6, 6))
+        say(axes, graph, 103, graph.names[103], 7, (6, -10))
+    add_legend(figure, [(dot(shades_of({0: 0}, 6)[0]), "core-west; the number is that of links from it"),
+                        (dot(shades_of({0: 5}, 6)[0]), "5 links from it"), (dot(PALE, RED), "x: cut off"),
+                        (stroke(RED, (0, (2, 2)), 1.4), "a link that is down")])
     return figure
 
 
+# What a reader hears who doesn't see the picture.
+ABOUT = {
+    "fraud": ("A ring of transfers that closes", "Four panels: components and labels of 49 accounts, before and after. Nine accounts are two "
+              "components before and one after, and have four labels before and one after. All others stay as they are."),
+    "routes": ("A bridge that closes", "Three panels of a town with a river: ways from the depot with all bridges, without the old bridge, and "
+               "without any. Mill Bank is 2.2 km away, then 4.1 km, then out of reach."),
+    "network": ("Links that fail and return", "Four panels of 29 routers: how many links away from core-west each is, with all links, with two "
+                "down, with three down, and with all again. The hills are cut off first, and then the harbour too."),
+}
+
+
 def save(figure, path):
-    """Saves a picture, with numbers of two digits behind the point."""
+    """Saves a picture, with numbers of two digits behind the point, and with its title and description."""
+    title, description = ABOUT[path.parent.name]
     figure.savefig(path, metadata={"Date": None})
     text = path.read_text(encoding="utf-8")
-    path.write_text(re.sub(r"\d+\.\d{3,}", lambda found: f"{float(found[0]):.2f}", text), encoding="utf-8")
+    text = re.sub(r"\d+\.\d{3,}", lambda found: f"{float(found[0]):.2f}", text)
+    head = f"\\1<title>{title}</title>\n <desc>{description}</desc>\n"
+    path.write_text(re.sub(r"(<svg [^>]*>\n)", head, text, count=1), encoding="utf-8")
 
 
 def main():
