@@ -6,13 +6,13 @@ use Rattle.graph_model.specs.OwnerCalls.{Core, current}
 use Rattle.run_model.specs.declared.command.Command.{Command}
 use Rattle.run_model.specs.Requests.{Request, ToBegin, ToCommit, ToAbort, ToWrite, ToRead, ToRun, request, next_txn, begun_by, open_behind, IsScript}
 use Rattle.run_model.specs.Jobs.{is_empty}
-use Rattle.job_runner.specs.declared.answering.LineTurn.{LineTurn}
-use Rattle.job_runner.specs.declared.phase.Phase.{Phase}
-use Rattle.job_runner.specs.declared.phase.Phase.TheVariants.{Between, Open, Skipping, GivenUp}
-use Rattle.job_runner.specs.declared.kept.KeptImage.{KeptImage}
-use Rattle.job_runner.specs.declared.reading.Reading.{Reading}
-use Rattle.job_runner.specs.Kernels.{IsKeptImage}
-use Rattle.job_runner.specs.Lines.{is_inside, view_here, MayTake, TakesHere}
+use Rattle.line_runner.specs.declared.answering.LineTurn.{LineTurn}
+use Rattle.line_runner.specs.declared.phase.Phase.{Phase}
+use Rattle.line_runner.specs.declared.phase.Phase.TheVariants.{Between, Open, Skipping, GivenUp}
+use Rattle.line_runner.specs.declared.kept.KeptImage.{KeptImage}
+use Rattle.line_runner.specs.declared.reading.Reading.{Reading}
+use Rattle.line_runner.specs.Kernels.{IsKeptImage}
+use Rattle.line_runner.specs.Lines.{is_inside, view_here, MayTake, TakesHere}
 use Rattle.job_runner.specs.Progress.{Progress, left_of, has_given_up, is_over, behind, IsReady, TakesTurn}
 
 -- ---- what is left of a script

@@ -21,9 +21,9 @@ use Rattle.run_model.specs.Jobs.{lines_so_far, turn}
 use Rattle.run_model.specs.UnderWay.{IsUnderWay}
 use Rattle.run_model.proofs.SetLemmas.{set_cases, sum_cons}
 use Rattle.run_model.proofs.TurnLemmas.{turn_keeps}
-use Rattle.job_runner.specs.Kernels.{IsKeptImage}
-use Rattle.job_runner.specs.Scanning.{IsReading}
-use Rattle.job_runner.specs.Lines.{file_of}
+use Rattle.line_runner.specs.Kernels.{IsKeptImage}
+use Rattle.line_runner.specs.Scanning.{IsReading}
+use Rattle.line_runner.specs.Lines.{file_of}
 use Rattle.job_runner.specs.Progress.{Progress, seats, state_of}
 use Rattle.job_runner.specs.Runs.{IsUnused, writes_of_pass, files_context, AreTied, AreUnderWay}
 use Rattle.job_runner.proofs.FileLemmas.{view_grows, files_to}

@@ -1,10 +1,3 @@
-pub mod BuildLemmas
-pub mod ScanLemmas
-pub mod CoreLemmas
-pub mod LineLemmas
-pub mod CountLemmas
-pub mod ViewLemmas
-pub mod TableLemmas
 pub mod JobLemmas
 pub mod SeatLemmas
 pub mod FileLemmas

@@ -15,7 +15,7 @@ use Rattle.run_model.specs.Requests.{Request, ToBegin, ToCommit, ToAbort, ToWrit
 use Rattle.run_model.specs.AnsweredLines.{AnsweredLine, effect, made_by, of_txn, own_writes}
 use Rattle.run_model.specs.UnderWay.{AreNumbered}
 use Rattle.run_model.proofs.LineLemmas.{none_later}
-use Rattle.job_runner.specs.Lines.{made_behind}
+use Rattle.line_runner.specs.Lines.{made_behind}
 use Rattle.job_runner.proofs.TieLemmas.{line_of, none_made}
 
 -- the lines of a transaction, with one line more

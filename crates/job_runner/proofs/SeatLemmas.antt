@@ -25,15 +25,15 @@ use Rattle.run_model.specs.Run.{txn_name}
 use Rattle.run_model.specs.Jobs as jobs_of
 use Rattle.run_model.specs.Jobs.{JobState, RunState, LineResult, skips, write_result, live_result, line_result, scanned, turns_of, answered_job, with_job, line_turn, job_turn, turn_at_place, turn, is_empty}
 use Rattle.run_model.specs.UnderWay.{AreNumbered}
-use Rattle.job_runner.specs.declared.answering.LineAnswer.{LineAnswer}
-use Rattle.job_runner.specs.declared.answering.LineTurn.TheVariants.{Scanning, Answering}
-use Rattle.job_runner.specs.declared.phase.Phase.TheVariants.{Skipping}
-use Rattle.job_runner.specs.declared.kept.KeptImage.{KeptImage}
-use Rattle.job_runner.specs.declared.reading.Reading.{Reading}
-use Rattle.job_runner.specs.Scanning.{taken_of}
-use Rattle.job_runner.specs.Lines.{is_skipping, phase_at, phase_behind, seat, result_here, pass_behind, goes_on_here, ScansHere, AnswersHere}
+use Rattle.line_runner.specs.declared.answering.LineAnswer.{LineAnswer}
+use Rattle.line_runner.specs.declared.answering.LineTurn.TheVariants.{Scanning, Answering}
+use Rattle.line_runner.specs.declared.phase.Phase.TheVariants.{Skipping}
+use Rattle.line_runner.specs.declared.kept.KeptImage.{KeptImage}
+use Rattle.line_runner.specs.declared.reading.Reading.{Reading}
+use Rattle.line_runner.specs.Scanning.{taken_of}
+use Rattle.line_runner.specs.Lines.{is_skipping, phase_at, phase_behind, seat, result_here, pass_behind, goes_on_here, ScansHere, AnswersHere}
 use Rattle.job_runner.specs.Progress.{Progress, left_of, behind, job_at, seats, state_of}
-use Rattle.job_runner.proofs.CoreLemmas.{put_back}
+use Rattle.line_runner.proofs.CoreLemmas.{put_back}
 
 -- ---- lists
 

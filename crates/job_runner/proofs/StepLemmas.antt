@@ -17,19 +17,19 @@ use Rattle.run_model.specs.Inputs.{Inputs}
 use Rattle.run_model.specs.Run.{Filing, filing_of, HasFiles}
 use Rattle.run_model.specs.Jobs.{LineResult, is_empty}
 use Rattle.run_model.proofs.SetLemmas.{get_set_else}
-use Rattle.job_runner.specs.declared.answering.LineAnswer.{LineAnswer}
-use Rattle.job_runner.specs.declared.answering.LineTurn.{LineTurn}
-use Rattle.job_runner.specs.declared.answering.LineTurn.TheVariants.{Scanning, Answering}
-use Rattle.job_runner.specs.declared.phase.Phase.{Phase}
-use Rattle.job_runner.specs.declared.phase.Phase.TheVariants.{Between, Open, Skipping, GivenUp}
-use Rattle.job_runner.specs.declared.kept.KeptImage.{KeptImage}
-use Rattle.job_runner.specs.declared.reading.Reading.{Reading}
-use Rattle.job_runner.specs.Kernels.{IsKeptImage}
-use Rattle.job_runner.specs.Scanning.{IsReading, taken_of}
-use Rattle.job_runner.specs.Lines.{is_skipping, is_inside, is_open, sees_same, IsPhase, file_of, MayTake, view_here, seat, result_here, made_behind, pass_behind, core_behind, ScansHere, AnswersHere, TakesHere}
+use Rattle.line_runner.specs.declared.answering.LineAnswer.{LineAnswer}
+use Rattle.line_runner.specs.declared.answering.LineTurn.{LineTurn}
+use Rattle.line_runner.specs.declared.answering.LineTurn.TheVariants.{Scanning, Answering}
+use Rattle.line_runner.specs.declared.phase.Phase.{Phase}
+use Rattle.line_runner.specs.declared.phase.Phase.TheVariants.{Between, Open, Skipping, GivenUp}
+use Rattle.line_runner.specs.declared.kept.KeptImage.{KeptImage}
+use Rattle.line_runner.specs.declared.reading.Reading.{Reading}
+use Rattle.line_runner.specs.Kernels.{IsKeptImage}
+use Rattle.line_runner.specs.Scanning.{IsReading, taken_of}
+use Rattle.line_runner.specs.Lines.{is_skipping, is_inside, is_open, sees_same, IsPhase, file_of, MayTake, view_here, seat, result_here, made_behind, pass_behind, core_behind, ScansHere, AnswersHere, TakesHere}
 use Rattle.job_runner.specs.Progress.{Progress, left_of, has_given_up, is_over, behind, listed_table, TakesTurn, state_of}
 use Rattle.job_runner.specs.Runs.{files_context, view_of_pass, AreTied, AreUnderWay, turns_left, under_way, Turns, Goes}
-use Rattle.job_runner.proofs.CoreLemmas.{some_of, get_set}
+use Rattle.line_runner.proofs.CoreLemmas.{some_of, get_set}
 use Rattle.job_runner.proofs.JobLemmas.{may_take, has_left}
 use Rattle.job_runner.proofs.FileLemmas.{view_grows, files_to, files_more, file_given}
 use Rattle.job_runner.proofs.SeatLemmas.{AreClosed, heads, lines_more, left_more, scan_is_turn, answer_is_turn, over_is_turn}

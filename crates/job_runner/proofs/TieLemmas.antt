@@ -33,9 +33,9 @@ use Rattle.run_model.specs.Jobs.{JobState, LineResult, skips, stops, writes_more
 use Rattle.run_model.specs.Stepped.{context_in}
 use Rattle.run_model.specs.UnderWay.{IsJob}
 use Rattle.run_model.proofs.OpenLemmas.{open_here}
-use Rattle.job_runner.specs.declared.phase.Phase.{Phase}
-use Rattle.job_runner.specs.declared.phase.Phase.TheVariants.{Between, Open, Skipping, GivenUp}
-use Rattle.job_runner.specs.Lines.{is_skipping, is_inside, is_open, IsPhase, phase_at, phase_behind, made_behind}
+use Rattle.line_runner.specs.declared.phase.Phase.{Phase}
+use Rattle.line_runner.specs.declared.phase.Phase.TheVariants.{Between, Open, Skipping, GivenUp}
+use Rattle.line_runner.specs.Lines.{is_skipping, is_inside, is_open, IsPhase, phase_at, phase_behind, made_behind}
 use Rattle.job_runner.specs.Progress.{Progress, left_of, IsReady, job_at, state_of}
 use Rattle.job_runner.specs.Runs.{AreTied, AreUnderWay}
 use Rattle.job_runner.proofs.JobLemmas.{begun_rises}

@@ -9,14 +9,14 @@ use Rattle.items.specs.declared.memory.NoMemory.{NoMemory}
 use Rattle.graph_model.specs.OwnerCalls.{PassState, Core, no_pass, pass_at, with_current, ended_pass}
 use Rattle.run_model.specs.Inputs.{Inputs}
 use Rattle.run_model.proofs.SetLemmas.{get_set_else, set_cases}
-use Rattle.job_runner.specs.declared.phase.Phase.{Phase}
-use Rattle.job_runner.specs.declared.phase.Phase.TheVariants.{Between, Open, Skipping, GivenUp}
+use Rattle.line_runner.specs.declared.phase.Phase.{Phase}
+use Rattle.line_runner.specs.declared.phase.Phase.TheVariants.{Between, Open, Skipping, GivenUp}
 use Rattle.job_runner.specs.declared.turn.Turn.{Turn}
 use Rattle.job_runner.specs.declared.turn.Turn.TheVariants as turns
-use Rattle.job_runner.specs.Lines.{IsPhase, given_up}
+use Rattle.line_runner.specs.Lines.{IsPhase, given_up}
 use Rattle.job_runner.specs.Progress.{Progress, is_over, IsReady, TakesTurn, TookTurn}
 use Rattle.job_runner.specs.Runs.{AreUnderWay, Turns, Goes, HoldsPhase, AreHeld, IsStuck}
-use Rattle.job_runner.proofs.CoreLemmas.{get_set}
+use Rattle.line_runner.proofs.CoreLemmas.{get_set}
 use Rattle.job_runner.proofs.TieLemmas as ties
 use Rattle.job_runner.proofs.KeepLemmas.{length_set, apart_places}
 use Rattle.job_runner.proofs.StepLemmas.{at_hand, takes_on, goes_on, passes_over, stays}

@@ -1,5 +1,6 @@
-pub mod Kernels
-pub mod Scanning
-pub mod Lines
 pub mod Progress
 pub mod Runs
+pub use Rattle.line_runner.specs.Kernels
+pub use Rattle.line_runner.specs.Scanning
+pub use Rattle.line_runner.specs.Lines
+pub use Rattle.line_runner.specs.declared.table.NamedTable

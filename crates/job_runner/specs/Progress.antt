@@ -7,18 +7,18 @@ use Rattle.run_model.specs.declared.answer.Answer.{Answer}
 use Rattle.run_model.specs.AnsweredLines.{answered_lines}
 use Rattle.run_model.specs.Requests.{request, begun_by, IsScript}
 use Rattle.run_model.specs.Jobs.{JobState, RunState, is_empty}
-use Rattle.job_runner.specs.declared.answering.LineTurn.{LineTurn}
-use Rattle.job_runner.specs.declared.answering.LineTurn.TheVariants.{Scanning, Answering}
-use Rattle.job_runner.specs.declared.kept.KeptImage.{KeptImage}
-use Rattle.job_runner.specs.declared.phase.Phase.{Phase}
-use Rattle.job_runner.specs.declared.phase.Phase.TheVariants.{Between, Open, Skipping, GivenUp}
-use Rattle.job_runner.specs.declared.reading.Reading.{Reading}
-use Rattle.job_runner.specs.declared.table.NamedTable.{NamedTable}
+use Rattle.line_runner.specs.declared.answering.LineTurn.{LineTurn}
+use Rattle.line_runner.specs.declared.answering.LineTurn.TheVariants.{Scanning, Answering}
+use Rattle.line_runner.specs.declared.kept.KeptImage.{KeptImage}
+use Rattle.line_runner.specs.declared.phase.Phase.{Phase}
+use Rattle.line_runner.specs.declared.phase.Phase.TheVariants.{Between, Open, Skipping, GivenUp}
+use Rattle.line_runner.specs.declared.reading.Reading.{Reading}
+use Rattle.line_runner.specs.declared.table.NamedTable.{NamedTable}
 use Rattle.job_runner.specs.declared.turn.Turn.{Turn}
 use Rattle.job_runner.specs.declared.turn.Turn.TheVariants as turns
-use Rattle.job_runner.specs.Kernels.{IsKeptImage}
-use Rattle.job_runner.specs.Scanning.{IsReading, taken_of}
-use Rattle.job_runner.specs.Lines.{is_skipping, is_inside, IsPhase, view_here, TakesHere, image_behind, given_up}
+use Rattle.line_runner.specs.Kernels.{IsKeptImage}
+use Rattle.line_runner.specs.Scanning.{IsReading, taken_of}
+use Rattle.line_runner.specs.Lines.{is_skipping, is_inside, IsPhase, view_here, TakesHere, image_behind, given_up}
 
 pub record Progress : Type 0 where
   -- the number of the script, and of the job's pass

@@ -15,11 +15,11 @@ use Rattle.run_model.specs.Run.{Context, HasFiles, MayFill}
 use Rattle.run_model.specs.Jobs.{load_journal, lines_so_far, turn}
 use Rattle.run_model.specs.Stepped.{IsStepped, service_turns}
 use Rattle.run_model.specs.UnderWay.{IsUnderWay}
-use Rattle.job_runner.specs.declared.phase.Phase.{Phase}
-use Rattle.job_runner.specs.declared.phase.Phase.TheVariants.{Between, Open, Skipping, GivenUp}
-use Rattle.job_runner.specs.Kernels.{IsKeptImage}
-use Rattle.job_runner.specs.Scanning.{too_many_turns, IsReading, taken_of}
-use Rattle.job_runner.specs.Lines.{IsPhase, file_of}
+use Rattle.line_runner.specs.declared.phase.Phase.{Phase}
+use Rattle.line_runner.specs.declared.phase.Phase.TheVariants.{Between, Open, Skipping, GivenUp}
+use Rattle.line_runner.specs.Kernels.{IsKeptImage}
+use Rattle.line_runner.specs.Scanning.{too_many_turns, IsReading, taken_of}
+use Rattle.line_runner.specs.Lines.{IsPhase, file_of}
 use Rattle.job_runner.specs.Progress.{Progress, new_progress, left_of, is_over, state_of}
 
 -- ---- what a run begins with

@@ -8,18 +8,13 @@
 ghost use Rattle.std.specs.Prelude.{◌≡◌, ◌<◌, List, ◌∷◌, ◌++◌, false, None, IsSome, OnOk, OnErr};
 ghost use Rattle.run_model.specs.declared.command.Command.{Command};
 ghost use Rattle.graph_model.specs.OwnerCalls.{current};
-ghost use Rattle.job_runner.specs.Lines.{given_up};
+ghost use Rattle.line_runner.specs.Lines.{given_up};
 ghost use Rattle.job_runner.specs.Progress.{new_progress, left_of, is_over, listed_table, IsReady, TakesTurn, TookTurn};
 
-use crate::answering::LineTurn;
-use crate::kept::KeptImage;
-use crate::line::take_line;
-use crate::phase::Phase;
-use crate::reading::Reading;
-use crate::table::{NamedTable, Tables};
 use crate::turn::Turn;
 use graph_model::{NoMemory, StepEngine};
 use items::RoomyItems;
+use line_runner::{KeptImage, LineTurn, NamedTable, Phase, Reading, Tables, take_line};
 use run_model::{Answer, Script};
 use std::alloc::Global;
 use std::marker::Model;

@@ -7,21 +7,13 @@
 //! 4. An image that a job keeps is that of the graph which its open transaction sees.
 #![tactic(auto)]
 
-mod answering;
 mod job;
 mod jobs;
-mod kept;
-mod kernel_line;
-mod line;
-mod phase;
-mod reading;
 mod run;
-mod scan;
-mod table;
 mod turn;
 
 pub use job::Job;
 pub use jobs::Jobs;
+pub use line_runner::NamedTable;
 pub use run::run_stepped;
-pub use table::NamedTable;
 pub use turn::Turn;

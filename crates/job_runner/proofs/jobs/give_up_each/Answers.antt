@@ -1,9 +1,9 @@
 use Rattle.std.proofs.Common.{◌≡◌, ◌∙◌, ◌<◌, suc, length, refl, sym, ap, subst, arith, slice_index_or}
 use Rattle.std.specs.Prelude.{ℕ, Some, None, IsSome, slice_get, slice_set}
-use Rattle.job_runner.specs.declared.phase.Phase.TheVariants.{GivenUp}
+use Rattle.line_runner.specs.declared.phase.Phase.TheVariants.{GivenUp}
 use Rattle.std.proofs.lemmas.Option.{slice_get_read}
 use Rattle.graph_model.specs.OwnerCalls.{pass_at, current}
-use Rattle.job_runner.specs.Lines.{given_up}
+use Rattle.line_runner.specs.Lines.{given_up}
 use Rattle.job_runner.specs.Progress.{Progress}
 use Rattle.job_runner.specs.Runs.{AreHeld, HoldsPhase}
 use Rattle.job_runner.proofs.TookLemmas.{gives_up_one, closed_more, all_closed}

@@ -1,7 +1,7 @@
 use Rattle.std.proofs.Common.{◌≡◌, ◌∙◌, ◌++◌, ◌∷◌, [], length, ap, slice_index_or}
 use Rattle.std.specs.Prelude.{Some, None}
-use Rattle.job_runner.specs.declared.answering.LineTurn.TheVariants.{Scanning, Answering}
-use Rattle.job_runner.specs.Lines.{image_behind}
+use Rattle.line_runner.specs.declared.answering.LineTurn.TheVariants.{Scanning, Answering}
+use Rattle.line_runner.specs.Lines.{image_behind}
 use Rattle.job_runner.specs.Progress.{Progress, listed_table}
 use Rattle.job_runner.proofs.JobLemmas.{may_here, took_here}
 use Rattle.job_runner.proofs.job.Job.take_turn.Goals as goal

@@ -1,6 +1,0 @@
-use Rattle.std.proofs.Common.{◌≡◌, ◌++◌, map, take}
-use Rattle.job_runner.specs.Scanning.{target_of}
-use Rattle.job_runner.proofs.scan.push_targets.Given as goal
-
-abbrev pub invariant-arcs : goal.invariant-arcs
-invariant-arcs l = l.ids ≡ l.initial.ids ++ map target_of (take l.row-index l.given)

@@ -1,0 +1,7 @@
+pub mod BuildLemmas
+pub mod ScanLemmas
+pub mod CoreLemmas
+pub mod LineLemmas
+pub mod CountLemmas
+pub mod ViewLemmas
+pub mod TableLemmas

@@ -1,0 +1,318 @@
+-- What the calls of a line make of the core is what the definition of a run by turns says.
+use Rattle.std.proofs.Common.{◌≡◌, ℕ, ◌+◌, ◌*◌, ◌<◌, ◌≤◌, List, [], ◌∷◌, length, refl, sym, ◌∙◌, ap, subst, arith, cond}
+use Rattle.std.specs.Prelude.{Bool, true, false, ◌&&◌, nat_lt, ◌/◌, IfSome, IfNone, Option, Some, None, IsSome, unwrap_or, Result, Ok, Err, IfOk, OnOk, OnErr, slice_set}
+use Rattle.std.proofs.Common.{length-append}
+use Rattle.std.proofs.lemmas.List.{append-nil}
+use Rattle.std.proofs.lemmas.List.{length-map}
+use Rattle.std.proofs.lemmas.Bool.Decides.{nat_tests}
+use Rattle.graph_model.specs.declared.limits.TheConstants.{SPLIT_ROWS}
+use Rattle.graph_model.specs.declared.write.Write.{Write}
+use Rattle.graph_model.specs.declared.refusal.Cause.{Cause}
+use Rattle.graph_model.specs.declared.refusal.Refusal.{Refusal}
+use Rattle.graph_model.specs.declared.refusal.Refusal.TheVariants as refusals
+use Rattle.items.specs.declared.memory.NoMemory.{NoMemory}
+use Rattle.graph_model.specs.Account.{Sighting}
+use Rattle.graph_model.specs.AccountSteps.{view_of, last_with}
+use Rattle.graph_model.specs.Conflict.{conflict}
+use Rattle.graph_model.specs.History.{view}
+use Rattle.graph_model.specs.Graph.{Graph}
+use Rattle.graph_model.specs.declared.row.Row.{Row}
+use Rattle.graph_model.specs.Scans.{rows_left}
+use Rattle.graph_model.specs.declared.limits.TheConstants.{SCAN_ROWS}
+use Rattle.graph_model.specs.Refused.{refused}
+use Rattle.graph_model.specs.OwnerCalls.{PassState, Core, current, with_current, account_here, name_here, open_txns, inserted_here, conflict_here, WritesHereFrom, CommitsHere, CommitsHereFrom, ended_pass, written_pass}
+use Rattle.run_model.specs.declared.answer.Answer.{Answer}
+use Rattle.run_model.specs.declared.answer.Answer.TheVariants as answers
+use Rattle.run_model.specs.AnsweredLines.{effect}
+use Rattle.run_model.specs.Answering.{refusal_answer, query_answer, kernel_answer}
+use Rattle.run_model.specs.Requests.{Query, WeightOf, NeighboursOf, Counts, Kernel, request, Request, ToBegin, ToCommit, ToAbort, ToWrite, ToRead, ToRun, next_txn, open_behind}
+use Rattle.run_model.specs.Run.{filing_of}
+use Rattle.run_model.specs.Jobs.{scanned, LineResult, goes_on, writes_more, stops, skips, write_result, commit_result}
+use Rattle.line_runner.specs.declared.answering.LineAnswer.{LineAnswer}
+use Rattle.line_runner.specs.declared.phase.Phase.{Phase}
+use Rattle.line_runner.specs.declared.phase.Phase.TheVariants.{Between, Open, Skipping, GivenUp}
+use Rattle.run_model.specs.declared.command.Command.{Command}
+use Rattle.line_runner.specs.declared.reading.Reading.{Reading}
+use Rattle.line_runner.specs.declared.reading.Reading.TheVariants as readings
+use Rattle.line_runner.specs.declared.scan.Scan.{Scan}
+use Rattle.line_runner.specs.Scanning.{IsScan, IsWhole, ScansOn, rows_of_line, IsReading, taken_by, taken_of}
+use Rattle.line_runner.specs.Lines.{is_skipping, is_inside, IsPhase, MayTake, goes_on_here, Advances, ScansHere, AnswersHere, phase_at, phase_behind, view_here, seat, result_here, made_behind, core_behind, IsFileOn, DoesLine, plain, Goes, Stops, Finishes}
+use Rattle.line_runner.proofs.CoreLemmas.{some_of, put_back, ended_of}
+
+-- a line that asks for no file gives none
+no_file : (core : Core) (b : Bool) → IsFileOn core.kind (view_here core) (cond b None None) None
+no_file core true = refl
+no_file core false = refl
+
+module _ (old : Core) (inside : old.selected < length old.passes) where
+  -- a line by its result
+  by_result : (skipping full : Bool) (r : Request) (given : LineAnswer) (new : Core) (result : LineResult) → result_here old skipping full r ≡ result
+      → (full ≡ true → SPLIT_ROWS * old.leaves ≤ inserted_here old)
+      → given.answer ≡ result.answer → given.phase ≡ phase_behind result
+      → IsFileOn old.kind (view_here old) (cond (effect given.answer).files (filing_of r) None) given.table
+      → (sighted : List Sighting) (filled : Bool) → new ≡ core_behind old r result sighted filled
+      → DoesLine old skipping r given new
+  by_result skipping full r given new result is filling answer phase table sighted filled core = record {
+    full = full;
+    filling = filling;
+    answer = answer ∙ ap (λ (x : LineResult). x.answer) (sym is);
+    phase = phase ∙ ap phase_behind (sym is);
+    table = table;
+    sighted = sighted;
+    filled = filled;
+    core = core ∙ ap (λ x. core_behind old r x sighted filled) (sym is);
+  }
+
+  not_full : false ≡ true → SPLIT_ROWS * old.leaves ≤ inserted_here old
+  not_full e = cc
+
+  -- nothing has changed
+  stays : (r : Request) (a : Answer) → made_behind (current old).made r a ≡ (current old).made → next_txn (current old).begun r ≡ (current old).begun
+      → old ≡ core_behind old r (goes_on (seat old false) a) (current old).sighted (current old).filled
+  stays r a made begun = λ i. record old {
+    journal = sym (append-nil old.journal) i;
+    passes = (sym (put_back old.passes old.selected inside) ∙ (λ i. slice_set old.passes old.selected (record (current old) { made = sym made i; begun = sym begun i }))) i;
+  }
+
+  -- ---- the end of a transaction
+
+  -- a commit
+  pub commit_does : (stamp : Option ℕ) (new : Core) → CommitsHere old stamp new → DoesLine old false ToCommit (plain (answers.Committed stamp) Between) new
+  commit_does stamp new is = by_own (current old).own refl is.2
+    where
+      named : (start : ℕ) → (current old).start ≡ Some start → (own : List Write) → (current old).own ≡ own
+          → result_here old false false ToCommit ≡ commit_result old.journal (name_here old) start own
+      named start opened own f = λ i. commit_result old.journal (name_here old) (unwrap_or (opened i) 0) (f i)
+
+      by_own : (own : List Write) → (current old).own ≡ own → CommitsHereFrom old is.0 own stamp new → DoesLine old false ToCommit (plain (answers.Committed stamp) Between) new
+      by_own [] f done =
+          by_result false false ToCommit (plain (answers.Committed stamp) Between) new (commit_result old.journal (name_here old) is.0 []) (named is.0 is.1 [] f) not_full
+          (ap answers.Committed done.0) refl refl (current old).sighted (current old).filled
+          (done.1 ∙ (λ i. record (with_current old (ended_pass old)) { journal = sym (append-nil old.journal) i }))
+      by_own (w ∷ ws) f done =
+          by_result false false ToCommit (plain (answers.Committed stamp) Between) new (commit_result old.journal (name_here old) is.0 (w ∷ ws)) (named is.0 is.1 (w ∷ ws) f) not_full
+          (ap answers.Committed done.0) refl refl (current old).sighted (current old).filled done.1
+
+  -- ---- reads
+
+  -- a read, or a kernel, that leaves the core as it was
+  pub read_does : (query : Query) (a : Answer) (new : Core) → IsSome (current old).start → a ≡ query_answer old.kind (view_here old) query → new ≡ old
+      → DoesLine old false (ToRead query) (plain a Open) new
+  read_does query a new opened is same =
+      let o = some_of (current old).start opened in
+      by_result false false (ToRead query) (plain a Open) new (goes_on (seat old false) (query_answer old.kind (view_here old) query)) refl not_full
+      is (sym (ap phase_at o.1)) (no_file old (effect a).files) (current old).sighted (current old).filled
+      (same ∙ stays (ToRead query) (query_answer old.kind (view_here old) query) refl refl)
+
+  pub run_does : (kernel : Kernel) (file : List ℕ) (given : LineAnswer) (new : Core) → IsSome (current old).start → given.answer ≡ kernel_answer (view_here old) kernel → given.phase ≡ Open
+      → IsFileOn old.kind (view_here old) (cond (effect given.answer).files (filing_of (ToRun kernel file)) None) given.table → new ≡ old → DoesLine old false (ToRun kernel file) given new
+  run_does kernel file given new opened is phase table same =
+      let o = some_of (current old).start opened in
+      by_result false false (ToRun kernel file) given new (goes_on (seat old false) (kernel_answer (view_here old) kernel)) refl not_full
+      is (phase ∙ sym (ap phase_at o.1)) table (current old).sighted (current old).filled
+      (same ∙ stays (ToRun kernel file) (kernel_answer (view_here old) kernel) refl refl)
+
+  -- ---- a line that is skipped
+
+  skips_same : (r : Request) (behind : Bool) → open_behind true r ≡ Some behind → (made : List (List Write)) (begun : ℕ)
+      → (made_behind made r answers.Skipped ≡ made) × (next_txn begun r ≡ begun)
+  skips_same ToBegin behind e made begun = let no : ◌≡◌ {A = Option Bool} None (Some behind) = e in cc
+  skips_same ToCommit behind e made begun = (refl, refl)
+  skips_same ToAbort behind e made begun = (refl, refl)
+  skips_same (ToWrite w) behind e made begun = (refl, refl)
+  skips_same (ToRead query) behind e made begun = (refl, refl)
+  skips_same (ToRun kernel file) behind e made begun = (refl, refl)
+
+  pub skip_does : (r : Request) (behind : Bool) → open_behind true r ≡ Some behind → (current old).start ≡ None → (current old).own ≡ []
+      → DoesLine old true r (plain answers.Skipped (phase_behind (skips r))) old
+  skip_does r behind stands closed none =
+      let same = skips_same r behind stands (current old).made (current old).begun in
+      by_result true false r (plain answers.Skipped (phase_behind (skips r))) old (skips r) refl not_full refl refl refl (current old).sighted (current old).filled
+      (λ i. record old {
+        journal = sym (append-nil old.journal) i;
+        passes = (sym (put_back old.passes old.selected inside) ∙ (λ i. slice_set old.passes old.selected (record (current old) { made = sym same.0 i; start = closed i; own = none i; begun = sym same.1 i }))) i;
+      })
+
+  -- ---- writes
+
+  module _ (w : Write) (start : ℕ) (opened : (current old).start ≡ Some start) where
+    result_write : (full : Bool) (x : Option Refusal) (y : Option Cause) → refused (view_of (account_here old) start) w ≡ x → conflict_here old start w ≡ y
+        → result_here old false full (ToWrite w) ≡ write_result (seat old false) w x y full
+    result_write full x y ex ey = λ i. write_result (seat old false) w
+        ((ap (λ s. refused (view old.kind old.journal (unwrap_or s 0) (current old).own) w) opened ∙ ex) i)
+        ((ap (λ s. conflict old.kind old.journal (open_txns old) (name_here old) (unwrap_or s 0) w) opened ∙ ey) i) full
+
+    -- by what the write was answered
+    abbrev Done : Result LineAnswer NoMemory → Core → Type 0
+    Done result new = IfOk result (λ given. DoesLine old false (ToWrite w) given new)
+
+    -- the graph refused it
+    refused_done : (refusal : Refusal) (a : Answer) → refusal_answer refusal ≡ a → (effect a).writes ≡ false → (mid new : Core) (result : Result LineAnswer NoMemory)
+        → (refused (view_of (account_here old) start) w ≡ Some refusal) × (mid ≡ old) → Goes mid a result new → Done result new
+    refused_done refusal a same none mid new result is goes = subst (λ x. Done x new) (sym goes.0)
+        (by_result false false (ToWrite w) (plain a Open) new (goes_on (seat old false) (refusal_answer refusal))
+        (result_write false (Some refusal) (conflict_here old start w) is.0 refl) not_full (sym same) (sym (ap phase_at opened)) (no_file old (effect a).files)
+        (current old).sighted (current old).filled
+        (goes.1 ∙ is.1 ∙ stays (ToWrite w) (refusal_answer refusal) (ap (λ x. made_behind (current old).made (ToWrite w) x) same ∙ ap (λ b. cond b (last_with (current old).made w) (current old).made) none) refl))
+
+    -- it stops the transaction
+    stopped_done : (a : Answer) → (effect a).writes ≡ false → (full : Bool) → (full ≡ true → SPLIT_ROWS * old.leaves ≤ inserted_here old)
+        → result_here old false full (ToWrite w) ≡ stops a → (state : PassState) → state.made ≡ (current old).made → state.begun ≡ (current old).begun → state.allowed ≡ (current old).allowed
+        → (mid new : Core) (result : Result LineAnswer NoMemory) → mid ≡ with_current old state → Stops mid a result new → Done result new
+    stopped_done a none full filling is state made begun allowed mid new result from stop = subst (λ x. Done x new) (sym stop.0)
+        (by_result false full (ToWrite w) (plain a Skipping) new (stops a) is filling refl refl (no_file old (effect a).files) state.sighted state.filled
+        (stop.1 ∙ ap (λ x. with_current x (ended_pass x)) from ∙ ended_of old inside state
+        ∙ (λ i. record old {
+          journal = sym (append-nil old.journal) i;
+          passes = slice_set old.passes old.selected (record {
+            made = (made ∙ sym (ap (λ b. cond b (last_with (current old).made w) (current old).made) none)) i;
+            sighted = state.sighted;
+            start = None;
+            own = [];
+            filled = state.filled;
+            begun = begun i;
+            allowed = allowed i;
+          });
+        })))
+
+    pub write_done : (r : Result (Unit {0}) Refusal) (mid new : Core) (result : Result LineAnswer NoMemory) → WritesHereFrom old start w r mid → Finishes mid r result new → Done result new
+    write_done (Ok done) mid new result is goes = subst (λ x. Done x new) (sym goes.0)
+        (by_result false false (ToWrite w) (plain answers.Done Open) new (writes_more (seat old false) w) (result_write false None None is.0 is.1) not_full refl (sym (ap phase_at opened)) refl
+        (current old).sighted (current old).filled
+        (goes.1 ∙ is.2 ∙ (λ i. record (with_current old (written_pass old w)) { journal = sym (append-nil old.journal) i })))
+    write_done (Err refusals.SelfLoop) mid new result is goes = refused_done refusals.SelfLoop answers.SelfLoop refl refl mid new result is goes
+    write_done (Err (refusals.NoVertex v)) mid new result is goes = refused_done (refusals.NoVertex v) (answers.NoVertex v) refl refl mid new result is goes
+    write_done (Err refusals.VertexExists) mid new result is goes = refused_done refusals.VertexExists answers.Exists refl refl mid new result is goes
+    write_done (Err refusals.EdgeExists) mid new result is goes = refused_done refusals.EdgeExists answers.Exists refl refl mid new result is goes
+    write_done (Err refusals.NoEdge) mid new result is goes = refused_done refusals.NoEdge answers.NoEdge refl refl mid new result is goes
+    write_done (Err refusals.HasEdges) mid new result is goes = refused_done refusals.HasEdges answers.HasEdges refl refl mid new result is goes
+    write_done (Err (refusals.Conflict cause)) mid new result is stop =
+        stopped_done (answers.Conflict cause) refl false not_full (result_write false None (Some cause) is.0 is.1) _ refl refl refl mid new result is.2 stop
+    write_done (Err (refusals.Full leaves)) mid new result is stop =
+        stopped_done answers.Full refl true (λ _. subst (λ n. SPLIT_ROWS * n ≤ inserted_here old) is.3 is.4)
+        (result_write true None None is.0 is.1 ∙ ap (λ b. cond (true && b) (stops answers.Full) (writes_more (seat old false) w)) is.2) _ refl refl refl mid new result is.5 stop
+    write_done (Err refusals.NoMemory) mid new result is none = elim result as (λ x. OnOk x ⊥ → Done x new) [
+      | Ok given ↦ λ no. absurd no
+      | Err e ↦ λ no. tt
+    ] none.0
+
+    -- an answer is no want of memory
+    err_none : (a : LineAnswer) (new : Core) (result : Result LineAnswer NoMemory) → result ≡ Ok a → OnErr result (new ≡ old)
+    err_none a new result is = subst (λ x. OnErr x (new ≡ old)) (sym is) tt
+
+    pub write_err : (r : Result (Unit {0}) Refusal) (mid new : Core) (result : Result LineAnswer NoMemory) → WritesHereFrom old start w r mid → Finishes mid r result new → OnErr result (new ≡ old)
+    write_err (Ok done) mid new result is goes = err_none _ new result goes.0
+    write_err (Err refusals.SelfLoop) mid new result is goes = err_none _ new result goes.0
+    write_err (Err (refusals.NoVertex v)) mid new result is goes = err_none _ new result goes.0
+    write_err (Err refusals.VertexExists) mid new result is goes = err_none _ new result goes.0
+    write_err (Err refusals.EdgeExists) mid new result is goes = err_none _ new result goes.0
+    write_err (Err refusals.NoEdge) mid new result is goes = err_none _ new result goes.0
+    write_err (Err refusals.HasEdges) mid new result is goes = err_none _ new result goes.0
+    write_err (Err (refusals.Conflict cause)) mid new result is stop = err_none _ new result stop.0
+    write_err (Err (refusals.Full leaves)) mid new result is stop = err_none _ new result stop.0
+    write_err (Err refusals.NoMemory) mid new result is none = elim result as (λ x. OnErr x (new ≡ old)) [
+      | Ok given ↦ tt
+      | Err e ↦ none.1 ∙ is
+    ]
+
+-- ---- turns
+
+-- whoever isn't at a stop skips nothing
+pub calm_of : (phase : Phase) → (phase ≡ Skipping → ⊥) → is_skipping phase ≡ false
+calm_of Between other = refl
+calm_of Open other = refl
+calm_of Skipping other = absurd (other refl)
+calm_of GivenUp other = refl
+
+-- a line that scans nothing is answered at once
+pub takes_answer : (old : Core) (phase : Phase) (reading : Option Reading) → is_skipping phase ≡ false → (command x : Command) → command ≡ x → ((g : Graph) → scanned g (request x) ≡ 0)
+    → (given : LineAnswer) (new : Core) → DoesLine old false (request x) given new → AnswersHere old phase reading (request command) given new
+takes_answer old phase reading calm command x is none given new does = subst (λ y. AnswersHere old phase reading (request y) given new) (sym is) (record {
+  last = (λ i. nat_lt (taken_of reading + 1) (cond (calm i) 1 (none (view_here old) i / SCAN_ROWS + 1))) ∙ never (taken_of reading);
+  does = subst (λ b. DoesLine old b (request x) given new) (sym calm) does;
+})
+  where
+    never : (n : ℕ) → nat_lt (n + 1) 1 ≡ false
+    never n = grind (arith, nat_tests)
+
+-- a line that is skipped takes one turn
+pub takes_skip : (old : Core) (phase : Phase) (reading : Option Reading) → phase ≡ Skipping → (r : Request) (given : LineAnswer) → DoesLine old true r given old → AnswersHere old phase reading r given old
+takes_skip old phase reading is r given does = subst (λ p. AnswersHere old p reading r given old) (sym is) (record { last = never (taken_of reading); does = does })
+  where
+    never : (n : ℕ) → nat_lt (n + 1) 1 ≡ false
+    never n = grind (arith, nat_tests)
+
+-- the same where answer and core are named otherwise
+pub takes_by : (old : Core) (phase : Phase) (reading : Option Reading) → is_skipping phase ≡ false → (command x : Command) → command ≡ x → ((g : Graph) → scanned g (request x) ≡ 0)
+    → (given given' : LineAnswer) → given ≡ given' → (new new' : Core) → new ≡ new' → DoesLine old false (request x) given' new' → AnswersHere old phase reading (request command) given new
+takes_by old phase reading calm command x is none given given' same new new' equal does =
+    subst (λ y. AnswersHere old phase reading (request command) y new) (sym same) (subst (λ y. AnswersHere old phase reading (request command) given' y) (sym equal) (takes_answer old phase reading calm command x is none given' new' does))
+
+-- a line at hand that is skipped
+pub skips_turn : (old : Core) (phase : Phase) (reading : Option Reading) (r : Request) → MayTake old phase reading r → phase ≡ Skipping → (given : LineAnswer) → given ≡ plain answers.Skipped (phase_behind (skips r))
+    → AnswersHere old phase reading r given old
+skips_turn old phase reading r may is given same =
+    let closed : (current old).start ≡ None = subst (λ p. IsPhase p (current old).start) is may.phase_is in
+    takes_skip old phase reading is r given (subst (λ y. DoesLine old true r y old) (sym same)
+    (skip_does old may.selected r may.stands.0 (ap (λ p. open_behind (is_inside p) r) (sym is) ∙ may.stands.1) closed (idle_of (current old).start closed may.valid.idle)))
+  where
+    idle_of : (start : Option ℕ) → start ≡ None → IfNone start ((current old).own ≡ []) → (current old).own ≡ []
+    idle_of None e f = f
+    idle_of (Some x) e f = cc
+
+-- ---- scans
+
+-- a line scans so many rows
+scanned_is : (g : Graph) (r : Request) → length (rows_of_line g r) ≡ scanned g r
+scanned_is g ToBegin = refl
+scanned_is g ToCommit = refl
+scanned_is g ToAbort = refl
+scanned_is g (ToWrite w) = refl
+scanned_is g (ToRead (WeightOf u v)) = refl
+scanned_is g (ToRead (NeighboursOf v)) = sym (length-map _ _)
+scanned_is g (ToRead Counts) = refl
+scanned_is g (ToRun kernel file) = refl
+
+-- what the line has begun to read, or what it begins with
+pub reading_or : (g : Graph) (before : Option Reading) (r : Request) (fresh : Reading) → IfSome before (IsReading g r) → taken_by fresh ≡ 0 → IsReading g r fresh
+    → IsReading g r (unwrap_or before fresh) × (taken_by (unwrap_or before fresh) ≡ taken_of before)
+reading_or g None r fresh is none reads = (reads, none)
+reading_or g (Some reading) r fresh is none reads = (is, refl)
+
+module _ (old : Core) (before : Option Reading) (r : Request) (s next : Scan) (is : IsScan (view_here old) r s) (taken : taken_by (readings.Scan s) ≡ taken_of before) (on : ScansOn (view_here old) r s next) where
+  -- rows are left
+  scan_goes : next.cursor.done ≡ false → ScansHere old Open before r (readings.Scan next) old
+  scan_goes going =
+      let portion = on.portion going in
+      let now : IsScan (view_here old) r next = portion.0 in
+      let left : List Row = rows_left (view_here old) next.cursor in
+      let whole : next.rows + length left ≡ scanned (view_here old) r = ap (λ n. n + length left) now.counted ∙ sym (length-append now.given left) ∙ ap length now.whole ∙ scanned_is (view_here old) r in
+      record {
+        is_open = refl;
+        more = more (taken_of before) is.portions next.rows (length left) (scanned (view_here old) r) (sym taken ∙ ap (λ n. n / SCAN_ROWS) is.full) (portion.1 ∙ ap (λ n. n + SCAN_ROWS) is.full) whole;
+        taken = (ap (λ n. n / SCAN_ROWS) portion.1) ∙ one_more s.rows ∙ ap (λ n. n + 1) taken;
+        small = small next.rows on.small;
+        reads = now;
+        same = refl;
+      }
+    where
+      more : (taken p rows rest all : ℕ) → taken ≡ SCAN_ROWS * p / SCAN_ROWS → rows ≡ SCAN_ROWS * p + SCAN_ROWS → rows + rest ≡ all → nat_lt (taken + 1) (all / SCAN_ROWS + 1) ≡ true
+      more taken p rows rest all e f g = let le : taken + 1 < all / SCAN_ROWS + 1 = omega (arith, e, f, g) in grind (arith, nat_tests)
+
+      one_more : (n : ℕ) → (n + SCAN_ROWS) / SCAN_ROWS ≡ n / SCAN_ROWS + 1
+      one_more n = omega arith
+
+      small : (n : ℕ) → n < 18446744073709551616 → n / SCAN_ROWS < 288230376151711744
+      small n lt = omega (arith, lt)
+
+  -- this was the last of them
+  scan_ends : next.cursor.done ≡ true → IsWhole (view_here old) r next × (goes_on_here old false (taken_of before) r ≡ false)
+  scan_ends done =
+      let rest = on.rest done in
+      (rest.0, last (taken_of before) is.portions next.rows (scanned (view_here old) r) (sym taken ∙ ap (λ n. n / SCAN_ROWS) is.full) (subst (λ n. next.rows < n + SCAN_ROWS) is.full rest.1) (rest.0.counted ∙ scanned_is (view_here old) r))
+    where
+      last : (taken p rows all : ℕ) → taken ≡ SCAN_ROWS * p / SCAN_ROWS → rows < SCAN_ROWS * p + SCAN_ROWS → rows ≡ all → nat_lt (taken + 1) (all / SCAN_ROWS + 1) ≡ false
+      last taken p rows all e f g = let le : all / SCAN_ROWS + 1 ≤ taken + 1 = omega (arith, e, f, g) in grind (arith, nat_tests)
+
+  pub advances : Advances old before r next
+  advances = record { portion = scan_goes; rest = scan_ends }

@@ -1,0 +1,103 @@
+-- What a line reads of the view: its rows, how many of them are vertices and arcs, and one vertex's targets.
+use Rattle.std.proofs.Common.{◌≡◌, ℕ, ◌+◌, ◌-◌, List, length, refl, sym, ◌∙◌, ap, subst, cond, arith}
+use Rattle.std.specs.Prelude.{◌/◌, Bool, true, false, IfSome, IsSome, unwrap_or, count_by}
+use Rattle.std.specs.FinMap as fin_map
+use Rattle.graph_model.specs.declared.row.Row.{Row}
+use Rattle.graph_model.specs.declared.write.Write.{Write}
+use Rattle.graph_model.specs.declared.write.Kind.{Kind}
+use Rattle.graph_model.specs.declared.write.Kind.TheVariants.{Directed, Undirected}
+use Rattle.graph_model.specs.declared.journal.Commit.{Commit}
+use Rattle.graph_model.specs.Account.{IsOpenTxn, IsValid}
+use Rattle.graph_model.specs.Graph.{Graph, has_vertex, vertices_of, IsBounded, IsSymmetric}
+use Rattle.graph_model.specs.History.{view}
+use Rattle.graph_model.specs.Rows.{all_rows, AreRowsOf}
+use Rattle.graph_model.specs.OwnerCalls.{Core, current, account_here}
+use Rattle.graph_model.proofs.ViewLemmas.{view_bounded, view_ends, view_symmetric}
+use Rattle.run_model.specs.declared.answer.Answer.{Answer}
+use Rattle.run_model.specs.declared.answer.Answer.TheVariants as answers
+use Rattle.run_model.specs.Answering.{targets_of, query_answer}
+use Rattle.run_model.specs.Requests.{Kernel, Counts, NeighboursOf, ToRun}
+use Rattle.line_runner.specs.declared.scan.Scan.{Scan}
+use Rattle.line_runner.specs.declared.scan.ScanResult.TheVariants.{Targets, Rows}
+use Rattle.line_runner.specs.declared.kept.KeptImage.{KeptImage}
+use Rattle.line_runner.specs.Kernels.{IsKernelImage, IsKeptImage}
+use Rattle.line_runner.specs.Scanning.{is_vertex, counted, IsWhole, HasAllRows}
+use Rattle.line_runner.specs.Lines.{view_here}
+use Rattle.line_runner.proofs.CoreLemmas.{some_of}
+use Rattle.line_runner.proofs.CountLemmas.{vertex_count, arc_count}
+
+-- what an undirected view sees is symmetric
+view_symmetric_in : (kind : Kind) (journal : List Commit) (start : ℕ) (own : List Write) → kind ≡ Undirected → IsSymmetric (view kind journal start own)
+view_symmetric_in kind journal start own is = subst (λ k. IsSymmetric (view k journal start own)) (sym is) (view_symmetric journal start own)
+
+-- what holds of a graph that a transaction sees
+pub record IsSeen (kind : Kind) (g : Graph) : Type 0 where
+  pub rows : AreRowsOf (all_rows g) g
+  pub bounded : IsBounded g
+  pub symmetric : kind ≡ Undirected → IsSymmetric g
+
+-- an open transaction sees such a graph
+pub seen_here : (core : Core) → IsValid (account_here core) → IsSome (current core).start → IsSeen core.kind (view_here core)
+seen_here core valid opened =
+    let o = some_of (current core).start opened in
+    let txn : IsOpenTxn (account_here core) o.0 = subst (λ s. IfSome s (IsOpenTxn (account_here core))) o.1 valid.current in
+    let bounded = view_bounded core.kind core.journal o.0 (current core).own valid.legal txn.seen txn.within in
+    subst (λ s. IsSeen core.kind (view core.kind core.journal (unwrap_or s 0) (current core).own)) (sym o.1)
+    (record {
+      rows = record {
+        listed = refl;
+        ends = view_ends core.kind core.journal o.0 (current core).own valid.legal txn.seen txn.allowed;
+        within = bounded.ids;
+      };
+      bounded = bounded;
+      symmetric = view_symmetric_in core.kind core.journal o.0 (current core).own;
+    })
+
+-- an image that is kept of what an open transaction sees is one that a kernel may run on
+pub kernel_image : (core : Core) → IsValid (account_here core) → IsSome (current core).start → (kept : KeptImage) → IsKeptImage (view_here core) kept → (kind : Kind) → kind ≡ core.kind → IsKernelImage kind kept.image (view_here core)
+kernel_image core valid opened kept is kind same = record {
+  shows = is.shows;
+  symmetric = λ undirected. (seen_here core valid opened).symmetric (sym same ∙ undirected);
+}
+
+-- `count` answers the vertices, and the edges by the other rows
+pub counts_are : (kind : Kind) (g : Graph) → AreRowsOf (all_rows g) g
+    → counted kind (count_by is_vertex (all_rows g)) (length (all_rows g) - count_by is_vertex (all_rows g)) ≡ query_answer kind g Counts
+counts_are kind g are = by_kind kind (length (vertices_of g)) (length (fin_map.entries g.arcs)) (vertex_count g are) (arc_count g are) ∙ edges kind
+  where
+    edges : (kind : Kind) → counted kind (length (vertices_of g)) (length (fin_map.entries g.arcs)) ≡ query_answer kind g Counts
+    edges Directed = ap (λ n. answers.Counted (length (vertices_of g)) n) (sym (fin_map.len-entries g.arcs))
+    edges Undirected = ap (λ n. answers.Counted (length (vertices_of g)) (n / 2)) (sym (fin_map.len-entries g.arcs))
+
+    less : (v a : ℕ) → v + a - v ≡ a
+    less v a = omega arith
+
+    by_kind : (kind : Kind) (v a : ℕ) → count_by is_vertex (all_rows g) ≡ v → length (all_rows g) ≡ v + a
+        → counted kind (count_by is_vertex (all_rows g)) (length (all_rows g) - count_by is_vertex (all_rows g)) ≡ counted kind v a
+    by_kind kind v a e f = (λ i. counted kind (e i) (f i - e i)) ∙ ap (counted kind v) (less v a)
+
+-- `neighbours` answers the targets where the vertex is there, and else that it isn't
+pub neighbours_are : (kind : Kind) (g : Graph) (v : ℕ) (has : Bool) → has ≡ has_vertex g v → (answer : Answer)
+    → (has ≡ true → answer ≡ answers.Neighbours (targets_of g v)) → (has ≡ false → answer ≡ answers.NoVertex v) → answer ≡ query_answer kind g (NeighboursOf v)
+neighbours_are kind g v true is answer there none = there refl ∙ ap (λ b. cond b (answers.Neighbours (targets_of g v)) (answers.NoVertex v)) is
+neighbours_are kind g v false is answer there none = none refl ∙ ap (λ b. cond b (answers.Neighbours (targets_of g v)) (answers.NoVertex v)) is
+
+-- the targets that a scan has kept
+pub same_targets : (xs ys : List ℕ) → Targets xs ≡ Targets ys → xs ≡ ys
+same_targets xs ys e = cc
+
+-- the rows that a scan has kept
+pub same_rows : (xs ys : List Row) → Rows xs ≡ Rows ys → xs ≡ ys
+same_rows xs ys e = cc
+
+-- a scan of all rows that is whole was given those of the view
+pub has_all : (core : Core) → IsValid (account_here core) → IsSome (current core).start → (kernel : Kernel) (file : List ℕ) (scan : Scan) → IsWhole (view_here core) (ToRun kernel file) scan → HasAllRows (view_here core) scan
+has_all core valid opened kernel file scan whole = record {
+  are = (seen_here core valid opened).rows;
+  counted = whole.counted;
+  kept = whole.result;
+}
+
+-- the rows that it has kept are those of the graph
+pub all_kept : (g : Graph) (scan : Scan) → HasAllRows g scan → (rows : List Row) → scan.result ≡ Rows rows → AreRowsOf rows g
+all_kept g scan has rows is = subst (λ xs. AreRowsOf xs g) (same_rows _ _ (sym has.kept ∙ is)) has.are

@@ -1,0 +1,3 @@
+pub mod Kernels
+pub mod Scanning
+pub mod Lines

@@ -1,0 +1,51 @@
+//! What a line is answered, and what a turn makes of it.
+
+ghost use Rattle.std.specs.Prelude.{◌≡◌, None};
+ghost use Rattle.line_runner.specs.Lines.{image_behind};
+
+use crate::kept::KeptImage;
+use crate::phase::Phase;
+use crate::reading::Reading;
+use crate::table::NamedTable;
+use run_model::Answer;
+
+/// The answer to a line, the phase of the job behind it, and the table that it gives.
+#[derive(Drop)]
+pub struct LineAnswer {
+    pub answer: Answer,
+    pub phase: Phase,
+    pub table: Option<NamedTable>,
+}
+
+/// What one turn makes of a line.
+#[derive(Drop)]
+pub enum LineTurn {
+    /// Turns are left.
+    Scanning { reading: Reading },
+    /// The line has its answer.
+    Answering { given: LineAnswer },
+}
+
+impl LineAnswer {
+    /// An answer that gives no table.
+    pub fn plain(answer: Answer, phase: Phase) -> LineAnswer
+        ensures { result ≡ record { answer = answer; phase = phase; table = None } }
+    {
+        LineAnswer {
+            answer,
+            phase,
+            table: None,
+        }
+    }
+
+    /// The image that stays behind the line: none where the transaction no longer sees what it saw.
+    pub fn kept_behind(&self, before: Phase, image: Option<KeptImage>) -> Option<KeptImage>
+        ensures { result ≡ image_behind before self.now image }
+    {
+        match (before, self.phase, &self.answer) {
+            (Phase::Open, Phase::Open, Answer::Done) => None,
+            (Phase::Open, Phase::Open, _) => image,
+            _ => None,
+        }
+    }
+}

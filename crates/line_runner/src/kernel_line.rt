@@ -1,0 +1,156 @@
+//! One turn of a kernel's line.
+//!
+//! 1. A kernel runs on the image of all rows that its transaction sees. The first one scans the rows, and the
+//!    image is made with the last of them; it is kept for the next ones.
+//! 2. On an image that is kept a line takes as many turns as on rows that it scans.
+
+ghost use Rattle.std.specs.Prelude.{◌≡◌, ℕ, List, Option, Some, IfSome, IsSome, IfOk, OnOk, OnErr};
+ghost use Rattle.graph_model.specs.Account.{IsValid};
+ghost use Rattle.graph_model.specs.OwnerCalls.{Core, account_here, current};
+ghost use Rattle.graph_model.specs.Graph.{Graph};
+ghost use Rattle.run_model.specs.Requests as requests;
+ghost use Rattle.run_model.specs.Requests.{ToRun};
+ghost use Rattle.line_runner.specs.Kernels.{kernel_of, IsKeptImage, IsKernelImage};
+ghost use Rattle.line_runner.specs.Scanning.{IsReading, IsScan, taken_of};
+ghost use Rattle.line_runner.specs.Lines.{view_here, AnswersKernel, MayTake, ReadsImage, TakesHere};
+
+use crate::answering::{LineAnswer, LineTurn};
+use crate::kept::KeptImage;
+use crate::phase::Phase;
+use crate::reading::Reading;
+use crate::scan::Scan;
+use crate::table::{Kernel, NamedTable, copy_of, kernel_table};
+use graph_image::Image;
+use graph_model::{KernelRefusal, Kind, NoMemory, SCAN_ROWS, StepEngine};
+use run_model::{Answer, Name};
+use std::alloc::Global;
+use std::thread::Threads;
+
+/// What one turn makes of the image that a kernel runs on.
+#[derive(Drop)]
+pub enum ImageTurn {
+    /// Turns are left.
+    Further { reading: Reading },
+    /// It was the last, and the image is there.
+    Whole { kept: KeptImage },
+}
+
+/// Takes one turn of a kernel's line, which runs with the last one.
+pub fn run_kernel<R: Threads + Sync, E: StepEngine>(
+    rt: &R,
+    alloc: Global,
+    engine: &mut E,
+    kernel: Kernel,
+    file: &Name,
+    before: Option<Reading>,
+    image: &mut Option<KeptImage>,
+) -> Result<LineTurn, NoMemory>
+    requires may { MayTake (E.core engine.old) Phase.Open before (ToRun (kernel_of kernel) file.now) }
+    requires kept { IfSome image.old (IsKeptImage (view_here (E.core engine.old))) }
+    ensures takes { let r = ToRun (kernel_of kernel) file.now in
+        IfOk result (λ turn. TakesHere (E.core engine.old) Phase.Open before r turn (E.core engine.new)) }
+    ensures kept { OnOk result (IfSome image.new (IsKeptImage (view_here (E.core engine.old)))) }
+    ensures err { OnErr result (E.core engine.new ≡ E.core engine.old) }
+{
+    match read_image(alloc, engine, before, image.take())? {
+        ImageTurn::Further { reading } => Ok(LineTurn::Scanning { reading }),
+        ImageTurn::Whole { kept } => {
+            let given = answer_kernel(rt, alloc, engine.kind(), kernel, file, &kept.image)?;
+            *image = Some(kept);
+            Ok(LineTurn::Answering { given })
+        }
+    }
+}
+
+/// Takes one turn of what the line has begun to read, else of the image that is kept, else of all rows.
+fn read_image<E: StepEngine>(
+    alloc: Global,
+    engine: &mut E,
+    before: Option<Reading>,
+    image: Option<KeptImage>,
+) -> Result<ImageTurn, NoMemory>
+    requires valid { IsValid (account_here (E.core engine.old)) }
+    requires current { IsSome (current (E.core engine.old)).start }
+    requires reads { (kernel : requests.Kernel) × (file : List ℕ)
+        × IfSome before (IsReading (view_here (E.core engine.old)) (ToRun kernel file)) }
+    requires kept { IfSome image (IsKeptImage (view_here (E.core engine.old))) }
+    ensures reads { IfOk result (λ turn. (kernel : requests.Kernel) (file : List ℕ)
+        → IfSome before (IsReading (view_here (E.core engine.old)) (ToRun kernel file))
+        → ReadsImage (E.core engine.old) before (ToRun kernel file) turn) }
+    ensures core { E.core engine.new ≡ E.core engine.old }
+{
+    match before.unwrap_or(Reading::of_image(alloc, image)) {
+        Reading::Scan { scan } => read_rows(engine, scan),
+        Reading::Replay { kept, turns } => Ok(replay(kept, turns)),
+    }
+}
+
+/// Takes one turn of a scan of all rows, and makes their image with the last.
+fn read_rows<E: StepEngine>(engine: &mut E, scan: Scan) -> Result<ImageTurn, NoMemory>
+    requires valid { IsValid (account_here (E.core engine.old)) }
+    requires current { IsSome (current (E.core engine.old)).start }
+    requires scans { (kernel : requests.Kernel) × (file : List ℕ)
+        × IsScan (view_here (E.core engine.old)) (ToRun kernel file) scan }
+    ensures reads { IfOk result (λ turn. (before : Option Reading) (kernel : requests.Kernel) (file : List ℕ)
+        → taken_of before ≡ taken_of (Some (Reading.Scan scan))
+        → IsScan (view_here (E.core engine.old)) (ToRun kernel file) scan
+        → ReadsImage (E.core engine.old) before (ToRun kernel file) turn) }
+    ensures core { E.core engine.new ≡ E.core engine.old }
+{
+    let mut scan = scan;
+    scan.step(engine)?;
+    if !scan.cursor.done {
+        let reading = Reading::Scan { scan };
+        return Ok(ImageTurn::Further { reading });
+    }
+    let kept = KeptImage::of_scan(scan)?;
+    Ok(ImageTurn::Whole { kept })
+}
+
+/// Takes one turn of a line whose image is kept, which takes as many as the scan of its rows.
+fn replay(kept: KeptImage, turns: u64) -> ImageTurn
+    ensures { (core : Core) (before : Option Reading) (kernel : requests.Kernel) (file : List ℕ)
+        → taken_of before ≡ turns → IsKeptImage (view_here core) kept
+        → ReadsImage core before (ToRun kernel file) result }
+{
+    if turns < kept.rows / SCAN_ROWS as u64 {
+        let reading = Reading::Replay {
+            kept,
+            turns: turns + 1,
+        };
+        ImageTurn::Further { reading }
+    } else {
+        ImageTurn::Whole { kept }
+    }
+}
+
+/// Runs a kernel on the image of a graph, and answers its line.
+fn answer_kernel<R: Threads + Sync>(
+    rt: &R,
+    alloc: Global,
+    kind: Kind,
+    kernel: Kernel,
+    file: &Name,
+    image: &Image,
+) -> Result<LineAnswer, NoMemory>
+    ensures { IfOk result (λ given. (g : Graph) → IsKernelImage kind image.now g
+        → AnswersKernel kind g (kernel_of kernel) file.now given) }
+{
+    match kernel_table(rt, alloc, kind, kernel, image) {
+        Ok(table) => {
+            let name = copy_of(alloc, file)?;
+            Ok(LineAnswer {
+                answer: Answer::Table {
+                    entries: table.len() as u64,
+                },
+                phase: Phase::Open,
+                table: Some(NamedTable { name, table }),
+            })
+        }
+        Err(KernelRefusal::NoRoot) => {
+            let answer = Answer::NoVertex { v: kernel.root() };
+            Ok(LineAnswer::plain(answer, Phase::Open))
+        }
+        Err(KernelRefusal::NoMemory) => Err(NoMemory),
+    }
+}

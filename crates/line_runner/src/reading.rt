@@ -1,0 +1,53 @@
+//! Where a line stands that takes more than one turn.
+//!
+//! 1. A line takes the turns of a scan, whether it scans or not, so that other scripts get theirs between.
+//! 2. Only a kernel's line runs on an image, so only such a line counts its turns.
+
+ghost use Rattle.std.specs.Prelude.{◌≡◌, ℕ, List, IfSome};
+ghost use Rattle.graph_model.specs.Graph.{Graph};
+ghost use Rattle.run_model.specs.Requests.{Query, Kernel, ToRead, ToRun};
+ghost use Rattle.line_runner.specs.Kernels.{IsKeptImage};
+ghost use Rattle.line_runner.specs.Scanning.{IsReading, taken_by};
+
+use crate::kept::KeptImage;
+use crate::scan::Scan;
+use std::alloc::Global;
+
+/// What a line reads, and how far it has come.
+#[derive(Drop)]
+pub enum Reading {
+    /// It scans rows.
+    Scan { scan: Scan },
+    /// The image of all rows is kept, and it has taken so many of the turns that their scan would take.
+    Replay { kept: KeptImage, turns: u64 },
+}
+
+impl Reading {
+    /// What a kernel's line begins with: the image that is kept, or else a scan. Takes no memory.
+    pub fn of_image(alloc: Global, image: Option<KeptImage>) -> Reading
+        ensures none { taken_by result ≡ 0 }
+        ensures reading { (g : Graph) (kernel : Kernel) (file : List ℕ) → IfSome image (IsKeptImage g)
+            → IsReading g (ToRun kernel file) result }
+    {
+        match image {
+            Some(kept) => Reading::Replay { kept, turns: 0 },
+            None => Reading::Scan {
+                scan: Scan::of_rows(alloc),
+            },
+        }
+    }
+
+    /// The scan of a read.
+    pub fn into_scan(self) -> Scan
+        requires { (g : Graph) × (query : Query) × IsReading g (ToRead query) self }
+        ensures { self ≡ Reading.Scan result }
+    {
+        match self {
+            Reading::Scan { scan } => scan,
+            Reading::Replay {
+                kept: _kept,
+                turns: _turns,
+            } => unreachable!(),
+        }
+    }
+}
