@@ -2,7 +2,7 @@
 //!
 //! 1. All passes come back, and all notes are taken in. So one seat knows all that there is, and what it knows is a closed
 //!    store.
-//! 2. Room for what comes out of the slots was made with the store.
+//! 2. Room for what comes out of the slots was made with the store, and is kept with its passes.
 
 ghost use Rattle.std.specs.Prelude.{◌≡◌, ◌<◌, ◌≤◌, ◌+◌, ℕ, [], length, vec_capacity};
 ghost use Rattle.atomic_table.specs.Seated.{TableId};
@@ -37,16 +37,13 @@ impl Store {
         requires passes { AreBack self passes.list.items }
         ensures { IsContent self.accounts.config passes.list.items result }
     {
-        let Store {
-            accounts,
-            latches,
-            mut slots,
-            mut cells,
-        } = self;
+        let Store { accounts, latches } = self;
         let Passes {
             list,
             mut latch,
             mut account,
+            mut slots,
+            mut cells,
         } = passes;
         join_passes(&accounts, &latches, list, &mut latch, &mut account);
         latches.close(latch, &mut slots);

@@ -70,16 +70,13 @@ fn make_both(alloc: Global, config: Config) -> Result<(Store, Passes), NoMemory>
     } = room;
     let list = deal(alloc, &accounts, &latches, &mut latch, &mut account)?;
     Ok((
-        Store {
-            accounts,
-            latches,
-            slots,
-            cells,
-        },
+        Store { accounts, latches },
         Passes {
             list,
             latch,
             account,
+            slots,
+            cells,
         },
     ))
 }

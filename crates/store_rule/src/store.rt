@@ -1,6 +1,6 @@
 //! A store, and the passes on it.
 
-ghost use Rattle.std.specs.Prelude.{◌≡◌, ◌≤◌, ◌+◌, [], vec_capacity};
+ghost use Rattle.std.specs.Prelude.{◌≡◌, ◌+◌};
 ghost use Rattle.rule_model.specs.Sight.{cells_of};
 
 use crate::slot::{Room, StoreSlot};
@@ -24,14 +24,9 @@ pub type LatchPass = latch_table::Pass<StoreSlot, Room>;
 pub struct Store {
     pub accounts: Accounts,
     pub latches: LatchTable<StoreSlot, Room>,
-    /// Empty lists with room for what lies in the slots, and for the segments, once the store is closed.
-    pub(crate) slots: Vec<StoreSlot>,
-    pub(crate) cells: Vec<VersionSegment>,
     pub ghost same: { (latches.table.shared.key.config ≡ accounts.config)
         × (latches.table.shared.key.seat.table_id ≡ accounts.table.shared.table_id) },
     pub ghost places: { latches.table.shared.table_id.words ≡ cells_of accounts.config + 2 },
-    ghost room: { (slots.items ≡ []) × (cells_of accounts.config + 2 ≤ vec_capacity slots) },
-    ghost list: { (cells.items ≡ []) × (cells_of accounts.config ≤ vec_capacity cells) },
 }
 
 /// Whoever runs transactions on a store, one after the other: a seat of each of its tables.
@@ -42,12 +37,15 @@ pub struct Pass {
     pub account: Account,
 }
 
-/// The passes of a store, in the order of their numbers, with the seats that take them back.
+/// The passes of a store, in the order of their numbers, with what its end needs: the seats that take them back, and
+/// empty lists with room for what lies in the slots and for the segments.
 #[derive(Drop)]
 pub struct Passes {
     pub list: Vec<Pass>,
     pub latch: LatchPass,
     pub account: Account,
+    pub slots: Vec<StoreSlot>,
+    pub cells: Vec<VersionSegment>,
 }
 
 impl Store {
