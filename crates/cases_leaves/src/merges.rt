@@ -103,9 +103,9 @@ fn merge_all<S: VertexStore>(store: &mut S) -> Result<u32, NoMemory> {
     Ok(100)
 }
 
-// Of the vertices 1 to 600 the second leaf has those from 111 on, and the fifth those from 435 on. Free leaves are taken
-// from the last one on, so the second leaf's number is greater than the fifth's. The first two segments of both have 14
-// rows each. Where the first ones lose 13, both have a window of 15 rows to be spread, 8 and 7.
+// Of the vertices 1 to 600 the second leaf has those from 111 on, and the fifth those from 435 on. Free leaves are
+// taken from the last one on, so the second leaf's number is greater than the fifth's. The first two segments of both
+// have 14 rows each. Where the first ones lose 13, both have a window of 15 rows to be spread, 8 and 7.
 #[test]
 fn the_first_window_in_key_order_is_spread_first(rt: HostRuntime) -> Result<(), Fail> {
     let store = LeafStore::new(rt.alloc(), 8)?;

@@ -5,7 +5,8 @@
 //! 2. A sweep loads the clock before any pin. A pass at which it has looked, and which begins later, loads a clock that
 //!    is no less.
 //! 3. A sweep reads the pins with no latch. A pin found may be gone by now: then the horizon is too old, which keeps
-//!    records that nobody reads, and throws away none that somebody may. The cost is their memory, until the next sweep.
+//!    records that nobody reads, and throws away none that somebody may. The cost is their memory, until the next
+//!    sweep.
 //! 4. Each step is sequentially consistent, and says which order it needs.
 //! 5. The rule of the table is its owner's. Each call asks that the step keeps the rule, and tells what the owner's
 //!    kind of step says of it.
@@ -37,8 +38,9 @@ impl<'a, V, K, P: TableRule<(), V, K>> Pins<'a, V, K, P> {
         ensures announced { HasStored self.now.table.now.table_id pass.old pass.new
             (pin_place self.now.places number) announced_word M.then }
     {
-        // Sequentially consistent, and has to be: the store comes before this pass's load of the clock for all others. A
-        // sweep that has looked before it finds a horizon that is no higher than the clock that this pass will load.
+        // Sequentially consistent, and has to be: the store comes before this pass's load of the clock for all
+        // others. A sweep that has looked before it finds a horizon that is no higher than the clock that this pass
+        // will load.
         self.table.store::<M>(pass, self.places.pin(number), 1);
     }
 
@@ -51,7 +53,8 @@ impl<'a, V, K, P: TableRule<(), V, K>> Pins<'a, V, K, P> {
         ensures pinned { HasStored self.now.table.now.table_id pass.old pass.new
             (pin_place self.now.places number) (pinned_word start) M.then }
     {
-        // Sequentially consistent, and needs no order: a sweep that still finds the announcement keeps more than it must.
+        // Sequentially consistent, and needs no order: a sweep that still finds the announcement keeps more than it
+        // must.
         self.table
             .store::<M>(pass, self.places.pin(number), start + 2);
     }
@@ -77,8 +80,8 @@ impl<'a, V, K, P: TableRule<(), V, K>> Pins<'a, V, K, P> {
         ensures loaded { HasLoaded self.now.table.now.table_id pass.old pass.new self.now.places.clock
             result.clock M.then }
     {
-        // Sequentially consistent, and has to come before the loads of the pins for all. The clock may have risen since:
-        // then the horizon is too old.
+        // Sequentially consistent, and has to come before the loads of the pins for all. The clock may have risen
+        // since: then the horizon is too old.
         let clock = self.table.load::<M>(pass, self.places.clock as usize);
         Sweep {
             clock,

@@ -58,7 +58,8 @@ impl LeafQueue {
         set_place(&mut self.nodes, self.leaves, waiting.leaf, Some(waiting));
     }
 
-    /// A leaf was looked at, and nothing is to be done. It waits for the next stage, or behind the last one not any more.
+    /// A leaf was looked at, and nothing is to be done. It waits for the next stage, or behind the last one not any
+    /// more.
     pub fn pass(&mut self, waiting: Waiting)
         requires { Waits self.old waiting }
         ensures { self.new ≡ slice_set self.old waiting.leaf (next_of waiting) }

@@ -96,8 +96,8 @@ pub record SpreadsOne (old new : Leaves) : Type 0 where
   pub first : IsFirstWindow front part window
   pub spreads : SpreadsWindow window part.segments segments
 
--- No leaf has a sparse window. Of the first two neighbours in key order with few rows the left one has all rows now, and
--- the right one is retired with the stamp. All else is as it was.
+-- No leaf has a sparse window. Of the first two neighbours in key order with few rows the left one has all rows now,
+-- and the right one is retired with the stamp. All else is as it was.
 pub record MergesTwo (old new : Leaves) (stamp : ℕ) : Type 0 where
   pub front : List Part
   pub left : Part

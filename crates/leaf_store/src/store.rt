@@ -103,8 +103,8 @@ impl LeafStore {
         }
     }
 
-    /// Finds the cells of four keys side by side, and their rows there. What the calls to come will read of them is read
-    /// ahead, which is more where rows come into the cells of the first two.
+    /// Finds the cells of four keys side by side, and their rows there. What the calls to come will read of them is
+    /// read ahead, which is more where rows come into the cells of the first two.
     pub fn find_four(&mut self, keys: [Key; 4], rows_come: bool) -> [Finger; 4]
         ensures { self.new ≡ self.old }
     {

@@ -1,9 +1,9 @@
 //! Where keys were found, for the calls to come.
 //!
 //! 1. A finger is of a cell and of a place in it. Rows may have moved since, so it may point elsewhere.
-//! 2. Whoever is given one looks there first, and sees by the fence keys of the cell, and by two rows, whether the key is
-//!    there. Where it isn't, the index and the cell are searched. So no clause speaks of fingers, and a wrong one costs
-//!    time alone.
+//! 2. Whoever is given one looks there first, and sees by the fence keys of the cell, and by two rows, whether the
+//!    key is there. Where it isn't, the index and the cell are searched. So no clause speaks of fingers, and a wrong
+//!    one costs time alone.
 //! 3. A write asks eight to fourteen times for its four keys. With fingers each is searched for once.
 
 use version_segment::NOWHERE;
