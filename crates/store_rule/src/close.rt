@@ -1,7 +1,7 @@
 //! The end of a store.
 //!
-//! 1. All passes come back, and all notes are taken in. So one seat knows all that there is, and what it knows is a closed
-//!    store.
+//! 1. All passes come back, and all notes are taken in. So one seat knows all that there is, and what it knows is a
+//!    closed store.
 //! 2. Room for what comes out of the slots was made with the store, and is kept with its passes.
 
 ghost use Rattle.std.specs.Prelude.{◌≡◌, ◌<◌, ◌≤◌, ◌+◌, ℕ, [], length, vec_capacity};

@@ -32,7 +32,7 @@ impl Accounts {
         ensures packed { (c : CellState) → HasCell seat.old.me.0 cell c
             → IsPackedAgain cell seat.old.me.0 c seat.new.me.0 }
     {
-        // A version word at its end stays there, whether or not a word was stored since it came there. So such a block is
+        // A version word at its end stays there, whether or not a word was stored since. So such a block is
         // stored in any case.
         let found = self.holder_load(seat, cell, 0);
         if changed || found == u64::MAX {

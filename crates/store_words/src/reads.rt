@@ -1,7 +1,7 @@
 //! The loads of a read without a latch.
 //!
 //! 1. A read loads an even version word, then words of the block, then the version word again.
-//! 2. Where it finds the first word again, all that it loaded is of one block, which spells the contents of that moment.
+//! 2. Where it finds the first word again, all that it loaded is of one block, which spells the contents of then.
 //! 3. What it loads may be past by then or half written: no call says anything of it before the second load.
 
 ghost use Rattle.std.specs.Prelude.{◌≡◌, ◌<◌, ◌≤◌, ℕ, Some};
