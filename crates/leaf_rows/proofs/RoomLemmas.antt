@@ -4,9 +4,6 @@ use Rattle.std.specs.Prelude.{◌⊎◌, Bool, true, false, ◌&&◌, not, Optio
 use Rattle.std.specs.List.{filter, flat_map}
 use Rattle.std.proofs.lemmas.List.{append-nil}
 use Rattle.graph_model.specs.declared.row.Key.{Key}
-use Rattle.graph_model.specs.declared.write.Kind.{Kind}
-use Rattle.graph_model.specs.declared.write.Write.{Write}
-use Rattle.graph_model.specs.Effects.{keys_of}
 use Rattle.graph_model.specs.Rows.{is_below, is_between, end_key}
 use Rattle.store_model.specs.Stamped.{forget_row}
 use Rattle.txn_manager.specs.declared.config.RoomRefusal.{RoomRefusal}
@@ -17,7 +14,7 @@ use Rattle.leaf_index.specs.declared.route.Retired.{Retired}
 use Rattle.leaf_index.specs.Calls.{freed_of, kept_of}
 use Rattle.leaf_store.specs.Changes.{MovesRows, IsRoomRefusal}
 use Rattle.leaf_store.specs.Merging.{FreesRetired}
-use Rattle.leaf_rows.specs.Laying.{KeepsContents, Stays, wanted, IsNoRoom, IsSpent}
+use Rattle.leaf_rows.specs.Laying.{KeepsContents, Stays, wanted, IsSpent}
 use Rattle.leaf_rows.specs.Readers.{AreUnstamped}
 use Rattle.leaf_rows.specs.Steps.{KeepsRoom, wanted_in, keys_with}
 use Rattle.leaf_rows.specs.Laying.{HaveRoom, IsNoPlace}
@@ -82,10 +79,6 @@ room_swap s a b room k none = let h = room k none in let e = wanted_swap s k a b
 pub no_place_swap : (s : Leaves) (a b : Key) (refusal : RoomRefusal) → IsNoPlace s (a ∷ b ∷ []) refusal → IsNoPlace s (b ∷ a ∷ []) refusal
 no_place_swap s a b (Full leaves) why = (why.0, why.1, ((why.2).0, (why.2).1, (why.2).2 ∙ wanted_swap s (why.2).0 a b, (why.2).3, (why.2).4))
 no_place_swap s a b NoMemory why = tt
-
-pub no_place_is : (s : Leaves) (kind : Kind) (w : Write) (refusal : RoomRefusal) → IsNoPlace s (keys_of kind w) refusal → IsNoRoom s kind w refusal
-no_place_is s kind w (Full leaves) why = why
-no_place_is s kind w NoMemory why = why
 
 -- a refusal of the store
 pub refused_is : (old new : Leaves) (key : Key) (need : ℕ) (keys : List Key) (refusal : RoomRefusal) → need ≡ wanted old key keys → room_at old key < need

@@ -43,10 +43,6 @@ wanted s k keys = held.wanted (rows_in s) k keys
 abbrev pub HaveRoom : Leaves → List Key → Type 0
 HaveRoom s keys = held.HaveRoom (rows_in s) keys
 
--- each missing row of the write finds its place, those that share a cell together
-abbrev pub HasRoomFor : Leaves → Kind → Write → Type 0
-HasRoomFor s kind w = (k : Key) → has_row s k ≡ false → wanted s k (keys_of kind w) ≤ room_at s k
-
 -- each key has what it had, and no more leaves are used up
 pub record KeepsContents (old new : Leaves) : Type 0 where
   pub contents : (k : Key) → contents_of new k ≡ contents_of old k
@@ -68,13 +64,6 @@ IsNoPlace s keys (refusals.Full leaves) =
     (leaves ≡ s.limit) × (SPLIT_ROWS * leaves ≤ weight s)
     × ((k : Key) × (need : ℕ) × (need ≡ wanted s k keys) × (room_at s k < need) × IsFull s k need)
 IsNoPlace s keys refusals.NoMemory = Unit {0}
-
--- why there is no room for a write: a key's cell is too full, no window round it has room, and no leaf is free
-abbrev pub IsNoRoom : Leaves → Kind → Write → RoomRefusal → Type 0
-IsNoRoom s kind w (refusals.Full leaves) =
-    (leaves ≡ s.limit) × (SPLIT_ROWS * leaves ≤ weight s)
-    × ((k : Key) × (need : ℕ) × (need ≡ wanted s k (keys_of kind w)) × (room_at s k < need) × IsFull s k need)
-IsNoRoom s kind w refusals.NoMemory = Unit {0}
 
 -- where no leaf is free, no retired leaf has a stamp below the given one either
 abbrev pub IsSpent : ℕ → Leaves → RoomRefusal → Type 0

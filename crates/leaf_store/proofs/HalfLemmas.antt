@@ -253,7 +253,7 @@ module _ (index taken new : Index) (table table' : Table) (key : Key) (place : P
       let e2 : Entry = record { low = s.splits.key; leaf = other; cuts = lows_of right } in
       let left_is : segments_at table' live.entry.leaf ≡ left = ap (segments_at table') s.number in
       let parts = ap (map (part_of table')) s.splits.entries ∙ parts_append table' live.front (e1 ∷ e2 ∷ live.back)
-          ∙ (λ i. parts_same table table' live.front half_same.0 i ++ part_of table' e1 ∷ part_of table' e2 ∷ parts_same table table' live.back half_same.1 i) in
+      ∙ (λ i. parts_same table table' live.front half_same.0 i ++ part_of table' e1 ∷ part_of table' e2 ∷ parts_same table table' live.back half_same.1 i) in
       record {
         front = map (part_of table) live.front;
         part = part_of table live.entry;
