@@ -24,9 +24,9 @@ use Rattle.desk_io.specs.declared.sources.ReadStop.TheVariants as reads
 use Rattle.teseo_program.specs.declared.left.Left.{Left}
 use Rattle.teseo_program.specs.declared.outcome.Outcome.{Outcome}
 use Rattle.teseo_program.specs.declared.outcome.Outcome.TheVariants.{Done, Full, LoadFull, BadWords, NotRead, NotAccepted, NoMemory, NotWritten}
-use Rattle.teseo_program.specs.Requests.{source_names, kind_of, rules_of}
-use Rattle.teseo_program.specs.Input.{Meaning, Texts, texts_of, AreScripts, IsAccepted, inputs_of}
-use Rattle.teseo_program.specs.Leaves.{leaves_for, leaves_of, most_rows}
+use Rattle.source_run.specs.Requests.{source_names, kind_of, rules_of}
+use Rattle.source_run.specs.Input.{Meaning, Texts, texts_of, AreScripts, IsAccepted, inputs_of}
+use Rattle.source_run.specs.Leaves.{leaves_for, leaves_of, most_rows}
 use Rattle.teseo_program.specs.Outcomes.{status_of, is_full, shows_full, IsRunOutcome, IsOutcome, Ends}
 use Rattle.teseo_program.specs.Laws.{AreTold, HasNoFault, RunsWithRoomEndWell}
 use Rattle.teseo_program.proofs.LawLemmas.{asked_ends, read_told, end_well}

@@ -11,7 +11,7 @@ use Rattle.run_model.specs.Inputs.{Inputs, File, Outputs}
 use Rattle.run_model.specs.Run.{Context, filing_of, IsFiled, HasFiles, IsRun, answered_scripts, context_at}
 use Rattle.script_lang.specs.Scripts.{file_of, files_of}
 use Rattle.script_lang.specs.Runnable.{IsRunnable}
-use Rattle.teseo_program.specs.Parsing.{AreRunnable}
+use Rattle.source_run.specs.Parsing.{AreRunnable}
 use Rattle.teseo_program.proofs.SublistLemmas.{IsSublist, sub_behind, sub_append, apart_append}
 
 abbrev pub names_in : List File → List (List ℕ)

@@ -18,13 +18,13 @@ use Rattle.script_lang.specs.declared.refusal.ScheduleRefusal.TheVariants as sch
 use Rattle.script_lang.specs.Scripts.{files_of}
 use Rattle.command_words.specs.Words.{RunRequest, MakeRequest, Request, run, make, IsTaken, taken_names}
 use Rattle.command_words.proofs.WordLemmas.{taken_once}
-use Rattle.teseo_program.specs.Requests.{source_names, rules_of}
-use Rattle.teseo_program.specs.declared.fault.SourceFault.{SourceFault}
-use Rattle.teseo_program.specs.declared.fault.SourceFault.TheVariants as faults
+use Rattle.source_run.specs.Requests.{source_names, rules_of}
+use Rattle.source_run.specs.declared.fault.SourceFault.{SourceFault}
+use Rattle.source_run.specs.declared.fault.SourceFault.TheVariants as faults
 use Rattle.teseo_program.specs.declared.outcome.Outcome.{Outcome}
 use Rattle.teseo_program.specs.declared.outcome.Outcome.TheVariants.{Done, Full, LoadFull, BadWords, NotRead, NotAccepted, NoMemory, NotWritten}
 use Rattle.teseo_program.specs.declared.left.Left.{Left}
-use Rattle.teseo_program.specs.Input.{Meaning, Texts, texts_of, HasGraphFault, AreScripts, IsSchedule, IsAccepted, IsFaultBehind, IsNotAccepted}
+use Rattle.source_run.specs.Input.{Meaning, Texts, texts_of, HasGraphFault, AreScripts, IsSchedule, IsAccepted, IsFaultBehind, IsNotAccepted}
 use Rattle.teseo_program.specs.Outcomes.{status_of, IsRunOutcome, IsMakeOutcome, Ends}
 use Rattle.teseo_program.specs.Laws.{IsTold, AreTold, Stands, HasNoFault, AcceptedRunsEndWell, GraphsAreMade}
 

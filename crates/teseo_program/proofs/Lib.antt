@@ -1,5 +1,3 @@
-mod RequestLemmas
-mod InputLemmas
 mod SublistLemmas
 mod FileLemmas
 mod TextLemmas
@@ -8,7 +6,5 @@ mod SinkLemmas
 mod PreparedLemmas
 mod LawLemmas
 mod OutcomeLemmas
-mod RunLemmas
-pub mod LeavesLemmas
 pub mod RoomLawLemmas
 mod EndLemmas

@@ -13,7 +13,7 @@ use Rattle.teseo_program.specs.declared.outcome.Outcome.TheVariants.{Done, Full,
 use Rattle.teseo_program.specs.declared.prepare.Prepared.{Prepared}
 use Rattle.teseo_program.specs.declared.left.Left.{Left}
 use Rattle.teseo_program.specs.declared.left.Left.TheVariants.{Stepped}
-use Rattle.teseo_program.specs.Requests.{source_names}
+use Rattle.source_run.specs.Requests.{source_names}
 use Rattle.teseo_program.specs.Prepared.{IsUnprepared, IsPreparedOf, IsMadeGraph, Writes, IsWritten, made_of}
 use Rattle.teseo_program.specs.Outcomes.{Made, IsCause, OnlySays, SaysOutcome, said_text, blamed, outcome_of_words, IsLeft, IsRunOutcome, IsMakeCause, IsMakeOutcome, Ends, IsOutcome}
 

@@ -23,21 +23,21 @@ use Rattle.desk_io.specs.Files.{Files}
 use Rattle.desk_io.specs.Sources.{AreRead}
 use Rattle.desk_io.specs.Outputs.{NamedText, names_of}
 use Rattle.command_words.specs.Words.{RunRequest, taken_names, given_names}
-use Rattle.teseo_program.specs.Requests.{IsAsked, source_names, report_names, kind_of, rules_of}
-use Rattle.teseo_program.specs.declared.run.RunResult.{RunResult}
-use Rattle.teseo_program.specs.declared.fault.ParseStop.{ParseStop}
-use Rattle.teseo_program.specs.declared.fault.ParseStop.TheVariants as parses
+use Rattle.source_run.specs.Requests.{IsAsked, source_names, report_names, kind_of, rules_of}
+use Rattle.source_run.specs.declared.run.RunResult.{RunResult}
+use Rattle.source_run.specs.declared.fault.ParseStop.{ParseStop}
+use Rattle.source_run.specs.declared.fault.ParseStop.TheVariants as parses
 use Rattle.teseo_program.specs.declared.outcome.Outcome.{Outcome}
 use Rattle.teseo_program.specs.declared.prepare.Prepared.{Prepared}
 use Rattle.teseo_program.specs.declared.left.Left.TheVariants.{Stepped}
-use Rattle.teseo_program.specs.Input.{Meaning, Texts, texts_of, IsAccepted, inputs_of}
-use Rattle.teseo_program.specs.Parsing.{AreRunnable, IsParseStop}
-use Rattle.teseo_program.specs.Leaves.{leaves_for, leaves_of, most_rows}
+use Rattle.source_run.specs.Input.{Meaning, Texts, texts_of, IsAccepted, inputs_of}
+use Rattle.source_run.specs.Parsing.{AreRunnable, IsParseStop}
+use Rattle.source_run.specs.Leaves.{leaves_for, leaves_of, most_rows}
 use Rattle.teseo_program.specs.Outcomes.{outcome_of_load, outcome_of_parse, shows_full}
 use Rattle.teseo_program.specs.Prepared.{IsUnprepared, IsPreparedOf, IsMadeOf, IsLoadStop}
 use Rattle.teseo_program.specs.Sinks.{sinks_of, summary_line, summary_text}
-use Rattle.teseo_program.specs.Running.{run_outputs, IsLeftBy, HasCounts, HavePrintableNames, IsRefusedLoad}
-use Rattle.teseo_program.proofs.RequestLemmas.{few_scripts, distinct_names}
+use Rattle.source_run.specs.Running.{run_outputs, IsLeftBy, HasCounts, HavePrintableNames, IsRefusedLoad}
+use Rattle.source_run.proofs.RequestLemmas.{few_scripts, distinct_names}
 use Rattle.teseo_program.proofs.SublistLemmas.{sub_all, sub_behind}
 use Rattle.teseo_program.proofs.FileLemmas.{names_in, files_of_run, files_apart}
 use Rattle.teseo_program.proofs.SinkLemmas.{printable_names, sinks_apart}

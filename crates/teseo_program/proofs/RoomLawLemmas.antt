@@ -11,7 +11,7 @@ use Rattle.run_model.specs.AnsweredLines.{AnsweredLine, answered_from, answered_
 use Rattle.run_model.specs.Requests.{Request, ToBegin, ToCommit, ToAbort, ToWrite, ToRead, ToRun, request, next_txn, write_of}
 use Rattle.run_model.specs.Run.{answered_scripts, inserted_in}
 use Rattle.run_model.proofs.SetLemmas.{sum_cons}
-use Rattle.teseo_program.specs.Leaves.{asked_by, asked_in}
+use Rattle.source_run.specs.Leaves.{asked_by, asked_in}
 use Rattle.teseo_program.specs.Laws.{LoadsFindRoom, RunsFindRoom}
 
 -- what a line makes inserts no more rows than the line asks for

@@ -13,7 +13,7 @@ use Rattle.job_runner.specs.NamedTable.{NamedTable}
 use Rattle.job_runner.specs.Lines.{file_of}
 use Rattle.job_runner.specs.Progress.{Progress}
 use Rattle.teseo_program.specs.Sinks.{file_output, report_outputs, sinks_of}
-use Rattle.teseo_program.specs.Running.{HavePrintableNames}
+use Rattle.source_run.specs.Running.{HavePrintableNames}
 use Rattle.teseo_program.proofs.SublistLemmas.{IsSublist, sub_append, sub_pairs}
 use Rattle.teseo_program.proofs.FileLemmas.{names_in}
 

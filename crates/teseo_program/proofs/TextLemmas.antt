@@ -4,8 +4,8 @@ use Rattle.std.specs.List.{AllZip}
 use Rattle.desk_io.specs.Files.{Files}
 use Rattle.desk_io.specs.Sources.{IsRead, AreRead}
 use Rattle.command_words.specs.Words.{RunRequest}
-use Rattle.teseo_program.specs.Requests.{source_names}
-use Rattle.teseo_program.specs.Parsing.{AreTexts}
+use Rattle.source_run.specs.Requests.{source_names}
+use Rattle.source_run.specs.Parsing.{AreTexts}
 
 zip_length : {X Y : Type 0} (R : X → Y → Type 0) (xs : List X) (ys : List Y) → AllZip R xs ys → length ys ≡ length xs
 zip_length R [] [] all = refl

@@ -12,10 +12,10 @@ use Rattle.teseo_program.specs.declared.outcome.Outcome.{Outcome}
 use Rattle.teseo_program.specs.declared.outcome.Outcome.TheVariants.{Done}
 use Rattle.command_words.specs.Words.{RunRequest, MakeRequest, run, make, IsTaken}
 use Rattle.teseo_program.specs.declared.left.Left.{Left}
-use Rattle.teseo_program.specs.Requests.{source_names, kind_of}
-use Rattle.teseo_program.specs.Input.{Meaning, texts_of, IsAccepted, inputs_of}
-use Rattle.teseo_program.specs.declared.leaves.TheConstants.{MOST_ROWS}
-use Rattle.teseo_program.specs.Leaves.{leaves_for, most_rows}
+use Rattle.source_run.specs.Requests.{source_names, kind_of}
+use Rattle.source_run.specs.Input.{Meaning, texts_of, IsAccepted, inputs_of}
+use Rattle.source_run.specs.declared.leaves.TheConstants.{MOST_ROWS}
+use Rattle.source_run.specs.Leaves.{leaves_for, most_rows}
 use Rattle.teseo_program.specs.Outcomes.{status_of, IsOutcome}
 
 -- the desk holds these bytes under the name, and they aren't too long

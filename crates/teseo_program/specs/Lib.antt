@@ -1,10 +1,10 @@
-pub mod Requests
-pub mod Input
-pub mod Parsing
-pub mod Leaves
 pub mod Sinks
 pub mod Outcomes
 pub mod Prepared
 pub mod MadeGraphs
-pub mod Running
 pub mod Laws
+pub use Rattle.source_run.specs.Requests
+pub use Rattle.source_run.specs.Input
+pub use Rattle.source_run.specs.Parsing
+pub use Rattle.source_run.specs.Leaves
+pub use Rattle.source_run.specs.Running

@@ -20,19 +20,19 @@ use Rattle.script_lang.specs.Faults.{what_text, schedule_what_text}
 use Rattle.command_words.specs.declared.refusal.WordsRefusal.{WordsRefusal}
 use Rattle.command_words.specs.declared.refusal.WordsRefusal.TheVariants as word_refusals
 use Rattle.command_words.specs.Words.{RunRequest, MakeRequest, Request, run, make, IsTaken}
-use Rattle.teseo_program.specs.Requests.{source_names, report_names, name_at, kind_of}
-use Rattle.teseo_program.specs.declared.fault.SourceFault.{SourceFault}
-use Rattle.teseo_program.specs.declared.fault.SourceFault.TheVariants as faults
-use Rattle.teseo_program.specs.declared.fault.ParseStop.{ParseStop}
-use Rattle.teseo_program.specs.declared.fault.ParseStop.TheVariants as parses
+use Rattle.source_run.specs.Requests.{source_names, report_names, name_at, kind_of}
+use Rattle.source_run.specs.declared.fault.SourceFault.{SourceFault}
+use Rattle.source_run.specs.declared.fault.SourceFault.TheVariants as faults
+use Rattle.source_run.specs.declared.fault.ParseStop.{ParseStop}
+use Rattle.source_run.specs.declared.fault.ParseStop.TheVariants as parses
 use Rattle.teseo_program.specs.declared.outcome.Outcome.{Outcome}
 use Rattle.teseo_program.specs.declared.outcome.Outcome.TheVariants.{Done, Full, LoadFull, BadWords, NotRead, NotAccepted, NoMemory, NotWritten}
-use Rattle.teseo_program.specs.Input.{Meaning, Texts, texts_of, IsAccepted, IsNotAccepted, inputs_of}
-use Rattle.teseo_program.specs.Leaves.{leaves_of}
+use Rattle.source_run.specs.Input.{Meaning, Texts, texts_of, IsAccepted, IsNotAccepted, inputs_of}
+use Rattle.source_run.specs.Leaves.{leaves_of}
 use Rattle.teseo_program.specs.declared.left.Left.{Left}
 use Rattle.teseo_program.specs.declared.left.Left.TheVariants.{Stepped}
 use Rattle.teseo_core.specs.Keeping.{LeftStore}
-use Rattle.teseo_program.specs.Running.{IsLeftBy}
+use Rattle.source_run.specs.Running.{IsLeftBy}
 use Rattle.teseo_program.specs.Sinks.{sinks_of, summary_text}
 use Rattle.teseo_program.specs.MadeGraphs.{graph_outputs, made_text}
 

@@ -11,15 +11,15 @@ use Rattle.desk_io.specs.Outputs.{NamedText, names_of, WritesAll, FailsAtPlace}
 use Rattle.desk_io.specs.Files.{Files}
 use Rattle.desk_io.specs.Sources.{IsReadStop}
 use Rattle.command_words.specs.Words.{RunRequest, MakeRequest}
-use Rattle.teseo_program.specs.Requests.{source_names, report_names, kind_of}
+use Rattle.source_run.specs.Requests.{source_names, report_names, kind_of}
 use Rattle.teseo_program.specs.declared.outcome.Outcome.{Outcome}
 use Rattle.teseo_program.specs.declared.outcome.Outcome.TheVariants.{Done, Full, LoadFull, BadWords, NotRead, NotAccepted, NoMemory, NotWritten}
 use Rattle.teseo_program.specs.declared.prepare.Prepared.{Prepared}
 use Rattle.teseo_program.specs.declared.left.Left.TheVariants.{Stepped}
-use Rattle.teseo_program.specs.Input.{Meaning, inputs_of}
-use Rattle.teseo_program.specs.Leaves.{leaves_of}
+use Rattle.source_run.specs.Input.{Meaning, inputs_of}
+use Rattle.source_run.specs.Leaves.{leaves_of}
 use Rattle.teseo_core.specs.Keeping.{LeftStore}
-use Rattle.teseo_program.specs.Running.{IsLeftBy}
+use Rattle.source_run.specs.Running.{IsLeftBy}
 use Rattle.teseo_program.specs.Sinks.{sinks_of, summary_text}
 use Rattle.teseo_program.specs.MadeGraphs.{graph_outputs, made_text}
 use Rattle.teseo_program.specs.Outcomes.{Made, shows_full, AreOfRun, IsFullLoad, IsRefusedAt, OnlySays, said_text, blamed}

@@ -5,21 +5,15 @@
 //! 3. What is said is said last, piece by piece, so that saying it takes no memory.
 #![tactic(auto)]
 
-mod fault;
-mod input;
 mod laws;
-mod leaves;
 mod left;
 mod make;
 mod outcome;
 mod outputs;
 mod prepare;
 mod program;
-mod request;
-mod run;
 mod say;
 
-pub use fault::{ParseStop, SourceFault};
 pub use laws::{
     accepted_runs_end_well, graphs_are_made, limits_are_as_written,
     stores_without_stated_leaves_have_room,
@@ -27,3 +21,4 @@ pub use laws::{
 pub use left::Left;
 pub use outcome::Outcome;
 pub use program::{end_with, teseo};
+pub use source_run::{ParseStop, SourceFault};

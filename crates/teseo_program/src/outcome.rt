@@ -2,10 +2,10 @@
 
 ghost use Rattle.std.specs.Prelude.{◌≡◌};
 
-use crate::fault::{ParseStop, SourceFault};
 use command_words::WordsRefusal;
 use desk_io::{ReadStop, WriteStop};
 use graph_model::{LoadRefusal, NoMemory};
+use source_run::{ParseStop, SourceFault};
 
 /// How a call ends, each with its exit status and what is said.
 ///

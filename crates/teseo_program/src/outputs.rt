@@ -8,13 +8,11 @@ ghost use Rattle.script_lang.specs.FieldFaults.{IsNameByte};
 ghost use Rattle.job_runner.specs.Lines.{file_of};
 ghost use Rattle.command_words.specs.Words.{report_name};
 ghost use Rattle.command_words.specs.Views.{run_request};
-ghost use Rattle.teseo_program.specs.Requests.{report_names};
+ghost use Rattle.source_run.specs.Requests.{report_names};
 ghost use Rattle.teseo_program.specs.Outcomes.{is_full, shows_full};
 ghost use Rattle.teseo_program.specs.Sinks.{summary_line, sinks_of, file_output};
-ghost use Rattle.teseo_program.specs.Running.{run_outputs, HavePrintableNames};
+ghost use Rattle.source_run.specs.Running.{run_outputs, HavePrintableNames};
 
-use crate::request::script_at;
-use crate::run::RunResult;
 use command_words::RunWords;
 use desk_io::Output;
 use graph_model::{NoMemory, Table};
@@ -23,6 +21,7 @@ use items::Items;
 use job_runner::NamedTable;
 use report_lang::{write_journal, write_report};
 use run_model::{Answer, Name};
+use source_run::{RunResult, script_at};
 use std::alloc::Global;
 use txn_manager::Totals;
 

@@ -4,25 +4,21 @@
 ghost use Rattle.std.specs.Prelude.{◌≡◌, ◌≤◌, length, All, IfOk, IfErr, OnOk};
 ghost use Rattle.command_words.specs.Words.{taken_names};
 ghost use Rattle.command_words.specs.Views.{run_request};
-ghost use Rattle.teseo_program.specs.Requests.{IsAsked, kind_of};
-ghost use Rattle.teseo_program.specs.Input.{Texts, IsAccepted};
-ghost use Rattle.teseo_program.specs.Parsing.{meaning_of, AreRunnable};
+ghost use Rattle.source_run.specs.Requests.{IsAsked, kind_of};
+ghost use Rattle.source_run.specs.Input.{Texts, IsAccepted};
+ghost use Rattle.source_run.specs.Parsing.{meaning_of, AreRunnable};
 ghost use Rattle.teseo_program.specs.Prepared.{IsUnprepared, IsPreparedOf, IsMadeOf, IsLoadStop, NamesAreApart};
 
-use crate::fault::ParseStop;
-use crate::input::{Input, parse_sources};
-use crate::leaves::leaves_of;
 use crate::left::Left;
 use crate::outcome::Outcome;
 use crate::outputs::{is_full, outputs_of, summary_of};
-use crate::request::{kind_of, sources_of};
-use crate::run::run_scripts;
 use command_words::RunWords;
 use desk_io::{Desk, Output, read_all};
 use graph_files::{files_are_loadable, load_is_legal};
 use graph_model::{LoadRefusal, MAX_SOURCE_BYTES};
 use graphalytics_io::Text;
 use items::Items;
+use source_run::{Input, ParseStop, kind_of, leaves_of, parse_sources, run_scripts, sources_of};
 use std::alloc::Global;
 use std::thread::Threads;
 

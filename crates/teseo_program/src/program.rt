@@ -5,7 +5,7 @@ ghost use Rattle.std.specs.String.{string_bytes};
 ghost use Rattle.desk_io.specs.Outputs.{names_of};
 ghost use Rattle.command_words.specs.Views.{run_request, make_request};
 ghost use Rattle.teseo_program.specs.declared.outcome.Outcome.{Outcome};
-ghost use Rattle.teseo_program.specs.Requests.{IsAsked, source_names};
+ghost use Rattle.source_run.specs.Requests.{IsAsked, source_names};
 ghost use Rattle.teseo_program.specs.Prepared.{NamesAreApart, Writes, IsWritten};
 ghost use Rattle.teseo_program.specs.Outcomes.{status_of, said_text, blamed, OnlySays, IsLeft, IsOutcome, IsRunOutcome, IsMakeOutcome};
 
@@ -13,12 +13,12 @@ use crate::left::Left;
 use crate::make::prepare_graph;
 use crate::outcome::Outcome;
 use crate::prepare::{Prepared, prepare};
-use crate::request::source_at;
 use crate::say::say_outcome;
 use command_words::{Command, MakeWords, RunWords, read_words};
 use desk_io::{Desk, Gate, Output, ReadStop, write_all};
 use graph_model::NoMemory;
 use items::Items;
+use source_run::source_at;
 use std::alloc::Global;
 use std::thread::Threads;
 

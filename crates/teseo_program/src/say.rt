@@ -5,10 +5,10 @@
 ghost use Rattle.std.specs.Prelude.{◌≡◌, decimal};
 ghost use Rattle.teseo_program.specs.Outcomes.{OnlySays, said_text, text_line, line_text, fault_text};
 
-use crate::fault::SourceFault;
 use crate::outcome::Outcome;
 use desk_io::{Desk, ReadStop};
 use itoa::Buffer;
+use source_run::SourceFault;
 
 /// Says how a run ended, by the name that the outcome blames, where it blames one, and the summary. Takes no memory.
 pub fn say_outcome<D: Desk>(desk: &mut D, name: &str, summary: &[u8], outcome: Outcome)

@@ -1,10 +1,10 @@
 use Rattle.std.proofs.Common.{refl, sym, ap, ◌∙◌, length}
 use Rattle.command_words.specs.Views.{run_request}
-use Rattle.teseo_program.specs.Parsing.{meaning_of}
+use Rattle.source_run.specs.Parsing.{meaning_of}
 use Rattle.teseo_program.specs.Prepared.{IsLoadStop}
 use Rattle.teseo_program.proofs.PreparedLemmas.{are_inputs, job_count, are_printable, are_apart, made_from, stopped_load}
-use Rattle.teseo_program.proofs.RequestLemmas.{stated_leaves}
-use Rattle.teseo_program.proofs.RunLemmas.{files_fit, handed_on}
+use Rattle.source_run.proofs.RequestLemmas.{stated_leaves}
+use Rattle.source_run.proofs.RunLemmas.{files_fit, handed_on}
 use Rattle.teseo_program.proofs.prepare.make.Goals as goal
 
 pub run_scripts-requires-clause-inputs : goal.run_scripts-requires-clause-inputs

@@ -2,7 +2,7 @@ use Rattle.std.proofs.Common.{◌∙◌, ap, map, subst}
 use Rattle.graph_model.specs.declared.limits.TheConstants.{MAX_SOURCE_BYTES}
 use Rattle.desk_io.specs.Sources.{AreRead}
 use Rattle.command_words.specs.Views.{run_request}
-use Rattle.teseo_program.proofs.RequestLemmas.{few_scripts, are_readable}
+use Rattle.source_run.proofs.RequestLemmas.{few_scripts, are_readable}
 use Rattle.teseo_program.proofs.PreparedLemmas.{unparsed}
 use Rattle.teseo_program.proofs.prepare.prepare.Goals as goal
 

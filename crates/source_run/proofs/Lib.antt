@@ -1,0 +1,4 @@
+pub mod RequestLemmas
+pub mod InputLemmas
+pub mod RunLemmas
+pub mod LeavesLemmas

@@ -1,0 +1,5 @@
+pub mod Requests
+pub mod Input
+pub mod Parsing
+pub mod Leaves
+pub mod Running

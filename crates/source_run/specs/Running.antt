@@ -1,0 +1,100 @@
+-- What the run of the scripts leaves, as the code has it.
+use Rattle.std.specs.Prelude.{◌≡◌, ℕ, suc, ◌-◌, ◌*◌, ◌^◌, ◌<◌, ◌≤◌, ◌⊎◌, min, true, List, map, length, All, slice_get, Some}
+use Rattle.std.specs.List.{AllByRecursion}
+use Rattle.graph_model.specs.declared.limits.TheConstants.{SPLIT_ROWS, MAX_LEAVES}
+use Rattle.graph_model.specs.declared.write.Kind.{Kind}
+use Rattle.graph_model.specs.Inserted.{inserted}
+use Rattle.graph_model.specs.Graph.{vertices_of}
+use Rattle.graph_model.specs.History.{graph_at}
+use Rattle.graph_model.specs.OwnerCalls.{Core}
+use Rattle.graphalytics_io.specs.declared.edges.Edge.{Edge}
+use Rattle.graphalytics_io.specs.Load.{load_of}
+use Rattle.run_model.specs.declared.command.Command.{Command}
+use Rattle.run_model.specs.Requests.{begun_by}
+use Rattle.run_model.specs.Answering.{edges_in}
+use Rattle.run_model.specs.Inputs.{Inputs, Outputs}
+use Rattle.run_model.specs.Stepped.{IsStepped, service_turns}
+use Rattle.script_lang.specs.FieldFaults.{IsNameByte}
+use Rattle.txn_manager.specs.declared.config.Config.{Config}
+use Rattle.graph_model.specs.declared.load.LoadRefusal.{LoadRefusal}
+use Rattle.graph_model.specs.declared.load.LoadRefusal.TheVariants as refusals
+use Rattle.teseo_core.specs.Keeping.{LeftStore, new_core}
+use Rattle.job_runner.specs.Lines.{file_of}
+use Rattle.job_runner.specs.Progress.{Progress}
+use Rattle.job_runner.specs.Runs.{HaveDone}
+use Rattle.source_run.specs.declared.input.Input.{Input}
+use Rattle.source_run.specs.declared.run.RunResult.{RunResult}
+use Rattle.source_run.specs.Input.{inputs_of}
+use Rattle.source_run.specs.Parsing.{meaning_of}
+
+-- the journal, the reports and the kernel files
+abbrev pub run_outputs : RunResult → Outputs
+run_outputs r = record {
+  journal = r.ran.core.journal;
+  reports = map (λ job. job.answers) r.jobs;
+  files = map (λ job. map file_of job.tables) r.jobs;
+}
+
+-- What a run by turns leaves: the run is one of these inputs on so many leaves, by the turns of the schedule, and the
+-- engine has its journal, has done for each script what its lines were answered, has counted the service's turns, and
+-- was settled.
+pub record IsLeftBy (inputs : Inputs) (leaves : ℕ) (schedule : List ℕ) (run : Outputs) (ran : LeftStore)
+    : Type 0 where
+  pub stepped : IsStepped inputs leaves schedule run
+  pub journal : ran.core.journal ≡ run.journal
+  pub passes : HaveDone inputs.scripts run.reports ran.core
+  pub served : ran.core.served ≡ min (service_turns (length inputs.scripts) schedule stepped.turns) (2 ^ 64 - 1)
+  pub settled : ran.settled ≡ true
+
+-- what was left is of a run of this input
+abbrev pub IsSteppedRun : Kind → ℕ → Input → RunResult → Type 0
+IsSteppedRun kind leaves input r =
+    IsLeftBy (inputs_of kind (meaning_of input)) leaves input.schedule (run_outputs r) r.ran
+
+-- the names of all kernel files are printable ASCII
+abbrev pub HavePrintableNames : List Progress → Type 0
+HavePrintableNames jobs = AllByRecursion (λ job. AllByRecursion (λ t. All IsNameByte t.name) job.tables) jobs
+
+-- the counts are those of the newest graph, in a settled store
+pub record HasCounts (kind : Kind) (r : RunResult) : Type 0 where
+  pub vertices : r.totals.vertices ≡ length (vertices_of (graph_at kind r.ran.core.journal (length r.ran.core.journal)))
+  pub edges : r.totals.edges ≡ edges_in kind (graph_at kind r.ran.core.journal (length r.ran.core.journal))
+  pub undo : r.totals.undo ≡ 0
+  pub retired : r.totals.retired ≡ 0
+
+-- ---- the engine
+
+-- the rows of the load fill no store of as many leaves as there may be
+abbrev pub Fits : Kind → List ℕ → List Edge → Type 0
+Fits kind ids edges = inserted kind (load_of ids edges) < SPLIT_ROWS * MAX_LEAVES
+
+-- no script begins more transactions
+abbrev pub MayBegin : List (List Command) → ℕ → Type 0
+MayBegin scripts most =
+    (k : ℕ) (commands : List Command) → slice_get scripts k ≡ Some commands → begun_by 0 commands ≤ most
+
+-- one of the scripts begins so many
+abbrev pub Begins : List (List Command) → ℕ → Type 0
+Begins scripts count =
+    (k : ℕ) × (commands : List Command) × (slice_get scripts k ≡ Some commands) × (begun_by 0 commands ≡ count)
+
+-- So many leaves, a pass for each script, and one for the load. A pass may begin as many transactions as the script
+-- with most of them, and at least one.
+pub record IsConfig (kind : Kind) (leaves : ℕ) (scripts : List (List Command)) (config : Config) : Type 0 where
+  pub kind_is : config.kind ≡ kind
+  pub leaves_are : config.leaves ≡ leaves
+  pub passes : config.passes ≡ suc (length scripts)
+  pub begins : MayBegin scripts config.txns_per_pass
+  pub some : 0 < config.txns_per_pass
+  pub no_more : (config.txns_per_pass ≡ 1) ⊎ Begins scripts config.txns_per_pass
+
+-- the engine of some scripts before its first call
+abbrev pub IsNewEngine : Core → Type 0
+IsNewEngine core =
+    (kind : Kind) × (leaves : ℕ) × (scripts : List (List Command)) × (config : Config)
+    × IsConfig kind leaves scripts config × (core ≡ new_core config)
+
+-- why a load was refused: its rows may fill so many leaves, or memory is wanted
+abbrev pub IsRefusedLoad : Kind → ℕ → List ℕ → List Edge → LoadRefusal → Type 0
+IsRefusedLoad kind leaves ids edges (refusals.Full full) = SPLIT_ROWS * leaves ≤ inserted kind (load_of ids edges)
+IsRefusedLoad kind leaves ids edges refusals.NoMemory = Unit {0}

@@ -1,0 +1,197 @@
+//! What the sources stand for.
+//!
+//! 1. The sources are parsed in the order in which they were read, so the first one with a fault is the one that
+//!    is named.
+//! 2. The names that a script may not use grow by the files of each script, in order.
+
+ghost use Rattle.std.specs.Prelude.{◌≡◌, ◌≤◌, length, All, Ok, IfOk, IfErr};
+ghost use Rattle.graph_model.specs.declared.limits.TheConstants.{MAX_LOAD_ROWS, MAX_SCRIPTS};
+ghost use Rattle.graph_files.specs.VertexFiles.{vertices_of};
+ghost use Rattle.graph_files.specs.EdgeFiles.{edges_of};
+ghost use Rattle.command_words.specs.Words.{taken_names};
+ghost use Rattle.command_words.specs.Views.{run_request, taken_name};
+ghost use Rattle.graph_files.specs.Weights.{AreReadable};
+ghost use Rattle.source_run.specs.Requests.{weights_of, rules_of};
+ghost use Rattle.source_run.specs.Input.{texts_of, AreScripts};
+ghost use Rattle.source_run.specs.Parsing.{AreTexts, IsInputOf, AreEntriesOf, AreRunnable, IsParseStop, IsGraphStop, IsScriptStop, IsScheduleStopOf, stop_of_script};
+
+use crate::fault::{ParseStop, SourceFault};
+use crate::request::{kind_of, script_count, weights_of};
+use command_words::{RunWords, TakenName};
+use desk_io::{Bytes, Sources};
+use graph_files::{ReadRefusal, read_edges, read_vertices};
+use graph_model::{Ids, MAX_LOAD_ROWS, NoMemory};
+use graphalytics_io::Edges;
+use items::Items;
+use run_model::{Name, Script};
+use script_lang::{Names, Schedule, ScheduleRefusal, ScriptRefusal, read_schedule, read_script};
+use std::alloc::Global;
+
+/// The graph of the files, the scripts that run on it, and their schedule.
+#[derive(Drop)]
+pub struct Input {
+    pub ids: Ids,
+    pub edges: Edges,
+    pub scripts: Items<Script>,
+    pub schedule: Schedule,
+}
+
+/// Parses the vertex file, the edge file, the scripts and the schedule.
+pub fn parse_sources(
+    alloc: Global,
+    sources: &Sources,
+    words: &RunWords<'_>,
+) -> Result<Input, ParseStop>
+    requires few { length (run_request words.now).scripts ≤ MAX_SCRIPTS }
+    requires texts { AreTexts (run_request words.now) sources.now }
+    requires readable { AreReadable (weights_of (run_request words.now)) }
+    ensures accepted { IfOk result (IsInputOf (run_request words.now) sources.now) }
+    ensures runnable { IfOk result (λ input. AreRunnable (taken_names (run_request words.now)) input.scripts) }
+    ensures count { IfOk result (λ input. length input.scripts ≡ length (run_request words.now).scripts) }
+    ensures listed { IfOk result (λ input. All (λ job. job ≤ length input.scripts) input.schedule) }
+    ensures refused { IfErr result
+        (IsParseStop (run_request words.now) (texts_of (run_request words.now) sources.now)) }
+{
+    let texts = sources.as_slice();
+    let ids = parse_vertices(alloc, texts[0].as_slice())?;
+    let edges = parse_edges(alloc, texts[1].as_slice(), &ids, words)?;
+    let mut taken = names_taken(alloc, words)?;
+    let count = script_count(words);
+    let scripts = parse_scripts(alloc, &texts[2..count + 2], &mut taken)?;
+    let schedule = parse_schedule(alloc, texts, words)?;
+    Ok(Input {
+        ids,
+        edges,
+        scripts,
+        schedule,
+    })
+}
+
+/// Parses the vertex file, the first source.
+fn parse_vertices(alloc: Global, text: &[u8]) -> Result<Ids, ParseStop>
+    ensures ok { IfOk result (λ ids. vertices_of MAX_LOAD_ROWS text.now ≡ Ok ids) }
+    ensures refused { IfErr result (IsGraphStop 0 (vertices_of MAX_LOAD_ROWS text.now)) }
+{
+    match read_vertices(alloc, text, MAX_LOAD_ROWS) {
+        Ok(ids) => Ok(ids),
+        Err(ReadRefusal::Fault(fault)) => Err(ParseStop::NotAccepted {
+            place: 0,
+            fault: SourceFault::Graph(fault),
+        }),
+        Err(ReadRefusal::NoMemory) => Err(ParseStop::NoMemory),
+    }
+}
+
+/// Parses the edge file, the second source.
+fn parse_edges(
+    alloc: Global,
+    text: &[u8],
+    ids: &Ids,
+    words: &RunWords<'_>,
+) -> Result<Edges, ParseStop>
+    requires { AreReadable (weights_of (run_request words.now)) }
+    ensures ok { IfOk result (λ edges. edges_of (rules_of (run_request words.now) ids.now) text.now ≡ Ok edges) }
+    ensures refused { IfErr result (IsGraphStop 1 (edges_of (rules_of (run_request words.now) ids.now) text.now)) }
+{
+    match read_edges(
+        alloc,
+        text,
+        ids,
+        kind_of(words),
+        weights_of(words),
+        MAX_LOAD_ROWS,
+    ) {
+        Ok(edges) => Ok(edges),
+        Err(ReadRefusal::Fault(fault)) => Err(ParseStop::NotAccepted {
+            place: 1,
+            fault: SourceFault::Graph(fault),
+        }),
+        Err(ReadRefusal::NoMemory) => Err(ParseStop::NoMemory),
+    }
+}
+
+/// Parses the scripts, the sources from the third on.
+fn parse_scripts(
+    alloc: Global,
+    texts: &[Bytes],
+    taken: &mut Names,
+) -> Result<Items<Script>, ParseStop>
+    ensures ok { IfOk result (AreScripts taken.old texts.now) }
+    ensures runnable { IfOk result (AreRunnable taken.old) }
+    ensures refused { IfErr result (IsScriptStop taken.old texts.now) }
+{
+    let mut scripts = Items::new(alloc);
+    'texts: for k in 0..texts.len() {
+        let script = match read_script(alloc, texts[k].as_slice(), taken) {
+            Ok(script) => script,
+            Err(refusal) => return Err(script_stop(k + 2, refusal)),
+        };
+        scripts.push(script)?;
+    }
+    Ok(scripts)
+}
+
+/// The stop at a script, the source at this place.
+fn script_stop(place: usize, refusal: ScriptRefusal) -> ParseStop
+    ensures { result ≡ stop_of_script place refusal }
+{
+    match refusal {
+        ScriptRefusal::Fault { line, what } => ParseStop::NotAccepted {
+            place,
+            fault: SourceFault::Script { line, what },
+        },
+        ScriptRefusal::NoMemory => ParseStop::NoMemory,
+    }
+}
+
+/// Parses the schedule, the last source, where there is one.
+fn parse_schedule(
+    alloc: Global,
+    texts: &[Bytes],
+    words: &RunWords<'_>,
+) -> Result<Schedule, ParseStop>
+    requires few { length (run_request words.now).scripts ≤ MAX_SCRIPTS }
+    requires texts { AreTexts (run_request words.now) texts.now }
+    ensures ok { IfOk result (AreEntriesOf (run_request words.now) texts.now) }
+    ensures listed { IfOk result (All (λ job. job ≤ length (run_request words.now).scripts)) }
+    ensures refused { IfErr result (IsScheduleStopOf (run_request words.now) texts.now) }
+{
+    let count = script_count(words);
+    if words.schedule.is_none() {
+        return Ok(Schedule::new(alloc));
+    }
+    match read_schedule(alloc, texts[count + 2].as_slice(), count as u32) {
+        Ok(schedule) => Ok(schedule),
+        Err(ScheduleRefusal::Fault { line, what }) => Err(ParseStop::NotAccepted {
+            place: count + 2,
+            fault: SourceFault::Schedule { line, what },
+        }),
+        Err(ScheduleRefusal::NoMemory) => Err(ParseStop::NoMemory),
+    }
+}
+
+/// The names that a script may not give a file, before the first script is read.
+fn names_taken(alloc: Global, words: &RunWords<'_>) -> Result<Names, NoMemory>
+    ensures { IfOk result (λ taken. taken ≡ taken_names (run_request words.now)) }
+{
+    let mut taken = Names::new(alloc);
+    'places: for place in 0..words.taken_len() {
+        taken.push(name_of(alloc, words.taken(place))?)?;
+    }
+    Ok(taken)
+}
+
+/// A name with its bytes.
+fn name_of(alloc: Global, name: TakenName<'_>) -> Result<Name, NoMemory>
+    ensures { IfOk result (λ copy. copy ≡ taken_name name.entry) }
+{
+    let bytes = match name {
+        TakenName::Given(name) => Vec::from_slice(alloc, name.as_bytes())?,
+        TakenName::ReportOf(script) => {
+            let mut bytes = Vec::from_slice(alloc, script.as_bytes())?;
+            bytes.extend_from_slice(b".report")?;
+            bytes
+        }
+    };
+    Ok(Name::from_vec(bytes))
+}

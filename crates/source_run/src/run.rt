@@ -1,0 +1,143 @@
+//! The run of the scripts on the loaded graph.
+//!
+//! 1. The graph is loaded as the first transaction of a new engine, and the scripts take their turns behind it.
+//! 2. Script k uses pass k of the engine, and the load and the service use pass 0.
+//! 3. The store has as many leaves as are stated, or as the rows of the load and of the scripts can fill.
+
+ghost use Rattle.std.specs.Prelude.{◌≡◌, ◌≤◌, ◌+◌, ◌<◌, ℕ, cond, length, All, IfOk, IfErr, false};
+ghost use Rattle.std.specs.List.{AllByRecursion};
+ghost use Rattle.graph_model.specs.declared.limits.TheConstants.{MAX_LEAVES, MAX_SCRIPTS, MAX_BEGINS};
+ghost use Rattle.graphalytics_io.specs.Load.{load_of};
+ghost use Rattle.graph_model.specs.Graph.{empty_graph};
+ghost use Rattle.graph_model.specs.Loading.{loaded};
+ghost use Rattle.graph_model.specs.Refused.{AllAllowed, IsWithinLimits};
+ghost use Rattle.run_model.specs.Inputs.{AreInputs};
+ghost use Rattle.run_model.specs.Requests.{request, next_txn, begun_by};
+ghost use Rattle.run_model.specs.Run.{IsRun};
+ghost use Rattle.txn_manager.specs.Config.{too_large};
+ghost use Rattle.teseo_core.specs.Keeping.{new_core};
+ghost use Rattle.job_runner.specs.Runs.{new_jobs};
+ghost use Rattle.source_run.specs.Input.{inputs_of};
+ghost use Rattle.source_run.specs.Parsing.{meaning_of};
+ghost use Rattle.source_run.specs.Running.{run_outputs, HasCounts, IsSteppedRun, IsRefusedLoad, MayBegin, IsConfig};
+
+use crate::input::Input;
+use graph_model::{Kind, LoadRefusal, NoMemory};
+use graphalytics_io::load_graph;
+use items::Items;
+use job_runner::{Job, Jobs, run_stepped};
+use run_model::{Command, Script, stepped_runs_are_runs};
+use std::alloc::Global;
+use std::thread::Threads;
+use teseo_core::{Core, CoreJournal};
+use txn_manager::{Config, StoreRefusal, Totals};
+
+/// What the run of the scripts leaves: the engine's journal, the scripts with their answers and tables, and what the
+/// settled store holds.
+#[derive(Drop)]
+pub struct RunResult {
+    pub ran: CoreJournal,
+    pub jobs: Jobs,
+    pub totals: Totals,
+}
+
+/// Loads the graph, and runs the scripts on it by their turns.
+pub fn run_scripts<R: Threads + Sync>(
+    rt: &R,
+    alloc: Global,
+    kind: Kind,
+    leaves: u32,
+    input: Input,
+) -> Result<RunResult, LoadRefusal>
+    requires some { 1 ≤ leaves }
+    requires few { leaves ≤ MAX_LEAVES }
+    requires inputs { AreInputs (inputs_of kind (meaning_of input)) }
+    requires listed { All (λ job. job ≤ length input.scripts) input.schedule }
+    ensures run { IfOk result (λ r. IsRun (inputs_of kind (meaning_of input)) leaves (run_outputs r)) }
+    ensures left { IfOk result (IsSteppedRun kind leaves input) }
+    ensures counts { IfOk result (HasCounts kind) }
+    ensures refused { IfErr result (IsRefusedLoad kind leaves input.ids input.edges) }
+{
+    stepped_runs_are_runs();
+    let config = config_of(kind, leaves, input.scripts.as_slice());
+    let mut engine = new_engine(alloc, config)?;
+    load_graph(alloc, &mut engine, &input.ids, &input.edges)?;
+    let mut jobs = jobs_of(alloc, input.scripts)?;
+    run_stepped(rt, &mut engine, &mut jobs, input.schedule.as_slice())?;
+    engine.settle();
+    let totals = engine.totals();
+    Ok(RunResult {
+        ran: engine.into_journal(),
+        jobs,
+        totals,
+    })
+}
+
+/// What the engine of these scripts is made with: a pass for each, and one for the load. Each may begin as
+/// many transactions as the script with most of them.
+fn config_of(kind: Kind, leaves: u32, scripts: &[Script]) -> Config
+    requires some { 1 ≤ leaves }
+    requires few { leaves ≤ MAX_LEAVES }
+    requires count { length scripts.now ≤ MAX_SCRIPTS }
+    requires begins { MayBegin scripts.now MAX_BEGINS }
+    ensures config { IsConfig kind leaves scripts.now result }
+    ensures fits { too_large result ≡ false }
+{
+    let mut most = 1;
+    'scripts: for script in scripts {
+        most = most.max(begins(script.as_slice()));
+    }
+    Config {
+        kind,
+        leaves,
+        passes: scripts.len() as u32 + 1,
+        txns_per_pass: most,
+    }
+}
+
+/// How many transactions a script begins.
+fn begins(script: &[Command]) -> u32
+    requires { begun_by 0 script.now ≤ MAX_BEGINS }
+    ensures { result ≡ begun_by 0 script.now }
+{
+    let mut count = 0;
+    'lines: for command in script {
+        if is_begin(command) {
+            count += 1;
+        }
+    }
+    count
+}
+
+/// Whether the line begins a transaction.
+fn is_begin(command: &Command) -> bool
+    ensures { (n : ℕ) → next_txn n (request command.now) ≡ cond result (n + 1) n }
+{
+    matches!(command, Command::Begin)
+}
+
+/// An engine that isn't too large.
+fn new_engine(alloc: Global, config: Config) -> Result<Core, NoMemory>
+    requires { too_large config ≡ false }
+    ensures { IfOk result (λ engine. engine.core ≡ new_core config) }
+{
+    match Core::new(alloc, config) {
+        Ok(engine) => Ok(engine),
+        Err(StoreRefusal::TooLarge) => unreachable!(),
+        Err(StoreRefusal::NoMemory) => Err(NoMemory),
+    }
+}
+
+/// A job for each script, numbered from 1 in their order.
+fn jobs_of(alloc: Global, scripts: Items<Script>) -> Result<Jobs, NoMemory>
+    requires { length scripts ≤ MAX_SCRIPTS }
+    ensures { IfOk result (λ jobs. jobs ≡ new_jobs 1 scripts) }
+{
+    let mut jobs = Vec::new(alloc);
+    let mut number = 1;
+    'scripts: for script in scripts.into_vec() {
+        jobs.push(Job::new(alloc, number, script))?;
+        number += 1;
+    }
+    Ok(Jobs::from_vec(jobs))
+}

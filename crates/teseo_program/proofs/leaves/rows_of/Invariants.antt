@@ -1,9 +1,0 @@
--- the rows of the graph and of the scripts so far
-use Rattle.std.proofs.Common.{◌≡◌, take}
-use Rattle.teseo_program.specs.Input.{inputs_of}
-use Rattle.teseo_program.specs.Leaves.{most_rows, counted}
-use Rattle.teseo_program.specs.Parsing.{meaning_of}
-use Rattle.teseo_program.proofs.leaves.rows_of.Given as goal
-
-abbrev pub invariant-scripts : goal.invariant-scripts
-invariant-scripts l = l.rows ≡ counted (most_rows (record (inputs_of l.kind (meaning_of l.input)) { scripts = take l.script-index l.input.scripts }))
