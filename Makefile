@@ -14,7 +14,7 @@ help:
 	@echo 'make demo       runs an example, checked and not proved, in a minute: EXAMPLE=first'
 	@echo '                or tour, transfers, fraud, routes, network, conflict, kernels'
 	@echo 'make quick      runs all tests, the examples and the guide, checked and not proved, in 3 minutes'
-	@echo 'make build      proves and builds the program: 10 minutes the first time on four quiet cores'
+	@echo 'make build      proves and builds the program: a quarter of an hour the first time on four cores'
 	@echo 'make install    builds, and puts teseo, its manual page, its completion and the tools below PREFIX ($(PREFIX))'
 	@echo 'make uninstall  removes them from there'
 	@echo 'make test       the gate: proves every crate from nothing, and runs all tests (an hour)'
@@ -31,7 +31,7 @@ quick:
 	.ci/quick
 
 build:
-	@echo 'Proving and building takes 10 minutes the first time on four quiet cores, and seconds where nothing changed.'
+	@echo 'Proving and building takes a quarter of an hour the first time on four quiet cores, and seconds where nothing changed.'
 	@.ci/build
 
 install: build
