@@ -1,6 +1,6 @@
 -- Passes come back, and slots are emptied from the last one on.
 use Rattle.std.proofs.Common.{◌≡◌, ◌⊎◌, inl, inr, ℕ, zero, suc, ◌+◌, ◌-◌, ◌<◌, ◌≤◌, List, [], ◌∷◌, ◌++◌, length, refl, sym, ◌∙◌, ap, subst, cond, arith, length-append, reverse}
-use Rattle.std.specs.Prelude.{false, ◌==◌, slice_get, Some}
+use Rattle.std.specs.Prelude.{◌≢◌, false, ◌==◌, slice_get, Some}
 use Rattle.std.proofs.lemmas.List.{reverse-append}
 use Rattle.atomic_table.specs.Seated.{TableId}
 use Rattle.seat_views.specs.Keeping.{kept_at}
@@ -8,12 +8,15 @@ use Rattle.seat_views.proofs.NumberLemmas.{kept-append, other_number, same_numbe
 use Rattle.txn_manager.specs.declared.config.Config.{Config}
 use Rattle.store_relation.specs.Shared.{JournalState}
 use Rattle.rule_model.specs.EndSteps.{HasAll}
+use Rattle.version_segment.specs.Resting.{RestingRows}
 use Rattle.version_segment.specs.Rows.{VersionedRows, IsSameSegment}
 use Rattle.cells_model.specs.Cells.{CellState}
 use Rattle.rule_model.specs.Sight.{HasJournal, Sight, cells_of, with_cell}
 use Rattle.rule_model.specs.ViewSteps.{joined}
-use Rattle.store_rule.specs.Closing.{AreBackPasses, AreCellsFrom, AreSlotsBelow, HasJoined, IsBackPass, IsOfCell}
-use Rattle.store_rule.specs.Slots.{FitsPlace}
+use Rattle.store_rule.specs.Closed.{AreAtRest, AreAtRestFrom, IsAtRest, IsPopped, known_in, known_segments}
+use Rattle.store_rule.specs.Closing.{AreBackPasses, AreCells, AreSlotsBelow, HasJoined, IsBackPass}
+use Rattle.store_rule.specs.Slots.{FitsPlace, RestsAs}
+use Rattle.store_rule.proofs.MakeLemmas.{get_snoc}
 use Rattle.store_rule.specs.declared.slot.StoreSlot.{StoreSlot}
 use Rattle.store_rule.specs.declared.slot.Room.{Room}
 use Rattle.store_rule.specs.declared.store.Pass.{Pass}
@@ -51,6 +54,20 @@ pub get_there : {A : Type 0} (xs : List A) (i : ℕ) → i < length xs → (y : 
 get_there [] i less = absurd (omega arith)
 get_there (x ∷ xs) zero less = (x, refl)
 get_there (x ∷ xs) (suc i) less = get_there xs i (omega arith)
+
+-- it stands within the list
+get_within : {A : Type 0} (xs : List A) (i : ℕ) (y : A) → slice_get xs i ≡ Some y → i < length xs
+get_within [] i y e = cc
+get_within (x ∷ xs) zero y e = omega arith
+get_within (x ∷ xs) (suc i) y e = let less = get_within xs i y e in omega (arith, less)
+
+-- ---- views
+
+-- what is known of another cell is as it was
+other_kept : (v w : Sight) (n : ℕ) (c : CellState) (k : ℕ) → w ≡ with_cell v n c → k ≢ n
+    → kept_at w.cells k ≡ kept_at v.cells k
+other_kept v w n c k is other = ap (λ (u : Sight). kept_at u.cells k) is
+    ∙ ap (λ b. cond b (Some c) (kept_at v.cells k)) (other_number k n other)
 
 -- ---- slots
 
@@ -90,19 +107,20 @@ joined_one room latches accounts list n m pass v last here back have p one least
 
 -- ---- cells
 
--- one more cell is known
-pub one_cell : (v : Sight) (k n : ℕ) (c : CellState) (s : VersionedRows) (list all : List VersionedRows) → n ≡ k + 1
-    → IsSameSegment c.segment s → AreCellsFrom v n (reverse list) → all ≡ list ++ s ∷ []
-    → AreCellsFrom (with_cell v k c) k (reverse all)
-one_cell v k n c s list all last same are is i one e =
-    at i (ap (λ l. slice_get l i) (sym (ap reverse is ∙ reverse-append list (s ∷ []))) ∙ e)
+-- what is kept of one more cell
+pub one_cell : (v : Sight) (k n : ℕ) (c : CellState) (resting : RestingRows) (list all : List RestingRows) → n ≡ k + 1
+    → c.unpacked ≡ false → RestsAs c.segment resting → AreAtRestFrom v n (reverse list) → all ≡ list ++ resting ∷ []
+    → AreAtRestFrom (with_cell v k c) k (reverse all)
+one_cell v k n c resting list all last packed rests are is i one e =
+    at i (ap (λ l. slice_get l i) (sym (ap reverse is ∙ reverse-append list (resting ∷ []))) ∙ e)
   where
-    at : (i : ℕ) → slice_get (s ∷ reverse list) i ≡ Some one → IsOfCell (with_cell v k c) (k + i) one
+    at : (i : ℕ) → slice_get (resting ∷ reverse list) i ≡ Some one → IsAtRest (with_cell v k c) (k + i) one
     at zero f =
         let here : k + 0 ≡ k = omega arith in (
           c,
           ap (kept_at ((k, c) ∷ v.cells)) here ∙ ap (λ b. cond b (Some c) (kept_at v.cells k)) (same_number k),
-          subst (λ (x : VersionedRows). IsSameSegment c.segment x) (some_is s one f) same,
+          packed,
+          subst (λ (x : RestingRows). RestsAs c.segment x) (some_is resting one f) rests,
         )
     at (suc i) f =
         let old = are i one f in
@@ -112,7 +130,94 @@ one_cell v k n c s list all last same are is i one e =
           ap (λ b. cond b (Some c) (kept_at v.cells (k + suc i))) apart
               ∙ subst (λ m. kept_at v.cells m ≡ Some old.0) there old.1,
           old.2,
+          old.3,
         )
+
+-- from the first one on these are all
+pub all_at_rest : (v : Sight) (list : List RestingRows) → AreAtRestFrom v 0 list → AreAtRest v list
+all_at_rest v list are k resting e =
+    let same : 0 + k ≡ k = omega arith in subst (λ n. IsAtRest v n resting) same (are k resting e)
+
+-- ---- contents that are known
+
+pub known_length : (v : Sight) (count : ℕ) → length (known_segments v count) ≡ count
+known_length v zero = refl
+known_length v (suc count) =
+    let a = length-append (known_segments v count) (known_in (kept_at v.cells count) ∷ []) in
+    let rest = known_length v count in omega (arith, a, rest)
+
+known_get : (v : Sight) (count k : ℕ) (s : VersionedRows) → slice_get (known_segments v count) k ≡ Some s
+    → (k < count) × (known_in (kept_at v.cells k) ≡ s)
+known_get v zero k s e = cc
+known_get v (suc count) k s e =
+    elim (get_snoc (known_segments v count) (known_in (kept_at v.cells count)) s k e) as
+    (λ _. (k < suc count) × (known_in (kept_at v.cells k) ≡ s)) [
+      | inl h ↦ let rest = known_get v count k s h in let less = rest.0 in (omega (arith, less), rest.1)
+      | inr h ↦
+          let last : k ≡ count = h.0 ∙ known_length v count in
+          (omega (arith, last), ap (λ n. known_in (kept_at v.cells n)) last ∙ h.1)
+    ]
+
+-- what is known of the first cells is so where the view has them as before
+pub known_same : (v w : Sight) (count : ℕ) → ((k : ℕ) → k < count → kept_at w.cells k ≡ kept_at v.cells k)
+    → known_segments w count ≡ known_segments v count
+known_same v w zero same = refl
+known_same v w (suc count) same =
+    λ i. known_same v w count (λ k less. same k (omega (arith, less))) i
+    ++ known_in (same count (omega arith) i) ∷ []
+
+-- the contents of cells at rest are those that are known
+pub known_cells : (v : Sight) (list : List RestingRows) → AreAtRest v list
+    → AreCells v (known_segments v (length list))
+known_cells v list are k s e =
+    let known = known_get v (length list) k s e in
+    let there = get_there list k known.0 in
+    let rest = are k there.0 there.1 in (
+      rest.0,
+      rest.1,
+      subst (λ (x : VersionedRows). IsSameSegment (rest.0).segment x) (ap known_in (sym rest.1) ∙ known.1)
+          (record { low = refl; high = refl; rows = refl }),
+    )
+
+-- a cell is unpacked: what is kept of the others is as it was
+pub others_at_rest : (v w : Sight) (list : List RestingRows) (c : CellState) → AreAtRest v list
+    → w ≡ with_cell v (length list) c → AreAtRest w list
+others_at_rest v w list c are is k resting e =
+    let less = get_within list k resting e in
+    let old = are k resting e in (
+      old.0,
+      other_kept v w (length list) c k is (λ same. absurd (omega (arith, less, same))) ∙ old.1,
+      old.2,
+      old.3,
+    )
+
+pub known_others : (v w : Sight) (count : ℕ) (c : CellState) → w ≡ with_cell v count c
+    → known_segments w count ≡ known_segments v count
+known_others v w count c is =
+    known_same v w count (λ k less. other_kept v w count c k is (λ same. absurd (omega (arith, less, same))))
+
+-- ---- cells of a closed store are taken out, the last one first
+
+pub last_at_rest : (v : Sight) (old new : List RestingRows) (resting : RestingRows) (m : ℕ) → AreAtRest v old
+    → old ≡ new ++ resting ∷ [] → m ≡ length new → IsAtRest v m resting
+last_at_rest v old new resting m are is last = subst (λ k. IsAtRest v k resting) (sym last)
+    (are (length new) resting (ap (λ l. slice_get l (length new)) is ∙ get_end new resting))
+
+-- the others are at rest, and their contents are known as they were
+pub front_at_rest : (v w : Sight) (old new : List RestingRows) (resting : RestingRows) (m : ℕ) (c : CellState)
+    → AreAtRest v old → old ≡ new ++ resting ∷ [] → m ≡ length new → w ≡ with_cell v m c → AreAtRest w new
+front_at_rest v w old new resting m c are is last now = others_at_rest v w new c
+    (λ k one e. are k one (ap (λ l. slice_get l k) is ∙ get_front new (resting ∷ []) one k e))
+    (now ∙ ap (λ k. with_cell v k c) last)
+
+pub known_last : (v w : Sight) (n m : ℕ) (c d : CellState) (s : VersionedRows) → n ≡ m + 1 → kept_at v.cells m ≡ Some c
+    → w ≡ with_cell v m d → IsSameSegment c.segment s → IsPopped (known_segments v n) (known_segments w m) (Some s)
+known_last v w n m c d s last has is same =
+    let one : n ≡ suc m = omega (arith, last) in (
+      known_in (kept_at v.cells m),
+      ap (known_segments v) one ∙ (λ i. sym (known_others v w m d is) i ++ known_in (kept_at v.cells m) ∷ []),
+      subst (λ o. IsSameSegment (known_in o) s) (sym has) same,
+    )
 
 -- the next cell to be taken out, while some are left
 pub next_cell : (z : Config) (table : TableId) (done : ℕ) (slots : List StoreSlot) → length slots + done ≡ cells_of z

@@ -1,3 +1,4 @@
+pub mod BufferLemmas
 pub mod MakeLemmas
 pub mod CloseLemmas
 pub mod PackLemmas

@@ -7,8 +7,7 @@ use Rattle.atomic_table.specs.declared.shared.Seat.{Seat}
 use Rattle.seat_views.specs.Keeping.{kept_at}
 use Rattle.seat_views.proofs.NumberLemmas.{eq_of, some_is}
 use Rattle.txn_manager.specs.declared.config.Config.{Config}
-use Rattle.version_segment.specs.Rows.{IsSameSegment, VersionedRows}
-use Rattle.cells_model.specs.Indexed.{new_cell}
+use Rattle.version_segment.specs.Resting.{RestingRows}
 use Rattle.rule_model.specs.EndSteps.{new_state, numbered, first_sight}
 use Rattle.rule_model.specs.Sight.{Sight, cells_of}
 use Rattle.store_words.specs.Notes.{IsNote, cell_note, without_cell, without_pass}
@@ -80,15 +79,14 @@ module _ (z : Config) (table : TableId) where
   }
 
 -- so its slot fits
-pub new_slot : (table : TableId) (k : ℕ) (segment : VersionedRows) (note : Seat (Unit {0}) Sight)
-    → IsSameSegment (new_cell k) segment → IsNote table (cell_note k (new_state k)) note
-    → IsCellSlot table k (slots.Cell segment note)
-new_slot table k segment note same knows = record {
-  resting = segment;
+pub new_slot : (table : TableId) (k : ℕ) (resting : RestingRows) (note : Seat (Unit {0}) Sight)
+    → resting.rows ≡ [] → IsNote table (cell_note k (new_state k)) note → IsCellSlot table k (slots.Cell resting note)
+new_slot table k resting note none knows = record {
+  resting = resting;
   note = note;
   is = refl;
   state = new_state k;
-  rests = same;
+  rests = none;
   packed = refl;
   knows = knows;
 }

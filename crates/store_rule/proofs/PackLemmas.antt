@@ -1,15 +1,20 @@
 -- Contents that are unpacked and packed.
-use Rattle.std.proofs.Common.{◌≡◌, ◌≢◌, ◌+◌, List, refl, ◌∙◌, ap, subst, cond, arith, get_or-set_same}
+use Rattle.std.proofs.Common.{◌≡◌, ◌≢◌, ◌+◌, List, refl, sym, ◌∙◌, ap, subst, cond, arith, get_or-set_same}
 use Rattle.std.specs.Prelude.{Bool, true, false, ◌==◌}
 use Rattle.graph_model.specs.declared.row.Key.{Key}
 use Rattle.graph_model.specs.declared.row.Row.{Row}
 use Rattle.store_model.specs.Stamped.{StampedVersions}
+use Rattle.graph_model.specs.Rows.{is_below}
+use Rattle.gap_segment.specs.Fenced.{AreSorted, AreWithin}
+use Rattle.version_segment.specs.Resting.{AgreeWith, CanWake, RestingRow, RestingRows, resting_of, resting_row, woken, woken_rows}
 use Rattle.version_segment.specs.Rows.{IsSameSegment, IsSegment, VersionedRows}
+use Rattle.version_segment.proofs.WordLemmas.{can_wake, wakes_rested}
 use Rattle.cells_model.specs.Cells.{CellState, last_word, raised_word, unpacked, version_word}
 use Rattle.cells_model.specs.Words.{HasSmallWeights, Spells, word_row, word_rows}
 use Rattle.cells_model.proofs.BlockLemmas.{still_spells}
 use Rattle.std.specs.Prelude.{map}
 use Rattle.store_words.specs.Spelling.{CanSpell, IsUntouched}
+use Rattle.store_rule.specs.Slots.{RestsAs}
 
 -- a cell that was just unpacked is untouched
 pub untouched_now : (c : CellState) → Spells c.block c.segment → IsUntouched (unpacked c)
@@ -46,3 +51,34 @@ can_spell s t low high rows same sound small low_is high_is rows_are =
       };
       small = subst (λ l. HasSmallWeights (record t { rows = l })) same.rows small;
     }
+
+-- ---- segments that wake
+
+-- a segment at rest may wake with what its block spells
+pub wakes_with : (s : VersionedRows) (resting : RestingRows) (low high : Key) (rows : List Row)
+    → CanSpell low high rows s → RestsAs s resting → CanWake resting low high rows
+wakes_with s resting low high rows can rests =
+    let wakes = can_wake s can.sound can.small in
+    record {
+      fences = subst (λ (x : Key × Key). is_below x.1 x.0 ≡ false) (λ i. (sym can.low_is i, sym can.high_is i)) wakes.fences;
+      sorted = subst AreSorted (sym can.rows_are) wakes.sorted;
+      within = subst (λ (x : Key × Key × List Row). AreWithin x.0 x.1 x.2)
+          (λ i. (sym can.low_is i, sym can.high_is i, sym can.rows_are i)) wakes.within;
+      agree = subst (λ (x : List RestingRow × List Row). AgreeWith x.0 x.1) (λ i. (sym rests i, sym can.rows_are i))
+          wakes.agree;
+    }
+
+-- and is then the segment that was laid to rest, but for room
+pub wakes_same : (s : VersionedRows) (resting : RestingRows) (low high : Key) (rows : List Row) (t : VersionedRows)
+    → CanSpell low high rows s → RestsAs s resting → t ≡ woken resting low high rows → IsSameSegment s t
+wakes_same s resting low high rows t can rests is = record {
+  low = ap (λ (x : VersionedRows). x.low) is ∙ can.low_is;
+  high = ap (λ (x : VersionedRows). x.high) is ∙ can.high_is;
+  rows = ap (λ (x : VersionedRows). x.rows) is ∙ (λ i. woken_rows (rests i) (can.rows_are i))
+      ∙ ap (λ (x : VersionedRows). x.rows) (wakes_rested s can.small);
+}
+
+-- what rests of a segment of which the contents are but for room
+pub rests_as : (s t : VersionedRows) (resting : RestingRows) → IsSameSegment s t → resting ≡ resting_of t
+    → RestsAs s resting
+rests_as s t resting same is = ap (λ (r : RestingRows). r.rows) is ∙ ap (map resting_row) same.rows

@@ -69,10 +69,9 @@ pub record AreSlotsBelow (z : Config) (table : TableId) (count : ℕ) (slots : L
 abbrev pub IsOfCell : Sight → ℕ → VersionedRows → Type 0
 IsOfCell v k s = (c : CellState) × HasCell v k c × IsSameSegment c.segment s
 
--- these are of the cells from a number on
-abbrev pub AreCellsFrom : Sight → ℕ → List VersionedRows → Type 0
-AreCellsFrom v first list =
-    (i : ℕ) (s : VersionedRows) → slice_get list i ≡ Some s → IsOfCell v (first + i) s
+-- these are of the cells in the order of their numbers
+abbrev pub AreCells : Sight → List VersionedRows → Type 0
+AreCells v list = (k : ℕ) (s : VersionedRows) → slice_get list k ≡ Some s → IsOfCell v k s
 
 -- passes, index and journal are as they were
 pub record KeepsOthers (old new : Sight) : Type 0 where
@@ -90,6 +89,6 @@ pub record IsContent (z : Config) (list : List Pass) (content : Content) : Type 
   pub last : IsLast z sight state
   pub passes : HasJoined list 0 sight
   pub journal : IsListOf state content.journal
-  pub count : length content.cells.items ≡ cells_of z
-  pub cells : AreCellsFrom sight 0 content.cells.items
+  pub count : length content.cells ≡ cells_of z
+  pub cells : AreCells sight content.cells
   pub index : (y : IndexState) × HasIndex sight y × (content.index.value ≡ y.index)

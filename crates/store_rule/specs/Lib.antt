@@ -1,5 +1,7 @@
+pub mod Buffers
 pub mod Slots
 pub mod Passes
 pub mod Making
+pub mod Closed
 pub mod Closing
 pub mod Packing

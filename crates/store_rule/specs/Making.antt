@@ -9,6 +9,7 @@ use Rattle.store_relation.specs.Shared.{no_journal}
 use Rattle.rule_model.specs.EndSteps.{new_known, new_state}
 use Rattle.rule_model.specs.Sight.{HasCell, HasIndex, HasJournal, HasPass, HasPin, Sight, cells_of, fresh_pin}
 use Rattle.store_words.specs.Notes.{IsNote, pass_note}
+use Rattle.store_rule.specs.declared.buffers.TheConstants.{MOST_UNPACKED}
 use Rattle.store_rule.specs.declared.slot.Room.{Room}
 use Rattle.store_rule.specs.declared.slot.StoreSlot.{StoreSlot}
 use Rattle.store_rule.specs.declared.store.Pass.{Pass}
@@ -42,12 +43,13 @@ pub record AreSlots (z : Config) (table : TableId) (slots : List StoreSlot) : Ty
 
 -- ---- passes
 
--- it has begun nothing
+-- it has begun nothing, and has room for the rows of all cells that it may have unpacked
 pub record IsNewPass (room : Room) (latches accounts : TableId) (p : ℕ) (pass : Pass) : Type 0 where
   pub number : pass.number ≡ p
   pub latch : IsIdle room.config.passes room latches pass.latch
   pub same : number_of pass.latch.me.0 ≡ p
   pub account : IsNote accounts (pass_note p fresh_pass fresh_pin) pass.account
+  pub buffers : pass.buffers ≡ MOST_UNPACKED
 
 -- from a number on
 abbrev pub AreNewFrom : Room → TableId → TableId → ℕ → List Pass → Type 0

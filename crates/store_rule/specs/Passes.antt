@@ -12,6 +12,7 @@ use Rattle.store_rule.specs.declared.store.Store.{Store}
 pub record OnlyAccount (old new : Pass) (sight : Sight) : Type 0 where
   pub number : new.number ≡ old.number
   pub latch : new.latch ≡ old.latch
+  pub buffers : new.buffers ≡ old.buffers
   pub account : Knows old.account new.account sight
 
 -- a seat that knows one pass, with its pin, and no other one; it is no reader

@@ -7,7 +7,8 @@ use Rattle.atomic_table.specs.declared.shared.Seat.{Seat}
 use Rattle.graph_model.specs.declared.journal.Commit.{Commit}
 use Rattle.items.specs.Room.{WithRoom}
 use Rattle.txn_manager.specs.declared.config.Config.{Config}
-use Rattle.version_segment.specs.Rows.{VersionedRows, IsSameSegment}
+use Rattle.version_segment.specs.Resting.{RestingRows, resting_of}
+use Rattle.version_segment.specs.Rows.{VersionedRows}
 use Rattle.leaf_index.specs.declared.index.LeafIndex.{LeafIndex}
 use Rattle.store_relation.specs.Shared.{JournalState}
 use Rattle.cells_model.specs.Cells.{CellState}
@@ -17,8 +18,8 @@ use Rattle.store_rule.specs.declared.slot.StoreSlot.{StoreSlot}
 use Rattle.store_rule.specs.declared.slot.StoreSlot.TheVariants as slots
 
 -- what is kept of contents beside the words of their block
-abbrev pub RestsAs : VersionedRows → VersionedRows → Type 0
-RestsAs contents resting = IsSameSegment contents resting
+abbrev pub RestsAs : VersionedRows → RestingRows → Type 0
+RestsAs contents resting = resting.rows ≡ (resting_of contents).rows
 
 -- a journal whose stamps are all published, with the room that is counted on
 pub record IsListOf (j : JournalState) (journal : WithRoom Commit) : Type 0 where
@@ -30,7 +31,7 @@ pub record IsListOf (j : JournalState) (journal : WithRoom Commit) : Type 0 wher
 
 -- a packed cell, with its note
 pub record IsCellSlot (table : TableId) (k : ℕ) (slot : StoreSlot) : Type 0 where
-  pub resting : VersionedRows
+  pub resting : RestingRows
   pub note : Seat (Unit {0}) Sight
   pub is : slot ≡ slots.Cell resting note
   pub state : CellState

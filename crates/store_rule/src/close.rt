@@ -2,30 +2,32 @@
 //!
 //! 1. All passes come back, and all notes are taken in. So one seat knows all that there is, and what it knows is a
 //!    closed store.
-//! 2. Room for what comes out of the slots was made with the store, and is kept with its passes.
+//! 2. Room for what comes out of the slots was made with the store, and is kept with its passes. Rows stay in words.
 
 ghost use Rattle.std.specs.Prelude.{◌≡◌, ◌<◌, ◌≤◌, ◌+◌, ℕ, [], length, vec_capacity};
 ghost use Rattle.atomic_table.specs.Seated.{TableId};
 ghost use Rattle.latch_table.specs.Opening.{IsWhole};
 ghost use Rattle.rule_model.specs.Sight.{cells_of};
-ghost use Rattle.store_rule.specs.Closing.{AreBack, AreBackPasses, AreCellsFrom, AreSlotsBelow, HasJoined, IsContent, IsEnding, KeepsOthers};
+ghost use Rattle.store_rule.specs.Closed.{AreAtRestFrom};
+ghost use Rattle.store_rule.specs.Closing.{AreBack, AreBackPasses, AreSlotsBelow, HasJoined, IsContent, IsEnding, KeepsOthers};
 ghost use Rattle.store_rule.specs.Passes.{AreIn};
 ghost use Rattle.store_rule.specs.Slots.{FitsPlace};
 ghost use Rattle.txn_manager.specs.declared.config.Config.{Config};
 
+use crate::closed::ClosedCells;
 use crate::gather::{take_in_cell, take_in_index, take_in_journal};
-use crate::slot::{Resting, Room, StoreSlot};
+use crate::slot::{Room, StoreSlot};
 use crate::store::{LatchPass, Pass, Passes, Store};
 use graph_model::RoomyJournal;
 use latch_table::LatchTable;
 use leaf_index::LeafIndex;
 use store_words::{Account, Accounts};
-use version_segment::VersionSegment;
+use version_segment::Resting;
 
 /// What was in a store: its cells in the order of their numbers, its index and its journal.
 #[derive(Drop)]
 pub struct Content {
-    pub cells: Vec<VersionSegment>,
+    pub cells: ClosedCells,
     pub index: Box<LeafIndex>,
     pub journal: RoomyJournal,
 }
@@ -50,7 +52,8 @@ impl Store {
         let journal = take_in_journal(&accounts, &mut account, pop_slot(&mut slots));
         let index = take_in_index(&accounts, &mut account, pop_slot(&mut slots));
         take_cells(&accounts, &mut account, &mut slots, &mut cells);
-        accounts.close(account);
+        accounts.look_last(&mut account);
+        let cells = ClosedCells::new(accounts, account, cells);
         Content {
             cells,
             index,
@@ -80,9 +83,9 @@ fn join_passes(
     let cells = latches.cells();
     'passes: while let Some(pass) = list.pop() {
         let Pass {
-            number: _,
             latch: seat,
             account: note,
+            ..
         } = pass;
         cells.merge(latch, seat);
         accounts.join(account, note);
@@ -101,12 +104,12 @@ fn pop_slot(slots: &mut Vec<StoreSlot>) -> StoreSlot
     }
 }
 
-/// Takes all cells out of their slots.
+/// Takes what is kept of all cells out of their slots.
 fn take_cells(
     accounts: &Accounts,
     account: &mut Account,
     slots: &mut Vec<StoreSlot>,
-    cells: &mut Vec<VersionSegment>,
+    cells: &mut Vec<Resting>,
 )
     requires account { IsEnding accounts.now.table.shared.table_id account.old }
     requires slots { AreSlotsBelow accounts.now.config accounts.now.table.shared.table_id
@@ -116,13 +119,13 @@ fn take_cells(
     ensures account { IsEnding accounts.now.table.shared.table_id account.new }
     ensures others { KeepsOthers account.old.me.0 account.new.me.0 }
     ensures count { length cells.new.items ≡ cells_of accounts.now.config }
-    ensures cells { AreCellsFrom account.new.me.0 0 cells.new.items }
+    ensures cells { AreAtRestFrom account.new.me.0 0 cells.new.items }
 {
     let count = 8 * accounts.config.leaves;
     'slots: for _cell in 0..count {
         let slot = pop_slot(slots);
-        let Resting { segment } = take_in_cell(accounts, account, slot);
-        match cells.push(segment) {
+        let resting = take_in_cell(accounts, account, slot);
+        match cells.push(resting) {
             Ok(()) => {}
             Err(_) => unreachable!(),
         }

@@ -8,12 +8,13 @@ ghost use Rattle.store_rule.specs.Passes.{OnlyAccount};
 ghost use Rattle.store_rule.specs.Slots.{IsCellSlot, IsIndexSlot, IsJournalSlot, IsListOf, RestsAs};
 ghost use Rattle.store_words.specs.Steps.{Knows};
 
-use crate::slot::{Resting, StoreSlot};
+use crate::slot::StoreSlot;
 use crate::store::{Pass, Store};
 use graph_model::RoomyJournal;
 use latch_table::Held;
 use leaf_index::LeafIndex;
 use store_words::{Account, Accounts};
+use version_segment::Resting;
 
 impl Store {
     /// Takes in the note of a cell that the pass holds.

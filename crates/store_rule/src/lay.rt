@@ -8,11 +8,12 @@ ghost use Rattle.store_rule.specs.Passes.{OnlyAccount};
 ghost use Rattle.store_rule.specs.Slots.{IsCellSlot, IsIndexSlot, IsJournalSlot, IsListOf, RestsAs};
 ghost use Rattle.store_words.specs.Notes.{without_cell, without_index, without_journal};
 
-use crate::slot::{Resting, StoreSlot};
+use crate::slot::StoreSlot;
 use crate::store::{Pass, Store};
 use graph_model::RoomyJournal;
 use latch_table::Held;
 use leaf_index::LeafIndex;
+use version_segment::Resting;
 
 impl Store {
     /// Lays a new note for a packed cell. It may be put back then.

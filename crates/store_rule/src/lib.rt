@@ -8,8 +8,10 @@
 //!    note be laid.
 #![tactic(auto)]
 
+mod buffers;
 mod change;
 mod close;
+mod closed;
 mod gather;
 mod lay;
 mod make;
@@ -17,7 +19,10 @@ mod pack;
 mod slot;
 mod store;
 
+pub use buffers::{Buffers, MOST_UNPACKED};
 pub use change::Change;
 pub use close::Content;
-pub use slot::{Resting, Room, StoreSlot};
+pub use closed::ClosedCells;
+pub use slot::{Room, StoreSlot};
 pub use store::{LatchPass, Pass, Passes, Store};
+pub use version_segment::Resting;

@@ -5,7 +5,6 @@
 //! 2. The list that is closed into is made here, so that the end takes no memory.
 
 ghost use Rattle.std.specs.Prelude.{◌≡◌, ◌<◌, ◌↔◌, [], ◌∷◌, ◌++◌, Err, IfOk, OnOk, true, false, length};
-ghost use Rattle.cells_model.specs.Indexed.{new_cell};
 ghost use Rattle.latch_table.specs.Opening.{HasPasses};
 ghost use Rattle.rule_model.specs.EndSteps.{new_known};
 ghost use Rattle.rule_model.specs.Sight.{HasIndex, HasJournal, cells_of};
@@ -18,17 +17,17 @@ ghost use Rattle.store_words.specs.Notes.{without_index, without_journal};
 ghost use Rattle.store_words.specs.Steps.{Knows};
 ghost use Rattle.txn_manager.specs.Config.{too_large};
 ghost use Rattle.txn_manager.specs.declared.config.StoreRefusal.TheVariants.{TooLarge};
-ghost use Rattle.version_segment.specs.Rows.{IsSameSegment};
 
-use crate::slot::{Resting, Room, StoreSlot};
+use crate::buffers::Buffers;
+use crate::slot::{Room, StoreSlot};
 use crate::store::{LatchPass, Pass, Passes, Store};
-use graph_model::{Key, NoMemory, RoomyJournal};
+use graph_model::{NoMemory, RoomyJournal};
 use latch_table::LatchTable;
 use leaf_index::LeafIndex;
 use std::alloc::Global;
-use store_words::{Account, Accounts, low_of};
+use store_words::{Account, Accounts};
 use txn_manager::{Config, StoreRefusal};
-use version_segment::VersionSegment;
+use version_segment::Resting;
 
 impl Store {
     /// A store without rows, whose passes have begun nothing.
@@ -117,22 +116,13 @@ fn push_cells(
 {
     let cells = 8 * accounts.config.leaves;
     'cells: for cell in 0..cells {
-        let segment = new_segment(alloc, cell)?;
         let note = accounts.note_cell(seat, cell);
         slots.push(StoreSlot::Cell {
-            resting: Resting { segment },
+            resting: Resting::settled(alloc, 0),
             note,
         })?;
     }
     Ok(())
-}
-
-/// The segment of a new store's cell.
-fn new_segment(alloc: Global, cell: u32) -> Result<VersionSegment, NoMemory>
-    ensures { IfOk result (λ s. IsSameSegment (new_cell cell) s) }
-{
-    let low = low_of(cell as usize);
-    VersionSegment::new(alloc, low, Key::END)
 }
 
 /// The index, with its note.
@@ -199,10 +189,12 @@ fn deal(
     let mut number = accounts.config.passes;
     'passes: while number > 0 {
         number -= 1;
+        let buffers = Buffers::new(alloc)?;
         let pass = Pass {
             number,
             latch: cells.deal(latch, number),
             account: accounts.note_pass(account, number),
+            buffers,
         };
         passes.insert(0, pass)?;
     }

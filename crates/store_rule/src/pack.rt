@@ -1,35 +1,40 @@
 //! Cells that are unpacked, so that their contents may change, and packed again.
+//!
+//! 1. A packed cell's rows stand in the words of its block alone. To be unpacked it is lent room for them by the pass.
+//! 2. Whoever packs a cell stores the words that differ.
 
-ghost use Rattle.std.specs.Prelude.{◌≡◌, ◌<◌, true, false, length};
+ghost use Rattle.std.specs.Prelude.{◌≡◌, ◌<◌, ◌+◌, true, false, length};
 ghost use Rattle.cells_model.specs.Cells.{CellState, unpacked};
 ghost use Rattle.cells_model.specs.Words.{HasSmallWeights, block_words};
 ghost use Rattle.rule_model.specs.Sight.{HasCell, cells_of, with_cell};
-ghost use Rattle.store_rule.specs.Packing.{IsPackedCell};
-ghost use Rattle.store_rule.specs.Passes.{OnlyAccount};
+ghost use Rattle.store_rule.specs.Packing.{IsPackedCell, LendsBuffer};
 ghost use Rattle.store_rule.specs.Slots.{RestsAs};
+ghost use Rattle.store_rule.specs.declared.buffers.TheConstants.{MOST_UNPACKED};
 ghost use Rattle.store_words.specs.Spelling.{IsUntouched};
 ghost use Rattle.version_segment.specs.Rows.{IsSameSegment};
 
-use crate::slot::Resting;
 use crate::store::{Pass, Store};
 use latch_table::Held;
-use version_segment::{Rows32, VersionSegment};
+use version_segment::{Resting, VersionSegment};
 
 impl Store {
-    /// Unpacks a gathered cell. Its contents may change until it is packed, and nobody reads them without its latch.
+    /// Unpacks a gathered cell. Its contents may change until it is packed, and nobody reads them without its latch. The
+    /// pass lends room for its rows.
     pub fn unpack(&self, pass: &mut Pass, held: Held<Resting>) -> Held<VersionSegment>
         requires table { pass.old.account.table_id ≡ self.now.accounts.table.shared.table_id }
         requires cell { held.cell < cells_of self.now.accounts.config }
         requires packed { (c : CellState) × HasCell pass.old.account.me.0 held.cell c × (c.unpacked ≡ false)
             × RestsAs c.segment held.value }
+        requires buffer { 0 < pass.old.buffers }
         ensures held { (result.cell ≡ held.cell) × (result.found ≡ held.found)
             × (result.changed ≡ held.changed) }
         ensures unpacked { (c : CellState) → HasCell pass.old.account.me.0 held.cell c
-            → OnlyAccount pass.old pass.new (with_cell pass.old.account.me.0 held.cell (unpacked c)) }
+            → LendsBuffer pass.old pass.new (with_cell pass.old.account.me.0 held.cell (unpacked c)) }
         ensures untouched { (c : CellState) → HasCell pass.old.account.me.0 held.cell c
             → IsUntouched (unpacked c) }
         ensures segment { (c : CellState) → HasCell pass.old.account.me.0 held.cell c
             → IsSameSegment c.segment result.value }
+        ensures buffers { pass.old.buffers ≡ pass.new.buffers + 1 }
     {
         let Held {
             cell,
@@ -37,18 +42,19 @@ impl Store {
             changed,
             value,
         } = held;
-        self.accounts.raise(&mut pass.account, cell);
-        let Resting { segment } = value;
+        let value = pass
+            .buffers
+            .wake(&self.accounts, &mut pass.account, cell, value);
         Held {
             cell,
             found,
             changed,
-            value: segment,
+            value,
         }
     }
 
     /// Packs a cell: its block spells the contents that the pass knows. Where `changed` isn't set these are those with
-    /// which it was unpacked.
+    /// which it was unpacked. The room for its rows is the pass's again.
     pub fn pack(&self, pass: &mut Pass, held: Held<VersionSegment>) -> Held<Resting>
         requires table { pass.old.account.table_id ≡ self.now.accounts.table.shared.table_id }
         requires cell { held.cell < cells_of self.now.accounts.config }
@@ -61,6 +67,7 @@ impl Store {
             × (result.changed ≡ held.changed) }
         ensures packed { (c : CellState) → HasCell pass.old.account.me.0 held.cell c
             → IsPackedCell held.cell c pass.old pass.new result.value }
+        ensures buffers { pass.old.buffers < MOST_UNPACKED → pass.new.buffers ≡ pass.old.buffers + 1 }
     {
         let Held {
             cell,
@@ -69,17 +76,18 @@ impl Store {
             value,
         } = held;
         value.is_segment();
-        let low = value.low();
-        let high = value.high();
-        let mut rows = Rows32::new();
-        let resting = value.rest(&mut rows);
-        self.accounts.pack_words(&mut pass.account, cell, low, high, rows.as_slice(), changed);
-        let segment = VersionSegment::wake(resting, low, high, &rows);
+        let (value, words) = value.rest();
+        let low = words.low();
+        let high = words.high();
+        let rows = words.rows();
+        self.accounts
+            .pack_words(&mut pass.account, cell, low, high, rows, changed);
+        pass.buffers.take_back(words);
         Held {
             cell,
             found,
             changed,
-            value: Resting { segment },
+            value,
         }
     }
 }

@@ -5,30 +5,15 @@ ghost use Rattle.std.specs.Prelude.{◌≡◌};
 use graph_model::RoomyJournal;
 use latch_table::Slot;
 use leaf_index::LeafIndex;
-use std::marker::Model;
 use store_words::Account;
 use txn_manager::Config;
-use version_segment::VersionSegment;
-
-/// What is kept of a cell that is packed, beside the words of its block: today its rows as well, so that nothing is
-/// read from words to unpack it.
-#[derive(Drop)]
-pub struct Resting {
-    pub(crate) segment: VersionSegment,
-}
-
-impl Model for Resting {
-    ghost use Rattle.version_segment.specs.Rows.{VersionedRows};
-
-    ghost Value = { VersionedRows };
-
-    ghost view = { λ r. r.segment };
-}
+use version_segment::Resting;
 
 /// A value with the note of its contents, or nothing where a pass has it.
 #[derive(Drop)]
 pub enum StoreSlot {
     Out,
+    /// Rows and fence keys of a packed cell stand in the words of its block.
     Cell {
         resting: Resting,
         note: Account,

@@ -3,12 +3,13 @@
 ghost use Rattle.std.specs.Prelude.{◌≡◌, ◌+◌};
 ghost use Rattle.rule_model.specs.Sight.{cells_of};
 
+use crate::buffers::Buffers;
 use crate::slot::{Room, StoreSlot};
 use epoch_reclaim::{PinPlaces, Pins};
 use latch_table::{Cells, LatchTable};
 use store_words::{Account, AccountRule, AccountSight, Accounts};
 use txn_manager::Config;
-use version_segment::VersionSegment;
+use version_segment::Resting;
 
 /// The seat of a pass on the latch table.
 pub type LatchPass = latch_table::Pass<StoreSlot, Room>;
@@ -29,23 +30,25 @@ pub struct Store {
     pub ghost places: { latches.table.shared.table_id.words ≡ cells_of accounts.config + 2 },
 }
 
-/// Whoever runs transactions on a store, one after the other: a seat of each of its tables.
+/// Whoever runs transactions on a store, one after the other: a seat of each of its tables, and room for the rows of the
+/// cells that it unpacks.
 #[derive(Drop)]
 pub struct Pass {
     pub number: u32,
     pub latch: LatchPass,
     pub account: Account,
+    pub buffers: Buffers,
 }
 
 /// The passes of a store, in the order of their numbers, with what its end needs: the seats that take them back, and
-/// empty lists with room for what lies in the slots and for the segments.
+/// empty lists with room for what lies in the slots and for what is kept of cells.
 #[derive(Drop)]
 pub struct Passes {
     pub list: Vec<Pass>,
     pub latch: LatchPass,
     pub account: Account,
     pub slots: Vec<StoreSlot>,
-    pub cells: Vec<VersionSegment>,
+    pub cells: Vec<Resting>,
 }
 
 impl Store {

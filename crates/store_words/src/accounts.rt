@@ -5,13 +5,14 @@ ghost use Rattle.cells_model.specs.Indexed.{new_cell};
 ghost use Rattle.rule_model.specs.EndSteps.{HasAll, IsLast, first_sight, new_words, zeros};
 ghost use Rattle.store_relation.specs.Shared.{JournalState};
 ghost use Rattle.store_words.specs.Opening.{empty_block};
-ghost use Rattle.store_words.specs.Steps.{word_count};
+ghost use Rattle.store_words.specs.Steps.{Knows, word_count};
 ghost use Rattle.txn_manager.specs.Config.{too_large};
 
 use crate::rule::{Account, AccountRule, AccountSight};
 use atomic_table::Table;
 use graph_model::{Key, NoMemory};
 use std::alloc::Global;
+use std::marker::Brand;
 use txn_manager::Config;
 
 /// The account table with its memory.
@@ -38,14 +39,16 @@ impl Accounts {
         Ok((Accounts { table, config }, seat))
     }
 
-    /// The end of a store. What a seat knows that has all of it is a closed store.
-    pub fn close(self, seat: Account)
-        requires table { seat.table_id ≡ self.table.shared.table_id }
-        ensures last { (j : JournalState) → HasAll self.config seat.me.0 j → IsLast self.config seat.me.0 j }
+    /// A look at a store's end. What a seat knows that has all of it is a closed store.
+    pub fn look_last(&self, seat: &mut Account)
+        requires table { seat.old.table_id ≡ self.now.table.shared.table_id }
+        ensures same { Knows seat.old seat.new seat.old.me.0 }
+        ensures last { (j : JournalState) → HasAll self.now.config seat.old.me.0 j
+            → IsLast self.now.config seat.old.me.0 j }
     {
-        let Accounts { table, config: _ } = self;
-        let closed = table.close_with(seat);
-        closed.free();
+        // Needs no order: nobody else steps on the table any more.
+        let place = self.clock_place();
+        self.load_as::<Brand, Config>(seat, place, &self.config);
     }
 }
 
@@ -65,7 +68,7 @@ fn words_of(alloc: Global, config: &Config) -> Result<Vec<u64>, NoMemory>
 }
 
 /// The low fence key of a cell of a new store: the first one covers all keys.
-pub fn low_of(cell: usize) -> Key
+fn low_of(cell: usize) -> Key
     ensures { result ≡ (new_cell cell).low }
 {
     if cell == 0 {

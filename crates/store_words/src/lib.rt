@@ -9,6 +9,7 @@
 mod accounts;
 mod blocks;
 mod lines;
+mod loads;
 mod notes;
 mod pack;
 mod reads;
@@ -16,7 +17,7 @@ mod rule;
 mod spell;
 mod steps;
 
-pub use accounts::{Accounts, low_of};
+pub use accounts::Accounts;
 pub use notes::{Cut, Cuts, TakesIn};
 pub use rule::{Account, AccountRule, AccountSight};
 pub use steps::{Turn, Turns};

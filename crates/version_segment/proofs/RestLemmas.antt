@@ -1,7 +1,8 @@
 -- The parts of a segment that is laid to rest and woken again.
 use Rattle.std.proofs.Common.{◌≡◌, ◌⊎◌, inl, inr, ℕ, zero, suc, ◌+◌, ◌-◌, ◌<◌, ◌≤◌, List, [], ◌∷◌, ◌++◌, map, length, take, refl, sym, ◌∙◌, ap, subst, cond, arith, Option, Some, None, min, get_or}
-use Rattle.std.specs.Prelude.{Bool, true, false, ◌==◌, is_some, nat_le, slice_get, IfSome, IsSomeAnd}
+use Rattle.std.specs.Prelude.{Bool, true, false, ◌==◌, ◌||◌, not, is_some, nat_le, slice_get, IfSome, IsSomeAnd}
 use Rattle.std.specs.List.{AllByRecursion}
+use Rattle.std.proofs.lemmas.Bool.Decides.{nat_tests}
 use Rattle.std.specs.Ordering.{eq_by_cmp}
 use mathlib.Core.Logic.{dite}
 use native.Mathlib.Decide.{dec_lt}
@@ -10,17 +11,17 @@ use Rattle.graph_model.specs.declared.row.Row.{Row}
 use Rattle.graph_model.specs.declared.limits.TheConstants.{MAX_WEIGHT}
 use Rattle.graph_model.specs.Rows.{key_cmp, is_below}
 use Rattle.graph_model.proofs.PlaceLemmas.{some_eq}
-use Rattle.gap_segment.specs.Fenced.{FencedRows, AreFenced, AreSorted, AreAbove, AreWithin}
+use Rattle.gap_segment.specs.Fenced.{FencedRows, AreFenced, AreSorted, AreAbove, AreWithin, with_weight}
 use Rattle.store_model.specs.Stamped.{StampedVersions}
 use Rattle.undo_chain.specs.Chains.{ChainMap, list_at}
 use Rattle.undo_chain.specs.Records.{UndoRecord, pairs_of}
 use Rattle.head_map.specs.declared.heads.Heads.{Heads}
-use Rattle.head_map.specs.Heads.{ChangedRow, PlaceTable, settled_heads, heads_at, heads_placed, keyed, keyed_table}
+use Rattle.head_map.specs.Heads.{ChangedRow, PlacedRow, PlaceTable, settled_heads, heads_at, heads_placed, keyed, keyed_table}
 use Rattle.row_table.specs.Lists.{AreHeads, AreOthers, HasRest}
 use Rattle.row_table.specs.Parts.{of_lists, value_in, versions_in, versioned, view_of, AreParts}
 use Rattle.row_table.specs.Rows.{is_empty}
-use Rattle.version_segment.specs.Resting.{newest_value, with_newest, mark, no_value, word_of, value_in_word, RestingRow, RestingRows, resting_row, resting_of, word_row, word_rows, HasSmallWeights, woken_rows, woken, AgreeWith, AreErased, weight_in_word}
-use Rattle.version_segment.specs.RestingParts.{resting_places, resting_view, AreRestingParts, head_word, words_from, placed_words, plain_rows, AreSmallAt}
+use Rattle.version_segment.specs.Resting.{newest_value, with_newest, mark, no_value, word_of, value_in_word, RestingRow, RestingRows, resting_row, resting_of, word_row, word_rows, HasSmallWeights, woken_rows, woken, AgreeWith, AreErased, weight_in_word, settled_rest}
+use Rattle.version_segment.specs.RestingParts.{resting_at, resting_places, resting_view, AreRestingParts, head_word, words_from, placed_words, plain_rows, reweighed, AreSmallAt}
 use Rattle.head_map.proofs.KeyedLemmas.{tied_self, below_untied, above_untied}
 use Rattle.row_table.proofs.TableLemmas.{table_there, table_cases}
 use Rattle.row_table.proofs.PartLemmas.{list_there}
@@ -241,17 +242,81 @@ plain_length (r ∷ rs) = ap suc (plain_length rs)
 
 -- ---- loops
 
--- one more row with its word
-pub words_step : (f : ℕ → Heads) (rows : List Row) (p : ℕ) (r : Row) → slice_get rows p ≡ Some r → take (suc p) (words_from f rows) ≡ take p (words_from f rows) ++ record { key = r.key; weight = head_word (f p) r.weight } ∷ []
-words_step f [] p r e = cc
-words_step f (x ∷ xs) zero r e = let same = some_eq x r e in λ i. record { key = (same i).key; weight = head_word (f 0) (same i).weight } ∷ []
-words_step f (x ∷ xs) (suc p) r e = ap (λ l. record { key = x.key; weight = head_word (f 0) x.weight } ∷ l) (words_step (λ q. f (suc q)) xs p r e)
+module _ where
+  -- one more row has another weight
+  pub reweighed_next : (weigh : ℕ → ℕ → ℕ) (rows : List Row) (p : ℕ) (r : Row) → slice_get rows p ≡ Some r
+      → with_weight (reweighed weigh p rows) p (weigh p r.weight) ≡ reweighed weigh (suc p) rows
+  reweighed_next weigh [] p r e = cc
+  reweighed_next weigh (x ∷ xs) zero r e = let same = some_eq x r e in λ i. record { key = x.key; weight = weigh 0 (sym same i).weight } ∷ xs
+  reweighed_next weigh (x ∷ xs) (suc p) r e = ap (λ l. record { key = x.key; weight = weigh 0 x.weight } ∷ l) (reweighed_next (λ q. weigh (suc q)) xs p r e)
 
--- one more row with its weight
-pub plain_step : (rows : List Row) (p : ℕ) (r : Row) → slice_get rows p ≡ Some r → take (suc p) (plain_rows rows) ≡ take p (plain_rows rows) ++ record { key = r.key; weight = weight_in_word r.weight } ∷ []
-plain_step [] p r e = cc
-plain_step (x ∷ xs) zero r e = let same = some_eq x r e in λ i. record { key = (same i).key; weight = weight_in_word (same i).weight } ∷ []
-plain_step (x ∷ xs) (suc p) r e = ap (λ l. record { key = x.key; weight = weight_in_word x.weight } ∷ l) (plain_step xs p r e)
+  -- the row behind those is as it was
+  pub reweighed_get : (weigh : ℕ → ℕ → ℕ) (rows : List Row) (p : ℕ) → slice_get (reweighed weigh p rows) p ≡ slice_get rows p
+  reweighed_get weigh rows zero = refl
+  reweighed_get weigh [] (suc p) = refl
+  reweighed_get weigh (x ∷ xs) (suc p) = reweighed_get (λ q. weigh (suc q)) xs p
+
+  -- there are as many rows
+  pub reweighed_length : (weigh : ℕ → ℕ → ℕ) (count : ℕ) (rows : List Row) → length (reweighed weigh count rows) ≡ length rows
+  reweighed_length weigh zero rows = refl
+  reweighed_length weigh (suc n) [] = refl
+  reweighed_length weigh (suc n) (x ∷ xs) = ap suc (reweighed_length (λ q. weigh (suc q)) n xs)
+
+-- as many rows have words as there are rows
+pub words_length : (f : ℕ → Heads) (rows : List Row) → length (words_from f rows) ≡ length rows
+words_length f [] = refl
+words_length f (r ∷ rs) = ap suc (words_length (λ p. f (suc p)) rs)
+
+-- once all rows have their words these are those of their heads
+pub words_all : (f : ℕ → Heads) (rows : List Row) → reweighed (λ p weight. head_word (f p) weight) (length rows) rows ≡ words_from f rows
+words_all f [] = refl
+words_all f (r ∷ rs) = ap (λ l. record { key = r.key; weight = head_word (f 0) r.weight } ∷ l) (words_all (λ p. f (suc p)) rs)
+
+-- once all rows have the weights that their words tell these are plain
+pub plain_all : (rows : List Row) → reweighed (λ p word. weight_in_word word) (length rows) rows ≡ plain_rows rows
+plain_all [] = refl
+plain_all (r ∷ rs) = ap (λ l. record { key = r.key; weight = weight_in_word r.weight } ∷ l) (plain_all rs)
+
+-- ---- settled rows
+
+-- nothing is named
+pub no_rows : (entries : List PlacedRow) → (length entries == 0) ≡ true → length entries ≡ 0
+no_rows entries none = grind (arith, nat_tests)
+
+-- no row is changed
+pub no_heads : (entries : List PlacedRow) → length entries ≡ 0 → (p : ℕ) → heads_placed entries p ≡ settled_heads
+no_heads [] none p = refl
+no_heads (x ∷ xs) none p = absurd (omega (arith, none))
+
+-- the words of settled rows are their weights
+pub settled_words : (f : ℕ → Heads) (rows : List Row) → ((p : ℕ) → f p ≡ settled_heads) → words_from f rows ≡ rows
+settled_words f [] same = refl
+settled_words f (r ∷ rs) same = λ i. record { key = r.key; weight = head_word (same 0 i) r.weight } ∷ settled_words (λ p. f (suc p)) rs (λ p. same (suc p)) i
+
+module _ (c : ChainMap) where
+  -- words that agree with settled rows are weights
+  pub settled_plain : (count : ℕ) (f : ℕ → Heads) (words : List Row) → ((p : ℕ) → f p ≡ settled_heads) → AgreeWith (resting_places c count f) words → plain_rows words ≡ words
+  settled_plain zero f [] same agree = refl
+  settled_plain zero f (r ∷ rs) same agree = absurd agree
+  settled_plain (suc n) f [] same agree = absurd agree
+  settled_plain (suc n) f (r ∷ rs) same agree =
+      let unmarked : nat_le mark r.weight ≡ false = agree.0.marked ∙ ap (λ (h : Heads). not (is_empty (resting_at c h).versions.pairs) || not (resting_at c h).has_value) (same 0) in
+      λ i. record { key = r.key; weight = cond (unmarked i) (r.weight - mark) r.weight } ∷ settled_plain n (λ p. f (suc p)) rs (λ p. same (suc p)) agree.1 i
+
+  -- settled rows are parts of a segment at rest
+  pub settled_parts : (f : ℕ → Heads) (count : ℕ) → ((p : ℕ) → f p ≡ settled_heads) → AreRestingParts c f count
+  settled_parts f count same = record {
+    heads = λ p. subst (AreHeads c) (sym (same p)) (none_heads c);
+    apart = λ p q ne. subst (λ (h : Heads × Heads). AreOthers h.1 h.0.undos h.0.touches) (λ i. (sym (same p) i, sym (same q) i))
+        (record { undos_undos = λ k a b. cc; undos_touches = λ k a b. cc; touches_undos = λ k a b. cc; touches_touches = λ k a b. cc });
+    rest = λ p. subst HasRest (sym (same p)) (λ e. cc);
+    behind = λ p le. same p;
+  }
+
+  -- nothing else is left of them
+  pub settled_left : (count : ℕ) (f : ℕ → Heads) → ((p : ℕ) → f p ≡ settled_heads) → resting_places c count f ≡ settled_rest count
+  settled_left zero f same = refl
+  settled_left (suc n) f same = λ i. resting_at c (same 0 i) ∷ settled_left n (λ p. f (suc p)) (λ p. same (suc p)) i
 
 -- a value at a place is within its limit
 pub small_at : (f : ℕ → Heads) (rows : List Row) (p : ℕ) (r : Row) → AreSmallAt f rows → slice_get rows p ≡ Some r → value_in (f p) r.weight ≡ Some r.weight → r.weight ≤ MAX_WEIGHT
@@ -259,18 +324,9 @@ small_at f [] p r h e is = cc
 small_at f (x ∷ xs) zero r h e is = let same = some_eq x r e in subst (λ (y : Row). y.weight ≤ MAX_WEIGHT) same (h.0 (subst (λ (y : Row). value_in (f 0) y.weight ≡ Some y.weight) (sym same) is))
 small_at f (x ∷ xs) (suc p) r h e is = small_at (λ q. f (suc q)) xs p r h.1 e is
 
--- as many rows have words as there are rows
-pub words_length : (f : ℕ → Heads) (rows : List Row) → length (words_from f rows) ≡ length rows
-words_length f [] = refl
-words_length f (r ∷ rs) = ap suc (words_length (λ p. f (suc p)) rs)
-
 -- the row at a place is there
 pub at_index : (rows : List Row) (p : ℕ) (d : Row) → p < length rows → slice_get rows p ≡ Some (get_or rows p d)
 at_index rows p d lt = let t = there_at rows p lt in t.1 ∙ ap (λ (r : Row). Some r) (sym (index_of rows p t.0 d t.1))
-
--- one more is the next number
-pub plus_one : (p : ℕ) → p + 1 ≡ suc p
-plus_one p = omega arith
 
 -- as many rows wake as there are places
 pub wake_count : (c : ChainMap) (heads : PlaceTable) (count : ℕ) (resting : RestingRows) (rows : List Row) → resting_view c heads count ≡ resting → AgreeWith resting.rows rows → count ≡ length rows

@@ -1,5 +1,5 @@
 -- A segment at rest: its rows lie elsewhere, each with one word that tells its newest value.
-use Rattle.std.specs.Prelude.{◌≡◌, ℕ, ◌+◌, ◌-◌, ◌≤◌, ◌==◌, ◌^◌, nat_le, Bool, true, false, ◌||◌, not, cond, is_some, List, [], ◌∷◌, map, Option, Some, None, IfSome}
+use Rattle.std.specs.Prelude.{◌≡◌, ℕ, zero, suc, ◌+◌, ◌-◌, ◌≤◌, ◌==◌, ◌^◌, nat_le, Bool, true, false, ◌||◌, not, cond, is_some, List, [], ◌∷◌, map, Option, Some, None, IfSome}
 use Rattle.std.specs.List.{AllByRecursion}
 use Rattle.graph_model.specs.declared.row.Key.{Key}
 use Rattle.graph_model.specs.declared.row.Row.{Row}
@@ -90,6 +90,12 @@ word_rows s = map word_row s.rows
 -- the newest weights are within their limit, so a word tells them
 abbrev pub HasSmallWeights : VersionedRows → Type 0
 HasSmallWeights s = AllByRecursion (λ row. IfSome (newest_value row.1) (λ weight. weight ≤ MAX_WEIGHT)) s.rows
+
+-- what is left of so many settled rows
+abbrev pub settled_rest : ℕ → List RestingRow
+settled_rest zero = []
+settled_rest (suc count) =
+    record { has_value = true; versions = record { pairs = []; oldest = None; touches = [] } } ∷ settled_rest count
 
 -- nothing stands in the place of a newest value
 abbrev pub AreErased : List RestingRow → Type 0

@@ -50,6 +50,13 @@ placed_words entries rows = words_from (heads_placed entries) rows
 abbrev pub plain_rows : List Row → List Row
 plain_rows rows = map (λ row. record { key = row.key; weight = weight_in_word row.weight }) rows
 
+-- the rows, of which so many first ones have another weight, by their place and the weight that they had
+abbrev pub reweighed : (ℕ → ℕ → ℕ) → ℕ → List Row → List Row
+reweighed weigh zero rows = rows
+reweighed weigh (suc count) [] = []
+reweighed weigh (suc count) (row ∷ rows) =
+    record { key = row.key; weight = weigh 0 row.weight } ∷ reweighed (λ p. weigh (suc p)) count rows
+
 -- each value is within its limit
 abbrev pub AreSmallAt : (ℕ → Heads) → List Row → Type 0
 AreSmallAt f [] = Unit {0}

@@ -1,36 +1,36 @@
 //! Segments at rest, whose rows and fence keys lie elsewhere.
 //!
-//! 1. At rest a segment keeps its memory, where the records of its rows begin, and the records.
-//! 2. Its rows are handed out with value words in place of weights, and come back with them.
+//! 1. At rest a segment keeps where the records of its rows begin, and the records. It has no room for rows.
+//! 2. Its rows are handed out in the room that they had, with value words in place of weights, and it wakes with them in
+//!    any room for rows.
 //! 3. No call takes memory.
 
 ghost use Rattle.std.specs.Prelude.{◌≡◌, ◌≤◌, ◌==◌, [], length};
 ghost use Rattle.graph_model.specs.declared.limits.TheConstants.{SEGMENT_ROWS};
 ghost use Rattle.head_map.specs.Heads.{heads_placed};
-ghost use Rattle.version_segment.specs.Resting.{resting_of, word_rows, HasSmallWeights, CanWake, woken, AreErased};
+ghost use Rattle.version_segment.specs.Resting.{resting_of, settled_rest, word_rows, HasSmallWeights, CanWake, woken, AreErased};
 ghost use Rattle.version_segment.specs.RestingParts.{AreSmallAt, plain_rows, placed_words};
 
-use crate::buffer::Rows32;
 use crate::segment::VersionSegment;
 use crate::value_word::{value_word, weight_in_word};
 use gap_segment::Segment;
 use graph_model::{Key, Row};
 use head_map::HeadMap;
 use row_table::RowTable;
+use std::alloc::Global;
 use std::marker::Model;
 use undo_chain::Chains;
 
-/// A segment without its rows and fence keys: the room for its rows, and their records.
+/// A segment without its rows and fence keys: their records, and how many rows there are.
 #[derive(Drop)]
 pub struct Resting {
-    room: Segment,
     heads: HeadMap,
     chains: Chains,
     count: usize,
 }
 
 impl Model for Resting {
-    ghost use Rattle.std.specs.Prelude.{◌≡◌, ◌≤◌, []};
+    ghost use Rattle.std.specs.Prelude.{◌≤◌};
     ghost use Rattle.head_map.specs.Heads.{heads_placed};
     ghost use Rattle.version_segment.specs.Resting.{RestingRows};
     ghost use Rattle.version_segment.specs.RestingParts.{resting_view, AreRestingParts};
@@ -39,11 +39,22 @@ impl Model for Resting {
 
     ghost view = { λ r. resting_view r.chains r.heads r.count };
 
-    ghost invariant = { λ r. AreRestingParts r.chains (heads_placed r.heads.entries) r.count
-        × (r.room.rows ≡ []) × (r.count ≤ 32) };
+    ghost invariant = { λ r. AreRestingParts r.chains (heads_placed r.heads.entries) r.count × (r.count ≤ 32) };
 }
 
 impl Resting {
+    /// What is left of so many settled rows: nothing beside their number.
+    pub fn settled(alloc: Global, count: usize) -> Resting
+        requires { count ≤ SEGMENT_ROWS }
+        ensures { result.rows ≡ settled_rest count }
+    {
+        Resting {
+            heads: HeadMap::new(alloc),
+            chains: Chains::new(alloc),
+            count,
+        }
+    }
+
     /// How many rows the segment had.
     pub fn len(&self) -> usize
         ensures { result ≡ length self.now.rows }
@@ -62,47 +73,54 @@ impl Resting {
         ensures small { length self.now.rows ≤ SEGMENT_ROWS }
         ensures erased { AreErased self.now.rows }
     {
-        let _ = &self.room;
+        let _ = &self.count;
     }
 }
 
 impl VersionSegment {
-    /// Lays the segment to rest. Its rows come into the buffer, each with its value word in place of a weight.
-    pub fn rest(self, rows: &mut Rows32) -> Resting
+    /// Lays the segment to rest. Its rows come in the room that they had, between its fence keys, each with its value word
+    /// in place of a weight.
+    pub fn rest(self) -> (Resting, Segment)
         requires weights { HasSmallWeights self }
-        ensures rows { rows.new ≡ word_rows self }
-        ensures resting { result ≡ resting_of self }
+        ensures resting { result.0 ≡ resting_of self }
+        ensures words { result.1 ≡ record { low = self.low; high = self.high; rows = word_rows self } }
     {
         let VersionSegment {
             rows: table,
             chains,
         } = self;
         let (mut room, heads) = table.into_parts();
-        lay_words(&heads, &room, rows);
+        put_words(&heads, &mut room);
         let count = room.len();
-        room.clear();
-        Resting {
-            room,
+        let resting = Resting {
             heads,
             chains,
             count,
-        }
+        };
+        (resting, room)
     }
 
-    /// Wakes a segment at rest, with these fence keys and rows, each of which has its value word in place of a weight.
-    pub fn wake(resting: Resting, low: Key, high: Key, rows: &Rows32) -> VersionSegment
+    /// Wakes a segment at rest, with these fence keys and rows, each of which has its value word in place of a weight, and
+    /// with this room for rows.
+    pub fn wake(
+        resting: Resting,
+        low: Key,
+        high: Key,
+        rows: &[Row],
+        room: Segment,
+    ) -> VersionSegment
+        requires room { room.rows ≡ [] }
         requires agree { CanWake resting low high rows.now }
         ensures woken { result ≡ woken resting low high rows.now }
     {
         let Resting {
-            mut room,
             heads,
             chains,
             count: _,
         } = resting;
-        let mut plain = Rows32::new();
-        read_words(rows.as_slice(), &mut plain);
-        room.fill(low, high, plain.as_slice());
+        let mut room = room;
+        room.fill(low, high, rows);
+        put_weights(&heads, &mut room);
         VersionSegment {
             rows: RowTable::of_parts(room, heads),
             chains,
@@ -110,35 +128,35 @@ impl VersionSegment {
     }
 }
 
-/// The rows with the words of their values.
-fn lay_words(heads: &HeadMap, room: &Segment, rows: &mut Rows32)
-    requires few { length room.now.rows ≤ SEGMENT_ROWS }
-    requires small { AreSmallAt (heads_placed heads.now.entries) room.now.rows }
-    ensures { rows.new ≡ placed_words heads.now.entries room.now.rows }
+/// Gives each row the word of its value. Settled rows have it: it is their weight.
+fn put_words(heads: &HeadMap, room: &mut Segment)
+    requires small { AreSmallAt (heads_placed heads.now.entries) room.old.rows }
+    ensures { room.new ≡ record room.old { rows = placed_words heads.now.entries room.old.rows } }
 {
-    rows.clear();
-    let all = room.rows();
-    'words: for place in 0..all.len() {
+    if heads.is_empty() {
+        return;
+    }
+    let count = room.len();
+    'words: for place in 0..count {
+        let all = room.rows();
         let row = all[place];
         let word = value_word(heads.get(place), row.weight);
-        rows.push(Row {
-            key: row.key,
-            weight: word,
-        });
+        room.set_at(place, word);
     }
 }
 
-/// The rows with the weights that their words tell.
-fn read_words(words: &[Row], rows: &mut Rows32)
-    requires few { length words.now ≤ SEGMENT_ROWS }
-    requires empty { rows.old ≡ [] }
-    ensures { rows.new ≡ plain_rows words.now }
+/// Gives each row the weight that its word tells. Where all rows are settled they have it.
+fn put_weights(heads: &HeadMap, room: &mut Segment)
+    requires settled { heads.now.entries ≡ [] → plain_rows room.old.rows ≡ room.old.rows }
+    ensures { room.new ≡ record room.old { rows = plain_rows room.old.rows } }
 {
-    'words: for place in 0..words.len() {
-        let row = words[place];
-        rows.push(Row {
-            key: row.key,
-            weight: weight_in_word(row.weight),
-        });
+    if heads.is_empty() {
+        return;
+    }
+    let count = room.len();
+    'words: for place in 0..count {
+        let all = room.rows();
+        let row = all[place];
+        room.set_at(place, weight_in_word(row.weight));
     }
 }

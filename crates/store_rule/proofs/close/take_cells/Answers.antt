@@ -1,12 +1,11 @@
 use Rattle.std.proofs.Common.{◌∙◌, ◌+◌, ◌<◌, ap, arith, length, length-append, refl, reverse, subst, sym}
-use Rattle.version_segment.specs.Rows.{VersionedRows, IsSameSegment}
 use Rattle.rule_model.specs.Sight.{cells_of}
-use Rattle.store_rule.specs.Closing.{AreCellsFrom}
+use Rattle.store_rule.specs.Closed.{AreAtRestFrom}
 use Rattle.store_rule.proofs.CloseLemmas.{next_cell, one_cell}
 use Rattle.store_rule.proofs.close.take_cells.Goals as goal
 
-pub take_in_cell-requires-clause-slot : goal.take_in_cell-requires-clause-slot
-take_in_cell-requires-clause-slot c =
+pub take_in_cell-resting-requires-clause-slot : goal.take_in_cell-resting-requires-clause-slot
+take_in_cell-resting-requires-clause-slot c =
     let z = c.args.accounts.now.config in
     let table = c.args.accounts.now.table.shared.table_id in
     let so_far = c.slots.invariant in
@@ -31,11 +30,9 @@ slots-preserved c =
     let was = next.1 in
     let popped = c.pop_slot-slot.ensures z table k next.3 in
     let count = popped.1.count_is in
-    let taken = c.take_in_cell.ensures k (popped.0.cell next.2) in
+    let taken = c.take_in_cell-resting.ensures k (popped.0.cell next.2) in
     let knows = taken.1 in
     let items = c.in-Ok.ensures.items in
-    let same : IsSameSegment taken.0.segment c.segment.inside.segment =
-    subst (λ (x : VersionedRows). IsSameSegment taken.0.segment x) (sym c.segment.view_is) taken.3 in
     let capacity = c.in-Ok.ensures.capacity in
     let room = so_far.3 in
     let ending = so_far.4 in
@@ -54,8 +51,8 @@ slots-preserved c =
         indexes = (λ i. ((knows.me i).0).indexes) ∙ others.indexes;
         journals = (λ i. ((knows.me i).0).journals) ∙ others.journals;
       },
-      subst (λ n. AreCellsFrom c.take_in_cell.new.account.me.0 n (reverse c.push.new.self.items)) (sym count)
-          (subst (λ m. AreCellsFrom m.0 k (reverse c.push.new.self.items)) (sym knows.me)
-          (one_cell c.slots.account.me.0 k (length old) taken.0 c.segment.inside.segment c.slots.cells.items
-          c.push.new.self.items was same so_far.6 items)),
+      subst (λ n. AreAtRestFrom c.take_in_cell-resting.new.account.me.0 n (reverse c.push.new.self.items)) (sym count)
+          (subst (λ m. AreAtRestFrom m.0 k (reverse c.push.new.self.items)) (sym knows.me)
+          (one_cell c.slots.account.me.0 k (length old) taken.0 c.take_in_cell-resting.result c.slots.cells.items
+          c.push.new.self.items was taken.2 taken.3 so_far.6 items)),
     )

@@ -1,7 +1,8 @@
 use Rattle.std.proofs.Common.{◌≡◌, ◌+◌, ◌≤◌, length}
 use Rattle.std.specs.Prelude.{reverse, vec_capacity}
 use Rattle.rule_model.specs.Sight.{cells_of}
-use Rattle.store_rule.specs.Closing.{AreCellsFrom, AreSlotsBelow, IsEnding, KeepsOthers}
+use Rattle.store_rule.specs.Closed.{AreAtRestFrom}
+use Rattle.store_rule.specs.Closing.{AreSlotsBelow, IsEnding, KeepsOthers}
 use Rattle.store_rule.proofs.close.take_cells.Given as goal
 
 abbrev pub invariant-slots : goal.invariant-slots
@@ -12,4 +13,4 @@ invariant-slots l =
     × (cells_of l.accounts.config ≤ vec_capacity l.cells)
     × IsEnding l.accounts.table.shared.table_id l.account
     × KeepsOthers l.fn.account.me.0 l.account.me.0
-    × AreCellsFrom l.account.me.0 (length l.slots.items) (reverse l.cells.items)
+    × AreAtRestFrom l.account.me.0 (length l.slots.items) (reverse l.cells.items)

@@ -22,12 +22,18 @@ passes-preserved c =
     let counted = held.4 in
     let of = rw c.cells-cells.ensures at c.deal.ensures.pass in
     let note = c.note_pass.ensures.note fresh_pass fresh_pin (left.passes m (omega arith)) (left.pins m (omega arith)) in
-    let pass : Pass = record { number = m; latch = c.deal.result; account = c.note_pass.result } in
+    let pass : Pass = record {
+      number = m;
+      latch = c.deal.result;
+      account = c.note_pass.result;
+      buffers = c.in_ok-buffers.buffers;
+    } in
     let new : IsNewPass room latches accounts m pass = record {
       number = refl;
       latch = record { of = of; none = c.deal.ensures.dealt.0 };
       same = c.deal.ensures.dealt.1;
       account = note;
+      buffers = c.in_ok-buffers.ensures;
     } in
     let items = c.in_ok-insert.ensures.items in (
       omega arith,

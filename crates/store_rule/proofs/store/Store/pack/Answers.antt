@@ -1,39 +1,39 @@
-use Rattle.std.proofs.Common.{◌∙◌, List, refl, subst, sym}
-use Rattle.graph_model.specs.declared.row.Key.{Key}
+use Rattle.std.proofs.Common.{◌≡◌, ◌≤◌, ◌∙◌, List, ap, length, refl, subst, sym}
 use Rattle.graph_model.specs.declared.row.Row.{Row}
+use Rattle.gap_segment.specs.Fenced.{FencedRows}
 use Rattle.seat_views.proofs.NumberLemmas.{some_is}
-use Rattle.version_segment.specs.Resting.{CanWake, RestingRows, woken}
-use Rattle.version_segment.specs.Rows.{IsSameSegment, VersionedRows}
-use Rattle.version_segment.proofs.WordLemmas.{can_wake, wakes_rested}
+use Rattle.version_segment.specs.Rows.{IsSameSegment}
 use Rattle.cells_model.specs.Cells.{CellState}
+use Rattle.cells_model.proofs.WordLemmas.{few_words}
+use Rattle.store_rule.proofs.PackLemmas.{can_spell, rests_as}
 use Rattle.store_rule.proofs.store.Store.pack.Goals as goal
-
-pub wake-segment-requires : goal.wake-segment-requires
-wake-segment-requires c =
-    let rested = c.rest-resting.ensures in
-    let low = c.low-low.ensures in
-    let high = c.high-high.ensures in
-    record {
-      agree = subst (λ (x : RestingRows × Key × Key × List Row). CanWake x.0 x.1 x.2 x.3)
-          (λ i. (sym rested.resting i, sym low i, sym high i, sym rested.rows i))
-          (can_wake c.args.held.value c.is_segment.ensures c.requires.weights);
-    }
 
 pub returns-clause-packed : goal.returns-clause-packed
 returns-clause-packed c d has =
-    let rested = c.rest-resting.ensures in
-    let low = c.low-low.ensures in
-    let high = c.high-high.ensures in
     let held = c.requires.unpacked in
     let same : IsSameSegment d.segment c.args.held.value =
     subst (λ (x : CellState). IsSameSegment x.segment c.args.held.value) (some_is held.0 d (sym held.1 ∙ has)) held.4 in
-    let woke = c.wake-segment.ensures.woken
-    ∙ (λ i. woken (rested.resting i) (low i) (high i) (rested.rows i))
-    ∙ wakes_rested c.args.held.value c.requires.weights in
     record {
       number = refl;
       latch = refl;
       account = c.pack_words.ensures.stays;
       again = c.pack_words.ensures.packed d has;
-      rests = subst (λ (x : VersionedRows). IsSameSegment d.segment x) (sym woke) same;
+      rests = rests_as d.segment c.args.held.value c.rest-value.result.0 same c.rest-value.ensures.resting;
     }
+
+pub pack_words-requires-clause-rows : goal.pack_words-requires-clause-rows
+pack_words-requires-clause-rows c =
+    let rows = c.rows-rows.ensures.rows ∙ ap (λ (x : FencedRows). x.rows) c.rest-value.ensures.words in
+    subst (λ (l : List Row). length l ≤ 32) (sym rows) (few_words c.args.held.value c.is_segment.ensures)
+
+pub pack_words-requires-clause-words : goal.pack_words-requires-clause-words
+pack_words-requires-clause-words c d has =
+    let held = c.requires.unpacked in
+    let same : IsSameSegment d.segment c.args.held.value =
+    subst (λ (x : CellState). IsSameSegment x.segment c.args.held.value) (some_is held.0 d (sym held.1 ∙ has)) held.4 in
+    let words = c.rest-value.ensures.words in
+    can_spell d.segment c.args.held.value c.low-low.result c.high-high.result c.rows-rows.result.now same
+    c.is_segment.ensures c.requires.weights
+    (c.low-low.ensures ∙ ap (λ (x : FencedRows). x.low) words)
+    (c.high-high.ensures ∙ ap (λ (x : FencedRows). x.high) words)
+    (c.rows-rows.ensures.rows ∙ ap (λ (x : FencedRows). x.rows) words)

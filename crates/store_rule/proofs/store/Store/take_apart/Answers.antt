@@ -1,8 +1,9 @@
-use Rattle.std.proofs.Common.{◌∙◌, arith, refl}
+use Rattle.std.proofs.Common.{◌≡◌, ◌∙◌, ap, arith, length, refl, subst, sym}
 use Rattle.seat_views.specs.Keeping.{kept_at}
-use Rattle.rule_model.specs.Sight.{HasJournal}
-use Rattle.store_rule.specs.Closing.{HasJoined}
-use Rattle.store_rule.proofs.CloseLemmas.{all_back, all_below}
+use Rattle.rule_model.specs.Sight.{HasJournal, Sight, cells_of}
+use Rattle.store_rule.specs.Closed.{AreAtRest, known_segments}
+use Rattle.store_rule.specs.Closing.{AreCells, HasJoined}
+use Rattle.store_rule.proofs.CloseLemmas.{all_at_rest, all_back, all_below, known_cells, known_length}
 use Rattle.store_rule.proofs.store.Store.take_apart.Goals as goal
 
 pub take_in_journal-journal-requires-clause-slot : goal.take_in_journal-journal-requires-clause-slot
@@ -34,11 +35,22 @@ take_cells-requires-clause-slots c =
     let table = store.accounts.table.shared.table_id in
     (c.pop_slot-2.ensures z table _ (c.pop_slot.ensures z table _ all).1).1
 
+pub new-cells-requires-clause-table : goal.new-cells-requires-clause-table
+new-cells-requires-clause-table c = c.look_last.ensures.same.table ∙ c.take_cells.ensures.account.table_is
+
+pub new-cells-requires-clause-resting : goal.new-cells-requires-clause-resting
+new-cells-requires-clause-resting c =
+    subst (λ (v : Sight). AreAtRest v c.take_cells.new.cells.items) (sym (ap (λ m. m.0) c.look_last.ensures.same.me))
+    (all_at_rest c.take_cells.new.account.me.0 c.take_cells.new.cells.items c.take_cells.ensures.cells)
+
 pub returns : goal.returns
 returns c =
     let z = c.args.self.accounts.config in
     let list = c.args.passes.list.items in
     let sight = c.take_cells.new.account.me.0 in
+    let cells = c.take_cells.new.cells.items in
+    let known : c.new-cells.result ≡ known_segments sight (cells_of z) =
+    c.new-cells.ensures ∙ ap (λ m. known_segments m.0 (cells_of z)) c.look_last.ensures.same.me in
     let journal = c.take_in_journal-journal.ensures in
     let j = journal.0 in
     let index = c.take_in_index-index.ensures in
@@ -53,11 +65,12 @@ returns c =
     record {
       sight = sight;
       state = j;
-      last = c.close-2.ensures.last j (all_back z list sight j has_journal has_passes c.requires.passes.count
+      last = c.look_last.ensures.last j (all_back z list sight j has_journal has_passes c.requires.passes.count
           c.requires.passes.each);
       passes = has_passes;
       journal = journal.2;
-      count = c.take_cells.ensures.count;
-      cells = c.take_cells.ensures.cells;
+      count = ap length known ∙ known_length sight (cells_of z);
+      cells = subst (AreCells sight) (sym known) (subst (λ n. AreCells sight (known_segments sight n))
+          c.take_cells.ensures.count (known_cells sight cells (all_at_rest sight cells c.take_cells.ensures.cells)));
       index = (index.0, (λ i. kept_at (others.indexes i) 0) ∙ (λ i. kept_at ((index.1.me i).0).indexes 0), index.3);
     }

@@ -6,7 +6,7 @@ use Rattle.version_segment.proofs.resting.Resting.is_at_rest.Goals as goal
 
 pub returns-clause-small : goal.returns-clause-small
 returns-clause-small c =
-    let few = c.self.invariant.2 in
+    let few = c.self.invariant.1 in
     let count = ap (λ (r : RestingRows). length r.rows) (sym c.self.view_is) ∙ count_places c.self.inside.chains c.self.inside.count (heads_placed c.self.inside.heads.entries) in
     omega arith
 

@@ -1,0 +1,6 @@
+use Rattle.std.proofs.Common.{◌∙◌, ap, length, sym}
+use Rattle.store_rule.proofs.CloseLemmas.{known_length}
+use Rattle.store_rule.proofs.closed.ClosedCells.len.Goals as goal
+
+pub returns : goal.returns
+returns c = sym (known_length c.self.inside.account.me.0 c.self.inside.left) ∙ ap length c.self.view_is

@@ -1,0 +1,83 @@
+//! The rows of a block, as the pass that holds the cell loads them.
+//!
+//! 1. Nobody else stores a word of the block meanwhile, so all loads are of one block.
+//! 2. Only the words of rows that are there are loaded.
+
+ghost use Rattle.std.specs.Prelude.{◌≡◌, ◌<◌, ◌≤◌, ◌+◌, length, slice_index};
+ghost use Rattle.cells_model.specs.Cells.{CellState};
+ghost use Rattle.cells_model.specs.Words.{IsRowAt, Spells, block_words, word_rows};
+ghost use Rattle.rule_model.specs.Sight.{HasCell, cells_of};
+ghost use Rattle.store_words.specs.Spelling.{CanSpell};
+ghost use Rattle.store_words.specs.Steps.{Knows};
+
+use crate::accounts::Accounts;
+use crate::rule::Account;
+use graph_model::{Key, Row};
+use version_segment::Rows32;
+
+impl Accounts {
+    /// Loads the rows of a held cell whose block spells its contents, each with its value word in place of a weight, and
+    /// answers the fence keys.
+    pub fn load_rows(&self, seat: &mut Account, cell: u32, rows: &mut Rows32) -> (Key, Key)
+        requires table { seat.old.table_id ≡ self.now.table.shared.table_id }
+        requires cell { cell < cells_of self.now.config }
+        requires held { (c : CellState) × HasCell seat.old.me.0 cell c × Spells c.block c.segment }
+        ensures same { Knows seat.old seat.new seat.old.me.0 }
+        ensures loaded { (c : CellState) → HasCell seat.old.me.0 cell c
+            → CanSpell result.0 result.1 rows.new c.segment }
+    {
+        rows.clear();
+        let count = self.load_count(seat, cell);
+        let low = self.load_key(seat, cell, 2);
+        let high = self.load_key(seat, cell, 4);
+        'rows: for place in 0..count {
+            let row = self.load_row(seat, cell, place);
+            rows.push(row);
+        }
+        (low, high)
+    }
+
+    /// Loads the number of rows.
+    fn load_count(&self, seat: &mut Account, cell: u32) -> u32
+        requires table { seat.old.table_id ≡ self.now.table.shared.table_id }
+        requires cell { cell < cells_of self.now.config }
+        requires held { (c : CellState) × HasCell seat.old.me.0 cell c × Spells c.block c.segment }
+        ensures same { Knows seat.old seat.new seat.old.me.0 }
+        ensures few { result ≤ 32 }
+        ensures told { (c : CellState) → HasCell seat.old.me.0 cell c
+            → result ≡ length (word_rows c.segment) }
+    {
+        let count = self.holder_load(seat, cell, 1);
+        count.min(32) as u32
+    }
+
+    /// Loads the row at a place.
+    fn load_row(&self, seat: &mut Account, cell: u32, place: u32) -> Row
+        requires table { seat.old.table_id ≡ self.now.table.shared.table_id }
+        requires cell { cell < cells_of self.now.config }
+        requires place { place < 32 }
+        requires held { (c : CellState) × HasCell seat.old.me.0 cell c }
+        ensures same { Knows seat.old seat.new seat.old.me.0 }
+        ensures told { (c : CellState) → HasCell seat.old.me.0 cell c → IsRowAt c.block place result }
+    {
+        let word = 6 + 3 * place;
+        let key = self.load_key(seat, cell, word);
+        let weight = self.holder_load(seat, cell, word + 2);
+        Row { key, weight }
+    }
+
+    /// Loads a key, whose second word follows its first one.
+    fn load_key(&self, seat: &mut Account, cell: u32, word: u32) -> Key
+        requires table { seat.old.table_id ≡ self.now.table.shared.table_id }
+        requires cell { cell < cells_of self.now.config }
+        requires word { word + 1 < block_words }
+        requires held { (c : CellState) × HasCell seat.old.me.0 cell c }
+        ensures same { Knows seat.old seat.new seat.old.me.0 }
+        ensures told { (c : CellState) → HasCell seat.old.me.0 cell c
+            → (result.src ≡ slice_index c.block word) × (result.second ≡ slice_index c.block (word + 1)) }
+    {
+        let src = self.holder_load(seat, cell, word);
+        let second = self.holder_load(seat, cell, word + 1);
+        Key { src, second }
+    }
+}
