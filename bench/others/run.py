@@ -39,6 +39,8 @@ KERNELS = ("bfs", "wcc", "cdlp", "sssp")
 LIBRARIES = ("arrays", "graphblas", "boost", "igraph")
 STORES = ("wiredtiger", "lmdb", "ordered_map")
 STORE_RUNS = {"1": ["1"], "2": ["2"], "4": ["4"], "scan": ["1", "scan"]}
+# beside a scan its writer hardly gets on, so that a run would take minutes
+STOPPED_BY_SCANS = "ordered_map"
 
 
 class Run:
@@ -169,6 +171,8 @@ def measure_round(best, sums, work, programs, words):
             shutil.rmtree(folder)
         if name in STORES:
             for column, run_words in STORE_RUNS.items():
+                if column == "scan" and name == STOPPED_BY_SCANS:
+                    continue
                 run = run_store(name, work, run_words)
                 best.add(name, column, run.figures["transactions"] / 1000, max)
                 best.add(name, f"{column} load", run.figures["load"] / 1e6, max)
