@@ -1,20 +1,18 @@
 -- Commits that write in no row of a footprint leave the answers of its lines.
-use Rattle.std.proofs.Common.{◌≡◌, ℕ, zero, suc, ◌+◌, ◌-◌, ◌<◌, ◌≤◌, List, [], ◌∷◌, ◌++◌, map, length, take, drop, refl, sym, ◌∙◌, ap, subst, arith, cond, inl, inr}
-use Rattle.std.specs.Prelude.{◌⊎◌, Bool, true, false, ◌==◌, ◌&&◌, ◌||◌, nat_lt, slice_get, Option, Some, None}
-use Rattle.std.specs.List.{list_any, flat_map}
-use Rattle.std.proofs.lemmas.Bool.{or_parts, or_left, or_right, or_from, true≢false, false_from_ne_true}
-use Rattle.std.proofs.lemmas.Grind.{flat_map-append}
+use Rattle.std.proofs.Common.{◌≡◌, ℕ, suc, ◌+◌, ◌-◌, ◌<◌, ◌≤◌, List, [], ◌∷◌, ◌++◌, take, drop, refl, sym, ◌∙◌, ap, subst, arith}
+use Rattle.std.specs.Prelude.{Bool, true, false, ◌&&◌, nat_lt, slice_get, Option, Some, None}
+use Rattle.std.specs.List.{list_any}
+use Rattle.std.proofs.lemmas.Bool.{or_parts, or_from, true≢false, false_from_ne_true}
 use Rattle.std.proofs.lemmas.Bool.Decides.{nat_tests}
 use Rattle.graph_model.specs.declared.write.Kind.{Kind}
-use Rattle.graph_model.specs.declared.write.Kind.TheVariants.{Directed, Undirected}
+use Rattle.graph_model.specs.declared.write.Kind.TheVariants.{Undirected}
 use Rattle.graph_model.specs.declared.write.Write.{Write}
 use Rattle.graph_model.specs.declared.row.Key.{Key}
 use Rattle.graph_model.specs.declared.journal.Commit.{Commit}
-use Rattle.graph_model.specs.Graph.{Graph, apply_all, IsSymmetric}
+use Rattle.graph_model.specs.Graph.{IsSymmetric}
 use Rattle.graph_model.specs.History.{graph_at, view, writes_of}
 use Rattle.graph_model.specs.Rows.{value_at}
-use Rattle.graph_model.specs.Conflict.{greatest}
-use Rattle.graph_model.specs.Effects.{same_key, keys_of, writes_at, any_writes, value_after}
+use Rattle.graph_model.specs.Effects.{same_key, keys_of, any_writes, value_after}
 use Rattle.graph_model.proofs.TestLemmas.{eq_of, both_of}
 use Rattle.graph_model.proofs.PlaceLemmas.{get_drop, get_take}
 use Rattle.graph_model.proofs.EffectLemmas.{value_at-apply_all, value_after-none}

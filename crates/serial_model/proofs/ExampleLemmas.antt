@@ -1,22 +1,19 @@
 -- The worked examples of write skew.
-use Rattle.std.proofs.Common.{◌≡◌, ℕ, zero, suc, ◌-◌, ◌<◌, List, [], ◌∷◌, take, refl, sym, ◌∙◌, ap, subst, arith, slice_index_or}
-use Rattle.std.specs.Prelude.{true, false, slice_get, Contains, Option, Some, None}
+use Rattle.std.proofs.Common.{◌≡◌, ℕ, zero, suc, ◌<◌, [], ◌∷◌, take, refl, sym, ◌∙◌, ap, subst, arith, slice_index_or}
+use Rattle.std.specs.Prelude.{Some}
 use Rattle.graph_model.specs.declared.write.Kind.{Kind}
 use Rattle.graph_model.specs.declared.write.Kind.TheVariants.{Undirected}
-use Rattle.graph_model.specs.declared.write.Write.{Write}
 use Rattle.graph_model.specs.declared.refusal.Cause.TheVariants.{Later}
-use Rattle.graph_model.specs.declared.table.Entry.{Entry}
 use Rattle.graph_model.specs.Graph.{Graph, weight_of}
 use Rattle.graph_model.specs.History.{view, writes_of}
 use Rattle.graph_model.proofs.EntryLemmas.{made_weight}
 use Rattle.run_model.specs.declared.command.Command.TheVariants as commands
 use Rattle.run_model.specs.declared.answer.Answer.{Answer}
 use Rattle.run_model.specs.declared.answer.Answer.TheVariants as answers
-use Rattle.run_model.specs.Requests.{Request, ToBegin, ToCommit, ToAbort, ToWrite, ToRead, ToRun, WeightOf}
-use Rattle.run_model.specs.AnsweredLines.{AnsweredLine}
+use Rattle.run_model.specs.Requests.{Request, ToBegin, ToCommit, ToAbort, ToWrite, ToRead, ToRun}
 use Rattle.run_model.specs.Answering.{weight_answer}
 use Rattle.serial_model.specs.SerialRun.{HasSameAnswer, AnswersAsBehind}
-use Rattle.serial_model.specs.Examples.{lines_of, first_committed, both_committed, RefusalExamples, SkewExamples}
+use Rattle.serial_model.specs.Examples.{lines_of, both_committed, RefusalExamples, SkewExamples}
 
 pub refusals : RefusalExamples
 refusals = record { refused = refl; begun_later = refl; elsewhere = refl; other_end = refl; one_way = refl }

@@ -1,10 +1,9 @@
 -- A line has one answer on all graphs that agree at the keys of its footprint.
-use Rattle.std.proofs.Common.{◌≡◌, ℕ, zero, suc, ◌+◌, ◌-◌, ◌<◌, ◌≤◌, List, [], ◌∷◌, ◌++◌, map, length, refl, sym, ◌∙◌, ap, subst, arith, cond, inl, inr}
-use Rattle.std.specs.Prelude.{◌⊎◌, ◌↔◌, Bool, true, false, ◌==◌, ◌&&◌, ◌||◌, not, is_some, slice_get, Option, Some, None, IsTrue}
-use Rattle.std.specs.List.{list_any, filter}
-use Rattle.std.specs.Ordering.{is_lt}
+use Rattle.std.proofs.Common.{◌≡◌, ℕ, ◌+◌, ◌-◌, map, refl, sym, ◌∙◌, ap, subst, arith, cond}
+use Rattle.std.specs.Prelude.{Bool, true, false, ◌==◌, ◌||◌, is_some, Option, Some, None}
+use Rattle.std.specs.List.{list_any}
 use Rattle.std.specs.FinMap as fin_map
-use Rattle.std.specs.FinMap.Entries.{find, is_sorted, where_key, is_sorted-where_key}
+use Rattle.std.specs.FinMap.Entries.{where_key, is_sorted-where_key}
 use Rattle.std.proofs.lemmas.Bool.{or_left, or_right, true≢false}
 use Rattle.std.proofs.lemmas.Bool.Decides.{nat_tests}
 use Rattle.graph_model.specs.declared.write.Kind.{Kind}
@@ -13,20 +12,19 @@ use Rattle.graph_model.specs.declared.write.Write.{Write}
 use Rattle.graph_model.specs.declared.write.Write.TheVariants.{AddVertex, DropVertex, AddEdge, SetEdge, DropEdge}
 use Rattle.graph_model.specs.declared.row.Key.{Key}
 use Rattle.graph_model.specs.declared.row.Row.{Row}
-use Rattle.graph_model.specs.declared.table.Entry.{Entry}
 use Rattle.graph_model.specs.declared.refusal.Refusal.{Refusal}
 use Rattle.graph_model.specs.declared.refusal.Refusal.TheVariants.{SelfLoop, VertexExists, EdgeExists, NoEdge, HasEdges, NoVertex}
-use Rattle.graph_model.specs.Graph.{Graph, has_vertex, weight_of, has_arc, has_edges, vertices_of, IsSymmetric}
+use Rattle.graph_model.specs.Graph.{Graph, has_vertex, weight_of, has_arc, has_edges, IsSymmetric}
 use Rattle.graph_model.specs.Refused.{unless_ends, refused}
-use Rattle.graph_model.specs.Rows.{key_cmp, is_below, vertex_key, arc_key, is_between, row_map, row_of, rows, value_at}
+use Rattle.graph_model.specs.Rows.{key_cmp, vertex_key, arc_key, is_between, row_map, rows, value_at}
 use Rattle.graph_model.specs.Effects.{same_key, arc_keys}
-use Rattle.graph_model.proofs.TestLemmas.{self_eq, eq_of}
+use Rattle.graph_model.proofs.TestLemmas.{self_eq}
 use Rattle.graph_model.proofs.GraphLemmas.{same_graph, no_edges, has_no_edges}
 use Rattle.graph_model.proofs.SortedLemmas.{true_from_T}
 use Rattle.graph_model.proofs.RowLemmas.{find-entries, rows_of_values}
 use Rattle.graph_model.proofs.KeyLemmas.{same_key_test}
-use Rattle.run_model.specs.Requests.{Query, WeightOf, NeighboursOf, Counts, Kernel, Request, ToBegin, ToCommit, ToAbort, ToWrite, ToRead, ToRun}
-use Rattle.run_model.specs.Answering.{targets_of, at_vertex, weight_answer, query_answer, kernel_answer, IsKernelTable}
+use Rattle.run_model.specs.Requests.{Query, WeightOf, NeighboursOf, Counts, Request, ToBegin, ToCommit, ToAbort, ToWrite, ToRead, ToRun}
+use Rattle.run_model.specs.Answering.{targets_of, weight_answer, query_answer, kernel_answer, IsKernelTable}
 use Rattle.run_model.specs.declared.answer.Answer.TheVariants as answers
 use Rattle.serial_model.specs.Footprints.{is_from, is_at_edge, is_at_removal, write_depends, read_depends, depends}
 use Rattle.serial_model.specs.SerialRun.{HasSameAnswer}

@@ -1,9 +1,8 @@
 -- Refused commits read as aborts: a turn that refuses none does the same to a run that is read so.
-use Rattle.std.proofs.Common.{◌≡◌, ℕ, zero, suc, ◌+◌, ◌-◌, ◌<◌, ◌≤◌, List, [], ◌∷◌, ◌++◌, map, length, refl, sym, ◌∙◌, ap, subst, arith, cond, inl, inr}
-use Rattle.std.specs.Prelude.{◌⊎◌, Bool, true, false, ◌==◌, ◌&&◌, ◌||◌, nat_lt, max, slice_get, slice_set, Option, Some, None}
-use Rattle.std.specs.List.{filter, filter_map, cons_option, list_any, list_all}
+use Rattle.std.proofs.Common.{◌≡◌, ℕ, zero, suc, ◌+◌, List, [], ◌∷◌, ◌++◌, map, refl, sym, ◌∙◌, ap, subst, cond}
+use Rattle.std.specs.Prelude.{Bool, true, false, ◌==◌, ◌&&◌, nat_lt, slice_get, slice_set, Option, Some, None}
+use Rattle.std.specs.List.{filter_map, cons_option}
 use Rattle.std.specs.Option.{option_map}
-use Rattle.std.proofs.lemmas.Bool.{true≢false}
 use Rattle.std.proofs.lemmas.List.{map-append}
 use Rattle.graph_model.specs.declared.write.Kind.{Kind}
 use Rattle.graph_model.specs.declared.write.Write.{Write}
@@ -11,7 +10,6 @@ use Rattle.graph_model.specs.declared.journal.Commit.{Commit}
 use Rattle.graph_model.specs.declared.journal.TxnName.{TxnName}
 use Rattle.graph_model.specs.declared.refusal.Refusal.{Refusal}
 use Rattle.graph_model.specs.declared.refusal.Cause.{Cause}
-use Rattle.graph_model.specs.declared.table.Entry.{Entry}
 use Rattle.graph_model.specs.Conflict.{OpenTxn, conflict}
 use Rattle.graph_model.specs.Refused.{refused}
 use Rattle.graph_model.specs.History.{view}
@@ -22,13 +20,13 @@ use Rattle.run_model.specs.declared.command.Command.TheVariants as commands
 use Rattle.run_model.specs.declared.answer.Answer.{Answer}
 use Rattle.run_model.specs.declared.answer.Answer.TheVariants as answers
 use Rattle.run_model.specs.Requests.{Request, ToBegin, ToCommit, ToAbort, ToWrite, ToRead, ToRun, request, next_txn, write_of}
-use Rattle.run_model.specs.AnsweredLines.{AnsweredLine, effect, made_by, of_txn, own_writes, first_start, or_later, start_of, snapshot, answered_from}
+use Rattle.run_model.specs.AnsweredLines.{AnsweredLine, effect, made_by, of_txn, own_writes, first_start, or_later, start_of, snapshot}
 use Rattle.run_model.specs.Inputs.{File}
 use Rattle.run_model.specs.Run.{Context, IsFiled, HasFiles, Filing, filing_of}
 use Rattle.run_model.specs.Answering.{IsKernelTable}
-use Rattle.run_model.specs.Jobs.{JobState, RunState, LineResult, running_of, open_txns, lines_so_far, view_of_job, skips, write_result, commit_result, live_result, line_result, turns_of, answered_job, with_job, line_turn, job_turn, turn_at_place, turn}
+use Rattle.run_model.specs.Jobs.{JobState, RunState, LineResult, running_of, open_txns, view_of_job, skips, write_result, commit_result, live_result, line_result, turns_of, answered_job, with_job, line_turn, job_turn, turn_at_place, turn}
 use Rattle.run_model.specs.UnderWay.{AreNumbered}
-use Rattle.serial_model.specs.SerialRun.{is_commit, is_refused, command_read, answer_read, line_read, job_read, run_read, script_read, report_read}
+use Rattle.serial_model.specs.SerialRun.{is_commit, is_refused, line_read, job_read, run_read, script_read, report_read}
 
 -- ---- lists
 

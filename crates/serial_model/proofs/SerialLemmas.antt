@@ -1,11 +1,10 @@
 -- A turn that refuses a commit, and so the whole run.
-use Rattle.std.proofs.Common.{◌≡◌, ◌≢◌, ℕ, zero, suc, ◌+◌, ◌-◌, ◌/◌, ◌<◌, ◌≤◌, List, [], ◌∷◌, ◌++◌, map, length, take, refl, sym, ◌∙◌, ap, subst, arith, cond, inl, inr, length-append, append_assoc}
-use Rattle.std.specs.Prelude.{◌⊎◌, Bool, true, false, ◌==◌, ◌&&◌, ◌||◌, nat_lt, max, sum_by, slice_get, slice_set, unwrap_or, Contains, Option, Some, None}
-use Rattle.std.specs.List.{filter, filter_map, list_any, list_all}
+use Rattle.std.proofs.Common.{◌≡◌, ◌≢◌, ℕ, zero, suc, ◌+◌, ◌-◌, ◌/◌, ◌<◌, ◌≤◌, List, [], ◌∷◌, ◌++◌, map, length, take, refl, sym, ◌∙◌, ap, subst, arith, cond, inl, inr, append_assoc}
+use Rattle.std.specs.Prelude.{◌⊎◌, Bool, true, false, ◌==◌, ◌&&◌, nat_lt, slice_get, slice_set, Contains, Option, Some, None}
+use Rattle.std.specs.List.{list_any, list_all}
 use Rattle.std.proofs.lemmas.Bool.{true≢false, or_left, or_right}
 use Rattle.std.proofs.lemmas.Bool.Decides.{nat_tests}
 use Rattle.std.proofs.lemmas.List.{append-nil, map-append, length-map}
-use Rattle.std.proofs.lemmas.Option.{none-some}
 use Rattle.graph_model.specs.declared.limits.TheConstants.{MAX_BEGINS}
 use Rattle.graph_model.specs.declared.write.Kind.{Kind}
 use Rattle.graph_model.specs.declared.write.Write.{Write}
@@ -22,11 +21,11 @@ use Rattle.run_model.specs.declared.command.Command.{Command}
 use Rattle.run_model.specs.declared.command.Command.TheVariants as commands
 use Rattle.run_model.specs.declared.answer.Answer.{Answer}
 use Rattle.run_model.specs.declared.answer.Answer.TheVariants as answers
-use Rattle.run_model.specs.Requests.{Request, ToBegin, ToCommit, ToAbort, ToWrite, ToRead, ToRun, request, next_txn, open_behind, begun_by, IsRequest, IsScript}
-use Rattle.run_model.specs.AnsweredLines.{AnsweredLine, effect, of_txn, own_writes, start_of, newest_shown}
+use Rattle.run_model.specs.Requests.{Request, ToBegin, ToCommit, ToAbort, ToWrite, ToRead, ToRun, request, next_txn, open_behind, begun_by, IsScript}
+use Rattle.run_model.specs.AnsweredLines.{AnsweredLine, of_txn, own_writes, start_of, newest_shown}
 use Rattle.run_model.specs.Inputs.{Inputs, AreInputs, File, Outputs}
 use Rattle.run_model.specs.Run.{MayFill, AllAnswered, Filing, IsFiled, HasFiles, IsLoad, IsShown, IsRun, load_commit, answered_scripts, run_lines}
-use Rattle.run_model.specs.Jobs.{JobState, RunState, LineResult, new_job, first_state, lines_so_far, open_txns, start_of_job, skips, ends, line_result, turns_of, answered_job, with_job, line_turn, job_turn, turn_at_place, turn, is_empty, has_ended}
+use Rattle.run_model.specs.Jobs.{JobState, RunState, LineResult, new_job, first_state, lines_so_far, start_of_job, skips, ends, answered_job, with_job, line_turn, job_turn, turn_at_place, turn, is_empty, has_ended}
 use Rattle.run_model.specs.Stepped.{turn_at, setting_of, context_in}
 use Rattle.run_model.specs.UnderWay.{AreNumbered, is_within, script_of, IsJob, IsUnderWay}
 use Rattle.run_model.proofs.SetLemmas.{get_set, set_cases, map_set, get_map, map_get}
@@ -37,10 +36,10 @@ use Rattle.run_model.proofs.AnswerLemmas.{asks_commit}
 use Rattle.run_model.proofs.TurnLemmas.{turn_keeps}
 use Rattle.run_model.proofs.SteppedLemmas.{first_is}
 use Rattle.serial_model.specs.Footprints.{footprint, depends, writes_in, later_in, newest_in}
-use Rattle.serial_model.specs.SerialTurns.{newest_against, live_refusal, refusal_of_line, refused_job, refused_or, serial_line, serial_at, serial_turn, IsSeriallyReached, IsSeriallyStepped}
-use Rattle.serial_model.specs.SerialRun.{is_refused, line_read, job_read, run_read, scripts_read, reports_read, inputs_read, outputs_read, IsRefusal, AnswersAsBehind, IsSerialLine, EachLine, IsSerialRun}
+use Rattle.serial_model.specs.SerialTurns.{newest_against, live_refusal, refusal_of_line, refused_job, refused_or, serial_line, serial_at, serial_turn, IsSeriallyReached}
+use Rattle.serial_model.specs.SerialRun.{line_read, job_read, run_read, scripts_read, reports_read, inputs_read, outputs_read, AnswersAsBehind, IsSerialLine, EachLine}
 use Rattle.serial_model.specs.Laws.{SerialSteppedRunsAreSerialRuns}
-use Rattle.serial_model.proofs.CommitLemmas.{IsClear, line_same}
+use Rattle.serial_model.proofs.CommitLemmas.{line_same}
 use Rattle.serial_model.proofs.ReadLemmas.{map_slice_set, set_twice, own_read, numbered_read, commands_read, answers_read, files_read}
 use Rattle.serial_model.proofs.WayLemmas.{IsPlaced, IsKeptLine, IsSerialWay, inputs_at, rebase, rebase_given, one_line, start_is, stamped, goes_on, each_weaker, length_set}
 

@@ -1,12 +1,10 @@
 -- What holds of a serialisable run before and behind each turn.
-use Rattle.std.proofs.Common.{◌≡◌, ◌≢◌, ℕ, zero, suc, ◌+◌, ◌-◌, ◌<◌, ◌≤◌, List, [], ◌∷◌, ◌++◌, map, length, refl, sym, ◌∙◌, ap, subst, arith, cond, inl, inr, length-append, append_assoc}
-use Rattle.std.specs.Prelude.{◌⊎◌, Bool, true, false, ◌==◌, ◌&&◌, ◌||◌, nat_lt, max, sum_by, slice_get, slice_set, unwrap_or, Contains, Option, Some, None}
-use Rattle.std.specs.List.{filter, filter_map, list_any}
+use Rattle.std.proofs.Common.{◌≡◌, ℕ, zero, suc, ◌+◌, ◌-◌, ◌<◌, ◌≤◌, List, [], ◌∷◌, ◌++◌, map, length, refl, sym, ◌∙◌, ap, subst, arith, cond, inl, inr, length-append, append_assoc}
+use Rattle.std.specs.Prelude.{Bool, true, false, ◌&&◌, nat_lt, slice_get, slice_set, unwrap_or, Contains, Option, Some, None}
+use Rattle.std.specs.List.{filter, filter_map}
 use Rattle.std.proofs.lemmas.Bool.{true≢false}
-use Rattle.std.proofs.lemmas.Bool.Decides.{nat_tests}
-use Rattle.std.proofs.lemmas.List.{append-nil, map-append, length-map}
+use Rattle.std.proofs.lemmas.List.{append-nil, map-append}
 use Rattle.std.proofs.lemmas.List.Elements.{filter-append, Contains-append_left}
-use Rattle.std.proofs.lemmas.Option.{none-some}
 use Rattle.graph_model.specs.declared.write.Kind.{Kind}
 use Rattle.graph_model.specs.declared.write.Write.{Write}
 use Rattle.graph_model.specs.declared.row.Key.{Key}
@@ -14,32 +12,26 @@ use Rattle.graph_model.specs.declared.journal.TxnName.{TxnName}
 use Rattle.graph_model.specs.declared.journal.Commit.{Commit}
 use Rattle.graph_model.specs.declared.refusal.Cause.TheVariants.{Later, Holder}
 use Rattle.graph_model.specs.Inserted.{inserted}
-use Rattle.graph_model.specs.Transactions.{AreTransactions}
 use Rattle.graph_model.proofs.LegalLemmas.{below_length}
-use Rattle.graph_model.proofs.PlaceLemmas.{some_eq}
-use Rattle.graph_model.proofs.ConflictLemmas.{in_filtered, greatest_in}
 use Rattle.run_model.specs.declared.command.Command.{Command}
 use Rattle.run_model.specs.declared.command.Command.TheVariants as commands
 use Rattle.run_model.specs.declared.answer.Answer.{Answer}
 use Rattle.run_model.specs.declared.answer.Answer.TheVariants as answers
-use Rattle.run_model.specs.Requests.{Request, ToBegin, ToCommit, ToAbort, ToWrite, ToRead, ToRun, request, next_txn, open_behind, begun_by, IsRequest, IsScript}
-use Rattle.run_model.specs.AnsweredLines.{AnsweredLine, effect, made_by, of_txn, own_writes, start_of, newest_shown}
+use Rattle.run_model.specs.Requests.{Request, ToBegin, ToCommit, ToAbort, ToWrite, ToRead, ToRun, request, next_txn}
+use Rattle.run_model.specs.AnsweredLines.{AnsweredLine, effect, made_by, of_txn, start_of, newest_shown}
 use Rattle.run_model.specs.Inputs.{Inputs, AreInputs}
-use Rattle.run_model.specs.Run.{MayFill, ShowsCommit, IsLoad, IsShown, inserted_in, txn_name}
-use Rattle.run_model.specs.Jobs.{JobState, RunState, LineResult, running_of, lines_so_far, open_txns, start_of_job, view_of_job, skips, ends, begins as line_begins, commit_result, line_result, turns_of, answered_job, with_job, line_turn, job_turn, turn_at_place, turn}
+use Rattle.run_model.specs.Run.{MayFill, ShowsCommit, inserted_in, txn_name}
+use Rattle.run_model.specs.Jobs.{JobState, RunState, LineResult, lines_so_far, open_txns, start_of_job, skips, begins as line_begins, commit_result, line_result, turns_of, answered_job, with_job, line_turn, job_turn, turn_at_place, turn}
 use Rattle.run_model.specs.Stepped.{context_in}
-use Rattle.run_model.specs.UnderWay.{is_within, script_of, IsJob, IsUnderWay}
-use Rattle.run_model.proofs.SetLemmas.{get_set, set_cases, map_set, get_map, map_get, sum_cons}
+use Rattle.run_model.specs.UnderWay.{script_of, IsJob, IsUnderWay}
+use Rattle.run_model.proofs.SetLemmas.{get_set, set_cases, map_set, get_map, sum_cons}
 use Rattle.run_model.proofs.LineLemmas.{shown_more, start_below}
-use Rattle.run_model.proofs.OpenLemmas.{open_unchanged}
-use Rattle.run_model.proofs.CauseLemmas.{contains_at}
-use Rattle.run_model.proofs.AnswerLemmas.{asks_commit}
 use Rattle.run_model.proofs.TurnLemmas.{turn_keeps}
 use Rattle.serial_model.specs.Footprints.{footprint, writes_in, later_in, newest_in}
-use Rattle.serial_model.specs.SerialTurns.{newest_against, live_refusal, refusal_of_line, refused_job, refused_or, serial_line, serial_at, serial_turn}
-use Rattle.serial_model.specs.SerialRun.{is_commit, is_refused, line_read, job_read, run_read, IsRefusal, EachLine}
+use Rattle.serial_model.specs.SerialTurns.{newest_against, refusal_of_line}
+use Rattle.serial_model.specs.SerialRun.{is_refused, line_read, job_read, run_read, IsRefusal, EachLine}
 use Rattle.serial_model.proofs.CommitLemmas.{IsClear, none_later}
-use Rattle.serial_model.proofs.ReadLemmas.{map_slice_set, set_twice, read_as_is, none_refused, turn_read, start_read, own_read, made_read}
+use Rattle.serial_model.proofs.ReadLemmas.{read_as_is, none_refused, turn_read, start_read, made_read}
 
 -- ---- lines, one behind the other
 

@@ -1,23 +1,18 @@
 -- Worked by hand: write skew. Two guards each see the other on duty, and both go home.
 use Rattle.std.specs.Prelude.{◌≡◌, ℕ, List, [], ◌∷◌, Some, None}
-use Rattle.graph_model.specs.declared.write.Kind.{Kind}
 use Rattle.graph_model.specs.declared.write.Kind.TheVariants.{Directed, Undirected}
-use Rattle.graph_model.specs.declared.write.Write.{Write}
 use Rattle.graph_model.specs.declared.write.Write.TheVariants as writes
 use Rattle.graph_model.specs.declared.journal.Commit.{Commit}
 use Rattle.graph_model.specs.declared.refusal.Cause.TheVariants.{Later}
-use Rattle.graph_model.specs.History.{view}
 use Rattle.run_model.specs.declared.command.Command.{Command}
 use Rattle.run_model.specs.declared.command.Command.TheVariants as commands
 use Rattle.run_model.specs.declared.answer.Answer.{Answer}
 use Rattle.run_model.specs.declared.answer.Answer.TheVariants as answers
-use Rattle.run_model.specs.Requests.{Request, ToRead, ToWrite, ToRun, WeightOf, NeighboursOf, Counts, Wcc}
 use Rattle.run_model.specs.AnsweredLines.{AnsweredLine, answered_lines}
-use Rattle.run_model.specs.Inputs.{Inputs, Outputs}
 use Rattle.run_model.specs.Run.{txn_name, load_commit}
 use Rattle.run_model.specs.Examples.{load}
 use Rattle.serial_model.specs.Footprints.{footprint, newest_in}
-use Rattle.serial_model.specs.SerialRun.{HasSameAnswer, IsRefusal, IsSerialLine, AnswersAsBehind}
+use Rattle.serial_model.specs.SerialRun.{IsSerialLine}
 
 -- a script that asks for the weight of one edge, and gives another edge the weight 5
 abbrev pub looks_and_sets : ℕ → ℕ → ℕ → ℕ → List Command
