@@ -51,8 +51,8 @@ abbrev pub serial_at : Kind → RunState → ℕ → Option JobState → RunStat
 serial_at kind s k None other = other
 serial_at kind s k (Some j) other = serial_line kind s k j j.left other
 
--- a turn of script number `job`, with one change at `commit`: where the line is refused it is answered the conflict, and
--- the transaction is over
+-- a turn of script number `job`, with one change at `commit`: where the line is refused it is answered the conflict,
+-- and the transaction is over
 abbrev pub serial_turn : Kind → RunState → ℕ → Bool → RunState
 serial_turn kind s zero full = turn kind s zero full
 serial_turn kind s (suc k) full = serial_at kind s k (slice_get s.jobs k) (turn kind s (suc k) full)
