@@ -4,7 +4,7 @@ use Rattle.graphalytics_io.specs.FieldLines.{field_lines}
 use Rattle.graph_files.specs.EdgeFiles.{edge_of}
 use Rattle.graph_files.specs.Kept.{every_id}
 use Rattle.graph_files.proofs.UnrepeatedLemmas.{ReadTo}
-use Rattle.graph_files.proofs.faultless.read_front.Given as goal
+use Rattle.graph_files.proofs.faultless.read_lines.Given as goal
 
 abbrev pub invariant-lines : goal.invariant-lines
 invariant-lines l = ReadTo (edge_of every_id l.weights) (field_lines l.text) l.edges l.lines
