@@ -1,0 +1,7 @@
+mod ByteLemmas
+mod FileLemmas
+mod TornLemmas
+mod MomentLemmas
+mod KeepLemmas
+mod WriteLemmas
+mod AppendLemmas
