@@ -11,7 +11,8 @@ use Rattle.graph_model.specs.declared.write.Write.TheVariants.{AddVertex, DropVe
 use Rattle.graph_model.specs.declared.journal.Commit.{Commit}
 use Rattle.graph_model.specs.Refused.{IsWithinLimits}
 use Rattle.journal_file.specs.Format.{word, half, tagged, write_bytes, head_bytes, body, entry, entry_len, IsEntry}
-use Rattle.journal_file.specs.Reading.{Head, on_vertex, on_edge, on_ends, of_tag, write_of, put_first, writes_of, head_of, is_next, with_writes, is_whole, commit_of, gated}
+use Rattle.journal_file.specs.declared.reading.Head.{Head}
+use Rattle.journal_file.specs.Reading.{on_vertex, on_edge, on_ends, of_tag, write_of, put_first, writes_of, head_of, is_next, with_writes, is_whole, commit_of, gated}
 
 -- ---- writes
 

@@ -100,3 +100,20 @@ pub flat_push : (commits : List Commit) (c : Commit) → flat_map entry (commits
 flat_push [] c = append-nil (entry c)
 flat_push (d ∷ commits) c =
     ap (λ bytes. entry d ++ bytes) (flat_push commits c) ∙ sym (append_assoc (entry d) (flat_map entry commits) (entry c))
+
+-- ---- commits that are read one behind the other
+
+module _ (file : List ℕ) (at : ℕ) (journal : List Commit)
+    (so_far : commits_from 1 (drop 9 file) ≡ journal ++ commits_from (length journal + 1) (drop at file)) where
+  pub commits_next : (c : Commit) → gated (length journal + 1) (drop at file) ≡ Some c
+      → commits_from 1 (drop 9 file) ≡ (journal ++ c ∷ []) ++ commits_from (length (journal ++ c ∷ []) + 1) (drop (at + entry_len c) file)
+  commits_next c is =
+      let count : length journal + 1 + 1 ≡ length (journal ++ c ∷ []) + 1 = omega (arith, length-append journal (c ∷ [])) in
+      so_far
+      ∙ ap (λ cs. journal ++ cs) (from_some (length journal + 1) (drop at file) c is
+      ∙ (λ i. c ∷ commits_from (count i) (drop-drop (entry_len c) at file i)))
+      ∙ sym (append_assoc journal (c ∷ []) (commits_from (length (journal ++ c ∷ []) + 1) (drop (at + entry_len c) file)))
+
+  pub commits_last : gated (length journal + 1) (drop at file) ≡ None → commits_from 1 (drop 9 file) ≡ journal
+  commits_last none =
+      so_far ∙ ap (λ cs. journal ++ cs) (from_none (length journal + 1) (drop at file) none) ∙ append-nil journal

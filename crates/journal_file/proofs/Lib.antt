@@ -5,3 +5,5 @@ mod MomentLemmas
 mod KeepLemmas
 mod WriteLemmas
 mod AppendLemmas
+mod ReadLemmas
+mod HeadLemmas

@@ -2,3 +2,4 @@ pub mod Format
 pub mod Reading
 pub mod Keeping
 pub mod Laws
+pub mod Recovering

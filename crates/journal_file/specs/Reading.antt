@@ -8,6 +8,7 @@ use Rattle.graph_model.specs.declared.write.Kind.TheVariants.{Directed, Undirect
 use Rattle.graph_model.specs.declared.write.Write.{Write}
 use Rattle.graph_model.specs.declared.write.Write.TheVariants.{AddVertex, DropVertex, AddEdge, SetEdge, DropEdge}
 use Rattle.graph_model.specs.declared.journal.Commit.{Commit}
+use Rattle.journal_file.specs.declared.reading.Head.{Head}
 use Rattle.journal_file.specs.Format.{header, entry_len}
 
 -- the numbers of eight bytes and of four that stand at a place
@@ -52,15 +53,6 @@ writes_of zero bytes = Some []
 writes_of (suc count) bytes = put_first (write_of (take 25 bytes)) (writes_of count (drop 25 bytes))
 
 -- ---- commits
-
--- what stands before the writes of a commit
-pub record Head : Type 0 where
-  pub stamp : ℕ
-  pub start : ℕ
-  pub job : ℕ
-  pub number : ℕ
-  -- how many writes there are
-  pub count : ℕ
 
 abbrev pub head_of : List ℕ → Head
 head_of bytes = record {

@@ -12,10 +12,14 @@
 mod bytes;
 mod file;
 mod laws;
+mod reading;
 mod record;
+mod recovery;
 mod refusal;
 
 pub use file::JournalFile;
 pub use laws::files_stand_for_their_commits;
+pub use reading::Head;
 pub use record::Record;
-pub use refusal::DiskFault;
+pub use recovery::{Recovered, recover};
+pub use refusal::{DiskFault, RecoverRefusal};
