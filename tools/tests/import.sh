@@ -53,6 +53,29 @@ try 'a table that is not there' gone.csv
 printf '\037\213\010\000' >spoiled.gz
 try 'a gz file that is cut off' spoiled.gz
 try 'an empty table' /dev/null
+echo '== many lines, some of them quoted or over two lines, as awk reckons them'
+awk 'BEGIN {
+    print "from,to,sum"
+    for (line = 1; line <= 20000; line++) {
+        payer = "a" line * 7919 % 53
+        if (line > 5000 && line < 6000) payer = "\"" payer "\\n\""
+        printf "%s,b%d,%d.%02d\n", payer, line * 104729 % 59, line % 1000, line % 100
+    }
+}' | sed 's/\\n/\n/' >many.csv
+teseo-import many.csv --out m --directed --weight sum --digits 2 --repeated sum
+tr -d '"' <many.csv | awk -F, '
+    function number(id) { if (!(id in numbers)) numbers[id] = ++count; return numbers[id] }
+    NR == 1 { next }
+    NF == 1 { begun = $0; next }
+    {
+        payer = number(begun $1); begun = ""
+        edge = payer " " number($2)
+        if (!(edge in cents)) edges[++edge_count] = edge
+        cents[edge] += int($3 * 100 + 0.5)
+    }
+    END { for (at = 1; at <= edge_count; at++) printf "%s %d.%02d\n", edges[at], cents[edges[at]] / 100, cents[edges[at]] % 100 }
+' | cmp - m/e && echo same
+
 echo '== a source is not written over'
 mkdir h && printf 'a b\n' >h/e
 teseo-import h/e --out h

@@ -5,6 +5,8 @@
 #![tactic(auto)]
 
 #[cfg(test)]
+mod desks;
+#[cfg(test)]
 mod graphs;
 #[cfg(test)]
 mod lines;

@@ -124,39 +124,3 @@ fn piece_len(most: usize, room: u64) -> usize
         most
     }
 }
-
-#[cfg(test)]
-mod tests {
-    use super::*;
-    use crate::memory_desk::MemoryDesk;
-    use std::test::Fail;
-
-    #[test]
-    fn a_source_is_read_whole_up_to_its_limit(rt: HostRuntime) -> Result<(), Fail> {
-        let alloc = rt.alloc();
-        let eleven = b"0123456789A".as_slice();
-        let mut pieces = Vec::new(alloc);
-        for i in 0..70_000u32 {
-            pieces.push((i % 251) as u8)?;
-        }
-        for (text, limit, failing, want) in [
-            (eleven, 10, 0, Err(SourceRefusal::TooLong)),
-            (eleven, 11, 0, Ok(true)),
-            (eleven, u64::MAX, 0, Ok(true)),
-            (eleven, 11, 2, Err(SourceRefusal::ReadFault)),
-            (pieces.as_slice(), 70_000, 0, Ok(true)),
-        ] {
-            let mut desk = MemoryDesk::with_failing(alloc, &[failing])?;
-            desk.put("source", text)?;
-            let got = match read_source(alloc, &mut desk, "source", limit) {
-                Ok(bytes) => Ok(bytes.as_slice() == text),
-                Err(refusal) => Err(refusal),
-            };
-            assert!(rt;
-                got == want,
-                "with limit {limit} and call {failing} failing"
-            );
-        }
-        Ok(())
-    }
-}

@@ -4,3 +4,4 @@ pub mod UnrepeatedLemmas
 pub mod SecondLemmas
 pub mod LoadLemmas
 pub mod FileLemmas
+pub mod HalvesLemmas

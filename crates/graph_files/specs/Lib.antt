@@ -3,6 +3,7 @@ pub mod Weights
 pub mod VertexFiles
 pub mod EdgeFiles
 pub mod Kept
+pub mod Halves
 pub mod Seconds
 pub mod Load
 pub mod Laws

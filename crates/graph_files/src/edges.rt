@@ -1,13 +1,14 @@
 //! Edge files.
 
 ghost use Rattle.std.specs.Prelude.{◌≡◌, Ok, IfOk, IfErr};
+ghost use Rattle.graphalytics_io.specs.FieldLines.{field_lines};
 ghost use Rattle.graph_files.specs.Weights.{AreReadable};
 ghost use Rattle.graph_files.specs.Faults.{IsRefused};
-ghost use Rattle.graph_files.specs.EdgeFiles.{Rules, arcs_of, edges_of};
-ghost use Rattle.graph_files.specs.Kept.{IsCheckedBy};
+ghost use Rattle.graph_files.specs.EdgeFiles.{Rules, arcs_of, edge_of, edges_of};
+ghost use Rattle.graph_files.specs.Kept.{IsCheckedBy, IsFront, every_id};
 
 use crate::checks::Checks;
-use crate::faultless::{Front, are_new, faultless_front, read_front};
+use crate::faultless::{Front, are_new, faultless_front, read_front, read_lines};
 use crate::listings::read_rest;
 use crate::refusal::ReadRefusal;
 use crate::weights::Weights;
@@ -15,6 +16,7 @@ use graph_model::{Ids, Kind};
 use graphalytics_io::Edges;
 use id_places::Known;
 use std::alloc::Global;
+use std::thread::Threads;
 
 /// Reads the edges of an edge file over these ids. With the ids they have at most `limit` rows, one for each vertex and
 /// each arc. The text is gone over once where no line has a fault and no edge is listed twice, and else once more.
@@ -32,24 +34,67 @@ pub fn read_edges(
     ensures fault { IfErr result (λ refusal. IsRefused
         (edges_of (record { ids = ids.now; kind = kind; weights = weights; limit = limit }) text.now) refusal) }
 {
+    let front = read_lines(alloc, text, weights)?;
+    read_checked(alloc, text, front, ids, kind, weights, limit)
+}
+
+/// The same, where several threads go over the text. It is gone over once more by one thread where a line has a fault
+/// by itself.
+pub fn read_edges_by_threads<R: Threads + Sync>(
+    rt: &R,
+    alloc: Global,
+    text: &[u8],
+    ids: &Ids,
+    kind: Kind,
+    weights: Weights,
+    limit: u64,
+) -> Result<Edges, ReadRefusal>
+    requires { AreReadable weights }
+    ensures ok { IfOk result (λ edges.
+        edges_of (record { ids = ids.now; kind = kind; weights = weights; limit = limit }) text.now ≡ Ok edges) }
+    ensures fault { IfErr result (λ refusal. IsRefused
+        (edges_of (record { ids = ids.now; kind = kind; weights = weights; limit = limit }) text.now) refusal) }
+{
+    let front = read_front(rt, alloc, text, weights)?;
+    read_checked(alloc, text, front, ids, kind, weights, limit)
+}
+
+/// Reads the edges of an edge file, of which this is the front.
+fn read_checked(
+    alloc: Global,
+    text: &[u8],
+    front: Front,
+    ids: &Ids,
+    kind: Kind,
+    weights: Weights,
+    limit: u64,
+) -> Result<Edges, ReadRefusal>
+    requires readable { AreReadable weights }
+    requires front { IsFront (edge_of every_id weights) (field_lines text.now) front }
+    ensures ok { IfOk result (λ edges.
+        edges_of (record { ids = ids.now; kind = kind; weights = weights; limit = limit }) text.now ≡ Ok edges) }
+    ensures fault { IfErr result (λ refusal. IsRefused
+        (edges_of (record { ids = ids.now; kind = kind; weights = weights; limit = limit }) text.now) refusal) }
+{
     let checks = Checks {
         known: Known::of(alloc, ids.as_slice())?,
         kind,
         weights,
         most: limit.saturating_sub(ids.len() as u64) / arcs_of(kind),
     };
-    read_checked(alloc, text, &checks)
+    check(alloc, text, front, &checks)
 }
 
-/// Reads the edges of an edge file by what its lines are checked against.
-fn read_checked(alloc: Global, text: &[u8], checks: &Checks) -> Result<Edges, ReadRefusal>
-    requires { AreReadable checks.now.weights }
+/// Checks the front of an edge file, and reads what is behind it.
+fn check(alloc: Global, text: &[u8], front: Front, checks: &Checks) -> Result<Edges, ReadRefusal>
+    requires readable { AreReadable checks.now.weights }
+    requires front { IsFront (edge_of every_id checks.now.weights) (field_lines text.now) front }
     ensures ok { IfOk result (λ edges. (rules : Rules) → IsCheckedBy rules checks.now
         → edges_of rules text.now ≡ Ok edges) }
     ensures fault { IfErr result (λ refusal. (rules : Rules) → IsCheckedBy rules checks.now
         → IsRefused (edges_of rules text.now) refusal) }
 {
-    let Front { edges, is_whole } = read_front(alloc, text, checks.weights)?;
+    let Front { edges, is_whole } = front;
     if is_whole && are_new(alloc, edges.as_slice(), checks)? {
         return Ok(edges);
     }

@@ -14,6 +14,7 @@ ghost use Rattle.graph_files.specs.Kept.{IsCheckedBy, AreListed, IsFront, AreNew
 
 use crate::checks::Checks;
 use crate::ends::{EveryId, read_edge};
+use crate::halves::{cuts_for, read_halves};
 use crate::listings::Reading;
 use crate::seconds::{Parts, parts_of};
 use crate::weights::Weights;
@@ -21,6 +22,7 @@ use graphalytics_io::{Edge, Edges, field_lines};
 use id_places::{are_distinct, numbers_of};
 use items::NoMemory;
 use std::alloc::Global;
+use std::thread::Threads;
 
 /// The edges of the lines before the first that has a fault by itself, with all ids taken as known.
 #[derive(Drop)]
@@ -30,8 +32,28 @@ pub struct Front {
     pub is_whole: bool,
 }
 
+/// Reads each line by itself, up to the first that has a fault: by several threads, and once more by one where a line
+/// has a fault.
+pub(crate) fn read_front<R: Threads + Sync>(
+    rt: &R,
+    alloc: Global,
+    text: &[u8],
+    weights: Weights,
+) -> Result<Front, NoMemory>
+    requires { AreReadable weights }
+    ensures { IfOk result (λ front. IsFront (edge_of every_id weights) (field_lines text.now) front) }
+{
+    match read_halves(rt, alloc, text, weights, cuts_for(rt))? {
+        Some(edges) => Ok(Front {
+            edges,
+            is_whole: true,
+        }),
+        None => read_lines(alloc, text, weights),
+    }
+}
+
 /// Reads each line by itself, up to the first that has a fault.
-pub(crate) fn read_front(alloc: Global, text: &[u8], weights: Weights) -> Result<Front, NoMemory>
+pub(crate) fn read_lines(alloc: Global, text: &[u8], weights: Weights) -> Result<Front, NoMemory>
     requires { AreReadable weights }
     ensures { IfOk result (λ front. IsFront (edge_of every_id weights) (field_lines text.now) front) }
 {

@@ -10,6 +10,7 @@ mod checks;
 mod edges;
 mod ends;
 mod faultless;
+mod halves;
 mod laws;
 mod listings;
 mod refusal;
@@ -17,7 +18,7 @@ mod seconds;
 mod vertices;
 mod weights;
 
-pub use edges::read_edges;
+pub use edges::{read_edges, read_edges_by_threads};
 pub use laws::{files_are_loadable, load_is_its_graph, load_is_legal};
 pub use refusal::{Fault, ReadRefusal, What};
 pub use vertices::read_vertices;

@@ -16,6 +16,13 @@ use Rattle.store_relation.specs.Passes.{PassState, ended_writes, is_active, made
 use Rattle.store_relation.specs.Shared.{sum_below, inserted_by_all, inserted_by_pass}
 use Rattle.store_relation.proofs.ListLemmas.{sum_le}
 
+-- a sum is no less than one of its parts
+pub sum_has : (f : ℕ → ℕ) (n p : ℕ) → p < n → f p ≤ sum_below f n
+sum_has f zero p less = absurd (omega arith)
+sum_has f (suc n) p less = dite (ℕ_discrete p n)
+    (λ same. let e : f p ≡ f n = ap f same in omega (arith, e))
+    (λ other. let part = sum_has f n p (omega (arith, less, other)) in omega (arith, part))
+
 -- a longer list of transactions inserts no fewer rows
 pub inserted_front : (kind : Kind) (xs ys : List (List Write))
     → inserted kind (flat_map (λ us. us) xs) ≤ inserted kind (flat_map (λ us. us) (xs ++ ys))

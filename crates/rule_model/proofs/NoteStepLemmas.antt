@@ -112,7 +112,7 @@ reader_is P (u ∷ views) (suc id) v x here has all =
 rows_learnt : (z : Config) (at : Layout) (heap : Global) (slots id : ℕ) (me : M) (s : S)
     (r : IsStoreRule z at heap s) → get_elem? s.views id ≡ some me.0
     → (x : ReaderState) → IsReader r.known.pass (r.known.journal 0).commits x
-    → LearnsRows z at heap slots id me x (slice_index s.words at.clock)
+    → LearnsRows z me.0 x (slice_index s.words at.clock)
 rows_learnt z at heap slots id me s r here x is =
     let l = row_learns r.stored.shared x is in
     record {

@@ -9,7 +9,9 @@ use mathlib.Core.Option.{some}
 use lib.ListN.{get_elem?}
 use Rattle.atomic_table.specs.Table.{keeps, stepped}
 use Rattle.graph_model.specs.declared.limits.TheConstants.{SPLIT_ROWS}
+use Rattle.graph_model.specs.declared.row.Key.{Key}
 use Rattle.graph_model.specs.Effects.{any_writes, any_touches}
+use Rattle.graph_model.specs.Legal.{IsLegal}
 use Rattle.txn_manager.specs.declared.config.Config.{Config}
 use Rattle.seat_views.specs.Keeping.{put}
 use Rattle.seat_views.proofs.NumberLemmas.{none_kept, one_kept}
@@ -17,8 +19,9 @@ use Rattle.epoch_reclaim.specs.Pinned.{IsPinned}
 use Rattle.epoch_reclaim.proofs.PinLemmas.{begins_pinned, ends_pinned}
 use Rattle.store_relation.specs.declared.stage.Stage.{Stage}
 use Rattle.store_relation.specs.declared.stage.Stage.TheVariants.{Idle, Open, Aborting, Committing}
-use Rattle.store_relation.specs.Passes.{EndedTxn, PassState, is_active, ended_writes, made_of, number_of}
-use Rattle.store_relation.specs.Shared.{IsMet, IsShared, JournalState, inserted_by_all, longer_of}
+use Rattle.store_model.specs.Stamped.{StampedVersions}
+use Rattle.store_relation.specs.Passes.{EndedTxn, PassState, is_active, ended_writes, made_of, needs_room, number_of}
+use Rattle.store_relation.specs.Shared.{IsMet, IsShared, JournalState, entries, inserted_by_all, longer_of, room_needed, sum_below}
 use Rattle.store_relation.specs.Steps.{begun, committed, committing, ended, filled_up, published_now, refreshed, stopped, with_entry}
 use Rattle.store_relation.specs.Words.{commit_word, ended_word, open_word}
 use Rattle.store_relation.proofs.AccountLemmas.{meets_told}
@@ -37,7 +40,7 @@ use Rattle.rule_model.specs.Sight.{PinState, IndexState, News, no_news, with_pas
 use Rattle.rule_model.specs.Rule.{IsStoreRule, active_of, announced_of, noted_of, rows_now, start_of, sweep_of, words_of}
 use Rattle.rule_model.specs.Steps.{OfEachSeat}
 use Rattle.rule_model.specs.TxnSteps.{AbortBegins, ClockIsLoaded, CommitIsPublished, JournalIsSeen, PassesMeet, RoomIsMade, StampIsStored, TransactionBegins, TransactionEnds, WriteIsFull}
-use Rattle.rule_model.proofs.CountLemmas.{made_counts}
+use Rattle.rule_model.proofs.CountLemmas.{made_counts, sum_has}
 use Rattle.rule_model.proofs.FrameLemmas.{S, M, by_nothing, cells_agree, index_is, journal_is, loaded, own_read, part_same, pass_is, pin_is, steps_to}
 use Rattle.rule_model.proofs.PassFrame.{PassMoves, GoesOn, by_pass, by_commit, by_quiet, none_out_of, same_txn, still_moves}
 use Rattle.rule_model.proofs.PlaceLemmas.{clock_stored, pass_stored}
@@ -50,6 +53,14 @@ no_open is never opened = never (sym is ∙ opened)
 ended_made : (st : PassState) (stamp : Option ℕ) → made_of (ended st stamp) ≡ ended_writes st ++ st.own ∷ []
 ended_made st stamp = map-append (λ (t : EndedTxn). t.writes) st.past
     (record { writes = st.own; stamp = stamp } ∷ [])
+
+-- there is room for the entry of an open transaction
+room_for_open : {z : Config} {word : ℕ → ℕ} {pass : ℕ → PassState} {j : JournalState} {rows : Key → StampedVersions}
+    {clock : ℕ} (s : IsShared z word pass j rows clock) (p : ℕ) → (pass p).stage ≡ Open → 0 < j.room
+room_for_open {z = z} {pass = pass} s p opened =
+    let one : room_needed (pass p) ≡ 1 = ap (λ (g : Stage). cond (needs_room g) 1 0) opened in
+    let part = sum_has (λ q. room_needed (pass q)) z.passes p (inside s p (ap is_active opened)) in
+    let all = s.counted.room in omega (arith, one, part, all)
 
 -- ---- begin
 
@@ -68,6 +79,10 @@ clock_is_loaded z at heap slots id me p st j has has_j s r homes here small =
           seen = subst (λ (u : PassState × JournalState). IsPrefix u.0.seen u.1.commits)
               (λ i. (st_is i, j_is i)) (r.stored.shared.each p).seen;
           bound = clock_bound r.stored.shared;
+          legal = subst (λ (u : JournalState). IsLegal z.kind u.commits) j_is
+              r.stored.shared.store.transactions.legal;
+          room = λ opened. subst (λ (u : JournalState). 0 < u.room) j_is
+              (room_for_open r.stored.shared p (ap (λ (u : PassState). u.stage) st_is ∙ opened));
         },
       ),
     )
@@ -242,7 +257,10 @@ commit_is_published z at heap slots id me p st j keys has has_j stored covers_al
           (clock_stored at z.passes _ s.words r.apart (length j.commits + 1))
           (subst (λ (u : JournalState). PassMoves r id me here p (committed (k.pass p) u keys)
           (published_now u) word (length u.commits + 1)) j_is moves),
-      refl,
+      (
+        refl,
+        subst (λ (u : JournalState). IsLegal z.kind (entries u)) j_is moves.shared.store.transactions.legal,
+      ),
     )
 
 -- ---- abort
@@ -347,6 +365,8 @@ journal_is_seen z at heap slots id me p st j has has_j s r homes here small =
           is = r.stored.shared.published ∙ ap (λ (u : JournalState). length u.commits) j_is;
           seen = subst (λ (u : PassState × JournalState). IsPrefix u.0.seen u.1.commits)
               (λ i. (st_is i, j_is i)) h.seen;
+          legal = subst (λ (u : JournalState). IsLegal z.kind u.commits) j_is
+              r.stored.shared.store.transactions.legal;
           met = subst (λ (u : PassState × JournalState). AllByRecursion (IsMet z.kind u.1) u.0.met)
               (λ i. (st_is i, j_is i)) h.met;
         },

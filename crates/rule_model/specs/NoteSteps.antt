@@ -48,6 +48,23 @@ pub record LooksAtRecord (z : Config) (v : Sight) (w : Write) (x : Stamped) : Ty
   pub record_in : HasRecordIn z v number cell key x
   pub looks : looks_at w key (forget_row (versions_at cell.segment key)) x.by ≡ true
 
+-- What one load of the clock tells of the held rows, by what a reader has seen: an open transaction is
+-- one of itself.
+pub record LearnsRows (z : Config) (v : Sight) (x : ReaderState) (n : ℕ) : Type 0 where
+  -- the rows give the view
+  pub reads : (k : ℕ) (c : CellState) (q : Key) → HasRow z v k c q
+      → SeesValue z x.seen x.start x.own x.by (stamp_in x.seen) q (versions_at c.segment q)
+  -- writers of records without a stamp are passes, and but for this transaction other passes
+  pub writers : (k : ℕ) (c : CellState) (q : Key) (r : Stamped) → HasRecordIn z v k c q r
+      → r.stamp ≡ None → r.by.job < z.passes
+  pub others : (k : ℕ) (c : CellState) (q : Key) (r : Stamped) → HasRecordIn z v k c q r
+      → r.stamp ≡ None → same_name r.by x.by ≡ false → r.by.job ≡ x.by.job → ⊥
+  -- a stamp says whether the snapshot sees the record
+  pub stamps : (k : ℕ) (c : CellState) (q : Key) (r : Stamped) → HasRecordIn z v k c q r
+      → (stamp : ℕ) → r.stamp ≡ Some stamp
+      → reached (stamp_in x.seen r.by) x.start ≡ nat_le stamp x.start
+  pub published : length x.seen ≤ n
+
 -- what the word of a record's writer tells whoever has seen these commits
 pub record TellsWriter (seen : List Commit) (x : Stamped) (n : ℕ) : Type 0 where
   pub answers : Answers seen x.by n
@@ -57,31 +74,15 @@ module _ (z : Config) (at : Layout) (heap : Global) (slots id : ℕ)
     (me : Me (Unit {0}) Sight) where
   -- ---- what one load of the clock tells
 
-  -- by what a reader has seen: an open transaction is one of itself
-  pub record LearnsRows (x : ReaderState) (n : ℕ) : Type 0 where
-    -- the rows give the view
-    pub reads : (k : ℕ) (c : CellState) (q : Key) → HasRow z me.0 k c q
-        → SeesValue z x.seen x.start x.own x.by (stamp_in x.seen) q (versions_at c.segment q)
-    -- writers of records without a stamp are passes, and but for this transaction other passes
-    pub writers : (k : ℕ) (c : CellState) (q : Key) (r : Stamped) → HasRecordIn z me.0 k c q r
-        → r.stamp ≡ None → r.by.job < z.passes
-    pub others : (k : ℕ) (c : CellState) (q : Key) (r : Stamped) → HasRecordIn z me.0 k c q r
-        → r.stamp ≡ None → same_name r.by x.by ≡ false → r.by.job ≡ x.by.job → ⊥
-    -- a stamp says whether the snapshot sees the record
-    pub stamps : (k : ℕ) (c : CellState) (q : Key) (r : Stamped) → HasRecordIn z me.0 k c q r
-        → (stamp : ℕ) → r.stamp ≡ Some stamp
-        → reached (stamp_in x.seen r.by) x.start ≡ nat_le stamp x.start
-    pub published : length x.seen ≤ n
-
   -- LEARN
   abbrev pub PassLearns : Type 0
   PassLearns = (p : ℕ) (st : PassState) → HasPass me.0 p st → st.stage ≡ Open
-      → AllowsLoad z at heap slots id me at.clock (λ _. me.0) (LearnsRows (reader_of (λ _. st) p))
+      → AllowsLoad z at heap slots id me at.clock (λ _. me.0) (LearnsRows z me.0 (reader_of (λ _. st) p))
 
   -- LEARN, by a reader
   abbrev pub ReaderLearns : Type 0
   ReaderLearns = (x : ReaderState) → me.0.readers ≡ x ∷ []
-      → AllowsLoad z at heap slots id me at.clock (λ _. me.0) (LearnsRows x)
+      → AllowsLoad z at heap slots id me at.clock (λ _. me.0) (LearnsRows z me.0 x)
 
   -- ---- what one load of a writer's word tells
 

@@ -8,6 +8,7 @@ use Rattle.atomic_table.specs.Table.{Me}
 use Rattle.density_tree.specs.Windows.{Fits, IsSmallestWindow}
 use Rattle.graph_model.specs.declared.row.Key.{Key}
 use Rattle.graph_model.specs.Effects.{any_writes, any_touches}
+use Rattle.graph_model.specs.Legal.{IsLegal}
 use Rattle.graph_model.specs.Rows.{is_below, end_key}
 use Rattle.txn_manager.specs.declared.config.Config.{Config}
 use Rattle.leaf_array.specs.Segments.{counts_of}
@@ -16,7 +17,7 @@ use Rattle.store_relation.specs.Keys.{has_key}
 use Rattle.store_relation.specs.declared.stage.Stage.TheVariants.{Idle, Open, Aborting, Committing}
 use Rattle.store_relation.specs.Words.{commit_word, ended_word, open_word}
 use Rattle.store_relation.specs.Passes.{PassState, number_of}
-use Rattle.store_relation.specs.Shared.{IsMet, JournalState, longer_of}
+use Rattle.store_relation.specs.Shared.{IsMet, JournalState, entries, longer_of}
 use Rattle.store_relation.specs.Steps.{begun, committed, committing, ended, filled_up, published_now, refreshed, stopped, with_entry}
 use Rattle.cells_model.specs.Cells.{CellState}
 use Rattle.cells_model.specs.Indexed.{leaf_cells}
@@ -24,23 +25,34 @@ use Rattle.cells_model.specs.InPlace.{segment_of}
 use Rattle.cells_model.specs.Moved.{IsRoutedTo}
 use Rattle.rule_model.specs.Places.{Layout}
 use Rattle.rule_model.specs.Sight.{PinState, IndexState, Sight, Agrees, HasPass, HasPin, HasIndex, HasJournal, with_pass, with_journal, with_commit}
-use Rattle.rule_model.specs.Steps.{AllowsLoad, AllowsStore, Nothing}
+use Rattle.rule_model.specs.Steps.{AllowsLoad, AllowsStore, AllowsStoreTelling, Nothing}
+
+-- what the clock tells a pass that has the journal
+pub record TellsClock (z : Config) (st : PassState) (j : JournalState) (n : ℕ) : Type 0 where
+  pub is : n ≡ length j.commits
+  pub seen : IsPrefix st.seen j.commits
+  pub bound : n ≤ z.passes * z.txns_per_pass
+  pub legal : IsLegal z.kind j.commits
+  -- there is room for the entry of an open transaction
+  pub room : st.stage ≡ Open → 0 < j.room
+
+-- and one that sees all that is published
+pub record TellsJournal (z : Config) (st : PassState) (j : JournalState) (n : ℕ) : Type 0 where
+  pub is : n ≡ length j.commits
+  pub seen : IsPrefix st.seen j.commits
+  pub legal : IsLegal z.kind j.commits
+  -- what it has met is of the journal
+  pub met : AllByRecursion (IsMet z.kind j) st.met
 
 module _ (z : Config) (at : Layout) (heap : Global) (slots id : ℕ)
     (me : Me (Unit {0}) Sight) where
   -- ---- begin
 
-  -- what the clock tells a pass that has the journal
-  pub record TellsClock (st : PassState) (j : JournalState) (n : ℕ) : Type 0 where
-    pub is : n ≡ length j.commits
-    pub seen : IsPrefix st.seen j.commits
-    pub bound : n ≤ z.passes * z.txns_per_pass
-
   -- CLOCK: a load by a pass that has the journal
   abbrev pub ClockIsLoaded : Type 0
   ClockIsLoaded = (p : ℕ) (st : PassState) (j : JournalState) → HasPass me.0 p st
       → HasJournal me.0 j
-      → AllowsLoad z at heap slots id me at.clock (λ _. me.0) (TellsClock st j)
+      → AllowsLoad z at heap slots id me at.clock (λ _. me.0) (TellsClock z st j)
 
   -- ROOM: a load, after which the journal has room for more entries
   abbrev pub RoomIsMade : Type 0
@@ -69,14 +81,15 @@ module _ (z : Config) (at : Layout) (heap : Global) (slots id : ℕ)
       → AllowsStore z at heap slots id me (at.pass p) (commit_word (length j.commits))
       (with_commit me.0 p (committing st) (with_entry j p st))
 
-  -- PUBLISH: the store of the clock, once the stamp is stored; its rows are left to be stamped
+  -- PUBLISH: the store of the clock, once the stamp is stored; its rows are left to be stamped, and the
+  -- journal is legal
   abbrev pub CommitIsPublished : Type 0
   CommitIsPublished = (p : ℕ) (st : PassState) (j : JournalState) (unstamped : List Key)
       → HasPass me.0 p st → HasJournal me.0 j → st.stage ≡ Committing
       → ((q : Key) → (any_writes z.kind st.own q || any_touches st.own q) ≡ true
       → has_key unstamped q ≡ true)
-      → AllowsStore z at heap slots id me at.clock (length j.commits + 1)
-      (with_commit me.0 p (committed st j unstamped) (published_now j))
+      → AllowsStoreTelling z at heap slots id me at.clock (length j.commits + 1)
+      (with_commit me.0 p (committed st j unstamped) (published_now j)) (IsLegal z.kind (entries j))
 
   -- ---- abort
 
@@ -94,19 +107,12 @@ module _ (z : Config) (at : Layout) (heap : Global) (slots id : ℕ)
 
   -- ---- what was seen
 
-  -- what the clock tells a pass that sees all that is published
-  pub record TellsJournal (st : PassState) (j : JournalState) (n : ℕ) : Type 0 where
-    pub is : n ≡ length j.commits
-    pub seen : IsPrefix st.seen j.commits
-    -- what it has met is of the journal
-    pub met : AllByRecursion (IsMet z.kind j) st.met
-
   -- REFRESH: a load by a pass that has the journal
   abbrev pub JournalIsSeen : Type 0
   JournalIsSeen = (p : ℕ) (st : PassState) (j : JournalState) → HasPass me.0 p st
       → HasJournal me.0 j
       → AllowsLoad z at heap slots id me at.clock (λ _. with_pass me.0 p (refreshed st j.commits))
-      (TellsJournal st j)
+      (TellsJournal z st j)
 
   -- MEET: a load, after which a pass has seen what another has told it
   abbrev pub PassesMeet : Type 0

@@ -1,0 +1,116 @@
+//! The edges of a text, read by several threads.
+//!
+//! 1. A text is cut in two behind a line feed, so that no line is cut, and each half again.
+//! 2. Where a line has a fault by itself, nothing is said of the text. It is then read from its begin by one thread, so
+//!    the first fault is the first.
+
+ghost use Rattle.std.specs.Prelude.{◌≡◌, ◌<◌, ◌++◌, ℕ, List, IfOk, IfSome};
+ghost use Rattle.std.specs.Thread.{IsSync};
+ghost use Rattle.graph_files.specs.Weights.{AreReadable};
+ghost use Rattle.graph_files.specs.Halves.{IsCut, IsReadAs};
+
+use crate::faultless::read_lines;
+use crate::weights::Weights;
+use graphalytics_io::Edges;
+use items::NoMemory;
+use memchr::memchr;
+use rayon::current_num_threads;
+use std::alloc::Global;
+use std::thread::{Threads, join};
+
+/// A shorter text isn't worth a thread.
+const LEAST_BYTES: usize = 65536;
+
+/// More threads than these are not started.
+const MOST_THREADS: usize = 32;
+
+/// How often a text is cut: so that there are two parts for each processor, since they may differ in length.
+pub(crate) fn cuts_for<R: Threads>(rt: &R) -> u32 {
+    let threads = current_num_threads(rt).min(MOST_THREADS);
+    threads.saturating_mul(2).ilog2()
+}
+
+/// The edges of a text, by themselves, if no line has a fault by itself.
+#[cycle(halves)]
+pub(crate) fn read_halves<R: Threads + Sync>(
+    rt: &R,
+    alloc: Global,
+    text: &[u8],
+    weights: Weights,
+    cuts: u32,
+) -> Result<Option<Edges>, NoMemory>
+    requires { AreReadable weights }
+    ensures { IfOk result (IsReadAs weights text.now) }
+{
+    if cuts == 0 || text.len() < LEAST_BYTES {
+        return read_alone(alloc, text, weights);
+    }
+    match cut(text) {
+        Some((front, behind)) => read_both(rt, alloc, front, behind, weights, cuts),
+        None => read_alone(alloc, text, weights),
+    }
+}
+
+/// The same for two halves of a text.
+#[cycle(halves)]
+fn read_both<R: Threads + Sync>(
+    rt: &R,
+    alloc: Global,
+    front: &[u8],
+    behind: &[u8],
+    weights: Weights,
+    cuts: u32,
+) -> Result<Option<Edges>, NoMemory>
+    requires readable { AreReadable weights }
+    requires cuts { 0 < cuts }
+    ensures { IfOk result (λ found. (text : List ℕ) → IsCut text front.now behind.now → IsReadAs weights text found) }
+{
+    let (first, second) = join(
+        rt,
+        || -> Result<Option<Edges>, NoMemory>
+            requires { IsSync R.row × (0 < cuts) × AreReadable weights }
+            ensures { IfOk result (IsReadAs weights front.entry.now) }
+        { read_halves(rt, alloc, front, weights, cuts - 1) },
+        || -> Result<Option<Edges>, NoMemory>
+            requires { IsSync R.row × (0 < cuts) × AreReadable weights }
+            ensures { IfOk result (IsReadAs weights behind.entry.now) }
+        { read_halves(rt, alloc, behind, weights, cuts - 1) },
+    );
+    let (first, second) = (first?, second?);
+    match (first, second) {
+        (Some(first), Some(second)) => Ok(Some(joined(first, &second)?)),
+        _ => Ok(None),
+    }
+}
+
+/// Edges, and others behind them.
+fn joined(first: Edges, second: &Edges) -> Result<Edges, NoMemory>
+    ensures { IfOk result (λ edges. edges ≡ first ++ second.now) }
+{
+    let mut edges = first.into_vec();
+    edges.extend_from_slice(second.as_slice())?;
+    Ok(Edges::from_vec(edges))
+}
+
+/// The edges of a text, read by one thread.
+fn read_alone(alloc: Global, text: &[u8], weights: Weights) -> Result<Option<Edges>, NoMemory>
+    requires { AreReadable weights }
+    ensures { IfOk result (IsReadAs weights text.now) }
+{
+    let front = read_lines(alloc, text, weights)?;
+    if front.is_whole {
+        Ok(Some(front.edges))
+    } else {
+        Ok(None)
+    }
+}
+
+/// Cuts a text behind the first line feed of its second half, if it has one.
+fn cut(text: &[u8]) -> Option<(&[u8], &[u8])>
+    ensures { IfSome result (λ parts. IsCut text.now parts.0.now parts.1.now) }
+{
+    let middle = text.len() / 2;
+    let (_, behind) = text.split_at(middle);
+    let at = memchr(b'\n', behind)?;
+    Some(text.split_at(middle + at + 1))
+}

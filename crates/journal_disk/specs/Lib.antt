@@ -1,0 +1,4 @@
+pub mod Disk
+pub mod Crashes
+pub mod Steps
+pub mod MemoryDisk

@@ -1,0 +1,9 @@
+mod ByteLemmas
+mod FileLemmas
+mod TornLemmas
+mod MomentLemmas
+mod KeepLemmas
+mod WriteLemmas
+mod AppendLemmas
+mod ReadLemmas
+mod HeadLemmas

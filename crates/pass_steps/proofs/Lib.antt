@@ -1,0 +1,14 @@
+pub mod SightLemmas
+pub mod PassLemmas
+pub mod StepLemmas
+pub mod NoteLemmas
+pub mod WriterLemmas
+pub mod AskLemmas
+pub mod TxnLemmas
+pub mod HandLemmas
+pub mod CutLemmas
+pub mod LookLemmas
+pub mod ConflictLemmas
+pub mod SeeLemmas
+pub mod PinLemmas
+pub mod MeetLemmas

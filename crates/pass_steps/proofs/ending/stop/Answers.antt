@@ -1,0 +1,12 @@
+use Rattle.rule_model.specs.Places.{lines}
+use Rattle.rule_model.proofs.TxnLemmas.{abort_begins}
+use Rattle.pass_steps.specs.Passes.{state_in}
+use Rattle.pass_steps.proofs.ending.stop.Goals as goal
+
+pub change-requires-clause-may : goal.change-requires-clause-may
+change-requires-clause-may c heap =
+    let z = c.args.store.now.accounts.config in
+    let pass = c.args.pass.now in
+    let seat = pass.account in
+    abort_begins z (lines z.passes) heap seat.table_id.slots seat.id seat.me pass.number
+    (state_in seat.me.0 pass.number) c.requires.pass.sight.has c.requires.stage c.requires.alone

@@ -1,0 +1,19 @@
+use Rattle.std.specs.Prelude.{false, []}
+use Rattle.rule_model.specs.Places.{lines}
+use Rattle.rule_model.specs.Sight.{with_pin}
+use Rattle.rule_model.proofs.PinStepLemmas.{pass_unpins}
+use Rattle.store_words.proofs.CellLemmas.{tells_nothing}
+use Rattle.pass_steps.specs.Passes.{pin_in, state_in}
+use Rattle.pass_steps.proofs.pins.unpin.Goals as goal
+
+pub unpin_as-requires-clause-may : goal.unpin_as-requires-clause-may
+unpin_as-requires-clause-may c heap =
+    let z = c.args.store.now.accounts.config in
+    let pass = c.args.pass.now in
+    let seat = pass.account in
+    let x = pin_in seat.me.0 pass.number in
+    let of = c.requires.pass in
+    tells_nothing z heap seat.table_id.slots seat.id seat.me ((lines z.passes).pin pass.number) _
+    (with_pin seat.me.0 pass.number (record x { announced = false; noted = [] }))
+    (pass_unpins z (lines z.passes) heap seat.table_id.slots seat.id seat.me pass.number (state_in seat.me.0 pass.number) x
+    of.sight.has of.sight.pin c.requires.stage of.inside)

@@ -1,0 +1,231 @@
+//! The footprint of a transaction, as ranges of keys.
+//!
+//! 1. The ranges rise, and are joined where they meet or overlap: a transaction that reads one row often has it once.
+//! 2. A key is looked for by halves.
+//! 3. Room for all ranges of a line is made before the first of them is put.
+
+ghost use Rattle.std.specs.Prelude.{◌≡◌, ◌≢◌, ℕ, ◌+◌, ◌<◌, ◌≤◌, List, [], ◌∷◌, ◌++◌, true, false, ◌||◌, take, drop, length, slice_get, Some, OnOk, OnErr};
+ghost use Rattle.std.specs.Vec.{vec_len, vec_capacity};
+ghost use Rattle.graph_model.specs.declared.limits.TheConstants.{MAX_ID};
+ghost use Rattle.graph_model.specs.declared.row.Key.{Key};
+ghost use Rattle.graph_model.specs.Rows.{is_below};
+ghost use Rattle.graph_model.specs.Effects.{same_key, arc_keys};
+ghost use Rattle.run_model.specs.Requests.{request, IsRequest};
+ghost use Rattle.serial_model.specs.Footprints.{depends, is_at_edge, is_at_removal};
+ghost use Rattle.serial_check.specs.declared.range.KeyRange.{KeyRange};
+ghost use Rattle.serial_check.specs.Ranges.{holds, covers, joined, IsRowKey, AreApart};
+
+use crate::range::KeyRange;
+use graph_model::{Key, Kind, NoMemory};
+use run_model::Command;
+use std::alloc::Global;
+use std::marker::Model;
+
+/// How many ranges a line has at most: both ends of an edge, and both arcs.
+const LINE_RANGES: usize = 4;
+
+/// The keys of the rows on which the lines of a transaction depend.
+#[derive(Drop)]
+pub struct Footprint {
+    ranges: Vec<KeyRange>,
+}
+
+impl Model for Footprint {
+    ghost use Rattle.std.specs.Prelude.{◌-◌};
+    ghost use Rattle.std.specs.Vec.{vec_capacity, vec_len};
+    ghost use Rattle.items.specs.Room.{WithRoom};
+    ghost use Rattle.serial_check.specs.declared.range.KeyRange.{KeyRange};
+    ghost use Rattle.serial_check.specs.Ranges.{AreApart};
+
+    ghost Value = { WithRoom KeyRange };
+
+    ghost view = { λ f. record { items = f.ranges.items; spare = vec_capacity f.ranges - vec_len f.ranges } };
+
+    ghost invariant = { λ f. AreApart f.ranges.items };
+}
+
+impl Footprint {
+    /// No keys. Takes no memory.
+    pub fn new(alloc: Global) -> Footprint
+        ensures { result.items ≡ [] }
+    {
+        Footprint {
+            ranges: Vec::new(alloc),
+        }
+    }
+
+    /// Lets go of all keys, for the next transaction.
+    pub fn clear(&mut self)
+        ensures { self.new.items ≡ [] }
+    {
+        self.ranges.clear();
+    }
+
+    /// Whether the row of this key is one of them.
+    pub fn has(&self, key: Key) -> bool
+        ensures { result ≡ covers self.now.items key }
+    {
+        let count = count_up_to(self.ranges.as_slice(), key);
+        count > 0 && key.is_below(self.ranges[count - 1].until)
+    }
+
+    /// Adds the keys of the rows on which the answer to a line depends.
+    pub fn add(&mut self, kind: Kind, command: &Command) -> Result<(), NoMemory>
+        requires { IsRequest (request command.now) }
+        ensures ok { OnOk result ((q : Key) → IsRowKey q
+            → covers self.new.items q ≡ (covers self.old.items q || depends kind (request command.now) q)) }
+        ensures err { OnErr result (self.new ≡ self.old) }
+    {
+        self.reserve()?;
+        match command {
+            Command::Begin | Command::Commit | Command::Abort => {}
+            Command::AddVertex { v } => self.put(KeyRange::of_vertex(*v)),
+            Command::DropVertex { v } => self.put(removal_range(kind, *v)),
+            Command::AddEdge { u, v, weight: _ } => self.put_edge(kind, *u, *v),
+            Command::SetEdge { u, v, weight: _ } => self.put_edge(kind, *u, *v),
+            Command::DropEdge { u, v } => self.put_edge(kind, *u, *v),
+            Command::Weight { u, v } => self.put(KeyRange::of_arc(*u, *v)),
+            Command::Neighbours { v } => self.put(KeyRange::from_source(*v)),
+            _ => self.put(KeyRange::all()),
+        }
+        Ok(())
+    }
+
+    /// Makes room for the ranges of a line.
+    fn reserve(&mut self) -> Result<(), NoMemory>
+        ensures kept { self.new.items ≡ self.old.items }
+        ensures ok { OnOk result (4 ≤ self.new.spare) }
+        ensures err { OnErr result (self.new ≡ self.old) }
+    {
+        self.ranges.reserve(LINE_RANGES)?;
+        Ok(())
+    }
+
+    /// Adds the keys of an edge's rows and of its ends.
+    fn put_edge(&mut self, kind: Kind, u: u64, v: u64)
+        requires room { 4 ≤ self.old.spare }
+        requires first { u ≤ MAX_ID }
+        requires second { v ≤ MAX_ID }
+        ensures { (q : Key) → covers self.new.items q ≡ (covers self.old.items q || is_at_edge kind u v q) }
+    {
+        self.put(KeyRange::of_vertex(u));
+        self.put(KeyRange::of_vertex(v));
+        match kind {
+            Kind::Directed => self.put(KeyRange::of_arc(u, v)),
+            Kind::Undirected => {
+                self.put(KeyRange::of_arc(v, u));
+                self.put(KeyRange::of_arc(u, v));
+            }
+        }
+    }
+
+    /// Adds a range, joined with those that it meets or overlaps. There has to be room for it.
+    fn put(&mut self, range: KeyRange)
+        requires room { 0 < self.old.spare }
+        requires some { is_below range.from range.until ≡ true }
+        ensures covers { (q : Key) → covers self.new.items q ≡ (covers self.old.items q || holds range q) }
+        ensures spare { self.old.spare ≤ self.new.spare + 1 }
+    {
+        let end = count_up_to(self.ranges.as_slice(), range.until);
+        let start = first_met(self.ranges.as_slice(), range.from);
+        if start == end {
+            let Ok(()) = self.ranges.insert(start, range) else {
+                unreachable!()
+            };
+            return;
+        }
+        let first = self.ranges[start];
+        let last = self.ranges[end - 1];
+        self.ranges[start] = joined(range, first, last);
+        remove_between(&mut self.ranges, start + 1, end);
+    }
+}
+
+/// The keys on which the removal of a vertex depends.
+fn removal_range(kind: Kind, v: u64) -> KeyRange
+    requires { v ≤ MAX_ID }
+    ensures some { is_below result.from result.until ≡ true }
+    ensures holds { (q : Key) → IsRowKey q → holds result q ≡ is_at_removal kind v q }
+{
+    match kind {
+        Kind::Directed => KeyRange::all(),
+        Kind::Undirected => KeyRange::from_source(v),
+    }
+}
+
+/// How many of the ranges begin at the key or below it.
+fn count_up_to(ranges: &[KeyRange], key: Key) -> usize
+    requires { AreApart ranges.now }
+    ensures within { result ≤ length ranges.now }
+    ensures before { (i : ℕ) (r : KeyRange) → i < result → slice_get ranges.now i ≡ Some r
+        → is_below key r.from ≡ false }
+    ensures behind { (i : ℕ) (r : KeyRange) → result ≤ i → slice_get ranges.now i ≡ Some r
+        → is_below key r.from ≡ true }
+{
+    let mut low = 0;
+    let mut high = ranges.len();
+    'halves: while low < high {
+        let middle = low + (high - low) / 2;
+        let range = &ranges[middle];
+        if key.is_below(range.from) {
+            high = middle;
+        } else {
+            low = middle + 1;
+        }
+    }
+    low
+}
+
+/// The place of the first range that ends at the key or above it.
+fn first_met(ranges: &[KeyRange], key: Key) -> usize
+    requires { AreApart ranges.now }
+    ensures within { result ≤ length ranges.now }
+    ensures before { (i : ℕ) (r : KeyRange) → i < result → slice_get ranges.now i ≡ Some r
+        → is_below r.until key ≡ true }
+    ensures behind { (i : ℕ) (r : KeyRange) → result ≤ i → slice_get ranges.now i ≡ Some r
+        → is_below r.until key ≡ false }
+{
+    let mut low = 0;
+    let mut high = ranges.len();
+    'halves: while low < high {
+        let middle = low + (high - low) / 2;
+        let range = &ranges[middle];
+        if range.until.is_below(key) {
+            low = middle + 1;
+        } else {
+            high = middle;
+        }
+    }
+    low
+}
+
+/// A range from where the first of two ranges begins, or this one, up to where the last of them ends, or this one.
+fn joined(range: KeyRange, first: KeyRange, last: KeyRange) -> KeyRange
+    ensures { result ≡ joined range first last }
+{
+    KeyRange {
+        from: if first.from.is_below(range.from) {
+            first.from
+        } else {
+            range.from
+        },
+        until: if range.until.is_below(last.until) {
+            last.until
+        } else {
+            range.until
+        },
+    }
+}
+
+/// Removes the ranges between two places.
+fn remove_between(ranges: &mut Vec<KeyRange>, from: usize, until: usize)
+    requires order { from ≤ until }
+    requires within { until ≤ length ranges.old.items }
+    ensures items { ranges.new.items ≡ take from ranges.old.items ++ drop until ranges.old.items }
+    ensures len { vec_len ranges.new ≤ vec_len ranges.old }
+    ensures capacity { vec_capacity ranges.new ≡ vec_capacity ranges.old }
+{
+    'ranges: for _ in from..until {
+        ranges.remove(from);
+    }
+}

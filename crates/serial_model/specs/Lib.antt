@@ -1,0 +1,5 @@
+pub mod Footprints
+pub mod SerialTurns
+pub mod SerialRun
+pub mod Laws
+pub mod Examples
