@@ -24,6 +24,7 @@ returns-clause-to c =
     met_idle c.args.store.now to c.forget_told.new.pass seen c.requires.to c.requires.from.legal (record {
       number = end.number ∙ see.number;
       latch = end.latch ∙ see.latch;
+      buffers = end.buffers ∙ see.buffers;
       account = record {
         table = end.account.table ∙ see.account.table ∙ join.table;
         me = λ i. (
