@@ -7,6 +7,7 @@ pub mod NoteStepLemmas
 pub mod BlockFrame
 pub mod BlockStepLemmas
 pub mod RowFrame
+pub mod LookLemmas
 pub mod RowStepLemmas
 pub mod PinFrame
 pub mod PinStepLemmas

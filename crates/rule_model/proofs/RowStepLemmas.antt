@@ -39,7 +39,7 @@ use Rattle.store_relation.proofs.CommitLemmas.{stamps_rows}
 use Rattle.store_relation.proofs.KeyLemmas.{after_beside, before_beside}
 use Rattle.store_relation.proofs.ListLemmas.{prefix_all}
 use Rattle.store_relation.proofs.ReaderLemmas.{readers_put}
-use Rattle.store_relation.proofs.RowStepLemmas.{prunes, undoes, writes_by_row}
+use Rattle.store_relation.proofs.RowStepLemmas.{prunes, undoes, writes}
 use Rattle.store_relation.proofs.SharedLemmas.{inside, runs}
 use Rattle.store_relation.proofs.WordLemmas.{looks_tell_row}
 use Rattle.cells_model.specs.Cells.{CellState}
@@ -52,8 +52,9 @@ use Rattle.rule_model.specs.Places.{Layout}
 use Rattle.rule_model.specs.Sight.{PinState, Sight, HasCell, with_cells, with_rows}
 use Rattle.rule_model.specs.Rule.{IsStoreRule, active_of, announced_of, rows_now, start_of, sweep_of, words_of}
 use Rattle.rule_model.specs.Steps.{OfEachSeat}
-use Rattle.rule_model.specs.RowSteps.{AreChanges, GrowsBy, HoldsKeys, IsChange, RowsArePruned, RowsAreStamped, WriteGrowsByRows, WriteIsMade, WriteIsUndone}
+use Rattle.rule_model.specs.RowSteps.{AreChanges, GrowsBy, HoldsKeys, IsChange, RowsArePruned, RowsAreStamped, WriteGrowsByRows, WriteIsMade, WriteIsUndone, looks_in}
 use Rattle.rule_model.proofs.CountLemmas.{count_adds, count_grows, write_counts}
+use Rattle.rule_model.proofs.LookLemmas.{looked_seen}
 use Rattle.rule_model.proofs.FrameLemmas.{S, M, cell_is, cells_agree, part_same, pass_is, pin_is}
 use Rattle.rule_model.proofs.NoteStepLemmas.{row_is}
 use Rattle.rule_model.proofs.PassFrame.{none_out_of}
@@ -167,12 +168,14 @@ write_is_made z at heap slots id me p st w news can s r homes here small =
                 (ap (λ (u : PassState). u.start) (sym st_is)));
             shared = subst (λ (u : PassState). IsShared z (words_of z at s.words).pass
                 (put k.pass p (written_by u w)) (k.journal 0) now (words_of z at s.words).clock) st_is
-                (writes_by_row old.shared p w now was
+                (writes old.shared p w now was
                 (subst (λ (u : PassState). refused (view z.kind u.seen u.start u.own) w ≡ None)
                 (sym st_is) can.allowed) can.within
-                (λ q. subst (λ (u : PassState). MayWrite z.kind
-                (sees (stamp_in u.seen) u.start (name_at p u)) w q (forget_row (rows_now heap k q)))
-                (sym st_is) (may q (writes_at z.kind w q || touches_at w q) refl))
+                (λ n met. subst (λ (u : PassState). sees (stamp_in u.seen) u.start (name_at p u) n ≡ true)
+                (sym st_is)
+                (looked_seen z.kind (sees (stamp_in st.seen) st.start (name_at p st)) w
+                (λ q. forget_row (rows_now heap k q))
+                (λ q looked. may q looked (writes_at z.kind w q || touches_at w q) refl) n met))
                 (λ q. rows_are q ∙ ap (λ n. row_after z.kind n w q (rows_now heap k q)) name));
             indexed = (changed_now r id me here news can.changes).indexed;
             leaves = old.leaves;
@@ -184,10 +187,10 @@ write_is_made z at heap slots id me p st w news can s r homes here small =
     )
   where
     -- in a row that the write leaves alone there is nobody to meet
-    may : (q : Key) (t : Bool) → (writes_at z.kind w q || touches_at w q) ≡ t
+    may : (q : Key) → looks_in w q ≡ true → (t : Bool) → (writes_at z.kind w q || touches_at w q) ≡ t
         → MayWrite z.kind (sees (stamp_in st.seen) st.start (name_at p st)) w q
         (forget_row (rows_now heap r.known q))
-    may q true e =
+    may q looked true e =
         let f = can.held q e in
         let h = (each_kept (IsChange z me.0) news can.changes f.0 f.1 f.2).held in
         let is = cell_is r id me here f.0 h.cell h.has in
@@ -198,8 +201,8 @@ write_is_made z at heap slots id me p st w news can s r homes here small =
               ∙ still_covers r id me here news can.changes f.0 f.1 q f.2 ∙ f.3;
         } in
         subst (λ vs. MayWrite z.kind (sees (stamp_in st.seen) st.start (name_at p st)) w q (forget_row vs))
-        (row_is r id me here f.0 h.cell q row) (can.may f.0 h.cell q row)
-    may q false e =
+        (row_is r id me here f.0 h.cell q row) (can.may f.0 h.cell q row looked)
+    may q looked false e =
         let o = neither (writes_at z.kind w q) (touches_at w q) e in
         record {
           free = λ on. absurd (true≢false (sym on ∙ o.0));

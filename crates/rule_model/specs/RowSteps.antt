@@ -9,13 +9,14 @@ use Rattle.epoch_reclaim.specs.Pinned.{horizon_of}
 use Rattle.graph_model.specs.declared.journal.Commit.{Commit}
 use Rattle.graph_model.specs.declared.row.Key.{Key}
 use Rattle.graph_model.specs.declared.write.Write.{Write}
-use Rattle.graph_model.specs.Effects.{writes_at, touches_at}
+use Rattle.graph_model.specs.Effects.{same_key, writes_at, touches_at}
 use Rattle.graph_model.specs.History.{view}
 use Rattle.graph_model.specs.Inserted.{inserted_by}
 use Rattle.graph_model.specs.Refused.{refused, IsWithinLimits}
 use Rattle.graph_model.specs.Transactions.{stamp_in}
 use Rattle.txn_manager.specs.declared.config.Config.{Config}
 use Rattle.store_model.specs.Check.{MayWrite}
+use Rattle.store_model.specs.Layers.{row_key}
 use Rattle.store_model.specs.Stamped.{forget_row, prune_stamped, stamp}
 use Rattle.store_model.specs.Versions.{sees}
 use Rattle.version_segment.specs.Rows.{IsSegment, versions_at}
@@ -73,16 +74,20 @@ HoldsKeys z w news = (q : Key) → (writes_at z.kind w q || touches_at w q) ≡ 
 
 -- ---- a write
 
+-- the write looks at writers in the row: it is the one that it writes first, or that of an end at which it adds an edge
+abbrev pub looks_in : Write → Key → Bool
+looks_in w q = same_key q (row_key w) || touches_at w q
+
 pub record CanWrite (z : Config) (v : Sight) (p : ℕ) (st : PassState) (w : Write)
     (news : List (ℕ × CellState))
     : Type 0 where
   pub has : HasPass v p st
   pub stage : st.stage ≡ Open
   pub alone : st.readers_out ≡ 0
-  -- its view allows it, and in each held row whoever stands where it looks is seen
+  -- its view allows it, and in each held row at which it looks whoever stands there is seen
   pub allowed : refused (view z.kind st.seen st.start st.own) w ≡ None
   pub within : IsWithinLimits w
-  pub may : (k : ℕ) (c : CellState) (q : Key) → HasRow z v k c q
+  pub may : (k : ℕ) (c : CellState) (q : Key) → HasRow z v k c q → looks_in w q ≡ true
       → MayWrite z.kind (sees (stamp_in st.seen) st.start (name_at p st)) w q
       (forget_row (versions_at c.segment q))
   pub held : HoldsKeys z w news
