@@ -225,7 +225,5 @@ fn remove_between(ranges: &mut Vec<KeyRange>, from: usize, until: usize)
     ensures len { vec_len ranges.new ≤ vec_len ranges.old }
     ensures capacity { vec_capacity ranges.new ≡ vec_capacity ranges.old }
 {
-    'ranges: for _ in from..until {
-        ranges.remove(from);
-    }
+    ranges.drain(from..until);
 }
