@@ -1,0 +1,14 @@
+-- Places that are missing in the cells in hand.
+use Rattle.std.specs.Prelude.{◌≡◌, ℕ, ◌<◌, true, false, List}
+use Rattle.graph_model.specs.declared.row.Key.{Key}
+use Rattle.row_writes.specs.Held.{HeldRows, wanted}
+use Rattle.store_relation.specs.Keys.{has_key}
+use Rattle.pass_cells.specs.declared.room.RoomNeed.{RoomNeed}
+
+-- The key is one of these and has no row, and its cell has fewer places than there are of these keys in it without a row.
+pub record IsShort (c : HeldRows) (keys : List Key) (need : RoomNeed) : Type 0 where
+  pub among : has_key keys need.key ≡ true
+  pub held : c.holds need.key ≡ true
+  pub missing : c.has_row need.key ≡ false
+  pub need_is : need.need ≡ wanted c need.key keys
+  pub short : c.room need.key < need.need
