@@ -4,7 +4,9 @@ use Rattle.std.specs.List.{filter}
 use Rattle.graph_model.specs.declared.journal.Commit.{Commit}
 use Rattle.graph_model.specs.declared.row.Key.{Key}
 use Rattle.graph_model.specs.declared.write.Kind.{Kind}
+use Rattle.graph_model.specs.declared.write.Kind.TheVariants.{Directed, Undirected}
 use Rattle.graph_model.specs.declared.write.Write.{Write}
+use Rattle.graph_model.specs.Graph.{Graph, IsSymmetric}
 use Rattle.graph_model.specs.History.{view}
 use Rattle.graph_model.specs.Inserted.{inserted_by}
 use Rattle.graph_model.specs.Refused.{refused, IsWithinLimits}
@@ -15,9 +17,11 @@ use Rattle.store_model.specs.Check.{MayWrite}
 use Rattle.store_model.specs.Stamped.{forget_row, stamp}
 use Rattle.store_model.specs.Versions.{sees}
 use Rattle.version_segment.specs.Rows.{versions_at}
-use Rattle.row_writes.specs.Held.{HeldRows}
-use Rattle.row_writes.specs.Laying.{rows_missing}
-use Rattle.row_writes.specs.Written.{rows_of}
+use Rattle.undo_chain.specs.declared.states.Snapshot.{Snapshot}
+use Rattle.row_writes.specs.Checks.{ShowsHeld}
+use Rattle.row_writes.specs.Held.{AreHeld, HeldRows}
+use Rattle.row_writes.specs.Laying.{MayLay, rows_missing}
+use Rattle.row_writes.specs.Written.{all_keys, rows_of}
 use Rattle.store_relation.specs.declared.stage.Stage.TheVariants.{Idle, Open, Aborting}
 use Rattle.store_relation.specs.Keys.{has_key}
 use Rattle.store_relation.specs.Passes.{PassState, fresh_pass, name_at}
@@ -71,6 +75,17 @@ pub record MayMake (z : Config) (v : Sight) (p : ℕ) (w : Write) : Type 0 where
 -- no row is missing but those that the write inserts
 abbrev pub MissesFew : Kind → HeldRows → Write → Type 0
 MissesFew kind c w = rows_missing c (rows_of kind w) ≤ inserted_by kind w
+
+-- an undirected graph goes both ways
+abbrev pub FitsKind : Kind → Graph → Type 0
+FitsKind Directed g = Unit {0}
+FitsKind Undirected g = IsSymmetric g
+
+-- A write that a view allows, which is read in the rows in hand, has its ends there, and misses few rows.
+abbrev pub WritesHaveRows : Type 0
+WritesHaveRows = (kind : Kind) (ts : List TakenCell) (stamps : TxnName → Option ℕ) (snapshot : Snapshot) (g : Graph) (w : Write)
+    → ShowsHeld stamps snapshot (held_rows ts) g → FitsKind kind g → AreHeld (held_rows ts) (all_keys (rows_of kind w))
+    → refused g w ≡ None → MayLay (held_rows ts) w × MissesFew kind (held_rows ts) w
 
 -- each row in hand has what it has after the write, and the view knows it
 pub record IsWritten (z : Config) (w : Write) (old new : Pass) (ts us : List TakenCell) : Type 0 where

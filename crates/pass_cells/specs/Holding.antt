@@ -1,10 +1,9 @@
 -- What a pass has in hand: the latches of cells, and what its view knows of them.
-use Rattle.std.specs.Prelude.{◌≡◌, ℕ, ◌+◌, ◌<◌, ◌≤◌, true, false, List, [], ◌∷◌, ◌++◌, map, length, None}
+use Rattle.std.specs.Prelude.{◌≡◌, ℕ, ◌+◌, ◌<◌, ◌≤◌, true, false, List, [], ◌∷◌, ◌++◌, map, length}
 use Rattle.std.specs.List.{AllByRecursion}
 use Rattle.graph_model.specs.declared.row.Key.{Key}
 use Rattle.atomic_table.specs.declared.shared.Seat.{Seat}
 use Rattle.txn_manager.specs.declared.config.Config.{Config}
-use Rattle.seat_views.specs.Keeping.{kept_at}
 use Rattle.latch_table.specs.declared.cells.Held.{Held}
 use Rattle.latch_table.specs.declared.sight.LatchSight.{LatchSight}
 use Rattle.latch_table.specs.Latched.{IsPassOf, number_of}
@@ -71,7 +70,7 @@ pub record HasTaken (store : Store) (pass : Pass) (ts : List TakenCell) : Type 0
   pub only : (k : ℕ) (c : CellState) → HasCell pass.account.me.0 k c → is_taken k ts ≡ true
   pub apart : AreApart ts
   pub few : length ts ≤ 4
-  pub no_index : kept_at pass.account.me.0.indexes 0 ≡ None
+  pub no_index : pass.account.me.0.indexes ≡ []
 
 -- and they stand in the order of their fence keys
 pub record Holds (store : Store) (pass : Pass) (ts : List TakenCell) : Type 0 where
@@ -79,8 +78,12 @@ pub record Holds (store : Store) (pass : Pass) (ts : List TakenCell) : Type 0 wh
   pub rising : AreRising ts
 
 -- the pass has no cell in hand, and not the index
-abbrev pub HoldsNone : Store → Pass → Type 0
-HoldsNone store pass = HasTaken store pass []
+pub record HoldsNone (store : Store) (pass : Pass) : Type 0 where
+  pub latch : IsLatchOf store pass.latch
+  pub out : pass.latch.me.1 ≡ []
+  pub table : pass.account.table_id ≡ store.accounts.table.shared.table_id
+  pub cells : pass.account.me.0.cells ≡ []
+  pub indexes : pass.account.me.0.indexes ≡ []
 
 -- ---- what a call leaves of a pass
 
@@ -134,4 +137,4 @@ pub record IsPutting (store : Store) (old new : Pass) (all left : List TakenCell
   pub known : AreKnown store.accounts.config new.account.me.0 left
   pub only : (k : ℕ) (c : CellState) → HasCell new.account.me.0 k c → is_taken k left ≡ true
   pub apart : AreApart left
-  pub no_index : kept_at new.account.me.0.indexes 0 ≡ None
+  pub no_index : new.account.me.0.indexes ≡ []

@@ -1,5 +1,5 @@
 -- Places that are missing in the cells in hand.
-use Rattle.std.specs.Prelude.{◌≡◌, ℕ, ◌<◌, true, false, List}
+use Rattle.std.specs.Prelude.{◌≡◌, ℕ, ◌<◌, ◌≤◌, true, false, List}
 use Rattle.graph_model.specs.declared.row.Key.{Key}
 use Rattle.row_writes.specs.Held.{HeldRows, wanted}
 use Rattle.store_relation.specs.Keys.{has_key}
@@ -12,3 +12,7 @@ pub record IsShort (c : HeldRows) (keys : List Key) (need : RoomNeed) : Type 0 w
   pub missing : c.has_row need.key ≡ false
   pub need_is : need.need ≡ wanted c need.key keys
   pub short : c.room need.key < need.need
+
+-- a missing key finds a place, with those of these keys that share its cell
+abbrev pub HasRoomFor : HeldRows → List Key → Key → Type 0
+HasRoomFor c keys key = c.has_row key ≡ false → wanted c key keys ≤ c.room key

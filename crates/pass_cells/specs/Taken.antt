@@ -1,5 +1,6 @@
 -- Cells that a pass has taken, as rows that a writer holds.
-use Rattle.std.specs.Prelude.{◌≡◌, ℕ, zero, suc, ◌+◌, ◌-◌, ◌<◌, ◌≤◌, ◌==◌, Bool, true, false, cond, List, [], ◌∷◌, length, map, vec_capacity, Option, Some, None}
+use Rattle.std.specs.Prelude.{◌≡◌, ℕ, zero, suc, ◌+◌, ◌-◌, ◌<◌, ◌≤◌, ◌==◌, Bool, true, false, cond, List, [], ◌∷◌, length, map, take, vec_capacity, Option, Some, None}
+use Rattle.std.proofs.Common.{refl, ◌∙◌, absurd}
 use Rattle.std.specs.List.{AllByRecursion, list_any}
 use Rattle.graph_model.specs.declared.limits.TheConstants.{SEGMENT_ROWS}
 use Rattle.graph_model.specs.declared.row.Key.{Key}
@@ -65,7 +66,58 @@ KeepCells (t ∷ ts) [] = ⊥
 
 pub record KeepsTaken (old new : TakenCells) : Type 0 where
   pub each : KeepCells old.list.items new.list.items
-  pub room : vec_capacity old.list ≤ vec_capacity new.list
+  pub room : vec_capacity new.list ≡ vec_capacity old.list
+
+-- so nothing keeps all, and two changes keep what both keep
+pub keeps_one : (t : TakenCell) → KeepsCell t t
+keeps_one t = record {
+  cell = refl;
+  rows = refl;
+  low = refl;
+  high = refl;
+  sound = λ s. s;
+  same = λ e. (e, record { low = refl; high = refl; rows = refl });
+}
+
+pub keep_all : (ts : List TakenCell) → KeepCells ts ts
+keep_all [] = tt
+keep_all (t ∷ ts) = (keeps_one t, keep_all ts)
+
+keeps_two : (t u v : TakenCell) → KeepsCell t u → KeepsCell u v → KeepsCell t v
+keeps_two t u v one two = record {
+  cell = two.cell ∙ one.cell;
+  rows = two.rows ∙ one.rows;
+  low = two.low ∙ one.low;
+  high = two.high ∙ one.high;
+  sound = λ s. two.sound (one.sound s);
+  same = λ e.
+      let second = two.same e in
+      let first = one.same second.0 in (
+        first.0,
+        record {
+          low = second.1.low ∙ first.1.low;
+          high = second.1.high ∙ first.1.high;
+          rows = second.1.rows ∙ first.1.rows;
+        },
+      );
+}
+
+keep_on : (ts us vs : List TakenCell) → KeepCells ts us → KeepCells us vs → KeepCells ts vs
+keep_on [] [] [] one two = tt
+keep_on (t ∷ ts) (u ∷ us) (v ∷ vs) one two = (keeps_two t u v one.0 two.0, keep_on ts us vs one.1 two.1)
+keep_on [] [] (v ∷ vs) one two = two
+keep_on [] (u ∷ us) vs one two = absurd one
+keep_on (t ∷ ts) [] vs one two = absurd one
+keep_on (t ∷ ts) (u ∷ us) [] one two = two
+
+pub keeps_itself : (t : TakenCells) → KeepsTaken t t
+keeps_itself t = record { each = keep_all t.list.items; room = refl }
+
+pub keeps_on : (t u v : TakenCells) → KeepsTaken t u → KeepsTaken u v → KeepsTaken t v
+keeps_on t u v one two = record {
+  each = keep_on t.list.items u.list.items v.list.items one.each two.each;
+  room = two.room ∙ one.room;
+}
 
 -- all rows that are there are known
 abbrev pub counted : List TakenCell → List TakenCell
@@ -110,7 +162,12 @@ IsPlace (t ∷ ts) q (suc place) = (covers t.held.value q ≡ false) × IsPlace 
 
 -- ---- keys that no cell covers
 
--- the least of these keys that no cell covers, if there is one
+-- of so many first keys each has its cell, or this is the place of one of all
+abbrev pub IsMissingOf : List TakenCell → List Key → ℕ → Option ℕ → Type 0
+IsMissingOf ts keys count None = AllByRecursion (λ k. has_cell ts k ≡ true) (take count keys)
+IsMissingOf ts keys count (Some place) = place < length keys
+
+-- each of these keys has its cell, or this is the place of one of them
 abbrev pub IsMissing : List TakenCell → List Key → Option ℕ → Type 0
 IsMissing ts keys None = AllByRecursion (λ k. has_cell ts k ≡ true) keys
 IsMissing ts keys (Some place) = place < length keys

@@ -18,7 +18,12 @@ use store_rule::{LatchPass, Store, StoreSlot};
 const LOOKS: u32 = 4096;
 
 /// Takes a place, as soon as nobody holds it.
-pub fn take_place(rt: &impl Wait, store: &Store, latch: &mut LatchPass, place: u32) -> Held<StoreSlot>
+pub fn take_place(
+    rt: &impl Wait,
+    store: &Store,
+    latch: &mut LatchPass,
+    place: u32,
+) -> Held<StoreSlot>
     requires latch { IsLatchOf store.now latch.old }
     requires place { place < cells_of store.now.accounts.config + 2 }
     ensures latch { IsLatchOf store.now latch.new }

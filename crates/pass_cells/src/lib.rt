@@ -19,7 +19,7 @@ mod take;
 mod taken;
 
 pub use hints::CellHints;
-pub use laws::rows_in_hand_are_known;
+pub use laws::{rows_in_hand_are_known, writes_have_their_rows};
 pub use own::{MOST_CELLS, PassCells};
 pub use read::CellRun;
 pub use room::RoomNeed;

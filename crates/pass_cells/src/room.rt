@@ -1,14 +1,17 @@
 //! Whether the rows of a write find places in the cells in hand.
 
-ghost use Rattle.std.specs.Prelude.{◌≡◌, OnNone, IfSome};
+ghost use Rattle.std.specs.Prelude.{◌≡◌, ◌&&◌, not, cond, true, OnNone, IfSome};
 ghost use Rattle.row_writes.specs.Held.{AreHeld, HaveRoom};
-ghost use Rattle.row_writes.specs.Written.{written_keys};
-ghost use Rattle.pass_cells.specs.Room.{IsShort};
+ghost use Rattle.row_writes.specs.Written.{with_back, written_keys};
+ghost use Rattle.version_segment.specs.Rows.{has_row};
+ghost use Rattle.cells_model.specs.Indexed.{covers};
+ghost use Rattle.pass_cells.specs.Room.{HasRoomFor, IsShort};
 ghost use Rattle.pass_cells.specs.Taken.{AreRising, rows_in};
 
 use crate::taken::TakenCells;
 use graph_model::Key;
 use row_writes::WrittenRows;
+use version_segment::VersionSegment;
 
 /// A key without a row, for which and for the other keys of the write that are missing in its cell there is no room:
 /// they need so many places.
@@ -38,7 +41,10 @@ impl TakenCells {
 
     /// The same of one key, with the other one of the write.
     fn need_at(&self, key: Key, other: Option<Key>) -> Option<RoomNeed>
-        requires held { has_cell self.now.list.items key ≡ true }
+        requires held { (rows_in self.now).holds key ≡ true }
+        ensures none { OnNone result (HasRoomFor (rows_in self.now) (with_back other key) key) }
+        ensures short { IfSome result (λ need. (need.key ≡ key)
+            × IsShort (rows_in self.now) (with_back other key) need) }
     {
         let cell = &self.list[self.place_of(key)].held.value;
         if cell.has_row(key) {
@@ -54,4 +60,12 @@ impl TakenCells {
         }
         Some(RoomNeed { key, need })
     }
+}
+
+/// One, if the cell covers a key that has no row, else none.
+fn missing_in(cell: &VersionSegment, key: Key) -> u8
+    ensures { result ≡ cond (not (has_row cell.now key) && covers cell.now key) 1 0 }
+{
+    let is_missing = !key.is_below(cell.low()) && key.is_below(cell.high()) && !cell.has_row(key);
+    u8::from(is_missing)
 }

@@ -7,8 +7,7 @@ ghost use Rattle.std.specs.Prelude.{◌≡◌, ◌<◌, ◌≤◌, ◌++◌, tru
 ghost use Rattle.std.specs.Vec.{vec_capacity};
 ghost use Rattle.cells_model.specs.Indexed.{covers};
 ghost use Rattle.pass_cells.specs.Changes.{StampsRows};
-ghost use Rattle.pass_cells.specs.Taken.{IsMissing, IsPlace, KeepsTaken, counted, end_of, has_cell, is_taken, rows_in};
-ghost use Rattle.pass_cells.proofs.TakenLemmas.{keeps_itself, keeps_on};
+ghost use Rattle.pass_cells.specs.Taken.{IsMissing, IsPlace, KeepsTaken, counted, end_of, has_cell, is_taken, keeps_itself, keeps_on, rows_in};
 
 use graph_model::{Key, NoMemory, TxnName};
 use latch_table::Held;
