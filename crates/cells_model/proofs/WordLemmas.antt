@@ -192,7 +192,7 @@ value_is_told block s is key p place w e same =
     (λ (r : Key × StampedVersions). r.1) s.rows p row is.sound.rising t.1) in
     let word : value_word row.1 ≡ w.weight = ap (λ (r : Row). r.weight) t.2 in
     let small = newest_small row.1
-        (all_get (λ (r : Key × StampedVersions). HasSmallValues r.1) s.rows p row is.small t.1) in
+    (all_get (λ (r : Key × StampedVersions). HasSmallValues r.1) s.rows p row is.small t.1) in
     let tells = word_tells (newest_value row.1) (is_empty row.1.pairs) small in
     let here : TellsVersions s key (value_word row.1) = record {
       settled = λ f. let g = tells.0 f in (

@@ -28,13 +28,13 @@ use Rattle.pass_cells.specs.declared.taken.TakenCell.{TakenCell}
 use Rattle.pass_cells.specs.Changes.{news_of, state_of}
 use Rattle.pass_cells.specs.Holding.{AreKnown, HasTaken, Holds, IsKnown, IsLatchOf, numbers_of, slots_out}
 use Rattle.pass_cells.specs.Taken.{AreApart, AreFrom, KeepsCell, KeepCells, cell_at, counted, has_cell, is_taken}
-use Rattle.pass_cells.proofs.CellLemmas.{covers_same}
+use Rattle.pass_cells.proofs.CellLemmas.{IsAmong, covers_same}
 use Rattle.pass_cells.proofs.SmallLemmas.{small_at, small_rows}
-use Rattle.pass_cells.proofs.StepLemmas.{IsAmong, IsPair, apart_kept, from_kept, length_kept, news_taken, numbers_kept, pair_of, same_spells, state_is, taken_kept, unique_cell}
+use Rattle.pass_cells.proofs.StepLemmas.{IsPair, apart_kept, from_kept, length_kept, news_taken, numbers_kept, pair_of, same_spells, state_is, taken_kept, unique_cell}
 
 -- ---- all rows that are there are known
 
-count_of : TakenCell → TakenCell
+abbrev pub count_of : TakenCell → TakenCell
 count_of t = record t { rows = length t.held.value.rows }
 
 taken_counted : (k : ℕ) (ts : List TakenCell) → is_taken k (counted ts) ≡ is_taken k ts
@@ -80,11 +80,11 @@ module _ (z : Config) (v : Sight) (ts us : List TakenCell) (known : AreKnown z v
       let one = unique_cell first_key ts rising pair.before pair.is_before q old in
       let two = unique_cell first_key us (from_kept first_key ts us kept rising) pair.after pair.is_after q new in
       subst (λ (x : StampedVersions × StampedVersions). R q x.0 x.1)
-          (λ i. (
-            (ap (λ (s : VersionedRows). versions_at s q) one.0 ∙ ap (λ rows. or_nothing (find key_cmp q rows)) pair.same.rows) i,
-            (ap (λ (s : VersionedRows). versions_at s q) two.0 ∙ ap (λ (s : VersionedRows). versions_at s q) (sym pair.segment)) i,
-          ))
-          (each q one.1)
+      (λ i. (
+        (ap (λ (s : VersionedRows). versions_at s q) one.0 ∙ ap (λ rows. or_nothing (find key_cmp q rows)) pair.same.rows) i,
+        (ap (λ (s : VersionedRows). versions_at s q) two.0 ∙ ap (λ (s : VersionedRows). versions_at s q) (sym pair.segment)) i,
+      ))
+      (each q one.1)
 
   -- values that may be stored
   pub all_small : ((q : Key) → has_cell us q ≡ true → HasSmallValues (versions_at (cell_at us q) q)) → ((t : TakenCell) → IsAmong t us → IsSegment t.held.value)
@@ -101,7 +101,7 @@ pub record IsPartner (z : Config) (v : Sight) (u : TakenCell) : Type 0 where
   pub known : IsKnown z v before
   pub kept : KeepsCell before u
 
-partner : (z : Config) (v : Sight) (ts us : List TakenCell) → AreKnown z v ts → KeepCells ts us → (u : TakenCell) → IsAmong u us → IsPartner z v u
+pub partner : (z : Config) (v : Sight) (ts us : List TakenCell) → AreKnown z v ts → KeepCells ts us → (u : TakenCell) → IsAmong u us → IsPartner z v u
 partner z v [] [] known kept u among = absurd among
 partner z v (t ∷ ts) (x ∷ us) known kept u (inl same) = record { before = t; known = known.0; kept = subst (λ (y : TakenCell). KeepsCell t y) same kept.0 }
 partner z v (t ∷ ts) (x ∷ us) known kept u (inr among) = partner z v ts us known.1 kept.1 u among
@@ -138,7 +138,7 @@ each_among P (u ∷ us) each = (each u (inl refl), each_among P us (λ x among. 
 
 module _ (z : Config) (v : Sight) (ts us : List TakenCell) (known : AreKnown z v ts) (kept : KeepCells ts us) (apart : AreApart ts)
     (small : (u : TakenCell) → IsAmong u us → HasSmallWeights u.held.value) (p : ℕ) (st : PassState) where
-  after : Sight
+  abbrev pub after : Sight
   after = with_rows v p st (news_of v us)
 
   -- segments that a change leaves
@@ -165,7 +165,7 @@ module _ (z : Config) (v : Sight) (ts us : List TakenCell) (known : AreKnown z v
             let free = was.known.untouched stays.0 in
             let chain : IsSameSegment was.known.state.segment u.held.value = record { low = stays.1.low ∙ was.known.same.low; high = stays.1.high ∙ was.known.same.high; rows = stays.1.rows ∙ was.known.same.rows } in
             subst (λ (c : CellState). IsUntouched (record c { segment = u.held.value })) (sym is)
-                (record { quiet = free.quiet; spells = same_spells was.known.state.block was.known.state.segment u.held.value chain free.spells });
+            (record { quiet = free.quiet; spells = same_spells was.known.state.block was.known.state.segment u.held.value chain free.spells });
         count = refl;
       }
 
@@ -195,7 +195,7 @@ holds_after store old new ts us holds kept small p st step =
         only = λ k c h. only_after store.accounts.config old.account.me.0 ts us has.known kept has.apart small p st has.only k c (subst (λ x. HasCell x k c) sight h);
         apart = apart_counted us (apart_kept ts us kept has.apart);
         few = let e = length_counted us ∙ length_kept ts us kept in let few = has.few in omega (arith, e, few);
-        no_index = ap (λ (x : Sight). kept_at x.indexes 0) sight ∙ has.no_index;
+        no_index = ap (λ (x : Sight). x.indexes) sight ∙ has.no_index;
       };
       rising = from_counted first_key us (from_kept first_key ts us kept holds.rising);
     }

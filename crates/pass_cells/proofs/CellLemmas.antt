@@ -10,42 +10,17 @@ use Rattle.version_segment.specs.Rows.{VersionedRows}
 use Rattle.row_writes.proofs.KeyLemmas.{key_eq}
 use Rattle.cells_model.specs.Indexed.{covers}
 use Rattle.pass_cells.specs.declared.taken.TakenCell.{TakenCell}
-use Rattle.pass_cells.specs.Taken.{IsPlace, KeepsCell, KeepCells, cell_at, has_cell, rows_come}
-
--- ---- cells that are kept
-
-pub keeps_one : (t : TakenCell) → KeepsCell t t
-keeps_one t = record { cell = refl; rows = refl; low = refl; high = refl; sound = λ s. s; same = λ e. (e, record { low = refl; high = refl; rows = refl }) }
-
-pub keep_all : (ts : List TakenCell) → KeepCells ts ts
-keep_all [] = tt
-keep_all (t ∷ ts) = (keeps_one t, keep_all ts)
-
-keeps_two : (t u v : TakenCell) → KeepsCell t u → KeepsCell u v → KeepsCell t v
-keeps_two t u v one two = record {
-  cell = two.cell ∙ one.cell;
-  rows = two.rows ∙ one.rows;
-  low = two.low ∙ one.low;
-  high = two.high ∙ one.high;
-  sound = λ s. two.sound (one.sound s);
-  same = λ e.
-      let second = two.same e in
-      let first = one.same second.0 in
-      (first.0, record { low = second.1.low ∙ first.1.low; high = second.1.high ∙ first.1.high; rows = second.1.rows ∙ first.1.rows });
-}
-
-pub keep_on : (ts us vs : List TakenCell) → KeepCells ts us → KeepCells us vs → KeepCells ts vs
-keep_on [] [] [] one two = tt
-keep_on (t ∷ ts) (u ∷ us) (v ∷ vs) one two = (keeps_two t u v one.0 two.0, keep_on ts us vs one.1 two.1)
-keep_on [] [] (v ∷ vs) one two = two
-keep_on [] (u ∷ us) vs one two = absurd one
-keep_on (t ∷ ts) [] vs one two = absurd one
-keep_on (t ∷ ts) (u ∷ us) [] one two = two
+use Rattle.pass_cells.specs.Taken.{IsPlace, KeepsCell, KeepCells, cell_at, has_cell, keep_all, keeps_one, rows_come}
 
 -- ---- the cell of a key
 
+-- it is one of these
+abbrev pub IsAmong : TakenCell → List TakenCell → Type 0
+IsAmong t [] = ⊥
+IsAmong t (x ∷ xs) = (x ≡ t) ⊎ IsAmong t xs
+
 -- the first cell that covers the key is another
-pub replaced : Key → TakenCell → List TakenCell → List TakenCell
+abbrev pub replaced : Key → TakenCell → List TakenCell → List TakenCell
 replaced q u [] = []
 replaced q u (t ∷ ts) = cond (covers t.held.value q) (u ∷ ts) (t ∷ replaced q u ts)
 
@@ -60,6 +35,11 @@ at_place (x ∷ xs) q (suc place) t is e =
     let rest = at_place xs q place t is.1 e in
     (rest.0 ∙ ap (λ b. cond b x.held.value (cell_at xs q)) (sym is.0), rest.1)
 
+pub among_place : (ts : List TakenCell) (place : ℕ) (t : TakenCell) → slice_get ts place ≡ Some t → IsAmong t ts
+among_place [] place t e = cc
+among_place (x ∷ xs) zero t e = inl (some_is x t e)
+among_place (x ∷ xs) (suc place) t e = inr (among_place xs place t e)
+
 pub set_at : (ts : List TakenCell) (q : Key) (place : ℕ) (u : TakenCell) → IsPlace ts q place → slice_set ts place u ≡ replaced q u ts
 set_at [] q place u is = absurd is
 set_at (x ∷ xs) q zero u is = ap (λ b. cond b (u ∷ xs) (x ∷ replaced q u xs)) (sym is)
@@ -69,20 +49,20 @@ set_at (x ∷ xs) q (suc place) u is =
 -- a cell that is in hand covers its key
 pub covers_own : (ts : List TakenCell) (q : Key) → has_cell ts q ≡ true → covers (cell_at ts q) q ≡ true
 covers_own [] q has = cc
-covers_own (t ∷ ts) q has = go (covers t.held.value q) refl
+covers_own (t ∷ ts) q has = go (covers t.held.value q) refl (covers_own ts q)
   where
-    go : (b : Bool) → covers t.held.value q ≡ b → covers (cond (covers t.held.value q) t.held.value (cell_at ts q)) q ≡ true
-    go true e = ap (λ b. covers (cond b t.held.value (cell_at ts q)) q) e ∙ e
-    go false e = ap (λ b. covers (cond b t.held.value (cell_at ts q)) q) e ∙ covers_own ts q (ap (λ b. b || has_cell ts q) (sym e) ∙ has)
+    go : (b : Bool) → covers t.held.value q ≡ b → (has_cell ts q ≡ true → covers (cell_at ts q) q ≡ true) → covers (cond (covers t.held.value q) t.held.value (cell_at ts q)) q ≡ true
+    go true e rest = ap (λ b. covers (cond b t.held.value (cell_at ts q)) q) e ∙ e
+    go false e rest = ap (λ b. covers (cond b t.held.value (cell_at ts q)) q) e ∙ rest (ap (λ b. b || has_cell ts q) (sym e) ∙ has)
 
 -- one that isn't covers no key
 pub covers_none : (ts : List TakenCell) (q : Key) → has_cell ts q ≡ false → cell_at ts q ≡ cell_at [] q
 covers_none [] q none = refl
-covers_none (t ∷ ts) q none = go (covers t.held.value q) refl
+covers_none (t ∷ ts) q none = go (covers t.held.value q) refl (covers_none ts q)
   where
-    go : (b : Bool) → covers t.held.value q ≡ b → cond (covers t.held.value q) t.held.value (cell_at ts q) ≡ cell_at [] q
-    go true e = never (covers t.held.value q || has_cell ts q) (ap (λ b. b || has_cell ts q) e) none
-    go false e = ap (λ b. cond b t.held.value (cell_at ts q)) e ∙ covers_none ts q (ap (λ b. b || has_cell ts q) (sym e) ∙ none)
+    go : (b : Bool) → covers t.held.value q ≡ b → (has_cell ts q ≡ false → cell_at ts q ≡ cell_at [] q) → cond (covers t.held.value q) t.held.value (cell_at ts q) ≡ cell_at [] q
+    go true e rest = never (covers t.held.value q || has_cell ts q) (ap (λ b. b || has_cell ts q) e) none
+    go false e rest = ap (λ b. cond b t.held.value (cell_at ts q)) e ∙ rest (ap (λ b. b || has_cell ts q) (sym e) ∙ none)
 
 -- the same fence keys cover the same keys
 pub covers_same : (a b : VersionedRows) → a.low ≡ b.low → a.high ≡ b.high → (q : Key) → covers a q ≡ covers b q
@@ -102,7 +82,7 @@ apart_keys c x y b f g = go (same_key y x) refl
 
 module _ (key : Key) (u : TakenCell) where
   -- between the same fence keys
-  pub Fits : List TakenCell → Type 0
+  abbrev pub Fits : List TakenCell → Type 0
   Fits ts = (u.held.value.low ≡ (cell_at ts key).low) × (u.held.value.high ≡ (cell_at ts key).high)
 
   -- a key's cell is the changed one, or is as it was, and then the key is another
@@ -110,7 +90,7 @@ module _ (key : Key) (u : TakenCell) where
       → ((cell_at ts q ≡ cell_at ts key) × (cell_at (replaced key u ts) q ≡ u.held.value))
       ⊎ ((cell_at (replaced key u ts) q ≡ cell_at ts q) × (same_key q key ≡ false))
   either_cell [] has fits q = cc
-  either_cell (t ∷ ts) has fits q = go (covers t.held.value key) (covers t.held.value q) refl refl
+  either_cell (t ∷ ts) has fits q = go (covers t.held.value key) (covers t.held.value q) refl refl (λ h f. either_cell ts h f q)
     where
       new : (a : Bool) → covers t.held.value key ≡ a → cell_at (replaced key u (t ∷ ts)) q ≡ cell_at (cond a (u ∷ ts) (t ∷ replaced key u ts)) q
       new a f = ap (λ b. cell_at (cond b (u ∷ ts) (t ∷ replaced key u ts)) q) f
@@ -129,13 +109,15 @@ module _ (key : Key) (u : TakenCell) where
       kept b g = ap (λ c. cond c t.held.value (cell_at (replaced key u ts) q)) g
 
       go : (a b : Bool) → covers t.held.value key ≡ a → covers t.held.value q ≡ b
+          → (has_cell ts key ≡ true → Fits ts → ((cell_at ts q ≡ cell_at ts key) × (cell_at (replaced key u ts) q ≡ u.held.value))
+          ⊎ ((cell_at (replaced key u ts) q ≡ cell_at ts q) × (same_key q key ≡ false)))
           → ((cell_at (t ∷ ts) q ≡ cell_at (t ∷ ts) key) × (cell_at (replaced key u (t ∷ ts)) q ≡ u.held.value))
           ⊎ ((cell_at (replaced key u (t ∷ ts)) q ≡ cell_at (t ∷ ts) q) × (same_key q key ≡ false))
-      go true true f g = inl (old q true g ∙ sym (old key true f), new true f ∙ first true (as_old f ∙ g))
-      go true false f g = inr (new true f ∙ first false (as_old f ∙ g) ∙ sym (old q false g), apart_keys t.held.value key q true f g)
-      go false true f g = inr (new false f ∙ kept true g ∙ sym (old q true g), apart_keys t.held.value key q false f g)
-      go false false f g =
-          elim (either_cell ts (ap (λ b. b || has_cell ts key) (sym f) ∙ has) (fits.0 ∙ ap (λ (c : VersionedRows). c.low) (old key false f), fits.1 ∙ ap (λ (c : VersionedRows). c.high) (old key false f)) q)
+      go true true f g rest = inl (old q true g ∙ sym (old key true f), new true f ∙ first true (as_old f ∙ g))
+      go true false f g rest = inr (new true f ∙ first false (as_old f ∙ g) ∙ sym (old q false g), apart_keys t.held.value key q true f g)
+      go false true f g rest = inr (new false f ∙ kept true g ∙ sym (old q true g), apart_keys t.held.value key q false f g)
+      go false false f g rest =
+          elim (rest (ap (λ b. b || has_cell ts key) (sym f) ∙ has) (fits.0 ∙ ap (λ (c : VersionedRows). c.low) (old key false f), fits.1 ∙ ap (λ (c : VersionedRows). c.high) (old key false f)))
           as (λ _. ((cell_at (t ∷ ts) q ≡ cell_at (t ∷ ts) key) × (cell_at (replaced key u (t ∷ ts)) q ≡ u.held.value))
           ⊎ ((cell_at (replaced key u (t ∷ ts)) q ≡ cell_at (t ∷ ts) q) × (same_key q key ≡ false))) [
             | inl h ↦ inl (old q false g ∙ h.0 ∙ sym (old key false f), new false f ∙ kept false g ∙ h.1)
@@ -145,7 +127,7 @@ module _ (key : Key) (u : TakenCell) where
   -- the same keys are covered
   pub has_same : (ts : List TakenCell) → has_cell ts key ≡ true → Fits ts → (q : Key) → has_cell (replaced key u ts) q ≡ has_cell ts q
   has_same [] has fits q = refl
-  has_same (t ∷ ts) has fits q = go (covers t.held.value key) refl
+  has_same (t ∷ ts) has fits q = go (covers t.held.value key) refl (λ h f. has_same ts h f q)
     where
       own : covers t.held.value key ≡ true → covers u.held.value q ≡ covers t.held.value q
       own f = covers_same u.held.value (cell_at (t ∷ ts) key) fits.0 fits.1 q ∙ ap (λ c. covers (cond c t.held.value (cell_at ts key)) q) f
@@ -153,10 +135,10 @@ module _ (key : Key) (u : TakenCell) where
       rest : covers t.held.value key ≡ false → Fits ts
       rest f = (fits.0 ∙ ap (λ c. (cond c t.held.value (cell_at ts key)).low) f, fits.1 ∙ ap (λ c. (cond c t.held.value (cell_at ts key)).high) f)
 
-      go : (a : Bool) → covers t.held.value key ≡ a → has_cell (cond (covers t.held.value key) (u ∷ ts) (t ∷ replaced key u ts)) q ≡ has_cell (t ∷ ts) q
-      go true f = ap (λ c. has_cell (cond c (u ∷ ts) (t ∷ replaced key u ts)) q) f ∙ ap (λ c. c || has_cell ts q) (own f)
-      go false f = ap (λ c. has_cell (cond c (u ∷ ts) (t ∷ replaced key u ts)) q) f
-          ∙ ap (λ c. covers t.held.value q || c) (has_same ts (ap (λ b. b || has_cell ts key) (sym f) ∙ has) (rest f) q)
+      go : (a : Bool) → covers t.held.value key ≡ a → (has_cell ts key ≡ true → Fits ts → has_cell (replaced key u ts) q ≡ has_cell ts q) → has_cell (cond (covers t.held.value key) (u ∷ ts) (t ∷ replaced key u ts)) q ≡ has_cell (t ∷ ts) q
+      go true f ih = ap (λ c. has_cell (cond c (u ∷ ts) (t ∷ replaced key u ts)) q) f ∙ ap (λ c. c || has_cell ts q) (own f)
+      go false f ih = ap (λ c. has_cell (cond c (u ∷ ts) (t ∷ replaced key u ts)) q) f
+          ∙ ap (λ c. covers t.held.value q || c) (ih (ap (λ b. b || has_cell ts key) (sym f) ∙ has) (rest f))
 
   -- no more rows come than in the changed cell
   pub more_come : (ts : List TakenCell) (t : TakenCell) (place n : ℕ) → IsPlace ts key place → slice_get ts place ≡ Some t → u.rows ≡ t.rows

@@ -113,22 +113,22 @@ module _ (kind : Kind) (q : Key) where
 -- a key that isn't among others stays among the rest
 pub stays_beside : (others keys : List Key) (q : Key) → has_key others q ≡ false → has_key keys q ≡ true → has_key (keys_beside others keys) q ≡ true
 stays_beside others [] q beside e = e
-stays_beside others (k ∷ ks) q beside e = go (has_key others k) refl
+stays_beside others (k ∷ ks) q beside e = go (has_key others k) refl (stays_beside others ks q beside)
   where
-    go : (b : Bool) → has_key others k ≡ b → has_key (cond (not (has_key others k)) (k ∷ keys_beside others ks) (keys_beside others ks)) q ≡ true
-    go false f = ap (λ b. has_key (cond (not b) (k ∷ keys_beside others ks) (keys_beside others ks)) q) f
+    go : (b : Bool) → has_key others k ≡ b → (has_key ks q ≡ true → has_key (keys_beside others ks) q ≡ true) → has_key (cond (not (has_key others k)) (k ∷ keys_beside others ks) (keys_beside others ks)) q ≡ true
+    go false f ih = ap (λ b. has_key (cond (not b) (k ∷ keys_beside others ks) (keys_beside others ks)) q) f
         ∙ (elim (either_of (same_key q k) (has_key ks q) e) as (λ _. (same_key q k || has_key (keys_beside others ks) q) ≡ true) [
           | inl same ↦ ap (λ b. b || has_key (keys_beside others ks) q) same
-          | inr rest ↦ last (same_key q k) (stays_beside others ks q beside rest)
+          | inr rest ↦ last (same_key q k) (ih rest)
         ])
       where
         last : (b : Bool) → has_key (keys_beside others ks) q ≡ true → (b || has_key (keys_beside others ks) q) ≡ true
         last true h = refl
         last false h = h
-    go true f = ap (λ b. has_key (cond (not b) (k ∷ keys_beside others ks) (keys_beside others ks)) q) f
+    go true f ih = ap (λ b. has_key (cond (not b) (k ∷ keys_beside others ks) (keys_beside others ks)) q) f
         ∙ (elim (either_of (same_key q k) (has_key ks q) e) as (λ _. has_key (keys_beside others ks) q ≡ true) [
           | inl same ↦ never (has_key others k) f (ap (has_key others) (sym (key_eq q k same)) ∙ beside)
-          | inr rest ↦ stays_beside others ks q beside rest
+          | inr rest ↦ ih rest
         ])
 
 -- ---- the steps
@@ -143,7 +143,7 @@ module _ (z : Config) (v : Sight) (p : ℕ) (ts us : List TakenCell) (known : Ar
   in_hand : (w : Write) → ((q : Key) → (writes_at z.kind w q || touches_at w q) ≡ true → has_cell ts q ≡ true) → HoldsKeys z w (news_of v us)
   in_hand w held = λ q e.
       let news = news_at z v us (apart_kept ts us kept apart) q (covers_kept ts us kept q ∙ held q e) in
-      (news.number, (news.cell, (news.there, news.covered)))
+      (news.number, news.cell, news.there, news.covered)
 
   pub can_write : (w : Write) → (may : MayMake z v p w) → AreHeld (held_rows ts) (all_keys (rows_of z.kind w))
       → ((q : Key) → (held_rows us).versions q ≡ stamped_after (name_at p (pass_of v p)) (rows_of z.kind w) q ((held_rows ts).versions q))
@@ -203,8 +203,10 @@ module _ (z : Config) (v : Sight) (p : ℕ) (ts us : List TakenCell) (known : Ar
           ⊎ (((held_rows us).versions q ≡ (held_rows ts).versions q) × (has_key may.state.unstamped q ≡ true → has_key (keys_beside keys may.state.unstamped) q ≡ true))
       one q true e = inl (stamps q ∙ ap (λ b. cond b (stamp (name_at p (pass_of v p)) number ((held_rows ts).versions q)) ((held_rows ts).versions q)) e
           ∙ (λ i. stamp (name_at p (pass_is v p may.state may.has i)) (sym may.stamp_is i) ((held_rows ts).versions q)))
-      one q false e = inr (stamps q ∙ ap (λ b. cond b (stamp (name_at p (pass_of v p)) number ((held_rows ts).versions q)) ((held_rows ts).versions q)) e,
-          stays_beside keys may.state.unstamped q e)
+      one q false e = inr (
+        stamps q ∙ ap (λ b. cond b (stamp (name_at p (pass_of v p)) number ((held_rows ts).versions q)) ((held_rows ts).versions q)) e,
+        stays_beside keys may.state.unstamped q e,
+      )
 
       outside : (q : Key) → IsBeside (news_of v us) q → (b : Bool) → has_key keys q ≡ b → b ≡ false
       outside q beside false e = refl

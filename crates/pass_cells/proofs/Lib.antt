@@ -9,3 +9,7 @@ pub mod ReserveLemmas
 pub mod RoomLemmas
 pub mod TakeLemmas
 pub mod PutLemmas
+pub mod WriteLemmas
+pub mod DoneLemmas
+pub mod RunLemmas
+pub mod StampLemmas

@@ -1,5 +1,5 @@
 -- Cells in hand that are packed and put back, one after the other.
-use Rattle.std.proofs.Common.{◌≡◌, ◌≢◌, ℕ, ◌+◌, ◌<◌, ◌≤◌, List, [], ◌∷◌, ◌++◌, length, map, refl, sym, ◌∙◌, ap, subst, cond, arith, Option, Some, None}
+use Rattle.std.proofs.Common.{◌≡◌, ◌≢◌, inl, inr, ℕ, ◌+◌, ◌<◌, ◌≤◌, List, [], ◌∷◌, ◌++◌, length, map, refl, sym, ◌∙◌, ap, subst, cond, arith, Option, Some, None}
 use Rattle.std.specs.Prelude.{Bool, true, false, ◌==◌, ◌||◌}
 use Rattle.std.specs.List.{AllByRecursion}
 use Rattle.atomic_table.specs.Seated.{TableId}
@@ -50,7 +50,7 @@ module _ (store : Store) (old mid packed new : Pass) (all left : List TakenCell)
     (pack : IsPackedCell t.held.cell putting.known.0.state mid packed resting)
     (lay : OnlyAccount packed new (without_cell t.held.cell packed.account.me.0))
     (cell : held.cell ≡ t.held.cell) (slot : IsCellSlot store.accounts.table.shared.table_id t.held.cell held.value) where
-  k : ℕ
+  abbrev k : ℕ
   k = t.held.cell
 
   view : new.account.me.0 ≡ without_cell k packed.account.me.0
@@ -135,7 +135,7 @@ module _ (store : Store) (old mid packed new : Pass) (all left : List TakenCell)
     known = all_else left putting.apart.0 putting.known.1;
     only = only;
     apart = putting.apart.1;
-    no_index = ap (λ (x : Sight). kept_at x.indexes 0) view ∙ ap (λ es. kept_at es 0) others.indexes ∙ putting.no_index;
+    no_index = ap (λ (x : Sight). x.indexes) view ∙ others.indexes ∙ putting.no_index;
   }
 
 -- ---- at first, and once all are put

@@ -24,9 +24,9 @@ use Rattle.txn_manager.specs.declared.config.Config.{Config}
 use Rattle.pass_cells.specs.declared.taken.TakenCell.{TakenCell}
 use Rattle.pass_cells.specs.Holding.{AreKnown, Holds, IsKnown, slots_out}
 use Rattle.pass_cells.specs.Taken.{AreFrom, IsPlace, KeepsCell, KeepCells, cell_at, has_cell, held_rows, is_taken, rows_come}
-use Rattle.pass_cells.proofs.CellLemmas.{at_place, covers_same, either_cell, has_same, kept_others, more_come, replaced}
+use Rattle.pass_cells.proofs.CellLemmas.{IsAmong, at_place, covers_same, either_cell, has_same, kept_others, more_come, replaced}
 use Rattle.pass_cells.proofs.RowLemmas.{rises_sorted, row_by_versions}
-use Rattle.pass_cells.proofs.StepLemmas.{IsAmong, apart_kept, from_kept, length_kept, numbers_kept, same_sound, taken_kept, unique_cell}
+use Rattle.pass_cells.proofs.StepLemmas.{apart_kept, from_kept, length_kept, numbers_kept, same_sound, taken_kept, unique_cell}
 
 -- ---- rows by their versions
 
@@ -43,22 +43,23 @@ find_is s sound q = go (find key_cmp q s.rows) (row_by_versions s q sound)
         by_test false f = refl
 
 -- a key outside the fence keys has nothing
-outside : (s : VersionedRows) → IsSegment s → (q : Key) → covers s q ≡ false → versions_at s q ≡ nothing
-outside s sound q none = ap or_nothing (go s.rows sound.within)
+none_found : (s : VersionedRows) (q : Key) → covers s q ≡ false → (rows : List (Key × StampedVersions))
+    → AllByRecursion (λ row. is_between s.low s.high row.0 ≡ true) rows → find key_cmp q rows ≡ None
+none_found s q none [] all = refl
+none_found s q none (row ∷ rows) all = by_test (eq_by_cmp key_cmp q row.0) refl (none_found s q none rows all.1)
   where
-    go : (rows : List (Key × StampedVersions)) → AllByRecursion (λ row. is_between s.low s.high row.0 ≡ true) rows → find key_cmp q rows ≡ None
-    go [] all = refl
-    go (row ∷ rows) all = by_test (eq_by_cmp key_cmp q row.0) refl
-      where
-        by_test : (t : Bool) → eq_by_cmp key_cmp q row.0 ≡ t → cond (eq_by_cmp key_cmp q row.0) (Some row.1) (find key_cmp q rows) ≡ None
-        by_test true e = never (covers s q) (ap (covers s) (key_eq q row.0 (sym (key_tie q row.0) ∙ e)) ∙ all.0) none
-        by_test false e = ap (λ b. cond b (Some row.1) (find key_cmp q rows)) e ∙ go rows all.1
+    by_test : (t : Bool) → eq_by_cmp key_cmp q row.0 ≡ t → find key_cmp q rows ≡ None → cond (eq_by_cmp key_cmp q row.0) (Some row.1) (find key_cmp q rows) ≡ None
+    by_test true e rest = never (covers s q) (ap (covers s) (key_eq q row.0 (sym (key_tie q row.0) ∙ e)) ∙ all.0) none
+    by_test false e rest = ap (λ b. cond b (Some row.1) (find key_cmp q rows)) e ∙ rest
+
+outside : (s : VersionedRows) → IsSegment s → (q : Key) → covers s q ≡ false → versions_at s q ≡ nothing
+outside s sound q none = ap or_nothing (none_found s q none s.rows sound.within)
 
 -- segments between the same fence keys whose keys have the same versions have the same rows
 pub same_rows : (s t : VersionedRows) → IsSegment s → IsSegment t → t.low ≡ s.low → t.high ≡ s.high
     → ((q : Key) → covers s q ≡ true → versions_at t q ≡ versions_at s q) → t.rows ≡ s.rows
 same_rows s t sound sound' low high each =
-    same_entries keys_total keys_exact t.rows s.rows (rises_sorted t.rows sound'.rising) (rises_sorted s.rows sound.rising) (λ q.
+    same_entries key_cmp keys_total keys_exact t.rows s.rows (rises_sorted t.rows sound'.rising) (rises_sorted s.rows sound.rising) (λ q.
     find_is t sound' q ∙ ap (λ vs. cond (is_nothing vs) None (Some vs)) (all q (covers s q) refl) ∙ sym (find_is s sound q))
   where
     all : (q : Key) (b : Bool) → covers s q ≡ b → versions_at t q ≡ versions_at s q
@@ -70,7 +71,7 @@ same_rows s t sound sound' low high each =
 module _ (ts : List TakenCell) (t u : TakenCell) (key : Key) (place : ℕ) (is : IsPlace ts key place) (there : slice_get ts place ≡ Some t)
     (has : has_cell ts key ≡ true) (kept : u.rows ≡ t.rows) (same : IsSameSegment t.held.value u.held.value)
     (spare : t.held.value.spare ≤ u.held.value.spare) where
-  us : List TakenCell
+  abbrev pub us : List TakenCell
   us = replaced key u ts
 
   own : t.held.value ≡ cell_at ts key
@@ -135,9 +136,9 @@ module _ (z : Config) (v : Sight) (all ns : List TakenCell) (rising : AreFrom fi
   one_known : (t u : TakenCell) → IsAmong t all → IsAmong u ns → IsKnown z v t → KeepsCell t u → IsKnown z v u
   one_known t u among among' known keeps =
       let rows : u.held.value.rows ≡ t.held.value.rows = same_rows t.held.value u.held.value known.sound (keeps.sound known.sound) keeps.low keeps.high (λ q e.
-          let one = unique_cell first_key all rising t among q e in
-          let two = unique_cell first_key ns (from_kept first_key all ns kept rising) u among' q (covers_same u.held.value t.held.value keeps.low keeps.high q ∙ e) in
-          ap (λ (s : VersionedRows). versions_at s q) (sym two.0) ∙ same q ∙ ap (λ (s : VersionedRows). versions_at s q) one.0) in
+      let one = unique_cell first_key all rising t among q e in
+      let two = unique_cell first_key ns (from_kept first_key all ns kept rising) u among' q (covers_same u.held.value t.held.value keeps.low keeps.high q ∙ e) in
+      ap (λ (s : VersionedRows). versions_at s q) (sym two.0) ∙ same q ∙ ap (λ (s : VersionedRows). versions_at s q) one.0) in
       record {
         state = known.state;
         has = subst (λ k. HasCell v k known.state) (sym keeps.cell) known.has;

@@ -174,7 +174,7 @@ module _ (change : RowChange) (by : TxnName) (old new : VersionedRows) (key : Ke
   pub no_more_rows : MayChange change by key old → length new.rows ≤ length old.rows + rows_for change (has_row old key)
   no_more_rows may =
       let one : length new.rows ≤ length old.rows + cond (not (has_row old key) && not (is_nothing (changed change by (versions_at old key)))) 1 0
-          = rw step.rows (row_count old key (changed change by (versions_at old key)) sound) in
+      = rw step.rows (row_count old key (changed change by (versions_at old key)) sound) in
       let two = few change may in
       omega (arith, one, two)
 

@@ -23,25 +23,20 @@ use Rattle.pass_cells.specs.declared.taken.TakenCell.{TakenCell}
 use Rattle.pass_cells.specs.Changes.{news_of, state_of}
 use Rattle.pass_cells.specs.Holding.{AreKnown, IsKnown, numbers_of}
 use Rattle.pass_cells.specs.Taken.{AreApart, AreFrom, KeepsCell, KeepCells, cell_at, counted, has_cell, is_taken, rows_come}
-use Rattle.pass_cells.proofs.CellLemmas.{covers_none, covers_same}
-
--- it is one of these
-pub IsAmong : TakenCell → List TakenCell → Type 0
-IsAmong t [] = ⊥
-IsAmong t (x ∷ xs) = (x ≡ t) ⊎ IsAmong t xs
+use Rattle.pass_cells.proofs.CellLemmas.{IsAmong, covers_none, covers_same}
 
 -- ---- segments that are the same but for room
 
 pub same_sound : (s t : VersionedRows) → IsSameSegment s t → IsSegment s → IsSegment t
 same_sound s t same sound =
     let moved : IsSegment (record s { low = t.low; high = t.high; rows = t.rows }) =
-        subst (λ (x : Key × Key × List (Key × StampedVersions)). IsSegment (record s { low = x.0; high = x.1; rows = x.2 })) (λ i. (sym same.low i, sym same.high i, sym same.rows i)) sound in
+    subst (λ (x : Key × Key × List (Key × StampedVersions)). IsSegment (record s { low = x.0; high = x.1; rows = x.2 })) (λ i. (sym same.low i, sym same.high i, sym same.rows i)) sound in
     record { fences = moved.fences; rising = moved.rising; within = moved.within; something = moved.something; small = moved.small }
 
 pub same_spells : (block : List ℕ) (s t : VersionedRows) → IsSameSegment s t → Spells block s → Spells block t
 same_spells block s t same spells =
     let moved : Spells block (record s { low = t.low; high = t.high; rows = t.rows }) =
-        subst (λ (x : Key × Key × List (Key × StampedVersions)). Spells block (record s { low = x.0; high = x.1; rows = x.2 })) (λ i. (sym same.low i, sym same.high i, sym same.rows i)) spells in
+    subst (λ (x : Key × Key × List (Key × StampedVersions)). Spells block (record s { low = x.0; high = x.1; rows = x.2 })) (λ i. (sym same.low i, sym same.high i, sym same.rows i)) spells in
     record { wide = moved.wide; words = moved.words; sound = same_sound s t same spells.sound; small = moved.small }
 
 -- ---- what the view has
@@ -58,13 +53,13 @@ covers_low c some = between_of c.low c.high c.low (below_self c.low) some
 -- what these cells cover isn't below where they begin
 pub none_below : (low : Key) (ts : List TakenCell) (q : Key) → AreFrom low ts → has_cell ts q ≡ true → is_below q low ≡ false
 none_below low [] q from has = cc
-none_below low (t ∷ ts) q from has = go (covers t.held.value q) refl
+none_below low (t ∷ ts) q from has = go (covers t.held.value q) refl (none_below t.held.value.high ts q from.2)
   where
-    go : (b : Bool) → covers t.held.value q ≡ b → is_below q low ≡ false
-    go true e = upto_chain low t.held.value.low q from.0 (between_parts t.held.value.low t.held.value.high q e).0
-    go false e =
+    go : (b : Bool) → covers t.held.value q ≡ b → (has_cell ts q ≡ true → is_below q t.held.value.high ≡ false) → is_below q low ≡ false
+    go true e rest = upto_chain low t.held.value.low q from.0 (between_parts t.held.value.low t.held.value.high q e).0
+    go false e rest =
         upto_chain low t.held.value.high q (upto_chain low t.held.value.low t.held.value.high from.0 (below_flip t.held.value.low t.held.value.high from.1))
-        (none_below t.held.value.high ts q from.2 (ap (λ b. b || has_cell ts q) (sym e) ∙ has))
+        (rest (ap (λ b. b || has_cell ts q) (sym e) ∙ has))
 
 -- so what they cover no cell before them does
 pub not_before : (low : Key) (t : TakenCell) (ts : List TakenCell) (q : Key) → AreFrom low (t ∷ ts) → has_cell ts q ≡ true → covers t.held.value q ≡ false
@@ -170,11 +165,11 @@ module _ (z : Config) (v : Sight) where
   -- a cell of which there are news is in hand
   pub news_taken : (k : ℕ) (us : List TakenCell) (d : CellState) → kept_at (news_of v us) k ≡ Some d → is_taken k us ≡ true
   news_taken k [] d e = cc
-  news_taken k (u ∷ us) d e = go (k == u.held.cell) refl
+  news_taken k (u ∷ us) d e = go (k == u.held.cell) refl (news_taken k us d)
     where
-      go : (b : Bool) → (k == u.held.cell) ≡ b → ((k == u.held.cell) || is_taken k us) ≡ true
-      go true f = ap (λ b. b || is_taken k us) f
-      go false f = ap (λ b. b || is_taken k us) f ∙ news_taken k us d (ap (λ b. cond b (Some (record (state_of v u.held.cell) { segment = u.held.value })) (kept_at (news_of v us) k)) (sym f) ∙ e)
+      go : (b : Bool) → (k == u.held.cell) ≡ b → (kept_at (news_of v us) k ≡ Some d → is_taken k us ≡ true) → ((k == u.held.cell) || is_taken k us) ≡ true
+      go true f rest = ap (λ b. b || is_taken k us) f
+      go false f rest = ap (λ b. b || is_taken k us) f ∙ rest (ap (λ b. cond b (Some (record (state_of v u.held.cell) { segment = u.held.value })) (kept_at (news_of v us) k)) (sym f) ∙ e)
 
   pub none_taken : (k : ℕ) (us : List TakenCell) → is_taken k us ≡ false → kept_at (news_of v us) k ≡ None
   none_taken k us none = elim (none_or_some (kept_at (news_of v us) k)) as (λ _. kept_at (news_of v us) k ≡ None) [
@@ -194,17 +189,14 @@ module _ (z : Config) (v : Sight) where
 
   pub pair_of : (ts us : List TakenCell) → AreKnown z v ts → KeepCells ts us → (k : ℕ) (c d : CellState) → HasCell v k c → kept_at (news_of v us) k ≡ Some d → IsPair ts us k c d
   pair_of [] [] known kept k c d has e = cc
-  pair_of (t ∷ ts) (u ∷ us) known kept k c d has e = go (k == u.held.cell) refl
+  pair_of (t ∷ ts) (u ∷ us) known kept k c d has e = go (k == u.held.cell) refl (pair_of ts us known.1 kept.1 k c d has)
     where
-      now : CellState
-      now = record (state_of v u.held.cell) { segment = u.held.value }
+      entry : (b : Bool) → (k == u.held.cell) ≡ b → cond b (Some (record (state_of v u.held.cell) { segment = u.held.value })) (kept_at (news_of v us) k) ≡ Some d
+      entry b f = ap (λ s. cond s (Some (record (state_of v u.held.cell) { segment = u.held.value })) (kept_at (news_of v us) k)) (sym f) ∙ e
 
-      entry : (b : Bool) → (k == u.held.cell) ≡ b → cond b (Some now) (kept_at (news_of v us) k) ≡ Some d
-      entry b f = ap (λ s. cond s (Some now) (kept_at (news_of v us) k)) (sym f) ∙ e
-
-      go : (b : Bool) → (k == u.held.cell) ≡ b → IsPair (t ∷ ts) (u ∷ us) k c d
-      go true f =
-          let is : now ≡ d = some_is now d (entry true f) in
+      go : (b : Bool) → (k == u.held.cell) ≡ b → (kept_at (news_of v us) k ≡ Some d → IsPair ts us k c d) → IsPair (t ∷ ts) (u ∷ us) k c d
+      go true f ih =
+          let is : (record (state_of v u.held.cell) { segment = u.held.value }) ≡ d = some_is (record (state_of v u.held.cell) { segment = u.held.value }) d (entry true f) in
           let number : k ≡ t.held.cell = eq_of k u.held.cell f ∙ kept.0.cell in
           let state : c ≡ known.0.state = some_is c known.0.state (sym has ∙ ap (λ n. kept_at v.cells n) number ∙ known.0.has) in
           record {
@@ -216,8 +208,8 @@ module _ (z : Config) (v : Sight) where
             same = subst (λ (x : CellState). IsSameSegment x.segment t.held.value) (sym state) known.0.same;
             segment = ap (λ (x : CellState). x.segment) (sym is);
           }
-      go false f =
-          let rest = pair_of ts us known.1 kept.1 k c d has (entry false f) in
+      go false f ih =
+          let rest = ih (entry false f) in
           record {
             before = rest.before;
             after = rest.after;
@@ -239,24 +231,21 @@ module _ (z : Config) (v : Sight) where
 
   pub news_at : (us : List TakenCell) → AreApart us → (q : Key) → has_cell us q ≡ true → IsNewsOf us q
   news_at [] apart q has = cc
-  news_at (u ∷ us) apart q has = go (covers u.held.value q) refl
+  news_at (u ∷ us) apart q has = go (covers u.held.value q) refl (news_at us apart.1 q)
     where
-      now : CellState
-      now = record (state_of v u.held.cell) { segment = u.held.value }
-
-      go : (b : Bool) → covers u.held.value q ≡ b → IsNewsOf (u ∷ us) q
-      go true e = record {
+      go : (b : Bool) → covers u.held.value q ≡ b → (has_cell us q ≡ true → IsNewsOf us q) → IsNewsOf (u ∷ us) q
+      go true e ih = record {
         number = u.held.cell;
-        cell = now;
-        there = ap (λ b. cond b (Some now) (kept_at (news_of v us) u.held.cell)) (self_eq u.held.cell);
+        cell = record (state_of v u.held.cell) { segment = u.held.value };
+        there = ap (λ b. cond b (Some (record (state_of v u.held.cell) { segment = u.held.value })) (kept_at (news_of v us) u.held.cell)) (self_eq u.held.cell);
         covered = e;
       }
-      go false e =
-          let rest = news_at us apart.1 q (ap (λ b. b || has_cell us q) (sym e) ∙ has) in
+      go false e ih =
+          let rest = ih (ap (λ b. b || has_cell us q) (sym e) ∙ has) in
           record {
             number = rest.number;
             cell = rest.cell;
-            there = ap (λ b. cond b (Some now) (kept_at (news_of v us) rest.number)) (other rest.number (news_taken rest.number us rest.cell rest.there) (rest.number == u.held.cell) refl) ∙ rest.there;
+            there = ap (λ b. cond b (Some (record (state_of v u.held.cell) { segment = u.held.value })) (kept_at (news_of v us) rest.number)) (other rest.number (news_taken rest.number us rest.cell rest.there) (rest.number == u.held.cell) refl) ∙ rest.there;
             covered = rest.covered;
           }
         where
@@ -272,8 +261,8 @@ module _ (z : Config) (v : Sight) where
       let rest = grows cell agrees ts us known.1 kept.1 apart.1 in
       let has = kept_state t u kept.0 known.0 in
       let before : length (revised cell (news_of v us) u.held.cell).segment.rows ≡ u.rows =
-          ap (λ (c : CellState). length c.segment.rows) (revised-none cell (news_of v us) u.held.cell (none_taken u.held.cell us apart.0) ∙ agrees u.held.cell known.0.state has)
-          ∙ ap length (sym known.0.same.rows) ∙ sym known.0.count ∙ sym kept.0.rows in
+      ap (λ (c : CellState). length c.segment.rows) (revised-none cell (news_of v us) u.held.cell (none_taken u.held.cell us apart.0) ∙ agrees u.held.cell known.0.state has)
+      ∙ ap length (sym known.0.same.rows) ∙ sym known.0.count ∙ sym kept.0.rows in
       omega (arith, rest, before)
   grows cell agrees [] (u ∷ us) known kept apart = absurd kept
   grows cell agrees (t ∷ ts) [] known kept apart = absurd kept

@@ -7,9 +7,11 @@ use Rattle.graph_model.specs.declared.row.Key.{Key}
 use Rattle.graph_model.specs.Rows.{first_key, is_below}
 use Rattle.graph_model.proofs.TestLemmas.{eq_of, eq_symm}
 use Rattle.txn_manager.specs.declared.config.Config.{Config}
-use Rattle.seat_views.specs.Keeping.{kept_at, without}
-use Rattle.seat_views.proofs.NumberLemmas.{none_or_some, other_number, same_number, some_is, without_kept}
+use Rattle.seat_views.specs.Keeping.{kept_at}
+use Rattle.seat_views.proofs.NumberLemmas.{same_number}
+use Rattle.latch_table.specs.declared.cells.Held.{Held}
 use Rattle.latch_table.specs.declared.sight.LatchSight.{LatchSight}
+use Rattle.store_rule.specs.Passes.{OnlyAccount}
 use Rattle.latch_table.specs.Latched.{number_of}
 use Rattle.version_segment.specs.Rows.{VersionedRows, IsSameSegment, IsSegment}
 use Rattle.cells_model.specs.Cells.{CellState, unpacked}
@@ -22,7 +24,7 @@ use Rattle.store_rule.specs.declared.slot.StoreSlot.TheVariants as slots
 use Rattle.store_rule.specs.declared.store.Pass.{Pass}
 use Rattle.store_rule.specs.declared.store.Store.{Store}
 use Rattle.pass_cells.specs.declared.taken.TakenCell.{TakenCell}
-use Rattle.pass_cells.specs.Holding.{AreKnown, HasTaken, IsGathered, IsKnown, IsLatchOf, numbers_of, slots_out}
+use Rattle.pass_cells.specs.Holding.{AreKnown, HasTaken, Holds, HoldsNone, IsGathered, IsKnown, IsLatchOf, numbers_of, slots_out}
 use Rattle.pass_cells.specs.Taken.{AreApart, AreFrom, end_from, is_taken}
 
 -- ---- one more behind the others
@@ -65,12 +67,12 @@ module _ (t : TakenCell) where
 
   pub length_more : (ts : List TakenCell) → length (ts ++ t ∷ []) ≡ length ts + 1
   length_more [] = refl
-  length_more (x ∷ xs) = ap suc (length_more xs)
+  length_more (x ∷ xs) = let rest = length_more xs in omega (arith, rest)
 
 -- ---- what is known of them
 
 module _ (z : Config) (v : Sight) (k : ℕ) (c : CellState) where
-  after : Sight
+  abbrev pub after : Sight
   after = with_cell (with_cell v k c) k (unpacked c)
 
   pub cell_here : HasCell after k (unpacked c)
@@ -138,7 +140,7 @@ has_more store old mid new ts t has few new_cell account latch out gathered insi
       only = λ j d h. taken_more t j ts ∙ only j d (subst (λ x. HasCell x j d) view h) (j == k) refl;
       apart = apart_more t ts has.apart new_cell;
       few = let e = length_more t ts in omega (arith, few, e);
-      no_index = ap (λ (x : Sight). kept_at x.indexes 0) view ∙ has.no_index;
+      no_index = ap (λ (x : Sight). x.indexes) view ∙ has.no_index;
     }
   where
     only : (j : ℕ) (d : CellState) → HasCell (after store.accounts.config old.account.me.0 t.held.cell gathered.state) j d → (b : Bool) → (j == t.held.cell) ≡ b
@@ -150,10 +152,64 @@ has_more store old mid new ts t has few new_cell account latch out gathered insi
         last false = refl
     only j d h false e = ap (λ b. b || (j == t.held.cell)) (has.only j d (sym (cell_else store.accounts.config old.account.me.0 t.held.cell gathered.state j e) ∙ h))
 
--- ---- the index
+-- ---- no cell in hand
 
-pub none_without : {A : Type 0} (n : ℕ) (es : List (ℕ × A)) → kept_at (without n es) n ≡ None
-none_without n es = elim (none_or_some (kept_at (without n es) n)) as (λ _. kept_at (without n es) n ≡ None) [
-  | inl e ↦ e
-  | inr h ↦ absurd ((without_kept n es n h.0 h.1).1 refl)
-]
+pub no_entries : {A : Type 0} (es : List (ℕ × A)) → ((k : ℕ) (a : A) → kept_at es k ≡ Some a → ⊥) → es ≡ []
+no_entries [] none = refl
+no_entries (e ∷ es) none = absurd (none e.0 e.1 (ap (λ b. cond b (Some e.1) (kept_at es e.0)) (same_number e.0)))
+
+pub none_taken : (store : Store) (pass : Pass) → HoldsNone store pass → HasTaken store pass []
+none_taken store pass none = record {
+  latch = none.latch;
+  out = none.out;
+  table = none.table;
+  known = tt;
+  only = λ k c h. not_none c (sym (ap (λ es. kept_at es k) none.cells) ∙ h);
+  apart = tt;
+  few = omega arith;
+  no_index = none.indexes;
+}
+  where
+    not_none : (c : CellState) → None ≡ Some c → false ≡ true
+    not_none c e = cc
+
+pub taken_none : (store : Store) (pass : Pass) → HasTaken store pass [] → HoldsNone store pass
+taken_none store pass has = record {
+  latch = has.latch;
+  out = has.out;
+  table = has.table;
+  cells = no_entries pass.account.me.0.cells (λ k c h. no (has.only k c h));
+  indexes = has.no_index;
+}
+  where
+    no : false ≡ true → ⊥
+    no e = cc
+
+pub none_held : (store : Store) (pass : Pass) → HoldsNone store pass → Holds store pass []
+none_held store pass none = record { taken = none_taken store pass none; rising = tt }
+
+-- ---- a note that is taken in, and a cell that is unpacked then
+
+pub gathered_then : (z : Config) (old mid new : Pass) (k n : ℕ) (state : CellState) (held : Held VersionedRows) → n ≡ k → held.cell ≡ n
+    → OnlyAccount old mid (with_cell old.account.me.0 k state)
+    → ((c : CellState) → HasCell mid.account.me.0 n c → OnlyAccount mid new (with_cell mid.account.me.0 n (unpacked c)))
+    → ((c : CellState) → HasCell mid.account.me.0 n c → IsUntouched (unpacked c))
+    → ((c : CellState) → HasCell mid.account.me.0 n c → IsSameSegment c.segment held.value) → IsGathered z old new held
+gathered_then z old mid new k n state held nk hn first unpack untouched same =
+    let has : HasCell mid.account.me.0 n state = subst (λ j. HasCell mid.account.me.0 j state) (sym nk)
+    (ap (λ m. kept_at m.0.cells k) first.account.me ∙ ap (λ b. cond b (Some state) (kept_at old.account.me.0.cells k)) (same_number k)) in
+    let second = unpack state has in
+    record {
+      state = state;
+      account = record {
+        number = second.number ∙ first.number;
+        latch = second.latch ∙ first.latch;
+        account = record {
+          table = second.account.table ∙ first.account.table;
+          me = second.account.me ∙ (λ i. (with_cell (first.account.me i).0 n (unpacked state), (first.account.me i).1))
+              ∙ (λ i. (with_cell (with_cell old.account.me.0 ((sym nk ∙ sym hn) i) state) (sym hn i) (unpacked state), old.account.me.1));
+        };
+      };
+      same = same state has;
+      untouched = untouched state has;
+    }

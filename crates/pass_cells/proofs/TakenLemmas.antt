@@ -15,19 +15,9 @@ use Rattle.row_writes.specs.Held.{AllowsChange, Changes, HaveCells, Reserves, ro
 use Rattle.row_writes.proofs.KeyLemmas.{key_self}
 use Rattle.cells_model.specs.Indexed.{covers}
 use Rattle.pass_cells.specs.declared.taken.TakenCell.{TakenCell}
-use Rattle.pass_cells.specs.declared.taken.TakenCells.{TakenCells}
-use Rattle.pass_cells.specs.Taken.{IsPlace, KeepsCell, KeepCells, KeepsTaken, cell_at, has_cell, held_rows, rows_come}
-use Rattle.pass_cells.proofs.CellLemmas.{at_place, covers_own, covers_same, either_cell, has_same, keep_all, keep_on, kept_others, more_come, replaced}
+use Rattle.pass_cells.specs.Taken.{IsPlace, KeepsCell, KeepCells, cell_at, has_cell, held_rows, rows_come}
+use Rattle.pass_cells.proofs.CellLemmas.{at_place, covers_own, covers_same, either_cell, has_same, kept_others, more_come, replaced}
 use Rattle.pass_cells.proofs.RowLemmas.{each, no_more_rows, row_beside, row_stands}
-
-pub keeps_itself : (t : TakenCells) → KeepsTaken t t
-keeps_itself t = record { each = keep_all t.list.items; room = omega arith }
-
-pub keeps_on : (t u v : TakenCells) → KeepsTaken t u → KeepsTaken u v → KeepsTaken t v
-keeps_on t u v one two = record {
-  each = keep_on t.list.items u.list.items v.list.items one.each two.each;
-  room = omega (arith, one.room, two.room);
-}
 
 -- a key whose cell is in hand lies in it
 pub have_cells : (ts : List TakenCell) → HaveCells (held_rows ts)
@@ -51,7 +41,7 @@ module _ (change : RowChange) (by : TxnName) (ts : List TakenCell) (t u : TakenC
     (may : MayChange change by key t.held.value)
     (step : ChangesKey t.held.value u.held.value key (changed change by (versions_at t.held.value key)))
     (spare : t.held.value.spare ≤ u.held.value.spare + records_for change) where
-  us : List TakenCell
+  abbrev pub us : List TakenCell
   us = replaced key u ts
 
   own : t.held.value ≡ cell_at ts key

@@ -55,7 +55,7 @@ name_of pass = name_at pass.number (state_of_pass pass)
 
 -- each cell has the contents that are in hand
 abbrev pub news_of : Sight → List TakenCell → List (ℕ × CellState)
-news_of v ts = map (λ t. (t.held.cell, record (state_of v t.held.cell) { segment = t.held.value })) ts
+news_of v ts = map {A = TakenCell} (λ t. (t.held.cell, record (state_of v t.held.cell) { segment = t.held.value })) ts
 
 -- ---- a write
 

@@ -49,7 +49,7 @@ AreKnown z v ts = AllByRecursion (IsKnown z v) ts
 
 -- the numbers of cells in the order in which they were taken
 abbrev pub numbers_of : List TakenCell → List ℕ
-numbers_of ts = map (λ t. t.held.cell) ts
+numbers_of ts = map {A = TakenCell} (λ t. t.held.cell) ts
 
 -- the slots that are out where these were taken, the last one first
 abbrev pub slots_out : List ℕ → List (ℕ × StoreSlot)
@@ -132,7 +132,7 @@ pub record IsPutting (store : Store) (old new : Pass) (all left : List TakenCell
   pub kept : KeepsPass old new
   pub latch : new.latch ≡ old.latch
   pub table : new.account.table_id ≡ store.accounts.table.shared.table_id
-  pub numbers : map (λ h. h.cell) packed ++ numbers_of left ≡ numbers_of all
+  pub numbers : map {A = Held StoreSlot} (λ h. h.cell) packed ++ numbers_of left ≡ numbers_of all
   pub fit : AreFit store packed
   pub known : AreKnown store.accounts.config new.account.me.0 left
   pub only : (k : ℕ) (c : CellState) → HasCell new.account.me.0 k c → is_taken k left ≡ true

@@ -1,7 +1,9 @@
 -- Places that are missing in the cells in hand.
-use Rattle.std.specs.Prelude.{◌≡◌, ℕ, ◌<◌, ◌≤◌, true, false, List}
+use Rattle.std.specs.Prelude.{◌≡◌, ℕ, ◌<◌, ◌≤◌, ◌&&◌, true, false, not, cond, List, Option, Some, None}
 use Rattle.graph_model.specs.declared.row.Key.{Key}
+use Rattle.version_segment.specs.Rows.{VersionedRows, has_row}
 use Rattle.row_writes.specs.Held.{HeldRows, wanted}
+use Rattle.cells_model.specs.Indexed.{covers}
 use Rattle.store_relation.specs.Keys.{has_key}
 use Rattle.pass_cells.specs.declared.room.RoomNeed.{RoomNeed}
 
@@ -16,3 +18,8 @@ pub record IsShort (c : HeldRows) (keys : List Key) (need : RoomNeed) : Type 0 w
 -- a missing key finds a place, with those of these keys that share its cell
 abbrev pub HasRoomFor : HeldRows → List Key → Key → Type 0
 HasRoomFor c keys key = c.has_row key ≡ false → wanted c key keys ≤ c.room key
+
+-- one more, if the cell covers the other key and that has no row
+abbrev pub also_missing : VersionedRows → Option Key → ℕ
+also_missing c None = 0
+also_missing c (Some k) = cond (not (has_row c k) && covers c k) 1 0

@@ -1,6 +1,6 @@
 -- Cells that a pass has taken, as rows that a writer holds.
 use Rattle.std.specs.Prelude.{◌≡◌, ℕ, zero, suc, ◌+◌, ◌-◌, ◌<◌, ◌≤◌, ◌==◌, Bool, true, false, cond, List, [], ◌∷◌, length, map, take, vec_capacity, Option, Some, None}
-use Rattle.std.proofs.Common.{refl, ◌∙◌, absurd}
+use Rattle.std.proofs.Common.{refl, ◌∙◌}
 use Rattle.std.specs.List.{AllByRecursion, list_any}
 use Rattle.graph_model.specs.declared.limits.TheConstants.{SEGMENT_ROWS}
 use Rattle.graph_model.specs.declared.row.Key.{Key}
@@ -121,7 +121,7 @@ keeps_on t u v one two = record {
 
 -- all rows that are there are known
 abbrev pub counted : List TakenCell → List TakenCell
-counted ts = map (λ t. record t { rows = length t.held.value.rows }) ts
+counted ts = map {A = TakenCell} (λ t. record t { rows = length t.held.value.rows }) ts
 
 -- ---- the order of cells
 

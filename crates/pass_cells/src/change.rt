@@ -10,7 +10,7 @@ ghost use Rattle.row_writes.specs.Written.{AreRows, all_keys, rows_of, touched_k
 ghost use Rattle.undo_chain.specs.declared.touched.Touched.TheVariants.{Never};
 ghost use Rattle.pass_cells.specs.Changes.{AreStamped, IsUndone, IsWritten, MayMake, MayStamp, MayUndo, MissesFew, StampsRows, name_of};
 ghost use Rattle.pass_cells.specs.Holding.{Holds};
-ghost use Rattle.pass_cells.specs.Taken.{KeepsTaken, rows_in};
+ghost use Rattle.pass_cells.specs.Taken.{KeepsTaken, rows_come, rows_in};
 
 use crate::own::PassCells;
 use crate::taken::TakenCells;
@@ -167,6 +167,7 @@ fn stamp_rows(taken: &mut TakenCells, by: TxnName, number: u64, keys: &[Key])
     requires held { AreHeld (rows_in taken.old) keys.now }
     ensures stamped { StampsRows by number keys.now taken.old.list.items taken.new.list.items }
     ensures keeps { KeepsTaken taken.old taken.new }
+    ensures count { rows_come taken.new.list.items ≤ rows_come taken.old.list.items }
 {
     'keys: for place in 0..keys.len() {
         taken.stamp(keys[place], by, number);

@@ -1,6 +1,6 @@
 //! Latches of a store's places.
 
-ghost use Rattle.std.specs.Prelude.{◌≡◌, ◌<◌, ◌≤◌, ◌+◌, [], ◌∷◌, length, false, IfSome, OnNone};
+ghost use Rattle.std.specs.Prelude.{◌≡◌, ◌<◌, ◌≤◌, ◌+◌, [], ◌∷◌, length, false, IfSome, None};
 ghost use Rattle.std.specs.Vec.{vec_capacity};
 ghost use Rattle.latch_table.specs.Latched.{number_of};
 ghost use Rattle.latch_table.specs.Several.{taken_of};
@@ -44,7 +44,7 @@ pub fn try_place(store: &Store, latch: &mut LatchPass, place: u32) -> Option<Hel
     ensures held { IfSome result (λ h. (h.cell ≡ place) × (h.changed ≡ false)
         × FitsPlace store.now.accounts.config store.now.accounts.table.shared.table_id place h.value
         × (latch.new.me.1 ≡ (place, slots.Out) ∷ latch.old.me.1)) }
-    ensures busy { OnNone result (latch.new.me.1 ≡ latch.old.me.1) }
+    ensures busy { result ≡ None → latch.new.me.1 ≡ latch.old.me.1 }
 {
     let cells = store.cells();
     'looks: for _look in 0..LOOKS {
@@ -87,4 +87,28 @@ pub fn give_place(store: &Store, latch: &mut LatchPass, held: Held<StoreSlot>)
     ensures none { latch.new.me.1 ≡ [] }
 {
     store.cells().give(latch, held);
+}
+
+/// Takes a place: whoever holds none waits as long as it takes, and whoever holds others looks a number of times.
+pub fn take_next_place(
+    rt: &impl Wait,
+    store: &Store,
+    latch: &mut LatchPass,
+    place: u32,
+    holds_none: bool,
+) -> Option<Held<StoreSlot>>
+    requires latch { IsLatchOf store.now latch.old }
+    requires place { place < cells_of store.now.accounts.config + 2 }
+    ensures latch { IsLatchOf store.now latch.new }
+    ensures number { number_of latch.new.me.0 ≡ number_of latch.old.me.0 }
+    ensures held { IfSome result (λ h. (h.cell ≡ place) × (h.changed ≡ false)
+        × FitsPlace store.now.accounts.config store.now.accounts.table.shared.table_id place h.value
+        × (latch.new.me.1 ≡ (place, slots.Out) ∷ latch.old.me.1)) }
+    ensures busy { result ≡ None → latch.new.me.1 ≡ latch.old.me.1 }
+{
+    if holds_none {
+        Some(take_place(rt, store, latch, place))
+    } else {
+        try_place(store, latch, place)
+    }
 }

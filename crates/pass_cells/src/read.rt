@@ -11,7 +11,7 @@ ghost use Rattle.undo_chain.specs.States.{Grows};
 ghost use Rattle.version_segment.specs.Checks.{AreNamedRows, IsNamed};
 ghost use Rattle.row_writes.specs.Checks.{ShowsHeld};
 ghost use Rattle.pass_cells.specs.Reading.{lesser};
-ghost use Rattle.pass_cells.specs.Taken.{cell_at, has_cell, rows_in};
+ghost use Rattle.pass_cells.specs.Taken.{AreRising, cell_at, rows_in};
 
 use crate::taken::TakenCells;
 use graph_model::{Key, Row};
@@ -49,6 +49,7 @@ impl TakenCells {
         states: &mut S,
         buffer: &'a mut Rows32,
     ) -> CellRun<'a>
+        requires rising { AreRising self.now.list.items }
         requires held { (rows_in self.now).holds from ≡ true }
         requires known { snapshot.now.start ≤ (S.knowledge states.old).known }
         requires named { AreNamedRows (S.knowledge states.old).names (cell_at self.now.list.items from).rows }
@@ -62,12 +63,15 @@ impl TakenCells {
     {
         let cell = &self.list[self.place_of(from)].held.value;
         cell.is_segment();
-        let end = if cell.high().is_below(until) {
-            cell.high()
-        } else {
-            until
-        };
+        let end = lesser(cell.high(), until);
         let rows = cell.run_at(from, end, snapshot, states, buffer);
         CellRun { rows, end }
     }
+}
+
+/// Of two keys the one whose row stands first.
+fn lesser(one: Key, other: Key) -> Key
+    ensures { result ≡ lesser one other }
+{
+    if one.is_below(other) { one } else { other }
 }

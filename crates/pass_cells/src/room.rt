@@ -1,11 +1,11 @@
 //! Whether the rows of a write find places in the cells in hand.
 
-ghost use Rattle.std.specs.Prelude.{◌≡◌, ◌&&◌, not, cond, true, OnNone, IfSome};
+ghost use Rattle.std.specs.Prelude.{◌≡◌, ◌+◌, ◌&&◌, not, cond, true, None, IfSome};
 ghost use Rattle.row_writes.specs.Held.{AreHeld, HaveRoom};
 ghost use Rattle.row_writes.specs.Written.{with_back, written_keys};
 ghost use Rattle.version_segment.specs.Rows.{has_row};
 ghost use Rattle.cells_model.specs.Indexed.{covers};
-ghost use Rattle.pass_cells.specs.Room.{HasRoomFor, IsShort};
+ghost use Rattle.pass_cells.specs.Room.{HasRoomFor, IsShort, also_missing};
 ghost use Rattle.pass_cells.specs.Taken.{AreRising, rows_in};
 
 use crate::taken::TakenCells;
@@ -27,7 +27,7 @@ impl TakenCells {
     pub fn room_need(&self, rows: &WrittenRows) -> Option<RoomNeed>
         requires rising { AreRising self.now.list.items }
         requires held { AreHeld (rows_in self.now) (written_keys rows.now) }
-        ensures none { OnNone result (HaveRoom (rows_in self.now) (written_keys rows.now)) }
+        ensures none { result ≡ None → HaveRoom (rows_in self.now) (written_keys rows.now) }
         ensures short { IfSome result (λ need. IsShort (rows_in self.now) (written_keys rows.now) need) }
     {
         match rows.back {
@@ -41,8 +41,9 @@ impl TakenCells {
 
     /// The same of one key, with the other one of the write.
     fn need_at(&self, key: Key, other: Option<Key>) -> Option<RoomNeed>
+        requires rising { AreRising self.now.list.items }
         requires held { (rows_in self.now).holds key ≡ true }
-        ensures none { OnNone result (HasRoomFor (rows_in self.now) (with_back other key) key) }
+        ensures none { result ≡ None → HasRoomFor (rows_in self.now) (with_back other key) key }
         ensures short { IfSome result (λ need. (need.key ≡ key)
             × IsShort (rows_in self.now) (with_back other key) need) }
     {
@@ -50,15 +51,21 @@ impl TakenCells {
         if cell.has_row(key) {
             return None;
         }
-        let need = 1
-            + match other {
-                Some(other) => missing_in(cell, other),
-                None => 0,
-            };
+        let need = need_of(cell, other);
         if usize::from(need) <= cell.room() {
             return None;
         }
         Some(RoomNeed { key, need })
+    }
+}
+
+/// One, and one more if the cell covers the other key and that has no row.
+fn need_of(cell: &VersionSegment, other: Option<Key>) -> u8
+    ensures { result ≡ 1 + also_missing cell.now other }
+{
+    match other {
+        Some(other) => 1 + missing_in(cell, other),
+        None => 1,
     }
 }
 

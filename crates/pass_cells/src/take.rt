@@ -13,7 +13,7 @@ ghost use Rattle.store_rule.specs.Slots.{IsCellSlot};
 ghost use Rattle.pass_cells.specs.Holding.{HasTaken, Holds, HoldsNone, IsGathered, KeepsPass};
 ghost use Rattle.pass_cells.specs.Taken.{held_rows};
 
-use crate::latch::{give_place, take_place, try_place};
+use crate::latch::{give_place, take_next_place, take_place};
 use crate::own::PassCells;
 use crate::taken::TakenCell;
 use graph_model::Key;
@@ -90,22 +90,21 @@ impl PassCells {
         ensures more { length self.new.taken.list.items ≤ length self.old.taken.list.items + 1 }
         ensures kept { KeepsPass pass.old pass.new }
     {
-        if cell >= store.index_place() || self.taken.is_taken(cell) {
+        if cell >= store.index_place() {
+            return false;
+        }
+        if self.taken.is_taken(cell) {
             return false;
         }
         let end = self.taken.end();
-        let found = if self.taken.list.is_empty() {
-            Some(take_place(rt, store, &mut pass.latch, cell))
-        } else {
-            try_place(store, &mut pass.latch, cell)
-        };
-        let Some(held) = found else {
+        let holds_none = self.taken.list.is_empty();
+        let Some(held) = take_next_place(rt, store, &mut pass.latch, cell, holds_none) else {
             return false;
         };
         let held = gather(store, pass, held);
         let rows = held.value.len();
         let taken = TakenCell { held, rows };
-        let is_next = taken.covers(key) && !taken.held.value.low().is_below(end);
+        let is_next = taken.follows(key, end);
         self.taken.add(taken);
         is_next
     }

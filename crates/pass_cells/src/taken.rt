@@ -3,11 +3,12 @@
 //! 1. The first of them that covers a key is the key's. They are few, so it is looked for from the first one on.
 //! 2. A change sets the mark of its cell before the rows change.
 
-ghost use Rattle.std.specs.Prelude.{◌≡◌, ◌<◌, ◌≤◌, ◌++◌, true, [], ◌∷◌, length};
+ghost use Rattle.std.specs.Prelude.{◌≡◌, ◌<◌, ◌≤◌, ◌++◌, true, false, [], ◌∷◌, length};
 ghost use Rattle.std.specs.Vec.{vec_capacity};
+ghost use Rattle.graph_model.specs.Rows.{is_below};
 ghost use Rattle.cells_model.specs.Indexed.{covers};
 ghost use Rattle.pass_cells.specs.Changes.{StampsRows};
-ghost use Rattle.pass_cells.specs.Taken.{IsMissing, IsPlace, KeepsTaken, counted, end_of, has_cell, is_taken, keeps_itself, keeps_on, rows_in};
+ghost use Rattle.pass_cells.specs.Taken.{IsMissing, IsPlace, KeepsTaken, counted, end_of, has_cell, is_taken, keeps_itself, keeps_on, rows_come, rows_in};
 
 use graph_model::{Key, NoMemory, TxnName};
 use latch_table::Held;
@@ -33,6 +34,16 @@ impl TakenCell {
     {
         let value = &self.held.value;
         !key.is_below(value.low()) && key.is_below(value.high())
+    }
+}
+
+impl TakenCell {
+    /// Whether the cell is the key's, and begins where others end, or above.
+    pub(crate) fn follows(&self, key: Key, end: Key) -> bool
+        ensures next { result ≡ true → is_below self.now.held.value.low end ≡ false }
+        ensures some { result ≡ true → is_below self.now.held.value.low self.now.held.value.high ≡ true }
+    {
+        self.covers(key) && !self.held.value.low().is_below(end)
     }
 }
 
@@ -132,10 +143,12 @@ impl TakenCells {
         requires { has_cell self.old.list.items key ≡ true }
         ensures stamped { StampsRows by number (key ∷ []) self.old.list.items self.new.list.items }
         ensures keeps { KeepsTaken self.old self.new }
+        ensures count { rows_come self.new.list.items ≤ rows_come self.old.list.items }
     {
         let place = self.place_of(key);
         let taken = &mut self.list[place];
         taken.held.changed = true;
+        taken.held.value.is_segment();
         taken.held.value.stamp(key, by, number);
         taken.held.value.is_segment();
     }
@@ -164,6 +177,7 @@ impl HeldCells for TakenCells {
         let place = self.place_of(key);
         let taken = &mut self.list[place];
         taken.held.changed = true;
+        taken.held.value.is_segment();
         taken.held.value.change(key, near, by, change);
         taken.held.value.is_segment();
     }
