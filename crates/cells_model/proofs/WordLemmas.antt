@@ -9,10 +9,11 @@ use Rattle.graph_model.specs.declared.row.Row.{Row}
 use Rattle.graph_model.specs.declared.limits.TheConstants.{MAX_WEIGHT}
 use Rattle.graph_model.specs.Rows.{key_cmp, is_below}
 use Rattle.graph_model.proofs.PlaceLemmas.{some_eq}
-use Rattle.store_model.specs.Stamped.{StampedVersions}
+use Rattle.store_model.specs.Stamped.{Stamped, StampedVersions}
 use Rattle.version_segment.specs.Keyed.{RisesBy, IsPlaceBy, IsGapBy, entries_by}
+use Rattle.version_segment.specs.Resting as may_rest
 use Rattle.version_segment.specs.Rows.{VersionedRows, IsSegment, versions_at, or_nothing, is_empty}
-use Rattle.cells_model.specs.Words.{newest_value, value_word, value_in_word, is_chained, word_of, chain_mark, no_value, word_row, word_rows, flat}
+use Rattle.cells_model.specs.Words.{HasSmallValues, HasSmallWeights, IsSmall, newest_in, newest_value, value_word, value_in_word, is_chained, word_of, chain_mark, no_value, word_row, word_rows, flat}
 use Rattle.version_segment.proofs.KeyedLemmas.{find_there, find_gap, gap_of_place}
 use Rattle.cells_model.specs.BlockLaws.{HeadIsTold, RowIsTold, TellsVersions, ValueIsTold, NoRowIsTold, row_key}
 
@@ -133,6 +134,24 @@ all_get P [] i x h e = cc
 all_get P (y ∷ ys) zero x h e = subst P (some_eq y x e) h.0
 all_get P (y ∷ ys) (suc i) x h e = all_get P ys i x h.1 e
 
+-- the newest of values that may be stored may be
+pub newest_small : (vs : StampedVersions) → HasSmallValues vs → IsSmall (newest_value vs)
+newest_small vs small = go vs.pairs small.0
+  where
+    go : (ps : List Stamped) → AllByRecursion (λ p. IsSmall p.value) ps
+        → IsSmall (newest_in ps vs.oldest)
+    go [] all = small.1
+    go (p ∷ ps) all = all.0
+
+-- so a segment may be laid to rest
+pub newest_weights : (s : VersionedRows) → HasSmallWeights s → may_rest.HasSmallWeights s
+newest_weights s small = go s.rows small
+  where
+    go : (rows : List (Key × StampedVersions)) → AllByRecursion (λ row. HasSmallValues row.1) rows
+        → AllByRecursion (λ row. IsSmall (newest_value row.1)) rows
+    go [] all = tt
+    go (row ∷ rows) all = (newest_small row.1 all.0, go rows all.1)
+
 -- what the word of a row tells
 word_tells : (v : Option ℕ) (settled : Bool) → IfSome v (λ w. w ≤ MAX_WEIGHT)
     → (is_chained (word_of v settled) ≡ false → (settled ≡ true) × (value_in_word (word_of v settled) ≡ v))
@@ -172,8 +191,8 @@ value_is_told block s is key p place w e same =
     ∙ find_there (λ (r : Key × StampedVersions). r.0)
     (λ (r : Key × StampedVersions). r.1) s.rows p row is.sound.rising t.1) in
     let word : value_word row.1 ≡ w.weight = ap (λ (r : Row). r.weight) t.2 in
-    let small = all_get (λ (r : Key × StampedVersions). IfSome (newest_value r.1)
-    (λ weight. weight ≤ MAX_WEIGHT)) s.rows p row is.small t.1 in
+    let small = newest_small row.1
+    (all_get (λ (r : Key × StampedVersions). HasSmallValues r.1) s.rows p row is.small t.1) in
     let tells = word_tells (newest_value row.1) (is_empty row.1.pairs) small in
     let here : TellsVersions s key (value_word row.1) = record {
       settled = λ f. let g = tells.0 f in (

@@ -66,10 +66,17 @@ spelled low high rows = length rows ∷ low.src ∷ low.second ∷ high.src ∷ 
 abbrev pub block_words : ℕ
 block_words = 102
 
--- each newest value is a weight that may be stored, so that its word tells it
+-- a value that is a weight may be stored
+abbrev pub IsSmall : Option ℕ → Type 0
+IsSmall value = IfSome value (λ weight. weight ≤ MAX_WEIGHT)
+
+-- each value that a row has had, which an undo may bring back
+abbrev pub HasSmallValues : StampedVersions → Type 0
+HasSmallValues vs = AllByRecursion (λ p. IsSmall p.value) vs.pairs × IsSmall vs.oldest
+
+-- so is the newest value of each row, and its word tells it
 abbrev pub HasSmallWeights : VersionedRows → Type 0
-HasSmallWeights s = AllByRecursion (λ row. IfSome (newest_value row.1)
-    (λ weight. weight ≤ MAX_WEIGHT)) s.rows
+HasSmallWeights s = AllByRecursion (λ row. HasSmallValues row.1) s.rows
 
 -- the block spells these contents; what stands after its last row is not read
 pub record Spells (block : List ℕ) (s : VersionedRows) : Type 0 where

@@ -1,0 +1,15 @@
+pub mod RowLemmas
+pub mod CellLemmas
+pub mod TakenLemmas
+pub mod SmallLemmas
+pub mod StepLemmas
+pub mod AfterLemmas
+pub mod ChangeLemmas
+pub mod ReserveLemmas
+pub mod RoomLemmas
+pub mod TakeLemmas
+pub mod PutLemmas
+pub mod WriteLemmas
+pub mod DoneLemmas
+pub mod RunLemmas
+pub mod StampLemmas

@@ -1,0 +1,25 @@
+-- Places that are missing in the cells in hand.
+use Rattle.std.specs.Prelude.{◌≡◌, ℕ, ◌<◌, ◌≤◌, ◌&&◌, true, false, not, cond, List, Option, Some, None}
+use Rattle.graph_model.specs.declared.row.Key.{Key}
+use Rattle.version_segment.specs.Rows.{VersionedRows, has_row}
+use Rattle.row_writes.specs.Held.{HeldRows, wanted}
+use Rattle.cells_model.specs.Indexed.{covers}
+use Rattle.store_relation.specs.Keys.{has_key}
+use Rattle.pass_cells.specs.declared.room.RoomNeed.{RoomNeed}
+
+-- The key is one of these and has no row, and its cell has fewer places than there are of these keys in it without a row.
+pub record IsShort (c : HeldRows) (keys : List Key) (need : RoomNeed) : Type 0 where
+  pub among : has_key keys need.key ≡ true
+  pub held : c.holds need.key ≡ true
+  pub missing : c.has_row need.key ≡ false
+  pub need_is : need.need ≡ wanted c need.key keys
+  pub short : c.room need.key < need.need
+
+-- a missing key finds a place, with those of these keys that share its cell
+abbrev pub HasRoomFor : HeldRows → List Key → Key → Type 0
+HasRoomFor c keys key = c.has_row key ≡ false → wanted c key keys ≤ c.room key
+
+-- one more, if the cell covers the other key and that has no row
+abbrev pub also_missing : VersionedRows → Option Key → ℕ
+also_missing c None = 0
+also_missing c (Some k) = cond (not (has_row c k) && covers c k) 1 0

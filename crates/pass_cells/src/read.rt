@@ -1,0 +1,77 @@
+//! What a snapshot sees in the cells in hand.
+//!
+//! Reads look at unpacked rows: whoever wants to read takes the cell, reads here, and puts it back unchanged.
+
+ghost use Rattle.std.specs.Prelude.{◌≡◌, ◌≤◌, true, length};
+ghost use Rattle.graph_model.specs.declared.limits.TheConstants.{SEGMENT_ROWS};
+ghost use Rattle.graph_model.specs.Graph.{Graph};
+ghost use Rattle.graph_model.specs.Rows.{is_between, rows};
+ghost use Rattle.store_model.specs.Stamped.{read_stamped};
+ghost use Rattle.undo_chain.specs.States.{Grows};
+ghost use Rattle.version_segment.specs.Checks.{AreNamedRows, IsNamed};
+ghost use Rattle.row_writes.specs.Checks.{ShowsHeld};
+ghost use Rattle.pass_cells.specs.Reading.{lesser};
+ghost use Rattle.pass_cells.specs.Taken.{AreRising, cell_at, rows_in};
+
+use crate::taken::TakenCells;
+use graph_model::{Key, Row};
+use row_writes::HeldCells;
+use undo_chain::{Snapshot, States};
+use version_segment::{NOWHERE, Rows32};
+
+/// Rows that are lent, and the key before which they end.
+#[derive(Clone, Copy)]
+pub struct CellRun<'a> {
+    pub rows: &'a [Row],
+    pub end: Key,
+}
+
+impl TakenCells {
+    /// The value of a key for a snapshot.
+    pub fn value<S: States>(&self, key: Key, snapshot: &Snapshot, states: &mut S) -> Option<u64>
+        requires held { (rows_in self.now).holds key ≡ true }
+        requires known { snapshot.now.start ≤ (S.knowledge states.old).known }
+        requires named { IsNamed (S.knowledge states.old).names ((rows_in self.now).versions key) }
+        ensures value { result ≡ read_stamped (S.knowledge states.old).stamps snapshot.now.start snapshot.now.own
+            ((rows_in self.now).versions key) }
+        ensures grows { Grows (S.knowledge states.old) (S.knowledge states.new) }
+    {
+        self.row(key, NOWHERE).value(snapshot, states)
+    }
+
+    /// Lends the rows that a snapshot sees from a key on and before another, as far as the key's cell goes. They are
+    /// the next step of a scan.
+    pub fn run<'a, S: States>(
+        &'a self,
+        from: Key,
+        until: Key,
+        snapshot: &Snapshot,
+        states: &mut S,
+        buffer: &'a mut Rows32,
+    ) -> CellRun<'a>
+        requires rising { AreRising self.now.list.items }
+        requires held { (rows_in self.now).holds from ≡ true }
+        requires known { snapshot.now.start ≤ (S.knowledge states.old).known }
+        requires named { AreNamedRows (S.knowledge states.old).names (cell_at self.now.list.items from).rows }
+        ensures rows { (g : Graph) → ShowsHeld (S.knowledge states.old).stamps snapshot.now (rows_in self.now) g
+            → result.rows.now ≡ rows g from result.end }
+        ensures end { result.end ≡ lesser (cell_at self.now.list.items from).high until }
+        ensures holds { is_between (cell_at self.now.list.items from).low (cell_at self.now.list.items from).high from
+            ≡ true }
+        ensures few { length result.rows.now ≤ SEGMENT_ROWS }
+        ensures grows { Grows (S.knowledge states.old) (S.knowledge states.new) }
+    {
+        let cell = &self.list[self.place_of(from)].held.value;
+        cell.is_segment();
+        let end = lesser(cell.high(), until);
+        let rows = cell.run_at(from, end, snapshot, states, buffer);
+        CellRun { rows, end }
+    }
+}
+
+/// Of two keys the one whose row stands first.
+fn lesser(one: Key, other: Key) -> Key
+    ensures { result ≡ lesser one other }
+{
+    if one.is_below(other) { one } else { other }
+}

@@ -1,0 +1,78 @@
+//! Whether the rows of a write find places in the cells in hand.
+
+ghost use Rattle.std.specs.Prelude.{◌≡◌, ◌+◌, ◌&&◌, not, cond, true, None, IfSome};
+ghost use Rattle.row_writes.specs.Held.{AreHeld, HaveRoom};
+ghost use Rattle.row_writes.specs.Written.{with_back, written_keys};
+ghost use Rattle.version_segment.specs.Rows.{has_row};
+ghost use Rattle.cells_model.specs.Indexed.{covers};
+ghost use Rattle.pass_cells.specs.Room.{HasRoomFor, IsShort, also_missing};
+ghost use Rattle.pass_cells.specs.Taken.{AreRising, rows_in};
+
+use crate::taken::TakenCells;
+use graph_model::Key;
+use row_writes::WrittenRows;
+use version_segment::VersionSegment;
+
+/// A key without a row, for which and for the other keys of the write that are missing in its cell there is no room:
+/// they need so many places.
+#[derive(Clone, Copy, Debug, PartialEq, Eq)]
+pub struct RoomNeed {
+    pub key: Key,
+    pub need: u8,
+}
+
+impl TakenCells {
+    /// What is short of places, if anything is: the row that is written is looked at first, and then the one that goes
+    /// the other way.
+    pub fn room_need(&self, rows: &WrittenRows) -> Option<RoomNeed>
+        requires rising { AreRising self.now.list.items }
+        requires held { AreHeld (rows_in self.now) (written_keys rows.now) }
+        ensures none { result ≡ None → HaveRoom (rows_in self.now) (written_keys rows.now) }
+        ensures short { IfSome result (λ need. IsShort (rows_in self.now) (written_keys rows.now) need) }
+    {
+        match rows.back {
+            None => self.need_at(rows.row, None),
+            Some(back) => match self.need_at(rows.row, Some(back)) {
+                None => self.need_at(back, Some(rows.row)),
+                short => short,
+            },
+        }
+    }
+
+    /// The same of one key, with the other one of the write.
+    fn need_at(&self, key: Key, other: Option<Key>) -> Option<RoomNeed>
+        requires rising { AreRising self.now.list.items }
+        requires held { (rows_in self.now).holds key ≡ true }
+        ensures none { result ≡ None → HasRoomFor (rows_in self.now) (with_back other key) key }
+        ensures short { IfSome result (λ need. (need.key ≡ key)
+            × IsShort (rows_in self.now) (with_back other key) need) }
+    {
+        let cell = &self.list[self.place_of(key)].held.value;
+        if cell.has_row(key) {
+            return None;
+        }
+        let need = need_of(cell, other);
+        if usize::from(need) <= cell.room() {
+            return None;
+        }
+        Some(RoomNeed { key, need })
+    }
+}
+
+/// One, and one more if the cell covers the other key and that has no row.
+fn need_of(cell: &VersionSegment, other: Option<Key>) -> u8
+    ensures { result ≡ 1 + also_missing cell.now other }
+{
+    match other {
+        Some(other) => 1 + missing_in(cell, other),
+        None => 1,
+    }
+}
+
+/// One, if the cell covers a key that has no row, else none.
+fn missing_in(cell: &VersionSegment, key: Key) -> u8
+    ensures { result ≡ cond (not (has_row cell.now key) && covers cell.now key) 1 0 }
+{
+    let is_missing = !key.is_below(cell.low()) && key.is_below(cell.high()) && !cell.has_row(key);
+    u8::from(is_missing)
+}

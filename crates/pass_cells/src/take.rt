@@ -1,0 +1,139 @@
+//! How a pass comes by the cells of keys.
+//!
+//! 1. Cells are taken in the order of their fence keys: the least key that no cell in hand covers comes next.
+//! 2. A hint names the cell. Once it is held its fence keys tell whether it is the key's, and only where it isn't the
+//!    index is asked, with no cell in hand.
+//! 3. Hints may lag behind, and then two passes may want each other's cells. So a pass that holds a cell looks at the
+//!    next one a number of times, and gives all back where that stays busy.
+
+ghost use Rattle.std.specs.Prelude.{◌≡◌, ◌<◌, ◌≤◌, ◌+◌, [], ◌∷◌, length, true, false};
+ghost use Rattle.row_writes.specs.Held.{AreHeld};
+ghost use Rattle.rule_model.specs.Sight.{cells_of};
+ghost use Rattle.store_rule.specs.Slots.{IsCellSlot};
+ghost use Rattle.pass_cells.specs.Holding.{HasTaken, Holds, HoldsNone, IsGathered, KeepsPass};
+ghost use Rattle.pass_cells.specs.Taken.{held_rows};
+
+use crate::latch::{give_place, take_next_place, take_place};
+use crate::own::PassCells;
+use crate::taken::TakenCell;
+use graph_model::Key;
+use latch_table::Held;
+use std::sync::Wait;
+use store_rule::{Pass, Store, StoreSlot};
+use version_segment::VersionSegment;
+
+impl PassCells {
+    /// Takes the cells of these keys, four at most, each once. They are gathered and unpacked then. Takes no memory. It
+    /// waits until it has all of them, and for a key that no cell covers without end.
+    pub fn take(&mut self, rt: &impl Wait, store: &Store, pass: &mut Pass, keys: &[Key])
+        requires none { HoldsNone store.now pass.old × (self.old.taken.list.items ≡ []) }
+        requires few { length keys.now ≤ 4 }
+        ensures holds { Holds store.now pass.new self.new.taken.list.items }
+        ensures held { AreHeld (held_rows self.new.taken.list.items) keys.now }
+        ensures kept { KeepsPass pass.old pass.new }
+    {
+        let mut guesses = self.hints.of_all(keys);
+        'tries: for _ in rt.forever() {
+            if self.take_guessed(rt, store, pass, keys, &guesses) {
+                return;
+            }
+            guesses = self.ask(rt, store, pass, keys);
+        }
+        unreachable!()
+    }
+
+    /// Takes the cells that were guessed. Where one isn't its key's, or stays busy, all are given back.
+    fn take_guessed(
+        &mut self,
+        rt: &impl Wait,
+        store: &Store,
+        pass: &mut Pass,
+        keys: &[Key],
+        guesses: &[u32; 4],
+    ) -> bool
+        requires none { HoldsNone store.now pass.old × (self.old.taken.list.items ≡ []) }
+        requires few { length keys.now ≤ 4 }
+        ensures held { result ≡ true → Holds store.now pass.new self.new.taken.list.items
+            × AreHeld (held_rows self.new.taken.list.items) keys.now }
+        ensures none { result ≡ false → HoldsNone store.now pass.new × (self.new.taken.list.items ≡ []) }
+        ensures kept { KeepsPass pass.old pass.new }
+    {
+        'keys: for _round in 0..keys.len() {
+            let Some(place) = self.taken.least_missing(keys) else {
+                return true;
+            };
+            if !self.take_next(rt, store, pass, keys[place], guesses[place]) {
+                self.put_back(store, pass);
+                return false;
+            }
+        }
+        if self.taken.least_missing(keys).is_none() {
+            return true;
+        }
+        self.put_back(store, pass);
+        false
+    }
+
+    /// Takes a cell, and answers whether it is the key's and stands behind those that were taken before.
+    fn take_next(
+        &mut self,
+        rt: &impl Wait,
+        store: &Store,
+        pass: &mut Pass,
+        key: Key,
+        cell: u32,
+    ) -> bool
+        requires holds { Holds store.now pass.old self.old.taken.list.items }
+        requires few { length self.old.taken.list.items < 4 }
+        ensures taken { HasTaken store.now pass.new self.new.taken.list.items }
+        ensures next { result ≡ true → Holds store.now pass.new self.new.taken.list.items }
+        ensures more { length self.new.taken.list.items ≤ length self.old.taken.list.items + 1 }
+        ensures kept { KeepsPass pass.old pass.new }
+    {
+        if cell >= store.index_place() {
+            return false;
+        }
+        if self.taken.is_taken(cell) {
+            return false;
+        }
+        let end = self.taken.end();
+        let holds_none = self.taken.list.is_empty();
+        let Some(held) = take_next_place(rt, store, &mut pass.latch, cell, holds_none) else {
+            return false;
+        };
+        let held = gather(store, pass, held);
+        let rows = held.value.len();
+        let taken = TakenCell { held, rows };
+        let is_next = taken.follows(key, end);
+        self.taken.add(taken);
+        is_next
+    }
+
+    /// Asks the index for the cells of keys, and notes what it tells of their leaves.
+    fn ask(&mut self, rt: &impl Wait, store: &Store, pass: &mut Pass, keys: &[Key]) -> [u32; 4]
+        requires none { HoldsNone store.now pass.old }
+        ensures none { HoldsNone store.now pass.new }
+        ensures taken { self.new.taken.list.items ≡ self.old.taken.list.items }
+        ensures kept { KeepsPass pass.old pass.new }
+    {
+        let held = take_place(rt, store, &mut pass.latch, store.index_place());
+        let held = store.gather_index(pass, held);
+        let guesses = self.hints.learn(&held.value, keys);
+        let held = store.lay_index(pass, held);
+        give_place(store, &mut pass.latch, held);
+        guesses
+    }
+}
+
+/// Takes in the note of a cell that was taken, and unpacks it.
+fn gather(store: &Store, pass: &mut Pass, held: Held<StoreSlot>) -> Held<VersionSegment>
+    requires table { pass.old.account.table_id ≡ store.now.accounts.table.shared.table_id }
+    requires inside { held.cell < cells_of store.now.accounts.config }
+    requires slot { IsCellSlot store.now.accounts.table.shared.table_id held.cell held.value }
+    requires unchanged { held.changed ≡ false }
+    ensures held { (result.cell ≡ held.cell) × (result.changed ≡ false) }
+    ensures gathered { IsGathered store.now.accounts.config pass.old pass.new result }
+{
+    let held = store.gather_cell(pass, held);
+    store.unpack(pass, held)
+}
