@@ -54,6 +54,7 @@ module _ (store : Store) (old new : Pass) (v : Sight) (step : OnlyAccount old ne
   pub none_after : HoldsNone old → HasNoContents v → HoldsNone new
   none_after none free = record {
     latches = (λ i. (step.latch i).me.1) ∙ none.latches;
+    buffers = step.buffers ∙ none.buffers;
     contents = subst HasNoContents (sym sight_is) free;
   }
 
@@ -68,6 +69,7 @@ module _ (store : Store) (old new : Pass) (v : Sight) (step : OnlyAccount old ne
   taken_after st x j j' taken own legal has alone cells indexes = record {
     of = pass_after taken.of own legal;
     latch = (λ i. (step.latch i).me.1) ∙ taken.latch;
+    buffers = step.buffers ∙ taken.buffers;
     state = state_is;
     pin = pin_is;
     journal = subst (λ (u : Sight). HasJournal u j') (sym sight_is) has;
@@ -150,14 +152,14 @@ module _ (store : Store) (old new : Pass) (st : PassState) (x : PinState) (j : J
 -- a latch seat that has taken the journal, and nothing else
 module _ (store : Store) (old mid new : Pass) (j : JournalState) where
   pub takes_journal : IsPassOf store old → HoldsNone old
-      → mid.number ≡ old.number → mid.account ≡ old.account
+      → mid.number ≡ old.number → mid.buffers ≡ old.buffers → mid.account ≡ old.account
       → IsLatchPass store.latches.table.shared.key.config.passes store.latches.table.shared.key
       store.latches.table.shared.table_id mid.latch
       → number_of mid.latch.me.0 ≡ number_of old.latch.me.0
       → mid.latch.me.1 ≡ (cells_of store.accounts.config + 1, slots.Out) ∷ old.latch.me.1
       → OnlyAccount mid new (with_journal mid.account.me.0 j)
       → HasTaken store new (state_of old) (pin_of old) j
-  takes_journal of none number account latch same slots_are step =
+  takes_journal of none number room account latch same slots_are step =
       let sight_was : mid.account.me.0 ≡ old.account.me.0 = (λ i. (account i).me.0) in
       let state_was : state_of mid ≡ state_of old = (λ i. state_in (sight_was i) (number i)) in
       let pin_was : pin_of mid ≡ pin_of old = (λ i. pin_in (sight_was i) (number i)) in
@@ -180,6 +182,7 @@ module _ (store : Store) (old mid new : Pass) (j : JournalState) where
         of = pass_after store mid new v step mid_of (own_journal own j) legal;
         latch = (λ i. (step.latch i).me.1) ∙ slots_are
             ∙ ap (λ l. (cells_of store.accounts.config + 1, slots.Out) ∷ l) none.latches;
+        buffers = step.buffers ∙ room ∙ none.buffers;
         state = state_is store mid new v step ∙ state_was;
         pin = pin_is store mid new v step ∙ pin_was;
         journal = subst (λ (u : Sight). HasJournal u j) (sym (sight_is store mid new v step)) refl;
@@ -300,6 +303,7 @@ new_pass_is_idle store p pass inside new =
       };
       none = record {
         latches = new.latch.none;
+        buffers = new.buffers;
         contents = subst HasNoContents (sym sight) (record { cells = refl; indexes = refl; journals = refl });
       };
       idle = subst (λ (u : PassState × PinState). HasNoTxn u.0 u.1) (λ i. (sym state i, sym pin i)) idle;
@@ -351,6 +355,7 @@ pub taken_own : (store : Store) (pass : Pass) (st : PassState) (x : PinState) (j
 taken_own store pass st x j taken = record {
   of = taken.of;
   latch = taken.latch;
+  buffers = taken.buffers;
   state = refl;
   pin = refl;
   journal = taken.journal;

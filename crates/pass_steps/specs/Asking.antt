@@ -167,6 +167,7 @@ pub record IsLentBy (asking : Asking) (table : TableId) (config : Config) (seat 
 pub record KnowsLooks (sight : Sight) (old new : Pass) : Type 0 where
   pub number : new.number ≡ old.number
   pub latch : new.latch ≡ old.latch
+  pub buffers : new.buffers ≡ old.buffers
   pub table : new.account.table_id ≡ old.account.table_id
   pub slots : new.account.me.1 ≡ old.account.me.1
   pub looked : HasLooked old.number sight new.account.me.0

@@ -4,6 +4,7 @@ use Rattle.seat_views.specs.Keeping.{without}
 use Rattle.store_relation.specs.Passes.{PassState}
 use Rattle.store_relation.specs.Shared.{JournalState}
 use Rattle.rule_model.specs.Sight.{HasJournal, PinState, cells_of}
+use Rattle.store_rule.specs.declared.buffers.TheConstants.{MOST_UNPACKED}
 use Rattle.store_rule.specs.declared.slot.StoreSlot.TheVariants as slots
 use Rattle.store_rule.specs.declared.store.Pass.{Pass}
 use Rattle.store_rule.specs.declared.store.Store.{Store}
@@ -14,6 +15,7 @@ pub record HasTaken (store : Store) (pass : Pass) (st : PassState) (x : PinState
     : Type 0 where
   pub of : IsPassOf store pass
   pub latch : pass.latch.me.1 ≡ (cells_of store.accounts.config + 1, slots.Out) ∷ []
+  pub buffers : pass.buffers ≡ MOST_UNPACKED
   pub state : state_of pass ≡ st
   pub pin : pin_of pass ≡ x
   pub journal : HasJournal pass.account.me.0 j

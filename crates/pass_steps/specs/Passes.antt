@@ -11,6 +11,7 @@ use Rattle.store_relation.specs.Passes.{PassState, account_of, fresh_pass, name_
 use Rattle.store_relation.specs.Readers.{ReaderState, reader_of}
 use Rattle.store_relation.specs.Shared.{JournalState, no_journal}
 use Rattle.rule_model.specs.Sight.{HasPass, HasPin, PinState, Sight, fresh_pin}
+use Rattle.store_rule.specs.declared.buffers.TheConstants.{MOST_UNPACKED}
 use Rattle.store_rule.specs.declared.store.Pass.{Pass}
 use Rattle.store_rule.specs.declared.store.Store.{Store}
 
@@ -73,9 +74,10 @@ pub record HasNoContents (v : Sight) : Type 0 where
   pub indexes : v.indexes ≡ []
   pub journals : v.journals ≡ []
 
--- the pass holds no cell, nor the index or the journal
+-- the pass holds no cell, nor the index or the journal; so it has room for the rows of all cells that it may unpack
 pub record HoldsNone (pass : Pass) : Type 0 where
   pub latches : pass.latch.me.1 ≡ []
+  pub buffers : pass.buffers ≡ MOST_UNPACKED
   pub contents : HasNoContents pass.account.me.0
 
 -- ---- its transaction

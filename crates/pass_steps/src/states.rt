@@ -98,6 +98,7 @@ impl<'a, B: Asker> PassStates<'a, B> {
         requires kept { (pass.old.account.me.0 ≡ kept_part B.asking.sight) × (pass.old.number ≡ B.asking.number) }
         requires told { (B.asking.sight.told ≡ []) × (B.asking.sight.readers ≡ []) }
         ensures looked { KnowsLooks B.asking.sight pass.old pass.new }
+        ensures looks { (state_of pass.new).looks ≡ (state_in self.entry B.asking.number).looks }
     {
         let PassStates {
             accounts,
