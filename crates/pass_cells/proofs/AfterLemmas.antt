@@ -1,11 +1,11 @@
 -- What a pass knows of the cells in hand once a step has made its view know their rows.
-use Rattle.std.proofs.Common.{◌≡◌, ◌≢◌, ◌⊎◌, ℕ, suc, ◌+◌, ◌<◌, ◌≤◌, List, [], ◌∷◌, ◌++◌, length, map, refl, sym, ◌∙◌, ap, subst, cond, arith, inl, inr, Option, Some, None}
-use Rattle.std.specs.Prelude.{Bool, true, false, ◌==◌, ◌||◌, unwrap_or}
+use Rattle.std.proofs.Common.{◌≡◌, ℕ, suc, ◌<◌, List, [], ◌∷◌, length, refl, sym, ◌∙◌, ap, subst, cond, arith, inl, inr, Some}
+use Rattle.std.specs.Prelude.{Bool, true, false, ◌==◌, ◌||◌}
 use Rattle.std.specs.List.{AllByRecursion}
 use Rattle.std.specs.FinMap.Entries.{find}
 use Rattle.atomic_table.specs.declared.shared.Seat.{Seat}
 use Rattle.graph_model.specs.declared.row.Key.{Key}
-use Rattle.graph_model.specs.Rows.{first_key, is_below, key_cmp}
+use Rattle.graph_model.specs.Rows.{first_key, key_cmp}
 use Rattle.graph_model.proofs.TestLemmas.{eq_of, never, self_eq}
 use Rattle.txn_manager.specs.declared.config.Config.{Config}
 use Rattle.seat_views.specs.Keeping.{kept_at}
@@ -26,11 +26,11 @@ use Rattle.store_rule.specs.declared.store.Store.{Store}
 use Rattle.store_rule.specs.Passes.{OnlyAccount}
 use Rattle.pass_cells.specs.declared.taken.TakenCell.{TakenCell}
 use Rattle.pass_cells.specs.Changes.{news_of, state_of}
-use Rattle.pass_cells.specs.Holding.{AreKnown, HasTaken, Holds, IsKnown, IsLatchOf, numbers_of, slots_out}
+use Rattle.pass_cells.specs.Holding.{AreKnown, Holds, IsKnown, IsLatchOf, numbers_of, slots_out}
 use Rattle.pass_cells.specs.Taken.{AreApart, AreFrom, KeepsCell, KeepCells, cell_at, counted, has_cell, is_taken}
 use Rattle.pass_cells.proofs.CellLemmas.{IsAmong, covers_same}
-use Rattle.pass_cells.proofs.SmallLemmas.{small_at, small_rows}
-use Rattle.pass_cells.proofs.StepLemmas.{IsPair, apart_kept, from_kept, length_kept, news_taken, numbers_kept, pair_of, same_spells, state_is, taken_kept, unique_cell}
+use Rattle.pass_cells.proofs.SmallLemmas.{small_rows}
+use Rattle.pass_cells.proofs.StepLemmas.{apart_kept, from_kept, length_kept, news_taken, numbers_kept, pair_of, same_spells, state_is, taken_kept, unique_cell}
 
 -- ---- all rows that are there are known
 

@@ -1,23 +1,22 @@
 -- Steps at the table: a write, its undo and the stamps of a commit may be made known.
-use Rattle.std.proofs.Common.{◌≡◌, ◌⊎◌, ℕ, ◌+◌, ◌-◌, ◌≤◌, List, [], ◌∷◌, ◌++◌, length, refl, sym, ◌∙◌, ap, subst, cond, arith, inl, inr, Option, Some, None}
+use Rattle.std.proofs.Common.{◌≡◌, ◌⊎◌, ℕ, ◌≤◌, List, [], ◌∷◌, ◌++◌, refl, sym, ◌∙◌, ap, subst, cond, arith, inl, inr}
 use Rattle.std.specs.Prelude.{Bool, true, false, not, ◌||◌, unwrap_or}
-use Rattle.std.specs.List.{AllByRecursion, filter, list_any}
+use Rattle.std.specs.List.{AllByRecursion, list_any}
 use Rattle.graph_model.specs.declared.row.Key.{Key}
 use Rattle.graph_model.specs.declared.journal.TxnName.{TxnName}
 use Rattle.graph_model.specs.declared.write.Kind.{Kind}
-use Rattle.graph_model.specs.declared.write.Kind.TheVariants.{Directed, Undirected}
 use Rattle.graph_model.specs.declared.write.Write.{Write}
 use Rattle.graph_model.specs.declared.write.Write.TheVariants.{AddVertex, DropVertex, AddEdge, SetEdge, DropEdge}
-use Rattle.graph_model.specs.Effects.{keys_of, same_key, touches_at, value_left, writes_at}
+use Rattle.graph_model.specs.Effects.{same_key, touches_at, value_left, writes_at}
 use Rattle.graph_model.specs.Inserted.{inserted_by}
 use Rattle.graph_model.specs.Rows.{first_key, vertex_key}
 use Rattle.graph_model.proofs.TestLemmas.{either_of, never}
 use Rattle.txn_manager.specs.declared.config.Config.{Config}
 use Rattle.store_model.specs.Stamped.{StampedVersions, stamp}
-use Rattle.version_segment.specs.Rows.{touched, undone, untouched, versions_at, written}
+use Rattle.version_segment.specs.Rows.{touched, undone, untouched, written}
 use Rattle.row_writes.specs.Held.{AreHeld}
 use Rattle.row_writes.specs.Written.{all_keys, ends_in, rows_of, stamped_after, stamped_before, touched_keys, written_keys}
-use Rattle.row_writes.proofs.KeyLemmas.{key_eq, key_self}
+use Rattle.row_writes.proofs.KeyLemmas.{key_eq}
 use Rattle.row_writes.proofs.WrittenLemmas.{keys_are}
 use Rattle.store_relation.specs.Keys.{has_key}
 use Rattle.store_relation.specs.Passes.{PassState, fresh_pass, name_at}
@@ -28,7 +27,7 @@ use Rattle.rule_model.specs.Sight.{HasPass, Sight}
 use Rattle.pass_cells.specs.declared.taken.TakenCell.{TakenCell}
 use Rattle.pass_cells.specs.Changes.{MayMake, MayStamp, MayUndo, StampsRows, but_newest, keys_beside, news_of, pass_of}
 use Rattle.pass_cells.specs.Holding.{AreKnown}
-use Rattle.pass_cells.specs.Taken.{AreApart, AreFrom, KeepCells, cell_at, has_cell, held_rows, rows_come}
+use Rattle.pass_cells.specs.Taken.{AreApart, AreFrom, KeepCells, has_cell, held_rows, rows_come}
 use Rattle.pass_cells.proofs.AfterLemmas.{rows_change}
 use Rattle.pass_cells.proofs.StepLemmas.{all_changes, apart_kept, covers_kept, grows, news_at}
 

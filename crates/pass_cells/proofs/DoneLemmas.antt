@@ -1,5 +1,5 @@
 -- What the functions' own loops and last steps leave.
-use Rattle.std.proofs.Common.{◌≡◌, ◌⊎◌, ℕ, zero, suc, ◌+◌, ◌-◌, ◌<◌, ◌≤◌, List, [], ◌∷◌, ◌++◌, length, map, take, drop, refl, sym, ◌∙◌, ap, subst, cond, arith, inl, inr, Option, Some, None}
+use Rattle.std.proofs.Common.{◌≡◌, ℕ, zero, suc, ◌+◌, ◌<◌, ◌≤◌, List, [], ◌∷◌, ◌++◌, length, take, drop, refl, sym, ◌∙◌, ap, subst, cond, arith, Some}
 use Rattle.std.specs.Prelude.{Bool, true, false, ◌==◌, ◌||◌, slice_get, slice_set, slice_index_or}
 use Rattle.std.specs.List.{remove}
 use Rattle.graph_model.specs.declared.row.Key.{Key}
@@ -26,7 +26,7 @@ use Rattle.pass_cells.proofs.AfterLemmas.{all_small, partner}
 use Rattle.pass_cells.proofs.ChangeLemmas.{stamped_is, unstamped_is}
 use Rattle.pass_cells.specs.Holding.{AreKnown}
 use Rattle.pass_cells.specs.Taken.{AreFrom, IsPlace, KeepCells, cell_at, counted, end_from, has_cell, held_rows}
-use Rattle.pass_cells.proofs.CellLemmas.{IsAmong, at_place, replaced, set_at}
+use Rattle.pass_cells.proofs.CellLemmas.{IsAmong, set_at}
 use Rattle.pass_cells.proofs.ReserveLemmas as reserving
 use Rattle.pass_cells.proofs.TakenLemmas as changing
 use Rattle.pass_cells.proofs.SmallLemmas.{after_small, before_small, none_small, small_at, stamp_small}

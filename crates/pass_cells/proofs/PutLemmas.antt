@@ -1,12 +1,11 @@
 -- Cells in hand that are packed and put back, one after the other.
-use Rattle.std.proofs.Common.{◌≡◌, ◌≢◌, inl, inr, ℕ, ◌+◌, ◌<◌, ◌≤◌, List, [], ◌∷◌, ◌++◌, length, map, refl, sym, ◌∙◌, ap, subst, cond, arith, Option, Some, None}
+use Rattle.std.proofs.Common.{◌≡◌, ◌≢◌, inl, inr, ℕ, ◌+◌, ◌<◌, List, [], ◌∷◌, ◌++◌, map, refl, sym, ◌∙◌, ap, subst, arith}
 use Rattle.std.specs.Prelude.{Bool, true, false, ◌==◌, ◌||◌}
-use Rattle.std.specs.List.{AllByRecursion}
 use Rattle.atomic_table.specs.Seated.{TableId}
 use Rattle.atomic_table.specs.declared.shared.Seat.{Seat}
 use Rattle.graph_model.proofs.TestLemmas.{either_of, eq_of, never, self_eq}
 use Rattle.txn_manager.specs.declared.config.Config.{Config}
-use Rattle.seat_views.specs.Keeping.{kept_at, without}
+use Rattle.seat_views.specs.Keeping.{kept_at}
 use Rattle.seat_views.proofs.NumberLemmas.{without_kept}
 use Rattle.latch_table.specs.declared.cells.Held.{Held}
 use Rattle.latch_table.specs.declared.sight.LatchSight.{LatchSight}
@@ -28,8 +27,8 @@ use Rattle.store_rule.specs.declared.store.Pass.{Pass}
 use Rattle.store_rule.specs.declared.store.Store.{Store}
 use Rattle.version_segment.specs.Resting.{RestingRows}
 use Rattle.pass_cells.specs.declared.taken.TakenCell.{TakenCell}
-use Rattle.pass_cells.specs.Holding.{AreFit, AreKnown, HasTaken, IsKnown, IsPutting, KeepsPass, numbers_of, slots_out}
-use Rattle.pass_cells.specs.Taken.{AreApart, is_taken}
+use Rattle.pass_cells.specs.Holding.{AreFit, AreKnown, HasTaken, IsKnown, IsPutting, numbers_of, slots_out}
+use Rattle.pass_cells.specs.Taken.{is_taken}
 
 -- slots that are out, by the numbers of what was taken
 pub out_of_packed : (helds : List (Held StoreSlot)) → taken_of slots.Out helds ≡ slots_out (map (λ h. h.cell) helds)

@@ -1,5 +1,5 @@
 -- Cells in hand whose rows are as they were.
-use Rattle.std.proofs.Common.{◌≡◌, ◌⊎◌, ℕ, zero, suc, ◌+◌, ◌-◌, ◌<◌, ◌≤◌, List, [], ◌∷◌, length, refl, sym, ◌∙◌, ap, subst, cond, arith, inl, inr, Option, Some, None}
+use Rattle.std.proofs.Common.{◌≡◌, ℕ, zero, suc, ◌+◌, ◌-◌, ◌<◌, ◌≤◌, List, [], ◌∷◌, length, refl, sym, ◌∙◌, ap, subst, cond, arith, inl, inr, Option, Some, None}
 use Rattle.std.specs.Prelude.{Bool, true, false, not, is_some, slice_get}
 use Rattle.std.specs.List.{AllByRecursion}
 use Rattle.std.specs.Ordering.{eq_by_cmp}
@@ -23,8 +23,8 @@ use Rattle.rule_model.specs.Sight.{HasCell, Sight, cells_of}
 use Rattle.txn_manager.specs.declared.config.Config.{Config}
 use Rattle.pass_cells.specs.declared.taken.TakenCell.{TakenCell}
 use Rattle.pass_cells.specs.Holding.{AreKnown, Holds, IsKnown, slots_out}
-use Rattle.pass_cells.specs.Taken.{AreFrom, IsPlace, KeepsCell, KeepCells, cell_at, has_cell, held_rows, is_taken, rows_come}
-use Rattle.pass_cells.proofs.CellLemmas.{IsAmong, at_place, covers_same, either_cell, has_same, kept_others, more_come, replaced}
+use Rattle.pass_cells.specs.Taken.{AreFrom, IsPlace, KeepsCell, KeepCells, cell_at, has_cell, held_rows, rows_come}
+use Rattle.pass_cells.proofs.CellLemmas.{IsAmong, at_place, covers_same, either_cell, has_same, kept_others, replaced}
 use Rattle.pass_cells.proofs.RowLemmas.{rises_sorted, row_by_versions}
 use Rattle.pass_cells.proofs.StepLemmas.{apart_kept, from_kept, length_kept, numbers_kept, same_sound, taken_kept, unique_cell}
 

@@ -1,5 +1,5 @@
 -- Which keys are short of places, and which rows the view has.
-use Rattle.std.proofs.Common.{◌≡◌, ◌⊎◌, ℕ, ◌+◌, ◌-◌, ◌≤◌, List, [], ◌∷◌, length, refl, sym, ◌∙◌, ap, subst, cond, arith, inl, inr, Option, Some, None}
+use Rattle.std.proofs.Common.{◌≡◌, ℕ, ◌+◌, ◌-◌, ◌≤◌, List, [], ◌∷◌, length, refl, sym, ◌∙◌, ap, subst, cond, arith, inl, inr, Option, Some, None}
 use Rattle.std.specs.Prelude.{Bool, true, false, not, ◌&&◌, ◌||◌, ◌==◌, count_by}
 use Rattle.std.specs.FinMap.Entries.{find}
 use Rattle.graph_model.specs.declared.row.Key.{Key}
@@ -15,13 +15,12 @@ use Rattle.row_writes.proofs.KeyLemmas.{key_self}
 use Rattle.store_relation.specs.Keys.{has_key}
 use Rattle.cells_model.specs.Cells.{CellState}
 use Rattle.cells_model.specs.Indexed.{covers}
-use Rattle.rule_model.specs.NoteSteps.{HasRow}
 use Rattle.rule_model.specs.Sight.{Sight}
 use Rattle.seat_views.specs.Keeping.{kept_at}
 use Rattle.seat_views.proofs.NumberLemmas.{some_is}
 use Rattle.txn_manager.specs.declared.config.Config.{Config}
 use Rattle.pass_cells.specs.declared.taken.TakenCell.{TakenCell}
-use Rattle.pass_cells.specs.Holding.{AreKnown, AreSameRows, Holds, IsKnown, RowsAreKnown}
+use Rattle.pass_cells.specs.Holding.{AreKnown, IsKnown, RowsAreKnown}
 use Rattle.pass_cells.specs.Room.{HasRoomFor, also_missing}
 use Rattle.pass_cells.specs.Taken.{AreRising, cell_at, has_cell, held_rows, is_taken}
 use Rattle.pass_cells.proofs.CellLemmas.{IsAmong, covers_none, covers_own, covers_same}

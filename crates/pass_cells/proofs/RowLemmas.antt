@@ -1,6 +1,6 @@
 -- Rows of one segment: which are there, how many, and what one change makes of them.
-use Rattle.std.proofs.Common.{◌≡◌, ℕ, ◌+◌, ◌<◌, ◌≤◌, List, [], ◌∷◌, ◌++◌, drop, length, refl, sym, ◌∙◌, ap, subst, cond, arith, Some, None}
-use Rattle.std.specs.Prelude.{Bool, true, false, ◌&&◌, not, is_some, T, Option}
+use Rattle.std.proofs.Common.{◌≡◌, ℕ, ◌+◌, ◌<◌, ◌≤◌, List, [], ◌∷◌, ◌++◌, drop, length, refl, sym, ◌∙◌, ap, cond, arith, Some, None}
+use Rattle.std.specs.Prelude.{Bool, true, false, ◌&&◌, not, is_some, T}
 use Rattle.std.specs.List.{AllByRecursion, filter}
 use Rattle.std.specs.Ordering.{eq_by_cmp}
 use Rattle.std.specs.FinMap.Entries.{find, put, where_key, is_sorted, below_all, length-put}
@@ -10,7 +10,6 @@ use Rattle.graph_model.specs.Conflict.{same_name}
 use Rattle.graph_model.specs.Effects.{same_key}
 use Rattle.graph_model.specs.Rows.{key_cmp, is_below}
 use Rattle.graph_model.proofs.OrderLemmas.{key_tie, keys_total}
-use Rattle.graph_model.proofs.TestLemmas.{never}
 use Rattle.store_model.specs.Stamped.{Stamped, StampedVersions}
 use Rattle.version_segment.specs.declared.change.RowChange.{RowChange}
 use Rattle.version_segment.specs.declared.change.RowChange.TheVariants.{Write, Undo, Touch, Untouch}

@@ -1,5 +1,5 @@
 -- Values that may be stored, in the rows of a segment and in what a change makes of them.
-use Rattle.std.proofs.Common.{◌≡◌, ℕ, zero, suc, ◌≤◌, List, [], ◌∷◌, drop, map, refl, sym, ◌∙◌, ap, subst, cond, arith, Option, Some, None}
+use Rattle.std.proofs.Common.{◌≡◌, ℕ, zero, suc, List, [], ◌∷◌, drop, map, refl, sym, ◌∙◌, ap, subst, cond, arith, Some}
 use Rattle.std.specs.Prelude.{Bool, true, false, slice_get}
 use Rattle.std.specs.List.{AllByRecursion}
 use Rattle.std.specs.Ordering.{eq_by_cmp}

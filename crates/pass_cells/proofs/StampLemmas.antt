@@ -1,7 +1,7 @@
 -- Rows of a commit that are stamped, one after the other.
-use Rattle.std.proofs.Common.{◌≡◌, ◌⊎◌, ℕ, ◌+◌, ◌<◌, ◌≤◌, List, [], ◌∷◌, length, map, take, refl, sym, ◌∙◌, ap, subst, cond, arith, inl, inr, Option, Some, None, get_or}
+use Rattle.std.proofs.Common.{◌≡◌, ℕ, ◌+◌, ◌<◌, ◌≤◌, List, [], ◌∷◌, length, map, take, refl, sym, ◌∙◌, ap, subst, cond, arith, inl, inr, Some, get_or}
 use Rattle.std.specs.Prelude.{Bool, true, false, ◌||◌, ◌&&◌, not, is_some, slice_get, slice_set}
-use Rattle.std.specs.List.{AllByRecursion, list_any}
+use Rattle.std.specs.List.{AllByRecursion}
 use Rattle.std.proofs.lemmas.List.Folds.{list_any_more}
 use Rattle.std.proofs.lemmas.Option.{slice_get-get_or}
 use Rattle.graph_model.specs.declared.row.Key.{Key}
@@ -15,7 +15,6 @@ use Rattle.version_segment.specs.Rows.{VersionedRows, ChangesKey, IsSegment, has
 use Rattle.version_segment.proofs.LawLemmas.{key_changed}
 use Rattle.row_writes.proofs.KeyLemmas.{key_eq}
 use Rattle.store_relation.specs.Keys.{has_key}
-use Rattle.cells_model.specs.Indexed.{covers}
 use Rattle.pass_cells.specs.declared.taken.TakenCell.{TakenCell}
 use Rattle.pass_cells.specs.Changes.{StampsRows}
 use Rattle.pass_cells.specs.Taken.{IsPlace, KeepCells, cell_at, has_cell, held_rows, rows_come}

@@ -1,29 +1,27 @@
 -- What a pass knows of the cells in hand before and after a step that changes their rows.
-use Rattle.std.proofs.Common.{◌≡◌, ◌≢◌, ◌⊎◌, ℕ, suc, ◌+◌, ◌-◌, ◌<◌, ◌≤◌, List, [], ◌∷◌, ◌++◌, length, map, refl, sym, ◌∙◌, ap, subst, cond, arith, inl, inr, Option, Some, None}
+use Rattle.std.proofs.Common.{◌≡◌, ℕ, suc, ◌<◌, ◌≤◌, List, [], ◌∷◌, length, refl, sym, ◌∙◌, ap, subst, cond, arith, inl, inr, Some, None}
 use Rattle.std.specs.Prelude.{Bool, true, false, not, ◌==◌, ◌||◌, ◌&&◌, unwrap_or}
-use Rattle.std.specs.List.{AllByRecursion}
 use Rattle.graph_model.specs.declared.row.Key.{Key}
-use Rattle.graph_model.specs.Rows.{first_key, is_below, is_between}
-use Rattle.graph_model.proofs.KeyLemmas.{below_self, between_of, between_parts, upto_chain, not_below_chain, below_flip}
+use Rattle.graph_model.specs.Rows.{is_below}
+use Rattle.graph_model.proofs.KeyLemmas.{below_self, between_of, between_parts, upto_chain, below_flip}
 use Rattle.graph_model.proofs.TestLemmas.{eq_of, never, self_eq}
 use Rattle.txn_manager.specs.declared.config.Config.{Config}
 use Rattle.seat_views.specs.Keeping.{kept_at, revised}
-use Rattle.seat_views.proofs.NumberLemmas.{kept-append, none_or_some, revised-none, some_is}
+use Rattle.seat_views.proofs.NumberLemmas.{none_or_some, revised-none, some_is}
 use Rattle.store_model.specs.Stamped.{StampedVersions}
-use Rattle.version_segment.specs.Rows.{VersionedRows, IsSameSegment, IsSegment, versions_at}
+use Rattle.version_segment.specs.Rows.{VersionedRows, IsSameSegment, IsSegment}
 use Rattle.cells_model.specs.Cells.{CellState}
 use Rattle.cells_model.specs.Indexed.{covers}
 use Rattle.cells_model.specs.InPlace.{growth}
-use Rattle.cells_model.specs.Words.{HasSmallWeights, Spells, word_row}
-use Rattle.store_words.specs.Spelling.{IsUntouched}
+use Rattle.cells_model.specs.Words.{Spells}
 use Rattle.rule_model.specs.EndSteps.{new_state}
 use Rattle.rule_model.specs.RowSteps.{AreChanges, IsChange}
 use Rattle.rule_model.specs.Sight.{Agrees, HasCell, Sight, cells_of}
 use Rattle.pass_cells.specs.declared.taken.TakenCell.{TakenCell}
 use Rattle.pass_cells.specs.Changes.{news_of, state_of}
 use Rattle.pass_cells.specs.Holding.{AreKnown, IsKnown, numbers_of}
-use Rattle.pass_cells.specs.Taken.{AreApart, AreFrom, KeepsCell, KeepCells, cell_at, counted, has_cell, is_taken, rows_come}
-use Rattle.pass_cells.proofs.CellLemmas.{IsAmong, covers_none, covers_same}
+use Rattle.pass_cells.specs.Taken.{AreApart, AreFrom, KeepsCell, KeepCells, cell_at, has_cell, is_taken, rows_come}
+use Rattle.pass_cells.proofs.CellLemmas.{IsAmong, covers_same}
 
 -- ---- segments that are the same but for room
 

@@ -1,11 +1,10 @@
 -- One cell more in hand, and the index that was asked.
-use Rattle.std.proofs.Common.{◌≡◌, ◌≢◌, inl, inr, ℕ, suc, ◌+◌, ◌<◌, ◌≤◌, List, [], ◌∷◌, ◌++◌, length, map, refl, sym, ◌∙◌, ap, subst, cond, arith, Option, Some, None}
+use Rattle.std.proofs.Common.{◌≡◌, ℕ, ◌+◌, ◌<◌, List, [], ◌∷◌, ◌++◌, length, refl, sym, ◌∙◌, ap, subst, cond, arith, Some, None}
 use Rattle.std.specs.Prelude.{Bool, true, false, ◌==◌, ◌||◌}
-use Rattle.std.specs.List.{AllByRecursion, list_any}
 use Rattle.atomic_table.specs.declared.shared.Seat.{Seat}
 use Rattle.graph_model.specs.declared.row.Key.{Key}
-use Rattle.graph_model.specs.Rows.{first_key, is_below}
-use Rattle.graph_model.proofs.TestLemmas.{eq_of, eq_symm}
+use Rattle.graph_model.specs.Rows.{is_below}
+use Rattle.graph_model.proofs.TestLemmas.{eq_symm}
 use Rattle.txn_manager.specs.declared.config.Config.{Config}
 use Rattle.seat_views.specs.Keeping.{kept_at}
 use Rattle.seat_views.proofs.NumberLemmas.{same_number}
@@ -13,7 +12,6 @@ use Rattle.latch_table.specs.declared.cells.Held.{Held}
 use Rattle.latch_table.specs.declared.sight.LatchSight.{LatchSight}
 use Rattle.store_rule.specs.Packing.{LendsBuffer}
 use Rattle.store_rule.specs.Passes.{OnlyAccount}
-use Rattle.latch_table.specs.Latched.{number_of}
 use Rattle.version_segment.specs.Rows.{VersionedRows, IsSameSegment, IsSegment}
 use Rattle.cells_model.specs.Cells.{CellState, unpacked}
 use Rattle.cells_model.specs.Words.{HasSmallWeights}

@@ -1,6 +1,6 @@
 -- One change in the cells in hand, as the rows that a writer holds.
-use Rattle.std.proofs.Common.{◌≡◌, ◌⊎◌, ℕ, ◌+◌, ◌-◌, ◌<◌, ◌≤◌, List, length, refl, sym, ◌∙◌, ap, subst, cond, arith, inl, inr, Some}
-use Rattle.std.specs.Prelude.{Bool, true, false, slice_get}
+use Rattle.std.proofs.Common.{◌≡◌, ℕ, ◌+◌, ◌-◌, ◌<◌, ◌≤◌, List, length, refl, sym, ◌∙◌, ap, subst, cond, arith, inl, inr, Some}
+use Rattle.std.specs.Prelude.{true, false, slice_get}
 use Rattle.graph_model.specs.declared.limits.TheConstants.{SEGMENT_ROWS}
 use Rattle.graph_model.specs.declared.row.Key.{Key}
 use Rattle.graph_model.specs.declared.journal.TxnName.{TxnName}
@@ -11,11 +11,11 @@ use Rattle.version_segment.specs.declared.change.RowChange.{RowChange}
 use Rattle.version_segment.specs.declared.change.RowChange.TheVariants.{Write, Undo, Touch, Untouch}
 use Rattle.version_segment.specs.Changes.{MayChange, changed, records_for}
 use Rattle.version_segment.specs.Rows.{VersionedRows, ChangesKey, IsSegment, has_row, versions_at}
-use Rattle.row_writes.specs.Held.{AllowsChange, Changes, HaveCells, Reserves, rows_for}
+use Rattle.row_writes.specs.Held.{AllowsChange, Changes, HaveCells, rows_for}
 use Rattle.row_writes.proofs.KeyLemmas.{key_self}
 use Rattle.cells_model.specs.Indexed.{covers}
 use Rattle.pass_cells.specs.declared.taken.TakenCell.{TakenCell}
-use Rattle.pass_cells.specs.Taken.{IsPlace, KeepsCell, KeepCells, cell_at, has_cell, held_rows, rows_come}
+use Rattle.pass_cells.specs.Taken.{IsPlace, KeepCells, cell_at, has_cell, held_rows, rows_come}
 use Rattle.pass_cells.proofs.CellLemmas.{at_place, covers_own, covers_same, either_cell, has_same, kept_others, more_come, replaced}
 use Rattle.pass_cells.proofs.RowLemmas.{each, no_more_rows, row_beside, row_stands}
 

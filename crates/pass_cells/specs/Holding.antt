@@ -10,7 +10,6 @@ use Rattle.latch_table.specs.Latched.{IsPassOf, number_of}
 use Rattle.version_segment.specs.Rows.{IsSameSegment, IsSegment, VersionedRows, versions_at}
 use Rattle.row_writes.specs.Held.{HeldRows}
 use Rattle.cells_model.specs.Cells.{CellState, unpacked}
-use Rattle.cells_model.specs.Indexed.{covers}
 use Rattle.cells_model.specs.Words.{HasSmallWeights, block_words}
 use Rattle.rule_model.specs.NoteSteps.{HasRow}
 use Rattle.rule_model.specs.Sight.{HasCell, Sight, cells_of, with_cell}

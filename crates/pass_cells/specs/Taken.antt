@@ -1,5 +1,5 @@
 -- Cells that a pass has taken, as rows that a writer holds.
-use Rattle.std.specs.Prelude.{◌≡◌, ℕ, zero, suc, ◌+◌, ◌-◌, ◌<◌, ◌≤◌, ◌==◌, Bool, true, false, cond, List, [], ◌∷◌, length, map, take, vec_capacity, Option, Some, None}
+use Rattle.std.specs.Prelude.{◌≡◌, ℕ, zero, suc, ◌+◌, ◌-◌, ◌<◌, ◌==◌, Bool, true, false, cond, List, [], ◌∷◌, length, map, take, vec_capacity, Option, Some, None}
 use Rattle.std.proofs.Common.{refl, ◌∙◌}
 use Rattle.std.specs.List.{AllByRecursion, list_any}
 use Rattle.graph_model.specs.declared.limits.TheConstants.{SEGMENT_ROWS}

@@ -1,4 +1,4 @@
-use Rattle.std.proofs.Common.{◌≡◌, ◌∙◌, List, ◌∷◌, ◌<◌, [], ◌++◌, ap, arith, length, length-append, subst, sym}
+use Rattle.std.proofs.Common.{◌∙◌, List, ◌∷◌, ◌<◌, [], ap, arith, length, length-append, subst, sym}
 use Rattle.std.specs.Vec.{vec_len}
 use Rattle.version_segment.specs.Rows.{VersionedRows}
 use Rattle.rule_model.specs.Sight.{HasCell}

@@ -1,4 +1,4 @@
-use Rattle.std.proofs.Common.{◌≡◌, ◌≤◌, ◌+◌, length}
+use Rattle.std.proofs.Common.{◌≤◌, ◌+◌, length}
 use Rattle.std.specs.Vec.{vec_capacity}
 use Rattle.pass_cells.specs.Holding.{IsPutting}
 use Rattle.pass_cells.proofs.put_back.pack_all.Given as goal

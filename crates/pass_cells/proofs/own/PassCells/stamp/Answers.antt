@@ -1,4 +1,4 @@
-use Rattle.std.proofs.Common.{◌≡◌, ◌∙◌, List, ℕ, ap, arith, refl, sym, subst}
+use Rattle.std.proofs.Common.{◌∙◌, List, ℕ, ap, arith, sym, subst}
 use Rattle.version_segment.specs.Rows.{VersionedRows, versions_at}
 use Rattle.cells_model.specs.Cells.{CellState}
 use Rattle.rule_model.specs.Places.{lines}

@@ -1,4 +1,4 @@
-use Rattle.std.proofs.Common.{◌≡◌, ◌≤◌, length}
+use Rattle.std.proofs.Common.{◌≤◌, length}
 use Rattle.pass_cells.specs.Holding.{Holds, KeepsPass}
 use Rattle.pass_cells.proofs.own.PassCells.take_guessed.Given as goal
 

@@ -1,8 +1,8 @@
-use Rattle.std.proofs.Common.{◌≡◌, ◌∙◌, List, ℕ, ap, arith, refl, sym, subst}
+use Rattle.std.proofs.Common.{◌∙◌, List, ℕ, ap, arith, sym, subst}
 use Rattle.graph_model.specs.declared.journal.TxnName.{TxnName}
 use Rattle.version_segment.specs.Rows.{VersionedRows, versions_at}
 use Rattle.row_writes.specs.Held.{AreHeld}
-use Rattle.row_writes.specs.Laying.{Lays, rows_missing}
+use Rattle.row_writes.specs.Laying.{Lays}
 use Rattle.row_writes.specs.Written.{all_keys}
 use Rattle.row_writes.specs.declared.written.WrittenRows.{WrittenRows}
 use Rattle.store_relation.specs.Steps.{written_by}

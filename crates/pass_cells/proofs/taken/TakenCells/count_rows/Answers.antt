@@ -1,9 +1,9 @@
-use Rattle.std.proofs.Common.{◌≡◌, ◌∙◌, ◌<◌, ap, arith, length, refl, sym, subst}
+use Rattle.std.proofs.Common.{◌∙◌, ◌<◌, ap, arith, length, refl, sym}
 use Rattle.std.specs.Prelude.{slice_get, slice_set}
 use Rattle.std.proofs.lemmas.Option.{slice_get_read}
 use Rattle.seat_views.proofs.NumberLemmas.{some_is}
 use Rattle.pass_cells.specs.declared.taken.TakenCell.{TakenCell}
-use Rattle.pass_cells.proofs.DoneLemmas.{count_more, length_mixed, mixed}
+use Rattle.pass_cells.proofs.DoneLemmas.{count_more, length_mixed}
 use Rattle.pass_cells.proofs.taken.TakenCells.count_rows.Goals as goal
 
 pub cells-preserved : goal.cells-preserved

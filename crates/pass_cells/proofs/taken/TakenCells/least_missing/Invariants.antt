@@ -1,4 +1,3 @@
-use Rattle.std.proofs.Common.{◌≡◌, take}
 use Rattle.pass_cells.specs.Taken.{IsMissingOf}
 use Rattle.pass_cells.proofs.taken.TakenCells.least_missing.Given as goal
 

@@ -1,4 +1,4 @@
-use Rattle.std.proofs.Common.{◌≡◌, ◌∙◌, length, refl, sym, subst}
+use Rattle.std.proofs.Common.{◌∙◌, length, refl, sym, subst}
 use Rattle.std.proofs.lemmas.Option.{slice_get_read}
 use Rattle.pass_cells.specs.Taken.{IsPlace}
 use Rattle.pass_cells.proofs.DoneLemmas.{found_there, seeks_on, sought_within}

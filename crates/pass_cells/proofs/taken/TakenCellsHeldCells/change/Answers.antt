@@ -1,4 +1,4 @@
-use Rattle.std.proofs.Common.{◌∙◌, ap, length, refl, subst, sym}
+use Rattle.std.proofs.Common.{length, refl, subst, sym}
 use Rattle.std.proofs.lemmas.Option.{slice_get_read}
 use Rattle.version_segment.specs.Changes.{MayChange}
 use Rattle.version_segment.specs.Rows.{VersionedRows}
