@@ -1,0 +1,6 @@
+pub mod HandLemmas
+pub mod LookedLemmas
+pub mod CheckLemmas
+pub mod RoomLemmas
+pub mod StateLemmas
+pub mod MakeLemmas

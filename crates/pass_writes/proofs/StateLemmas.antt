@@ -1,0 +1,313 @@
+-- What the steps of a read, a write, an undo and a stamping leave of the state of their pass.
+use Rattle.std.proofs.Common.{◌≡◌, ◌≢◌, ◌⊎◌, inl, inr, ℕ, zero, suc, ◌+◌, ◌-◌, ◌<◌, ◌≤◌, List, [], ◌∷◌, ◌++◌, take, drop, length, length-append, refl, sym, ◌∙◌, ap, subst, cond, arith}
+use Rattle.std.specs.Prelude.{Bool, true, false, ◌&&◌, ◌||◌, not, Option, Some, None, Result, Ok, Err, slice_get}
+use Rattle.std.specs.List.{filter, list_any}
+use Rattle.std.proofs.lemmas.Bool.{or_left, or_right, true≢false}
+use Rattle.graph_model.specs.declared.journal.Begun.{Begun}
+use Rattle.graph_model.specs.declared.refusal.Cause.{Cause}
+use Rattle.graph_model.specs.declared.refusal.Cause.TheVariants.{Later, Holder}
+use Rattle.graph_model.specs.declared.refusal.Refusal.{Refusal}
+use Rattle.graph_model.specs.declared.refusal.Refusal.TheVariants as refusals
+use Rattle.graph_model.specs.declared.row.Key.{Key}
+use Rattle.graph_model.specs.declared.write.Kind.{Kind}
+use Rattle.graph_model.specs.declared.write.Write.{Write}
+use Rattle.graph_model.specs.declared.write.Write.TheVariants.{AddVertex, DropVertex, AddEdge, SetEdge, DropEdge}
+use Rattle.graph_model.specs.Effects.{keys_of, same_key}
+use Rattle.graph_model.specs.Legal.{IsLegal}
+use Rattle.graph_model.proofs.TestLemmas.{either_of, self_eq}
+use Rattle.store_model.proofs.LookedLemmas.{same_key_eq}
+use Rattle.txn_manager.specs.declared.config.Config.{Config}
+use Rattle.row_writes.specs.Written.{rows_of, touched_keys, written_keys}
+use Rattle.row_writes.proofs.WrittenLemmas.{keys_are}
+use Rattle.store_relation.specs.Keys.{changed_keys, ends_of, has_key}
+use Rattle.store_relation.specs.Passes.{PassState, name_at}
+use Rattle.store_relation.specs.Readers.{reader_of}
+use Rattle.store_relation.specs.Steps.{meeting, sighting, with_holder, with_meeting, with_sighting, with_unstamped}
+use Rattle.store_relation.specs.Words.{Look}
+use Rattle.cells_model.specs.Cells.{CellState}
+use Rattle.rule_model.specs.NoteSteps.{LearnsRows}
+use Rattle.rule_model.specs.Sight.{Sight, with_pass, with_rows}
+use Rattle.store_rule.specs.Passes.{OnlyAccount}
+use Rattle.store_rule.specs.declared.store.Pass.{Pass}
+use Rattle.store_rule.specs.declared.store.Store.{Store}
+use Rattle.pass_cells.specs.Changes.{but_newest, keys_beside}
+use Rattle.pass_cells.specs.declared.taken.TakenCell.{TakenCell}
+use Rattle.pass_cells.specs.Holding.{Holds}
+use Rattle.pass_steps.specs.Asking.{HasLooked, IsSnapshotOf, KnowsLooks}
+use Rattle.pass_steps.specs.Passes.{IsSamePass, pin_of, reader_of_pass, state_in, state_of}
+use Rattle.pass_steps.proofs.PassLemmas.{pass_after, pass_has_looked, pass_is_stepped, pin_is, sight_is, state_is}
+use Rattle.pass_steps.proofs.SightLemmas.{own_rows, state_here}
+use Rattle.pass_writes.specs.Ending.{AreLeft, AreStampedTo, keys_changed}
+use Rattle.pass_writes.specs.Found.{Finds}
+use Rattle.pass_writes.specs.Hand.{HasInHand}
+use Rattle.pass_writes.specs.Making.{IsOpenIn, Makes, NotesOnly, after_note, after_refusal, noted}
+use Rattle.pass_writes.proofs.HandLemmas.{stays_in_hand}
+
+-- ---- one step with cells in hand
+
+-- a pass that has stepped: it has these cells in hand, and this state
+pub record IsStepped (store : Store) (old new : Pass) (ts : List TakenCell) (st : PassState) : Type 0 where
+  pub hand : HasInHand store new ts
+  pub state : state_of new ≡ st
+  pub pin : pin_of new ≡ pin_of old
+  pub same : IsSamePass old new
+
+-- LEARNT: nothing was learnt beside what was told
+pub learnt_steps : (store : Store) (old new : Pass) (ts : List TakenCell) → HasInHand store old ts
+    → OnlyAccount old new old.account.me.0 → IsStepped store old new ts (state_of old)
+learnt_steps store old new ts hand step =
+    let sight = sight_is store old new old.account.me.0 step in
+    record {
+      hand = stays_in_hand store old new ts hand
+          (pass_after store old new old.account.me.0 step hand.of hand.of.sight hand.of.legal) step.latch step.buffers
+          (λ i. (sight i).cells) (λ i. (sight i).indexes) (λ i. (sight i).journals);
+      state = state_is store old new old.account.me.0 step;
+      pin = pin_is store old new old.account.me.0 step;
+      same = record { number = step.number; reads = λ i. (sight i).reads };
+    }
+
+-- LOOKED: words were found
+pub looked_steps : (store : Store) (old new : Pass) (ts : List TakenCell) → HasInHand store old ts
+    → KnowsLooks old.account.me.0 old new
+    → IsStepped store old new ts (record (state_of old) { looks = (state_of new).looks })
+looked_steps store old new ts hand looks =
+    let stepped = pass_has_looked store old new hand.of looks in
+    record {
+      hand = stays_in_hand store old new ts hand stepped.of looks.latch looks.buffers looks.looked.cells looks.looked.indexes
+          looks.looked.journals;
+      state = stepped.state;
+      pin = stepped.pin;
+      same = record { number = looks.number; reads = looks.looked.reads };
+    }
+
+-- KNOWN: rows have changed, and the view knows it
+pub known_steps : (store : Store) (old new : Pass) (ts us : List TakenCell) → HasInHand store old ts
+    → Holds store new us → (st : PassState) (cells : List (ℕ × CellState)) → st.seen ≡ (state_of old).seen
+    → OnlyAccount old new (with_rows old.account.me.0 old.number st cells) → IsStepped store old new us st
+known_steps store old new ts us hand holds st cells seen step =
+    let stepped = pass_is_stepped store old new st cells hand.of
+    (subst (IsLegal store.accounts.config.kind) (sym seen) hand.of.legal) step in
+    let sight = sight_is store old new (with_rows old.account.me.0 old.number st cells) step in
+    record {
+      hand = record {
+        of = stepped.of;
+        holds = holds;
+        journals = (λ i. (sight i).journals) ∙ hand.journals;
+      };
+      state = stepped.state;
+      pin = stepped.pin;
+      same = record { number = step.number; reads = λ i. (sight i).reads };
+    }
+
+pub same_again : (a b c : Pass) → IsSamePass a b → IsSamePass b c → IsSamePass a c
+same_again a b c ab bc = record { number = bc.number ∙ ab.number; reads = bc.reads ∙ ab.reads }
+
+-- ---- what is told of a state
+
+-- what was learnt of rows holds of a pass with the same view
+pub learnt_still : (z : Config) (old new : Pass) (clock : ℕ) → OnlyAccount old new old.account.me.0
+    → LearnsRows z old.account.me.0 (reader_of_pass old) clock
+    → LearnsRows z new.account.me.0 (reader_of_pass new) clock
+learnt_still z old new clock step learnt =
+    subst (λ (x : ℕ × Sight). LearnsRows z x.1 (reader_of (λ _. state_in x.1 x.0) x.0) clock)
+    (λ i. (sym step.number i, (sym step.account.me i).0)) learnt
+
+-- the snapshot of a transaction, by what its begin has answered
+pub snapshot_of : (pass new : Pass) (begun : Begun) → IsOpenIn begun pass → IsSamePass pass new
+    → state_of new ≡ state_of pass → IsSnapshotOf new (record { start = begun.start; own = begun.by })
+snapshot_of pass new begun opened same state = record {
+  start = opened.start ∙ (λ i. (sym state i).start);
+  own = opened.by ∙ (λ i. name_at (sym same.number i) (sym state i));
+  within = subst (λ (st : PassState). st.start ≤ length st.seen) (sym state) opened.opened.started;
+}
+
+-- only notes have changed
+pub notes_only : (old new : PassState) (ls : List Look) → new ≡ record old { looks = ls } → NotesOnly old new
+notes_only old new ls e =
+    e ∙ (λ i. record old { met = (sym e i).met; holders = (sym e i).holders; looks = (sym e i).looks })
+
+-- ---- whom a write meets
+
+-- NOTE: of who stands against a write
+pub note_steps : (store : Store) (old new : Pass) (ts : List TakenCell) (w : Write) (cause : Cause)
+    → HasInHand store old ts → OnlyAccount old new (noted old.number w cause old.account.me.0)
+    → IsStepped store old new ts (after_note w cause (state_of old))
+note_steps store old new ts w (Later stamp) hand step =
+    let v = old.account.me.0 in
+    let st : PassState = with_meeting (state_of old) (meeting w (stamp - 1)) in
+    let stepped = pass_is_stepped store old new st [] hand.of hand.of.legal step in
+    let sight = sight_is store old new (with_pass v old.number st) step in
+    record {
+      hand = stays_in_hand store old new ts hand stepped.of step.latch step.buffers (λ i. (sight i).cells) (λ i. (sight i).indexes)
+          (λ i. (sight i).journals);
+      state = stepped.state;
+      pin = stepped.pin;
+      same = record { number = step.number; reads = λ i. (sight i).reads };
+    }
+note_steps store old new ts w (Holder by) hand step =
+    let v = old.account.me.0 in
+    let p = old.number in
+    let x = sighting by w (state_of old).start in
+    let found : PassState = with_holder (state_of old) x in
+    let named : PassState = with_sighting found x in
+    let mid = with_pass v p found in
+    let here : state_in (with_pass mid p named) p ≡ named = state_here mid p named [] in
+    let sight = sight_is store old new (with_pass mid p named) step in
+    let of = pass_after store old new (with_pass mid p named) step hand.of
+    (own_rows (own_rows hand.of.sight found []) named [])
+    (subst (λ (u : PassState). IsLegal store.accounts.config.kind u.seen) (sym here) hand.of.legal) in
+    record {
+      hand = stays_in_hand store old new ts hand of step.latch step.buffers (λ i. (sight i).cells) (λ i. (sight i).indexes)
+          (λ i. (sight i).journals);
+      state = state_is store old new (with_pass mid p named) step ∙ here;
+      pin = pin_is store old new (with_pass mid p named) step;
+      same = record { number = step.number; reads = λ i. (sight i).reads };
+    }
+
+-- NOTED
+pub note_makes : (z : Config) (v : Sight) (p : ℕ) (old new : PassState) (w : Write) (ls : List Look) (cause : Cause)
+    → Finds z v p (record old { looks = ls }) w (Err (refusals.Conflict cause))
+    → new ≡ after_note w cause (record old { looks = ls }) → Makes z p old w (Err (refusals.Conflict cause)) new
+note_makes z v p old new w ls (Later stamp) found e = (
+  found.allowed,
+  found.behind,
+  e ∙ (λ i. record old { met = meeting w (stamp - 1) ∷ old.met; looks = (sym e i).looks }),
+)
+note_makes z v p old new w ls (Holder by) found e = (
+  found.allowed,
+  found.other,
+  e ∙ (λ i. record (with_sighting old (sighting by w old.start)) {
+    met = (sym e i).met;
+    holders = (sym e i).holders;
+    looks = (sym e i).looks;
+  }),
+)
+
+-- REFUSED
+pub refused_makes : (z : Config) (v : Sight) (p : ℕ) (old new : PassState) (w : Write) (ls : List Look)
+    (refusal : Refusal) → Finds z v p (record old { looks = ls }) w (Err refusal)
+    → new ≡ after_refusal w refusal (record old { looks = ls }) → Makes z p old w (Err refusal) new
+refused_makes z v p old new w ls refusals.SelfLoop found e = (found, notes_only old new ls e)
+refused_makes z v p old new w ls (refusals.NoVertex q) found e = (found, notes_only old new ls e)
+refused_makes z v p old new w ls refusals.VertexExists found e = (found, notes_only old new ls e)
+refused_makes z v p old new w ls refusals.EdgeExists found e = (found, notes_only old new ls e)
+refused_makes z v p old new w ls refusals.NoEdge found e = (found, notes_only old new ls e)
+refused_makes z v p old new w ls refusals.HasEdges found e = (found, notes_only old new ls e)
+refused_makes z v p old new w ls (refusals.Conflict cause) found e = note_makes z v p old new w ls cause found e
+refused_makes z v p old new w ls (refusals.Full leaves) found e = absurd found
+refused_makes z v p old new w ls refusals.NoMemory found e = absurd found
+
+-- ---- an undo
+
+some_same : {X : Type 0} (a b : X) → ◌≡◌ {A = Option X} (Some a) (Some b) → b ≡ a
+some_same a b e = cc
+
+pub cut_last : {X : Type 0} (xs : List X) (i : ℕ) (x : X) → slice_get xs i ≡ Some x
+    → take (suc i) xs ≡ take i xs ++ x ∷ []
+cut_last [] i x at = cc
+cut_last (y ∷ xs) zero x at = ap (λ b. b ∷ []) (sym (some_same y x at))
+cut_last (y ∷ xs) (suc i) x at = ap (λ l. y ∷ l) (cut_last xs i x at)
+
+front_of : {X : Type 0} (xs : List X) (x : X) → take (length xs) (xs ++ x ∷ []) ≡ xs
+front_of [] x = refl
+front_of (y ∷ xs) x = ap (λ l. y ∷ l) (front_of xs x)
+
+pub but_last : {X : Type 0} (xs : List X) (x : X) → take (length (xs ++ x ∷ []) - 1) (xs ++ x ∷ []) ≡ xs
+but_last xs x =
+    let long : length (xs ++ x ∷ []) ≡ length xs + 1 = length-append xs (x ∷ []) in
+    let less : length (xs ++ x ∷ []) - 1 ≡ length xs = omega (arith, long) in
+    ap (λ n. take n (xs ++ x ∷ [])) less ∙ front_of xs x
+
+-- ---- the rows of a commit
+
+key_self : (k : Key) → same_key k k ≡ true
+key_self k = λ i. self_eq k.src i && self_eq k.second i
+
+-- no key is left where none of nothing is
+pub none_left : (kind : Kind) (keys : List Key) → AreLeft kind [] keys → keys ≡ []
+none_left kind [] left = refl
+none_left kind (k ∷ keys) left =
+    absurd (true≢false (sym (left k (or_left _ _ (key_self k)))))
+
+has_append : (xs ys : List Key) (q : Key) → has_key (xs ++ ys) q ≡ (has_key xs q || has_key ys q)
+has_append [] ys q = refl
+has_append (x ∷ xs) ys q = by_test (same_key q x) (has_append xs ys q)
+  where
+    by_test : (t : Bool) → has_key (xs ++ ys) q ≡ (has_key xs q || has_key ys q)
+        → (t || has_key (xs ++ ys) q) ≡ ((t || has_key xs q) || has_key ys q)
+    by_test true rest = refl
+    by_test false rest = rest
+
+-- the keys that a write changes are those of its rows
+changes_are : (kind : Kind) (w : Write) → keys_changed kind w ≡ keys_of kind w ++ ends_of w
+changes_are kind w = λ i. keys_are kind w i ++ touched w i
+  where
+    touched : (w : Write) → touched_keys (rows_of kind w) ≡ ends_of w
+    touched (AddVertex v) = refl
+    touched (DropVertex v) = refl
+    touched (AddEdge u v weight) = refl
+    touched (SetEdge u v weight) = refl
+    touched (DropEdge u v) = refl
+
+-- keys beside others are none of those, and were among all
+beside : (others keys : List Key) (q : Key) → has_key (keys_beside others keys) q ≡ true
+    → (has_key keys q ≡ true) × (has_key others q ≡ false)
+beside others [] q h = cc
+beside others (k ∷ keys) q h = by_other (has_key others k) refl h (beside others keys q)
+  where
+    by_other : (t : Bool) → has_key others k ≡ t
+        → has_key (cond (not t) (k ∷ keys_beside others keys) (keys_beside others keys)) q ≡ true
+        → (has_key (keys_beside others keys) q ≡ true → (has_key keys q ≡ true) × (has_key others q ≡ false))
+        → (has_key (k ∷ keys) q ≡ true) × (has_key others q ≡ false)
+    by_other true e g rest = let r = rest g in (or_right (same_key q k) _ r.0, r.1)
+    by_other false e g rest =
+        elim (either_of (same_key q k) _ g)
+        as (λ _. (has_key (k ∷ keys) q ≡ true) × (has_key others q ≡ false)) [
+          | inl f ↦ (or_left _ _ f, ap (has_key others) (same_key_eq q k f) ∙ e)
+          | inr f ↦ let r = rest f in (or_right (same_key q k) _ r.0, r.1)
+        ]
+
+-- LEFT: once those of one write are stamped the others are left
+pub fewer_left : (kind : Kind) (w : Write) (ws : List Write) (keys : List Key) → AreLeft kind (w ∷ ws) keys
+    → AreLeft kind ws (keys_beside (keys_changed kind w) keys)
+fewer_left kind w ws keys left q h =
+    let r = beside (keys_changed kind w) keys q h in
+    let all = sym (has_append (keys_of kind w ++ ends_of w) (changed_keys kind ws) q) ∙ left q r.0 in
+    let off : has_key (keys_of kind w ++ ends_of w) q ≡ false = ap (λ l. has_key l q) (sym (changes_are kind w)) ∙ r.1 in
+    (λ i. sym off i || has_key (changed_keys kind ws) q) ∙ all
+
+-- behind the end nothing is left of a list
+pub drop_end : {X : Type 0} (xs : List X) (n : ℕ) → length xs ≤ n → drop n xs ≡ []
+drop_end [] zero h = refl
+drop_end [] (suc n) h = refl
+drop_end (x ∷ xs) zero h = absurd (omega (arith, h))
+drop_end (x ∷ xs) (suc n) h = drop_end xs n (omega (arith, h))
+
+pub drop_at : {X : Type 0} (xs : List X) (n : ℕ) (x : X) → slice_get xs n ≡ Some x → drop n xs ≡ x ∷ drop (suc n) xs
+drop_at [] n x at = cc
+drop_at (y ∷ xs) zero x at = ap (λ b. b ∷ xs) (sym (some_same y x at))
+drop_at (y ∷ xs) (suc n) x at = drop_at xs n x at
+
+-- STAMPED: the rows of one write more
+pub stamps_on : (kind : Kind) (first old new : PassState) (w : Write) (ws : List Write)
+    → old ≡ with_unstamped first old.unstamped → AreLeft kind (w ∷ ws) old.unstamped
+    → AreStampedTo kind w old new → (new ≡ with_unstamped first new.unstamped) × AreLeft kind ws new.unstamped
+stamps_on kind first old new w ws was left is = (
+  is ∙ (λ i. with_unstamped (was i) (keys_beside (keys_changed kind w) old.unstamped))
+      ∙ (λ i. with_unstamped first (sym is i).unstamped),
+  subst (λ (st : PassState). AreLeft kind ws st.unstamped) (sym is) (fewer_left kind w ws old.unstamped left),
+)
+
+-- ---- what is lent and given back
+
+-- who lends and gets back has looked
+pub looked_through : (old mid new : Pass) (sight u : Sight) → OnlyAccount old mid u → KnowsLooks sight mid new
+    → sight ≡ old.account.me.0 → KnowsLooks old.account.me.0 old new
+looked_through old mid new sight u step looks is = record {
+  number = looks.number ∙ step.number;
+  latch = looks.latch ∙ step.latch;
+  buffers = looks.buffers ∙ step.buffers;
+  table = looks.table ∙ step.account.table;
+  slots = looks.slots ∙ (λ i. (step.account.me i).1);
+  looked = subst (λ (x : ℕ × Sight). HasLooked x.0 x.1 new.account.me.0) (λ i. (step.number i, is i)) looks.looked;
+}

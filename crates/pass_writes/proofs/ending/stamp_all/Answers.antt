@@ -1,0 +1,46 @@
+use Rattle.std.proofs.Common.{◌≡◌, ℕ, suc, ◌+◌, ◌<◌, ◌≤◌, ◌∙◌, [], ◌∷◌, List, ap, arith, drop, get_or, length, subst}
+use Rattle.std.proofs.lemmas.Option.{slice_get-get_or}
+use Rattle.graph_model.specs.declared.write.Write.{Write}
+use Rattle.graph_model.specs.declared.write.Write.TheVariants.{AddVertex}
+use Rattle.store_relation.specs.Steps.{with_unstamped}
+use Rattle.pass_steps.specs.Passes.{state_of}
+use Rattle.pass_writes.specs.Ending.{AreLeft}
+use Rattle.pass_writes.proofs.StateLemmas.{drop_at, drop_end, none_left, same_again, stamps_on}
+use Rattle.pass_writes.proofs.ending.stamp_all.Goals as goal
+
+pub writes-preserved : goal.writes-preserved
+writes-preserved g c =
+    let kind = c.args.store.now.accounts.config.kind in
+    let ws = c.args.writes.now in
+    let place = c.writes.place in
+    let inv = c.writes.invariant in
+    let old = state_of c.writes.pass in
+    let new = state_of c.stamp_one.new.pass in
+    let test = c.writes-test.true in
+    let end = c.writes.auto.place-end in
+    let less : place < length ws = omega (arith, test, end) in
+    let w : Write = get_or ws place (AddVertex 0) in
+    let cut : drop place ws ≡ w ∷ drop (suc place) ws =
+    drop_at ws place w (slice_get-get_or ws place (AddVertex 0) less) in
+    let on = stamps_on kind (state_of c.args.pass.now) old new w (drop (suc place) ws) inv.state
+    (subst (λ (l : List Write). AreLeft kind l old.unstamped) cut inv.left) c.stamp_one.ensures.stamped in
+    let next : suc place ≡ place + 1 = omega arith in
+    record {
+      none = c.stamp_one.ensures.none;
+      state = on.0;
+      left = subst (λ (n : ℕ). AreLeft kind (drop n ws) new.unstamped) next on.1;
+      pin = c.stamp_one.ensures.pin ∙ inv.pin;
+      same = same_again c.args.pass.now c.writes.pass c.stamp_one.new.pass inv.same c.stamp_one.ensures.same;
+    }
+
+pub returns-clause-stamped : goal.returns-clause-stamped
+returns-clause-stamped g c =
+    let kind = c.args.store.now.accounts.config.kind in
+    let inv = c.writes.invariant in
+    let test = c.writes-test.false in
+    let end = c.writes.auto.place-end in
+    let over : length c.args.writes.now ≤ c.writes.place = omega (arith, test, end) in
+    let left : AreLeft kind [] (state_of c.writes.pass).unstamped =
+    subst (λ (ws : List Write). AreLeft kind ws (state_of c.writes.pass).unstamped)
+    (drop_end c.args.writes.now c.writes.place over) inv.left in
+    inv.state ∙ ap (with_unstamped (state_of c.args.pass.now)) (none_left kind (state_of c.writes.pass).unstamped left)

@@ -1,0 +1,4 @@
+pub mod Hand
+pub mod Found
+pub mod Making
+pub mod Ending

@@ -1,0 +1,85 @@
+//! Whether a write may be made, as its pass finds in the cells in hand.
+
+ghost use Rattle.std.specs.Prelude.{◌≡◌, Bool};
+ghost use Rattle.graph_model.specs.Refused.{IsWithinLimits};
+ghost use Rattle.rule_model.specs.NoteSteps.{LearnsRows};
+ghost use Rattle.row_writes.specs.Checks.{TellsEdges, looked_keys};
+ghost use Rattle.row_writes.specs.Held.{AreHeld};
+ghost use Rattle.pass_cells.specs.Taken.{rows_in};
+ghost use Rattle.pass_steps.specs.Asking.{IsSnapshotOf, KnowsLooks, asking_of};
+ghost use Rattle.pass_steps.specs.Passes.{reader_of_pass, state_of};
+ghost use Rattle.pass_writes.specs.Found.{Finds, view_of};
+ghost use Rattle.pass_writes.specs.Hand.{HasInHand};
+
+use graph_model::{Refusal, Write};
+use pass_cells::{TakenCells, rows_in_hand_are_known};
+use pass_steps::{Asker, PassStates};
+use row_writes::Fingers;
+use std::marker::Brand;
+use store_rule::{Pass, Store};
+use undo_chain::Snapshot;
+use version_segment::NOWHERE;
+
+/// Whether a write of the open transaction may be made, of whose rows the pass has learnt at this clock. Whether the
+/// vertex that it removes has edges was looked for before.
+pub fn check(
+    store: &Store,
+    pass: &mut Pass,
+    taken: &TakenCells,
+    clock: u64,
+    snapshot: &Snapshot,
+    write: Write,
+    has_edges: bool,
+) -> Result<(), Refusal>
+    requires hand { HasInHand store.now pass.old taken.now.list.items }
+    requires learnt { LearnsRows store.now.accounts.config pass.old.account.me.0 (reader_of_pass pass.old) clock }
+    requires snapshot { IsSnapshotOf pass.old snapshot.now }
+    requires within { IsWithinLimits write }
+    requires held { AreHeld (rows_in taken.now) (looked_keys write) }
+    requires edges { TellsEdges (λ _ answer. answer ≡ has_edges)
+        (view_of store.now.accounts.config.kind (state_of pass.old)) write }
+    ensures looked { KnowsLooks pass.old.account.me.0 pass.old pass.new }
+    ensures found { Finds store.now.accounts.config pass.new.account.me.0 pass.old.number (state_of pass.new)
+        write result }
+{
+    check_as::<Brand>(store, pass, taken, clock, snapshot, write, has_edges)
+}
+
+/// The same by whoever asks.
+fn check_as<B: Asker>(
+    store: &Store,
+    pass: &mut Pass,
+    taken: &TakenCells,
+    clock: u64,
+    snapshot: &Snapshot,
+    write: Write,
+    has_edges: bool,
+) -> Result<(), Refusal>
+    requires asking { B.asking ≡ asking_of store.now pass.old clock }
+    requires hand { HasInHand store.now pass.old taken.now.list.items }
+    requires learnt { LearnsRows store.now.accounts.config pass.old.account.me.0 (reader_of_pass pass.old) clock }
+    requires snapshot { IsSnapshotOf pass.old snapshot.now }
+    requires within { IsWithinLimits write }
+    requires held { AreHeld (rows_in taken.now) (looked_keys write) }
+    requires edges { TellsEdges (λ _ answer. answer ≡ has_edges)
+        (view_of store.now.accounts.config.kind (state_of pass.old)) write }
+    ensures looked { KnowsLooks pass.old.account.me.0 pass.old pass.new }
+    ensures found { Finds store.now.accounts.config pass.new.account.me.0 pass.old.number (state_of pass.new)
+        write result }
+{
+    rows_in_hand_are_known();
+    let mut states = PassStates::<B>::lend(store, pass, clock);
+    let seen_before = |_v: u64| -> bool
+        ensures { result ≡ has_edges }
+    { has_edges };
+    let checked = row_writes::check(
+        taken,
+        snapshot,
+        &mut states,
+        write,
+        &Fingers::alike(NOWHERE),
+        seen_before,
+    );
+    states.give_back(pass);
+    checked
+}

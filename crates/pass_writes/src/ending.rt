@@ -1,0 +1,126 @@
+//! The rows of a transaction that ends: those of an abort are as they were, those of a commit get its stamp.
+
+ghost use Rattle.std.specs.Prelude.{◌≡◌, [], ◌∷◌, ◌++◌};
+ghost use Rattle.std.specs.List.{AllByRecursion};
+ghost use Rattle.graph_model.specs.Refused.{IsWithinLimits};
+ghost use Rattle.store_relation.specs.declared.stage.Stage.TheVariants.{Aborting, Idle};
+ghost use Rattle.store_relation.specs.Steps.{taken_back, with_unstamped};
+ghost use Rattle.pass_cells.specs.Changes.{but_newest};
+ghost use Rattle.pass_steps.specs.Passes.{IsSamePass, name_of_pass, pin_of, state_of};
+ghost use Rattle.pass_steps.specs.Txns.{HasCommitted};
+ghost use Rattle.pass_writes.specs.Ending.{AreLeft, AreStampedTo};
+ghost use Rattle.pass_writes.specs.Hand.{HasNothing};
+
+use crate::hand::{put_cells_back, take_cells};
+use crate::keys::FewKeys;
+use graph_model::{TxnName, Write};
+use pass_cells::PassCells;
+use row_writes::WrittenRows;
+use std::sync::Wait;
+use store_rule::{Pass, Store};
+
+/// Takes all writes of a transaction that is being aborted back, the newest first. Takes no memory.
+pub fn undo_all(
+    rt: &impl Wait,
+    store: &Store,
+    pass: &mut Pass,
+    cells: &mut PassCells,
+    by: TxnName,
+    writes: &[Write],
+)
+    requires none { HasNothing store.now pass.old cells.old.taken.list.items }
+    requires stage { (state_of pass.old).stage ≡ Aborting }
+    requires name { by ≡ name_of_pass pass.old }
+    requires writes { (state_of pass.old).laid ≡ writes.now }
+    requires within { AllByRecursion IsWithinLimits writes.now }
+    ensures none { HasNothing store.now pass.new cells.new.taken.list.items }
+    ensures undone { state_of pass.new ≡ taken_back (state_of pass.old) [] }
+    ensures pin { pin_of pass.new ≡ pin_of pass.old }
+    ensures same { IsSamePass pass.old pass.new }
+{
+    let mut left = writes.len();
+    'writes: while left > 0 {
+        left -= 1;
+        undo_one(rt, store, pass, cells, by, writes[left]);
+    }
+}
+
+/// Takes the newest write that still stands back.
+fn undo_one(
+    rt: &impl Wait,
+    store: &Store,
+    pass: &mut Pass,
+    cells: &mut PassCells,
+    by: TxnName,
+    write: Write,
+)
+    requires none { HasNothing store.now pass.old cells.old.taken.list.items }
+    requires stage { (state_of pass.old).stage ≡ Aborting }
+    requires name { by ≡ name_of_pass pass.old }
+    requires newest { (state_of pass.old).laid ≡ but_newest (state_of pass.old).laid ++ write ∷ [] }
+    requires within { IsWithinLimits write }
+    ensures none { HasNothing store.now pass.new cells.new.taken.list.items }
+    ensures undone { state_of pass.new ≡ taken_back (state_of pass.old) (but_newest (state_of pass.old).laid) }
+    ensures pin { pin_of pass.new ≡ pin_of pass.old }
+    ensures same { IsSamePass pass.old pass.new }
+{
+    let rows = WrittenRows::of(store.config().kind, write);
+    let keys = FewKeys::of_write(&rows);
+    take_cells(rt, store, pass, cells, keys.as_slice());
+    cells.undo(store, pass, by, write);
+    put_cells_back(store, pass, cells);
+}
+
+/// Gives the records in all rows of the last commit its stamp, given its writes. Takes no memory. The journal is free
+/// meanwhile: whoever meets a record without a stamp is told by the pass's word.
+pub fn stamp_all(
+    rt: &impl Wait,
+    store: &Store,
+    pass: &mut Pass,
+    cells: &mut PassCells,
+    by: TxnName,
+    stamp: u64,
+    writes: &[Write],
+)
+    requires none { HasNothing store.now pass.old cells.old.taken.list.items }
+    requires stage { (state_of pass.old).stage ≡ Idle }
+    requires committed { HasCommitted pass.old.number (state_of pass.old) stamp }
+    requires name { by ≡ name_of_pass pass.old }
+    requires left { AreLeft store.now.accounts.config.kind writes.now (state_of pass.old).unstamped }
+    requires within { AllByRecursion IsWithinLimits writes.now }
+    ensures none { HasNothing store.now pass.new cells.new.taken.list.items }
+    ensures stamped { state_of pass.new ≡ with_unstamped (state_of pass.old) [] }
+    ensures pin { pin_of pass.new ≡ pin_of pass.old }
+    ensures same { IsSamePass pass.old pass.new }
+{
+    'writes: for place in 0..writes.len() {
+        stamp_one(rt, store, pass, cells, by, stamp, writes[place]);
+    }
+}
+
+/// Stamps the rows of one write.
+fn stamp_one(
+    rt: &impl Wait,
+    store: &Store,
+    pass: &mut Pass,
+    cells: &mut PassCells,
+    by: TxnName,
+    stamp: u64,
+    write: Write,
+)
+    requires none { HasNothing store.now pass.old cells.old.taken.list.items }
+    requires stage { (state_of pass.old).stage ≡ Idle }
+    requires committed { HasCommitted pass.old.number (state_of pass.old) stamp }
+    requires name { by ≡ name_of_pass pass.old }
+    requires within { IsWithinLimits write }
+    ensures none { HasNothing store.now pass.new cells.new.taken.list.items }
+    ensures stamped { AreStampedTo store.now.accounts.config.kind write (state_of pass.old) (state_of pass.new) }
+    ensures pin { pin_of pass.new ≡ pin_of pass.old }
+    ensures same { IsSamePass pass.old pass.new }
+{
+    let rows = WrittenRows::of(store.config().kind, write);
+    let keys = FewKeys::of_changes(&rows);
+    take_cells(rt, store, pass, cells, keys.as_slice());
+    cells.stamp(store, pass, by, stamp, keys.as_slice());
+    put_cells_back(store, pass, cells);
+}

@@ -1,0 +1,191 @@
+//! Writes of an open transaction.
+
+ghost use Rattle.std.specs.Prelude.{◌≡◌, Err, IfOk, OnErr};
+ghost use Rattle.graph_model.specs.Refused.{IsWithinLimits};
+ghost use Rattle.rule_model.specs.NoteSteps.{LearnsRows};
+ghost use Rattle.row_writes.specs.Checks.{TellsEdges};
+ghost use Rattle.row_writes.specs.Held.{AreHeld};
+ghost use Rattle.row_writes.specs.Laying.{MayLay};
+ghost use Rattle.row_writes.specs.Written.{all_keys, rows_of, written_keys};
+ghost use Rattle.store_rule.specs.Passes.{OnlyAccount};
+ghost use Rattle.pass_cells.specs.Changes.{MissesFew};
+ghost use Rattle.pass_cells.specs.Taken.{rows_in};
+ghost use Rattle.pass_steps.specs.Passes.{IsPassOf, IsSamePass, name_of_pass, pin_of, state_of};
+ghost use Rattle.pass_writes.specs.Found.{Finds, MayBeMade, view_of};
+ghost use Rattle.pass_writes.specs.Hand.{HasInHand, HasNothing};
+ghost use Rattle.pass_writes.specs.Making.{IsOpenIn, IsShortOf, Lays, Makes, after_refusal, noted};
+ghost use Rattle.graph_model.specs.declared.refusal.Refusal.TheVariants as refusals;
+
+use crate::checks::check;
+use crate::hand::{put_cells_back, take_cells};
+use crate::keys::FewKeys;
+use graph_model::{Begun, Cause, Key, NoMemory, Refusal, TxnName, Write};
+use pass_cells::{PassCells, TakenCells, rows_in_hand_are_known};
+use pass_steps::{learn, name_holder, note_later};
+use row_writes::{Fingers, FoundRows, WrittenRows};
+use std::sync::Wait;
+use store_rule::{Pass, Store};
+use undo_chain::{Snapshot, Touched};
+use version_segment::NOWHERE;
+
+/// What a write that its view allows is answered, and that nobody stands against.
+#[derive(Clone, Copy, Debug, PartialEq, Eq)]
+pub enum Written {
+    Done,
+    /// So many rows of the write have no place in the cell of this key, which is one of theirs.
+    NeedRoom { key: Key, need: u8 },
+}
+
+/// Makes a write of the open transaction, given what its begin answered, or says why it isn't made. Whether the vertex
+/// that it removes has edges was looked for before. A commit that stands against it is noted, and still to be seen.
+pub fn write(
+    rt: &impl Wait,
+    store: &Store,
+    pass: &mut Pass,
+    cells: &mut PassCells,
+    begun: Begun,
+    write: Write,
+    has_edges: bool,
+) -> Result<Written, Refusal>
+    requires none { HasNothing store.now pass.old cells.old.taken.list.items }
+    requires opened { IsOpenIn begun pass.old }
+    requires within { IsWithinLimits write }
+    requires edges { TellsEdges (λ _ answer. answer ≡ has_edges)
+        (view_of store.now.accounts.config.kind (state_of pass.old)) write }
+    ensures none { HasNothing store.now pass.new cells.new.taken.list.items }
+    ensures makes { Makes store.now.accounts.config pass.old.number (state_of pass.old) write result
+        (state_of pass.new) }
+    ensures pin { pin_of pass.new ≡ pin_of pass.old }
+    ensures same { IsSamePass pass.old pass.new }
+{
+    let rows = WrittenRows::of(store.config().kind, write);
+    let keys = FewKeys::of_write(&rows);
+    take_cells(rt, store, pass, cells, keys.as_slice());
+    let written = write_in_hand(store, pass, cells, begun, write, &rows, has_edges);
+    put_cells_back(store, pass, cells);
+    written
+}
+
+/// The same with the cells in hand.
+fn write_in_hand(
+    store: &Store,
+    pass: &mut Pass,
+    cells: &mut PassCells,
+    begun: Begun,
+    write: Write,
+    rows: &WrittenRows,
+    has_edges: bool,
+) -> Result<Written, Refusal>
+    requires hand { HasInHand store.now pass.old cells.old.taken.list.items }
+    requires opened { IsOpenIn begun pass.old }
+    requires within { IsWithinLimits write }
+    requires rows { rows.now ≡ rows_of store.now.accounts.config.kind write }
+    requires held { AreHeld (rows_in cells.old.taken) (all_keys rows.now) }
+    requires edges { TellsEdges (λ _ answer. answer ≡ has_edges)
+        (view_of store.now.accounts.config.kind (state_of pass.old)) write }
+    ensures hand { HasInHand store.now pass.new cells.new.taken.list.items }
+    ensures makes { Makes store.now.accounts.config pass.old.number (state_of pass.old) write result
+        (state_of pass.new) }
+    ensures short { IfOk result (λ written. IsShortOf (rows_in cells.old.taken) (written_keys rows.now) written) }
+    ensures pin { pin_of pass.new ≡ pin_of pass.old }
+    ensures same { IsSamePass pass.old pass.new }
+{
+    rows_in_hand_are_known();
+    let clock = learn(store, pass);
+    let snapshot = Snapshot {
+        start: begun.start,
+        own: begun.by,
+    };
+    match check(
+        store,
+        pass,
+        &cells.taken,
+        clock,
+        &snapshot,
+        write,
+        has_edges,
+    ) {
+        Ok(()) => match lay(store, pass, cells, begun.by, write, rows) {
+            Ok(written) => Ok(written),
+            Err(NoMemory) => Err(Refusal::NoMemory),
+        },
+        Err(refusal) => {
+            note_refusal(store, pass, &cells.taken, write, refusal);
+            Err(refusal)
+        }
+    }
+}
+
+/// Notes who stands against a write, where that is why it is refused.
+fn note_refusal(store: &Store, pass: &mut Pass, taken: &TakenCells, write: Write, refusal: Refusal)
+    requires hand { HasInHand store.now pass.old taken.now.list.items }
+    requires found { Finds store.now.accounts.config pass.old.account.me.0 pass.old.number (state_of pass.old) write
+        (Err refusal) }
+    ensures hand { HasInHand store.now pass.new taken.now.list.items }
+    ensures state { state_of pass.new ≡ after_refusal write refusal (state_of pass.old) }
+    ensures pin { pin_of pass.new ≡ pin_of pass.old }
+    ensures same { IsSamePass pass.old pass.new }
+{
+    match refusal {
+        Refusal::Conflict { cause } => note(store, pass, write, cause),
+        Refusal::SelfLoop => {}
+        Refusal::NoVertex { v: _ } => {}
+        Refusal::VertexExists => {}
+        Refusal::EdgeExists => {}
+        Refusal::NoEdge => {}
+        Refusal::HasEdges => {}
+        Refusal::Full { leaves: _ } => {}
+        Refusal::NoMemory => {}
+    }
+}
+
+/// Notes who stands against a write.
+fn note(store: &Store, pass: &mut Pass, write: Write, cause: Cause)
+    requires pass { IsPassOf store.now pass.old }
+    requires found { Finds store.now.accounts.config pass.old.account.me.0 pass.old.number (state_of pass.old) write
+        (Err (refusals.Conflict cause)) }
+    ensures { OnlyAccount pass.old pass.new (noted pass.old.number write cause pass.old.account.me.0) }
+{
+    match cause {
+        Cause::Holder { by } => name_holder(store, pass, by, write),
+        Cause::Later { stamp } => note_later(store, pass, write, stamp),
+    }
+}
+
+/// Makes a write that may be made, unless its rows find no places. Where memory is refused it isn't made.
+fn lay(
+    store: &Store,
+    pass: &mut Pass,
+    cells: &mut PassCells,
+    by: TxnName,
+    write: Write,
+    rows: &WrittenRows,
+) -> Result<Written, NoMemory>
+    requires hand { HasInHand store.now pass.old cells.old.taken.list.items }
+    requires opened { IsOpenIn (record { by = by; start = (state_of pass.old).start }) pass.old }
+    requires within { IsWithinLimits write }
+    requires rows { rows.now ≡ rows_of store.now.accounts.config.kind write }
+    requires held { AreHeld (rows_in cells.old.taken) (all_keys rows.now) }
+    requires found { MayBeMade store.now.accounts.config pass.old.account.me.0 pass.old.number (state_of pass.old) write }
+    requires may { MayLay (rows_in cells.old.taken) write }
+    requires few { MissesFew store.now.accounts.config.kind (rows_in cells.old.taken) write }
+    ensures hand { HasInHand store.now pass.new cells.new.taken.list.items }
+    ensures ok { IfOk result (λ written. Lays (state_of pass.old) write written (state_of pass.new)
+        × IsShortOf (rows_in cells.old.taken) (written_keys rows.now) written) }
+    ensures err { OnErr result (state_of pass.new ≡ state_of pass.old) }
+    ensures pin { pin_of pass.new ≡ pin_of pass.old }
+    ensures same { IsSamePass pass.old pass.new }
+{
+    if let Some(short) = cells.taken.room_need(rows) {
+        return Ok(Written::NeedRoom {
+            key: short.key,
+            need: short.need,
+        });
+    }
+    let found = FoundRows {
+        rows: *rows,
+        near: Fingers::alike(NOWHERE),
+    };
+    cells.write(store, pass, by, write, &found, Touched::Maybe)?;
+    Ok(Written::Done)
+}

@@ -1,0 +1,91 @@
+//! What an open transaction reads in a cell that its pass takes for it.
+
+ghost use Rattle.std.specs.Prelude.{◌≡◌, true};
+ghost use Rattle.graph_model.specs.Rows.{value_at};
+ghost use Rattle.rule_model.specs.NoteSteps.{LearnsRows};
+ghost use Rattle.pass_cells.specs.Taken.{rows_in};
+ghost use Rattle.pass_steps.specs.Asking.{IsSnapshotOf, KnowsLooks, asking_of};
+ghost use Rattle.pass_steps.specs.Passes.{IsSamePass, name_of_pass, pin_of, reader_of_pass, state_of};
+ghost use Rattle.pass_writes.specs.Found.{view_of};
+ghost use Rattle.pass_writes.specs.Hand.{HasInHand, HasNothing};
+ghost use Rattle.pass_writes.specs.Making.{IsOpenIn, NotesOnly};
+
+use crate::hand::{put_cells_back, take_cells};
+use graph_model::{Begun, Key};
+use pass_cells::{PassCells, TakenCells, rows_in_hand_are_known};
+use pass_steps::{Asker, PassStates, learn};
+use std::marker::Brand;
+use std::sync::Wait;
+use store_rule::{Pass, Store};
+use undo_chain::Snapshot;
+
+/// The value of a key in the view of the open transaction, given what its begin answered. Takes no memory.
+pub fn value(
+    rt: &impl Wait,
+    store: &Store,
+    pass: &mut Pass,
+    cells: &mut PassCells,
+    begun: Begun,
+    key: Key,
+) -> Option<u64>
+    requires none { HasNothing store.now pass.old cells.old.taken.list.items }
+    requires opened { IsOpenIn begun pass.old }
+    ensures none { HasNothing store.now pass.new cells.new.taken.list.items }
+    ensures value { result ≡ value_at (view_of store.now.accounts.config.kind (state_of pass.old)) key }
+    ensures state { NotesOnly (state_of pass.old) (state_of pass.new) }
+    ensures pin { pin_of pass.new ≡ pin_of pass.old }
+    ensures same { IsSamePass pass.old pass.new }
+{
+    take_cells(rt, store, pass, cells, &[key]);
+    let clock = learn(store, pass);
+    let snapshot = Snapshot {
+        start: begun.start,
+        own: begun.by,
+    };
+    let value = value_in_hand(store, pass, &cells.taken, clock, &snapshot, key);
+    put_cells_back(store, pass, cells);
+    value
+}
+
+/// The same where the cell is in hand, and the pass has learnt of its rows.
+fn value_in_hand(
+    store: &Store,
+    pass: &mut Pass,
+    taken: &TakenCells,
+    clock: u64,
+    snapshot: &Snapshot,
+    key: Key,
+) -> Option<u64>
+    requires hand { HasInHand store.now pass.old taken.now.list.items }
+    requires learnt { LearnsRows store.now.accounts.config pass.old.account.me.0 (reader_of_pass pass.old) clock }
+    requires snapshot { IsSnapshotOf pass.old snapshot.now }
+    requires held { (rows_in taken.now).holds key ≡ true }
+    ensures looked { KnowsLooks pass.old.account.me.0 pass.old pass.new }
+    ensures value { result ≡ value_at (view_of store.now.accounts.config.kind (state_of pass.old)) key }
+{
+    value_as::<Brand>(store, pass, taken, clock, snapshot, key)
+}
+
+/// The same by whoever asks.
+fn value_as<B: Asker>(
+    store: &Store,
+    pass: &mut Pass,
+    taken: &TakenCells,
+    clock: u64,
+    snapshot: &Snapshot,
+    key: Key,
+) -> Option<u64>
+    requires asking { B.asking ≡ asking_of store.now pass.old clock }
+    requires hand { HasInHand store.now pass.old taken.now.list.items }
+    requires learnt { LearnsRows store.now.accounts.config pass.old.account.me.0 (reader_of_pass pass.old) clock }
+    requires snapshot { IsSnapshotOf pass.old snapshot.now }
+    requires held { (rows_in taken.now).holds key ≡ true }
+    ensures looked { KnowsLooks pass.old.account.me.0 pass.old pass.new }
+    ensures value { result ≡ value_at (view_of store.now.accounts.config.kind (state_of pass.old)) key }
+{
+    rows_in_hand_are_known();
+    let mut states = PassStates::<B>::lend(store, pass, clock);
+    let value = taken.value(key, snapshot, &mut states);
+    states.give_back(pass);
+    value
+}
