@@ -4,3 +4,5 @@ pub mod CheckLemmas
 pub mod RoomLemmas
 pub mod StateLemmas
 pub mod MakeLemmas
+pub mod ShortLemmas
+pub mod ScanLemmas

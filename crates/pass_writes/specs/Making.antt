@@ -1,5 +1,5 @@
 -- What a write makes of the state of its pass, by what it is answered.
-use Rattle.std.specs.Prelude.{◌≡◌, ◌≢◌, ℕ, ◌-◌, ◌<◌, ◌≤◌, false, List, [], ◌∷◌, ◌++◌, length, Option, Some, None, Result, Ok, Err}
+use Rattle.std.specs.Prelude.{◌≡◌, ◌≢◌, ◌⊎◌, ℕ, ◌-◌, ◌<◌, ◌≤◌, true, false, List, [], ◌∷◌, ◌++◌, length, Option, Some, None, Result, Ok, Err}
 use Rattle.graph_model.specs.declared.journal.Begun.{Begun}
 use Rattle.graph_model.specs.declared.refusal.Cause.{Cause}
 use Rattle.graph_model.specs.declared.refusal.Cause.TheVariants.{Later, Holder}
@@ -10,10 +10,13 @@ use Rattle.graph_model.specs.declared.write.Write.{Write}
 use Rattle.graph_model.specs.Refused.{refused}
 use Rattle.txn_manager.specs.declared.config.Config.{Config}
 use Rattle.store_relation.specs.declared.stage.Stage.TheVariants.{Open}
+use Rattle.store_relation.specs.Keys.{has_key}
 use Rattle.store_relation.specs.Passes.{PassState}
 use Rattle.store_relation.specs.Steps.{meeting, sighting, with_holder, with_meeting, with_sighting, written_by}
 use Rattle.rule_model.specs.Sight.{Sight}
+use Rattle.graph_model.specs.declared.write.Kind.{Kind}
 use Rattle.row_writes.specs.Held.{HeldRows}
+use Rattle.row_writes.specs.Written.{rows_of, written_keys}
 use Rattle.store_rule.specs.declared.store.Pass.{Pass}
 use Rattle.pass_cells.specs.Room.{IsShort}
 use Rattle.pass_steps.specs.Notes.{holder_named, later_noted}
@@ -99,3 +102,9 @@ Lays old w (NeedRoom key need) new = new ≡ old
 abbrev pub IsShortOf : HeldRows → List Key → Written → Type 0
 IsShortOf c keys Done = Unit {0}
 IsShortOf c keys (NeedRoom key need) = IsShort c keys (record { key = key; need = need })
+
+-- room is needed for one of the rows that the write writes, or for both
+abbrev pub NeedsRoom : Kind → Write → Written → Type 0
+NeedsRoom kind w Done = Unit {0}
+NeedsRoom kind w (NeedRoom key need) =
+    (has_key (written_keys (rows_of kind w)) key ≡ true) × ((need ≡ 1) ⊎ (need ≡ 2))

@@ -12,8 +12,10 @@ mod hand;
 mod keys;
 mod making;
 mod reads;
+mod scans;
 
 pub use checks::check;
 pub use ending::{stamp_all, undo_all};
 pub use making::{Written, write};
 pub use reads::value;
+pub use scans::scan;

@@ -13,7 +13,7 @@ ghost use Rattle.pass_cells.specs.Taken.{rows_in};
 ghost use Rattle.pass_steps.specs.Passes.{IsPassOf, IsSamePass, name_of_pass, pin_of, state_of};
 ghost use Rattle.pass_writes.specs.Found.{Finds, MayBeMade, view_of};
 ghost use Rattle.pass_writes.specs.Hand.{HasInHand, HasNothing};
-ghost use Rattle.pass_writes.specs.Making.{IsOpenIn, IsShortOf, Lays, Makes, after_refusal, noted};
+ghost use Rattle.pass_writes.specs.Making.{IsOpenIn, IsShortOf, Lays, Makes, NeedsRoom, after_refusal, noted};
 ghost use Rattle.graph_model.specs.declared.refusal.Refusal.TheVariants as refusals;
 
 use crate::checks::check;
@@ -55,6 +55,7 @@ pub fn write(
     ensures none { HasNothing store.now pass.new cells.new.taken.list.items }
     ensures makes { Makes store.now.accounts.config pass.old.number (state_of pass.old) write result
         (state_of pass.new) }
+    ensures room { IfOk result (λ written. NeedsRoom store.now.accounts.config.kind write written) }
     ensures pin { pin_of pass.new ≡ pin_of pass.old }
     ensures same { IsSamePass pass.old pass.new }
 {

@@ -1,0 +1,42 @@
+-- For how many rows a write that lacks places needs room.
+use Rattle.std.proofs.Common.{◌≡◌, ◌⊎◌, inl, inr, ℕ, zero, suc, ◌<◌, ◌≤◌, List, [], ◌∷◌, length, refl, subst, arith}
+use Rattle.std.specs.Prelude.{◌&&◌, not, Option, Some, None, Result, Ok, Err, IfOk}
+use Rattle.std.proofs.lemmas.List.Sums.{count_by-le-length}
+use Rattle.graph_model.specs.declared.row.Key.{Key}
+use Rattle.graph_model.specs.declared.refusal.Refusal.{Refusal}
+use Rattle.graph_model.specs.declared.write.Kind.{Kind}
+use Rattle.graph_model.specs.declared.write.Write.{Write}
+use Rattle.row_writes.specs.declared.written.WrittenRows.{WrittenRows}
+use Rattle.row_writes.specs.Held.{HeldRows}
+use Rattle.row_writes.specs.Written.{rows_of, with_back, written_keys}
+use Rattle.pass_writes.specs.declared.making.Written.{Written}
+use Rattle.pass_writes.specs.declared.making.Written.TheVariants.{Done, NeedRoom}
+use Rattle.pass_writes.specs.Making.{IsShortOf, NeedsRoom}
+
+few : (back : Option Key) (row : Key) → length (with_back back row) ≤ 2
+few None row = omega arith
+few (Some back) row = omega arith
+
+one_or_two : (n : ℕ) → 0 < n → n ≤ 2 → (n ≡ 1) ⊎ (n ≡ 2)
+one_or_two zero some most = absurd (omega (arith, some))
+one_or_two (suc zero) some most = inl refl
+one_or_two (suc (suc zero)) some most = inr refl
+one_or_two (suc (suc (suc n))) some most = absurd (omega (arith, most))
+
+pub short_needs : (kind : Kind) (w : Write) (c : HeldRows) (written : Written)
+    → IsShortOf c (written_keys (rows_of kind w)) written → NeedsRoom kind w written
+short_needs kind w c Done short = tt
+short_needs kind w c (NeedRoom key need) short =
+    let keys = written_keys (rows_of kind w) in
+    let most = count_by-le-length (λ q. not (c.has_row q) && c.shares key q) keys in
+    let two = few (rows_of kind w).back (rows_of kind w).row in
+    let is = short.need_is in
+    let lack = short.short in
+    (short.among, one_or_two need (omega (arith, lack)) (omega (arith, is, most, two)))
+
+pub short_room : (kind : Kind) (w : Write) (c : HeldRows) (rows : WrittenRows) → rows ≡ rows_of kind w
+    → (result : Result Written Refusal) → IfOk result (λ written. IsShortOf c (written_keys rows) written)
+    → IfOk result (λ written. NeedsRoom kind w written)
+short_room kind w c rows is (Ok written) short =
+    short_needs kind w c written (subst (λ r. IsShortOf c (written_keys r) written) is short)
+short_room kind w c rows is (Err refusal) short = tt
