@@ -195,6 +195,7 @@ holds_after store old new ts us holds kept small p st step =
         only = λ k c h. only_after store.accounts.config old.account.me.0 ts us has.known kept has.apart small p st has.only k c (subst (λ x. HasCell x k c) sight h);
         apart = apart_counted us (apart_kept ts us kept has.apart);
         few = let e = length_counted us ∙ length_kept ts us kept in let few = has.few in omega (arith, e, few);
+        buffers = let e = length_counted us ∙ length_kept ts us kept in let same = step.buffers in let room = has.buffers in omega (arith, e, same, room);
         no_index = ap (λ (x : Sight). x.indexes) sight ∙ has.no_index;
       };
       rising = from_counted first_key us (from_kept first_key ts us kept holds.rising);

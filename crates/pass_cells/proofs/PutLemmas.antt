@@ -20,12 +20,13 @@ use Rattle.store_words.proofs.NoteLemmas.{without_else}
 use Rattle.store_rule.specs.Passes.{OnlyAccount}
 use Rattle.store_rule.specs.Packing.{IsPackedCell}
 use Rattle.store_rule.specs.Slots.{FitsPlace, IsCellSlot}
+use Rattle.store_rule.specs.declared.buffers.TheConstants.{MOST_UNPACKED}
 use Rattle.store_rule.specs.declared.slot.Room.{Room}
 use Rattle.store_rule.specs.declared.slot.StoreSlot.{StoreSlot}
 use Rattle.store_rule.specs.declared.slot.StoreSlot.TheVariants as slots
 use Rattle.store_rule.specs.declared.store.Pass.{Pass}
 use Rattle.store_rule.specs.declared.store.Store.{Store}
-use Rattle.version_segment.specs.Rows.{VersionedRows}
+use Rattle.version_segment.specs.Resting.{RestingRows}
 use Rattle.pass_cells.specs.declared.taken.TakenCell.{TakenCell}
 use Rattle.pass_cells.specs.Holding.{AreFit, AreKnown, HasTaken, IsKnown, IsPutting, KeepsPass, numbers_of, slots_out}
 use Rattle.pass_cells.specs.Taken.{AreApart, is_taken}
@@ -45,9 +46,10 @@ fits_cell z table k slot inside fits = record {
 
 -- ---- the first cell is put
 
-module _ (store : Store) (old mid packed new : Pass) (all left : List TakenCell) (t : TakenCell) (before : List (Held StoreSlot)) (resting : VersionedRows) (held : Held StoreSlot)
+module _ (store : Store) (old mid packed new : Pass) (all left : List TakenCell) (t : TakenCell) (before : List (Held StoreSlot)) (resting : RestingRows) (held : Held StoreSlot)
     (putting : IsPutting store old mid all (t ∷ left) before)
     (pack : IsPackedCell t.held.cell putting.known.0.state mid packed resting)
+    (given : mid.buffers < MOST_UNPACKED → packed.buffers ≡ mid.buffers + 1)
     (lay : OnlyAccount packed new (without_cell t.held.cell packed.account.me.0))
     (cell : held.cell ≡ t.held.cell) (slot : IsCellSlot store.accounts.table.shared.table_id t.held.cell held.value) where
   abbrev k : ℕ
@@ -135,6 +137,7 @@ module _ (store : Store) (old mid packed new : Pass) (all left : List TakenCell)
     known = all_else left putting.apart.0 putting.known.1;
     only = only;
     apart = putting.apart.1;
+    buffers = let all = putting.buffers in let one = given (omega (arith, all)) in let same = lay.buffers in omega (arith, all, one, same);
     no_index = ap (λ (x : Sight). x.indexes) view ∙ others.indexes ∙ putting.no_index;
   }
 
@@ -150,5 +153,6 @@ putting_none store pass ts has = record {
   known = has.known;
   only = has.only;
   apart = has.apart;
+  buffers = has.buffers;
   no_index = has.no_index;
 }

@@ -175,6 +175,7 @@ holds_still store pass ts us holds kept same =
         only = λ k c h. taken_kept k ts us kept ∙ has.only k c h;
         apart = apart_kept ts us kept has.apart;
         few = let e = length_kept ts us kept in let few = has.few in omega (arith, e, few);
+        buffers = let e = length_kept ts us kept in let room = has.buffers in omega (arith, e, room);
         no_index = has.no_index;
       };
       rising = from_kept first_key ts us kept holds.rising;

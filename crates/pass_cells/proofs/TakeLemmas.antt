@@ -11,6 +11,7 @@ use Rattle.seat_views.specs.Keeping.{kept_at}
 use Rattle.seat_views.proofs.NumberLemmas.{same_number}
 use Rattle.latch_table.specs.declared.cells.Held.{Held}
 use Rattle.latch_table.specs.declared.sight.LatchSight.{LatchSight}
+use Rattle.store_rule.specs.Packing.{LendsBuffer}
 use Rattle.store_rule.specs.Passes.{OnlyAccount}
 use Rattle.latch_table.specs.Latched.{number_of}
 use Rattle.version_segment.specs.Rows.{VersionedRows, IsSameSegment, IsSegment}
@@ -123,10 +124,10 @@ one_known z v c t inside same sound free count = record {
 
 -- a pass that has taken a cell more
 pub has_more : (store : Store) (old mid new : Pass) (ts : List TakenCell) (t : TakenCell) → HasTaken store old ts → length ts < 4 → is_taken t.held.cell ts ≡ false
-    → mid.account ≡ old.account → IsLatchOf store mid.latch → mid.latch.me.1 ≡ (t.held.cell, slots.Out) ∷ old.latch.me.1
+    → mid.account ≡ old.account → mid.buffers ≡ old.buffers → IsLatchOf store mid.latch → mid.latch.me.1 ≡ (t.held.cell, slots.Out) ∷ old.latch.me.1
     → IsGathered store.accounts.config mid new t.held → t.held.cell < cells_of store.accounts.config → IsSegment t.held.value
     → t.rows ≡ length t.held.value.rows → HasTaken store new (ts ++ t ∷ [])
-has_more store old mid new ts t has few new_cell account latch out gathered inside sound count =
+has_more store old mid new ts t has few new_cell account buffers latch out gathered inside sound count =
     let z = store.accounts.config in
     let c = gathered.state in
     let k = t.held.cell in
@@ -140,6 +141,7 @@ has_more store old mid new ts t has few new_cell account latch out gathered insi
       only = λ j d h. taken_more t j ts ∙ only j d (subst (λ x. HasCell x j d) view h) (j == k) refl;
       apart = apart_more t ts has.apart new_cell;
       few = let e = length_more t ts in omega (arith, few, e);
+      buffers = let e = length_more t ts in let lent = gathered.account.buffers in let room = has.buffers in omega (arith, e, lent, room, buffers);
       no_index = ap (λ (x : Sight). x.indexes) view ∙ has.no_index;
     }
   where
@@ -167,6 +169,7 @@ none_taken store pass none = record {
   only = λ k c h. not_none c (sym (ap (λ es. kept_at es k) none.cells) ∙ h);
   apart = tt;
   few = omega arith;
+  buffers = let room = none.buffers in omega (arith, room);
   no_index = none.indexes;
 }
   where
@@ -179,6 +182,7 @@ taken_none store pass has = record {
   out = has.out;
   table = has.table;
   cells = no_entries pass.account.me.0.cells (λ k c h. no (has.only k c h));
+  buffers = let room = has.buffers in omega (arith, room);
   indexes = has.no_index;
 }
   where
@@ -192,7 +196,7 @@ none_held store pass none = record { taken = none_taken store pass none; rising 
 
 pub gathered_then : (z : Config) (old mid new : Pass) (k n : ℕ) (state : CellState) (held : Held VersionedRows) → n ≡ k → held.cell ≡ n
     → OnlyAccount old mid (with_cell old.account.me.0 k state)
-    → ((c : CellState) → HasCell mid.account.me.0 n c → OnlyAccount mid new (with_cell mid.account.me.0 n (unpacked c)))
+    → ((c : CellState) → HasCell mid.account.me.0 n c → LendsBuffer mid new (with_cell mid.account.me.0 n (unpacked c)))
     → ((c : CellState) → HasCell mid.account.me.0 n c → IsUntouched (unpacked c))
     → ((c : CellState) → HasCell mid.account.me.0 n c → IsSameSegment c.segment held.value) → IsGathered z old new held
 gathered_then z old mid new k n state held nk hn first unpack untouched same =
@@ -204,6 +208,7 @@ gathered_then z old mid new k n state held nk hn first unpack untouched same =
       account = record {
         number = second.number ∙ first.number;
         latch = second.latch ∙ first.latch;
+        buffers = sym first.buffers ∙ second.buffers;
         account = record {
           table = second.account.table ∙ first.account.table;
           me = second.account.me ∙ (λ i. (with_cell (first.account.me i).0 n (unpacked state), (first.account.me i).1))

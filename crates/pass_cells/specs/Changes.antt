@@ -30,6 +30,7 @@ use Rattle.store_relation.specs.Steps.{taken_back, with_unstamped, written_by}
 use Rattle.cells_model.specs.Cells.{CellState}
 use Rattle.rule_model.specs.EndSteps.{new_state}
 use Rattle.rule_model.specs.NoteSteps.{HasRow}
+use Rattle.rule_model.specs.RowSteps.{looks_in}
 use Rattle.rule_model.specs.Sight.{HasPass, Sight, with_rows}
 use Rattle.store_rule.specs.declared.store.Pass.{Pass}
 use Rattle.store_rule.specs.Passes.{OnlyAccount}
@@ -59,8 +60,8 @@ news_of v ts = map {A = TakenCell} (λ t. (t.held.cell, record (state_of v t.hel
 
 -- ---- a write
 
--- The pass has an open transaction that may make this write: its view allows it, and in each row that is in hand
--- whoever stands where the write looks is seen.
+-- The pass has an open transaction that may make this write: its view allows it, and in each row in hand at which the
+-- write looks whoever stands there is seen.
 pub record MayMake (z : Config) (v : Sight) (p : ℕ) (w : Write) : Type 0 where
   pub state : PassState
   pub has : HasPass v p state
@@ -68,7 +69,7 @@ pub record MayMake (z : Config) (v : Sight) (p : ℕ) (w : Write) : Type 0 where
   pub alone : state.readers_out ≡ 0
   pub allowed : refused (view z.kind state.seen state.start state.own) w ≡ None
   pub within : IsWithinLimits w
-  pub may : (k : ℕ) (c : CellState) (q : Key) → HasRow z v k c q
+  pub may : (k : ℕ) (c : CellState) (q : Key) → HasRow z v k c q → looks_in w q ≡ true
       → MayWrite z.kind (sees (stamp_in state.seen) state.start (name_at p state)) w q
       (forget_row (versions_at c.segment q))
 

@@ -15,8 +15,9 @@ use Rattle.cells_model.specs.Words.{HasSmallWeights, block_words}
 use Rattle.rule_model.specs.NoteSteps.{HasRow}
 use Rattle.rule_model.specs.Sight.{HasCell, Sight, cells_of, with_cell}
 use Rattle.store_words.specs.Spelling.{IsUntouched}
-use Rattle.store_rule.specs.Passes.{OnlyAccount}
+use Rattle.store_rule.specs.Packing.{LendsBuffer}
 use Rattle.store_rule.specs.Slots.{FitsPlace}
+use Rattle.store_rule.specs.declared.buffers.TheConstants.{MOST_UNPACKED}
 use Rattle.store_rule.specs.declared.slot.Room.{Room}
 use Rattle.store_rule.specs.declared.slot.StoreSlot.{StoreSlot}
 use Rattle.store_rule.specs.declared.slot.StoreSlot.TheVariants as slots
@@ -70,6 +71,8 @@ pub record HasTaken (store : Store) (pass : Pass) (ts : List TakenCell) : Type 0
   pub only : (k : ℕ) (c : CellState) → HasCell pass.account.me.0 k c → is_taken k ts ≡ true
   pub apart : AreApart ts
   pub few : length ts ≤ 4
+  -- they have room for their rows from it
+  pub buffers : pass.buffers + length ts ≡ MOST_UNPACKED
   pub no_index : pass.account.me.0.indexes ≡ []
 
 -- and they stand in the order of their fence keys
@@ -83,6 +86,7 @@ pub record HoldsNone (store : Store) (pass : Pass) : Type 0 where
   pub out : pass.latch.me.1 ≡ []
   pub table : pass.account.table_id ≡ store.accounts.table.shared.table_id
   pub cells : pass.account.me.0.cells ≡ []
+  pub buffers : pass.buffers ≡ MOST_UNPACKED
   pub indexes : pass.account.me.0.indexes ≡ []
 
 -- ---- what a call leaves of a pass
@@ -119,10 +123,10 @@ abbrev pub AreFit : Store → List (Held StoreSlot) → Type 0
 AreFit store helds = AllByRecursion (λ h. FitsPlace store.accounts.config store.accounts.table.shared.table_id
     h.cell h.value × (h.cell < cells_of store.accounts.config + 2)) helds
 
--- a pass has taken in the cell's note, and has unpacked it
+-- a pass has taken in the cell's note, and has unpacked it in room of its own
 pub record IsGathered (z : Config) (old new : Pass) (held : Held VersionedRows) : Type 0 where
   pub state : CellState
-  pub account : OnlyAccount old new (with_cell (with_cell old.account.me.0 held.cell state) held.cell (unpacked state))
+  pub account : LendsBuffer old new (with_cell (with_cell old.account.me.0 held.cell state) held.cell (unpacked state))
   pub same : IsSameSegment state.segment held.value
   pub untouched : IsUntouched (unpacked state)
 
@@ -137,4 +141,5 @@ pub record IsPutting (store : Store) (old new : Pass) (all left : List TakenCell
   pub known : AreKnown store.accounts.config new.account.me.0 left
   pub only : (k : ℕ) (c : CellState) → HasCell new.account.me.0 k c → is_taken k left ≡ true
   pub apart : AreApart left
+  pub buffers : new.buffers + length left ≡ MOST_UNPACKED
   pub no_index : new.account.me.0.indexes ≡ []

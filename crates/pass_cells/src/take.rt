@@ -131,6 +131,7 @@ fn gather(store: &Store, pass: &mut Pass, held: Held<StoreSlot>) -> Held<Version
     requires inside { held.cell < cells_of store.now.accounts.config }
     requires slot { IsCellSlot store.now.accounts.table.shared.table_id held.cell held.value }
     requires unchanged { held.changed ≡ false }
+    requires buffer { 0 < pass.old.buffers }
     ensures held { (result.cell ≡ held.cell) × (result.changed ≡ false) }
     ensures gathered { IsGathered store.now.accounts.config pass.old pass.new result }
 {

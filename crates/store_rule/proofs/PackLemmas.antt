@@ -12,6 +12,7 @@ use Rattle.version_segment.proofs.WordLemmas.{can_wake, wakes_rested}
 use Rattle.cells_model.specs.Cells.{CellState, last_word, raised_word, unpacked, version_word}
 use Rattle.cells_model.specs.Words.{HasSmallWeights, Spells, word_row, word_rows}
 use Rattle.cells_model.proofs.BlockLemmas.{still_spells}
+use Rattle.cells_model.proofs.WordLemmas.{newest_weights}
 use Rattle.std.specs.Prelude.{map}
 use Rattle.store_words.specs.Spelling.{CanSpell, IsUntouched}
 use Rattle.store_rule.specs.Slots.{RestsAs}
@@ -58,7 +59,7 @@ can_spell s t low high rows same sound small low_is high_is rows_are =
 pub wakes_with : (s : VersionedRows) (resting : RestingRows) (low high : Key) (rows : List Row)
     → CanSpell low high rows s → RestsAs s resting → CanWake resting low high rows
 wakes_with s resting low high rows can rests =
-    let wakes = can_wake s can.sound can.small in
+    let wakes = can_wake s can.sound (newest_weights s can.small) in
     record {
       fences = subst (λ (x : Key × Key). is_below x.1 x.0 ≡ false) (λ i. (sym can.low_is i, sym can.high_is i)) wakes.fences;
       sorted = subst AreSorted (sym can.rows_are) wakes.sorted;
@@ -75,7 +76,7 @@ wakes_same s resting low high rows t can rests is = record {
   low = ap (λ (x : VersionedRows). x.low) is ∙ can.low_is;
   high = ap (λ (x : VersionedRows). x.high) is ∙ can.high_is;
   rows = ap (λ (x : VersionedRows). x.rows) is ∙ (λ i. woken_rows (rests i) (can.rows_are i))
-      ∙ ap (λ (x : VersionedRows). x.rows) (wakes_rested s can.small);
+      ∙ ap (λ (x : VersionedRows). x.rows) (wakes_rested s (newest_weights s can.small));
 }
 
 -- what rests of a segment of which the contents are but for room

@@ -1,9 +1,9 @@
 use Rattle.std.proofs.Common.{◌≡◌, ◌∙◌, List, ◌∷◌, ◌<◌, [], ◌++◌, ap, arith, length, length-append, subst, sym}
 use Rattle.std.specs.Vec.{vec_len}
-use Rattle.version_segment.specs.Rows.{IsSameSegment, VersionedRows}
+use Rattle.version_segment.specs.Rows.{VersionedRows}
 use Rattle.rule_model.specs.Sight.{HasCell}
 use Rattle.store_rule.specs.Passes.{OnlyAccount}
-use Rattle.store_rule.specs.Slots.{IsCellSlot}
+use Rattle.store_rule.specs.Slots.{IsCellSlot, RestsAs}
 use Rattle.store_words.specs.Notes.{without_cell}
 use Rattle.pass_cells.specs.Holding.{IsPutting}
 use Rattle.latch_table.specs.declared.cells.Held.{Held}
@@ -34,7 +34,7 @@ lay_cell-held-requires-clause-packed c =
       pack.again.cell,
       subst (λ k. HasCell c.pack-held.new.pass.account.me.0 k pack.again.cell) (sym c.pack-held.ensures.held.0) pack.again.has,
       pack.again.packed,
-      subst (λ (s : VersionedRows). IsSameSegment s c.pack-held.result.value) (sym pack.again.segment) pack.rests,
+      subst (λ (s : VersionedRows). RestsAs s c.pack-held.result.value) (sym pack.again.segment) pack.rests,
     )
 
 pub cells-preserved : goal.cells-preserved
@@ -50,7 +50,7 @@ cells-preserved c =
     let lay = subst (λ k. OnlyAccount c.pack-held.new.pass c.lay_cell-held.new.pass (without_cell k c.pack-held.new.pass.account.me.0)) number c.lay_cell-held.ensures.left in
     let slot = subst (λ k. IsCellSlot c.args.store.now.accounts.table.shared.table_id k c.lay_cell-held.result.value) number c.lay_cell-held.ensures.slot in
     let more = putting_more c.args.store.now c.args.pass.now c.cells.pass c.pack-held.new.pass c.lay_cell-held.new.pass c.args.taken.now.list.items _ t c.cells.packed.items c.pack-held.result.value c.lay_cell-held.result
-    putting pack lay (c.lay_cell-held.ensures.held.0 ∙ number) slot in
+    putting pack c.pack-held.ensures.buffers lay (c.lay_cell-held.ensures.held.0 ∙ number) slot in
     let pushed = c.in-Ok.ensures.items in
     let one_more = ap length pushed ∙ length-append c.cells.packed.items (c.lay_cell-held.result ∷ []) in
     let one_less = ap length is in

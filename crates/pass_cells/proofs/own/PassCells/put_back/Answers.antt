@@ -1,4 +1,4 @@
-use Rattle.std.proofs.Common.{◌≡◌, ◌∙◌, ap, sym, map}
+use Rattle.std.proofs.Common.{◌≡◌, ◌∙◌, ap, arith, sym, map}
 use Rattle.std.specs.Prelude.{true, false}
 use Rattle.atomic_table.specs.declared.shared.Seat.{Seat}
 use Rattle.latch_table.specs.declared.cells.Held.{Held}
@@ -26,6 +26,7 @@ returns-clause-none c =
         out = c.give_places.ensures.none.0;
         table = putting.table;
         cells = no_entries c.pack_all.new.pass.account.me.0.cells (λ k d h. no (putting.only k d h));
+        buffers = let room = putting.buffers in omega (arith, room);
         indexes = putting.no_index;
       },
       c.pack_all.ensures.none,

@@ -10,13 +10,18 @@ use Rattle.pass_cells.specs.Taken.{is_taken}
 use Rattle.pass_cells.proofs.TakeLemmas.{from_more, has_more}
 use Rattle.pass_cells.proofs.own.PassCells.take_next.Goals as goal
 
+pub gather-held-requires-clause-buffer : goal.gather-held-requires-clause-buffer
+gather-held-requires-clause-buffer g c =
+    let room = c.requires.holds.taken.buffers in
+    let few = c.requires.few in omega (arith, room, few)
+
 pub returns-clause-taken : goal.returns-clause-taken
 returns-clause-taken g c =
     let store = c.args.store.now in
     let old = c.args.pass.now in
     let ts = c.args.self.now.taken.list.items in
     let t : TakenCell = record { held = c.gather-held.result; rows = c.len-rows.result } in
-    let mid : Pass = record { number = old.number; latch = c.take_next_place.new.latch; account = old.account } in
+    let mid : Pass = record { number = old.number; latch = c.take_next_place.new.latch; account = old.account; buffers = old.buffers } in
     let got = c.in-Some.ensures.held in
     let number : t.held.cell ≡ c.args.cell = c.gather-held.ensures.held.0 ∙ got.0 in
     let fresh = subst (λ k. is_taken k ts ≡ false) (sym number) (sym c.is_taken.ensures ∙ c.if-is_taken.false) in
@@ -24,7 +29,7 @@ returns-clause-taken g c =
     let place = c.index_place.ensures in
     let test = c.if-cell-index_place.false in
     let inside : t.held.cell < cells_of store.accounts.config = omega (arith, number, place, test) in
-    let has = has_more store old mid c.gather-held.new.pass ts t c.requires.holds.taken c.requires.few fresh refl c.take_next_place.ensures.latch out c.gather-held.ensures.gathered inside
+    let has = has_more store old mid c.gather-held.new.pass ts t c.requires.holds.taken c.requires.few fresh refl refl c.take_next_place.ensures.latch out c.gather-held.ensures.gathered inside
     c.len-rows.ensures.sound c.len-rows.ensures.len in
     subst (HasTaken store c.gather-held.new.pass) (sym c.add.ensures.added) has
 
@@ -34,7 +39,7 @@ returns-clause-next g c =
     let old = c.args.pass.now in
     let ts = c.args.self.now.taken.list.items in
     let t : TakenCell = record { held = c.gather-held.result; rows = c.len-rows.result } in
-    let mid : Pass = record { number = old.number; latch = c.take_next_place.new.latch; account = old.account } in
+    let mid : Pass = record { number = old.number; latch = c.take_next_place.new.latch; account = old.account; buffers = old.buffers } in
     let got = c.in-Some.ensures.held in
     let number : t.held.cell ≡ c.args.cell = c.gather-held.ensures.held.0 ∙ got.0 in
     let fresh = subst (λ k. is_taken k ts ≡ false) (sym number) (sym c.is_taken.ensures ∙ c.if-is_taken.false) in
@@ -42,7 +47,7 @@ returns-clause-next g c =
     let place = c.index_place.ensures in
     let test = c.if-cell-index_place.false in
     let inside : t.held.cell < cells_of store.accounts.config = omega (arith, number, place, test) in
-    let has = has_more store old mid c.gather-held.new.pass ts t c.requires.holds.taken c.requires.few fresh refl c.take_next_place.ensures.latch out c.gather-held.ensures.gathered inside
+    let has = has_more store old mid c.gather-held.new.pass ts t c.requires.holds.taken c.requires.few fresh refl refl c.take_next_place.ensures.latch out c.gather-held.ensures.gathered inside
     c.len-rows.ensures.sound c.len-rows.ensures.len in
     λ e. subst (Holds store c.gather-held.new.pass) (sym c.add.ensures.added) (record {
       taken = has;

@@ -4,9 +4,12 @@ use Rattle.gap_segment.specs.Fenced.{FencedRows}
 use Rattle.seat_views.proofs.NumberLemmas.{some_is}
 use Rattle.version_segment.specs.Rows.{IsSameSegment}
 use Rattle.cells_model.specs.Cells.{CellState}
-use Rattle.cells_model.proofs.WordLemmas.{few_words}
+use Rattle.cells_model.proofs.WordLemmas.{few_words, newest_weights}
 use Rattle.store_rule.proofs.PackLemmas.{can_spell, rests_as}
 use Rattle.store_rule.proofs.store.Store.pack.Goals as goal
+
+pub rest-value-requires : goal.rest-value-requires
+rest-value-requires c = record { weights = newest_weights c.args.held.value c.requires.weights }
 
 pub returns-clause-packed : goal.returns-clause-packed
 returns-clause-packed c d has =
