@@ -4,6 +4,7 @@ pub mod ReadLemmas
 pub mod NoteLemmas
 pub mod RunLemmas
 pub mod IndexedLemmas
+pub mod NumberedLemmas
 pub mod MovedLemmas
 pub mod InPlaceLemmas
 pub mod GrowthLemmas

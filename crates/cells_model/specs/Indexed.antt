@@ -11,7 +11,7 @@ use Rattle.leaf_array.specs.declared.leaf.Leaf.{Leaf}
 use Rattle.leaf_index.specs.Index.{Index}
 use Rattle.leaf_index.specs.Calls.{new_index}
 use Rattle.leaf_store.specs.Leaves.{Leaves, cell_at, versions_of}
-use Rattle.leaf_store.specs.Table.{IsKept, leaves_of}
+use Rattle.leaf_store.specs.Table.{IsKept, leaves_of, segments_at}
 
 -- ---- numbered cells, as the definitions of a store of one owner want them
 
@@ -106,3 +106,25 @@ new_cell k = record {
 abbrev pub NewIsIndexed : Type 0
 NewIsIndexed =
     (heap : Global) (leaves : ℕ) → 1 ≤ leaves → IsIndexed heap (new_index leaves) new_cell
+
+-- ---- leaves that were there before their cells had numbers
+
+-- a live leaf's cells are its segments, and those of a leaf without entry are idle
+pub record AreNumbered (index : Index) (table : List (Option (Box Leaf Global)))
+    (cell : ℕ → VersionedRows) : Type 0 where
+  pub live : (l : ℕ) → l < index.leaves → is_live index l ≡ true
+      → leaf_cells cell l ≡ segments_at table l
+  pub idle : (l : ℕ) → l < index.leaves → is_live index l ≡ false
+      → AllByRecursion IsIdle (leaf_cells cell l)
+
+-- they are cells of the same leaves
+pub record ShowsLeaves (heap : Global) (index : Index) (table : List (Option (Box Leaf Global)))
+    (cell : ℕ → VersionedRows) : Type 0 where
+  pub indexed : IsIndexed heap index cell
+  pub same : store_of heap index cell ≡ leaves_of index table
+
+abbrev pub NumberedIsIndexed : Type 0
+NumberedIsIndexed =
+    (heap : Global) (index : Index) (table : List (Option (Box Leaf Global)))
+    (cell : ℕ → VersionedRows) → IsKept index table → AreNumbered index table cell
+    → ShowsLeaves heap index table cell

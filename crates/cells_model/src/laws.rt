@@ -1,7 +1,7 @@
 //! What cells, their blocks and their index keep through each step. Each law is a function whose contract is the law.
 
 ghost use Rattle.cells_model.specs.BlockLaws.{HeadIsTold, RowIsTold, ValueIsTold, NoRowIsTold, UnpacksCell, StoresWord, PacksCell, ChangesCells, FirstLoadBegins, WordLoadGoesOn, SecondLoadGoesOn, SecondLoadValidates};
-ghost use Rattle.cells_model.specs.Indexed.{FencesTell, CellsShow, MovesIndexed, NewIsIndexed};
+ghost use Rattle.cells_model.specs.Indexed.{FencesTell, CellsShow, MovesIndexed, NewIsIndexed, NumberedIsIndexed};
 ghost use Rattle.cells_model.specs.InPlace.{CellsChangeInPlace};
 ghost use Rattle.cells_model.specs.Growth.{GrowthIsByRows};
 ghost use Rattle.cells_model.specs.Moved.{SpreadsCells, SplitsCells, MergesCells, FreesCells, FullIsCounted};
@@ -38,6 +38,7 @@ pub fn cells_are_indexed()
     ensures show { CellsShow }
     ensures moves { MovesIndexed }
     ensures new { NewIsIndexed }
+    ensures numbered { NumberedIsIndexed }
 {}
 
 /// Held cells that change between the same fence keys, and how many rows come.

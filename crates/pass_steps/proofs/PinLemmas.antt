@@ -14,17 +14,17 @@ pub pin_may : (store : Store) (pass : Pass) (word : ℕ) (next : ℕ → Sight �
     → pass.account.table_id ≡ store.accounts.table.shared.table_id
     → pass.number < store.accounts.config.passes
     → MayStore store.accounts.config pass.account ((lines store.accounts.config.passes).pin pass.number) word next told
-    → pins.MayStore (IsAccountTable store.accounts.table.shared.key) store.accounts.table.shared.table_id pass.account
+    → pins.MayStore (IsAccountTable store.accounts.table.shared.key.config) store.accounts.table.shared.table_id pass.account
     (24 + 16 * pass.number) word
     (λ _ before n after. (after ≡ (next n before.0, before.1)) × told n before.0)
 pin_may store pass word next told table inside may = record {
   table = table;
   inside = let wide = store.accounts.words in omega (arith, wide, inside);
-  allows = subst (λ n. Allows (IsAccountTable store.accounts.table.shared.key) n pass.account.id pass.account.me
+  allows = subst (λ n. Allows (IsAccountTable store.accounts.table.shared.key.config) n pass.account.id pass.account.me
       (24 + 16 * pass.number) (λ _. word)
       (λ _ m. (m ≡ (next word pass.account.me.0, pass.account.me.1)) × told word pass.account.me.0))
       (ap (λ (t : TableId). t.slots) table)
-      (on_table store.accounts.table.shared.key store.accounts.config store.accounts.key pass.account.table_id.slots
+      (on_table store.accounts.table.shared.key.config store.accounts.config store.accounts.key pass.account.table_id.slots
       pass.account.id pass.account.me (24 + 16 * pass.number) (λ _. word)
       (λ _ m. (m ≡ (next word pass.account.me.0, pass.account.me.1)) × told word pass.account.me.0) may);
 }

@@ -33,7 +33,7 @@ use Rattle.cells_model.specs.InPlace.{segment_of}
 use Rattle.cells_model.specs.Words.{Spells, block_words, spelled, word_rows}
 use Rattle.cells_model.proofs.IndexedLemmas.{cells_show, new_indexed}
 use Rattle.cells_model.proofs.RunLemmas.{segments_table}
-use Rattle.rule_model.specs.EndSteps.{AreNewWords, LinesAreNew, NewTable, TableCloses, first_sight, new_block, new_blocks, new_known, new_words, numbered, zeros}
+use Rattle.rule_model.specs.EndSteps.{AreNewWords, LinesAreNew, NewTable, TableBegins, TableCloses, first_sight, sight_of, new_block, new_blocks, new_known, new_words, numbered, zeros}
 use Rattle.rule_model.specs.Places.{Layout}
 use Rattle.rule_model.specs.Sight.{Sight, HasPass, cells_of}
 use Rattle.rule_model.specs.Rule.{IsStored, rows_now, words_of}
@@ -201,12 +201,11 @@ only_one part v f n is seat u k a here has =
     let t = first_only v u seat here in
     (sym t.0, numbered_is f n k a (ap (λ l. kept_at l k) (sym is ∙ ap part t.1) ∙ has))
 
-pub new_table : NewTable
-new_table z at heap words some_leaves new =
-    let v = first_sight z in
-    let k = new_known z in
+pub table_begins : TableBegins
+table_begins z at heap words k apart stored none_out =
+    let v = sight_of z k in
     record {
-      apart = new.apart;
+      apart = apart;
       known = k;
       pass_keeper = λ _. 0;
       pin_keeper = λ _. 0;
@@ -218,12 +217,19 @@ new_table z at heap words some_leaves new =
       cells = only_one (λ (u : Sight). u.cells) v k.cell (cells_of z) refl;
       indexes = only_one (λ (u : Sight). u.indexes) v k.index 1 refl;
       journals = only_one (λ (u : Sight). u.journals) v k.journal 1 refl;
-      told = λ seat u here. ([], ap (λ (x : Sight). x.told ++ []) (sym (first_only v u seat here).1));
-      readers = record { each = tt; out = λ p. refl };
+      told = λ seat u here. (
+        (k.journal 0).commits,
+        ap (λ (x : Sight). x.told ++ (k.journal 0).commits) (sym (first_only v u seat here).1),
+      );
+      readers = record { each = tt; out = λ p. sym (none_out p) };
       reads = λ seat u q here has. let f : None ≡ Some q =
           ap (λ (x : Sight). x.reads.reading) (first_only v u seat here).1 ∙ has in cc;
-      stored = new_stored z at heap words some_leaves new;
+      stored = stored;
     }
+
+pub new_table : NewTable
+new_table z at heap words some_leaves new =
+    table_begins z at heap words (new_known z) new.apart (new_stored z at heap words some_leaves new) (λ p. refl)
 
 -- ---- the end
 

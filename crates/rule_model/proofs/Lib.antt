@@ -14,4 +14,5 @@ pub mod PinStepLemmas
 pub mod MoveStepLemmas
 pub mod ViewLemmas
 pub mod EndLemmas
+pub mod LoadedLemmas
 pub mod ExampleLemmas

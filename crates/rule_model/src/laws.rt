@@ -10,7 +10,7 @@ ghost use Rattle.rule_model.specs.BlockSteps.{CellIsPacked, CellIsUnpacked, Hold
 ghost use Rattle.rule_model.specs.PinSteps.{LeafIsNoted, LeavesAreFreed, OtherSweepBegins, OtherSweepEnds, PassAnnounces, PassPins, PassUnpins, SweepLooksOn, SweeperBegins, SweeperEnds};
 ghost use Rattle.rule_model.specs.MoveSteps.{MergeIsMove, RowsAreMoved, SplitIsMove, SpreadIsMove};
 ghost use Rattle.rule_model.specs.ViewSteps.{HeapIsOfNoAccount, OfEachView, ReaderIsJoined, ReaderIsSplit, SeatSplits, SeatsJoin};
-ghost use Rattle.rule_model.specs.EndSteps.{LinesAreNew, NewTable, TableCloses};
+ghost use Rattle.rule_model.specs.EndSteps.{LinesAreNew, LoadedTable, NewTable, TableBegins, TableCloses};
 ghost use Rattle.rule_model.specs.Examples.{PlaceExamples, WrongRules};
 
 /// Words lie apart: a store changes one word of one sort. So it is in a layout of lines.
@@ -125,6 +125,8 @@ pub fn views_keep_the_rule()
 pub fn stores_begin_and_close()
     ensures words { LinesAreNew }
     ensures new { NewTable }
+    ensures begin { TableBegins }
+    ensures load { LoadedTable }
     ensures close { TableCloses }
 {}
 

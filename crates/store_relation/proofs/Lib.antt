@@ -14,6 +14,7 @@ pub mod MeetLemmas
 pub mod ReaderLemmas
 pub mod AccountLemmas
 pub mod EndLemmas
+pub mod LoadLemmas
 pub mod CheckLemmas
 pub mod KeyLemmas
 pub mod GrowLemmas

@@ -6,6 +6,7 @@ pub mod Shared
 pub mod Steps
 pub mod Readers
 pub mod Ends
+pub mod Loads
 pub mod StepLaws
 pub mod ReadLaws
 pub mod AccountLaws

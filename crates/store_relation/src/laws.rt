@@ -6,11 +6,13 @@ ghost use Rattle.store_relation.specs.CheckLaws.{CheckedIsFree, FreeMayBeWritten
 ghost use Rattle.store_relation.specs.Examples.{RightSteps, StepResults, WrongSteps, WrongReads};
 ghost use Rattle.store_relation.specs.ReadLaws.{ReadIsOfView, ReaderReadsView, PassLearns, ReaderLearns, WordTells, StampIsPlace, LooksTell, LooksTellRow, LookedHasMade, DropperHasRemoved, WordIsMet, StampIsMet, LookIsMet, HolderIsSighted, MetIsLater, ClockIsBounded, AccountIsValid, StoreCloses};
 ghost use Rattle.store_relation.specs.RowLaws.{RowAfterIsWrite, RowBeforeIsUndo, RowKeepsStamps, OtherRowsStay, KeysAreAll, ChangedKeysCover, OthersAreLeft, NoneIsDone, OneMoreIsDone, AllAreDone, RowsGrowByOne, RowsAreKept, TouchedIsSomething};
+ghost use Rattle.store_relation.specs.Loads.{LoadedStore};
 ghost use Rattle.store_relation.specs.StepLaws.{InEachStore, NewStore, RoomIsMade, TransactionBegins, WriteIsMade, WriteIsFull, StampIsStored, CommitIsPublished, RowsAreStamped, AbortBegins, WriteIsUndone, TransactionEnds, NotesAreKept, JournalIsSeen, PassesMeet, RowsArePruned, ReaderIsSplit, ReaderIsJoined, ReadersStay, OnlyOpenLends};
 
 /// A new store, room in its journal, and the begin of a transaction.
 pub fn begins_keep_the_rule()
     ensures new { NewStore }
+    ensures load { LoadedStore }
     ensures room { InEachStore RoomIsMade }
     ensures begin { InEachStore TransactionBegins }
 {}

@@ -97,7 +97,7 @@ impl ClosedCells {
 }
 
 /// The last of a list.
-fn pop_resting(list: &mut Vec<Resting>) -> Resting
+pub(crate) fn pop_resting(list: &mut Vec<Resting>) -> Resting
     requires { 0 < length list.old.items }
     ensures { list.old.items ≡ list.new.items ++ result ∷ [] }
 {

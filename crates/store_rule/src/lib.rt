@@ -12,6 +12,7 @@ mod buffers;
 mod change;
 mod close;
 mod closed;
+mod fill;
 mod gather;
 mod lay;
 mod make;

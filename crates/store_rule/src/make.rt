@@ -1,15 +1,14 @@
 //! A new store, with a pass for each number.
 //!
 //! 1. One seat knows all of the account table at first. Notes of all cells, of the index and of the journal are cut
-//!    off and laid into the slots, and then a seat for each pass.
+//!    off and laid into the slots, and then a seat for each pass. So it is whatever the store begins with.
 //! 2. The list that is closed into is made here, so that the end takes no memory.
 
 ghost use Rattle.std.specs.Prelude.{◌≡◌, ◌<◌, ◌↔◌, [], ◌∷◌, ◌++◌, Err, IfOk, OnOk, true, false, length};
 ghost use Rattle.latch_table.specs.Opening.{HasPasses};
-ghost use Rattle.rule_model.specs.EndSteps.{new_known};
-ghost use Rattle.rule_model.specs.Sight.{HasIndex, HasJournal, cells_of};
-ghost use Rattle.store_relation.specs.Shared.{no_journal};
-ghost use Rattle.store_rule.specs.Making.{AreCells, AreNewPasses, AreSlots, IsDealing, IsLaying};
+ghost use Rattle.rule_model.specs.Sight.{Sight, cells_of};
+ghost use Rattle.store_rule.specs.Filling.{AreNoRows};
+ghost use Rattle.store_rule.specs.Making.{AreCells, AreDealt, AreNewPasses, AreSlots, IsDealing, IsLaying, KnowsAllResting, KnowsIndex, KnowsJournal, KnowsParts};
 ghost use Rattle.store_rule.specs.Passes.{AreIn};
 ghost use Rattle.store_rule.specs.Slots.{IsIndexSlot, IsJournalSlot};
 ghost use Rattle.store_rule.specs.declared.slot.StoreSlot.{StoreSlot};
@@ -19,6 +18,7 @@ ghost use Rattle.txn_manager.specs.Config.{too_large};
 ghost use Rattle.txn_manager.specs.declared.config.StoreRefusal.TheVariants.{TooLarge};
 
 use crate::buffers::Buffers;
+use crate::closed::pop_resting;
 use crate::slot::{Room, StoreSlot};
 use crate::store::{LatchPass, Pass, Passes, Store};
 use graph_model::{NoMemory, RoomyJournal};
@@ -46,7 +46,15 @@ impl Store {
     }
 }
 
-/// Both tables.
+/// What is to lie in the slots of a store that begins.
+#[derive(Drop)]
+pub(crate) struct Parts {
+    pub(crate) resting: Vec<Resting>,
+    pub(crate) index: LeafIndex,
+    pub(crate) journal: RoomyJournal,
+}
+
+/// A store without rows.
 fn make_both(alloc: Global, config: Config) -> Result<(Store, Passes), NoMemory>
     requires { too_large config ≡ false }
     ensures config { IfOk result (λ made. made.0.accounts.config ≡ config) }
@@ -54,11 +62,52 @@ fn make_both(alloc: Global, config: Config) -> Result<(Store, Passes), NoMemory>
         made.0.latches.table.shared.table_id made.0.accounts.table.shared.table_id made.1.list.items) }
     ensures seats { IfOk result (λ made. AreIn made.0 made.1) }
 {
+    let resting = settled_cells(alloc, config)?;
+    let index = LeafIndex::new(alloc, config.leaves)?;
+    let journal = RoomyJournal::new(alloc);
+    let parts = Parts {
+        resting,
+        index,
+        journal,
+    };
+    let (accounts, seat) = Accounts::open(alloc, config)?;
+    let made = deal_out(alloc, accounts, seat, parts)?;
+    Ok(made)
+}
+
+/// What is kept of cells without rows.
+fn settled_cells(alloc: Global, config: Config) -> Result<Vec<Resting>, NoMemory>
+    requires { too_large config ≡ false }
+    ensures { IfOk result (λ list. AreNoRows (cells_of config) list.items) }
+{
+    let cells = 8 * config.leaves;
+    let mut list = Vec::with_capacity(alloc, cells as usize)?;
+    'cells: for _cell in 0..cells {
+        list.push(Resting::settled(alloc, 0))?;
+    }
+    Ok(list)
+}
+
+/// Both tables and all passes, where one seat knows all that there is.
+pub(crate) fn deal_out(
+    alloc: Global,
+    accounts: Accounts,
+    seat: Account,
+    parts: Parts,
+) -> Result<(Store, Passes), NoMemory>
+    requires seat { IsLaying accounts.config accounts.table.shared.table_id seat.me.0 0 seat }
+    requires parts { KnowsParts accounts.config seat.me.0 parts }
+    ensures config { IfOk result (λ made. made.0.accounts.config ≡ accounts.config) }
+    ensures passes { IfOk result (λ made. AreDealt made.0.latches.table.shared.key
+        made.0.latches.table.shared.table_id made.0.accounts.table.shared.table_id seat.me.0 made.1.list.items) }
+    ensures seats { IfOk result (λ made. AreIn made.0 made.1) }
+{
+    let config = accounts.config;
     let places = 8 * config.leaves as usize + 2;
     let slots = Vec::with_capacity(alloc, places)?;
     let cells = Vec::with_capacity(alloc, places - 2)?;
-    let (accounts, mut seat) = Accounts::open(alloc, config)?;
-    let filled = lay_slots(alloc, &accounts, &mut seat)?;
+    let mut seat = seat;
+    let filled = lay_slots(alloc, &accounts, &mut seat, parts)?;
     let room = Room { seat, config };
     let Ok((latches, mut latch)) = LatchTable::open(alloc, filled, &room) else {
         return Err(NoMemory);
@@ -80,47 +129,55 @@ fn make_both(alloc: Global, config: Config) -> Result<(Store, Passes), NoMemory>
     ))
 }
 
-/// What lies in each slot of a new store.
+/// What lies in each slot of a store that begins.
 fn lay_slots(
     alloc: Global,
     accounts: &Accounts,
     seat: &mut Account,
+    parts: Parts,
 ) -> Result<Vec<StoreSlot>, NoMemory>
-    requires seat { IsLaying accounts.now.config accounts.now.table.shared.table_id 0 seat.old }
+    requires seat { IsLaying accounts.now.config accounts.now.table.shared.table_id seat.old.me.0 0 seat.old }
+    requires parts { KnowsParts accounts.now.config seat.old.me.0 parts }
     ensures slots { IfOk result (λ slots. AreSlots accounts.now.config
         accounts.now.table.shared.table_id slots.items) }
-    ensures seat { OnOk result (IsDealing accounts.now.table.shared.table_id
+    ensures seat { OnOk result (IsDealing accounts.now.table.shared.table_id seat.old.me.0
         accounts.now.config.passes seat.new) }
 {
+    let Parts {
+        resting,
+        index,
+        journal,
+    } = parts;
     let places = 8 * accounts.config.leaves as usize + 2;
     let mut slots = Vec::with_capacity(alloc, places)?;
-    push_cells(alloc, accounts, seat, &mut slots)?;
-    push_index(alloc, accounts, seat, &mut slots)?;
-    push_journal(alloc, accounts, seat, &mut slots)?;
+    push_cells(accounts, seat, resting, &mut slots)?;
+    push_index(alloc, accounts, seat, index, &mut slots)?;
+    push_journal(accounts, seat, journal, &mut slots)?;
     Ok(slots)
 }
 
 /// All cells, with their notes.
 fn push_cells(
-    alloc: Global,
     accounts: &Accounts,
     seat: &mut Account,
+    resting: Vec<Resting>,
     slots: &mut Vec<StoreSlot>,
 ) -> Result<(), NoMemory>
-    requires seat { IsLaying accounts.now.config accounts.now.table.shared.table_id 0 seat.old }
+    requires seat { IsLaying accounts.now.config accounts.now.table.shared.table_id seat.old.me.0 0 seat.old }
+    requires resting { KnowsAllResting accounts.now.config seat.old.me.0 resting.items }
     requires none { slots.old.items ≡ [] }
     ensures count { OnOk result (length slots.new.items ≡ cells_of accounts.now.config) }
     ensures cells { OnOk result (AreCells accounts.now.table.shared.table_id slots.new.items) }
     ensures seat { OnOk result (IsLaying accounts.now.config accounts.now.table.shared.table_id
-        (cells_of accounts.now.config) seat.new) }
+        seat.old.me.0 (cells_of accounts.now.config) seat.new) }
 {
     let cells = 8 * accounts.config.leaves;
+    let mut rest = resting;
+    rest.reverse();
     'cells: for cell in 0..cells {
+        let resting = pop_resting(&mut rest);
         let note = accounts.note_cell(seat, cell);
-        slots.push(StoreSlot::Cell {
-            resting: Resting::settled(alloc, 0),
-            note,
-        })?;
+        slots.push(StoreSlot::Cell { resting, note })?;
     }
     Ok(())
 }
@@ -130,15 +187,15 @@ fn push_index(
     alloc: Global,
     accounts: &Accounts,
     seat: &mut Account,
+    index: LeafIndex,
     slots: &mut Vec<StoreSlot>,
 ) -> Result<(), NoMemory>
     requires table { seat.old.table_id ≡ accounts.now.table.shared.table_id }
-    requires kept { HasIndex seat.old.me.0 ((new_known accounts.now.config).index 0) }
+    requires kept { KnowsIndex seat.old.me.0 index }
     ensures pushed { OnOk result ((slot : StoreSlot) × (slots.new.items ≡ slots.old.items ++ slot ∷ [])
         × IsIndexSlot accounts.now.table.shared.table_id slot) }
     ensures seat { OnOk result (Knows seat.old seat.new (without_index seat.old.me.0)) }
 {
-    let index = LeafIndex::new(alloc, accounts.config.leaves)?;
     let index = Box::new(alloc, index)?;
     let note = accounts.note_index(seat);
     slots.push(StoreSlot::Index { index, note })?;
@@ -147,22 +204,19 @@ fn push_index(
 
 /// The journal, with its note.
 fn push_journal(
-    alloc: Global,
     accounts: &Accounts,
     seat: &mut Account,
+    journal: RoomyJournal,
     slots: &mut Vec<StoreSlot>,
 ) -> Result<(), NoMemory>
     requires table { seat.old.table_id ≡ accounts.now.table.shared.table_id }
-    requires kept { HasJournal seat.old.me.0 no_journal }
+    requires kept { KnowsJournal seat.old.me.0 journal }
     ensures pushed { OnOk result ((slot : StoreSlot) × (slots.new.items ≡ slots.old.items ++ slot ∷ [])
         × IsJournalSlot accounts.now.table.shared.table_id slot) }
     ensures seat { OnOk result (Knows seat.old seat.new (without_journal seat.old.me.0)) }
 {
     let note = accounts.note_journal(seat);
-    slots.push(StoreSlot::Journal {
-        journal: RoomyJournal::new(alloc),
-        note,
-    })?;
+    slots.push(StoreSlot::Journal { journal, note })?;
     Ok(())
 }
 
@@ -178,11 +232,13 @@ fn deal(
     requires places { 0 < latches.now.table.shared.table_id.words }
     requires latch { (latch.old.table_id ≡ latches.now.table.shared.table_id)
         × HasPasses latches.now.table.shared.key accounts.now.config.passes latch.old.me.0 }
-    requires account { IsDealing accounts.now.table.shared.table_id accounts.now.config.passes account.old }
-    ensures passes { IfOk result (λ list. AreNewPasses latches.now.table.shared.key
-        latches.now.table.shared.table_id accounts.now.table.shared.table_id list.items) }
+    requires account { (v : Sight) × IsDealing accounts.now.table.shared.table_id v accounts.now.config.passes account.old }
+    ensures passes { IfOk result (λ list. (v : Sight)
+        → IsDealing accounts.now.table.shared.table_id v accounts.now.config.passes account.old
+        → AreDealt latches.now.table.shared.key latches.now.table.shared.table_id
+        accounts.now.table.shared.table_id v list.items) }
     ensures latch { OnOk result (latch.new.table_id ≡ latch.old.table_id) }
-    ensures account { OnOk result (IsDealing accounts.now.table.shared.table_id 0 account.new) }
+    ensures account { OnOk result ((v : Sight) × IsDealing accounts.now.table.shared.table_id v 0 account.new) }
 {
     let cells = latches.cells();
     let mut passes = Vec::with_capacity(alloc, accounts.config.passes as usize)?;

@@ -7,7 +7,7 @@ use crate::buffers::Buffers;
 use crate::slot::{Room, StoreSlot};
 use epoch_reclaim::{PinPlaces, Pins};
 use latch_table::{Cells, LatchTable};
-use store_words::{Account, AccountRule, AccountSight, Accounts};
+use store_words::{Account, AccountRule, AccountSight, Accounts, Beginning};
 use txn_manager::Config;
 use version_segment::Resting;
 
@@ -67,7 +67,7 @@ impl Store {
     }
 
     /// The pins of passes, and the clock.
-    pub fn pins(&self) -> Pins<'_, AccountSight, Config, AccountRule>
+    pub fn pins(&self) -> Pins<'_, AccountSight, Beginning, AccountRule>
         ensures table { result.table.now ≡ self.now.accounts.table.shared }
         ensures clock { result.places.clock ≡ 8 }
         ensures pins { (result.places.first ≡ 24) × (result.places.stride ≡ 16) }

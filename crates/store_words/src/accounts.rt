@@ -4,11 +4,12 @@ ghost use Rattle.std.specs.Prelude.{◌≡◌, ◌<◌, ◌++◌, [], false, len
 ghost use Rattle.cells_model.specs.Indexed.{new_cell};
 ghost use Rattle.rule_model.specs.EndSteps.{HasAll, IsLast, first_sight, new_words, zeros};
 ghost use Rattle.store_relation.specs.Shared.{JournalState};
-ghost use Rattle.store_words.specs.Opening.{empty_block};
+ghost use Rattle.store_words.specs.Opening.{Begin, empty_block};
 ghost use Rattle.store_words.specs.Steps.{Knows, word_count};
 ghost use Rattle.txn_manager.specs.Config.{too_large};
 
-use crate::rule::{Account, AccountRule, AccountSight};
+use crate::first::{Begins, first_seat};
+use crate::rule::{Account, AccountRule, AccountSight, Beginning};
 use atomic_table::Table;
 use graph_model::{Key, NoMemory};
 use std::alloc::Global;
@@ -18,12 +19,18 @@ use txn_manager::Config;
 /// The account table with its memory.
 #[derive(Drop)]
 pub struct Accounts {
-    pub table: Table<(), AccountSight, Config, AccountRule, Global>,
+    pub table: Table<(), AccountSight, Beginning, AccountRule, Global>,
     pub config: Config,
-    pub ghost key: { table.shared.key ≡ config },
+    pub ghost key: { table.shared.key.config ≡ config },
     pub ghost sized: { too_large config ≡ false },
     pub ghost words: { table.shared.table_id.words ≡ word_count config },
     pub ghost slots: { table.shared.table_id.slots ≡ 0 },
+}
+
+impl Begins for Config {
+    ghost use Rattle.rule_model.specs.EndSteps.{first_sight};
+
+    ghost sight = { λ z. first_sight z };
 }
 
 impl Accounts {
@@ -35,7 +42,26 @@ impl Accounts {
         ensures seat { IfOk result (λ opened. opened.1.me ≡ (first_sight config, [])) }
     {
         let words = words_of(alloc, &config)?;
-        let (table, seat) = Table::of_words(alloc, words.as_slice(), &config)?;
+        let first = first_seat(alloc, &config)?;
+        Accounts::open_at(alloc, config, words.as_slice(), first)
+    }
+
+    /// A table that begins with these words, and with what this seat knows. Another seat knows it then.
+    pub fn open_at(
+        alloc: Global,
+        config: Config,
+        words: &[u64],
+        first: Account,
+    ) -> Result<(Accounts, Account), NoMemory>
+        requires sized { too_large config ≡ false }
+        requires count { length words.now ≡ word_count config }
+        requires begins { Begin config words.now first.me.0 }
+        ensures config { IfOk result (λ opened. opened.0.config ≡ config) }
+        ensures table { IfOk result (λ opened. opened.1.table_id ≡ opened.0.table.shared.table_id) }
+        ensures seat { IfOk result (λ opened. opened.1.me ≡ (first.me.0, [])) }
+    {
+        let beginning = Beginning { config, first };
+        let (table, seat) = Table::of_words(alloc, words, &beginning)?;
         Ok((Accounts { table, config }, seat))
     }
 

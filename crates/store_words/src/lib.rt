@@ -8,6 +8,7 @@
 
 mod accounts;
 mod blocks;
+mod first;
 mod lines;
 mod loads;
 mod notes;
@@ -18,6 +19,7 @@ mod spell;
 mod steps;
 
 pub use accounts::Accounts;
+pub use first::{Begins, first_seat};
 pub use notes::{Cut, Cuts, TakesIn};
-pub use rule::{Account, AccountRule, AccountSight};
+pub use rule::{Account, AccountRule, AccountSight, Beginning};
 pub use steps::{Turn, Turns};

@@ -17,16 +17,22 @@ impl Model for AccountSight {
     ghost view = { λ s. no_sight };
 }
 
+/// What the table is told once: how the store is made, and by a seat what is known of it at first.
+#[derive(Drop)]
+pub struct Beginning {
+    pub config: Config,
+    pub first: Account,
+}
+
 /// The rule of a store that is made with a configuration.
 pub struct AccountRule;
 
-impl TableRule<(), AccountSight, Config> for AccountRule {
-    ghost use Rattle.rule_model.specs.EndSteps.{first_sight};
+impl TableRule<(), AccountSight, Beginning> for AccountRule {
     ghost use Rattle.store_words.specs.Steps.{IsAccountTable};
 
-    ghost holds = { λ z s. IsAccountTable z s };
+    ghost holds = { λ b s. IsAccountTable b.config s };
 
-    ghost first = { λ z. first_sight z };
+    ghost first = { λ b. b.first.me.0 };
 }
 
 /// A seat of the account table.

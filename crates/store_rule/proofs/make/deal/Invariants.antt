@@ -1,6 +1,7 @@
 use Rattle.std.proofs.Common.{◌≡◌, ◌+◌, ◌≤◌, length}
 use Rattle.latch_table.specs.Opening.{HasPasses}
-use Rattle.store_rule.specs.Making.{AreNewFrom, IsDealing}
+use Rattle.rule_model.specs.Sight.{Sight}
+use Rattle.store_rule.specs.Making.{AreDealtFrom, IsDealing}
 use Rattle.store_rule.proofs.make.deal.Given as goal
 
 abbrev pub invariant-passes : goal.invariant-passes
@@ -8,10 +9,11 @@ invariant-passes l =
     (l.number ≤ l.accounts.config.passes)
     × (l.latch.table_id ≡ l.fn.latch.table_id)
     × HasPasses l.latches.table.shared.key l.number l.latch.me.0
-    × IsDealing l.accounts.table.shared.table_id l.number l.account
     × (length l.passes.items + l.number ≡ l.accounts.config.passes)
-    × AreNewFrom l.latches.table.shared.key l.latches.table.shared.table_id l.accounts.table.shared.table_id
-    l.number l.passes.items
+    × ((v : Sight) → IsDealing l.accounts.table.shared.table_id v l.accounts.config.passes l.fn.account
+    → IsDealing l.accounts.table.shared.table_id v l.number l.account
+    × AreDealtFrom l.latches.table.shared.key l.latches.table.shared.table_id l.accounts.table.shared.table_id v
+    l.number l.passes.items)
 
 abbrev pub decreases-passes : goal.decreases-passes
 decreases-passes l = l.number

@@ -9,5 +9,5 @@ split_seat-requires g c =
     let words = c.args.self.now.words in (
       c.requires.table,
       omega (arith, words),
-      splits_on_table table.key seat.id seat.me.0 _ _ c.requires.cut,
+      splits_on_table table.key.config seat.id seat.me.0 _ _ c.requires.cut,
     )

@@ -12,5 +12,5 @@ join_seat-requires c =
       c.requires.other.0,
       c.requires.other.1,
       omega (arith, words),
-      joins_on_table table.key seat.id seat.me.0 other.id other.me.0 c.requires.readers,
+      joins_on_table table.key.config seat.id seat.me.0 other.id other.me.0 c.requires.readers,
     )

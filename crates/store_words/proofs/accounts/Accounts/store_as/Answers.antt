@@ -10,7 +10,7 @@ store-requires g c =
     let slots : seat.table_id.slots ≡ table.table_id.slots = ap (λ (t : TableId). t.slots) c.requires.table in (
       c.requires.table,
       subst (λ n. c.args.place < n) (sym c.args.self.now.words) c.requires.inside,
-      on_table table.key c.args.self.now.config c.args.self.now.key table.table_id.slots seat.id seat.me
+      on_table table.key.config c.args.self.now.config c.args.self.now.key table.table_id.slots seat.id seat.me
           c.args.place (λ _. c.args.word)
           (λ _ m. (m ≡ (g.C.Turn.next c.args.word seat.me.0, seat.me.1))
           × g.C.Turn.told c.args.word seat.me.0)

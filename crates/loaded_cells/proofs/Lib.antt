@@ -1,0 +1,4 @@
+pub mod FillLemmas
+pub mod WordLemmas
+pub mod NumberedLemmas
+pub mod BeginLemmas

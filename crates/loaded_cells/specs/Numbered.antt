@@ -1,0 +1,115 @@
+-- The cells of leaves by their numbers, and the words of a table that begins with them.
+use Rattle.std.specs.Prelude.{◌≡◌, ℕ, zero, suc, ◌+◌, ◌-◌, ◌*◌, ◌<◌, ◌≤◌, false, List, [], ◌∷◌, ◌++◌, Option, Some, length, map, slice_set}
+use Rattle.std.specs.List.{AllByRecursion}
+use Rattle.std.specs.declared.boxed.Box.{Box}
+use Rattle.std.specs.declared.alloc.Global.{Global}
+use Rattle.atomic_table.specs.Table.{opening}
+use Rattle.graph_model.specs.declared.limits.TheConstants.{MAX_WEIGHT}
+use Rattle.graph_model.specs.declared.row.Key.{Key}
+use Rattle.graph_model.specs.declared.row.Row.{Row}
+use Rattle.graph_model.specs.declared.write.Write.{Write}
+use Rattle.graph_model.specs.Graph.{apply_all, empty_graph}
+use Rattle.graph_model.specs.Inserted.{inserted}
+use Rattle.graph_model.specs.Refused.{AllAllowed, IsWithinLimits}
+use Rattle.graph_model.specs.Rows.{end_key, value_at}
+use Rattle.txn_manager.specs.Config.{too_large}
+use Rattle.txn_manager.specs.declared.config.Config.{Config}
+use Rattle.version_segment.specs.Resting.{RestingRow, RestingRows, resting_of}
+use Rattle.version_segment.specs.Rows.{VersionedRows}
+use Rattle.leaf_array.specs.declared.leaf.Leaf.{Leaf}
+use Rattle.leaf_index.specs.Index.{Index}
+use Rattle.leaf_store.specs.Changes.{AreRising, settled_at}
+use Rattle.leaf_store.specs.Table.{segments_or_none}
+use Rattle.store_relation.specs.Ends.{only_value}
+use Rattle.store_relation.specs.Words.{commit_word}
+use Rattle.cells_model.specs.Cells.{CellState}
+use Rattle.cells_model.specs.Words.{spelled, word_rows}
+use Rattle.rule_model.specs.EndSteps.{loaded_known, sight_of, zeros}
+use Rattle.rule_model.specs.Places.{lines}
+use Rattle.rule_model.specs.Rule.{IsStoreRule}
+use Rattle.rule_model.specs.Sight.{Sight}
+use Rattle.loaded_cells.specs.Laid.{AreLaid}
+
+-- ---- cells
+
+-- what stands in the cells of a leaf that isn't live
+abbrev pub idle_segment : VersionedRows
+idle_segment = record { low = end_key; high = end_key; rows = []; spare = 0 }
+
+-- the segments of a leaf, or eight idle ones where it has none
+abbrev pub eight_or_idle : List VersionedRows → List VersionedRows
+eight_or_idle [] = idle_segment ∷ idle_segment ∷ idle_segment ∷ idle_segment
+    ∷ idle_segment ∷ idle_segment ∷ idle_segment ∷ idle_segment ∷ []
+eight_or_idle (s ∷ ss) = s ∷ ss
+
+-- those of all leaves, one leaf after the other
+abbrev pub numbered_segments : List (Option (Box Leaf Global)) → List VersionedRows
+numbered_segments [] = []
+numbered_segments (m ∷ ms) = eight_or_idle (segments_or_none (Some m)) ++ numbered_segments ms
+
+-- ---- words
+
+-- the words of a block that nobody has unpacked, with these fence keys and rows
+abbrev pub first_block : Key → Key → List Row → List ℕ
+first_block low high rows = 0 ∷ (spelled low high rows ++ zeros (96 - 3 * length rows))
+
+abbrev pub block_of : VersionedRows → List ℕ
+block_of s = first_block s.low s.high (word_rows s)
+
+-- the blocks of these segments, one after the other
+abbrev pub blocks_of : List VersionedRows → List ℕ
+blocks_of [] = []
+blocks_of (s ∷ ss) = block_of s ++ blocks_of ss
+
+-- the words before all blocks: one commit is published, which is of pass 0
+abbrev pub loaded_head : ℕ → List ℕ
+loaded_head passes = slice_set (slice_set (zeros (16 + 16 * passes)) 8 1) 16 (commit_word 0)
+
+abbrev pub loaded_words : Config → List VersionedRows → List ℕ
+loaded_words z ss = loaded_head z.passes ++ blocks_of ss
+
+-- ---- what is known of a cell at first
+
+abbrev pub first_state : VersionedRows → CellState
+first_state s = record { segment = s; block = block_of s; unpacked = false; changed = false }
+
+-- the cell with this number
+abbrev pub cell_of : List VersionedRows → ℕ → CellState
+cell_of [] k = first_state idle_segment
+cell_of (s ∷ ss) zero = first_state s
+cell_of (s ∷ ss) (suc k) = cell_of ss k
+
+-- what one seat knows then
+abbrev pub loaded_sight : Config → List Write → ℕ → Index → List (Option (Box Leaf Global)) → Sight
+loaded_sight z load room index table =
+    sight_of z (loaded_known load room index (cell_of (numbered_segments table)))
+
+-- ---- what rests
+
+abbrev pub rest_rows : VersionedRows → List RestingRow
+rest_rows s = (resting_of s).rows
+
+-- so much is kept of these segments beside the words
+abbrev pub AreRestOf : List VersionedRows → List RestingRows → Type 0
+AreRestOf ss resting = map (λ (r : RestingRows). r.rows) resting ≡ map rest_rows ss
+
+-- ---- the law
+
+-- the rows of a load, as the empty graph allows its writes
+pub record AreRowsOf (z : Config) (load : List Write) (rows : List Row) : Type 0 where
+  pub some : 0 < length load
+  pub allowed : AllAllowed z.kind empty_graph load
+  pub within : AllByRecursion IsWithinLimits load
+  pub rising : AreRising rows
+  pub small : AllByRecursion (λ r. r.weight ≤ MAX_WEIGHT) rows
+  pub settled : (q : Key) → settled_at rows q ≡ only_value (value_at (apply_all z.kind empty_graph load) q)
+  pub few : length rows ≤ inserted z.kind load
+
+-- BEGIN: the words of such leaves, and a seat that knows their cells, keep the rule
+abbrev pub LoadBegins : Type 0
+LoadBegins =
+    (z : Config) (heap : Global) (load : List Write) (rows : List Row) (room : ℕ) (index : Index)
+    (table : List (Option (Box Leaf Global))) → too_large z ≡ false → AreRowsOf z load rows
+    → AreLaid z.leaves rows index table
+    → IsStoreRule z (lines z.passes) heap
+    (opening (loaded_words z (numbered_segments table)) [] (loaded_sight z load room index table))
