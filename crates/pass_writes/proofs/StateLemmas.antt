@@ -73,7 +73,8 @@ pub looked_steps : (store : Store) (old new : Pass) (ts : List TakenCell) → Ha
 looked_steps store old new ts hand looks =
     let stepped = pass_has_looked store old new hand.of looks in
     record {
-      hand = stays_in_hand store old new ts hand stepped.of looks.latch looks.buffers looks.looked.cells looks.looked.indexes
+      hand = stays_in_hand store old new ts hand stepped.of looks.latch looks.buffers looks.looked.cells
+          looks.looked.indexes
           looks.looked.journals;
       state = stepped.state;
       pin = stepped.pin;
@@ -138,7 +139,8 @@ note_steps store old new ts w (Later stamp) hand step =
     let stepped = pass_is_stepped store old new st [] hand.of hand.of.legal step in
     let sight = sight_is store old new (with_pass v old.number st) step in
     record {
-      hand = stays_in_hand store old new ts hand stepped.of step.latch step.buffers (λ i. (sight i).cells) (λ i. (sight i).indexes)
+      hand = stays_in_hand store old new ts hand stepped.of step.latch step.buffers (λ i. (sight i).cells)
+          (λ i. (sight i).indexes)
           (λ i. (sight i).journals);
       state = stepped.state;
       pin = stepped.pin;
@@ -157,7 +159,8 @@ note_steps store old new ts w (Holder by) hand step =
     (own_rows (own_rows hand.of.sight found []) named [])
     (subst (λ (u : PassState). IsLegal store.accounts.config.kind u.seen) (sym here) hand.of.legal) in
     record {
-      hand = stays_in_hand store old new ts hand of step.latch step.buffers (λ i. (sight i).cells) (λ i. (sight i).indexes)
+      hand = stays_in_hand store old new ts hand of step.latch step.buffers (λ i. (sight i).cells)
+          (λ i. (sight i).indexes)
           (λ i. (sight i).journals);
       state = state_is store old new (with_pass mid p named) step ∙ here;
       pin = pin_is store old new (with_pass mid p named) step;
@@ -273,7 +276,8 @@ pub fewer_left : (kind : Kind) (w : Write) (ws : List Write) (keys : List Key) �
 fewer_left kind w ws keys left q h =
     let r = beside (keys_changed kind w) keys q h in
     let all = sym (has_append (keys_of kind w ++ ends_of w) (changed_keys kind ws) q) ∙ left q r.0 in
-    let off : has_key (keys_of kind w ++ ends_of w) q ≡ false = ap (λ l. has_key l q) (sym (changes_are kind w)) ∙ r.1 in
+    let off : has_key (keys_of kind w ++ ends_of w) q ≡ false =
+    ap (λ l. has_key l q) (sym (changes_are kind w)) ∙ r.1 in
     (λ i. sym off i || has_key (changed_keys kind ws) q) ∙ all
 
 -- behind the end nothing is left of a list
