@@ -10,8 +10,7 @@ use Rattle.graph_model.specs.declared.write.Kind.{Kind}
 use Rattle.graph_model.specs.declared.write.Kind.TheVariants.{Directed, Undirected}
 use Rattle.graph_model.specs.declared.write.Write.{Write}
 use Rattle.graph_model.specs.declared.write.Write.TheVariants.{AddVertex, DropVertex, AddEdge, SetEdge, DropEdge}
-use Rattle.graph_model.specs.Graph.{Graph, IsSymmetric, has_arc, has_edges, has_vertex, weight_of}
-use Rattle.graph_model.specs.Inserted.{inserted_by}
+use Rattle.graph_model.specs.Graph.{Graph, has_arc, has_edges, has_vertex, weight_of}
 use Rattle.graph_model.specs.Refused.{refused}
 use Rattle.graph_model.specs.Rows.{arc_key, key_cmp, value_at, vertex_key}
 use Rattle.graph_model.proofs.ViewLemmas.{view_symmetric}
@@ -21,7 +20,7 @@ use Rattle.undo_chain.specs.declared.states.Snapshot.{Snapshot}
 use Rattle.version_segment.specs.Rows.{or_nothing}
 use Rattle.row_writes.specs.Checks.{ShowsHeld}
 use Rattle.row_writes.specs.Held.{AreHeld, HeldRows}
-use Rattle.row_writes.specs.Laying.{MayLay, rows_missing}
+use Rattle.row_writes.specs.Laying.{MayLay}
 use Rattle.row_writes.specs.Written.{all_keys, rows_of}
 use Rattle.store_relation.specs.Passes.{PassState}
 use Rattle.pass_cells.specs.Changes.{MissesFew}

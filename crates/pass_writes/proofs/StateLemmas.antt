@@ -1,7 +1,6 @@
 -- What the steps of a read, a write, an undo and a stamping leave of the state of their pass.
-use Rattle.std.proofs.Common.{◌≡◌, ◌≢◌, ◌⊎◌, inl, inr, ℕ, zero, suc, ◌+◌, ◌-◌, ◌<◌, ◌≤◌, List, [], ◌∷◌, ◌++◌, take, drop, length, length-append, refl, sym, ◌∙◌, ap, subst, cond, arith}
-use Rattle.std.specs.Prelude.{Bool, true, false, ◌&&◌, ◌||◌, not, Option, Some, None, Result, Ok, Err, slice_get}
-use Rattle.std.specs.List.{filter, list_any}
+use Rattle.std.proofs.Common.{◌≡◌, inl, inr, ℕ, zero, suc, ◌+◌, ◌-◌, ◌≤◌, List, [], ◌∷◌, ◌++◌, take, drop, length, length-append, refl, sym, ◌∙◌, ap, subst, cond, arith}
+use Rattle.std.specs.Prelude.{Bool, true, false, ◌&&◌, ◌||◌, not, Option, Some, Err, slice_get}
 use Rattle.std.proofs.lemmas.Bool.{or_left, or_right, true≢false}
 use Rattle.graph_model.specs.declared.journal.Begun.{Begun}
 use Rattle.graph_model.specs.declared.refusal.Cause.{Cause}
@@ -17,7 +16,7 @@ use Rattle.graph_model.specs.Legal.{IsLegal}
 use Rattle.graph_model.proofs.TestLemmas.{either_of, self_eq}
 use Rattle.store_model.proofs.LookedLemmas.{same_key_eq}
 use Rattle.txn_manager.specs.declared.config.Config.{Config}
-use Rattle.row_writes.specs.Written.{rows_of, touched_keys, written_keys}
+use Rattle.row_writes.specs.Written.{rows_of, touched_keys}
 use Rattle.row_writes.proofs.WrittenLemmas.{keys_are}
 use Rattle.store_relation.specs.Keys.{changed_keys, ends_of, has_key}
 use Rattle.store_relation.specs.Passes.{PassState, name_at}
@@ -30,7 +29,7 @@ use Rattle.rule_model.specs.Sight.{Sight, with_pass, with_rows}
 use Rattle.store_rule.specs.Passes.{OnlyAccount}
 use Rattle.store_rule.specs.declared.store.Pass.{Pass}
 use Rattle.store_rule.specs.declared.store.Store.{Store}
-use Rattle.pass_cells.specs.Changes.{but_newest, keys_beside}
+use Rattle.pass_cells.specs.Changes.{keys_beside}
 use Rattle.pass_cells.specs.declared.taken.TakenCell.{TakenCell}
 use Rattle.pass_cells.specs.Holding.{Holds}
 use Rattle.pass_steps.specs.Asking.{HasLooked, IsSnapshotOf, KnowsLooks}
