@@ -67,27 +67,34 @@ has_counted (t ∷ ts) q = ap (λ b. covers t.held.value q || b) (has_counted ts
 
 -- ---- the rows of a cell, by those of all keys
 
-module _ (z : Config) (v : Sight) (ts us : List TakenCell) (known : AreKnown z v ts) (kept : KeepCells ts us) (rising : AreFrom first_key ts) where
+module _ (z : Config) (v : Sight) (ts us : List TakenCell) (known : AreKnown z v ts) (kept : KeepCells ts us)
+    (rising : AreFrom first_key ts) where
   -- what is said of what each key had and has is so of each cell of which there are news
   pub rows_change : (R : Key → StampedVersions → StampedVersions → Type 0)
       → ((q : Key) → has_cell ts q ≡ true → R q (versions_at (cell_at ts q) q) (versions_at (cell_at us q) q))
-      → (k : ℕ) (c d : CellState) (q : Key) → HasCell v k c → kept_at (news_of v us) k ≡ Some d → covers c.segment q ≡ true
+      → (k : ℕ) (c d : CellState) (q : Key) → HasCell v k c → kept_at (news_of v us) k ≡ Some d
+      → covers c.segment q ≡ true
       → R q (versions_at c.segment q) (versions_at d.segment q)
   rows_change R each k c d q has news covered =
       let pair = pair_of z v ts us known kept k c d has news in
-      let old : covers pair.before.held.value q ≡ true = covers_same pair.before.held.value c.segment pair.same.low pair.same.high q ∙ covered in
-      let new : covers pair.after.held.value q ≡ true = covers_same pair.after.held.value pair.before.held.value pair.kept.low pair.kept.high q ∙ old in
+      let old : covers pair.before.held.value q ≡ true =
+      covers_same pair.before.held.value c.segment pair.same.low pair.same.high q ∙ covered in
+      let new : covers pair.after.held.value q ≡ true =
+      covers_same pair.after.held.value pair.before.held.value pair.kept.low pair.kept.high q ∙ old in
       let one = unique_cell first_key ts rising pair.before pair.is_before q old in
       let two = unique_cell first_key us (from_kept first_key ts us kept rising) pair.after pair.is_after q new in
       subst (λ (x : StampedVersions × StampedVersions). R q x.0 x.1)
       (λ i. (
-        (ap (λ (s : VersionedRows). versions_at s q) one.0 ∙ ap (λ rows. or_nothing (find key_cmp q rows)) pair.same.rows) i,
-        (ap (λ (s : VersionedRows). versions_at s q) two.0 ∙ ap (λ (s : VersionedRows). versions_at s q) (sym pair.segment)) i,
+        (ap (λ (s : VersionedRows). versions_at s q) one.0
+            ∙ ap (λ rows. or_nothing (find key_cmp q rows)) pair.same.rows) i,
+        (ap (λ (s : VersionedRows). versions_at s q) two.0
+            ∙ ap (λ (s : VersionedRows). versions_at s q) (sym pair.segment)) i,
       ))
       (each q one.1)
 
   -- values that may be stored
-  pub all_small : ((q : Key) → has_cell us q ≡ true → HasSmallValues (versions_at (cell_at us q) q)) → ((t : TakenCell) → IsAmong t us → IsSegment t.held.value)
+  pub all_small : ((q : Key) → has_cell us q ≡ true → HasSmallValues (versions_at (cell_at us q) q))
+      → ((t : TakenCell) → IsAmong t us → IsSegment t.held.value)
       → (u : TakenCell) → IsAmong u us → HasSmallWeights u.held.value
   all_small small sound u among = small_rows u.held.value (sound u among) (λ q e.
       let one = unique_cell first_key us (from_kept first_key ts us kept rising) u among q e in
@@ -101,16 +108,20 @@ pub record IsPartner (z : Config) (v : Sight) (u : TakenCell) : Type 0 where
   pub known : IsKnown z v before
   pub kept : KeepsCell before u
 
-pub partner : (z : Config) (v : Sight) (ts us : List TakenCell) → AreKnown z v ts → KeepCells ts us → (u : TakenCell) → IsAmong u us → IsPartner z v u
+pub partner : (z : Config) (v : Sight) (ts us : List TakenCell) → AreKnown z v ts → KeepCells ts us → (u : TakenCell)
+    → IsAmong u us → IsPartner z v u
 partner z v [] [] known kept u among = absurd among
-partner z v (t ∷ ts) (x ∷ us) known kept u (inl same) = record { before = t; known = known.0; kept = subst (λ (y : TakenCell). KeepsCell t y) same kept.0 }
+partner z v (t ∷ ts) (x ∷ us) known kept u (inl same) =
+    record { before = t; known = known.0; kept = subst (λ (y : TakenCell). KeepsCell t y) same kept.0 }
 partner z v (t ∷ ts) (x ∷ us) known kept u (inr among) = partner z v ts us known.1 kept.1 u among
 partner z v [] (x ∷ us) known kept u among = absurd kept
 partner z v (t ∷ ts) [] known kept u among = absurd kept
 
 among_taken : (us : List TakenCell) (u : TakenCell) → IsAmong u us → is_taken u.held.cell us ≡ true
 among_taken [] u among = absurd among
-among_taken (x ∷ xs) u (inl same) = ap (λ (y : TakenCell). (u.held.cell == y.held.cell) || is_taken u.held.cell xs) same ∙ ap (λ b. b || is_taken u.held.cell xs) (self_eq u.held.cell)
+among_taken (x ∷ xs) u (inl same) =
+    ap (λ (y : TakenCell). (u.held.cell == y.held.cell) || is_taken u.held.cell xs) same
+    ∙ ap (λ b. b || is_taken u.held.cell xs) (self_eq u.held.cell)
 among_taken (x ∷ xs) u (inr among) = last (u.held.cell == x.held.cell) (among_taken xs u among)
   where
     last : (b : Bool) → is_taken u.held.cell xs ≡ true → (b || is_taken u.held.cell xs) ≡ true
@@ -122,21 +133,27 @@ news_there : (v : Sight) (us : List TakenCell) → AreApart us → (u : TakenCel
     → kept_at (news_of v us) u.held.cell ≡ Some (record (state_of v u.held.cell) { segment = u.held.value })
 news_there v [] apart u among = absurd among
 news_there v (x ∷ xs) apart u (inl same) =
-    ap (λ b. cond b (Some (record (state_of v x.held.cell) { segment = x.held.value })) (kept_at (news_of v xs) u.held.cell)) (ap (λ (y : TakenCell). u.held.cell == y.held.cell) same ∙ self_eq u.held.cell)
+    ap (λ b. cond b (Some (record (state_of v x.held.cell) { segment = x.held.value }))
+    (kept_at (news_of v xs) u.held.cell)) (ap (λ (y : TakenCell). u.held.cell == y.held.cell) same
+    ∙ self_eq u.held.cell)
     ∙ ap (λ (y : TakenCell). Some (record (state_of v y.held.cell) { segment = y.held.value })) same
 news_there v (x ∷ xs) apart u (inr among) =
-    ap (λ b. cond b (Some (record (state_of v x.held.cell) { segment = x.held.value })) (kept_at (news_of v xs) u.held.cell)) (other (u.held.cell == x.held.cell) refl)
+    ap (λ b. cond b (Some (record (state_of v x.held.cell) { segment = x.held.value }))
+    (kept_at (news_of v xs) u.held.cell)) (other (u.held.cell == x.held.cell) refl)
     ∙ news_there v xs apart.1 u among
   where
     other : (b : Bool) → (u.held.cell == x.held.cell) ≡ b → (u.held.cell == x.held.cell) ≡ false
     other false e = e
-    other true e = never (is_taken u.held.cell xs) (among_taken xs u among) ((λ i. is_taken (eq_of u.held.cell x.held.cell e i) xs) ∙ apart.0)
+    other true e = never (is_taken u.held.cell xs) (among_taken xs u among)
+        ((λ i. is_taken (eq_of u.held.cell x.held.cell e i) xs) ∙ apart.0)
 
-each_among : (P : TakenCell → Type 0) (us : List TakenCell) → ((u : TakenCell) → IsAmong u us → P (count_of u)) → AllByRecursion P (counted us)
+each_among : (P : TakenCell → Type 0) (us : List TakenCell) → ((u : TakenCell) → IsAmong u us → P (count_of u))
+    → AllByRecursion P (counted us)
 each_among P [] each = tt
 each_among P (u ∷ us) each = (each u (inl refl), each_among P us (λ x among. each x (inr among)))
 
-module _ (z : Config) (v : Sight) (ts us : List TakenCell) (known : AreKnown z v ts) (kept : KeepCells ts us) (apart : AreApart ts)
+module _ (z : Config) (v : Sight) (ts us : List TakenCell) (known : AreKnown z v ts) (kept : KeepCells ts us)
+    (apart : AreApart ts)
     (small : (u : TakenCell) → IsAmong u us → HasSmallWeights u.held.value) (p : ℕ) (st : PassState) where
   abbrev pub after : Sight
   after = with_rows v p st (news_of v us)
@@ -148,7 +165,8 @@ module _ (z : Config) (v : Sight) (ts us : List TakenCell) (known : AreKnown z v
   one_known : (u : TakenCell) → IsAmong u us → IsKnown z after (count_of u)
   one_known u among =
       let was = partner z v ts us known kept u among in
-      let has : HasCell v u.held.cell was.known.state = subst (λ k. HasCell v k was.known.state) (sym was.kept.cell) was.known.has in
+      let has : HasCell v u.held.cell was.known.state =
+      subst (λ k. HasCell v k was.known.state) (sym was.kept.cell) was.known.has in
       let is = state_is v u.held.cell was.known.state has in
       let there = news_there v us (apart_kept ts us kept apart) u among in
       record {
@@ -163,9 +181,19 @@ module _ (z : Config) (v : Sight) (ts us : List TakenCell) (known : AreKnown z v
         untouched = λ e.
             let stays = was.kept.same e in
             let free = was.known.untouched stays.0 in
-            let chain : IsSameSegment was.known.state.segment u.held.value = record { low = stays.1.low ∙ was.known.same.low; high = stays.1.high ∙ was.known.same.high; rows = stays.1.rows ∙ was.known.same.rows } in
+            let chain : IsSameSegment was.known.state.segment u.held.value =
+            record {
+              low = stays.1.low ∙ was.known.same.low;
+              high = stays.1.high
+                  ∙ was.known.same.high;
+              rows = stays.1.rows ∙ was.known.same.rows;
+            } in
             subst (λ (c : CellState). IsUntouched (record c { segment = u.held.value })) (sym is)
-            (record { quiet = free.quiet; spells = same_spells was.known.state.block was.known.state.segment u.held.value chain free.spells });
+            (record {
+              quiet = free.quiet;
+              spells = same_spells was.known.state.block was.known.state.segment
+                  u.held.value chain free.spells;
+            });
         count = refl;
       }
 
@@ -173,11 +201,13 @@ module _ (z : Config) (v : Sight) (ts us : List TakenCell) (known : AreKnown z v
   known_after = each_among (IsKnown z after) us one_known
 
   -- no other cell is known
-  pub only_after : ((k : ℕ) (c : CellState) → HasCell v k c → is_taken k ts ≡ true) → (k : ℕ) (c : CellState) → HasCell after k c → is_taken k (counted us) ≡ true
-  only_after only k c has = taken_counted k us ∙ (elim (none_or_some (kept_at (news_of v us) k)) as (λ _. is_taken k us ≡ true) [
-    | inl none ↦ taken_kept k ts us kept ∙ only k c (sym ((kept-append (news_of v us) v.cells k).0 none) ∙ has)
-    | inr some ↦ news_taken z v k us some.0 some.1
-  ])
+  pub only_after : ((k : ℕ) (c : CellState) → HasCell v k c → is_taken k ts ≡ true) → (k : ℕ) (c : CellState)
+      → HasCell after k c → is_taken k (counted us) ≡ true
+  only_after only k c has =
+      taken_counted k us ∙ (elim (none_or_some (kept_at (news_of v us) k)) as (λ _. is_taken k us ≡ true) [
+        | inl none ↦ taken_kept k ts us kept ∙ only k c (sym ((kept-append (news_of v us) v.cells k).0 none) ∙ has)
+        | inr some ↦ news_taken z v k us some.0 some.1
+      ])
 
 -- a pass whose view alone has changed so has the cells in hand
 pub holds_after : (store : Store) (old new : Pass) (ts us : List TakenCell) → Holds store old ts → KeepCells ts us
@@ -185,17 +215,22 @@ pub holds_after : (store : Store) (old new : Pass) (ts us : List TakenCell) → 
     → OnlyAccount old new (with_rows old.account.me.0 p st (news_of old.account.me.0 us)) → Holds store new (counted us)
 holds_after store old new ts us holds kept small p st step =
     let has = holds.taken in
-    let sight : new.account.me.0 ≡ with_rows old.account.me.0 p st (news_of old.account.me.0 us) = ap (λ m. m.0) step.account.me in
+    let sight : new.account.me.0 ≡ with_rows old.account.me.0 p st (news_of old.account.me.0 us) =
+    ap (λ m. m.0) step.account.me in
     record {
       taken = record {
         latch = subst (IsLatchOf store) (sym step.latch) has.latch;
-        out = ap (λ (s : Seat StoreSlot (LatchSight Room)). s.me.1) step.latch ∙ has.out ∙ ap slots_out (sym (numbers_counted us ∙ numbers_kept ts us kept));
+        out = ap (λ (s : Seat StoreSlot (LatchSight Room)). s.me.1) step.latch ∙ has.out
+            ∙ ap slots_out (sym (numbers_counted us ∙ numbers_kept ts us kept));
         table = step.account.table ∙ has.table;
-        known = subst (λ x. AreKnown store.accounts.config x (counted us)) (sym sight) (known_after store.accounts.config old.account.me.0 ts us has.known kept has.apart small p st);
-        only = λ k c h. only_after store.accounts.config old.account.me.0 ts us has.known kept has.apart small p st has.only k c (subst (λ x. HasCell x k c) sight h);
+        known = subst (λ x. AreKnown store.accounts.config x (counted us)) (sym sight)
+            (known_after store.accounts.config old.account.me.0 ts us has.known kept has.apart small p st);
+        only = λ k c h. only_after store.accounts.config old.account.me.0 ts us has.known kept has.apart small p st
+            has.only k c (subst (λ x. HasCell x k c) sight h);
         apart = apart_counted us (apart_kept ts us kept has.apart);
         few = let e = length_counted us ∙ length_kept ts us kept in let few = has.few in omega (arith, e, few);
-        buffers = let e = length_counted us ∙ length_kept ts us kept in let same = step.buffers in let room = has.buffers in omega (arith, e, same, room);
+        buffers = let e = length_counted us ∙ length_kept ts us kept in let same = step.buffers in let room =
+            has.buffers in omega (arith, e, same, room);
         no_index = ap (λ (x : Sight). x.indexes) sight ∙ has.no_index;
       };
       rising = from_counted first_key us (from_kept first_key ts us kept holds.rising);

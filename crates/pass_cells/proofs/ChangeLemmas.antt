@@ -37,11 +37,13 @@ pass_is v p st has = ap (λ o. unwrap_or o fresh_pass) has
 -- no row has come yet
 pub none_come : (z : Config) (v : Sight) (ts : List TakenCell) → AreKnown z v ts → rows_come ts ≡ 0
 none_come z v [] known = refl
-none_come z v (t ∷ ts) known = let rest = none_come z v ts known.1 in let same = known.0.count in omega (arith, rest, same)
+none_come z v (t ∷ ts) known = let rest = none_come z v ts known.1 in let same =
+    known.0.count in omega (arith, rest, same)
 
 -- ---- the keys of a write
 
-all_at : (P : Key → Type 0) (keys : List Key) (q : Key) → AllByRecursion P keys → list_any (same_key q) keys ≡ true → P q
+all_at : (P : Key → Type 0) (keys : List Key) (q : Key) → AllByRecursion P keys → list_any (same_key q) keys ≡ true
+    → P q
 all_at P [] q all e = cc
 all_at P (k ∷ ks) q all e = elim (either_of (same_key q k) (list_any (same_key q) ks) e) as (λ _. P q) [
   | inl same ↦ subst P (sym (key_eq q k same)) all.0
@@ -57,7 +59,8 @@ all_back P [] ys all = all
 all_back P (x ∷ xs) ys all = all_back P xs ys all.1
 
 -- a write touches none but the ends of its edge
-touches_ends : (kind : Kind) (w : Write) (q : Key) → touches_at w q ≡ true → list_any (same_key q) (ends_in (rows_of kind w).ends) ≡ true
+touches_ends : (kind : Kind) (w : Write) (q : Key) → touches_at w q ≡ true
+    → list_any (same_key q) (ends_in (rows_of kind w).ends) ≡ true
 touches_ends kind (AddVertex v) q e = cc
 touches_ends kind (DropVertex v) q e = cc
 touches_ends kind (AddEdge u v weight) q e = more (same_key q (vertex_key u)) (same_key q (vertex_key v)) e
@@ -75,8 +78,11 @@ pub keys_held : (ts : List TakenCell) (kind : Kind) (w : Write) → AreHeld (hel
 keys_held ts kind w held q e =
     let P : Key → Type 0 = λ k. has_cell ts k ≡ true in
     elim (either_of (writes_at kind w q) (touches_at w q) e) as (λ _. has_cell ts q ≡ true) [
-      | inl f ↦ all_at P (written_keys (rows_of kind w)) q (all_front P (written_keys (rows_of kind w)) (ends_in (rows_of kind w).ends) held) (ap (list_any (same_key q)) (keys_are kind w) ∙ f)
-      | inr f ↦ all_at P (ends_in (rows_of kind w).ends) q (all_back P (written_keys (rows_of kind w)) (ends_in (rows_of kind w).ends) held) (touches_ends kind w q f)
+      | inl f ↦ all_at P (written_keys (rows_of kind w)) q
+          (all_front P (written_keys (rows_of kind w)) (ends_in (rows_of kind w).ends) held)
+          (ap (list_any (same_key q)) (keys_are kind w) ∙ f)
+      | inr f ↦ all_at P (ends_in (rows_of kind w).ends) q
+          (all_back P (written_keys (rows_of kind w)) (ends_in (rows_of kind w).ends) held) (touches_ends kind w q f)
     ]
 
 -- ---- what becomes of versions
@@ -101,22 +107,31 @@ module _ (kind : Kind) (q : Key) where
   touches_is (SetEdge u v weight) = refl
   touches_is (DropEdge u v) = refl
 
-  pub stamped_is : (w : Write) (by : TxnName) (vs : StampedVersions) → stamped_after by (rows_of kind w) q vs ≡ row_after kind by w q vs
-  stamped_is w by vs = λ i. cond (touches_is w i) (touched by (cond (list_any (same_key q) (keys_are kind w i)) (written by (left w i) vs) vs)) (cond (list_any (same_key q) (keys_are kind w i)) (written by (left w i) vs) vs)
+  pub stamped_is : (w : Write) (by : TxnName) (vs : StampedVersions)
+      → stamped_after by (rows_of kind w) q vs ≡ row_after kind by w q vs
+  stamped_is w by vs = λ i. cond (touches_is w i)
+      (touched by (cond (list_any (same_key q) (keys_are kind w i)) (written by (left w i) vs) vs))
+      (cond (list_any (same_key q) (keys_are kind w i)) (written by (left w i) vs) vs)
 
-  pub unstamped_is : (w : Write) (by : TxnName) (vs : StampedVersions) → stamped_before by (rows_of kind w) q vs ≡ row_before kind by w q vs
-  unstamped_is w by vs = λ i. cond (touches_is w i) (untouched by (cond (list_any (same_key q) (keys_are kind w i)) (undone vs) vs)) (cond (list_any (same_key q) (keys_are kind w i)) (undone vs) vs)
+  pub unstamped_is : (w : Write) (by : TxnName) (vs : StampedVersions)
+      → stamped_before by (rows_of kind w) q vs ≡ row_before kind by w q vs
+  unstamped_is w by vs = λ i. cond (touches_is w i)
+      (untouched by (cond (list_any (same_key q) (keys_are kind w i)) (undone vs) vs))
+      (cond (list_any (same_key q) (keys_are kind w i)) (undone vs) vs)
 
 -- ---- keys that still have to be stamped
 
 -- a key that isn't among others stays among the rest
-pub stays_beside : (others keys : List Key) (q : Key) → has_key others q ≡ false → has_key keys q ≡ true → has_key (keys_beside others keys) q ≡ true
+pub stays_beside : (others keys : List Key) (q : Key) → has_key others q ≡ false → has_key keys q ≡ true
+    → has_key (keys_beside others keys) q ≡ true
 stays_beside others [] q beside e = e
 stays_beside others (k ∷ ks) q beside e = go (has_key others k) refl (stays_beside others ks q beside)
   where
-    go : (b : Bool) → has_key others k ≡ b → (has_key ks q ≡ true → has_key (keys_beside others ks) q ≡ true) → has_key (cond (not (has_key others k)) (k ∷ keys_beside others ks) (keys_beside others ks)) q ≡ true
+    go : (b : Bool) → has_key others k ≡ b → (has_key ks q ≡ true → has_key (keys_beside others ks) q ≡ true)
+        → has_key (cond (not (has_key others k)) (k ∷ keys_beside others ks) (keys_beside others ks)) q ≡ true
     go false f ih = ap (λ b. has_key (cond (not b) (k ∷ keys_beside others ks) (keys_beside others ks)) q) f
-        ∙ (elim (either_of (same_key q k) (has_key ks q) e) as (λ _. (same_key q k || has_key (keys_beside others ks) q) ≡ true) [
+        ∙ (elim (either_of (same_key q k) (has_key ks q) e) as
+        (λ _. (same_key q k || has_key (keys_beside others ks) q) ≡ true) [
           | inl same ↦ ap (λ b. b || has_key (keys_beside others ks) q) same
           | inr rest ↦ last (same_key q k) (ih rest)
         ])
@@ -132,20 +147,24 @@ stays_beside others (k ∷ ks) q beside e = go (has_key others k) refl (stays_be
 
 -- ---- the steps
 
-module _ (z : Config) (v : Sight) (p : ℕ) (ts us : List TakenCell) (known : AreKnown z v ts) (kept : KeepCells ts us) (apart : AreApart ts)
+module _ (z : Config) (v : Sight) (p : ℕ) (ts us : List TakenCell) (known : AreKnown z v ts) (kept : KeepCells ts us)
+    (apart : AreApart ts)
     (rising : AreFrom first_key ts) where
   -- no more rows come than are counted
   grows_by : (most : ℕ) → rows_come us ≤ most → GrowsBy v (news_of v us) most
-  grows_by most few = λ cell agrees. let count = grows z v cell agrees ts us known kept (apart_kept ts us kept apart) in omega (arith, few, count)
+  grows_by most few = λ cell agrees. let count =
+      grows z v cell agrees ts us known kept (apart_kept ts us kept apart) in omega (arith, few, count)
 
   -- the news are of all keys whose cells are in hand
-  in_hand : (w : Write) → ((q : Key) → (writes_at z.kind w q || touches_at w q) ≡ true → has_cell ts q ≡ true) → HoldsKeys z w (news_of v us)
+  in_hand : (w : Write) → ((q : Key) → (writes_at z.kind w q || touches_at w q) ≡ true → has_cell ts q ≡ true)
+      → HoldsKeys z w (news_of v us)
   in_hand w held = λ q e.
       let news = news_at z v us (apart_kept ts us kept apart) q (covers_kept ts us kept q ∙ held q e) in
       (news.number, news.cell, news.there, news.covered)
 
   pub can_write : (w : Write) → (may : MayMake z v p w) → AreHeld (held_rows ts) (all_keys (rows_of z.kind w))
-      → ((q : Key) → (held_rows us).versions q ≡ stamped_after (name_at p (pass_of v p)) (rows_of z.kind w) q ((held_rows ts).versions q))
+      → ((q : Key) → (held_rows us).versions q ≡ stamped_after (name_at p (pass_of v p)) (rows_of z.kind w) q
+      ((held_rows ts).versions q))
       → rows_come us ≤ inserted_by z.kind w → CanWrite z v p (pass_of v p) w (news_of v us)
   can_write w may held lays few =
       let is = pass_is v p may.state may.has in
@@ -159,12 +178,14 @@ module _ (z : Config) (v : Sight) (p : ℕ) (ts us : List TakenCell) (known : Ar
         held = in_hand w (keys_held ts z.kind w held);
         changes = all_changes z v first_key ts us known kept rising;
         rows = rows_change z v ts us known kept rising (λ q a b. b ≡ row_after z.kind (name_at p may.state) w q a)
-            (λ q e. lays q ∙ stamped_is z.kind q w (name_at p (pass_of v p)) ((held_rows ts).versions q) ∙ ap (λ s. row_after z.kind (name_at p s) w q ((held_rows ts).versions q)) is);
+            (λ q e. lays q ∙ stamped_is z.kind q w (name_at p (pass_of v p)) ((held_rows ts).versions q)
+            ∙ ap (λ s. row_after z.kind (name_at p s) w q ((held_rows ts).versions q)) is);
         grows = grows_by (inserted_by z.kind w) few;
       })
 
   pub can_undo : (w : Write) → (may : MayUndo v p w) → AreHeld (held_rows ts) (all_keys (rows_of z.kind w))
-      → ((q : Key) → (held_rows us).versions q ≡ stamped_before (name_at p (pass_of v p)) (rows_of z.kind w) q ((held_rows ts).versions q))
+      → ((q : Key) → (held_rows us).versions q ≡ stamped_before (name_at p (pass_of v p)) (rows_of z.kind w) q
+      ((held_rows ts).versions q))
       → rows_come us ≤ 0 → CanUndo z v p (pass_of v p) (but_newest (pass_of v p).laid) w (news_of v us)
   can_undo w may held takes few =
       let is = pass_is v p may.state may.has in
@@ -175,7 +196,8 @@ module _ (z : Config) (v : Sight) (p : ℕ) (ts us : List TakenCell) (known : Ar
         held = in_hand w (keys_held ts z.kind w held);
         changes = all_changes z v first_key ts us known kept rising;
         rows = rows_change z v ts us known kept rising (λ q a b. b ≡ row_before z.kind (name_at p may.state) w q a)
-            (λ q e. takes q ∙ unstamped_is z.kind q w (name_at p (pass_of v p)) ((held_rows ts).versions q) ∙ ap (λ s. row_before z.kind (name_at p s) w q ((held_rows ts).versions q)) is);
+            (λ q e. takes q ∙ unstamped_is z.kind q w (name_at p (pass_of v p)) ((held_rows ts).versions q)
+            ∙ ap (λ s. row_before z.kind (name_at p s) w q ((held_rows ts).versions q)) is);
         grows = grows_by 0 few;
       })
 
@@ -184,14 +206,17 @@ module _ (z : Config) (v : Sight) (p : ℕ) (ts us : List TakenCell) (known : Ar
       → CanStamp z v p (pass_of v p) (keys_beside keys (pass_of v p).unstamped) may.place may.commit (news_of v us)
   can_stamp number keys may held stamps few =
       let is = pass_is v p may.state may.has in
-      subst (λ s. CanStamp z v p s (keys_beside keys s.unstamped) may.place may.commit (news_of v us)) (sym is) (record {
+      subst (λ s. CanStamp z v p s (keys_beside keys s.unstamped) may.place may.commit (news_of v us)) (sym is)
+      (record {
         has = may.has;
         stage = may.stage;
         commit = may.there;
         by = may.by;
         changes = all_changes z v first_key ts us known kept rising;
         rows = rows_change z v ts us known kept rising
-            (λ q a b. (b ≡ stamp (name_at p may.state) may.commit.stamp a) ⊎ ((b ≡ a) × (has_key may.state.unstamped q ≡ true → has_key (keys_beside keys may.state.unstamped) q ≡ true)))
+            (λ q a b. (b ≡ stamp (name_at p may.state) may.commit.stamp a) ⊎
+            ((b ≡ a) × (has_key may.state.unstamped q ≡ true
+            → has_key (keys_beside keys may.state.unstamped) q ≡ true)))
             (λ q e. one q (has_key keys q) refl);
         rest = λ q beside. stays_beside keys may.state.unstamped q (outside q beside (has_key keys q) refl);
         grows = grows_by 0 few;
@@ -199,16 +224,21 @@ module _ (z : Config) (v : Sight) (p : ℕ) (ts us : List TakenCell) (known : Ar
     where
       one : (q : Key) (b : Bool) → has_key keys q ≡ b
           → ((held_rows us).versions q ≡ stamp (name_at p may.state) may.commit.stamp ((held_rows ts).versions q))
-          ⊎ (((held_rows us).versions q ≡ (held_rows ts).versions q) × (has_key may.state.unstamped q ≡ true → has_key (keys_beside keys may.state.unstamped) q ≡ true))
-      one q true e = inl (stamps q ∙ ap (λ b. cond b (stamp (name_at p (pass_of v p)) number ((held_rows ts).versions q)) ((held_rows ts).versions q)) e
+          ⊎ (((held_rows us).versions q ≡ (held_rows ts).versions q) × (has_key may.state.unstamped q ≡ true
+          → has_key (keys_beside keys may.state.unstamped) q ≡ true))
+      one q true e = inl (stamps q
+          ∙ ap (λ b. cond b (stamp (name_at p (pass_of v p)) number ((held_rows ts).versions q))
+          ((held_rows ts).versions q)) e
           ∙ (λ i. stamp (name_at p (pass_is v p may.state may.has i)) (sym may.stamp_is i) ((held_rows ts).versions q)))
       one q false e = inr (
-        stamps q ∙ ap (λ b. cond b (stamp (name_at p (pass_of v p)) number ((held_rows ts).versions q)) ((held_rows ts).versions q)) e,
+        stamps q ∙ ap (λ b. cond b (stamp (name_at p (pass_of v p)) number ((held_rows ts).versions q))
+            ((held_rows ts).versions q)) e,
         stays_beside keys may.state.unstamped q e,
       )
 
       outside : (q : Key) → IsBeside (news_of v us) q → (b : Bool) → has_key keys q ≡ b → b ≡ false
       outside q beside false e = refl
       outside q beside true e =
-          let news = news_at z v us (apart_kept ts us kept apart) q (covers_kept ts us kept q ∙ all_at (λ k. has_cell ts k ≡ true) keys q held e) in
+          let news = news_at z v us (apart_kept ts us kept apart) q
+          (covers_kept ts us kept q ∙ all_at (λ k. has_cell ts k ≡ true) keys q held e) in
           never (covers news.cell.segment q) news.covered (beside news.number news.cell news.there)

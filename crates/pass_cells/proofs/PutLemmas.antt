@@ -36,7 +36,8 @@ out_of_packed [] = refl
 out_of_packed (h ∷ hs) = ap (λ l. l ++ (h.cell, slots.Out) ∷ []) (out_of_packed hs)
 
 -- what fits a cell's place
-pub fits_cell : (z : Config) (table : TableId) (k : ℕ) (slot : StoreSlot) → k < cells_of z → IsCellSlot table k slot → FitsPlace z table k slot
+pub fits_cell : (z : Config) (table : TableId) (k : ℕ) (slot : StoreSlot) → k < cells_of z → IsCellSlot table k slot
+    → FitsPlace z table k slot
 fits_cell z table k slot inside fits = record {
   cell = λ _. fits;
   index = λ e. absurd (omega (arith, inside, e));
@@ -45,12 +46,14 @@ fits_cell z table k slot inside fits = record {
 
 -- ---- the first cell is put
 
-module _ (store : Store) (old mid packed new : Pass) (all left : List TakenCell) (t : TakenCell) (before : List (Held StoreSlot)) (resting : RestingRows) (held : Held StoreSlot)
+module _ (store : Store) (old mid packed new : Pass) (all left : List TakenCell) (t : TakenCell)
+    (before : List (Held StoreSlot)) (resting : RestingRows) (held : Held StoreSlot)
     (putting : IsPutting store old mid all (t ∷ left) before)
     (pack : IsPackedCell t.held.cell putting.known.0.state mid packed resting)
     (given : mid.buffers < MOST_UNPACKED → packed.buffers ≡ mid.buffers + 1)
     (lay : OnlyAccount packed new (without_cell t.held.cell packed.account.me.0))
-    (cell : held.cell ≡ t.held.cell) (slot : IsCellSlot store.accounts.table.shared.table_id t.held.cell held.value) where
+    (cell : held.cell ≡ t.held.cell)
+    (slot : IsCellSlot store.accounts.table.shared.table_id t.held.cell held.value) where
   abbrev k : ℕ
   k = t.held.cell
 
@@ -62,9 +65,11 @@ module _ (store : Store) (old mid packed new : Pass) (all left : List TakenCell)
 
   -- cells of other numbers are known as before
   cell_else : (l : ℕ) → l ≢ k → kept_at new.account.me.0.cells l ≡ kept_at mid.account.me.0.cells l
-  cell_else l other = ap (λ (x : Sight). kept_at x.cells l) view ∙ without_else k l packed.account.me.0.cells other ∙ others.cells l other
+  cell_else l other = ap (λ (x : Sight). kept_at x.cells l) view ∙ without_else k l packed.account.me.0.cells other
+      ∙ others.cells l other
 
-  known_else : (x : TakenCell) → x.held.cell ≢ k → IsKnown store.accounts.config mid.account.me.0 x → IsKnown store.accounts.config new.account.me.0 x
+  known_else : (x : TakenCell) → x.held.cell ≢ k → IsKnown store.accounts.config mid.account.me.0 x
+      → IsKnown store.accounts.config new.account.me.0 x
   known_else x other known = record {
     state = known.state;
     has = cell_else x.held.cell other ∙ known.has;
@@ -78,11 +83,15 @@ module _ (store : Store) (old mid packed new : Pass) (all left : List TakenCell)
     count = known.count;
   }
 
-  all_else : (xs : List TakenCell) → is_taken k xs ≡ false → AreKnown store.accounts.config mid.account.me.0 xs → AreKnown store.accounts.config new.account.me.0 xs
+  all_else : (xs : List TakenCell) → is_taken k xs ≡ false → AreKnown store.accounts.config mid.account.me.0 xs
+      → AreKnown store.accounts.config new.account.me.0 xs
   all_else [] none known = tt
   all_else (x ∷ xs) none known =
-      let parts = neither (k == x.held.cell) (is_taken k xs) none in
-      (known_else x (λ e. never (k == x.held.cell) (ap (λ n. k == n) e ∙ self_eq k) parts.0) known.0, all_else xs parts.1 known.1)
+      let parts = neither (k == x.held.cell) (is_taken k xs) none in (
+        known_else x (λ e. never (k == x.held.cell) (ap (λ n. k == n) e ∙ self_eq k) parts.0) known.0,
+        all_else xs
+            parts.1 known.1,
+      )
     where
       neither : (a b : Bool) → (a || b) ≡ false → (a ≡ false) × (b ≡ false)
       neither true b e = cc
@@ -91,14 +100,19 @@ module _ (store : Store) (old mid packed new : Pass) (all left : List TakenCell)
   numbers : map (λ h. h.cell) (before ++ held ∷ []) ++ numbers_of left ≡ numbers_of all
   numbers = go before ∙ putting.numbers
     where
-      go : (xs : List (Held StoreSlot)) → map (λ h. h.cell) (xs ++ held ∷ []) ++ numbers_of left ≡ map (λ h. h.cell) xs ++ numbers_of (t ∷ left)
+      go : (xs : List (Held StoreSlot)) → map (λ h. h.cell) (xs ++ held ∷ []) ++ numbers_of left ≡ map
+          (λ h. h.cell) xs ++ numbers_of (t ∷ left)
       go [] = ap (λ n. n ∷ numbers_of left) cell
       go (x ∷ xs) = ap (λ l. x.cell ∷ l) (go xs)
 
   fit : (xs : List (Held StoreSlot)) → AreFit store xs → AreFit store (xs ++ held ∷ [])
   fit [] all = (
-    subst (λ n. FitsPlace store.accounts.config store.accounts.table.shared.table_id n held.value × (n < cells_of store.accounts.config + 2)) (sym cell)
-        (fits_cell store.accounts.config store.accounts.table.shared.table_id k held.value putting.known.0.inside slot, (let inside = putting.known.0.inside in omega (arith, inside))),
+    subst (λ n. FitsPlace store.accounts.config store.accounts.table.shared.table_id n held.value ×
+        (n < cells_of store.accounts.config + 2)) (sym cell) (
+          fits_cell store.accounts.config store.accounts.table.shared.table_id k held.value putting.known.0.inside
+              slot,
+          (let inside = putting.known.0.inside in omega (arith, inside)),
+        ),
     tt,
   )
   fit (x ∷ xs) all = (all.0, fit xs all.1)
@@ -107,12 +121,14 @@ module _ (store : Store) (old mid packed new : Pass) (all left : List TakenCell)
   only : (l : ℕ) (c : CellState) → HasCell new.account.me.0 l c → is_taken l left ≡ true
   only l c has =
       let was = without_kept k packed.account.me.0.cells l c (ap (λ (x : Sight). kept_at x.cells l) (sym view) ∙ has) in
-      elim (either_of (l == k) (is_taken l left) (putting.only l c (sym (others.cells l was.1) ∙ was.0))) as (λ _. is_taken l left ≡ true) [
+      elim (either_of (l == k) (is_taken l left) (putting.only l c (sym (others.cells l was.1) ∙ was.0))) as
+      (λ _. is_taken l left ≡ true) [
         | inl same ↦ absurd (was.1 (eq_of l k same))
         | inr rest ↦ rest
       ]
 
-  same_part : {X : Type 0} (part : Sight → X) → part (without_cell k packed.account.me.0) ≡ part packed.account.me.0 → part packed.account.me.0 ≡ part mid.account.me.0
+  same_part : {X : Type 0} (part : Sight → X) → part (without_cell k packed.account.me.0) ≡ part packed.account.me.0
+      → part packed.account.me.0 ≡ part mid.account.me.0
       → part mid.account.me.0 ≡ part old.account.me.0 → part new.account.me.0 ≡ part old.account.me.0
   same_part part a b c = ap part view ∙ a ∙ b ∙ c
 
@@ -120,7 +136,8 @@ module _ (store : Store) (old mid packed new : Pass) (all left : List TakenCell)
   putting_more = record {
     kept = record {
       number = lay.number ∙ pack.number ∙ putting.kept.number;
-      latch = ap (λ (s : Seat StoreSlot (LatchSight Room)). number_of s.me.0) (lay.latch ∙ pack.latch) ∙ putting.kept.latch;
+      latch = ap (λ (s : Seat StoreSlot (LatchSight Room)). number_of s.me.0) (lay.latch ∙ pack.latch)
+          ∙ putting.kept.latch;
       slots = ap (λ m. m.1) lay.account.me ∙ pack.account.slots ∙ putting.kept.slots;
       passes = same_part (λ (x : Sight). x.passes) refl others.passes putting.kept.passes;
       pins = same_part (λ (x : Sight). x.pins) refl others.pins putting.kept.pins;
@@ -136,15 +153,27 @@ module _ (store : Store) (old mid packed new : Pass) (all left : List TakenCell)
     known = all_else left putting.apart.0 putting.known.1;
     only = only;
     apart = putting.apart.1;
-    buffers = let all = putting.buffers in let one = given (omega (arith, all)) in let same = lay.buffers in omega (arith, all, one, same);
+    buffers = let all = putting.buffers in let one = given (omega (arith, all)) in let same =
+        lay.buffers in omega (arith, all, one, same);
     no_index = ap (λ (x : Sight). x.indexes) view ∙ others.indexes ∙ putting.no_index;
   }
 
 -- ---- at first, and once all are put
 
-pub putting_none : (store : Store) (pass : Pass) (ts : List TakenCell) → HasTaken store pass ts → IsPutting store pass pass ts ts []
+pub putting_none : (store : Store) (pass : Pass) (ts : List TakenCell) → HasTaken store pass ts
+    → IsPutting store pass pass ts ts []
 putting_none store pass ts has = record {
-  kept = record { number = refl; latch = refl; slots = refl; passes = refl; pins = refl; journals = refl; told = refl; readers = refl; reads = refl };
+  kept = record {
+    number = refl;
+    latch = refl;
+    slots = refl;
+    passes = refl;
+    pins = refl;
+    journals = refl;
+    told = refl;
+    readers = refl;
+    reads = refl;
+  };
   latch = refl;
   table = has.table;
   numbers = refl;

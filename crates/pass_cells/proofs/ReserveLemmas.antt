@@ -31,10 +31,12 @@ use Rattle.pass_cells.proofs.StepLemmas.{apart_kept, from_kept, length_kept, num
 -- ---- rows by their versions
 
 -- what is found of a key in a segment is told by its versions
-find_is : (s : VersionedRows) → IsSegment s → (q : Key) → find key_cmp q s.rows ≡ cond (is_nothing (versions_at s q)) None (Some (versions_at s q))
+find_is : (s : VersionedRows) → IsSegment s → (q : Key)
+    → find key_cmp q s.rows ≡ cond (is_nothing (versions_at s q)) None (Some (versions_at s q))
 find_is s sound q = go (find key_cmp q s.rows) (row_by_versions s q sound)
   where
-    go : (o : Option StampedVersions) → is_some o ≡ not (is_nothing (or_nothing o)) → o ≡ cond (is_nothing (or_nothing o)) None (Some (or_nothing o))
+    go : (o : Option StampedVersions) → is_some o ≡ not (is_nothing (or_nothing o))
+        → o ≡ cond (is_nothing (or_nothing o)) None (Some (or_nothing o))
     go None e = refl
     go (Some vs) e = by_test (is_nothing vs) e
       where
@@ -48,7 +50,8 @@ none_found : (s : VersionedRows) (q : Key) → covers s q ≡ false → (rows : 
 none_found s q none [] all = refl
 none_found s q none (row ∷ rows) all = by_test (eq_by_cmp key_cmp q row.0) refl (none_found s q none rows all.1)
   where
-    by_test : (t : Bool) → eq_by_cmp key_cmp q row.0 ≡ t → find key_cmp q rows ≡ None → cond (eq_by_cmp key_cmp q row.0) (Some row.1) (find key_cmp q rows) ≡ None
+    by_test : (t : Bool) → eq_by_cmp key_cmp q row.0 ≡ t → find key_cmp q rows ≡ None
+        → cond (eq_by_cmp key_cmp q row.0) (Some row.1) (find key_cmp q rows) ≡ None
     by_test true e rest = never (covers s q) (ap (covers s) (key_eq q row.0 (sym (key_tie q row.0) ∙ e)) ∙ all.0) none
     by_test false e rest = ap (λ b. cond b (Some row.1) (find key_cmp q rows)) e ∙ rest
 
@@ -59,8 +62,10 @@ outside s sound q none = ap or_nothing (none_found s q none s.rows sound.within)
 pub same_rows : (s t : VersionedRows) → IsSegment s → IsSegment t → t.low ≡ s.low → t.high ≡ s.high
     → ((q : Key) → covers s q ≡ true → versions_at t q ≡ versions_at s q) → t.rows ≡ s.rows
 same_rows s t sound sound' low high each =
-    same_entries key_cmp keys_total keys_exact t.rows s.rows (rises_sorted t.rows sound'.rising) (rises_sorted s.rows sound.rising) (λ q.
-    find_is t sound' q ∙ ap (λ vs. cond (is_nothing vs) None (Some vs)) (all q (covers s q) refl) ∙ sym (find_is s sound q))
+    same_entries key_cmp keys_total keys_exact t.rows s.rows (rises_sorted t.rows sound'.rising)
+    (rises_sorted s.rows sound.rising) (λ q.
+    find_is t sound' q ∙ ap (λ vs. cond (is_nothing vs) None (Some vs)) (all q (covers s q) refl)
+    ∙ sym (find_is s sound q))
   where
     all : (q : Key) (b : Bool) → covers s q ≡ b → versions_at t q ≡ versions_at s q
     all q true e = each q e
@@ -68,7 +73,8 @@ same_rows s t sound sound' low high each =
 
 -- ---- room for records
 
-module _ (ts : List TakenCell) (t u : TakenCell) (key : Key) (place : ℕ) (is : IsPlace ts key place) (there : slice_get ts place ≡ Some t)
+module _ (ts : List TakenCell) (t u : TakenCell) (key : Key) (place : ℕ) (is : IsPlace ts key place)
+    (there : slice_get ts place ≡ Some t)
     (has : has_cell ts key ≡ true) (kept : u.rows ≡ t.rows) (same : IsSameSegment t.held.value u.held.value)
     (spare : t.held.value.spare ≤ u.held.value.spare) where
   abbrev pub us : List TakenCell
@@ -82,24 +88,30 @@ module _ (ts : List TakenCell) (t u : TakenCell) (key : Key) (place : ℕ) (is :
 
   cells : (q : Key) → IsSameSegment (cell_at ts q) (cell_at us q)
   cells q = elim (either_cell key u ts has fits q) as (λ _. IsSameSegment (cell_at ts q) (cell_at us q)) [
-    | inl h ↦ subst (λ (x : VersionedRows × VersionedRows). IsSameSegment x.0 x.1) (λ i. (sym (h.0 ∙ sym own) i, sym h.1 i)) same
+    | inl h ↦ subst (λ (x : VersionedRows × VersionedRows). IsSameSegment x.0 x.1)
+        (λ i. (sym (h.0 ∙ sym own) i, sym h.1 i)) same
     | inr h ↦ subst (λ c. IsSameSegment (cell_at ts q) c) (sym h.0) (record { low = refl; high = refl; rows = refl })
   ]
 
   more : (q : Key) → (cell_at ts q).spare ≤ (cell_at us q).spare
   more q = elim (either_cell key u ts has fits q) as (λ _. (cell_at ts q).spare ≤ (cell_at us q).spare) [
-    | inl h ↦ subst (λ (x : VersionedRows × VersionedRows). x.0.spare ≤ x.1.spare) (λ i. (sym (h.0 ∙ sym own) i, sym h.1 i)) spare
+    | inl h ↦ subst (λ (x : VersionedRows × VersionedRows). x.0.spare ≤ x.1.spare)
+        (λ i. (sym (h.0 ∙ sym own) i, sym h.1 i)) spare
     | inr h ↦ subst (λ (c : VersionedRows). (cell_at ts q).spare ≤ c.spare) (sym h.0) (omega arith)
   ]
 
-  same_come : (xs : List TakenCell) (p : ℕ) → IsPlace xs key p → slice_get xs p ≡ Some t → rows_come (replaced key u xs) ≡ rows_come xs
+  same_come : (xs : List TakenCell) (p : ℕ) → IsPlace xs key p → slice_get xs p ≡ Some t
+      → rows_come (replaced key u xs) ≡ rows_come xs
   same_come [] p at e = absurd at
   same_come (x ∷ xs) zero at e =
       let one : x ≡ t = some_is x t e in
-      let rows : length x.held.value.rows ≡ length u.held.value.rows = ap (λ (y : TakenCell). length y.held.value.rows) one ∙ ap length (sym same.rows) in
+      let rows : length x.held.value.rows ≡ length u.held.value.rows =
+      ap (λ (y : TakenCell). length y.held.value.rows) one ∙ ap length (sym same.rows) in
       let count : x.rows ≡ u.rows = ap (λ (y : TakenCell). y.rows) one ∙ sym kept in
-      ap (λ c. rows_come (cond c (u ∷ xs) (x ∷ replaced key u xs))) at ∙ (λ i. (sym rows i - sym count i) + rows_come xs)
-  same_come (x ∷ xs) (suc p) at e = ap (λ c. rows_come (cond c (u ∷ xs) (x ∷ replaced key u xs))) at.0 ∙ ap (λ n. (length x.held.value.rows - x.rows) + n) (same_come xs p at.1 e)
+      ap (λ c. rows_come (cond c (u ∷ xs) (x ∷ replaced key u xs))) at
+      ∙ (λ i. (sym rows i - sym count i) + rows_come xs)
+  same_come (x ∷ xs) (suc p) at e = ap (λ c. rows_come (cond c (u ∷ xs) (x ∷ replaced key u xs))) at.0
+      ∙ ap (λ n. (length x.held.value.rows - x.rows) + n) (same_come xs p at.1 e)
 
   pub reserves : Reserves (held_rows ts) (held_rows us)
   reserves = record {
@@ -135,24 +147,33 @@ module _ (z : Config) (v : Sight) (all ns : List TakenCell) (rising : AreFrom fi
     (same : (q : Key) → (held_rows ns).versions q ≡ (held_rows all).versions q) where
   one_known : (t u : TakenCell) → IsAmong t all → IsAmong u ns → IsKnown z v t → KeepsCell t u → IsKnown z v u
   one_known t u among among' known keeps =
-      let rows : u.held.value.rows ≡ t.held.value.rows = same_rows t.held.value u.held.value known.sound (keeps.sound known.sound) keeps.low keeps.high (λ q e.
+      let rows : u.held.value.rows ≡ t.held.value.rows =
+      same_rows t.held.value u.held.value known.sound (keeps.sound known.sound) keeps.low keeps.high (λ q e.
       let one = unique_cell first_key all rising t among q e in
-      let two = unique_cell first_key ns (from_kept first_key all ns kept rising) u among' q (covers_same u.held.value t.held.value keeps.low keeps.high q ∙ e) in
-      ap (λ (s : VersionedRows). versions_at s q) (sym two.0) ∙ same q ∙ ap (λ (s : VersionedRows). versions_at s q) one.0) in
+      let two = unique_cell first_key ns (from_kept first_key all ns kept rising) u among' q
+      (covers_same u.held.value t.held.value keeps.low keeps.high q ∙ e) in
+      ap (λ (s : VersionedRows). versions_at s q) (sym two.0) ∙ same q
+      ∙ ap (λ (s : VersionedRows). versions_at s q) one.0) in
       record {
         state = known.state;
         has = subst (λ k. HasCell v k known.state) (sym keeps.cell) known.has;
         inside = subst (λ k. k < cells_of z) (sym keeps.cell) known.inside;
         unpacked = known.unpacked;
         wide = known.wide;
-        same = record { low = keeps.low ∙ known.same.low; high = keeps.high ∙ known.same.high; rows = rows ∙ known.same.rows };
+        same = record {
+          low = keeps.low ∙ known.same.low;
+          high = keeps.high ∙ known.same.high;
+          rows = rows
+              ∙ known.same.rows;
+        };
         sound = keeps.sound known.sound;
         small = subst (λ l. HasSmallWeights (record t.held.value { rows = l })) (sym rows) known.small;
         untouched = λ e. known.untouched (keeps.same e).0;
         count = keeps.rows ∙ known.count ∙ ap length (sym rows);
       }
 
-  pub still_known : (ts us : List TakenCell) → ((t : TakenCell) → IsAmong t ts → IsAmong t all) → ((u : TakenCell) → IsAmong u us → IsAmong u ns)
+  pub still_known : (ts us : List TakenCell) → ((t : TakenCell) → IsAmong t ts → IsAmong t all)
+      → ((u : TakenCell) → IsAmong u us → IsAmong u ns)
       → AreKnown z v ts → KeepCells ts us → AreKnown z v us
   still_known [] [] of_all of_ns known keeps = tt
   still_known (t ∷ ts) (u ∷ us) of_all of_ns known keeps = (
@@ -171,7 +192,8 @@ holds_still store pass ts us holds kept same =
         latch = has.latch;
         out = has.out ∙ ap slots_out (sym (numbers_kept ts us kept));
         table = has.table;
-        known = still_known store.accounts.config pass.account.me.0 ts us holds.rising kept same ts us (λ t among. among) (λ u among. among) has.known kept;
+        known = still_known store.accounts.config pass.account.me.0 ts us holds.rising kept same ts us
+            (λ t among. among) (λ u among. among) has.known kept;
         only = λ k c h. taken_kept k ts us kept ∙ has.only k c h;
         apart = apart_kept ts us kept has.apart;
         few = let e = length_kept ts us kept in let few = has.few in omega (arith, e, few);

@@ -41,11 +41,13 @@ module _ (f : StampedVersions → Option ℕ) where
   read_is_seen [] = refl
   read_is_seen (e ∷ es) = go (f e.1) (read_is_seen es)
     where
-      go : (v : Option ℕ) → rows_read f es ≡ map row_of (seen es) → with_row e.0 v (rows_read f es) ≡ map row_of (seen_if e.0 v (seen es))
+      go : (v : Option ℕ) → rows_read f es ≡ map row_of (seen es)
+          → with_row e.0 v (rows_read f es) ≡ map row_of (seen_if e.0 v (seen es))
       go None rest = rest
       go (Some w) rest = ap (λ rs. record { key = e.0; weight = w } ∷ rs) rest
 
-  below_seen : (x : Key) (es : List (Key × StampedVersions)) → below_all key_cmp x es ≡ true → below_all key_cmp x (seen es) ≡ true
+  below_seen : (x : Key) (es : List (Key × StampedVersions)) → below_all key_cmp x es ≡ true
+      → below_all key_cmp x (seen es) ≡ true
   below_seen x [] below = refl
   below_seen x (e ∷ es) below =
       let both = both_true (is_lt (key_cmp x e.0)) (below_all key_cmp x es) below in
@@ -74,14 +76,17 @@ module _ (f : StampedVersions → Option ℕ) where
       not_equal Equal e = cc
       not_equal Greater e = cc
 
-  seen_found : f nothing ≡ None → (es : List (Key × StampedVersions)) → is_sorted key_cmp es ≡ true → (q : Key) → find key_cmp q (seen es) ≡ f (or_nothing (find key_cmp q es))
+  seen_found : f nothing ≡ None → (es : List (Key × StampedVersions)) → is_sorted key_cmp es ≡ true → (q : Key)
+      → find key_cmp q (seen es) ≡ f (or_nothing (find key_cmp q es))
   seen_found none [] sorted q = sym none
   seen_found none (e ∷ es) sorted q =
       let both = both_true (below_all key_cmp e.0 es) (is_sorted key_cmp es) sorted in
-      elim (eq_by_cmp key_cmp q e.0) as (λ t. eq_by_cmp key_cmp q e.0 ≡ t → find key_cmp q (seen_if e.0 (f e.1) (seen es)) ≡ f (or_nothing (cond t (Some e.1) (find key_cmp q es)))) [
+      elim (eq_by_cmp key_cmp q e.0) as (λ t. eq_by_cmp key_cmp q e.0 ≡ t
+      → find key_cmp q (seen_if e.0 (f e.1) (seen es)) ≡ f (or_nothing (cond t (Some e.1) (find key_cmp q es)))) [
         | true ↦ λ tie.
             elim (f e.1) as (λ v. find key_cmp q (seen_if e.0 v (seen es)) ≡ v) [
-              | None ↦ ap (λ k. find key_cmp k (seen es)) (key_is q e.0 tie) ∙ absent e.0 (seen es) (below_seen e.0 es both.0)
+              | None ↦ ap (λ k. find key_cmp k (seen es)) (key_is q e.0 tie)
+                  ∙ absent e.0 (seen es) (below_seen e.0 es both.0)
               | Some w ↦ ap (λ t. cond t (Some w) (find key_cmp q (seen es))) tie
             ]
         | false ↦ λ other.
@@ -101,25 +106,33 @@ module _ (f : StampedVersions → Option ℕ) where
 
   -- a key range of a segment, where each key of it shows the graph's value
   pub range_read : f nothing ≡ None → (c : VersionedRows) → IsSegment c → (g : Graph) (from until : Key)
-      → ((q : Key) → is_between from until q ≡ true → f (versions_at c q) ≡ value_at g q) → rows_read f (range_of from until c.rows) ≡ rows g from until
+      → ((q : Key) → is_between from until q ≡ true → f (versions_at c q) ≡ value_at g q)
+      → rows_read f (range_of from until c.rows) ≡ rows g from until
   range_read none c sound g from until shows =
       read_is_seen (range_of from until c.rows)
-      ∙ rows_of_values g from until (seen (range_of from until c.rows)) (seen_sorted (range_of from until c.rows) sorted)
-      (λ q. seen_found none (range_of from until c.rows) sorted q ∙ ap (λ o. f (or_nothing o)) (find-where_key key_cmp (is_between from until) q (alike q) c.rows) ∙ value q (is_between from until q) refl)
+      ∙ rows_of_values g from until (seen (range_of from until c.rows))
+      (seen_sorted (range_of from until c.rows) sorted)
+      (λ q. seen_found none (range_of from until c.rows) sorted q
+      ∙ ap (λ o. f (or_nothing o)) (find-where_key key_cmp (is_between from until) q (alike q) c.rows)
+      ∙ value q (is_between from until q) refl)
     where
       sorted : is_sorted key_cmp (range_of from until c.rows) ≡ true
-      sorted = true_from_T (is_sorted key_cmp (range_of from until c.rows)) (is_sorted-where_key key_cmp (is_between from until) c.rows (rises_sorted c.rows sound.rising))
+      sorted = true_from_T (is_sorted key_cmp (range_of from until c.rows))
+          (is_sorted-where_key key_cmp (is_between from until) c.rows (rises_sorted c.rows sound.rising))
 
       alike : (q x : Key) → key_cmp q x ≡ Equal → is_between from until x ≡ is_between from until q
       alike q x e = ap (is_between from until) (sym (keys_exact q x e))
 
-      value : (q : Key) (t : Bool) → is_between from until q ≡ t → f (or_nothing (cond t (find key_cmp q c.rows) None)) ≡ cond t (value_at g q) None
+      value : (q : Key) (t : Bool) → is_between from until q ≡ t
+          → f (or_nothing (cond t (find key_cmp q c.rows) None)) ≡ cond t (value_at g q) None
       value q true e = shows q e
       value q false e = none
 
 -- a run has at most as many rows as a segment
-pub few_read : (f : StampedVersions → Option ℕ) (c : VersionedRows) (from until : Key) → IsSegment c → length (rows_read f (range_of from until c.rows)) ≤ 32
-few_read f c from until sound = let a = few (range_of from until c.rows) in let b = part c.rows in let d = sound.small in omega (arith, a, b, d)
+pub few_read : (f : StampedVersions → Option ℕ) (c : VersionedRows) (from until : Key) → IsSegment c
+    → length (rows_read f (range_of from until c.rows)) ≤ 32
+few_read f c from until sound = let a = few (range_of from until c.rows) in let b = part c.rows in let d =
+    sound.small in omega (arith, a, b, d)
   where
     one : (k : Key) (v : Option ℕ) (rs : List Row) → length (with_row k v rs) ≤ length rs + 1
     one k None rs = omega arith
@@ -133,26 +146,39 @@ few_read f c from until sound = let a = few (range_of from until c.rows) in let 
     part [] = omega arith
     part (e ∷ es) = go (is_between from until e.0) (part es)
       where
-        go : (t : Bool) → length (range_of from until es) ≤ length es → length (cond t (e ∷ range_of from until es) (range_of from until es)) ≤ length (e ∷ es)
+        go : (t : Bool) → length (range_of from until es) ≤ length es
+            → length (cond t (e ∷ range_of from until es) (range_of from until es)) ≤ length (e ∷ es)
         go true h = omega (arith, h)
         go false h = omega (arith, h)
 
 -- what the run of a cell in hand has
-pub run_is : (stamps : TxnName → Option ℕ) (snapshot : Snapshot) (ts : List TakenCell) (g : Graph) (t : TakenCell) (from until : Key) → AreRising ts → IsAmong t ts
+pub run_is : (stamps : TxnName → Option ℕ) (snapshot : Snapshot) (ts : List TakenCell) (g : Graph) (t : TakenCell)
+    (from until : Key) → AreRising ts → IsAmong t ts
     → IsSegment t.held.value → covers t.held.value from ≡ true → ShowsHeld stamps snapshot (held_rows ts) g
-    → rows_at stamps snapshot from (lesser t.held.value.high until) t.held.value ≡ rows g from (lesser t.held.value.high until)
+    → rows_at stamps snapshot from (lesser t.held.value.high until) t.held.value ≡ rows g from
+    (lesser t.held.value.high until)
 run_is stamps snapshot ts g t from until rising among sound holds shows =
-    range_read (read_stamped stamps snapshot.start snapshot.own) refl t.held.value sound g from (lesser t.held.value.high until) value
+    range_read (read_stamped stamps snapshot.start snapshot.own) refl t.held.value sound g from
+    (lesser t.held.value.high until) value
   where
-    in_cell : (q : Key) (b : Bool) → is_below t.held.value.high until ≡ b → is_between from (cond b t.held.value.high until) q ≡ true → covers t.held.value q ≡ true
+    in_cell : (q : Key) (b : Bool) → is_below t.held.value.high until ≡ b
+        → is_between from (cond b t.held.value.high until) q ≡ true → covers t.held.value q ≡ true
     in_cell q true e between =
         let parts = between_parts from t.held.value.high q between in
-        between_of t.held.value.low t.held.value.high q (upto_chain t.held.value.low from q (between_parts t.held.value.low t.held.value.high from holds).0 parts.0) parts.1
+        between_of t.held.value.low t.held.value.high q
+        (upto_chain t.held.value.low from q
+        (between_parts t.held.value.low t.held.value.high from holds).0 parts.0) parts.1
     in_cell q false e between =
         let parts = between_parts from until q between in
-        between_of t.held.value.low t.held.value.high q (upto_chain t.held.value.low from q (between_parts t.held.value.low t.held.value.high from holds).0 parts.0) (below_up q until t.held.value.high parts.1 e)
+        between_of t.held.value.low t.held.value.high q
+        (upto_chain t.held.value.low from q
+        (between_parts t.held.value.low t.held.value.high from holds).0 parts.0)
+        (below_up q until t.held.value.high parts.1 e)
 
-    value : (q : Key) → is_between from (lesser t.held.value.high until) q ≡ true → read_stamped stamps snapshot.start snapshot.own (versions_at t.held.value q) ≡ value_at g q
+    value : (q : Key) → is_between from (lesser t.held.value.high until) q ≡ true
+        → read_stamped stamps snapshot.start snapshot.own (versions_at t.held.value q) ≡ value_at g q
     value q between =
-        let cell = unique_cell first_key ts rising t among q (in_cell q (is_below t.held.value.high until) refl between) in
-        ap (λ (s : VersionedRows). read_stamped stamps snapshot.start snapshot.own (versions_at s q)) (sym cell.0) ∙ shows q cell.1
+        let cell = unique_cell first_key ts rising t among q
+        (in_cell q (is_below t.held.value.high until) refl between) in
+        ap (λ (s : VersionedRows). read_stamped stamps snapshot.start snapshot.own (versions_at s q)) (sym cell.0)
+        ∙ shows q cell.1

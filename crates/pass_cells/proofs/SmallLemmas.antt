@@ -30,14 +30,16 @@ none_small = (tt, tt)
 undone_small : (vs : StampedVersions) → HasSmallValues vs → HasSmallValues (undone vs)
 undone_small vs small = (rest vs.pairs small.0, small.1)
   where
-    rest : (ps : List Stamped) → AllByRecursion (λ p. IsSmall p.value) ps → AllByRecursion (λ p. IsSmall p.value) (drop 1 ps)
+    rest : (ps : List Stamped) → AllByRecursion (λ p. IsSmall p.value) ps
+        → AllByRecursion (λ p. IsSmall p.value) (drop 1 ps)
     rest [] h = tt
     rest (p ∷ ps) h = h.1
 
 pub stamp_small : (by : TxnName) (c : ℕ) (vs : StampedVersions) → HasSmallValues vs → HasSmallValues (stamp by c vs)
 stamp_small by c vs small = (all vs.pairs small.0, small.1)
   where
-    all : (ps : List Stamped) → AllByRecursion (λ p. IsSmall p.value) ps → AllByRecursion (λ p. IsSmall p.value) (map (stamp_one by c) ps)
+    all : (ps : List Stamped) → AllByRecursion (λ p. IsSmall p.value) ps
+        → AllByRecursion (λ p. IsSmall p.value) (map (stamp_one by c) ps)
     all [] h = tt
     all (p ∷ ps) h = (one (same_name p.by by), all ps h.1)
       where
@@ -88,19 +90,23 @@ module _ (kind : Kind) (by : TxnName) (w : Write) (q : Key) (vs : StampedVersion
 pub small_at : (s : VersionedRows) → HasSmallWeights s → (q : Key) → HasSmallValues (versions_at s q)
 small_at s small q = go s.rows small
   where
-    go : (rows : List (Key × StampedVersions)) → AllByRecursion (λ row. HasSmallValues row.1) rows → HasSmallValues (or_nothing (find key_cmp q rows))
+    go : (rows : List (Key × StampedVersions)) → AllByRecursion (λ row. HasSmallValues row.1) rows
+        → HasSmallValues (or_nothing (find key_cmp q rows))
     go [] h = none_small
     go (row ∷ rows) h = one (eq_by_cmp key_cmp q row.0) (go rows h.1)
       where
-        one : (t : Bool) → HasSmallValues (or_nothing (find key_cmp q rows)) → HasSmallValues (or_nothing (cond t (Some row.1) (find key_cmp q rows)))
+        one : (t : Bool) → HasSmallValues (or_nothing (find key_cmp q rows))
+            → HasSmallValues (or_nothing (cond t (Some row.1) (find key_cmp q rows)))
         one true rest = h.0
         one false rest = rest
 
-all_by_place : {X : Type 0} (P : X → Type 0) (xs : List X) → ((i : ℕ) (x : X) → slice_get xs i ≡ Some x → P x) → AllByRecursion P xs
+all_by_place : {X : Type 0} (P : X → Type 0) (xs : List X) → ((i : ℕ) (x : X) → slice_get xs i ≡ Some x → P x)
+    → AllByRecursion P xs
 all_by_place P [] each = tt
 all_by_place P (x ∷ xs) each = (each 0 x refl, all_by_place P xs (λ i y e. each (suc i) y e))
 
-pub all_get : {X : Type 0} (P : X → Type 0) (xs : List X) (i : ℕ) (x : X) → AllByRecursion P xs → slice_get xs i ≡ Some x → P x
+pub all_get : {X : Type 0} (P : X → Type 0) (xs : List X) (i : ℕ) (x : X) → AllByRecursion P xs
+    → slice_get xs i ≡ Some x → P x
 all_get P [] i x h e = cc
 all_get P (y ∷ ys) zero x h e = subst P (some_is y x e) h.0
 all_get P (y ∷ ys) (suc i) x h e = all_get P ys i x h.1 e
@@ -110,10 +116,14 @@ same_entries [] = refl
 same_entries (r ∷ rs) = λ i. r ∷ same_entries rs i
 
 -- and back: each row has what its key has
-pub small_rows : (s : VersionedRows) → IsSegment s → ((q : Key) → covers s q ≡ true → HasSmallValues (versions_at s q)) → HasSmallWeights s
+pub small_rows : (s : VersionedRows) → IsSegment s
+    → ((q : Key) → covers s q ≡ true → HasSmallValues (versions_at s q)) → HasSmallWeights s
 small_rows s sound small = all_by_place (λ (row : Key × StampedVersions). HasSmallValues row.1) s.rows (λ place row e.
-    subst HasSmallValues (found place row e) (small row.0 (all_get (λ (r : Key × StampedVersions). is_between s.low s.high r.0 ≡ true) s.rows place row sound.within e)))
+    subst HasSmallValues (found place row e)
+    (small row.0 (all_get (λ (r : Key × StampedVersions). is_between s.low s.high r.0 ≡ true) s.rows place row
+    sound.within e)))
   where
     found : (place : ℕ) (row : Key × StampedVersions) → slice_get s.rows place ≡ Some row → versions_at s row.0 ≡ row.1
     found place row e = ap or_nothing (ap (find key_cmp row.0) (sym (same_entries s.rows))
-        ∙ find_there (λ (r : Key × StampedVersions). r.0) (λ (r : Key × StampedVersions). r.1) s.rows place row sound.rising e)
+        ∙ find_there (λ (r : Key × StampedVersions). r.0)
+        (λ (r : Key × StampedVersions). r.1) s.rows place row sound.rising e)

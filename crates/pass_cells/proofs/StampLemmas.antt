@@ -41,7 +41,8 @@ stamped_twice by n vs = λ i. record { pairs = twice vs.pairs i; oldest = vs.old
       where
         go : (t : Bool) → same_name p.by by ≡ t → stamp_one by n (stamp_one by n p) ≡ stamp_one by n p
         go true e = ap (λ t. stamp_one by n (cond t (record { by = p.by; stamp = Some n; value = p.value }) p)) e
-            ∙ ap (λ t. cond t (record { by = p.by; stamp = Some n; value = p.value }) (record { by = p.by; stamp = Some n; value = p.value })) e
+            ∙ ap (λ t. cond t (record { by = p.by; stamp = Some n; value = p.value })
+            (record { by = p.by; stamp = Some n; value = p.value })) e
             ∙ sym (ap (λ t. cond t (record { by = p.by; stamp = Some n; value = p.value }) p) e)
         go false e = ap (λ t. stamp_one by n (cond t (record { by = p.by; stamp = Some n; value = p.value }) p)) e
 
@@ -50,11 +51,15 @@ stamped_twice by n vs = λ i. record { pairs = twice vs.pairs i; oldest = vs.old
     twice (p ∷ ps) = λ i. one p i ∷ twice ps i
 
 -- a row that is stamped is none more
-pub stamp_count : (s t : VersionedRows) (key : Key) (by : TxnName) (n : ℕ) → IsSegment s → ChangesKey s t key (stamp by n (versions_at s key)) → length t.rows ≤ length s.rows
+pub stamp_count : (s t : VersionedRows) (key : Key) (by : TxnName) (n : ℕ) → IsSegment s
+    → ChangesKey s t key (stamp by n (versions_at s key)) → length t.rows ≤ length s.rows
 stamp_count s t key by n sound step =
-    let most : length t.rows ≤ length s.rows + cond (not (has_row s key) && not (is_nothing (stamp by n (versions_at s key)))) 1 0 = rw step.rows (row_count s key (stamp by n (versions_at s key)) sound) in
+    let most : length t.rows ≤ length s.rows + cond
+    (not (has_row s key) && not (is_nothing (stamp by n (versions_at s key)))) 1 0 =
+    rw step.rows (row_count s key (stamp by n (versions_at s key)) sound) in
     let none = no_more (has_row s key) (is_nothing (versions_at s key)) (row_by_versions s key sound) in
-    let same : ◌≡◌ {A = ℕ} (cond (not (has_row s key) && not (is_nothing (stamp by n (versions_at s key)))) 1 0) (cond (not (has_row s key) && not (is_nothing (versions_at s key))) 1 0)
+    let same : ◌≡◌ {A = ℕ} (cond (not (has_row s key) && not (is_nothing (stamp by n (versions_at s key)))) 1 0)
+    (cond (not (has_row s key) && not (is_nothing (versions_at s key))) 1 0)
     = ap (λ b. cond {A = ℕ} (not (has_row s key) && not b) 1 0) (stamped_nothing by n (versions_at s key)) in
     omega (arith, most, none, same)
   where
@@ -66,26 +71,40 @@ stamp_count s t key by n sound step =
 
 -- ---- in the cells in hand
 
-module _ (ts : List TakenCell) (t u : TakenCell) (key : Key) (place : ℕ) (is : IsPlace ts key place) (there : slice_get ts place ≡ Some t)
+module _ (ts : List TakenCell) (t u : TakenCell) (key : Key) (place : ℕ) (is : IsPlace ts key place)
+    (there : slice_get ts place ≡ Some t)
     (has : has_cell ts key ≡ true) (kept : u.rows ≡ t.rows) (by : TxnName) (n : ℕ)
     (step : ChangesKey t.held.value u.held.value key (stamp by n (versions_at t.held.value key))) where
   own : t.held.value ≡ cell_at ts key
   own = (at_place ts key place t is there).0
 
-  each : (q : Key) → versions_at u.held.value q ≡ cond (same_key q key) (stamp by n (versions_at t.held.value q)) (versions_at t.held.value q)
-  each q = key_changed t.held.value u.held.value key (stamp by n (versions_at t.held.value key)) step q ∙ (λ i. cond (key_tie q key i) (stamp by n (versions_at t.held.value key)) (versions_at t.held.value q))
+  each : (q : Key) → versions_at u.held.value q ≡ cond (same_key q key) (stamp by n (versions_at t.held.value q))
+      (versions_at t.held.value q)
+  each q = key_changed t.held.value u.held.value key (stamp by n (versions_at t.held.value key)) step q
+      ∙ (λ i. cond (key_tie q key i) (stamp by n (versions_at t.held.value key)) (versions_at t.held.value q))
       ∙ here (same_key q key) refl
     where
-      here : (b : Bool) → same_key q key ≡ b → cond b (stamp by n (versions_at t.held.value key)) (versions_at t.held.value q) ≡ cond b (stamp by n (versions_at t.held.value q)) (versions_at t.held.value q)
+      here : (b : Bool) → same_key q key ≡ b
+          → cond b (stamp by n (versions_at t.held.value key)) (versions_at t.held.value q) ≡ cond b
+          (stamp by n (versions_at t.held.value q)) (versions_at t.held.value q)
       here true e = ap (λ k. stamp by n (versions_at t.held.value k)) (sym (key_eq q key e))
       here false e = refl
 
   pub stamps_one : StampsRows by n (key ∷ []) ts (slice_set ts place u)
   stamps_one q = ap (λ l. versions_at (cell_at l q) q) (set_at ts key place u is)
-      ∙ (elim (either_cell key u ts has (step.low ∙ ap (λ (c : VersionedRows). c.low) own, step.high ∙ ap (λ (c : VersionedRows). c.high) own) q)
-      as (λ _. versions_at (cell_at (replaced key u ts) q) q ≡ cond (same_key q key || false) (stamp by n (versions_at (cell_at ts q) q)) (versions_at (cell_at ts q) q)) [
-        | inl h ↦ ap (λ s. versions_at s q) h.1 ∙ each q ∙ (λ i. cond (sym (or_false (same_key q key)) i) (stamp by n (versions_at ((own ∙ sym h.0) i) q)) (versions_at ((own ∙ sym h.0) i) q))
-        | inr h ↦ ap (λ s. versions_at s q) h.0 ∙ sym (ap (λ b. cond (b || false) (stamp by n (versions_at (cell_at ts q) q)) (versions_at (cell_at ts q) q)) h.1)
+      ∙ (elim (either_cell key u ts has (
+        step.low ∙ ap (λ (c : VersionedRows). c.low) own,
+        step.high
+            ∙ ap (λ (c : VersionedRows). c.high) own,
+      ) q)
+      as (λ _. versions_at (cell_at (replaced key u ts) q) q ≡ cond (same_key q key || false)
+      (stamp by n (versions_at (cell_at ts q) q)) (versions_at (cell_at ts q) q)) [
+        | inl h ↦ ap (λ s. versions_at s q) h.1 ∙ each q
+            ∙ (λ i. cond (sym (or_false (same_key q key)) i) (stamp by n (versions_at ((own ∙ sym h.0) i) q))
+            (versions_at ((own ∙ sym h.0) i) q))
+        | inr h ↦ ap (λ s. versions_at s q) h.0
+            ∙ sym (ap (λ b. cond (b || false) (stamp by n (versions_at (cell_at ts q) q))
+            (versions_at (cell_at ts q) q)) h.1)
       ])
     where
       or_false : (b : Bool) → (b || false) ≡ b
@@ -95,34 +114,44 @@ module _ (ts : List TakenCell) (t u : TakenCell) (key : Key) (place : ℕ) (is :
   pub stamps_count : IsSegment t.held.value → rows_come (slice_set ts place u) ≤ rows_come ts
   stamps_count sound =
       let few = stamp_count t.held.value u.held.value key by n sound step in
-      let more = subst (λ l. rows_come l ≤ rows_come ts + 0) (sym (set_at ts key place u is)) (more_come key u ts t place 0 is there kept (omega (arith, few))) in
+      let more = subst (λ l. rows_come l ≤ rows_come ts + 0) (sym (set_at ts key place u is))
+      (more_come key u ts t place 0 is there kept (omega (arith, few))) in
       omega (arith, more)
 
-  pub stamps_keep : IsSegment u.held.value → u.held.cell ≡ t.held.cell → u.held.changed ≡ true → KeepCells ts (slice_set ts place u)
-  stamps_keep sound cell marked = subst (KeepCells ts) (sym (set_at ts key place u is)) (kept_others key u ts t place is there (record {
-    cell = cell;
-    rows = kept;
-    low = step.low;
-    high = step.high;
-    sound = λ s. sound;
-    same = λ e. never u.held.changed marked e;
-  }))
+  pub stamps_keep : IsSegment u.held.value → u.held.cell ≡ t.held.cell → u.held.changed ≡ true
+      → KeepCells ts (slice_set ts place u)
+  stamps_keep sound cell marked =
+      subst (KeepCells ts) (sym (set_at ts key place u is)) (kept_others key u ts t place is there (record {
+        cell = cell;
+        rows = kept;
+        low = step.low;
+        high = step.high;
+        sound = λ s. sound;
+        same = λ e. never u.held.changed marked e;
+      }))
 
 -- ---- one after the other
 
 -- what one more key makes of rows that are stamped so far
-pub stamps_more : (by : TxnName) (n : ℕ) (keys : List Key) (place : ℕ) (d : Key) (ts ms us : List TakenCell) → place < length keys
-    → StampsRows by n (take place keys) ts ms → StampsRows by n (get_or keys place d ∷ []) ms us → StampsRows by n (take (place + 1) keys) ts us
+pub stamps_more : (by : TxnName) (n : ℕ) (keys : List Key) (place : ℕ) (d : Key) (ts ms us : List TakenCell)
+    → place < length keys
+    → StampsRows by n (take place keys) ts ms → StampsRows by n (get_or keys place d ∷ []) ms us
+    → StampsRows by n (take (place + 1) keys) ts us
 stamps_more by n keys place d ts ms us within one two q =
     two q ∙ ap (λ vs. cond (same_key q (get_or keys place d) || false) (stamp by n vs) vs) (one q)
     ∙ joined (has_key (take place keys) q) (same_key q (get_or keys place d)) ((held_rows ts).versions q)
-    ∙ ap (λ b. cond b (stamp by n ((held_rows ts).versions q)) ((held_rows ts).versions q)) (sym (list_any_more (same_key q) keys place d within))
+    ∙ ap (λ b. cond b (stamp by n ((held_rows ts).versions q)) ((held_rows ts).versions q))
+    (sym (list_any_more (same_key q) keys place d within))
   where
-    joined : (a b : Bool) (x : StampedVersions) → cond (b || false) (stamp by n (cond a (stamp by n x) x)) (cond a (stamp by n x) x) ≡ cond (a || b) (stamp by n x) x
+    joined : (a b : Bool) (x : StampedVersions)
+        → cond (b || false) (stamp by n (cond a (stamp by n x) x)) (cond a (stamp by n x) x) ≡ cond (a || b)
+        (stamp by n x) x
     joined true true x = stamped_twice by n x
     joined true false x = refl
     joined false true x = refl
     joined false false x = refl
 
-pub key_held : (ts : List TakenCell) (keys : List Key) (place : ℕ) (d : Key) → AllByRecursion (λ k. has_cell ts k ≡ true) keys → place < length keys → has_cell ts (get_or keys place d) ≡ true
-key_held ts keys place d all within = all_get (λ k. has_cell ts k ≡ true) keys place (get_or keys place d) all (slice_get-get_or keys place d within)
+pub key_held : (ts : List TakenCell) (keys : List Key) (place : ℕ) (d : Key)
+    → AllByRecursion (λ k. has_cell ts k ≡ true) keys → place < length keys → has_cell ts (get_or keys place d) ≡ true
+key_held ts keys place d all within =
+    all_get (λ k. has_cell ts k ≡ true) keys place (get_or keys place d) all (slice_get-get_or keys place d within)

@@ -28,13 +28,24 @@ use Rattle.pass_cells.proofs.CellLemmas.{IsAmong, covers_same}
 pub same_sound : (s t : VersionedRows) → IsSameSegment s t → IsSegment s → IsSegment t
 same_sound s t same sound =
     let moved : IsSegment (record s { low = t.low; high = t.high; rows = t.rows }) =
-    subst (λ (x : Key × Key × List (Key × StampedVersions)). IsSegment (record s { low = x.0; high = x.1; rows = x.2 })) (λ i. (sym same.low i, sym same.high i, sym same.rows i)) sound in
-    record { fences = moved.fences; rising = moved.rising; within = moved.within; something = moved.something; small = moved.small }
+    subst (λ (x : Key × Key × List (Key × StampedVersions)). IsSegment
+    (record s { low = x.0; high = x.1; rows = x.2 }))
+    (λ i. (sym same.low i, sym same.high i, sym same.rows i)) sound in
+    record {
+      fences = moved.fences;
+      rising = moved.rising;
+      within = moved.within;
+      something = moved.something;
+      small =
+          moved.small;
+    }
 
 pub same_spells : (block : List ℕ) (s t : VersionedRows) → IsSameSegment s t → Spells block s → Spells block t
 same_spells block s t same spells =
     let moved : Spells block (record s { low = t.low; high = t.high; rows = t.rows }) =
-    subst (λ (x : Key × Key × List (Key × StampedVersions)). Spells block (record s { low = x.0; high = x.1; rows = x.2 })) (λ i. (sym same.low i, sym same.high i, sym same.rows i)) spells in
+    subst (λ (x : Key × Key × List (Key × StampedVersions)). Spells block
+    (record s { low = x.0; high = x.1; rows = x.2 }))
+    (λ i. (sym same.low i, sym same.high i, sym same.rows i)) spells in
     record { wide = moved.wide; words = moved.words; sound = same_sound s t same spells.sound; small = moved.small }
 
 -- ---- what the view has
@@ -49,31 +60,42 @@ pub covers_low : (c : VersionedRows) → is_below c.low c.high ≡ true → cove
 covers_low c some = between_of c.low c.high c.low (below_self c.low) some
 
 -- what these cells cover isn't below where they begin
-pub none_below : (low : Key) (ts : List TakenCell) (q : Key) → AreFrom low ts → has_cell ts q ≡ true → is_below q low ≡ false
+pub none_below : (low : Key) (ts : List TakenCell) (q : Key) → AreFrom low ts → has_cell ts q ≡ true
+    → is_below q low ≡ false
 none_below low [] q from has = cc
 none_below low (t ∷ ts) q from has = go (covers t.held.value q) refl (none_below t.held.value.high ts q from.2)
   where
-    go : (b : Bool) → covers t.held.value q ≡ b → (has_cell ts q ≡ true → is_below q t.held.value.high ≡ false) → is_below q low ≡ false
+    go : (b : Bool) → covers t.held.value q ≡ b → (has_cell ts q ≡ true → is_below q t.held.value.high ≡ false)
+        → is_below q low ≡ false
     go true e rest = upto_chain low t.held.value.low q from.0 (between_parts t.held.value.low t.held.value.high q e).0
     go false e rest =
-        upto_chain low t.held.value.high q (upto_chain low t.held.value.low t.held.value.high from.0 (below_flip t.held.value.low t.held.value.high from.1))
+        upto_chain low t.held.value.high q
+        (upto_chain low t.held.value.low t.held.value.high from.0
+        (below_flip t.held.value.low t.held.value.high from.1))
         (rest (ap (λ b. b || has_cell ts q) (sym e) ∙ has))
 
 -- so what they cover no cell before them does
-pub not_before : (low : Key) (t : TakenCell) (ts : List TakenCell) (q : Key) → AreFrom low (t ∷ ts) → has_cell ts q ≡ true → covers t.held.value q ≡ false
-not_before low t ts q from has = last (not (is_below q t.held.value.low)) (is_below q t.held.value.high) (none_below t.held.value.high ts q from.2 has)
+pub not_before : (low : Key) (t : TakenCell) (ts : List TakenCell) (q : Key) → AreFrom low (t ∷ ts)
+    → has_cell ts q ≡ true → covers t.held.value q ≡ false
+not_before low t ts q from has =
+    last (not (is_below q t.held.value.low)) (is_below q t.held.value.high)
+    (none_below t.held.value.high ts q from.2 has)
   where
     last : (a b : Bool) → b ≡ false → (a && b) ≡ false
     last true b e = e
     last false b e = refl
 
 -- and each that covers a key is the key's
-pub unique_cell : (low : Key) (ts : List TakenCell) → AreFrom low ts → (t : TakenCell) → IsAmong t ts → (q : Key) → covers t.held.value q ≡ true
+pub unique_cell : (low : Key) (ts : List TakenCell) → AreFrom low ts → (t : TakenCell) → IsAmong t ts → (q : Key)
+    → covers t.held.value q ≡ true
     → (cell_at ts q ≡ t.held.value) × (has_cell ts q ≡ true)
 unique_cell low [] from t among q e = absurd among
 unique_cell low (x ∷ xs) from t (inl same) q e =
-    let here : covers x.held.value q ≡ true = ap (λ (y : TakenCell). covers y.held.value q) same ∙ e in
-    (ap (λ b. cond b x.held.value (cell_at xs q)) here ∙ ap (λ (y : TakenCell). y.held.value) same, ap (λ b. b || has_cell xs q) here)
+    let here : covers x.held.value q ≡ true = ap (λ (y : TakenCell). covers y.held.value q) same ∙ e in (
+      ap (λ b. cond b x.held.value (cell_at xs q)) here
+          ∙ ap (λ (y : TakenCell). y.held.value) same,
+      ap (λ b. b || has_cell xs q) here,
+    )
 unique_cell low (x ∷ xs) from t (inr among) q e =
     let rest = unique_cell x.held.value.high xs from.2 t among q e in
     let other = not_before low x xs q from rest.1 in
@@ -120,7 +142,8 @@ length_kept (t ∷ ts) [] kept = absurd kept
 
 pub covers_kept : (ts us : List TakenCell) → KeepCells ts us → (q : Key) → has_cell us q ≡ has_cell ts q
 covers_kept [] [] kept q = refl
-covers_kept (t ∷ ts) (u ∷ us) kept q = λ i. covers_same u.held.value t.held.value kept.0.low kept.0.high q i || covers_kept ts us kept.1 q i
+covers_kept (t ∷ ts) (u ∷ us) kept q =
+    λ i. covers_same u.held.value t.held.value kept.0.low kept.0.high q i || covers_kept ts us kept.1 q i
 covers_kept [] (u ∷ us) kept q = absurd kept
 covers_kept (t ∷ ts) [] kept q = absurd kept
 
@@ -151,23 +174,30 @@ module _ (z : Config) (v : Sight) where
         high = kept.high ∙ known.same.high;
         sound = kept.sound known.sound;
         key = t.held.value.low;
-        covered = sym (covers_same t.held.value known.state.segment known.same.low known.same.high t.held.value.low) ∙ covers_low t.held.value from.1;
+        covered = sym (covers_same t.held.value known.state.segment known.same.low known.same.high t.held.value.low)
+            ∙ covers_low t.held.value from.1;
       }
 
-  pub all_changes : (low : Key) (ts us : List TakenCell) → AreKnown z v ts → KeepCells ts us → AreFrom low ts → AreChanges z v (news_of v us)
+  pub all_changes : (low : Key) (ts us : List TakenCell) → AreKnown z v ts → KeepCells ts us → AreFrom low ts
+      → AreChanges z v (news_of v us)
   all_changes low [] [] known kept from = tt
-  all_changes low (t ∷ ts) (u ∷ us) known kept from = (change_of low t u ts known.0 kept.0 from, all_changes t.held.value.high ts us known.1 kept.1 from.2)
+  all_changes low (t ∷ ts) (u ∷ us) known kept from =
+      (change_of low t u ts known.0 kept.0 from, all_changes t.held.value.high ts us known.1 kept.1 from.2)
   all_changes low [] (u ∷ us) known kept from = absurd kept
   all_changes low (t ∷ ts) [] known kept from = absurd kept
 
   -- a cell of which there are news is in hand
-  pub news_taken : (k : ℕ) (us : List TakenCell) (d : CellState) → kept_at (news_of v us) k ≡ Some d → is_taken k us ≡ true
+  pub news_taken : (k : ℕ) (us : List TakenCell) (d : CellState) → kept_at (news_of v us) k ≡ Some d
+      → is_taken k us ≡ true
   news_taken k [] d e = cc
   news_taken k (u ∷ us) d e = go (k == u.held.cell) refl (news_taken k us d)
     where
-      go : (b : Bool) → (k == u.held.cell) ≡ b → (kept_at (news_of v us) k ≡ Some d → is_taken k us ≡ true) → ((k == u.held.cell) || is_taken k us) ≡ true
+      go : (b : Bool) → (k == u.held.cell) ≡ b → (kept_at (news_of v us) k ≡ Some d → is_taken k us ≡ true)
+          → ((k == u.held.cell) || is_taken k us) ≡ true
       go true f rest = ap (λ b. b || is_taken k us) f
-      go false f rest = ap (λ b. b || is_taken k us) f ∙ rest (ap (λ b. cond b (Some (record (state_of v u.held.cell) { segment = u.held.value })) (kept_at (news_of v us) k)) (sym f) ∙ e)
+      go false f rest = ap (λ b. b || is_taken k us) f
+          ∙ rest (ap (λ b. cond b (Some (record (state_of v u.held.cell) { segment = u.held.value }))
+          (kept_at (news_of v us) k)) (sym f) ∙ e)
 
   pub none_taken : (k : ℕ) (us : List TakenCell) → is_taken k us ≡ false → kept_at (news_of v us) k ≡ None
   none_taken k us none = elim (none_or_some (kept_at (news_of v us) k)) as (λ _. kept_at (news_of v us) k ≡ None) [
@@ -185,18 +215,25 @@ module _ (z : Config) (v : Sight) where
     pub same : IsSameSegment c.segment before.held.value
     pub segment : d.segment ≡ after.held.value
 
-  pub pair_of : (ts us : List TakenCell) → AreKnown z v ts → KeepCells ts us → (k : ℕ) (c d : CellState) → HasCell v k c → kept_at (news_of v us) k ≡ Some d → IsPair ts us k c d
+  pub pair_of : (ts us : List TakenCell) → AreKnown z v ts → KeepCells ts us → (k : ℕ) (c d : CellState)
+      → HasCell v k c → kept_at (news_of v us) k ≡ Some d → IsPair ts us k c d
   pair_of [] [] known kept k c d has e = cc
   pair_of (t ∷ ts) (u ∷ us) known kept k c d has e = go (k == u.held.cell) refl (pair_of ts us known.1 kept.1 k c d has)
     where
-      entry : (b : Bool) → (k == u.held.cell) ≡ b → cond b (Some (record (state_of v u.held.cell) { segment = u.held.value })) (kept_at (news_of v us) k) ≡ Some d
-      entry b f = ap (λ s. cond s (Some (record (state_of v u.held.cell) { segment = u.held.value })) (kept_at (news_of v us) k)) (sym f) ∙ e
+      entry : (b : Bool) → (k == u.held.cell) ≡ b
+          → cond b (Some (record (state_of v u.held.cell) { segment = u.held.value }))
+          (kept_at (news_of v us) k) ≡ Some d
+      entry b f = ap (λ s. cond s (Some (record (state_of v u.held.cell) { segment = u.held.value }))
+          (kept_at (news_of v us) k)) (sym f) ∙ e
 
-      go : (b : Bool) → (k == u.held.cell) ≡ b → (kept_at (news_of v us) k ≡ Some d → IsPair ts us k c d) → IsPair (t ∷ ts) (u ∷ us) k c d
+      go : (b : Bool) → (k == u.held.cell) ≡ b → (kept_at (news_of v us) k ≡ Some d → IsPair ts us k c d)
+          → IsPair (t ∷ ts) (u ∷ us) k c d
       go true f ih =
-          let is : (record (state_of v u.held.cell) { segment = u.held.value }) ≡ d = some_is (record (state_of v u.held.cell) { segment = u.held.value }) d (entry true f) in
+          let is : (record (state_of v u.held.cell) { segment = u.held.value }) ≡ d =
+          some_is (record (state_of v u.held.cell) { segment = u.held.value }) d (entry true f) in
           let number : k ≡ t.held.cell = eq_of k u.held.cell f ∙ kept.0.cell in
-          let state : c ≡ known.0.state = some_is c known.0.state (sym has ∙ ap (λ n. kept_at v.cells n) number ∙ known.0.has) in
+          let state : c ≡ known.0.state =
+          some_is c known.0.state (sym has ∙ ap (λ n. kept_at v.cells n) number ∙ known.0.has) in
           record {
             before = t;
             after = u;
@@ -235,7 +272,8 @@ module _ (z : Config) (v : Sight) where
       go true e ih = record {
         number = u.held.cell;
         cell = record (state_of v u.held.cell) { segment = u.held.value };
-        there = ap (λ b. cond b (Some (record (state_of v u.held.cell) { segment = u.held.value })) (kept_at (news_of v us) u.held.cell)) (self_eq u.held.cell);
+        there = ap (λ b. cond b (Some (record (state_of v u.held.cell) { segment = u.held.value }))
+            (kept_at (news_of v us) u.held.cell)) (self_eq u.held.cell);
         covered = e;
       }
       go false e ih =
@@ -243,7 +281,10 @@ module _ (z : Config) (v : Sight) where
           record {
             number = rest.number;
             cell = rest.cell;
-            there = ap (λ b. cond b (Some (record (state_of v u.held.cell) { segment = u.held.value })) (kept_at (news_of v us) rest.number)) (other rest.number (news_taken rest.number us rest.cell rest.there) (rest.number == u.held.cell) refl) ∙ rest.there;
+            there = ap (λ b. cond b (Some (record (state_of v u.held.cell) { segment = u.held.value }))
+                (kept_at (news_of v us) rest.number))
+                (other rest.number (news_taken rest.number us rest.cell rest.there) (rest.number == u.held.cell) refl)
+                ∙ rest.there;
             covered = rest.covered;
           }
         where
@@ -252,14 +293,17 @@ module _ (z : Config) (v : Sight) where
           other k among true f = never (is_taken k us) among ((λ i. is_taken (eq_of k u.held.cell f i) us) ∙ apart.0)
 
   -- rows come as they are counted
-  pub grows : (cell : ℕ → CellState) → Agrees v cell → (ts us : List TakenCell) → AreKnown z v ts → KeepCells ts us → AreApart us
+  pub grows : (cell : ℕ → CellState) → Agrees v cell → (ts us : List TakenCell) → AreKnown z v ts → KeepCells ts us
+      → AreApart us
       → growth cell (news_of v us) ≤ rows_come us
   grows cell agrees [] [] known kept apart = omega arith
   grows cell agrees (t ∷ ts) (u ∷ us) known kept apart =
       let rest = grows cell agrees ts us known.1 kept.1 apart.1 in
       let has = kept_state t u kept.0 known.0 in
       let before : length (revised cell (news_of v us) u.held.cell).segment.rows ≡ u.rows =
-      ap (λ (c : CellState). length c.segment.rows) (revised-none cell (news_of v us) u.held.cell (none_taken u.held.cell us apart.0) ∙ agrees u.held.cell known.0.state has)
+      ap (λ (c : CellState). length c.segment.rows)
+      (revised-none cell (news_of v us) u.held.cell (none_taken u.held.cell us apart.0)
+      ∙ agrees u.held.cell known.0.state has)
       ∙ ap length (sym known.0.same.rows) ∙ sym known.0.count ∙ sym kept.0.rows in
       omega (arith, rest, before)
   grows cell agrees [] (u ∷ us) known kept apart = absurd kept

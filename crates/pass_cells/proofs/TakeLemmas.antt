@@ -29,7 +29,8 @@ use Rattle.pass_cells.specs.Taken.{AreApart, AreFrom, end_from, is_taken}
 -- ---- one more behind the others
 
 module _ (t : TakenCell) where
-  pub slots_more : (ts : List TakenCell) → slots_out (numbers_of (ts ++ t ∷ [])) ≡ (t.held.cell, slots.Out) ∷ slots_out (numbers_of ts)
+  pub slots_more : (ts : List TakenCell)
+      → slots_out (numbers_of (ts ++ t ∷ [])) ≡ (t.held.cell, slots.Out) ∷ slots_out (numbers_of ts)
   slots_more [] = refl
   slots_more (x ∷ xs) = ap (λ l. l ++ (x.held.cell, slots.Out) ∷ []) (slots_more xs)
 
@@ -39,7 +40,8 @@ module _ (t : TakenCell) where
       last : (b : Bool) → (b || false) ≡ b
       last true = refl
       last false = refl
-  taken_more k (x ∷ xs) = ap (λ b. (k == x.held.cell) || b) (taken_more k xs) ∙ group (k == x.held.cell) (is_taken k xs) (k == t.held.cell)
+  taken_more k (x ∷ xs) = ap (λ b. (k == x.held.cell) || b) (taken_more k xs)
+      ∙ group (k == x.held.cell) (is_taken k xs) (k == t.held.cell)
     where
       group : (a b c : Bool) → (a || (b || c)) ≡ ((a || b) || c)
       group true b c = refl
@@ -48,8 +50,11 @@ module _ (t : TakenCell) where
   pub apart_more : (ts : List TakenCell) → AreApart ts → is_taken t.held.cell ts ≡ false → AreApart (ts ++ t ∷ [])
   apart_more [] apart new = (refl, tt)
   apart_more (x ∷ xs) apart new =
-      let parts = neither (t.held.cell == x.held.cell) (is_taken t.held.cell xs) new in
-      (taken_more x.held.cell xs ∙ both (is_taken x.held.cell xs) (x.held.cell == t.held.cell) apart.0 (eq_symm x.held.cell t.held.cell ∙ parts.0), apart_more xs apart.1 parts.1)
+      let parts = neither (t.held.cell == x.held.cell) (is_taken t.held.cell xs) new in (
+        taken_more x.held.cell xs ∙ both (is_taken x.held.cell xs) (x.held.cell == t.held.cell) apart.0
+            (eq_symm x.held.cell t.held.cell ∙ parts.0),
+        apart_more xs apart.1 parts.1,
+      )
     where
       neither : (a b : Bool) → (a || b) ≡ false → (a ≡ false) × (b ≡ false)
       neither true b e = cc
@@ -59,7 +64,8 @@ module _ (t : TakenCell) where
       both true b e f = cc
       both false b e f = f
 
-  pub from_more : (low : Key) (ts : List TakenCell) → AreFrom low ts → is_below t.held.value.low (end_from low ts) ≡ false
+  pub from_more : (low : Key) (ts : List TakenCell) → AreFrom low ts
+      → is_below t.held.value.low (end_from low ts) ≡ false
       → is_below t.held.value.low t.held.value.high ≡ true → AreFrom low (ts ++ t ∷ [])
   from_more low [] from next some = (next, some, tt)
   from_more low (x ∷ xs) from next some = (from.0, from.1, from_more x.held.value.high xs from.2 next some)
@@ -94,7 +100,8 @@ module _ (z : Config) (v : Sight) (k : ℕ) (c : CellState) where
     count = known.count;
   }
 
-  pub all_known : (ts : List TakenCell) (t : TakenCell) → is_taken k ts ≡ false → AreKnown z v ts → IsKnown z after t → AreKnown z after (ts ++ t ∷ [])
+  pub all_known : (ts : List TakenCell) (t : TakenCell) → is_taken k ts ≡ false → AreKnown z v ts → IsKnown z after t
+      → AreKnown z after (ts ++ t ∷ [])
   all_known [] t new known one = (one, tt)
   all_known (x ∷ xs) t new known one =
       let parts = neither (k == x.held.cell) (is_taken k xs) new in
@@ -105,7 +112,8 @@ module _ (z : Config) (v : Sight) (k : ℕ) (c : CellState) where
       neither false b e = (refl, e)
 
 -- a cell that was gathered is known
-pub one_known : (z : Config) (v : Sight) (c : CellState) (t : TakenCell) → t.held.cell < cells_of z → IsSameSegment c.segment t.held.value → IsSegment t.held.value
+pub one_known : (z : Config) (v : Sight) (c : CellState) (t : TakenCell) → t.held.cell < cells_of z
+    → IsSameSegment c.segment t.held.value → IsSegment t.held.value
     → IsUntouched (unpacked c) → t.rows ≡ length t.held.value.rows → IsKnown z (after z v t.held.cell c) t
 one_known z v c t inside same sound free count = record {
   state = unpacked c;
@@ -121,36 +129,46 @@ one_known z v c t inside same sound free count = record {
 }
 
 -- a pass that has taken a cell more
-pub has_more : (store : Store) (old mid new : Pass) (ts : List TakenCell) (t : TakenCell) → HasTaken store old ts → length ts < 4 → is_taken t.held.cell ts ≡ false
-    → mid.account ≡ old.account → mid.buffers ≡ old.buffers → IsLatchOf store mid.latch → mid.latch.me.1 ≡ (t.held.cell, slots.Out) ∷ old.latch.me.1
-    → IsGathered store.accounts.config mid new t.held → t.held.cell < cells_of store.accounts.config → IsSegment t.held.value
+pub has_more : (store : Store) (old mid new : Pass) (ts : List TakenCell) (t : TakenCell) → HasTaken store old ts
+    → length ts < 4 → is_taken t.held.cell ts ≡ false
+    → mid.account ≡ old.account → mid.buffers ≡ old.buffers → IsLatchOf store mid.latch
+    → mid.latch.me.1 ≡ (t.held.cell, slots.Out) ∷ old.latch.me.1
+    → IsGathered store.accounts.config mid new t.held → t.held.cell < cells_of store.accounts.config
+    → IsSegment t.held.value
     → t.rows ≡ length t.held.value.rows → HasTaken store new (ts ++ t ∷ [])
 has_more store old mid new ts t has few new_cell account buffers latch out gathered inside sound count =
     let z = store.accounts.config in
     let c = gathered.state in
     let k = t.held.cell in
-    let view : new.account.me.0 ≡ after z old.account.me.0 k c = ap (λ m. m.0) gathered.account.account.me ∙ ap (λ (a : Seat (Unit {0}) Sight). after z a.me.0 k c) account in
+    let view : new.account.me.0 ≡ after z old.account.me.0 k c =
+    ap (λ m. m.0) gathered.account.account.me ∙ ap (λ (a : Seat (Unit {0}) Sight). after z a.me.0 k c) account in
     record {
       latch = subst (IsLatchOf store) (sym gathered.account.latch) latch;
-      out = ap (λ (s : Seat StoreSlot (LatchSight Room)). s.me.1) gathered.account.latch ∙ out ∙ ap (λ l. (k, slots.Out) ∷ l) has.out ∙ sym (slots_more t ts);
+      out = ap (λ (s : Seat StoreSlot (LatchSight Room)). s.me.1) gathered.account.latch ∙ out
+          ∙ ap (λ l. (k, slots.Out) ∷ l) has.out ∙ sym (slots_more t ts);
       table = gathered.account.account.table ∙ ap (λ (a : Seat (Unit {0}) Sight). a.table_id) account ∙ has.table;
       known = subst (λ x. AreKnown z x (ts ++ t ∷ [])) (sym view)
-          (all_known z old.account.me.0 k c ts t new_cell has.known (one_known z old.account.me.0 c t inside gathered.same sound gathered.untouched count));
+          (all_known z old.account.me.0 k c ts t new_cell has.known
+          (one_known z old.account.me.0 c t inside gathered.same sound gathered.untouched count));
       only = λ j d h. taken_more t j ts ∙ only j d (subst (λ x. HasCell x j d) view h) (j == k) refl;
       apart = apart_more t ts has.apart new_cell;
       few = let e = length_more t ts in omega (arith, few, e);
-      buffers = let e = length_more t ts in let lent = gathered.account.buffers in let room = has.buffers in omega (arith, e, lent, room, buffers);
+      buffers = let e = length_more t ts in let lent = gathered.account.buffers in let room =
+          has.buffers in omega (arith, e, lent, room, buffers);
       no_index = ap (λ (x : Sight). x.indexes) view ∙ has.no_index;
     }
   where
-    only : (j : ℕ) (d : CellState) → HasCell (after store.accounts.config old.account.me.0 t.held.cell gathered.state) j d → (b : Bool) → (j == t.held.cell) ≡ b
+    only : (j : ℕ) (d : CellState)
+        → HasCell (after store.accounts.config old.account.me.0 t.held.cell gathered.state) j d → (b : Bool)
+        → (j == t.held.cell) ≡ b
         → (is_taken j ts || (j == t.held.cell)) ≡ true
     only j d h true e = ap (λ b. is_taken j ts || b) e ∙ last (is_taken j ts)
       where
         last : (a : Bool) → (a || true) ≡ true
         last true = refl
         last false = refl
-    only j d h false e = ap (λ b. b || (j == t.held.cell)) (has.only j d (sym (cell_else store.accounts.config old.account.me.0 t.held.cell gathered.state j e) ∙ h))
+    only j d h false e = ap (λ b. b || (j == t.held.cell))
+        (has.only j d (sym (cell_else store.accounts.config old.account.me.0 t.held.cell gathered.state j e) ∙ h))
 
 -- ---- no cell in hand
 
@@ -192,14 +210,16 @@ none_held store pass none = record { taken = none_taken store pass none; rising 
 
 -- ---- a note that is taken in, and a cell that is unpacked then
 
-pub gathered_then : (z : Config) (old mid new : Pass) (k n : ℕ) (state : CellState) (held : Held VersionedRows) → n ≡ k → held.cell ≡ n
+pub gathered_then : (z : Config) (old mid new : Pass) (k n : ℕ) (state : CellState) (held : Held VersionedRows)
+    → n ≡ k → held.cell ≡ n
     → OnlyAccount old mid (with_cell old.account.me.0 k state)
     → ((c : CellState) → HasCell mid.account.me.0 n c → LendsBuffer mid new (with_cell mid.account.me.0 n (unpacked c)))
     → ((c : CellState) → HasCell mid.account.me.0 n c → IsUntouched (unpacked c))
     → ((c : CellState) → HasCell mid.account.me.0 n c → IsSameSegment c.segment held.value) → IsGathered z old new held
 gathered_then z old mid new k n state held nk hn first unpack untouched same =
     let has : HasCell mid.account.me.0 n state = subst (λ j. HasCell mid.account.me.0 j state) (sym nk)
-    (ap (λ m. kept_at m.0.cells k) first.account.me ∙ ap (λ b. cond b (Some state) (kept_at old.account.me.0.cells k)) (same_number k)) in
+    (ap (λ m. kept_at m.0.cells k) first.account.me ∙ ap (λ b. cond b (Some state) (kept_at old.account.me.0.cells k))
+    (same_number k)) in
     let second = unpack state has in
     record {
       state = state;
@@ -210,7 +230,11 @@ gathered_then z old mid new k n state held nk hn first unpack untouched same =
         account = record {
           table = second.account.table ∙ first.account.table;
           me = second.account.me ∙ (λ i. (with_cell (first.account.me i).0 n (unpacked state), (first.account.me i).1))
-              ∙ (λ i. (with_cell (with_cell old.account.me.0 ((sym nk ∙ sym hn) i) state) (sym hn i) (unpacked state), old.account.me.1));
+              ∙ (λ i. (
+                with_cell (with_cell old.account.me.0 ((sym nk ∙ sym hn) i) state) (sym hn i)
+                    (unpacked state),
+                old.account.me.1,
+              ));
         };
       };
       same = same state has;

@@ -51,18 +51,22 @@ module _ (change : RowChange) (by : TxnName) (ts : List TakenCell) (t u : TakenC
   fits = (step.low ∙ ap (λ (c : VersionedRows). c.low) own, step.high ∙ ap (λ (c : VersionedRows). c.high) own)
 
   -- of each key
-  by_cell : (P : Key → VersionedRows → VersionedRows → Type 0) → ((q : Key) → P q t.held.value u.held.value) → ((q : Key) (c : VersionedRows) → same_key q key ≡ false → P q c c)
+  by_cell : (P : Key → VersionedRows → VersionedRows → Type 0) → ((q : Key) → P q t.held.value u.held.value)
+      → ((q : Key) (c : VersionedRows) → same_key q key ≡ false → P q c c)
       → (q : Key) → P q (cell_at ts q) (cell_at us q)
   by_cell P here else q =
       elim (either_cell key u ts has fits q) as (λ _. P q (cell_at ts q) (cell_at us q)) [
-        | inl h ↦ subst (λ (x : VersionedRows × VersionedRows). P q x.0 x.1) (λ i. (sym (h.0 ∙ sym own) i, sym h.1 i)) (here q)
+        | inl h ↦ subst (λ (x : VersionedRows × VersionedRows). P q x.0 x.1) (λ i. (sym (h.0 ∙ sym own) i, sym h.1 i))
+            (here q)
         | inr h ↦ subst (λ c. P q (cell_at ts q) c) (sym h.0) (else q (cell_at ts q) h.1)
       ]
 
   same_fences : (q : Key) → ((cell_at us q).low ≡ (cell_at ts q).low) × ((cell_at us q).high ≡ (cell_at ts q).high)
-  same_fences = by_cell (λ q c d. (d.low ≡ c.low) × (d.high ≡ c.high)) (λ q. (step.low, step.high)) (λ q c e. (refl, refl))
+  same_fences = by_cell (λ q c d. (d.low ≡ c.low) × (d.high ≡ c.high)) (λ q. (step.low, step.high))
+      (λ q c e. (refl, refl))
 
-  beside : (q : Key) (vs : StampedVersions) → same_key q key ≡ false → vs ≡ cond (same_key q key) (changed change by vs) vs
+  beside : (q : Key) (vs : StampedVersions) → same_key q key ≡ false
+      → vs ≡ cond (same_key q key) (changed change by vs) vs
   beside q vs e = sym (ap (λ b. cond b (changed change by vs) vs) e)
 
   few : length u.held.value.rows ≤ length t.held.value.rows + rows_for change (has_row t.held.value key)
@@ -70,23 +74,29 @@ module _ (change : RowChange) (by : TxnName) (ts : List TakenCell) (t u : TakenC
 
   pub changes : Changes change by (held_rows ts) (held_rows us) key
   changes = record {
-    versions = by_cell (λ q c d. versions_at d q ≡ cond (same_key q key) (changed change by (versions_at c q)) (versions_at c q))
+    versions = by_cell (λ q c d. versions_at d q ≡ cond (same_key q key) (changed change by (versions_at c q))
+        (versions_at c q))
         (each change by t.held.value u.held.value key sound sound' step) (λ q c e. beside q (versions_at c q) e);
     others = by_cell (λ q c d. same_key q key ≡ false → has_row d q ≡ has_row c q)
         (row_beside change by t.held.value u.held.value key sound sound' step) (λ q c e f. refl);
     stands = λ put. stands put;
     holds = has_same key u ts has fits;
     shares = λ p q. covers_same (cell_at us p) (cell_at ts p) (same_fences p).0 (same_fences p).1 q;
-    room = by_cell (λ q c d. SEGMENT_ROWS - length c.rows ≤ SEGMENT_ROWS - length d.rows + cond (covers c key) (rows_for change (has_row (cell_at ts key) key)) 0)
+    room = by_cell (λ q c d. SEGMENT_ROWS - length c.rows ≤ SEGMENT_ROWS - length d.rows + cond (covers c key)
+        (rows_for change (has_row (cell_at ts key) key)) 0)
         here_room (λ q c e. omega arith);
     spare = by_cell (λ q c d. c.spare ≤ d.spare + records_for change) (λ q. spare) (λ q c e. omega arith);
-    weight = subst (λ c. rows_come us ≤ rows_come ts + rows_for change (has_row c key)) own (more_come key u ts t place _ is there kept few);
+    weight = subst (λ c. rows_come us ≤ rows_come ts + rows_for change (has_row c key)) own
+        (more_come key u ts t place _ is there kept few);
   }
     where
-      here_room : (q : Key) → SEGMENT_ROWS - length t.held.value.rows ≤ SEGMENT_ROWS - length u.held.value.rows + cond (covers t.held.value key) (rows_for change (has_row (cell_at ts key) key)) 0
-      here_room q = subst (λ b. SEGMENT_ROWS - length t.held.value.rows ≤ SEGMENT_ROWS - length u.held.value.rows + cond b (rows_for change (has_row (cell_at ts key) key)) 0)
+      here_room : (q : Key) → SEGMENT_ROWS - length t.held.value.rows ≤ SEGMENT_ROWS - length u.held.value.rows + cond
+          (covers t.held.value key) (rows_for change (has_row (cell_at ts key) key)) 0
+      here_room q = subst (λ b. SEGMENT_ROWS - length t.held.value.rows ≤ SEGMENT_ROWS - length u.held.value.rows +
+          cond b (rows_for change (has_row (cell_at ts key) key)) 0)
           (sym (at_place ts key place t is there).1)
-          (subst (λ c. SEGMENT_ROWS - length t.held.value.rows ≤ SEGMENT_ROWS - length u.held.value.rows + rows_for change (has_row c key)) own (omega (arith, few)))
+          (subst (λ c. SEGMENT_ROWS - length t.held.value.rows ≤ SEGMENT_ROWS - length u.held.value.rows + rows_for
+          change (has_row c key)) own (omega (arith, few)))
 
       stands : 0 < records_for change → has_row (cell_at us key) key ≡ true
       stands put = by_cell (λ q c d. same_key q key ≡ true → has_row d key ≡ true)

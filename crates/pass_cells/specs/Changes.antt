@@ -84,7 +84,8 @@ FitsKind Undirected g = IsSymmetric g
 
 -- A write that a view allows, which is read in the rows in hand, has its ends there, and misses few rows.
 abbrev pub WritesHaveRows : Type 0
-WritesHaveRows = (kind : Kind) (ts : List TakenCell) (stamps : TxnName → Option ℕ) (snapshot : Snapshot) (g : Graph) (w : Write)
+WritesHaveRows = (kind : Kind) (ts : List TakenCell) (stamps : TxnName → Option ℕ) (snapshot : Snapshot) (g : Graph)
+    (w : Write)
     → ShowsHeld stamps snapshot (held_rows ts) g → FitsKind kind g → AreHeld (held_rows ts) (all_keys (rows_of kind w))
     → refused g w ≡ None → MayLay (held_rows ts) w × MissesFew kind (held_rows ts) w
 

@@ -7,7 +7,8 @@ use Rattle.cells_model.specs.Indexed.{covers}
 use Rattle.store_relation.specs.Keys.{has_key}
 use Rattle.pass_cells.specs.declared.room.RoomNeed.{RoomNeed}
 
--- The key is one of these and has no row, and its cell has fewer places than there are of these keys in it without a row.
+-- The key is one of these and has no row, and its cell has fewer places than there are of these keys in it without a
+-- row.
 pub record IsShort (c : HeldRows) (keys : List Key) (need : RoomNeed) : Type 0 where
   pub among : has_key keys need.key ≡ true
   pub held : c.holds need.key ≡ true

@@ -1,7 +1,7 @@
 //! What a pass changes in the cells in hand.
 //!
-//! 1. All rows change first. Then one load of the clock makes the pass's view know all of them, with what it says of the
-//!    pass itself.
+//! 1. All rows change first. Then one load of the clock makes the pass's view know all of them, with what it says of
+//!    the pass itself.
 //! 2. A change leaves the cells in hand, so several may be made before they are put back.
 
 ghost use Rattle.std.specs.Prelude.{◌≡◌, ◌≤◌, OnOk, OnErr, [], ◌∷◌};
@@ -105,7 +105,8 @@ impl PassCells {
         ensures holds { Holds store.now pass.new self.new.taken.list.items }
         ensures ok { OnOk result (IsWritten store.now.accounts.config write pass.old pass.new
             self.old.taken.list.items self.new.taken.list.items) }
-        ensures err { OnErr result ((pass.new ≡ pass.old) × Reserves (rows_in self.old.taken) (rows_in self.new.taken)) }
+        ensures err { OnErr result ((pass.new ≡ pass.old)
+            × Reserves (rows_in self.old.taken) (rows_in self.new.taken)) }
     {
         lay(&mut self.taken, by, found, earlier)?;
         let planned = Writing {

@@ -1,7 +1,7 @@
 //! Cells that a pass has in hand, and what it writes, takes back and reads there.
 //!
-//! 1. A pass takes the cells of a few keys, each once, in the order of their fence keys. While it holds one it waits for
-//!    no other without end: where one stays busy, or isn't the key's, it gives all back and begins again.
+//! 1. A pass takes the cells of a few keys, each once, in the order of their fence keys. While it holds one it waits
+//!    for no other without end: where one stays busy, or isn't the key's, it gives all back and begins again.
 //! 2. A cell that was taken is gathered and unpacked: its rows may change, and the pass's view knows them.
 //! 3. Rows change in all cells first. Then one step at the table makes the view know it, and only then are the cells
 //!    packed and given back.

@@ -1,6 +1,6 @@
 -- What the check of a write finds, from what the pass has learnt of the rows that it holds.
-use Rattle.std.proofs.Common.{◌≡◌, ◌≢◌, ◌⊎◌, inl, inr, ℕ, ◌+◌, ◌<◌, ◌≤◌, List, [], ◌∷◌, length, refl, sym, ◌∙◌, ap, subst, cond, arith}
-use Rattle.std.specs.Prelude.{Bool, true, false, ◌==◌, Option, Some, None, Result, Ok, Err, slice_get}
+use Rattle.std.proofs.Common.{◌≡◌, ◌⊎◌, inl, inr, ℕ, ◌+◌, ◌<◌, ◌≤◌, List, [], ◌∷◌, length, refl, sym, ◌∙◌, ap, subst, cond, arith}
+use Rattle.std.specs.Prelude.{Bool, true, false, ◌==◌, Option, Some, None, Result, Ok, Err}
 use Rattle.std.specs.List.{AllByRecursion}
 use Rattle.graph_model.specs.declared.journal.TxnName.{TxnName}
 use Rattle.graph_model.specs.declared.refusal.Cause.{Cause}
@@ -14,19 +14,17 @@ use Rattle.graph_model.specs.declared.write.Write.TheVariants.{AddVertex, DropVe
 use Rattle.graph_model.specs.Graph.{Graph, has_arc, has_edges, has_vertex}
 use Rattle.graph_model.specs.Refused.{refused}
 use Rattle.graph_model.specs.Transactions.{reached, stamp_in}
-use Rattle.graph_model.specs.Conflict.{same_name}
 use Rattle.txn_manager.specs.declared.config.Config.{Config}
 use Rattle.store_model.specs.Check.{MayWrite, looks_at}
-use Rattle.store_model.specs.Stamped.{Stamped, StampedVersions, forget_row, read_stamped}
+use Rattle.store_model.specs.Stamped.{Stamped, forget_row, read_stamped}
 use Rattle.store_model.specs.Versions.{sees}
 use Rattle.undo_chain.specs.declared.states.Snapshot.{Snapshot}
 use Rattle.undo_chain.specs.States.{Knowledge}
 use Rattle.version_segment.specs.Checks.{IsChecked, IsNamed}
-use Rattle.version_segment.specs.Rows.{versions_at}
-use Rattle.row_writes.specs.Checks.{AreNamedHeld, Answers, IsAnswer, ShowsHeld, TellsEdges, answer_of, looked_at, looked_keys, refusal_in}
+use Rattle.row_writes.specs.Checks.{AreNamedHeld, Answers, IsAnswer, ShowsHeld, TellsEdges, answer_of, looked_at, looked_keys}
 use Rattle.row_writes.specs.Held.{AreHeld, HeldRows}
 use Rattle.seat_views.specs.Keeping.{kept_at}
-use Rattle.store_relation.specs.CheckLaws.{AreSeen, IsCause, IsRightFor}
+use Rattle.store_relation.specs.CheckLaws.{AreSeen, IsRightFor}
 use Rattle.store_relation.specs.Passes.{PassState, name_at}
 use Rattle.store_relation.specs.Readers.{reader_of}
 use Rattle.store_relation.specs.Rows.{HasRecord}
@@ -34,15 +32,13 @@ use Rattle.store_relation.specs.Words.{Look, has_word}
 use Rattle.store_relation.proofs.CheckLemmas.{checked_cause, checked_free, holder_cause, later_cause}
 use Rattle.cells_model.specs.Cells.{CellState}
 use Rattle.rule_model.specs.NoteSteps.{HasRecordIn, HasRow, LearnsRows, LooksAtRecord}
-use Rattle.rule_model.specs.RowSteps.{looks_in}
 use Rattle.rule_model.specs.Sight.{Sight}
 use Rattle.store_rule.specs.declared.store.Pass.{Pass}
 use Rattle.store_rule.specs.declared.store.Store.{Store}
 use Rattle.pass_cells.specs.declared.taken.TakenCell.{TakenCell}
 use Rattle.pass_cells.specs.Holding.{AreSameRows, RowsAreKnown}
 use Rattle.pass_cells.specs.Taken.{held_rows}
-use Rattle.pass_steps.specs.Asking.{Asking, IsSnapshotOf, KnowsLooks, asking_of, is_vouched, is_writer, knowledge_at, lent_part}
-use Rattle.pass_steps.specs.Notes.{MeetsHolder, MeetsLater}
+use Rattle.pass_steps.specs.Asking.{Asking, IsSnapshotOf, KnowsLooks, asking_of, is_writer, knowledge_at, lent_part}
 use Rattle.pass_steps.specs.Passes.{reader_of_pass, state_in, state_of}
 use Rattle.pass_steps.proofs.PassLemmas.{pass_has_looked}
 use Rattle.pass_steps.proofs.WriterLemmas.{writers_named}

@@ -1,23 +1,17 @@
 -- A pass that takes cells in hand and puts them back, and one that steps meanwhile.
-use Rattle.std.proofs.Common.{◌≡◌, ◌≢◌, ℕ, ◌+◌, ◌<◌, ◌≤◌, List, [], ◌∷◌, length, refl, sym, ◌∙◌, ap, subst, arith}
-use Rattle.std.specs.Prelude.{false, true, Some, None, unwrap_or}
-use Rattle.std.specs.List.{AllByRecursion}
-use Rattle.latch_table.specs.Latched.{number_of}
-use Rattle.latch_table.specs.Latched.{IsPassOf as IsLatchPass}
+use Rattle.std.proofs.Common.{◌≡◌, ℕ, ◌+◌, ◌<◌, List, [], ◌∷◌, length, refl, sym, ◌∙◌, ap, subst, arith}
+use Rattle.std.specs.Prelude.{false, true, Some, unwrap_or}
 use Rattle.txn_manager.specs.declared.config.Config.{Config}
 use Rattle.graph_model.specs.Legal.{IsLegal}
 use Rattle.seat_views.specs.Keeping.{kept_at}
 use Rattle.store_relation.specs.Passes.{PassState, fresh_pass}
 use Rattle.cells_model.specs.Cells.{CellState}
-use Rattle.rule_model.specs.Sight.{HasCell, PinState, Sight, fresh_pin}
-use Rattle.store_rule.specs.Passes.{OnlyAccount}
+use Rattle.rule_model.specs.Sight.{PinState, Sight, fresh_pin}
 use Rattle.store_rule.specs.declared.store.Pass.{Pass}
 use Rattle.store_rule.specs.declared.store.Store.{Store}
 use Rattle.pass_cells.specs.declared.taken.TakenCell.{TakenCell}
 use Rattle.pass_cells.specs.Holding.{AreKnown, HasTaken, Holds, IsKnown, IsLatchOf, KeepsPass}
-use Rattle.pass_cells.specs.Taken.{is_taken}
-use Rattle.pass_steps.specs.Passes.{HasNoContents, HoldsNone, IsOwnSight, IsPassOf, IsSamePass, pin_in, pin_of, state_in, state_of}
-use Rattle.pass_steps.proofs.PassLemmas.{pass_after, sight_is, state_is}
+use Rattle.pass_steps.specs.Passes.{HoldsNone, IsOwnSight, IsPassOf, pin_of, state_of}
 use Rattle.pass_steps.proofs.SightLemmas.{kept_here}
 use Rattle.pass_writes.specs.Hand.{HasInHand, HasNothing, KeepsState}
 

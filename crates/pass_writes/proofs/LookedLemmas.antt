@@ -1,6 +1,6 @@
 -- The records at which a write looks: each stands in a row that is held, and the write looks at its writer.
-use Rattle.std.proofs.Common.{◌≡◌, ◌⊎◌, inl, inr, ℕ, zero, suc, ◌+◌, List, [], ◌∷◌, ◌++◌, map, take, refl, sym, ◌∙◌, ap, subst, cond, arith}
-use Rattle.std.specs.Prelude.{Bool, true, false, ◌&&◌, ◌||◌, ◌==◌, not, Option, Some, None, is_some, slice_get}
+use Rattle.std.proofs.Common.{◌≡◌, ◌⊎◌, inl, inr, ℕ, zero, suc, ◌+◌, List, [], ◌∷◌, ◌++◌, map, take, refl, sym, ◌∙◌, subst, cond, arith}
+use Rattle.std.specs.Prelude.{Bool, true, false, ◌&&◌, ◌||◌, ◌==◌, Option, Some, None, slice_get}
 use Rattle.std.specs.List.{AllByRecursion, list_any, filter}
 use Rattle.std.proofs.lemmas.Bool.{or_left, or_right, true≢false}
 use Rattle.std.proofs.lemmas.Bool.Decides.{nat_tests}
@@ -20,7 +20,7 @@ use Rattle.store_model.specs.Check.{MayWrite, drops_at, droppers, looks_at, newe
 use Rattle.store_model.specs.Layers.{row_key}
 use Rattle.store_model.specs.Stamped.{Stamped, StampedVersions, forget, forget_row}
 use Rattle.store_model.proofs.LookedLemmas.{same_key_eq}
-use Rattle.version_segment.specs.Checks.{drops_in, drops_of, newest_and_touches, newest_of}
+use Rattle.version_segment.specs.Checks.{drops_in, drops_of, newest_of}
 use Rattle.row_writes.specs.Checks.{looked_at, looked_keys}
 use Rattle.row_writes.specs.Held.{AreHeld, HeldRows}
 use Rattle.store_relation.specs.CheckLaws.{AreSeen}

@@ -1,10 +1,9 @@
 -- What the check of a write tells of the rows that it needs.
-use Rattle.std.proofs.Common.{◌≡◌, ℕ, List, refl, sym, ◌∙◌, ap, subst}
+use Rattle.std.proofs.Common.{◌≡◌, ℕ, List, sym, ◌∙◌, subst}
 use Rattle.std.specs.Prelude.{None}
 use Rattle.graph_model.specs.declared.write.Write.{Write}
 use Rattle.graph_model.specs.Refused.{refused}
 use Rattle.graph_model.specs.Transactions.{stamp_in}
-use Rattle.txn_manager.specs.declared.config.Config.{Config}
 use Rattle.undo_chain.specs.declared.states.Snapshot.{Snapshot}
 use Rattle.row_writes.specs.Checks.{ShowsHeld}
 use Rattle.row_writes.specs.Held.{AreHeld}

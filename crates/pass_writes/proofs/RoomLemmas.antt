@@ -10,8 +10,7 @@ use Rattle.graph_model.specs.declared.write.Kind.{Kind}
 use Rattle.graph_model.specs.declared.write.Kind.TheVariants.{Directed, Undirected}
 use Rattle.graph_model.specs.declared.write.Write.{Write}
 use Rattle.graph_model.specs.declared.write.Write.TheVariants.{AddVertex, DropVertex, AddEdge, SetEdge, DropEdge}
-use Rattle.graph_model.specs.Graph.{Graph, IsSymmetric, has_arc, has_edges, has_vertex, weight_of}
-use Rattle.graph_model.specs.Inserted.{inserted_by}
+use Rattle.graph_model.specs.Graph.{Graph, has_arc, has_edges, has_vertex, weight_of}
 use Rattle.graph_model.specs.Refused.{refused}
 use Rattle.graph_model.specs.Rows.{arc_key, key_cmp, value_at, vertex_key}
 use Rattle.graph_model.proofs.ViewLemmas.{view_symmetric}
@@ -21,7 +20,7 @@ use Rattle.undo_chain.specs.declared.states.Snapshot.{Snapshot}
 use Rattle.version_segment.specs.Rows.{or_nothing}
 use Rattle.row_writes.specs.Checks.{ShowsHeld}
 use Rattle.row_writes.specs.Held.{AreHeld, HeldRows}
-use Rattle.row_writes.specs.Laying.{MayLay, rows_missing}
+use Rattle.row_writes.specs.Laying.{MayLay}
 use Rattle.row_writes.specs.Written.{all_keys, rows_of}
 use Rattle.store_relation.specs.Passes.{PassState}
 use Rattle.pass_cells.specs.Changes.{MissesFew}
@@ -105,7 +104,8 @@ module _ (ts : List TakenCell) (stamps : TxnName → Option ℕ) (snapshot : Sna
   -- of one row or two at most so many are missing
   missing_one : (k : Key) → count_by (λ q. not (c.has_row q)) (k ∷ []) ≤ 1
   missing_one k = let one = one_or_none (not (c.has_row k)) in
-      let all : count_by (λ q. not (c.has_row q)) (k ∷ []) ≡ 0 + cond (not (c.has_row k)) 1 0 = refl in omega (arith, one, all)
+      let all : count_by (λ q. not (c.has_row q)) (k ∷ []) ≡ 0 + cond (not (c.has_row k)) 1 0 =
+      refl in omega (arith, one, all)
 
   missing_two : (j k : Key) → count_by (λ q. not (c.has_row q)) (j ∷ k ∷ []) ≤ 2
   missing_two j k =
@@ -117,7 +117,8 @@ module _ (ts : List TakenCell) (stamps : TxnName → Option ℕ) (snapshot : Sna
 
   here_one : (k : Key) → c.has_row k ≡ true → count_by (λ q. not (c.has_row q)) (k ∷ []) ≤ 0
   here_one k is = let one = none_missing (c.has_row k) is in
-      let all : count_by (λ q. not (c.has_row q)) (k ∷ []) ≡ 0 + cond (not (c.has_row k)) 1 0 = refl in omega (arith, one, all)
+      let all : count_by (λ q. not (c.has_row q)) (k ∷ []) ≡ 0 + cond (not (c.has_row k)) 1 0 =
+      refl in omega (arith, one, all)
 
   here_two : (j k : Key) → c.has_row j ≡ true → c.has_row k ≡ true
       → count_by (λ q. not (c.has_row q)) (j ∷ k ∷ []) ≤ 0
@@ -135,7 +136,8 @@ module _ (ts : List TakenCell) (stamps : TxnName → Option ℕ) (snapshot : Sna
       here_two (arc_key v u) (arc_key u v) (arc_there v u back (ap is_some (sym turned) ∙ arc)) (arc_there u v row arc)
 
 -- FEW: no write that is allowed brings more rows than it inserts
-pub misses_few : (ts : List TakenCell) (stamps : TxnName → Option ℕ) (snapshot : Snapshot) (kind : Kind) (st : PassState)
+pub misses_few : (ts : List TakenCell) (stamps : TxnName → Option ℕ) (snapshot : Snapshot) (kind : Kind)
+    (st : PassState)
     → ShowsHeld stamps snapshot (held_rows ts) (view_of kind st)
     → (w : Write) → AreHeld (held_rows ts) (all_keys (rows_of kind w)) → refused (view_of kind st) w ≡ None
     → MissesFew kind (held_rows ts) w
@@ -160,7 +162,8 @@ misses_few ts stamps snapshot Directed st shows (SetEdge u v weight) held allowe
 misses_few ts stamps snapshot Undirected st shows (SetEdge u v weight) held allowed =
     edge_there ts stamps snapshot (view_of Undirected st) shows u v
     (old_edge (has_arc (view_of Undirected st) u v)
-    (allowed_ends (view_of Undirected st) u v (cond (has_arc (view_of Undirected st) u v) None (Some NoEdge)) allowed).3)
+    (allowed_ends (view_of Undirected st) u v
+    (cond (has_arc (view_of Undirected st) u v) None (Some NoEdge)) allowed).3)
     (view_symmetric st.seen st.start st.own u v) held.0 held.1.0
 misses_few ts stamps snapshot Directed st shows (DropEdge u v) held allowed =
     here_one ts stamps snapshot (view_of Directed st) shows (arc_key u v)
@@ -169,5 +172,6 @@ misses_few ts stamps snapshot Directed st shows (DropEdge u v) held allowed =
 misses_few ts stamps snapshot Undirected st shows (DropEdge u v) held allowed =
     edge_there ts stamps snapshot (view_of Undirected st) shows u v
     (old_edge (has_arc (view_of Undirected st) u v)
-    (allowed_ends (view_of Undirected st) u v (cond (has_arc (view_of Undirected st) u v) None (Some NoEdge)) allowed).3)
+    (allowed_ends (view_of Undirected st) u v
+    (cond (has_arc (view_of Undirected st) u v) None (Some NoEdge)) allowed).3)
     (view_symmetric st.seen st.start st.own u v) held.0 held.1.0

@@ -1,7 +1,6 @@
 -- What the steps of a read, a write, an undo and a stamping leave of the state of their pass.
-use Rattle.std.proofs.Common.{◌≡◌, ◌≢◌, ◌⊎◌, inl, inr, ℕ, zero, suc, ◌+◌, ◌-◌, ◌<◌, ◌≤◌, List, [], ◌∷◌, ◌++◌, take, drop, length, length-append, refl, sym, ◌∙◌, ap, subst, cond, arith}
-use Rattle.std.specs.Prelude.{Bool, true, false, ◌&&◌, ◌||◌, not, Option, Some, None, Result, Ok, Err, slice_get}
-use Rattle.std.specs.List.{filter, list_any}
+use Rattle.std.proofs.Common.{◌≡◌, inl, inr, ℕ, zero, suc, ◌+◌, ◌-◌, ◌≤◌, List, [], ◌∷◌, ◌++◌, take, drop, length, length-append, refl, sym, ◌∙◌, ap, subst, cond, arith}
+use Rattle.std.specs.Prelude.{Bool, true, false, ◌&&◌, ◌||◌, not, Option, Some, Err, slice_get}
 use Rattle.std.proofs.lemmas.Bool.{or_left, or_right, true≢false}
 use Rattle.graph_model.specs.declared.journal.Begun.{Begun}
 use Rattle.graph_model.specs.declared.refusal.Cause.{Cause}
@@ -17,7 +16,7 @@ use Rattle.graph_model.specs.Legal.{IsLegal}
 use Rattle.graph_model.proofs.TestLemmas.{either_of, self_eq}
 use Rattle.store_model.proofs.LookedLemmas.{same_key_eq}
 use Rattle.txn_manager.specs.declared.config.Config.{Config}
-use Rattle.row_writes.specs.Written.{rows_of, touched_keys, written_keys}
+use Rattle.row_writes.specs.Written.{rows_of, touched_keys}
 use Rattle.row_writes.proofs.WrittenLemmas.{keys_are}
 use Rattle.store_relation.specs.Keys.{changed_keys, ends_of, has_key}
 use Rattle.store_relation.specs.Passes.{PassState, name_at}
@@ -30,7 +29,7 @@ use Rattle.rule_model.specs.Sight.{Sight, with_pass, with_rows}
 use Rattle.store_rule.specs.Passes.{OnlyAccount}
 use Rattle.store_rule.specs.declared.store.Pass.{Pass}
 use Rattle.store_rule.specs.declared.store.Store.{Store}
-use Rattle.pass_cells.specs.Changes.{but_newest, keys_beside}
+use Rattle.pass_cells.specs.Changes.{keys_beside}
 use Rattle.pass_cells.specs.declared.taken.TakenCell.{TakenCell}
 use Rattle.pass_cells.specs.Holding.{Holds}
 use Rattle.pass_steps.specs.Asking.{HasLooked, IsSnapshotOf, KnowsLooks}
@@ -73,7 +72,8 @@ pub looked_steps : (store : Store) (old new : Pass) (ts : List TakenCell) → Ha
 looked_steps store old new ts hand looks =
     let stepped = pass_has_looked store old new hand.of looks in
     record {
-      hand = stays_in_hand store old new ts hand stepped.of looks.latch looks.buffers looks.looked.cells looks.looked.indexes
+      hand = stays_in_hand store old new ts hand stepped.of looks.latch looks.buffers looks.looked.cells
+          looks.looked.indexes
           looks.looked.journals;
       state = stepped.state;
       pin = stepped.pin;
@@ -138,7 +138,8 @@ note_steps store old new ts w (Later stamp) hand step =
     let stepped = pass_is_stepped store old new st [] hand.of hand.of.legal step in
     let sight = sight_is store old new (with_pass v old.number st) step in
     record {
-      hand = stays_in_hand store old new ts hand stepped.of step.latch step.buffers (λ i. (sight i).cells) (λ i. (sight i).indexes)
+      hand = stays_in_hand store old new ts hand stepped.of step.latch step.buffers (λ i. (sight i).cells)
+          (λ i. (sight i).indexes)
           (λ i. (sight i).journals);
       state = stepped.state;
       pin = stepped.pin;
@@ -157,7 +158,8 @@ note_steps store old new ts w (Holder by) hand step =
     (own_rows (own_rows hand.of.sight found []) named [])
     (subst (λ (u : PassState). IsLegal store.accounts.config.kind u.seen) (sym here) hand.of.legal) in
     record {
-      hand = stays_in_hand store old new ts hand of step.latch step.buffers (λ i. (sight i).cells) (λ i. (sight i).indexes)
+      hand = stays_in_hand store old new ts hand of step.latch step.buffers (λ i. (sight i).cells)
+          (λ i. (sight i).indexes)
           (λ i. (sight i).journals);
       state = state_is store old new (with_pass mid p named) step ∙ here;
       pin = pin_is store old new (with_pass mid p named) step;
@@ -273,7 +275,8 @@ pub fewer_left : (kind : Kind) (w : Write) (ws : List Write) (keys : List Key) �
 fewer_left kind w ws keys left q h =
     let r = beside (keys_changed kind w) keys q h in
     let all = sym (has_append (keys_of kind w ++ ends_of w) (changed_keys kind ws) q) ∙ left q r.0 in
-    let off : has_key (keys_of kind w ++ ends_of w) q ≡ false = ap (λ l. has_key l q) (sym (changes_are kind w)) ∙ r.1 in
+    let off : has_key (keys_of kind w ++ ends_of w) q ≡ false =
+    ap (λ l. has_key l q) (sym (changes_are kind w)) ∙ r.1 in
     (λ i. sym off i || has_key (changed_keys kind ws) q) ∙ all
 
 -- behind the end nothing is left of a list

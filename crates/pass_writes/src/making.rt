@@ -167,7 +167,8 @@ fn lay(
     requires within { IsWithinLimits write }
     requires rows { rows.now ≡ rows_of store.now.accounts.config.kind write }
     requires held { AreHeld (rows_in cells.old.taken) (all_keys rows.now) }
-    requires found { MayBeMade store.now.accounts.config pass.old.account.me.0 pass.old.number (state_of pass.old) write }
+    requires found { MayBeMade store.now.accounts.config pass.old.account.me.0 pass.old.number (state_of pass.old)
+        write }
     requires may { MayLay (rows_in cells.old.taken) write }
     requires few { MissesFew store.now.accounts.config.kind (rows_in cells.old.taken) write }
     ensures hand { HasInHand store.now pass.new cells.new.taken.list.items }

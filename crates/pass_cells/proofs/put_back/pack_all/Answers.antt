@@ -19,7 +19,8 @@ lay_cell-held-requires-clause-table c =
     let full = not_none (vec_len c.cells.taken.list) (sym c.is_empty.ensures ∙ c.cells-test.true) in
     let some : 0 < length taken = omega (arith, full) in
     let is = head_is taken c.remove-held.result some c.remove-held.ensures.value in
-    let putting = subst (λ l. IsPutting c.args.store.now c.args.pass.now c.cells.pass c.args.taken.now.list.items l c.cells.packed.items) is c.cells.invariant.0 in
+    let putting = subst (λ l. IsPutting c.args.store.now c.args.pass.now c.cells.pass c.args.taken.now.list.items l
+    c.cells.packed.items) is c.cells.invariant.0 in
     let pack = c.pack-held.ensures.packed putting.known.0.state putting.known.0.has in
     pack.account.table ∙ putting.table
 
@@ -29,10 +30,12 @@ lay_cell-held-requires-clause-packed c =
     let full = not_none (vec_len c.cells.taken.list) (sym c.is_empty.ensures ∙ c.cells-test.true) in
     let some : 0 < length taken = omega (arith, full) in
     let is = head_is taken c.remove-held.result some c.remove-held.ensures.value in
-    let putting = subst (λ l. IsPutting c.args.store.now c.args.pass.now c.cells.pass c.args.taken.now.list.items l c.cells.packed.items) is c.cells.invariant.0 in
+    let putting = subst (λ l. IsPutting c.args.store.now c.args.pass.now c.cells.pass c.args.taken.now.list.items l
+    c.cells.packed.items) is c.cells.invariant.0 in
     let pack = c.pack-held.ensures.packed putting.known.0.state putting.known.0.has in (
       pack.again.cell,
-      subst (λ k. HasCell c.pack-held.new.pass.account.me.0 k pack.again.cell) (sym c.pack-held.ensures.held.0) pack.again.has,
+      subst (λ k. HasCell c.pack-held.new.pass.account.me.0 k pack.again.cell)
+          (sym c.pack-held.ensures.held.0) pack.again.has,
       pack.again.packed,
       subst (λ (s : VersionedRows). RestsAs s c.pack-held.result.value) (sym pack.again.segment) pack.rests,
     )
@@ -44,12 +47,17 @@ cells-preserved c =
     let full = not_none (vec_len c.cells.taken.list) (sym c.is_empty.ensures ∙ c.cells-test.true) in
     let some : 0 < length taken = omega (arith, full) in
     let is = head_is taken t some c.remove-held.ensures.value in
-    let putting = subst (λ l. IsPutting c.args.store.now c.args.pass.now c.cells.pass c.args.taken.now.list.items l c.cells.packed.items) is c.cells.invariant.0 in
+    let putting = subst (λ l. IsPutting c.args.store.now c.args.pass.now c.cells.pass c.args.taken.now.list.items l
+    c.cells.packed.items) is c.cells.invariant.0 in
     let pack = c.pack-held.ensures.packed putting.known.0.state putting.known.0.has in
     let number = c.pack-held.ensures.held.0 in
-    let lay = subst (λ k. OnlyAccount c.pack-held.new.pass c.lay_cell-held.new.pass (without_cell k c.pack-held.new.pass.account.me.0)) number c.lay_cell-held.ensures.left in
-    let slot = subst (λ k. IsCellSlot c.args.store.now.accounts.table.shared.table_id k c.lay_cell-held.result.value) number c.lay_cell-held.ensures.slot in
-    let more = putting_more c.args.store.now c.args.pass.now c.cells.pass c.pack-held.new.pass c.lay_cell-held.new.pass c.args.taken.now.list.items _ t c.cells.packed.items c.pack-held.result.value c.lay_cell-held.result
+    let lay = subst (λ k. OnlyAccount c.pack-held.new.pass c.lay_cell-held.new.pass
+    (without_cell k c.pack-held.new.pass.account.me.0)) number c.lay_cell-held.ensures.left in
+    let slot = subst (λ k. IsCellSlot c.args.store.now.accounts.table.shared.table_id k c.lay_cell-held.result.value)
+    number c.lay_cell-held.ensures.slot in
+    let more = putting_more c.args.store.now c.args.pass.now c.cells.pass c.pack-held.new.pass
+    c.lay_cell-held.new.pass c.args.taken.now.list.items _ t c.cells.packed.items c.pack-held.result.value
+    c.lay_cell-held.result
     putting pack c.pack-held.ensures.buffers lay (c.lay_cell-held.ensures.held.0 ∙ number) slot in
     let pushed = c.in-Ok.ensures.items in
     let one_more = ap length pushed ∙ length-append c.cells.packed.items (c.lay_cell-held.result ∷ []) in
@@ -61,7 +69,8 @@ cells-preserved c =
     let cap_pushed = c.push.ensures.capacity in
     let room = c.cells.invariant.3 in
     let room_before = c.cells.invariant.4 in (
-      subst (λ (x : List TakenCell × List (Held StoreSlot)). IsPutting c.args.store.now c.args.pass.now c.lay_cell-held.new.pass c.args.taken.now.list.items x.0 x.1)
+      subst (λ (x : List TakenCell × List (Held StoreSlot)). IsPutting c.args.store.now c.args.pass.now
+          c.lay_cell-held.new.pass c.args.taken.now.list.items x.0 x.1)
           (λ i. (sym (c.remove-held.ensures.items ∙ rest_is taken) i, sym pushed i)) more,
       omega (arith, one_more, one_less, left, bound),
       omega (arith, cap, cap_before),

@@ -15,7 +15,8 @@ pub give_places-requires-clause-out : goal.give_places-requires-clause-out
 give_places-requires-clause-out c =
     let putting = c.pack_all.ensures.packed in
     let numbers = map {A = Held StoreSlot} (λ h. h.cell) c.pack_all.new.packed.items in
-    ap (λ (s : Seat StoreSlot (LatchSight Room)). s.me.1) putting.latch ∙ c.requires.taken.out ∙ ap slots_out (sym putting.numbers ∙ none_behind numbers)
+    ap (λ (s : Seat StoreSlot (LatchSight Room)). s.me.1) putting.latch ∙ c.requires.taken.out
+    ∙ ap slots_out (sym putting.numbers ∙ none_behind numbers)
     ∙ sym (out_of_packed c.pack_all.new.packed.items)
 
 pub returns-clause-none : goal.returns-clause-none

@@ -21,12 +21,16 @@ change-requires-clause-may c =
     let ts = c.args.self.now.taken.list.items in
     let holds = c.requires.holds in
     let us = c.stamp_rows.new.taken.list.items in
-    let stamps = subst (λ n. StampsRows n c.args.number c.args.keys.now ts us) c.requires.name c.stamp_rows.ensures.stamped in
+    let stamps = subst (λ n. StampsRows n c.args.number c.args.keys.now ts us) c.requires.name
+    c.stamp_rows.ensures.stamped in
     let count = c.stamp_rows.ensures.count in
     let none = none_come z v ts holds.taken.known in
-    λ heap. rows_are_stamped z (lines z.passes) heap old.account.table_id.slots old.account.id old.account.me old.number (pass_of v old.number) (keys_beside c.args.keys.now (pass_of v old.number).unstamped)
+    λ heap. rows_are_stamped z
+    (lines z.passes) heap old.account.table_id.slots old.account.id old.account.me old.number
+    (pass_of v old.number) (keys_beside c.args.keys.now (pass_of v old.number).unstamped)
     c.requires.may.place c.requires.may.commit (news_of v us)
-    (can_stamp z v old.number ts us holds.taken.known c.stamp_rows.ensures.keeps.each holds.taken.apart holds.rising c.args.number c.args.keys.now c.requires.may c.requires.held stamps (omega (arith, count, none)))
+    (can_stamp z v old.number ts us holds.taken.known c.stamp_rows.ensures.keeps.each holds.taken.apart holds.rising
+    c.args.number c.args.keys.now c.requires.may c.requires.held stamps (omega (arith, count, none)))
 
 pub returns-clause-holds : goal.returns-clause-holds
 returns-clause-holds c =
@@ -36,11 +40,14 @@ returns-clause-holds c =
     let ts = c.args.self.now.taken.list.items in
     let holds = c.requires.holds in
     let us = c.stamp_rows.new.taken.list.items in
-    let stamps = subst (λ n. StampsRows n c.args.number c.args.keys.now ts us) c.requires.name c.stamp_rows.ensures.stamped in
+    let stamps = subst (λ n. StampsRows n c.args.number c.args.keys.now ts us) c.requires.name
+    c.stamp_rows.ensures.stamped in
     let kept = c.stamp_rows.ensures.keeps.each in
     subst (Holds c.args.store.now c.change.new.pass) (sym c.count_rows.ensures.counted)
     (holds_after c.args.store.now old c.change.new.pass ts us holds kept
-    (stamps_small z v ts us holds.taken.known kept holds.rising _ c.args.number c.args.keys.now stamps) old.number (with_unstamped (pass_of v old.number) (keys_beside c.args.keys.now (pass_of v old.number).unstamped)) c.change.ensures.changed)
+    (stamps_small z v ts us holds.taken.known kept holds.rising _ c.args.number c.args.keys.now stamps) old.number
+    (with_unstamped (pass_of v old.number) (keys_beside c.args.keys.now (pass_of v old.number).unstamped))
+    c.change.ensures.changed)
 
 pub returns-clause-stamped : goal.returns-clause-stamped
 returns-clause-stamped c =
@@ -50,8 +57,13 @@ returns-clause-stamped c =
     let ts = c.args.self.now.taken.list.items in
     let holds = c.requires.holds in
     let us = c.stamp_rows.new.taken.list.items in
-    let stamps = subst (λ n. StampsRows n c.args.number c.args.keys.now ts us) c.requires.name c.stamp_rows.ensures.stamped in
-    subst (AreStamped c.args.number c.args.keys.now old c.change.new.pass ts) (sym c.count_rows.ensures.counted) (record {
+    let stamps = subst (λ n. StampsRows n c.args.number c.args.keys.now ts us) c.requires.name
+    c.stamp_rows.ensures.stamped in
+    subst (AreStamped c.args.number c.args.keys.now old c.change.new.pass ts) (sym c.count_rows.ensures.counted)
+    (record {
       rows = λ q. ap (λ (s : VersionedRows). versions_at s q) (cell_counted us q) ∙ stamps q;
-      known = subst (λ (n : List (ℕ × CellState)). OnlyAccount old c.change.new.pass (with_rows v old.number (with_unstamped (pass_of v old.number) (keys_beside c.args.keys.now (pass_of v old.number).unstamped)) n)) (sym (news_counted v us)) c.change.ensures.changed;
+      known = subst (λ (n : List (ℕ × CellState)). OnlyAccount old c.change.new.pass
+          (with_rows v old.number (with_unstamped (pass_of v old.number)
+          (keys_beside c.args.keys.now (pass_of v old.number).unstamped)) n))
+          (sym (news_counted v us)) c.change.ensures.changed;
     })

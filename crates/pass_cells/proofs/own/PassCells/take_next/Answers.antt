@@ -21,7 +21,12 @@ returns-clause-taken g c =
     let old = c.args.pass.now in
     let ts = c.args.self.now.taken.list.items in
     let t : TakenCell = record { held = c.gather-held.result; rows = c.len-rows.result } in
-    let mid : Pass = record { number = old.number; latch = c.take_next_place.new.latch; account = old.account; buffers = old.buffers } in
+    let mid : Pass = record {
+      number = old.number;
+      latch = c.take_next_place.new.latch;
+      account = old.account;
+      buffers = old.buffers;
+    } in
     let got = c.in-Some.ensures.held in
     let number : t.held.cell ≡ c.args.cell = c.gather-held.ensures.held.0 ∙ got.0 in
     let fresh = subst (λ k. is_taken k ts ≡ false) (sym number) (sym c.is_taken.ensures ∙ c.if-is_taken.false) in
@@ -29,7 +34,8 @@ returns-clause-taken g c =
     let place = c.index_place.ensures in
     let test = c.if-cell-index_place.false in
     let inside : t.held.cell < cells_of store.accounts.config = omega (arith, number, place, test) in
-    let has = has_more store old mid c.gather-held.new.pass ts t c.requires.holds.taken c.requires.few fresh refl refl c.take_next_place.ensures.latch out c.gather-held.ensures.gathered inside
+    let has = has_more store old mid c.gather-held.new.pass ts t c.requires.holds.taken c.requires.few fresh refl refl
+    c.take_next_place.ensures.latch out c.gather-held.ensures.gathered inside
     c.len-rows.ensures.sound c.len-rows.ensures.len in
     subst (HasTaken store c.gather-held.new.pass) (sym c.add.ensures.added) has
 
@@ -39,7 +45,12 @@ returns-clause-next g c =
     let old = c.args.pass.now in
     let ts = c.args.self.now.taken.list.items in
     let t : TakenCell = record { held = c.gather-held.result; rows = c.len-rows.result } in
-    let mid : Pass = record { number = old.number; latch = c.take_next_place.new.latch; account = old.account; buffers = old.buffers } in
+    let mid : Pass = record {
+      number = old.number;
+      latch = c.take_next_place.new.latch;
+      account = old.account;
+      buffers = old.buffers;
+    } in
     let got = c.in-Some.ensures.held in
     let number : t.held.cell ≡ c.args.cell = c.gather-held.ensures.held.0 ∙ got.0 in
     let fresh = subst (λ k. is_taken k ts ≡ false) (sym number) (sym c.is_taken.ensures ∙ c.if-is_taken.false) in
@@ -47,9 +58,12 @@ returns-clause-next g c =
     let place = c.index_place.ensures in
     let test = c.if-cell-index_place.false in
     let inside : t.held.cell < cells_of store.accounts.config = omega (arith, number, place, test) in
-    let has = has_more store old mid c.gather-held.new.pass ts t c.requires.holds.taken c.requires.few fresh refl refl c.take_next_place.ensures.latch out c.gather-held.ensures.gathered inside
+    let has = has_more store old mid c.gather-held.new.pass ts t c.requires.holds.taken c.requires.few fresh refl refl
+    c.take_next_place.ensures.latch out c.gather-held.ensures.gathered inside
     c.len-rows.ensures.sound c.len-rows.ensures.len in
     λ e. subst (Holds store c.gather-held.new.pass) (sym c.add.ensures.added) (record {
       taken = has;
-      rising = from_more t first_key ts c.requires.holds.rising (ap (is_below t.held.value.low) (sym c.end-end.ensures) ∙ c.follows-is_next.ensures.next e) (c.follows-is_next.ensures.some e);
+      rising = from_more t first_key ts c.requires.holds.rising
+          (ap (is_below t.held.value.low) (sym c.end-end.ensures) ∙ c.follows-is_next.ensures.next e)
+          (c.follows-is_next.ensures.some e);
     })

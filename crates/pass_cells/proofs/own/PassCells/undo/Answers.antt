@@ -28,11 +28,15 @@ change-requires-clause-may c =
     let holds = c.requires.holds in
     let us = c.undo.new.cells.list.items in
     let rows = c.of.ensures ∙ ap (λ (x : Config). rows_of x.kind c.args.write) c.config.ensures in
-    let takes = subst (λ (x : TxnName × WrittenRows). TakesBack x.0 x.1 (held_rows ts) (held_rows us)) (λ i. (c.requires.name i, rows i)) c.undo.ensures.undone in
+    let takes = subst (λ (x : TxnName × WrittenRows). TakesBack x.0 x.1 (held_rows ts) (held_rows us))
+    (λ i. (c.requires.name i, rows i)) c.undo.ensures.undone in
     let weight = takes.weight in
     let none = none_come z v ts holds.taken.known in
-    λ heap. write_is_undone z (lines z.passes) heap old.account.table_id.slots old.account.id old.account.me old.number (pass_of v old.number) (but_newest (pass_of v old.number).laid) c.args.write (news_of v us)
-    (can_undo z v old.number ts us holds.taken.known c.undo.ensures.keeps.each holds.taken.apart holds.rising c.args.write c.requires.may c.requires.held takes.versions (omega (arith, weight, none)))
+    λ heap. write_is_undone z
+    (lines z.passes) heap old.account.table_id.slots old.account.id old.account.me old.number
+    (pass_of v old.number) (but_newest (pass_of v old.number).laid) c.args.write (news_of v us)
+    (can_undo z v old.number ts us holds.taken.known c.undo.ensures.keeps.each holds.taken.apart holds.rising
+    c.args.write c.requires.may c.requires.held takes.versions (omega (arith, weight, none)))
 
 pub returns-clause-holds : goal.returns-clause-holds
 returns-clause-holds c =
@@ -43,11 +47,13 @@ returns-clause-holds c =
     let holds = c.requires.holds in
     let us = c.undo.new.cells.list.items in
     let rows = c.of.ensures ∙ ap (λ (x : Config). rows_of x.kind c.args.write) c.config.ensures in
-    let takes = subst (λ (x : TxnName × WrittenRows). TakesBack x.0 x.1 (held_rows ts) (held_rows us)) (λ i. (c.requires.name i, rows i)) c.undo.ensures.undone in
+    let takes = subst (λ (x : TxnName × WrittenRows). TakesBack x.0 x.1 (held_rows ts) (held_rows us))
+    (λ i. (c.requires.name i, rows i)) c.undo.ensures.undone in
     let kept = c.undo.ensures.keeps.each in
     subst (Holds c.args.store.now c.change.new.pass) (sym c.count_rows.ensures.counted)
     (holds_after c.args.store.now old c.change.new.pass ts us holds kept
-    (undo_small z v ts us holds.taken.known kept holds.rising z.kind _ c.args.write takes.versions) old.number (taken_back (pass_of v old.number) (but_newest (pass_of v old.number).laid)) c.change.ensures.changed)
+    (undo_small z v ts us holds.taken.known kept holds.rising z.kind _ c.args.write takes.versions) old.number
+    (taken_back (pass_of v old.number) (but_newest (pass_of v old.number).laid)) c.change.ensures.changed)
 
 pub returns-clause-undone : goal.returns-clause-undone
 returns-clause-undone c =
@@ -58,8 +64,12 @@ returns-clause-undone c =
     let holds = c.requires.holds in
     let us = c.undo.new.cells.list.items in
     let rows = c.of.ensures ∙ ap (λ (x : Config). rows_of x.kind c.args.write) c.config.ensures in
-    let takes = subst (λ (x : TxnName × WrittenRows). TakesBack x.0 x.1 (held_rows ts) (held_rows us)) (λ i. (c.requires.name i, rows i)) c.undo.ensures.undone in
+    let takes = subst (λ (x : TxnName × WrittenRows). TakesBack x.0 x.1 (held_rows ts) (held_rows us))
+    (λ i. (c.requires.name i, rows i)) c.undo.ensures.undone in
     subst (IsUndone z c.args.write old c.change.new.pass ts) (sym c.count_rows.ensures.counted) (record {
-      rows = λ q. ap (λ (s : VersionedRows). versions_at s q) (cell_counted us q) ∙ takes.versions q ∙ unstamped_is z.kind q c.args.write _ ((held_rows ts).versions q);
-      known = subst (λ (n : List (ℕ × CellState)). OnlyAccount old c.change.new.pass (with_rows v old.number (taken_back (pass_of v old.number) (but_newest (pass_of v old.number).laid)) n)) (sym (news_counted v us)) c.change.ensures.changed;
+      rows = λ q. ap (λ (s : VersionedRows). versions_at s q) (cell_counted us q) ∙ takes.versions q
+          ∙ unstamped_is z.kind q c.args.write _ ((held_rows ts).versions q);
+      known = subst (λ (n : List (ℕ × CellState)). OnlyAccount old c.change.new.pass
+          (with_rows v old.number (taken_back (pass_of v old.number) (but_newest (pass_of v old.number).laid)) n))
+          (sym (news_counted v us)) c.change.ensures.changed;
     })

@@ -22,7 +22,8 @@ use Rattle.pass_cells.proofs.own.PassCells.write.Goals as goal
 
 pub returns-in_err-lay-clause-holds : goal.returns-in_err-lay-clause-holds
 returns-in_err-lay-clause-holds c =
-    holds_still c.args.store.now c.args.pass.now c.args.self.now.taken.list.items c.lay.new.cells.list.items c.requires.holds c.lay.ensures.keeps.each c.in_err-lay.ensures.err.versions
+    holds_still c.args.store.now c.args.pass.now c.args.self.now.taken.list.items c.lay.new.cells.list.items
+    c.requires.holds c.lay.ensures.keeps.each c.in_err-lay.ensures.err.versions
 
 pub change-requires-clause-may : goal.change-requires-clause-may
 change-requires-clause-may c =
@@ -32,13 +33,16 @@ change-requires-clause-may c =
     let ts = c.args.self.now.taken.list.items in
     let holds = c.requires.holds in
     let us = c.lay.new.cells.list.items in
-    let lays = subst (λ (x : TxnName × WrittenRows). Lays x.0 x.1 (held_rows ts) (held_rows us)) (λ i. (c.requires.name i, c.requires.rows.0 i)) c.in_ok-lay.ensures.ok in
+    let lays = subst (λ (x : TxnName × WrittenRows). Lays x.0 x.1 (held_rows ts) (held_rows us))
+    (λ i. (c.requires.name i, c.requires.rows.0 i)) c.in_ok-lay.ensures.ok in
     let held = subst (λ (r : WrittenRows). AreHeld (held_rows ts) (all_keys r)) c.requires.rows.0 c.requires.held in
     let weight = lays.weight in
     let none = none_come z v ts holds.taken.known in
     let few = c.requires.few in
-    λ heap. write_is_made z (lines z.passes) heap old.account.table_id.slots old.account.id old.account.me old.number (pass_of v old.number) c.args.write (news_of v us)
-    (can_write z v old.number ts us holds.taken.known c.lay.ensures.keeps.each holds.taken.apart holds.rising c.args.write c.requires.may held lays.versions (omega (arith, weight, none, few)))
+    λ heap. write_is_made z (lines z.passes) heap old.account.table_id.slots old.account.id old.account.me old.number
+    (pass_of v old.number) c.args.write (news_of v us)
+    (can_write z v old.number ts us holds.taken.known c.lay.ensures.keeps.each holds.taken.apart holds.rising
+    c.args.write c.requires.may held lays.versions (omega (arith, weight, none, few)))
 
 pub returns-clause-holds : goal.returns-clause-holds
 returns-clause-holds c =
@@ -48,11 +52,13 @@ returns-clause-holds c =
     let ts = c.args.self.now.taken.list.items in
     let holds = c.requires.holds in
     let us = c.lay.new.cells.list.items in
-    let lays = subst (λ (x : TxnName × WrittenRows). Lays x.0 x.1 (held_rows ts) (held_rows us)) (λ i. (c.requires.name i, c.requires.rows.0 i)) c.in_ok-lay.ensures.ok in
+    let lays = subst (λ (x : TxnName × WrittenRows). Lays x.0 x.1 (held_rows ts) (held_rows us))
+    (λ i. (c.requires.name i, c.requires.rows.0 i)) c.in_ok-lay.ensures.ok in
     let kept = c.lay.ensures.keeps.each in
     subst (Holds c.args.store.now c.change.new.pass) (sym c.count_rows.ensures.counted)
     (holds_after c.args.store.now old c.change.new.pass ts us holds kept
-    (write_small z v ts us holds.taken.known kept holds.rising z.kind _ c.args.write c.requires.may.within lays.versions) old.number (written_by (pass_of v old.number) c.args.write) c.change.ensures.changed)
+    (write_small z v ts us holds.taken.known kept holds.rising z.kind _ c.args.write c.requires.may.within
+    lays.versions) old.number (written_by (pass_of v old.number) c.args.write) c.change.ensures.changed)
 
 pub returns-clause-ok : goal.returns-clause-ok
 returns-clause-ok c =
@@ -62,8 +68,12 @@ returns-clause-ok c =
     let ts = c.args.self.now.taken.list.items in
     let holds = c.requires.holds in
     let us = c.lay.new.cells.list.items in
-    let lays = subst (λ (x : TxnName × WrittenRows). Lays x.0 x.1 (held_rows ts) (held_rows us)) (λ i. (c.requires.name i, c.requires.rows.0 i)) c.in_ok-lay.ensures.ok in
+    let lays = subst (λ (x : TxnName × WrittenRows). Lays x.0 x.1 (held_rows ts) (held_rows us))
+    (λ i. (c.requires.name i, c.requires.rows.0 i)) c.in_ok-lay.ensures.ok in
     subst (IsWritten z c.args.write old c.change.new.pass ts) (sym c.count_rows.ensures.counted) (record {
-      rows = λ q. ap (λ (s : VersionedRows). versions_at s q) (cell_counted us q) ∙ lays.versions q ∙ stamped_is z.kind q c.args.write _ ((held_rows ts).versions q);
-      known = subst (λ (n : List (ℕ × CellState)). OnlyAccount old c.change.new.pass (with_rows v old.number (written_by (pass_of v old.number) c.args.write) n)) (sym (news_counted v us)) c.change.ensures.changed;
+      rows = λ q. ap (λ (s : VersionedRows). versions_at s q) (cell_counted us q) ∙ lays.versions q
+          ∙ stamped_is z.kind q c.args.write _ ((held_rows ts).versions q);
+      known = subst (λ (n : List (ℕ × CellState)). OnlyAccount old c.change.new.pass
+          (with_rows v old.number (written_by (pass_of v old.number) c.args.write) n))
+          (sym (news_counted v us)) c.change.ensures.changed;
     })

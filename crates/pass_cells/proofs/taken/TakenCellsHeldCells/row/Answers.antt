@@ -7,6 +7,7 @@ use Rattle.pass_cells.proofs.taken.TakenCellsHeldCells.row.Goals as goal
 pub returns : goal.returns
 returns c =
     let cells = c.args.self.now.list.items in
-    let there = slice_get_read cells (length cells) c.place_of.result c.index.result.now refl c.place_of.ensures.within c.index.ensures in
+    let there = slice_get_read cells
+    (length cells) c.place_of.result c.index.result.now refl c.place_of.ensures.within c.index.ensures in
     let own = at_place cells c.args.key c.place_of.result c.index.result.now c.place_of.ensures.place there in
     ap or_nothing c.row.ensures ∙ ap (λ (s : VersionedRows). versions_at s c.args.key) own.0
