@@ -1,0 +1,5 @@
+pub mod AccountLemmas
+pub mod EdgeLemmas
+pub mod PassLemmas
+pub mod EndLemmas
+pub mod SeatLemmas

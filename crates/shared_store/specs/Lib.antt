@@ -1,0 +1,4 @@
+pub mod Passes
+pub mod Writes
+pub mod Edges
+pub mod Ends

@@ -1,0 +1,144 @@
+//! A store is made with its passes, and closed with all of them.
+//!
+//! 1. Room for whatever comes back at the end is made with the store, so the end takes no memory.
+//! 2. A pass can't be let go: whoever has all passes of a store can close it.
+
+ghost use Rattle.std.specs.Prelude.{◌≡◌, ◌+◌, ◌≤◌, ◌↔◌, ◌++◌, Err, IfOk, [], ◌∷◌, true, length};
+ghost use Rattle.std.specs.Vec.{vec_capacity};
+ghost use Rattle.txn_manager.specs.Config.{too_large};
+ghost use Rattle.txn_manager.specs.declared.config.StoreRefusal.TheVariants.{TooLarge};
+ghost use Rattle.shared_store.specs.Ends.{AreEnds, AreIdle, AreNew, HasClosed, HaveBegunNothing, HaveNoCells, seats_of};
+
+use crate::pass::Pass;
+use graph_model::{Journal, NoMemory};
+use pass_cells::PassCells;
+use std::alloc::Global;
+use store_rule::{Pass as Seats, Passes as Ends, Store};
+use txn_manager::{Config, StoreRefusal};
+
+/// The passes of a store, in the order of their numbers, with what its end needs.
+pub struct Passes {
+    pub list: Vec<Pass>,
+    /// The seats that take passes back, and room for all that comes out of the store.
+    pub(crate) ends: Ends,
+}
+
+/// What a store leaves behind. Nothing but `close` makes one.
+#[derive(Drop)]
+pub struct Closed {
+    pub journal: Journal,
+    closed: (),
+}
+
+/// A store without rows, and its passes, which have begun nothing.
+pub fn new(alloc: Global, config: Config) -> Result<(Store, Passes), StoreRefusal>
+    ensures too_large { (result ≡ Err TooLarge) ↔ (too_large config ≡ true) }
+    ensures config { IfOk result (λ made. made.0.accounts.config ≡ config) }
+    ensures passes { IfOk result (λ made. AreNew made.0 made.1.list.items) }
+    ensures ends { IfOk result (λ made. AreEnds made.0 made.1.ends) }
+{
+    let (store, made) = match Store::make(alloc, config) {
+        Ok(made) => made,
+        Err(refused) => return Err(refused),
+    };
+    let Ends {
+        list: seats,
+        latch,
+        account,
+        slots,
+        cells,
+    } = made;
+    let back = match Vec::with_capacity(alloc, seats.len()) {
+        Ok(back) => back,
+        Err(_) => return Err(StoreRefusal::NoMemory),
+    };
+    match seat_all(alloc, &store, seats) {
+        Ok(list) => Ok((
+            store,
+            Passes {
+                list,
+                ends: Ends {
+                    list: back,
+                    latch,
+                    account,
+                    slots,
+                    cells,
+                },
+            },
+        )),
+        Err(NoMemory) => Err(StoreRefusal::NoMemory),
+    }
+}
+
+/// A pass for each pair of seats, with room for the cells that it takes.
+fn seat_all(alloc: Global, store: &Store, mut seats: Vec<Seats>) -> Result<Vec<Pass>, NoMemory>
+    ensures seats { IfOk result (λ list. seats_of list.items ≡ seats.items) }
+    ensures fresh { IfOk result (λ list. HaveBegunNothing list.items) }
+    ensures cells { IfOk result (λ list. HaveNoCells list.items) }
+{
+    let cells = store.index_place();
+    let mut list = Vec::with_capacity(alloc, seats.len())?;
+    'seats: while !seats.is_empty() {
+        match PassCells::new(alloc, cells) {
+            Ok(own) => put_last(&mut list, Pass::new(alloc, seats.remove(0), own)),
+            Err(NoMemory) => {
+                give_up(list);
+                return Err(NoMemory);
+            }
+        }
+    }
+    Ok(list)
+}
+
+/// Puts a pass at the end of a list that has room for it.
+fn put_last(list: &mut Vec<Pass>, pass: Pass)
+    requires { length list.old.items + 1 ≤ vec_capacity list.old }
+    ensures items { list.new.items ≡ list.old.items ++ pass ∷ [] }
+    ensures capacity { vec_capacity list.old ≤ vec_capacity list.new }
+{
+    match list.push(pass) {
+        Ok(()) => {}
+        Err(_) => unreachable!(),
+    }
+}
+
+/// Gives the memory of passes back that have no cell in hand.
+fn give_up(mut list: Vec<Pass>)
+    requires { HaveNoCells list.items }
+{
+    'passes: while !list.is_empty() {
+        list.remove(0).into_seats();
+    }
+    list.destroy_empty();
+}
+
+/// Closes a store with all its passes, none of which has a transaction. Takes no memory, and waits for nobody.
+pub fn close(store: Store, passes: Passes) -> Closed
+    requires passes { AreIdle store passes.list.items }
+    requires ends { AreEnds store passes.ends }
+    ensures { HasClosed store.accounts.config passes.list.items result.journal }
+{
+    let Passes { list, mut ends } = passes;
+    take_back(list, &mut ends.list);
+    let content = store.take_apart(ends);
+    Closed {
+        journal: content.journal.into_items(),
+        closed: (),
+    }
+}
+
+/// Takes the seats of all passes back, in the order of their numbers.
+fn take_back(mut list: Vec<Pass>, seats: &mut Vec<Seats>)
+    requires cells { HaveNoCells list.items }
+    requires room { (seats.old.items ≡ []) × (length list.items ≤ vec_capacity seats.old) }
+    ensures { seats.new.items ≡ seats_of list.items }
+{
+    'passes: while !list.is_empty() {
+        let seat = list.remove(0).into_seats();
+        match seats.push(seat) {
+            Ok(()) => {}
+            Err(_) => unreachable!(),
+        }
+    }
+    list.destroy_empty();
+}

@@ -1,0 +1,134 @@
+//! Transactions begin and end.
+//!
+//! 1. `begin` makes room in the journal, and a write makes room in its pass's lists, so neither a commit nor an abort
+//!    takes memory.
+//! 2. The rows of a commit are stamped once the journal is free. Whoever meets one before is told by the pass's word.
+
+ghost use Rattle.std.specs.Prelude.{◌≡◌, ◌⊎◌, ◌≤◌, ◌↔◌, Err, OnOk, OnErr, []};
+ghost use mathlib.Core.List.{IsPrefix};
+ghost use Rattle.graph_model.specs.AccountSteps.{AbortsBy, BeginsBy, CommitsBy, ReadsBy};
+ghost use Rattle.graph_model.specs.declared.refusal.BeginRefusal.TheVariants.{TxnsUsed};
+ghost use Rattle.pass_steps.specs.Passes.{IsEndedPass, IsIdlePass, state_of};
+ghost use Rattle.store_relation.specs.Steps.{with_unstamped};
+ghost use Rattle.shared_store.specs.Passes.{IsIdle, IsOpen, KeepsLists, MayStamp, account_of};
+
+use crate::pass::Pass;
+use graph_model::{BeginRefusal, Begun, RoomyWrites, TxnName};
+use items::RoomyItems;
+use pass_steps::{end, stop, unpin};
+use pass_writes::{stamp_all, undo_all};
+use std::mem::replace;
+use std::sync::Wait;
+use store_rule::Store;
+
+/// Begins the next transaction of a pass that has none. It sees all that was committed before. May wait.
+pub fn begin(rt: &impl Wait, store: &Store, pass: &mut Pass) -> Result<Begun, BeginRefusal>
+    requires idle { IsIdle store.now pass.old }
+    ensures opened { OnOk result (IsOpen store.now pass.new) }
+    ensures idle { OnErr result (IsIdle store.now pass.new) }
+    ensures begins { BeginsBy (account_of store.now pass.old) result (account_of store.now pass.new) }
+    ensures used { (result ≡ Err TxnsUsed)
+        ↔ (store.now.accounts.config.txns_per_pass ≤ (account_of store.now pass.old).begun) }
+    ensures number { pass.new.seats.number ≡ pass.old.seats.number }
+{
+    let begun = match pass_steps::begin(rt, store, &mut pass.seats, pass.begun) {
+        Ok(begun) => begun,
+        Err(refused) => return Err(refused),
+    };
+    pass.begun = begun.by.number;
+    pass.start = begun.start;
+    Ok(begun)
+}
+
+/// Commits the open transaction, and answers the stamp, or none where nothing was written. May wait, and takes no
+/// memory.
+pub fn commit(rt: &impl Wait, store: &Store, pass: &mut Pass) -> Option<u64>
+    requires opened { IsOpen store.now pass.old }
+    ensures idle { IsIdle store.now pass.new }
+    ensures commits { CommitsBy (account_of store.now pass.old) result (account_of store.now pass.new) }
+    ensures number { pass.new.seats.number ≡ pass.old.seats.number }
+{
+    let begun = pass.latest();
+    let writes = replace(&mut pass.own, RoomyItems::new(pass.alloc)).into_items();
+    let stamp = pass_steps::commit(rt, store, &mut pass.seats, begun, writes);
+    finish(rt, store, pass, begun.by, stamp);
+    stamp
+}
+
+/// Stamps the rows of a transaction that has ended with this answer, forgets its writes, and holds nothing back.
+fn finish(rt: &impl Wait, store: &Store, pass: &mut Pass, by: TxnName, stamp: Option<u64>)
+    requires { MayStamp store.now pass.old by stamp }
+    ensures idle { IsIdlePass store.now pass.new.seats }
+    ensures account { account_of store.now pass.new ≡ account_of store.now pass.old }
+    ensures number { pass.new.seats.number ≡ pass.old.seats.number }
+    ensures lists { KeepsLists pass.old pass.new [] }
+{
+    stamp_rows(rt, store, pass, by, stamp);
+    clear(&mut pass.changed);
+    unpin(store, &mut pass.seats);
+}
+
+/// Stamps the rows of a commit, if there was one.
+fn stamp_rows(rt: &impl Wait, store: &Store, pass: &mut Pass, by: TxnName, stamp: Option<u64>)
+    requires { MayStamp store.now pass.old by stamp }
+    ensures ended { IsEndedPass store.now pass.new.seats }
+    ensures stamped { state_of pass.new.seats ≡ with_unstamped (state_of pass.old.seats) [] }
+    ensures number { pass.new.seats.number ≡ pass.old.seats.number }
+    ensures lists { KeepsLists pass.old pass.new pass.old.changed.items }
+{
+    if let Some(stamp) = stamp {
+        stamp_all(
+            rt,
+            store,
+            &mut pass.seats,
+            &mut pass.cells,
+            by,
+            stamp,
+            pass.changed.as_slice(),
+        );
+    }
+}
+
+/// Ends the open transaction and takes its writes back. May wait, and takes no memory.
+pub fn abort(rt: &impl Wait, store: &Store, pass: &mut Pass)
+    requires opened { IsOpen store.now pass.old }
+    ensures idle { IsIdle store.now pass.new }
+    ensures aborts { AbortsBy (account_of store.now pass.old) (account_of store.now pass.new) }
+    ensures number { pass.new.seats.number ≡ pass.old.seats.number }
+{
+    let begun = pass.latest();
+    stop(store, &mut pass.seats);
+    undo_all(
+        rt,
+        store,
+        &mut pass.seats,
+        &mut pass.cells,
+        begun.by,
+        pass.own.as_slice(),
+    );
+    end(store, &mut pass.seats);
+    unpin(store, &mut pass.seats);
+    clear(&mut pass.own);
+    clear(&mut pass.changed);
+}
+
+/// Has a pass without a transaction see what another has seen. Takes no memory, and waits for nobody.
+pub fn meet(store: &Store, from: &mut Pass, to: &mut Pass)
+    requires from { IsIdle store.now from.old ⊎ IsOpen store.now from.old }
+    requires to { IsIdle store.now to.old }
+    ensures idle_from { IsIdle store.now from.old → IsIdle store.now from.new }
+    ensures open_from { IsOpen store.now from.old → IsOpen store.now from.new }
+    ensures from { account_of store.now from.new ≡ account_of store.now from.old }
+    ensures to { IsIdle store.now to.new }
+    ensures reads { ReadsBy (account_of store.now to.old) (account_of store.now to.new) }
+    ensures met { IsPrefix (account_of store.now from.old).seen (account_of store.now to.new).seen }
+{
+    pass_steps::meet(store, &mut from.seats, &mut to.seats);
+}
+
+/// Takes all writes out of a list, whose room stays.
+fn clear(list: &mut RoomyWrites)
+    ensures { list.new.items ≡ [] }
+{
+    'items: while let Some(_) = list.pop() {}
+}
