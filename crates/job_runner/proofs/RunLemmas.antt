@@ -219,7 +219,7 @@ behind_schedule scripts (x ∷ schedule) (suc n) m e = behind_schedule scripts s
 
 -- ---- the end
 
-answers_of_lines : (txn : ℕ) (cs : List Command) (ys : List Answer) → length ys ≤ length cs → map (λ (l : AnsweredLine). l.answer) (answered_from txn cs ys) ≡ ys
+pub answers_of_lines : (txn : ℕ) (cs : List Command) (ys : List Answer) → length ys ≤ length cs → map (λ (l : AnsweredLine). l.answer) (answered_from txn cs ys) ≡ ys
 answers_of_lines txn [] [] le = refl
 answers_of_lines txn [] (y ∷ ys) le = absurd (omega (arith, le))
 answers_of_lines txn (c ∷ cs) [] le = refl
@@ -250,7 +250,7 @@ each_ended [] over k j e = cc
 each_ended (i ∷ js) over zero j e = let same : i ≡ j = cc in subst (λ (x : JobState). is_empty x.left ≡ true) same (both (is_empty i.left) _ over).0
 each_ended (i ∷ js) over (suc k) j e = each_ended js (both (is_empty i.left) _ over).1 k j e
 
-closed_at_end : (inputs : Inputs) (core : Core) (jobs : List Progress) → AreUnderWay inputs core jobs → has_ended (state_of core jobs) ≡ true → (p : ℕ) → (pass_at core p).start ≡ None
+pub closed_at_end : (inputs : Inputs) (core : Core) (jobs : List Progress) → AreUnderWay inputs core jobs → has_ended (state_of core jobs) ≡ true → (p : ℕ) → (pass_at core p).start ≡ None
 closed_at_end inputs core jobs are over zero = are.closed
 closed_at_end inputs core jobs are over (suc k) = by_place (slice_get_cases jobs k).1
   where

@@ -5,8 +5,9 @@
 //! 3. A job that wanted memory has taken its transaction back, and has ended.
 //! 4. The image that a kernel's line has made is kept until its transaction writes or is over.
 
-ghost use Rattle.std.specs.Prelude.{◌≡◌, ◌<◌, List, ◌∷◌, ◌++◌, false, None, IsSome, OnOk, OnErr};
+ghost use Rattle.std.specs.Prelude.{◌≡◌, ◌<◌, List, ◌∷◌, ◌++◌, true, false, length, slice_set, None, IsSome, IfSome, IfNone, OnOk, OnErr};
 ghost use Rattle.run_model.specs.declared.command.Command.{Command};
+ghost use Rattle.run_model.specs.declared.command.Command.TheVariants.{Abort};
 ghost use Rattle.graph_model.specs.OwnerCalls.{current};
 ghost use Rattle.line_runner.specs.Lines.{given_up};
 ghost use Rattle.job_runner.specs.Progress.{new_progress, left_of, is_over, listed_table, IsReady, TakesTurn, TookTurn};
@@ -15,9 +16,10 @@ use crate::turn::Turn;
 use graph_model::{NoMemory, StepEngine};
 use items::RoomyItems;
 use line_runner::{KeptImage, LineTurn, NamedTable, Phase, Reading, Tables, take_line};
-use run_model::{Answer, Script};
+use run_model::{Answer, Command, Script};
 use std::alloc::Global;
 use std::marker::Model;
+use std::mem::replace;
 use std::thread::Threads;
 
 /// A script under way, with its answers so far.
@@ -97,6 +99,39 @@ impl Job {
             Phase::GivenUp => true,
             _ => self.script.len() <= self.answers.len(),
         }
+    }
+
+    /// Lends the line at hand, if there is one.
+    pub fn next_command(&self) -> Option<&Command>
+        ensures some { IfSome result (λ c. (rest : List Command) × (left_of self.now ≡ c.now ∷ rest)) }
+        ensures none { IfNone result (is_over self.now ≡ true) }
+        ensures going { IsSome result → is_over self.now ≡ false }
+    {
+        if self.has_ended() {
+            return None;
+        }
+        self.script.as_slice().get(self.answers.len())
+    }
+
+    /// Has the line at hand abort its transaction, whatever it was to do. Takes no memory.
+    pub fn abort_instead(&mut self)
+        requires { is_over self.old ≡ false }
+        ensures { self.new ≡ record self.old {
+          commands = slice_set self.old.commands (length self.old.answers) Abort;
+        } }
+    {
+        let place = self.answers.len();
+        self.script.set(place, Command::Abort);
+    }
+
+    /// Gives another answer to a line that was answered. Takes no memory.
+    pub fn answer_instead(&mut self, place: usize, answer: Answer)
+        requires { place < length self.old.answers }
+        ensures { self.new ≡ record self.old { answers = slice_set self.old.answers place answer } }
+    {
+        let mut answers = replace(&mut self.answers, RoomyItems::new(self.alloc)).into_items();
+        answers.set(place, answer);
+        self.answers = RoomyItems::from_items(answers);
     }
 
     /// Takes one turn: a line, or a further portion of the rows that the line at hand scans.

@@ -1,14 +1,17 @@
 //! Jobs, one for each script.
 
-ghost use Rattle.std.specs.Prelude.{◌≡◌, ℕ, List, suc, ◌<◌, ◌≤◌, false, ◌==◌, length, slice_get, slice_set, Some, None, IfOk, OnOk, OnErr};
+ghost use Rattle.std.specs.Prelude.{◌≡◌, ℕ, List, ◌∷◌, suc, ◌-◌, ◌<◌, ◌≤◌, true, false, ◌==◌, length, slice_get, slice_set, Some, None, IfSome, IfNone, IfOk, OnOk, OnErr};
 ghost use Rattle.graph_model.specs.OwnerCalls.{pass_at};
-ghost use Rattle.job_runner.specs.Progress.{Progress};
+ghost use Rattle.job_runner.specs.Progress.{Progress, left_of, is_over};
 ghost use Rattle.job_runner.specs.Runs.{AreUnderWay, AreHeld, IsStuck, Turns, Goes, under_way};
 ghost use Rattle.run_model.specs.Inputs.{Inputs};
+ghost use Rattle.run_model.specs.declared.command.Command.{Command};
+ghost use Rattle.run_model.specs.declared.command.Command.TheVariants.{Abort};
 
 use crate::job::Job;
 use crate::turn::Turn;
 use graph_model::{NoMemory, StepEngine};
+use run_model::{Answer, Command};
 use std::marker::Model;
 use std::thread::Threads;
 
@@ -65,6 +68,49 @@ impl Jobs {
             }
         }
         left
+    }
+
+    /// Lends the line at hand of the job of this number, if it has one.
+    pub fn next_command(&self, number: u32) -> Option<&Command>
+        requires numbered { 0 < number }
+        requires listed { number ≤ length self.now }
+        ensures some { IfSome result (λ c. (job : Progress) × (rest : List Command)
+            × (slice_get self.now (number - 1) ≡ Some job) × (is_over job ≡ false) × (left_of job ≡ c.now ∷ rest)) }
+        ensures none { IfNone result ((job : Progress) → slice_get self.now (number - 1) ≡ Some job
+            → is_over job ≡ true) }
+    {
+        self.jobs[number as usize - 1].next_command()
+    }
+
+    /// How many lines of the job of this number are answered.
+    pub fn answered(&self, number: u32) -> usize
+        requires numbered { 0 < number }
+        requires listed { number ≤ length self.now }
+        ensures { (job : Progress) → slice_get self.now (number - 1) ≡ Some job → result ≡ length job.answers }
+    {
+        self.jobs[number as usize - 1].answers().len()
+    }
+
+    /// Has the line at hand of the job of this number abort its transaction, whatever it was to do. Takes no memory.
+    pub fn abort_instead(&mut self, number: u32)
+        requires numbered { 0 < number }
+        requires listed { number ≤ length self.old }
+        requires going { (job : Progress) → slice_get self.old (number - 1) ≡ Some job → is_over job ≡ false }
+        ensures { (job : Progress) → slice_get self.old (number - 1) ≡ Some job
+            → self.new ≡ slice_set self.old (number - 1)
+            (record job { commands = slice_set job.commands (length job.answers) Abort }) }
+    {
+        self.jobs[number as usize - 1].abort_instead();
+    }
+
+    /// Gives another answer to a line of the job at this place that was answered. Takes no memory.
+    pub fn answer_instead(&mut self, job: usize, line: usize, answer: Answer)
+        requires listed { job < length self.old }
+        requires answered { (p : Progress) → slice_get self.old job ≡ Some p → line < length p.answers }
+        ensures { (p : Progress) → slice_get self.old job ≡ Some p
+            → self.new ≡ slice_set self.old job (record p { answers = slice_set p.answers line answer }) }
+    {
+        self.jobs[job].answer_instead(line, answer);
     }
 
     /// Gives a turn to the job of this number, unless it has ended. Answers whether it ends with that.

@@ -15,5 +15,5 @@ mod turn;
 pub use job::Job;
 pub use jobs::Jobs;
 pub use line_runner::NamedTable;
-pub use run::run_stepped;
+pub use run::{run_stepped, take_turn};
 pub use turn::Turn;

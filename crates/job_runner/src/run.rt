@@ -69,7 +69,7 @@ fn take_turns<R: Threads + Sync, E: StepEngine>(
 }
 
 /// Gives a turn to the service, number 0, or to a job. Answers whether the job ends with that.
-fn take_turn<R: Threads + Sync, E: StepEngine>(
+pub fn take_turn<R: Threads + Sync, E: StepEngine>(
     rt: &R,
     engine: &mut E,
     jobs: &mut Jobs,

@@ -7,3 +7,4 @@ pub mod Freeing
 pub mod Sweeping
 pub mod Serving
 pub mod Placed
+pub mod Writing

@@ -6,6 +6,7 @@
 
 ghost use Rattle.std.specs.Prelude.{◌≡◌, ◌<◌, [], ◌∷◌, None, IsSome, true, OnOk};
 ghost use Rattle.undo_chain.specs.declared.touched.Touched.TheVariants.{Never};
+ghost use Rattle.teseo_core.specs.Writing.{writing_since};
 ghost use Rattle.teseo_core.specs.Passes.{new_pass, with_begin, with_one_write, with_load, with_end, Notes};
 
 use crate::made::MadeWrites;
@@ -89,6 +90,17 @@ impl Pass {
         ensures { result ≡ self.now.state.start }
     {
         self.start
+    }
+
+    /// The start of the open transaction, where it has written something.
+    pub fn writing_since(&self) -> Option<u64>
+        ensures { result ≡ writing_since self.now.state }
+    {
+        if self.own.is_empty() {
+            None
+        } else {
+            self.start
+        }
     }
 
     /// How many transactions it has begun.

@@ -1,17 +1,18 @@
 //! The store of one owner.
 
 ghost use Rattle.std.specs.Prelude.{◌≡◌, ◌<◌, ◌-◌, ◌↔◌, None, Some, IsSome, IfOk, Err, length, replicate, true};
-ghost use Rattle.graph_model.specs.OwnerCalls.{current};
+ghost use Rattle.graph_model.specs.OwnerCalls.{current, pass_at};
 ghost use Rattle.graph_model.specs.OwnerLaws.{DidBegin, DidCommit, DidAbort};
 ghost use Rattle.txn_manager.specs.Config.{too_large};
 ghost use Rattle.txn_manager.specs.declared.config.StoreRefusal.TheVariants.{TooLarge};
 ghost use Rattle.teseo_core.specs.Passes.{new_pass};
+ghost use Rattle.teseo_core.specs.Writing.{writing_since};
 ghost use Rattle.teseo_core.specs.Keeping.{IsNewStore, KeepsService, states_of};
 
 use crate::pass::Pass;
 use crate::serve::ServiceTurn;
 use crate::sweep::SweepKey;
-use graph_model::{BeginRefusal, Begun, Kind, NoMemory, TxnName};
+use graph_model::{BeginRefusal, Begun, Commit, Kind, NoMemory, TxnName};
 use leaf_rows::{LeafRows, Reader};
 use std::alloc::Global;
 use std::marker::Model;
@@ -79,6 +80,23 @@ impl Core {
         ensures { result ≡ self.now.core.kind }
     {
         self.kind
+    }
+
+    /// Lends the journal, the commits in the order of their stamps.
+    pub fn journal(&self) -> &[Commit]
+        ensures { result.now ≡ self.now.core.journal }
+    {
+        self.manager.journal()
+    }
+
+    /// The start of a pass's open transaction, where it has written something.
+    pub fn writing_since(&self, pass: u32) -> Option<u64>
+        ensures { result ≡ writing_since (pass_at self.now.core pass) }
+    {
+        match self.passes.get(pass as usize) {
+            Some(pass) => pass.writing_since(),
+            None => None,
+        }
     }
 
     /// How many leaves are neither free nor retired.

@@ -1,0 +1,12 @@
+//! The run by turns that refuses each commit which would not leave a serial order.
+//!
+//! 1. A commit with writes is refused where a commit behind the transaction's start wrote a row on which one of its
+//!    lines depends.
+//! 2. All else is a turn as in a run that refuses none.
+#![tactic(auto)]
+
+mod engine;
+mod run;
+
+pub use engine::JournalEngine;
+pub use run::{RefusedCommit, run_serial};
