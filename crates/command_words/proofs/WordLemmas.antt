@@ -49,6 +49,7 @@ one_run rows a b is also =
     let cut : a.is_cut ≡ b.is_cut = same_test a.is_cut b.is_cut is.cut also.cut in
     let weights : a.weights ≡ b.weights = one_number 0 9 (first_of (codes "weights") rows) a.weights b.weights is.weights also.weights in
     let leaves : a.leaves ≡ b.leaves = one_number 1 131072 (first_of (codes "leaves") rows) a.leaves b.leaves is.leaves also.leaves in
+    let serial : a.is_serial ≡ b.is_serial = same_test a.is_serial b.is_serial is.serial also.serial in
     λ i. record {
       vertices = vertices i;
       edges = edges i;
@@ -58,6 +59,7 @@ one_run rows a b is also =
       is_cut = cut i;
       schedule = schedule i;
       leaves = leaves i;
+      is_serial = serial i;
       scripts = scripts i;
     }
 

@@ -15,6 +15,7 @@ pub record RunRequest : Type 0 where
   pub is_cut : Bool
   pub schedule : Option Text
   pub leaves : Option ℕ
+  pub is_serial : Bool
   pub scripts : List Text
 
 -- and those of `make`
@@ -52,6 +53,7 @@ pub record GivesRun (rows : List Row) (request : RunRequest) : Type 0 where
   pub cut : IsTrue request.is_cut ↔ (first_of (codes "cut") rows ≡ Some (codes "true"))
   pub schedule : first_of (codes "schedule") rows ≡ request.schedule
   pub leaves : IsOptionalNumber 1 MAX_LEAVES (first_of (codes "leaves") rows) request.leaves
+  pub serial : IsTrue request.is_serial ↔ (first_of (codes "serial") rows ≡ Some (codes "true"))
   pub scripts : all_of (codes "script") rows ≡ Some request.scripts
 
 -- and the request passes the checks: there are at most 60 scripts, and no two of the names and of the reports' are

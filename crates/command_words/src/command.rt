@@ -27,6 +27,8 @@ pub struct RunWords<'a> {
     pub schedule: Option<&'a str>,
     /// How many leaves the store has, 1 to 131,072, where that is stated.
     pub leaves: Option<u32>,
+    /// Whether commits that would not leave a serial order are refused.
+    pub is_serial: bool,
     /// The names of the scripts, in the order of the words.
     pub scripts: Vec<&'a str>,
 }

@@ -102,6 +102,7 @@ fn given_run<'a>(alloc: Global, found: &ArgMatches<'a>) -> Result<RunWords<'a>, 
         is_cut: is_used(found, "cut"),
         schedule: optional_text(found, "schedule"),
         leaves,
+        is_serial: is_used(found, "serial"),
         scripts,
     })
 }
