@@ -301,14 +301,13 @@ reached_way inputs leaves schedule (suc n) s are r =
 
 -- ---- where all scripts have ended
 
-pub commands_of : JobState → List Command
+abbrev commands_of : JobState → List Command
 commands_of j = map (λ l. l.command) j.lines
 
 answers_of : JobState → List Answer
 answers_of j = map (λ l. l.answer) j.lines
 
 whole_script : (j : JobState) (cs : List Command) → j.left ≡ cs → is_empty cs ≡ true → script_of j ≡ commands_of j
-unfolding commands_of
 whole_script j [] e f = ap (λ xs. map (λ (l : AnsweredLine). l.command) j.lines ++ xs) e ∙ append-nil _
 whole_script j (c ∷ cs) e f = cc
 
@@ -320,7 +319,7 @@ whole_scripts (j ∷ jobs) e =
 
 same_lines : (jobs : List JobState) → ((k : ℕ) (j : JobState) → slice_get jobs k ≡ Some j → AreNumbered 0 j.lines j.begun)
     → answered_scripts (map commands_of jobs) (map answers_of jobs) ≡ map (λ (j : JobState). j.lines) jobs
-unfolding commands_of answers_of
+unfolding answers_of
 same_lines [] each = refl
 same_lines (j ∷ jobs) each = (λ i. numbered_lines 0 j.lines j.begun (each 0 j refl) i ∷ same_lines jobs (λ k x e. each (suc k) x e) i)
 
@@ -329,7 +328,7 @@ under_way_is_run : (inputs : Inputs) (leaves : ℕ) (s : RunState) (outputs : Ou
     → outputs.reports ≡ map answers_of s.jobs → length outputs.files ≡ length inputs.scripts
     → ((k : ℕ) (ls : List AnsweredLine) (files : List File) → slice_get (lines_so_far s) k ≡ Some ls → slice_get outputs.files k ≡ Some files → HasFiles (context_in inputs.kind inputs.load s k) [] ls files)
     → IsRun inputs leaves outputs
-unfolding commands_of answers_of
+unfolding answers_of
 under_way_is_run inputs leaves s outputs are u over journal reports filed files =
     let scripts : inputs.scripts ≡ map commands_of s.jobs = sym u.whole ∙ whole_scripts s.jobs over in
     let lines : run_lines inputs outputs ≡ lines_so_far s = (λ i. answered_scripts (scripts i) (reports i)) ∙ same_lines s.jobs (λ k j e. (u.each k j e).numbered) in
@@ -387,12 +386,12 @@ kept_serial kind journal before l kept = record {
 -- ---- what serialisable turns give
 
 scripts_are : (jobs : List JobState) → scripts_read (map commands_of jobs) (map answers_of jobs) ≡ map commands_of (map job_read jobs)
-unfolding commands_of answers_of
+unfolding answers_of
 scripts_are [] = refl
 scripts_are (j ∷ jobs) = λ i. commands_read j.lines i ∷ scripts_are jobs i
 
 reports_are : (jobs : List JobState) → reports_read (map commands_of jobs) (map answers_of jobs) ≡ map answers_of (map job_read jobs)
-unfolding commands_of answers_of
+unfolding answers_of
 reports_are [] = refl
 reports_are (j ∷ jobs) = λ i. answers_read j.lines i ∷ reports_are jobs i
 
@@ -401,7 +400,7 @@ ended_read [] = refl
 ended_read (j ∷ jobs) = ap (λ b. is_empty j.left && b) (ended_read jobs)
 
 pub serial_is_run : SerialSteppedRunsAreSerialRuns
-unfolding commands_of answers_of
+unfolding answers_of
 serial_is_run inputs leaves schedule outputs are is =
     let s : RunState = is.last in
     let way : IsSerialWay inputs leaves s = reached_way inputs leaves schedule is.turns s are is.reached in
