@@ -1,6 +1,6 @@
 -- The engine of a run before its first turn, and what the run leaves.
 use Rattle.std.proofs.Common.{◌≡◌, ℕ, zero, suc, ◌+◌, ◌*◌, ◌<◌, ◌≤◌, List, [], ◌∷◌, length, map, take, get_or, All, refl, sym, ◌∙◌, ap, subst, arith, replicate}
-use Rattle.std.specs.Prelude.{true, Bool, cond, min, ◌-◌, ◌^◌, slice_get, Some, unwrap_or, Result, Ok, Err, IsErrAnd, IfErr}
+use Rattle.std.specs.Prelude.{true, false, Bool, cond, min, ◌-◌, ◌^◌, slice_get, Some, None, unwrap_or, Result, Ok, Err, IsErrAnd, IfErr}
 use Rattle.std.specs.List.{AllByRecursion}
 use Rattle.std.proofs.lemmas.List.{append-nil}
 use Rattle.std.proofs.lemmas.List.Elements.{All-tail, All-head}
@@ -17,26 +17,29 @@ use Rattle.graph_model.specs.Graph.{empty_graph, vertices_of}
 use Rattle.graph_model.specs.History.{graph_at}
 use Rattle.graph_model.specs.Inserted.{inserted, inserted_by}
 use Rattle.graph_model.specs.Loading.{HasBegunNothing, IsNew, IsAdd, IsLoad, IsLoadRefusal, journal_of, loaded}
-use Rattle.graph_model.specs.OwnerCalls.{PassState, Core, no_pass}
+use Rattle.graph_model.specs.OwnerCalls.{PassState, Core, no_pass, pass_at}
 use Rattle.graphalytics_io.specs.declared.edges.Edge.{Edge}
 use Rattle.graphalytics_io.specs.Load.{load_of, added_edge}
 use Rattle.graph_files.specs.EdgeFiles.{arcs_of}
 use Rattle.graph_files.specs.Laws.{FilesAreWithinLimits}
 use Rattle.run_model.specs.declared.command.Command.{Command}
 use Rattle.run_model.specs.Requests.{Request, ToBegin, ToCommit, ToAbort, ToWrite, ToRead, ToRun, request, next_txn, begun_by}
-use Rattle.run_model.specs.Inputs.{Inputs, AreInputs}
+use Rattle.run_model.specs.Inputs.{Inputs, AreInputs, Outputs}
+use Rattle.run_model.specs.Laws.{SteppedRunsAreRuns}
+use Rattle.run_model.specs.Stepped.{service_turns}
+use Rattle.serial_model.specs.Laws.{SerialSteppedRunsAreSerialRuns}
 use Rattle.run_model.specs.Jobs.{load_journal}
 use Rattle.run_model.proofs.SetLemmas.{sum_cons}
 use Rattle.txn_manager.specs.declared.config.Config.{Config}
 use Rattle.teseo_core.specs.Passes.{new_pass}
-use Rattle.teseo_core.specs.Keeping.{new_core, newest_graph, edges_of}
+use Rattle.teseo_core.specs.Keeping.{LeftStore, new_core, newest_graph, edges_of}
 use Rattle.job_runner.specs.Progress.{Progress}
-use Rattle.job_runner.specs.Runs.{new_jobs, IsUnused, AreNew, outputs_of, Ends}
+use Rattle.job_runner.specs.Runs.{new_jobs, IsUnused, AreNew, outputs_of}
 use Rattle.command_words.specs.Words.{RunRequest}
 use Rattle.source_run.specs.Requests.{kind_of, rules_of}
 use Rattle.source_run.specs.declared.run.RunResult.{RunResult}
 use Rattle.source_run.specs.Input.{Meaning, Texts, IsAccepted}
-use Rattle.source_run.specs.Running.{run_outputs, IsLeftBy, HasCounts, Fits, IsConfig, IsRefusedLoad}
+use Rattle.source_run.specs.Running.{run_outputs, IsRunAs, IsLeftAs, EndsAs, HasCounts, Fits, IsConfig, IsRefusedLoad}
 
 -- ---- transactions that a script begins
 
@@ -167,9 +170,9 @@ module _ (inputs : Inputs) (leaves : ℕ) (config : Config) (is : IsConfig input
       subst (λ c. AreNew inputs c jobs) (sym (engine_is ∙ ap (λ c. loaded c inputs.load) before_is))
       (subst (λ js. AreNew inputs (loaded (new_core config) inputs.load) js) (sym jobs_are) are_new)
 
-  pub ended : (before engine new : Core) (jobs last : List Progress) (listed : List ℕ) → before ≡ new_core config → engine ≡ loaded before inputs.load → jobs ≡ new_jobs 1 inputs.scripts
-      → ((i : Inputs) → AreNew i engine jobs → Ends i listed engine new last) → Ends inputs listed engine new last
-  ended before engine new jobs last listed before_is engine_is jobs_are ends = ends inputs (started before engine jobs before_is engine_is jobs_are)
+  pub ended : (is_serial : Bool) (before engine new : Core) (jobs last : List Progress) (listed : List ℕ) → before ≡ new_core config → engine ≡ loaded before inputs.load → jobs ≡ new_jobs 1 inputs.scripts
+      → ((i : Inputs) → AreNew i engine jobs → EndsAs is_serial i listed engine new last) → EndsAs is_serial inputs listed engine new last
+  ended is_serial before engine new jobs last listed before_is engine_is jobs_are ends = ends inputs (started before engine jobs before_is engine_is jobs_are)
 
   pub none_served : (before engine : Core) → before ≡ new_core config → engine ≡ loaded before inputs.load → engine.served ≡ 0
   none_served before engine before_is engine_is = ap (λ c. c.served) engine_is ∙ ap (λ c. c.served) before_is
@@ -179,19 +182,39 @@ module _ (inputs : Inputs) (leaves : ℕ) (config : Config) (is : IsConfig input
 
 -- ---- what a run leaves
 
--- the run, as the code hands it on
-pub left_by_run : (inputs : Inputs) (leaves : ℕ) (schedule listed : List ℕ) (engine new : Core) (jobs : List Progress) (r : RunResult) → Ends inputs listed engine new jobs → listed ≡ schedule → engine.leaves ≡ leaves
-    → engine.served ≡ 0 → r.ran.core ≡ new → r.ran.settled ≡ true → r.jobs ≡ jobs → IsLeftBy inputs leaves schedule (run_outputs r) r.ran
-left_by_run inputs leaves schedule listed engine new jobs r ends same leaves_is zero_served ran settled jobs_are =
-    subst (λ (x : Core). IsLeftBy inputs leaves schedule (outputs_of x r.jobs) (record { core = x; settled = r.ran.settled })) (sym ran)
-    (subst (λ js. IsLeftBy inputs leaves schedule (outputs_of new js) (record { core = new; settled = r.ran.settled })) (sym jobs_are)
-    (subst (λ n. IsLeftBy inputs n schedule (outputs_of new jobs) (record { core = new; settled = r.ran.settled })) leaves_is (subst (λ turns. IsLeftBy inputs engine.leaves turns (outputs_of new jobs) (record { core = new; settled = r.ran.settled })) same (record {
-      stepped = ends.run;
-      journal = refl;
-      passes = ends.passes;
-      served = ends.served (omega (arith, zero_served)) ∙ ap (λ n. min n (2 ^ 64 - 1)) (omega (arith, zero_served));
-      settled = settled;
-    }))))
+-- no transaction is open at the end
+pub closed_as : (is_serial : Bool) (inputs : Inputs) (listed : List ℕ) (engine new : Core) (jobs : List Progress) → EndsAs is_serial inputs listed engine new jobs → (p : ℕ) → (pass_at new p).start ≡ None
+closed_as false inputs listed engine new jobs ends = ends.closed
+closed_as true inputs listed engine new jobs ends = ends.closed
+
+pub kind_as : (is_serial : Bool) (inputs : Inputs) (listed : List ℕ) (engine new : Core) (jobs : List Progress) → EndsAs is_serial inputs listed engine new jobs → new.kind ≡ inputs.kind
+kind_as false inputs listed engine new jobs ends = ends.kind
+kind_as true inputs listed engine new jobs ends = ends.kind
+
+module _ (inputs : Inputs) (leaves : ℕ) (schedule listed : List ℕ) (engine new : Core) (jobs : List Progress) (r : RunResult) (same : listed ≡ schedule) (leaves_is : engine.leaves ≡ leaves) (zero_served : engine.served ≡ 0)
+    (ran : r.ran.core ≡ new) (settled : r.ran.settled ≡ true) (jobs_are : r.jobs ≡ jobs) where
+  -- the run, as the code hands it on
+  left_as : (is_serial : Bool) → IsLeftAs is_serial inputs engine.leaves listed (outputs_of new jobs) (record { core = new; settled = r.ran.settled }) → IsLeftAs is_serial inputs leaves schedule (run_outputs r) r.ran
+  left_as is_serial left =
+      subst (λ (x : Core). IsLeftAs is_serial inputs leaves schedule (outputs_of x r.jobs) (record { core = x; settled = r.ran.settled })) (sym ran)
+      (subst (λ js. IsLeftAs is_serial inputs leaves schedule (outputs_of new js) (record { core = new; settled = r.ran.settled })) (sym jobs_are)
+      (subst (λ n. IsLeftAs is_serial inputs n schedule (outputs_of new jobs) (record { core = new; settled = r.ran.settled })) leaves_is
+      (subst (λ turns. IsLeftAs is_serial inputs engine.leaves turns (outputs_of new jobs) (record { core = new; settled = r.ran.settled })) same left)))
+
+  served_is : (turns : ℕ) → (engine.served < 2 ^ 64 → new.served ≡ min (engine.served + turns) (2 ^ 64 - 1)) → new.served ≡ min turns (2 ^ 64 - 1)
+  served_is turns served = served (omega (arith, zero_served)) ∙ ap (λ n. min n (2 ^ 64 - 1)) (omega (arith, zero_served))
+
+  pub left_by_run : (is_serial : Bool) → EndsAs is_serial inputs listed engine new jobs → IsLeftAs is_serial inputs leaves schedule (run_outputs r) r.ran
+  left_by_run false ends = left_as false
+      (record { stepped = ends.run; journal = refl; passes = ends.passes; served = served_is (service_turns (length inputs.scripts) listed ends.run.turns) ends.served; settled = settled })
+  left_by_run true ends = left_as true
+      (record { stepped = ends.run; journal = refl; passes = ends.passes; served = served_is (service_turns (length inputs.scripts) listed ends.run.turns) ends.served; settled = settled })
+
+-- what was left by such turns is such a run
+pub run_as : SteppedRunsAreRuns → SerialSteppedRunsAreSerialRuns → (is_serial : Bool) (inputs : Inputs) (leaves : ℕ) (schedule : List ℕ) (run : Outputs) (ran : LeftStore) → AreInputs inputs
+    → IsLeftAs is_serial inputs leaves schedule run ran → IsRunAs is_serial inputs leaves run
+run_as runs serial_runs false inputs leaves schedule run ran given left = runs inputs leaves schedule run given left.stepped
+run_as runs serial_runs true inputs leaves schedule run ran given left = serial_runs inputs leaves schedule run given left.stepped
 
 pub counts_of : (asked : Kind) (new : Core) (r : RunResult) → new.kind ≡ asked → r.ran.core ≡ new → r.totals.vertices ≡ length (vertices_of (newest_graph new)) → r.totals.edges ≡ edges_of new.kind (newest_graph new) → (r.totals.undo ≡ 0) × (r.totals.retired ≡ 0) → HasCounts asked r
 counts_of asked new r kind ran vertices edges none = record {

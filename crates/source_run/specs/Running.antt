@@ -1,5 +1,5 @@
 -- What the run of the scripts leaves, as the code has it.
-use Rattle.std.specs.Prelude.{◌≡◌, ℕ, suc, ◌-◌, ◌*◌, ◌^◌, ◌<◌, ◌≤◌, ◌⊎◌, min, true, List, map, length, All, slice_get, Some}
+use Rattle.std.specs.Prelude.{◌≡◌, ℕ, suc, ◌-◌, ◌*◌, ◌^◌, ◌<◌, ◌≤◌, ◌⊎◌, min, Bool, true, false, List, map, length, All, slice_get, Some}
 use Rattle.std.specs.List.{AllByRecursion}
 use Rattle.graph_model.specs.declared.limits.TheConstants.{SPLIT_ROWS, MAX_LEAVES}
 use Rattle.graph_model.specs.declared.write.Kind.{Kind}
@@ -13,7 +13,10 @@ use Rattle.run_model.specs.declared.command.Command.{Command}
 use Rattle.run_model.specs.Requests.{begun_by}
 use Rattle.run_model.specs.Answering.{edges_in}
 use Rattle.run_model.specs.Inputs.{Inputs, Outputs}
+use Rattle.run_model.specs.Run.{IsRun}
 use Rattle.run_model.specs.Stepped.{IsStepped, service_turns}
+use Rattle.serial_model.specs.SerialTurns.{IsSeriallyStepped}
+use Rattle.serial_model.specs.SerialRun.{IsSerialRun}
 use Rattle.script_lang.specs.FieldFaults.{IsNameByte}
 use Rattle.txn_manager.specs.declared.config.Config.{Config}
 use Rattle.graph_model.specs.declared.load.LoadRefusal.{LoadRefusal}
@@ -21,7 +24,8 @@ use Rattle.graph_model.specs.declared.load.LoadRefusal.TheVariants as refusals
 use Rattle.teseo_core.specs.Keeping.{LeftStore, new_core}
 use Rattle.job_runner.specs.Lines.{file_of}
 use Rattle.job_runner.specs.Progress.{Progress}
-use Rattle.job_runner.specs.Runs.{HaveDone}
+use Rattle.job_runner.specs.Runs.{HaveDone, Ends}
+use Rattle.serial_runner.specs.SerialRuns.{SerialEnds}
 use Rattle.source_run.specs.declared.input.Input.{Input}
 use Rattle.source_run.specs.declared.run.RunResult.{RunResult}
 use Rattle.source_run.specs.Input.{inputs_of}
@@ -46,10 +50,34 @@ pub record IsLeftBy (inputs : Inputs) (leaves : ℕ) (schedule : List ℕ) (run 
   pub served : ran.core.served ≡ min (service_turns (length inputs.scripts) schedule stepped.turns) (2 ^ 64 - 1)
   pub settled : ran.settled ≡ true
 
+-- the same of a run by turns that refuse commits
+pub record IsSeriallyLeftBy (inputs : Inputs) (leaves : ℕ) (schedule : List ℕ) (run : Outputs) (ran : LeftStore)
+    : Type 0 where
+  pub stepped : IsSeriallyStepped inputs leaves schedule run
+  pub journal : ran.core.journal ≡ run.journal
+  pub passes : HaveDone inputs.scripts run.reports ran.core
+  pub served : ran.core.served ≡ min (service_turns (length inputs.scripts) schedule stepped.turns) (2 ^ 64 - 1)
+  pub settled : ran.settled ≡ true
+
+-- what ran is a run, or a serialisable one, where that is asked for
+abbrev pub IsRunAs : Bool → Inputs → ℕ → Outputs → Type 0
+IsRunAs false inputs leaves run = IsRun inputs leaves run
+IsRunAs true inputs leaves run = IsSerialRun inputs leaves run
+
+-- and it ran by such turns
+abbrev pub IsLeftAs : Bool → Inputs → ℕ → List ℕ → Outputs → LeftStore → Type 0
+IsLeftAs false inputs leaves schedule run ran = IsLeftBy inputs leaves schedule run ran
+IsLeftAs true inputs leaves schedule run ran = IsSeriallyLeftBy inputs leaves schedule run ran
+
+-- how the jobs of a run end by such turns
+abbrev pub EndsAs : Bool → Inputs → List ℕ → Core → Core → List Progress → Type 0
+EndsAs false inputs schedule old new jobs = Ends inputs schedule old new jobs
+EndsAs true inputs schedule old new jobs = SerialEnds inputs schedule old new jobs
+
 -- what was left is of a run of this input
-abbrev pub IsSteppedRun : Kind → ℕ → Input → RunResult → Type 0
-IsSteppedRun kind leaves input r =
-    IsLeftBy (inputs_of kind (meaning_of input)) leaves input.schedule (run_outputs r) r.ran
+abbrev pub IsSteppedRun : Bool → Kind → ℕ → Input → RunResult → Type 0
+IsSteppedRun is_serial kind leaves input r =
+    IsLeftAs is_serial (inputs_of kind (meaning_of input)) leaves input.schedule (run_outputs r) r.ran
 
 -- the names of all kernel files are printable ASCII
 abbrev pub HavePrintableNames : List Progress → Type 0

@@ -4,22 +4,21 @@
 //! 2. Script k uses pass k of the engine, and the load and the service use pass 0.
 //! 3. The store has as many leaves as are stated, or as the rows of the load and of the scripts can fill.
 
-ghost use Rattle.std.specs.Prelude.{◌≡◌, ◌≤◌, ◌+◌, ◌<◌, ℕ, cond, length, All, IfOk, IfErr, false};
+ghost use Rattle.std.specs.Prelude.{◌≡◌, ◌≤◌, ◌+◌, ◌<◌, ℕ, cond, length, slice_get, Some, All, OnOk, OnErr, IfOk, IfErr, false};
 ghost use Rattle.std.specs.List.{AllByRecursion};
 ghost use Rattle.graph_model.specs.declared.limits.TheConstants.{MAX_LEAVES, MAX_SCRIPTS, MAX_BEGINS};
 ghost use Rattle.graphalytics_io.specs.Load.{load_of};
 ghost use Rattle.graph_model.specs.Graph.{empty_graph};
 ghost use Rattle.graph_model.specs.Loading.{loaded};
 ghost use Rattle.graph_model.specs.Refused.{AllAllowed, IsWithinLimits};
-ghost use Rattle.run_model.specs.Inputs.{AreInputs};
+ghost use Rattle.run_model.specs.Inputs.{Inputs, AreInputs};
 ghost use Rattle.run_model.specs.Requests.{request, next_txn, begun_by};
-ghost use Rattle.run_model.specs.Run.{IsRun};
 ghost use Rattle.txn_manager.specs.Config.{too_large};
 ghost use Rattle.teseo_core.specs.Keeping.{new_core};
-ghost use Rattle.job_runner.specs.Runs.{new_jobs};
+ghost use Rattle.job_runner.specs.Runs.{new_jobs, AreNew, GivesUp};
 ghost use Rattle.source_run.specs.Input.{inputs_of};
 ghost use Rattle.source_run.specs.Parsing.{meaning_of};
-ghost use Rattle.source_run.specs.Running.{run_outputs, HasCounts, IsSteppedRun, IsRefusedLoad, MayBegin, IsConfig};
+ghost use Rattle.source_run.specs.Running.{run_outputs, IsRunAs, EndsAs, HasCounts, IsSteppedRun, IsRefusedLoad, MayBegin, IsConfig};
 
 use crate::input::Input;
 use graph_model::{Kind, LoadRefusal, NoMemory};
@@ -27,6 +26,8 @@ use graphalytics_io::load_graph;
 use items::Items;
 use job_runner::{Job, Jobs, run_stepped};
 use run_model::{Command, Script, stepped_runs_are_runs};
+use serial_model::serial_stepped_runs_are_serial_runs;
+use serial_runner::run_serial;
 use std::alloc::Global;
 use std::thread::Threads;
 use teseo_core::{Core, CoreJournal};
@@ -47,23 +48,26 @@ pub fn run_scripts<R: Threads + Sync>(
     alloc: Global,
     kind: Kind,
     leaves: u32,
+    is_serial: bool,
     input: Input,
 ) -> Result<RunResult, LoadRefusal>
     requires some { 1 ≤ leaves }
     requires few { leaves ≤ MAX_LEAVES }
     requires inputs { AreInputs (inputs_of kind (meaning_of input)) }
     requires listed { All (λ job. job ≤ length input.scripts) input.schedule }
-    ensures run { IfOk result (λ r. IsRun (inputs_of kind (meaning_of input)) leaves (run_outputs r)) }
-    ensures left { IfOk result (IsSteppedRun kind leaves input) }
+    ensures run { IfOk result (λ r. IsRunAs is_serial (inputs_of kind (meaning_of input)) leaves (run_outputs r)) }
+    ensures left { IfOk result (IsSteppedRun is_serial kind leaves input) }
     ensures counts { IfOk result (HasCounts kind) }
     ensures refused { IfErr result (IsRefusedLoad kind leaves input.ids input.edges) }
 {
     stepped_runs_are_runs();
+    serial_stepped_runs_are_serial_runs();
     let config = config_of(kind, leaves, input.scripts.as_slice());
     let mut engine = new_engine(alloc, config)?;
     load_graph(alloc, &mut engine, &input.ids, &input.edges)?;
     let mut jobs = jobs_of(alloc, input.scripts)?;
-    run_stepped(rt, &mut engine, &mut jobs, input.schedule.as_slice())?;
+    let schedule = input.schedule.as_slice();
+    run_jobs(rt, alloc, &mut engine, &mut jobs, schedule, is_serial)?;
     engine.settle();
     let totals = engine.totals();
     Ok(RunResult {
@@ -71,6 +75,28 @@ pub fn run_scripts<R: Threads + Sync>(
         jobs,
         totals,
     })
+}
+
+/// Runs the jobs to their end, and refuses commits that would not leave a serial order where that is asked for.
+fn run_jobs<R: Threads + Sync>(
+    rt: &R,
+    alloc: Global,
+    engine: &mut Core,
+    jobs: &mut Jobs,
+    schedule: &[u32],
+    is_serial: bool,
+) -> Result<(), NoMemory>
+    requires new { (inputs : Inputs) × AreNew inputs engine.old.core jobs.old }
+    requires listed { (i job : ℕ) → slice_get schedule.now i ≡ Some job → job ≤ length jobs.old }
+    ensures ends { OnOk result ((inputs : Inputs) → AreNew inputs engine.old.core jobs.old
+        → EndsAs is_serial inputs schedule.now engine.old.core engine.new.core jobs.new) }
+    ensures err { OnErr result (GivesUp engine.old.core engine.new.core) }
+{
+    if is_serial {
+        run_serial(rt, alloc, engine, jobs, schedule)
+    } else {
+        run_stepped(rt, engine, jobs, schedule)
+    }
 }
 
 /// What the engine of these scripts is made with: a pass for each, and one for the load. Each may begin as

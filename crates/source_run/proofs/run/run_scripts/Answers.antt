@@ -4,51 +4,53 @@ use Rattle.graph_model.specs.Loading.{IsNew}
 use Rattle.source_run.specs.Input.{inputs_of}
 use Rattle.source_run.specs.Parsing.{meaning_of}
 use Rattle.source_run.specs.Running.{IsConfig, IsRefusedLoad}
-use Rattle.source_run.proofs.RunLemmas.{handed_on, is_new, loadable, refused_load, started, ended, leaves_are, left_by_run, none_served, counts_of, all_at, new_jobs_count}
+use Rattle.source_run.proofs.RunLemmas.{handed_on, is_new, loadable, refused_load, started, ended, closed_as, kind_as, leaves_are, left_by_run, run_as, none_served, counts_of, all_at, new_jobs_count}
 use Rattle.source_run.proofs.run.run_scripts.Goals as goal
 
-pub run_stepped-requires-clause-new : goal.run_stepped-requires-clause-new
-run_stepped-requires-clause-new g c κs within = (
+pub run_jobs-requires-clause-new : goal.run_jobs-requires-clause-new
+run_jobs-requires-clause-new g c κs within = (
   inputs_of c.args.kind (meaning_of c.args.input),
   started (inputs_of c.args.kind (meaning_of c.args.input)) c.args.leaves c.config_of-config.result (subst (λ scripts. IsConfig c.args.kind c.args.leaves scripts c.config_of-config.result) c.as_slice.ensures c.config_of-config.ensures.config) c.requires.inputs
       c.in_ok-engine.engine.core c.load_graph.new.engine.core c.in_ok-jobs.jobs c.in_ok-engine.ensures c.in_ok-load_graph.ensures.loaded c.in_ok-jobs.ensures,
 )
 
-pub run_stepped-requires-clause-listed : goal.run_stepped-requires-clause-listed
-run_stepped-requires-clause-listed g c κs within = λ i job e.
+pub run_jobs-requires-clause-listed : goal.run_jobs-requires-clause-listed
+run_jobs-requires-clause-listed g c κs within = λ i job e.
     subst (λ n. job ≤ n) (sym (new_jobs_count 1 c.args.input.scripts) ∙ ap length (sym c.in_ok-jobs.ensures))
-    (all_at (λ j. j ≤ length c.args.input.scripts) c.args.input.schedule c.requires.listed i job (ap (λ xs. slice_get xs i) (sym c.as_slice-2.ensures) ∙ e))
+    (all_at (λ j. j ≤ length c.args.input.scripts) c.args.input.schedule c.requires.listed i job (ap (λ xs. slice_get xs i) (sym c.as_slice-schedule.ensures) ∙ e))
 
 pub settle-requires : goal.settle-requires
 settle-requires g c =
     let ends = ended (inputs_of c.args.kind (meaning_of c.args.input)) c.args.leaves c.config_of-config.result (subst (λ scripts. IsConfig c.args.kind c.args.leaves scripts c.config_of-config.result) c.as_slice.ensures c.config_of-config.ensures.config) c.requires.inputs
-    c.in_ok-engine.engine.core c.load_graph.new.engine.core c.run_stepped.new.engine.core c.in_ok-jobs.jobs c.run_stepped.new.jobs c.as_slice-2.result.now c.in_ok-engine.ensures c.in_ok-load_graph.ensures.loaded c.in_ok-jobs.ensures c.in_ok-run_stepped.ensures.ends in
-    ends.closed
+    c.args.is_serial c.in_ok-engine.engine.core c.load_graph.new.engine.core c.run_jobs.new.engine.core c.in_ok-jobs.jobs c.run_jobs.new.jobs c.as_slice-schedule.result.now c.in_ok-engine.ensures c.in_ok-load_graph.ensures.loaded c.in_ok-jobs.ensures c.in_ok-run_jobs.ensures.ends in
+    closed_as c.args.is_serial (inputs_of c.args.kind (meaning_of c.args.input)) c.as_slice-schedule.result.now c.load_graph.new.engine.core c.run_jobs.new.engine.core c.run_jobs.new.jobs ends
 
 pub returns-clause-run : goal.returns-clause-run
 returns-clause-run g c =
     let ends = ended (inputs_of c.args.kind (meaning_of c.args.input)) c.args.leaves c.config_of-config.result (subst (λ scripts. IsConfig c.args.kind c.args.leaves scripts c.config_of-config.result) c.as_slice.ensures c.config_of-config.ensures.config) c.requires.inputs
-    c.in_ok-engine.engine.core c.load_graph.new.engine.core c.run_stepped.new.engine.core c.in_ok-jobs.jobs c.run_stepped.new.jobs c.as_slice-2.result.now c.in_ok-engine.ensures c.in_ok-load_graph.ensures.loaded c.in_ok-jobs.ensures c.in_ok-run_stepped.ensures.ends in
+    c.args.is_serial c.in_ok-engine.engine.core c.load_graph.new.engine.core c.run_jobs.new.engine.core c.in_ok-jobs.jobs c.run_jobs.new.jobs c.as_slice-schedule.result.now c.in_ok-engine.ensures c.in_ok-load_graph.ensures.loaded c.in_ok-jobs.ensures c.in_ok-run_jobs.ensures.ends in
     let leaves = leaves_are (inputs_of c.args.kind (meaning_of c.args.input)) c.args.leaves c.config_of-config.result (subst (λ scripts. IsConfig c.args.kind c.args.leaves scripts c.config_of-config.result) c.as_slice.ensures c.config_of-config.ensures.config) c.requires.inputs c.in_ok-engine.engine.core c.load_graph.new.engine.core c.in_ok-engine.ensures c.in_ok-load_graph.ensures.loaded in
     let zero_served = none_served (inputs_of c.args.kind (meaning_of c.args.input)) c.args.leaves c.config_of-config.result (subst (λ scripts. IsConfig c.args.kind c.args.leaves scripts c.config_of-config.result) c.as_slice.ensures c.config_of-config.ensures.config) c.requires.inputs c.in_ok-engine.engine.core c.load_graph.new.engine.core c.in_ok-engine.ensures c.in_ok-load_graph.ensures.loaded in
-    c.stepped_runs_are_runs.ensures (inputs_of c.args.kind (meaning_of c.args.input)) c.args.leaves c.args.input.schedule _ c.requires.inputs
-    ((left_by_run (inputs_of c.args.kind (meaning_of c.args.input)) c.args.leaves c.args.input.schedule c.as_slice-2.result.now c.load_graph.new.engine.core c.run_stepped.new.engine.core c.run_stepped.new.jobs
-    (record { ran = c.into_journal.result; jobs = c.run_stepped.new.jobs; totals = c.totals-totals.result }) ends c.as_slice-2.ensures leaves zero_served (c.into_journal.ensures.core ∙ c.settle.ensures.core) (c.into_journal.ensures.unsettled c.settle.ensures.settled.records c.settle.ensures.settled.retired) refl).stepped)
+    run_as c.stepped_runs_are_runs.ensures c.serial_stepped_runs_are_serial_runs.ensures c.args.is_serial (inputs_of c.args.kind (meaning_of c.args.input)) c.args.leaves c.args.input.schedule _ c.into_journal.result c.requires.inputs
+    (left_by_run (inputs_of c.args.kind (meaning_of c.args.input)) c.args.leaves c.args.input.schedule c.as_slice-schedule.result.now c.load_graph.new.engine.core c.run_jobs.new.engine.core c.run_jobs.new.jobs
+    (record { ran = c.into_journal.result; jobs = c.run_jobs.new.jobs; totals = c.totals-totals.result }) c.as_slice-schedule.ensures leaves zero_served (c.into_journal.ensures.core ∙ c.settle.ensures.core) (c.into_journal.ensures.unsettled c.settle.ensures.settled.records c.settle.ensures.settled.retired) refl
+    c.args.is_serial ends)
 
 pub returns-clause-left : goal.returns-clause-left
 returns-clause-left g c =
     let ends = ended (inputs_of c.args.kind (meaning_of c.args.input)) c.args.leaves c.config_of-config.result (subst (λ scripts. IsConfig c.args.kind c.args.leaves scripts c.config_of-config.result) c.as_slice.ensures c.config_of-config.ensures.config) c.requires.inputs
-    c.in_ok-engine.engine.core c.load_graph.new.engine.core c.run_stepped.new.engine.core c.in_ok-jobs.jobs c.run_stepped.new.jobs c.as_slice-2.result.now c.in_ok-engine.ensures c.in_ok-load_graph.ensures.loaded c.in_ok-jobs.ensures c.in_ok-run_stepped.ensures.ends in
+    c.args.is_serial c.in_ok-engine.engine.core c.load_graph.new.engine.core c.run_jobs.new.engine.core c.in_ok-jobs.jobs c.run_jobs.new.jobs c.as_slice-schedule.result.now c.in_ok-engine.ensures c.in_ok-load_graph.ensures.loaded c.in_ok-jobs.ensures c.in_ok-run_jobs.ensures.ends in
     let leaves = leaves_are (inputs_of c.args.kind (meaning_of c.args.input)) c.args.leaves c.config_of-config.result (subst (λ scripts. IsConfig c.args.kind c.args.leaves scripts c.config_of-config.result) c.as_slice.ensures c.config_of-config.ensures.config) c.requires.inputs c.in_ok-engine.engine.core c.load_graph.new.engine.core c.in_ok-engine.ensures c.in_ok-load_graph.ensures.loaded in
     let zero_served = none_served (inputs_of c.args.kind (meaning_of c.args.input)) c.args.leaves c.config_of-config.result (subst (λ scripts. IsConfig c.args.kind c.args.leaves scripts c.config_of-config.result) c.as_slice.ensures c.config_of-config.ensures.config) c.requires.inputs c.in_ok-engine.engine.core c.load_graph.new.engine.core c.in_ok-engine.ensures c.in_ok-load_graph.ensures.loaded in
-    left_by_run (inputs_of c.args.kind (meaning_of c.args.input)) c.args.leaves c.args.input.schedule c.as_slice-2.result.now c.load_graph.new.engine.core c.run_stepped.new.engine.core c.run_stepped.new.jobs
-    (record { ran = c.into_journal.result; jobs = c.run_stepped.new.jobs; totals = c.totals-totals.result }) ends c.as_slice-2.ensures leaves zero_served (c.into_journal.ensures.core ∙ c.settle.ensures.core) (c.into_journal.ensures.unsettled c.settle.ensures.settled.records c.settle.ensures.settled.retired) refl
+    left_by_run (inputs_of c.args.kind (meaning_of c.args.input)) c.args.leaves c.args.input.schedule c.as_slice-schedule.result.now c.load_graph.new.engine.core c.run_jobs.new.engine.core c.run_jobs.new.jobs
+    (record { ran = c.into_journal.result; jobs = c.run_jobs.new.jobs; totals = c.totals-totals.result }) c.as_slice-schedule.ensures leaves zero_served (c.into_journal.ensures.core ∙ c.settle.ensures.core) (c.into_journal.ensures.unsettled c.settle.ensures.settled.records c.settle.ensures.settled.retired) refl
+    c.args.is_serial ends
 
 pub returns-clause-counts : goal.returns-clause-counts
 returns-clause-counts g c =
     let ends = ended (inputs_of c.args.kind (meaning_of c.args.input)) c.args.leaves c.config_of-config.result (subst (λ scripts. IsConfig c.args.kind c.args.leaves scripts c.config_of-config.result) c.as_slice.ensures c.config_of-config.ensures.config) c.requires.inputs
-    c.in_ok-engine.engine.core c.load_graph.new.engine.core c.run_stepped.new.engine.core c.in_ok-jobs.jobs c.run_stepped.new.jobs c.as_slice-2.result.now c.in_ok-engine.ensures c.in_ok-load_graph.ensures.loaded c.in_ok-jobs.ensures c.in_ok-run_stepped.ensures.ends in
-    counts_of c.args.kind c.settle.new.self.core _ (ap (λ s. s.kind) c.settle.ensures.core ∙ ends.kind) c.into_journal.ensures.core c.totals-totals.ensures.vertices c.totals-totals.ensures.edges
+    c.args.is_serial c.in_ok-engine.engine.core c.load_graph.new.engine.core c.run_jobs.new.engine.core c.in_ok-jobs.jobs c.run_jobs.new.jobs c.as_slice-schedule.result.now c.in_ok-engine.ensures c.in_ok-load_graph.ensures.loaded c.in_ok-jobs.ensures c.in_ok-run_jobs.ensures.ends in
+    counts_of c.args.kind c.settle.new.self.core _ (ap (λ s. s.kind) c.settle.ensures.core ∙ kind_as c.args.is_serial (inputs_of c.args.kind (meaning_of c.args.input)) c.as_slice-schedule.result.now c.load_graph.new.engine.core c.run_jobs.new.engine.core c.run_jobs.new.jobs ends) c.into_journal.ensures.core c.totals-totals.ensures.vertices c.totals-totals.ensures.edges
     (c.totals-totals.ensures.undo ∙ ap (λ n. min n (2 ^ 64 - 1)) c.settle.ensures.settled.records, c.totals-totals.ensures.retired ∙ ap length c.settle.ensures.settled.retired)
 
 pub load_graph-requires-clause-new : goal.load_graph-requires-clause-new
