@@ -15,6 +15,7 @@ use Rattle.run_model.specs.Requests.{request, next_txn}
 use Rattle.run_model.specs.AnsweredLines.{AnsweredLine, answered_from, answered_lines}
 use Rattle.run_model.specs.Inputs.{Inputs, Outputs}
 use Rattle.run_model.specs.Run.{answered_scripts, IsRun}
+use Rattle.serial_model.specs.SerialRun.{inputs_read, outputs_read}
 use Rattle.script_lang.specs.Scripts.{script_of, files_of}
 use Rattle.script_lang.specs.declared.refusal.ScriptRefusal.{ScriptRefusal}
 use Rattle.command_words.specs.Words.{RunRequest, Request, run, IsTaken, taken_names}
@@ -27,10 +28,12 @@ use Rattle.teseo_program.specs.declared.outcome.Outcome.TheVariants.{Done, Full,
 use Rattle.source_run.specs.Requests.{source_names, kind_of, rules_of}
 use Rattle.source_run.specs.Input.{Meaning, Texts, texts_of, AreScripts, IsAccepted, inputs_of}
 use Rattle.source_run.specs.Leaves.{leaves_for, leaves_of, most_rows}
+use Rattle.source_run.specs.Running.{IsRunAs}
 use Rattle.teseo_program.specs.Outcomes.{status_of, is_full, shows_full, IsRunOutcome, IsOutcome, Ends}
 use Rattle.teseo_program.specs.Laws.{AreTold, HasNoFault, RunsWithRoomEndWell}
 use Rattle.teseo_program.proofs.LawLemmas.{asked_ends, read_told, end_well}
 use Rattle.teseo_program.proofs.RoomLawLemmas.{loads_find_room, runs_find_room}
+use Rattle.teseo_program.proofs.SerialRunLemmas.{rows_read, full_read}
 
 -- ---- texts stand for one thing
 
@@ -112,6 +115,15 @@ shows_none : (inputs : Inputs) (outputs : Outputs) → most_rows inputs < SPLIT_
 shows_none inputs outputs few is =
     reports_have_none inputs.scripts outputs.reports is.reported is.lines (λ k ls at i l line full. runs_find_room inputs outputs few is k i ls l at line full)
 
+-- nor does a serialisable one
+shows_none_as : (is_serial : Bool) (inputs : Inputs) (outputs : Outputs) → most_rows inputs < SPLIT_ROWS * MAX_LEAVES → IsRunAs is_serial inputs (leaves_for None (most_rows inputs)) outputs → shows_full outputs ≡ false
+shows_none_as false inputs outputs few is = shows_none inputs outputs few is
+shows_none_as true inputs outputs few is =
+    let same = rows_read inputs outputs in
+    sym (full_read inputs (leaves_for None (most_rows inputs)) outputs is)
+    ∙ shows_none (inputs_read inputs outputs) (outputs_read inputs outputs) (subst (λ n. n < SPLIT_ROWS * MAX_LEAVES) (sym same) few)
+    (subst (λ n. IsRun (inputs_read inputs outputs) (leaves_for None n) (outputs_read inputs outputs)) (sym same) is.run)
+
 never : {P : Type 0} (t : Bool) → t ≡ true → t ≡ false → P
 never t is isnt = let e : true ≡ false = sym is ∙ isnt in cc
 
@@ -139,8 +151,8 @@ module _ (request : RunRequest) (sources : List (List ℕ)) (m : Meaning) (old n
       let of_run = is.cause.of_run in
       let of_texts = of_run.of_texts in
       let same = same_inputs of_run.sources of_texts.m (read_told old (source_names request) sources of_run.sources told of_run.read) of_texts.accepted in
-      let ran = subst (λ leaves. IsRun (inputs_of (kind_of request) of_texts.m) (leaves_for leaves (most_rows (inputs_of (kind_of request) of_texts.m))) is.made.run) unstated of_texts.run in
-      never (shows_full is.made.run) is.cause.shows (shows_none (inputs_of (kind_of request) of_texts.m) is.made.run (few_there of_texts.m same) ran)
+      let ran = subst (λ leaves. IsRunAs request.is_serial (inputs_of (kind_of request) of_texts.m) (leaves_for leaves (most_rows (inputs_of (kind_of request) of_texts.m))) is.made.run) unstated of_texts.run in
+      never (shows_full is.made.run) is.cause.shows (shows_none_as request.is_serial (inputs_of (kind_of request) of_texts.m) is.made.run (few_there of_texts.m same) ran)
 
 -- a run that ends well and not with 6 ends with 0 or 3
 not_six : (outcome : Outcome) → (status_of outcome ≡ 6 → ⊥) → (outcome ≡ Done) ⊎ ((status_of outcome ≡ 6) ⊎ (status_of outcome ≡ 3)) → (status_of outcome ≡ 0) ⊎ (status_of outcome ≡ 3)

@@ -3,6 +3,7 @@ mod FileLemmas
 mod TextLemmas
 mod NameLemmas
 mod SinkLemmas
+mod SerialRunLemmas
 mod PreparedLemmas
 mod LawLemmas
 mod OutcomeLemmas

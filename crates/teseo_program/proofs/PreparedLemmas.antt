@@ -1,6 +1,6 @@
 -- What is made of a run is what the definition says is written and said.
 use Rattle.std.proofs.Common.{◌≡◌, ◌≢◌, ℕ, zero, suc, ◌*◌, ◌≤◌, List, [], ◌∷◌, ◌++◌, length, refl, sym, ◌∙◌, ap, subst, inl, arith, All, AllPairs}
-use Rattle.std.specs.Prelude.{false, slice_get, Some, option_to_list}
+use Rattle.std.specs.Prelude.{Bool, false, slice_get, Some, option_to_list}
 use Rattle.std.specs.List.{flat_map}
 use Rattle.std.proofs.lemmas.List.{length-map}
 use Rattle.std.proofs.lemmas.List.Elements.{All-append}
@@ -16,7 +16,6 @@ use Rattle.graph_files.specs.Laws.{LoadIsAllowed, LoadIsWithinLimits, FilesAreLo
 use Rattle.run_model.specs.declared.command.Command.{Command}
 use Rattle.run_model.specs.Requests.{begun_by, IsScript}
 use Rattle.run_model.specs.Inputs.{AreInputs}
-use Rattle.run_model.specs.Run.{IsRun}
 use Rattle.script_lang.specs.FieldFaults.{IsNameByte}
 use Rattle.script_lang.specs.Scripts.{files_of}
 use Rattle.desk_io.specs.Files.{Files}
@@ -36,10 +35,11 @@ use Rattle.source_run.specs.Leaves.{leaves_for, leaves_of, most_rows}
 use Rattle.teseo_program.specs.Outcomes.{outcome_of_load, outcome_of_parse, shows_full}
 use Rattle.teseo_program.specs.Prepared.{IsUnprepared, IsPreparedOf, IsMadeOf, IsLoadStop}
 use Rattle.teseo_program.specs.Sinks.{sinks_of, summary_line, summary_text}
-use Rattle.source_run.specs.Running.{run_outputs, IsLeftBy, HasCounts, HavePrintableNames, IsRefusedLoad}
+use Rattle.source_run.specs.Running.{run_outputs, IsRunAs, IsLeftAs, HasCounts, HavePrintableNames, IsRefusedLoad}
 use Rattle.source_run.proofs.RequestLemmas.{few_scripts, distinct_names}
 use Rattle.teseo_program.proofs.SublistLemmas.{sub_all, sub_behind}
-use Rattle.teseo_program.proofs.FileLemmas.{names_in, files_of_run, files_apart}
+use Rattle.teseo_program.proofs.FileLemmas.{names_in, files_apart}
+use Rattle.teseo_program.proofs.SerialRunLemmas.{files_as, reports_as}
 use Rattle.teseo_program.proofs.SinkLemmas.{printable_names, sinks_apart}
 
 -- ---- what can be run
@@ -74,14 +74,14 @@ module _ (allows : LoadIsAllowed) (limits : LoadIsWithinLimits) (files : FilesAr
 
   -- ---- what a run of them leaves
 
-  module _ (leaves : ℕ) (r : RunResult) (run : IsRun (inputs_of kind m) leaves (run_outputs r)) where
+  module _ (is_serial : Bool) (leaves : ℕ) (r : RunResult) (run : IsRunAs is_serial (inputs_of kind m) leaves (run_outputs r)) where
     pub job_count : length r.jobs ≡ length request.scripts
-    job_count = sym (length-map r.jobs (λ job. job.answers)) ∙ run.reported ∙ count
+    job_count = sym (length-map r.jobs (λ job. job.answers)) ∙ reports_as is_serial (inputs_of kind m) leaves (run_outputs r) run ∙ count
 
     pub are_printable : HavePrintableNames r.jobs
     are_printable = printable_names r.jobs
         (sub_all (λ name. All IsNameByte name) (flat_map names_in (run_outputs r).files) (flat_map files_of m.scripts)
-        (files_of_run (inputs_of kind m) leaves (run_outputs r) run) (all_printable (taken_names request) m.scripts can))
+        (files_as is_serial (inputs_of kind m) leaves (run_outputs r) run) (all_printable (taken_names request) m.scripts can))
       where
         all_printable : (taken : List (List ℕ)) (scripts : List (List Command)) → AreRunnable taken scripts → All (λ name. All IsNameByte name) (flat_map files_of scripts)
         all_printable taken [] can = λ k d inside. absurd (omega arith)
@@ -92,7 +92,7 @@ module _ (allows : LoadIsAllowed) (limits : LoadIsWithinLimits) (files : FilesAr
     are_apart outputs is = subst (λ os. AllPairs (λ a b. a ≢ b) (names_of os)) (sym is)
         (sinks_apart request.journal (report_names request) (given_names request) (taken_names request) (flat_map files_of m.scripts) (run_outputs r) refl
         (sub_behind (request.vertices ∷ request.edges ∷ []) (request.journal ∷ []) (request.journal ∷ (option_to_list request.schedule ++ request.scripts)) (inl (refl, tt)))
-        (files_of_run (inputs_of kind m) leaves (run_outputs r) run)
+        (files_as is_serial (inputs_of kind m) leaves (run_outputs r) run)
         (files_apart (taken_names request) m.scripts (distinct_names request asked) can))
 
 -- the summary has the counts of the journal's graph
@@ -101,14 +101,14 @@ same_summary kind r has commits is = λ i. summary_line (is i) (record { vertice
 
 -- what was made of a run is of what the sources stand for
 pub made_from : (request : RunRequest) (m : Meaning) (p : Prepared) (r : RunResult) (kind : Kind) (leaves commits : ℕ) → kind ≡ kind_of request → leaves ≡ leaves_for request.leaves (most_rows (inputs_of kind m))
-    → IsRun (inputs_of kind m) leaves (run_outputs r) → IsLeftBy (inputs_of kind m) leaves m.schedule (run_outputs r) r.ran → HasCounts kind r → commits ≡ length r.ran.core.journal
+    → IsRunAs request.is_serial (inputs_of kind m) leaves (run_outputs r) → IsLeftAs request.is_serial (inputs_of kind m) leaves m.schedule (run_outputs r) r.ran → HasCounts kind r → commits ≡ length r.ran.core.journal
     → p.outputs ≡ sinks_of request.journal (report_names request) (run_outputs r) → p.summary ≡ summary_line commits r.totals → shows_full (run_outputs r) ≡ p.is_full
     → p.left ≡ Stepped r.ran → IsMadeOf request m p
 made_from request m p r kind leaves commits is leaves_are run left_by counts counted outputs summary full left = record {
   outputs = run_outputs r;
   ran = r.ran;
-  run = subst (λ n. IsRun (inputs_of (kind_of request) m) n (run_outputs r)) all_leaves (subst (λ k. IsRun (inputs_of k m) leaves (run_outputs r)) is run);
-  left_by = subst (λ n. IsLeftBy (inputs_of (kind_of request) m) n m.schedule (run_outputs r) r.ran) all_leaves (subst (λ k. IsLeftBy (inputs_of k m) leaves m.schedule (run_outputs r) r.ran) is left_by);
+  run = subst (λ n. IsRunAs request.is_serial (inputs_of (kind_of request) m) n (run_outputs r)) all_leaves (subst (λ k. IsRunAs request.is_serial (inputs_of k m) leaves (run_outputs r)) is run);
+  left_by = subst (λ n. IsLeftAs request.is_serial (inputs_of (kind_of request) m) n m.schedule (run_outputs r) r.ran) all_leaves (subst (λ k. IsLeftAs request.is_serial (inputs_of k m) leaves m.schedule (run_outputs r) r.ran) is left_by);
   outputs_are = outputs;
   summary_is = summary ∙ same_summary kind r counts commits counted ∙ ap (λ k. summary_text k (run_outputs r)) is;
   full = full;

@@ -9,7 +9,6 @@ use Rattle.graphalytics_io.specs.Load.{load_of}
 use Rattle.run_model.specs.declared.answer.Answer.{Answer}
 use Rattle.run_model.specs.declared.answer.Answer.TheVariants as answers
 use Rattle.run_model.specs.Inputs.{Outputs}
-use Rattle.run_model.specs.Run.{IsRun}
 use Rattle.desk_io.specs.Files.{Files}
 use Rattle.desk_io.specs.Sources.{AreRead, IsReadStop}
 use Rattle.desk_io.specs.Outputs.{NamedText, names_of, WritesAll, FailsAtPlace}
@@ -32,7 +31,7 @@ use Rattle.source_run.specs.Leaves.{leaves_of}
 use Rattle.teseo_program.specs.declared.left.Left.{Left}
 use Rattle.teseo_program.specs.declared.left.Left.TheVariants.{Stepped}
 use Rattle.teseo_core.specs.Keeping.{LeftStore}
-use Rattle.source_run.specs.Running.{IsLeftBy}
+use Rattle.source_run.specs.Running.{IsRunAs, IsLeftAs}
 use Rattle.teseo_program.specs.Sinks.{sinks_of, summary_text}
 use Rattle.teseo_program.specs.MadeGraphs.{graph_outputs, made_text}
 
@@ -158,12 +157,14 @@ is_full answers.Skipped = false
 abbrev pub shows_full : Outputs → Bool
 shows_full o = list_any (list_any is_full) o.reports
 
--- what was made is a run of what these texts mean, by the turns that the schedule gives
+-- what was made is a run of what these texts mean, by the turns that the schedule gives; a serialisable one where that
+-- is asked for
 pub record IsOfTexts (request : RunRequest) (texts : Texts) (made : Made) : Type 0 where
   pub m : Meaning
   pub accepted : IsAccepted request texts m
-  pub run : IsRun (inputs_of (kind_of request) m) (leaves_of request m) made.run
-  pub left : IsLeftBy (inputs_of (kind_of request) m) (leaves_of request m) m.schedule made.run made.ran
+  pub run : IsRunAs request.is_serial (inputs_of (kind_of request) m) (leaves_of request m) made.run
+  pub left : IsLeftAs request.is_serial (inputs_of (kind_of request) m) (leaves_of request m) m.schedule made.run
+      made.ran
   pub outputs_are : made.outputs ≡ sinks_of request.journal (report_names request) made.run
   pub summary_is : made.summary ≡ summary_text (kind_of request) made.run
 

@@ -6,7 +6,6 @@ use Rattle.graph_model.specs.declared.load.LoadRefusal.TheVariants as refusals
 use Rattle.graph_model.specs.Inserted.{inserted}
 use Rattle.graphalytics_io.specs.Load.{load_of}
 use Rattle.run_model.specs.Inputs.{Outputs}
-use Rattle.run_model.specs.Run.{IsRun}
 use Rattle.desk_io.specs.Outputs.{NamedText, names_of, WritesAll, FailsAtPlace}
 use Rattle.desk_io.specs.Files.{Files}
 use Rattle.desk_io.specs.Sources.{IsReadStop}
@@ -19,7 +18,7 @@ use Rattle.teseo_program.specs.declared.left.Left.TheVariants.{Stepped}
 use Rattle.source_run.specs.Input.{Meaning, inputs_of}
 use Rattle.source_run.specs.Leaves.{leaves_of}
 use Rattle.teseo_core.specs.Keeping.{LeftStore}
-use Rattle.source_run.specs.Running.{IsLeftBy}
+use Rattle.source_run.specs.Running.{IsRunAs, IsLeftAs}
 use Rattle.teseo_program.specs.Sinks.{sinks_of, summary_text}
 use Rattle.teseo_program.specs.MadeGraphs.{graph_outputs, made_text}
 use Rattle.teseo_program.specs.Outcomes.{Made, shows_full, AreOfRun, IsFullLoad, IsRefusedAt, OnlySays, said_text, blamed}
@@ -54,8 +53,8 @@ pub record IsPreparedOf (request : RunRequest) (files : Files) (p : Prepared) : 
 pub record IsMadeOf (request : RunRequest) (m : Meaning) (p : Prepared) : Type 0 where
   pub outputs : Outputs
   pub ran : LeftStore
-  pub run : IsRun (inputs_of (kind_of request) m) (leaves_of request m) outputs
-  pub left_by : IsLeftBy (inputs_of (kind_of request) m) (leaves_of request m) m.schedule outputs ran
+  pub run : IsRunAs request.is_serial (inputs_of (kind_of request) m) (leaves_of request m) outputs
+  pub left_by : IsLeftAs request.is_serial (inputs_of (kind_of request) m) (leaves_of request m) m.schedule outputs ran
   pub outputs_are : p.outputs ≡ sinks_of request.journal (report_names request) outputs
   pub summary_is : p.summary ≡ summary_text (kind_of request) outputs
   pub full : shows_full outputs ≡ p.is_full

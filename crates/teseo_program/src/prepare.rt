@@ -77,7 +77,7 @@ fn make<R: Threads + Sync>(
     load_is_legal();
     let kind = kind_of(words);
     let leaves = leaves_of(words.leaves, kind, &input);
-    let run = run_scripts(rt, alloc, kind, leaves, input)?;
+    let run = run_scripts(rt, alloc, kind, leaves, words.is_serial, input)?;
     let commits = run.ran.journal().len() as u64;
     let summary = summary_of(alloc, commits, run.totals)?;
     let outputs = outputs_of(alloc, words, &run)?;
