@@ -56,6 +56,21 @@ printf 'begin\nunvertex 4\ncommit\n' >f
 printf 'begin\ncount\ncount\nedge 4 1\ncommit\n' >g
 teseo run --vertices v --edges e --journal j3 f g
 teseo-answers f g --journal j3 --lost
+echo '== commits that would leave no serial order'
+printf 'begin\nset 1 2 7\nedge 3 4\nvertex 9\ncommit\n' >h
+printf 'begin\nweight 2 1\nvertex 11\nvertex 12\ncommit\n' >k
+printf 'begin\nneighbours 4\nvertex 13\nvertex 14\ncommit\n' >l
+printf 'begin\nset 2 3 5\nvertex 15\nvertex 16\ncommit\n' >m
+printf 'begin\nedge 9 1\nvertex 17\nvertex 18\ncommit\n' >n
+printf 'begin\ncount\nvertex 19\nvertex 20\ncommit\n' >o
+teseo run --serial --vertices v --edges e --journal j5 h k l m n o
+teseo-answers h k l m n o --journal j5 --lost
+echo '== the same with directions, where an arc stands with its source, and who removes a vertex looks at all arcs'
+printf 'begin\nset 1 2 7\nvertex 21\nvertex 22\ncommit\n' >p
+printf 'begin\nneighbours 2\nvertex 23\nvertex 24\ncommit\n' >q
+printf 'begin\nunvertex 4\nvertex 25\nvertex 26\ncommit\n' >r
+teseo run --serial --directed --vertices v --edges e --journal j6 p q r
+teseo-answers p q r --directed --journal j6 --lost
 echo '== no place'
 { echo begin; seq 1001 1215 | sed 's/^/vertex /'; echo commit; } >grow
 teseo run --vertices v --edges e --journal j4 --leaves 1 grow

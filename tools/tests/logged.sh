@@ -32,6 +32,9 @@ echo "status $?"
 printf 'begin\nset 1 2 4\nedge 1 2\ncommit\n' >s3
 try 'lines that are not done' run --vertices v --edges e --journal j s1 s3
 try 'the same, to be seen in the status' --undone run --vertices v --edges e --journal j s1 s3
+printf 'begin\nweight 2 3\nset 1 2 5\ncommit\n' >s5
+printf 'begin\nweight 1 2\nset 2 3 5\ncommit\n' >s6
+try 'a commit that would leave no serial order' --undone run --serial --vertices v --edges e --journal j s5 s6
 echo '== questions about what is not there are answered'
 printf 'begin\nneighbours 9\nweight 1 3\nbfs 9 o\ncommit\n' >s4
 teseo-logged --into asked --undone run --vertices v --edges e --journal j s4
