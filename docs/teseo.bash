@@ -35,7 +35,7 @@ _teseo() {
         ;;
     esac
     case ${COMP_WORDS[1]} in
-    run) needed='--vertices --edges --journal' other='--directed --weights --cut --schedule --leaves' ;;
+    run) needed='--vertices --edges --journal' other='--directed --weights --cut --schedule --leaves --serial' ;;
     make) needed='--seed --vertices --edges --out --edges-out' ;;
     *) return ;;
     esac
