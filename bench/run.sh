@@ -1,10 +1,10 @@
 #!/usr/bin/env bash
 # Builds the program, runs the whole command on graphs of three sizes and two kinds, and prints a table. Then come a table
-# of what it takes to read and load a graph with weights, one of many scripts of short transactions, one of the image and
-# the kernels by themselves, one of the parts of the store over leaves, one of latches and pins, and one of transactions by
-# calls of the engine. All inputs are made from a seed in a temporary folder, which is removed at the end. RUNS=N and SEED=N change how often each is
-# run (3), and which inputs they are (1). ONLY=kernels, ONLY=segments, ONLY=latches,
-# ONLY=engine and ONLY=churn print one of the last tables alone.
+# of what it takes to read and load a graph with weights, one of many scripts of short transactions, one of such scripts
+# with --serial and without, one of the image and the kernels by themselves, one of the parts of the store over leaves, one
+# of latches and pins, and one of transactions by calls of the engine. All inputs are made from a seed in a temporary
+# folder, which is removed at the end. RUNS=N and SEED=N change how often each is run (3), and which inputs they are (1).
+# ONLY=runs, ONLY=serial, ONLY=kernels, ONLY=segments, ONLY=latches, ONLY=engine and ONLY=churn print one part alone.
 set -euo pipefail
 
 top=$(cd "$(dirname "$0")/.." && pwd)
@@ -104,6 +104,46 @@ measure_transactions() {
         "$processor" "$memory" "$load_best" \
         "$(awk -v n=$((scripts * transactions)) -v all="$best" -v load="$load_best" 'BEGIN { print n / (all - load) }')" \
         "$(load)"
+}
+
+# Runs the scripts `short.1` to `short.60` once, and adds its seconds, processor seconds and memory to a file.
+run_short() {
+    local file=$1 names
+    shift
+    mapfile -t names < <(seq -f 'short.%g' 1 60)
+    python3 "$top/bench/measure.py" --runs 1 --remove journal -- "$program" run --vertices graph.v --edges graph.e \
+        --journal journal "$@" "${names[@]}" 2>said >>"$file" || fail
+}
+
+# Prints the table's row of runs that were measured one by one: the best and the worst, the least processor time, and the
+# most memory.
+print_short() {
+    local name=$1 file=$2
+    awk -v name="$name" '
+        NR == 1 || $1 < best { best = $1 }
+        $1 > worst { worst = $1 }
+        NR == 1 || $3 < processor { processor = $3 }
+        $4 > memory { memory = $4 }
+        END { printf "| %-8s | %6.2f | %6.2f | %9.2f | %6d |\n", name, best, worst, processor, memory }' "$file"
+}
+
+# Prints the table of 60 scripts of 1,000 transactions on a graph of 100,000 vertices, with `--serial` and without, by turns.
+print_serial() {
+    local vertices=100000
+    make_inputs random "$vertices" $((vertices * 3))
+    python3 "$top/bench/scripts.py" --scripts 60 --transactions 1000 --vertices "$vertices" --seed "$seed" --out short
+    for _run in $(seq "$runs"); do
+        run_short without
+        run_short with --serial
+    done
+    echo '| --serial |   Best |  Worst | Processor | Memory |'
+    echo '|----------|-------:|-------:|----------:|-------:|'
+    print_short without without
+    print_short with with
+    echo
+    echo "Seconds of the whole command, of 60 scripts of 1,000 transactions of one edge each, on a random graph of $vertices"
+    echo "vertices, by turns. Load is $(load) now."
+    echo
 }
 
 # The least and the greatest time of each part, in milliseconds, of the lines that bench_kernels prints, by name.
@@ -242,7 +282,7 @@ is_wanted() {
 
 # Builds what the wanted tables need. `rt run` builds a program only to run it; with no words these do nothing.
 build() {
-    if is_wanted runs; then make -s -C "$top" build >/dev/null; fi
+    if is_wanted runs || is_wanted serial; then make -s -C "$top" build >/dev/null; fi
     if is_wanted kernels; then (cd "$top/crates/bench_kernels" && rt run >/dev/null 2>&1); fi
     if is_wanted segments; then (cd "$top/crates/bench_store" && rt run >/dev/null 2>&1); fi
     if is_wanted latches; then (cd "$top/crates/bench_latches" && rt run >/dev/null 2>&1); fi
@@ -257,6 +297,7 @@ cd "$work"
 echo "$(getconf _NPROCESSORS_ONLN) cores, load $(load); $runs runs of each, seed $seed"
 echo
 if is_wanted runs; then print_runs; fi
+if is_wanted serial; then print_serial; fi
 if is_wanted kernels; then
     print_kernels 3500000 'power-law graph of 1,000,000 vertices and 3,500,000 weighted edges'
     print_kernels 0 'path of 1,000,000 vertices with weights'
