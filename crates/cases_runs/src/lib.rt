@@ -10,6 +10,8 @@ mod full_stores;
 #[cfg(test)]
 mod long_scripts;
 #[cfg(test)]
+mod serialisable_runs;
+#[cfg(test)]
 mod several_scripts;
 #[cfg(test)]
 mod texts;

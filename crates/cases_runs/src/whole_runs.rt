@@ -16,7 +16,7 @@ const WITH_AN_EDGE: File = (
 const LEAST_WEIGHTS: File = ("s1", "begin\nsssp 1 o\ncommit\n");
 
 /// Runs, and how each ends.
-const RUNS: [(Run, End); 20] = [
+pub const RUNS: [(Run, End); 20] = [
     (PATH, WHOLE),
     // the same search by the faster kernel
     (
