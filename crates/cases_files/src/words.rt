@@ -5,7 +5,7 @@ use std::alloc::Global;
 use std::test::Fail;
 
 /// Words, and what they ask for: the names in the order V, E, J, then what may be left out, then the scripts.
-const TAKEN: [(&str, &str); 11] = [
+const TAKEN: [(&str, &str); 12] = [
     ("run --vertices v --edges e --journal j s", "v e j: s"),
     (
         "run s --cut --journal j --directed t --edges e --weights 9 --schedule p --leaves 131072 --vertices v u",
@@ -38,9 +38,13 @@ const TAKEN: [(&str, &str); 11] = [
     ("run --journal j --edges e --vertices v -- s", "v e j: s"),
     ("run --vertices v --edges e --journal j s --", "v e j: s"),
     ("run --vertices v --edges e --journal j -", "v e j: -"),
+    (
+        "run --serial --vertices v --edges e --journal j --leaves 7 s",
+        "v e j 7 serial: s",
+    ),
 ];
 
-const REFUSED: [&str; 39] = [
+const REFUSED: [&str; 41] = [
     "",
     "help",
     "--help",
@@ -63,6 +67,8 @@ const REFUSED: [&str; 39] = [
     "run --vertices -v --edges e --journal j s",
     "run --vertices v --edges e --journal j -s",
     "run --vertices v --edges e --journal j --threads 2 s",
+    "run --vertices v --edges e --journal j --serial --threads 2 s",
+    "run --vertices v --edges e --journal j --serial --serial s",
     "run --vertices v --edges e --journal j --leaves 0 s",
     "run --vertices v --edges e --journal j --leaves 131073 s",
     "run --vertices v --edges e --journal j --weights 10 s",
@@ -147,6 +153,9 @@ fn text_of_run(alloc: Global, run: &RunWords<'_>) -> Result<String, Fail> {
     }
     if let Some(leaves) = run.leaves {
         text.push_str(format!(in alloc; " {leaves}")?.as_str())?;
+    }
+    if run.is_serial {
+        text.push_str(" serial")?;
     }
     text.push_str(":")?;
     for script in run.scripts.iter() {
