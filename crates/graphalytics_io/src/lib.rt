@@ -19,7 +19,7 @@ mod text;
 pub use edges::{Edge, Edges};
 pub use line_fields::Fields;
 pub use lines::{FieldLine, FieldLines, field_lines, fields, lines_have_fields};
-pub use load::load_graph;
+pub use load::{load_graph, writes_of};
 pub use number::{NumberFault, read_number};
 pub use spelling::{Spelling, append_each, write_each};
 pub use table::write_table;

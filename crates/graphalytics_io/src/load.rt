@@ -29,7 +29,7 @@ pub fn load_graph<E: LoadEngine>(
 }
 
 /// The writes of a load, in their order.
-fn writes_of(alloc: Global, ids: &Ids, edges: &Edges) -> Result<Writes, NoMemory>
+pub fn writes_of(alloc: Global, ids: &Ids, edges: &Edges) -> Result<Writes, NoMemory>
     ensures { IfOk result (λ load. load ≡ load_of ids.now edges.now) }
 {
     let ids = ids.as_slice();

@@ -19,13 +19,14 @@ use crate::fault::{ParseStop, SourceFault};
 use crate::request::{kind_of, script_count, weights_of};
 use command_words::{RunWords, TakenName};
 use desk_io::{Bytes, Sources};
-use graph_files::{ReadRefusal, read_edges, read_vertices};
+use graph_files::{ReadRefusal, read_edges_by_threads, read_vertices};
 use graph_model::{Ids, MAX_LOAD_ROWS, NoMemory};
 use graphalytics_io::Edges;
 use items::Items;
 use run_model::{Name, Script};
 use script_lang::{Names, Schedule, ScheduleRefusal, ScriptRefusal, read_schedule, read_script};
 use std::alloc::Global;
+use std::thread::Threads;
 
 /// The graph of the files, the scripts that run on it, and their schedule.
 #[derive(Drop)]
@@ -37,7 +38,8 @@ pub struct Input {
 }
 
 /// Parses the vertex file, the edge file, the scripts and the schedule.
-pub fn parse_sources(
+pub fn parse_sources<R: Threads + Sync>(
+    rt: &R,
     alloc: Global,
     sources: &Sources,
     words: &RunWords<'_>,
@@ -54,7 +56,7 @@ pub fn parse_sources(
 {
     let texts = sources.as_slice();
     let ids = parse_vertices(alloc, texts[0].as_slice())?;
-    let edges = parse_edges(alloc, texts[1].as_slice(), &ids, words)?;
+    let edges = parse_edges(rt, alloc, texts[1].as_slice(), &ids, words)?;
     let mut taken = names_taken(alloc, words)?;
     let count = script_count(words);
     let scripts = parse_scripts(alloc, &texts[2..count + 2], &mut taken)?;
@@ -82,8 +84,9 @@ fn parse_vertices(alloc: Global, text: &[u8]) -> Result<Ids, ParseStop>
     }
 }
 
-/// Parses the edge file, the second source.
-fn parse_edges(
+/// Parses the edge file, the second source, by several threads.
+fn parse_edges<R: Threads + Sync>(
+    rt: &R,
     alloc: Global,
     text: &[u8],
     ids: &Ids,
@@ -93,7 +96,8 @@ fn parse_edges(
     ensures ok { IfOk result (λ edges. edges_of (rules_of (run_request words.now) ids.now) text.now ≡ Ok edges) }
     ensures refused { IfErr result (IsGraphStop 1 (edges_of (rules_of (run_request words.now) ids.now) text.now)) }
 {
-    match read_edges(
+    match read_edges_by_threads(
+        rt,
         alloc,
         text,
         ids,

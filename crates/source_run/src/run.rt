@@ -9,7 +9,7 @@ ghost use Rattle.std.specs.List.{AllByRecursion};
 ghost use Rattle.graph_model.specs.declared.limits.TheConstants.{MAX_LEAVES, MAX_SCRIPTS, MAX_BEGINS};
 ghost use Rattle.graphalytics_io.specs.Load.{load_of};
 ghost use Rattle.graph_model.specs.Graph.{empty_graph};
-ghost use Rattle.graph_model.specs.Loading.{loaded};
+ghost use Rattle.graph_model.specs.Loading.{IsNew, IsLoad, IsLoadRefusal, loaded};
 ghost use Rattle.graph_model.specs.Refused.{AllAllowed, IsWithinLimits};
 ghost use Rattle.run_model.specs.Inputs.{Inputs, AreInputs};
 ghost use Rattle.run_model.specs.Requests.{request, next_txn, begun_by};
@@ -21,8 +21,8 @@ ghost use Rattle.source_run.specs.Parsing.{meaning_of};
 ghost use Rattle.source_run.specs.Running.{run_outputs, IsRunAs, EndsAs, HasCounts, IsSteppedRun, IsRefusedLoad, MayBegin, IsConfig};
 
 use crate::input::Input;
-use graph_model::{Kind, LoadRefusal, NoMemory};
-use graphalytics_io::load_graph;
+use graph_model::{Ids, Kind, LoadRefusal, NoMemory};
+use graphalytics_io::{Edges, writes_of};
 use items::Items;
 use job_runner::{Job, Jobs, run_stepped};
 use run_model::{Command, Script, stepped_runs_are_runs};
@@ -64,9 +64,15 @@ pub fn run_scripts<R: Threads + Sync>(
     serial_stepped_runs_are_serial_runs();
     let config = config_of(kind, leaves, input.scripts.as_slice());
     let mut engine = new_engine(alloc, config)?;
-    load_graph(alloc, &mut engine, &input.ids, &input.edges)?;
-    let mut jobs = jobs_of(alloc, input.scripts)?;
-    let schedule = input.schedule.as_slice();
+    let Input {
+        ids,
+        edges,
+        scripts,
+        schedule,
+    } = input;
+    load_graph(rt, alloc, &mut engine, ids, edges)?;
+    let mut jobs = jobs_of(alloc, scripts)?;
+    let schedule = schedule.as_slice();
     run_jobs(rt, alloc, &mut engine, &mut jobs, schedule, is_serial)?;
     engine.settle();
     let totals = engine.totals();
@@ -75,6 +81,26 @@ pub fn run_scripts<R: Threads + Sync>(
         jobs,
         totals,
     })
+}
+
+/// Loads the graph of the two files as the first transaction of a new engine. What was read of them is let go of before
+/// the rows are made.
+fn load_graph<R: Threads + Sync>(
+    rt: &R,
+    alloc: Global,
+    engine: &mut Core,
+    ids: Ids,
+    edges: Edges,
+) -> Result<(), LoadRefusal>
+    requires new { IsNew engine.old.core }
+    requires load { IsLoad engine.old.core (load_of ids edges) }
+    ensures loaded { OnOk result (engine.new.core ≡ loaded engine.old.core (load_of ids edges)) }
+    ensures refused { IfErr result (IsLoadRefusal engine.old.core (load_of ids edges)) }
+{
+    let load = writes_of(alloc, &ids, &edges)?;
+    drop(ids);
+    drop(edges);
+    engine.load_by_threads(rt, load)
 }
 
 /// Runs the jobs to their end, and refuses commits that would not leave a serial order where that is asked for.

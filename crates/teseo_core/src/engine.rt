@@ -14,6 +14,7 @@ use graph_model::{
     BeginRefusal, Begun, Cursor, Engine, Kind, LoadEngine, LoadRefusal, NoMemory, Refusal, Rows64,
     StepEngine, VertexEngine, Write, Writes,
 };
+use load_order::sorted_rows;
 
 impl Engine for Core {
     ghost account = { λ s. account_here s.core };
@@ -127,6 +128,7 @@ impl StepEngine for Core {
 
 impl LoadEngine for Core {
     fn load(&mut self, load: Writes) -> Result<(), LoadRefusal> {
-        self.load_here(load)
+        let sorted = sorted_rows(self.alloc, self.kind, load.as_slice())?;
+        self.load_sorted(load, sorted)
     }
 }

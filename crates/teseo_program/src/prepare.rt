@@ -47,10 +47,11 @@ pub fn prepare<R: Threads + Sync, D: Desk>(
 {
     let names = sources_of(alloc, words)?;
     let sources = read_all(alloc, desk, &names, MAX_SOURCE_BYTES)?;
-    let input = match parse_sources(alloc, &sources, words) {
+    let input = match parse_sources(rt, alloc, &sources, words) {
         Ok(input) => input,
         Err(stop) => return Err(Outcome::from(stop)),
     };
+    drop(sources);
     match make(rt, alloc, words, input) {
         Ok(prepared) => Ok(prepared),
         Err(refusal) => Err(Outcome::from(refusal)),

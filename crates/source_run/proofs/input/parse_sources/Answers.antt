@@ -11,7 +11,7 @@ use Rattle.source_run.proofs.InputLemmas.{script_stop, schedule_stop, handed_on,
 use Rattle.source_run.proofs.input.parse_sources.Goals as goal
 
 pub returns-in_err-scripts-clause-refused : goal.returns-in_err-scripts-clause-refused
-returns-in_err-scripts-clause-refused c =
+returns-in_err-scripts-clause-refused g c =
     let request = run_request c.args.words.now in
     let first = text_is c.args.sources.now c.as_slice-texts.result.now 0 _ c.index-texts-0.result c.as_slice-texts.ensures (omega (arith, c.requires.texts)) (c.as_slice.ensures ∙ c.index-texts-0.is) in
     let second = text_is c.args.sources.now c.as_slice-texts.result.now 1 _ c.index-texts-1.result c.as_slice-texts.ensures (omega (arith, c.requires.texts)) (c.as_slice-2.ensures ∙ c.index-texts-1.is) in
@@ -24,7 +24,7 @@ returns-in_err-scripts-clause-refused c =
     (script_texts request.scripts c.script_count-count.result c.as_slice-texts.result.now c.args.sources.now c.script_count-count.ensures c.as_slice-texts.ensures) c.in_err-scripts.ensures.refused)))
 
 pub returns-in_err-schedule-clause-refused : goal.returns-in_err-schedule-clause-refused
-returns-in_err-schedule-clause-refused c =
+returns-in_err-schedule-clause-refused g c =
     let request = run_request c.args.words.now in
     let first = text_is c.args.sources.now c.as_slice-texts.result.now 0 _ c.index-texts-0.result c.as_slice-texts.ensures (omega (arith, c.requires.texts)) (c.as_slice.ensures ∙ c.index-texts-0.is) in
     let second = text_is c.args.sources.now c.as_slice-texts.result.now 1 _ c.index-texts-1.result c.as_slice-texts.ensures (omega (arith, c.requires.texts)) (c.as_slice-2.ensures ∙ c.index-texts-1.is) in
@@ -40,14 +40,14 @@ returns-in_err-schedule-clause-refused c =
     (subst (λ xs. IsScheduleStop (length request.scripts) (texts_of request xs).schedule c.in_err-schedule.field-0.0) c.as_slice-texts.ensures c.in_err-schedule.ensures.refused))
 
 pub returns-clause-count : goal.returns-clause-count
-returns-clause-count c =
+returns-clause-count g c =
     let request = run_request c.args.words.now in
     one_script_each _ _ _ c.in_ok-scripts.ensures.ok
     ∙ ap length (script_texts request.scripts c.script_count-count.result c.as_slice-texts.result.now c.args.sources.now c.script_count-count.ensures c.as_slice-texts.ensures)
     ∙ script_count request c.args.sources.now c.requires.texts
 
 pub returns-clause-listed : goal.returns-clause-listed
-returns-clause-listed c = λ k d lt.
+returns-clause-listed g c = λ k d lt.
     let request = run_request c.args.words.now in
     let count = one_script_each _ _ _ c.in_ok-scripts.ensures.ok
     ∙ ap length (script_texts request.scripts c.script_count-count.result c.as_slice-texts.result.now c.args.sources.now c.script_count-count.ensures c.as_slice-texts.ensures)

@@ -54,12 +54,12 @@ returns-clause-counts g c =
     (c.totals-totals.ensures.undo ∙ ap (λ n. min n (2 ^ 64 - 1)) c.settle.ensures.settled.records, c.totals-totals.ensures.retired ∙ ap length c.settle.ensures.settled.retired)
 
 pub load_graph-requires-clause-new : goal.load_graph-requires-clause-new
-load_graph-requires-clause-new g c =
+load_graph-requires-clause-new g c κs within =
     let config = subst (λ scripts. IsConfig c.args.kind c.args.leaves scripts c.config_of-config.result) c.as_slice.ensures c.config_of-config.ensures.config in
     subst IsNew (sym c.in_ok-engine.ensures) (is_new c.args.kind c.args.leaves c.args.input.scripts c.config_of-config.result config)
 
 pub load_graph-requires-clause-load : goal.load_graph-requires-clause-load
-load_graph-requires-clause-load g c =
+load_graph-requires-clause-load g c κs within =
     let config = c.config_of-config.ensures.config in
     loadable (inputs_of c.args.kind (meaning_of c.args.input)) c.in_ok-engine.engine.core c.args.input.ids c.args.input.edges (ap (λ s. s.kind) c.in_ok-engine.ensures ∙ config.kind_is) refl c.requires.inputs
 

@@ -15,7 +15,7 @@ returns-in-Err-clause-refused g c =
     c.in-Err.ensures.refused c.in_ok-sources.ensures.ok
 
 pub parse_sources-requires-clause-few : goal.parse_sources-requires-clause-few
-parse_sources-requires-clause-few g c = few_scripts (run_request c.args.words.now) c.requires
+parse_sources-requires-clause-few g c κs within = few_scripts (run_request c.args.words.now) c.requires
 
 pub parse_sources-requires-clause-readable : goal.parse_sources-requires-clause-readable
-parse_sources-requires-clause-readable g c = are_readable (run_request c.args.words.now) c.requires
+parse_sources-requires-clause-readable g c κs within = are_readable (run_request c.args.words.now) c.requires

@@ -8,7 +8,7 @@ use Rattle.leaf_rows.specs.Loaded.{AreLoaded}
 use Rattle.teseo_core.specs.Keeping.{core_of}
 use Rattle.teseo_core.specs.Loads.{IsTooMuch}
 use Rattle.teseo_core.proofs.LoadLemmas.{err_that, too_much}
-use Rattle.teseo_core.proofs.store.Core.load_here.Goals as goal
+use Rattle.teseo_core.proofs.store.Core.load_sorted.Goals as goal
 
 pub returns-in_err-rows-clause-refused : goal.returns-in_err-rows-clause-refused
 returns-in_err-rows-clause-refused c = rw (← c.self.view_is) (
