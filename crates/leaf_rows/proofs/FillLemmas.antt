@@ -2,10 +2,9 @@
 use Rattle.std.proofs.Common.{◌≡◌, ℕ, suc, ◌+◌, ◌≤◌, List, [], ◌∷◌, ◌++◌, length, slice_index_or, refl, sym, ◌∙◌, ap, cond, arith, Some, None}
 use Rattle.std.specs.Prelude.{◌==◌, Bool, true, false, ◌&&◌, ◌||◌, Option, is_some, sum_by}
 use Rattle.std.specs.List.{AllByRecursion}
-use Rattle.std.specs.List.Sorted.{IsPermutation, IsSortedByKey}
+use Rattle.std.specs.List.Sorted.{IsSortedByKey}
 use Rattle.std.specs.Ordering.{eq_by_cmp}
 use Rattle.std.proofs.lemmas.List.Sums.{sum_by-cons, sum_by-append}
-use Rattle.std.proofs.lemmas.List.Sorted.{sum_by-IsPermutation, length_permutation}
 use Rattle.graph_model.specs.declared.row.Key.{Key}
 use Rattle.graph_model.specs.declared.row.Row.{Row}
 use Rattle.graph_model.specs.declared.write.Kind.{Kind}
@@ -32,7 +31,10 @@ use Rattle.txn_manager.specs.declared.config.RoomRefusal.TheVariants.{Full, NoMe
 use Rattle.leaf_store.specs.Leaves.{Leaves, weight}
 use Rattle.leaf_store.specs.Changes.{AreRising, AreFilled, IsFillRefusal, settled_at}
 use Rattle.leaf_rows.specs.Checks.{FitsKind}
-use Rattle.leaf_rows.specs.Filling.{row_at, write_rows, load_rows, times, code, code_at}
+use Rattle.load_order.specs.LoadRows.{row_at, write_rows, load_rows}
+use Rattle.load_order.specs.Placings.{AreSame}
+use Rattle.load_order.proofs.PlacingLemmas.{same_length}
+use Rattle.leaf_rows.specs.Filling.{times, code, code_at}
 use Rattle.leaf_rows.specs.Loaded.{AreLoaded, IsLoadTooLarge}
 use Rattle.leaf_rows.specs.Readers.{AreUnstamped}
 use Rattle.row_writes.proofs.CheckLemmas.{weight_is_value}
@@ -209,7 +211,7 @@ rows_at_key kind g (w ∷ ws) fits adds allowed q =
         record { number = omega (arith, more, none, same, t); coded = omega (arith, more_code, coded, after, now_code, d) }
 
 -- so many rows it has
-rows_counted : (kind : Kind) (ws : List Write) → AllByRecursion IsAdd ws → length (load_rows kind ws) ≡ inserted kind ws
+pub rows_counted : (kind : Kind) (ws : List Write) → AllByRecursion IsAdd ws → length (load_rows kind ws) ≡ inserted kind ws
 rows_counted kind [] adds = refl
 rows_counted kind (w ∷ ws) adds =
     let rest = rows_counted kind ws adds.1 in
@@ -300,7 +302,7 @@ rising_of (r ∷ rs) sorted once within =
     above (y ∷ ys) rising is = (next y ys is, chain y.key ys (next y ys is) rising.1)
 
 module _ (kind : Kind) (load : List Write) (rs : List Row) (adds : AllByRecursion IsAdd load) (within : AllByRecursion IsWithinLimits load) (allowed : AllAllowed kind empty_graph load)
-    (same : IsPermutation (load_rows kind load) rs) where
+    (same : AreSame (load_rows kind load) rs) where
   abbrev start : (q : Key) → RowsAt kind empty_graph load q
   start q = rows_at_key kind empty_graph load (fits_empty kind) adds allowed q
     where
@@ -308,15 +310,15 @@ module _ (kind : Kind) (load : List Write) (rs : List Row) (adds : AllByRecursio
       fits_empty Directed = tt
       fits_empty Undirected = made_symmetric []
 
-  once : (q : Key) → times q rs ≤ 1
+  pub once : (q : Key) → times q rs ≤ 1
   once q =
-      let moved = sum_by-IsPermutation (λ (r : Row). cond (same_key q r.key) 1 0) (load_rows kind load) rs same in
+      let moved = same (λ (r : Row). cond (same_key q r.key) 1 0) in
       let h = (start q).number in
       omega (arith, moved, h)
 
   pub load_rises : IsSortedByKey (λ (r : Row). r.key) key_cmp rs → AreRising rs
   load_rises sorted =
-      rising_of rs sorted once (sum_by-IsPermutation (λ (r : Row). cond (is_below r.key end_key) 0 1) (load_rows kind load) rs same ∙ none_beyond_end kind load within)
+      rising_of rs sorted once (same (λ (r : Row). cond (is_below r.key end_key) 0 1) ∙ none_beyond_end kind load within)
 
   -- what the rows have, as settled versions
   coded : (q : Key) (xs : List Row) → times q xs ≤ 1 → code (settled_at xs q).oldest ≡ code_at q xs
@@ -355,16 +357,16 @@ module _ (kind : Kind) (load : List Write) (rs : List Row) (adds : AllByRecursio
           omega (arith, b, d, h, here)
 
   -- is the value of the graph that the load makes
-  value_settled : (q : Key) → (settled_at rs q).oldest ≡ value_at (apply_all kind empty_graph load) q
+  pub value_settled : (q : Key) → (settled_at rs q).oldest ≡ value_at (apply_all kind empty_graph load) q
   value_settled q =
       let here = coded q rs (once q) in
-      let moved = sum_by-IsPermutation (λ (r : Row). cond (same_key q r.key) (r.weight + 1) 0) (load_rows kind load) rs same in
+      let moved = same (λ (r : Row). cond (same_key q r.key) (r.weight + 1) 0) in
       let made = (start q).coded in
       let none : code (value_at empty_graph q) ≡ 0 = ap code (value_of_empty q) in
       let after : code (value_at (apply_all kind empty_graph load) q) ≡ code (value_after kind load q (value_at empty_graph q)) = ap code (value_at-apply_all kind empty_graph load q) in
       code_same (settled_at rs q).oldest (value_at (apply_all kind empty_graph load) q) (omega (arith, here, moved, made, none, after))
 
-  bare : (xs : List Row) (q : Key) → settled_at xs q ≡ record { pairs = []; oldest = (settled_at xs q).oldest; touches = [] }
+  pub bare : (xs : List Row) (q : Key) → settled_at xs q ≡ record { pairs = []; oldest = (settled_at xs q).oldest; touches = [] }
   bare [] q = refl
   bare (x ∷ xs) q = go (eq_by_cmp key_cmp q x.key) (bare xs q)
     where
@@ -383,11 +385,11 @@ module _ (kind : Kind) (load : List Write) (rs : List Row) (adds : AllByRecursio
     }
       where
         counted_rows : length rs ≡ inserted kind load
-        counted_rows = length_permutation (load_rows kind load) rs same ∙ rows_counted kind load adds
+        counted_rows = same_length (load_rows kind load) rs same ∙ rows_counted kind load adds
 
     pub filled_unstamped : AreUnstamped s
     filled_unstamped = record { pairs = λ q. rw (filled.versions q ∙ bare rs q) tt; touches = λ q. rw (filled.versions q ∙ bare rs q) tt }
 
   pub refusal_loads : (limit : ℕ) (refusal : RoomRefusal) → IsFillRefusal limit rs refusal → IsLoadTooLarge limit (inserted kind load) refusal
-  refusal_loads limit (Full leaves) why = (why.0, let a = why.1 in let b = length_permutation (load_rows kind load) rs same ∙ rows_counted kind load adds in omega (arith, a, b))
+  refusal_loads limit (Full leaves) why = (why.0, let a = why.1 in let b = same_length (load_rows kind load) rs same ∙ rows_counted kind load adds in omega (arith, a, b))
   refusal_loads limit NoMemory why = tt

@@ -1,33 +1,8 @@
--- The rows that the writes of a load insert. Only the crate itself speaks of them.
-use Rattle.std.specs.Prelude.{ℕ, ◌+◌, cond, sum_by, List, [], ◌∷◌, Option, Some, None}
-use Rattle.std.specs.List.{flat_map}
+-- Rows of a load, counted by their keys. Only the crate itself speaks of them.
+use Rattle.std.specs.Prelude.{ℕ, ◌+◌, cond, sum_by, List, Option, Some, None}
 use Rattle.graph_model.specs.declared.row.Key.{Key}
 use Rattle.graph_model.specs.declared.row.Row.{Row}
-use Rattle.graph_model.specs.declared.write.Kind.{Kind}
-use Rattle.graph_model.specs.declared.write.Kind.TheVariants.{Directed, Undirected}
-use Rattle.graph_model.specs.declared.write.Write.{Write}
-use Rattle.graph_model.specs.declared.write.Write.TheVariants.{AddVertex, DropVertex, AddEdge, SetEdge, DropEdge}
 use Rattle.graph_model.specs.Effects.{same_key}
-use Rattle.graph_model.specs.Rows.{vertex_key, arc_key}
-
-abbrev pub row_at : Key → ℕ → Row
-row_at key weight = record { key = key; weight = weight }
-
-abbrev pub arc_rows : Kind → ℕ → ℕ → ℕ → List Row
-arc_rows Directed u v weight = row_at (arc_key u v) weight ∷ []
-arc_rows Undirected u v weight = row_at (arc_key u v) weight ∷ row_at (arc_key v u) weight ∷ []
-
--- those of a write that adds something
-abbrev pub write_rows : Kind → Write → List Row
-write_rows kind (AddVertex v) = row_at (vertex_key v) 0 ∷ []
-write_rows kind (DropVertex v) = []
-write_rows kind (AddEdge u v weight) = arc_rows kind u v weight
-write_rows kind (SetEdge u v weight) = []
-write_rows kind (DropEdge u v) = []
-
--- in the order of the load
-abbrev pub load_rows : Kind → List Write → List Row
-load_rows kind load = flat_map (write_rows kind) load
 
 -- how many rows have this key
 abbrev pub times : Key → List Row → ℕ
