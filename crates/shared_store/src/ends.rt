@@ -7,6 +7,7 @@ ghost use Rattle.std.specs.Prelude.{◌≡◌, ◌+◌, ◌≤◌, ◌↔◌, �
 ghost use Rattle.std.specs.Vec.{vec_capacity};
 ghost use Rattle.txn_manager.specs.Config.{too_large};
 ghost use Rattle.txn_manager.specs.declared.config.StoreRefusal.TheVariants.{TooLarge};
+ghost use Rattle.store_rule.specs.Passes.{AreIn};
 ghost use Rattle.shared_store.specs.Ends.{AreEnds, AreIdle, AreNew, HasClosed, HaveBegunNothing, HaveNoCells, seats_of};
 
 use crate::pass::Pass;
@@ -41,6 +42,19 @@ pub fn new(alloc: Global, config: Config) -> Result<(Store, Passes), StoreRefusa
         Ok(made) => made,
         Err(refused) => return Err(refused),
     };
+    let passes = seated(alloc, &store, made)?;
+    Ok((store, passes))
+}
+
+/// The passes of a store that was made, with what its end needs. They have begun nothing yet.
+pub(crate) fn seated(alloc: Global, store: &Store, made: Ends) -> Result<Passes, NoMemory>
+    requires seats { AreIn store.now made }
+    requires count { length made.list.items ≡ store.now.accounts.config.passes }
+    ensures seats { IfOk result (λ passes. seats_of passes.list.items ≡ made.list.items) }
+    ensures fresh { IfOk result (λ passes. HaveBegunNothing passes.list.items) }
+    ensures cells { IfOk result (λ passes. HaveNoCells passes.list.items) }
+    ensures ends { IfOk result (λ passes. AreEnds store.now passes.ends) }
+{
     let Ends {
         list: seats,
         latch,
@@ -48,26 +62,18 @@ pub fn new(alloc: Global, config: Config) -> Result<(Store, Passes), StoreRefusa
         slots,
         cells,
     } = made;
-    let back = match Vec::with_capacity(alloc, seats.len()) {
-        Ok(back) => back,
-        Err(_) => return Err(StoreRefusal::NoMemory),
-    };
-    match seat_all(alloc, &store, seats) {
-        Ok(list) => Ok((
-            store,
-            Passes {
-                list,
-                ends: Ends {
-                    list: back,
-                    latch,
-                    account,
-                    slots,
-                    cells,
-                },
-            },
-        )),
-        Err(NoMemory) => Err(StoreRefusal::NoMemory),
-    }
+    let back = Vec::with_capacity(alloc, seats.len())?;
+    let list = seat_all(alloc, store, seats)?;
+    Ok(Passes {
+        list,
+        ends: Ends {
+            list: back,
+            latch,
+            account,
+            slots,
+            cells,
+        },
+    })
 }
 
 /// A pass for each pair of seats, with room for the cells that it takes.

@@ -14,6 +14,7 @@ mod writes;
 
 pub use ends::{Closed, Passes, close, new};
 pub use pass::Pass;
+pub use pass_cells::RoomNeed;
 pub use pass_writes::Written;
 pub use reads::{has_vertex, scan_step, weight};
 pub use store_rule::Store;
