@@ -3,3 +3,4 @@ pub mod EdgeLemmas
 pub mod PassLemmas
 pub mod EndLemmas
 pub mod SeatLemmas
+pub mod LoadLemmas

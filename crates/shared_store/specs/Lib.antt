@@ -2,3 +2,4 @@ pub mod Passes
 pub mod Writes
 pub mod Edges
 pub mod Ends
+pub mod Loading

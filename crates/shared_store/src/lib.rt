@@ -7,12 +7,14 @@
 
 mod edges;
 mod ends;
+mod load;
 mod pass;
 mod reads;
 mod transactions;
 mod writes;
 
 pub use ends::{Closed, Passes, close, new};
+pub use load::{LoadedRefusal, loaded};
 pub use pass::Pass;
 pub use pass_cells::RoomNeed;
 pub use pass_writes::Written;
