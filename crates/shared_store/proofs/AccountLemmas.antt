@@ -51,7 +51,8 @@ module _ (z : Config) (p : ℕ) (old : PassState) (w : Write) (opened : old.stag
       (account_sees z p old old.seen (prefix_all old.seen))
 
   -- ANSWERED, but for a later commit
-  writes_over : (result : Result Written Refusal) (new : PassState) → later_of result ≡ None → Makes z p old w result new
+  writes_over : (result : Result Written Refusal) (new : PassState) → later_of result ≡ None
+      → Makes z p old w result new
       → WritesOver (account_of z p old) w result (account_of z p new)
   writes_over (Ok Done) new not_later makes =
       subst (λ (a : PassState). WritesBy (account_of z p old) w (Ok tt) (account_of z p a)) (sym makes.1)
@@ -103,7 +104,8 @@ module _ (z : Config) (p : ℕ) (old : PassState) (w : Write) (opened : old.stag
       front : IsPrefix old.seen fresh.commits
       front = subst (λ (s : PassState). IsPrefix s.seen fresh.commits) makes.2 fresh.front
 
-  plain : (result : Result Written Refusal) → later_of result ≡ None → (mid new : PassState) → Makes z p old w result mid
+  plain : (result : Result Written Refusal) → later_of result ≡ None → (mid new : PassState)
+      → Makes z p old w result mid
       → new ≡ mid → WritesOver (account_of z p old) w result (account_of z p new)
   plain result none mid new makes same =
       subst (λ (a : PassState). WritesOver (account_of z p old) w result (account_of z p a)) (sym same)

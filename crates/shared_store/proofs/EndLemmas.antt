@@ -117,7 +117,8 @@ none_unstamped z p old new None none commits = (λ i. (commits.1 i).unstamped) �
 none_unstamped z p old new (Some stamp) none commits = tt
 
 -- within their limits
-pub own_within : (store : Store) (pass : Pass) → IsOpen store pass → AllByRecursion IsWithinLimits (state_of pass.seats).own
+pub own_within : (store : Store) (pass : Pass) → IsOpen store pass
+    → AllByRecursion IsWithinLimits (state_of pass.seats).own
 own_within store pass is = (open_account store pass is).within
 
 -- MAY STAMP: after a commit

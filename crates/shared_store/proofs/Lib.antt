@@ -4,3 +4,4 @@ pub mod PassLemmas
 pub mod EndLemmas
 pub mod SeatLemmas
 pub mod LoadLemmas
+pub mod TotalsLemmas

@@ -26,8 +26,8 @@ use Rattle.shared_store.specs.declared.pass.Pass.{Pass}
 use Rattle.shared_store.specs.Ends.{AreIdle, AreNew, HasBegun, HasBegunNothing, HasClosed, HaveBegunNothing, HaveNoCells, seats_of}
 use Rattle.shared_store.specs.Passes.{IsIdle}
 
-pub all_get : {X : Type 0} (P : X → Type 0) (xs : List X) (i : ℕ) (x : X) → AllByRecursion P xs → slice_get xs i ≡ Some x
-    → P x
+pub all_get : {X : Type 0} (P : X → Type 0) (xs : List X) (i : ℕ) (x : X) → AllByRecursion P xs
+    → slice_get xs i ≡ Some x → P x
 all_get P [] i x h e = cc
 all_get {X} P (y ∷ ys) zero x h e = subst P (same y x e) h.0
   where
@@ -105,7 +105,8 @@ module _ (store : Store) (p : ℕ) (st : PassState) (seats : Seats) (first : IsF
           same = first.same ∙ sym first.number;
           table = first.account.table_is;
           slots = λ i. (first.account.me i).1;
-          sight = subst (λ (x : ℕ × Sight). IsOwnSight x.0 x.1) (λ i. (sym first.number i, sym sight i)) (note_own p st);
+          sight = subst (λ (x : ℕ × Sight). IsOwnSight x.0 x.1) (λ i. (sym first.number i, sym sight i))
+              (note_own p st);
           legal = subst (λ (u : PassState). IsLegal store.accounts.config.kind u.seen) (sym first_state_is)
               may.valid.legal;
         };
@@ -192,8 +193,8 @@ module _ (store : Store) (seats : List Seats) (list : List Pass) (same : seats_o
 
 -- ---- back
 
-all_cells : (store : Store) (list : List Pass) → ((p : ℕ) (pass : Pass) → slice_get list p ≡ Some pass → IsIdle store pass)
-    → HaveNoCells list
+all_cells : (store : Store) (list : List Pass)
+    → ((p : ℕ) (pass : Pass) → slice_get list p ≡ Some pass → IsIdle store pass) → HaveNoCells list
 all_cells store [] idle = tt
 all_cells store (x ∷ xs) idle = ((idle 0 x refl).cells, all_cells store xs (λ p pass at. idle (suc p) pass at))
 
@@ -230,7 +231,8 @@ module _ (store : Store) (list : List Pass) (idle : AreIdle store list) where
 -- the journal of a closed store
 pub has_closed : (z : Config) (list : List Pass) (content : Content) (journal : List Commit)
     → IsContent z (seats_of list) content → journal ≡ content.journal.items
-    → ((p : ℕ) (pass : Pass) → slice_get list p ≡ Some pass → (p < z.passes) × (pass.seats.number ≡ p)) → HasClosed z list journal
+    → ((p : ℕ) (pass : Pass) → slice_get list p ≡ Some pass → (p < z.passes) × (pass.seats.number ≡ p))
+    → HasClosed z list journal
 has_closed z list content journal is same inside = record {
   pass = is.last.pass;
   known = λ p x at.

@@ -3,3 +3,4 @@ pub mod Writes
 pub mod Edges
 pub mod Ends
 pub mod Loading
+pub mod Totals

@@ -8,14 +8,17 @@ ghost use Rattle.std.specs.Vec.{vec_capacity};
 ghost use Rattle.txn_manager.specs.Config.{too_large};
 ghost use Rattle.txn_manager.specs.declared.config.StoreRefusal.TheVariants.{TooLarge};
 ghost use Rattle.store_rule.specs.Passes.{AreIn};
+ghost use Rattle.graph_model.specs.History.{graph_at};
+ghost use Rattle.shared_store.specs.Totals.{AreTotals};
 ghost use Rattle.shared_store.specs.Ends.{AreEnds, AreIdle, AreNew, HasClosed, HaveBegunNothing, HaveNoCells, seats_of};
 
 use crate::pass::Pass;
+use crate::totals::totals_of;
 use graph_model::{Journal, NoMemory};
 use pass_cells::PassCells;
 use std::alloc::Global;
-use store_rule::{Pass as Seats, Passes as Ends, Store};
-use txn_manager::{Config, StoreRefusal};
+use store_rule::{Content, Pass as Seats, Passes as Ends, Store};
+use txn_manager::{Config, StoreRefusal, Totals};
 
 /// The passes of a store, in the order of their numbers, with what its end needs.
 pub struct Passes {
@@ -28,6 +31,8 @@ pub struct Passes {
 #[derive(Drop)]
 pub struct Closed {
     pub journal: Journal,
+    /// Of the newest graph. No record is left, and no retired leaf.
+    pub totals: Totals,
     closed: (),
 }
 
@@ -118,17 +123,28 @@ fn give_up(mut list: Vec<Pass>)
     list.destroy_empty();
 }
 
-/// Closes a store with all its passes, none of which has a transaction. Takes no memory, and waits for nobody.
+/// Closes a store with all its passes, none of which has a transaction, and counts the rows that are left. Takes no
+/// memory, and waits for nobody.
 pub fn close(store: Store, passes: Passes) -> Closed
     requires passes { AreIdle store passes.list.items }
     requires ends { AreEnds store passes.ends }
-    ensures { HasClosed store.accounts.config passes.list.items result.journal }
+    ensures journal { HasClosed store.accounts.config passes.list.items result.journal }
+    ensures totals { AreTotals store.accounts.config.kind
+        (graph_at store.accounts.config.kind result.journal (length result.journal)) result.totals }
 {
+    let kind = store.config().kind;
     let Passes { list, mut ends } = passes;
     take_back(list, &mut ends.list);
     let content = store.take_apart(ends);
+    let Content {
+        mut cells,
+        index,
+        journal,
+    } = content;
+    let totals = totals_of(kind, &mut cells, &index);
     Closed {
-        journal: content.journal.into_items(),
+        journal: journal.into_items(),
+        totals,
         closed: (),
     }
 }

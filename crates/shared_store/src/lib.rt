@@ -10,6 +10,7 @@ mod ends;
 mod load;
 mod pass;
 mod reads;
+mod totals;
 mod transactions;
 mod writes;
 
