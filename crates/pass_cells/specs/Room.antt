@@ -7,14 +7,21 @@ use Rattle.cells_model.specs.Indexed.{covers}
 use Rattle.store_relation.specs.Keys.{has_key}
 use Rattle.pass_cells.specs.declared.room.RoomNeed.{RoomNeed}
 
+-- what is short of places: the key, and how many its cell would have to have
+abbrev pub key_of : RoomNeed → Key
+key_of short = short.key
+
+abbrev pub need_of : RoomNeed → ℕ
+need_of short = short.need
+
 -- The key is one of these and has no row, and its cell has fewer places than there are of these keys in it without a
 -- row.
-pub record IsShort (c : HeldRows) (keys : List Key) (need : RoomNeed) : Type 0 where
-  pub among : has_key keys need.key ≡ true
-  pub held : c.holds need.key ≡ true
-  pub missing : c.has_row need.key ≡ false
-  pub need_is : need.need ≡ wanted c need.key keys
-  pub short : c.room need.key < need.need
+pub record IsShort (c : HeldRows) (keys : List Key) (key : Key) (need : ℕ) : Type 0 where
+  pub among : has_key keys key ≡ true
+  pub held : c.holds key ≡ true
+  pub missing : c.has_row key ≡ false
+  pub need_is : need ≡ wanted c key keys
+  pub short : c.room key < need
 
 -- a missing key finds a place, with those of these keys that share its cell
 abbrev pub HasRoomFor : HeldRows → List Key → Key → Type 0

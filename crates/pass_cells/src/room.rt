@@ -1,11 +1,13 @@
 //! Whether the rows of a write find places in the cells in hand.
+//!
+//! What is short of places is told by a value that is made here alone, of cells in hand (`RoomNeed`).
 
 ghost use Rattle.std.specs.Prelude.{◌≡◌, ◌+◌, ◌&&◌, not, cond, true, None, IfSome};
 ghost use Rattle.row_writes.specs.Held.{AreHeld, HaveRoom};
 ghost use Rattle.row_writes.specs.Written.{with_back, written_keys};
 ghost use Rattle.version_segment.specs.Rows.{has_row};
 ghost use Rattle.cells_model.specs.Indexed.{covers};
-ghost use Rattle.pass_cells.specs.Room.{HasRoomFor, IsShort, also_missing};
+ghost use Rattle.pass_cells.specs.Room.{HasRoomFor, IsShort, also_missing, key_of, need_of};
 ghost use Rattle.pass_cells.specs.Taken.{AreRising, rows_in};
 
 use crate::taken::TakenCells;
@@ -14,11 +16,36 @@ use row_writes::WrittenRows;
 use version_segment::VersionSegment;
 
 /// A key without a row, for which and for the other keys of the write that are missing in its cell there is no room:
-/// they need so many places.
-#[derive(Clone, Copy, Debug, PartialEq, Eq)]
+/// they need so many places. It is made of cells in hand and can't be copied, so whoever has one has it from
+/// `room_need`, and once for each time that cells in hand were short.
+#[derive(Debug, Drop, PartialEq, Eq)]
 pub struct RoomNeed {
-    pub key: Key,
-    pub need: u8,
+    key: Key,
+    need: u8,
+}
+
+impl RoomNeed {
+    /// Of a key of a write that is short of places in its cell.
+    fn at(cells: &TakenCells, key: Key, other: Option<Key>, need: u8) -> RoomNeed
+        requires { IsShort (rows_in cells.now) (with_back other key) key need }
+        ensures { (key_of result ≡ key) × (need_of result ≡ need) }
+    {
+        RoomNeed { key, need }
+    }
+
+    /// The key whose row finds no place.
+    pub fn key(&self) -> Key
+        ensures { result ≡ key_of self.now }
+    {
+        self.key
+    }
+
+    /// How many places its cell would have to have.
+    pub fn need(&self) -> u8
+        ensures { result ≡ need_of self.now }
+    {
+        self.need
+    }
 }
 
 impl TakenCells {
@@ -28,7 +55,8 @@ impl TakenCells {
         requires rising { AreRising self.now.list.items }
         requires held { AreHeld (rows_in self.now) (written_keys rows.now) }
         ensures none { result ≡ None → HaveRoom (rows_in self.now) (written_keys rows.now) }
-        ensures short { IfSome result (λ need. IsShort (rows_in self.now) (written_keys rows.now) need) }
+        ensures short { IfSome result (λ short.
+            IsShort (rows_in self.now) (written_keys rows.now) (key_of short) (need_of short)) }
     {
         match rows.back {
             None => self.need_at(rows.row, None),
@@ -44,23 +72,23 @@ impl TakenCells {
         requires rising { AreRising self.now.list.items }
         requires held { (rows_in self.now).holds key ≡ true }
         ensures none { result ≡ None → HasRoomFor (rows_in self.now) (with_back other key) key }
-        ensures short { IfSome result (λ need. (need.key ≡ key)
-            × IsShort (rows_in self.now) (with_back other key) need) }
+        ensures short { IfSome result (λ short. (key_of short ≡ key)
+            × IsShort (rows_in self.now) (with_back other key) (key_of short) (need_of short)) }
     {
         let cell = &self.list[self.place_of(key)].held.value;
         if cell.has_row(key) {
             return None;
         }
-        let need = need_of(cell, other);
+        let need = places_for(cell, other);
         if usize::from(need) <= cell.room() {
             return None;
         }
-        Some(RoomNeed { key, need })
+        Some(RoomNeed::at(self, key, other, need))
     }
 }
 
 /// One, and one more if the cell covers the other key and that has no row.
-fn need_of(cell: &VersionSegment, other: Option<Key>) -> u8
+fn places_for(cell: &VersionSegment, other: Option<Key>) -> u8
     ensures { result ≡ 1 + also_missing cell.now other }
 {
     match other {

@@ -1,5 +1,5 @@
 -- Scans of a view, cell after cell.
-use Rattle.std.proofs.Common.{◌≡◌, ◌⊎◌, inl, inr, ℕ, zero, suc, ◌<◌, List, [], ◌∷◌, length, refl, sym, ◌∙◌, ap, subst, cond, arith, Option, Some, None}
+use Rattle.std.proofs.Common.{◌≡◌, inl, inr, ℕ, zero, suc, ◌<◌, List, [], ◌∷◌, length, refl, sym, ◌∙◌, ap, subst, cond, arith, Option, Some, None}
 use Rattle.std.specs.Prelude.{Bool, true, false, ◌||◌, slice_get}
 use Rattle.std.specs.List.{AllByRecursion}
 use Rattle.std.specs.FinMap.Entries.{find}
@@ -28,7 +28,7 @@ use Rattle.store_rule.specs.declared.store.Pass.{Pass}
 use Rattle.pass_cells.specs.declared.taken.TakenCell.{TakenCell}
 use Rattle.pass_cells.specs.Holding.{AreKnown, IsKnown}
 use Rattle.pass_cells.specs.Reading.{lesser}
-use Rattle.pass_cells.specs.Taken.{AreFrom, AreRising, cell_at, has_cell, held_rows}
+use Rattle.pass_cells.specs.Taken.{AreRising, cell_at, has_cell, held_rows}
 use Rattle.pass_cells.proofs.CellLemmas.{IsAmong}
 use Rattle.pass_cells.proofs.StepLemmas.{unique_cell}
 use Rattle.pass_steps.specs.Passes.{HasOpenTxn, IsSamePass, pin_of, state_of}

@@ -1,5 +1,5 @@
 -- For how many rows a write that lacks places needs room.
-use Rattle.std.proofs.Common.{◌≡◌, ◌⊎◌, inl, inr, ℕ, zero, suc, ◌<◌, ◌≤◌, List, [], ◌∷◌, length, refl, subst, arith}
+use Rattle.std.proofs.Common.{◌≡◌, ◌⊎◌, inl, inr, ℕ, zero, suc, ◌<◌, ◌≤◌, length, refl, subst, arith}
 use Rattle.std.specs.Prelude.{◌&&◌, not, Option, Some, None, Result, Ok, Err, IfOk}
 use Rattle.std.proofs.lemmas.List.Sums.{count_by-le-length}
 use Rattle.graph_model.specs.declared.row.Key.{Key}
@@ -9,6 +9,7 @@ use Rattle.graph_model.specs.declared.write.Write.{Write}
 use Rattle.row_writes.specs.declared.written.WrittenRows.{WrittenRows}
 use Rattle.row_writes.specs.Held.{HeldRows}
 use Rattle.row_writes.specs.Written.{rows_of, with_back, written_keys}
+use Rattle.pass_cells.specs.Room.{key_of, need_of}
 use Rattle.pass_writes.specs.declared.making.Written.{Written}
 use Rattle.pass_writes.specs.declared.making.Written.TheVariants.{Done, NeedRoom}
 use Rattle.pass_writes.specs.Making.{IsShortOf, NeedsRoom}
@@ -26,13 +27,13 @@ one_or_two (suc (suc (suc n))) some most = absurd (omega (arith, most))
 pub short_needs : (kind : Kind) (w : Write) (c : HeldRows) (written : Written)
     → IsShortOf c (written_keys (rows_of kind w)) written → NeedsRoom kind w written
 short_needs kind w c Done short = tt
-short_needs kind w c (NeedRoom key need) short =
+short_needs kind w c (NeedRoom need) short =
     let keys = written_keys (rows_of kind w) in
-    let most = count_by-le-length (λ q. not (c.has_row q) && c.shares key q) keys in
+    let most = count_by-le-length (λ q. not (c.has_row q) && c.shares (key_of need) q) keys in
     let two = few (rows_of kind w).back (rows_of kind w).row in
     let is = short.need_is in
     let lack = short.short in
-    (short.among, one_or_two need (omega (arith, lack)) (omega (arith, is, most, two)))
+    (short.among, one_or_two (need_of need) (omega (arith, lack)) (omega (arith, is, most, two)))
 
 pub short_room : (kind : Kind) (w : Write) (c : HeldRows) (rows : WrittenRows) → rows ≡ rows_of kind w
     → (result : Result Written Refusal) → IfOk result (λ written. IsShortOf c (written_keys rows) written)

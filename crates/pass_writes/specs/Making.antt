@@ -17,7 +17,7 @@ use Rattle.graph_model.specs.declared.write.Kind.{Kind}
 use Rattle.row_writes.specs.Held.{HeldRows}
 use Rattle.row_writes.specs.Written.{rows_of, written_keys}
 use Rattle.store_rule.specs.declared.store.Pass.{Pass}
-use Rattle.pass_cells.specs.Room.{IsShort}
+use Rattle.pass_cells.specs.Room.{IsShort, key_of, need_of}
 use Rattle.pass_steps.specs.Notes.{holder_named, later_noted}
 use Rattle.pass_steps.specs.Passes.{HasOpenTxn, name_of_pass, pin_of, state_of}
 use Rattle.pass_writes.specs.declared.making.Written.{Written}
@@ -47,7 +47,7 @@ IsAllowed z st w = refused (view_of z.kind st) w ≡ None
 abbrev pub Makes : Config → ℕ → PassState → Write → Result Written Refusal → PassState → Type 0
 Makes z p old w (Ok Done) new =
     IsAllowed z old w × (new ≡ record (written_by old w) { met = new.met; holders = new.holders; looks = new.looks })
-Makes z p old w (Ok (NeedRoom key need)) new = IsAllowed z old w × NotesOnly old new
+Makes z p old w (Ok (NeedRoom short)) new = IsAllowed z old w × NotesOnly old new
 Makes z p old w (Err refusals.SelfLoop) new = IsRefused z old w refusals.SelfLoop × NotesOnly old new
 Makes z p old w (Err (refusals.NoVertex q)) new = IsRefused z old w (refusals.NoVertex q) × NotesOnly old new
 Makes z p old w (Err refusals.VertexExists) new = IsRefused z old w refusals.VertexExists × NotesOnly old new
@@ -94,16 +94,16 @@ after_refusal w refusals.NoMemory st = st
 -- a write that may be made is, or lacks places and nothing has changed
 abbrev pub Lays : PassState → Write → Written → PassState → Type 0
 Lays old w Done new = new ≡ written_by old w
-Lays old w (NeedRoom key need) new = new ≡ old
+Lays old w (NeedRoom short) new = new ≡ old
 
 -- The key is one of these and has no row, and its cell has fewer places than there are of these keys in it without a
 -- row: so many are needed.
 abbrev pub IsShortOf : HeldRows → List Key → Written → Type 0
 IsShortOf c keys Done = Unit {0}
-IsShortOf c keys (NeedRoom key need) = IsShort c keys (record { key = key; need = need })
+IsShortOf c keys (NeedRoom short) = IsShort c keys (key_of short) (need_of short)
 
 -- room is needed for one of the rows that the write writes, or for both
 abbrev pub NeedsRoom : Kind → Write → Written → Type 0
 NeedsRoom kind w Done = Unit {0}
-NeedsRoom kind w (NeedRoom key need) =
-    (has_key (written_keys (rows_of kind w)) key ≡ true) × ((need ≡ 1) ⊎ (need ≡ 2))
+NeedsRoom kind w (NeedRoom short) =
+    (has_key (written_keys (rows_of kind w)) (key_of short) ≡ true) × ((need_of short ≡ 1) ⊎ (need_of short ≡ 2))

@@ -19,8 +19,8 @@ ghost use Rattle.graph_model.specs.declared.refusal.Refusal.TheVariants as refus
 use crate::checks::check;
 use crate::hand::{put_cells_back, take_cells};
 use crate::keys::FewKeys;
-use graph_model::{Begun, Cause, Key, NoMemory, Refusal, TxnName, Write};
-use pass_cells::{PassCells, TakenCells, rows_in_hand_are_known};
+use graph_model::{Begun, Cause, NoMemory, Refusal, TxnName, Write};
+use pass_cells::{PassCells, RoomNeed, TakenCells, rows_in_hand_are_known};
 use pass_steps::{learn, name_holder, note_later};
 use row_writes::{Fingers, FoundRows, WrittenRows};
 use std::sync::Wait;
@@ -29,11 +29,11 @@ use undo_chain::{Snapshot, Touched};
 use version_segment::NOWHERE;
 
 /// What a write that its view allows is answered, and that nobody stands against.
-#[derive(Clone, Copy, Debug, PartialEq, Eq)]
+#[derive(Debug, Drop, PartialEq, Eq)]
 pub enum Written {
     Done,
-    /// So many rows of the write have no place in the cell of this key, which is one of theirs.
-    NeedRoom { key: Key, need: u8 },
+    /// Rows of the write find no place in a cell that was held.
+    NeedRoom(RoomNeed),
 }
 
 /// Makes a write of the open transaction, given what its begin answered, or says why it isn't made. Whether the vertex
@@ -179,10 +179,7 @@ fn lay(
     ensures same { IsSamePass pass.old pass.new }
 {
     if let Some(short) = cells.taken.room_need(rows) {
-        return Ok(Written::NeedRoom {
-            key: short.key,
-            need: short.need,
-        });
+        return Ok(Written::NeedRoom(short));
     }
     let found = FoundRows {
         rows: *rows,

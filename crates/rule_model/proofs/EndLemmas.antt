@@ -33,9 +33,10 @@ use Rattle.cells_model.specs.InPlace.{segment_of}
 use Rattle.cells_model.specs.Words.{Spells, block_words, spelled, word_rows}
 use Rattle.cells_model.proofs.IndexedLemmas.{cells_show, new_indexed}
 use Rattle.cells_model.proofs.RunLemmas.{segments_table}
-use Rattle.rule_model.specs.EndSteps.{AreNewWords, LinesAreNew, NewTable, TableBegins, TableCloses, first_sight, sight_of, new_block, new_blocks, new_known, new_words, numbered, zeros}
+use Rattle.rule_model.specs.EndSteps.{AreNewWords, LinesAreNew, NewTable, TableBegins, TableCloses, sight_of, new_block, new_blocks, new_known, new_words, numbered, zeros}
+use Rattle.rule_model.specs.LastSteps.{HaveRows, StoreCloses}
 use Rattle.rule_model.specs.Places.{Layout}
-use Rattle.rule_model.specs.Sight.{Sight, HasPass, cells_of}
+use Rattle.rule_model.specs.Sight.{IndexState, Sight, HasPass, cells_of}
 use Rattle.rule_model.specs.Rule.{IsStored, rows_now, words_of}
 use Rattle.rule_model.proofs.PlaceLemmas.{lines_keep_apart}
 
@@ -257,4 +258,20 @@ table_closes z at heap s r id v here j all =
           ∙ sym (cells_show heap (k.index 0).index (segment_of k.cell) r.stored.indexed n q
           (omega (arith, leaves, inside))
           (ap (λ (d : CellState). covers d.segment q) e ∙ row.covered));
+    }
+
+-- and what it knows of the rows of the cells
+pub store_closes : StoreCloses
+unfolding table_closes
+store_closes z at heap s r id v here j all =
+    let k = r.known in
+    record {
+      last = table_closes z at heap s r id v here j all;
+      heap = heap;
+      cell = k.cell;
+      cells = λ n c has. (r.cells id v n c here has).1;
+      spells = r.stored.blocks.spells;
+      index = λ y has. subst (λ (x : IndexState). HaveRows z heap x.index k.cell (rows_now heap k))
+          (r.indexes id v 0 y here has).1
+          (record { indexed = r.stored.indexed; leaves = r.stored.leaves; rows_are = λ q. refl });
     }

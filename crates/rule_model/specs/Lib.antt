@@ -10,4 +10,5 @@ pub mod PinSteps
 pub mod MoveSteps
 pub mod ViewSteps
 pub mod EndSteps
+pub mod LastSteps
 pub mod Examples

@@ -11,6 +11,7 @@ ghost use Rattle.rule_model.specs.PinSteps.{LeafIsNoted, LeavesAreFreed, OtherSw
 ghost use Rattle.rule_model.specs.MoveSteps.{MergeIsMove, RowsAreMoved, SplitIsMove, SpreadIsMove};
 ghost use Rattle.rule_model.specs.ViewSteps.{HeapIsOfNoAccount, OfEachView, ReaderIsJoined, ReaderIsSplit, SeatSplits, SeatsJoin};
 ghost use Rattle.rule_model.specs.EndSteps.{LinesAreNew, LoadedTable, NewTable, TableBegins, TableCloses};
+ghost use Rattle.rule_model.specs.LastSteps.{StoreCloses};
 ghost use Rattle.rule_model.specs.Examples.{PlaceExamples, WrongRules};
 
 /// Words lie apart: a store changes one word of one sort. So it is in a layout of lines.
@@ -128,6 +129,7 @@ pub fn stores_begin_and_close()
     ensures begin { TableBegins }
     ensures load { LoadedTable }
     ensures close { TableCloses }
+    ensures rows { StoreCloses }
 {}
 
 /// Worked places, and wrong rules that are refused.

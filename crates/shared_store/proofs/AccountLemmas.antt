@@ -1,6 +1,6 @@
 -- What a write makes of the account of its pass.
-use Rattle.std.proofs.Common.{◌≡◌, ◌≢◌, ℕ, ◌<◌, ◌≤◌, List, [], ◌∷◌, ◌++◌, length, refl, sym, ◌∙◌, ap, subst, cond, arith}
-use Rattle.std.specs.Prelude.{Bool, true, false, Option, Some, None, Result, Ok, Err, Contains, slice_get}
+use Rattle.std.proofs.Common.{◌≡◌, ℕ, ◌<◌, length, refl, sym, ◌∙◌, ap, subst, cond}
+use Rattle.std.specs.Prelude.{Option, Some, None, Result, Ok, Err, Contains, slice_get}
 use mathlib.Core.List.{IsPrefix}
 use Rattle.graph_model.specs.declared.refusal.Cause.TheVariants.{Later, Holder}
 use Rattle.graph_model.specs.declared.refusal.Refusal.{Refusal}
@@ -13,10 +13,9 @@ use Rattle.graph_model.specs.Legal.{IsLegal}
 use Rattle.graph_model.specs.Refused.{IsWithinLimits}
 use Rattle.graph_model.proofs.AccountLemmas.{read_keeps, write_keeps}
 use Rattle.txn_manager.specs.declared.config.Config.{Config}
-use Rattle.store_relation.specs.declared.stage.Stage.{Stage}
-use Rattle.store_relation.specs.declared.stage.Stage.TheVariants.{Idle, Open, Aborting, Committing}
+use Rattle.store_relation.specs.declared.stage.Stage.TheVariants.{Open}
 use Rattle.store_relation.specs.Passes.{PassState, account_of, is_active, start_of}
-use Rattle.store_relation.specs.Steps.{meeting, refreshed, sighting, with_sighting, written_by}
+use Rattle.store_relation.specs.Steps.{refreshed}
 use Rattle.store_relation.proofs.AccountLemmas.{account_sees, account_sights, account_writes}
 use Rattle.store_relation.proofs.ListLemmas.{prefix_all}
 use Rattle.pass_steps.specs.Txns.{Refreshes}
@@ -52,12 +51,13 @@ module _ (z : Config) (p : ℕ) (old : PassState) (w : Write) (opened : old.stag
       (account_sees z p old old.seen (prefix_all old.seen))
 
   -- ANSWERED, but for a later commit
-  writes_over : (result : Result Written Refusal) (new : PassState) → later_of result ≡ None → Makes z p old w result new
+  writes_over : (result : Result Written Refusal) (new : PassState) → later_of result ≡ None
+      → Makes z p old w result new
       → WritesOver (account_of z p old) w result (account_of z p new)
   writes_over (Ok Done) new not_later makes =
       subst (λ (a : PassState). WritesBy (account_of z p old) w (Ok tt) (account_of z p a)) (sym makes.1)
       (account_writes z p old w opened makes.0)
-  writes_over (Ok (NeedRoom key need)) new not_later makes = notes_unknown z p old new makes.1
+  writes_over (Ok (NeedRoom short)) new not_later makes = notes_unknown z p old new makes.1
   writes_over (Err refusals.SelfLoop) new not_later makes =
       refuses_at refusals.SelfLoop new (makes.0, same_account new makes.1)
   writes_over (Err (refusals.NoVertex q)) new not_later makes =
@@ -104,7 +104,8 @@ module _ (z : Config) (p : ℕ) (old : PassState) (w : Write) (opened : old.stag
       front : IsPrefix old.seen fresh.commits
       front = subst (λ (s : PassState). IsPrefix s.seen fresh.commits) makes.2 fresh.front
 
-  plain : (result : Result Written Refusal) → later_of result ≡ None → (mid new : PassState) → Makes z p old w result mid
+  plain : (result : Result Written Refusal) → later_of result ≡ None → (mid new : PassState)
+      → Makes z p old w result mid
       → new ≡ mid → WritesOver (account_of z p old) w result (account_of z p new)
   plain result none mid new makes same =
       subst (λ (a : PassState). WritesOver (account_of z p old) w result (account_of z p a)) (sym same)
@@ -158,7 +159,7 @@ module _ (z : Config) (p : ℕ) (old : PassState) (w : Write) (opened : old.stag
     -- VALID: still, whatever was answered
     pub made_valid : (result : Result Written Refusal) → Makes z p old w result new → IsValid (account_of z p new)
     made_valid (Ok Done) makes = keeps (Ok tt) (writes_over (Ok Done) new refl makes)
-    made_valid (Ok (NeedRoom key need)) makes = subst IsValid (sym (notes_unknown z p old new makes.1)) valid
+    made_valid (Ok (NeedRoom short)) makes = subst IsValid (sym (notes_unknown z p old new makes.1)) valid
     made_valid (Err (refusals.Conflict (Later stamp))) makes =
         subst IsValid (sym (ap (account_of z p) makes.2)) valid
     made_valid (Err (refusals.Conflict (Holder by))) makes =

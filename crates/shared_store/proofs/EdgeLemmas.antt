@@ -1,6 +1,6 @@
 -- Whether a vertex has edges, by the rows of key ranges that a scan gives.
-use Rattle.std.proofs.Common.{◌≡◌, ◌≢◌, ◌⊎◌, inl, inr, ℕ, zero, suc, ◌+◌, ◌-◌, ◌<◌, ◌≤◌, List, [], ◌∷◌, ◌++◌, take, length, length-append, refl, sym, ◌∙◌, ap, subst, cond, arith, Option, Some, None}
-use Rattle.std.specs.Prelude.{Bool, true, false, ◌||◌, ◌&&◌, ◌==◌, not, slice_get}
+use Rattle.std.proofs.Common.{◌≡◌, ◌⊎◌, inl, inr, ℕ, zero, suc, ◌+◌, ◌-◌, ◌<◌, ◌≤◌, List, [], ◌∷◌, ◌++◌, take, length, length-append, refl, sym, ◌∙◌, ap, subst, cond, arith, Option, Some, None}
+use Rattle.std.specs.Prelude.{Bool, true, false, ◌||◌, ◌==◌, not, slice_get}
 use Rattle.std.specs.List.{list_any}
 use Rattle.std.proofs.lemmas.Bool.Decides.{nat_tests}
 use Rattle.graph_model.specs.declared.limits.TheConstants.{MAX_ID}
@@ -67,7 +67,8 @@ module _ (g : Graph) (p : Row → Bool) (old new : Cursor) (given : List Row) (s
   -- the last portion is all that was left
   pub none_at_end : list_any p given ≡ false → new.done ≡ true → list_any p (rows_left g old) ≡ false
   none_at_end none done =
-      let short : length (take 64 (rows_left g old)) < 64 = subst (λ (l : List Row). length l < 64) scans.gave (scans.ended done) in
+      let short : length (take 64 (rows_left g old)) < 64 =
+      subst (λ (l : List Row). length l < 64) scans.gave (scans.ended done) in
       ap (list_any p) (sym (all_taken 64 (rows_left g old) short) ∙ sym scans.gave) ∙ none
 
   -- else the rest has it, if any

@@ -1,21 +1,19 @@
 -- How a transaction ends.
-use Rattle.std.proofs.Common.{◌≡◌, ℕ, suc, ◌+◌, ◌<◌, List, [], ◌∷◌, ◌++◌, length, refl, sym, ◌∙◌, ap, subst, arith}
+use Rattle.std.proofs.Common.{◌≡◌, ℕ, ◌+◌, List, [], length, refl, sym, ◌∙◌, ap, subst}
 use Rattle.std.specs.Prelude.{true, false, Option, Some, None, IfSome, IfNone}
 use Rattle.std.specs.List.{AllByRecursion}
-use mathlib.Core.List.{IsPrefix}
 use Rattle.graph_model.specs.declared.journal.TxnName.{TxnName}
 use Rattle.graph_model.specs.declared.write.Write.{Write}
-use Rattle.graph_model.specs.Account.{Account, IsValid}
-use Rattle.graph_model.specs.AccountSteps.{AbortsBy, CommitsBy, GoesOn, ReadsBy}
+use Rattle.graph_model.specs.AccountSteps.{AbortsBy, CommitsBy}
 use Rattle.graph_model.specs.Legal.{IsLegal}
 use Rattle.graph_model.specs.Refused.{IsWithinLimits}
-use Rattle.graph_model.proofs.AccountLemmas.{abort_keeps, commit_keeps, read_keeps}
+use Rattle.graph_model.proofs.AccountLemmas.{commit_keeps}
 use Rattle.txn_manager.specs.declared.config.Config.{Config}
-use Rattle.store_relation.specs.declared.stage.Stage.TheVariants.{Aborting, Idle, Open}
-use Rattle.store_relation.specs.Keys.{changed_keys, has_key}
-use Rattle.store_relation.specs.Passes.{PassState, is_active, name_at, number_of}
+use Rattle.store_relation.specs.declared.stage.Stage.TheVariants.{Open}
+use Rattle.store_relation.specs.Keys.{has_key}
+use Rattle.store_relation.specs.Passes.{PassState, is_active, number_of}
 use Rattle.store_relation.specs.Passes.{account_of as state_account}
-use Rattle.store_relation.specs.Steps.{committed, committing, ended, stopped, taken_back, with_entry, with_unstamped}
+use Rattle.store_relation.specs.Steps.{committed, ended, stopped, taken_back, with_entry, with_unstamped}
 use Rattle.store_relation.proofs.AccountLemmas.{account_aborts}
 use Rattle.store_relation.proofs.ListLemmas.{prefix_all}
 use Rattle.store_relation.proofs.MadeLemmas.{made_active, made_ended}
@@ -23,12 +21,11 @@ use Rattle.rule_model.specs.Sight.{PinState, with_pass, with_pin, with_rows}
 use Rattle.store_rule.specs.Passes.{OnlyAccount}
 use Rattle.store_rule.specs.declared.store.Pass.{Pass as Seats}
 use Rattle.store_rule.specs.declared.store.Store.{Store}
-use Rattle.pass_steps.specs.Passes.{HasEnded, HasNoTxn, HoldsNone, IsEndedPass, IsIdlePass, IsOpenPass, IsPassOf, IsSamePass, account_of_pass, name_of_pass, pin_of, state_of}
-use Rattle.pass_steps.specs.Txns.{Commits, CommitsAs, HasCommitted}
+use Rattle.pass_steps.specs.Passes.{HasEnded, HasNoTxn, HoldsNone, IsEndedPass, IsIdlePass, IsPassOf, account_of_pass, pin_of, state_of}
+use Rattle.pass_steps.specs.Txns.{CommitsAs, HasCommitted}
 use Rattle.pass_steps.proofs.PassLemmas.{none_after, pass_after, pass_is_stepped, pin_is, state_is}
 use Rattle.pass_steps.proofs.SightLemmas.{own_pin, pin_here, state_here}
 use Rattle.pass_writes.specs.Ending.{AreLeft}
-use Rattle.pass_writes.specs.Hand.{HasNothing}
 use Rattle.shared_store.specs.declared.pass.Pass.{Pass}
 use Rattle.shared_store.specs.Passes.{IsIdle, IsOpen, MayStamp, account_of}
 use Rattle.shared_store.proofs.PassLemmas.{open_account}
@@ -120,7 +117,8 @@ none_unstamped z p old new None none commits = (λ i. (commits.1 i).unstamped) �
 none_unstamped z p old new (Some stamp) none commits = tt
 
 -- within their limits
-pub own_within : (store : Store) (pass : Pass) → IsOpen store pass → AllByRecursion IsWithinLimits (state_of pass.seats).own
+pub own_within : (store : Store) (pass : Pass) → IsOpen store pass
+    → AllByRecursion IsWithinLimits (state_of pass.seats).own
 own_within store pass is = (open_account store pass is).within
 
 -- MAY STAMP: after a commit

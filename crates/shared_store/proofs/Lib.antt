@@ -3,3 +3,5 @@ pub mod EdgeLemmas
 pub mod PassLemmas
 pub mod EndLemmas
 pub mod SeatLemmas
+pub mod LoadLemmas
+pub mod TotalsLemmas

@@ -1,8 +1,6 @@
 -- A pass between two calls, after each call.
-use Rattle.std.proofs.Common.{◌≡◌, ℕ, suc, ◌+◌, ◌<◌, ◌≤◌, List, [], ◌∷◌, ◌++◌, length, refl, sym, ◌∙◌, ap, subst, arith, append-nil}
-use Rattle.std.specs.Prelude.{true, false, Option, Some, None, Result, Ok, Err, IfSome, cond}
-use Rattle.std.specs.List.{AllByRecursion}
-use mathlib.Core.List.{IsPrefix}
+use Rattle.std.proofs.Common.{◌≡◌, ℕ, suc, List, [], ◌∷◌, ◌++◌, length, refl, sym, ◌∙◌, ap, subst, arith, append-nil}
+use Rattle.std.specs.Prelude.{Option, Some, None, Result, Ok, Err, IfSome, cond}
 use Rattle.graph_model.specs.declared.journal.Begun.{Begun}
 use Rattle.graph_model.specs.declared.refusal.Cause.TheVariants.{Later, Holder}
 use Rattle.graph_model.specs.declared.refusal.Refusal.{Refusal}
@@ -17,17 +15,17 @@ use Rattle.graph_model.specs.Refused.{IsWithinLimits}
 use Rattle.graph_model.proofs.AccountLemmas.{begin_keeps}
 use Rattle.graph_model.proofs.ViewLemmas.{view_bounded, view_ends, view_symmetric}
 use Rattle.txn_manager.specs.declared.config.Config.{Config}
-use Rattle.store_relation.specs.declared.stage.Stage.TheVariants.{Idle, Open}
-use Rattle.store_relation.specs.Passes.{PassState, is_active, name_at, number_of, start_of}
+use Rattle.store_relation.specs.declared.stage.Stage.TheVariants.{Open}
+use Rattle.store_relation.specs.Passes.{PassState, is_active, number_of, start_of}
 use Rattle.store_relation.specs.Passes.{account_of as state_account}
-use Rattle.store_relation.specs.Steps.{begun, refreshed}
+use Rattle.store_relation.specs.Steps.{begun}
 use Rattle.store_relation.proofs.ListLemmas.{prefix_all, prefix_length, prefix_trans}
 use Rattle.store_relation.proofs.MadeLemmas.{number_active}
 use Rattle.rule_model.specs.Sight.{PinState}
 use Rattle.store_rule.specs.declared.store.Pass.{Pass as Seats}
 use Rattle.store_rule.specs.declared.store.Store.{Store}
 use Rattle.pass_cells.specs.declared.taken.TakenCell.{TakenCell}
-use Rattle.pass_steps.specs.Passes.{HasOpenTxn, IsOpenPass, IsPassOf, IsSamePass, account_of_pass, pin_of, state_of}
+use Rattle.pass_steps.specs.Passes.{HasOpenTxn, IsOpenPass, IsSamePass, account_of_pass, pin_of, state_of}
 use Rattle.pass_steps.specs.Txns.{Begins, Refreshes}
 use Rattle.pass_writes.specs.declared.making.Written.{Written}
 use Rattle.pass_writes.specs.declared.making.Written.TheVariants.{Done, NeedRoom}
@@ -69,7 +67,7 @@ keeps_made z p old new w (Ok Done) laid m =
       seen = prefix_all old.seen;
       readers_out = refl;
     })
-keeps_made z p old new w (Ok (NeedRoom key need)) laid m = keeps_notes old new laid m.1
+keeps_made z p old new w (Ok (NeedRoom short)) laid m = keeps_notes old new laid m.1
 keeps_made z p old new w (Err refusals.SelfLoop) laid m = keeps_notes old new laid m.1
 keeps_made z p old new w (Err (refusals.NoVertex q)) laid m = keeps_notes old new laid m.1
 keeps_made z p old new w (Err refusals.VertexExists) laid m = keeps_notes old new laid m.1

@@ -23,8 +23,12 @@ seats_of list = map (λ pass. pass.seats) list
 abbrev pub HaveNoCells : List Pass → Type 0
 HaveNoCells list = AllByRecursion (λ pass. pass.cells.taken.list.items ≡ []) list
 
+-- it has begun so many transactions, and keeps no write
+abbrev pub HasBegun : ℕ → Pass → Type 0
+HasBegun count pass = (pass.begun ≡ count) × (pass.own.items ≡ []) × (pass.changed.items ≡ [])
+
 abbrev pub HasBegunNothing : Pass → Type 0
-HasBegunNothing pass = (pass.begun ≡ 0) × (pass.own.items ≡ []) × (pass.changed.items ≡ [])
+HasBegunNothing pass = HasBegun 0 pass
 
 abbrev pub HaveBegunNothing : List Pass → Type 0
 HaveBegunNothing list = AllByRecursion HasBegunNothing list

@@ -1,5 +1,5 @@
 -- What a write does to its pass.
-use Rattle.std.specs.Prelude.{◌≡◌, ℕ, ◌+◌, ◌-◌, ◌<◌, List, [], ◌∷◌, ◌++◌, length, slice_get, Contains, Option, Some, None, Result, Ok, Err}
+use Rattle.std.specs.Prelude.{◌≡◌, ℕ, ◌-◌, ◌<◌, List, [], ◌∷◌, ◌++◌, length, slice_get, Contains, Option, Some, None, Result, Ok, Err}
 use Rattle.graph_model.specs.declared.refusal.Cause.TheVariants.{Later, Holder}
 use Rattle.graph_model.specs.declared.refusal.Refusal.{Refusal}
 use Rattle.graph_model.specs.declared.refusal.Refusal.TheVariants as refusals
@@ -18,7 +18,7 @@ use Rattle.shared_store.specs.declared.pass.Pass.{Pass}
 -- where room is needed nothing has changed
 abbrev pub WritesOver : Account → Write → Result Written Refusal → Account → Type 0
 WritesOver old w (Ok Done) new = WritesBy old w (Ok tt) new
-WritesOver old w (Ok (NeedRoom key need)) new = new ≡ old
+WritesOver old w (Ok (NeedRoom short)) new = new ≡ old
 WritesOver old w (Err refusal) new = WritesBy old w (Err refusal) new
 
 -- ---- the writes that a pass keeps
@@ -26,7 +26,7 @@ WritesOver old w (Err refusal) new = WritesBy old w (Err refusal) new
 -- the writes after one that is answered so
 abbrev pub own_after : List Write → Write → Result Written Refusal → List Write
 own_after own w (Ok Done) = own ++ w ∷ []
-own_after own w (Ok (NeedRoom key need)) = own
+own_after own w (Ok (NeedRoom short)) = own
 own_after own w (Err refusal) = own
 
 -- one more may be kept

@@ -14,8 +14,8 @@ use graph_model::{Cursor, Key, Kind, Row, Rows64};
 use std::sync::Wait;
 use store_rule::Store;
 
-/// Whether a vertex is an end of an arc. Where arcs have a direction, those that lead to the vertex are looked for in all
-/// rows.
+/// Whether a vertex is an end of an arc. Where arcs have a direction, those that lead to the vertex are looked for in
+/// all rows.
 pub(crate) fn has_edges(rt: &impl Wait, store: &Store, pass: &mut Pass, v: u64) -> bool
     requires opened { IsOpen store.now pass.old }
     requires within { v ≤ MAX_ID }

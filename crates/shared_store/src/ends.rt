@@ -7,14 +7,18 @@ ghost use Rattle.std.specs.Prelude.{◌≡◌, ◌+◌, ◌≤◌, ◌↔◌, �
 ghost use Rattle.std.specs.Vec.{vec_capacity};
 ghost use Rattle.txn_manager.specs.Config.{too_large};
 ghost use Rattle.txn_manager.specs.declared.config.StoreRefusal.TheVariants.{TooLarge};
+ghost use Rattle.store_rule.specs.Passes.{AreIn};
+ghost use Rattle.graph_model.specs.History.{graph_at};
+ghost use Rattle.shared_store.specs.Totals.{AreTotals};
 ghost use Rattle.shared_store.specs.Ends.{AreEnds, AreIdle, AreNew, HasClosed, HaveBegunNothing, HaveNoCells, seats_of};
 
 use crate::pass::Pass;
+use crate::totals::totals_of;
 use graph_model::{Journal, NoMemory};
 use pass_cells::PassCells;
 use std::alloc::Global;
-use store_rule::{Pass as Seats, Passes as Ends, Store};
-use txn_manager::{Config, StoreRefusal};
+use store_rule::{Content, Pass as Seats, Passes as Ends, Store};
+use txn_manager::{Config, StoreRefusal, Totals};
 
 /// The passes of a store, in the order of their numbers, with what its end needs.
 pub struct Passes {
@@ -27,6 +31,8 @@ pub struct Passes {
 #[derive(Drop)]
 pub struct Closed {
     pub journal: Journal,
+    /// Of the newest graph. No record is left, and no retired leaf.
+    pub totals: Totals,
     closed: (),
 }
 
@@ -41,6 +47,19 @@ pub fn new(alloc: Global, config: Config) -> Result<(Store, Passes), StoreRefusa
         Ok(made) => made,
         Err(refused) => return Err(refused),
     };
+    let passes = seated(alloc, &store, made)?;
+    Ok((store, passes))
+}
+
+/// The passes of a store that was made, with what its end needs. They have begun nothing yet.
+pub(crate) fn seated(alloc: Global, store: &Store, made: Ends) -> Result<Passes, NoMemory>
+    requires seats { AreIn store.now made }
+    requires count { length made.list.items ≡ store.now.accounts.config.passes }
+    ensures seats { IfOk result (λ passes. seats_of passes.list.items ≡ made.list.items) }
+    ensures fresh { IfOk result (λ passes. HaveBegunNothing passes.list.items) }
+    ensures cells { IfOk result (λ passes. HaveNoCells passes.list.items) }
+    ensures ends { IfOk result (λ passes. AreEnds store.now passes.ends) }
+{
     let Ends {
         list: seats,
         latch,
@@ -48,26 +67,18 @@ pub fn new(alloc: Global, config: Config) -> Result<(Store, Passes), StoreRefusa
         slots,
         cells,
     } = made;
-    let back = match Vec::with_capacity(alloc, seats.len()) {
-        Ok(back) => back,
-        Err(_) => return Err(StoreRefusal::NoMemory),
-    };
-    match seat_all(alloc, &store, seats) {
-        Ok(list) => Ok((
-            store,
-            Passes {
-                list,
-                ends: Ends {
-                    list: back,
-                    latch,
-                    account,
-                    slots,
-                    cells,
-                },
-            },
-        )),
-        Err(NoMemory) => Err(StoreRefusal::NoMemory),
-    }
+    let back = Vec::with_capacity(alloc, seats.len())?;
+    let list = seat_all(alloc, store, seats)?;
+    Ok(Passes {
+        list,
+        ends: Ends {
+            list: back,
+            latch,
+            account,
+            slots,
+            cells,
+        },
+    })
 }
 
 /// A pass for each pair of seats, with room for the cells that it takes.
@@ -112,17 +123,28 @@ fn give_up(mut list: Vec<Pass>)
     list.destroy_empty();
 }
 
-/// Closes a store with all its passes, none of which has a transaction. Takes no memory, and waits for nobody.
+/// Closes a store with all its passes, none of which has a transaction, and counts the rows that are left. Takes no
+/// memory, and waits for nobody.
 pub fn close(store: Store, passes: Passes) -> Closed
     requires passes { AreIdle store passes.list.items }
     requires ends { AreEnds store passes.ends }
-    ensures { HasClosed store.accounts.config passes.list.items result.journal }
+    ensures journal { HasClosed store.accounts.config passes.list.items result.journal }
+    ensures totals { AreTotals store.accounts.config.kind
+        (graph_at store.accounts.config.kind result.journal (length result.journal)) result.totals }
 {
+    let kind = store.config().kind;
     let Passes { list, mut ends } = passes;
     take_back(list, &mut ends.list);
     let content = store.take_apart(ends);
+    let Content {
+        mut cells,
+        index,
+        journal,
+    } = content;
+    let totals = totals_of(kind, &mut cells, &index);
     Closed {
-        journal: content.journal.into_items(),
+        journal: journal.into_items(),
+        totals,
         closed: (),
     }
 }

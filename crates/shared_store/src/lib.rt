@@ -7,13 +7,17 @@
 
 mod edges;
 mod ends;
+mod load;
 mod pass;
 mod reads;
+mod totals;
 mod transactions;
 mod writes;
 
 pub use ends::{Closed, Passes, close, new};
+pub use load::{LoadedRefusal, loaded};
 pub use pass::Pass;
+pub use pass_cells::RoomNeed;
 pub use pass_writes::Written;
 pub use reads::{has_vertex, scan_step, weight};
 pub use store_rule::Store;

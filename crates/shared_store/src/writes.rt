@@ -111,7 +111,7 @@ fn keep(pass: &mut Pass, write: Write, written: &Result<Written, Refusal>)
             pass.own.push_within(write);
             pass.changed.push_within(write);
         }
-        Ok(Written::NeedRoom { key: _, need: _ }) => {}
+        Ok(Written::NeedRoom(_)) => {}
         Err(_) => {}
     }
 }

@@ -8,12 +8,14 @@ use Rattle.seat_views.proofs.NumberLemmas.{kept-append, other_number, same_numbe
 use Rattle.txn_manager.specs.declared.config.Config.{Config}
 use Rattle.store_relation.specs.Shared.{JournalState}
 use Rattle.rule_model.specs.EndSteps.{HasAll}
+use Rattle.rule_model.specs.LastSteps.{IsLastStore}
 use Rattle.version_segment.specs.Resting.{RestingRows}
 use Rattle.version_segment.specs.Rows.{VersionedRows, IsSameSegment}
 use Rattle.cells_model.specs.Cells.{CellState}
-use Rattle.rule_model.specs.Sight.{HasJournal, Sight, cells_of, with_cell}
+use Rattle.cells_model.specs.Words.{Spells}
+use Rattle.rule_model.specs.Sight.{HasCell, HasJournal, Sight, cells_of, with_cell}
 use Rattle.rule_model.specs.ViewSteps.{joined}
-use Rattle.store_rule.specs.Closed.{AreAtRest, AreAtRestFrom, IsAtRest, IsPopped, known_in, known_segments}
+use Rattle.store_rule.specs.Closed.{AreAtRest, AreAtRestFrom, AreSpelled, IsAtRest, IsPopped, known_in, known_segments}
 use Rattle.store_rule.specs.Closing.{AreBackPasses, AreCells, AreSlotsBelow, HasJoined, IsBackPass}
 use Rattle.store_rule.specs.Slots.{FitsPlace, RestsAs}
 use Rattle.store_rule.proofs.MakeLemmas.{get_snoc}
@@ -178,6 +180,37 @@ known_cells v list are k s e =
       subst (λ (x : VersionedRows). IsSameSegment (rest.0).segment x) (ap known_in (sym rest.1) ∙ known.1)
           (record { low = refl; high = refl; rows = refl }),
     )
+
+-- the contents at a place of a list of them are those that are known
+pub known_at : (v : Sight) (count k : ℕ) (c : CellState) (s : VersionedRows) → kept_at v.cells k ≡ Some c
+    → slice_get (known_segments v count) k ≡ Some s → c.segment ≡ s
+known_at v count k c s has e = ap known_in (sym has) ∙ (known_get v count k s e).1
+
+-- what is known of a cell that is left: it is packed, and its block spells its contents
+pub known_there : (v : Sight) (list : List RestingRows) (k : ℕ) → AreAtRest v list → AreSpelled v (length list)
+    → k < length list → (c : CellState) × HasCell v k c × Spells c.block c.segment
+known_there v list k are spelled inside =
+    let there = get_there list k inside in
+    let rest = are k there.0 there.1 in
+    (rest.0, rest.1, spelled k rest.0 inside rest.1)
+
+-- the blocks of the cells of a closed store
+pub all_spelled : (z : Config) (v : Sight) (j : JournalState) (list : List RestingRows) → IsLastStore z v j → AreAtRest v list
+    → length list ≡ cells_of z → AreSpelled v (cells_of z)
+all_spelled z v j list last are count k c inside has =
+    let there = get_there list k (omega (arith, count, inside)) in
+    let rest = are k there.0 there.1 in
+    let same : rest.0 ≡ c = some_is rest.0 c (sym rest.1 ∙ has) in
+    let is = last.cells k c has in
+    subst (λ (d : CellState). Spells d.block d.segment) is
+    (last.spells k inside (ap (λ (d : CellState). d.unpacked) (is ∙ sym same) ∙ rest.2))
+
+-- a cell is unpacked: the blocks of those before it spell what they did
+pub front_spelled : (v w : Sight) (n m : ℕ) (c : CellState) → n ≡ m + 1 → w ≡ with_cell v m c → AreSpelled v n
+    → AreSpelled w m
+front_spelled v w n m c one is are k d inside has =
+    are k d (omega (arith, one, inside))
+    (sym (other_kept v w m c k is (λ same. absurd (omega (arith, inside, same)))) ∙ has)
 
 -- a cell is unpacked: what is kept of the others is as it was
 pub others_at_rest : (v w : Sight) (list : List RestingRows) (c : CellState) → AreAtRest v list

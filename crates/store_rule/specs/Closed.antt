@@ -1,10 +1,11 @@
 -- The cells of a closed store, whose contents a seat knows.
-use Rattle.std.specs.Prelude.{◌≡◌, ℕ, zero, suc, ◌+◌, false, List, [], ◌∷◌, ◌++◌, slice_get, Option, Some, None}
+use Rattle.std.specs.Prelude.{◌≡◌, ℕ, zero, suc, ◌+◌, ◌<◌, false, List, [], ◌∷◌, ◌++◌, slice_get, Option, Some, None}
 use Rattle.seat_views.specs.Keeping.{kept_at}
 use Rattle.version_segment.specs.Resting.{RestingRows}
 use Rattle.version_segment.specs.Rows.{VersionedRows, IsSameSegment}
 use Rattle.cells_model.specs.Cells.{CellState}
 use Rattle.cells_model.specs.Indexed.{new_cell}
+use Rattle.cells_model.specs.Words.{Spells}
 use Rattle.rule_model.specs.Sight.{HasCell, Sight}
 use Rattle.store_rule.specs.Slots.{RestsAs}
 
@@ -31,6 +32,10 @@ AreAtRestFrom v first list =
 abbrev pub AreAtRest : Sight → List RestingRows → Type 0
 AreAtRest v list =
     (k : ℕ) (resting : RestingRows) → slice_get list k ≡ Some resting → IsAtRest v k resting
+
+-- the blocks of so many first cells spell their contents
+abbrev pub AreSpelled : Sight → ℕ → Type 0
+AreSpelled v count = (k : ℕ) (c : CellState) → k < count → HasCell v k c → Spells c.block c.segment
 
 -- the last one is taken out, with the contents that are known of it
 abbrev pub IsPopped : List VersionedRows → List VersionedRows → Option VersionedRows → Type 0

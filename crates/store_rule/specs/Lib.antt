@@ -5,4 +5,5 @@ pub mod Making
 pub mod Filling
 pub mod Closed
 pub mod Closing
+pub mod Whole
 pub mod Packing

@@ -9,9 +9,10 @@ ghost use Rattle.atomic_table.specs.Seated.{TableId};
 ghost use Rattle.latch_table.specs.Opening.{IsWhole};
 ghost use Rattle.rule_model.specs.Sight.{cells_of};
 ghost use Rattle.store_rule.specs.Closed.{AreAtRestFrom};
-ghost use Rattle.store_rule.specs.Closing.{AreBack, AreBackPasses, AreSlotsBelow, HasJoined, IsContent, IsEnding, KeepsOthers};
+ghost use Rattle.store_rule.specs.Closing.{AreBack, AreBackPasses, AreSlotsBelow, HasJoined, IsEnding, KeepsOthers};
 ghost use Rattle.store_rule.specs.Passes.{AreIn};
 ghost use Rattle.store_rule.specs.Slots.{FitsPlace};
+ghost use Rattle.store_rule.specs.Whole.{IsWholeContent};
 ghost use Rattle.txn_manager.specs.declared.config.Config.{Config};
 
 use crate::closed::ClosedCells;
@@ -37,7 +38,7 @@ impl Store {
     pub fn take_apart(self, passes: Passes) -> Content
         requires seats { AreIn self passes }
         requires passes { AreBack self passes.list.items }
-        ensures { IsContent self.accounts.config passes.list.items result }
+        ensures { IsWholeContent self.accounts.config passes.list.items result }
     {
         let Store { accounts, latches } = self;
         let Passes {

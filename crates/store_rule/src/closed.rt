@@ -1,11 +1,13 @@
 //! The cells of a store that is closed.
 //!
-//! 1. Their rows stand in words, as they did. So the end of a store takes no memory.
+//! 1. Their rows stand in words, as they did. So the end of a store takes no memory, and rows may be read there.
 //! 2. Each wakes as it is taken out, in room that is taken for it then.
 
-ghost use Rattle.std.specs.Prelude.{◌≡◌, ◌<◌, ◌==◌, ◌∷◌, ◌++◌, [], length, IfOk, OnErr};
+ghost use Rattle.std.specs.Prelude.{◌≡◌, ◌<◌, ◌==◌, ◌∷◌, ◌++◌, [], length, slice_get, IfOk, OnErr, Some};
 ghost use Rattle.rule_model.specs.Sight.{cells_of};
-ghost use Rattle.store_rule.specs.Closed.{AreAtRest, IsPopped, known_segments};
+ghost use Rattle.store_rule.specs.Closed.{AreAtRest, AreSpelled, IsPopped, known_segments};
+ghost use Rattle.store_words.specs.Spelling.{CanSpell};
+ghost use Rattle.version_segment.specs.Rows.{VersionedRows};
 
 use crate::buffers::wake_cell;
 use gap_segment::Segment;
@@ -29,7 +31,7 @@ impl Model for ClosedCells {
     ghost use Rattle.std.specs.Prelude.{◌≡◌, ◌≤◌, List, length};
     ghost use Rattle.rule_model.specs.Sight.{cells_of};
     ghost use Rattle.version_segment.specs.Rows.{VersionedRows};
-    ghost use Rattle.store_rule.specs.Closed.{AreAtRest, known_segments};
+    ghost use Rattle.store_rule.specs.Closed.{AreAtRest, AreSpelled, known_segments};
 
     ghost Value = { List VersionedRows };
 
@@ -37,7 +39,7 @@ impl Model for ClosedCells {
 
     ghost invariant = { λ c. (c.account.table_id ≡ c.accounts.table.shared.table_id)
         × (length c.resting.items ≡ c.left) × (c.left ≤ cells_of c.accounts.config)
-        × AreAtRest c.account.me.0 c.resting.items };
+        × AreAtRest c.account.me.0 c.resting.items × AreSpelled c.account.me.0 c.left };
 }
 
 impl ClosedCells {
@@ -46,6 +48,7 @@ impl ClosedCells {
         requires table { account.table_id ≡ accounts.table.shared.table_id }
         requires count { length resting.items ≡ cells_of accounts.config }
         requires resting { AreAtRest account.me.0 resting.items }
+        requires spelled { AreSpelled account.me.0 (cells_of accounts.config) }
         ensures { result ≡ known_segments account.me.0 (cells_of accounts.config) }
     {
         let left = 8 * accounts.config.leaves;
@@ -68,6 +71,17 @@ impl ClosedCells {
         ensures { result ≡ (length self.now == 0) }
     {
         self.left == 0
+    }
+
+    /// Loads the rows of a cell that is left, each with its value word in place of a weight, and answers its fence keys.
+    /// The cell stays packed, so this takes no memory.
+    pub fn load_rows(&mut self, cell: u32, rows: &mut Rows32) -> (Key, Key)
+        requires { cell < length self.old }
+        ensures kept { self.new ≡ self.old }
+        ensures loaded { (s : VersionedRows) → slice_get self.old cell ≡ Some s
+            → CanSpell result.0 result.1 rows.new s }
+    {
+        self.accounts.load_rows(&mut self.account, cell, rows)
     }
 
     /// Takes the last cell out. The memory of its rows is new.

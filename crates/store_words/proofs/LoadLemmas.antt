@@ -10,10 +10,11 @@ use Rattle.store_relation.specs.Shared.{JournalState}
 use Rattle.version_segment.specs.Rows.{VersionedRows}
 use Rattle.cells_model.specs.Words.{IsRowAt, Spells, word_rows}
 use Rattle.cells_model.proofs.WordLemmas.{row_is_told}
-use Rattle.rule_model.specs.EndSteps.{HasAll, IsLast}
+use Rattle.rule_model.specs.EndSteps.{HasAll}
+use Rattle.rule_model.specs.LastSteps.{IsLastStore}
 use Rattle.rule_model.specs.Places.{lines}
 use Rattle.rule_model.specs.Steps.{AllowsLoad}
-use Rattle.rule_model.proofs.EndLemmas.{table_closes}
+use Rattle.rule_model.proofs.EndLemmas.{store_closes}
 use Rattle.rule_model.proofs.FrameLemmas.{M, by_nothing, own_read}
 
 -- ---- lists
@@ -63,11 +64,11 @@ row_loaded block p word row is src second weight =
 -- a load of the clock tells a seat that has all of a store that this is a closed one
 pub looks_last : (z : Config) (heap : Global) (slots id : ℕ) (me : M)
     → AllowsLoad z (lines z.passes) heap slots id me (lines z.passes).clock (λ n. me.0)
-    (λ n. (j : JournalState) → HasAll z me.0 j → IsLast z me.0 j)
+    (λ n. (j : JournalState) → HasAll z me.0 j → IsLastStore z me.0 j)
 looks_last z heap slots id me s r homes here bound = (
   me.0,
   keeps,
   tt,
   by_nothing r id me here (lines z.passes).clock me.0.reads (own_read r id me here),
-  (refl, λ j all. table_closes z (lines z.passes) heap s r id me.0 here j all),
+  (refl, λ j all. store_closes z (lines z.passes) heap s r id me.0 here j all),
 )

@@ -2,7 +2,8 @@
 
 ghost use Rattle.std.specs.Prelude.{◌≡◌, ◌<◌, ◌++◌, [], false, length, IfOk, OnOk};
 ghost use Rattle.cells_model.specs.Indexed.{new_cell};
-ghost use Rattle.rule_model.specs.EndSteps.{HasAll, IsLast, first_sight, new_words, zeros};
+ghost use Rattle.rule_model.specs.EndSteps.{HasAll, first_sight, new_words, zeros};
+ghost use Rattle.rule_model.specs.LastSteps.{IsLastStore};
 ghost use Rattle.store_relation.specs.Shared.{JournalState};
 ghost use Rattle.store_words.specs.Opening.{Begin, empty_block};
 ghost use Rattle.store_words.specs.Steps.{Knows, word_count};
@@ -65,12 +66,12 @@ impl Accounts {
         Ok((Accounts { table, config }, seat))
     }
 
-    /// A look at a store's end. What a seat knows that has all of it is a closed store.
+    /// A look at a store's end. What a seat knows that has all of it is a closed store, with the rows of its cells.
     pub fn look_last(&self, seat: &mut Account)
         requires table { seat.old.table_id ≡ self.now.table.shared.table_id }
         ensures same { Knows seat.old seat.new seat.old.me.0 }
         ensures last { (j : JournalState) → HasAll self.now.config seat.old.me.0 j
-            → IsLast self.now.config seat.old.me.0 j }
+            → IsLastStore self.now.config seat.old.me.0 j }
     {
         // Needs no order: nobody else steps on the table any more.
         let place = self.clock_place();

@@ -1,4 +1,4 @@
-use Rattle.std.proofs.Common.{◌∙◌, refl, sym, ap}
+use Rattle.std.proofs.Common.{◌∙◌, sym, ap}
 use Rattle.graph_model.specs.Rows.{rows}
 use Rattle.pass_cells.specs.Taken.{cell_at}
 use Rattle.pass_steps.specs.Passes.{state_of}

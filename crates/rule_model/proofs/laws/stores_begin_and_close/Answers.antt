@@ -1,4 +1,4 @@
-use Rattle.rule_model.proofs.EndLemmas.{lines_are_new, new_table, table_begins, table_closes}
+use Rattle.rule_model.proofs.EndLemmas.{lines_are_new, new_table, store_closes, table_begins, table_closes}
 use Rattle.rule_model.proofs.LoadedLemmas.{loaded_table}
 use Rattle.rule_model.proofs.laws.stores_begin_and_close.Goals as goal
 
@@ -16,3 +16,6 @@ returns-clause-begin c = table_begins
 
 pub returns-clause-load : goal.returns-clause-load
 returns-clause-load c = loaded_table
+
+pub returns-clause-rows : goal.returns-clause-rows
+returns-clause-rows c = store_closes

@@ -1,8 +1,7 @@
-use Rattle.std.proofs.Common.{◌∙◌, refl, subst, sym}
+use Rattle.std.proofs.Common.{refl, subst, sym}
 use Rattle.graph_model.specs.AccountSteps.{CommitsBy}
 use Rattle.shared_store.specs.Passes.{account_of}
-use Rattle.pass_steps.specs.Passes.{state_of}
-use Rattle.shared_store.proofs.EndLemmas.{commits_idle, may_stamp, number_committed}
+use Rattle.shared_store.proofs.EndLemmas.{may_stamp}
 use Rattle.shared_store.proofs.transactions.commit.Goals as goal
 
 pub finish-requires : goal.finish-requires

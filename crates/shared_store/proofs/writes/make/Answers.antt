@@ -1,4 +1,4 @@
-use Rattle.std.proofs.Common.{◌≡◌, ◌∙◌, ap, refl, sym, subst}
+use Rattle.std.proofs.Common.{◌≡◌, ◌∙◌, refl, sym, subst}
 use Rattle.row_writes.specs.Checks.{TellsEdges}
 use Rattle.pass_steps.specs.Passes.{state_of}
 use Rattle.store_rule.specs.declared.store.Pass.{Pass as Seats}

@@ -1,7 +1,6 @@
-use Rattle.std.proofs.Common.{◌∙◌, refl, sym, subst, Some}
+use Rattle.std.proofs.Common.{◌∙◌, sym, subst}
 use Rattle.pass_steps.specs.Passes.{state_of}
-use Rattle.shared_store.specs.Writes.{IsNoted, SeesLater}
-use Rattle.shared_store.proofs.PassLemmas.{sees_open}
+use Rattle.shared_store.specs.Writes.{IsNoted}
 use Rattle.shared_store.proofs.writes.see_cause.Goals as goal
 
 pub see_later-requires-clause-noted : goal.see_later-requires-clause-noted

@@ -3,7 +3,7 @@ use Rattle.std.specs.Prelude.{Some}
 use Rattle.gap_segment.specs.Fenced.{FencedRows}
 use Rattle.cells_model.specs.Cells.{CellState, unpacked}
 use Rattle.store_rule.specs.Closed.{IsPopped, known_segments}
-use Rattle.store_rule.proofs.CloseLemmas.{front_at_rest, known_last, last_at_rest}
+use Rattle.store_rule.proofs.CloseLemmas.{front_at_rest, front_spelled, known_last, last_at_rest}
 use Rattle.store_rule.proofs.closed.ClosedCells.pop.Goals as goal
 
 pub pop_resting-resting-requires : goal.pop_resting-resting-requires
@@ -48,6 +48,7 @@ invariant_of-self c =
       sym last,
       omega (arith, bound),
       front_at_rest v w old list resting m (unpacked state) c.self.invariant.3 c.pop_resting-resting.ensures last view,
+      front_spelled v w c.self.inside.left m (unpacked state) (omega (arith, count, more, last)) view c.self.invariant.4,
     )
 
 pub returns-clause-popped : goal.returns-clause-popped

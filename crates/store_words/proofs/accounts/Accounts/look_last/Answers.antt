@@ -1,6 +1,7 @@
 use Rattle.std.proofs.Common.{sym}
 use Rattle.store_relation.specs.Shared.{JournalState}
-use Rattle.rule_model.specs.EndSteps.{HasAll, IsLast}
+use Rattle.rule_model.specs.EndSteps.{HasAll}
+use Rattle.rule_model.specs.LastSteps.{IsLastStore}
 use Rattle.store_words.proofs.LoadLemmas.{looks_last}
 use Rattle.store_words.proofs.StepLemmas.{at_place}
 use Rattle.store_words.proofs.accounts.Accounts.look_last.Goals as goal
@@ -10,5 +11,5 @@ load_as-requires-clause-may c heap =
     let z = c.args.self.now.config in
     let seat = c.args.seat.now in
     at_place z heap seat.table_id.slots seat.id seat.me _ _ (sym c.clock_place-place.ensures.place)
-    (λ n. seat.me.0) (λ n. (j : JournalState) → HasAll z seat.me.0 j → IsLast z seat.me.0 j)
+    (λ n. seat.me.0) (λ n. (j : JournalState) → HasAll z seat.me.0 j → IsLastStore z seat.me.0 j)
     (looks_last z heap seat.table_id.slots seat.id seat.me)
