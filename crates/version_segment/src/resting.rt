@@ -5,7 +5,7 @@
 //!    any room for rows.
 //! 3. No call takes memory.
 
-ghost use Rattle.std.specs.Prelude.{◌≡◌, ◌≤◌, ◌==◌, [], length};
+ghost use Rattle.std.specs.Prelude.{◌≡◌, ◌≤◌, ◌==◌, true, [], length};
 ghost use Rattle.graph_model.specs.declared.limits.TheConstants.{SEGMENT_ROWS};
 ghost use Rattle.head_map.specs.Heads.{heads_placed};
 ghost use Rattle.version_segment.specs.Resting.{resting_of, settled_rest, word_rows, HasSmallWeights, CanWake, woken, AreErased};
@@ -66,6 +66,13 @@ impl Resting {
         ensures { result ≡ (length self.now.rows == 0) }
     {
         self.count == 0
+    }
+
+    /// Whether no row has a record. Then nothing is left of the rows but their number.
+    pub fn is_settled(&self) -> bool
+        ensures { result ≡ true → self.now.rows ≡ settled_rest (length self.now.rows) }
+    {
+        self.heads.is_empty()
     }
 
     /// What holds of each segment at rest.

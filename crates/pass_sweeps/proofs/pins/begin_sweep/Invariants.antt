@@ -1,0 +1,12 @@
+use Rattle.std.specs.Prelude.{◌≤◌, length, Some}
+use Rattle.epoch_reclaim.specs.Pinned.{begun}
+use Rattle.rule_model.specs.Sight.{with_pin}
+use Rattle.pass_steps.specs.Passes.{pin_in, state_in}
+use Rattle.pass_sweeps.specs.Sweeping.{with_sweep}
+use Rattle.pass_sweeps.proofs.pins.begin_sweep.Given as given
+
+abbrev pub ghosts-begin_as : given.ghosts-begin_as
+ghosts-begin_as a = record {
+  next = λ n v. with_pin v a.pass.now.number (with_sweep (pin_in v a.pass.now.number) (Some (begun n)));
+  told = λ n v. length (state_in v a.pass.now.number).seen ≤ n;
+}

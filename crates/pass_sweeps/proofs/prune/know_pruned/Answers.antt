@@ -1,0 +1,14 @@
+use Rattle.rule_model.specs.Places.{lines}
+use Rattle.pass_steps.specs.Passes.{pin_of, state_of}
+use Rattle.pass_sweeps.specs.Pruning.{news_of}
+use Rattle.pass_sweeps.proofs.LawLemmas.{rows_are_pruned_as_seen}
+use Rattle.pass_sweeps.proofs.prune.know_pruned.Goals as goal
+
+pub change-requires-clause-may : goal.change-requires-clause-may
+change-requires-clause-may c heap =
+    let z = c.args.store.now.accounts.config in
+    let pass = c.args.pass.now in
+    let seat = pass.account in
+    rows_are_pruned_as_seen z (lines z.passes) heap seat.table_id.slots seat.id seat.me pass.number
+    (state_of pass) (pin_of pass) c.requires.may.0 (news_of seat.me.0 c.args.cell c.args.segment.now)
+    c.requires.may.1

@@ -1,0 +1,12 @@
+use Rattle.rule_model.specs.Places.{lines}
+use Rattle.pass_steps.specs.Passes.{state_in}
+use Rattle.pass_sweeps.proofs.LawLemmas.{writers_are_known}
+use Rattle.pass_sweeps.proofs.seen.learn_writers.Goals as goal
+
+pub change-requires-clause-may : goal.change-requires-clause-may
+change-requires-clause-may c heap =
+    let z = c.args.store.now.accounts.config in
+    let pass = c.args.pass.now in
+    let seat = pass.account in
+    writers_are_known z (lines z.passes) heap seat.table_id.slots seat.id seat.me pass.number
+    (state_in seat.me.0 pass.number) c.requires.pass.sight.has

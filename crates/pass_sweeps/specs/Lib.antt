@@ -1,0 +1,5 @@
+pub mod SweepLaws
+pub mod Sweeping
+pub mod Pruning
+pub mod Stepping
+pub mod GoingOn

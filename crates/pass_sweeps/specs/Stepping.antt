@@ -1,0 +1,36 @@
+-- A turn of the sweep.
+use Rattle.std.specs.Prelude.{◌≡◌, ℕ, ◌≤◌, Bool, cond, length}
+use Rattle.graph_model.specs.declared.row.Key.{Key}
+use Rattle.graph_model.specs.Rows.{end_key, first_key, is_below}
+use Rattle.leaf_index.specs.Calls.{IsLeafRange}
+use Rattle.leaf_index.specs.Index.{Index}
+use Rattle.leaf_index.specs.declared.route.LeafRange.{LeafRange}
+use Rattle.epoch_reclaim.specs.declared.sweep.Sweep.{Sweep}
+use Rattle.epoch_reclaim.specs.Pinned.{horizon_of}
+use Rattle.store_rule.specs.declared.store.Pass.{Pass}
+use Rattle.store_rule.specs.declared.store.Store.{Store}
+use Rattle.pass_steps.specs.Passes.{state_of}
+use Rattle.pass_sweeps.specs.Pruning.{TakesAwayOf, stamps_seen}
+
+-- where the next leaf begins: where one ends, or at the first key after the last one
+abbrev pub key_after : Key → Key
+key_after high = cond (is_below high end_key) high first_key
+
+-- the leaf is the one whose range held the key, under the index that was in hand, and the key is behind it then
+pub record ChoosesLeaf (key key' : Key) (leaf : ℕ) : Type 0 where
+  pub index : Index
+  pub range : LeafRange
+  pub holds : IsLeafRange key index.entries range
+  pub leaf_is : leaf ≡ range.leaf
+  pub next : key' ≡ key_after range.high
+
+-- The eight cells of that leaf were pruned at the horizon of a sweep that looked at all pins, by the journal as the
+-- pass has seen it now. The sweep's clock is no less than what the pass had seen.
+pub record SweepsLeaf (store : Store) (old new : Pass) (key key' : Key) (took : Bool) : Type 0 where
+  pub leaf : ℕ
+  pub chosen : ChoosesLeaf key key' leaf
+  pub sweep : Sweep
+  pub whole : sweep.looked ≡ store.accounts.config.passes
+  pub clock : length (state_of old).seen ≤ sweep.clock
+  pub seen : horizon_of sweep ≤ length (state_of new).seen
+  pub took_is : TakesAwayOf (stamps_seen (state_of new)) (horizon_of sweep) 8 took

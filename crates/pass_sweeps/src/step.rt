@@ -1,0 +1,101 @@
+//! A turn of the sweep: the next leaf in the order of keys, by a sweep over the pins of its own.
+
+ghost use Rattle.std.specs.Prelude.{◌≡◌, ◌<◌, ◌≤◌, None, length};
+ghost use Rattle.graph_model.specs.Rows.{first_key};
+ghost use Rattle.leaf_index.specs.Calls.{IsLeafRange};
+ghost use Rattle.pass_steps.specs.Passes.{HoldsNone, IsPassOf, pin_of, state_of};
+ghost use Rattle.pass_sweeps.specs.Stepping.{ChoosesLeaf, SweepsLeaf, key_after};
+ghost use Rattle.pass_sweeps.specs.Sweeping.{GoesOn, HasSwept};
+
+use crate::index::{give_index, learn_leaves, sweep_and_free, take_index};
+use crate::leaf::sweep_leaf;
+use crate::pins::{end_sweep, sweep_pins};
+use crate::seen::see_published;
+use epoch_reclaim::Sweep;
+use graph_model::Key;
+use leaf_index::{LeafIndex, LeafRange};
+use std::sync::Wait;
+use store_rule::{Pass, Store};
+
+/// Where a pass's next sweep begins. Between two turns leaves may come and go: the leaf whose range holds the key is
+/// the next one then.
+#[derive(Clone, Copy, Debug, Drop, PartialEq, Eq)]
+pub struct SweepKey {
+    pub next: Key,
+}
+
+impl SweepKey {
+    /// The first leaf comes next.
+    pub fn first() -> SweepKey
+        ensures { result.next ≡ first_key }
+    {
+        SweepKey {
+            next: Key { src: 0, second: 0 },
+        }
+    }
+}
+
+/// Sweeps over the pins of all passes, prunes the next leaf at the horizon that it finds, and answers whether a record
+/// went. With the last leaf it frees the retired leaves that may be freed, and the first one comes next. May wait, and
+/// takes no memory.
+pub fn sweep_step(rt: &impl Wait, store: &Store, pass: &mut Pass, key: &mut SweepKey) -> bool
+    requires pass { IsPassOf store.now pass.old }
+    requires none { HoldsNone pass.old }
+    ensures pass { IsPassOf store.now pass.new }
+    ensures none { HoldsNone pass.new }
+    ensures same { GoesOn pass.old pass.new }
+    ensures ended { (pin_of pass.new).sweep ≡ None }
+    ensures swept { SweepsLeaf store.now pass.old pass.new key.old.next key.new.next result }
+{
+    let (leaf, sweep) = choose_leaf(rt, store, pass, key);
+    let took = sweep_leaf(rt, store, pass, &sweep, leaf);
+    end_sweep(store, pass);
+    took
+}
+
+/// Finds the leaf that comes next, and sweeps over the pins for it.
+fn choose_leaf(rt: &impl Wait, store: &Store, pass: &mut Pass, key: &mut SweepKey) -> (u32, Sweep)
+    requires pass { IsPassOf store.now pass.old }
+    requires none { HoldsNone pass.old }
+    ensures pass { IsPassOf store.now pass.new }
+    ensures none { HoldsNone pass.new }
+    ensures same { GoesOn pass.old pass.new }
+    ensures inside { result.0 < store.now.accounts.config.leaves }
+    ensures swept { HasSwept store.now pass.new result.1 }
+    ensures clock { length (state_of pass.old).seen ≤ result.1.clock }
+    ensures chosen { ChoosesLeaf key.old.next key.new.next result.0 }
+{
+    let held = take_index(rt, store, pass);
+    learn_leaves(store, pass);
+    let range = leaf_of(&held.value, key.next);
+    key.next = key_after(range.high);
+    if range.high.is_below(Key::END) {
+        give_index(store, pass, held);
+        let sweep = sweep_pins(store, pass);
+        return (range.leaf, sweep);
+    }
+    let (held, sweep) = sweep_and_free(store, pass, held);
+    give_index(store, pass, held);
+    see_published(store, pass);
+    (range.leaf, sweep)
+}
+
+/// The leaf whose range holds a key.
+fn leaf_of(index: &LeafIndex, key: Key) -> LeafRange
+    ensures range { IsLeafRange key index.now.entries result }
+    ensures exists { result.leaf < index.now.leaves }
+{
+    index.is_index();
+    index.leaf_at(key)
+}
+
+/// Where the next leaf begins: where this one ends, or at the first key.
+fn key_after(high: Key) -> Key
+    ensures { result ≡ key_after high }
+{
+    if high.is_below(Key::END) {
+        high
+    } else {
+        Key { src: 0, second: 0 }
+    }
+}
