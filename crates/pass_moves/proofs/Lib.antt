@@ -1,0 +1,4 @@
+pub mod MovedCells
+pub mod SpreadLemmas
+pub mod HandLemmas
+pub mod StepLemmas
