@@ -7,7 +7,9 @@
 #![tactic(auto)]
 
 mod exchange;
+mod room;
 mod spread;
 mod step;
 
+pub use room::{Room, free_places};
 pub use spread::spread_window;
