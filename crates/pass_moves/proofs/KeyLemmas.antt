@@ -1,5 +1,5 @@
 -- The cell in hand that covers a key, and the places that it has.
-use Rattle.std.proofs.Common.{◌≡◌, ℕ, zero, suc, ◌+◌, ◌*◌, ◌%◌, ◌<◌, ◌≤◌, List, [], ◌∷◌, ◌++◌, length, map, refl, sym, ◌∙◌, ap, subst, arith, Some}
+use Rattle.std.proofs.Common.{◌≡◌, ℕ, zero, suc, ◌+◌, ◌*◌, ◌%◌, ◌<◌, ◌≤◌, List, [], ◌∷◌, ◌++◌, length, map, take, refl, sym, ◌∙◌, ap, subst, arith, Some}
 use Rattle.std.specs.Prelude.{Bool, true, false, slice_get, slice_index, IsSomeAnd}
 use Rattle.std.proofs.lemmas.List.{length-map}
 use Rattle.std.specs.List.{AllByRecursion}
@@ -137,6 +137,13 @@ at_first : (ss : List VersionedRows) (key : Key) (place : ℕ) → (a : At ss ke
 at_first ss key place a low follow sound =
     ap (λ l. cell_in l key) a.is
     ∙ cell_here low key a.before a.cell a.behind (subst (Follow low) a.is follow) (subst AreSound a.is sound) a.held
+
+-- the first ones of two lists are those of the first
+pub take_front : {X : Type 0} (xs ys : List X) (n : ℕ) → n ≡ length xs → take n (xs ++ ys) ≡ xs
+take_front [] ys zero e = refl
+take_front [] ys (suc n) e = absurd (omega (arith, e))
+take_front (x ∷ xs) ys zero e = absurd (omega (arith, e))
+take_front (x ∷ xs) ys (suc n) e = ap (λ l. x ∷ l) (take_front xs ys n (omega (arith, e)))
 
 -- rows of cells
 abbrev pub rows_of_cell : TakenCell → ℕ
