@@ -51,7 +51,8 @@ above_not : (key low : Key) → is_below key low ≡ true → NotAbove low key �
 above_not key low above from = let no : true ≡ false = sym above ∙ from in cc
 
 -- the last entry that doesn't begin above a key is one
-pub one_floor : (key : Key) (front : List Entry) (e : Entry) (back front' : List Entry) (e' : Entry) (back' : List Entry)
+pub one_floor : (key : Key) (front : List Entry) (e : Entry) (back front' : List Entry) (e' : Entry)
+    (back' : List Entry)
     → front ++ e ∷ back ≡ front' ++ e' ∷ back' → NotAbove e.low key → NotAbove e'.low key
     → AllByRecursion (λ x. is_below key x.low ≡ true) back → AllByRecursion (λ x. is_below key x.low ≡ true) back'
     → e ≡ e'
@@ -225,7 +226,8 @@ module _ (store : Store) (old : Pass) (ts : List TakenCell) (before : Held (Box 
         let same = same_before z v fit.cell fit.agrees (8 * routed.entry.leaf) 8 ts holding.known numbers in
         let parts = sym (segments_table fit.heap cell y.index.leaves routed.entry.leaf inside) ∙ l.segments in
         subst (At (values_of ts) key) (l.at ∙ segment_is)
-        (same_at key l.before l.cell l.behind (values_of ts) (subst (λ ss. AreSame ss (values_of ts)) parts same) l.held)
+        (same_at key l.before l.cell l.behind (values_of ts) (subst (λ ss. AreSame ss (values_of ts)) parts same)
+        l.held)
 
     tied : IsTied (values_of ts) routed.entry (end_of floor.back)
     tied = values_tied z v y ts fit holding.known floor.front routed.entry floor.back floor.is inside numbers

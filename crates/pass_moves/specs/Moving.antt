@@ -43,8 +43,8 @@ AreMarked (t ∷ ts) (u ∷ us) zero zero = (u ∷ us) ≡ t ∷ ts
 
 -- ---- what a move leaves of cells
 
--- It is the same cell, with contents that may be packed. Where it isn't said to be changed it wasn't before, and has the
--- contents that it had.
+-- It is the same cell, with contents that may be packed. Where it isn't said to be changed it wasn't before, and has
+-- the contents that it had.
 pub record MovesCell (old new : TakenCell) : Type 0 where
   pub cell : new.held.cell ≡ old.held.cell
   pub sound : IsSegment new.held.value

@@ -13,8 +13,8 @@ use std::alloc::Global;
 use std::sync::Wait;
 use store_rule::{Pass, Store};
 
-/// Takes the leaf of a key and the index, has so many places be free in the key's cell if a window has room for the rows,
-/// and gives all back. Others may have used the places up by the time that this returns.
+/// Takes the leaf of a key and the index, has so many places be free in the key's cell if a window has room for the
+/// rows, and gives all back. Others may have used the places up by the time that this returns.
 pub fn spread_for(
     rt: &impl Wait,
     store: &Store,

@@ -26,8 +26,8 @@ pub enum Room {
     Crowded,
 }
 
-/// Has so many places be free in the cell in hand that covers the key: where they aren't yet, spreads the smallest window
-/// of the leaf that has room for the rows needed. A crowded leaf stays as it is.
+/// Has so many places be free in the cell in hand that covers the key: where they aren't yet, spreads the smallest
+/// window of the leaf that has room for the rows needed. A crowded leaf stays as it is.
 pub fn free_places(
     store: &Store,
     pass: &mut Pass,

@@ -22,8 +22,8 @@ use std::alloc::Global;
 use store_rule::{Pass, Store};
 
 /// Spreads a window of the leaf in hand, gives the index the cuts that the leaf has then, and has the pass's view know
-/// both. The rows move in the space that is lent, which has none before and after. Where memory is refused only room for
-/// records has changed.
+/// both. The rows move in the space that is lent, which has none before and after. Where memory is refused only room
+/// for records has changed.
 pub fn spread_window(
     store: &Store,
     pass: &mut Pass,

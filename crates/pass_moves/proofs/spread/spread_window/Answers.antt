@@ -48,7 +48,8 @@ set_separators-requires c =
     let cuts = c.in_ok-cuts.cuts in
     let spreads = c.in_ok-cuts.ensures.ok in
     subst (λ (x : Index). CanCut (slice_index_or cuts 0 first_key) cuts x.entries) (sym c.deref_mut.ensures.value)
-    (may_cut store old ts before h.0 h.1 c.requires.fit h.2 c.args.window cuts us spreads c.requires.window c.requires.few
+    (may_cut store old ts before h.0 h.1 c.requires.fit h.2 c.args.window
+    cuts us spreads c.requires.window c.requires.few
     first_key)
 
 pub change-requires-clause-may : goal.change-requires-clause-may
@@ -69,11 +70,13 @@ change-requires-clause-may c =
     c.set_separators.ensures.entries in
     let others = subst (λ (x : Index). after ≡ record x { entries = after.entries }) c.deref_mut.ensures.value
     c.set_separators.ensures.others in
-    let now = now_is store old ts before h.0 h.1 c.requires.fit h.2 c.args.window cuts us spreads c.requires.window c.requires.few
+    let now = now_is store old ts before h.0 h.1 c.requires.fit h.2 c.args.window
+    cuts us spreads c.requires.window c.requires.few
     first_key after set others in
     subst (λ (x : Index). MayLoad store.accounts.config old.account (lines store.accounts.config.passes).clock
     (λ n w. moved w x us) (λ n w. Nothing n)) (sym is)
-    (may_move store old ts before h.0 h.1 c.requires.fit h.2 c.args.window cuts us spreads c.requires.window c.requires.few
+    (may_move store old ts before h.0 h.1 c.requires.fit h.2 c.args.window
+    cuts us spreads c.requires.window c.requires.few
     after ready now)
 
 pub returns-clause-holds : goal.returns-clause-holds
@@ -87,7 +90,8 @@ returns-clause-holds c = λ leaf holds.
     let cuts = c.in_ok-cuts.cuts in
     let spreads = c.in_ok-cuts.ensures.ok in
     holds_moved_as store old c.change.new.pass (leaf ∷ []) ts us before _ c.deref-2.result.now holds
-    (spread_cells_move store old ts before h.0 h.1 c.requires.fit h.2 c.args.window cuts us spreads c.requires.window c.requires.few)
+    (spread_cells_move store old ts before h.0 h.1 c.requires.fit h.2 c.args.window
+    cuts us spreads c.requires.window c.requires.few)
     c.change.ensures.changed refl (sym c.deref-2.ensures) c.count_rows.new.cells c.count_rows.ensures
 
 pub returns-clause-fit : goal.returns-clause-fit
@@ -108,15 +112,18 @@ returns-clause-fit c =
     c.set_separators.ensures.entries in
     let others = subst (λ (x : Index). after ≡ record x { entries = after.entries }) c.deref_mut.ensures.value
     c.set_separators.ensures.others in
-    let now = now_is store old ts before h.0 h.1 c.requires.fit h.2 c.args.window cuts us spreads c.requires.window c.requires.few
+    let now = now_is store old ts before h.0 h.1 c.requires.fit h.2 c.args.window
+    cuts us spreads c.requires.window c.requires.few
     first_key after set others in
     let step = subst (λ (x : Index). OnlyAccount old c.change.new.pass (moved old.account.me.0 x us)) is
     c.change.ensures.changed in
     fits_moved store old c.change.new.pass (h.0 ∷ []) ts us before
     (record before { value = record before.value { value = after } }) after h.1
-    (spread_cells_move store old ts before h.0 h.1 c.requires.fit h.2 c.args.window cuts us spreads c.requires.window c.requires.few)
+    (spread_cells_move store old ts before h.0 h.1 c.requires.fit h.2 c.args.window
+    cuts us spreads c.requires.window c.requires.few)
     step refl refl (c.requires.fit h.1.index_held.state h.1.index_held.has) 0
-    (is_move store old ts before h.0 h.1 c.requires.fit h.2 c.args.window cuts us spreads c.requires.window c.requires.few after ready now)
+    (is_move store old ts before h.0 h.1 c.requires.fit h.2 c.args.window
+    cuts us spreads c.requires.window c.requires.few after ready now)
 
 pub returns-clause-spread : goal.returns-clause-spread
 returns-clause-spread c =
@@ -129,5 +136,6 @@ returns-clause-spread c =
     let cuts = c.in_ok-cuts.cuts in
     let spreads = c.in_ok-cuts.ensures.ok in
     let all = ap values_of c.count_rows.ensures ∙ values_counted us
-    ∙ values store old ts before h.0 h.1 c.requires.fit h.2 c.args.window cuts us spreads c.requires.window c.requires.few in
+    ∙ values store old ts before h.0 h.1 c.requires.fit h.2 c.args.window
+    cuts us spreads c.requires.window c.requires.few in
     subst (SpreadsWindow c.args.window (values_of ts)) (sym all) spreads.spreads
