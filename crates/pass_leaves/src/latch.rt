@@ -1,0 +1,196 @@
+//! Latches of leaves and of the index.
+
+ghost use Rattle.std.specs.Prelude.{◌≡◌, ◌<◌, ◌≤◌, ◌+◌, ◌*◌, ◌++◌, [], ◌∷◌, length, true, false, IfSome, None};
+ghost use Rattle.std.specs.Vec.{vec_capacity};
+ghost use Rattle.latch_table.specs.Latched.{number_of};
+ghost use Rattle.latch_table.specs.Several.{taken_of};
+ghost use Rattle.rule_model.specs.Sight.{cells_of};
+ghost use Rattle.store_rule.specs.Slots.{FitsPlace};
+ghost use Rattle.store_rule.specs.declared.slot.StoreSlot.TheVariants as slots;
+ghost use Rattle.pass_cells.specs.Holding.{AreFit, IsLatchOf};
+ghost use Rattle.pass_leaves.specs.Hand.{HasLatched, cells_of_leaves, numbers_from, numbers_held};
+
+use graph_model::LEAF_SEGMENTS;
+use latch_table::{Held, Laid};
+use std::hint::spin_loop;
+use std::sync::Wait;
+use store_rule::{LatchPass, Store, StoreSlot};
+
+/// How often a pass that holds places looks at the next one: longer than a holder's work takes.
+const LOOKS: u32 = 4096;
+
+/// Takes all cells of these leaves. Where one stays busy, or a leaf doesn't exist, some are taken.
+pub fn latch_leaves(
+    rt: &impl Wait,
+    store: &Store,
+    latch: &mut LatchPass,
+    leaves: &[u32],
+    packed: &mut Vec<Held<StoreSlot>>,
+) -> bool
+    requires latched { HasLatched store.now latch.old packed.old.items }
+    requires none { packed.old.items ≡ [] }
+    requires few { length leaves.now ≤ 2 }
+    requires room { 17 ≤ vec_capacity packed.old }
+    ensures latched { HasLatched store.now latch.new packed.new.items }
+    ensures number { number_of latch.new.me.0 ≡ number_of latch.old.me.0 }
+    ensures numbers { result ≡ true → numbers_held packed.new.items ≡ cells_of_leaves leaves.now }
+    ensures few { length packed.new.items ≤ 16 }
+    ensures capacity { vec_capacity packed.old ≤ vec_capacity packed.new }
+{
+    'leaves: for place in 0..leaves.len() {
+        if !latch_leaf(rt, store, latch, leaves[place], packed) {
+            return false;
+        }
+    }
+    true
+}
+
+/// Takes the cells of one leaf more, in the order of their fence keys.
+fn latch_leaf(
+    rt: &impl Wait,
+    store: &Store,
+    latch: &mut LatchPass,
+    leaf: u32,
+    packed: &mut Vec<Held<StoreSlot>>,
+) -> bool
+    requires latched { HasLatched store.now latch.old packed.old.items }
+    requires room { length packed.old.items + 8 ≤ vec_capacity packed.old }
+    ensures latched { HasLatched store.now latch.new packed.new.items }
+    ensures number { number_of latch.new.me.0 ≡ number_of latch.old.me.0 }
+    ensures numbers { result ≡ true
+        → numbers_held packed.new.items ≡ numbers_held packed.old.items ++ numbers_from (8 * leaf) 8 }
+    ensures few { length packed.new.items ≤ length packed.old.items + 8 }
+    ensures capacity { vec_capacity packed.old ≤ vec_capacity packed.new }
+{
+    if leaf >= store.config().leaves {
+        return false;
+    }
+    let first = 8 * leaf;
+    'segments: for segment in 0..LEAF_SEGMENTS as u32 {
+        if !latch_cell(rt, store, latch, first + segment, packed) {
+            return false;
+        }
+    }
+    true
+}
+
+/// Takes one cell more.
+fn latch_cell(
+    rt: &impl Wait,
+    store: &Store,
+    latch: &mut LatchPass,
+    cell: u32,
+    packed: &mut Vec<Held<StoreSlot>>,
+) -> bool
+    requires latched { HasLatched store.now latch.old packed.old.items }
+    requires cell { cell < cells_of store.now.accounts.config }
+    requires room { length packed.old.items < vec_capacity packed.old }
+    ensures latched { HasLatched store.now latch.new packed.new.items }
+    ensures number { number_of latch.new.me.0 ≡ number_of latch.old.me.0 }
+    ensures more { result ≡ true → (numbers_held packed.new.items ≡ numbers_held packed.old.items ++ cell ∷ [])
+        × (length packed.new.items ≡ length packed.old.items + 1) }
+    ensures none { result ≡ false → packed.new.items ≡ packed.old.items }
+    ensures capacity { vec_capacity packed.old ≤ vec_capacity packed.new }
+{
+    let holds_none = packed.is_empty();
+    let Some(held) = take_next(rt, store, latch, cell, holds_none) else {
+        return false;
+    };
+    match packed.push(held) {
+        Ok(()) => true,
+        Err(_) => unreachable!(),
+    }
+}
+
+/// Takes a place: whoever holds none waits as long as it takes, and whoever holds others looks a number of times.
+fn take_next(
+    rt: &impl Wait,
+    store: &Store,
+    latch: &mut LatchPass,
+    place: u32,
+    holds_none: bool,
+) -> Option<Held<StoreSlot>>
+    requires latch { IsLatchOf store.now latch.old }
+    requires place { place < cells_of store.now.accounts.config + 2 }
+    ensures latch { IsLatchOf store.now latch.new }
+    ensures number { number_of latch.new.me.0 ≡ number_of latch.old.me.0 }
+    ensures held { IfSome result (λ h. (h.cell ≡ place) × (h.changed ≡ false)
+        × FitsPlace store.now.accounts.config store.now.accounts.table.shared.table_id place h.value
+        × (latch.new.me.1 ≡ (place, slots.Out) ∷ latch.old.me.1)) }
+    ensures busy { result ≡ None → latch.new.me.1 ≡ latch.old.me.1 }
+{
+    if holds_none {
+        Some(store.cells().take(rt, latch, place))
+    } else {
+        try_place(store, latch, place)
+    }
+}
+
+/// Looks at a place a number of times, and takes it if a look finds it free.
+pub fn try_place(store: &Store, latch: &mut LatchPass, place: u32) -> Option<Held<StoreSlot>>
+    requires latch { IsLatchOf store.now latch.old }
+    requires place { place < cells_of store.now.accounts.config + 2 }
+    ensures latch { IsLatchOf store.now latch.new }
+    ensures number { number_of latch.new.me.0 ≡ number_of latch.old.me.0 }
+    ensures held { IfSome result (λ h. (h.cell ≡ place) × (h.changed ≡ false)
+        × FitsPlace store.now.accounts.config store.now.accounts.table.shared.table_id place h.value
+        × (latch.new.me.1 ≡ (place, slots.Out) ∷ latch.old.me.1)) }
+    ensures busy { result ≡ None → latch.new.me.1 ≡ latch.old.me.1 }
+{
+    let cells = store.cells();
+    'looks: for _look in 0..LOOKS {
+        match cells.try_take(latch, place) {
+            Ok(held) => return Some(held),
+            Err(_) => spin_loop(),
+        }
+    }
+    None
+}
+
+/// Puts the values of all places back and releases them.
+pub fn give_places(
+    store: &Store,
+    latch: &mut LatchPass,
+    packed: &mut Vec<Held<StoreSlot>>,
+    laid: &mut Vec<Laid>,
+)
+    requires latch { IsLatchOf store.now latch.old }
+    requires out { latch.old.me.1 ≡ taken_of slots.Out packed.old.items }
+    requires fit { AreFit store.now packed.old.items }
+    requires room { (laid.old.items ≡ []) × (length packed.old.items ≤ vec_capacity laid.old) }
+    ensures latch { IsLatchOf store.now latch.new }
+    ensures number { number_of latch.new.me.0 ≡ number_of latch.old.me.0 }
+    ensures none { (latch.new.me.1 ≡ []) × (packed.new.items ≡ []) × (laid.new.items ≡ []) }
+    ensures capacity { (vec_capacity packed.old ≤ vec_capacity packed.new)
+        × (vec_capacity laid.old ≤ vec_capacity laid.new) }
+{
+    store.cells().give_all(latch, packed, laid);
+}
+
+/// The same with the index, which was taken last.
+pub fn give_all_places(
+    store: &Store,
+    latch: &mut LatchPass,
+    index: Held<StoreSlot>,
+    packed: &mut Vec<Held<StoreSlot>>,
+    laid: &mut Vec<Laid>,
+)
+    requires latch { IsLatchOf store.now latch.old }
+    requires out { latch.old.me.1 ≡ (index.cell, slots.Out) ∷ taken_of slots.Out packed.old.items }
+    requires fit { AreFit store.now packed.old.items }
+    requires index { FitsPlace store.now.accounts.config store.now.accounts.table.shared.table_id index.cell index.value
+        × (index.cell < cells_of store.now.accounts.config + 2) }
+    requires room { (laid.old.items ≡ []) × (length packed.old.items < vec_capacity packed.old)
+        × (length packed.old.items < vec_capacity laid.old) }
+    ensures latch { IsLatchOf store.now latch.new }
+    ensures number { number_of latch.new.me.0 ≡ number_of latch.old.me.0 }
+    ensures none { (latch.new.me.1 ≡ []) × (packed.new.items ≡ []) × (laid.new.items ≡ []) }
+    ensures capacity { (vec_capacity packed.old ≤ vec_capacity packed.new)
+        × (vec_capacity laid.old ≤ vec_capacity laid.new) }
+{
+    match packed.push(index) {
+        Ok(()) => {}
+        Err(_) => unreachable!(),
+    }
+    give_places(store, latch, packed, laid);
+}

@@ -1,0 +1,17 @@
+//! Moves of rows between cells that a pass has in hand, with the index.
+//!
+//! 1. Rows move in all cells first, and the index gets the new cuts. Then one load of the clock makes the pass's view
+//!    know both.
+//! 2. Only the cells of the window that is spread are marked as changed. All others go back as they were found.
+//! 3. Memory is taken before anything moves. After want of memory only room for records has changed.
+#![tactic(auto)]
+
+mod exchange;
+mod places;
+mod room;
+mod spread;
+mod step;
+
+pub use places::spread_for;
+pub use room::{Room, free_places};
+pub use spread::spread_window;

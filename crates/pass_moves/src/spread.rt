@@ -1,0 +1,82 @@
+//! A window of the leaf in hand that is spread.
+
+ghost use Rattle.std.specs.Prelude.{◌≡◌, ◌≤◌, ◌*◌, ℕ, [], ◌∷◌, length, IfOk, OnErr, OnOk};
+ghost use Rattle.leaf_array.specs.Leaves.{IsLeaf, IsWindow, SpreadsWindow, window_of};
+ghost use Rattle.leaf_array.specs.Segments.{AreSame, rows_of};
+ghost use Rattle.leaf_store.specs.Pairs.{Stands};
+ghost use Rattle.pass_cells.specs.Holding.{KeepsPass};
+ghost use Rattle.pass_leaves.specs.Fit.{TellsFit};
+ghost use Rattle.pass_leaves.specs.Hand.{HoldsLeaves};
+ghost use Rattle.pass_moves.specs.Moving.{values_of};
+ghost use Rattle.pass_moves.specs.Spreading.{KeepsContents, SpreadsCells};
+
+use crate::exchange::{count_rows, exchange, mark};
+use crate::step::Moving;
+use density_tree::Window;
+use graph_model::{Key, LEAF_SEGMENTS, NoMemory};
+use leaf_array::{Leaf, spread};
+use leaf_table::cuts_of;
+use pass_cells::TakenCell;
+use pass_leaves::HeldIndex;
+use std::alloc::Global;
+use store_rule::{Pass, Store};
+
+/// Spreads a window of the leaf in hand, gives the index the cuts that the leaf has then, and has the pass's view know
+/// both. The rows move in the space that is lent, which has none before and after. Where memory is refused only room
+/// for records has changed.
+pub fn spread_window(
+    store: &Store,
+    pass: &mut Pass,
+    cells: &mut [TakenCell],
+    index: &mut HeldIndex,
+    window: Window,
+    space: &mut Leaf,
+    alloc: Global,
+) -> Result<(), NoMemory>
+    requires holds { (leaf : ℕ) × HoldsLeaves store.now pass.old (leaf ∷ []) cells.old index.old
+        × Stands index.old.value.value.entries leaf }
+    requires fit { TellsFit store.now.accounts.config pass.old.account.me.0 }
+    requires window { IsWindow window }
+    requires few { length (rows_of (window_of window (values_of cells.old))) ≤ 30 * window.len }
+    ensures holds { (leaf : ℕ) → HoldsLeaves store.now pass.old (leaf ∷ []) cells.old index.old
+        → HoldsLeaves store.now pass.new (leaf ∷ []) cells.new index.new }
+    ensures fit { TellsFit store.now.accounts.config pass.new.account.me.0 }
+    ensures spread { OnOk result (SpreadsWindow window (values_of cells.old) (values_of cells.new)) }
+    ensures err { OnErr result ((pass.new ≡ pass.old) × (index.new ≡ index.old)
+        × AreSame (values_of cells.old) (values_of cells.new)) }
+    ensures kept { KeepsPass pass.old pass.new }
+{
+    let cuts = spread_cells(cells, space, window, alloc)?;
+    index.changed = true;
+    index.value.set_separators(cuts[0], cuts);
+    index.value.is_index();
+    let planned = Moving {
+        index: &index.value,
+        cells,
+    };
+    store.change(pass, &planned);
+    count_rows(cells);
+    Ok(())
+}
+
+/// Divides the rows of a window evenly among its cells, and answers the least keys of all cells of the leaf then. The
+/// rows move in the space that is lent, which has none before and after.
+fn spread_cells(
+    cells: &mut [TakenCell],
+    space: &mut Leaf,
+    window: Window,
+    alloc: Global,
+) -> Result<[Key; LEAF_SEGMENTS], NoMemory>
+    requires leaf { IsLeaf (values_of cells.old) }
+    requires window { IsWindow window }
+    ensures ok { IfOk result (λ cuts. SpreadsCells window cuts cells.old cells.new) }
+    ensures err { OnErr result (KeepsContents cells.old cells.new) }
+{
+    exchange(cells, &mut space.segments);
+    let done = spread(space, window, alloc);
+    let cuts = cuts_of(space);
+    exchange(cells, &mut space.segments);
+    done?;
+    mark(cells, window.first, window.len);
+    Ok(cuts)
+}

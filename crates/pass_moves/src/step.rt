@@ -1,0 +1,21 @@
+//! The load of the clock by which a pass knows that rows have moved.
+
+use leaf_index::LeafIndex;
+use pass_cells::TakenCell;
+use store_rule::Change;
+
+/// Rows have moved among the cells in hand, and the index has the cuts that they have now.
+#[derive(Drop)]
+pub struct Moving<'a> {
+    pub index: &'a LeafIndex,
+    pub cells: &'a [TakenCell],
+}
+
+impl Change for Moving<'_> {
+    ghost use Rattle.rule_model.specs.Steps.{Nothing};
+    ghost use Rattle.pass_moves.specs.Spreading.{moved};
+
+    ghost next = { λ c _ v. moved v c.index.now c.cells.now };
+
+    ghost told = { λ _ n _. Nothing n };
+}
