@@ -1,5 +1,6 @@
 -- What a pass is between two visits, and what a list of passes is.
-use Rattle.std.proofs.Common.{◌≡◌, ◌≢◌, ℕ, zero, suc, ◌+◌, ◌<◌, List, [], ◌∷◌, ◌++◌, length, take, refl, sym, ◌∙◌, ap, subst, cond, arith}
+use Rattle.std.proofs.Common.{◌≡◌, ◌≢◌, ℕ, zero, suc, ◌+◌, ◌<◌, List, [], ◌∷◌, ◌++◌, length, take, refl, sym}
+use Rattle.std.proofs.Common.{◌∙◌, ap, subst, cond, arith}
 use Rattle.std.specs.Prelude.{slice_get, slice_index_or, slice_set, Option, Some, None}
 use Rattle.std.proofs.lemmas.Option.{get_or_from_slice_get, slice_get-get_or, slice_get_read, slice_get_within}
 use Rattle.atomic_table.specs.Seated.{TableId}

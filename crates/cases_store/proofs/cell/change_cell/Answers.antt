@@ -26,7 +26,9 @@ pack_again-held-requires-clause-packed c =
 
 pub pack_again-held-requires-clause-buffers : goal.pack_again-held-requires-clause-buffers
 pack_again-held-requires-clause-buffers c =
-    let same = c.gather_cell-held.ensures.gathered.1.buffers in let some = c.requires.buffers in omega (arith, same, some)
+    let same = c.gather_cell-held.ensures.gathered.1.buffers in
+    let some = c.requires.buffers in
+    omega (arith, same, some)
 
 pub lay_cell-requires-clause-table : goal.lay_cell-requires-clause-table
 lay_cell-requires-clause-table c =

@@ -13,7 +13,9 @@ take-held-requires-clause-pass g c = rw c.cells-cells.ensures c.requires.pass.ba
 
 pub take-held-requires-clause-cell : goal.take-held-requires-clause-cell
 take-held-requires-clause-cell g c =
-    rw c.cells-cells.ensures (let places = c.args.store.now.places in let less = c.requires.cell in omega (arith, places, less))
+    let places = c.args.store.now.places in
+    let less = c.requires.cell in
+    rw c.cells-cells.ensures (omega (arith, places, less))
 
 pub change_cell-held-requires-clause-table : goal.change_cell-held-requires-clause-table
 change_cell-held-requires-clause-table g c = c.requires.pass.back.account
@@ -57,7 +59,8 @@ give-requires-clause-fits g c =
     let less = subst (λ k. k < cells_of c.args.store.now.accounts.config) (sym same) c.requires.cell in
     let slot = subst (λ k. IsCellSlot c.args.store.now.accounts.table.shared.table_id k c.change_cell-held.result.value)
     (sym c.change_cell-held.ensures.held) c.change_cell-held.ensures.slot in
-    rw c.cells-cells.ensures (fits_cell c.args.store.now c.change_cell-held.result.cell c.change_cell-held.result.value less slot)
+    rw c.cells-cells.ensures (fits_cell c.args.store.now c.change_cell-held.result.cell
+        c.change_cell-held.result.value less slot)
 
 pub returns : goal.returns
 returns g c =
