@@ -1,0 +1,10 @@
+//! Worked cases of `store_rule`: two threads on the cells of one store, and configurations that are too large.
+#![tactic(auto)]
+
+mod cell;
+#[cfg(test)]
+mod tests;
+mod visits;
+
+pub use cell::{change_cell, visit};
+pub use visits::{Visited, visit_by_two};
