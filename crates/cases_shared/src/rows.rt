@@ -49,7 +49,7 @@ fn fill(rt: &impl Wait, store: &Store, pass: &mut Pass, filled: &mut FillCell)
 /// Which row needs room, if one does.
 fn needed(written: &Result<Written, Refusal>) -> Option<(Key, u8)> {
     match written {
-        Ok(Written::NeedRoom { key, need }) => Some((*key, *need)),
+        Ok(Written::NeedRoom(short)) => Some((short.key(), short.need())),
         _ => None,
     }
 }

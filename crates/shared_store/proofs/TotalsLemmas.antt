@@ -220,11 +220,11 @@ count_seen p from high (row ∷ rs) below small =
     let rest = count_seen p from high rs below.1 small.1 in
     let says = word_says (newest_value row.1) (is_empty row.1.pairs) (newest_small row.1 small.0) in
     let told : ◌≡◌ {A = ℕ} (cond (is_seen from (word_row row) && p row.0) 1 0)
-        (cond ((not (is_below row.0 from) && is_some (newest_value row.1)) && p row.0) 1 0) =
+    (cond ((not (is_below row.0 from) && is_some (newest_value row.1)) && p row.0) 1 0) =
     ap (λ t. cond ((not (is_below row.0 from) && t) && p row.0) 1 0) says in
     let all = total (is_below row.0 from) in
     let same : count_by (λ (r : Row). p r.key) (rows_read newest_value (range_of from high (row ∷ rs)))
-        ≡ count_by (λ (r : Row). p r.key) (rows_read newest_value (cond (not (is_below row.0 from) && true) (row ∷ range_of from high rs) (range_of from high rs))) =
+    ≡ count_by (λ (r : Row). p r.key) (rows_read newest_value (cond (not (is_below row.0 from) && true) (row ∷ range_of from high rs) (range_of from high rs))) =
     (λ i. count_by (λ (r : Row). p r.key) (rows_read newest_value
     (cond (not (is_below row.0 from) && below.0 i) (row ∷ range_of from high rs) (range_of from high rs)))) in
     omega (arith, head, rest, told, all, same)
@@ -345,7 +345,7 @@ module _ (cells : List VersionedRows) (index : Index) (g : Graph) (holds : Holds
     within =
         let inside = route_inside holds.heap index holds.cell holds.indexed next route below leads in
         let is = fences_tell holds.heap index holds.cell holds.indexed route.cell next inside
-            (route_covers holds.heap index holds.cell holds.indexed next route below leads) in
+        (route_covers holds.heap index holds.cell holds.indexed next route below leads) in
         ap (is_below end_key) (spelled.high_is ∙ same.high ∙ sym (ap (λ (c : VersionedRows). c.high) is))
         ∙ cell_within (cells_of store) next (each_within end_key (cells_of store) sound.segments sound.chained first_key
         sound.high)
@@ -359,7 +359,7 @@ module _ (cells : List VersionedRows) (index : Index) (g : Graph) (holds : Holds
             let parts = between_parts next high q between in
             let from = (between_parts s.low s.high next covered).0 in
             let here : covers s q ≡ true = between_of s.low s.high q (upto_chain s.low next q from parts.0)
-                (ap (is_below q) (sym spelled.high_is) ∙ parts.1) in
+            (ap (is_below q) (sym spelled.high_is) ∙ parts.1) in
             let inside = route_inside holds.heap index holds.cell holds.indexed next route below leads in
             ap newest_value (λ i. versions_at (record s { rows = same.rows i }) q)
             ∙ ap newest_value (sym (cells_show holds.heap index holds.cell holds.indexed route.cell q inside

@@ -74,11 +74,7 @@ impl From<RoomRefusal> for LoadedRefusal {
 
 /// A store with the rows of a load, and its passes. Pass 0 has made the load's writes and committed them, as the
 /// journal's first entry; the others have begun nothing. Where there is nothing to load it is as `new` makes it.
-pub fn loaded(
-    alloc: Global,
-    config: Config,
-    load: Writes,
-) -> Result<(Store, Passes), LoadedRefusal>
+pub fn loaded(alloc: Global, config: Config, load: Writes) -> Result<(Store, Passes), LoadedRefusal>
     requires adds { AllByRecursion IsAdd load }
     requires allowed { AllAllowed config.kind empty_graph load }
     requires within { AllByRecursion IsWithinLimits load }

@@ -60,7 +60,7 @@ give-requires-clause-fits g c =
     let slot = subst (λ k. IsCellSlot c.args.store.now.accounts.table.shared.table_id k c.change_cell-held.result.value)
     (sym c.change_cell-held.ensures.held) c.change_cell-held.ensures.slot in
     rw c.cells-cells.ensures (fits_cell c.args.store.now c.change_cell-held.result.cell
-        c.change_cell-held.result.value less slot)
+    c.change_cell-held.result.value less slot)
 
 pub returns : goal.returns
 returns g c =

@@ -21,6 +21,6 @@ returns g c =
     (λ p d less.
     let at = (c.for_each_mut.ensures p d less).1 in
     subst (λ x. StaysAtEase store x (slice_index_or new p d)) at.argument_is
-        (subst (StaysAtEase store at.argument.now) at.left at.call)) in
+    (subst (StaysAtEase store at.argument.now) at.left at.call)) in
     let rest = drop (length new) c.args.passes.now.items in
     subst (AreAtEase store) (sym (front_of c.args.passes.now.len new rest count)) all

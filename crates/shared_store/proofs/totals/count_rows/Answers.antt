@@ -45,7 +45,7 @@ cells-preserved c =
     let run = c.load_rows.new.rows in
     let below = rw c.end.ensures at (sym c.is_below.ensures ∙ c.cells-test.true) in
     let can : (s : VersionedRows) → slice_get c.args.cells.now c.route-cell.result.cell ≡ Some s
-        → CanSpell c.load_rows.result.0 c.load_rows.result.1 c.load_rows.new.rows s =
+    → CanSpell c.load_rows.result.0 c.load_rows.result.1 c.load_rows.new.rows s =
     λ s at. c.load_rows.ensures.loaded s
     (subst (λ l. slice_get l c.route-cell.result.cell ≡ Some s) (sym before.kept) at) in
     let onward = below_flip next high (ends old index c.requires.0 c.requires.1 next c.route-cell.result below c.route-cell.ensures low high run can) in
@@ -81,7 +81,7 @@ cells-smaller c =
     let before = c.cells.invariant in
     let below = rw c.end.ensures at (sym c.is_below.ensures ∙ c.cells-test.true) in
     let can : (s : VersionedRows) → slice_get c.args.cells.now c.route-cell.result.cell ≡ Some s
-        → CanSpell c.load_rows.result.0 c.load_rows.result.1 c.load_rows.new.rows s =
+    → CanSpell c.load_rows.result.0 c.load_rows.result.1 c.load_rows.new.rows s =
     λ s at. c.load_rows.ensures.loaded s
     (subst (λ l. slice_get l c.route-cell.result.cell ≡ Some s) (sym before.kept) at) in
     fewer c.args.cells.now c.args.index.now c.requires.0 c.requires.1 c.cells.next c.route-cell.result below c.route-cell.ensures
