@@ -75,7 +75,7 @@ impl PassLeaves {
     {
         if !latch_leaves(rt, store, &mut pass.latch, leaves, &mut self.packed) {
             give_places(store, &mut pass.latch, &mut self.packed, &mut self.laid);
-            return Err(0);
+            return Err(existing(store, leaves[0]));
         }
         let Some(index) = take_index(store, pass) else {
             give_places(store, &mut pass.latch, &mut self.packed, &mut self.laid);
@@ -90,6 +90,15 @@ impl PassLeaves {
         unpack_all(store, pass, &mut self.packed, &mut self.cells);
         learn_fit(store, pass);
         Ok(index)
+    }
+}
+
+/// The leaf, or leaf 0 where there is none of its number.
+fn existing(store: &Store, leaf: u32) -> u32 {
+    if leaf < store.config().leaves {
+        leaf
+    } else {
+        0
     }
 }
 

@@ -7,11 +7,9 @@
 #![tactic(auto)]
 
 mod exchange;
-mod places;
 mod room;
 mod spread;
 mod step;
 
-pub use places::spread_for;
 pub use room::{Room, free_places};
 pub use spread::spread_window;
