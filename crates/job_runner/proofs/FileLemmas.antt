@@ -15,7 +15,7 @@ use Rattle.run_model.specs.Requests.{request}
 use Rattle.run_model.specs.Run.{Context, Filing, filing_of, IsFiled, HasFile, HasFiles}
 use Rattle.run_model.proofs.LineLemmas.{shown_front, start_below}
 use Rattle.line_runner.specs.declared.table.NamedTable.{NamedTable}
-use Rattle.line_runner.specs.Lines.{file_of, IsFileOn}
+use Rattle.line_runner.specs.Phases.{file_of, IsFileOn}
 use Rattle.job_runner.specs.Progress.{listed_table}
 
 -- a view up to a stamp of the journal stays while that grows

@@ -1,8 +1,13 @@
 -- A job's fields, and what contracts see of it.
-use Rattle.std.proofs.Common.{◌≡◌, ℕ, zero, suc, ◌+◌, ◌<◌, ◌≤◌, List, [], ◌∷◌, length, drop, refl, sym, ◌∙◌, ap, subst, arith, slice_index_or}
-use Rattle.std.specs.Prelude.{Bool, true, false, ◌||◌, nat_le, Option, Some, None, IfSome}
+use Rattle.std.proofs.Common.{◌≡◌, ℕ, zero, suc, ◌+◌, ◌<◌, ◌≤◌, List, [], ◌∷◌, length, drop, refl, sym, ◌∙◌, ap, subst, arith, slice_index_or, inl, inr}
+use Rattle.std.specs.Prelude.{Bool, true, false, ◌||◌, nat_le, Option, Some, None, IfSome, IsSome, Result, Ok, Err, OnErr}
 use Rattle.std.proofs.lemmas.Bool.Decides.{nat_tests}
-use Rattle.graph_model.specs.OwnerCalls.{Core, current}
+use Rattle.graph_model.specs.declared.write.Write.{Write}
+use Rattle.items.specs.declared.memory.NoMemory.{NoMemory}
+use Rattle.graph_model.specs.declared.refusal.BeginRefusal.TheVariants as begin_refusals
+use Rattle.graph_model.specs.declared.refusal.Refusal.TheVariants as refusals
+use Rattle.graph_model.specs.Account.{Account}
+use Rattle.graph_model.specs.OwnerCalls.{Core, account_here, AbortsHere}
 use Rattle.run_model.specs.declared.command.Command.{Command}
 use Rattle.run_model.specs.Requests.{Request, ToBegin, ToCommit, ToAbort, ToWrite, ToRead, ToRun, request, next_txn, begun_by, open_behind, IsScript}
 use Rattle.run_model.specs.Jobs.{is_empty}
@@ -12,8 +17,13 @@ use Rattle.line_runner.specs.declared.phase.Phase.TheVariants.{Between, Open, Sk
 use Rattle.line_runner.specs.declared.kept.KeptImage.{KeptImage}
 use Rattle.line_runner.specs.declared.reading.Reading.{Reading}
 use Rattle.line_runner.specs.Kernels.{IsKeptImage}
-use Rattle.line_runner.specs.Lines.{is_inside, view_here, MayTake, TakesHere}
-use Rattle.job_runner.specs.Progress.{Progress, left_of, has_given_up, is_over, behind, IsReady, TakesTurn}
+use Rattle.line_runner.specs.Phases.{is_inside}
+use Rattle.line_runner.specs.Turns.{view_now, MayTakeNow, Calls, ReadsTimes, TakesOn, WantsOn, AreByAccount, AreExact}
+use Rattle.line_runner.specs.Lines.{given_up}
+use Rattle.line_runner.proofs.ExactLemmas.{takes_here, wants_same}
+use Rattle.job_runner.specs.declared.turn.Turn.{Turn}
+use Rattle.job_runner.specs.declared.turn.Turn.TheVariants as turns
+use Rattle.job_runner.specs.Progress.{Progress, left_of, has_given_up, is_over, behind, GivesUpOn, IsReady, IsReadyBy, TakesTurn, TookTurn, TakesTurnOn, TookTurnOn}
 
 -- ---- what is left of a script
 
@@ -73,42 +83,90 @@ some_stands : (x : Option Bool) (rest : List Command) → IsScript x rest → (b
 some_stands None rest is = absurd is
 some_stands (Some b) rest is = (b, refl)
 
-pub may_take : (core : Core) (job : Progress) → IsReady core job → (c : Command) (rest : List Command) → left_of job ≡ c ∷ rest → MayTake core job.phase job.reading (request c)
-may_take core job ready c rest is =
+pub may_take : (account : Account) (job : Progress) → IsReadyBy account job → (c : Command) (rest : List Command) → left_of job ≡ c ∷ rest → MayTakeNow account job.phase job.reading (request c)
+may_take account job ready c rest is =
     let script : IsScript (Some (is_inside job.phase)) (c ∷ rest) = subst (IsScript (Some (is_inside job.phase))) is ready.script in
-    let room : begun_by (next_txn (current core).begun (request c)) rest ≤ (current core).allowed = subst (λ cs. begun_by (current core).begun cs ≤ (current core).allowed) is ready.room in
+    let room : begun_by (next_txn account.begun (request c)) rest ≤ account.allowed = subst (λ cs. begun_by account.begun cs ≤ account.allowed) is ready.room in
     record {
-      selected = ready.selected;
       valid = ready.valid;
       phase_is = ready.phase_is;
       stands = some_stands (open_behind (is_inside job.phase) (request c)) rest script.1;
       within = script.0;
-      room = λ e. begins (current core).begun (request c) e (begun_by (next_txn (current core).begun (request c)) rest) (begun_rises (next_txn (current core).begun (request c)) rest) room;
+      room = λ e. begins account.begun (request c) e (begun_by (next_txn account.begun (request c)) rest) (begun_rises (next_txn account.begun (request c)) rest) room;
       reads = ready.reads c rest is;
     }
   where
-    begins : (n : ℕ) (r : Request) → r ≡ ToBegin → (m : ℕ) → next_txn n r ≤ m → m ≤ (current core).allowed → n < (current core).allowed
+    begins : (n : ℕ) (r : Request) → r ≡ ToBegin → (m : ℕ) → next_txn n r ≤ m → m ≤ account.allowed → n < account.allowed
     begins n r e m le room = let one : n + 1 ≤ m = subst (λ x. next_txn n x ≤ m) e le in omega arith
 
 -- ---- the fields
 
 -- the line at hand, by the job's fields, with what a call may rely on
-module _ (core : Core) (job : Progress) (going : is_over job ≡ false) (ready : IsReady core job) (c : Command) (at : c ≡ slice_index_or job.commands (length job.answers) c) where
-  pub at_hand : left_of job ≡ c ∷ drop (suc (length job.answers)) job.commands
+module _ {S : Type 0} (e : Calls S) (old : S) (job : Progress) (going : is_over job ≡ false) (ready : IsReadyBy (e.account old) job) (c : Command) (at : c ≡ slice_index_or job.commands (length job.answers) c) where
+  at_hand : left_of job ≡ c ∷ drop (suc (length job.answers)) job.commands
   at_hand = drop_at job.commands (length job.answers) (has_left job.phase (left_of job) going) c at
 
-  pub may_here : (phase : Phase) (reading : Option Reading) → phase ≡ job.phase → reading ≡ job.reading → MayTake core phase reading (request c)
-  may_here phase reading e f = subst (λ p. MayTake core p reading (request c)) (sym e) (subst (λ s. MayTake core job.phase s (request c)) (sym f) (may_take core job ready c (drop (suc (length job.answers)) job.commands) at_hand))
+  pub may_here : (phase : Phase) (reading : Option Reading) → phase ≡ job.phase → reading ≡ job.reading → MayTakeNow (e.account old) phase reading (request c)
+  may_here phase reading p r =
+      subst (λ x. MayTakeNow (e.account old) x reading (request c)) (sym p)
+      (subst (λ x. MayTakeNow (e.account old) job.phase x (request c)) (sym r) (may_take (e.account old) job ready c (drop (suc (length job.answers)) job.commands) at_hand))
 
-  pub took_here : (phase : Phase) (reading : Option Reading) → phase ≡ job.phase → reading ≡ job.reading → (new : Core) (next : Progress) (turn made : LineTurn) → turn ≡ made → TakesHere core phase reading (request c) turn new → (image : Option KeptImage) → IfSome image (IsKeptImage (view_here core)) → next ≡ behind job image made
-      → (x : Command) (rest : List Command) → left_of job ≡ x ∷ rest → TakesTurn core job x next new
-  took_here phase reading e f new next turn made same takes image kept is x rest there =
+  pub took_here : (phase : Phase) (reading : Option Reading) → phase ≡ job.phase → reading ≡ job.reading → (new : S) (next : Progress) (turn made : LineTurn) → turn ≡ made → TakesOn e old phase reading (request c) turn new → (image : Option KeptImage) → IfSome image (IsKeptImage (view_now (e.account old))) → next ≡ behind job image made
+      → (x : Command) (rest : List Command) → left_of job ≡ x ∷ rest → TakesTurnOn e old job x next new
+  took_here phase reading p r new next turn made same takes image kept is x rest there =
       let equal : c ≡ x = heads c x _ rest (sym at_hand ∙ there) in
       record {
         turn = made;
-        takes = subst (λ y. TakesHere core job.phase job.reading (request y) made new) equal
-            (subst (λ p. TakesHere core p job.reading (request c) made new) e (subst (λ s. TakesHere core phase s (request c) made new) f (subst (λ t. TakesHere core phase reading (request c) t new) same takes)));
+        takes = subst (λ y. TakesOn e old job.phase job.reading (request y) made new) equal
+            (subst (λ z. TakesOn e old z job.reading (request c) made new) p (subst (λ s. TakesOn e old phase s (request c) made new) r (subst (λ t. TakesOn e old phase reading (request c) t new) same takes)));
         image = image;
         kept = kept;
         job_is = is;
       }
+
+-- a job that gives up on the core of one owner
+pub gives_up_on_core : {S : Type 0} (aborts : S → S → Type 0) (core : S → Core) → ((s t : S) → aborts s t → AbortsHere (core s) (core t)) → (phase : Phase) (old new : S) → GivesUpOn aborts phase old new → core new ≡ given_up (core old) phase
+gives_up_on_core aborts core here Between old new is = ap core is
+gives_up_on_core aborts core here Open old new is = here old new is
+gives_up_on_core aborts core here Skipping old new is = ap core is
+gives_up_on_core aborts core here GivenUp old new is = ap core is
+
+-- a turn by the calls of one owner is one on its core
+module _ {S : Type 0} (e : Calls S) (core : S → Core) (exact : AreExact e core) (old : S) (job : Progress) (ready : IsReady (core old) job) where
+  takes_alone : (c : Command) (rest : List Command) → left_of job ≡ c ∷ rest → (next : Progress) (new : S) → TakesTurnOn e old job c next new → TakesTurn (core old) job c next (core new)
+  takes_alone c rest left next new is = record {
+    turn = is.turn;
+    takes = takes_here e core exact old new job.phase job.reading (request c) (record { selected = ready.selected; now = may_take (account_here (core old)) job ready.now c rest left }) is.turn is.takes;
+    image = is.image;
+    kept = subst (λ (a : Account). IfSome is.image (IsKeptImage (view_now a))) (exact.accounts old) is.kept;
+    job_is = is.job_is;
+  }
+
+  pub took_alone : (turn : Turn) (next : Progress) (new : S) → TookTurnOn e old job turn next new → TookTurn (core old) job turn next (core new)
+  took_alone turns.More next new is = (is.0, λ c rest left. takes_alone c rest left next new (is.1 c rest left))
+  took_alone turns.Ended next new is = (is.0, λ c rest left. takes_alone c rest left next new (is.1 c rest left))
+  took_alone turns.NoMemory next new is =
+      (gives_up_on_core e.aborts core exact.aborts_here job.phase is.0 new is.2 ∙ ap (λ x. given_up x job.phase) (wants_same e core exact old is.0 is.1), is.3)
+
+-- want of memory before any call
+pub nothing_wanted : {S T : Type 0} (e : Calls S) (old : S) (result : Result T NoMemory) (P : Type 0) → P → OnErr result (WantsOn e old old × P)
+nothing_wanted e old (Ok x) P is = tt
+nothing_wanted e old (Err x) P is = (inr (inr (zero, refl)), is)
+
+-- want of memory leaves the transaction as it was
+pub wants_open : {S : Type 0} (e : Calls S) → AreByAccount e → (old new : S) → WantsOn e old new → (e.account new).start ≡ (e.account old).start
+wants_open {S = S} e by old new is = elim is [
+  | inl begins ↦ ap (λ (a : Account). a.start) (by.begins_by old new (Err begin_refusals.NoMemory) begins).0.others
+  | inr other ↦ elim other [
+    | inl writes ↦ write_start (e.account old).start refl writes.0 writes.1.0 writes.1.1
+    | inr reads ↦ reads_start reads.0 old new reads.1
+  ]
+]
+  where
+    write_start : (s : Option ℕ) → (e.account old).start ≡ s → IsSome (e.account old).start → (w : Write) → e.writes old w (Err refusals.NoMemory) new → (e.account new).start ≡ (e.account old).start
+    write_start (Some start) same opened w writes = ap (λ (a : Account). a.start) ((by.writes_by old new w (Err refusals.NoMemory) writes).0 start same).others
+    write_start None same opened w writes = absurd (let no : false ≡ true = subst IsSome same opened in cc)
+
+    reads_start : (n : ℕ) (s t : S) → ReadsTimes e.reads n s t → (e.account t).start ≡ (e.account s).start
+    reads_start zero s t same = ap (λ x. (e.account x).start) same
+    reads_start (suc n) s t more = reads_start n more.0 t more.2 ∙ ap (λ (a : Account). a.start) (by.reads_by s more.0 more.1).0.others

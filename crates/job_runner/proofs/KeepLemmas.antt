@@ -23,13 +23,14 @@ use Rattle.run_model.proofs.SetLemmas.{set_cases, sum_cons}
 use Rattle.run_model.proofs.TurnLemmas.{turn_keeps}
 use Rattle.line_runner.specs.Kernels.{IsKeptImage}
 use Rattle.line_runner.specs.Scanning.{IsReading}
-use Rattle.line_runner.specs.Lines.{file_of}
+use Rattle.line_runner.specs.Phases.{file_of}
 use Rattle.job_runner.specs.Progress.{Progress, seats, state_of}
 use Rattle.job_runner.specs.Runs.{IsUnused, writes_of_pass, files_context, AreTied, AreUnderWay}
 use Rattle.job_runner.proofs.FileLemmas.{view_grows, files_to}
 use Rattle.job_runner.proofs.SeatLemmas.{rest_get}
 use Rattle.job_runner.proofs.TieLemmas as ties
-use Rattle.job_runner.proofs.TieLemmas.{phase_fits, line_of, flat, made_more, made_count, stop_closes, writes_open, last_behind, between_begins}
+use Rattle.side_runs.proofs.MadeLemmas.{line_of, flat, made_more, made_count}
+use Rattle.job_runner.proofs.TieLemmas.{phase_fits, stop_closes, writes_open, last_behind, between_begins}
 
 -- ---- rows that were inserted
 

@@ -2,7 +2,6 @@ pub mod JobLemmas
 pub mod SeatLemmas
 pub mod FileLemmas
 pub mod TieLemmas
-pub mod MadeLemmas
 pub mod KeepLemmas
 pub mod StepLemmas
 pub mod TookLemmas

@@ -22,7 +22,7 @@ use Rattle.run_model.proofs.SteppedLemmas.{first_is}
 use Rattle.run_model.proofs.SetLemmas.{get_map, map_get, sum_cons}
 use Rattle.line_runner.specs.declared.phase.Phase.{Phase}
 use Rattle.line_runner.specs.declared.phase.Phase.TheVariants.{Between, Open, Skipping, GivenUp}
-use Rattle.line_runner.specs.Lines.{IsPhase, file_of}
+use Rattle.line_runner.specs.Phases.{IsPhase, file_of}
 use Rattle.job_runner.specs.Progress.{Progress, new_progress, left_of, has_given_up, is_over, job_at, seats, state_of}
 use Rattle.job_runner.specs.Runs.{new_jobs, IsUnused, AreNew, files_context, AreTied, AreUnderWay, under_way, Turns, HasDone, HaveDone, Ends}
 use Rattle.job_runner.proofs.FileLemmas.{files_to}

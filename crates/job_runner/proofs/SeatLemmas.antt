@@ -31,7 +31,8 @@ use Rattle.line_runner.specs.declared.phase.Phase.TheVariants.{Skipping}
 use Rattle.line_runner.specs.declared.kept.KeptImage.{KeptImage}
 use Rattle.line_runner.specs.declared.reading.Reading.{Reading}
 use Rattle.line_runner.specs.Scanning.{taken_of}
-use Rattle.line_runner.specs.Lines.{is_skipping, phase_at, phase_behind, seat, result_here, pass_behind, goes_on_here, ScansHere, AnswersHere}
+use Rattle.line_runner.specs.Phases.{is_skipping, phase_at, phase_behind}
+use Rattle.line_runner.specs.Lines.{seat, result_here, pass_behind, goes_on_here, ScansHere, AnswersHere}
 use Rattle.job_runner.specs.Progress.{Progress, left_of, behind, job_at, seats, state_of}
 use Rattle.line_runner.proofs.CoreLemmas.{put_back}
 
@@ -193,12 +194,12 @@ module _ (core : Core) (jobs : List Progress) (closed : AreClosed core (length j
     pub scan_is_turn : (full : Bool) (c : Command) (rest : List Command) → left_of job ≡ c ∷ rest → (next : Reading) (image : Option KeptImage) (new : Core) → ScansHere core job.phase job.reading (request c) next new
         → state_of new (slice_set jobs k (behind job image (Scanning next))) ≡ turn core.kind (state_of core jobs) (suc k) full
     scan_is_turn full c rest cons next image new scans =
-        let calm : is_skipping job.phase ≡ false = ap is_skipping scans.is_open in
-        let goes : nat_lt (j.taken + 1) (turns_of core.kind core.journal j (request c)) ≡ true = ap (λ b. goes_on_here core b (taken_of job.reading) (request c)) calm ∙ scans.more in
+        let calm : is_skipping job.phase ≡ false = ap is_skipping scans.further.is_open in
+        let goes : nat_lt (j.taken + 1) (turns_of core.kind core.journal j (request c)) ≡ true = ap (λ b. goes_on_here core b (taken_of job.reading) (request c)) calm ∙ scans.further.more in
         ap (λ x. state_of x (slice_set jobs k (behind job image (Scanning next)))) scans.same
         ∙ (λ i. record { journal = core.journal; jobs = seats (drop 1 (sym (put_back core.passes core.selected inside) i)) (slice_set jobs k (behind job image (Scanning next))) })
         ∙ (λ i. record { journal = core.journal; jobs = set_state (current core) (behind job image (Scanning next)) i })
-        ∙ (λ i. with_job (state_of core jobs) k (record j { taken = scans.taken i }))
+        ∙ (λ i. with_job (state_of core jobs) k (record j { taken = scans.further.taken i }))
         ∙ sym (turn_is full c rest cons ∙ ap (λ b. cond b (with_job (state_of core jobs) k (record j { taken = j.taken + 1 })) (line_turn core.kind (state_of core jobs) k full j c rest)) goes)
 
     -- a line

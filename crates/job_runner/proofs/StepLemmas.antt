@@ -8,7 +8,7 @@ use Rattle.std.proofs.lemmas.List.{append-nil, map-append}
 use Rattle.std.proofs.lemmas.List.Elements.{filter_map-append}
 use Rattle.graph_model.specs.declared.write.Write.{Write}
 use Rattle.graph_model.specs.History.{view}
-use Rattle.graph_model.specs.OwnerCalls.{PassState, Core, no_pass, pass_at, open_txns, one_more}
+use Rattle.graph_model.specs.OwnerCalls.{PassState, Core, no_pass, pass_at, open_txns, one_more, account_here}
 use Rattle.run_model.specs.declared.command.Command.{Command}
 use Rattle.run_model.specs.declared.answer.Answer.TheVariants as answers
 use Rattle.run_model.specs.Requests.{Request, ToBegin, ToCommit, ToAbort, ToWrite, ToRead, ToRun, request, next_txn, begun_by, open_behind}
@@ -26,7 +26,9 @@ use Rattle.line_runner.specs.declared.kept.KeptImage.{KeptImage}
 use Rattle.line_runner.specs.declared.reading.Reading.{Reading}
 use Rattle.line_runner.specs.Kernels.{IsKeptImage}
 use Rattle.line_runner.specs.Scanning.{IsReading, taken_of}
-use Rattle.line_runner.specs.Lines.{is_skipping, is_inside, is_open, sees_same, IsPhase, file_of, MayTake, view_here, seat, result_here, made_behind, pass_behind, core_behind, ScansHere, AnswersHere, TakesHere}
+use Rattle.side_runs.specs.ByAccount.{made_behind}
+use Rattle.line_runner.specs.Phases.{is_skipping, is_inside, is_open, sees_same, IsPhase, file_of}
+use Rattle.line_runner.specs.Lines.{MayTake, view_here, seat, result_here, pass_behind, core_behind, ScansHere, AnswersHere, TakesHere}
 use Rattle.job_runner.specs.Progress.{Progress, left_of, has_given_up, is_over, behind, listed_table, TakesTurn, state_of}
 use Rattle.job_runner.specs.Runs.{files_context, view_of_pass, AreTied, AreUnderWay, turns_left, under_way, Turns, Goes}
 use Rattle.line_runner.proofs.CoreLemmas.{some_of, get_set}
@@ -34,8 +36,8 @@ use Rattle.job_runner.proofs.JobLemmas.{may_take, has_left}
 use Rattle.job_runner.proofs.FileLemmas.{view_grows, files_to, files_more, file_given}
 use Rattle.job_runner.proofs.SeatLemmas.{AreClosed, heads, lines_more, left_more, scan_is_turn, answer_is_turn, over_is_turn}
 use Rattle.job_runner.proofs.TieLemmas as ties
-use Rattle.job_runner.proofs.TieLemmas.{phase_fits, line_of, flat, made_more, made_count, stop_closes, writes_open, last_behind, stays_same, between_begins}
-use Rattle.job_runner.proofs.MadeLemmas.{txn_more}
+use Rattle.side_runs.proofs.MadeLemmas.{line_of, flat, made_more, made_count, txn_more}
+use Rattle.job_runner.proofs.TieLemmas.{phase_fits, stop_closes, writes_open, last_behind, stays_same, between_begins}
 use Rattle.job_runner.proofs.KeepLemmas.{if_same, fills, within, job_keeps, sum_changed, length_set}
 
 -- a line that has a file runs a kernel, and begins nothing
@@ -91,7 +93,7 @@ module _ (inputs : Inputs) (core : Core) (jobs : List Progress) (u : AreUnderWay
   tied = u.each k job there
 
   may : MayTake chosen job.phase job.reading (request c)
-  may = may_take chosen job (ties.ready inputs core jobs u k job there) c rest cons
+  may = let ready = ties.ready inputs core jobs u k job there in record { selected = ready.selected; now = may_take (account_here chosen) job ready.now c rest cons }
 
   inside : suc k < length core.passes
   inside = ties.inside inputs core jobs u k job there
@@ -114,8 +116,8 @@ module _ (inputs : Inputs) (core : Core) (jobs : List Progress) (u : AreUnderWay
       last = tied.last;
       begins = tied.begins;
       room = tied.room;
-      reads = λ x more e. subst (λ y. IsReading (view_here chosen) (request y) next) (heads c x rest more (sym cons ∙ e)) scans.reads;
-      small = scans.small;
+      reads = λ x more e. subst (λ y. IsReading (view_here chosen) (request y) next) (heads c x rest more (sym cons ∙ e)) scans.further.reads;
+      small = scans.further.small;
       kept = kept;
       files = tied.files;
     }
@@ -156,14 +158,14 @@ module _ (inputs : Inputs) (core : Core) (jobs : List Progress) (u : AreUnderWay
     open_write : (effect given.answer).writes ≡ true → (earlier : List (List Write)) × (pass.made ≡ earlier ++ pass.own ∷ [])
     unfolding tied may
     open_write e = tied.last (writes_open chosen.kind chosen.journal (open_txns chosen) (suc k) (seat chosen (is_skipping job.phase)) answered.does.full (request c)
-        (may_write job.phase pass.start (request c) may.phase_is may.stands.0 may.stands.1)
+        (may_write job.phase pass.start (request c) may.now.phase_is may.now.stands.0 may.now.stands.1)
         (ap (λ a. (effect a).writes) (sym answered.does.answer) ∙ e))
 
     -- where the line has a file, its graph is that of its transaction
     view_snapshot : (f : Filing) → cond (effect given.answer).files (filing_of (request c)) None ≡ Some f
         → view_here chosen ≡ snapshot core.kind (core.journal ++ here.commits) (next_txn pass.begun (request c)) lines
     unfolding tied may
-    view_snapshot f e = by_phase job.phase refl may.phase_is may.stands.0 may.stands.1
+    view_snapshot f e = by_phase job.phase refl may.now.phase_is may.now.stands.0 may.now.stands.1
       where
         by_phase : (phase : Phase) → job.phase ≡ phase → IsPhase phase pass.start → (behind : Bool) → open_behind (is_inside phase) (request c) ≡ Some behind
             → view_here chosen ≡ snapshot core.kind (core.journal ++ here.commits) (next_txn pass.begun (request c)) lines
@@ -190,8 +192,8 @@ module _ (inputs : Inputs) (core : Core) (jobs : List Progress) (u : AreUnderWay
         seen e =
             let each = all_three (is_open job.phase) (is_open given.phase) (effect given.answer).writes e in
             let phase : job.phase ≡ Open = open_is job.phase each.0 in
-            let same = stays_same chosen.kind chosen.journal (open_txns chosen) (suc k) (seat chosen (is_skipping job.phase)) answered.does.full (request c) may.stands.0
-            (ap (λ p. open_behind (is_inside p) (request c)) (sym phase) ∙ may.stands.1) (ap is_skipping phase)
+            let same = stays_same chosen.kind chosen.journal (open_txns chosen) (suc k) (seat chosen (is_skipping job.phase)) answered.does.full (request c) may.now.stands.0
+            (ap (λ p. open_behind (is_inside p) (request c)) (sym phase) ∙ may.now.stands.1) (ap is_skipping phase)
             (ap is_open (sym answered.does.phase) ∙ each.1) (ap (λ a. (effect a).writes) (sym answered.does.answer) ∙ each.2) in
             λ i. view core.kind ((sym (append-nil core.journal) ∙ ap (λ xs. core.journal ++ xs) (sym same.2)) i) (unwrap_or (sym same.0 i) 0) (sym same.1 i)
 
@@ -246,17 +248,18 @@ module _ (inputs : Inputs) (core : Core) (jobs : List Progress) (u : AreUnderWay
 -- ---- A TURN
 
 -- how the turns that are left fall
-turn_less : (job : Progress) (c : Command) (rest : List Command) → left_of job ≡ c ∷ rest → taken_of job.reading < 288230376151711744 → (core : Core) (turn : LineTurn) (new : Core)
-    → TakesHere core job.phase job.reading (request c) turn new → (image : Option KeptImage) → turns_left (behind job image turn) < turns_left job
-turn_less job c rest cons small core (Scanning next) new takes image =
-    let taken : taken_of (Some next) ≡ taken_of job.reading + 1 = takes.taken in
-    let less : taken_of (Some next) < 288230376151711744 = takes.small in
+pub turn_less : (job : Progress) (c : Command) (rest : List Command) → left_of job ≡ c ∷ rest → taken_of job.reading < 288230376151711744 → (turn : LineTurn)
+    → ((next : Reading) → turn ≡ Scanning next → (taken_of (Some next) ≡ taken_of job.reading + 1) × (taken_of (Some next) < 288230376151711744))
+    → (image : Option KeptImage) → turns_left (behind job image turn) < turns_left job
+turn_less job c rest cons small (Scanning next) further image =
+    let taken : taken_of (Some next) ≡ taken_of job.reading + 1 = (further next refl).0 in
+    let less : taken_of (Some next) < 288230376151711744 = (further next refl).1 in
     let some : length (left_of job) ≡ suc (length rest) = ap length cons in
     falls (length (left_of job)) (length rest) (taken_of (Some next)) (taken_of job.reading) some taken less
   where
     falls : (n m t s : ℕ) → n ≡ suc m → t ≡ s + 1 → t < 288230376151711744 → n * 288230376151711744 - t < n * 288230376151711744 - s
     falls n m t s e f less = omega arith
-turn_less job c rest cons small core (Answering given) new takes image =
+turn_less job c rest cons small (Answering given) further image =
     let some : length (left_of job) ≡ suc (length rest) = ap length cons in
     let fewer : length (left_of (behind job image (Answering given))) ≡ length rest = ap length (left_more job.commands job.answers c rest given.answer cons) in
     falls (length (left_of job)) (length rest) (length (left_of (behind job image (Answering given)))) (taken_of job.reading) some fewer small
@@ -331,7 +334,8 @@ module _ (core : Core) (jobs : List Progress) (k : ℕ) (job : Progress) (there 
 
         less : sum_by turns_left (slice_set jobs k next) < sum_by turns_left jobs
         less =
-            let falls : turns_left next < turns_left job = subst (λ x. turns_left x < turns_left job) (sym takes.job_is) (turn_less job c rest cons (u.each k job there).small now takes.turn new takes.takes takes.image) in
+            let falls : turns_left next < turns_left job = subst (λ x. turns_left x < turns_left job) (sym takes.job_is) (turn_less job c rest cons (u.each k job there).small takes.turn
+            (λ reading same. let scans : ScansHere now job.phase job.reading (request c) reading new = subst (λ t. TakesHere now job.phase job.reading (request c) t new) same takes.takes in (scans.further.taken, scans.further.small)) takes.image) in
             omega (arith, falls, sum_changed turns_left jobs k job next there)
         -- ---- a script that is over is passed over
 

@@ -13,7 +13,8 @@ use Rattle.line_runner.specs.declared.phase.Phase.{Phase}
 use Rattle.line_runner.specs.declared.phase.Phase.TheVariants.{Between, Open, Skipping, GivenUp}
 use Rattle.job_runner.specs.declared.turn.Turn.{Turn}
 use Rattle.job_runner.specs.declared.turn.Turn.TheVariants as turns
-use Rattle.line_runner.specs.Lines.{IsPhase, given_up}
+use Rattle.line_runner.specs.Phases.{IsPhase}
+use Rattle.line_runner.specs.Lines.{given_up}
 use Rattle.job_runner.specs.Progress.{Progress, is_over, IsReady, TakesTurn, TookTurn}
 use Rattle.job_runner.specs.Runs.{AreUnderWay, Turns, Goes, HoldsPhase, AreHeld, IsStuck}
 use Rattle.line_runner.proofs.CoreLemmas.{get_set}

@@ -1,7 +1,7 @@
 -- A job under way, as its contracts see it, and the state of a run that jobs and engine have.
 use Rattle.std.specs.Prelude.{◌≡◌, ℕ, ◌≤◌, ◌<◌, Bool, true, false, ◌||◌, List, [], ◌∷◌, ◌++◌, length, drop, Option, Some, None, IfSome}
-use Rattle.graph_model.specs.Account.{IsValid}
-use Rattle.graph_model.specs.OwnerCalls.{PassState, Core, current, account_here}
+use Rattle.graph_model.specs.Account.{Account, IsValid}
+use Rattle.graph_model.specs.OwnerCalls.{PassState, Core, account_here}
 use Rattle.run_model.specs.declared.command.Command.{Command}
 use Rattle.run_model.specs.declared.answer.Answer.{Answer}
 use Rattle.run_model.specs.AnsweredLines.{answered_lines}
@@ -17,8 +17,10 @@ use Rattle.line_runner.specs.declared.table.NamedTable.{NamedTable}
 use Rattle.job_runner.specs.declared.turn.Turn.{Turn}
 use Rattle.job_runner.specs.declared.turn.Turn.TheVariants as turns
 use Rattle.line_runner.specs.Kernels.{IsKeptImage}
-use Rattle.line_runner.specs.Scanning.{IsReading, taken_of}
-use Rattle.line_runner.specs.Lines.{is_skipping, is_inside, IsPhase, view_here, TakesHere, image_behind, given_up}
+use Rattle.line_runner.specs.Scanning.{too_many_turns, IsReading, taken_of}
+use Rattle.line_runner.specs.Phases.{is_skipping, is_inside, IsPhase, image_behind}
+use Rattle.line_runner.specs.Turns.{view_now, Calls, TakesOn, WantsOn}
+use Rattle.line_runner.specs.Lines.{view_here, TakesHere, given_up}
 
 pub record Progress : Type 0 where
   -- the number of the script, and of the job's pass
@@ -78,21 +80,55 @@ behind job image (Answering given) = record job {
   image = image_behind job.phase given image;
 }
 
--- the job and the pass that is selected fit each other, and the rest of the script may be taken
-pub record IsReady (core : Core) (job : Progress) : Type 0 where
-  pub number : core.selected ≡ job.number
-  pub selected : core.selected < length core.passes
-  pub valid : IsValid (account_here core)
-  pub phase_is : IsPhase job.phase (current core).start
+-- the job and its pass fit each other, and the rest of the script may be taken
+pub record IsReadyBy (account : Account) (job : Progress) : Type 0 where
+  pub number : account.job ≡ job.number
+  pub valid : IsValid account
+  pub phase_is : IsPhase job.phase account.start
   -- the pass may begin the transactions of the lines that are left
-  pub room : begun_by (current core).begun (left_of job) ≤ (current core).allowed
+  pub room : begun_by account.begun (left_of job) ≤ account.allowed
   pub script : IsScript (Some (is_inside job.phase)) (left_of job)
   -- what has been read is that of the line at hand
   pub reads : (c : Command) (rest : List Command) → left_of job ≡ c ∷ rest
-      → IfSome job.reading (IsReading (view_here core) (request c))
-  pub kept : IfSome job.image (IsKeptImage (view_here core))
+      → IfSome job.reading (IsReading (view_now account) (request c))
+  pub small : taken_of job.reading < too_many_turns
+  pub kept : IfSome job.image (IsKeptImage (view_now account))
 
--- the line at hand takes a turn
+-- the same of the pass that is selected
+pub record IsReady (core : Core) (job : Progress) : Type 0 where
+  pub selected : core.selected < length core.passes
+  pub now : IsReadyBy (account_here core) job
+
+-- the line at hand takes a turn, by the calls of the engine
+pub record TakesTurnOn {S : Type 0} (e : Calls S) (old : S) (job : Progress) (c : Command) (next : Progress) (new : S)
+    : Type 0 where
+  pub turn : LineTurn
+  pub takes : TakesOn e old job.phase job.reading (request c) turn new
+  pub image : Option KeptImage
+  pub kept : IfSome image (IsKeptImage (view_now (e.account old)))
+  pub job_is : next ≡ behind job image turn
+
+-- the transaction, if one is open, is taken back
+abbrev pub GivesUpOn : {S : Type 0} → (S → S → Type 0) → Phase → S → S → Type 0
+GivesUpOn aborts Between old new = new ≡ old
+GivesUpOn aborts Open old new = aborts old new
+GivesUpOn aborts Skipping old new = new ≡ old
+GivesUpOn aborts GivenUp old new = new ≡ old
+
+-- a job that has given up
+abbrev pub gone : Progress → Progress
+gone job = record job { phase = GivenUp; reading = None; image = None }
+
+-- what a turn comes to: the line at hand takes it, or memory was wanted, and the transaction is taken back
+abbrev pub TookTurnOn : {S : Type 0} → Calls S → S → Progress → Turn → Progress → S → Type 0
+TookTurnOn e old job turns.More next new = (is_over next ≡ false)
+    × ((c : Command) (rest : List Command) → left_of job ≡ c ∷ rest → TakesTurnOn e old job c next new)
+TookTurnOn e old job turns.Ended next new = (is_over next ≡ true)
+    × ((c : Command) (rest : List Command) → left_of job ≡ c ∷ rest → TakesTurnOn e old job c next new)
+TookTurnOn {S = S} e old job turns.NoMemory next new =
+    (mid : S) × WantsOn e old mid × GivesUpOn e.aborts job.phase mid new × (next ≡ gone job)
+
+-- the line at hand takes a turn, on the core of one owner
 pub record TakesTurn (old : Core) (job : Progress) (c : Command) (next : Progress) (new : Core) : Type 0 where
   pub turn : LineTurn
   pub takes : TakesHere old job.phase job.reading (request c) turn new
@@ -100,14 +136,14 @@ pub record TakesTurn (old : Core) (job : Progress) (c : Command) (next : Progres
   pub kept : IfSome image (IsKeptImage (view_here old))
   pub job_is : next ≡ behind job image turn
 
--- what a turn comes to: the line at hand takes it, or memory was wanted, and the transaction is taken back
+-- what that comes to
 abbrev pub TookTurn : Core → Progress → Turn → Progress → Core → Type 0
 TookTurn old job turns.More next new = (is_over next ≡ false)
     × ((c : Command) (rest : List Command) → left_of job ≡ c ∷ rest → TakesTurn old job c next new)
 TookTurn old job turns.Ended next new = (is_over next ≡ true)
     × ((c : Command) (rest : List Command) → left_of job ≡ c ∷ rest → TakesTurn old job c next new)
 TookTurn old job turns.NoMemory next new =
-    (new ≡ given_up old job.phase) × (next ≡ record job { phase = GivenUp; reading = None; image = None })
+    (new ≡ given_up old job.phase) × (next ≡ gone job)
 
 -- ---- the state of a run
 

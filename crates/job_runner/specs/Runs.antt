@@ -19,7 +19,7 @@ use Rattle.line_runner.specs.declared.phase.Phase.{Phase}
 use Rattle.line_runner.specs.declared.phase.Phase.TheVariants.{Between, Open, Skipping, GivenUp}
 use Rattle.line_runner.specs.Kernels.{IsKeptImage}
 use Rattle.line_runner.specs.Scanning.{too_many_turns, IsReading, taken_of}
-use Rattle.line_runner.specs.Lines.{IsPhase, file_of}
+use Rattle.line_runner.specs.Phases.{IsPhase, file_of}
 use Rattle.job_runner.specs.Progress.{Progress, new_progress, left_of, is_over, state_of}
 
 -- ---- what a run begins with

@@ -8,12 +8,11 @@
 ghost use Rattle.std.specs.Prelude.{◌≡◌, ◌<◌, List, ◌∷◌, ◌++◌, true, false, length, slice_set, None, IsSome, IfSome, IfNone, OnOk, OnErr};
 ghost use Rattle.run_model.specs.declared.command.Command.{Command};
 ghost use Rattle.run_model.specs.declared.command.Command.TheVariants.{Abort};
-ghost use Rattle.graph_model.specs.OwnerCalls.{current};
-ghost use Rattle.line_runner.specs.Lines.{given_up};
-ghost use Rattle.job_runner.specs.Progress.{new_progress, left_of, is_over, listed_table, IsReady, TakesTurn, TookTurn};
+ghost use Rattle.line_runner.specs.Turns.{calls, WantsOn};
+ghost use Rattle.job_runner.specs.Progress.{new_progress, left_of, is_over, listed_table, gone, has_given_up, GivesUpOn, IsReady, IsReadyBy, TakesTurnOn, TookTurn, TookTurnOn};
 
 use crate::turn::Turn;
-use graph_model::{NoMemory, StepEngine};
+use graph_model::{Engine, NoMemory, StepEngine, VertexEngine};
 use items::RoomyItems;
 use line_runner::{KeptImage, LineTurn, NamedTable, Phase, Reading, Tables, take_line};
 use run_model::{Answer, Command, Script};
@@ -91,6 +90,20 @@ impl Job {
         self.tables.as_slice()
     }
 
+    /// How many lines the script has.
+    pub fn lines(&self) -> usize
+        ensures { result ≡ length self.now.commands }
+    {
+        self.script.len()
+    }
+
+    /// Whether memory was wanted.
+    pub fn has_given_up(&self) -> bool
+        ensures { result ≡ has_given_up self.now.phase }
+    {
+        self.phase == Phase::GivenUp
+    }
+
     /// Whether each line is answered, or memory was wanted.
     pub fn has_ended(&self) -> bool
         ensures { result ≡ is_over self.now }
@@ -135,10 +148,11 @@ impl Job {
     }
 
     /// Takes one turn: a line, or a further portion of the rows that the line at hand scans.
-    pub fn turn<R: Threads + Sync, E: StepEngine>(&mut self, rt: &R, engine: &mut E) -> Turn
+    pub fn turn<R: Threads + Sync, E: VertexEngine>(&mut self, rt: &R, engine: &mut E) -> Turn
         requires going { is_over self.old ≡ false }
-        requires ready { IsReady (E.core engine.old) self.old }
-        ensures { TookTurn (E.core engine.old) self.old result self.new (E.core engine.new) }
+        requires ready { IsReadyBy (E.account engine.old) self.old }
+        ensures { let e = calls E.account E.did_begin E.did_write E.did_read E.did_commit E.did_abort in
+            TookTurnOn e engine.old self.old result self.new engine.new }
     {
         match self.take_turn(rt, engine) {
             Ok(()) if self.has_ended() => Turn::Ended,
@@ -150,17 +164,28 @@ impl Job {
         }
     }
 
+    /// Takes one turn on an engine of one owner.
+    pub fn turn_alone<R: Threads + Sync, E: StepEngine>(&mut self, rt: &R, engine: &mut E) -> Turn
+        requires going { is_over self.old ≡ false }
+        requires ready { IsReady (E.core engine.old) self.old }
+        ensures { TookTurn (E.core engine.old) self.old result self.new (E.core engine.new) }
+    {
+        self.turn(rt, engine)
+    }
+
     /// Takes the turn, if there is memory.
-    fn take_turn<R: Threads + Sync, E: StepEngine>(
+    fn take_turn<R: Threads + Sync, E: VertexEngine>(
         &mut self,
         rt: &R,
         engine: &mut E,
     ) -> Result<(), NoMemory>
         requires going { is_over self.old ≡ false }
-        requires ready { IsReady (E.core engine.old) self.old }
-        ensures ok { OnOk result ((c : Command) (rest : List Command) → left_of self.old ≡ c ∷ rest
-            → TakesTurn (E.core engine.old) self.old c self.new (E.core engine.new)) }
-        ensures err { OnErr result ((E.core engine.new ≡ E.core engine.old)
+        requires ready { IsReadyBy (E.account engine.old) self.old }
+        ensures ok { let e = calls E.account E.did_begin E.did_write E.did_read E.did_commit E.did_abort in
+            OnOk result ((c : Command) (rest : List Command) → left_of self.old ≡ c ∷ rest
+            → TakesTurnOn e engine.old self.old c self.new engine.new) }
+        ensures err { let e = calls E.account E.did_begin E.did_write E.did_read E.did_commit E.did_abort in
+            OnErr result (WantsOn e engine.old engine.new
             × (self.new ≡ record self.old { reading = None; image = None })) }
     {
         let reading = self.reading.take();
@@ -194,10 +219,10 @@ impl Job {
     }
 
     /// Takes the transaction back, if one is open, and ends the job.
-    pub fn give_up<E: StepEngine>(&mut self, engine: &mut E)
-        requires { self.old.phase ≡ Phase.Open → IsSome (current (E.core engine.old)).start }
-        ensures core { E.core engine.new ≡ given_up (E.core engine.old) self.old.phase }
-        ensures job { self.new ≡ record self.old { phase = Phase.GivenUp; reading = None; image = None } }
+    pub fn give_up<E: Engine>(&mut self, engine: &mut E)
+        requires { self.old.phase ≡ Phase.Open → IsSome (E.account engine.old).start }
+        ensures did { GivesUpOn E.did_abort self.old.phase engine.old engine.new }
+        ensures job { self.new ≡ gone self.old }
     {
         if let Phase::Open = self.phase {
             engine.abort();

@@ -133,7 +133,7 @@ impl Jobs {
             return Ok(false);
         }
         engine.select(number);
-        match job.turn(rt, engine) {
+        match job.turn_alone(rt, engine) {
             Turn::More => Ok(false),
             Turn::Ended => Ok(true),
             Turn::NoMemory => Err(NoMemory),

@@ -1,25 +1,23 @@
--- The core of an engine of one owner: what its account sees, and one pass of it that has changed.
+-- What an account sees, and one pass of the core of one owner that has changed.
 use Rattle.std.proofs.Common.{◌≡◌, ℕ, zero, suc, ◌<◌, List, [], ◌∷◌, length, refl, sym, ◌∙◌, ap, subst, arith}
 use Rattle.std.specs.Prelude.{Bool, true, false, not, Option, Some, None, IsSome, unwrap_or, slice_get, slice_set}
 use Rattle.graph_model.specs.Graph.{Graph}
-use Rattle.graph_model.specs.History.{view}
 use Rattle.graph_model.specs.Account.{Account}
 use Rattle.graph_model.specs.AccountSteps.{view_of}
-use Rattle.graph_model.specs.OwnerCalls.{PassState, Core, no_pass, current, with_current, account_here, ended_pass}
-use Rattle.line_runner.specs.Lines.{view_here}
+use Rattle.graph_model.specs.OwnerCalls.{PassState, Core, no_pass, current, with_current, ended_pass}
+use Rattle.line_runner.specs.Turns.{view_now}
 
 -- something is there
 pub some_of : {X : Type 0} (o : Option X) → IsSome o → (x : X) × (o ≡ Some x)
 some_of None is = absurd (let no : false ≡ true = is in cc)
 some_of (Some x) is = (x, refl)
 
--- what is said of the view that an account has is said of the core's
-pub view_is : (P : Graph → Type 0) (core : Core) (account : Account) → account ≡ account_here core → IsSome (current core).start
-    → ((start : ℕ) → account.start ≡ Some start → P (view_of account start)) → P (view_here core)
-view_is P core account is open_is by =
-    let o = some_of (current core).start open_is in
-    subst P ((λ i. view_of (is i) o.0) ∙ ap (λ s. view core.kind core.journal (unwrap_or s 0) (current core).own) (sym o.1))
-    (by o.0 (ap (λ (a : Account). a.start) is ∙ o.1))
+-- what is said of what an open transaction sees
+pub view_is : (P : Graph → Type 0) (account : Account) → IsSome account.start
+    → ((start : ℕ) → account.start ≡ Some start → P (view_of account start)) → P (view_now account)
+view_is P account open_is by =
+    let o = some_of account.start open_is in
+    subst P (ap (λ s. view_of account (unwrap_or s 0)) (sym o.1)) (by o.0 o.1)
 
 -- ---- one pass has changed
 

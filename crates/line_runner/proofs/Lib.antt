@@ -1,7 +1,10 @@
 pub mod BuildLemmas
 pub mod ScanLemmas
 pub mod CoreLemmas
+pub mod AccountLemmas
 pub mod LineLemmas
 pub mod CountLemmas
 pub mod ViewLemmas
 pub mod TableLemmas
+pub mod TurnLemmas
+pub mod ExactLemmas

@@ -7,6 +7,7 @@ use Rattle.std.proofs.lemmas.List.{length-map}
 use Rattle.std.proofs.lemmas.Bool.Decides.{nat_tests}
 use Rattle.graph_model.specs.declared.limits.TheConstants.{SPLIT_ROWS}
 use Rattle.graph_model.specs.declared.write.Write.{Write}
+use Rattle.graph_model.specs.declared.journal.Begun.{Begun}
 use Rattle.graph_model.specs.declared.refusal.Cause.{Cause}
 use Rattle.graph_model.specs.declared.refusal.Refusal.{Refusal}
 use Rattle.graph_model.specs.declared.refusal.Refusal.TheVariants as refusals
@@ -20,14 +21,14 @@ use Rattle.graph_model.specs.declared.row.Row.{Row}
 use Rattle.graph_model.specs.Scans.{rows_left}
 use Rattle.graph_model.specs.declared.limits.TheConstants.{SCAN_ROWS}
 use Rattle.graph_model.specs.Refused.{refused}
-use Rattle.graph_model.specs.OwnerCalls.{PassState, Core, current, with_current, account_here, name_here, open_txns, inserted_here, conflict_here, WritesHereFrom, CommitsHere, CommitsHereFrom, ended_pass, written_pass}
+use Rattle.graph_model.specs.OwnerCalls.{PassState, Core, current, with_current, account_here, name_here, open_txns, inserted_here, conflict_here, BeginsHere, WritesHereFrom, CommitsHere, CommitsHereFrom, AbortsHere, begun_pass, ended_pass, written_pass}
 use Rattle.run_model.specs.declared.answer.Answer.{Answer}
 use Rattle.run_model.specs.declared.answer.Answer.TheVariants as answers
 use Rattle.run_model.specs.AnsweredLines.{effect}
 use Rattle.run_model.specs.Answering.{refusal_answer, query_answer, kernel_answer}
 use Rattle.run_model.specs.Requests.{Query, WeightOf, NeighboursOf, Counts, Kernel, request, Request, ToBegin, ToCommit, ToAbort, ToWrite, ToRead, ToRun, next_txn, open_behind}
-use Rattle.run_model.specs.Run.{filing_of}
-use Rattle.run_model.specs.Jobs.{scanned, LineResult, goes_on, writes_more, stops, skips, write_result, commit_result}
+use Rattle.run_model.specs.Run.{filing_of, txn_name}
+use Rattle.run_model.specs.Jobs.{LineResult, goes_on, writes_more, stops, skips, begins, ends, write_result, commit_result}
 use Rattle.line_runner.specs.declared.answering.LineAnswer.{LineAnswer}
 use Rattle.line_runner.specs.declared.phase.Phase.{Phase}
 use Rattle.line_runner.specs.declared.phase.Phase.TheVariants.{Between, Open, Skipping, GivenUp}
@@ -36,7 +37,10 @@ use Rattle.line_runner.specs.declared.reading.Reading.{Reading}
 use Rattle.line_runner.specs.declared.reading.Reading.TheVariants as readings
 use Rattle.line_runner.specs.declared.scan.Scan.{Scan}
 use Rattle.line_runner.specs.Scanning.{IsScan, IsWhole, ScansOn, rows_of_line, IsReading, taken_by, taken_of}
-use Rattle.line_runner.specs.Lines.{is_skipping, is_inside, IsPhase, MayTake, goes_on_here, Advances, ScansHere, AnswersHere, phase_at, phase_behind, view_here, seat, result_here, made_behind, core_behind, IsFileOn, DoesLine, plain, Goes, Stops, Finishes}
+use Rattle.side_runs.specs.ByAccount.{made_behind}
+use Rattle.line_runner.specs.Phases.{phase_at, phase_behind, IsFileOn, plain}
+use Rattle.line_runner.specs.Turns.{GoesOpen, StopsOn, FinishesOn}
+use Rattle.line_runner.specs.Lines.{view_here, seat, result_here, core_behind, DoesLine}
 use Rattle.line_runner.proofs.CoreLemmas.{some_of, put_back, ended_of}
 
 -- a line that asks for no file gives none
@@ -74,7 +78,20 @@ module _ (old : Core) (inside : old.selected < length old.passes) where
     passes = (sym (put_back old.passes old.selected inside) ∙ (λ i. slice_set old.passes old.selected (record (current old) { made = sym made i; begun = sym begun i }))) i;
   }
 
-  -- ---- the end of a transaction
+  -- ---- the ends of a transaction
+
+  -- a begin
+  pub begin_does : (begun : Begun) (new : Core) → BeginsHere old (Ok begun) new → DoesLine old false ToBegin (plain (answers.Begun begun.by begun.start) Open) new
+  begin_does begun new is =
+      by_result false false ToBegin (plain (answers.Begun begun.by begun.start) Open) new (begins (txn_name old.selected ((current old).begun + 1)) (length old.journal)) refl not_full
+      (λ i. answers.Begun (is.1 i).by (is.1 i).start) refl refl (current old).sighted (current old).filled
+      (is.2 ∙ (λ i. record (with_current old (begun_pass old)) { journal = sym (append-nil old.journal) i }))
+
+  -- an abort
+  pub abort_does : (new : Core) → AbortsHere old new → DoesLine old false ToAbort (plain answers.Aborted Between) new
+  abort_does new is =
+      by_result false false ToAbort (plain answers.Aborted Between) new (ends answers.Aborted []) refl not_full refl refl refl (current old).sighted (current old).filled
+      (is ∙ (λ i. record (with_current old (ended_pass old)) { journal = sym (append-nil old.journal) i }))
 
   -- a commit
   pub commit_does : (stamp : Option ℕ) (new : Core) → CommitsHere old stamp new → DoesLine old false ToCommit (plain (answers.Committed stamp) Between) new
@@ -148,7 +165,7 @@ module _ (old : Core) (inside : old.selected < length old.passes) where
 
     -- the graph refused it
     refused_done : (refusal : Refusal) (a : Answer) → refusal_answer refusal ≡ a → (effect a).writes ≡ false → (mid new : Core) (result : Result LineAnswer NoMemory)
-        → (refused (view_of (account_here old) start) w ≡ Some refusal) × (mid ≡ old) → Goes mid a result new → Done result new
+        → (refused (view_of (account_here old) start) w ≡ Some refusal) × (mid ≡ old) → GoesOpen mid a result new → Done result new
     refused_done refusal a same none mid new result is goes = subst (λ x. Done x new) (sym goes.0)
         (by_result false false (ToWrite w) (plain a Open) new (goes_on (seat old false) (refusal_answer refusal))
         (result_write false (Some refusal) (conflict_here old start w) is.0 refl) not_full (sym same) (sym (ap phase_at opened)) (no_file old (effect a).files)
@@ -158,7 +175,7 @@ module _ (old : Core) (inside : old.selected < length old.passes) where
     -- it stops the transaction
     stopped_done : (a : Answer) → (effect a).writes ≡ false → (full : Bool) → (full ≡ true → SPLIT_ROWS * old.leaves ≤ inserted_here old)
         → result_here old false full (ToWrite w) ≡ stops a → (state : PassState) → state.made ≡ (current old).made → state.begun ≡ (current old).begun → state.allowed ≡ (current old).allowed
-        → (mid new : Core) (result : Result LineAnswer NoMemory) → mid ≡ with_current old state → Stops mid a result new → Done result new
+        → (mid new : Core) (result : Result LineAnswer NoMemory) → mid ≡ with_current old state → StopsOn AbortsHere mid a result new → Done result new
     stopped_done a none full filling is state made begun allowed mid new result from stop = subst (λ x. Done x new) (sym stop.0)
         (by_result false full (ToWrite w) (plain a Skipping) new (stops a) is filling refl refl (no_file old (effect a).files) state.sighted state.filled
         (stop.1 ∙ ap (λ x. with_current x (ended_pass x)) from ∙ ended_of old inside state
@@ -175,7 +192,7 @@ module _ (old : Core) (inside : old.selected < length old.passes) where
           });
         })))
 
-    pub write_done : (r : Result (Unit {0}) Refusal) (mid new : Core) (result : Result LineAnswer NoMemory) → WritesHereFrom old start w r mid → Finishes mid r result new → Done result new
+    pub write_done : (r : Result (Unit {0}) Refusal) (mid new : Core) (result : Result LineAnswer NoMemory) → WritesHereFrom old start w r mid → FinishesOn AbortsHere mid r result new → Done result new
     write_done (Ok done) mid new result is goes = subst (λ x. Done x new) (sym goes.0)
         (by_result false false (ToWrite w) (plain answers.Done Open) new (writes_more (seat old false) w) (result_write false None None is.0 is.1) not_full refl (sym (ap phase_at opened)) refl
         (current old).sighted (current old).filled
@@ -195,124 +212,3 @@ module _ (old : Core) (inside : old.selected < length old.passes) where
       | Ok given ↦ λ no. absurd no
       | Err e ↦ λ no. tt
     ] none.0
-
-    -- an answer is no want of memory
-    err_none : (a : LineAnswer) (new : Core) (result : Result LineAnswer NoMemory) → result ≡ Ok a → OnErr result (new ≡ old)
-    err_none a new result is = subst (λ x. OnErr x (new ≡ old)) (sym is) tt
-
-    pub write_err : (r : Result (Unit {0}) Refusal) (mid new : Core) (result : Result LineAnswer NoMemory) → WritesHereFrom old start w r mid → Finishes mid r result new → OnErr result (new ≡ old)
-    write_err (Ok done) mid new result is goes = err_none _ new result goes.0
-    write_err (Err refusals.SelfLoop) mid new result is goes = err_none _ new result goes.0
-    write_err (Err (refusals.NoVertex v)) mid new result is goes = err_none _ new result goes.0
-    write_err (Err refusals.VertexExists) mid new result is goes = err_none _ new result goes.0
-    write_err (Err refusals.EdgeExists) mid new result is goes = err_none _ new result goes.0
-    write_err (Err refusals.NoEdge) mid new result is goes = err_none _ new result goes.0
-    write_err (Err refusals.HasEdges) mid new result is goes = err_none _ new result goes.0
-    write_err (Err (refusals.Conflict cause)) mid new result is stop = err_none _ new result stop.0
-    write_err (Err (refusals.Full leaves)) mid new result is stop = err_none _ new result stop.0
-    write_err (Err refusals.NoMemory) mid new result is none = elim result as (λ x. OnErr x (new ≡ old)) [
-      | Ok given ↦ tt
-      | Err e ↦ none.1 ∙ is
-    ]
-
--- ---- turns
-
--- whoever isn't at a stop skips nothing
-pub calm_of : (phase : Phase) → (phase ≡ Skipping → ⊥) → is_skipping phase ≡ false
-calm_of Between other = refl
-calm_of Open other = refl
-calm_of Skipping other = absurd (other refl)
-calm_of GivenUp other = refl
-
--- a line that scans nothing is answered at once
-pub takes_answer : (old : Core) (phase : Phase) (reading : Option Reading) → is_skipping phase ≡ false → (command x : Command) → command ≡ x → ((g : Graph) → scanned g (request x) ≡ 0)
-    → (given : LineAnswer) (new : Core) → DoesLine old false (request x) given new → AnswersHere old phase reading (request command) given new
-takes_answer old phase reading calm command x is none given new does = subst (λ y. AnswersHere old phase reading (request y) given new) (sym is) (record {
-  last = (λ i. nat_lt (taken_of reading + 1) (cond (calm i) 1 (none (view_here old) i / SCAN_ROWS + 1))) ∙ never (taken_of reading);
-  does = subst (λ b. DoesLine old b (request x) given new) (sym calm) does;
-})
-  where
-    never : (n : ℕ) → nat_lt (n + 1) 1 ≡ false
-    never n = grind (arith, nat_tests)
-
--- a line that is skipped takes one turn
-pub takes_skip : (old : Core) (phase : Phase) (reading : Option Reading) → phase ≡ Skipping → (r : Request) (given : LineAnswer) → DoesLine old true r given old → AnswersHere old phase reading r given old
-takes_skip old phase reading is r given does = subst (λ p. AnswersHere old p reading r given old) (sym is) (record { last = never (taken_of reading); does = does })
-  where
-    never : (n : ℕ) → nat_lt (n + 1) 1 ≡ false
-    never n = grind (arith, nat_tests)
-
--- the same where answer and core are named otherwise
-pub takes_by : (old : Core) (phase : Phase) (reading : Option Reading) → is_skipping phase ≡ false → (command x : Command) → command ≡ x → ((g : Graph) → scanned g (request x) ≡ 0)
-    → (given given' : LineAnswer) → given ≡ given' → (new new' : Core) → new ≡ new' → DoesLine old false (request x) given' new' → AnswersHere old phase reading (request command) given new
-takes_by old phase reading calm command x is none given given' same new new' equal does =
-    subst (λ y. AnswersHere old phase reading (request command) y new) (sym same) (subst (λ y. AnswersHere old phase reading (request command) given' y) (sym equal) (takes_answer old phase reading calm command x is none given' new' does))
-
--- a line at hand that is skipped
-pub skips_turn : (old : Core) (phase : Phase) (reading : Option Reading) (r : Request) → MayTake old phase reading r → phase ≡ Skipping → (given : LineAnswer) → given ≡ plain answers.Skipped (phase_behind (skips r))
-    → AnswersHere old phase reading r given old
-skips_turn old phase reading r may is given same =
-    let closed : (current old).start ≡ None = subst (λ p. IsPhase p (current old).start) is may.phase_is in
-    takes_skip old phase reading is r given (subst (λ y. DoesLine old true r y old) (sym same)
-    (skip_does old may.selected r may.stands.0 (ap (λ p. open_behind (is_inside p) r) (sym is) ∙ may.stands.1) closed (idle_of (current old).start closed may.valid.idle)))
-  where
-    idle_of : (start : Option ℕ) → start ≡ None → IfNone start ((current old).own ≡ []) → (current old).own ≡ []
-    idle_of None e f = f
-    idle_of (Some x) e f = cc
-
--- ---- scans
-
--- a line scans so many rows
-scanned_is : (g : Graph) (r : Request) → length (rows_of_line g r) ≡ scanned g r
-scanned_is g ToBegin = refl
-scanned_is g ToCommit = refl
-scanned_is g ToAbort = refl
-scanned_is g (ToWrite w) = refl
-scanned_is g (ToRead (WeightOf u v)) = refl
-scanned_is g (ToRead (NeighboursOf v)) = sym (length-map _ _)
-scanned_is g (ToRead Counts) = refl
-scanned_is g (ToRun kernel file) = refl
-
--- what the line has begun to read, or what it begins with
-pub reading_or : (g : Graph) (before : Option Reading) (r : Request) (fresh : Reading) → IfSome before (IsReading g r) → taken_by fresh ≡ 0 → IsReading g r fresh
-    → IsReading g r (unwrap_or before fresh) × (taken_by (unwrap_or before fresh) ≡ taken_of before)
-reading_or g None r fresh is none reads = (reads, none)
-reading_or g (Some reading) r fresh is none reads = (is, refl)
-
-module _ (old : Core) (before : Option Reading) (r : Request) (s next : Scan) (is : IsScan (view_here old) r s) (taken : taken_by (readings.Scan s) ≡ taken_of before) (on : ScansOn (view_here old) r s next) where
-  -- rows are left
-  scan_goes : next.cursor.done ≡ false → ScansHere old Open before r (readings.Scan next) old
-  scan_goes going =
-      let portion = on.portion going in
-      let now : IsScan (view_here old) r next = portion.0 in
-      let left : List Row = rows_left (view_here old) next.cursor in
-      let whole : next.rows + length left ≡ scanned (view_here old) r = ap (λ n. n + length left) now.counted ∙ sym (length-append now.given left) ∙ ap length now.whole ∙ scanned_is (view_here old) r in
-      record {
-        is_open = refl;
-        more = more (taken_of before) is.portions next.rows (length left) (scanned (view_here old) r) (sym taken ∙ ap (λ n. n / SCAN_ROWS) is.full) (portion.1 ∙ ap (λ n. n + SCAN_ROWS) is.full) whole;
-        taken = (ap (λ n. n / SCAN_ROWS) portion.1) ∙ one_more s.rows ∙ ap (λ n. n + 1) taken;
-        small = small next.rows on.small;
-        reads = now;
-        same = refl;
-      }
-    where
-      more : (taken p rows rest all : ℕ) → taken ≡ SCAN_ROWS * p / SCAN_ROWS → rows ≡ SCAN_ROWS * p + SCAN_ROWS → rows + rest ≡ all → nat_lt (taken + 1) (all / SCAN_ROWS + 1) ≡ true
-      more taken p rows rest all e f g = let le : taken + 1 < all / SCAN_ROWS + 1 = omega (arith, e, f, g) in grind (arith, nat_tests)
-
-      one_more : (n : ℕ) → (n + SCAN_ROWS) / SCAN_ROWS ≡ n / SCAN_ROWS + 1
-      one_more n = omega arith
-
-      small : (n : ℕ) → n < 18446744073709551616 → n / SCAN_ROWS < 288230376151711744
-      small n lt = omega (arith, lt)
-
-  -- this was the last of them
-  scan_ends : next.cursor.done ≡ true → IsWhole (view_here old) r next × (goes_on_here old false (taken_of before) r ≡ false)
-  scan_ends done =
-      let rest = on.rest done in
-      (rest.0, last (taken_of before) is.portions next.rows (scanned (view_here old) r) (sym taken ∙ ap (λ n. n / SCAN_ROWS) is.full) (subst (λ n. next.rows < n + SCAN_ROWS) is.full rest.1) (rest.0.counted ∙ scanned_is (view_here old) r))
-    where
-      last : (taken p rows all : ℕ) → taken ≡ SCAN_ROWS * p / SCAN_ROWS → rows < SCAN_ROWS * p + SCAN_ROWS → rows ≡ all → nat_lt (taken + 1) (all / SCAN_ROWS + 1) ≡ false
-      last taken p rows all e f g = let le : all / SCAN_ROWS + 1 ≤ taken + 1 = omega (arith, e, f, g) in grind (arith, nat_tests)
-
-  pub advances : Advances old before r next
-  advances = record { portion = scan_goes; rest = scan_ends }

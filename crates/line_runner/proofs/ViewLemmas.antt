@@ -7,11 +7,12 @@ use Rattle.graph_model.specs.declared.write.Write.{Write}
 use Rattle.graph_model.specs.declared.write.Kind.{Kind}
 use Rattle.graph_model.specs.declared.write.Kind.TheVariants.{Directed, Undirected}
 use Rattle.graph_model.specs.declared.journal.Commit.{Commit}
-use Rattle.graph_model.specs.Account.{IsOpenTxn, IsValid}
-use Rattle.graph_model.specs.Graph.{Graph, has_vertex, vertices_of, IsBounded, IsSymmetric}
-use Rattle.graph_model.specs.History.{view}
+use Rattle.graph_model.specs.Account.{Account, IsOpenTxn, IsValid}
+use Rattle.graph_model.specs.AccountSteps.{ReadsBy}
+use Rattle.graph_model.specs.Graph.{Graph, has_vertex, vertices_of, apply_all, IsBounded, IsSymmetric}
+use Rattle.graph_model.specs.History.{graph_at, view}
 use Rattle.graph_model.specs.Rows.{all_rows, AreRowsOf}
-use Rattle.graph_model.specs.OwnerCalls.{Core, current, account_here}
+use Rattle.graph_model.proofs.LegalLemmas.{graph_at-append}
 use Rattle.graph_model.proofs.ViewLemmas.{view_bounded, view_ends, view_symmetric}
 use Rattle.run_model.specs.declared.answer.Answer.{Answer}
 use Rattle.run_model.specs.declared.answer.Answer.TheVariants as answers
@@ -22,7 +23,7 @@ use Rattle.line_runner.specs.declared.scan.ScanResult.TheVariants.{Targets, Rows
 use Rattle.line_runner.specs.declared.kept.KeptImage.{KeptImage}
 use Rattle.line_runner.specs.Kernels.{IsKernelImage, IsKeptImage}
 use Rattle.line_runner.specs.Scanning.{is_vertex, counted, IsWhole, HasAllRows}
-use Rattle.line_runner.specs.Lines.{view_here}
+use Rattle.line_runner.specs.Turns.{view_now}
 use Rattle.line_runner.proofs.CoreLemmas.{some_of}
 use Rattle.line_runner.proofs.CountLemmas.{vertex_count, arc_count}
 
@@ -37,27 +38,39 @@ pub record IsSeen (kind : Kind) (g : Graph) : Type 0 where
   pub symmetric : kind ≡ Undirected → IsSymmetric g
 
 -- an open transaction sees such a graph
-pub seen_here : (core : Core) → IsValid (account_here core) → IsSome (current core).start → IsSeen core.kind (view_here core)
-seen_here core valid opened =
-    let o = some_of (current core).start opened in
-    let txn : IsOpenTxn (account_here core) o.0 = subst (λ s. IfSome s (IsOpenTxn (account_here core))) o.1 valid.current in
-    let bounded = view_bounded core.kind core.journal o.0 (current core).own valid.legal txn.seen txn.within in
-    subst (λ s. IsSeen core.kind (view core.kind core.journal (unwrap_or s 0) (current core).own)) (sym o.1)
+pub seen_now : (account : Account) → IsValid account → IsSome account.start → IsSeen account.kind (view_now account)
+seen_now account valid opened =
+    let o = some_of account.start opened in
+    let txn : IsOpenTxn account o.0 = subst (λ s. IfSome s (IsOpenTxn account)) o.1 valid.current in
+    let bounded = view_bounded account.kind account.seen o.0 account.own valid.legal txn.seen txn.within in
+    subst (λ s. IsSeen account.kind (view account.kind account.seen (unwrap_or s 0) account.own)) (sym o.1)
     (record {
       rows = record {
         listed = refl;
-        ends = view_ends core.kind core.journal o.0 (current core).own valid.legal txn.seen txn.allowed;
+        ends = view_ends account.kind account.seen o.0 account.own valid.legal txn.seen txn.allowed;
         within = bounded.ids;
       };
       bounded = bounded;
-      symmetric = view_symmetric_in core.kind core.journal o.0 (current core).own;
+      symmetric = view_symmetric_in account.kind account.seen o.0 account.own;
     })
 
+-- whoever reads more of the journal sees the same
+pub sees_still : (old new : Account) → IsValid old → IsSome old.start → ReadsBy old new → view_now new ≡ view_now old
+sees_still old new valid opened is =
+    let o = some_of old.start opened in
+    let txn : IsOpenTxn old o.0 = subst (λ s. IfSome s (IsOpenTxn old)) o.1 valid.current in
+    let same : graph_at old.kind new.seen o.0 ≡ graph_at old.kind old.seen o.0 =
+    ap (λ cs. graph_at old.kind cs o.0) is.seen.1 ∙ graph_at-append old.kind old.seen is.seen.0 o.0 txn.seen in
+    ap view_now is.others
+    ∙ ap (λ s. apply_all old.kind (graph_at old.kind new.seen (unwrap_or s 0)) old.own) o.1
+    ∙ ap (λ g. apply_all old.kind g old.own) same
+    ∙ ap (λ s. apply_all old.kind (graph_at old.kind old.seen (unwrap_or s 0)) old.own) (sym o.1)
+
 -- an image that is kept of what an open transaction sees is one that a kernel may run on
-pub kernel_image : (core : Core) → IsValid (account_here core) → IsSome (current core).start → (kept : KeptImage) → IsKeptImage (view_here core) kept → (kind : Kind) → kind ≡ core.kind → IsKernelImage kind kept.image (view_here core)
-kernel_image core valid opened kept is kind same = record {
+pub kernel_image : (account : Account) → IsValid account → IsSome account.start → (kept : KeptImage) → IsKeptImage (view_now account) kept → (kind : Kind) → kind ≡ account.kind → IsKernelImage kind kept.image (view_now account)
+kernel_image account valid opened kept is kind same = record {
   shows = is.shows;
-  symmetric = λ undirected. (seen_here core valid opened).symmetric (sym same ∙ undirected);
+  symmetric = λ undirected. (seen_now account valid opened).symmetric (sym same ∙ undirected);
 }
 
 -- `count` answers the vertices, and the edges by the other rows
@@ -91,9 +104,9 @@ pub same_rows : (xs ys : List Row) → Rows xs ≡ Rows ys → xs ≡ ys
 same_rows xs ys e = cc
 
 -- a scan of all rows that is whole was given those of the view
-pub has_all : (core : Core) → IsValid (account_here core) → IsSome (current core).start → (kernel : Kernel) (file : List ℕ) (scan : Scan) → IsWhole (view_here core) (ToRun kernel file) scan → HasAllRows (view_here core) scan
-has_all core valid opened kernel file scan whole = record {
-  are = (seen_here core valid opened).rows;
+pub has_all : (account : Account) → IsValid account → IsSome account.start → (kernel : Kernel) (file : List ℕ) (scan : Scan) → IsWhole (view_now account) (ToRun kernel file) scan → HasAllRows (view_now account) scan
+has_all account valid opened kernel file scan whole = record {
+  are = (seen_now account valid opened).rows;
   counted = whole.counted;
   kept = whole.result;
 }

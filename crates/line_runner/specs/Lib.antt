@@ -1,3 +1,5 @@
 pub mod Kernels
 pub mod Scanning
+pub mod Phases
+pub mod Turns
 pub mod Lines

@@ -1,7 +1,7 @@
 //! What a line is answered, and what a turn makes of it.
 
 ghost use Rattle.std.specs.Prelude.{◌≡◌, None};
-ghost use Rattle.line_runner.specs.Lines.{image_behind};
+ghost use Rattle.line_runner.specs.Phases.{image_behind};
 
 use crate::kept::KeptImage;
 use crate::phase::Phase;

@@ -6,13 +6,13 @@
 
 ghost use Rattle.std.specs.Prelude.{◌≡◌, ℕ, List, Option, Some, IfSome, IsSome, IfOk, OnOk, OnErr};
 ghost use Rattle.graph_model.specs.Account.{IsValid};
-ghost use Rattle.graph_model.specs.OwnerCalls.{Core, account_here, current};
 ghost use Rattle.graph_model.specs.Graph.{Graph};
 ghost use Rattle.run_model.specs.Requests as requests;
 ghost use Rattle.run_model.specs.Requests.{ToRun};
 ghost use Rattle.line_runner.specs.Kernels.{kernel_of, IsKeptImage, IsKernelImage};
 ghost use Rattle.line_runner.specs.Scanning.{IsReading, IsScan, taken_of};
-ghost use Rattle.line_runner.specs.Lines.{view_here, AnswersKernel, MayTake, ReadsImage, TakesHere};
+ghost use Rattle.line_runner.specs.Phases.{AnswersKernel};
+ghost use Rattle.line_runner.specs.Turns.{view_now, MayTakeNow, ReadsImage, ReadsOn, TakesOn, calls};
 
 use crate::answering::{LineAnswer, LineTurn};
 use crate::kept::KeptImage;
@@ -21,7 +21,7 @@ use crate::reading::Reading;
 use crate::scan::Scan;
 use crate::table::{Kernel, NamedTable, copy_of, kernel_table};
 use graph_image::Image;
-use graph_model::{KernelRefusal, Kind, NoMemory, SCAN_ROWS, StepEngine};
+use graph_model::{Engine, KernelRefusal, Kind, NoMemory, SCAN_ROWS};
 use run_model::{Answer, Name};
 use std::alloc::Global;
 use std::thread::Threads;
@@ -36,7 +36,7 @@ pub enum ImageTurn {
 }
 
 /// Takes one turn of a kernel's line, which runs with the last one.
-pub fn run_kernel<R: Threads + Sync, E: StepEngine>(
+pub fn run_kernel<R: Threads + Sync, E: Engine>(
     rt: &R,
     alloc: Global,
     engine: &mut E,
@@ -45,12 +45,13 @@ pub fn run_kernel<R: Threads + Sync, E: StepEngine>(
     before: Option<Reading>,
     image: &mut Option<KeptImage>,
 ) -> Result<LineTurn, NoMemory>
-    requires may { MayTake (E.core engine.old) Phase.Open before (ToRun (kernel_of kernel) file.now) }
-    requires kept { IfSome image.old (IsKeptImage (view_here (E.core engine.old))) }
+    requires may { MayTakeNow (E.account engine.old) Phase.Open before (ToRun (kernel_of kernel) file.now) }
+    requires kept { IfSome image.old (IsKeptImage (view_now (E.account engine.old))) }
     ensures takes { let r = ToRun (kernel_of kernel) file.now in
-        IfOk result (λ turn. TakesHere (E.core engine.old) Phase.Open before r turn (E.core engine.new)) }
-    ensures kept { OnOk result (IfSome image.new (IsKeptImage (view_here (E.core engine.old)))) }
-    ensures err { OnErr result (E.core engine.new ≡ E.core engine.old) }
+        let e = calls E.account E.did_begin E.did_write E.did_read E.did_commit E.did_abort in
+        IfOk result (λ turn. TakesOn e engine.old Phase.Open before r turn engine.new) }
+    ensures kept { OnOk result (IfSome image.new (IsKeptImage (view_now (E.account engine.old)))) }
+    ensures err { OnErr result (ReadsOn E.did_read engine.old engine.new) }
 {
     match read_image(alloc, engine, before, image.take())? {
         ImageTurn::Further { reading } => Ok(LineTurn::Scanning { reading }),
@@ -63,21 +64,21 @@ pub fn run_kernel<R: Threads + Sync, E: StepEngine>(
 }
 
 /// Takes one turn of what the line has begun to read, else of the image that is kept, else of all rows.
-fn read_image<E: StepEngine>(
+fn read_image<E: Engine>(
     alloc: Global,
     engine: &mut E,
     before: Option<Reading>,
     image: Option<KeptImage>,
 ) -> Result<ImageTurn, NoMemory>
-    requires valid { IsValid (account_here (E.core engine.old)) }
-    requires current { IsSome (current (E.core engine.old)).start }
+    requires valid { IsValid (E.account engine.old) }
+    requires current { IsSome (E.account engine.old).start }
     requires reads { (kernel : requests.Kernel) × (file : List ℕ)
-        × IfSome before (IsReading (view_here (E.core engine.old)) (ToRun kernel file)) }
-    requires kept { IfSome image (IsKeptImage (view_here (E.core engine.old))) }
+        × IfSome before (IsReading (view_now (E.account engine.old)) (ToRun kernel file)) }
+    requires kept { IfSome image (IsKeptImage (view_now (E.account engine.old))) }
     ensures reads { IfOk result (λ turn. (kernel : requests.Kernel) (file : List ℕ)
-        → IfSome before (IsReading (view_here (E.core engine.old)) (ToRun kernel file))
-        → ReadsImage (E.core engine.old) before (ToRun kernel file) turn) }
-    ensures core { E.core engine.new ≡ E.core engine.old }
+        → IfSome before (IsReading (view_now (E.account engine.old)) (ToRun kernel file))
+        → ReadsImage (view_now (E.account engine.old)) before (ToRun kernel file) turn) }
+    ensures did { ReadsOn E.did_read engine.old engine.new }
 {
     match before.unwrap_or(Reading::of_image(alloc, image)) {
         Reading::Scan { scan } => read_rows(engine, scan),
@@ -86,16 +87,16 @@ fn read_image<E: StepEngine>(
 }
 
 /// Takes one turn of a scan of all rows, and makes their image with the last.
-fn read_rows<E: StepEngine>(engine: &mut E, scan: Scan) -> Result<ImageTurn, NoMemory>
-    requires valid { IsValid (account_here (E.core engine.old)) }
-    requires current { IsSome (current (E.core engine.old)).start }
+fn read_rows<E: Engine>(engine: &mut E, scan: Scan) -> Result<ImageTurn, NoMemory>
+    requires valid { IsValid (E.account engine.old) }
+    requires current { IsSome (E.account engine.old).start }
     requires scans { (kernel : requests.Kernel) × (file : List ℕ)
-        × IsScan (view_here (E.core engine.old)) (ToRun kernel file) scan }
+        × IsScan (view_now (E.account engine.old)) (ToRun kernel file) scan }
     ensures reads { IfOk result (λ turn. (before : Option Reading) (kernel : requests.Kernel) (file : List ℕ)
         → taken_of before ≡ taken_of (Some (Reading.Scan scan))
-        → IsScan (view_here (E.core engine.old)) (ToRun kernel file) scan
-        → ReadsImage (E.core engine.old) before (ToRun kernel file) turn) }
-    ensures core { E.core engine.new ≡ E.core engine.old }
+        → IsScan (view_now (E.account engine.old)) (ToRun kernel file) scan
+        → ReadsImage (view_now (E.account engine.old)) before (ToRun kernel file) turn) }
+    ensures did { E.did_read engine.old engine.new }
 {
     let mut scan = scan;
     scan.step(engine)?;
@@ -109,9 +110,9 @@ fn read_rows<E: StepEngine>(engine: &mut E, scan: Scan) -> Result<ImageTurn, NoM
 
 /// Takes one turn of a line whose image is kept, which takes as many as the scan of its rows.
 fn replay(kept: KeptImage, turns: u64) -> ImageTurn
-    ensures { (core : Core) (before : Option Reading) (kernel : requests.Kernel) (file : List ℕ)
-        → taken_of before ≡ turns → IsKeptImage (view_here core) kept
-        → ReadsImage core before (ToRun kernel file) result }
+    ensures { (g : Graph) (before : Option Reading) (kernel : requests.Kernel) (file : List ℕ)
+        → taken_of before ≡ turns → IsKeptImage g kept
+        → ReadsImage g before (ToRun kernel file) result }
 {
     if turns < kept.rows / SCAN_ROWS as u64 {
         let reading = Reading::Replay {

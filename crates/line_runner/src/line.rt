@@ -1,21 +1,24 @@
 //! One turn of a line, on an engine.
 //!
-//! 1. A call that fails for want of memory leaves the engine as it was.
+//! 1. Each function says which calls it makes, so it holds of whatever engine makes them. A line that fails for want of
+//!    memory has made one call that changed nothing, or reads alone.
 //! 2. A conflict, or `full`, takes the transaction back in the same turn.
 //! 3. A line that scans answers with the last turn of its scan, also where it turns out that a vertex
 //!    isn't there.
 
-ghost use Rattle.std.specs.Prelude.{◌≡◌, ◌<◌, ◌≤◌, false, Some, None, length, IsSome, IfSome, IfOk, OnOk, OnErr};
+ghost use Rattle.std.specs.Prelude.{◌≡◌, ℕ, ◌<◌, ◌≤◌, Option, Some, None, Ok, Err, IsSome, IfSome, IfOk, OnOk, OnErr};
+ghost use Rattle.graph_model.specs.declared.journal.Begun.{Begun};
 ghost use Rattle.graph_model.specs.declared.limits.TheConstants.{MAX_ID};
+ghost use Rattle.graph_model.specs.declared.refusal.BeginRefusal.TheVariants as begin_refusals;
 ghost use Rattle.graph_model.specs.Account.{IsValid};
-ghost use Rattle.graph_model.specs.OwnerCalls.{account_here, current, with_current, ended_pass, WritesHere};
 ghost use Rattle.graph_model.specs.Refused.{IsWithinLimits};
 ghost use Rattle.run_model.specs.declared.answer.Answer.TheVariants as answers;
-ghost use Rattle.run_model.specs.Requests.{Query, request, ToBegin, ToCommit, ToAbort, ToWrite, ToRead, WeightOf, NeighboursOf, Counts};
+ghost use Rattle.run_model.specs.Requests.{Query, request, ToRead, WeightOf, NeighboursOf, Counts};
 ghost use Rattle.run_model.specs.Jobs.{skips};
 ghost use Rattle.line_runner.specs.Kernels.{IsKeptImage};
 ghost use Rattle.line_runner.specs.Scanning.{IsReading, IsScan};
-ghost use Rattle.line_runner.specs.Lines.{phase_behind, plain, view_here, Advances, DoesLine, MayTake, TakesHere, Finishes};
+ghost use Rattle.line_runner.specs.Phases.{phase_behind, plain};
+ghost use Rattle.line_runner.specs.Turns.{view_now, Advances, AnswersRead, FinishesOn, MayTakeNow, ReadsOn, TakesOn, WantsOn, WritesOn, calls};
 
 use crate::answering::{LineAnswer, LineTurn};
 use crate::kept::KeptImage;
@@ -24,13 +27,13 @@ use crate::phase::Phase;
 use crate::reading::Reading;
 use crate::scan::Scan;
 use crate::table::Kernel;
-use graph_model::{BeginRefusal, NoMemory, Refusal, StepEngine, Write};
+use graph_model::{BeginRefusal, Engine, NoMemory, Refusal, VertexEngine, Write};
 use run_model::{Answer, Command};
 use std::alloc::Global;
 use std::thread::Threads;
 
 /// Takes one turn of a line.
-pub fn take_line<R: Threads + Sync, E: StepEngine>(
+pub fn take_line<R: Threads + Sync, E: VertexEngine>(
     rt: &R,
     alloc: Global,
     engine: &mut E,
@@ -39,12 +42,13 @@ pub fn take_line<R: Threads + Sync, E: StepEngine>(
     reading: Option<Reading>,
     image: &mut Option<KeptImage>,
 ) -> Result<LineTurn, NoMemory>
-    requires may { MayTake (E.core engine.old) phase reading (request command.now) }
-    requires kept { IfSome image.old (IsKeptImage (view_here (E.core engine.old))) }
-    ensures takes { IfOk result (λ turn.
-        TakesHere (E.core engine.old) phase reading (request command.now) turn (E.core engine.new)) }
-    ensures kept { OnOk result (IfSome image.new (IsKeptImage (view_here (E.core engine.old)))) }
-    ensures err { OnErr result (E.core engine.new ≡ E.core engine.old) }
+    requires may { MayTakeNow (E.account engine.old) phase reading (request command.now) }
+    requires kept { IfSome image.old (IsKeptImage (view_now (E.account engine.old))) }
+    ensures takes { let e = calls E.account E.did_begin E.did_write E.did_read E.did_commit E.did_abort in
+        IfOk result (λ turn. TakesOn e engine.old phase reading (request command.now) turn engine.new) }
+    ensures kept { OnOk result (IfSome image.new (IsKeptImage (view_now (E.account engine.old)))) }
+    ensures err { let e = calls E.account E.did_begin E.did_write E.did_read E.did_commit E.did_abort in
+        OnErr result (WantsOn e engine.old engine.new) }
 {
     if let Phase::Skipping = phase {
         return Ok(LineTurn::Answering {
@@ -108,12 +112,12 @@ pub fn take_line<R: Threads + Sync, E: StepEngine>(
 }
 
 /// Begins a transaction.
-fn begin<E: StepEngine>(engine: &mut E) -> Result<LineAnswer, NoMemory>
-    requires selected { (E.core engine.old).selected < length (E.core engine.old).passes }
-    requires closed { (current (E.core engine.old)).start ≡ None }
-    requires room { (current (E.core engine.old)).begun < (current (E.core engine.old)).allowed }
-    ensures does { IfOk result (λ given. DoesLine (E.core engine.old) false ToBegin given (E.core engine.new)) }
-    ensures err { OnErr result (E.core engine.new ≡ E.core engine.old) }
+fn begin<E: Engine>(engine: &mut E) -> Result<LineAnswer, NoMemory>
+    requires closed { (E.account engine.old).start ≡ None }
+    requires room { (E.account engine.old).begun < (E.account engine.old).allowed }
+    ensures does { IfOk result (λ given. (begun : Begun) × (given ≡ plain (answers.Begun begun.by begun.start) Phase.Open)
+        × E.did_begin engine.old (Ok begun) engine.new) }
+    ensures err { OnErr result (E.did_begin engine.old (Err begin_refusals.NoMemory) engine.new) }
 {
     match engine.begin() {
         Ok(begun) => {
@@ -129,42 +133,40 @@ fn begin<E: StepEngine>(engine: &mut E) -> Result<LineAnswer, NoMemory>
 }
 
 /// Commits the transaction.
-fn commit<E: StepEngine>(engine: &mut E) -> LineAnswer
-    requires selected { (E.core engine.old).selected < length (E.core engine.old).passes }
-    requires current { IsSome (current (E.core engine.old)).start }
-    ensures { DoesLine (E.core engine.old) false ToCommit result (E.core engine.new) }
+fn commit<E: Engine>(engine: &mut E) -> LineAnswer
+    requires { IsSome (E.account engine.old).start }
+    ensures { (stamp : Option ℕ) × (result ≡ plain (answers.Committed stamp) Phase.Between)
+        × E.did_commit engine.old stamp engine.new }
 {
     let stamp = engine.commit();
     LineAnswer::plain(Answer::Committed { stamp }, Phase::Between)
 }
 
 /// Takes the transaction back.
-fn abort<E: StepEngine>(engine: &mut E) -> LineAnswer
-    requires selected { (E.core engine.old).selected < length (E.core engine.old).passes }
-    requires current { IsSome (current (E.core engine.old)).start }
-    ensures { DoesLine (E.core engine.old) false ToAbort result (E.core engine.new) }
+fn abort<E: Engine>(engine: &mut E) -> LineAnswer
+    requires { IsSome (E.account engine.old).start }
+    ensures answer { result ≡ plain answers.Aborted Phase.Between }
+    ensures did { E.did_abort engine.old engine.new }
 {
     engine.abort();
     LineAnswer::plain(Answer::Aborted, Phase::Between)
 }
 
 /// Makes a write, and takes the transaction back where a conflict or a full store stops it.
-fn write<E: StepEngine>(engine: &mut E, w: Write) -> Result<LineAnswer, NoMemory>
-    requires selected { (E.core engine.old).selected < length (E.core engine.old).passes }
-    requires current { IsSome (current (E.core engine.old)).start }
+fn write<E: VertexEngine>(engine: &mut E, w: Write) -> Result<LineAnswer, NoMemory>
+    requires current { IsSome (E.account engine.old).start }
     requires within { IsWithinLimits w }
-    ensures does { IfOk result (λ given. DoesLine (E.core engine.old) false (ToWrite w) given (E.core engine.new)) }
-    ensures err { OnErr result (E.core engine.new ≡ E.core engine.old) }
+    ensures { WritesOn E.did_write E.did_abort engine.old w result engine.new }
 {
     let wrote = make(engine, w);
     finish(engine, wrote)
 }
 
 /// Hands a write to the engine.
-fn make<E: StepEngine>(engine: &mut E, w: Write) -> Result<(), Refusal>
-    requires current { IsSome (current (E.core engine.old)).start }
+fn make<E: VertexEngine>(engine: &mut E, w: Write) -> Result<(), Refusal>
+    requires current { IsSome (E.account engine.old).start }
     requires within { IsWithinLimits w }
-    ensures { WritesHere (E.core engine.old) w result (E.core engine.new) }
+    ensures { E.did_write engine.old w result engine.new }
 {
     match w {
         Write::AddVertex { v } => engine.add_vertex(v),
@@ -176,9 +178,9 @@ fn make<E: StepEngine>(engine: &mut E, w: Write) -> Result<(), Refusal>
 }
 
 /// Answers a write, and takes the transaction back where the write stops it.
-fn finish<E: StepEngine>(engine: &mut E, wrote: Result<(), Refusal>) -> Result<LineAnswer, NoMemory>
-    requires { IsSome (current (E.core engine.old)).start }
-    ensures { Finishes (E.core engine.old) wrote result (E.core engine.new) }
+fn finish<E: Engine>(engine: &mut E, wrote: Result<(), Refusal>) -> Result<LineAnswer, NoMemory>
+    requires { IsSome (E.account engine.old).start }
+    ensures { FinishesOn E.did_abort engine.old wrote result engine.new }
 {
     let answer = match wrote {
         Ok(()) => Answer::Done,
@@ -196,22 +198,21 @@ fn finish<E: StepEngine>(engine: &mut E, wrote: Result<(), Refusal>) -> Result<L
 }
 
 /// Takes the transaction back, whose other lines are skipped.
-fn stop<E: StepEngine>(engine: &mut E, answer: Answer) -> LineAnswer
-    requires { IsSome (current (E.core engine.old)).start }
+fn stop<E: Engine>(engine: &mut E, answer: Answer) -> LineAnswer
+    requires { IsSome (E.account engine.old).start }
     ensures answer { result ≡ plain answer Phase.Skipping }
-    ensures core { E.core engine.new ≡ with_current (E.core engine.old) (ended_pass (E.core engine.old)) }
+    ensures did { E.did_abort engine.old engine.new }
 {
     engine.abort();
     LineAnswer::plain(answer, Phase::Skipping)
 }
 
 /// Reads a weight.
-fn weight<E: StepEngine>(engine: &mut E, u: u64, v: u64) -> LineAnswer
-    requires selected { (E.core engine.old).selected < length (E.core engine.old).passes }
-    requires current { IsSome (current (E.core engine.old)).start }
+fn weight<E: Engine>(engine: &mut E, u: u64, v: u64) -> LineAnswer
+    requires current { IsSome (E.account engine.old).start }
     requires source { u ≤ MAX_ID }
     requires target { v ≤ MAX_ID }
-    ensures { DoesLine (E.core engine.old) false (ToRead (WeightOf u v)) result (E.core engine.new) }
+    ensures { AnswersRead E.account E.did_read engine.old (WeightOf u v) result engine.new }
 {
     let answer = match engine.weight(u, v) {
         Some(weight) => Answer::Weight { weight },
@@ -233,21 +234,21 @@ fn skip(command: &Command) -> LineAnswer
 }
 
 /// Takes one turn of the scan of a read: the one under way, or a new one.
-fn advance<E: StepEngine>(
+fn advance<E: Engine>(
     engine: &mut E,
     before: Option<Reading>,
     fresh: Scan,
 ) -> Result<Scan, NoMemory>
-    requires valid { IsValid (account_here (E.core engine.old)) }
-    requires current { IsSome (current (E.core engine.old)).start }
-    requires scans { (query : Query) × IfSome before (IsReading (view_here (E.core engine.old)) (ToRead query))
-        × IsScan (view_here (E.core engine.old)) (ToRead query) fresh }
+    requires valid { IsValid (E.account engine.old) }
+    requires current { IsSome (E.account engine.old).start }
+    requires scans { (query : Query) × IfSome before (IsReading (view_now (E.account engine.old)) (ToRead query))
+        × IsScan (view_now (E.account engine.old)) (ToRead query) fresh }
     requires empty { fresh.rows ≡ 0 }
     ensures advances { IfOk result (λ next. (query : Query)
-        → IfSome before (IsReading (view_here (E.core engine.old)) (ToRead query))
-        → IsScan (view_here (E.core engine.old)) (ToRead query) fresh
-        → Advances (E.core engine.old) before (ToRead query) next) }
-    ensures core { E.core engine.new ≡ E.core engine.old }
+        → IfSome before (IsReading (view_now (E.account engine.old)) (ToRead query))
+        → IsScan (view_now (E.account engine.old)) (ToRead query) fresh
+        → Advances (view_now (E.account engine.old)) before (ToRead query) next) }
+    ensures did { E.did_read engine.old engine.new }
 {
     let mut scan = before.unwrap_or(Reading::Scan { scan: fresh }).into_scan();
     scan.step(engine)?;
@@ -255,16 +256,16 @@ fn advance<E: StepEngine>(
 }
 
 /// Scans the arcs that lead from a vertex.
-fn neighbours<E: StepEngine>(
+fn neighbours<E: Engine>(
     alloc: Global,
     engine: &mut E,
     v: u64,
     before: Option<Reading>,
 ) -> Result<LineTurn, NoMemory>
-    requires { MayTake (E.core engine.old) Phase.Open before (ToRead (NeighboursOf v)) }
-    ensures takes { IfOk result (λ turn.
-        TakesHere (E.core engine.old) Phase.Open before (ToRead (NeighboursOf v)) turn (E.core engine.new)) }
-    ensures err { OnErr result (E.core engine.new ≡ E.core engine.old) }
+    requires { MayTakeNow (E.account engine.old) Phase.Open before (ToRead (NeighboursOf v)) }
+    ensures takes { let e = calls E.account E.did_begin E.did_write E.did_read E.did_commit E.did_abort in
+        IfOk result (λ turn. TakesOn e engine.old Phase.Open before (ToRead (NeighboursOf v)) turn engine.new) }
+    ensures err { OnErr result (ReadsOn E.did_read engine.old engine.new) }
 {
     let scan = advance(engine, before, Scan::of_arcs(alloc, v))?;
     if !scan.cursor.done {
@@ -284,11 +285,11 @@ fn neighbours<E: StepEngine>(
 }
 
 /// Scans all rows, and counts them.
-fn count<E: StepEngine>(engine: &mut E, before: Option<Reading>) -> Result<LineTurn, NoMemory>
-    requires { MayTake (E.core engine.old) Phase.Open before (ToRead Counts) }
-    ensures takes { IfOk result (λ turn.
-        TakesHere (E.core engine.old) Phase.Open before (ToRead Counts) turn (E.core engine.new)) }
-    ensures err { OnErr result (E.core engine.new ≡ E.core engine.old) }
+fn count<E: Engine>(engine: &mut E, before: Option<Reading>) -> Result<LineTurn, NoMemory>
+    requires { MayTakeNow (E.account engine.old) Phase.Open before (ToRead Counts) }
+    ensures takes { let e = calls E.account E.did_begin E.did_write E.did_read E.did_commit E.did_abort in
+        IfOk result (λ turn. TakesOn e engine.old Phase.Open before (ToRead Counts) turn engine.new) }
+    ensures err { OnErr result (ReadsOn E.did_read engine.old engine.new) }
 {
     let scan = advance(engine, before, Scan::of_counts())?;
     if !scan.cursor.done {

@@ -11,13 +11,12 @@ ghost use Rattle.graph_model.specs.declared.row.Row.{Row};
 ghost use Rattle.graph_model.specs.declared.limits.TheConstants.{MAX_ID};
 ghost use Rattle.graph_model.specs.Graph.{Graph};
 ghost use Rattle.graph_model.specs.Account.{IsValid};
-ghost use Rattle.graph_model.specs.OwnerCalls.{current, account_here};
 ghost use Rattle.run_model.specs.Requests.{Kernel, Request, NeighboursOf, Counts, ToRead, ToRun};
 ghost use Rattle.line_runner.specs.Scanning.{is_vertex, target_of, with_rows, vertices_in, counted, fresh_scan, FitIn, IsScan, ScansOn};
-ghost use Rattle.line_runner.specs.Lines.{view_here};
+ghost use Rattle.line_runner.specs.Turns.{view_now};
 
 use graph_image::Builder;
-use graph_model::{Cursor, Ids, Key, Kind, NoMemory, Row, Rows64, StepEngine};
+use graph_model::{Cursor, Engine, Ids, Key, Kind, NoMemory, Row, Rows64};
 use run_model::Answer;
 use std::alloc::Global;
 
@@ -130,13 +129,13 @@ impl Scan {
     }
 
     /// Takes one turn of the scan.
-    pub fn step<E: StepEngine>(&mut self, engine: &mut E) -> Result<(), NoMemory>
-        requires current { IsSome (current (E.core engine.old)).start }
-        requires valid { IsValid (account_here (E.core engine.old)) }
-        requires scan { (r : Request) × IsScan (view_here (E.core engine.old)) r self.old }
-        ensures ok { OnOk result ((r : Request) → IsScan (view_here (E.core engine.old)) r self.old
-            → ScansOn (view_here (E.core engine.old)) r self.old self.new) }
-        ensures core { E.core engine.new ≡ E.core engine.old }
+    pub fn step<E: Engine>(&mut self, engine: &mut E) -> Result<(), NoMemory>
+        requires current { IsSome (E.account engine.old).start }
+        requires valid { IsValid (E.account engine.old) }
+        requires scan { (r : Request) × IsScan (view_now (E.account engine.old)) r self.old }
+        ensures ok { OnOk result ((r : Request) → IsScan (view_now (E.account engine.old)) r self.old
+            → ScansOn (view_now (E.account engine.old)) r self.old self.new) }
+        ensures did { E.did_read engine.old engine.new }
     {
         let mut rows = Rows64::new();
         engine.scan_step(&mut self.cursor, &mut rows);

@@ -69,10 +69,10 @@ load_allowed = (simp lookups refl, (simp lookups refl, (simp lookups refl, (simp
 abbrev loaded : Graph
 loaded = apply_all Undirected empty_graph load
 
-set_allowed : refused loaded (writes.SetEdge 1 2 9) ≡ None
+pub set_allowed : refused loaded (writes.SetEdge 1 2 9) ≡ None
 set_allowed = simp lookups refl
 
-set_allowed_too : refused loaded (writes.SetEdge 1 2 8) ≡ None
+pub set_allowed_too : refused loaded (writes.SetEdge 1 2 8) ≡ None
 set_allowed_too = simp lookups refl
 
 -- allowed writes keep both ends of each arc
@@ -83,16 +83,16 @@ all_ends kind g (w ∷ ws) allowed ends = all_ends kind (apply kind g w) ws allo
 empty_ends : HasBothEnds empty_graph
 empty_ends u v arc = let none : false ≡ true = sym (ap is_some (map.get-empty {X = ℕ} arc_cmp (u, v))) ∙ arc in cc
 
-abbrev two_commits : List Commit
+abbrev pub two_commits : List Commit
 two_commits = load_commit load ∷ nine 2 ∷ []
 
 -- the script, the stamp and the start of the commit at a place
-commit_numbers : (i : ℕ) (c : Commit) → slice_get two_commits i ≡ Some c → (c.by.job ≡ i) × (c.stamp ≡ i + 1) × (c.start ≡ i)
+pub commit_numbers : (i : ℕ) (c : Commit) → slice_get two_commits i ≡ Some c → (c.by.job ≡ i) × (c.stamp ≡ i + 1) × (c.start ≡ i)
 commit_numbers zero c at = let same = same_Some (load_commit load) c at in (ap (λ (d : Commit). d.by.job) (sym same), ap (λ (d : Commit). d.stamp) (sym same), ap (λ (d : Commit). d.start) (sym same))
 commit_numbers (suc zero) c at = let same = same_Some (nine 2) c at in (ap (λ (d : Commit). d.by.job) (sym same), ap (λ (d : Commit). d.stamp) (sym same), ap (λ (d : Commit). d.start) (sym same))
 commit_numbers (suc (suc i)) c at = absurd (none-some c at)
 
-two_legal : IsLegal Undirected two_commits
+pub two_legal : IsLegal Undirected two_commits
 two_legal = record {
   each = each;
   names = names;

@@ -18,7 +18,7 @@ use Rattle.run_model.proofs.SetLemmas.{set_cases}
 use Rattle.line_runner.specs.declared.reading.Reading.{Reading}
 use Rattle.line_runner.specs.declared.reading.Reading.TheVariants as readings
 use Rattle.line_runner.specs.Scanning.{IsReading}
-use Rattle.line_runner.specs.Lines.{file_of}
+use Rattle.line_runner.specs.Phases.{file_of}
 use Rattle.job_runner.specs.Progress.{Progress, left_of, job_at, seats, state_of}
 use Rattle.job_runner.specs.Runs.{files_context, view_of_pass, AreTied, AreUnderWay}
 use Rattle.job_runner.proofs.SeatLemmas.{rest_get, pass_there}

@@ -2,10 +2,12 @@ use Rattle.std.proofs.Common.{◌≡◌, ◌∙◌, ◌<◌, suc, length, refl, 
 use Rattle.std.specs.Prelude.{ℕ, Some, None, IsSome, slice_get, slice_set}
 use Rattle.line_runner.specs.declared.phase.Phase.TheVariants.{GivenUp}
 use Rattle.std.proofs.lemmas.Option.{slice_get_read}
+use Rattle.graph_model.specs.Account.{Account}
 use Rattle.graph_model.specs.OwnerCalls.{pass_at, current}
 use Rattle.line_runner.specs.Lines.{given_up}
 use Rattle.job_runner.specs.Progress.{Progress}
 use Rattle.job_runner.specs.Runs.{AreHeld, HoldsPhase}
+use Rattle.job_runner.proofs.JobLemmas.{gives_up_on_core}
 use Rattle.job_runner.proofs.TookLemmas.{gives_up_one, closed_more, all_closed}
 use Rattle.job_runner.proofs.jobs.give_up_each.Goals as goal
 
@@ -24,7 +26,8 @@ give_up-requires g c = λ is.
     let held = c.jobs.invariant.held.each c.jobs.job-index job there in
     let number : c.number.result ≡ suc c.jobs.job-index = c.number.ensures ∙ ap (λ (x : Progress). x.number) (sym c.job-item.is) ∙ held.0 in
     let opened : IsSome (pass_at core (suc c.jobs.job-index)).start = subst (λ p. HoldsPhase p (pass_at core (suc c.jobs.job-index)).start) (ap (λ (x : Progress). x.phase) c.job-item.is ∙ is) held.1 in
-    subst (λ x. IsSome (current x).start) (sym c.select.ensures) (subst (λ n. IsSome (pass_at core n).start) (sym number) opened)
+    let chosen : IsSome (current (g.E.StepEngine.core c.select.new.self)).start = subst (λ x. IsSome (current x).start) (sym c.select.ensures) (subst (λ n. IsSome (pass_at core n).start) (sym number) opened) in
+    subst (λ (a : Account). IsSome a.start) (sym (g.met.E.StepEngine.accounts c.select.new.self)) chosen
 
 pub jobs-preserved : goal.jobs-preserved
 jobs-preserved g c =
@@ -38,7 +41,7 @@ jobs-preserved g c =
     let number : c.number.result ≡ suc i = c.number.ensures ∙ ap (λ (x : Progress). x.number) (sym c.job-item.is) ∙ held.0 in
     let one = gives_up_one core c.jobs.jobs i job there c.jobs.invariant.held (omega (arith, inside, c.jobs.invariant.held.passes)) c.give_up.new.self (c.give_up.ensures.job ∙ ap (λ (x : Progress). record x { phase = GivenUp; reading = None; image = None }) (sym c.job-item.is)) in
     let up : given_up (record core { selected = suc i }) job.phase ≡ new =
-    (λ t. given_up (record core { selected = sym number t }) (c.job-item.is t).phase) ∙ ap (λ x. given_up x (slice_index_or c.jobs.jobs i job).phase) (sym c.select.ensures) ∙ sym c.give_up.ensures.core in
+    (λ t. given_up (record core { selected = sym number t }) (c.job-item.is t).phase) ∙ ap (λ x. given_up x (slice_index_or c.jobs.jobs i job).phase) (sym c.select.ensures) ∙ sym (gives_up_on_core _ g.E.StepEngine.core (g.met.E.StepEngine.aborts_here) (slice_index_or c.jobs.jobs i job).phase c.select.new.self c.give_up.new.engine c.give_up.ensures.did) in
     record {
       held = subst (λ x. AreHeld x (slice_set c.jobs.jobs i c.give_up.new.self)) up one.0;
       closed = closed_more core new i c.jobs.invariant.closed (subst (λ x. (pass_at x (suc i)).start ≡ None) up one.2) (subst (λ x. (p : ℕ) → (p ≡ suc i → ⊥) → pass_at x p ≡ pass_at core p) up one.3);

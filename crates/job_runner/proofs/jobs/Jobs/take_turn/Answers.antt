@@ -33,8 +33,8 @@ returns-then-has_ended-clause-goes g c =
     let over : is_over job ≡ true = sym c.has_ended.ensures ∙ c.if-has_ended.true in
     subst (λ xs. Goes jobs c.args.number (slice_set xs k job)) (sym fields) (stays_over core jobs k job there c.args.number number over)
 
-pub turn-requires-clause-ready : goal.turn-requires-clause-ready
-turn-requires-clause-ready g c κs within =
+pub turn_alone-requires-clause-ready : goal.turn_alone-requires-clause-ready
+turn_alone-requires-clause-ready g c κs within =
     let core = g.E.StepEngine.core c.args.engine.now in
     let jobs = c.args.self.now in
     let k = c.args.number - 1 in
@@ -58,16 +58,16 @@ returns-clause-turns g c =
     let inputs = c.requires.under_way.0 in
     let u = c.requires.under_way.1 in
     let selected = g.E.StepEngine.core c.select.new.self in
-    let new = g.E.StepEngine.core c.turn.new.engine in
-    let next = c.turn.new.self in
+    let new = g.E.StepEngine.core c.turn_alone.new.engine in
+    let next = c.turn_alone.new.self in
     let going : is_over job ≡ false = sym c.has_ended.ensures ∙ c.if-has_ended.false in
     let SaysHere = Says core jobs k job there c.args.number number inputs u selected c.select.ensures going new next in
-    let says : SaysHere c.turn.result c.match-turn.result = elim c.match-turn.branch [
-      | in-More w ↦ subst (λ t. SaysHere t c.match-turn.result) (sym w.in-More.is) w.result-is
-      | in-Ended w ↦ subst (λ t. SaysHere t c.match-turn.result) (sym w.in-Ended.is) w.result-is
-      | in-NoMemory w ↦ subst (λ t. SaysHere t c.match-turn.result) (sym w.in-NoMemory.is) (subst (λ r. OnOk r ⊥) (sym w.result-is) tt)
+    let says : SaysHere c.turn_alone.result c.match-turn_alone.result = elim c.match-turn_alone.branch [
+      | in-More w ↦ subst (λ t. SaysHere t c.match-turn_alone.result) (sym w.in-More.is) w.result-is
+      | in-Ended w ↦ subst (λ t. SaysHere t c.match-turn_alone.result) (sym w.in-Ended.is) w.result-is
+      | in-NoMemory w ↦ subst (λ t. SaysHere t c.match-turn_alone.result) (sym w.in-NoMemory.is) (subst (λ r. OnOk r ⊥) (sym w.result-is) tt)
     ] in
-    subst (λ xs. IfOk c.match-turn.result (λ ended. Turns core jobs c.args.number ended new (slice_set xs k next))) (sym fields) (took_turns core jobs k job there c.args.number number inputs u selected c.select.ensures going new next c.turn.result c.turn.ensures c.match-turn.result says)
+    subst (λ xs. IfOk c.match-turn_alone.result (λ ended. Turns core jobs c.args.number ended new (slice_set xs k next))) (sym fields) (took_turns core jobs k job there c.args.number number inputs u selected c.select.ensures going new next c.turn_alone.result c.turn_alone.ensures c.match-turn_alone.result says)
 
 pub returns-clause-goes : goal.returns-clause-goes
 returns-clause-goes g c =
@@ -82,16 +82,16 @@ returns-clause-goes g c =
     let inputs = c.requires.under_way.0 in
     let u = c.requires.under_way.1 in
     let selected = g.E.StepEngine.core c.select.new.self in
-    let new = g.E.StepEngine.core c.turn.new.engine in
-    let next = c.turn.new.self in
+    let new = g.E.StepEngine.core c.turn_alone.new.engine in
+    let next = c.turn_alone.new.self in
     let going : is_over job ≡ false = sym c.has_ended.ensures ∙ c.if-has_ended.false in
     let SaysHere = Says core jobs k job there c.args.number number inputs u selected c.select.ensures going new next in
-    let says : SaysHere c.turn.result c.match-turn.result = elim c.match-turn.branch [
-      | in-More w ↦ subst (λ t. SaysHere t c.match-turn.result) (sym w.in-More.is) w.result-is
-      | in-Ended w ↦ subst (λ t. SaysHere t c.match-turn.result) (sym w.in-Ended.is) w.result-is
-      | in-NoMemory w ↦ subst (λ t. SaysHere t c.match-turn.result) (sym w.in-NoMemory.is) (subst (λ r. OnOk r ⊥) (sym w.result-is) tt)
+    let says : SaysHere c.turn_alone.result c.match-turn_alone.result = elim c.match-turn_alone.branch [
+      | in-More w ↦ subst (λ t. SaysHere t c.match-turn_alone.result) (sym w.in-More.is) w.result-is
+      | in-Ended w ↦ subst (λ t. SaysHere t c.match-turn_alone.result) (sym w.in-Ended.is) w.result-is
+      | in-NoMemory w ↦ subst (λ t. SaysHere t c.match-turn_alone.result) (sym w.in-NoMemory.is) (subst (λ r. OnOk r ⊥) (sym w.result-is) tt)
     ] in
-    subst (λ xs. OnOk c.match-turn.result (Goes jobs c.args.number (slice_set xs k next))) (sym fields) (took_goes core jobs k job there c.args.number number inputs u selected c.select.ensures going new next c.turn.result c.turn.ensures c.match-turn.result says)
+    subst (λ xs. OnOk c.match-turn_alone.result (Goes jobs c.args.number (slice_set xs k next))) (sym fields) (took_goes core jobs k job there c.args.number number inputs u selected c.select.ensures going new next c.turn_alone.result c.turn_alone.ensures c.match-turn_alone.result says)
 
 pub returns-clause-err : goal.returns-clause-err
 returns-clause-err g c =
@@ -106,13 +106,13 @@ returns-clause-err g c =
     let inputs = c.requires.under_way.0 in
     let u = c.requires.under_way.1 in
     let selected = g.E.StepEngine.core c.select.new.self in
-    let new = g.E.StepEngine.core c.turn.new.engine in
-    let next = c.turn.new.self in
+    let new = g.E.StepEngine.core c.turn_alone.new.engine in
+    let next = c.turn_alone.new.self in
     let going : is_over job ≡ false = sym c.has_ended.ensures ∙ c.if-has_ended.false in
     let SaysHere = Says core jobs k job there c.args.number number inputs u selected c.select.ensures going new next in
-    let says : SaysHere c.turn.result c.match-turn.result = elim c.match-turn.branch [
-      | in-More w ↦ subst (λ t. SaysHere t c.match-turn.result) (sym w.in-More.is) w.result-is
-      | in-Ended w ↦ subst (λ t. SaysHere t c.match-turn.result) (sym w.in-Ended.is) w.result-is
-      | in-NoMemory w ↦ subst (λ t. SaysHere t c.match-turn.result) (sym w.in-NoMemory.is) (subst (λ r. OnOk r ⊥) (sym w.result-is) tt)
+    let says : SaysHere c.turn_alone.result c.match-turn_alone.result = elim c.match-turn_alone.branch [
+      | in-More w ↦ subst (λ t. SaysHere t c.match-turn_alone.result) (sym w.in-More.is) w.result-is
+      | in-Ended w ↦ subst (λ t. SaysHere t c.match-turn_alone.result) (sym w.in-Ended.is) w.result-is
+      | in-NoMemory w ↦ subst (λ t. SaysHere t c.match-turn_alone.result) (sym w.in-NoMemory.is) (subst (λ r. OnOk r ⊥) (sym w.result-is) tt)
     ] in
-    subst (λ xs. OnErr c.match-turn.result (IsStuck core new (slice_set xs k next))) (sym fields) (took_stuck core jobs k job there c.args.number number inputs u selected c.select.ensures going new next c.turn.result c.turn.ensures c.match-turn.result says)
+    subst (λ xs. OnErr c.match-turn_alone.result (IsStuck core new (slice_set xs k next))) (sym fields) (took_stuck core jobs k job there c.args.number number inputs u selected c.select.ensures going new next c.turn_alone.result c.turn_alone.ensures c.match-turn_alone.result says)

@@ -1,9 +1,10 @@
--- What a pass has made, transaction by transaction, behind one line more.
-use Rattle.std.proofs.Common.{◌≡◌, ℕ, zero, suc, ◌+◌, ◌<◌, List, [], ◌∷◌, ◌++◌, length, refl, sym, ◌∙◌, ap, arith, cond, inl, inr}
+-- What a pass has made behind one line more: in all, and transaction by transaction.
+use Rattle.std.proofs.Common.{◌≡◌, ℕ, zero, suc, ◌+◌, ◌<◌, List, [], ◌∷◌, ◌++◌, length, refl, sym, ◌∙◌, ap, arith, cond, inl, inr, length-append, append_assoc}
 use Rattle.std.specs.Prelude.{Bool, true, false, ◌==◌, Option, Some, None, slice_get}
-use Rattle.std.specs.List.{filter_map, cons_option}
+use Rattle.std.specs.List.{flat_map, filter_map, cons_option}
 use Rattle.std.proofs.lemmas.Bool.{ne_eqb, cases_eq}
 use Rattle.std.proofs.lemmas.Bool.Decides.{nat_tests}
+use Rattle.std.proofs.lemmas.Grind.{flat_map-append}
 use Rattle.std.proofs.lemmas.List.{append-nil}
 use Rattle.std.proofs.lemmas.List.Elements.{filter_map-append}
 use Rattle.graph_model.specs.declared.write.Write.{Write}
@@ -15,8 +16,71 @@ use Rattle.run_model.specs.Requests.{Request, ToBegin, ToCommit, ToAbort, ToWrit
 use Rattle.run_model.specs.AnsweredLines.{AnsweredLine, effect, made_by, of_txn, own_writes}
 use Rattle.run_model.specs.UnderWay.{AreNumbered}
 use Rattle.run_model.proofs.LineLemmas.{none_later}
-use Rattle.line_runner.specs.Lines.{made_behind}
-use Rattle.job_runner.proofs.TieLemmas.{line_of, none_made}
+use Rattle.side_runs.specs.ByAccount.{made_behind}
+
+-- the line that is answered
+abbrev pub line_of : ℕ → Command → Answer → AnsweredLine
+line_of txn c a = record { txn = txn; command = c; answer = a }
+
+-- the last of the lists has one write more
+pub last_more : (earlier : List (List Write)) (ws : List Write) (w : Write) → last_with (earlier ++ ws ∷ []) w ≡ earlier ++ (ws ++ w ∷ []) ∷ []
+last_more [] ws w = refl
+last_more (v ∷ []) ws w = refl
+last_more (v ∷ u ∷ vs) ws w = ap (λ xs. v ∷ xs) (last_more (u ∷ vs) ws w)
+
+last_count : (lists : List (List Write)) (w : Write) → length (last_with lists w) ≡ length lists
+last_count [] w = refl
+last_count (v ∷ []) w = refl
+last_count (v ∷ u ∷ vs) w = ap suc (last_count (u ∷ vs) w)
+
+abbrev pub flat : List (List Write) → List Write
+flat lists = flat_map (λ ws. ws) lists
+
+flat_last : (earlier : List (List Write)) (ws : List Write) → flat (earlier ++ ws ∷ []) ≡ flat earlier ++ ws
+flat_last earlier ws = flat_map-append (λ ws. ws) earlier (ws ∷ []) ∙ ap (λ xs. flat earlier ++ xs) (append-nil ws)
+
+-- a line that asks for no write has made none
+pub none_made : (c : Command) (r : Request) → request c ≡ r → write_of r ≡ None → (txn : ℕ) (a : Answer) → filter_map made_by (line_of txn c a ∷ []) ≡ []
+none_made c r is none txn a = ap (λ w. cons_option (cond (effect a).writes w None) []) (ap write_of is ∙ none) ∙ either (effect a).writes
+  where
+    either : (b : Bool) → let none : Option Write = None in cons_option (cond b none none) [] ≡ []
+    either true = refl
+    either false = refl
+
+-- what a pass has made behind a line, by what it was answered: the writes of the lines, one list for each
+-- transaction, the open one's last
+module _ (made : List (List Write)) (own : List Write) (txn : ℕ) (c : Command) (a : Answer) (opened : (effect a).writes ≡ true → (earlier : List (List Write)) × (made ≡ earlier ++ own ∷ [])) where
+  unchanged : (r : Request) → request c ≡ r → write_of r ≡ None → flat made ≡ flat made ++ filter_map made_by (line_of txn c a ∷ [])
+  unchanged r is none = sym (ap (λ xs. flat made ++ xs) (none_made c r is none txn a) ∙ append-nil (flat made))
+
+  pub made_more : (r : Request) → request c ≡ r → flat (made_behind made r a) ≡ flat made ++ filter_map made_by (line_of txn c a ∷ [])
+  made_more ToBegin is = flat_last made [] ∙ ap (λ xs. flat made ++ xs) (sym (none_made c ToBegin is refl txn a))
+  made_more ToCommit is = unchanged ToCommit is refl
+  made_more ToAbort is = unchanged ToAbort is refl
+  made_more (ToWrite w) is = by_write (effect a).writes refl ∙ ap (λ x. flat made ++ cons_option (cond (effect a).writes x None) []) (sym (ap write_of is))
+    where
+      by_write : (b : Bool) → (effect a).writes ≡ b → flat (cond (effect a).writes (last_with made w) made) ≡ flat made ++ cons_option (cond (effect a).writes (Some w) None) []
+      by_write true e =
+          let o = opened e in
+          ap (λ b. flat (cond b (last_with made w) made)) e
+          ∙ ap (λ xs. flat (last_with xs w)) o.1 ∙ ap flat (last_more o.0 own w) ∙ flat_last o.0 (own ++ w ∷ []) ∙ sym (append_assoc (flat o.0) own (w ∷ []))
+          ∙ ap (λ xs. xs ++ w ∷ []) (sym (ap flat o.1 ∙ flat_last o.0 own))
+          ∙ ap (λ b. flat made ++ cons_option (cond b (Some w) None) []) (sym e)
+      by_write false e = ap (λ b. flat (cond b (last_with made w) made)) e ∙ sym (append-nil (flat made)) ∙ ap (λ b. flat made ++ cons_option (cond b (Some w) None) []) (sym e)
+  made_more (ToRead query) is = unchanged (ToRead query) is refl
+  made_more (ToRun kernel file) is = unchanged (ToRun kernel file) is refl
+
+pub made_count : (made : List (List Write)) (begun : ℕ) (r : Request) (a : Answer) → length made ≡ begun → length (made_behind made r a) ≡ next_txn begun r
+made_count made begun ToBegin a is = omega (arith, length-append made ([] ∷ []), is)
+made_count made begun ToCommit a is = is
+made_count made begun ToAbort a is = is
+made_count made begun (ToWrite w) a is = by_write (effect a).writes ∙ is
+  where
+    by_write : (b : Bool) → length (cond b (last_with made w) made) ≡ length made
+    by_write true = last_count made w
+    by_write false = refl
+made_count made begun (ToRead query) a is = is
+made_count made begun (ToRun kernel file) a is = is
 
 -- the lines of a transaction, with one line more
 of_more : (u : ℕ) (ls : List AnsweredLine) (l : AnsweredLine) → of_txn u (ls ++ l ∷ []) ≡ of_txn u ls ++ cond (l.txn == u) (l ∷ []) []

@@ -1,0 +1,3 @@
+pub mod ByAccount
+pub mod SideBySide
+pub mod Examples

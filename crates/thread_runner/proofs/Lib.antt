@@ -1,0 +1,5 @@
+pub mod CallLemmas
+pub mod TurnLemmas
+pub mod RunLemmas
+pub mod BlockLemmas
+pub mod ListLemmas

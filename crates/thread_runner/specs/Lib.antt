@@ -1,0 +1,2 @@
+pub mod ByAccount
+pub mod Driving
