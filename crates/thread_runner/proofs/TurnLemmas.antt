@@ -129,7 +129,7 @@ module _ {S : Type 0} (e : Calls S) (by : AreByAccount e) (old : S) (job : Progr
 -- ---- a job stays ready
 
 -- the first line that is left, with what is left behind it
-line_of : (left : List Command) → is_empty left ≡ false → (c : Command) × (rest : List Command) × (left ≡ c ∷ rest)
+pub line_of : (left : List Command) → is_empty left ≡ false → (c : Command) × (rest : List Command) × (left ≡ c ∷ rest)
 line_of [] none = absurd (let no : true ≡ false = none in cc)
 line_of (c ∷ rest) none = (c, rest, refl)
 
