@@ -1,7 +1,7 @@
 use Rattle.std.proofs.Common.{length}
 use Rattle.undo_chain.specs.Chains.{list_at}
 use Rattle.undo_chain.specs.Walks.{IsStamped}
-use Rattle.undo_chain.proofs.chains.Chains.stamp.Given as goal
+use Rattle.undo_chain.proofs.chains.Chains.stamp_records.Given as goal
 
 abbrev pub invariant-stamp_all : goal.invariant-stamp_all
 invariant-stamp_all l = IsStamped l.initial.self l.self l.by l.stamp l.initial.link l.link
