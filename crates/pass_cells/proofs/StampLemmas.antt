@@ -43,7 +43,7 @@ stamped_twice by n vs = λ i. record { pairs = twice vs.pairs i; oldest = vs.old
     one : (p : Stamped) → stamp_one by n (stamp_one by n p) ≡ stamp_one by n p
     one p = go (same_name p.by by && lacks_stamp p) refl
       where
-        abbrev with_it : Stamped
+        with_it : Stamped
         with_it = record { by = p.by; stamp = Some n; value = p.value }
 
         go : (t : Bool) → (same_name p.by by && lacks_stamp p) ≡ t
