@@ -40,7 +40,8 @@ impl Model for Chains {
 impl Chains {
     /// No records. Takes no memory.
     pub fn new(alloc: Global) -> Chains
-        ensures { result.slots ≡ [] }
+        ensures slots { result.slots ≡ [] }
+        ensures spare { result.spare ≡ 0 }
     {
         Chains {
             records: Slots::new(alloc),

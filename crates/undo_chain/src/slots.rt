@@ -45,7 +45,8 @@ impl Model for Slots {
 impl Slots {
     /// No records. Takes no memory.
     pub(crate) fn new(alloc: Global) -> Slots
-        ensures { result.slots ≡ [] }
+        ensures slots { result.slots ≡ [] }
+        ensures spare { result.spare ≡ 0 }
     {
         Slots {
             slots: Vec::new(alloc),

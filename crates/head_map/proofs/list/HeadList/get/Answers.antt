@@ -2,7 +2,7 @@ use Rattle.std.proofs.Common.{◌∙◌, sym, ap}
 use Rattle.head_map.specs.Heads.{PlacedRow}
 use Rattle.head_map.specs.Heads.{PlaceTable, heads_placed, place_key, placed_key, placed_heads}
 use Rattle.head_map.proofs.HeadLemmas.{found_at, index_of, heads_there, heads_gap}
-use Rattle.head_map.proofs.heads.HeadMap.get.Goals as goal
+use Rattle.head_map.proofs.list.HeadList.get.Goals as goal
 
 pub returns-in-Ok : goal.returns-in-Ok
 returns-in-Ok c =

@@ -1,7 +1,7 @@
 use Rattle.std.proofs.Common.{◌≡◌, ◌-◌, ◌<◌, ◌≤◌, ◌∙◌, length, refl, ap, suc, arith}
 use Rattle.head_map.specs.Heads.{lowered_row}
 use Rattle.head_map.proofs.PlaceLemmas.{changed_start, changed_more, changed_holds, length-changed_from}
-use Rattle.head_map.proofs.heads.lower_from.Goals as goal
+use Rattle.head_map.proofs.list.lower_from.Goals as goal
 
 pub lower-init : goal.lower-init
 lower-init c = (omega arith, omega arith, changed_start (lowered_row c.args.by) c.args.rows.now.items c.args.rows.now.items c.len-at.result refl (omega arith), refl)

@@ -4,7 +4,7 @@ use Rattle.head_map.specs.Heads.{PlacedRow}
 use Rattle.head_map.specs.Heads.{PlaceTable, heads_placed, is_settled}
 use Rattle.head_map.proofs.HeadLemmas.{found_at, index_of, index_below, settled_of, unsettled}
 use Rattle.head_map.proofs.PlaceLemmas.{removed_placed, put_set_placed, put_insert_placed, put_set, put_insert, put_remove, put_none, placed_gap}
-use Rattle.head_map.proofs.heads.HeadMap.put.Goals as goal
+use Rattle.head_map.proofs.list.HeadList.put.Goals as goal
 
 pub invariant_of-self : goal.invariant_of-self
 invariant_of-self c =

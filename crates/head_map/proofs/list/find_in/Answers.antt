@@ -3,7 +3,7 @@ use Rattle.graph_model.specs.declared.row.Key.{Key}
 use Rattle.head_map.specs.Heads.{PlacedRow}
 use Rattle.head_map.specs.Heads.{placed_key}
 use Rattle.head_map.proofs.KeyedLemmas.{gap_of_place}
-use Rattle.head_map.proofs.heads.find_in.Goals as goal
+use Rattle.head_map.proofs.list.find_in.Goals as goal
 
 pub returns-in_default : goal.returns-in_default
 returns-in_default c = gap_of_place placed_key _ _ _ c.requires c.index_in-index.ensures

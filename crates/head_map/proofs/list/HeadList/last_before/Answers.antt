@@ -2,7 +2,7 @@ use Rattle.std.proofs.Common.{◌≡◌, ◌-◌, suc, subst, ◌∙◌, ap, ari
 use Rattle.head_map.specs.Heads.{PlacedRow, IsPlaceIn}
 use Rattle.head_map.proofs.HeadLemmas.{index_of, there_at}
 use Rattle.head_map.proofs.PlaceLemmas.{none_before, last_is_before, none_between}
-use Rattle.head_map.proofs.heads.HeadMap.last_before.Goals as goal
+use Rattle.head_map.proofs.list.HeadList.last_before.Goals as goal
 
 pub returns-then-index-eq0-clause-between : goal.returns-then-index-eq0-clause-between
 returns-then-index-eq0-clause-between c =

@@ -1,5 +1,5 @@
 use Rattle.head_map.proofs.PlaceLemmas.{lower_placed, lower_heads, placed_above}
-use Rattle.head_map.proofs.heads.HeadMap.lower.Goals as goal
+use Rattle.head_map.proofs.list.HeadList.lower.Goals as goal
 
 pub lower_from-requires-clause-high : goal.lower_from-requires-clause-high
 lower_from-requires-clause-high c = placed_above c.args.by c.self.inside.rows.items c.self.invariant (rw (← c.self.view_is) at c.requires)

@@ -1,7 +1,7 @@
 use Rattle.std.proofs.Common.{◌≤◌, length, arith}
 use Rattle.head_map.proofs.HeadLemmas.{none_of_all}
 use Rattle.head_map.proofs.PlaceLemmas.{settled_places}
-use Rattle.head_map.proofs.heads.HeadMap.are_settled.Goals as goal
+use Rattle.head_map.proofs.list.HeadList.are_settled.Goals as goal
 
 pub returns : goal.returns
 returns c = λ _.

@@ -3,7 +3,7 @@ use Rattle.graph_model.specs.Rows.{is_below}
 use Rattle.head_map.specs.Heads.{place_key, placed_key}
 use Rattle.head_map.proofs.KeyedLemmas.{halved_start, halved_up, halved_down, halved_end}
 use Rattle.head_map.proofs.PlaceLemmas.{is_lower_place, not_lower_place}
-use Rattle.head_map.proofs.heads.index_in.Goals as goal
+use Rattle.head_map.proofs.list.index_in.Goals as goal
 
 pub halves-init : goal.halves-init
 halves-init c = halved_start placed_key _ _
