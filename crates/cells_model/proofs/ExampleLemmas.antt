@@ -7,7 +7,8 @@ use Rattle.graph_model.specs.Rows.{is_between}
 use Rattle.store_model.specs.Stamped.{StampedVersions}
 use Rattle.version_segment.specs.Rows.{VersionedRows}
 use Rattle.seat_views.proofs.NumberLemmas.{some_is}
-use Rattle.cells_model.specs.Words.{Spells, word_row}
+use Rattle.version_segment.specs.Resting.{word_row}
+use Rattle.cells_model.specs.Words.{Spells}
 use Rattle.cells_model.specs.Reads.{AreLoadedFrom}
 use Rattle.cells_model.specs.Noted.{IsAmong}
 use Rattle.cells_model.specs.Examples.{WordExamples, ReadExamples, NoteExamples, at, moved_cell, torn_read}

@@ -13,7 +13,8 @@ use Rattle.store_model.specs.Stamped.{Stamped, StampedVersions}
 use Rattle.version_segment.specs.Keyed.{RisesBy, IsPlaceBy, IsGapBy, entries_by}
 use Rattle.version_segment.specs.Resting as may_rest
 use Rattle.version_segment.specs.Rows.{VersionedRows, IsSegment, versions_at, or_nothing, is_empty}
-use Rattle.cells_model.specs.Words.{HasSmallValues, HasSmallWeights, IsSmall, newest_in, newest_value, value_word, value_in_word, is_chained, word_of, chain_mark, no_value, word_row, word_rows, flat}
+use Rattle.version_segment.specs.Resting.{newest_in, newest_value, value_word, value_in_word, is_marked, word_of, mark, no_value, word_row, word_rows}
+use Rattle.cells_model.specs.Words.{HasSmallValues, HasSmallWeights, IsSmall, flat}
 use Rattle.version_segment.proofs.KeyedLemmas.{find_there, find_gap, gap_of_place}
 use Rattle.cells_model.specs.BlockLaws.{HeadIsTold, RowIsTold, TellsVersions, ValueIsTold, NoRowIsTold, row_key}
 
@@ -154,19 +155,19 @@ newest_weights s small = go s.rows small
 
 -- what the word of a row tells
 word_tells : (v : Option ℕ) (settled : Bool) → IfSome v (λ w. w ≤ MAX_WEIGHT)
-    → (is_chained (word_of v settled) ≡ false → (settled ≡ true) × (value_in_word (word_of v settled) ≡ v))
-    × (is_chained (word_of v settled) ≡ true → (settled ≡ false) ⊎ (v ≡ None))
+    → (is_marked (word_of v settled) ≡ false → (settled ≡ true) × (value_in_word (word_of v settled) ≡ v))
+    × (is_marked (word_of v settled) ≡ true → (settled ≡ false) ⊎ (v ≡ None))
 word_tells None settled small = ((λ e. absurd (apart e)), λ e. inr refl)
   where
     apart : true ≡ false → ⊥
     apart e = cc
 word_tells (Some w) true small =
     let a : (w == no_value) ≡ false = grind (arith, nat_tests) in
-    let b : nat_le chain_mark w ≡ false = grind (arith, nat_tests) in (
+    let b : nat_le mark w ≡ false = grind (arith, nat_tests) in (
       (λ e. (
         refl,
-        ap (λ t. cond t None (cond (nat_le chain_mark w) (Some (w - chain_mark)) (Some w))) a
-            ∙ ap (λ t. cond t (Some (w - chain_mark)) (Some w)) b,
+        ap (λ t. cond t None (cond (nat_le mark w) (Some (w - mark)) (Some w))) a
+            ∙ ap (λ t. cond t (Some (w - mark)) (Some w)) b,
       )),
       (λ e. absurd (apart (sym e ∙ b))),
     )
@@ -174,7 +175,7 @@ word_tells (Some w) true small =
     apart : true ≡ false → ⊥
     apart e = cc
 word_tells (Some w) false small =
-    let b : nat_le chain_mark (chain_mark + w) ≡ true = grind (arith, nat_tests) in
+    let b : nat_le mark (mark + w) ≡ true = grind (arith, nat_tests) in
     ((λ e. absurd (apart (sym b ∙ e))), λ e. inl refl)
   where
     apart : true ≡ false → ⊥

@@ -6,7 +6,8 @@ use Rattle.graph_model.specs.declared.row.Row.{Row}
 use Rattle.seat_views.specs.Keeping.{revised}
 use Rattle.version_segment.specs.Keyed.{IsPlaceBy}
 use Rattle.version_segment.specs.Rows.{VersionedRows, versions_at, is_empty, nothing}
-use Rattle.cells_model.specs.Words.{Spells, IsRowAt, IsHeadOf, block_words, newest_value, value_in_word, is_chained, word_rows}
+use Rattle.version_segment.specs.Resting.{newest_value, value_in_word, is_marked, word_rows}
+use Rattle.cells_model.specs.Words.{Spells, IsRowAt, IsHeadOf, block_words}
 use Rattle.cells_model.specs.Cells.{CellState, AreBlocks, ChangesContents, StoresBlockWord, version_word, raised_word, lowered_word, unpacked, stored, packed}
 use Rattle.cells_model.specs.Reads.{Reading, IsReading, IsValidated, first_loaded, word_loaded, second_loaded}
 
@@ -26,10 +27,10 @@ row_key row = row.key
 -- what the word of a key's row tells: an unmarked one that the row has no other value, a marked
 -- one that it may have
 pub record TellsVersions (s : VersionedRows) (key : Key) (word : ℕ) : Type 0 where
-  pub settled : is_chained word ≡ false
+  pub settled : is_marked word ≡ false
       → (is_empty (versions_at s key).pairs ≡ true)
       × (value_in_word word ≡ newest_value (versions_at s key))
-  pub chained : is_chained word ≡ true
+  pub chained : is_marked word ≡ true
       → (is_empty (versions_at s key).pairs ≡ false) ⊎ (newest_value (versions_at s key) ≡ None)
 
 -- the place of a key among the rows is that of its row, or the key has none

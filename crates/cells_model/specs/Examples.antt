@@ -8,7 +8,7 @@ use Rattle.leaf_index.specs.Calls.{kept_of}
 use Rattle.leaf_index.specs.Index.{Index}
 use Rattle.epoch_reclaim.specs.declared.sweep.Sweep.{Sweep}
 use Rattle.epoch_reclaim.specs.Pinned.{announced_word, begun, looked_at, pinned_word}
-use Rattle.cells_model.specs.Words.{is_chained, no_value, value_in_word, value_word}
+use Rattle.version_segment.specs.Resting.{is_marked, no_value, value_in_word, value_word}
 use Rattle.cells_model.specs.Cells.{CellState, last_word, lowered_word, raised_word, version_word}
 use Rattle.cells_model.specs.Reads.{Reading, IsReading, IsValidated, first_loaded, second_loaded}
 use Rattle.cells_model.specs.Noted.{AreNoted}
@@ -39,9 +39,9 @@ pub record WordExamples : Type 0 where
   pub settled_value : value_in_word 7 ≡ Some 7
   pub chained_value : value_in_word 9223372036854775813 ≡ Some 5
   pub removed_value : value_in_word no_value ≡ None
-  pub settled_mark : is_chained 7 ≡ false
-  pub chained_mark : is_chained 9223372036854775813 ≡ true
-  pub removed_mark : is_chained no_value ≡ true
+  pub settled_mark : is_marked 7 ≡ false
+  pub chained_mark : is_marked 9223372036854775813 ≡ true
+  pub removed_mark : is_marked no_value ≡ true
   -- version words while a cell is unpacked, where it was changed, and where it was not
   pub raised : raised_word 4 ≡ 5
   pub changed : lowered_word true 5 ≡ 6

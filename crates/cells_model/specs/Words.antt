@@ -1,57 +1,15 @@
 -- The words of a cell's block: its version word, the number of its rows, its fence keys, and
 -- three words a row.
-use Rattle.std.specs.Prelude.{◌≡◌, ℕ, ◌+◌, ◌-◌, ◌*◌, ◌≤◌, ◌==◌, nat_le, Bool, true, false, cond, List, [], ◌∷◌, map, length, slice_index, slice_get, Option, Some, None, IfSome}
+use Rattle.std.specs.Prelude.{◌≡◌, ℕ, ◌+◌, ◌*◌, ◌≤◌, List, [], ◌∷◌, length, slice_index, slice_get, Option, Some, IfSome}
 use Rattle.std.specs.List.{AllByRecursion}
 use Rattle.graph_model.specs.declared.row.Key.{Key}
 use Rattle.graph_model.specs.declared.row.Row.{Row}
 use Rattle.graph_model.specs.declared.limits.TheConstants.{MAX_WEIGHT}
-use Rattle.store_model.specs.Stamped.{Stamped, StampedVersions}
-use Rattle.version_segment.specs.Rows.{VersionedRows, IsSegment, is_empty}
-
--- ---- the word of a row's newest value
-
--- the value that a row's newest pair left, or its oldest value where it has no pair
-abbrev pub newest_in : List Stamped → Option ℕ → Option ℕ
-newest_in [] oldest = oldest
-newest_in (p ∷ ps) oldest = p.value
-
-abbrev pub newest_value : StampedVersions → Option ℕ
-newest_value vs = newest_in vs.pairs vs.oldest
-
--- 2^63, which is added where the row has pairs: there may be other values
-abbrev pub chain_mark : ℕ
-chain_mark = 9223372036854775808
-
--- 2^64 - 1, which stands for no value
-abbrev pub no_value : ℕ
-no_value = 18446744073709551615
-
--- the word of a newest value, of a row without pairs or with some
-abbrev pub word_of : Option ℕ → Bool → ℕ
-word_of None settled = no_value
-word_of (Some weight) true = weight
-word_of (Some weight) false = chain_mark + weight
-
-abbrev pub value_word : StampedVersions → ℕ
-value_word vs = word_of (newest_value vs) (is_empty vs.pairs)
-
--- the newest value that a word tells
-abbrev pub value_in_word : ℕ → Option ℕ
-value_in_word n = cond (n == no_value) None
-    (cond (nat_le chain_mark n) (Some (n - chain_mark)) (Some n))
-
--- whether it tells that there may be other values
-abbrev pub is_chained : ℕ → Bool
-is_chained n = nat_le chain_mark n
+use Rattle.store_model.specs.Stamped.{StampedVersions}
+use Rattle.version_segment.specs.Resting.{word_rows}
+use Rattle.version_segment.specs.Rows.{VersionedRows, IsSegment}
 
 -- ---- the words of a block
-
--- a row as words have it: its key, and the word of its newest value
-abbrev pub word_row : Key × StampedVersions → Row
-word_row row = record { key = row.0; weight = value_word row.1 }
-
-abbrev pub word_rows : VersionedRows → List Row
-word_rows s = map word_row s.rows
 
 -- the words of rows, one row after the other
 abbrev pub flat : List Row → List ℕ

@@ -521,3 +521,32 @@ module _ (place i : ℕ) (e : PlacedRow) where
           (other_test p x.place (λ same. let here : x.place ≡ e.place = ap (λ (y : PlacedRow). y.place) (some_eq x e t) in omega (arith, same, here, gt)), all_above xs place p lt b)
       go (x ∷ xs) (suc j) r t b =
           (other_test p x.place (λ same. let below : x.place < e.place = lower_place x.place e.place (there_all (λ y. is_below (placed_key x) (placed_key y) ≡ true) xs j t r.0) in omega (arith, same, below, gt)), go xs j r.1 t b)
+
+-- ---- where all rows are settled
+
+-- they stay so when one comes, when one goes, and when they move up
+pub none_opened : (n p : ℕ) (f : ℕ → Heads) → ((q : ℕ) → f q ≡ settled_heads) → opened n f p ≡ settled_heads
+none_opened zero zero f all = refl
+none_opened zero (suc p) f all = all p
+none_opened (suc n) zero f all = all zero
+none_opened (suc n) (suc p) f all = none_opened n p (λ q. f (suc q)) (λ q. all (suc q))
+
+pub none_closed : (n p : ℕ) (f : ℕ → Heads) → ((q : ℕ) → f q ≡ settled_heads) → closed n f p ≡ settled_heads
+none_closed zero p f all = all (suc p)
+none_closed (suc n) zero f all = all zero
+none_closed (suc n) (suc p) f all = none_closed n p (λ q. f (suc q)) (λ q. all (suc q))
+
+pub none_raised : (n p : ℕ) (f : ℕ → Heads) → ((q : ℕ) → f q ≡ settled_heads) → raised n f p ≡ settled_heads
+none_raised zero p f all = all p
+none_raised (suc n) zero f all = refl
+none_raised (suc n) (suc p) f all = none_raised n p f all
+
+-- so do those of no box
+pub empty_opened : (n p : ℕ) → heads_placed [] p ≡ opened n (heads_placed []) p
+empty_opened n p = sym (none_opened n p (heads_placed []) (λ q. refl))
+
+pub empty_closed : (n p : ℕ) → heads_placed [] p ≡ closed n (heads_placed []) p
+empty_closed n p = sym (none_closed n p (heads_placed []) (λ q. refl))
+
+pub empty_raised : (n p : ℕ) → heads_placed [] p ≡ raised n (heads_placed []) p
+empty_raised n p = sym (none_raised n p (heads_placed []) (λ q. refl))

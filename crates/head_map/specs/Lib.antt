@@ -1,3 +1,4 @@
 pub mod Keyed
 pub mod Heads
 pub use Rattle.gap_segment.specs.Fenced
+pub mod Resting

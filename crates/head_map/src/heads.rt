@@ -1,16 +1,17 @@
 //! Where the records of changed rows begin.
 //!
-//! 1. Places strictly rise.
-//! 2. A row that isn't named here is settled, and no other one: it has its value, and no records.
+//! 1. Where no row was ever changed there is no box. It is made by `reserve`, with room for the rows.
+//! 2. The box has a place for the records of a segment at rest, which is empty while the segment is awake.
 
-ghost use Rattle.std.specs.Prelude.{◌≡◌, ◌==◌, ◌⊎◌, ◌+◌, ◌<◌, ◌≤◌, ℕ, true, [], length, insert, cond, nat_eq, IfSome, OnOk, IsOk};
-ghost use Rattle.std.specs.Vec.{vec_capacity};
-ghost use Rattle.head_map.specs.Heads.{heads_placed, place_behind, settled_heads, is_settled, opened, closed, raised, changed_from, raised_row, lowered_row, IsFoundIn, IsPlaceIn, ArePlacesRising, ArePlacedBelow, ArePlacedFrom};
+ghost use Rattle.std.specs.Prelude.{◌≡◌, ◌==◌, ◌⊎◌, ◌+◌, ◌<◌, ◌≤◌, ℕ, true, [], length, cond, nat_eq, IfSome, OnOk, IsOk, IfOk};
+ghost use Rattle.head_map.specs.Heads.{heads_placed, place_behind, settled_heads, is_settled, opened, closed, raised};
 
-use crate::packed::{PackedHeads, PackedRow};
+use crate::list::HeadList;
+use crate::packed::PackedHeads;
 use graph_model::NoMemory;
 use std::alloc::Global;
 use std::marker::Model;
+use undo_chain::Chains;
 
 /// Where the records of one row begin, and its touches. Where a row has no value its weight isn't read.
 #[derive(Clone, Copy)]
@@ -40,22 +41,32 @@ impl Heads {
     }
 }
 
+/// What a box of heads holds.
+#[derive(Drop)]
+pub(crate) struct Inside {
+    pub(crate) list: HeadList,
+    /// The records, while the segment is at rest. Else there are none, and they have no memory.
+    pub(crate) chains: Chains,
+    /// How many rows it has, while it is at rest.
+    pub(crate) count: usize,
+}
+
 /// The changed rows of a segment, in the order of their places.
 #[derive(Drop)]
 pub struct HeadMap {
-    rows: Vec<PackedRow>,
+    pub(crate) alloc: Global,
+    pub(crate) inside: Option<Box<Inside>>,
 }
 
+const _: () = prove!(size_of::<HeadMap>() == 16);
+
 impl Model for HeadMap {
-    ghost use Rattle.std.specs.Prelude.{◌-◌, length};
-    ghost use Rattle.std.specs.Vec.{vec_capacity};
-    ghost use Rattle.head_map.specs.Heads.{PlaceTable, ArePlaced};
+    ghost use Rattle.head_map.specs.Heads.{PlaceTable};
+    ghost use Rattle.head_map.specs.Resting.{heads_in};
 
     ghost Value = { PlaceTable };
 
-    ghost view = { λ m. record { entries = m.rows.items; spare = vec_capacity m.rows - length m.rows.items } };
-
-    ghost invariant = { λ m. ArePlaced m.rows.items };
+    ghost view = { λ m. heads_in m.inside };
 }
 
 impl HeadMap {
@@ -64,7 +75,8 @@ impl HeadMap {
         ensures { result.entries ≡ [] }
     {
         HeadMap {
-            rows: Vec::new(alloc),
+            alloc,
+            inside: None,
         }
     }
 
@@ -72,14 +84,20 @@ impl HeadMap {
     pub fn is_empty(&self) -> bool
         ensures { result ≡ (length self.now.entries == 0) }
     {
-        self.rows.is_empty()
+        match &self.inside {
+            Some(inside) => inside.list.is_empty(),
+            None => true,
+        }
     }
 
     /// How many more rows there is room for.
     pub fn spare(&self) -> usize
         ensures { result ≡ self.now.spare }
     {
-        self.rows.capacity() - self.rows.len()
+        match &self.inside {
+            Some(inside) => inside.list.spare(),
+            None => 0,
+        }
     }
 
     /// Makes room for so many more rows. Takes no memory where there is room already.
@@ -89,22 +107,20 @@ impl HeadMap {
         ensures kept { self.new.entries ≡ self.old.entries }
         ensures spare { self.old.spare ≤ self.new.spare }
     {
-        if rows == 0 {
-            return Ok(());
+        if let Some(inside) = &mut self.inside {
+            return inside.list.reserve(rows);
         }
-        self.rows.reserve(rows)?;
+        if rows > 0 {
+            self.inside = Some(with_room(self.alloc, rows)?);
+        }
         Ok(())
     }
 
     /// The sum of the places of the first changed row, of one in the middle and of the last.
     pub fn sum_ahead(&self) -> usize {
-        let rows = self.rows.as_slice();
-        match (rows.first(), rows.get(rows.len() / 2), rows.last()) {
-            (Some(first), Some(middle), Some(last)) => first
-                .place()
-                .wrapping_add(middle.place())
-                .wrapping_add(last.place()),
-            _ => 0,
+        match &self.inside {
+            Some(inside) => inside.list.sum_ahead(),
+            None => 0,
         }
     }
 
@@ -112,9 +128,9 @@ impl HeadMap {
     pub fn get(&self, place: usize) -> Heads
         ensures { result ≡ heads_placed self.now.entries place }
     {
-        match find_in(self.rows.as_slice(), place) {
-            Ok(index) => self.rows[index].heads(),
-            Err(_) => Heads::settled(),
+        match &self.inside {
+            Some(inside) => inside.list.get(place),
+            None => Heads::settled(),
         }
     }
 
@@ -129,14 +145,8 @@ impl HeadMap {
         ensures kept { (heads_placed self.old.entries place ≡ settled_heads → heads ≡ settled_heads)
             → self.old.spare ≤ self.new.spare }
     {
-        let settled = heads.heads().is_settled();
-        match find_in(self.rows.as_slice(), place) {
-            Ok(index) if settled => {
-                self.rows.remove(index);
-            }
-            Ok(index) => self.rows[index].set_heads(heads),
-            Err(_) if settled => {}
-            Err(index) => put_row(&mut self.rows, index, PackedRow::new(place, heads)),
+        if let Some(inside) = &mut self.inside {
+            inside.list.put(place, heads);
         }
     }
 
@@ -146,8 +156,9 @@ impl HeadMap {
         ensures heads { (p : ℕ) → heads_placed self.new.entries p ≡ opened place (heads_placed self.old.entries) p }
         ensures spare { self.new.spare ≡ self.old.spare }
     {
-        let index = index_in(self.rows.as_slice(), place);
-        raise_from(&mut self.rows, index, 1);
+        if let Some(inside) = &mut self.inside {
+            inside.list.open(place);
+        }
     }
 
     /// Takes the row at a place away: those behind it stand one place further down.
@@ -155,12 +166,8 @@ impl HeadMap {
         ensures heads { (p : ℕ) → heads_placed self.new.entries p ≡ closed place (heads_placed self.old.entries) p }
         ensures spare { self.old.spare ≤ self.new.spare }
     {
-        match find_in(self.rows.as_slice(), place) {
-            Ok(index) => {
-                self.rows.remove(index);
-                lower_from(&mut self.rows, index, 1);
-            }
-            Err(index) => lower_from(&mut self.rows, index, 1),
+        if let Some(inside) = &mut self.inside {
+            inside.list.close(place);
         }
     }
 
@@ -171,7 +178,9 @@ impl HeadMap {
         ensures heads { (p : ℕ) → heads_placed self.new.entries p ≡ raised by (heads_placed self.old.entries) p }
         ensures spare { self.new.spare ≡ self.old.spare }
     {
-        raise_from(&mut self.rows, 0, by);
+        if let Some(inside) = &mut self.inside {
+            inside.list.raise(by);
+        }
     }
 
     /// Moves all rows so many places down.
@@ -180,7 +189,9 @@ impl HeadMap {
         ensures heads { (p : ℕ) → heads_placed self.new.entries p ≡ heads_placed self.old.entries (by + p) }
         ensures spare { self.new.spare ≡ self.old.spare }
     {
-        lower_from(&mut self.rows, 0, by);
+        if let Some(inside) = &mut self.inside {
+            inside.list.lower(by);
+        }
     }
 
     /// The last place before this one whose row is changed.
@@ -189,95 +200,34 @@ impl HeadMap {
         ensures between { (p : ℕ) → place_behind result ≤ p → p < place
             → heads_placed self.now.entries p ≡ settled_heads }
     {
-        let index = index_in(self.rows.as_slice(), place);
-        if index == 0 {
-            return None;
+        match &self.inside {
+            Some(inside) => inside.list.last_before(place),
+            None => None,
         }
-        Some(self.rows[index - 1].place())
     }
 
     /// Whether all rows between two places are settled.
     pub fn are_settled(&self, first: usize, end: usize) -> bool
         ensures { result ≡ true → (p : ℕ) → first ≤ p → p < end → heads_placed self.now.entries p ≡ settled_heads }
     {
-        'rows: for row in &self.rows {
-            let place = row.place();
-            if first <= place && place < end {
-                return false;
-            }
-        }
-        true
-    }
-}
-
-/// Puts a row at an index, within the vector's room.
-fn put_row(rows: &mut Vec<PackedRow>, index: usize, row: PackedRow)
-    requires index { index ≤ length rows.old.items }
-    requires room { length rows.old.items < vec_capacity rows.old }
-    ensures rows { rows.new.items ≡ insert rows.old.items index row }
-    ensures capacity { vec_capacity rows.old ≤ vec_capacity rows.new }
-{
-    match rows.insert(index, row) {
-        Ok(()) => {}
-        Err(_) => unreachable!(),
-    }
-}
-
-/// Moves the rows from an index on so many places up.
-fn raise_from(rows: &mut Vec<PackedRow>, index: usize, by: usize)
-    requires index { index ≤ length rows.old.items }
-    requires byte { ArePlacedBelow by rows.old.items }
-    ensures rows { rows.new.items ≡ changed_from index (raised_row by) rows.old.items }
-    ensures capacity { vec_capacity rows.new ≡ vec_capacity rows.old }
-{
-    let mut at = rows.len();
-    'raise: while at > index {
-        at -= 1;
-        rows[at].raise(by);
-    }
-}
-
-/// Moves the rows from an index on so many places down.
-fn lower_from(rows: &mut Vec<PackedRow>, index: usize, by: usize)
-    requires index { index ≤ length rows.old.items }
-    requires high { ArePlacedFrom index by rows.old.items }
-    ensures rows { rows.new.items ≡ changed_from index (lowered_row by) rows.old.items }
-    ensures capacity { vec_capacity rows.new ≡ vec_capacity rows.old }
-{
-    let mut at = rows.len();
-    'lower: while at > index {
-        at -= 1;
-        rows[at].lower(by);
-    }
-}
-
-/// The index of the row at a place, or the one where it would stand.
-fn find_in(rows: &[PackedRow], place: usize) -> Result<usize, usize>
-    requires { ArePlacesRising rows.now }
-    ensures { IsFoundIn rows.now place result }
-{
-    let index = index_in(rows, place);
-    match rows.get(index) {
-        Some(row) if row.place() == place => Ok(index),
-        _ => Err(index),
-    }
-}
-
-/// How many rows stand before the place, found by halves.
-fn index_in(rows: &[PackedRow], place: usize) -> usize
-    requires { ArePlacesRising rows.now }
-    ensures { IsPlaceIn rows.now place result }
-{
-    let mut index = 0;
-    let mut count = rows.len();
-    'halves: while count > 0 {
-        let half = count / 2;
-        if rows[index + half].place() < place {
-            index += half + 1;
-            count -= half + 1;
-        } else {
-            count = half;
+        match &self.inside {
+            Some(inside) => inside.list.are_settled(first, end),
+            None => true,
         }
     }
-    index
+}
+
+/// A box with room for so many rows.
+fn with_room(alloc: Global, rows: usize) -> Result<Box<Inside>, NoMemory>
+    ensures entries { IfOk result (λ inside. inside.value.list.entries ≡ []) }
+    ensures room { IfOk result (λ inside. rows ≤ inside.value.list.spare) }
+{
+    let mut list = HeadList::new(alloc);
+    list.reserve(rows)?;
+    let inside = Inside {
+        list,
+        chains: Chains::new(alloc),
+        count: 0,
+    };
+    Ok(Box::new(alloc, inside)?)
 }

@@ -5,7 +5,10 @@
 #![tactic(auto)]
 
 mod heads;
+mod list;
 mod packed;
+mod resting;
 
 pub use heads::{HeadMap, Heads};
 pub use packed::PackedHeads;
+pub use resting::RestingHeads;

@@ -10,13 +10,13 @@ use Rattle.graph_model.specs.declared.row.Key.{Key}
 use Rattle.graph_model.specs.declared.row.Row.{Row}
 use Rattle.seat_views.proofs.NumberLemmas.{some_is}
 use Rattle.txn_manager.specs.declared.config.Config.{Config}
-use Rattle.version_segment.specs.Resting.{RestingRows}
+use Rattle.version_segment.specs.Resting.{RestingRows, word_row, word_rows}
 use Rattle.version_segment.specs.Rows.{IsSegment, VersionedRows}
 use Rattle.leaf_array.specs.declared.leaf.Leaf.{Leaf}
 use Rattle.leaf_store.specs.Table.{segments_or_none}
 use Rattle.store_relation.specs.Loads.{loaded_word}
 use Rattle.store_relation.specs.Words.{commit_word}
-use Rattle.cells_model.specs.Words.{HasSmallWeights, Spells, block_words, flat, spelled, word_row, word_rows}
+use Rattle.cells_model.specs.Words.{HasSmallWeights, Spells, block_words, flat, spelled}
 use Rattle.rule_model.specs.EndSteps.{AreLoadedWords, IsFirstState, zeros}
 use Rattle.rule_model.specs.Places.{lines}
 use Rattle.rule_model.specs.Sight.{cells_of}

@@ -14,7 +14,7 @@ use Rattle.graph_model.specs.Refused.{AllAllowed, IsWithinLimits}
 use Rattle.graph_model.specs.Rows.{end_key, value_at}
 use Rattle.txn_manager.specs.Config.{too_large}
 use Rattle.txn_manager.specs.declared.config.Config.{Config}
-use Rattle.version_segment.specs.Resting.{RestingRow, RestingRows, resting_of}
+use Rattle.version_segment.specs.Resting.{RestingRow, RestingRows, resting_of, word_rows}
 use Rattle.version_segment.specs.Rows.{VersionedRows}
 use Rattle.leaf_array.specs.declared.leaf.Leaf.{Leaf}
 use Rattle.leaf_index.specs.Index.{Index}
@@ -23,7 +23,7 @@ use Rattle.leaf_store.specs.Table.{segments_or_none}
 use Rattle.store_relation.specs.Ends.{only_value}
 use Rattle.store_relation.specs.Words.{commit_word}
 use Rattle.cells_model.specs.Cells.{CellState}
-use Rattle.cells_model.specs.Words.{spelled, word_rows}
+use Rattle.cells_model.specs.Words.{spelled}
 use Rattle.rule_model.specs.EndSteps.{loaded_known, sight_of, zeros}
 use Rattle.rule_model.specs.Places.{lines}
 use Rattle.rule_model.specs.Rule.{IsStoreRule}

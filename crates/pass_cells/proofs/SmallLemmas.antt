@@ -1,6 +1,6 @@
 -- Values that may be stored, in the rows of a segment and in what a change makes of them.
 use Rattle.std.proofs.Common.{◌≡◌, ℕ, zero, suc, List, [], ◌∷◌, drop, map, refl, sym, ◌∙◌, ap, subst, cond, arith, Some}
-use Rattle.std.specs.Prelude.{Bool, true, false, slice_get}
+use Rattle.std.specs.Prelude.{Bool, true, false, ◌&&◌, slice_get}
 use Rattle.std.specs.List.{AllByRecursion}
 use Rattle.std.specs.Ordering.{eq_by_cmp}
 use Rattle.std.specs.FinMap.Entries.{find}
@@ -14,7 +14,7 @@ use Rattle.graph_model.specs.Effects.{touches_at, value_left, writes_at}
 use Rattle.graph_model.specs.Refused.{IsWithinLimits}
 use Rattle.graph_model.specs.Rows.{is_between, key_cmp}
 use Rattle.seat_views.proofs.NumberLemmas.{some_is}
-use Rattle.store_model.specs.Stamped.{Stamped, StampedVersions, stamp, stamp_one}
+use Rattle.store_model.specs.Stamped.{Stamped, StampedVersions, lacks_stamp, stamp, stamp_one}
 use Rattle.version_segment.specs.Keyed.{entries_by}
 use Rattle.version_segment.proofs.KeyedLemmas.{find_there}
 use Rattle.version_segment.specs.Rows.{VersionedRows, IsSegment, nothing, or_nothing, touched, undone, untouched, versions_at, written}
@@ -41,7 +41,7 @@ stamp_small by c vs small = (all vs.pairs small.0, small.1)
     all : (ps : List Stamped) → AllByRecursion (λ p. IsSmall p.value) ps
         → AllByRecursion (λ p. IsSmall p.value) (map (stamp_one by c) ps)
     all [] h = tt
-    all (p ∷ ps) h = (one (same_name p.by by), all ps h.1)
+    all (p ∷ ps) h = (one (same_name p.by by && lacks_stamp p), all ps h.1)
       where
         one : (t : Bool) → IsSmall (cond t (record { by = p.by; stamp = Some c; value = p.value }) p).value
         one true = h.0

@@ -10,7 +10,7 @@ use Rattle.graph_model.specs.Conflict.{same_name}
 use Rattle.graph_model.specs.Effects.{same_key}
 use Rattle.graph_model.proofs.OrderLemmas.{key_tie}
 use Rattle.graph_model.proofs.TestLemmas.{never}
-use Rattle.store_model.specs.Stamped.{Stamped, StampedVersions, stamp, stamp_one}
+use Rattle.store_model.specs.Stamped.{Stamped, StampedVersions, lacks_stamp, stamp, stamp_one}
 use Rattle.version_segment.specs.Rows.{VersionedRows, ChangesKey, IsSegment, has_row, is_empty, is_nothing, versions_at}
 use Rattle.version_segment.proofs.LawLemmas.{key_changed}
 use Rattle.row_writes.proofs.KeyLemmas.{key_eq}
@@ -36,15 +36,22 @@ stamped_nothing by n vs = λ i. none vs.pairs i && (none vs.touches i && not (is
 stamped_twice : (by : TxnName) (n : ℕ) (vs : StampedVersions) → stamp by n (stamp by n vs) ≡ stamp by n vs
 stamped_twice by n vs = λ i. record { pairs = twice vs.pairs i; oldest = vs.oldest; touches = twice vs.touches i }
   where
+    and_false : (b : Bool) → (b && false) ≡ false
+    and_false true = refl
+    and_false false = refl
+
     one : (p : Stamped) → stamp_one by n (stamp_one by n p) ≡ stamp_one by n p
-    one p = go (same_name p.by by) refl
+    one p = go (same_name p.by by && lacks_stamp p) refl
       where
-        go : (t : Bool) → same_name p.by by ≡ t → stamp_one by n (stamp_one by n p) ≡ stamp_one by n p
-        go true e = ap (λ t. stamp_one by n (cond t (record { by = p.by; stamp = Some n; value = p.value }) p)) e
-            ∙ ap (λ t. cond t (record { by = p.by; stamp = Some n; value = p.value })
-            (record { by = p.by; stamp = Some n; value = p.value })) e
-            ∙ sym (ap (λ t. cond t (record { by = p.by; stamp = Some n; value = p.value }) p) e)
-        go false e = ap (λ t. stamp_one by n (cond t (record { by = p.by; stamp = Some n; value = p.value }) p)) e
+        with_it : Stamped
+        with_it = record { by = p.by; stamp = Some n; value = p.value }
+
+        go : (t : Bool) → (same_name p.by by && lacks_stamp p) ≡ t
+            → stamp_one by n (stamp_one by n p) ≡ stamp_one by n p
+        go true e = ap (λ t. stamp_one by n (cond t with_it p)) e
+            ∙ ap (λ t. cond t with_it with_it) (and_false (same_name p.by by))
+            ∙ sym (ap (λ t. cond t with_it p) e)
+        go false e = ap (λ t. stamp_one by n (cond t with_it p)) e
 
     twice : (ps : List Stamped) → map (stamp_one by n) (map (stamp_one by n) ps) ≡ map (stamp_one by n) ps
     twice [] = refl

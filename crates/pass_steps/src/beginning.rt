@@ -76,7 +76,7 @@ fn open_txn(rt: &impl Wait, store: &Store, pass: &mut Pass) -> Result<u64, NoMem
     ensures same { IsSamePass pass.old pass.new }
 {
     let mut held = take_journal(rt, store, pass);
-    let opened = open_within(store, pass, &mut held.value);
+    let opened = open_within(store, pass, &mut *held.value);
     give_journal(store, pass, held);
     opened
 }

@@ -17,11 +17,15 @@ use std::sync::Wait;
 use store_rule::{Pass, Store};
 
 /// Takes the journal as soon as no other pass has it.
-pub(crate) fn take_journal(rt: &impl Wait, store: &Store, pass: &mut Pass) -> Held<RoomyJournal>
+pub(crate) fn take_journal(
+    rt: &impl Wait,
+    store: &Store,
+    pass: &mut Pass,
+) -> Held<Box<RoomyJournal>>
     requires pass { IsPassOf store.now pass.old }
     requires none { HoldsNone pass.old }
     ensures taken { (j : JournalState) × HasTaken store.now pass.new (state_of pass.old) (pin_of pass.old) j
-        × IsListOf j result.value }
+        × IsListOf j result.value.value }
     ensures place { result.cell ≡ cells_of store.now.accounts.config + 1 }
     ensures same { IsSamePass pass.old pass.new }
 {
@@ -31,9 +35,9 @@ pub(crate) fn take_journal(rt: &impl Wait, store: &Store, pass: &mut Pass) -> He
 }
 
 /// Gives the journal back. All its commits are published.
-pub(crate) fn give_journal(store: &Store, pass: &mut Pass, held: Held<RoomyJournal>)
+pub(crate) fn give_journal(store: &Store, pass: &mut Pass, held: Held<Box<RoomyJournal>>)
     requires taken { (st : PassState) × (x : PinState) × (j : JournalState) × HasTaken store.now pass.old st x j
-        × IsListOf j held.value }
+        × IsListOf j held.value.value }
     requires place { held.cell ≡ cells_of store.now.accounts.config + 1 }
     ensures pass { IsPassOf store.now pass.new }
     ensures none { HoldsNone pass.new }

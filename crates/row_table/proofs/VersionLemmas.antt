@@ -1,13 +1,13 @@
 -- What calls do to the lists of a row is what they do to its versions.
 use Rattle.std.proofs.Common.{◌≡◌, ℕ, suc, ◌+◌, List, [], ◌∷◌, ◌++◌, length, length-append, refl, sym, ◌∙◌, ap, map, arith, Some, None}
-use Rattle.std.specs.Prelude.{Bool, true, false, ◌||◌, not, cond, Option}
+use Rattle.std.specs.Prelude.{Bool, true, false, ◌&&◌, ◌||◌, not, cond, Option}
 use Rattle.std.specs.List.{list_any, filter}
 use Rattle.std.proofs.lemmas.List.Elements.{filter-append}
 use Rattle.graph_model.specs.declared.journal.TxnName.{TxnName}
 use Rattle.graph_model.specs.Conflict.{same_name}
 use Rattle.graph_model.specs.Transactions.{reached}
 use Rattle.store_model.specs.Stamped.{Stamped, known, stamp_one, prune_stamped, stamp}
-use Rattle.undo_chain.specs.Records.{UndoRecord, pairs_of, oldest_of, is_settled, has_writer, with_touch, without_touch, open_touches, unsettled_front, stamped_by}
+use Rattle.undo_chain.specs.Records.{UndoRecord, pairs_of, oldest_of, is_settled, has_writer, with_touch, without_touch, open_touches, unsettled_front, lacks_stamp, stamped_by}
 use Rattle.undo_chain.proofs.VersionLemmas.{front_is_pruned, stamp_is_stamp}
 use Rattle.row_table.specs.Rows.{new_record, has_record, written, undone, touched, untouched, records_in, newest_writer}
 use Rattle.row_table.specs.Parts.{touches_of, of_lists}
@@ -92,7 +92,7 @@ stamped_lists by at value us ts = λ i. record {
 }
   where
     one : (u : UndoRecord) → touch_of (stamped_by by at u) ≡ stamp_one by at (touch_of u)
-    one u = go (same_name u.by by)
+    one u = go (same_name u.by by && lacks_stamp u)
       where
         go : (t : Bool) → touch_of (cond t (record { by = u.by; stamp = Some at; older = u.older }) u) ≡ cond t (record { by = u.by; stamp = Some at; value = None }) (touch_of u)
         go true = refl

@@ -30,7 +30,8 @@ use Rattle.store_relation.proofs.EndLemmas.{closes, new_shared}
 use Rattle.cells_model.specs.Cells.{CellState}
 use Rattle.cells_model.specs.Indexed.{covers, leaf_cells, new_cell, store_of, table_of, IsIndexed}
 use Rattle.cells_model.specs.InPlace.{segment_of}
-use Rattle.cells_model.specs.Words.{Spells, block_words, spelled, word_rows}
+use Rattle.version_segment.specs.Resting.{word_rows}
+use Rattle.cells_model.specs.Words.{Spells, block_words, spelled}
 use Rattle.cells_model.proofs.IndexedLemmas.{cells_show, new_indexed}
 use Rattle.cells_model.proofs.RunLemmas.{segments_table}
 use Rattle.rule_model.specs.EndSteps.{AreNewWords, LinesAreNew, NewTable, TableBegins, TableCloses, sight_of, new_block, new_blocks, new_known, new_words, numbered, zeros}

@@ -20,7 +20,7 @@ use Rattle.txn_manager.specs.declared.config.Config.{Config}
 use Rattle.store_model.specs.Stamped.{Stamped, StampedVersions, first_stamped, forget, forget_row, known, prune_stamped, stamped_front}
 use Rattle.store_model.specs.Versions.{first_seen, sees}
 use Rattle.undo_chain.specs.declared.states.Snapshot.{Snapshot}
-use Rattle.version_segment.specs.Resting.{value_in_word}
+use Rattle.version_segment.specs.Resting.{value_in_word, mark, newest_in, newest_value, no_value, value_word, word_of, word_row, word_rows}
 use Rattle.version_segment.specs.Rows.{VersionedRows, IsSameSegment, IsSegment, is_empty, range_of, rows_read, versions_at, with_row}
 use Rattle.leaf_array.specs.Segments.{AreChained, high_or, low_or}
 use Rattle.leaf_index.specs.declared.route.Route.{Route}
@@ -37,7 +37,7 @@ use Rattle.store_relation.specs.Ends.{only_value}
 use Rattle.cells_model.specs.Cells.{CellState}
 use Rattle.cells_model.specs.InPlace.{segment_of}
 use Rattle.cells_model.specs.Indexed.{IsIndexed, cells_from, covers, leaf_cells, store_of, table_of}
-use Rattle.cells_model.specs.Words.{HasSmallValues, IsSmall, chain_mark, newest_in, newest_value, no_value, value_word, word_of, word_row, word_rows}
+use Rattle.cells_model.specs.Words.{HasSmallValues, IsSmall}
 use Rattle.cells_model.proofs.IndexedLemmas.{cells_show, fences_tell}
 use Rattle.cells_model.proofs.RunLemmas.{segments_table}
 use Rattle.cells_model.proofs.WordLemmas.{newest_small}
@@ -193,17 +193,17 @@ word_says : (v : Option ℕ) (t : Bool) → IsSmall v → is_some (value_in_word
 word_says None t small = refl
 word_says (Some w) true small =
     let a : (w == no_value) ≡ false = grind (arith, nat_tests) in
-    ap (λ b. is_some (cond b None (cond (nat_le chain_mark w) (Some (w - chain_mark)) (Some w)))) a
-    ∙ either (nat_le chain_mark w) (w - chain_mark) w
+    ap (λ b. is_some (cond b None (cond (nat_le mark w) (Some (w - mark)) (Some w)))) a
+    ∙ either (nat_le mark w) (w - mark) w
   where
     either : (b : Bool) (x y : ℕ) → is_some (cond b (Some x) (Some y)) ≡ true
     either true x y = refl
     either false x y = refl
 word_says (Some w) false small =
-    let m : ℕ = chain_mark + w in
+    let m : ℕ = mark + w in
     let a : (m == no_value) ≡ false = grind (arith, nat_tests) in
-    ap (λ b. is_some (cond b None (cond (nat_le chain_mark m) (Some (m - chain_mark)) (Some m)))) a
-    ∙ either (nat_le chain_mark m) (m - chain_mark) m
+    ap (λ b. is_some (cond b None (cond (nat_le mark m) (Some (m - mark)) (Some m)))) a
+    ∙ either (nat_le mark m) (m - mark) m
   where
     either : (b : Bool) (x y : ℕ) → is_some (cond b (Some x) (Some y)) ≡ true
     either true x y = refl

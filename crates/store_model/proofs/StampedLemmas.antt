@@ -1,13 +1,13 @@
 -- Stamps in records change nothing of what a row says.
 use Rattle.std.proofs.Common.{◌≡◌, ℕ, List, [], ◌∷◌, map, refl, sym, ◌∙◌, ap, cond}
-use Rattle.std.specs.Prelude.{Bool, true, false, ◌||◌, not, Option, Some, None, IfSome}
+use Rattle.std.specs.Prelude.{Bool, true, false, ◌&&◌, ◌||◌, not, Option, Some, None, IfSome}
 use Rattle.std.specs.List.{filter}
 use Rattle.graph_model.specs.declared.journal.TxnName.{TxnName}
 use Rattle.graph_model.specs.Conflict.{same_name}
 use Rattle.graph_model.specs.Transactions.{reached}
 use Rattle.graph_model.proofs.TestLemmas.{name_eq}
 use Rattle.store_model.specs.Versions.{first_seen, read, unseen_front, prune}
-use Rattle.store_model.specs.Stamped.{Stamped, StampedVersions, forget, forget_row, stamp_or, known, first_stamped, stamped_front, read_stamped, prune_stamped, AreStamped, IsStamped, stamp_one, stamp}
+use Rattle.store_model.specs.Stamped.{Stamped, StampedVersions, forget, forget_row, stamp_or, known, first_stamped, stamped_front, read_stamped, prune_stamped, AreStamped, IsStamped, lacks_stamp, stamp_one, stamp}
 
 -- where its stamp is right, what is known of a record is its writer's stamp
 known_is : (own stamp : Option ℕ) → IfSome own (λ c. stamp ≡ Some c) → stamp_or own stamp ≡ stamp
@@ -75,7 +75,7 @@ prune_is_right stamps horizon r is = record {
 -- ---- stamping
 
 forget_one : (by : TxnName) (c : ℕ) (p : Stamped) → forget (stamp_one by c p) ≡ forget p
-forget_one by c p = elim (same_name p.by by) as (λ t. forget (cond t (record { by = p.by; stamp = Some c; value = p.value }) p) ≡ forget p) [ true ↦ refl | false ↦ refl ]
+forget_one by c p = elim (same_name p.by by && lacks_stamp p) as (λ t. forget (cond t (record { by = p.by; stamp = Some c; value = p.value }) p) ≡ forget p) [ true ↦ refl | false ↦ refl ]
 
 pairs_keep : (by : TxnName) (c : ℕ) (ps : List Stamped) → map forget (map (stamp_one by c) ps) ≡ map forget ps
 pairs_keep by c [] = refl
@@ -89,11 +89,15 @@ touches_keep by c (p ∷ ps) = λ i. (forget_one by c p i).by ∷ touches_keep b
 pub stamp_keeps : (by : TxnName) (c : ℕ) (r : StampedVersions) → forget_row (stamp by c r) ≡ forget_row r
 stamp_keeps by c r = λ i. record { pairs = pairs_keep by c r.pairs i; oldest = r.oldest; touches = touches_keep by c r.touches i }
 
+first_true : (a b : Bool) → (a && b) ≡ true → a ≡ true
+first_true true b e = refl
+first_true false b e = cc
+
 stamps_right : (stamps : TxnName → Option ℕ) (by : TxnName) (c : ℕ) → stamps by ≡ Some c → (ps : List Stamped) → AreStamped stamps ps → AreStamped stamps (map (stamp_one by c) ps)
 stamps_right stamps by c is [] all = tt
 stamps_right stamps by c is (p ∷ ps) all = (
-  (elim (same_name p.by by) as (λ t. same_name p.by by ≡ t → IfSome (cond t (record { by = p.by; stamp = Some c; value = p.value }) p).stamp (λ d. stamps (cond t (record { by = p.by; stamp = Some c; value = p.value }) p).by ≡ Some d)) [
-    | true ↦ λ e. ap stamps (name_eq p.by by e) ∙ is
+  (elim (same_name p.by by && lacks_stamp p) as (λ t. (same_name p.by by && lacks_stamp p) ≡ t → IfSome (cond t (record { by = p.by; stamp = Some c; value = p.value }) p).stamp (λ d. stamps (cond t (record { by = p.by; stamp = Some c; value = p.value }) p).by ≡ Some d)) [
+    | true ↦ λ e. ap stamps (name_eq p.by by (first_true (same_name p.by by) (lacks_stamp p) e)) ∙ is
     | false ↦ λ e. all.0
   ] refl),
   stamps_right stamps by c is ps all.1,

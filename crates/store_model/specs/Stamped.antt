@@ -1,5 +1,5 @@
 -- Versions in records that carry the commit stamp of their writer, once it is known.
-use Rattle.std.specs.Prelude.{◌≡◌, ℕ, Bool, ◌||◌, not, cond, List, [], ◌∷◌, map, Option, Some, None, IfSome}
+use Rattle.std.specs.Prelude.{◌≡◌, ℕ, Bool, ◌&&◌, ◌||◌, not, is_some, cond, List, [], ◌∷◌, map, Option, Some, None, IfSome}
 use Rattle.std.specs.List.{filter, AllByRecursion}
 use Rattle.graph_model.specs.declared.journal.TxnName.{TxnName}
 use Rattle.graph_model.specs.Conflict.{same_name}
@@ -66,9 +66,12 @@ pub record IsStamped (stamps : TxnName → Option ℕ) (r : StampedVersions) : T
   pub pairs : AreStamped stamps r.pairs
   pub touches : AreStamped stamps r.touches
 
--- the records of one writer get its stamp
+abbrev pub lacks_stamp : Stamped → Bool
+lacks_stamp p = not (is_some p.stamp)
+
+-- the records of one writer that have no stamp get its stamp
 abbrev pub stamp_one : TxnName → ℕ → Stamped → Stamped
-stamp_one by stamp p = cond (same_name p.by by) (record { by = p.by; stamp = Some stamp; value = p.value }) p
+stamp_one by stamp p = cond (same_name p.by by && lacks_stamp p) (record { by = p.by; stamp = Some stamp; value = p.value }) p
 
 abbrev pub stamp : TxnName → ℕ → StampedVersions → StampedVersions
 stamp by c r =

@@ -1,7 +1,7 @@
 -- The steps of a commit: room for its entry, the store of its stamp, the store of the clock, and the stamping
 -- of its rows.
 use Rattle.std.proofs.Common.{◌≡◌, ℕ, ◌+◌, ◌<◌, ◌≤◌, List, [], ◌∷◌, ◌++◌, length, map, refl, sym, ◌∙◌, ap, subst, cond, arith, inl, inr, length-append}
-use Rattle.std.specs.Prelude.{◌⊎◌, Bool, true, false, ◌||◌, Some, None, slice_get}
+use Rattle.std.specs.Prelude.{◌⊎◌, Bool, true, false, ◌&&◌, ◌||◌, not, is_some, Option, Some, None, slice_get}
 use Rattle.std.specs.List.{AllByRecursion}
 use Rattle.std.proofs.lemmas.Bool.{true≢false, or_left, or_right}
 use Rattle.std.proofs.lemmas.List.{append-nil}
@@ -18,7 +18,7 @@ use Rattle.graph_model.proofs.PlaceLemmas.{get_snoc, get_end}
 use Rattle.graph_model.proofs.StampLemmas.{stamp_longer, stamp_at}
 use Rattle.graph_model.proofs.TestLemmas.{name_self}
 use Rattle.txn_manager.specs.declared.config.Config.{Config}
-use Rattle.store_model.specs.Stamped.{Stamped, StampedVersions, IsStamped, forget_row, stamp_one, stamp}
+use Rattle.store_model.specs.Stamped.{Stamped, StampedVersions, IsStamped, forget_row, lacks_stamp, stamp_one, stamp}
 use Rattle.store_model.specs.Store.{IsStore}
 use Rattle.store_model.proofs.StampedLemmas.{stamps_grow, stamp_keeps, stamp_is_right}
 use Rattle.store_model.proofs.StoreLemmas.{store_committed}
@@ -354,16 +354,22 @@ module _ {z : Config} {word : ℕ → ℕ} {pass : ℕ → PassState} {j : Journ
         counted = counts_same s p st' refl refl refl (s.counted.filled p);
       })
     where
+      -- a record without a stamp that isn't stamped is of another writer
+      not_mine : (mine : Bool) (own : Option ℕ) → (mine && not (is_some own)) ≡ false → own ≡ None → mine ≡ false
+      not_mine false own e none = refl
+      not_mine true None e none = cc
+      not_mine true (Some n) e none = cc
+
       -- a record that is stamped needs no word, and one that isn't is of another pass
       one_stamped : (k : Key) (x : Stamped) → IsSpokenFor pass k x → (t : Bool)
-          → same_name x.by (name_of pass p) ≡ t
+          → (same_name x.by (name_of pass p) && lacks_stamp x) ≡ t
           → IsSpokenFor (revised pass p (with_unstamped (pass p) keys)) k
           (cond t (record { by = x.by; stamp = Some c.stamp; value = x.value }) x)
       one_stamped k x old true e none = cc
       one_stamped k x old false e none =
           let r = old none in
           let other : x.by.job ≡ p → ⊥ = (λ same. true≢false (sym (ap (λ n. same_name n (name_of pass p))
-          (r.0 ∙ ap (name_of pass) same) ∙ name_self (name_of pass p)) ∙ e)) in
+          (r.0 ∙ ap (name_of pass) same) ∙ name_self (name_of pass p)) ∙ not_mine (same_name x.by (name_of pass p)) x.stamp e none)) in
           let st = revised_else pass p (with_unstamped (pass p) keys) x.by.job other in (
             r.0 ∙ ap (λ u. record { job = x.by.job; number = number_of u }) (sym st),
             ap (λ u. may_stand u k) st
@@ -375,4 +381,4 @@ module _ {z : Config} {word : ℕ → ℕ} {pass : ℕ → PassState} {j : Journ
           (map (stamp_one (name_of pass p) c.stamp) xs)
       all_stamped k [] all = tt
       all_stamped k (x ∷ xs) all =
-          (one_stamped k x all.0 (same_name x.by (name_of pass p)) refl, all_stamped k xs all.1)
+          (one_stamped k x all.0 (same_name x.by (name_of pass p) && lacks_stamp x) refl, all_stamped k xs all.1)

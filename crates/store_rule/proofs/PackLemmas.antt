@@ -6,11 +6,11 @@ use Rattle.graph_model.specs.declared.row.Row.{Row}
 use Rattle.store_model.specs.Stamped.{StampedVersions}
 use Rattle.graph_model.specs.Rows.{is_below}
 use Rattle.gap_segment.specs.Fenced.{AreSorted, AreWithin}
-use Rattle.version_segment.specs.Resting.{AgreeWith, CanWake, RestingRow, RestingRows, resting_of, resting_row, woken, woken_rows}
+use Rattle.version_segment.specs.Resting.{AgreeWith, CanWake, RestingRow, RestingRows, resting_of, resting_row, woken, woken_rows, word_row, word_rows}
 use Rattle.version_segment.specs.Rows.{IsSameSegment, IsSegment, VersionedRows}
 use Rattle.version_segment.proofs.WordLemmas.{can_wake, wakes_rested}
 use Rattle.cells_model.specs.Cells.{CellState, last_word, raised_word, unpacked, version_word}
-use Rattle.cells_model.specs.Words.{HasSmallWeights, Spells, word_row, word_rows}
+use Rattle.cells_model.specs.Words.{HasSmallWeights, Spells}
 use Rattle.cells_model.proofs.BlockLemmas.{still_spells}
 use Rattle.cells_model.proofs.WordLemmas.{newest_weights}
 use Rattle.std.specs.Prelude.{map}
@@ -80,6 +80,6 @@ wakes_same s resting low high rows t can rests is = record {
 }
 
 -- what rests of a segment of which the contents are but for room
-pub rests_as : (s t : VersionedRows) (resting : RestingRows) → IsSameSegment s t → resting ≡ resting_of t
+pub rests_as : (s t : VersionedRows) (resting : RestingRows) → IsSameSegment s t → resting.rows ≡ (resting_of t).rows
     → RestsAs s resting
-rests_as s t resting same is = ap (λ (r : RestingRows). r.rows) is ∙ ap (map resting_row) same.rows
+rests_as s t resting same is = is ∙ ap (map resting_row) same.rows

@@ -51,11 +51,11 @@ pub record IsIndexSlot (table : TableId) (slot : StoreSlot) : Type 0 where
 
 -- the journal, with its note
 pub record IsJournalSlot (table : TableId) (slot : StoreSlot) : Type 0 where
-  pub journal : WithRoom Commit
+  pub journal : Box (WithRoom Commit) Global
   pub note : Seat (Unit {0}) Sight
   pub is : slot ≡ slots.Journal journal note
   pub state : JournalState
-  pub list : IsListOf state journal
+  pub list : IsListOf state journal.value
   pub knows : IsNote table (journal_note state) note
 
 -- what may lie at a place while nobody holds it

@@ -55,6 +55,7 @@ impl Store {
         take_cells(&accounts, &mut account, &mut slots, &mut cells);
         accounts.look_last(&mut account);
         let cells = ClosedCells::new(accounts, account, cells);
+        let journal = Box::into_inner(journal);
         Content {
             cells,
             index,

@@ -68,14 +68,14 @@ impl Store {
     }
 
     /// Takes in the note of the journal.
-    pub fn gather_journal(&self, pass: &mut Pass, held: Held<StoreSlot>) -> Held<RoomyJournal>
+    pub fn gather_journal(&self, pass: &mut Pass, held: Held<StoreSlot>) -> Held<Box<RoomyJournal>>
         requires table { pass.old.account.table_id ≡ self.now.accounts.table.shared.table_id }
         requires slot { IsJournalSlot self.now.accounts.table.shared.table_id held.value }
         ensures held { (result.cell ≡ held.cell) × (result.found ≡ held.found)
             × (result.changed ≡ held.changed) }
         ensures gathered { (j : JournalState)
             × OnlyAccount pass.old pass.new (with_journal pass.old.account.me.0 j)
-            × IsListOf j result.value }
+            × IsListOf j result.value.value }
     {
         let Held {
             cell,
@@ -131,11 +131,11 @@ pub(crate) fn take_in_journal(
     accounts: &Accounts,
     account: &mut Account,
     slot: StoreSlot,
-) -> RoomyJournal
+) -> Box<RoomyJournal>
     requires table { account.old.table_id ≡ accounts.now.table.shared.table_id }
     requires slot { IsJournalSlot accounts.now.table.shared.table_id slot }
     ensures { (j : JournalState) × Knows account.old account.new (with_journal account.old.me.0 j)
-        × IsListOf j result }
+        × IsListOf j result.value }
 {
     let StoreSlot::Journal { journal, note } = slot else {
         unreachable!()

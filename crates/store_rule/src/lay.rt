@@ -70,9 +70,9 @@ impl Store {
     }
 
     /// Lays a new note for the journal, all of whose commits are published.
-    pub fn lay_journal(&self, pass: &mut Pass, held: Held<RoomyJournal>) -> Held<StoreSlot>
+    pub fn lay_journal(&self, pass: &mut Pass, held: Held<Box<RoomyJournal>>) -> Held<StoreSlot>
         requires table { pass.old.account.table_id ≡ self.now.accounts.table.shared.table_id }
-        requires kept { (j : JournalState) × HasJournal pass.old.account.me.0 j × IsListOf j held.value }
+        requires kept { (j : JournalState) × HasJournal pass.old.account.me.0 j × IsListOf j held.value.value }
         ensures held { (result.cell ≡ held.cell) × (result.found ≡ held.found)
             × (result.changed ≡ held.changed) }
         ensures left { OnlyAccount pass.old pass.new (without_journal pass.old.account.me.0) }

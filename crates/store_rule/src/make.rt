@@ -152,7 +152,7 @@ fn lay_slots(
     let mut slots = Vec::with_capacity(alloc, places)?;
     push_cells(accounts, seat, resting, &mut slots)?;
     push_index(alloc, accounts, seat, index, &mut slots)?;
-    push_journal(accounts, seat, journal, &mut slots)?;
+    push_journal(alloc, accounts, seat, journal, &mut slots)?;
     Ok(slots)
 }
 
@@ -204,6 +204,7 @@ fn push_index(
 
 /// The journal, with its note.
 fn push_journal(
+    alloc: Global,
     accounts: &Accounts,
     seat: &mut Account,
     journal: RoomyJournal,
@@ -215,6 +216,7 @@ fn push_journal(
         × IsJournalSlot accounts.now.table.shared.table_id slot) }
     ensures seat { OnOk result (Knows seat.old seat.new (without_journal seat.old.me.0)) }
 {
+    let journal = Box::new(alloc, journal)?;
     let note = accounts.note_journal(seat);
     slots.push(StoreSlot::Journal { journal, note })?;
     Ok(())

@@ -9,7 +9,8 @@ use store_words::Account;
 use txn_manager::Config;
 use version_segment::Resting;
 
-/// A value with the note of its contents, or nothing where a pass has it.
+/// A value with the note of its contents, or nothing where a pass has it. A slot takes 24 bytes, and no box where it has a
+/// cell whose rows are all settled. Notes take none.
 #[derive(Drop)]
 pub enum StoreSlot {
     Out,
@@ -18,16 +19,18 @@ pub enum StoreSlot {
         resting: Resting,
         note: Account,
     },
-    /// In a box, since slots are as large as the largest value.
+    /// In a box, as the journal, since slots are as large as the largest value.
     Index {
         index: Box<LeafIndex>,
         note: Account,
     },
     Journal {
-        journal: RoomyJournal,
+        journal: Box<RoomyJournal>,
         note: Account,
     },
 }
+
+const _: () = prove!(size_of::<StoreSlot>() == 24);
 
 /// What the latch table is told once: of which account table the notes are, by a seat of it, and how the store is made.
 #[derive(Drop)]

@@ -8,7 +8,8 @@ use Rattle.seat_views.proofs.NumberLemmas.{some_is}
 use Rattle.txn_manager.specs.declared.config.Config.{Config}
 use Rattle.store_relation.specs.Shared.{JournalState}
 use Rattle.version_segment.specs.Rows.{VersionedRows}
-use Rattle.cells_model.specs.Words.{IsRowAt, Spells, word_rows}
+use Rattle.version_segment.specs.Resting.{word_rows}
+use Rattle.cells_model.specs.Words.{IsRowAt, Spells}
 use Rattle.cells_model.proofs.WordLemmas.{row_is_told}
 use Rattle.rule_model.specs.EndSteps.{HasAll}
 use Rattle.rule_model.specs.LastSteps.{IsLastStore}

@@ -6,7 +6,8 @@ use Rattle.graph_model.specs.declared.row.Key.{Key}
 use Rattle.graph_model.specs.declared.row.Row.{Row}
 use Rattle.version_segment.specs.Rows.{VersionedRows, IsSegment}
 use Rattle.cells_model.specs.Cells.{CellState, last_word, version_word}
-use Rattle.cells_model.specs.Words.{HasSmallWeights, Spells, block_words, spelled, word_rows}
+use Rattle.version_segment.specs.Resting.{word_rows}
+use Rattle.cells_model.specs.Words.{HasSmallWeights, Spells, block_words, spelled}
 use Rattle.rule_model.specs.Sight.{HasCell, Sight}
 
 -- the view knows of one cell what it may not have known, and all else is as it was

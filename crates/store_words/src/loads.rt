@@ -5,7 +5,8 @@
 
 ghost use Rattle.std.specs.Prelude.{◌≡◌, ◌<◌, ◌≤◌, ◌+◌, length, slice_index};
 ghost use Rattle.cells_model.specs.Cells.{CellState};
-ghost use Rattle.cells_model.specs.Words.{IsRowAt, Spells, block_words, word_rows};
+ghost use Rattle.version_segment.specs.Resting.{word_rows};
+ghost use Rattle.cells_model.specs.Words.{IsRowAt, Spells, block_words};
 ghost use Rattle.rule_model.specs.Sight.{HasCell, cells_of};
 ghost use Rattle.store_words.specs.Spelling.{CanSpell};
 ghost use Rattle.store_words.specs.Steps.{Knows};

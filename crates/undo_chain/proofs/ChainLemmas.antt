@@ -1,9 +1,11 @@
 -- What putting a record in front of a list and taking it away again do to all lists.
-use Rattle.std.proofs.Common.{◌≡◌, ◌≢◌, ℕ, List, [], ◌∷◌, refl, sym, ◌∙◌, ap, subst, inl, inr, Some, None}
-use Rattle.std.specs.Prelude.{Option, IsSome}
+use Rattle.std.proofs.Common.{◌≡◌, ◌≢◌, ℕ, List, [], ◌∷◌, length, refl, sym, ◌∙◌, ap, subst, inl, inr, Some, None, true≢false}
+use Rattle.std.specs.Prelude.{Option, true, false, IsSome}
+use Rattle.std.specs.List.{list_any}
 use Rattle.std.proofs.lemmas.Bool.{cases_eq}
 use Rattle.undo_chain.specs.declared.undo.Undo.{Undo}
-use Rattle.undo_chain.specs.Chains.{ChainMap, record_at, unlinked, list_at, IsUnlinked, IsHead, IsHeadOf, AreApart, StaysApart, ChangesOneList}
+use Rattle.undo_chain.specs.Records.{lacks_stamp}
+use Rattle.undo_chain.specs.Chains.{ChainMap, record_at, unlinked, linked, walked, list_at, IsUnlinked, IsHead, IsHeadOf, AreApart, StaysApart, ChangesOneList}
 use Rattle.undo_chain.specs.Links.{HasPath, AreLinked}
 use Rattle.undo_chain.proofs.LinkLemmas.{path_avoids, list_avoids, list_step, vacant_unlinked, head_path, some_is}
 
@@ -36,7 +38,7 @@ other_head old new key h agree head ne new_link =
 
 module _ (old new : ChainMap) (key : ℕ) (u : Undo) (head : Option ℕ) (is : AreLinked old.slots) (stands : IsHeadOf old head)
     (vacant : record_at old.slots key ≡ None) (put : record_at new.slots key ≡ Some u)
-    (agree : (k : ℕ) → k ≢ key → record_at new.slots k ≡ record_at old.slots k) (link : u.next ≡ head) where
+    (agree : (k : ℕ) → k ≢ key → record_at new.slots k ≡ record_at old.slots k) (link : u.next ≡ head) (fresh : u.all_stamped ≡ false) where
   free_key : IsUnlinked old.slots key
   free_key = vacant_unlinked old.slots is key vacant
 
@@ -98,9 +100,19 @@ module _ (old new : ChainMap) (key : ℕ) (u : Undo) (head : Option ℕ) (is : A
       leads : (x : Undo) → record_at new.slots key ≡ Some x → x.next ≡ Some q → head ≡ Some q
       leads x at next = sym link ∙ ap (λ (y : Undo). y.next) (sym (new_record_is x at)) ∙ next
 
+  put_stamped : (k : ℕ) (v : Undo) → record_at new.slots k ≡ Some v → v.all_stamped ≡ true → list_any lacks_stamp (linked (walked (length new.slots) new.slots) (Some k)) ≡ false
+  put_stamped k v at said =
+      elim (cases_eq k key) [
+        | inl same ↦ absurd (true≢false (sym said ∙ ap (λ (x : Undo). x.all_stamped) (new_record_is v (ap (record_at new.slots) (sym same) ∙ at)) ∙ fresh))
+        | inr other ↦
+            let at_old = sym (agree k other) ∙ at in
+            ap (list_any lacks_stamp) (list_avoids old.slots new.slots key agree free_key (Some k) (is.ends k v at_old) (λ e. other (some_is k key e)))
+            ∙ is.stamped k v at_old said
+      ]
+
   -- the records stay linked
   pub put_linked : AreLinked new.slots
-  put_linked = record { found = put_found; once = put_once; ends = put_ends }
+  put_linked = record { found = put_found; once = put_once; ends = put_ends; stamped = put_stamped }
 
   -- the record stands before the list
   pub put_list : list_at new (Some key) ≡ unlinked u ∷ list_at old head
@@ -157,6 +169,9 @@ module _ (old new : ChainMap) (key : ℕ) (u : Undo) (is : AreLinked old.slots) 
     ends = λ k v at.
         let p = is.ends k v (before k v at) in
         record { keys = p.keys; path = (path_avoids old.slots new.slots key agree head.first (Some k) p.keys p.path (λ e. left k v at (some_is k key e))).0 };
+    stamped = λ k v at said.
+        ap (list_any lacks_stamp) (list_avoids old.slots new.slots key agree head.first (Some k) (is.ends k v (before k v at)) (λ e. left k v at (some_is k key e)))
+        ∙ is.stamped k v (before k v at) said;
   }
 
   next_apart : u.next ≡ Some key → ⊥

@@ -6,9 +6,9 @@ use Rattle.graph_model.specs.declared.journal.TxnName.{TxnName}
 use Rattle.graph_model.specs.Conflict.{same_name}
 use Rattle.undo_chain.specs.declared.states.Snapshot.{Snapshot}
 use Rattle.undo_chain.specs.States.{Knowledge, Grows, AreNamed}
-use Rattle.undo_chain.specs.Walks.{IsSearch, IsAsked, IsRead, IsCount}
-use Rattle.undo_chain.specs.Records.{UndoRecord, upside_down, is_settled, value_of}
-use Rattle.undo_chain.specs.Chains.{ChainMap, linked, walked, list_at, IsHeadOf, IsLinkOf, AreApart, ChangesOneList, ChangesTwoLists}
+use Rattle.undo_chain.specs.Walks.{IsSearch, IsStampedTo, IsAsked, IsRead, IsCount}
+use Rattle.undo_chain.specs.Records.{UndoRecord, lacks_stamp, upside_down, is_settled, value_of}
+use Rattle.undo_chain.specs.Chains.{ChainMap, linked, walked, list_at, IsHeadOf, IsLinkOf, AreApart, ChangesOneList, ChangesTwoLists, HandsOver}
 
 -- a head is a link
 pub head_link : (c : ChainMap) (q : Option ℕ) → IsHeadOf c q → IsLinkOf c q
@@ -94,6 +94,30 @@ beside a b h h' k f at apart spare =
       spare = spare;
     }
 
+-- the first record of one list is put in front of another one
+pub handed : (old mid new : ChainMap) (from onto next to : Option ℕ) (u : UndoRecord) → IsHeadOf old onto → AreApart from onto
+    → list_at old from ≡ u ∷ list_at mid next → ChangesOneList old mid from next → mid.spare ≡ old.spare + 1
+    → list_at new to ≡ u ∷ list_at mid onto → ChangesOneList mid new onto to → mid.spare ≡ new.spare + 1 → HandsOver old new from onto next to
+handed old mid new from onto next to u at apart taken popped freed given put used =
+    let r = popped.others onto at apart in
+    let s = put.others next popped.stands (λ key e f. r.apart key f e) in
+    record {
+      undo = u;
+      taken = taken ∙ ap (λ us. u ∷ us) (sym s.list);
+      given = given ∙ ap (λ us. u ∷ us) r.list;
+      lists = record {
+        from_head = s.head;
+        onto_head = put.stands;
+        apart = λ key e f. s.apart key f e;
+        others = λ q head x y.
+            let a = popped.others q head x in
+            let b = put.others q a.head y in
+            record { head = b.head; list = b.list ∙ a.list; from_apart = a.apart; onto_apart = b.apart };
+        spare = omega (arith, freed, used);
+      };
+      room = omega (arith, freed, used);
+    }
+
 -- ---- lists upside down
 
 pub twice_upside_down : (us vs : List UndoRecord) → upside_down (upside_down us vs) [] ≡ upside_down vs us
@@ -131,6 +155,28 @@ search_start c test head at = record { is_link = head_link c head at; same = ref
 
 pub search_end : (c : ChainMap) (test : UndoRecord → Bool) (head link : Option ℕ) → IsSearch c test head link → link ≡ None → list_any test (list_at c head) ≡ false
 search_end c test head link is e = sym is.same ∙ ap (list_any test) (none_left c link e)
+
+-- ---- the records from which on all have stamps
+
+pub look_start : (c : ChainMap) (head : Option ℕ) → IsHeadOf c head → IsStampedTo c head head
+look_start c head at = look_anew c head (head_link c head at)
+  where
+    look_anew : (d : ChainMap) (q : Option ℕ) → IsLinkOf d q → IsStampedTo d q q
+    look_anew d q link = record { is_from = link; search = record { is_link = link; same = refl } }
+
+module _ (c : ChainMap) (from link next : Option ℕ) (u : UndoRecord) (is : IsStampedTo c from link) (at : list_at c link ≡ u ∷ list_at c next) (leads : IsLinkOf c next) where
+  -- a record without a stamp: they begin behind it, at the earliest
+  pub look_anew : IsStampedTo c next next
+  look_anew = record { is_from = leads; search = record { is_link = leads; same = refl } }
+
+  -- one more has a stamp
+  pub look_on : lacks_stamp u ≡ false → IsStampedTo c from next
+  look_on e = record { is_from = is.is_from; search = search_on c lacks_stamp from link next u is.search at e leads }
+
+-- all behind have stamps
+pub look_hit : (c : ChainMap) (from link : Option ℕ) (key : ℕ) → IsStampedTo c from link → link ≡ Some key → list_any lacks_stamp (list_at c (Some key)) ≡ false
+    → list_any lacks_stamp (list_at c from) ≡ false
+look_hit c from link key is at all = sym is.search.same ∙ ap (λ q. list_any lacks_stamp (list_at c q)) at ∙ all
 
 -- ---- whoever is asked
 

@@ -1,6 +1,6 @@
 -- How each change of the slots keeps their count and the list of vacant ones.
 use Rattle.std.proofs.Common.{◌≡◌, ◌≢◌, ◌⊎◌, ℕ, zero, suc, ◌+◌, ◌-◌, ◌<◌, ◌≤◌, List, [], ◌∷◌, ◌++◌, length, get_or, set, Some, None, is_some, IsSome, count_by, cond, slice_get, refl, sym, ap, subst, ◌∙◌, inl, inr, arith, length-set}
-use Rattle.std.specs.Prelude.{IsSomeAnd}
+use Rattle.std.specs.Prelude.{Option, IsSomeAnd}
 use Rattle.std.specs.Option.{option_map}
 use Rattle.std.proofs.lemmas.List.{map-set, map_push, length-map, length_push, get_or-map, get_or-set_same, get_or-set_other, get_or_past}
 use Rattle.std.proofs.lemmas.List.Sums.{sum_by-set, sum_by_push}
@@ -10,7 +10,7 @@ use Rattle.undo_chain.specs.declared.link.TheConstants.{MOST_RECORDS}
 use Rattle.undo_chain.specs.declared.packed.Slot.{Slot}
 use Rattle.undo_chain.specs.declared.packed.Slot.TheVariants.{Vacant, Occupied}
 use Rattle.undo_chain.specs.Chains.{record_at}
-use Rattle.undo_chain.specs.Walks.{with_stamp, Restamps}
+use Rattle.undo_chain.specs.Walks.{ChangesRecord}
 use Rattle.undo_chain.specs.Packed.{record_in}
 use Rattle.undo_chain.specs.Slots.{records_in, IsVacantList, AreSlots}
 
@@ -193,20 +193,25 @@ record_set_other s key e k other = ap (λ rs. record_at rs k) (map-set record_in
 pub read_record : (s : List Slot) (key : ℕ) (e : Slot) (u : Undo) → key < length s → e ≡ get_or s key e → record_in e ≡ Some u → slice_get s key ≡ Some (Occupied u)
 read_record s key e u lt read there = slice_get_read s (length s) key e refl lt read ∙ ap Some (is_record e u there)
 
--- a record that gets a stamp, and nothing else
-pub restamped : (s : List Slot) (key stamp spare : ℕ) (e : Slot) (u : Undo) → slice_get s key ≡ Some (Occupied u) → e ≡ Occupied (with_stamp stamp u)
-    → Restamps (record { slots = records_in s; spare = spare }) (record { slots = records_in (set s key e); spare = spare }) key stamp
-restamped s key stamp spare e u found is =
+-- the record that is written has changed, and no other one
+pub record_changed : (f : Undo → Undo) (s : List Slot) (key spare : ℕ) (e : Slot) (u : Undo) → slice_get s key ≡ Some (Occupied u) → e ≡ Occupied (f u)
+    → ChangesRecord f (record { slots = records_in s; spare = spare }) (record { slots = records_in (set s key e); spare = spare }) key
+record_changed f s key spare e u found is =
     let within = slice_get_within s key _ found in
     record {
       here = record_set_same s key e within ∙ ap record_in is
-          ∙ sym (ap (option_map (with_stamp stamp)) (record_of s key (Occupied u) within ∙ ap record_in (get_or_from_slice_get s key _ (Occupied u) found)));
+          ∙ sym (ap (option_map f) (record_of s key (Occupied u) within ∙ ap record_in (get_or_from_slice_get s key _ (Occupied u) found)));
       else = λ k other. record_set_other s key e k other;
       size = ap length (map-set record_in s key e) ∙ length-set (records_in s) key (record_in e);
       spare = refl;
     }
 
--- the record that got a stamp
-pub stamped_slot : (e f : Slot) (stamp : ℕ) → IsSomeAnd (record_in e) (λ u. f ≡ Occupied (with_stamp stamp u)) → (u : Undo) × (record_in e ≡ Some u) × (f ≡ Occupied (with_stamp stamp u))
-stamped_slot (Vacant n) f stamp is = absurd is
-stamped_slot (Occupied u) f stamp is = (u, refl, is)
+-- the record that was there
+pub changed_slot : (f : Undo → Undo) (e g : Slot) → IsSomeAnd (record_in e) (λ u. g ≡ Occupied (f u)) → (u : Undo) × (record_in e ≡ Some u) × (g ≡ Occupied (f u))
+changed_slot f (Vacant n) g is = absurd is
+changed_slot f (Occupied u) g is = (u, refl, is)
+
+-- where something holds of a record there is one
+pub some_there : (o : Option Undo) (P : Undo → Type 0) → IsSomeAnd o P → IsSome o
+some_there None P is = absurd is
+some_there (Some u) P is = refl

@@ -1,7 +1,7 @@
 -- Stamps written into the records of one list.
-use Rattle.std.proofs.Common.{◌≡◌, ◌≢◌, ◌⊎◌, ℕ, zero, suc, ◌<◌, List, [], ◌∷◌, ◌++◌, length, map, nat_eq, refl, sym, ◌∙◌, ap, subst, arith, inl, inr, Some, None}
-use Rattle.std.specs.Prelude.{Option, Bool, true, false, cond, ◌||◌, IsSome}
-use Rattle.std.specs.Option.{option_map}
+use Rattle.std.proofs.Common.{◌≡◌, ◌≢◌, ◌⊎◌, ℕ, zero, suc, ◌<◌, List, [], ◌∷◌, ◌++◌, length, map, nat_eq, refl, sym, ◌∙◌, ap, subst, arith, inl, inr, Some, None, true≢false}
+use Rattle.std.specs.Prelude.{◌≤◌, Option, Bool, true, false, cond, not, is_some, ◌&&◌, ◌||◌, IsSome, IsSomeAnd}
+use Rattle.std.specs.Option.{option_map, option_map_or}
 use Rattle.std.specs.List.{list_any}
 use Rattle.std.proofs.lemmas.Bool.{cases_eq}
 use Rattle.std.proofs.lemmas.Bool.Decides.{nat_tests}
@@ -9,11 +9,11 @@ use Rattle.std.proofs.lemmas.List.Folds.{list_any-append}
 use Rattle.graph_model.specs.declared.journal.TxnName.{TxnName}
 use Rattle.graph_model.specs.Conflict.{same_name}
 use Rattle.undo_chain.specs.declared.undo.Undo.{Undo}
-use Rattle.undo_chain.specs.Records.{stamped_by}
+use Rattle.undo_chain.specs.Records.{UndoRecord, lacks_stamp, stamped_by}
 use Rattle.undo_chain.specs.Chains.{ChainMap, record_at, unlinked, linked, walked, list_at, IsUnlinked, IsHead, IsHeadOf, AreApart, StaysApart, ChangesOneList}
 use Rattle.undo_chain.specs.Links.{IsStep, IsPath, AreLinked}
-use Rattle.undo_chain.specs.Walks.{with_stamp, stamped_undo, Restamps, IsStamped}
-use Rattle.undo_chain.proofs.LinkLemmas.{step_list, no_list, path_length, path_list, head_path, some_is}
+use Rattle.undo_chain.specs.Walks.{with_stamp, is_to_stamp, stamped_undo, marked, Restamps, Remarks, KeepsLists, IsStamped}
+use Rattle.undo_chain.proofs.LinkLemmas.{step_list, list_step, no_list, path_length, path_list, path_there, head_path, some_is}
 use Rattle.undo_chain.proofs.ChainLemmas.{record_there, is_there}
 
 -- ---- the same links
@@ -44,9 +44,14 @@ path_relinked s t same h (k ∷ ks) p =
     let v = same_record t s (flip_links s t same) k p.0 p.1.0.at in
     (v.0, (record { is = p.1.0.is; at = v.1.0 }, path_relinked s t same v.0.next ks (subst (λ (q : Option ℕ). IsPath s q ks) (sym v.1.1) p.1.1)))
 
+-- what each record says of those from it on is right
+abbrev AreMarked : List (Option Undo) → Type 0
+AreMarked s = (k : ℕ) (u : Undo) → record_at s k ≡ Some u → u.all_stamped ≡ true → list_any lacks_stamp (linked (walked (length s) s) (Some k)) ≡ false
+
 -- records with the same links stay linked
-pub relinked : (s t : List (Option Undo)) → SameLinks s t → AreLinked s → AreLinked t
-relinked s t same is = record {
+pub relinked : (s t : List (Option Undo)) → SameLinks s t → AreMarked t → AreLinked s → AreLinked t
+relinked s t same marks is = record {
+  stamped = marks;
   found = λ k u q at next.
       let v = same_record s t same k u at in
       let w = record_there s q (is.found k v.0 q v.1.0 (v.1.1 ∙ next)) in
@@ -68,20 +73,140 @@ head_relinked s t same k h =
     let x = same_record t s (flip_links s t same) k v.0 v.1 in
     record { there = is_there _ x.0 x.1.0; first = λ j u at next. let w = same_record s t same j u at in h.first j w.0 w.1.0 (w.1.1 ∙ next) }
 
-pub restamps_links : (old new : ChainMap) (key stamp : ℕ) → Restamps old new key stamp → SameLinks old.slots new.slots
-restamps_links old new key stamp r k =
+-- where one record changes, and its link stays
+changed_links : (s t : List (Option Undo)) (key : ℕ) (f : Undo → Undo) → ((u : Undo) → (f u).next ≡ u.next) → record_at t key ≡ option_map f (record_at s key)
+    → ((k : ℕ) → k ≢ key → record_at t k ≡ record_at s k) → SameLinks s t
+changed_links s t key f keeps here else k =
     elim (cases_eq k key) [
-      | inl same ↦ ap (λ j. option_map (λ (u : Undo). u.next) (record_at new.slots j)) same ∙ ap (option_map (λ (u : Undo). u.next)) r.here ∙ kept (record_at old.slots key) ∙ ap (λ j. option_map (λ (u : Undo). u.next) (record_at old.slots j)) (sym same)
-      | inr other ↦ ap (option_map (λ (u : Undo). u.next)) (r.else k other)
+      | inl same ↦ ap (λ j. option_map (λ (u : Undo). u.next) (record_at t j)) same ∙ ap (option_map (λ (u : Undo). u.next)) here ∙ kept (record_at s key) ∙ ap (λ j. option_map (λ (u : Undo). u.next) (record_at s j)) (sym same)
+      | inr other ↦ ap (option_map (λ (u : Undo). u.next)) (else k other)
     ]
   where
-    kept : (o : Option Undo) → option_map (λ (u : Undo). u.next) (option_map (with_stamp stamp) o) ≡ option_map (λ (u : Undo). u.next) o
+    kept : (o : Option Undo) → option_map (λ (u : Undo). u.next) (option_map f o) ≡ option_map (λ (u : Undo). u.next) o
     kept None = refl
-    kept (Some u) = refl
+    kept (Some u) = ap (λ (q : Option ℕ). Some q) (keeps u)
 
--- a record that gets a stamp leads where it led
+neither : (a b : Bool) → (a || b) ≡ false → (a ≡ false) × (b ≡ false)
+neither true b f = cc
+neither false b f = (refl, f)
+
+-- ---- lists in which one record gets its stamp
+
+module _ (s t : List (Option Undo)) (stamp : ℕ) (each : (k : ℕ) → (record_at t k ≡ record_at s k) ⊎ (record_at t k ≡ option_map (with_stamp stamp) (record_at s k))) where
+  -- where all had stamps all have them
+  walked_stays : (n k : ℕ) → list_any lacks_stamp (walked n s k) ≡ false → list_any lacks_stamp (walked n t k) ≡ false
+  walked_stays zero k e = e
+  walked_stays (suc n) k e = go (record_at s k) (record_at t k) (each k) (linked_stays (walked_stays n)) e
+    where
+      linked_stays : ((j : ℕ) → list_any lacks_stamp (walked n s j) ≡ false → list_any lacks_stamp (walked n t j) ≡ false)
+          → (q : Option ℕ) → list_any lacks_stamp (linked (walked n s) q) ≡ false → list_any lacks_stamp (linked (walked n t) q) ≡ false
+      linked_stays rest None f = f
+      linked_stays rest (Some j) f = rest j f
+
+      any_in : Option Undo → Bool
+      any_in o = list_any lacks_stamp (option_map_or (λ (u : Undo). unlinked u ∷ linked (walked n t) u.next) o [])
+
+      go : (o p : Option Undo) → (p ≡ o) ⊎ (p ≡ option_map (with_stamp stamp) o)
+          → ((q : Option ℕ) → list_any lacks_stamp (linked (walked n s) q) ≡ false → list_any lacks_stamp (linked (walked n t) q) ≡ false)
+          → list_any lacks_stamp (option_map_or (λ (u : Undo). unlinked u ∷ linked (walked n s) u.next) o []) ≡ false → any_in p ≡ false
+      go None p (inl same) rest f = ap any_in same
+      go None p (inr same) rest f = ap any_in same
+      go (Some u) p (inl same) rest f =
+          let both = neither (lacks_stamp (unlinked u)) (list_any lacks_stamp (linked (walked n s) u.next)) f in
+          ap any_in same ∙ ap (λ b. b || list_any lacks_stamp (linked (walked n t) u.next)) both.0 ∙ rest u.next both.1
+      go (Some u) p (inr same) rest f =
+          let both = neither (lacks_stamp (unlinked u)) (list_any lacks_stamp (linked (walked n s) u.next)) f in
+          ap any_in same ∙ rest u.next both.1
+
+-- a record that gets a stamp leads where it led, and all that were said to be stamped are
 pub stamp_linked : (old new : ChainMap) (key stamp : ℕ) → AreLinked old.slots → Restamps old new key stamp → AreLinked new.slots
-stamp_linked old new key stamp is changed = relinked old.slots new.slots (restamps_links old new key stamp changed) is
+stamp_linked old new key stamp is changed =
+    relinked old.slots new.slots (changed_links old.slots new.slots key (with_stamp stamp) (λ u. refl) changed.here changed.else) marks is
+  where
+    each : (k : ℕ) → (record_at new.slots k ≡ record_at old.slots k) ⊎ (record_at new.slots k ≡ option_map (with_stamp stamp) (record_at old.slots k))
+    each k = elim (cases_eq k key) [
+      | inl same ↦ inr (ap (record_at new.slots) same ∙ changed.here ∙ ap (λ j. option_map (with_stamp stamp) (record_at old.slots j)) (sym same))
+      | inr other ↦ inl (changed.else k other)
+    ]
+
+    fresh : (o : Option Undo) (v : Undo) → ◌≡◌ {A = Option Undo} (Some v) (option_map (with_stamp stamp) o) → v.all_stamped ≡ false
+    fresh None v e = cc
+    fresh (Some u) v e = ap (λ (x : Undo). x.all_stamped) (some_is_undo v (with_stamp stamp u) e)
+      where
+        some_is_undo : (x y : Undo) → ◌≡◌ {A = Option Undo} (Some x) (Some y) → x ≡ y
+        some_is_undo x y f = cc
+
+    marks : AreMarked new.slots
+    marks k v at said = elim (cases_eq k key) [
+      | inl same ↦ absurd (true≢false (sym said ∙ fresh (record_at old.slots key) v (sym at ∙ ap (record_at new.slots) same ∙ changed.here)))
+      | inr other ↦
+          ap (λ n. list_any lacks_stamp (walked n new.slots k)) changed.size
+          ∙ walked_stays old.slots new.slots stamp each (length old.slots) k (is.stamped k v (sym (changed.else k other) ∙ at) said)
+    ]
+
+-- ---- a record that says that from it on all are stamped
+
+module _ (old new : ChainMap) (key : ℕ) (is : AreLinked old.slots) (changed : Remarks old new key) where
+  each_marked : (k : ℕ) → (record_at new.slots k ≡ record_at old.slots k) ⊎ (record_at new.slots k ≡ option_map marked (record_at old.slots k))
+  each_marked k = elim (cases_eq k key) [
+    | inl same ↦ inr (ap (record_at new.slots) same ∙ changed.here ∙ ap (λ j. option_map marked (record_at old.slots j)) (sym same))
+    | inr other ↦ inl (changed.else k other)
+  ]
+
+  same_walk : (n k : ℕ) → walked n new.slots k ≡ walked n old.slots k
+  same_walk zero k = refl
+  same_walk (suc n) k = go (record_at old.slots k) (record_at new.slots k) (each_marked k) (same_linked (same_walk n))
+    where
+      same_linked : ((j : ℕ) → walked n new.slots j ≡ walked n old.slots j) → (q : Option ℕ) → linked (walked n new.slots) q ≡ linked (walked n old.slots) q
+      same_linked rest None = refl
+      same_linked rest (Some j) = rest j
+
+      from : Option Undo → List UndoRecord
+      from o = option_map_or (λ (u : Undo). unlinked u ∷ linked (walked n new.slots) u.next) o []
+
+      go : (o p : Option Undo) → (p ≡ o) ⊎ (p ≡ option_map marked o) → ((q : Option ℕ) → linked (walked n new.slots) q ≡ linked (walked n old.slots) q)
+          → from p ≡ option_map_or (λ (u : Undo). unlinked u ∷ linked (walked n old.slots) u.next) o []
+      go None p (inl same) rest = ap from same
+      go None p (inr same) rest = ap from same
+      go (Some u) p (inl same) rest = ap from same ∙ ap (λ us. unlinked u ∷ us) (rest u.next)
+      go (Some u) p (inr same) rest = ap from same ∙ ap (λ us. unlinked u ∷ us) (rest u.next)
+
+  same_list : (q : Option ℕ) → list_at new q ≡ list_at old q
+  same_list None = refl
+  same_list (Some k) = ap (λ n. walked n new.slots k) changed.size ∙ same_walk (length old.slots) k
+
+  mark_links : SameLinks old.slots new.slots
+  mark_links = changed_links old.slots new.slots key marked (λ u. refl) changed.here changed.else
+
+  -- the lists are as they were
+  pub mark_keeps : KeepsLists old new
+  mark_keeps = record { heads = heads; lists = same_list; spare = changed.spare }
+    where
+      heads : (q : Option ℕ) → IsHeadOf old q → IsHeadOf new q
+      heads None h = tt
+      heads (Some k) h = head_relinked old.slots new.slots mark_links k h
+
+  -- and what it says is right
+  pub mark_linked : list_any lacks_stamp (list_at old (Some key)) ≡ false → AreLinked new.slots
+  mark_linked all = relinked old.slots new.slots mark_links marks is
+    where
+      marks : AreMarked new.slots
+      marks k v at said = elim (cases_eq k key) [
+        | inl same ↦ ap (list_any lacks_stamp) (same_list (Some k)) ∙ ap (λ j. list_any lacks_stamp (list_at old (Some j))) same ∙ all
+        | inr other ↦ ap (list_any lacks_stamp) (same_list (Some k)) ∙ is.stamped k v (sym (changed.else k other) ∙ at) said
+      ]
+
+-- where no record from the key on lacks a stamp, that one has one
+pub key_stamped : (c : ChainMap) (key : ℕ) → AreLinked c.slots → IsSome (record_at c.slots key) → list_any lacks_stamp (list_at c (Some key)) ≡ false
+    → IsSomeAnd (record_at c.slots key) (λ u. IsSome u.stamp)
+key_stamped c key is there all =
+    let u = record_there c.slots key there in
+    let both = neither (lacks_stamp (unlinked u.0)) (list_any lacks_stamp (list_at c u.0.next)) (sym (ap (list_any lacks_stamp) (list_step c.slots is key u.0 u.1)) ∙ all) in
+    subst (λ (o : Option Undo). IsSomeAnd o (λ v. IsSome v.stamp)) (sym u.1) (has u.0.stamp both.0)
+  where
+    has : (o : Option ℕ) → not (is_some o) ≡ false → IsSome o
+    has None e = cc
+    has (Some n) e = refl
 
 -- ---- two lists share no record
 
@@ -153,30 +278,23 @@ lists_apart c is h q h_head q_head apart ks ls h_path q_path =
 
 module _ (by : TxnName) (stamp : ℕ) where
   stamped_next : (v : Undo) → (stamped_undo by stamp v).next ≡ v.next
-  stamped_next v = go (same_name v.by by)
+  stamped_next v = go (is_to_stamp by v)
     where
       go : (t : Bool) → (cond t (with_stamp stamp v) v).next ≡ v.next
       go true = refl
       go false = refl
 
   stamped_writer : (v : Undo) → (stamped_undo by stamp v).by ≡ v.by
-  stamped_writer v = go (same_name v.by by)
+  stamped_writer v = go (is_to_stamp by v)
     where
       go : (t : Bool) → (cond t (with_stamp stamp v) v).by ≡ v.by
       go true = refl
       go false = refl
 
   stamped_record : (v : Undo) → unlinked (stamped_undo by stamp v) ≡ stamped_by by stamp (unlinked v)
-  stamped_record v = go (same_name v.by by)
+  stamped_record v = go (is_to_stamp by v)
     where
       go : (t : Bool) → unlinked (cond t (with_stamp stamp v) v) ≡ cond t (record { by = v.by; stamp = Some stamp; older = v.older }) (unlinked v)
-      go true = refl
-      go false = refl
-
-  stamped_twice : (v : Undo) → with_stamp stamp (stamped_undo by stamp v) ≡ with_stamp stamp v
-  stamped_twice v = go (same_name v.by by)
-    where
-      go : (t : Bool) → with_stamp stamp (cond t (with_stamp stamp v) v) ≡ with_stamp stamp v
       go true = refl
       go false = refl
 
@@ -213,12 +331,6 @@ module _ (old now : ChainMap) (by : TxnName) (stamp : ℕ) (head link : Option �
 
   same_next : u.next ≡ was.0.next
   same_next = elim as_was [ inl e ↦ ap (λ (x : Undo). x.next) e | inr e ↦ ap (λ (x : Undo). x.next) e ∙ stamped_next by stamp was.0 ]
-
-  same_writer : u.by ≡ was.0.by
-  same_writer = elim as_was [ inl e ↦ ap (λ (x : Undo). x.by) e | inr e ↦ ap (λ (x : Undo). x.by) e ∙ stamped_writer by stamp was.0 ]
-
-  writer_test : same_name was.0.by by ≡ same_name u.by by
-  writer_test = ap (λ (x : TxnName). same_name x by) (sym same_writer)
 
   -- the link of the loop leads on
   pub stamp_smaller : length (list_at old u.next) < length (list_at old link)
@@ -269,26 +381,38 @@ module _ (old now : ChainMap) (by : TxnName) (stamp : ℕ) (head link : Option �
         clash : true ≡ false → ⊥
         clash f = cc
 
-  -- a record of this writer is stamped
-  pub stamp_on : (later : ChainMap) → same_name u.by by ≡ true → Restamps now later key stamp → IsStamped old later by stamp head u.next
-  stamp_on later mine r =
-      goes_on later (r.here ∙ ap (option_map (with_stamp stamp)) at ∙ ap Some (stamped_now ∙ sym stamped_was)) r.else r.size r.spare
+  -- a record that is to be stamped is as it was
+  as_it_stood : is_to_stamp by u ≡ true → u ≡ was.0
+  as_it_stood due = elim as_was [ inl e ↦ e | inr e ↦ absurd (true≢false (sym due ∙ ap (is_to_stamp by) e ∙ not_again was.0)) ]
+    where
+      not_again : (v : Undo) → is_to_stamp by (stamped_undo by stamp v) ≡ false
+      not_again v = go (is_to_stamp by v) refl
+        where
+          has_stamp : (b : Bool) → (b && false) ≡ false
+          has_stamp true = refl
+          has_stamp false = refl
+
+          go : (t : Bool) → is_to_stamp by v ≡ t → is_to_stamp by (stamped_undo by stamp v) ≡ false
+          go true e = ap (λ t. is_to_stamp by (cond t (with_stamp stamp v) v)) e ∙ has_stamp (same_name v.by by)
+          go false e = ap (λ t. is_to_stamp by (cond t (with_stamp stamp v) v)) e ∙ e
+
+  -- it is stamped
+  pub stamp_on : (later : ChainMap) → is_to_stamp by u ≡ true → Restamps now later key stamp → IsStamped old later by stamp head u.next
+  stamp_on later due r =
+      goes_on later (r.here ∙ ap (option_map (with_stamp stamp)) at ∙ ap Some (ap (with_stamp stamp) (as_it_stood due) ∙ sym stamped_was)) r.else r.size r.spare
     where
       stamped_was : stamped_undo by stamp was.0 ≡ with_stamp stamp was.0
-      stamped_was = ap (λ t. cond t (with_stamp stamp was.0) was.0) (writer_test ∙ mine)
-
-      stamped_now : with_stamp stamp u ≡ with_stamp stamp was.0
-      stamped_now = elim as_was [ inl e ↦ ap (with_stamp stamp) e | inr e ↦ ap (with_stamp stamp) e ∙ stamped_twice by stamp was.0 ]
+      stamped_was = ap (λ t. cond t (with_stamp stamp was.0) was.0) (ap (is_to_stamp by) (sym (as_it_stood due)) ∙ due)
 
   -- another one stays
-  pub stamp_skip : same_name u.by by ≡ false → IsStamped old now by stamp head u.next
-  stamp_skip other = goes_on now (at ∙ ap Some (as_it_was ∙ sym stays)) (λ k ne. refl) refl refl
+  pub stamp_skip : is_to_stamp by u ≡ false → IsStamped old now by stamp head u.next
+  stamp_skip other = goes_on now (at ∙ ap Some as_it_is) (λ k ne. refl) refl refl
     where
-      stays : stamped_undo by stamp was.0 ≡ was.0
-      stays = ap (λ t. cond t (with_stamp stamp was.0) was.0) (writer_test ∙ other)
-
-      as_it_was : u ≡ was.0
-      as_it_was = elim as_was [ inl e ↦ e | inr e ↦ e ∙ stays ]
+      as_it_is : u ≡ stamped_undo by stamp was.0
+      as_it_is = elim as_was [
+        | inl e ↦ e ∙ sym (ap (λ t. cond t (with_stamp stamp was.0) was.0) (ap (is_to_stamp by) (sym e) ∙ other))
+        | inr e ↦ e
+      ]
 
 -- no record is stamped yet
 pub stamp_start : (c : ChainMap) (by : TxnName) (stamp : ℕ) (head : Option ℕ) → AreLinked c.slots → IsHeadOf c head → IsStamped c c by stamp head head
@@ -376,6 +500,63 @@ module _ (old now : ChainMap) (by : TxnName) (stamp : ℕ) (head : Option ℕ) (
         where
           outside_done : (x : ℕ) → (list_any (nat_eq x) done ≡ true → ⊥) → list_any (nat_eq x) done ≡ false
           outside_done x never = elim (list_any (nat_eq x) done) as (λ t. list_any (nat_eq x) done ≡ t → t ≡ false) [ true ↦ λ e. absurd (never e) | false ↦ λ e. refl ] refl
+
+-- ---- the rest of a list that has stamps
+
+-- each record on a path has a stamp where none of the list lacks one
+all_on_path : (s : List (Option Undo)) (h : Option ℕ) (ks : List ℕ) → IsPath s h ks → (n : ℕ) → length ks ≤ n → list_any lacks_stamp (linked (walked n s) h) ≡ false
+    → (x : ℕ) → list_any (nat_eq x) ks ≡ true → (u : Undo) → record_at s x ≡ Some u → not (is_some u.stamp) ≡ false
+all_on_path s h [] p n few none x e u at = cc
+all_on_path s h (k ∷ ks) p zero few none x e u at = absurd (omega (arith, few))
+all_on_path s h (k ∷ ks) p (suc n) few none x e u at =
+    let both = neither (lacks_stamp (unlinked p.0)) (list_any lacks_stamp (linked (walked n s) p.0.next)) (sym (ap (list_any lacks_stamp) (step_list s h k p.0 p.1.0 n)) ∙ none) in
+    elim (is_in_or x k ks e) [
+      | inl same ↦ ap (λ (v : Undo). not (is_some v.stamp)) (some_is_undo u p.0 (sym at ∙ ap (record_at s) same ∙ p.1.0.at)) ∙ both.0
+      | inr more ↦ all_on_path s p.0.next ks p.1.1 n (omega (arith, few)) both.1 x more u at
+    ]
+  where
+    some_is_undo : (v w : Undo) → ◌≡◌ {A = Option Undo} (Some v) (Some w) → v ≡ w
+    some_is_undo v w f = cc
+
+pub stamped_at : (c : ChainMap) (link : Option ℕ) (key : ℕ) → link ≡ Some key → list_any lacks_stamp (list_at c (Some key)) ≡ false → list_any lacks_stamp (list_at c link) ≡ false
+stamped_at c link key at all = ap (λ q. list_any lacks_stamp (list_at c q)) at ∙ all
+
+-- where the records from the link on have stamps nothing is left to be done
+pub stamp_rest : (old now : ChainMap) (by : TxnName) (stamp : ℕ) (head link : Option ℕ) → IsStamped old now by stamp head link → list_any lacks_stamp (list_at now link) ≡ false
+    → IsStamped old now by stamp head None
+stamp_rest old now by stamp head link is none = record {
+  done = is.done ++ is.rest;
+  rest = [];
+  whole = subst (IsPath old.slots head) (sym (append_none (is.done ++ is.rest))) is.whole;
+  ahead = refl;
+  here = λ k e. elim (list_any (nat_eq k) is.done) as (λ t. list_any (nat_eq k) is.done ≡ t → record_at now.slots k ≡ option_map (stamped_undo by stamp) (record_at old.slots k)) [
+    | true ↦ λ f. is.here k f
+    | false ↦ λ f.
+        let within : list_any (nat_eq k) is.rest ≡ true = ap (λ t. t || list_any (nat_eq k) is.rest) (sym f) ∙ sym (list_any-append (nat_eq k) is.done is.rest) ∙ e in
+        let there = path_there old.slots link is.rest is.ahead k within in
+        is.else k f ∙ there.1 ∙ ap Some (sym (stays there.0 (all_on_path now.slots link is.rest path (length now.slots) (path_length now.slots link is.rest path) none k within there.0 (is.else k f ∙ there.1)))) ∙ sym (ap (option_map (stamped_undo by stamp)) there.1)
+  ] refl;
+  else = λ k e. is.else k (first (list_any (nat_eq k) is.done) (list_any (nat_eq k) is.rest) (sym (list_any-append (nat_eq k) is.done is.rest) ∙ e));
+  size = is.size;
+  spare = is.spare;
+}
+  where
+    append_none : (xs : List ℕ) → xs ++ [] ≡ xs
+    append_none [] = refl
+    append_none (x ∷ xs) = ap (λ ys. x ∷ ys) (append_none xs)
+
+    first : (a b : Bool) → (a || b) ≡ false → a ≡ false
+    first a b e = (neither a b e).0
+
+    path : IsPath now.slots link is.rest
+    path = path_relinked old.slots now.slots (stamp_links old now by stamp head is.done is.here is.else is.size) link is.rest is.ahead
+
+    stays : (u : Undo) → not (is_some u.stamp) ≡ false → stamped_undo by stamp u ≡ u
+    stays u e = ap (λ t. cond t (with_stamp stamp u) u) (ap (λ t. same_name u.by by && t) e ∙ and_false (same_name u.by by))
+      where
+        and_false : (b : Bool) → (b && false) ≡ false
+        and_false true = refl
+        and_false false = refl
 
 -- all keys of the path have been passed
 whole_path : (old now : ChainMap) (by : TxnName) (stamp : ℕ) (head link : Option ℕ) → (is : IsStamped old now by stamp head link) → link ≡ None → IsPath old.slots head is.done

@@ -1,11 +1,11 @@
 -- Lists of records against versions.
 use Rattle.std.proofs.Common.{◌≡◌, ℕ, List, [], ◌∷◌, refl, ◌∙◌, ap, map, cond, Some}
-use Rattle.std.specs.Prelude.{Bool, true, false, Option}
+use Rattle.std.specs.Prelude.{Bool, true, false, ◌&&◌, Option}
 use Rattle.graph_model.specs.declared.journal.TxnName.{TxnName}
 use Rattle.graph_model.specs.Conflict.{same_name}
 use Rattle.graph_model.specs.Transactions.{reached}
 use Rattle.store_model.specs.Stamped.{Stamped, known, first_stamped, stamped_front, stamp_one}
-use Rattle.undo_chain.specs.Records.{UndoRecord, pairs_of, oldest_of, is_settled, unsettled_front, stamped_by}
+use Rattle.undo_chain.specs.Records.{UndoRecord, pairs_of, oldest_of, is_settled, unsettled_front, lacks_stamp, stamped_by}
 use Rattle.undo_chain.specs.Laws.{PushIsWrite, PopIsUndo, FrontIsPruned, StampIsStamp}
 
 pub push_is_write : PushIsWrite
@@ -41,7 +41,7 @@ front_is_pruned stamps horizon base us = λ i. record { pairs = front_pairs stam
 
 module _ (by : TxnName) (at : ℕ) where
   stamped_older : (u : UndoRecord) → (stamped_by by at u).older ≡ u.older
-  stamped_older u = go (same_name u.by by)
+  stamped_older u = go (same_name u.by by && lacks_stamp u)
     where
       go : (t : Bool) → (cond t (record { by = u.by; stamp = Some at; older = u.older }) u).older ≡ u.older
       go true = refl
@@ -51,7 +51,7 @@ module _ (by : TxnName) (at : ℕ) where
   pair base u = record { by = u.by; stamp = u.stamp; value = base }
 
   stamped_first : (base : Option ℕ) (u : UndoRecord) → pair base (stamped_by by at u) ≡ stamp_one by at (pair base u)
-  stamped_first base u = go (same_name u.by by)
+  stamped_first base u = go (same_name u.by by && lacks_stamp u)
     where
       go : (t : Bool) → pair base (cond t (record { by = u.by; stamp = Some at; older = u.older }) u) ≡ cond t (record { by = u.by; stamp = Some at; value = base }) (pair base u)
       go true = refl

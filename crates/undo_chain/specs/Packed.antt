@@ -1,11 +1,11 @@
 -- What the parts of a packed record stand for.
-use Rattle.std.specs.Prelude.{ℕ, zero, suc, ◌+◌, ◌*◌, ◌≤◌, Bool, cond, Option, Some, None}
+use Rattle.std.specs.Prelude.{ℕ, zero, suc, ◌+◌, ◌*◌, ◌≤◌, Bool, true, false, cond, Option, Some, None}
 use Rattle.std.specs.Option.{unwrap_or}
 use Rattle.graph_model.specs.declared.journal.TxnName.{TxnName}
 use Rattle.undo_chain.specs.declared.undo.Undo.{Undo}
 use Rattle.undo_chain.specs.declared.link.TheConstants.{MOST_RECORDS}
 use Rattle.undo_chain.specs.declared.packed.Content.{Content}
-use Rattle.undo_chain.specs.declared.packed.Content.TheVariants.{Nothing, Unstamped, Stamped}
+use Rattle.undo_chain.specs.declared.packed.Content.TheVariants.{Nothing, Unstamped, Stamped, AllStamped}
 use Rattle.undo_chain.specs.declared.packed.Slot.{Slot}
 use Rattle.undo_chain.specs.declared.packed.Slot.TheVariants.{Vacant, Occupied}
 
@@ -30,8 +30,12 @@ IsNameable (Some key) = key ≤ MOST_RECORDS
 -- what a slot holds: the place of the next vacant one, or a record, which has a stamp or none
 abbrev pub slot_of : Content → TxnName → ℕ → Option ℕ → Option ℕ → Slot
 slot_of Nothing by stamp older link = Vacant (unwrap_or link 0)
-slot_of Unstamped by stamp older link = Occupied (record { by = by; stamp = None; older = older; next = link })
-slot_of Stamped by stamp older link = Occupied (record { by = by; stamp = Some stamp; older = older; next = link })
+slot_of Unstamped by stamp older link =
+    Occupied (record { by = by; stamp = None; older = older; next = link; all_stamped = false })
+slot_of Stamped by stamp older link =
+    Occupied (record { by = by; stamp = Some stamp; older = older; next = link; all_stamped = false })
+slot_of AllStamped by stamp older link =
+    Occupied (record { by = by; stamp = Some stamp; older = older; next = link; all_stamped = true })
 
 -- the record in a slot
 abbrev pub record_in : Slot → Option Undo

@@ -1,5 +1,5 @@
 -- Undo records of one row, newest first, and the versions that they stand for.
-use Rattle.std.specs.Prelude.{◌≡◌, ℕ, Bool, not, cond, List, [], ◌∷◌, Option, Some, None}
+use Rattle.std.specs.Prelude.{◌≡◌, ℕ, Bool, ◌&&◌, not, is_some, cond, List, [], ◌∷◌, Option, Some, None}
 use Rattle.std.specs.List.{list_any, filter}
 use Rattle.graph_model.specs.declared.journal.TxnName.{TxnName}
 use Rattle.graph_model.specs.Conflict.{same_name}
@@ -60,9 +60,13 @@ without_touch by us = filter (λ u. not (same_name u.by by)) us
 abbrev pub open_touches : (TxnName → Option ℕ) → ℕ → List UndoRecord → List UndoRecord
 open_touches stamps horizon us = filter (λ u. not (is_settled stamps horizon u)) us
 
--- a record of this writer gets the stamp
+abbrev pub lacks_stamp : UndoRecord → Bool
+lacks_stamp u = not (is_some u.stamp)
+
+-- a record of this writer that has no stamp gets this one
 abbrev pub stamped_by : TxnName → ℕ → UndoRecord → UndoRecord
-stamped_by by stamp u = cond (same_name u.by by) (record { by = u.by; stamp = Some stamp; older = u.older }) u
+stamped_by by stamp u =
+    cond (same_name u.by by && lacks_stamp u) (record { by = u.by; stamp = Some stamp; older = u.older }) u
 
 -- ---- lists
 

@@ -5,9 +5,9 @@
 
 ghost use Rattle.std.specs.Prelude.{◌≡◌, ◌+◌, ◌≤◌, ◌<◌, ◌==◌, true, false, [], ◌∷◌, length, map, Some, None, OnOk, OnErr, IfOk, IsOk, IsSome};
 ghost use Rattle.std.specs.List.{list_any};
-ghost use Rattle.undo_chain.specs.Records.{new_record, newest_of, value_of, TakesNewest, is_settled, has_writer, with_touch, without_touch, open_touches, unsettled_front, stamped_by, upside_down};
+ghost use Rattle.undo_chain.specs.Records.{new_record, newest_of, value_of, TakesNewest, is_settled, has_writer, with_touch, without_touch, open_touches, unsettled_front, lacks_stamp, stamped_by, upside_down};
 ghost use Rattle.undo_chain.specs.States.{Grows, AreNamed};
-ghost use Rattle.undo_chain.specs.Walks.{Restamps};
+ghost use Rattle.undo_chain.specs.Walks.{is_to_stamp, KeepsLists, Restamps};
 ghost use Rattle.undo_chain.specs.declared.touched.Touched.TheVariants.{Never};
 ghost use Rattle.undo_chain.specs.Chains.{ChainMap, record_at, unlinked, list_at, IsHead, IsHeadOf, IsLinkOf, AreApart, ChangesOneList, ChangesTwoLists, HandsOver};
 
@@ -40,7 +40,8 @@ impl Model for Chains {
 impl Chains {
     /// No records. Takes no memory.
     pub fn new(alloc: Global) -> Chains
-        ensures { result.slots ≡ [] }
+        ensures slots { result.slots ≡ [] }
+        ensures spare { result.spare ≡ 0 }
     {
         Chains {
             records: Slots::new(alloc),
@@ -166,6 +167,7 @@ impl Chains {
             stamp: None,
             older,
             next: None,
+            all_stamped: false,
         };
         Ok(self.put(undo, head))
     }
@@ -316,8 +318,20 @@ impl Chains {
         to.pour(moved, None)
     }
 
-    /// Gives the records of a writer in one list their commit stamp.
+    /// Gives the records of a writer in one list their commit stamp, where they have none. Records that are known to be
+    /// stamped are at the end of the list, and aren't looked at.
     pub fn stamp(&mut self, head: Option<usize>, by: TxnName, stamp: u64)
+        requires { IsHeadOf self.old head }
+        ensures list { list_at self.new head ≡ map (stamped_by by stamp) (list_at self.old head) }
+        ensures others { ChangesOneList self.old self.new head head }
+        ensures spare { self.new.spare ≡ self.old.spare }
+    {
+        self.stamp_records(head, by, stamp);
+        self.note_stamped(head);
+    }
+
+    /// Gives the records their stamp.
+    fn stamp_records(&mut self, head: Option<usize>, by: TxnName, stamp: u64)
         requires { IsHeadOf self.old head }
         ensures list { list_at self.new head ≡ map (stamped_by by stamp) (list_at self.old head) }
         ensures others { ChangesOneList self.old self.new head head }
@@ -327,11 +341,45 @@ impl Chains {
         let mut link = head;
         'stamp_all: while let Some(key) = link {
             let undo = self.record(key);
-            if undo.by == by {
+            if undo.all_stamped {
+                return;
+            }
+            if is_to_stamp(&undo, by) {
                 self.set_stamp(key, stamp);
             }
             link = undo.next;
         }
+    }
+
+    /// Notes where in a list the records begin that all have stamps.
+    fn note_stamped(&mut self, head: Option<usize>)
+        requires { IsHeadOf self.old head }
+        ensures { KeepsLists self.old self.new }
+    {
+        if let Some(key) = self.stamped_from(head) {
+            self.set_all_stamped(key);
+        }
+    }
+
+    /// The record of a list from which on all have stamps, so far up as it may be.
+    fn stamped_from(&self, head: Option<usize>) -> Option<usize>
+        requires { IsHeadOf self.now head }
+        ensures link { IsLinkOf self.now result }
+        ensures stamped { list_any lacks_stamp (list_at self.now result) ≡ false }
+    {
+        let mut from = head;
+        let mut link = head;
+        'look: while let Some(key) = link {
+            let undo = self.record(key);
+            if undo.all_stamped {
+                return from;
+            }
+            link = undo.next;
+            if undo.stamp.is_none() {
+                from = link;
+            }
+        }
+        from
     }
 
     /// Puts a record in front of a list, where there is room for it.
@@ -343,7 +391,12 @@ impl Chains {
         ensures spare { self.old.spare ≡ self.new.spare + 1 }
     {
         self.records.keys_can_be_named();
-        self.records.insert(Undo { next: head, ..undo })
+        let undo = Undo {
+            next: head,
+            all_stamped: false,
+            ..undo
+        };
+        self.records.insert(undo)
     }
 
     /// Takes the first record of a list away.
@@ -364,11 +417,21 @@ impl Chains {
         self.records.set_stamp(key, stamp);
     }
 
+    /// Says of the record at a key that from it on all have stamps.
+    fn set_all_stamped(&mut self, key: usize)
+        requires there { IsSome (record_at self.old.slots key) }
+        requires stamped { list_any lacks_stamp (list_at self.old (Some key)) ≡ false }
+        ensures { KeepsLists self.old self.new }
+    {
+        self.records.set_all_stamped(key);
+    }
+
     /// The record at a key: a head, or the next one of a list.
     pub fn record(&self, key: usize) -> Undo
         requires { IsSome (record_at self.now.slots key) }
         ensures record { record_at self.now.slots key ≡ Some result }
         ensures list { list_at self.now (Some key) ≡ unlinked result ∷ list_at self.now result.next }
+        ensures stamped { result.all_stamped ≡ true → list_any lacks_stamp (list_at self.now (Some key)) ≡ false }
         ensures next { IsLinkOf self.now result.next }
     {
         self.records.get(key)
@@ -450,6 +513,13 @@ impl Chains {
             rest = self.pop(key).next;
         }
     }
+}
+
+/// Whether a record is this writer's, and has no stamp.
+fn is_to_stamp(undo: &Undo, by: TxnName) -> bool
+    ensures { result ≡ is_to_stamp by undo.now }
+{
+    undo.by == by && undo.stamp.is_none()
 }
 
 /// Whether a record's writer had committed by then.

@@ -1,10 +1,10 @@
 //! Undo records as they lie in memory.
 
-ghost use Rattle.std.specs.Prelude.{◌≡◌, ◌≤◌, None, Some, IsSome, IsSomeAnd};
+ghost use Rattle.std.specs.Prelude.{◌≡◌, ◌≤◌, false, None, Some, IsSome, IsSomeAnd};
 ghost use Rattle.undo_chain.specs.declared.link.TheConstants.{MOST_RECORDS};
 ghost use Rattle.undo_chain.specs.declared.packed.Slot.TheVariants.{Vacant, Occupied};
 ghost use Rattle.undo_chain.specs.Packed.{IsNameable, record_in};
-ghost use Rattle.undo_chain.specs.Walks.{with_stamp};
+ghost use Rattle.undo_chain.specs.Walks.{marked, with_stamp};
 
 use crate::link::Link;
 use crate::undo::Undo;
@@ -17,12 +17,13 @@ pub enum Slot {
     Occupied(Undo),
 }
 
-/// Whether a slot has a record, and whether that has a stamp.
+/// Whether a slot has a record, and whether that has a stamp, or all from it on.
 #[derive(Clone, Copy)]
 pub enum Content {
     Nothing,
     Unstamped,
     Stamped,
+    AllStamped,
 }
 
 /// A slot of 32 bytes, whether it has a record or not. What has no meaning in it isn't read.
@@ -48,7 +49,8 @@ impl Model for PackedSlot {
 impl PackedSlot {
     /// A slot with a record.
     pub(crate) fn occupied(undo: Undo) -> PackedSlot
-        requires { IsNameable undo.next }
+        requires link { IsNameable undo.next }
+        requires fresh { undo.all_stamped ≡ false }
         ensures { result ≡ Occupied undo }
     {
         PackedSlot {
@@ -87,11 +89,12 @@ impl PackedSlot {
         Undo {
             by: self.by,
             stamp: match self.content {
-                Content::Stamped => Some(self.stamp),
+                Content::Stamped | Content::AllStamped => Some(self.stamp),
                 _ => None,
             },
             older: self.has_older.then_some(self.older),
             next: self.link.key(),
+            all_stamped: matches!(self.content, Content::AllStamped),
         }
     }
 
@@ -115,5 +118,13 @@ impl PackedSlot {
     {
         self.stamp = stamp;
         self.content = Content::Stamped;
+    }
+
+    /// Says of the record that from it on all have stamps.
+    pub(crate) fn set_all_stamped(&mut self)
+        requires { IsSomeAnd (record_in self.old) (λ undo. IsSome undo.stamp) }
+        ensures { IsSomeAnd (record_in self.old) (λ undo. self.new ≡ Occupied (marked undo)) }
+    {
+        self.content = Content::AllStamped;
     }
 }

@@ -3,11 +3,11 @@
 //! 1. A key stays a record's until that is taken away. Then it is the first that is given out again.
 //! 2. The keys are those that a `Link` can name.
 
-ghost use Rattle.std.specs.Prelude.{◌≡◌, ◌≢◌, ℕ, ◌+◌, ◌≤◌, ◌<◌, [], length, count_by, is_some, Some, None, IsSome, IsOk, OnOk};
+ghost use Rattle.std.specs.Prelude.{◌≡◌, ◌≢◌, ℕ, ◌+◌, ◌≤◌, ◌<◌, [], length, count_by, false, is_some, Some, None, IsSome, IsSomeAnd, IsOk, OnOk};
 ghost use Rattle.undo_chain.specs.declared.link.TheConstants.{MOST_RECORDS};
 ghost use Rattle.undo_chain.specs.Packed.{IsNameable};
 ghost use Rattle.undo_chain.specs.Chains.{record_at};
-ghost use Rattle.undo_chain.specs.Walks.{Restamps};
+ghost use Rattle.undo_chain.specs.Walks.{Remarks, Restamps};
 
 use crate::link::MOST_RECORDS;
 use crate::packed::PackedSlot;
@@ -45,7 +45,8 @@ impl Model for Slots {
 impl Slots {
     /// No records. Takes no memory.
     pub(crate) fn new(alloc: Global) -> Slots
-        ensures { result.slots ≡ [] }
+        ensures slots { result.slots ≡ [] }
+        ensures spare { result.spare ≡ 0 }
     {
         Slots {
             slots: Vec::new(alloc),
@@ -109,6 +110,7 @@ impl Slots {
     pub(crate) fn insert(&mut self, undo: Undo) -> usize
         requires room { 0 < self.old.spare }
         requires link { IsNameable undo.next }
+        requires fresh { undo.all_stamped ≡ false }
         ensures was_vacant { record_at self.old.slots result ≡ None }
         ensures put { record_at self.new.slots result ≡ Some undo }
         ensures others { (k : ℕ) → k ≢ result → record_at self.new.slots k ≡ record_at self.old.slots k }
@@ -155,5 +157,13 @@ impl Slots {
         ensures { Restamps self.old self.new key stamp }
     {
         self.slots[key].set_stamp(stamp);
+    }
+
+    /// Says of the record at a key that from it on all have stamps.
+    pub(crate) fn set_all_stamped(&mut self, key: usize)
+        requires { IsSomeAnd (record_at self.old.slots key) (λ undo. IsSome undo.stamp) }
+        ensures { Remarks self.old self.new key }
+    {
+        self.slots[key].set_all_stamped();
     }
 }

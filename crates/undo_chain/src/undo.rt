@@ -13,4 +13,6 @@ pub struct Undo {
     pub older: Option<u64>,
     /// The next older record of the list.
     pub next: Option<usize>,
+    /// From this record on all of the list have stamps. Where it is false, nothing is said.
+    pub all_stamped: bool,
 }

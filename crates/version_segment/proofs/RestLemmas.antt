@@ -319,6 +319,22 @@ module _ (c : ChainMap) where
   settled_left (suc n) f same = λ i. resting_at c (same 0 i) ∷ settled_left n (λ p. f (suc p)) (λ p. same (suc p)) i
 
 -- a value at a place is within its limit
+-- what is kept of heads and records where no row is changed are the heads alone
+module _ (c d : ChainMap) (e f : List PlacedRow) (count n : ℕ) (same : f ≡ e) (all : n ≡ count) (records : (e ≡ []) ⊎ (d ≡ c)) where
+  pub kept_parts : AreRestingParts c (heads_placed e) count → AreRestingParts d (heads_placed f) n
+  kept_parts parts = elim records [
+    | inl none ↦ settled_parts d (heads_placed f) n (no_heads f (ap length (same ∙ none)))
+    | inr kept ↦ subst (λ (t : ChainMap × List PlacedRow × ℕ). AreRestingParts t.0 (heads_placed t.1) t.2) (λ i. (sym kept i, sym same i, sym all i)) parts
+  ]
+
+  pub kept_rows : resting_places d n (heads_placed f) ≡ resting_places c count (heads_placed e)
+  kept_rows = elim records [
+    | inl none ↦
+        settled_left d n (heads_placed f) (no_heads f (ap length (same ∙ none))) ∙ ap settled_rest all
+        ∙ sym (settled_left c count (heads_placed e) (no_heads e (ap length none)))
+    | inr kept ↦ λ i. resting_places (kept i) (all i) (heads_placed (same i))
+  ]
+
 pub small_at : (f : ℕ → Heads) (rows : List Row) (p : ℕ) (r : Row) → AreSmallAt f rows → slice_get rows p ≡ Some r → value_in (f p) r.weight ≡ Some r.weight → r.weight ≤ MAX_WEIGHT
 small_at f [] p r h e is = cc
 small_at f (x ∷ xs) zero r h e is = let same = some_eq x r e in subst (λ (y : Row). y.weight ≤ MAX_WEIGHT) same (h.0 (subst (λ (y : Row). value_in (f 0) y.weight ≡ Some y.weight) (sym same) is))

@@ -1,6 +1,7 @@
 //! Segments at rest, whose rows and fence keys lie elsewhere.
 //!
-//! 1. At rest a segment keeps where the records of its rows begin, and the records. It has no room for rows.
+//! 1. At rest a segment keeps where the records of its rows begin, and the records, in one box. It has no room for rows,
+//!    and where all of them are settled no box.
 //! 2. Its rows are handed out in the room that they had, with value words in place of weights, and it wakes with them in
 //!    any room for rows.
 //! 3. No call takes memory.
@@ -15,19 +16,19 @@ use crate::segment::VersionSegment;
 use crate::value_word::{value_word, weight_in_word};
 use gap_segment::Segment;
 use graph_model::{Key, Row};
-use head_map::HeadMap;
+use head_map::{HeadMap, RestingHeads};
 use row_table::RowTable;
 use std::alloc::Global;
 use std::marker::Model;
-use undo_chain::Chains;
 
-/// A segment without its rows and fence keys: their records, and how many rows there are.
+/// A segment without its rows and fence keys: their records, and how many rows there are. It takes 16 bytes, and a box
+/// where a row is changed.
 #[derive(Drop)]
 pub struct Resting {
-    heads: HeadMap,
-    chains: Chains,
-    count: usize,
+    heads: RestingHeads,
 }
+
+const _: () = prove!(size_of::<Resting>() == 16);
 
 impl Model for Resting {
     ghost use Rattle.std.specs.Prelude.{◌≤◌};
@@ -37,9 +38,10 @@ impl Model for Resting {
 
     ghost Value = { RestingRows };
 
-    ghost view = { λ r. resting_view r.chains r.heads r.count };
+    ghost view = { λ r. resting_view r.heads.chains r.heads.heads r.heads.count };
 
-    ghost invariant = { λ r. AreRestingParts r.chains (heads_placed r.heads.entries) r.count × (r.count ≤ 32) };
+    ghost invariant = { λ r. AreRestingParts r.heads.chains (heads_placed r.heads.heads.entries) r.heads.count
+        × (r.heads.count ≤ 32) };
 }
 
 impl Resting {
@@ -49,9 +51,7 @@ impl Resting {
         ensures { result.rows ≡ settled_rest count }
     {
         Resting {
-            heads: HeadMap::new(alloc),
-            chains: Chains::new(alloc),
-            count,
+            heads: RestingHeads::settled(alloc, count),
         }
     }
 
@@ -59,20 +59,20 @@ impl Resting {
     pub fn len(&self) -> usize
         ensures { result ≡ length self.now.rows }
     {
-        self.count
+        self.heads.count()
     }
 
     pub fn is_empty(&self) -> bool
         ensures { result ≡ (length self.now.rows == 0) }
     {
-        self.count == 0
+        self.len() == 0
     }
 
     /// Whether no row has a record. Then nothing is left of the rows but their number.
     pub fn is_settled(&self) -> bool
         ensures { result ≡ true → self.now.rows ≡ settled_rest (length self.now.rows) }
     {
-        self.heads.is_empty()
+        self.heads.is_settled()
     }
 
     /// What holds of each segment at rest.
@@ -80,16 +80,16 @@ impl Resting {
         ensures small { length self.now.rows ≤ SEGMENT_ROWS }
         ensures erased { AreErased self.now.rows }
     {
-        let _ = &self.count;
+        let _ = &self.heads;
     }
 }
 
 impl VersionSegment {
     /// Lays the segment to rest. Its rows come in the room that they had, between its fence keys, each with its value word
-    /// in place of a weight.
+    /// in place of a weight. Where all rows are settled the memory of records is given back.
     pub fn rest(self) -> (Resting, Segment)
         requires weights { HasSmallWeights self }
-        ensures resting { result.0 ≡ resting_of self }
+        ensures resting { result.0.rows ≡ (resting_of self).rows }
         ensures words { result.1 ≡ record { low = self.low; high = self.high; rows = word_rows self } }
     {
         let VersionSegment {
@@ -99,11 +99,8 @@ impl VersionSegment {
         let (mut room, heads) = table.into_parts();
         put_words(&heads, &mut room);
         let count = room.len();
-        let resting = Resting {
-            heads,
-            chains,
-            count,
-        };
+        let kept = heads.rest(chains, count);
+        let resting = Resting { heads: kept };
         (resting, room)
     }
 
@@ -120,11 +117,7 @@ impl VersionSegment {
         requires agree { CanWake resting low high rows.now }
         ensures woken { result ≡ woken resting low high rows.now }
     {
-        let Resting {
-            heads,
-            chains,
-            count: _,
-        } = resting;
+        let (heads, chains, _) = resting.heads.wake();
         let mut room = room;
         room.fill(low, high, rows);
         put_weights(&heads, &mut room);

@@ -2,6 +2,7 @@ use Rattle.std.proofs.Common.{◌≡◌, ◌<◌, ◌^◌, subst, sym}
 use Rattle.std.specs.Prelude.{IfOk, OnErr, true}
 use Rattle.store_relation.specs.Passes.{PassState, number_of}
 use Rattle.rule_model.specs.Sight.{PinState}
+use Rattle.store_rule.specs.Slots.{IsListOf}
 use Rattle.pass_steps.specs.Journal.{HasTaken}
 use Rattle.pass_steps.specs.Passes.{HasNoTxn}
 use Rattle.pass_steps.specs.Txns.{Opens}
@@ -14,7 +15,7 @@ open_within-opened-requires-clause-taken g c =
       t.0,
       subst (λ (u : PassState × PinState). HasTaken c.args.store.now c.take_journal-held.new.pass u.0 u.1 t.0)
           (λ i. (sym t.1.state i, sym t.1.pin i)) t.1,
-      t.2,
+      subst (IsListOf t.0) (sym c.deref_mut.ensures.value) t.2,
     )
 
 pub open_within-opened-requires-clause-idle : goal.open_within-opened-requires-clause-idle

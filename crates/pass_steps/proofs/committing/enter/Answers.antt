@@ -1,7 +1,8 @@
-use Rattle.std.proofs.Common.{◌≡◌, ◌∙◌, ◌+◌, sym, ap}
+use Rattle.std.proofs.Common.{◌≡◌, ◌∙◌, ◌+◌, sym, ap, subst}
 use Rattle.store_relation.specs.Passes.{name_at}
 use Rattle.store_relation.specs.Shared.{entry_of}
 use Rattle.store_relation.specs.Steps.{committing, with_entry}
+use Rattle.store_rule.specs.Slots.{IsListOf}
 use Rattle.pass_steps.specs.Passes.{pin_of, state_of}
 use Rattle.pass_steps.proofs.HandLemmas.{clock_told, hand_published, hand_stamped, list_published}
 use Rattle.pass_steps.proofs.PassLemmas.{taken_own, taken_same}
@@ -65,6 +66,7 @@ give_journal-requires-clause-taken g c =
       _,
       _,
       done,
-      list_published t.0 p2.number st _ _ _ t.2 entry c.push_within.ensures.put
+      list_published t.0 p2.number st _ _ _ (subst (IsListOf t.0) (sym c.deref_mut.ensures.value) t.2) entry
+          c.push_within.ensures.put
           c.push_within.ensures.spare,
     )

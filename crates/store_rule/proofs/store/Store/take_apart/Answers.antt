@@ -3,6 +3,7 @@ use Rattle.seat_views.specs.Keeping.{kept_at}
 use Rattle.rule_model.specs.Sight.{HasJournal, Sight, cells_of}
 use Rattle.store_rule.specs.Closed.{AreAtRest, AreSpelled, known_segments}
 use Rattle.store_rule.specs.Closing.{AreCells, HasJoined, IsContent}
+use Rattle.store_rule.specs.Slots.{IsListOf}
 use Rattle.store_rule.proofs.CloseLemmas.{all_at_rest, all_back, all_below, all_spelled, known_cells, known_length}
 use Rattle.store_rule.proofs.store.Store.take_apart.Goals as goal
 
@@ -89,13 +90,13 @@ returns c =
     let content : IsContent z list (record {
       cells = c.new-cells.result;
       index = c.take_in_index-index.result;
-      journal = c.take_in_journal-journal.result;
+      journal = c.into_inner-journal.result;
     }) = record {
       sight = sight;
       state = j;
       last = store.last;
       passes = has_passes;
-      journal = journal.2;
+      journal = subst (IsListOf j) (sym c.into_inner-journal.ensures) journal.2;
       count = ap length known ∙ known_length sight (cells_of z);
       cells = subst (AreCells sight) (sym known) (subst (λ n. AreCells sight (known_segments sight n))
           c.take_cells.ensures.count (known_cells sight cells (all_at_rest sight cells c.take_cells.ensures.cells)));

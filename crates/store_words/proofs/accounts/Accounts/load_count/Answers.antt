@@ -2,7 +2,8 @@ use Rattle.std.proofs.Common.{◌≡◌, ◌≤◌, arith, length, refl, subst, 
 use Rattle.std.specs.Prelude.{slice_index}
 use Rattle.seat_views.proofs.NumberLemmas.{some_is}
 use Rattle.cells_model.specs.Cells.{CellState}
-use Rattle.cells_model.specs.Words.{Spells, word_rows}
+use Rattle.version_segment.specs.Resting.{word_rows}
+use Rattle.cells_model.specs.Words.{Spells}
 use Rattle.cells_model.proofs.WordLemmas.{few_words}
 use Rattle.store_words.proofs.accounts.Accounts.load_count.Goals as goal
 

@@ -10,7 +10,7 @@ invariant_of-self c =
     let vacant = subst (λ (m : ChainMap). record_at m.slots c.insert.result ≡ None) c.self.view_is c.insert.ensures.was_vacant in
     let agree = subst (λ (m : ChainMap). (k : ℕ) → k ≢ c.insert.result → record_at c.insert.new.self.slots k ≡ record_at m.slots k) c.self.view_is c.insert.ensures.others in
     let changed = c.insert.ensures.put in
-    put_linked c.args.self.now (record { slots = c.insert.new.self.slots; spare = 0 }) c.insert.result _ c.args.head is c.requires.head vacant changed agree refl
+    put_linked c.args.self.now (record { slots = c.insert.new.self.slots; spare = 0 }) c.insert.result _ c.args.head is c.requires.head vacant changed agree refl refl
 
 pub returns-clause-list : goal.returns-clause-list
 returns-clause-list c =
@@ -18,7 +18,7 @@ returns-clause-list c =
     let vacant = subst (λ (m : ChainMap). record_at m.slots c.insert.result ≡ None) c.self.view_is c.insert.ensures.was_vacant in
     let agree = subst (λ (m : ChainMap). (k : ℕ) → k ≢ c.insert.result → record_at c.insert.new.self.slots k ≡ record_at m.slots k) c.self.view_is c.insert.ensures.others in
     let changed = c.insert.ensures.put in
-    put_list c.args.self.now (record { slots = c.insert.new.self.slots; spare = 0 }) c.insert.result _ c.args.head is c.requires.head vacant changed agree refl
+    put_list c.args.self.now (record { slots = c.insert.new.self.slots; spare = 0 }) c.insert.result _ c.args.head is c.requires.head vacant changed agree refl refl
 
 pub returns-clause-others : goal.returns-clause-others
 returns-clause-others c =
@@ -26,4 +26,4 @@ returns-clause-others c =
     let vacant = subst (λ (m : ChainMap). record_at m.slots c.insert.result ≡ None) c.self.view_is c.insert.ensures.was_vacant in
     let agree = subst (λ (m : ChainMap). (k : ℕ) → k ≢ c.insert.result → record_at c.insert.new.self.slots k ≡ record_at m.slots k) c.self.view_is c.insert.ensures.others in
     let changed = c.insert.ensures.put in
-    put_others _ _ c.insert.result _ c.args.head is c.requires.head vacant changed agree refl
+    put_others _ _ c.insert.result _ c.args.head is c.requires.head vacant changed agree refl refl

@@ -9,3 +9,9 @@ returns-clause-list c =
     let is = subst (λ (m : ChainMap). AreLinked m.slots) c.self.view_is c.self.invariant in
     let at = subst (λ (m : ChainMap). record_at m.slots c.args.key ≡ Some c.get.result) c.self.view_is c.get.ensures in
     list_step c.args.self.now.slots is c.args.key c.get.result at
+
+pub returns-clause-stamped : goal.returns-clause-stamped
+returns-clause-stamped c =
+    let is = subst (λ (m : ChainMap). AreLinked m.slots) c.self.view_is c.self.invariant in
+    let at = subst (λ (m : ChainMap). record_at m.slots c.args.key ≡ Some c.get.result) c.self.view_is c.get.ensures in
+    is.stamped c.args.key c.get.result at

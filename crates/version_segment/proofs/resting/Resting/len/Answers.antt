@@ -5,4 +5,4 @@ use Rattle.version_segment.proofs.RestLemmas.{count_places}
 use Rattle.version_segment.proofs.resting.Resting.len.Goals as goal
 
 pub returns : goal.returns
-returns c = sym (ap (λ (r : RestingRows). length r.rows) (sym c.self.view_is) ∙ count_places c.self.inside.chains c.self.inside.count (heads_placed c.self.inside.heads.entries))
+returns c = c.count.ensures ∙ sym (ap (λ (r : RestingRows). length r.rows) (sym c.self.view_is) ∙ count_places c.self.inside.heads.chains c.self.inside.heads.count (heads_placed c.self.inside.heads.heads.entries))

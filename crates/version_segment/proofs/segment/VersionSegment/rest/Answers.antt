@@ -1,10 +1,10 @@
-use Rattle.std.proofs.Common.{◌≡◌, ◌∙◌, ap, sym, subst, length}
+use Rattle.std.proofs.Common.{◌≡◌, ◌∙◌, ap, sym, subst, length, arith}
 use Rattle.gap_segment.specs.Fenced.{FencedRows}
 use Rattle.head_map.specs.Heads.{HeadTable, heads_placed, keyed, keyed_table}
 use Rattle.row_table.specs.Parts.{AreParts, view_of}
-use Rattle.version_segment.specs.Resting.{resting_of, word_rows, HasSmallWeights}
-use Rattle.version_segment.specs.RestingParts.{AreRestingParts, resting_view}
-use Rattle.version_segment.proofs.RestLemmas.{rest_parts, rest_view, rest_words, rest_small, words_length}
+use Rattle.version_segment.specs.Resting.{RestingRows, resting_of, word_rows, HasSmallWeights}
+use Rattle.version_segment.specs.RestingParts.{resting_view}
+use Rattle.version_segment.proofs.RestLemmas.{kept_parts, kept_rows, rest_parts, rest_view, rest_words, rest_small, words_length}
 use Rattle.version_segment.proofs.segment.VersionSegment.rest.Goals as goal
 
 pub put_words-requires : goal.put_words-requires
@@ -25,9 +25,12 @@ invariant_of-resting c =
     let chains = c.self.inside.chains in
     let view : c.args.self ≡ view_of rows (keyed_table rows.rows heads) chains = sym c.self.view_is ∙ (λ i. view_of (sym e.rows i) (sym e.heads i) chains) in
     let parts : AreParts rows (keyed rows.rows (heads_placed heads.entries)) chains = subst (λ (t : FencedRows × HeadTable). AreParts t.0 t.1.entries chains) (λ i. (sym e.rows i, sym e.heads i)) c.self.invariant in
-    let count : c.len-count.result ≡ length rows.rows = c.len-count.ensures.len ∙ ap (λ (x : FencedRows). length x.rows) c.put_words.ensures ∙ words_length (heads_placed heads.entries) rows.rows in (
-      subst (AreRestingParts chains (heads_placed heads.entries)) (sym count) (rest_parts chains rows (heads_placed heads.entries) parts e.within),
-      c.len-count.ensures.small,
+    let count : c.len-count.result ≡ length rows.rows = c.len-count.ensures.len ∙ ap (λ (x : FencedRows). length x.rows) c.put_words.ensures ∙ words_length (heads_placed heads.entries) rows.rows in
+    let kept = c.rest-kept.ensures in
+    let few = c.len-count.ensures.small in (
+      kept_parts chains c.rest-kept.result.chains heads.entries c.rest-kept.result.heads.entries (length rows.rows) c.rest-kept.result.count kept.entries (kept.count ∙ count) kept.records
+          (rest_parts chains rows (heads_placed heads.entries) parts e.within),
+      omega (arith, few, kept.count),
     )
 
 pub returns-clause-resting : goal.returns-clause-resting
@@ -39,7 +42,9 @@ returns-clause-resting c =
     let view : c.args.self ≡ view_of rows (keyed_table rows.rows heads) chains = sym c.self.view_is ∙ (λ i. view_of (sym e.rows i) (sym e.heads i) chains) in
     let parts : AreParts rows (keyed rows.rows (heads_placed heads.entries)) chains = subst (λ (t : FencedRows × HeadTable). AreParts t.0 t.1.entries chains) (λ i. (sym e.rows i, sym e.heads i)) c.self.invariant in
     let count : c.len-count.result ≡ length rows.rows = c.len-count.ensures.len ∙ ap (λ (x : FencedRows). length x.rows) c.put_words.ensures ∙ words_length (heads_placed heads.entries) rows.rows in
-    ap (resting_view chains heads) count ∙ rest_view chains rows heads parts.fenced.sorted ∙ ap resting_of (sym view)
+    let kept = c.rest-kept.ensures in
+    kept_rows chains c.rest-kept.result.chains heads.entries c.rest-kept.result.heads.entries (length rows.rows) c.rest-kept.result.count kept.entries (kept.count ∙ count) kept.records
+    ∙ ap (λ (r : RestingRows). r.rows) (rest_view chains rows heads parts.fenced.sorted ∙ ap resting_of (sym view))
 
 pub returns-clause-words : goal.returns-clause-words
 returns-clause-words c =
