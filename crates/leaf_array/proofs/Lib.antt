@@ -5,6 +5,6 @@ pub mod LeafLemmas
 pub mod PairLemmas
 pub mod MergeLemmas
 pub mod NewLeafLemmas
-mod EightLemmas
+pub mod EightLemmas
 pub mod StayLemmas
 pub mod RowLemmas

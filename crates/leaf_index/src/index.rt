@@ -260,6 +260,13 @@ impl LeafIndex {
         self.idle.retire(leaf, stamp);
     }
 
+    /// How many leaves are free.
+    pub fn free(&self) -> u32
+        ensures { result ≡ length self.now.free }
+    {
+        self.idle.free_count()
+    }
+
     /// How many leaves are neither free nor retired.
     pub fn in_use(&self) -> u32
         ensures { result ≡ (self.now.leaves - length self.now.free) - length self.now.retired }

@@ -25,4 +25,5 @@ mod work;
 
 pub use leaf_table::Finger;
 pub use pair::{MERGE_ROWS, STAMPS_END};
+pub use split::split_entry;
 pub use store::{KeyRange, LeafStore, Pruned};

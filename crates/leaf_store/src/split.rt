@@ -36,7 +36,7 @@ fn empty_leaf(alloc: Global) -> Result<Box<Leaf>, NoMemory>
 }
 
 /// Divides the rows of a live leaf between it and a leaf without rows, and gives this one an entry.
-fn split_entry(
+pub fn split_entry(
     index: &mut LeafIndex,
     alloc: Global,
     left: &mut Leaf,

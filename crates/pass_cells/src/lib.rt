@@ -19,8 +19,10 @@ mod take;
 mod taken;
 
 pub use hints::CellHints;
+pub use latch::{give_places, take_next_place, try_place};
 pub use laws::{rows_in_hand_are_known, writes_have_their_rows};
 pub use own::{MOST_CELLS, PassCells};
 pub use read::CellRun;
 pub use room::RoomNeed;
+pub use take::gather;
 pub use taken::{TakenCell, TakenCells};

@@ -126,7 +126,7 @@ impl PassCells {
 }
 
 /// Takes in the note of a cell that was taken, and unpacks it.
-fn gather(store: &Store, pass: &mut Pass, held: Held<StoreSlot>) -> Held<VersionSegment>
+pub fn gather(store: &Store, pass: &mut Pass, held: Held<StoreSlot>) -> Held<VersionSegment>
     requires table { pass.old.account.table_id ≡ store.now.accounts.table.shared.table_id }
     requires inside { held.cell < cells_of store.now.accounts.config }
     requires slot { IsCellSlot store.now.accounts.table.shared.table_id held.cell held.value }

@@ -47,7 +47,7 @@ or_last true false = refl
 or_last false true = refl
 or_last false false = refl
 
-held_append : (k : ℕ) (xs ys : List ℕ) → is_held k (xs ++ ys) ≡ (is_held k xs || is_held k ys)
+pub held_append : (k : ℕ) (xs ys : List ℕ) → is_held k (xs ++ ys) ≡ (is_held k xs || is_held k ys)
 held_append k [] ys = refl
 held_append k (x ∷ xs) ys =
     ap (λ b. (k == x) || b) (held_append k xs ys) ∙ or_group (k == x) (is_held k xs) (is_held k ys)

@@ -1,6 +1,6 @@
 //! Latches of leaves and of the index.
 
-ghost use Rattle.std.specs.Prelude.{◌≡◌, ◌<◌, ◌≤◌, ◌+◌, ◌*◌, ◌++◌, [], ◌∷◌, length, true, false, IfSome, None};
+ghost use Rattle.std.specs.Prelude.{◌≡◌, ◌<◌, ◌≤◌, ◌+◌, ◌*◌, ◌++◌, [], ◌∷◌, length, true, false};
 ghost use Rattle.std.specs.Vec.{vec_capacity};
 ghost use Rattle.latch_table.specs.Latched.{number_of};
 ghost use Rattle.latch_table.specs.Several.{taken_of};
@@ -12,12 +12,9 @@ ghost use Rattle.pass_leaves.specs.Hand.{HasLatched, cells_of_leaves, numbers_fr
 
 use graph_model::LEAF_SEGMENTS;
 use latch_table::{Held, Laid};
-use std::hint::spin_loop;
+use pass_cells::{give_places, take_next_place};
 use std::sync::Wait;
 use store_rule::{LatchPass, Store, StoreSlot};
-
-/// How often a pass that holds places looks at the next one: longer than a holder's work takes.
-const LOOKS: u32 = 4096;
 
 /// Takes all cells of these leaves. Where one stays busy, or a leaf doesn't exist, some are taken.
 pub fn latch_leaves(
@@ -93,7 +90,7 @@ fn latch_cell(
     ensures capacity { vec_capacity packed.old ≤ vec_capacity packed.new }
 {
     let holds_none = packed.is_empty();
-    let Some(held) = take_next(rt, store, latch, cell, holds_none) else {
+    let Some(held) = take_next_place(rt, store, latch, cell, holds_none) else {
         return false;
     };
     match packed.push(held) {
@@ -102,72 +99,7 @@ fn latch_cell(
     }
 }
 
-/// Takes a place: whoever holds none waits as long as it takes, and whoever holds others looks a number of times.
-fn take_next(
-    rt: &impl Wait,
-    store: &Store,
-    latch: &mut LatchPass,
-    place: u32,
-    holds_none: bool,
-) -> Option<Held<StoreSlot>>
-    requires latch { IsLatchOf store.now latch.old }
-    requires place { place < cells_of store.now.accounts.config + 2 }
-    ensures latch { IsLatchOf store.now latch.new }
-    ensures number { number_of latch.new.me.0 ≡ number_of latch.old.me.0 }
-    ensures held { IfSome result (λ h. (h.cell ≡ place) × (h.changed ≡ false)
-        × FitsPlace store.now.accounts.config store.now.accounts.table.shared.table_id place h.value
-        × (latch.new.me.1 ≡ (place, slots.Out) ∷ latch.old.me.1)) }
-    ensures busy { result ≡ None → latch.new.me.1 ≡ latch.old.me.1 }
-{
-    if holds_none {
-        Some(store.cells().take(rt, latch, place))
-    } else {
-        try_place(store, latch, place)
-    }
-}
-
-/// Looks at a place a number of times, and takes it if a look finds it free.
-pub fn try_place(store: &Store, latch: &mut LatchPass, place: u32) -> Option<Held<StoreSlot>>
-    requires latch { IsLatchOf store.now latch.old }
-    requires place { place < cells_of store.now.accounts.config + 2 }
-    ensures latch { IsLatchOf store.now latch.new }
-    ensures number { number_of latch.new.me.0 ≡ number_of latch.old.me.0 }
-    ensures held { IfSome result (λ h. (h.cell ≡ place) × (h.changed ≡ false)
-        × FitsPlace store.now.accounts.config store.now.accounts.table.shared.table_id place h.value
-        × (latch.new.me.1 ≡ (place, slots.Out) ∷ latch.old.me.1)) }
-    ensures busy { result ≡ None → latch.new.me.1 ≡ latch.old.me.1 }
-{
-    let cells = store.cells();
-    'looks: for _look in 0..LOOKS {
-        match cells.try_take(latch, place) {
-            Ok(held) => return Some(held),
-            Err(_) => spin_loop(),
-        }
-    }
-    None
-}
-
-/// Puts the values of all places back and releases them.
-pub fn give_places(
-    store: &Store,
-    latch: &mut LatchPass,
-    packed: &mut Vec<Held<StoreSlot>>,
-    laid: &mut Vec<Laid>,
-)
-    requires latch { IsLatchOf store.now latch.old }
-    requires out { latch.old.me.1 ≡ taken_of slots.Out packed.old.items }
-    requires fit { AreFit store.now packed.old.items }
-    requires room { (laid.old.items ≡ []) × (length packed.old.items ≤ vec_capacity laid.old) }
-    ensures latch { IsLatchOf store.now latch.new }
-    ensures number { number_of latch.new.me.0 ≡ number_of latch.old.me.0 }
-    ensures none { (latch.new.me.1 ≡ []) × (packed.new.items ≡ []) × (laid.new.items ≡ []) }
-    ensures capacity { (vec_capacity packed.old ≤ vec_capacity packed.new)
-        × (vec_capacity laid.old ≤ vec_capacity laid.new) }
-{
-    store.cells().give_all(latch, packed, laid);
-}
-
-/// The same with the index, which was taken last.
+/// Puts the values of all places and of the index, which was taken last, back and releases them.
 pub fn give_all_places(
     store: &Store,
     latch: &mut LatchPass,

@@ -7,14 +7,14 @@ ghost use Rattle.pass_leaves.specs.Fit.{TellsFit};
 ghost use Rattle.pass_leaves.specs.Hand.{HasIndexHeld, HoldsLeaves, IsLeafOfKey, KeepsHand};
 
 use crate::fit::learn_fit;
-use crate::latch::{give_places, latch_leaves, try_place};
+use crate::latch::latch_leaves;
 use crate::own::PassLeaves;
 use crate::put_back::give_index;
 use crate::unpack::unpack_all;
 use graph_model::Key;
 use latch_table::Held;
 use leaf_index::LeafIndex;
-use pass_cells::CellHints;
+use pass_cells::{CellHints, give_places, try_place};
 use std::sync::Wait;
 use store_rule::{Pass, Store};
 

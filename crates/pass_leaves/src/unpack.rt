@@ -1,18 +1,15 @@
 //! Cells that are taken in and unpacked, and packed again.
 
-ghost use Rattle.std.specs.Prelude.{◌≡◌, ◌<◌, ◌≤◌, ◌+◌, [], false, true, length};
+ghost use Rattle.std.specs.Prelude.{◌≡◌, ◌≤◌, [], true, length};
 ghost use Rattle.std.specs.Vec.{vec_capacity};
 ghost use Rattle.latch_table.specs.Latched.{is_once};
-ghost use Rattle.rule_model.specs.Sight.{cells_of};
-ghost use Rattle.store_rule.specs.Slots.{IsCellSlot};
 ghost use Rattle.store_rule.specs.declared.buffers.TheConstants.{MOST_UNPACKED};
-ghost use Rattle.pass_cells.specs.Holding.{IsGathered, IsPutting};
+ghost use Rattle.pass_cells.specs.Holding.{IsPutting};
 ghost use Rattle.pass_leaves.specs.Hand.{AreCellsHeld, IsUnpacking, numbers_held};
 
 use latch_table::Held;
-use pass_cells::TakenCell;
+use pass_cells::{TakenCell, gather};
 use store_rule::{Pass, Store, StoreSlot};
-use version_segment::VersionSegment;
 
 /// Takes in the notes of all cells, and unpacks them.
 pub fn unpack_all(
@@ -35,27 +32,13 @@ pub fn unpack_all(
 {
     'places: while !packed.is_empty() {
         let held = packed.remove(0);
-        let held = take_in(store, pass, held);
+        let held = gather(store, pass, held);
         let rows = held.value.len();
         match cells.push(TakenCell { held, rows }) {
             Ok(()) => {}
             Err(_) => unreachable!(),
         }
     }
-}
-
-/// Takes in the note of one cell, and unpacks it.
-fn take_in(store: &Store, pass: &mut Pass, held: Held<StoreSlot>) -> Held<VersionSegment>
-    requires table { pass.old.account.table_id ≡ store.now.accounts.table.shared.table_id }
-    requires inside { held.cell < cells_of store.now.accounts.config }
-    requires slot { IsCellSlot store.now.accounts.table.shared.table_id held.cell held.value }
-    requires unchanged { held.changed ≡ false }
-    requires buffer { 0 < pass.old.buffers }
-    ensures held { (result.cell ≡ held.cell) × (result.changed ≡ false) }
-    ensures gathered { IsGathered store.now.accounts.config pass.old pass.new result }
-{
-    let held = store.gather_cell(pass, held);
-    store.unpack(pass, held)
 }
 
 /// Packs each cell, and lays a note for it.

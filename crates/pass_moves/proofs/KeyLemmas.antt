@@ -13,6 +13,7 @@ use Rattle.leaf_array.specs.Segments.{AreSame, counts_of, HoldsKey, rows_of}
 use Rattle.leaf_array.proofs.LeafLemmas.{Follow}
 use Rattle.latch_table.specs.declared.cells.Held.{Held}
 use Rattle.leaf_index.specs.Index.{Entry, Index, IsFloor, IsRoute, NotAbove, end_of}
+use Rattle.leaf_index.specs.Index as leaf_index
 use Rattle.leaf_index.specs.declared.index.LeafIndex.{LeafIndex}
 use Rattle.leaf_index.specs.declared.route.Route.{Route}
 use Rattle.leaf_table.specs.declared.place.Place.{Place}
@@ -27,7 +28,7 @@ use Rattle.density_tree.specs.Windows.{Fits, IsSmallest}
 use Rattle.graph_model.specs.declared.limits.TheConstants.{SEGMENT_ROWS}
 use Rattle.leaf_array.specs.Leaves.{SpreadsWindow, window_of}
 use Rattle.room_choice.specs.Choice.{IsCrowded, IsSpread}
-use Rattle.pass_moves.specs.Room.{HasRoom, IsCrowdedAt}
+use Rattle.pass_moves.specs.Room.{HasRoom, IsCrowdedAt, KnowsLeaf}
 use Rattle.leaf_store.proofs.ListLemmas.{all_back}
 use Rattle.leaf_store.proofs.TableLemmas.{located, tied_follow}
 use Rattle.cells_model.specs.Indexed.{covers, leaf_cells, table_of}
@@ -164,11 +165,33 @@ pub eight_cells : (store : Store) (pass : Pass) (leaf : ℕ) (ts : List TakenCel
     → HoldsLeaves store pass (leaf ∷ []) ts index → length ts ≡ 8
 eight_cells store pass leaf ts index holds = sym (length-map ts (λ t. t.held.cell)) ∙ ap length holds.numbers
 
+pub eight_known : (z : Config) (v : Sight) (leaf : ℕ) (ts : List TakenCell) (index : Held (Box LeafIndex Global))
+    → KnowsLeaf z v leaf ts index → length ts ≡ 8
+eight_known z v leaf ts index knows = sym (length-map ts (λ t. t.held.cell)) ∙ ap length knows.numbers
+
+-- a key has one leaf
+pub one_leaf : (key : Key) (index : Index) (l m : ℕ) → IsLeafOfKey key index l → IsLeafOfKey key index m → l ≡ m
+one_leaf key index l m one two =
+    sym one.2 ∙ one.1.range_is.leaf
+    ∙ ap (λ (x : Entry). x.leaf) (one_floor key one.1.floor.front one.1.entry one.1.floor.back
+    two.1.floor.front two.1.entry two.1.floor.back (sym one.1.floor.is ∙ two.1.floor.is) one.1.floor.from
+    two.1.floor.from one.1.floor.above two.1.floor.above)
+    ∙ sym two.1.range_is.leaf ∙ two.2
+
 -- ---- the key's cell in hand
 
-module _ (store : Store) (old : Pass) (ts : List TakenCell) (before : Held (Box LeafIndex Global)) (leaf : ℕ)
-    (holding : HoldsLeaves store old (leaf ∷ []) ts before)
-    (fits : TellsFit store.accounts.config old.account.me.0) (key : Key)
+-- what is in hand of one leaf is known
+pub knows_one : (store : Store) (pass : Pass) (leaf : ℕ) (ts : List TakenCell) (index : Held (Box LeafIndex Global))
+    → HoldsLeaves store pass (leaf ∷ []) ts index
+    → KnowsLeaf store.accounts.config pass.account.me.0 leaf ts index
+knows_one store pass leaf ts index holds = record {
+  numbers = holds.numbers ∙ none_behind (numbers_from (8 * leaf) 8);
+  known = holds.known;
+  index_held = holds.index_held;
+}
+
+module _ (z : Config) (v : Sight) (ts : List TakenCell) (before : Held (Box LeafIndex Global)) (leaf : ℕ)
+    (knows : KnowsLeaf z v leaf ts before) (fits : TellsFit z v) (key : Key)
     (own : IsLeafOfKey key before.value.value leaf) where
   -- the leaf has an entry
   pub own_stands : Stands before.value.value.entries leaf
@@ -185,16 +208,10 @@ module _ (store : Store) (old : Pass) (ts : List TakenCell) (before : Held (Box 
   module _ (below : is_below key end_key ≡ true) (route : Route)
       (routed : IsRoute key before.value.value.entries route) where
     abbrev y : IndexState
-    y = holding.index_held.state
-
-    abbrev z : Config
-    z = store.accounts.config
-
-    abbrev v : Sight
-    v = old.account.me.0
+    y = knows.index_held.state
 
     abbrev fit : FitTogether z v y
-    fit = fits y holding.index_held.has
+    fit = fits y knows.index_held.has
 
     -- the route leads to the leaf in hand
     same_leaf : routed.entry.leaf ≡ leaf
@@ -203,7 +220,7 @@ module _ (store : Store) (old : Pass) (ts : List TakenCell) (before : Held (Box 
         own.1.floor.from routed.floor.above own.1.floor.above) ∙ sym own.1.range_is.leaf ∙ own.2
 
     floor : IsFloor key y.index.entries routed.entry
-    floor = subst (λ (i : Index). IsFloor key i.entries routed.entry) holding.index_held.same routed.floor
+    floor = subst (λ (i : Index). IsFloor key i.entries routed.entry) knows.index_held.same routed.floor
 
     place : IsPlace key y.index.entries (record { leaf = routed.entry.leaf; segment = routed.segment })
     place = record { entry = routed.entry; floor = floor; leaf = refl; last = routed.last }
@@ -215,22 +232,21 @@ module _ (store : Store) (old : Pass) (ts : List TakenCell) (before : Held (Box 
     segment_is = let cell = routed.cell in let small = routed.last.within in omega (arith, cell, small)
 
     numbers : numbers_of ts ≡ numbers_from (8 * routed.entry.leaf) 8
-    numbers = holding.numbers ∙ none_behind (numbers_from (8 * leaf) 8)
-        ∙ ap (λ n. numbers_from (8 * n) 8) (sym same_leaf)
+    numbers = knows.numbers ∙ ap (λ n. numbers_from (8 * n) 8) (sym same_leaf)
 
     pub key_at : At (values_of ts) key (route.cell % 8)
     key_at =
         let cell = segment_of fit.cell in
         let l = located y.index (table_of fit.heap cell y.index.leaves) key
         (record { leaf = routed.entry.leaf; segment = routed.segment }) fit.indexed.kept place below in
-        let same = same_before z v fit.cell fit.agrees (8 * routed.entry.leaf) 8 ts holding.known numbers in
+        let same = same_before z v fit.cell fit.agrees (8 * routed.entry.leaf) 8 ts knows.known numbers in
         let parts = sym (segments_table fit.heap cell y.index.leaves routed.entry.leaf inside) ∙ l.segments in
         subst (At (values_of ts) key) (l.at ∙ segment_is)
         (same_at key l.before l.cell l.behind (values_of ts) (subst (λ ss. AreSame ss (values_of ts)) parts same)
         l.held)
 
     tied : IsTied (values_of ts) routed.entry (end_of floor.back)
-    tied = values_tied z v y ts fit holding.known floor.front routed.entry floor.back floor.is inside numbers
+    tied = values_tied z v y ts fit knows.known floor.front routed.entry floor.back floor.is inside numbers
 
     module _ (counts : List ℕ) (need : ℕ) (counted : counts ≡ counts_of (values_of ts)) where
       -- it has its places
@@ -239,7 +255,7 @@ module _ (store : Store) (old : Pass) (ts : List TakenCell) (before : Held (Box 
           let a = key_at in
           let first = at_first (values_of ts) key (route.cell % 8) a routed.entry.low
           (tied_follow (values_of ts) routed.entry (end_of floor.back) tied
-          (entry_cuts z v y ts fit holding.known floor.front routed.entry floor.back floor.is inside numbers)) tied.sound in
+          (entry_cuts z v y ts fit knows.known floor.front routed.entry floor.back floor.is inside numbers)) tied.sound in
           let rows = ap (λ cs. slice_index cs (route.cell % 8)) counted ∙ at_count (values_of ts) key (route.cell % 8) a in
           let own_rows = ap (λ (c : VersionedRows). length c.rows) first in
           record {
@@ -269,9 +285,16 @@ module _ (store : Store) (old : Pass) (ts : List TakenCell) (before : Held (Box 
             record { covered = r.0; places = omega (arith, two, small) }
 
       -- no window has room for it
-      pub crowded_at : IsCrowded counts (route.cell % 8) need → IsCrowdedAt key need (values_of ts)
+      pub crowded_at : IsCrowded counts (route.cell % 8) need
+          → IsCrowdedAt key need before.value.value leaf (values_of ts)
       crowded_at crowded = record {
         segment = route.cell % 8;
+        routed = record {
+          entry = routed.entry;
+          floor = routed.floor;
+          number = sym same_leaf;
+          last = subst (leaf_index.IsSegment routed.entry.cuts key) segment_is routed.last;
+        };
         holds = at_holds (values_of ts) key (route.cell % 8) key_at;
         crowded = subst (λ cs. IsCrowded cs (route.cell % 8) need) counted crowded;
       }

@@ -3,4 +3,4 @@ pub mod SpreadLemmas
 pub mod HandLemmas
 pub mod StepLemmas
 pub mod KeyLemmas
-pub mod EightLemmas
+pub mod TwoLeaves

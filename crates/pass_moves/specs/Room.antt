@@ -1,12 +1,23 @@
 -- Places for rows in the leaf in hand.
-use Rattle.std.specs.Prelude.{◌≡◌, ℕ, ◌+◌, ◌≤◌, true, List, length}
+use Rattle.std.specs.Prelude.{◌≡◌, ℕ, ◌+◌, ◌*◌, ◌≤◌, true, List, length}
+use Rattle.std.specs.declared.alloc.Global.{Global}
+use Rattle.std.specs.declared.boxed.Box.{Box}
 use Rattle.graph_model.specs.declared.limits.TheConstants.{SEGMENT_ROWS}
 use Rattle.graph_model.specs.declared.row.Key.{Key}
+use Rattle.txn_manager.specs.declared.config.Config.{Config}
 use Rattle.version_segment.specs.Rows.{VersionedRows}
+use Rattle.latch_table.specs.declared.cells.Held.{Held}
+use Rattle.leaf_index.specs.Index.{Index}
+use Rattle.leaf_index.specs.declared.index.LeafIndex.{LeafIndex}
 use Rattle.leaf_array.specs.Segments.{HoldsKey, counts_of}
 use Rattle.leaf_store.specs.Leaves.{cell_in}
 use Rattle.cells_model.specs.Indexed.{covers}
+use Rattle.cells_model.specs.Moved.{IsRoutedTo}
+use Rattle.rule_model.specs.Sight.{Sight}
 use Rattle.room_choice.specs.Choice.{IsCrowded}
+use Rattle.pass_cells.specs.declared.taken.TakenCell.{TakenCell}
+use Rattle.pass_cells.specs.Holding.{AreKnown, numbers_of}
+use Rattle.pass_leaves.specs.Hand.{HasIndexHeld, numbers_from}
 use Rattle.pass_moves.specs.declared.room.Room.{Room}
 use Rattle.pass_moves.specs.declared.room.Room.TheVariants as rooms
 
@@ -15,12 +26,21 @@ pub record HasRoom (key : Key) (need : ℕ) (ss : List VersionedRows) : Type 0 w
   pub covered : covers (cell_in ss key) key ≡ true
   pub places : length (cell_in ss key).rows + need ≤ SEGMENT_ROWS
 
--- the one that covers the key lacks them, and no window round it has room for the rows needed
-pub record IsCrowdedAt (key : Key) (need : ℕ) (ss : List VersionedRows) : Type 0 where
+-- the view knows all cells of the leaf as they are in hand, and the index
+pub record KnowsLeaf (z : Config) (v : Sight) (leaf : ℕ) (ts : List TakenCell)
+    (index : Held (Box LeafIndex Global)) : Type 0 where
+  pub numbers : numbers_of ts ≡ numbers_from (8 * leaf) 8
+  pub known : AreKnown z v ts
+  pub index_held : HasIndexHeld z v index
+
+-- The index leads the key to this one of them, which lacks the places; and no window round it has room for the rows
+-- needed.
+pub record IsCrowdedAt (key : Key) (need : ℕ) (index : Index) (leaf : ℕ) (ss : List VersionedRows) : Type 0 where
   pub segment : ℕ
+  pub routed : IsRoutedTo key index.entries leaf segment
   pub holds : HoldsKey ss key segment
   pub crowded : IsCrowded (counts_of ss) segment need
 
-abbrev pub IsRoom : Key → ℕ → List VersionedRows → Room → Type 0
-IsRoom key need ss rooms.Free = HasRoom key need ss
-IsRoom key need ss rooms.Crowded = IsCrowdedAt key need ss
+abbrev pub IsRoom : Key → ℕ → Index → ℕ → List VersionedRows → Room → Type 0
+IsRoom key need index leaf ss rooms.Free = HasRoom key need ss
+IsRoom key need index leaf ss rooms.Crowded = IsCrowdedAt key need index leaf ss

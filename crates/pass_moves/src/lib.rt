@@ -6,10 +6,12 @@
 //! 3. Memory is taken before anything moves. After want of memory only room for records has changed.
 #![tactic(auto)]
 
-mod exchange;
+mod contents;
 mod room;
 mod spread;
 mod step;
 
-pub use room::{Room, free_places};
+pub use contents::{count_rows, exchange, mark};
+pub use room::{Room, free_places, is_crowded};
 pub use spread::spread_window;
+pub use step::Moving;

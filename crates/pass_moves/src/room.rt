@@ -7,7 +7,7 @@ ghost use Rattle.pass_cells.specs.Holding.{KeepsPass};
 ghost use Rattle.pass_leaves.specs.Fit.{TellsFit};
 ghost use Rattle.pass_leaves.specs.Hand.{HoldsLeaves, IsLeafOfKey};
 ghost use Rattle.pass_moves.specs.Moving.{values_of};
-ghost use Rattle.pass_moves.specs.Room.{IsRoom};
+ghost use Rattle.pass_moves.specs.Room.{IsCrowdedAt, IsRoom, KnowsLeaf};
 
 use crate::spread::spread_window;
 use graph_model::{Key, LEAF_SEGMENTS, NoMemory};
@@ -44,7 +44,8 @@ pub fn free_places(
     requires below { is_below key end_key ≡ true }
     requires some { 1 ≤ need }
     requires few { need ≤ 2 }
-    ensures room { IfOk result (λ room. IsRoom key need (values_of cells.new) room) }
+    ensures room { (leaf : ℕ) → IsLeafOfKey key index.old.value.value leaf
+        → IfOk result (λ room. IsRoom key need index.new.value.value leaf (values_of cells.new) room) }
     ensures holds { (leaf : ℕ) → HoldsLeaves store.now pass.old (leaf ∷ []) cells.old index.old
         → HoldsLeaves store.now pass.new (leaf ∷ []) cells.new index.new }
     ensures fit { TellsFit store.now.accounts.config pass.new.account.me.0 }
@@ -64,6 +65,35 @@ pub fn free_places(
         }
         RoomChoice::Split => Ok(Room::Crowded),
         RoomChoice::Full => unreachable!(),
+    }
+}
+
+/// Whether the leaf in hand is crowded for the key.
+pub fn is_crowded(
+    store: &Store,
+    pass: &Pass,
+    cells: &[TakenCell],
+    index: &HeldIndex,
+    key: Key,
+    need: u8,
+) -> bool
+    requires knows { (leaf : ℕ)
+        × KnowsLeaf store.now.accounts.config pass.now.account.me.0 leaf cells.now index.now
+        × IsLeafOfKey key index.now.value.value leaf }
+    requires fit { TellsFit store.now.accounts.config pass.now.account.me.0 }
+    requires below { is_below key end_key ≡ true }
+    requires some { 1 ≤ need }
+    requires few { need ≤ 2 }
+    ensures { (leaf : ℕ) → KnowsLeaf store.now.accounts.config pass.now.account.me.0 leaf cells.now index.now
+        → IsLeafOfKey key index.now.value.value leaf
+        → result ≡ true → IsCrowdedAt key need index.now.value.value leaf (values_of cells.now) }
+{
+    let counts = counts_in(cells);
+    let route = index.value.route(key);
+    let segment = (route.cell % 8) as usize;
+    match choose_room(counts, segment, need, 1) {
+        RoomChoice::Split => true,
+        _ => false,
     }
 }
 

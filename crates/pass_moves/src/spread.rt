@@ -10,7 +10,7 @@ ghost use Rattle.pass_leaves.specs.Hand.{HoldsLeaves};
 ghost use Rattle.pass_moves.specs.Moving.{values_of};
 ghost use Rattle.pass_moves.specs.Spreading.{KeepsContents, SpreadsCells};
 
-use crate::exchange::{count_rows, exchange, mark};
+use crate::contents::{count_rows, exchange, mark};
 use crate::step::Moving;
 use density_tree::Window;
 use graph_model::{Key, LEAF_SEGMENTS, NoMemory};

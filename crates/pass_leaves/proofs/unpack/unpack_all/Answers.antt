@@ -17,10 +17,10 @@ places-preserved c =
     let is = head_is packed h some c.remove-held.ensures.value in
     let un = subst (λ l. IsUnpacking c.args.store.now c.args.pass.now c.places.pass c.args.packed.now.items l
     c.places.cells.items) is c.places.invariant.0 in
-    let t : TakenCell = record { held = c.take_in-held.result; rows = c.len-rows.result } in
-    let more = unpacking_more c.args.store.now c.args.pass.now c.places.pass c.take_in-held.new.pass
-    c.args.packed.now.items _ c.places.cells.items h t un c.requires.once c.take_in-held.ensures.held.0
-    c.take_in-held.ensures.gathered c.len-rows.ensures.sound c.len-rows.ensures.len in
+    let t : TakenCell = record { held = c.gather-held.result; rows = c.len-rows.result } in
+    let more = unpacking_more c.args.store.now c.args.pass.now c.places.pass c.gather-held.new.pass
+    c.args.packed.now.items _ c.places.cells.items h t un c.requires.once c.gather-held.ensures.held.0
+    c.gather-held.ensures.gathered c.len-rows.ensures.sound c.len-rows.ensures.len in
     let pushed = c.in-Ok.ensures.items in
     let one_more = ap length pushed ∙ length-append c.places.cells.items (t ∷ []) in
     let one_less = ap length is in
@@ -32,7 +32,7 @@ places-preserved c =
     let room = c.places.invariant.3 in
     let room_before = c.places.invariant.4 in (
       subst (λ (x : List (Held StoreSlot) × List TakenCell). IsUnpacking c.args.store.now c.args.pass.now
-          c.take_in-held.new.pass c.args.packed.now.items x.0 x.1)
+          c.gather-held.new.pass c.args.packed.now.items x.0 x.1)
           (λ i. (sym (c.remove-held.ensures.items ∙ rest_is packed) i, sym pushed i)) more,
       omega (arith, one_more, one_less, left, bound),
       omega (arith, cap, cap_before),

@@ -1,5 +1,5 @@
 use Rattle.std.proofs.Common.{length}
-use Rattle.pass_moves.proofs.exchange.+exchange.Given as goal
+use Rattle.pass_moves.proofs.contents.+exchange.Given as goal
 
 abbrev pub decreases-exchange : goal.decreases-exchange
 decreases-exchange l = length l.cells.now

@@ -1,0 +1,3 @@
+pub mod FreeLemmas
+pub mod DivideLemmas
+pub mod SplitLemmas
