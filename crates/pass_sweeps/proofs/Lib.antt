@@ -6,3 +6,4 @@ pub mod CellLemmas
 pub mod IndexLemmas
 pub mod TakeLemmas
 pub mod GoingLemmas
+pub mod SweptLemmas

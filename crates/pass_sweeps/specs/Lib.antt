@@ -3,3 +3,5 @@ pub mod Sweeping
 pub mod Pruning
 pub mod Stepping
 pub mod GoingOn
+pub mod Swept
+pub mod Freed

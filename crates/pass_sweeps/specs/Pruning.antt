@@ -1,5 +1,5 @@
 -- A cell in hand, and what a prune makes of it.
-use Rattle.std.specs.Prelude.{◌≡◌, ◌≢◌, ℕ, ◌+◌, ◌<◌, nat_lt, Bool, true, false, List, [], ◌∷◌, length, Option, None, unwrap_or}
+use Rattle.std.specs.Prelude.{◌≡◌, ◌≢◌, ◌⊎◌, ℕ, ◌+◌, ◌<◌, nat_lt, Bool, true, false, List, [], ◌∷◌, length, Option, None, unwrap_or}
 use Rattle.std.specs.List.{list_any}
 use Rattle.graph_model.specs.declared.journal.TxnName.{TxnName}
 use Rattle.graph_model.specs.declared.row.Key.{Key}
@@ -7,6 +7,8 @@ use Rattle.graph_model.specs.Transactions.{stamp_in}
 use Rattle.store_model.specs.Stamped.{StampedVersions}
 use Rattle.version_segment.specs.Rows.{VersionedRows, IsSameSegment, IsSegment, PrunesRows, all_records, pruned_rows}
 use Rattle.seat_views.specs.Keeping.{kept_at}
+use Rattle.epoch_reclaim.specs.declared.sweep.Sweep.{Sweep}
+use Rattle.epoch_reclaim.specs.Pinned.{horizon_of}
 use Rattle.store_relation.specs.Passes.{PassState}
 use Rattle.cells_model.specs.Cells.{CellState}
 use Rattle.cells_model.specs.Words.{HasSmallWeights, block_words}
@@ -18,6 +20,7 @@ use Rattle.store_rule.specs.declared.slot.StoreSlot.TheVariants as slots
 use Rattle.store_rule.specs.declared.store.Pass.{Pass}
 use Rattle.store_rule.specs.declared.store.Store.{Store}
 use Rattle.pass_steps.specs.Passes.{IsPassOf, pin_of, state_of}
+use Rattle.pass_sweeps.specs.Sweeping.{HasSwept}
 
 -- ---- a cell in hand
 
@@ -73,6 +76,18 @@ pub record IsPruned (stamps : TxnName → Option ℕ) (horizon : ℕ) (old new :
     : Type 0 where
   pub rows : PrunesRows stamps horizon old new
   pub went_is : went ≡ is_prunable stamps horizon old.rows
+
+-- they are what a prune has left, which says whether a record went, or have no records
+abbrev pub IsSweptTo : (TxnName → Option ℕ) → ℕ → VersionedRows → Bool → Type 0
+IsSweptTo stamps horizon new went = ((old : VersionedRows) × IsPruned stamps horizon old new went)
+    ⊎ ((all_records new.rows ≡ 0) × (went ≡ false))
+
+-- the pass has this cell in hand, packed, which has been pruned at the horizon of its sweep
+pub record IsPrunedInHand (store : Store) (pass : Pass) (sweep : Sweep) (k : ℕ) (went : Bool) : Type 0 where
+  pub cell : CellState
+  pub only : HasCellOnly store pass (state_of pass) (pin_of pass) k cell 0
+  pub swept : HasSwept store pass sweep
+  pub pruned : IsSweptTo (stamps_seen (state_of pass)) (horizon_of sweep) cell.segment went
 
 -- a cell was found with some rows, and a record went exactly where a prune takes one away
 pub record TakesAway (stamps : TxnName → Option ℕ) (horizon : ℕ) (went : Bool) : Type 0 where

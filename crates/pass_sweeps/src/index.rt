@@ -8,7 +8,8 @@ ghost use Rattle.rule_model.specs.Sight.{IndexState, PinState, cells_of, with_in
 ghost use Rattle.store_relation.specs.Passes.{PassState};
 ghost use Rattle.store_rule.specs.Passes.{OnlyAccount};
 ghost use Rattle.pass_steps.specs.Passes.{HoldsNone, IsPassOf, IsSamePass, pin_of, state_of};
-ghost use Rattle.pass_sweeps.specs.Sweeping.{HasIndexOnly, bound_of, index_in, leaves_freed, with_sweep};
+ghost use Rattle.pass_sweeps.specs.Freed.{HasFreed, until_of};
+ghost use Rattle.pass_sweeps.specs.Sweeping.{HasIndexOnly, bound_of, free_bound, index_in, leaves_freed, with_sweep};
 
 use crate::pins::{begin_with_index, look_at_all};
 use epoch_reclaim::Sweep;
@@ -75,13 +76,32 @@ impl Change for LearnsLeaves {
     ghost told = { λ planned n v. (index_in v).index.leaves ≡ planned.leaves };
 }
 
+/// Retired leaves with a stamp below this one are free. It is made with the index in hand, here alone, and can't be
+/// copied.
+#[derive(Debug, Drop, PartialEq, Eq)]
+pub struct LeavesFreed {
+    until: u64,
+}
+
+impl LeavesFreed {
+    /// Those that a whole sweep lets go, with the index in hand in which they are free.
+    fn by(store: &Store, pass: &Pass, sweep: &Sweep) -> LeavesFreed
+        requires { HasFreed store.now pass.now sweep.now }
+        ensures { until_of result ≡ free_bound sweep.now }
+    {
+        LeavesFreed {
+            until: bound(store.pins().least_pin(sweep)),
+        }
+    }
+}
+
 /// Sweeps over the pins of all passes with the index in hand, and frees all retired leaves that may be freed. Nobody
 /// sweeps under the index any more then, and the pass goes on with its sweep.
 pub(crate) fn sweep_and_free(
     store: &Store,
     pass: &mut Pass,
     held: Held<Box<LeafIndex>>,
-) -> (Held<Box<LeafIndex>>, Sweep)
+) -> (Held<Box<LeafIndex>>, Sweep, LeavesFreed)
     requires taken { (st : PassState) × (x : PinState) × (y : IndexState) × HasIndexOnly store.now pass.old st x y
         × (y.sweeper ≡ None) × (held.value.value ≡ y.index) }
     ensures held { result.0.cell ≡ held.cell }
@@ -90,13 +110,15 @@ pub(crate) fn sweep_and_free(
         × (y.index ≡ (leaves_freed result.1 (index_in pass.old.account.me.0)).index) }
     ensures whole { result.1.looked ≡ store.now.accounts.config.passes }
     ensures clock { length (state_of pass.old).seen ≤ result.1.clock }
+    ensures until { until_of result.2 ≡ free_bound result.1 }
     ensures same { IsSamePass pass.old pass.new }
 {
     let mut sweep = begin_with_index(store, pass);
     look_at_all(store, pass, &mut sweep);
     let held = free_leaves(store, pass, held, &sweep);
     yield_index(store, pass);
-    (held, sweep)
+    let freed = LeavesFreed::by(store, pass, &sweep);
+    (held, sweep, freed)
 }
 
 /// Frees all retired leaves that may be freed, by a whole sweep.

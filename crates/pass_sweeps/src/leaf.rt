@@ -1,10 +1,10 @@
 //! The cells of a leaf are pruned, each held by itself.
 
-ghost use Rattle.std.specs.Prelude.{◌≡◌, ◌*◌, ◌<◌, ◌||◌};
+ghost use Rattle.std.specs.Prelude.{◌≡◌, ◌<◌, ◌||◌, Bool, false};
 ghost use Rattle.epoch_reclaim.specs.Pinned.{horizon_of};
-ghost use Rattle.rule_model.specs.Sight.{cells_of};
 ghost use Rattle.pass_steps.specs.Passes.{HoldsNone, IsPassOf, state_of};
-ghost use Rattle.pass_sweeps.specs.Pruning.{FindsWords, TakesAway, TakesAwayOf, stamps_seen};
+ghost use Rattle.pass_sweeps.specs.Pruning.{FindsWords, IsPrunedInHand, TakesAway, TakesAwayOf, stamps_seen};
+ghost use Rattle.pass_sweeps.specs.Swept.{IsWhole, leaf_of, next_cell, took_of, with_cell};
 ghost use Rattle.pass_sweeps.specs.Sweeping.{HasSwept};
 
 use crate::cells::{give_cell, take_cell};
@@ -16,9 +16,62 @@ use store_rule::{Pass, Store};
 /// A leaf has so many cells.
 const CELLS: u32 = 8;
 
-/// Prunes the cells of a leaf at the horizon of the pass's sweep, one after the other, and answers whether a record
-/// went. May wait for each of them, and takes no memory.
-pub fn sweep_leaf(rt: &impl Wait, store: &Store, pass: &mut Pass, sweep: &Sweep, leaf: u32) -> bool
+/// Cells of a leaf that were pruned one after the other, and whether a record went. A cell is counted with it in hand,
+/// here alone, and the count can't be copied: whoever has one of all cells has it of a leaf that was pruned.
+#[derive(Debug, Drop, PartialEq, Eq)]
+pub struct LeafSwept {
+    leaf: u32,
+    cells: u32,
+    took: bool,
+}
+
+impl LeafSwept {
+    /// No cell of the leaf.
+    fn none_of(leaf: u32) -> LeafSwept
+        ensures { result ≡ record { leaf = leaf; cells = 0; took = false } }
+    {
+        LeafSwept {
+            leaf,
+            cells: 0,
+            took: false,
+        }
+    }
+
+    /// Counts the next cell, which is in hand and has been pruned.
+    fn count(&mut self, store: &Store, pass: &Pass, sweep: &Sweep, cell: u32, went: bool)
+        requires next { cell ≡ next_cell self.old }
+        requires more { self.old.cells < 8 }
+        requires pruned { IsPrunedInHand store.now pass.now sweep.now cell went }
+        ensures { self.new ≡ with_cell self.old went }
+    {
+        self.cells += 1;
+        self.took = either(went, self.took);
+    }
+
+    /// The number of the leaf.
+    pub fn leaf(&self) -> u32
+        ensures { result ≡ leaf_of self.now }
+    {
+        self.leaf
+    }
+
+    /// Whether a record went.
+    pub fn took(&self) -> bool
+        ensures { result ≡ took_of self.now }
+    {
+        self.took
+    }
+}
+
+/// Prunes the cells of a leaf at the horizon of the pass's sweep, one after the other. May wait for each of them, and
+/// takes no memory.
+pub fn sweep_leaf(
+    rt: &impl Wait,
+    store: &Store,
+    pass: &mut Pass,
+    sweep: &Sweep,
+    leaf: u32,
+) -> LeafSwept
     requires pass { IsPassOf store.now pass.old }
     requires none { HoldsNone pass.old }
     requires inside { leaf < store.now.accounts.config.leaves }
@@ -26,14 +79,14 @@ pub fn sweep_leaf(rt: &impl Wait, store: &Store, pass: &mut Pass, sweep: &Sweep,
     ensures pass { IsPassOf store.now pass.new }
     ensures none { HoldsNone pass.new }
     ensures same { FindsWords pass.old pass.new }
-    ensures took { TakesAwayOf (stamps_seen (state_of pass.old)) (horizon_of sweep.now) 8 result }
+    ensures whole { IsWhole leaf result }
+    ensures took { TakesAwayOf (stamps_seen (state_of pass.old)) (horizon_of sweep.now) 8 (took_of result) }
 {
-    let mut took = false;
-    'cells: for segment in 0..CELLS {
-        let went = sweep_cell(rt, store, pass, sweep, CELLS * leaf + segment);
-        took = either(went, took);
+    let mut swept = LeafSwept::none_of(leaf);
+    'cells: for _cell in 0..CELLS {
+        sweep_cell(rt, store, pass, sweep, &mut swept);
     }
-    took
+    swept
 }
 
 /// Whether one of two is true.
@@ -43,23 +96,27 @@ fn either(one: bool, other: bool) -> bool
     one || other
 }
 
-/// Prunes a cell. One without records is given back as it was found.
-fn sweep_cell(rt: &impl Wait, store: &Store, pass: &mut Pass, sweep: &Sweep, cell: u32) -> bool
+/// Prunes the next cell of a leaf. One without records is given back as it was found.
+fn sweep_cell(rt: &impl Wait, store: &Store, pass: &mut Pass, sweep: &Sweep, swept: &mut LeafSwept)
     requires pass { IsPassOf store.now pass.old }
     requires none { HoldsNone pass.old }
-    requires inside { cell < cells_of store.now.accounts.config }
+    requires inside { swept.old.leaf < store.now.accounts.config.leaves }
+    requires more { swept.old.cells < 8 }
     requires swept { HasSwept store.now pass.old sweep.now }
     ensures pass { IsPassOf store.now pass.new }
     ensures none { HoldsNone pass.new }
     ensures same { FindsWords pass.old pass.new }
-    ensures took { TakesAway (stamps_seen (state_of pass.old)) (horizon_of sweep.now) result }
+    ensures took { (went : Bool) × TakesAway (stamps_seen (state_of pass.old)) (horizon_of sweep.now) went
+        × (swept.new ≡ with_cell swept.old went) }
 {
+    let cell = CELLS * swept.leaf + swept.cells;
     let held = take_cell(rt, store, pass, cell);
     if held.value.is_settled() {
+        swept.count(store, pass, sweep, cell, false);
         give_cell(store, pass, held);
-        return false;
+        return;
     }
     let (held, went) = prune_cell(store, pass, sweep, held);
+    swept.count(store, pass, sweep, cell, went);
     give_cell(store, pass, held);
-    went
 }

@@ -18,7 +18,8 @@ mod prune;
 mod seen;
 mod step;
 
+pub use index::LeavesFreed;
 pub use laws::{sweeps_keep_the_rule, swept_passes_go_on};
-pub use leaf::sweep_leaf;
+pub use leaf::{LeafSwept, sweep_leaf};
 pub use pins::{end_sweep, sweep_pins};
-pub use step::{SweepKey, sweep_step};
+pub use step::{SweepKey, SweepTurn, key_after, sweep_step};

@@ -4,11 +4,11 @@ ghost use Rattle.std.specs.Prelude.{◌≡◌, ◌<◌, ◌≤◌, None, length}
 ghost use Rattle.graph_model.specs.Rows.{first_key};
 ghost use Rattle.leaf_index.specs.Calls.{IsLeafRange};
 ghost use Rattle.pass_steps.specs.Passes.{HoldsNone, IsPassOf, pin_of, state_of};
-ghost use Rattle.pass_sweeps.specs.Stepping.{ChoosesLeaf, SweepsLeaf, key_after};
+ghost use Rattle.pass_sweeps.specs.Stepping.{ChoosesLeaf, FreesAtEnd, SweepsLeaf, key_after};
 ghost use Rattle.pass_sweeps.specs.Sweeping.{GoesOn, HasSwept};
 
-use crate::index::{give_index, learn_leaves, sweep_and_free, take_index};
-use crate::leaf::sweep_leaf;
+use crate::index::{LeavesFreed, give_index, learn_leaves, sweep_and_free, take_index};
+use crate::leaf::{LeafSwept, sweep_leaf};
 use crate::pins::{end_sweep, sweep_pins};
 use crate::seen::see_published;
 use epoch_reclaim::Sweep;
@@ -35,10 +35,17 @@ impl SweepKey {
     }
 }
 
-/// Sweeps over the pins of all passes, prunes the next leaf at the horizon that it finds, and answers whether a record
-/// went. With the last leaf it frees the retired leaves that may be freed, and the first one comes next. May wait, and
+/// What a turn has done: it pruned the cells of a leaf, and if that was the last one, freed retired leaves.
+#[derive(Debug, Drop, PartialEq, Eq)]
+pub struct SweepTurn {
+    pub swept: LeafSwept,
+    pub freed: Option<LeavesFreed>,
+}
+
+/// Sweeps over the pins of all passes, prunes the next leaf at the horizon that it finds, and answers of which leaf
+/// cells were pruned. With the last leaf it frees the retired leaves that may be freed, and the first one comes next. May wait, and
 /// takes no memory.
-pub fn sweep_step(rt: &impl Wait, store: &Store, pass: &mut Pass, key: &mut SweepKey) -> bool
+pub fn sweep_step(rt: &impl Wait, store: &Store, pass: &mut Pass, key: &mut SweepKey) -> SweepTurn
     requires pass { IsPassOf store.now pass.old }
     requires none { HoldsNone pass.old }
     ensures pass { IsPassOf store.now pass.new }
@@ -47,14 +54,19 @@ pub fn sweep_step(rt: &impl Wait, store: &Store, pass: &mut Pass, key: &mut Swee
     ensures ended { (pin_of pass.new).sweep ≡ None }
     ensures swept { SweepsLeaf store.now pass.old pass.new key.old.next key.new.next result }
 {
-    let (leaf, sweep) = choose_leaf(rt, store, pass, key);
-    let took = sweep_leaf(rt, store, pass, &sweep, leaf);
+    let (leaf, sweep, freed) = choose_leaf(rt, store, pass, key);
+    let swept = sweep_leaf(rt, store, pass, &sweep, leaf);
     end_sweep(store, pass);
-    took
+    SweepTurn { swept, freed }
 }
 
-/// Finds the leaf that comes next, and sweeps over the pins for it.
-fn choose_leaf(rt: &impl Wait, store: &Store, pass: &mut Pass, key: &mut SweepKey) -> (u32, Sweep)
+/// Finds the leaf that comes next, and sweeps over the pins for it. With the last leaf it frees retired ones.
+fn choose_leaf(
+    rt: &impl Wait,
+    store: &Store,
+    pass: &mut Pass,
+    key: &mut SweepKey,
+) -> (u32, Sweep, Option<LeavesFreed>)
     requires pass { IsPassOf store.now pass.old }
     requires none { HoldsNone pass.old }
     ensures pass { IsPassOf store.now pass.new }
@@ -63,7 +75,7 @@ fn choose_leaf(rt: &impl Wait, store: &Store, pass: &mut Pass, key: &mut SweepKe
     ensures inside { result.0 < store.now.accounts.config.leaves }
     ensures swept { HasSwept store.now pass.new result.1 }
     ensures clock { length (state_of pass.old).seen ≤ result.1.clock }
-    ensures chosen { ChoosesLeaf key.old.next key.new.next result.0 }
+    ensures chosen { (chosen : ChoosesLeaf key.old.next key.new.next result.0) × FreesAtEnd chosen result.1 result.2 }
 {
     let held = take_index(rt, store, pass);
     learn_leaves(store, pass);
@@ -72,12 +84,12 @@ fn choose_leaf(rt: &impl Wait, store: &Store, pass: &mut Pass, key: &mut SweepKe
     if range.high.is_below(Key::END) {
         give_index(store, pass, held);
         let sweep = sweep_pins(store, pass);
-        return (range.leaf, sweep);
+        return (range.leaf, sweep, None);
     }
-    let (held, sweep) = sweep_and_free(store, pass, held);
+    let (held, sweep, freed) = sweep_and_free(store, pass, held);
     give_index(store, pass, held);
     see_published(store, pass);
-    (range.leaf, sweep)
+    (range.leaf, sweep, Some(freed))
 }
 
 /// The leaf whose range holds a key.
@@ -90,7 +102,7 @@ fn leaf_of(index: &LeafIndex, key: Key) -> LeafRange
 }
 
 /// Where the next leaf begins: where this one ends, or at the first key.
-fn key_after(high: Key) -> Key
+pub fn key_after(high: Key) -> Key
     ensures { result ≡ key_after high }
 {
     if high.is_below(Key::END) {

@@ -7,6 +7,7 @@ use Rattle.graph_model.specs.declared.refusal.Refusal.{Refusal}
 use Rattle.graph_model.specs.declared.refusal.Refusal.TheVariants as refusals
 use Rattle.graph_model.specs.declared.row.Key.{Key}
 use Rattle.graph_model.specs.declared.write.Write.{Write}
+use Rattle.graph_model.specs.Inserted.{inserts}
 use Rattle.graph_model.specs.Refused.{refused}
 use Rattle.txn_manager.specs.declared.config.Config.{Config}
 use Rattle.store_relation.specs.Keys.{has_key}
@@ -102,8 +103,14 @@ abbrev pub IsShortOf : HeldRows → List Key → Written → Type 0
 IsShortOf c keys Done = Unit {0}
 IsShortOf c keys (NeedRoom short) = IsShort c keys (key_of short) (need_of short)
 
--- room is needed for one of the rows that the write writes, or for both
+-- places are missing for a write that inserts rows alone
+abbrev pub IsForInsert : Write → Written → Type 0
+IsForInsert w Done = Unit {0}
+IsForInsert w (NeedRoom short) = inserts w ≡ true
+
+-- room is needed for one of the rows that the write writes, or for both, and the write inserts rows
 abbrev pub NeedsRoom : Kind → Write → Written → Type 0
 NeedsRoom kind w Done = Unit {0}
 NeedsRoom kind w (NeedRoom short) =
     (has_key (written_keys (rows_of kind w)) (key_of short) ≡ true) × ((need_of short ≡ 1) ⊎ (need_of short ≡ 2))
+    × (inserts w ≡ true)

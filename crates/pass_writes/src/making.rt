@@ -13,7 +13,7 @@ ghost use Rattle.pass_cells.specs.Taken.{rows_in};
 ghost use Rattle.pass_steps.specs.Passes.{IsPassOf, IsSamePass, name_of_pass, pin_of, state_of};
 ghost use Rattle.pass_writes.specs.Found.{Finds, MayBeMade, view_of};
 ghost use Rattle.pass_writes.specs.Hand.{HasInHand, HasNothing};
-ghost use Rattle.pass_writes.specs.Making.{IsOpenIn, IsShortOf, Lays, Makes, NeedsRoom, after_refusal, noted};
+ghost use Rattle.pass_writes.specs.Making.{IsForInsert, IsOpenIn, IsShortOf, Lays, Makes, NeedsRoom, after_refusal, noted};
 ghost use Rattle.graph_model.specs.declared.refusal.Refusal.TheVariants as refusals;
 
 use crate::checks::check;
@@ -87,7 +87,8 @@ fn write_in_hand(
     ensures hand { HasInHand store.now pass.new cells.new.taken.list.items }
     ensures makes { Makes store.now.accounts.config pass.old.number (state_of pass.old) write result
         (state_of pass.new) }
-    ensures short { IfOk result (λ written. IsShortOf (rows_in cells.old.taken) (written_keys rows.now) written) }
+    ensures short { IfOk result (λ written. IsShortOf (rows_in cells.old.taken) (written_keys rows.now) written
+        × IsForInsert write written) }
     ensures pin { pin_of pass.new ≡ pin_of pass.old }
     ensures same { IsSamePass pass.old pass.new }
 {
@@ -173,7 +174,7 @@ fn lay(
     requires few { MissesFew store.now.accounts.config.kind (rows_in cells.old.taken) write }
     ensures hand { HasInHand store.now pass.new cells.new.taken.list.items }
     ensures ok { IfOk result (λ written. Lays (state_of pass.old) write written (state_of pass.new)
-        × IsShortOf (rows_in cells.old.taken) (written_keys rows.now) written) }
+        × IsShortOf (rows_in cells.old.taken) (written_keys rows.now) written × IsForInsert write written) }
     ensures err { OnErr result (state_of pass.new ≡ state_of pass.old) }
     ensures pin { pin_of pass.new ≡ pin_of pass.old }
     ensures same { IsSamePass pass.old pass.new }

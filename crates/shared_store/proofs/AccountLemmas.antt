@@ -7,10 +7,10 @@ use Rattle.graph_model.specs.declared.refusal.Refusal.{Refusal}
 use Rattle.graph_model.specs.declared.refusal.Refusal.TheVariants as refusals
 use Rattle.graph_model.specs.declared.write.Write.{Write}
 use Rattle.graph_model.specs.Account.{IsValid}
-use Rattle.graph_model.specs.AccountSteps.{GoesOn, RefusesBy, WritesBy, with_cause}
+use Rattle.graph_model.specs.AccountSteps.{GoesOn, RefusesBy, WritesBy, view_of, with_cause}
 use Rattle.graph_model.specs.Conflict.{later}
 use Rattle.graph_model.specs.Legal.{IsLegal}
-use Rattle.graph_model.specs.Refused.{IsWithinLimits}
+use Rattle.graph_model.specs.Refused.{IsWithinLimits, refused}
 use Rattle.graph_model.proofs.AccountLemmas.{read_keeps, write_keeps}
 use Rattle.txn_manager.specs.declared.config.Config.{Config}
 use Rattle.store_relation.specs.declared.stage.Stage.TheVariants.{Open}
@@ -57,7 +57,10 @@ module _ (z : Config) (p : ℕ) (old : PassState) (w : Write) (opened : old.stag
   writes_over (Ok Done) new not_later makes =
       subst (λ (a : PassState). WritesBy (account_of z p old) w (Ok tt) (account_of z p a)) (sym makes.1)
       (account_writes z p old w opened makes.0)
-  writes_over (Ok (NeedRoom short)) new not_later makes = notes_unknown z p old new makes.1
+  writes_over (Ok (NeedRoom short)) new not_later makes = (
+    λ start e. subst (λ s. refused (view_of (account_of z p old) s) w ≡ None) (start_is start e) makes.0,
+    notes_unknown z p old new makes.1,
+  )
   writes_over (Err refusals.SelfLoop) new not_later makes =
       refuses_at refusals.SelfLoop new (makes.0, same_account new makes.1)
   writes_over (Err (refusals.NoVertex q)) new not_later makes =

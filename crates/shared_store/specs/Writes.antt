@@ -5,8 +5,9 @@ use Rattle.graph_model.specs.declared.refusal.Refusal.{Refusal}
 use Rattle.graph_model.specs.declared.refusal.Refusal.TheVariants as refusals
 use Rattle.graph_model.specs.declared.write.Write.{Write}
 use Rattle.graph_model.specs.Account.{Account}
-use Rattle.graph_model.specs.AccountSteps.{WritesBy}
+use Rattle.graph_model.specs.AccountSteps.{WritesBy, view_of}
 use Rattle.graph_model.specs.Conflict.{later}
+use Rattle.graph_model.specs.Refused.{refused}
 use Rattle.txn_manager.specs.declared.config.Config.{Config}
 use Rattle.store_relation.specs.Passes.{PassState}
 use Rattle.store_relation.specs.Steps.{meeting}
@@ -15,10 +16,14 @@ use Rattle.pass_writes.specs.declared.making.Written.{Written}
 use Rattle.pass_writes.specs.declared.making.Written.TheVariants.{Done, NeedRoom}
 use Rattle.shared_store.specs.declared.pass.Pass.{Pass}
 
--- where room is needed nothing has changed
+-- the view allows the write
+abbrev pub IsAllowedBy : Account → Write → Type 0
+IsAllowedBy old w = (start : ℕ) → old.start ≡ Some start → refused (view_of old start) w ≡ None
+
+-- where room is needed nothing has changed, and the write may be made
 abbrev pub WritesOver : Account → Write → Result Written Refusal → Account → Type 0
 WritesOver old w (Ok Done) new = WritesBy old w (Ok tt) new
-WritesOver old w (Ok (NeedRoom short)) new = new ≡ old
+WritesOver old w (Ok (NeedRoom short)) new = IsAllowedBy old w × (new ≡ old)
 WritesOver old w (Err refusal) new = WritesBy old w (Err refusal) new
 
 -- ---- the writes that a pass keeps

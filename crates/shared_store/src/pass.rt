@@ -13,11 +13,12 @@ use std::alloc::Global;
 use store_rule::Pass as Seats;
 
 /// A pass of a store. It is in no transaction, or in an open one, of which it has the writes twice: one list goes into
-/// the journal with the commit, and by the other its rows are stamped then.
+/// the journal with the commit, and by the other its rows are stamped then. Its seats and cells are lent to calls that
+/// move rows for it.
 pub struct Pass {
-    pub(crate) seats: Seats,
-    pub(crate) cells: PassCells,
-    pub(crate) alloc: Global,
+    pub seats: Seats,
+    pub cells: PassCells,
+    pub alloc: Global,
     /// How many transactions it has begun.
     pub(crate) begun: u32,
     /// The start of the open one.

@@ -1,4 +1,4 @@
-use Rattle.std.proofs.Common.{◌∙◌, ◌<◌, ap, subst, sym}
+use Rattle.std.proofs.Common.{◌∙◌, ◌<◌, ap, refl, subst, sym}
 use Rattle.leaf_index.specs.Index.{Index}
 use Rattle.rule_model.specs.Sight.{IndexState}
 use Rattle.pass_sweeps.proofs.HandLemmas.{index_is}
@@ -19,3 +19,15 @@ returns-clause-inside g c =
     (ap (λ (i : Index). i.leaves) (c.deref.ensures ∙ t.3
     ∙ ap (λ (u : IndexState). u.index) (sym (index_is c.take_index-held.new.pass.account.me.0 t.0 t.1.index)))
     ∙ c.learn_leaves.ensures.told) c.leaf_of-range.ensures.exists
+
+pub returns-then-is_below-clause-chosen : goal.returns-then-is_below-clause-chosen
+returns-then-is_below-clause-chosen g c = (
+  record {
+    index = c.deref.result.now;
+    range = c.leaf_of-range.result;
+    holds = c.leaf_of-range.ensures.range;
+    leaf_is = refl;
+    next = c.key_after-key.ensures;
+  },
+  sym c.is_below.ensures ∙ c.if-is_below.true,
+)
