@@ -5,3 +5,4 @@ pub mod EndLemmas
 pub mod SeatLemmas
 pub mod LoadLemmas
 pub mod TotalsLemmas
+pub mod SendLemmas
