@@ -7,6 +7,7 @@
 //!    packed and given back.
 #![tactic(auto)]
 
+mod ahead;
 mod change;
 mod hints;
 mod latch;

@@ -1,8 +1,9 @@
 //! How a pass comes by the cells of keys.
 //!
 //! 1. Cells are taken in the order of their fence keys: the least key that no cell in hand covers comes next.
-//! 2. A hint names the cell. Once it is held its fence keys tell whether it is the key's, and only where it isn't the
-//!    index is asked, with no cell in hand.
+//! 2. A hint names the cell. All that are named are read before the first is taken, so that these reads wait for memory
+//!    together. Once a cell is held its fence keys tell whether it is the key's, and only where it isn't the index is
+//!    asked, with no cell in hand.
 //! 3. Hints may lag behind, and then two passes may want each other's cells. So a pass that holds a cell looks at the
 //!    next one a number of times, and gives all back where that stays busy.
 
@@ -32,7 +33,10 @@ impl PassCells {
         ensures held { AreHeld (held_rows self.new.taken.list.items) keys.now }
         ensures kept { KeepsPass pass.old pass.new }
     {
+        self.hints.survey_once(store);
         let mut guesses = self.hints.of_all(keys);
+        let (likely, _) = guesses.split_at(keys.len().min(4));
+        self.hints.read_ahead(store, likely);
         'tries: for _ in rt.forever() {
             if self.take_guessed(rt, store, pass, keys, &guesses) {
                 return;

@@ -38,6 +38,15 @@ impl Accounts {
         (low, high)
     }
 
+    /// A word of a block, whoever holds the cell. It may be half of a change, and past when the caller reads it: nothing
+    /// is told of it.
+    pub fn peek_word(&self, cell: u32, word: u32) -> u64
+        requires cell { cell < cells_of self.now.config }
+        requires word { word < block_words }
+    {
+        self.table.shared.peek(self.block_place(cell, word))
+    }
+
     /// Loads the number of rows.
     fn load_count(&self, seat: &mut Account, cell: u32) -> u32
         requires table { seat.old.table_id ≡ self.now.table.shared.table_id }
