@@ -69,9 +69,10 @@ fn enter(rt: &impl Wait, store: &Store, pass: &mut Pass, begun: Begun, writes: W
     ensures same { IsSamePass pass.old pass.new }
 {
     let mut held = take_journal(rt, store, pass);
+    let journal = &mut *held.value;
     let clock = load_clock(store, pass);
     store_stamp(store, pass, clock);
-    held.value.push_within(Commit {
+    journal.push_within(Commit {
         stamp: clock + 1,
         start: begun.start,
         by: begun.by,

@@ -98,9 +98,9 @@ pub wants_read : {S : Type 0} (e : Calls S) (by : AreByAccount e) (old new : S) 
 wants_read e by old new legal is = elim is [
   | inl begins ↦ (by.begins_by old new (Err begin_refusals.NoMemory) begins).0
   | inr other ↦ elim other [
-      | inl writes ↦ (let o = some_of (e.account old).start writes.0 in (by.writes_by old new writes.1.0 (Err refusals.NoMemory) writes.1.1).0 o.0 o.1)
-      | inr reads ↦ (reads_read e by old new legal reads).0
-    ]
+    | inl writes ↦ (let o = some_of (e.account old).start writes.0 in (by.writes_by old new writes.1.0 (Err refusals.NoMemory) writes.1.1).0 o.0 o.1)
+    | inr reads ↦ (reads_read e by old new legal reads).0
+  ]
 ]
 
 module _ {S : Type 0} (e : Calls S) (by : AreByAccount e) (old : S) (job : Progress) (ready : IsReadyBy (e.account old) job) where
