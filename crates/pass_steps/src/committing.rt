@@ -71,6 +71,8 @@ fn enter(rt: &impl Wait, store: &Store, pass: &mut Pass, begun: Begun, writes: W
     let mut held = take_journal(rt, store, pass);
     let journal = &mut *held.value;
     let clock = load_clock(store, pass);
+    let entered = journal.len() as u64;
+    prove!(clock == entered);
     store_stamp(store, pass, clock);
     journal.push_within(Commit {
         stamp: clock + 1,

@@ -66,7 +66,7 @@ give_journal-requires-clause-taken g c =
       _,
       _,
       done,
-      list_published t.0 p2.number st _ _ _ (subst (IsListOf t.0) (sym c.deref_mut.ensures.value) t.2) entry
+      list_published t.0 p2.number st _ _ _ (subst (IsListOf t.0) (sym c.deref_mut-journal.ensures.value) t.2) entry
           c.push_within.ensures.put
           c.push_within.ensures.spare,
     )
