@@ -22,7 +22,7 @@ use Rattle.txn_manager.specs.declared.config.Config.{Config}
 use Rattle.graph_model.specs.declared.load.LoadRefusal.{LoadRefusal}
 use Rattle.graph_model.specs.declared.load.LoadRefusal.TheVariants as refusals
 use Rattle.teseo_core.specs.Keeping.{LeftStore, new_core}
-use Rattle.job_runner.specs.Lines.{file_of}
+use Rattle.job_runner.specs.Phases.{file_of}
 use Rattle.job_runner.specs.Progress.{Progress}
 use Rattle.job_runner.specs.Runs.{HaveDone, Ends}
 use Rattle.serial_runner.specs.SerialRuns.{SerialEnds}

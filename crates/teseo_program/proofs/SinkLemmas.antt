@@ -10,7 +10,7 @@ use Rattle.run_model.specs.Texts.{report_text}
 use Rattle.desk_io.specs.Outputs.{NamedText, names_of}
 use Rattle.script_lang.specs.FieldFaults.{IsNameByte}
 use Rattle.job_runner.specs.NamedTable.{NamedTable}
-use Rattle.job_runner.specs.Lines.{file_of}
+use Rattle.job_runner.specs.Phases.{file_of}
 use Rattle.job_runner.specs.Progress.{Progress}
 use Rattle.teseo_program.specs.Sinks.{file_output, report_outputs, sinks_of}
 use Rattle.source_run.specs.Running.{HavePrintableNames}

@@ -5,7 +5,7 @@ ghost use Rattle.std.specs.List.{AllByRecursion, list_any};
 ghost use Rattle.graph_model.specs.TableText.{table_text};
 ghost use Rattle.run_model.specs.Texts.{report_text};
 ghost use Rattle.script_lang.specs.FieldFaults.{IsNameByte};
-ghost use Rattle.job_runner.specs.Lines.{file_of};
+ghost use Rattle.job_runner.specs.Phases.{file_of};
 ghost use Rattle.command_words.specs.Words.{report_name};
 ghost use Rattle.command_words.specs.Views.{run_request};
 ghost use Rattle.source_run.specs.Requests.{report_names};
