@@ -94,7 +94,8 @@ impl RestingHeads {
 }
 
 impl HeadMap {
-    /// Puts the records of so many rows beside their heads. Where no row is changed all memory is given back. Takes none.
+    /// Puts the records of so many rows beside their heads. Where no row is changed all memory is given back. Takes no
+    /// memory.
     pub fn rest(self, chains: Chains, count: usize) -> RestingHeads
         ensures entries { result.heads.entries ≡ self.entries }
         ensures records { (self.entries ≡ []) ⊎ (result.chains ≡ chains) }

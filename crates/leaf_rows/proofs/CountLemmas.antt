@@ -21,7 +21,7 @@ use Rattle.version_segment.specs.Rows.{VersionedRows}
 use Rattle.leaf_store.specs.Leaves.{Leaves, Part, AreLeaves, IsPart, cells_of}
 use Rattle.leaf_rows.specs.Counted.{is_vertex_row}
 use Rattle.leaf_rows.specs.Runs.{ShowsBy, cells_behind, runs_left}
-use Rattle.leaf_rows.proofs.EdgeLemmas.{seen_within}
+use Rattle.leaf_rows.proofs.EdgeLemmas.{ends_with_keys, seen_within}
 
 -- ---- how many rows there may be
 
@@ -172,7 +172,8 @@ module _ (stamps : TxnName → Option ℕ) (snapshot : Snapshot) (s : Leaves) (s
       whole x e true f = refl
       whole None e false f = sym e
       whole (Some w) e false f =
-          let inside : is_between first_key end_key q ≡ true = seen_within stamps snapshot s sound g shows 0 q w e in
+          let inside : is_between first_key end_key q ≡ true =
+          seen_within g (ends_with_keys stamps snapshot s sound g shows) q w e in
           let clash : true ≡ false = sym inside ∙ f in
           cc
 

@@ -23,7 +23,7 @@ use Rattle.leaf_rows.proofs.ScanLemmas.{none_beyond, below_lesser}
 
 -- ---- rows of adjoining ranges
 
-any_append : {X : Type 0} (p : X → Bool) (xs ys : List X) → list_any p (xs ++ ys) ≡ (list_any p xs || list_any p ys)
+pub any_append : {X : Type 0} (p : X → Bool) (xs ys : List X) → list_any p (xs ++ ys) ≡ (list_any p xs || list_any p ys)
 any_append p [] ys = refl
 any_append p (x ∷ xs) ys = elim (p x) as (λ t. (t || list_any p (xs ++ ys)) ≡ ((t || list_any p xs) || list_any p ys)) [ true ↦ refl | false ↦ any_append p xs ys ]
 
@@ -92,7 +92,30 @@ touching_arc : (g : Graph) (v a b w : ℕ) → weight_of g a b ≡ Some w → ((
 touching_arc g v a b w is touches true e = e
 touching_arc g v a b w is touches false e = let gone = no_edges g v e a b touches in let fail : ◌≡◌ {A = Option ℕ} (Some w) None = sym is ∙ gone in cc
 
-module _ (stamps : TxnName → Option ℕ) (snapshot : Snapshot) (s : Leaves) (sound : AreLeaves s) (g : Graph) (shows : ShowsBy stamps snapshot s g) (v : ℕ) where
+-- what a store shows has no row from the last key on
+module _ (stamps : TxnName → Option ℕ) (snapshot : Snapshot) (s : Leaves) (sound : AreLeaves s) (g : Graph)
+    (shows : ShowsBy stamps snapshot s g) where
+  pub ends_with_keys : (q : Key) → is_below q end_key ≡ false → value_at g q ≡ None
+  ends_with_keys q beyond =
+      sym (shows q)
+      ∙ ap (λ (c : VersionedRows). read stamps snapshot.start snapshot.own (forget_row (versions_at c q)))
+      (none_beyond (cells_of s) q sound.segments sound.chained sound.high beyond)
+
+first_least : (src second : ℕ) → is_below (record { src = src; second = second }) first_key ≡ false
+first_least src second = grind (arith, nat_tests)
+
+-- in such a graph what has a value has a key below the last one
+pub seen_within : (g : Graph) → ((q : Key) → is_below q end_key ≡ false → value_at g q ≡ None) → (k : Key) (w : ℕ)
+    → value_at g k ≡ Some w → is_between first_key end_key k ≡ true
+seen_within g ends k w is = go (is_below k end_key) refl
+  where
+    go : (t : Bool) → is_below k end_key ≡ t → is_between first_key end_key k ≡ true
+    go true e = between_of first_key end_key k (first_least k.src k.second) e
+    go false e =
+        let fail : ◌≡◌ {A = Option ℕ} (Some w) None = sym is ∙ ends k e in
+        cc
+
+module _ (g : Graph) (v : ℕ) where
   abbrev out_of : Bool
   out_of = list_any (has_second None) (rows g (first_arc v) (vertex_key (v + 1)))
 
@@ -106,9 +129,11 @@ module _ (stamps : TxnName → Option ℕ) (snapshot : Snapshot) (s : Leaves) (s
       let row = row_is_between g (first_arc v) (vertex_key (v + 1)) at.0 at.1 at.2 in
       let k = (at.1).key in
       let key = out_key v k row.0 in
-      touching_arc g v k.src (k.second - 1) (at.1).weight (arc_value g k (at.1).weight key.1 row.1) (ap (λ a. (a == v) || (k.second - 1 == v)) key.0 ∙ ap (λ t. t || (k.second - 1 == v)) (self_eq v)) (has_edges g v) refl
+      touching_arc g v k.src (k.second - 1) (at.1).weight (arc_value g k (at.1).weight key.1 row.1)
+      (ap (λ a. (a == v) || (k.second - 1 == v)) key.0 ∙ ap (λ t. t || (k.second - 1 == v)) (self_eq v))
+      (has_edges g v) refl
 
-  -- so is one into it
+  -- so is one that leads to it
   pub in_edge : into ≡ true → has_edges g v ≡ true
   in_edge any =
       let at = any_at (has_second (Some (v + 1))) (rows g first_key end_key) any in
@@ -117,7 +142,9 @@ module _ (stamps : TxnName → Option ℕ) (snapshot : Snapshot) (s : Leaves) (s
       let second : k.second ≡ v + 1 = eq_of k.second (v + 1) at.3 in
       let target : k.second - 1 ≡ v = omega (arith, second) in
       let arc : (k.second == 0) ≡ false = ap (λ n. n == 0) second ∙ not_zero v in
-      touching_arc g v k.src (k.second - 1) (at.1).weight (arc_value g k (at.1).weight arc row.1) (ap (λ b. (k.src == v) || (b == v)) target ∙ ap (λ t. (k.src == v) || t) (self_eq v) ∙ or_true (k.src == v)) (has_edges g v) refl
+      touching_arc g v k.src (k.second - 1) (at.1).weight (arc_value g k (at.1).weight arc row.1)
+      (ap (λ b. (k.src == v) || (b == v)) target ∙ ap (λ t. (k.src == v) || t) (self_eq v) ∙ or_true (k.src == v))
+      (has_edges g v) refl
     where
       or_true : (t : Bool) → (t || true) ≡ true
       or_true true = refl
@@ -125,46 +152,45 @@ module _ (stamps : TxnName → Option ℕ) (snapshot : Snapshot) (s : Leaves) (s
 
   no_out : out_of ≡ false → (b w : ℕ) → weight_of g v b ≡ Some w → ⊥
   no_out gone b w is =
-      let at = row_at_between g (first_arc v) (vertex_key (v + 1)) (arc_key v b) w (key_out v b) (weight_is_value g v b ∙ is) in
-      never out_of (any_of_at (has_second None) (rows g (first_arc v) (vertex_key (v + 1))) at.0 (record { key = arc_key v b; weight = w }) at.1 refl) gone
+      let at = row_at_between g (first_arc v) (vertex_key (v + 1)) (arc_key v b) w (key_out v b)
+      (weight_is_value g v b ∙ is) in
+      never out_of (any_of_at (has_second None) (rows g (first_arc v) (vertex_key (v + 1))) at.0
+      (record { key = arc_key v b; weight = w }) at.1 refl) gone
 
-  -- what is seen has a key below the last one
-  pub seen_within : (k : Key) (w : ℕ) → value_at g k ≡ Some w → is_between first_key end_key k ≡ true
-  seen_within k w is = go (is_below k end_key) refl
-    where
-      go : (t : Bool) → is_below k end_key ≡ t → is_between first_key end_key k ≡ true
-      go true e = between_of first_key end_key k (first_least k.src k.second) e
-        where
-          first_least : (src second : ℕ) → is_below (record { src = src; second = second }) first_key ≡ false
-          first_least src second = grind (arith, nat_tests)
-      go false e =
-          let none : value_at g k ≡ None = sym (shows k) ∙ ap (λ (c : VersionedRows). read stamps snapshot.start snapshot.own (forget_row (versions_at c k))) (none_beyond (cells_of s) k sound.segments sound.chained sound.high e) in
-          let fail : ◌≡◌ {A = Option ℕ} (Some w) None = sym is ∙ none in
-          cc
-
-  no_in : into ≡ false → (a w : ℕ) → weight_of g a v ≡ Some w → ⊥
-  no_in gone a w is =
+  no_in : ((q : Key) → is_below q end_key ≡ false → value_at g q ≡ None) → into ≡ false → (a w : ℕ)
+      → weight_of g a v ≡ Some w → ⊥
+  no_in ends gone a w is =
       let value = weight_is_value g a v ∙ is in
-      let at = row_at_between g first_key end_key (arc_key a v) w (seen_within (arc_key a v) w value) value in
-      never into (any_of_at (has_second (Some (v + 1))) (rows g first_key end_key) at.0 (record { key = arc_key a v; weight = w }) at.1 (self_eq (v + 1))) gone
+      let at = row_at_between g first_key end_key (arc_key a v) w (seen_within g ends (arc_key a v) w value) value in
+      never into (any_of_at (has_second (Some (v + 1))) (rows g first_key end_key) at.0
+      (record { key = arc_key a v; weight = w }) at.1 (self_eq (v + 1))) gone
 
   -- where there are neither, it has no edges
-  pub none_directed : out_of ≡ false → into ≡ false → has_edges g v ≡ false
-  none_directed out_gone in_gone = has_no_edges g v (λ a b touches. nothing a b (either_of (a == v) (b == v) touches) (weight_of g a b) refl)
+  pub none_directed : ((q : Key) → is_below q end_key ≡ false → value_at g q ≡ None) → out_of ≡ false → into ≡ false
+      → has_edges g v ≡ false
+  none_directed ends out_gone in_gone =
+      has_no_edges g v (λ a b touches. nothing a b (either_of (a == v) (b == v) touches) (weight_of g a b) refl)
     where
-      nothing : (a b : ℕ) → ((a == v) ≡ true) ⊎ ((b == v) ≡ true) → (x : Option ℕ) → weight_of g a b ≡ x → weight_of g a b ≡ None
+      nothing : (a b : ℕ) → ((a == v) ≡ true) ⊎ ((b == v) ≡ true) → (x : Option ℕ) → weight_of g a b ≡ x
+          → weight_of g a b ≡ None
       nothing a b side None e = e
-      nothing a b (inl out) (Some w) e = absurd (no_out out_gone b w (ap (λ n. weight_of g n b) (sym (eq_of a v out)) ∙ e))
-      nothing a b (inr inside) (Some w) e = absurd (no_in in_gone a w (ap (λ n. weight_of g a n) (sym (eq_of b v inside)) ∙ e))
+      nothing a b (inl out) (Some w) e =
+          absurd (no_out out_gone b w (ap (λ n. weight_of g n b) (sym (eq_of a v out)) ∙ e))
+      nothing a b (inr inside) (Some w) e =
+          absurd (no_in ends in_gone a w (ap (λ n. weight_of g a n) (sym (eq_of b v inside)) ∙ e))
 
   -- in a graph that goes both ways none out is none at all
   pub none_undirected : IsSymmetric g → out_of ≡ false → has_edges g v ≡ false
-  none_undirected symmetric out_gone = has_no_edges g v (λ a b touches. nothing a b (either_of (a == v) (b == v) touches) (weight_of g a b) refl)
+  none_undirected symmetric out_gone =
+      has_no_edges g v (λ a b touches. nothing a b (either_of (a == v) (b == v) touches) (weight_of g a b) refl)
     where
-      nothing : (a b : ℕ) → ((a == v) ≡ true) ⊎ ((b == v) ≡ true) → (x : Option ℕ) → weight_of g a b ≡ x → weight_of g a b ≡ None
+      nothing : (a b : ℕ) → ((a == v) ≡ true) ⊎ ((b == v) ≡ true) → (x : Option ℕ) → weight_of g a b ≡ x
+          → weight_of g a b ≡ None
       nothing a b side None e = e
-      nothing a b (inl out) (Some w) e = absurd (no_out out_gone b w (ap (λ n. weight_of g n b) (sym (eq_of a v out)) ∙ e))
-      nothing a b (inr inside) (Some w) e = absurd (no_out out_gone a w (symmetric v a ∙ ap (λ n. weight_of g a n) (sym (eq_of b v inside)) ∙ e))
+      nothing a b (inl out) (Some w) e =
+          absurd (no_out out_gone b w (ap (λ n. weight_of g n b) (sym (eq_of a v out)) ∙ e))
+      nothing a b (inr inside) (Some w) e =
+          absurd (no_out out_gone a w (symmetric v a ∙ ap (λ n. weight_of g a n) (sym (eq_of b v inside)) ∙ e))
 
 -- tests that agree
 pub both_ways : (s t : Bool) → (s ≡ true → t ≡ true) → (s ≡ false → t ≡ false) → s ≡ t

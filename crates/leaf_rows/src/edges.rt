@@ -55,7 +55,7 @@ impl LeafRows {
 }
 
 /// Whether one of the rows has this second number in its key, if one is given.
-fn any_with(run: &[Row], second: Option<u64>) -> bool
+pub fn any_with(run: &[Row], second: Option<u64>) -> bool
     ensures { result ≡ list_any (has_second second) run.now }
 {
     match second {

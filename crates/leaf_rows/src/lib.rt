@@ -22,6 +22,7 @@ mod runs;
 mod scan;
 mod settle;
 
+pub use edges::any_with;
 pub use held::{Fingers, FoundRows};
 pub use leaf_store::{Pruned, STAMPS_END};
 pub use reader::Reader;

@@ -57,7 +57,8 @@ abbrev pub goes_on_at : Graph → Bool → ℕ → Request → Bool
 goes_on_at g skipping taken r = nat_lt (taken + 1) (cond skipping 1 (scanned g r / SCAN_ROWS + 1))
 
 -- a turn that isn't the last changes nothing but how far the line has come
-pub record ReadsFurther (g : Graph) (phase : Phase) (before : Option Reading) (r : Request) (next : Reading) : Type 0 where
+pub record ReadsFurther (g : Graph) (phase : Phase) (before : Option Reading) (r : Request) (next : Reading)
+    : Type 0 where
   pub is_open : phase ≡ Open
   pub more : goes_on_at g false (taken_of before) r ≡ true
   pub taken : taken_of (Some next) ≡ taken_of before + 1
@@ -124,7 +125,8 @@ FinishesRefusedOn aborts old refusals.VertexExists result new = GoesOpen old ans
 FinishesRefusedOn aborts old refusals.EdgeExists result new = GoesOpen old answers.Exists result new
 FinishesRefusedOn aborts old refusals.NoEdge result new = GoesOpen old answers.NoEdge result new
 FinishesRefusedOn aborts old refusals.HasEdges result new = GoesOpen old answers.HasEdges result new
-FinishesRefusedOn aborts old (refusals.Conflict cause) result new = StopsOn aborts old (answers.Conflict cause) result new
+FinishesRefusedOn aborts old (refusals.Conflict cause) result new =
+  StopsOn aborts old (answers.Conflict cause) result new
 FinishesRefusedOn aborts old (refusals.Full leaves) result new = StopsOn aborts old answers.Full result new
 FinishesRefusedOn aborts old refusals.NoMemory result new = OnOk result ⊥ × (new ≡ old)
 

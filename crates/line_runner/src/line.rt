@@ -115,7 +115,8 @@ pub fn take_line<R: Threads + Sync, E: VertexEngine>(
 fn begin<E: Engine>(engine: &mut E) -> Result<LineAnswer, NoMemory>
     requires closed { (E.account engine.old).start ≡ None }
     requires room { (E.account engine.old).begun < (E.account engine.old).allowed }
-    ensures does { IfOk result (λ given. (begun : Begun) × (given ≡ plain (answers.Begun begun.by begun.start) Phase.Open)
+    ensures does { IfOk result (λ given. (begun : Begun)
+        × (given ≡ plain (answers.Begun begun.by begun.start) Phase.Open)
         × E.did_begin engine.old (Ok begun) engine.new) }
     ensures err { OnErr result (E.did_begin engine.old (Err begin_refusals.NoMemory) engine.new) }
 {

@@ -34,7 +34,7 @@ impl PassCells {
         ensures kept { KeepsPass pass.old pass.new }
     {
         self.hints.survey_once(store);
-        let mut guesses = self.hints.of_all(keys);
+        let mut guesses = self.hints.of_all(store, keys);
         let (likely, _) = guesses.split_at(keys.len().min(4));
         self.hints.read_ahead(store, likely);
         'tries: for _ in rt.forever() {

@@ -43,7 +43,7 @@ impl PassLeaves {
         ensures fit { TellsFit store.now.accounts.config pass.new.account.me.0 }
         ensures kept { KeepsPass pass.old pass.new }
     {
-        let mut leaf = hints.of_all(&[key])[0] / 8;
+        let mut leaf = hints.leaf_of(key);
         'tries: for _ in rt.forever() {
             match self.take_leaves(rt, store, pass, hints, key, &[leaf]) {
                 Ok(index) => return LeafInHand { leaf, index },
@@ -83,7 +83,7 @@ impl PassLeaves {
         };
         let leaf = index.value.leaf_at(key).leaf;
         if leaf != leaves[0] {
-            hints.learn(&index.value, &[key]);
+            hints.note_leaf(&index.value, key);
             give_index(store, pass, index, &mut self.packed, &mut self.laid);
             return Err(leaf);
         }

@@ -43,8 +43,8 @@ pub struct SweepTurn {
 }
 
 /// Sweeps over the pins of all passes, prunes the next leaf at the horizon that it finds, and answers of which leaf
-/// cells were pruned. With the last leaf it frees the retired leaves that may be freed, and the first one comes next. May wait, and
-/// takes no memory.
+/// cells were pruned. With the last leaf it frees the retired leaves that may be freed, and the first one comes next.
+/// May wait, and takes no memory.
 pub fn sweep_step(rt: &impl Wait, store: &Store, pass: &mut Pass, key: &mut SweepKey) -> SweepTurn
     requires pass { IsPassOf store.now pass.old }
     requires none { HoldsNone pass.old }

@@ -5,12 +5,13 @@ ghost use Rattle.std.specs.List.{list_any};
 ghost use Rattle.graph_model.specs.declared.limits.TheConstants.{MAX_ID};
 ghost use Rattle.graph_model.specs.Graph.{has_edges};
 ghost use Rattle.graph_model.specs.Rows.{rows};
-ghost use Rattle.shared_store.specs.Edges.{has_second};
+ghost use Rattle.leaf_rows.specs.Runs.{has_second};
 ghost use Rattle.shared_store.specs.Passes.{IsOpen, KeepsOpen, view_in};
 
 use crate::pass::Pass;
 use crate::reads::scan_step;
-use graph_model::{Cursor, Key, Kind, Row, Rows64};
+use graph_model::{Cursor, Key, Kind, Rows64};
+use leaf_rows::any_with;
 use std::sync::Wait;
 use store_rule::Store;
 
@@ -58,21 +59,4 @@ fn sees_any(
         }
     }
     false
-}
-
-/// Whether one of the rows has this second number in its key, if one is given.
-fn any_with(run: &[Row], second: Option<u64>) -> bool
-    ensures { result ≡ list_any (has_second second) run.now }
-{
-    match second {
-        None => !run.is_empty(),
-        Some(second) => {
-            'rows: for row in run {
-                if row.key.second == second {
-                    return true;
-                }
-            }
-            false
-        }
-    }
 }

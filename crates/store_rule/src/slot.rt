@@ -9,8 +9,8 @@ use store_words::Account;
 use txn_manager::Config;
 use version_segment::Resting;
 
-/// A value with the note of its contents, or nothing where a pass has it. A slot takes 24 bytes, and no box where it has a
-/// cell whose rows are all settled. Notes take none.
+/// A value with the note of its contents, or nothing where a pass has it. A slot takes 24 bytes, and no box where it has
+/// a cell whose rows are all settled. Notes take none.
 #[derive(Drop)]
 pub enum StoreSlot {
     Out,

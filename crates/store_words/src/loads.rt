@@ -38,8 +38,8 @@ impl Accounts {
         (low, high)
     }
 
-    /// A word of a block, whoever holds the cell. It may be half of a change, and past when the caller reads it: nothing
-    /// is told of it.
+    /// A word of a block, whoever holds the cell. It may be half of a change, and past when the caller reads it:
+    /// nothing is told of it.
     pub fn peek_word(&self, cell: u32, word: u32) -> u64
         requires cell { cell < cells_of self.now.config }
         requires word { word < block_words }

@@ -82,7 +82,8 @@ fn run_beside<R: Threads + Sync, E: VertexEngine + Send, G: Gate>(
                 × ReadsBy (E.account service.entry.now) (E.account service.exit.now) }
         { serve(rt, service, turns) },
         &mut || -> bool
-            requires { IsSync R.row × IsSend E.row × IsSync G.row × (0 < workers) × AllByRecursion (IsSeat E.account) seats.now }
+            requires { IsSync R.row × IsSend E.row × IsSync G.row × (0 < workers)
+                × AllByRecursion (IsSeat E.account) seats.now }
             ensures { AllZip (HasRun E.account) seats.entry.now seats.exit.now
                 × (result ≡ some_gave_up seats.entry.now seats.exit.now) }
         { run_blocks(rt, seats, workers, gate) },
@@ -142,12 +143,14 @@ fn both_parts<R: Threads + Sync, E: VertexEngine + Send, G: Gate>(
     ensures wanted { result ≡ (some_gave_up front.old front.new || some_gave_up back.old back.new) }
 {
     let mut left = || -> bool
-        requires { IsSync R.row × IsSend E.row × IsSync G.row × (0 < first) × AllByRecursion (IsSeat E.account) front.now }
+        requires { IsSync R.row × IsSend E.row × IsSync G.row × (0 < first)
+            × AllByRecursion (IsSeat E.account) front.now }
         ensures { AllZip (HasRun E.account) front.entry.now front.exit.now
             × (result ≡ some_gave_up front.entry.now front.exit.now) }
     { run_blocks(rt, front, first, gate) };
     let mut right = || -> bool
-        requires { IsSync R.row × IsSend E.row × IsSync G.row × (0 < others) × AllByRecursion (IsSeat E.account) back.now }
+        requires { IsSync R.row × IsSend E.row × IsSync G.row × (0 < others)
+            × AllByRecursion (IsSeat E.account) back.now }
         ensures { AllZip (HasRun E.account) back.entry.now back.exit.now
             × (result ≡ some_gave_up back.entry.now back.exit.now) }
     { run_blocks(rt, back, others, gate) };

@@ -19,8 +19,8 @@ pub record HasPath (s : List (Option Undo)) (head : Option ℕ) : Type 0 where
   pub keys : List ℕ
   pub path : IsPath s head keys
 
--- each link leads to a record, no two links lead to one, each list ends, and where a record says that from it on all have
--- stamps, they have
+-- each link leads to a record, no two links lead to one, each list ends, and where a record says that from it on all
+-- have stamps, they have
 pub record AreLinked (s : List (Option Undo)) : Type 0 where
   pub found : (k : ℕ) (u : Undo) (q : ℕ) → record_at s k ≡ Some u → u.next ≡ Some q → IsSome (record_at s q)
   pub once : (j k : ℕ) (u v : Undo) (q : ℕ) → record_at s j ≡ Some u → record_at s k ≡ Some v

@@ -1,7 +1,7 @@
 //! Segments at rest, whose rows and fence keys lie elsewhere.
 //!
-//! 1. At rest a segment keeps where the records of its rows begin, and the records, in one box. It has no room for rows,
-//!    and where all of them are settled no box.
+//! 1. At rest a segment keeps where the records of its rows begin, and the records, in one box. It has no room for
+//!    rows, and where all of them are settled no box.
 //! 2. Its rows are handed out in the room that they had, with value words in place of weights, and it wakes with them in
 //!    any room for rows.
 //! 3. No call takes memory.

@@ -1,9 +1,9 @@
 use Rattle.std.proofs.Common.{◌∙◌, ◌+◌, ap, sym, Some}
 use Rattle.std.specs.List.{list_any}
 use Rattle.graph_model.specs.Rows.{end_key, first_key, rows}
-use Rattle.shared_store.specs.Edges.{has_second}
+use Rattle.leaf_rows.specs.Runs.{has_second}
 use Rattle.shared_store.specs.Passes.{view_in}
-use Rattle.shared_store.proofs.EdgeLemmas.{both_ways, in_edge, none_directed, none_undirected, out_edge}
+use Rattle.leaf_rows.proofs.EdgeLemmas.{both_ways, in_edge, none_directed, none_undirected, out_edge}
 use Rattle.shared_store.proofs.PassLemmas.{keeps_twice, same_view, view_both_ways, view_has_end}
 use Rattle.shared_store.proofs.edges.has_edges.Goals as goal
 

@@ -2,7 +2,7 @@ use Rattle.std.proofs.Common.{◌∙◌, ap, refl, subst, sym}
 use Rattle.std.specs.List.{list_any}
 use Rattle.graph_model.specs.Rows.{rows}
 use Rattle.graph_model.specs.Scans.{ScansBy}
-use Rattle.shared_store.specs.Edges.{has_second}
+use Rattle.leaf_rows.specs.Runs.{has_second}
 use Rattle.shared_store.specs.Passes.{view_in}
 use Rattle.shared_store.proofs.EdgeLemmas.{has_found, less_left, looks_on}
 use Rattle.shared_store.proofs.PassLemmas.{keeps_itself, keeps_twice, same_view}

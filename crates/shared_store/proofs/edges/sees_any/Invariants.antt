@@ -1,5 +1,5 @@
 use Rattle.graph_model.specs.Rows.{rows}
-use Rattle.shared_store.specs.Edges.{has_second}
+use Rattle.leaf_rows.specs.Runs.{has_second}
 use Rattle.shared_store.specs.Passes.{KeepsOpen, view_in}
 use Rattle.shared_store.proofs.EdgeLemmas.{IsLooking, left_of}
 use Rattle.shared_store.proofs.edges.sees_any.Given as goal
