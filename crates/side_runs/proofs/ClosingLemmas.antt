@@ -22,7 +22,7 @@ use Rattle.run_model.specs.Requests.{request, next_txn, begun_by}
 use Rattle.run_model.specs.Inputs.{Inputs, AreInputs, File, Outputs}
 use Rattle.run_model.specs.Run.{MadeClash, IsCause, AllAnswered, HasFiles, IsLoad, IsShown, MayFill, answered_scripts, run_lines, context_at, inserted_in, load_stamp, load_commit, txn_name}
 use Rattle.side_runs.specs.ByAccount.{HasRunBy}
-use Rattle.side_runs.specs.SideBySide.{made_at, IsMatched, sum_below, inserted_by_pass, WasAnswered, HaveRunBy, RunsSideBySideAreRuns, RunsSideBySideAreMade}
+use Rattle.side_runs.specs.SideBySide.{made_at, IsMatched, sum_below, inserted_by_pass, WasAnswered, HaveRunBy, RunsSideBySideAreRuns, RunsSideBySideAreMade, made_by_load}
 use Rattle.run_model.proofs.CauseLemmas.{made_clash}
 use Rattle.run_model.proofs.LineLemmas.{begun_behind}
 use Rattle.run_model.proofs.ListLemmas.{there}
@@ -33,6 +33,19 @@ use Rattle.side_runs.proofs.FirstLemmas.{behind_lines}
 use Rattle.side_runs.proofs.SeriesLemmas.{stamps_answered, lines_count, first_tells, run_tells}
 use Rattle.side_runs.proofs.TellLemmas.{Tells}
 use Rattle.side_runs.proofs.RightLemmas.{LinesRight, lines_right}
+
+-- ---- the load
+
+-- with no load there is no list of its writes, which is as if there were an empty one
+load_at : (load : List Write) (number : ℕ) → made_at (made_by_load load) number ≡ made_at (load ∷ []) number
+load_at [] zero = refl
+load_at [] (suc zero) = refl
+load_at [] (suc (suc n)) = refl
+load_at (w ∷ ws) number = refl
+
+flat_load : (load : List Write) → flat (made_by_load load) ≡ load
+flat_load [] = refl
+flat_load (w ∷ ws) = append-nil (w ∷ ws)
 
 -- ---- lists
 
@@ -180,7 +193,7 @@ module _ (inputs : Inputs) (leaves : ℕ) (passes : ℕ → Account) (outputs : 
   -- a commit of pass 0 is the load's
   of_loader : (c : Commit) (i : ℕ) → slice_get outputs.journal i ≡ Some c → c.by.job ≡ 0 → (inputs.load ≢ []) × (c.by ≡ txn_name 0 1) × (c.writes ≡ inputs.load)
   of_loader c i at zero_job = by_number c.by.number refl
-      (ap (λ l. made_at l c.by.number) (sym is.loader) ∙ ap (λ p. made_at (passes p).made c.by.number) (sym zero_job) ∙ is.made i c at)
+      (sym (load_at inputs.load c.by.number) ∙ ap (λ l. made_at l c.by.number) (sym is.loader) ∙ ap (λ p. made_at (passes p).made c.by.number) (sym zero_job) ∙ is.made i c at)
     where
       wrote : 0 < length c.writes
       wrote = (is.legal.each i c at).wrote
@@ -264,7 +277,7 @@ module _ (inputs : Inputs) (leaves : ℕ) (passes : ℕ → Account) (outputs : 
         ]
 
     by_job : (job number : ℕ) → x.by ≡ txn_name job number → Made job number → Met (txn_name job number)
-    by_job zero number named made = absurd (by_load inputs.load refl number named (subst (λ l. meets inputs.kind x.write (made_at l number) ≡ true) is.loader made))
+    by_job zero number named made = absurd (by_load inputs.load refl number named (subst (λ ws. meets inputs.kind x.write ws ≡ true) (load_at inputs.load number) (subst (λ l. meets inputs.kind x.write (made_at l number) ≡ true) is.loader made)))
     by_job (suc p) number named made = by_place (below p (length inputs.scripts))
       where
         below : (p n : ℕ) → (p < n) ⊎ (n ≤ p)
@@ -320,7 +333,7 @@ module _ (inputs : Inputs) (leaves : ℕ) (passes : ℕ → Account) (outputs : 
   all_inserted =
       let count : length scripts ≡ length inputs.scripts = scripts_count inputs.scripts outputs.reports is.reported in
       let more : length inputs.scripts + 1 ≡ suc (length scripts) = omega (arith, count) in
-      let first : inserted_by_pass inputs.kind (passes 0) ≡ inserted inputs.kind inputs.load = ap (λ m. inserted inputs.kind (flat m)) is.loader ∙ ap (inserted inputs.kind) (append-nil inputs.load) in
+      let first : inserted_by_pass inputs.kind (passes 0) ≡ inserted inputs.kind inputs.load = ap (λ m. inserted inputs.kind (flat m)) is.loader ∙ ap (inserted inputs.kind) (flat_load inputs.load) in
       let others : sum_below (λ q. inserted_by_pass inputs.kind (passes (suc q))) (length scripts) ≡ inserted_in inputs.kind scripts =
       sums (λ ls. inserted inputs.kind (filter_map made_by ls)) scripts (λ q. inserted_by_pass inputs.kind (passes (suc q))) each in
       ap (sum_below (λ q. inserted_by_pass inputs.kind (passes q))) more ∙ shifted (λ q. inserted_by_pass inputs.kind (passes q)) (length scripts) ∙ (λ i. first i + others i)

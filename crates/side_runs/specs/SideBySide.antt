@@ -23,6 +23,11 @@ abbrev pub made_at : List (List Write) → ℕ → List Write
 made_at made zero = []
 made_at made (suc place) = unwrap_or (slice_get made place) []
 
+-- the lists of writes of a pass that has made a load, if there is any
+abbrev pub made_by_load : List Write → List (List Write)
+made_by_load [] = []
+made_by_load (w ∷ ws) = (w ∷ ws) ∷ []
+
 -- the transaction that was met made a clashing write, and its commit, if it has one, is later than the start
 pub record IsMatched (kind : Kind) (passes : ℕ → Account) (journal : List Commit) (x : Sighting) : Type 0 where
   pub made : meets kind x.write (made_at (passes x.by.job).made x.by.number) ≡ true
@@ -51,7 +56,7 @@ pub record HaveRunBy (inputs : Inputs) (leaves : ℕ) (passes : ℕ → Account)
       → slice_get outputs.files k ≡ Some files
       → HasRunBy inputs.kind inputs.load (k + 1) cs report files (passes (k + 1))
   -- pass 0 made the load, and the passes behind those of the scripts made nothing
-  pub loader : (passes 0).made ≡ inputs.load ∷ []
+  pub loader : (passes 0).made ≡ made_by_load inputs.load
   pub outside : (p : ℕ) → length inputs.scripts < p → (passes p).made ≡ []
   -- the journal of all is legal, is seen by each pass up to some commit, and has the load, if that wrote something
   pub legal : IsLegal inputs.kind outputs.journal
