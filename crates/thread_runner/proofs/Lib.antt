@@ -1,5 +1,6 @@
 pub mod CallLemmas
 pub mod TurnLemmas
 pub mod RunLemmas
+pub mod NewLemmas
 pub mod BlockLemmas
 pub mod ListLemmas

@@ -247,12 +247,10 @@ behind_number : (job : Progress) (image : Option KeptImage) (turn : LineTurn) �
 behind_number job image (Scanning reading) = refl
 behind_number job image (Answering given) = refl
 
--- whoever has given up is ready for nothing
-never : (p : Phase) (start : Option ℕ) → has_given_up p ≡ true → IsPhase p start → ⊥
-never Between start gave is = cc
-never Open start gave is = cc
-never Skipping start gave is = cc
-never GivenUp start gave is = is
+-- lines of which none is left
+empty_is : (cs : List Command) → is_empty cs ≡ true → cs ≡ []
+empty_is [] e = refl
+empty_is (c ∷ cs) e = cc
 
 -- whoever isn't over behind a turn is ready for the next one
 module _ {S : Type 0} (e : Calls S) (by : AreByAccount e) (old : S) (job : Progress) (ready : IsReadyBy (e.account old) job) (going : is_over job ≡ false) (next : Progress) (new : S) where
@@ -286,11 +284,19 @@ module _ {S : Type 0} (e : Calls S) (by : AreByAccount e) (old : S) (job : Progr
       gave_pass Skipping is = ap (λ (a : Account). a.job) is.others
       gave_pass GivenUp is = ap (λ (a : Account). a.job) is.others
 
-  -- where memory was wanted, no transaction stays open
-  pub turn_closed : (turn : Turn) → TookTurnOn e old job turn next new → has_given_up next.phase ≡ true → (e.account new).start ≡ None
-  turn_closed turns.More took gave = absurd (never next.phase (e.account new).start gave (took_ready took.1).phase_is)
-  turn_closed turns.Ended took gave = absurd (never next.phase (e.account new).start gave (took_ready took.1).phase_is)
-  turn_closed turns.NoMemory took gave = gave_closed job.phase ready.phase_is (gives_up_by e by old job ready job.phase took.0 new (wants_read e by old took.0 ready.valid.legal took.1) took.2)
+  -- whoever is over behind a turn has no transaction open
+  pub turn_closed : (turn : Turn) → TookTurnOn e old job turn next new → is_over next ≡ true → (e.account new).start ≡ None
+  turn_closed turns.More took over = absurd (let no : true ≡ false = sym over ∙ took.0 in cc)
+  turn_closed turns.Ended took over = ready_closed next.phase refl (took_ready took.1)
+    where
+      ready_closed : (p : Phase) → next.phase ≡ p → IsReadyBy (e.account new) next → (e.account new).start ≡ None
+      ready_closed Between same is = subst (λ p. IsPhase p (e.account new).start) same is.phase_is
+      ready_closed Open same is =
+          let none : left_of next ≡ [] = empty_is (left_of next) (sym (ap (λ p. has_given_up p || is_empty (left_of next)) same) ∙ over) in
+          absurd (let inside : is_inside next.phase ≡ false = subst (IsScript (Some (is_inside next.phase))) none is.script in let no : true ≡ false = sym (ap is_inside same) ∙ inside in cc)
+      ready_closed Skipping same is = subst (λ p. IsPhase p (e.account new).start) same is.phase_is
+      ready_closed GivenUp same is = absurd (subst (λ p. IsPhase p (e.account new).start) same is.phase_is)
+  turn_closed turns.NoMemory took over = gave_closed job.phase ready.phase_is (gives_up_by e by old job ready job.phase took.0 new (wants_read e by old took.0 ready.valid.legal took.1) took.2)
     where
       gave_closed : (p : Phase) → IsPhase p (e.account old).start → GivesUpBy (e.account old) p (e.account new) → (e.account new).start ≡ None
       gave_closed Between is by_it = ap (λ (a : Account). a.start) by_it.others ∙ is
@@ -321,10 +327,6 @@ module _ {S : Type 0} (e : Calls S) (by : AreByAccount e) (old : S) (job : Progr
       by_turn turns.More took = at_most (is_over next) (turns_left next) (turns_left job) (took_fewer took.1)
       by_turn turns.Ended took = at_most (is_over next) (turns_left next) (turns_left job) (took_fewer took.1)
       by_turn turns.NoMemory took = subst (λ x. left_over x < turns_left job + 1) (sym took.3) (omega arith)
-
-pub has_of : (a b : Bool) → (not a && b) ≡ true → b ≡ true
-has_of true b e = cc
-has_of false b e = e
 
 -- ---- turns one behind the other
 

@@ -2,10 +2,10 @@
 use Rattle.std.specs.Prelude.{◌≡◌, ℕ, zero, suc, ◌≤◌, Bool, true, false, cond, List, [], ◌∷◌, length, map, take, Option, Some, None, IfSome}
 use Rattle.graph_model.specs.declared.write.Kind.{Kind}
 use Rattle.graph_model.specs.declared.write.Write.{Write}
-use Rattle.graph_model.specs.Account.{Account}
+use Rattle.graph_model.specs.Account.{Account, IsValid}
 use Rattle.graph_model.specs.AccountSteps.{ReadsBy, AbortsBy}
 use Rattle.run_model.specs.declared.command.Command.{Command}
-use Rattle.run_model.specs.Requests.{Request, request}
+use Rattle.run_model.specs.Requests.{Request, request, begun_by, IsScript}
 use Rattle.side_runs.specs.ByAccount.{LineBy, skips_behind, LinesBy, IsUnbegun, HasRunBy}
 use Rattle.line_runner.specs.declared.answering.LineAnswer.{LineAnswer}
 use Rattle.line_runner.specs.declared.answering.LineTurn.{LineTurn}
@@ -20,7 +20,7 @@ use Rattle.line_runner.specs.Phases.{is_skipping, phase_at, file_of}
 use Rattle.line_runner.specs.Turns.{view_now, goes_on_at, ReadsFurther}
 use Rattle.job_runner.specs.declared.turn.Turn.{Turn}
 use Rattle.job_runner.specs.declared.turn.Turn.TheVariants as turns
-use Rattle.job_runner.specs.Progress.{Progress, left_of, listed_table, has_given_up, is_over, behind, gone}
+use Rattle.job_runner.specs.Progress.{Progress, new_progress, left_of, listed_table, has_given_up, is_over, behind, gone, IsReadyBy}
 
 -- ---- one turn
 
@@ -95,3 +95,19 @@ abbrev pub JobsRunTheirScripts : Type 0
 JobsRunTheirScripts = (kind : Kind) (load : List Write) (job : Progress) (account : Account)
     → HasRunSoFar kind load job account → is_over job ≡ true → has_given_up job.phase ≡ false
     → HasRunBy kind load job.number job.commands job.answers (map file_of job.tables) account
+
+-- ---- a script from its first line on
+
+-- a pass that has begun nothing is ready for a script, if it may begin all transactions of it
+abbrev pub NewScriptsAreReady : Type 0
+NewScriptsAreReady = (kind : Kind) (load : List Write) (number : ℕ) (cs : List Command) (first : Account)
+    → IsUnbegun kind load number first → IsValid first → IsScript (Some false) cs
+    → begun_by 0 cs ≤ first.allowed → IsReadyBy first (new_progress number cs)
+
+-- and has run it once its job is over and hasn't given up
+abbrev pub NewScriptsRun : Type 0
+NewScriptsRun = (kind : Kind) (load : List Write) (number : ℕ) (cs : List Command) (first last : Account)
+    (job : Progress)
+    → IsUnbegun kind load number first → RanBy first (new_progress number cs) job last
+    → is_over job ≡ true → has_given_up job.phase ≡ false
+    → HasRunBy kind load number cs job.answers (map file_of job.tables) last

@@ -18,8 +18,8 @@ pub record HasRun {E : Type 0} (account : E → Account) (x y : Progress × E) :
   pub over : is_over y.0 ≡ true
   -- the engine is still that of its pass
   pub pass : (account y.1).job ≡ (account x.1).job
-  -- where memory was wanted, the transaction is taken back
-  pub closed : gave_up x.0 y.0 ≡ true → (account y.1).start ≡ None
+  -- a job that had lines left has no transaction open then; where memory was wanted it is taken back
+  pub closed : is_over x.0 ≡ false → (account y.1).start ≡ None
 
 -- it was in a turn of some job
 abbrev pub some_gave_up : {E : Type 0} → List (Progress × E) → List (Progress × E) → Bool

@@ -212,7 +212,7 @@ fn run_job<R: Threads + Sync, E: VertexEngine, G: Gate>(
     ensures ran { RanBy (E.account engine.old) job.old job.new (E.account engine.new) }
     ensures over { is_over job.new ≡ true }
     ensures pass { (E.account engine.new).job ≡ (E.account engine.old).job }
-    ensures closed { gave_up job.old job.new ≡ true → (E.account engine.new).start ≡ None }
+    ensures closed { is_over job.old ≡ false → (E.account engine.new).start ≡ None }
     ensures wanted { result ≡ gave_up job.old job.new }
 {
     let before = job.has_given_up();

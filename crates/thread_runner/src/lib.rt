@@ -11,5 +11,5 @@ mod laws;
 mod over;
 
 pub use driver::run_threads;
-pub use laws::{parts_are_cut_alike, turns_by_account_run_scripts};
+pub use laws::{new_scripts_run, parts_are_cut_alike, turns_by_account_run_scripts};
 pub use over::JobsOver;

@@ -1,6 +1,6 @@
 use Rattle.std.proofs.Common.{suc, sym, ◌∙◌}
 use Rattle.line_runner.specs.Turns.{Calls, calls, AreByAccount}
-use Rattle.thread_runner.proofs.TurnLemmas.{turns_more, took_by, stays_ready, turn_pass, turn_closed, left_fewer, has_of}
+use Rattle.thread_runner.proofs.TurnLemmas.{turns_more, took_by, stays_ready, turn_pass, turn_closed, left_fewer}
 use Rattle.thread_runner.proofs.driver.run_job.Goals as goal
 
 pub turns-preserved : goal.turns-preserved
@@ -24,7 +24,7 @@ turns-preserved g c =
             (took_by e by c.turns.engine c.turns.job ready took.result took.new.self took.new.engine took.ensures),
       );
       pass = turn_pass e by c.turns.engine c.turns.job ready going took.new.self took.new.engine took.result took.ensures ∙ c.turns.invariant.pass;
-      closed = λ gave. turn_closed e by c.turns.engine c.turns.job ready going took.new.self took.new.engine took.result took.ensures (has_of _ _ gave);
+      closed = λ was. turn_closed e by c.turns.engine c.turns.job ready going took.new.self took.new.engine took.result took.ensures;
       ready = stays_ready e by c.turns.engine c.turns.job ready going took.new.self took.new.engine took.result took.ensures;
     }
 

@@ -1,6 +1,5 @@
 use Rattle.std.proofs.Common.{◌≡◌}
 use Rattle.std.specs.Prelude.{true, false, None}
-use Rattle.thread_runner.specs.Driving.{gave_up}
 use Rattle.job_runner.specs.Progress.{is_over, IsReadyBy}
 use Rattle.thread_runner.specs.ByAccount.{RanBy}
 use Rattle.thread_runner.proofs.TurnLemmas.{left_over}
@@ -10,7 +9,7 @@ abbrev pub invariant-turns : goal.invariant-turns
 invariant-turns g l = record {
   ran : RanBy (g.E.Engine.account l.initial.engine) l.initial.job l.job (g.E.Engine.account l.engine);
   pass : (g.E.Engine.account l.engine).job ≡ (g.E.Engine.account l.initial.engine).job;
-  closed : gave_up l.initial.job l.job ≡ true → (g.E.Engine.account l.engine).start ≡ None;
+  closed : is_over l.initial.job ≡ false → is_over l.job ≡ true → (g.E.Engine.account l.engine).start ≡ None;
   ready : is_over l.job ≡ false → IsReadyBy (g.E.Engine.account l.engine) l.job;
 }
 

@@ -1,0 +1,102 @@
+-- What a closed store shows is what a run of scripts side by side asks for.
+use Rattle.std.proofs.Common.{◌≡◌, ℕ, zero, suc, ◌+◌, ◌*◌, ◌<◌, ◌≤◌, List, [], ◌∷◌, ◌++◌, length, map, refl, sym, ◌∙◌, ap, subst, arith, inr, length-append}
+use Rattle.std.proofs.lemmas.List.{length-map}
+use Rattle.std.specs.Prelude.{true, Some, slice_get}
+use Rattle.graph_model.specs.declared.limits.TheConstants.{SPLIT_ROWS}
+use Rattle.graph_model.specs.declared.journal.Commit.{Commit}
+use Rattle.graph_model.specs.Account.{Account}
+use Rattle.graph_model.specs.Legal.{IsLegal}
+use Rattle.graph_model.proofs.PlaceLemmas.{some_eq}
+use Rattle.run_model.specs.declared.answer.Answer.{Answer}
+use Rattle.run_model.specs.declared.command.Command.{Command}
+use Rattle.run_model.specs.Inputs.{Inputs, AreInputs, File}
+use Rattle.run_model.specs.Run.{load_stamp}
+use Rattle.run_model.proofs.ListLemmas.{all_weaker, there}
+use Rattle.side_runs.specs.ByAccount.{HasRunBy}
+use Rattle.side_runs.specs.SideBySide as sides
+use Rattle.side_runs.specs.SideBySide.{HaveRunBy, made_by_load}
+use Rattle.side_runs.proofs.ClosingLemmas.{is_run, are_made}
+use Rattle.line_runner.specs.Phases.{file_of}
+use Rattle.job_runner.specs.Progress.{Progress}
+use Rattle.txn_manager.specs.declared.config.Config.{Config}
+use Rattle.store_relation.specs.Passes.{PassState, account_of, made_of}
+use Rattle.store_relation.specs.Shared as shared
+use Rattle.store_relation.specs.Ends.{IsMatched}
+use Rattle.pass_steps.specs.Passes.{state_of}
+use Rattle.shared_store.specs.declared.pass.Pass.{Pass}
+use Rattle.shared_store.specs.Ends.{HasClosed}
+use Rattle.shared_runs.specs.Closing.{HaveRunOn, outputs_with, ClosedStoresLeaveRuns}
+
+same_sum : (f : ℕ → ℕ) (n : ℕ) → shared.sum_below f n ≡ sides.sum_below f n
+same_sum f zero = refl
+same_sum f (suc n) = ap (λ s. s + f n) (same_sum f n)
+
+-- what stands in a list of what is made of each stands where that does
+mapped : {X Y : Type 0} (f : X → Y) (xs : List X) (k : ℕ) (x : X) → slice_get xs k ≡ Some x → slice_get (map f xs) k ≡ Some (f x)
+mapped f [] k x e = cc
+mapped f (y ∷ xs) zero x e = ap (λ z. Some (f z)) (some_eq y x e)
+mapped f (y ∷ xs) (suc k) x e = mapped f xs k x e
+
+below_length : {X : Type 0} (xs : List X) (k : ℕ) (x : X) → slice_get xs k ≡ Some x → k < length xs
+below_length [] k x e = cc
+below_length (y ∷ xs) zero x e = omega arith
+below_length (y ∷ xs) (suc k) x e = let lt = below_length xs k x e in omega (arith, lt)
+
+module _ (inputs : Inputs) (z : Config) (list : List Pass) (jobs : List Progress) (journal : List Commit) (have : HaveRunOn inputs z list jobs) (is : HasClosed z list journal) where
+  abbrev accounts : ℕ → Account
+  accounts p = account_of z p (is.pass p)
+
+  loader_is : is.pass 0 ≡ state_of have.loader.seats
+  loader_is = is.known 0 have.loader have.first
+
+  ran : (k : ℕ) (cs : List Command) (report : List Answer) (files : List File) → slice_get inputs.scripts k ≡ Some cs
+      → slice_get (map (λ (job : Progress). job.answers) jobs) k ≡ Some report → slice_get (map (λ (job : Progress). map file_of job.tables) jobs) k ≡ Some files
+      → HasRunBy inputs.kind inputs.load (k + 1) cs report files (accounts (k + 1))
+  ran k cs report files script answered filed =
+      let lt = below_length inputs.scripts k cs script in
+      let count = have.count in
+      let job = there jobs k (omega (arith, lt, count)) in
+      let r : job.0.answers ≡ report = some_eq job.0.answers report (sym (mapped (λ (j : Progress). j.answers) jobs k job.0 job.1) ∙ answered) in
+      let f : map file_of job.0.tables ≡ files = some_eq (map file_of job.0.tables) files (sym (mapped (λ (j : Progress). map file_of j.tables) jobs k job.0 job.1) ∙ filed) in
+      let h = have.ran k cs job.0 script job.1 in
+      subst (λ xs. HasRunBy inputs.kind inputs.load (k + 1) cs xs files (accounts (k + 1))) r
+      (subst (λ xs. HasRunBy inputs.kind inputs.load (k + 1) cs job.0.answers xs (accounts (k + 1))) f
+      (subst (λ st. HasRunBy inputs.kind inputs.load (k + 1) cs job.0.answers (map file_of job.0.tables) (account_of z (k + 1) st)) (sym (is.known (k + 1) h.pass h.there)) h.ran))
+
+  loaded : load_stamp inputs.load ≤ length journal
+  loaded =
+      let s = is.closed.seen 0 in
+      let long : length journal ≡ length (is.pass 0).seen + length s.0 = ap length (sym s.1) ∙ length-append (is.pass 0).seen s.0 in
+      let same : length (is.pass 0).seen ≡ length (state_of have.loader.seats).seen = ap (λ (st : PassState). length st.seen) loader_is in
+      let seen = have.loaded.seen in
+      omega (arith, long, same, seen)
+
+  have_run : HaveRunBy inputs z.leaves accounts (outputs_with journal jobs)
+  have_run = record {
+    reported = length-map jobs (λ (job : Progress). job.answers) ∙ have.count;
+    filed = length-map jobs (λ (job : Progress). map file_of job.tables) ∙ have.count;
+    ran = ran;
+    loader = ap made_of loader_is ∙ have.loaded.made;
+    outside = λ p lt. is.closed.outside p (let same = have.passes in omega (arith, lt, same));
+    legal = subst (λ k. IsLegal k journal) have.kind is.closed.legal;
+    seen = λ p. (let s = is.closed.seen p in (s.0, sym s.1));
+    loaded = loaded;
+    made = λ i c e. (is.closed.made i c e).writes;
+    answered = λ i c e. inr (is.closed.made i c e).answered;
+    matched = λ p. all_weaker (IsMatched z.kind is.pass journal) (sides.IsMatched inputs.kind accounts journal)
+        (λ x m. subst (λ k. sides.IsMatched k accounts journal x) have.kind (record { made = m.made; behind = m.behind })) (is.pass p).sighted (is.closed.sighted p);
+    filled = λ p full.
+        subst (λ n. SPLIT_ROWS * z.leaves ≤ sides.sum_below (λ q. sides.inserted_by_pass inputs.kind (accounts q)) n) have.passes
+        (subst (λ k. SPLIT_ROWS * z.leaves ≤ sides.sum_below (λ q. sides.inserted_by_pass k (accounts q)) z.passes) have.kind
+        (subst (λ n. SPLIT_ROWS * z.leaves ≤ n) (same_sum (λ q. sides.inserted_by_pass z.kind (accounts q)) z.passes) (is.closed.filled p full)));
+  }
+
+pub leave_runs : ClosedStoresLeaveRuns
+leave_runs inputs z list jobs journal given have is =
+    let by = have_run inputs z list jobs journal have is in
+    let passes : ℕ → Account = λ p. account_of z p (is.pass p) in
+    (is_run inputs z.leaves passes (outputs_with journal jobs) given by, record {
+      passes = passes;
+      ran = by;
+      made = are_made inputs z.leaves passes (outputs_with journal jobs) given by;
+    })
