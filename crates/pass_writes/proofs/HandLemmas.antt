@@ -106,7 +106,7 @@ module _ (store : Store) (old new : Pass) (kept : KeepsPass old new) where
 -- ---- a step meanwhile
 
 -- what is known of cells stays where the view has the same
-known_same : (z : Config) (v w : Sight) → w.cells ≡ v.cells → (ts : List TakenCell) → AreKnown z v ts → AreKnown z w ts
+pub known_same : (z : Config) (v w : Sight) → w.cells ≡ v.cells → (ts : List TakenCell) → AreKnown z v ts → AreKnown z w ts
 known_same z v w same [] known = tt
 known_same z v w same (t ∷ ts) known = (one known.0, known_same z v w same ts known.1)
   where

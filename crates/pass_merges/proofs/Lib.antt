@@ -1,0 +1,4 @@
+pub mod IndexLemmas
+pub mod CellLemmas
+pub mod MergeLemmas
+pub mod TurnLemmas

@@ -1,0 +1,4 @@
+pub mod Pairs
+pub mod Merging
+pub mod Works
+pub mod Turns

@@ -1,0 +1,13 @@
+-- What there is to do with a leaf.
+use Rattle.std.specs.Prelude.{List}
+use Rattle.version_segment.specs.Rows.{VersionedRows}
+use Rattle.leaf_array.specs.Segments.{counts_of}
+use Rattle.leaf_store.specs.Merging.{IsLeftmostWindow, IsLevel}
+use Rattle.pass_merges.specs.declared.work.Work.{Work}
+use Rattle.pass_merges.specs.declared.work.Work.TheVariants.{Spread, Look, Nothing}
+
+-- the first sparse window of the leaf is to be spread; or it has none
+abbrev pub IsWork : List VersionedRows → Work → Type 0
+IsWork ss (Spread window) = IsLeftmostWindow (counts_of ss) window
+IsWork ss (Look leaf) = IsLevel ss
+IsWork ss Nothing = IsLevel ss

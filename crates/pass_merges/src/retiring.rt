@@ -1,0 +1,24 @@
+//! The load of the clock by which a pass knows that two leaves have become one.
+
+use leaf_index::LeafIndex;
+use pass_cells::TakenCell;
+use store_rule::Change;
+
+/// Rows have moved among the cells in hand, and the index has one entry for them. The leaf that has none any more is
+/// retired with the number that is loaded: whoever has noted it began no later.
+#[derive(Drop)]
+pub(crate) struct Retiring<'a> {
+    pub(crate) index: &'a LeafIndex,
+    pub(crate) cells: &'a [TakenCell],
+    pub(crate) leaf: u32,
+}
+
+impl Change for Retiring<'_> {
+    ghost use Rattle.rule_model.specs.Steps.{Nothing};
+    ghost use Rattle.pass_moves.specs.Spreading.{moved};
+    ghost use Rattle.pass_merges.specs.Merging.{retired_at};
+
+    ghost next = { λ c n v. moved v (retired_at c.leaf n c.index.now) c.cells.now };
+
+    ghost told = { λ _ n _. Nothing n };
+}

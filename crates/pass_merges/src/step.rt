@@ -1,0 +1,115 @@
+//! A turn of merging: the next leaf in the order of keys.
+
+ghost use Rattle.std.specs.Prelude.{◌≡◌, ℕ, [], IfOk};
+ghost use Rattle.graph_model.specs.Rows.{first_key};
+ghost use Rattle.pass_cells.specs.Holding.{KeepsPass};
+ghost use Rattle.pass_cells.specs.Holding as holding;
+ghost use Rattle.pass_steps.specs.Passes.{HoldsNone, IsPassOf};
+ghost use Rattle.pass_sweeps.specs.Stepping.{ChoosesLeaf};
+ghost use Rattle.pass_merges.specs.Turns.{IsTurnOf};
+
+use crate::hand::{merge_with, spread_in_hand};
+use crate::pair::LeafPair;
+use crate::turn::MergeTurn;
+use crate::work::{Work, find_work};
+use graph_model::{Key, NoMemory};
+use leaf_array::Leaf;
+use pass_cells::CellHints;
+use pass_leaves::{LeafInHand, PassLeaves};
+use pass_sweeps::key_after;
+use std::alloc::Global;
+use std::sync::Wait;
+use store_rule::{Pass, Store};
+
+/// Where a pass's next turn of merging begins. Between two turns leaves may come and go: the leaf whose range holds the
+/// key is the next one then.
+#[derive(Clone, Copy, Debug, Drop, PartialEq, Eq)]
+pub struct MergeKey {
+    pub next: Key,
+}
+
+impl MergeKey {
+    /// The first leaf comes next.
+    pub fn first() -> MergeKey
+        ensures { result.next ≡ first_key }
+    {
+        MergeKey {
+            next: Key { src: 0, second: 0 },
+        }
+    }
+}
+
+/// Spreads the first window of the next leaf that has a cell with too few rows and enough rows in all. Where it has
+/// none, makes one leaf of it and the one behind it if both have few rows, unless that one stays busy. The leaf behind
+/// comes next. No leaf is in hand before and after, and rows move in the space that is lent. May wait, and takes memory
+/// before anything moves.
+pub fn merge_step(
+    rt: &impl Wait,
+    store: &Store,
+    pass: &mut Pass,
+    leaves: &mut PassLeaves,
+    space: &mut Leaf,
+    hints: &mut CellHints,
+    key: &mut MergeKey,
+    alloc: Global,
+) -> Result<MergeTurn, NoMemory>
+    requires pass { IsPassOf store.now pass.old }
+    requires none { HoldsNone pass.old }
+    requires cells { leaves.old.cells.items ≡ [] }
+    ensures pass { IsPassOf store.now pass.new }
+    ensures none { HoldsNone pass.new }
+    ensures cells { leaves.new.cells.items ≡ [] }
+    ensures kept { KeepsPass pass.old pass.new }
+    ensures chosen { (leaf : ℕ) × ChoosesLeaf key.old.next key.new.next leaf × IfOk result (IsTurnOf leaf) }
+{
+    take_turn(rt, store, pass, leaves, space, hints, key, alloc)
+}
+
+/// The same in the words of cells.
+fn take_turn(
+    rt: &impl Wait,
+    store: &Store,
+    pass: &mut Pass,
+    leaves: &mut PassLeaves,
+    space: &mut Leaf,
+    hints: &mut CellHints,
+    key: &mut MergeKey,
+    alloc: Global,
+) -> Result<MergeTurn, NoMemory>
+    requires none { holding.HoldsNone store.now pass.old × (leaves.old.cells.items ≡ []) }
+    ensures none { holding.HoldsNone store.now pass.new × (leaves.new.cells.items ≡ []) }
+    ensures kept { KeepsPass pass.old pass.new }
+    ensures chosen { (leaf : ℕ) × ChoosesLeaf key.old.next key.new.next leaf × IfOk result (IsTurnOf leaf) }
+{
+    let LeafInHand { leaf, mut index } = leaves.take(rt, store, pass, hints, key.next);
+    let range = index.value.leaf_at(key.next);
+    let work = find_work(leaves.cells.as_slice(), &index.value, range);
+    key.next = key_after(range.high);
+    match work {
+        Work::Spread(window) => {
+            let turn = spread_in_hand(
+                store,
+                pass,
+                &mut leaves.cells,
+                &mut index,
+                leaf,
+                window,
+                space,
+                alloc,
+            );
+            leaves.put_back(store, pass, index);
+            turn
+        }
+        Work::Look(right) => {
+            leaves.put_back(store, pass, index);
+            let pair = LeafPair { left: leaf, right };
+            merge_with(
+                rt, store, pass, leaves, space, hints, range.low, pair, alloc,
+            )
+        }
+        Work::Nothing => {
+            leaves.put_back(store, pass, index);
+            Ok(MergeTurn::Nothing)
+        }
+    }
+}

@@ -1,0 +1,51 @@
+//! What there is to do with a leaf in hand.
+
+ghost use Rattle.std.specs.Prelude.{◌≡◌, true, length};
+ghost use Rattle.pass_moves.specs.Moving.{values_of};
+ghost use Rattle.pass_merges.specs.Pairs.{StandTogether};
+ghost use Rattle.pass_merges.specs.Works.{IsWork};
+
+use crate::pair::LeafPair;
+use crate::sparse::{counts_in, rows_in, sparse_window};
+use density_tree::Window;
+use graph_model::Key;
+use leaf_index::{LeafIndex, LeafRange};
+use leaf_store::MERGE_ROWS;
+use pass_cells::TakenCell;
+
+/// What it is.
+#[derive(Clone, Copy, Debug, PartialEq, Eq)]
+pub(crate) enum Work {
+    /// This window is to be spread.
+    Spread(Window),
+    /// The leaf has few rows, and this one is behind it.
+    Look(u32),
+    Nothing,
+}
+
+/// Looks at a leaf with this range.
+pub(crate) fn find_work(cells: &[TakenCell], index: &LeafIndex, range: LeafRange) -> Work
+    requires { length cells.now ≡ 8 }
+    ensures { IsWork (values_of cells.now) result }
+{
+    if let Some(window) = sparse_window(counts_in(cells)) {
+        return Work::Spread(window);
+    }
+    if rows_in(cells) > MERGE_ROWS || !range.high.is_below(Key::END) {
+        return Work::Nothing;
+    }
+    Work::Look(index.leaf_at(range.high).leaf)
+}
+
+/// Whether the leaf of the key is the left one, and the next one the right one.
+pub(crate) fn stand_together(index: &LeafIndex, key: Key, pair: LeafPair) -> bool
+    ensures { result ≡ true → StandTogether pair index.now.entries }
+{
+    index.is_index();
+    let range = index.leaf_at(key);
+    if range.leaf != pair.left || !range.high.is_below(Key::END) {
+        return false;
+    }
+    let next = index.leaf_at(range.high);
+    next.leaf == pair.right
+}

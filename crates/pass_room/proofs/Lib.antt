@@ -1,0 +1,3 @@
+pub mod HandLemmas
+pub mod FullLemmas
+pub mod LawLemmas

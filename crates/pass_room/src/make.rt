@@ -1,0 +1,82 @@
+//! Room for rows in a key's cell.
+
+ghost use Rattle.std.specs.Prelude.{◌≡◌, ◌≤◌, true, [], IfErr, IfOk, IfSome};
+ghost use Rattle.graph_model.specs.Rows.{is_below, end_key};
+ghost use Rattle.pass_steps.specs.Passes.{HoldsNone, IsPassOf, state_of};
+ghost use Rattle.pass_writes.specs.Hand.{HasNothing};
+ghost use Rattle.pass_room.specs.Making.{IsMadeFor, IsNoRoom, KeepsPassAs, state_after};
+
+use crate::made::{NoRoom, RoomMade};
+use crate::own::PassRoom;
+use crate::split::try_split;
+use crate::spread::{Spread, try_spread};
+use graph_model::{Key, NoMemory};
+use pass_cells::CellHints;
+use std::alloc::Global;
+use std::sync::Wait;
+use store_rule::{Pass, Store};
+
+/// Has so many places be free in the cell of the key while the pass holds it: as it is, or once the smallest window that
+/// fits was spread, or the leaf was split. Others may have used the places up by the time that this returns. Takes all
+/// memory that it needs before anything moves. May wait.
+pub fn make_room(
+    rt: &impl Wait,
+    store: &Store,
+    pass: &mut Pass,
+    own: &mut PassRoom,
+    hints: &mut CellHints,
+    key: Key,
+    need: u8,
+    alloc: Global,
+) -> Result<RoomMade, NoRoom>
+    requires pass { IsPassOf store.now pass.old }
+    requires none { HoldsNone pass.old }
+    requires below { is_below key end_key ≡ true }
+    requires some { 1 ≤ need }
+    requires few { need ≤ 2 }
+    ensures pass { IsPassOf store.now pass.new }
+    ensures none { HoldsNone pass.new }
+    ensures kept { KeepsPassAs pass.old pass.new (state_after result (state_of pass.old)) }
+    ensures made { IfOk result (IsMadeFor key need) }
+    ensures refused { IfErr result (IsNoRoom store.now key need) }
+{
+    'tries: for _ in rt.forever() {
+        match try_room(rt, store, pass, own, hints, key, need, alloc) {
+            Ok(Some(made)) => return Ok(made),
+            Ok(None) => {}
+            Err(refused) => return Err(refused),
+        }
+    }
+    unreachable!()
+}
+
+/// Spreads a window of the key's leaf, or splits the leaf. Neither is done where others came first.
+fn try_room(
+    rt: &impl Wait,
+    store: &Store,
+    pass: &mut Pass,
+    own: &mut PassRoom,
+    hints: &mut CellHints,
+    key: Key,
+    need: u8,
+    alloc: Global,
+) -> Result<Option<RoomMade>, NoRoom>
+    requires none { HasNothing store.now pass.old own.old.leaves.cells.items }
+    requires below { is_below key end_key ≡ true }
+    requires some { 1 ≤ need }
+    requires few { need ≤ 2 }
+    ensures none { HasNothing store.now pass.new own.new.leaves.cells.items }
+    ensures kept { KeepsPassAs pass.old pass.new (state_after result (state_of pass.old)) }
+    ensures made { IfOk result (λ made. IfSome made (IsMadeFor key need)) }
+    ensures refused { IfErr result (IsNoRoom store.now key need) }
+{
+    let (leaf, free) = match try_spread(rt, store, pass, own, hints, key, need, alloc) {
+        Ok(Spread::Made(made)) => return Ok(Some(made)),
+        Ok(Spread::Crowded { leaf, free }) => (leaf, free),
+        Err(refused) => return Err(refused),
+    };
+    match try_split(rt, store, pass, own, hints, key, need, leaf, free, alloc) {
+        Ok(made) => Ok(made),
+        Err(NoMemory) => Err(NoRoom::NoMemory),
+    }
+}
