@@ -1,6 +1,7 @@
 //! What two passes of one store do, from the making of the store to its end.
 
 ghost use Rattle.std.specs.Prelude.{◌≡◌, ◌∷◌};
+ghost use Rattle.std.specs.Thread.{IsSync};
 ghost use Rattle.shared_store.specs.Ends.{AreIdle};
 ghost use Rattle.shared_store.specs.Passes.{IsIdle};
 
@@ -8,9 +9,11 @@ use shared_store::{Closed, Pass, Store, close, new};
 use std::alloc::Global;
 use txn_manager::{Config, StoreRefusal};
 
-/// What two passes do, which have no transaction before and none afterwards. It keeps what it is answered.
+/// What two passes do, which have no transaction before and none afterwards. It keeps what it is answered. Threads may
+/// share what it is run by.
 pub trait Case<R> {
     fn run(&mut self, rt: &R, store: &Store, one: &mut Pass, two: &mut Pass)
+        requires sync { IsSync R.row }
         requires one { IsIdle store.now one.old }
         requires two { IsIdle store.now two.old }
         ensures one { IsIdle store.now one.new }
@@ -25,7 +28,9 @@ pub fn run_case<R, C: Case<R>>(
     alloc: Global,
     config: Config,
     case: &mut C,
-) -> Result<Closed, StoreRefusal> {
+) -> Result<Closed, StoreRefusal>
+    requires { IsSync R.row }
+{
     let (store, mut passes) = match new(alloc, config) {
         Ok(made) => made,
         Err(refused) => return Err(refused),
@@ -36,7 +41,8 @@ pub fn run_case<R, C: Case<R>>(
 
 /// Has the first two of all passes do this.
 fn run_by_first<R, C: Case<R>>(rt: &R, store: &Store, passes: &mut [Pass], case: &mut C)
-    requires { AreIdle store.now passes.old }
+    requires sync { IsSync R.row }
+    requires passes { AreIdle store.now passes.old }
     ensures { AreIdle store.now passes.new }
 {
     let Some((one, rest)) = passes.split_first_mut() else {
@@ -53,7 +59,8 @@ fn run_with_next<R, C: Case<R>>(
     rest: &mut [Pass],
     case: &mut C,
 )
-    requires { AreIdle store.now (one.old ∷ rest.old) }
+    requires sync { IsSync R.row }
+    requires passes { AreIdle store.now (one.old ∷ rest.old) }
     ensures { AreIdle store.now (one.new ∷ rest.new) }
 {
     if !rest.is_empty() {

@@ -1,4 +1,4 @@
-//! Worked cases of `store_rule`: two threads on the cells of one store, and configurations that are too large.
+//! Worked cases of `store_rule`: two threads on the cells of one store.
 #![tactic(auto)]
 
 mod cell;
