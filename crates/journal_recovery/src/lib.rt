@@ -1,0 +1,8 @@
+//! What a journal file says, as texts: the journal, and how large its graph is.
+//!
+//! 1. Nothing is written here. Both texts are made before the first output is created.
+#![tactic(auto)]
+
+mod texts;
+
+pub use texts::{RecoveredTexts, recover_texts};

@@ -1,0 +1,12 @@
+//! What a keeper asks of its engine.
+
+ghost use Rattle.std.specs.Prelude.{◌≡◌};
+
+use graph_model::{Commit, StepEngine};
+
+/// An engine of one owner that lends its journal.
+pub trait JournalEngine: StepEngine {
+    /// Lends the journal, the commits in the order of their stamps.
+    fn journal(&self) -> &[Commit]
+        ensures { result.now ≡ (Self.core self.now).journal };
+}
