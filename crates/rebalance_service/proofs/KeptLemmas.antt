@@ -1,0 +1,201 @@
+-- A pass stays ready where room was made for it, and where a turn of the service was taken by it.
+use Rattle.std.proofs.Common.{◌≡◌, inl, inr, ℕ, refl, sym, ◌∙◌, ap, subst}
+use mathlib.Core.List.{IsPrefix}
+use Rattle.std.specs.Prelude.{true, Option, Some, None, IfSome, Result, Ok, Err}
+use Rattle.graph_model.specs.Account.{Account, IsOpenTxn, IsValid}
+use Rattle.graph_model.specs.AccountSteps.{ReadsBy}
+use Rattle.graph_model.proofs.AccountLemmas.{read_keeps}
+use Rattle.rule_model.specs.Sight.{PinState}
+use Rattle.store_relation.specs.Passes.{PassState, number_of}
+use Rattle.store_relation.specs.Passes.{account_of as state_account}
+use Rattle.store_relation.specs.Steps.{filled_up}
+use Rattle.store_rule.specs.declared.store.Pass.{Pass as Seats}
+use Rattle.store_rule.specs.declared.store.Store.{Store}
+use Rattle.pass_steps.specs.Passes.{HasOpenTxn, HoldsNone, IsPassOf, pin_of, state_of}
+use Rattle.pass_sweeps.specs.Sweeping.{GoesOn}
+use Rattle.pass_cells.specs.Holding.{KeepsPass}
+use Rattle.pass_cells.specs.Holding.{HoldsNone as HasNoCells}
+use Rattle.pass_sweeps.proofs.GoingLemmas.{account_goes_on, idle_goes_on, open_goes_on}
+use Rattle.pass_writes.proofs.HandLemmas.{keeps_state, pass_kept}
+use Rattle.store_relation.proofs.ListLemmas.{prefix_all}
+use Rattle.pass_room.specs.Making.{state_after}
+use Rattle.pass_room.specs.declared.made.NoRoom.{NoRoom}
+use Rattle.pass_room.specs.declared.made.NoRoom.TheVariants.{Full, NoMemory}
+use Rattle.pass_room.specs.declared.made.RoomMade.{RoomMade}
+use Rattle.shared_store.specs.declared.pass.Pass.{Pass}
+use Rattle.shared_store.specs.Passes.{IsIdle, IsOpen, account_of}
+use Rattle.rebalance_service.specs.Ready.{IsReady, KeepsRest}
+
+-- ---- room was made
+
+filled_valid : (a : Account) → IsValid a → IsValid (record a { filled = true })
+filled_valid a valid = record {
+  legal = valid.legal;
+  current = by_start a.start valid.current;
+  idle = valid.idle;
+  counted = valid.counted;
+  room = valid.room;
+}
+  where
+    by_start : (o : Option ℕ) → IfSome o (IsOpenTxn a) → IfSome o (IsOpenTxn (record a { filled = true }))
+    by_start None h = tt
+    by_start (Some start) h = record { seen = h.seen; allowed = h.allowed; within = h.within; last = h.last }
+
+filled_open : (st : PassState) (x : PinState) → HasOpenTxn st x → HasOpenTxn (filled_up st) x
+filled_open st x h = record {
+  stage = h.stage;
+  laid = h.laid;
+  started = h.started;
+  stamped = h.stamped;
+  pinned = h.pinned;
+}
+
+-- the pass after a call for room, by its state
+module _ (store : Store) (old new : Pass) (was : IsOpen store old) (rest : KeepsRest old new)
+    (of : IsPassOf store new.seats) (none : HoldsNone new.seats) (pin : pin_of new.seats ≡ pin_of old.seats) where
+  same_open : state_of new.seats ≡ state_of old.seats → IsOpen store new
+  same_open same = record {
+    opened = record {
+      of = of;
+      none = none;
+      opened = subst (λ (u : PassState × PinState). HasOpenTxn u.0 u.1) (λ i. (sym same i, sym pin i))
+          was.opened.opened;
+    };
+    alone = ap (λ (st : PassState). st.readers_out) same ∙ was.alone;
+    cells = rest.cells ∙ was.cells;
+    begun = rest.begun ∙ was.begun ∙ ap number_of (sym same);
+    start = rest.start ∙ was.start ∙ ap (λ (st : PassState). st.start) (sym same);
+    own = rest.own ∙ was.own ∙ ap (λ (st : PassState). st.own) (sym same);
+    changed = rest.changed ∙ was.changed ∙ ap (λ (st : PassState). st.own) (sym same);
+    valid = subst (λ (u : ℕ × PassState). IsValid (state_account store.accounts.config u.0 u.1))
+        (λ i. (sym rest.number i, sym same i)) was.valid;
+  }
+
+  full_open : state_of new.seats ≡ filled_up (state_of old.seats) → IsOpen store new
+  full_open same = record {
+    opened = record {
+      of = of;
+      none = none;
+      opened = subst (λ (u : PassState × PinState). HasOpenTxn u.0 u.1) (λ i. (sym same i, sym pin i))
+          (filled_open (state_of old.seats) (pin_of old.seats) was.opened.opened);
+    };
+    alone = ap (λ (st : PassState). st.readers_out) same ∙ was.alone;
+    cells = rest.cells ∙ was.cells;
+    begun = rest.begun ∙ was.begun ∙ ap number_of (sym same);
+    start = rest.start ∙ was.start ∙ ap (λ (st : PassState). st.start) (sym same);
+    own = rest.own ∙ was.own ∙ ap (λ (st : PassState). st.own) (sym same);
+    changed = rest.changed ∙ was.changed ∙ ap (λ (st : PassState). st.own) (sym same);
+    valid = subst (λ (u : ℕ × PassState). IsValid (state_account store.accounts.config u.0 u.1))
+        (λ i. (sym rest.number i, sym same i)) (filled_valid (account_of store old) was.valid);
+  }
+
+  -- OPEN STILL, whatever came of it
+  pub room_open : (r : Result RoomMade NoRoom) → state_of new.seats ≡ state_after r (state_of old.seats)
+      → IsOpen store new
+  room_open (Ok made) same = same_open same
+  room_open (Err (Full full)) same = full_open same
+  room_open (Err NoMemory) same = same_open same
+
+-- its account
+pub room_account : (store : Store) (old new : Pass) → new.seats.number ≡ old.seats.number → (st : PassState)
+    → state_of new.seats ≡ st → account_of store new ≡ state_account store.accounts.config old.seats.number st
+room_account store old new number st same i = state_account store.accounts.config (number i) (same i)
+
+-- ---- a turn was taken
+
+-- only the seats have changed
+pub seats_only : (old : Pass) (seats : Seats) → seats.number ≡ old.seats.number
+    → KeepsRest old (record old { seats = seats })
+seats_only old seats number =
+    record { number = number; cells = refl; begun = refl; start = refl; own = refl; changed = refl }
+
+module _ (store : Store) (old new : Pass) (rest : KeepsRest old new) (of : IsPassOf store new.seats) (none : HoldsNone new.seats)
+    (goes : GoesOn old.seats new.seats) where
+  pub turn_account : ReadsBy (account_of store old) (account_of store new)
+  turn_account = account_goes_on store old.seats new.seats goes
+
+  valid' : IsValid (account_of store old) → IsValid (account_of store new)
+  valid' valid = read_keeps (account_of store old) valid (account_of store new) of.legal turn_account
+
+  idle' : IsIdle store old → IsIdle store new
+  idle' was = record {
+    idle = idle_goes_on store old.seats new.seats was.idle of none goes;
+    cells = rest.cells ∙ was.cells;
+    begun = rest.begun ∙ was.begun ∙ ap number_of (sym goes.sees.is);
+    own = rest.own ∙ was.own;
+    changed = rest.changed ∙ was.changed;
+    valid = valid' was.valid;
+  }
+
+  opened' : IsOpen store old → IsOpen store new
+  opened' was =
+      let is = goes.sees.is in
+      record {
+        opened = open_goes_on store old.seats new.seats was.opened of none goes;
+        alone = ap (λ (st : PassState). st.readers_out) is ∙ was.alone;
+        cells = rest.cells ∙ was.cells;
+        begun = rest.begun ∙ was.begun ∙ ap number_of (sym is);
+        start = rest.start ∙ was.start ∙ ap (λ (st : PassState). st.start) (sym is);
+        own = rest.own ∙ was.own ∙ ap (λ (st : PassState). st.own) (sym is);
+        changed = rest.changed ∙ was.changed ∙ ap (λ (st : PassState). st.own) (sym is);
+        valid = valid' was.valid;
+      }
+
+  -- READY STILL
+  pub turn_ready : IsReady store old → IsReady store new
+  turn_ready (inl was) = inl (idle' was)
+  turn_ready (inr was) = inr (opened' was)
+
+-- ---- rows were moved, by calls that speak of cells in hand
+
+-- it has nothing in hand, in the words of cells
+pub cells_none : (store : Store) (pass : Seats) → IsPassOf store pass → HoldsNone pass → HasNoCells store pass
+cells_none store pass of none = record {
+  latch = of.latch;
+  out = none.latches;
+  table = of.table;
+  cells = none.contents.cells;
+  buffers = none.buffers;
+  indexes = none.contents.indexes;
+}
+
+module _ (store : Store) (old new : Seats) (of : IsPassOf store old) (none : HoldsNone old) (kept : KeepsPass old new)
+    (without : HasNoCells store new) where
+  pub kept_of : IsPassOf store new
+  kept_of = pass_kept store old new kept of without.latch without.table
+
+  pub kept_none : HoldsNone new
+  kept_none = record {
+    latches = without.out;
+    buffers = without.buffers;
+    contents = record {
+      cells = without.cells;
+      indexes = without.indexes;
+      journals = kept.journals ∙ none.contents.journals;
+    };
+  }
+
+  pub kept_goes : GoesOn old new
+  kept_goes =
+      let state : state_of new ≡ state_of old = (keeps_state store old new kept).state in
+      let pin : pin_of new ≡ pin_of old = (keeps_state store old new kept).pin in
+      record {
+        number = kept.number;
+        sees = record {
+          front = subst (λ (st : PassState). IsPrefix (state_of old).seen st.seen) (sym state)
+              (prefix_all (state_of old).seen);
+          is = state ∙ (λ i. record (state_of old) { seen = (sym state i).seen; looks = (sym state i).looks });
+        };
+        pin = pin ∙ (λ i. record (pin_of old) { sweep = (sym pin i).sweep });
+        reads = kept.reads;
+      }
+
+-- ---- what a pass is between calls
+
+pub ready_of : (store : Store) (pass : Pass) → IsReady store pass → IsPassOf store pass.seats
+ready_of store pass (inl idle) = idle.idle.of
+ready_of store pass (inr opened) = opened.opened.of
+
+pub ready_none : (store : Store) (pass : Pass) → IsReady store pass → HoldsNone pass.seats
+ready_none store pass (inl idle) = idle.idle.none
+ready_none store pass (inr opened) = opened.opened.none

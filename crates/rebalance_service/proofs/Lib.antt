@@ -1,0 +1,5 @@
+pub mod ReadyLemmas
+pub mod RoomLemmas
+pub mod PropLemmas
+pub mod CallLemmas
+pub mod KeptLemmas

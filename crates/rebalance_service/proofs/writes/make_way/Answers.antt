@@ -1,0 +1,33 @@
+use Rattle.std.proofs.Common.{refl, subst, sym}
+use Rattle.graph_model.specs.declared.row.Key.{Key}
+use Rattle.graph_model.specs.Rows.{end_key, is_below}
+use Rattle.std.specs.Prelude.{◌≡◌, ◌≤◌, true}
+use Rattle.shared_store.specs.Passes.{account_of}
+use Rattle.rebalance_service.proofs.RoomLemmas.{full_writes, memory_writes, one_or_two, written_below}
+use Rattle.rebalance_service.proofs.writes.make_way.Goals as goal
+
+pub room_for-requires-clause-below : goal.room_for-requires-clause-below
+room_for-requires-clause-below g c =
+    subst (λ (k : Key). is_below k end_key ≡ true) (sym c.key.ensures)
+    (written_below c.args.store.now.accounts.config.kind c.args.write _ c.requires.within c.requires.needs.0)
+
+pub room_for-requires-clause-some : goal.room_for-requires-clause-some
+room_for-requires-clause-some g c =
+    subst (λ n. 1 ≤ n) (sym c.need.ensures) (one_or_two _ c.requires.needs.1).0
+
+pub room_for-requires-clause-few : goal.room_for-requires-clause-few
+room_for-requires-clause-few g c =
+    subst (λ n. n ≤ 2) (sym c.need.ensures) (one_or_two _ c.requires.needs.1).1
+
+pub returns-in-Err-Full-clause-refused : goal.returns-in-Err-Full-clause-refused
+returns-in-Err-Full-clause-refused g c =
+    let old = account_of c.args.store.now c.args.pass.now in
+    let is = rw c.in-Err-Full.field-0-is at c.in-Err-Full.ensures in
+    full_writes old old (account_of c.args.store.now c.room_for.new.pass) c.args.write c.in-Err-Full.leaves refl
+    c.requires.allowed c.requires.needs.2 is.refused is.account
+
+pub returns-in-Err-NoMemory-clause-refused : goal.returns-in-Err-NoMemory-clause-refused
+returns-in-Err-NoMemory-clause-refused g c =
+    let is = rw c.in-Err-NoMemory.field-0-is at c.in-Err-NoMemory.ensures in
+    memory_writes (account_of c.args.store.now c.args.pass.now) (account_of c.args.store.now c.room_for.new.pass)
+    c.args.write is.account

@@ -1,0 +1,95 @@
+//! Calls on a pass that is ready, which leave it so.
+
+ghost use Rattle.std.specs.Prelude.{◌≡◌, ◌≤◌, ℕ, IsSome, None, Some, false};
+ghost use Rattle.graph_model.specs.declared.limits.TheConstants.{MAX_ID};
+ghost use Rattle.graph_model.specs.AccountSteps.{AbortsBy, BeginsBy, CommitsBy, ReadsBy, view_of};
+ghost use Rattle.graph_model.specs.Graph.{has_vertex, weight_of};
+ghost use Rattle.graph_model.specs.Scans.{ScansBy};
+ghost use Rattle.shared_store.specs.Passes.{account_of};
+ghost use Rattle.rebalance_service.specs.Ready.{HasSeenLegal, IsReady};
+
+use graph_model::{BeginRefusal, Begun, Cursor, Rows64};
+use shared_store::{Pass, Store};
+use std::sync::Wait;
+
+/// Begins the next transaction of a pass that has none.
+pub(crate) fn begin(rt: &impl Wait, store: &Store, pass: &mut Pass) -> Result<Begun, BeginRefusal>
+    requires ready { ∥ IsReady store.now pass.old ∥₁ }
+    requires none { (account_of store.now pass.old).start ≡ None }
+    ensures ready { ∥ IsReady store.now pass.new ∥₁ }
+    ensures legal { HasSeenLegal (account_of store.now pass.new) }
+    ensures begins { BeginsBy (account_of store.now pass.old) result (account_of store.now pass.new) }
+{
+    shared_store::begin(rt, store, pass)
+}
+
+/// Whether the open transaction sees a vertex.
+pub(crate) fn has_vertex(rt: &impl Wait, store: &Store, pass: &mut Pass, v: u64) -> bool
+    requires ready { ∥ IsReady store.now pass.old ∥₁ }
+    requires current { IsSome (account_of store.now pass.old).start }
+    requires within { v ≤ MAX_ID }
+    ensures ready { ∥ IsReady store.now pass.new ∥₁ }
+    ensures legal { HasSeenLegal (account_of store.now pass.new) }
+    ensures reads { ReadsBy (account_of store.now pass.old) (account_of store.now pass.new) }
+    ensures answer { (start : ℕ) → (account_of store.now pass.old).start ≡ Some start
+        → result ≡ has_vertex (view_of (account_of store.now pass.old) start) v }
+{
+    shared_store::has_vertex(rt, store, pass, v)
+}
+
+/// The weight of an arc that the open transaction sees.
+pub(crate) fn weight(rt: &impl Wait, store: &Store, pass: &mut Pass, u: u64, v: u64) -> Option<u64>
+    requires ready { ∥ IsReady store.now pass.old ∥₁ }
+    requires current { IsSome (account_of store.now pass.old).start }
+    requires source_within { u ≤ MAX_ID }
+    requires target_within { v ≤ MAX_ID }
+    ensures ready { ∥ IsReady store.now pass.new ∥₁ }
+    ensures legal { HasSeenLegal (account_of store.now pass.new) }
+    ensures reads { ReadsBy (account_of store.now pass.old) (account_of store.now pass.new) }
+    ensures answer { (start : ℕ) → (account_of store.now pass.old).start ≡ Some start
+        → result ≡ weight_of (view_of (account_of store.now pass.old) start) u v }
+{
+    shared_store::weight(rt, store, pass, u, v)
+}
+
+/// Takes one turn of a scan.
+pub(crate) fn scan_step(
+    rt: &impl Wait,
+    store: &Store,
+    pass: &mut Pass,
+    cursor: &mut Cursor,
+    rows: &mut Rows64,
+)
+    requires ready { ∥ IsReady store.now pass.old ∥₁ }
+    requires current { IsSome (account_of store.now pass.old).start }
+    requires going { cursor.old.done ≡ false }
+    ensures ready { ∥ IsReady store.now pass.new ∥₁ }
+    ensures legal { HasSeenLegal (account_of store.now pass.new) }
+    ensures reads { ReadsBy (account_of store.now pass.old) (account_of store.now pass.new) }
+    ensures answer { (start : ℕ) → (account_of store.now pass.old).start ≡ Some start
+        → ScansBy (view_of (account_of store.now pass.old) start) cursor.old cursor.new rows.new }
+{
+    shared_store::scan_step(rt, store, pass, cursor, rows);
+}
+
+/// Commits the open transaction, and answers the stamp, or none where nothing was written.
+pub(crate) fn commit(rt: &impl Wait, store: &Store, pass: &mut Pass) -> Option<u64>
+    requires ready { ∥ IsReady store.now pass.old ∥₁ }
+    requires current { IsSome (account_of store.now pass.old).start }
+    ensures ready { ∥ IsReady store.now pass.new ∥₁ }
+    ensures legal { HasSeenLegal (account_of store.now pass.new) }
+    ensures commits { CommitsBy (account_of store.now pass.old) result (account_of store.now pass.new) }
+{
+    shared_store::commit(rt, store, pass)
+}
+
+/// Ends the open transaction and takes its writes back.
+pub(crate) fn abort(rt: &impl Wait, store: &Store, pass: &mut Pass)
+    requires ready { ∥ IsReady store.now pass.old ∥₁ }
+    requires current { IsSome (account_of store.now pass.old).start }
+    ensures ready { ∥ IsReady store.now pass.new ∥₁ }
+    ensures legal { HasSeenLegal (account_of store.now pass.new) }
+    ensures aborts { AbortsBy (account_of store.now pass.old) (account_of store.now pass.new) }
+{
+    shared_store::abort(rt, store, pass);
+}

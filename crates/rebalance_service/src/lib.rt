@@ -1,0 +1,15 @@
+//! A worker: a pass of a shared store as an engine of its own, which makes room and keeps the store small.
+//!
+//! 1. Between two calls its pass has no transaction, or an open one, and holds no latch.
+//! 2. A write that finds no place is tried again as soon as there is room, as one write to whoever asked for it.
+//! 3. Turns of the service change no view.
+#![tactic(auto)]
+
+mod calls;
+mod engine;
+mod room;
+mod serve;
+mod worker;
+mod writes;
+
+pub use worker::{Home, Worker};

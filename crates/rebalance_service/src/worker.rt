@@ -1,0 +1,85 @@
+//! A pass of a store, with what its calls keep from one to the next.
+
+ghost use Rattle.std.specs.Prelude.{◌≡◌, Some};
+ghost use Rattle.store_rule.specs.declared.store.Store.{Store};
+ghost use Rattle.shared_store.specs.Passes.{IsIdle};
+ghost use Rattle.rebalance_service.specs.Ready.{IsReady};
+
+use pass_room::PassRoom;
+use pass_sweeps::SweepKey;
+use shared_store::{Pass, Store};
+use std::marker::{Brand, PhantomData};
+use std::sync::Wait;
+
+/// Which store a worker is of. Whoever lends workers says so by a pick, and knows when a pass comes back that it is
+/// one of that store.
+pub trait Home {
+    ghost use Rattle.std.specs.Prelude.{Option};
+    ghost use Rattle.store_rule.specs.declared.store.Store.{Store};
+
+    ghost home: { Option Store };
+}
+
+impl Home for Brand {
+    ghost use Rattle.std.specs.Prelude.{None};
+
+    ghost home = { None };
+}
+
+/// Runs the transactions of one pass, and turns of the service between them.
+pub struct Worker<'a, R: Wait, H: Home> {
+    pub(crate) rt: &'a R,
+    pub(crate) store: &'a Store,
+    pub(crate) pass: Pass,
+    /// Made by the first call that moves rows.
+    pub(crate) room: Option<PassRoom>,
+    /// How many turns of the service it has taken, up to the last number.
+    pub(crate) served: u64,
+    pub(crate) sweep_key: SweepKey,
+    of: PhantomData<H>,
+    pub ghost ready: { ∥ IsReady store.now pass ∥₁ },
+    pub ghost home: { ∥ H.home ≡ Some store.now ∥₁ },
+}
+
+impl<'a, R: Wait, H: Home> Worker<'a, R, H> {
+    /// A worker of a pass without a transaction, which has taken no turn of the service. Takes no memory.
+    pub fn new(rt: &'a R, store: &'a Store, pass: Pass) -> Worker<'a, R, H>
+        requires idle { IsIdle store.now pass }
+        requires home { H.home ≡ Some store.now }
+        ensures store { result.store.now ≡ store.now }
+        ensures pass { result.pass ≡ pass }
+        ensures served { result.served ≡ 0 }
+    {
+        Worker {
+            rt,
+            store,
+            pass,
+            room: None,
+            served: 0,
+            sweep_key: SweepKey::first(),
+            of: PhantomData,
+        }
+    }
+
+    /// Its pass. Gives back the memory that was taken for rows that move.
+    pub fn into_pass(self) -> Pass
+        ensures pass { result ≡ self.entry.pass }
+        ensures ready { IsReady self.entry.store.now result }
+        ensures home { H.home ≡ Some self.entry.store.now }
+    {
+        let Worker {
+            rt: _,
+            store: _,
+            pass,
+            room,
+            served: _,
+            sweep_key: _,
+            of: _,
+        } = self;
+        match room {
+            Some(room) => room.close(),
+            None => {}
+        }
+        pass
+    }
+}
