@@ -56,3 +56,84 @@ fn summary_of(alloc: Global, commits: u64, counts: GraphCounts) -> Result<Text, 
     text.push_bytes(b"\n")?;
     Ok(text)
 }
+
+#[cfg(test)]
+mod tests {
+    use super::*;
+    use graph_model::{Commit, Kind, TxnName, Write, Writes};
+    use items::NoMemory;
+    use journal_disk::MemoryDisk;
+    use journal_file::{DiskFault, JournalFile, Record};
+    use std::test::Fail;
+
+    /// A path of three vertices and a vertex apart.
+    const PATH: &[Write] = &[
+        Write::AddVertex { v: 1 },
+        Write::AddVertex { v: 2 },
+        Write::AddVertex { v: 3 },
+        Write::AddVertex { v: 4 },
+        Write::AddEdge {
+            u: 1,
+            v: 2,
+            weight: 1,
+        },
+        Write::AddEdge {
+            u: 2,
+            v: 3,
+            weight: 1,
+        },
+    ];
+
+    /// The journal of that, as one commit.
+    const JOURNAL: &str =
+        "commit 1 start 0 by 0.1\nvertex 1\nvertex 2\nvertex 3\nvertex 4\nedge 1 2 1\nedge 2 3 1\n";
+
+    /// What is said of a graph with so many edges.
+    const SAID: [(Kind, &str); 2] = [
+        (Kind::Undirected, "commits 1 vertices 4 edges 2\n"),
+        (Kind::Directed, "commits 1 vertices 4 edges 2\n"),
+    ];
+
+    #[test]
+    fn a_path_is_read_back(rt: HostRuntime) -> Result<(), Fail> {
+        let alloc = rt.alloc();
+        for (kind, said) in SAID {
+            let mut disk = MemoryDisk::with_failing(alloc, &[])?;
+            let mut record = Record::new(alloc);
+            record.lay(&path(alloc)?)?;
+            assert!(rt; keep(&mut disk, &record, kind).is_ok());
+            let found = match recover_texts(alloc, &mut disk, "k") {
+                Ok(texts) => (
+                    texts.journal.as_slice() == JOURNAL.as_bytes(),
+                    texts.summary.as_slice() == said.as_bytes(),
+                ),
+                Err(_) => (false, false),
+            };
+            assert_eq!(rt; found, (true, true));
+        }
+        Ok(())
+    }
+
+    /// The path as the first commit.
+    fn path(alloc: Global) -> Result<Commit, NoMemory> {
+        let mut writes = Writes::new(alloc);
+        for write in PATH {
+            writes.push(*write)?;
+        }
+        Ok(Commit {
+            stamp: 1,
+            start: 0,
+            by: TxnName { job: 0, number: 1 },
+            writes,
+        })
+    }
+
+    /// Makes the file `k` with one commit.
+    fn keep(disk: &mut MemoryDisk, record: &Record, kind: Kind) -> Result<(), DiskFault> {
+        let mut file = JournalFile::create(disk, "k", kind)?;
+        if !file.has_room(record) {
+            return Err(DiskFault);
+        }
+        file.append(disk, record)
+    }
+}

@@ -17,8 +17,8 @@ use job_runner::{Jobs, take_turn};
 use journal_disk::Disk;
 use std::thread::Threads;
 
-/// Runs the jobs of all scripts to their end, one turn after the other, and keeps the commits that the engine has before
-/// the first turn and behind each.
+/// Runs the jobs of all scripts to their end, one turn after the other. Keeps the commits that the engine has before
+/// the first turn, and those of each turn behind it.
 pub fn run_kept<R: Threads + Sync, E: JournalEngine, K: Disk>(
     rt: &R,
     engine: &mut E,
