@@ -2,9 +2,10 @@
 # Builds the program, runs the whole command on graphs of three sizes and two kinds, and prints a table. Then come a table
 # of what it takes to read and load a graph with weights, one of many scripts of short transactions, one of such scripts
 # with --serial and without, one of the image and the kernels by themselves, one of the parts of the store over leaves, one
-# of latches and pins, and one of transactions by calls of the engine. All inputs are made from a seed in a temporary
-# folder, which is removed at the end. RUNS=N and SEED=N change how often each is run (3), and which inputs they are (1).
-# ONLY=runs, ONLY=serial, ONLY=kernels, ONLY=segments, ONLY=latches, ONLY=engine and ONLY=churn print one part alone.
+# of latches and pins, one of transactions by calls of the engine, and one of transactions of threads on one store. All
+# inputs are made from a seed in a temporary folder, which is removed at the end. RUNS=N and SEED=N change how often each is
+# run (3), and which inputs they are (1). ONLY=runs, ONLY=serial, ONLY=kernels, ONLY=segments, ONLY=latches, ONLY=engine,
+# ONLY=churn and ONLY=shared print one part alone.
 set -euo pipefail
 
 top=$(cd "$(dirname "$0")/.." && pwd)
@@ -13,6 +14,7 @@ kernels=$top/crates/bench_kernels/out/bench_kernels
 segments=$top/crates/bench_store/out/bench_store
 engine=$top/crates/bench_engine/out/bench_engine
 latches=$top/crates/bench_latches/out/bench_latches
+shared=$top/crates/bench_shared/out/bench_shared
 runs=${RUNS:-3}
 seed=${SEED:-1}
 
@@ -267,6 +269,29 @@ print_latches() {
     echo "crates/bench_latches/README.md. Load is $(load) now."
 }
 
+# Prints the table of transactions that one, two and four threads make on one store, by turns.
+print_shared() {
+    local threads
+    for _run in $(seq "$runs"); do
+        for threads in 1 2 4; do
+            "$shared" 1000000 3500000 262144 "$seed" "$threads" | sed "s/^/$threads /" >>shared_lines
+        done
+    done
+    echo '| Threads | Best, a second | Worst, a second |   Made | No place | Refused |'
+    echo '|--------:|---------------:|----------------:|-------:|---------:|--------:|'
+    awk '
+        $2 == "transactions" && (!($1 in most) || $4 + 0 > most[$1] + 0) { most[$1] = $4 }
+        $2 == "transactions" && (!($1 in least) || $4 + 0 < least[$1] + 0) { least[$1] = $4 }
+        $2 == "made" { made[$1] = $3; crowded[$1] = $5; refused[$1] = $7 }
+        END { for (n = 1; n <= 4; n *= 2)
+            printf "| %7d | %14d | %15d | %6d | %8d | %7d |\n", n, most[n], least[n], made[n], crowded[n], refused[n] }
+    ' shared_lines
+    echo
+    echo "262,144 transactions of one edge each by so many threads, on a graph of 1,000,000 vertices and 3,500,000 edges that is"
+    echo "drawn by R-MAT. What is counted is told in crates/bench_shared/README.md. Load is $(load) now."
+    echo
+}
+
 # The least and the most of each name's numbers, by name.
 spread() {
     sort -k 1,1 -k 2,2n "$1" | awk '
@@ -287,6 +312,7 @@ build() {
     if is_wanted segments; then (cd "$top/crates/bench_store" && rt run >/dev/null 2>&1); fi
     if is_wanted latches; then (cd "$top/crates/bench_latches" && rt run >/dev/null 2>&1); fi
     if is_wanted engine || is_wanted churn; then (cd "$top/crates/bench_engine" && rt run >/dev/null 2>&1); fi
+    if is_wanted shared; then (cd "$top/crates/bench_shared" && rt run >/dev/null 2>&1); fi
 }
 
 build
@@ -308,6 +334,7 @@ if is_wanted engine; then
     print_engine 0 'each pair of whose vertices has the same chance'
     print_engine 1 'drawn by R-MAT'
 fi
+if is_wanted shared; then print_shared; fi
 if is_wanted churn; then
     print_churn 0 'no other transaction is open'
     print_churn 1 'one of another pass stays open'

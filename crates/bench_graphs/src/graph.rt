@@ -1,0 +1,95 @@
+//! A graph made from a seed.
+
+ghost use Rattle.std.specs.Prelude.{◌≡◌, ◌<◌, IfOk};
+ghost use Rattle.std.specs.List.{AllByRecursion};
+ghost use Rattle.bench_graphs.specs.Loadable.{IsLoadableGraph};
+ghost use Rattle.graph_model.specs.Graph.{empty_graph};
+ghost use Rattle.graph_model.specs.Loading.{IsAdd};
+ghost use Rattle.graph_model.specs.Refused.{AllAllowed, IsWithinLimits};
+ghost use Rattle.graph_model.specs.declared.write.Kind.TheVariants.{Undirected};
+ghost use Rattle.graphalytics_io.specs.Load.{load_of};
+
+use crate::rmat::{Ends, edge_text};
+use anyhow::Result;
+use graph_files::{Weights, files_are_loadable, load_is_legal, read_edges, read_vertices};
+use graph_maker::make_graph;
+use graph_model::{Ids, Kind, MAX_LOAD_ROWS, NoMemory, Write, Writes};
+use graphalytics_io::Edges;
+use items::Items;
+use std::alloc::Global;
+
+/// The ids and the edges of a graph.
+#[derive(Drop)]
+pub struct Graph {
+    pub ids: Ids,
+    pub edges: Edges,
+}
+
+impl Graph {
+    /// The writes of a transaction that adds the vertices and then the edges.
+    pub fn load(&self, alloc: Global) -> Result<Writes, NoMemory>
+        requires { IsLoadableGraph self.now }
+        ensures adds { IfOk result (λ load. AllByRecursion IsAdd load) }
+        ensures allowed { IfOk result (λ load. AllAllowed Undirected empty_graph load) }
+        ensures within { IfOk result (λ load. AllByRecursion IsWithinLimits load) }
+    {
+        writes_of(alloc, self)
+    }
+}
+
+/// The writes that add the vertices, and then those that add the edges.
+fn writes_of(alloc: Global, graph: &Graph) -> Result<Writes, NoMemory>
+    ensures { IfOk result (λ load. load ≡ load_of graph.now.ids graph.now.edges) }
+{
+    let ids = graph.ids.as_slice();
+    let edges = graph.edges.as_slice();
+    let mut load = Vec::with_capacity(alloc, ids.len() + edges.len())?;
+    'ids: for v in ids {
+        load.push(Write::AddVertex { v: *v })?;
+    }
+    'edges: for edge in edges {
+        load.push(Write::AddEdge {
+            u: edge.u,
+            v: edge.v,
+            weight: edge.weight,
+        })?;
+    }
+    Ok(Items::from_vec(load))
+}
+
+/// A graph of so many vertices, from 1 on, and about so many edges, in no order.
+pub fn made_graph(alloc: Global, seed: u64, vertices: u32, edges: u32) -> Result<Graph>
+    requires { 0 < vertices }
+    ensures { IfOk result IsLoadableGraph }
+{
+    let made = make_graph(alloc, seed, vertices, edges)?;
+    graph_of(alloc, made.vertices.as_slice(), made.edges.as_slice())
+}
+
+/// A graph of so many vertices, from 1 on, and these edges.
+pub fn drawn_graph(alloc: Global, vertices: u32, edges: &[Ends]) -> Result<Graph>
+    requires { 0 < vertices }
+    ensures { IfOk result IsLoadableGraph }
+{
+    let made = make_graph(alloc, 0, vertices, 0)?;
+    let text = edge_text(alloc, edges)?;
+    graph_of(alloc, made.vertices.as_slice(), text.as_slice())
+}
+
+/// What the texts of a graph's files stand for.
+fn graph_of(alloc: Global, vertices: &[u8], edges: &[u8]) -> Result<Graph>
+    ensures { IfOk result IsLoadableGraph }
+{
+    files_are_loadable();
+    load_is_legal();
+    let ids = read_vertices(alloc, vertices, MAX_LOAD_ROWS)?;
+    let edges = read_edges(
+        alloc,
+        edges,
+        &ids,
+        Kind::Undirected,
+        Weights::Ones,
+        MAX_LOAD_ROWS,
+    )?;
+    Ok(Graph { ids, edges })
+}
