@@ -126,7 +126,7 @@ FinishesRefusedOn aborts old refusals.EdgeExists result new = GoesOpen old answe
 FinishesRefusedOn aborts old refusals.NoEdge result new = GoesOpen old answers.NoEdge result new
 FinishesRefusedOn aborts old refusals.HasEdges result new = GoesOpen old answers.HasEdges result new
 FinishesRefusedOn aborts old (refusals.Conflict cause) result new =
-  StopsOn aborts old (answers.Conflict cause) result new
+    StopsOn aborts old (answers.Conflict cause) result new
 FinishesRefusedOn aborts old (refusals.Full leaves) result new = StopsOn aborts old answers.Full result new
 FinishesRefusedOn aborts old refusals.NoMemory result new = OnOk result ⊥ × (new ≡ old)
 

@@ -94,9 +94,11 @@ module _ (inputs : Inputs) (z : Config) (list : List Pass) (jobs : List Progress
 pub leave_runs : ClosedStoresLeaveRuns
 leave_runs inputs z list jobs journal given have is =
     let by = have_run inputs z list jobs journal have is in
-    let passes : ℕ → Account = λ p. account_of z p (is.pass p) in
-    (is_run inputs z.leaves passes (outputs_with journal jobs) given by, record {
-      passes = passes;
-      ran = by;
-      made = are_made inputs z.leaves passes (outputs_with journal jobs) given by;
-    })
+    let passes : ℕ → Account = λ p. account_of z p (is.pass p) in (
+      is_run inputs z.leaves passes (outputs_with journal jobs) given by,
+      record {
+        passes = passes;
+        ran = by;
+        made = are_made inputs z.leaves passes (outputs_with journal jobs) given by;
+      },
+    )

@@ -72,7 +72,7 @@ lacks_stamp p = not (is_some p.stamp)
 -- the records of one writer that have no stamp get its stamp
 abbrev pub stamp_one : TxnName → ℕ → Stamped → Stamped
 stamp_one by stamp p =
-  cond (same_name p.by by && lacks_stamp p) (record { by = p.by; stamp = Some stamp; value = p.value }) p
+    cond (same_name p.by by && lacks_stamp p) (record { by = p.by; stamp = Some stamp; value = p.value }) p
 
 abbrev pub stamp : TxnName → ℕ → StampedVersions → StampedVersions
 stamp by c r =
