@@ -14,9 +14,8 @@ use Rattle.store_rule.specs.declared.store.Store.{Store}
 use Rattle.pass_steps.specs.Passes.{HasOpenTxn, HoldsNone, IsPassOf, pin_of, state_of}
 use Rattle.pass_sweeps.specs.Sweeping.{GoesOn}
 use Rattle.pass_cells.specs.Holding.{KeepsPass}
-use Rattle.pass_cells.specs.Holding.{HoldsNone as HasNoCells}
 use Rattle.pass_sweeps.proofs.GoingLemmas.{account_goes_on, idle_goes_on, open_goes_on}
-use Rattle.pass_writes.proofs.HandLemmas.{keeps_state, pass_kept}
+use Rattle.pass_writes.proofs.HandLemmas.{keeps_state}
 use Rattle.store_relation.proofs.ListLemmas.{prefix_all}
 use Rattle.pass_room.specs.Making.{state_after}
 use Rattle.pass_room.specs.declared.made.NoRoom.{NoRoom}
@@ -146,49 +145,23 @@ module _ (store : Store) (old new : Pass) (rest : KeepsRest old new) (of : IsPas
   turn_ready (inl was) = inl (idle' was)
   turn_ready (inr was) = inr (opened' was)
 
--- ---- rows were moved, by calls that speak of cells in hand
+-- ---- rows were moved
 
--- it has nothing in hand, in the words of cells
-pub cells_none : (store : Store) (pass : Seats) → IsPassOf store pass → HoldsNone pass → HasNoCells store pass
-cells_none store pass of none = record {
-  latch = of.latch;
-  out = none.latches;
-  table = of.table;
-  cells = none.contents.cells;
-  buffers = none.buffers;
-  indexes = none.contents.indexes;
-}
-
-module _ (store : Store) (old new : Seats) (of : IsPassOf store old) (none : HoldsNone old) (kept : KeepsPass old new)
-    (without : HasNoCells store new) where
-  pub kept_of : IsPassOf store new
-  kept_of = pass_kept store old new kept of without.latch without.table
-
-  pub kept_none : HoldsNone new
-  kept_none = record {
-    latches = without.out;
-    buffers = without.buffers;
-    contents = record {
-      cells = without.cells;
-      indexes = without.indexes;
-      journals = kept.journals ∙ none.contents.journals;
-    };
-  }
-
-  pub kept_goes : GoesOn old new
-  kept_goes =
-      let state : state_of new ≡ state_of old = (keeps_state store old new kept).state in
-      let pin : pin_of new ≡ pin_of old = (keeps_state store old new kept).pin in
-      record {
-        number = kept.number;
-        sees = record {
-          front = subst (λ (st : PassState). IsPrefix (state_of old).seen st.seen) (sym state)
-              (prefix_all (state_of old).seen);
-          is = state ∙ (λ i. record (state_of old) { seen = (sym state i).seen; looks = (sym state i).looks });
-        };
-        pin = pin ∙ (λ i. record (pin_of old) { sweep = (sym pin i).sweep });
-        reads = kept.reads;
-      }
+-- a pass that knows of itself what it knew goes on
+pub kept_goes : (store : Store) (old new : Seats) → KeepsPass old new → GoesOn old new
+kept_goes store old new kept =
+    let state : state_of new ≡ state_of old = (keeps_state store old new kept).state in
+    let pin : pin_of new ≡ pin_of old = (keeps_state store old new kept).pin in
+    record {
+      number = kept.number;
+      sees = record {
+        front = subst (λ (st : PassState). IsPrefix (state_of old).seen st.seen) (sym state)
+            (prefix_all (state_of old).seen);
+        is = state ∙ (λ i. record (state_of old) { seen = (sym state i).seen; looks = (sym state i).looks });
+      };
+      pin = pin ∙ (λ i. record (pin_of old) { sweep = (sym pin i).sweep });
+      reads = kept.reads;
+    }
 
 -- ---- what a pass is between calls
 

@@ -1,2 +1,3 @@
 pub mod Ready
 pub mod Room
+pub mod Turns

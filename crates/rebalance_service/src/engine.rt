@@ -7,7 +7,7 @@ ghost use Rattle.shared_store.specs.Passes.{account_of};
 ghost use Rattle.rebalance_service.specs.Ready.{HasSeenLegal};
 
 use crate::calls;
-use crate::serve::sweep;
+use crate::serve::serve;
 use crate::worker::{Home, Worker};
 use graph_model::{
     BeginRefusal, Begun, Cursor, Engine, Kind, NoMemory, Refusal, Rows64, VertexEngine, Write,
@@ -83,7 +83,13 @@ impl<'a, R: Wait, H: Home> Engine for Worker<'a, R, H> {
 
     fn service_step(&mut self) -> Result<bool, NoMemory> {
         self.served = self.served.saturating_add(1);
-        Ok(sweep(self.rt, self.store, &mut self.pass, &mut self.sweep_key))
+        serve(
+            self.rt,
+            self.store,
+            &mut self.pass,
+            &mut self.room,
+            &mut self.keys,
+        )
     }
 
     ghost begins = { λ s t r did. (did.0, record { legal = did.1; served = did.2 }) };

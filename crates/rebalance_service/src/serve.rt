@@ -1,15 +1,74 @@
-//! Turns of the service.
+//! Turns of the service: a sweep, then a turn of merging, and so on in turn.
 
+ghost use Rattle.std.specs.Prelude.{◌≡◌};
 ghost use Rattle.graph_model.specs.AccountSteps.{ReadsBy};
 ghost use Rattle.shared_store.specs.Passes.{account_of};
 ghost use Rattle.rebalance_service.specs.Ready.{HasSeenLegal, IsReady};
+ghost use Rattle.rebalance_service.specs.Turns.{next_turn};
 
+use crate::room::has_room;
+use graph_model::NoMemory;
+use pass_merges::{MergeKey, MergeTurn, merge_step};
+use pass_room::PassRoom;
 use pass_sweeps::{SweepKey, sweep_step};
 use shared_store::{Pass, Store};
+use std::alloc::Global;
 use std::sync::Wait;
 
+/// What a turn of the service does.
+#[derive(Clone, Copy, Debug, PartialEq, Eq)]
+pub enum ServiceTurn {
+    Sweep,
+    Merge,
+}
+
+/// Where a worker's service goes on.
+#[derive(Clone, Copy, Debug, PartialEq, Eq)]
+pub struct ServiceKeys {
+    pub turn: ServiceTurn,
+    pub sweep: SweepKey,
+    pub merge: MergeKey,
+}
+
+impl ServiceKeys {
+    /// The first leaf is swept first.
+    pub(crate) fn first() -> ServiceKeys {
+        ServiceKeys {
+            turn: ServiceTurn::Sweep,
+            sweep: SweepKey::first(),
+            merge: MergeKey::first(),
+        }
+    }
+}
+
+/// Takes a turn, and answers whether a cell has changed. Only a turn of merging takes memory.
+pub(crate) fn serve(
+    rt: &impl Wait,
+    store: &Store,
+    pass: &mut Pass,
+    room: &mut Option<PassRoom>,
+    keys: &mut ServiceKeys,
+) -> Result<bool, NoMemory>
+    requires ready { ∥ IsReady store.now pass.old ∥₁ }
+    ensures ready { ∥ IsReady store.now pass.new ∥₁ }
+    ensures legal { HasSeenLegal (account_of store.now pass.new) }
+    ensures reads { ReadsBy (account_of store.now pass.old) (account_of store.now pass.new) }
+    ensures turn { keys.new.turn ≡ next_turn keys.old.turn }
+{
+    match keys.turn {
+        ServiceTurn::Sweep => {
+            keys.turn = ServiceTurn::Merge;
+            Ok(sweep(rt, store, pass, &mut keys.sweep))
+        }
+        ServiceTurn::Merge => {
+            keys.turn = ServiceTurn::Sweep;
+            merge(rt, store, pass, room, &mut keys.merge)
+        }
+    }
+}
+
 /// Prunes the next leaf, and answers whether a record went.
-pub(crate) fn sweep(rt: &impl Wait, store: &Store, pass: &mut Pass, key: &mut SweepKey) -> bool
+fn sweep(rt: &impl Wait, store: &Store, pass: &mut Pass, key: &mut SweepKey) -> bool
     requires ready { ∥ IsReady store.now pass.old ∥₁ }
     ensures ready { ∥ IsReady store.now pass.new ∥₁ }
     ensures legal { HasSeenLegal (account_of store.now pass.new) }
@@ -17,4 +76,62 @@ pub(crate) fn sweep(rt: &impl Wait, store: &Store, pass: &mut Pass, key: &mut Sw
 {
     let turn = sweep_step(rt, store, &mut pass.seats, key);
     turn.swept.took()
+}
+
+/// Spreads a window of the next leaf, or makes one leaf of it and the one behind it, if there is anything to do with
+/// it. Answers whether a cell has changed.
+fn merge(
+    rt: &impl Wait,
+    store: &Store,
+    pass: &mut Pass,
+    room: &mut Option<PassRoom>,
+    key: &mut MergeKey,
+) -> Result<bool, NoMemory>
+    requires ready { ∥ IsReady store.now pass.old ∥₁ }
+    ensures ready { ∥ IsReady store.now pass.new ∥₁ }
+    ensures legal { HasSeenLegal (account_of store.now pass.new) }
+    ensures reads { ReadsBy (account_of store.now pass.old) (account_of store.now pass.new) }
+{
+    let alloc = pass.alloc;
+    match has_room(room, alloc) {
+        Ok(()) => {}
+        Err(refused) => return Err(refused),
+    }
+    let Some(room) = room else { unreachable!() };
+    merge_here(rt, store, pass, room, key, alloc)
+}
+
+/// The same with what is kept for rows that move.
+fn merge_here(
+    rt: &impl Wait,
+    store: &Store,
+    pass: &mut Pass,
+    room: &mut PassRoom,
+    key: &mut MergeKey,
+    alloc: Global,
+) -> Result<bool, NoMemory>
+    requires ready { ∥ IsReady store.now pass.old ∥₁ }
+    ensures ready { ∥ IsReady store.now pass.new ∥₁ }
+    ensures legal { HasSeenLegal (account_of store.now pass.new) }
+    ensures reads { ReadsBy (account_of store.now pass.old) (account_of store.now pass.new) }
+{
+    let turn = merge_step(
+        rt,
+        store,
+        &mut pass.seats,
+        &mut room.leaves,
+        &mut room.space,
+        &mut pass.cells.hints,
+        key,
+        alloc,
+    );
+    has_changed(turn)
+}
+
+/// Whether a turn of merging has changed a cell.
+fn has_changed(turn: Result<MergeTurn, NoMemory>) -> Result<bool, NoMemory> {
+    match turn {
+        Ok(turn) => Ok(turn.has_changed()),
+        Err(refused) => Err(refused),
+    }
 }

@@ -5,8 +5,8 @@ ghost use Rattle.store_rule.specs.declared.store.Store.{Store};
 ghost use Rattle.shared_store.specs.Passes.{IsIdle};
 ghost use Rattle.rebalance_service.specs.Ready.{IsReady};
 
+use crate::serve::ServiceKeys;
 use pass_room::PassRoom;
-use pass_sweeps::SweepKey;
 use shared_store::{Pass, Store};
 use std::marker::{Brand, PhantomData};
 use std::sync::Wait;
@@ -35,7 +35,7 @@ pub struct Worker<'a, R: Wait, H: Home> {
     pub(crate) room: Option<PassRoom>,
     /// How many turns of the service it has taken, up to the last number.
     pub(crate) served: u64,
-    pub(crate) sweep_key: SweepKey,
+    pub(crate) keys: ServiceKeys,
     of: PhantomData<H>,
     pub ghost ready: { ∥ IsReady store.now pass ∥₁ },
     pub ghost home: { ∥ H.home ≡ Some store.now ∥₁ },
@@ -56,7 +56,7 @@ impl<'a, R: Wait, H: Home> Worker<'a, R, H> {
             pass,
             room: None,
             served: 0,
-            sweep_key: SweepKey::first(),
+            keys: ServiceKeys::first(),
             of: PhantomData,
         }
     }
@@ -73,7 +73,7 @@ impl<'a, R: Wait, H: Home> Worker<'a, R, H> {
             pass,
             room,
             served: _,
-            sweep_key: _,
+            keys: _,
             of: _,
         } = self;
         match room {

@@ -1,0 +1,14 @@
+use Rattle.std.proofs.Common.{refl}
+use Rattle.rebalance_service.proofs.CallLemmas.{legal_ready}
+use Rattle.rebalance_service.proofs.PropLemmas.{is_ready}
+use Rattle.rebalance_service.proofs.RoomLemmas.{goes_on}
+use Rattle.shared_store.specs.Passes.{account_of}
+use Rattle.rebalance_service.proofs.serve.merge.Goals as goal
+
+pub returns-in-Err-clause-legal : goal.returns-in-Err-clause-legal
+returns-in-Err-clause-legal g c =
+    legal_ready c.args.store.now c.args.pass.now (is_ready c.args.store.now c.args.pass.now c.requires.ready)
+
+pub returns-in-Err-clause-reads : goal.returns-in-Err-clause-reads
+returns-in-Err-clause-reads g c =
+    goes_on (account_of c.args.store.now c.args.pass.now) (account_of c.args.store.now c.args.pass.now) refl

@@ -1,0 +1,38 @@
+use Rattle.std.proofs.Common.{refl}
+use Rattle.rebalance_service.proofs.CallLemmas.{legal_ready}
+use Rattle.rebalance_service.proofs.KeptLemmas.{kept_goes, ready_none, ready_of, seats_only, turn_account, turn_ready}
+use Rattle.rebalance_service.proofs.PropLemmas.{is_ready}
+use Rattle.rebalance_service.proofs.serve.merge_here.Goals as goal
+
+pub merge_step-turn-requires-clause-pass : goal.merge_step-turn-requires-clause-pass
+merge_step-turn-requires-clause-pass g c =
+    ready_of c.args.store.now c.args.pass.now (is_ready c.args.store.now c.args.pass.now c.requires.ready)
+
+pub merge_step-turn-requires-clause-none : goal.merge_step-turn-requires-clause-none
+merge_step-turn-requires-clause-none g c =
+    ready_none c.args.store.now c.args.pass.now (is_ready c.args.store.now c.args.pass.now c.requires.ready)
+
+pub returns-clause-ready : goal.returns-clause-ready
+returns-clause-ready g c =
+    let done = c.merge_step-turn.ensures in
+    ∣ turn_ready c.args.store.now c.args.pass.now _
+    (record { number = done.kept.number; cells = refl; begun = refl; start = refl; own = refl; changed = refl })
+    done.pass done.none
+    (kept_goes c.args.store.now c.args.pass.now.seats c.merge_step-turn.new.pass done.kept)
+    (is_ready c.args.store.now c.args.pass.now c.requires.ready) ∣₁
+
+pub returns-clause-legal : goal.returns-clause-legal
+returns-clause-legal g c =
+    let done = c.merge_step-turn.ensures in
+    legal_ready c.args.store.now _
+    (turn_ready c.args.store.now c.args.pass.now _
+    (seats_only c.args.pass.now c.merge_step-turn.new.pass done.kept.number) done.pass done.none
+    (kept_goes c.args.store.now c.args.pass.now.seats c.merge_step-turn.new.pass done.kept)
+    (is_ready c.args.store.now c.args.pass.now c.requires.ready))
+
+pub returns-clause-reads : goal.returns-clause-reads
+returns-clause-reads g c =
+    let done = c.merge_step-turn.ensures in
+    turn_account c.args.store.now c.args.pass.now _
+    (seats_only c.args.pass.now c.merge_step-turn.new.pass done.kept.number) done.pass done.none
+    (kept_goes c.args.store.now c.args.pass.now.seats c.merge_step-turn.new.pass done.kept)
