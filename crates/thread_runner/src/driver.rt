@@ -28,7 +28,6 @@ pub fn run_threads<R: Threads + Sync, E: VertexEngine + Send, G: Gate>(
 ) -> Result<(), NoMemory>
     requires workers { (0 < workers) × (workers ≤ 32) }
     requires ready { AllByRecursion (IsSeat E.account) jobs.old.jobs.items }
-    requires lines { lines_of jobs.old.jobs.items < 2 ^ 64 }
     ensures ran { AllZip (HasRun E.account) jobs.old.jobs.items jobs.new.jobs.items }
     ensures ok { OnOk result (some_gave_up jobs.old.jobs.items jobs.new.jobs.items ≡ false) }
     ensures err { OnErr result (some_gave_up jobs.old.jobs.items jobs.new.jobs.items ≡ true) }
@@ -46,14 +45,13 @@ pub fn run_threads<R: Threads + Sync, E: VertexEngine + Send, G: Gate>(
     }
 }
 
-/// How many lines the scripts have.
+/// How many lines the scripts have, up to the last number.
 fn count_lines<E>(seats: &[(Job, E)]) -> u64
-    requires { lines_of seats.now < 2 ^ 64 }
-    ensures { result ≡ lines_of seats.now }
+    ensures { result ≡ min (lines_of seats.now) (2 ^ 64 - 1) }
 {
     match seats {
         [] => 0,
-        [seat, rest @ ..] => seat.0.lines() as u64 + count_lines(rest),
+        [seat, rest @ ..] => (seat.0.lines() as u64).saturating_add(count_lines(rest)),
     }
 }
 
