@@ -22,7 +22,8 @@ impl<'a, R: Wait, H: Home> Worker<'a, R, H> {
     pub(crate) fn make_write(&mut self, write: Write) -> Result<(), Refusal>
         requires current { IsSome (account_of self.old.store.now self.old.pass).start }
         requires within { IsWithinLimits write }
-        ensures writes { WritesBy (account_of self.old.store.now self.old.pass) write result (account_of self.new.store.now self.new.pass) }
+        ensures writes { WritesBy (account_of self.old.store.now self.old.pass) write result
+            (account_of self.new.store.now self.new.pass) }
         ensures legal { HasSeenLegal (account_of self.new.store.now self.new.pass) }
         ensures served { self.new.served ≡ self.old.served }
     {
