@@ -5,7 +5,7 @@ use std::alloc::Global;
 use std::test::Fail;
 
 /// Words, and what they ask for: the names in the order V, E, J, then what may be left out, then the scripts.
-const TAKEN: [(&str, &str); 13] = [
+const TAKEN: [(&str, &str); 16] = [
     ("run --vertices v --edges e --journal j s", "v e j: s"),
     (
         "run s --cut --journal j --directed t --edges e --weights 9 --schedule p --leaves 131072 --vertices v u",
@@ -46,9 +46,15 @@ const TAKEN: [(&str, &str); 13] = [
         "run --vertices v --edges e --journal j --threads 32 --leaves 7 s",
         "v e j 7 threads 32: s",
     ),
+    (
+        "run --keep k --vertices v --edges e --journal j --schedule p s",
+        "v e j p keep k: s",
+    ),
+    ("recover --journal j --keep k", "k j"),
+    ("recover --keep=-k --journal=", "-k "),
 ];
 
-const REFUSED: [&str; 43] = [
+const REFUSED: [&str; 51] = [
     "",
     "help",
     "--help",
@@ -86,6 +92,14 @@ const REFUSED: [&str; 43] = [
     "run --vertices v --edges e --journal s.report s",
     "run --vertices v --edges e --journal j s t s.report",
     "run --vertices v --edges e --journal j s t s",
+    "run --vertices v --edges e --journal j --keep j s",
+    "run --vertices v --edges e --journal j --keep s.report s",
+    "run --vertices v --edges e --journal j --keep k --serial s",
+    "run --vertices v --edges e --journal j --keep k --threads 2 s",
+    "recover --keep k",
+    "recover --journal j",
+    "recover --keep k --journal k",
+    "recover --keep k --journal j s",
     "make --seed 0 --vertices 2 --edges 0 --out v --edges-out v",
     "make --seed 18446744073709551616 --vertices 2 --edges 0 --out v --edges-out e",
     "make --seed 0 --vertices 1 --edges 0 --out v --edges-out e",
@@ -137,6 +151,9 @@ fn answer_to(alloc: Global, line: &str) -> Result<String, Fail> {
             "{} {} {} {} {}",
             make.seed, make.vertices, make.edges, make.out, make.edges_out
         )?,
+        Ok(Command::Recover(recover)) => {
+            format!(in alloc; "{} {}", recover.keep, recover.journal)?
+        }
         Err(refusal) => format!(in alloc; "{refusal}")?,
     };
     Ok(answer)
@@ -165,6 +182,10 @@ fn text_of_run(alloc: Global, run: &RunWords<'_>) -> Result<String, Fail> {
     }
     if run.is_serial {
         text.push_str(" serial")?;
+    }
+    if let Some(keep) = run.keep {
+        text.push_str(" keep ")?;
+        text.push_str(keep)?;
     }
     text.push_str(":")?;
     for script in run.scripts.iter() {

@@ -7,7 +7,7 @@ use Rattle.clap.specs.declared.error.kind.ErrorKind.TheVariants.{OutOfMemory}
 use Rattle.command_words.specs.declared.refusal.WordsRefusal.{WordsRefusal}
 use Rattle.command_words.specs.declared.refusal.WordsRefusal.TheVariants.{BadWords, NoMemory}
 use Rattle.command_words.specs.Numbers.{HasNumber, IsOptionalNumber}
-use Rattle.command_words.specs.Words.{MakeRequest, Request, RunRequest, GivesMake, GivesRun, IsGiven, IsTaken, make, run}
+use Rattle.command_words.specs.Words.{MakeRequest, RecoverRequest, Request, RunRequest, GivesMake, GivesRecover, GivesRun, IsGiven, IsTaken, make, recover, run}
 use Rattle.command_words.specs.Views.{Refuses, RefusesAs}
 
 -- an error that is want of memory wherever P holds, and isn't, says that P can't be
@@ -51,6 +51,7 @@ one_run rows a b is also =
     let leaves : a.leaves ≡ b.leaves = one_number 1 131072 (first_of (codes "leaves") rows) a.leaves b.leaves is.leaves also.leaves in
     let threads : a.threads ≡ b.threads = one_number 1 32 (first_of (codes "threads") rows) a.threads b.threads is.threads also.threads in
     let serial : a.is_serial ≡ b.is_serial = same_test a.is_serial b.is_serial is.serial also.serial in
+    let keep : a.keep ≡ b.keep = sym is.keep ∙ also.keep in
     λ i. record {
       vertices = vertices i;
       edges = edges i;
@@ -62,6 +63,7 @@ one_run rows a b is also =
       leaves = leaves i;
       threads = threads i;
       is_serial = serial i;
+      keep = keep i;
       scripts = scripts i;
     }
 
@@ -83,10 +85,21 @@ one_make rows a b is also =
     let edges_out : a.edges_out ≡ b.edges_out = some_one (sym is.edges_out ∙ also.edges_out) in
     λ i. record { seed = seed i; vertices = vertices i; edges = edges i; out = out i; edges_out = edges_out i }
 
+one_recover : (rows : List Row) (a b : RecoverRequest) → GivesRecover rows a → GivesRecover rows b → a ≡ b
+one_recover rows a b is also =
+    let keep : a.keep ≡ b.keep = some_one (sym is.keep ∙ also.keep) in
+    let journal : a.journal ≡ b.journal = some_one (sym is.journal ∙ also.journal) in
+    λ i. record { keep = keep i; journal = journal i }
+
 -- a subcommand with what clap found for it gives one request at most
 one_given : (name : Text) (rows : List Row) (a b : Request) → IsGiven name rows a → IsGiven name rows b → a ≡ b
 one_given name rows (run a) (run b) is also = ap run (one_run rows a b is.1.given also.1.given)
 one_given name rows (make a) (make b) is also = ap make (one_make rows a b is.1.given also.1.given)
+one_given name rows (recover a) (recover b) is also = ap recover (one_recover rows a b is.1.given also.1.given)
+one_given name rows (run a) (recover b) is also = let wrong : codes "run" ≡ codes "recover" = sym is.0 ∙ also.0 in cc
+one_given name rows (recover a) (run b) is also = let wrong : codes "run" ≡ codes "recover" = sym also.0 ∙ is.0 in cc
+one_given name rows (make a) (recover b) is also = let wrong : codes "make" ≡ codes "recover" = sym is.0 ∙ also.0 in cc
+one_given name rows (recover a) (make b) is also = let wrong : codes "make" ≡ codes "recover" = sym also.0 ∙ is.0 in cc
 one_given name rows (run a) (make b) is also = let wrong : codes "run" ≡ codes "make" = sym is.0 ∙ also.0 in cc
 one_given name rows (make a) (run b) is also = let wrong : codes "run" ≡ codes "make" = sym also.0 ∙ is.0 in cc
 

@@ -32,6 +32,7 @@ run_shape = record (new_shape (codes "run")) {
       ∷ option_rule (codes "leaves") false
       ∷ option_rule (codes "threads") false
       ∷ flag_rule (codes "serial")
+      ∷ option_rule (codes "keep") false
       ∷ scripts_rule ∷ [];
 }
 
@@ -44,7 +45,13 @@ make_shape = record (new_shape (codes "make")) {
       ∷ option_rule (codes "edges-out") true ∷ [];
 }
 
--- `teseo` with its two subcommands, one of which is needed. The words begin behind the program's name, and no word is
+abbrev pub recover_shape : Shape
+recover_shape = record (new_shape (codes "recover")) {
+  rules = option_rule (codes "keep") true
+      ∷ option_rule (codes "journal") true ∷ [];
+}
+
+-- `teseo` with its subcommands, one of which is needed. The words begin behind the program's name, and no word is
 -- a request for help or for a version
 unfoldable pub teseo_app : App
 teseo_app = record {
@@ -55,5 +62,5 @@ teseo_app = record {
     disable_help_subcommand = true;
     subcommand_required = true;
   };
-  subs = run_shape ∷ make_shape ∷ [];
+  subs = run_shape ∷ make_shape ∷ recover_shape ∷ [];
 }

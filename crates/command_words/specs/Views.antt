@@ -1,19 +1,20 @@
 -- What the code's types stand for.
-use Rattle.std.specs.Prelude.{◌≡◌, ⊤, true, List, [], map, option_map}
+use Rattle.std.specs.Prelude.{◌≡◌, ⊤, true, List, [], ◌++◌, map, option_map, option_to_list}
 use Rattle.clap.specs.Words.{App, Row, Shape, Text, found_of, kind_of, rows_of, subcommand_of, subcommand_rows_of, takes}
 use Rattle.clap.specs.declared.error.Error.{Error}
 use Rattle.clap.specs.declared.error.kind.ErrorKind.TheVariants.{OutOfMemory}
 use Rattle.clap.specs.declared.parser.matches.ArgMatches.{ArgMatches}
 use Rattle.command_words.specs.declared.command.Command.{Command}
-use Rattle.command_words.specs.declared.command.Command.TheVariants.{Run, Make}
+use Rattle.command_words.specs.declared.command.Command.TheVariants.{Run, Make, Recover}
 use Rattle.command_words.specs.declared.command.RunWords.{RunWords}
 use Rattle.command_words.specs.declared.command.MakeWords.{MakeWords}
+use Rattle.command_words.specs.declared.command.RecoverWords.{RecoverWords}
 use Rattle.command_words.specs.declared.names.TakenName.{TakenName}
 use Rattle.command_words.specs.declared.names.TakenName.TheVariants.{Given, ReportOf}
 use Rattle.command_words.specs.declared.refusal.WordsRefusal.{WordsRefusal}
 use Rattle.command_words.specs.declared.refusal.WordsRefusal.TheVariants.{BadWords, NoMemory}
 use Rattle.command_words.specs.App.{teseo_app}
-use Rattle.command_words.specs.Words.{RunRequest, MakeRequest, Request, run, make, IsTaken, report_name}
+use Rattle.command_words.specs.Words.{RunRequest, MakeRequest, RecoverRequest, Request, run, make, recover, IsTaken, report_name}
 
 -- a command with no subcommand
 abbrev pub leaf_app : Shape → App
@@ -31,6 +32,7 @@ run_request words = record {
   leaves = words.leaves;
   threads = words.threads;
   is_serial = words.is_serial;
+  keep = option_map (λ name. name.now) words.keep;
   scripts = map (λ name. name.now) words.scripts.items;
 }
 
@@ -43,9 +45,18 @@ make_request words = record {
   edges_out = words.edges_out.now;
 }
 
+abbrev pub recover_request : RecoverWords → RecoverRequest
+recover_request words = record { keep = words.keep.now; journal = words.journal.now }
+
 abbrev pub request_of : Command → Request
 request_of (Run words) = run (run_request words)
 request_of (Make words) = make (make_request words)
+request_of (Recover words) = recover (recover_request words)
+
+-- the names that are taken behind the schedule: the journal file, the scripts and their reports
+abbrev pub names_behind_schedule : RunRequest → List Text
+names_behind_schedule request =
+    (option_to_list request.keep ++ request.scripts) ++ map report_name request.scripts
 
 -- what clap found for the arguments of a command
 abbrev pub rows_in : ArgMatches → List Row

@@ -17,6 +17,8 @@ pub record RunRequest : Type 0 where
   pub leaves : Option ℕ
   pub threads : Option ℕ
   pub is_serial : Bool
+  -- the journal file in which the commits are kept, if there is one
+  pub keep : Option Text
   pub scripts : List Text
 
 -- and those of `make`
@@ -27,18 +29,26 @@ pub record MakeRequest : Type 0 where
   pub out : Text
   pub edges_out : Text
 
+-- and those of `recover`
+pub record RecoverRequest : Type 0 where
+  pub keep : Text
+  pub journal : Text
+
 pub data Request : Type 0 where
   run : RunRequest → Request
   make : MakeRequest → Request
+  recover : RecoverRequest → Request
 
 -- the report of a script has the script's name with `.report` behind it
 abbrev pub report_name : Text → Text
 report_name script = script ++ codes ".report"
 
--- the names that the words of `run` give: the two graph files, the journal, the schedule and the scripts
+-- the names that the words of `run` give: the two graph files, the journal, the schedule, the journal file and the
+-- scripts
 abbrev pub given_names : RunRequest → List Text
 given_names request =
-    request.vertices ∷ request.edges ∷ request.journal ∷ (option_to_list request.schedule ++ request.scripts)
+    request.vertices ∷ request.edges ∷ request.journal
+    ∷ (option_to_list request.schedule ++ (option_to_list request.keep ++ request.scripts))
 
 -- the names that are taken before any script line is read: those that the words give, and the reports'
 abbrev pub taken_names : RunRequest → List Text
@@ -56,12 +66,16 @@ pub record GivesRun (rows : List Row) (request : RunRequest) : Type 0 where
   pub leaves : IsOptionalNumber 1 MAX_LEAVES (first_of (codes "leaves") rows) request.leaves
   pub threads : IsOptionalNumber 1 MAX_THREADS (first_of (codes "threads") rows) request.threads
   pub serial : IsTrue request.is_serial ↔ (first_of (codes "serial") rows ≡ Some (codes "true"))
+  pub keep : first_of (codes "keep") rows ≡ request.keep
   pub scripts : all_of (codes "script") rows ≡ Some request.scripts
 
--- a run on threads has no turns to schedule, and refuses no commits
+-- a run on threads has no turns to schedule, refuses no commits and keeps none, and no commit is kept where some are
+-- refused
 abbrev pub goes_together : RunRequest → Bool
 goes_together request =
-    cond (is_some request.threads) (not (is_some request.schedule) && not request.is_serial) true
+    cond (is_some request.threads)
+    (not (is_some request.schedule) && (not request.is_serial && not (is_some request.keep)))
+    (not (request.is_serial && is_some request.keep))
 
 -- and the request passes the checks: there are at most 60 scripts, the options go together, and no two of the names and
 -- of the reports' are equal
@@ -84,10 +98,21 @@ pub record IsMake (rows : List Row) (request : MakeRequest) : Type 0 where
   pub given : GivesMake rows request
   pub distinct : request.out ≢ request.edges_out
 
+-- what clap found for the arguments of `recover` gives this request
+pub record GivesRecover (rows : List Row) (request : RecoverRequest) : Type 0 where
+  pub keep : first_of (codes "keep") rows ≡ Some request.keep
+  pub journal : first_of (codes "journal") rows ≡ Some request.journal
+
+-- and the two names are different
+pub record IsRecover (rows : List Row) (request : RecoverRequest) : Type 0 where
+  pub given : GivesRecover rows request
+  pub distinct : request.keep ≢ request.journal
+
 -- what clap found for a subcommand gives this request
 abbrev pub IsGiven : Text → List Row → Request → Type 0
 IsGiven name rows (run request) = (name ≡ codes "run") × IsRun rows request
 IsGiven name rows (make request) = (name ≡ codes "make") × IsMake rows request
+IsGiven name rows (recover request) = (name ≡ codes "recover") × IsRecover rows request
 
 -- the words are taken, as this request: clap takes them, and what it found for the subcommand gives the request
 pub record IsTaken (words : List Text) (request : Request) : Type 0 where

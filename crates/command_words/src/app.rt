@@ -2,7 +2,7 @@
 
 ghost use Rattle.std.specs.Prelude.{◌≡◌, true, false, IfOk};
 ghost use Rattle.clap.specs.Words.{app_of, rule_of};
-ghost use Rattle.command_words.specs.App.{option_rule, flag_rule, scripts_rule, run_shape, make_shape, teseo_app};
+ghost use Rattle.command_words.specs.App.{option_rule, flag_rule, scripts_rule, run_shape, make_shape, recover_shape, teseo_app};
 ghost use Rattle.command_words.specs.Views.{leaf_app};
 
 use clap::{Arg, ArgAction, Command};
@@ -14,13 +14,15 @@ pub(crate) fn teseo_command<'a>(alloc: Global) -> Result<Command<'a>, AllocError
 {
     let run = run_command(alloc)?;
     let make = make_command(alloc)?;
+    let recover = recover_command(alloc)?;
     Command::new(alloc, "teseo")
         .no_binary_name(true)
         .disable_help_flag(true)
         .disable_help_subcommand(true)
         .subcommand_required(true)
         .subcommand(run)?
-        .subcommand(make)
+        .subcommand(make)?
+        .subcommand(recover)
 }
 
 fn run_command<'a>(alloc: Global) -> Result<Command<'a>, AllocError>
@@ -37,6 +39,7 @@ fn run_command<'a>(alloc: Global) -> Result<Command<'a>, AllocError>
         .arg(optional(alloc, "leaves"))?
         .arg(optional(alloc, "threads"))?
         .arg(flag(alloc, "serial"))?
+        .arg(optional(alloc, "keep"))?
         .arg(scripts(alloc))
 }
 
@@ -49,6 +52,14 @@ fn make_command<'a>(alloc: Global) -> Result<Command<'a>, AllocError>
         .arg(required(alloc, "edges"))?
         .arg(required(alloc, "out"))?
         .arg(required(alloc, "edges-out"))
+}
+
+fn recover_command<'a>(alloc: Global) -> Result<Command<'a>, AllocError>
+    ensures { IfOk result (λ command. app_of command ≡ leaf_app recover_shape) }
+{
+    Command::new(alloc, "recover")
+        .arg(required(alloc, "keep"))?
+        .arg(required(alloc, "journal"))
 }
 
 /// An option that has to be given: it takes one text.

@@ -1,8 +1,8 @@
 //! What the words ask for.
 
-ghost use Rattle.std.specs.Prelude.{◌≡◌, ◌≢◌, ◌↔◌, ◌+◌, ◌<◌, [], ◌++◌, map, length, get_or, AllPairs, IsTrue};
+ghost use Rattle.std.specs.Prelude.{◌≡◌, ◌≢◌, ◌↔◌, ◌+◌, ◌<◌, [], ◌++◌, map, length, get_or, AllPairs, IsTrue, option_map, option_to_list};
 ghost use Rattle.command_words.specs.Words.{taken_names, report_name, goes_together};
-ghost use Rattle.command_words.specs.Views.{run_request, taken_name};
+ghost use Rattle.command_words.specs.Views.{run_request, taken_name, names_behind_schedule};
 
 use crate::names::TakenName;
 
@@ -11,6 +11,7 @@ use crate::names::TakenName;
 pub enum Command<'a> {
     Run(RunWords<'a>),
     Make(MakeWords<'a>),
+    Recover(RecoverWords<'a>),
 }
 
 /// The words of `run`.
@@ -31,6 +32,8 @@ pub struct RunWords<'a> {
     pub threads: Option<u32>,
     /// Whether commits that would not leave a serial order are refused.
     pub is_serial: bool,
+    /// The journal file in which the commits are kept, where there is one.
+    pub keep: Option<&'a str>,
     /// The names of the scripts, in the order of the words.
     pub scripts: Vec<&'a str>,
 }
@@ -47,17 +50,21 @@ pub struct MakeWords<'a> {
     pub edges_out: &'a str,
 }
 
+/// The words of `recover`.
+#[derive(Clone, Copy, Debug)]
+pub struct RecoverWords<'a> {
+    /// The journal file that is read.
+    pub keep: &'a str,
+    pub journal: &'a str,
+}
+
 impl<'a> RunWords<'a> {
     /// How many names are taken before any script line is read.
     pub fn taken_len(&self) -> usize
         ensures { result ≡ length (taken_names (run_request self.now)) }
     {
-        let schedules = match self.schedule {
-            Some(_) => 1,
-            None => 0,
-        };
         let scripts = self.scripts.as_slice().len();
-        3 + schedules + scripts + scripts
+        3 + count_of(self.schedule) + count_of(self.keep) + scripts + scripts
     }
 
     /// The name at a place among those that are taken before any script line is read.
@@ -73,14 +80,26 @@ impl<'a> RunWords<'a> {
         }
     }
 
-    /// The name at a place among the schedule, the scripts and their reports.
+    /// The name at a place among the schedule, the journal file, the scripts and their reports.
     fn taken_behind_journal(&self, place: usize) -> TakenName<'a>
         requires { place + 3 < length (taken_names (run_request self.now)) }
         ensures { taken_name result ≡ get_or (taken_names (run_request self.now)) (place + 3) [] }
     {
         match self.schedule {
-            None => self.script_or_report(place),
+            None => self.taken_behind_schedule(place),
             Some(schedule) if place == 0 => TakenName::Given(schedule),
+            Some(_) => self.taken_behind_schedule(place - 1),
+        }
+    }
+
+    /// The name at a place among the journal file, the scripts and their reports.
+    fn taken_behind_schedule(&self, place: usize) -> TakenName<'a>
+        requires { place < length (names_behind_schedule (run_request self.now)) }
+        ensures { taken_name result ≡ get_or (names_behind_schedule (run_request self.now)) place [] }
+    {
+        match self.keep {
+            None => self.script_or_report(place),
+            Some(keep) if place == 0 => TakenName::Given(keep),
             Some(_) => self.script_or_report(place - 1),
         }
     }
@@ -104,8 +123,8 @@ impl<'a> RunWords<'a> {
         ensures { result ≡ goes_together (run_request self.now) }
     {
         match self.threads {
-            Some(_) => self.schedule.is_none() && !self.is_serial,
-            None => true,
+            Some(_) => self.schedule.is_none() && (!self.is_serial && self.keep.is_none()),
+            None => !(self.is_serial && self.keep.is_some()),
         }
     }
 
@@ -122,5 +141,15 @@ impl<'a> RunWords<'a> {
             }
         }
         true
+    }
+}
+
+/// How many names these are: one, or none.
+fn count_of(name: Option<&str>) -> usize
+    ensures { result ≡ length (option_to_list (option_map (λ name. name.now) name.entry)) }
+{
+    match name {
+        Some(_) => 1,
+        None => 0,
     }
 }

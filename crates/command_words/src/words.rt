@@ -8,13 +8,13 @@ ghost use Rattle.std.specs.String.{string_bytes};
 ghost use Rattle.graph_model.specs.declared.limits.TheConstants.{MAX_LEAVES, MAX_THREADS};
 ghost use Rattle.clap.specs.Words.{all_of, first_of, subcommand_rows_of, takes};
 ghost use Rattle.command_words.specs.App.{teseo_app};
-ghost use Rattle.command_words.specs.Words.{RunRequest, MakeRequest, IsTaken, GivesRun, IsRun, GivesMake, IsMake};
+ghost use Rattle.command_words.specs.Words.{RunRequest, MakeRequest, RecoverRequest, IsTaken, GivesRun, IsRun, GivesMake, IsMake, GivesRecover, IsRecover};
 ghost use Rattle.command_words.specs.Numbers.{HasNumber, IsOptionalNumber};
-ghost use Rattle.command_words.specs.Views.{run_request, make_request, request_of, rows_in};
+ghost use Rattle.command_words.specs.Views.{run_request, make_request, recover_request, request_of, rows_in};
 ghost use Rattle.command_words.specs.Views.{IsFound, Refuses, RefusesWords};
 
 use crate::app::teseo_command;
-use crate::command::{Command, MakeWords, RunWords};
+use crate::command::{Command, MakeWords, RecoverWords, RunWords};
 use crate::number::read_number;
 use crate::refusal::WordsRefusal;
 use clap::ArgMatches;
@@ -47,6 +47,9 @@ pub fn read_words<'a>(alloc: Global, words: &'a [String]) -> Result<Command<'a>,
     }
     if name == "make" {
         return Ok(Command::Make(make_words(found)?));
+    }
+    if name == "recover" {
+        return Ok(Command::Recover(recover_words(found)?));
     }
     Err(WordsRefusal::BadWords)
 }
@@ -108,6 +111,7 @@ fn given_run<'a>(alloc: Global, found: &ArgMatches<'a>) -> Result<RunWords<'a>, 
         leaves,
         threads,
         is_serial: is_used(found, "serial"),
+        keep: optional_text(found, "keep"),
         scripts,
     })
 }
@@ -141,6 +145,28 @@ fn given_make<'a>(found: &ArgMatches<'a>) -> Result<MakeWords<'a>, WordsRefusal>
         out,
         edges_out,
     })
+}
+
+/// The words of `recover`.
+fn recover_words<'a>(found: &ArgMatches<'a>) -> Result<RecoverWords<'a>, WordsRefusal>
+    ensures taken { IfOk result (λ words. IsRecover (rows_in found.now) (recover_request words)) }
+    ensures refused { IfErr result (Refuses ((request : RecoverRequest) × IsRecover (rows_in found.now) request)) }
+{
+    let words = given_recover(found)?;
+    if words.keep == words.journal {
+        return Err(WordsRefusal::BadWords);
+    }
+    Ok(words)
+}
+
+/// The words of `recover`, before the check of its names.
+fn given_recover<'a>(found: &ArgMatches<'a>) -> Result<RecoverWords<'a>, WordsRefusal>
+    ensures given { IfOk result (λ words. GivesRecover (rows_in found.now) (recover_request words)) }
+    ensures refused { IfErr result (Refuses ((request : RecoverRequest) × GivesRecover (rows_in found.now) request)) }
+{
+    let keep = text_in(found, "keep")?;
+    let journal = text_in(found, "journal")?;
+    Ok(RecoverWords { keep, journal })
 }
 
 /// The text of an option, where it was given.

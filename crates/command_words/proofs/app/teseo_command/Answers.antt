@@ -24,8 +24,10 @@ returns c =
     wanted ∙ ap (on_top (λ s. record s { subcommand_required = true }))
     (alone ∙ ap (on_top (λ s. record s { disable_help_subcommand = true }))
     (helpless ∙ ap (on_top (λ s. record s { disable_help_flag = true })) named)) in
-    IfOk-weaker c.subcommand-2.result _ _ (λ command adds.
+    IfOk-weaker c.subcommand-3.result _ _ (λ command adds.
     one_below _ _ command _ _ adds
+    (one_below _ _ _ _ _ c.in_ok-subcommand-2.ensures
     (one_below _ _ _ _ _ c.in_ok-subcommand.ensures is_top c.in_ok-run.ensures refl)
     c.in_ok-make.ensures refl)
-    c.subcommand-2.ensures
+    c.in_ok-recover.ensures refl)
+    c.subcommand-3.ensures
