@@ -3,10 +3,17 @@
 ghost use Rattle.std.specs.Prelude.{◌≡◌};
 
 use graph_model::{Commit, StepEngine};
+use teseo_core::Core;
 
 /// An engine of one owner that lends its journal.
 pub trait JournalEngine: StepEngine {
     /// Lends the journal, the commits in the order of their stamps.
     fn journal(&self) -> &[Commit]
         ensures { result.now ≡ (Self.core self.now).journal };
+}
+
+impl JournalEngine for Core {
+    fn journal(&self) -> &[Commit] {
+        self.journal()
+    }
 }

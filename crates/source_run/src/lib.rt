@@ -15,4 +15,4 @@ pub use fault::{ParseStop, SourceFault};
 pub use input::{Input, parse_sources};
 pub use leaves::{MOST_ROWS, leaves_of};
 pub use request::{kind_of, script_at, source_at, sources_of};
-pub use run::{RunResult, run_scripts};
+pub use run::{RunResult, config_of, jobs_of, load_graph, new_engine, run_scripts};

@@ -85,7 +85,7 @@ pub fn run_scripts<R: Threads + Sync>(
 
 /// Loads the graph of the two files as the first transaction of a new engine. What was read of them is let go of before
 /// the rows are made.
-fn load_graph<R: Threads + Sync>(
+pub fn load_graph<R: Threads + Sync>(
     rt: &R,
     alloc: Global,
     engine: &mut Core,
@@ -127,7 +127,7 @@ fn run_jobs<R: Threads + Sync>(
 
 /// What the engine of these scripts is made with: a pass for each, and one for the load. Each may begin as
 /// many transactions as the script with most of them.
-fn config_of(kind: Kind, leaves: u32, scripts: &[Script]) -> Config
+pub fn config_of(kind: Kind, leaves: u32, scripts: &[Script]) -> Config
     requires some { 1 ≤ leaves }
     requires few { leaves ≤ MAX_LEAVES }
     requires count { length scripts.now ≤ MAX_SCRIPTS }
@@ -169,7 +169,7 @@ fn is_begin(command: &Command) -> bool
 }
 
 /// An engine that isn't too large.
-fn new_engine(alloc: Global, config: Config) -> Result<Core, NoMemory>
+pub fn new_engine(alloc: Global, config: Config) -> Result<Core, NoMemory>
     requires { too_large config ≡ false }
     ensures { IfOk result (λ engine. engine.core ≡ new_core config) }
 {
@@ -181,7 +181,7 @@ fn new_engine(alloc: Global, config: Config) -> Result<Core, NoMemory>
 }
 
 /// A job for each script, numbered from 1 in their order.
-fn jobs_of(alloc: Global, scripts: Items<Script>) -> Result<Jobs, NoMemory>
+pub fn jobs_of(alloc: Global, scripts: Items<Script>) -> Result<Jobs, NoMemory>
     requires { length scripts ≤ MAX_SCRIPTS }
     ensures { IfOk result (λ jobs. jobs ≡ new_jobs 1 scripts) }
 {

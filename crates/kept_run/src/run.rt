@@ -1,0 +1,80 @@
+//! The run of the scripts, with its commits kept.
+
+ghost use Rattle.std.specs.Prelude.{◌≡◌, ◌≤◌, [], List, length, All, OnOk, OnErr, IfOk, IfErr, false};
+ghost use Rattle.graph_model.specs.declared.limits.TheConstants.{MAX_LEAVES};
+ghost use Rattle.graph_model.specs.declared.journal.Commit.{Commit};
+ghost use Rattle.run_model.specs.Inputs.{AreInputs};
+ghost use Rattle.run_model.specs.Run.{IsRun};
+ghost use Rattle.journal_disk.specs.Disk.{FaultsStand};
+ghost use Rattle.run_keeper.specs.Keeping.{IsKept, AreAcknowledged};
+ghost use Rattle.source_run.specs.Input.{inputs_of};
+ghost use Rattle.source_run.specs.Parsing.{meaning_of};
+ghost use Rattle.source_run.specs.Running.{run_outputs, HasCounts, IsSteppedRun};
+ghost use Rattle.kept_run.specs.Refusals.{IsRefusedKept};
+
+use crate::refusal::KeptRefusal;
+use graph_model::Kind;
+use journal_disk::Disk;
+use run_keeper::{Keeper, run_kept};
+use run_model::stepped_runs_are_runs;
+use serial_model::serial_stepped_runs_are_serial_runs;
+use source_run::{Input, RunResult, config_of, jobs_of, load_graph, new_engine};
+use std::alloc::Global;
+use std::thread::Threads;
+
+/// Loads the graph, and runs the scripts on it by their turns. The commits of the load and of the turns are kept by a
+/// keeper whose file is new.
+pub fn run_scripts_kept<R: Threads + Sync, K: Disk>(
+    rt: &R,
+    alloc: Global,
+    kind: Kind,
+    leaves: u32,
+    input: Input,
+    disk: &mut K,
+    keeper: &mut Keeper,
+) -> Result<RunResult, KeptRefusal>
+    requires some { 1 ≤ leaves }
+    requires few { leaves ≤ MAX_LEAVES }
+    requires inputs { AreInputs (inputs_of kind (meaning_of input)) }
+    requires listed { All (λ job. job ≤ length input.scripts) input.schedule }
+    ensures run { IfOk result (λ r. IsRun (inputs_of kind (meaning_of input)) leaves (run_outputs r)) }
+    ensures left { IfOk result (IsSteppedRun false kind leaves input) }
+    ensures counts { IfOk result (HasCounts kind) }
+    ensures kept { IfOk result (λ r.
+        IsKept K.moment K.may_leave K.left_since K.state kind [] keeper.old.file disk.old
+        → IsKept K.moment K.may_leave K.left_since K.state kind r.ran.core.journal keeper.new.file disk.new) }
+    ensures still { OnErr result (IsKept K.moment K.may_leave K.left_since K.state kind [] keeper.old.file disk.old
+        → (journal : List Commit)
+        × AreAcknowledged K.moment K.may_leave K.left_since kind journal keeper.new.file.count disk.new) }
+    ensures ok { OnOk result (FaultsStand (K.state disk.old) (K.state disk.new)) }
+    ensures refused { IfErr result
+        (IsRefusedKept kind leaves input.ids input.edges (K.state disk.old) (K.state disk.new)) }
+{
+    stepped_runs_are_runs();
+    serial_stepped_runs_are_serial_runs();
+    let config = config_of(kind, leaves, input.scripts.as_slice());
+    let mut engine = new_engine(alloc, config)?;
+    let Input {
+        ids,
+        edges,
+        scripts,
+        schedule,
+    } = input;
+    load_graph(rt, alloc, &mut engine, ids, edges)?;
+    let mut jobs = jobs_of(alloc, scripts)?;
+    run_kept(
+        rt,
+        &mut engine,
+        &mut jobs,
+        schedule.as_slice(),
+        disk,
+        keeper,
+    )?;
+    engine.settle();
+    let totals = engine.totals();
+    Ok(RunResult {
+        ran: engine.into_journal(),
+        jobs,
+        totals,
+    })
+}
