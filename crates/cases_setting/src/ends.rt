@@ -3,9 +3,11 @@ ghost use Rattle.std.specs.Prelude.{◌≡◌, [], IfOk};
 ghost use Rattle.std.specs.String.{string_bytes};
 
 use desk_io::{MemoryDesk, OpenGate};
+use journal_disk::MemoryDisk;
+use kept_program::teseo_kept;
 use std::alloc::{AllocError, Global};
 use std::thread::Threads;
-use teseo_program::{Left, teseo};
+use teseo_program::Left;
 
 /// A file: its name and its text.
 pub type File<'a> = (&'a str, &'a str);
@@ -55,9 +57,22 @@ pub fn difference_on<R: Threads + Sync>(
     line: &str,
     wanted: End,
 ) -> Result<String, AllocError> {
+    let mut disk = MemoryDisk::with_failing(alloc, &[])?;
+    difference_with(rt, alloc, desk, &mut disk, line, wanted)
+}
+
+/// The same with a disk that is there.
+pub fn difference_with<R: Threads + Sync>(
+    rt: &R,
+    alloc: Global,
+    desk: &mut MemoryDesk,
+    disk: &mut MemoryDisk,
+    line: &str,
+    wanted: End,
+) -> Result<String, AllocError> {
     let words = split(alloc, line)?;
     let mut left = Left::Nothing;
-    let status = teseo(rt, alloc, &words, desk, &OpenGate, &mut left);
+    let status = teseo_kept(rt, alloc, &words, desk, &OpenGate, &mut left, disk);
     let found = text_of_desk(alloc, status, desk, wanted.3)?;
     let wanted = text_of_end(alloc, wanted)?;
     difference(alloc, found.as_str(), wanted.as_str())

@@ -62,14 +62,8 @@ pub fn run_scripts_kept<R: Threads + Sync, K: Disk>(
     } = input;
     load_graph(rt, alloc, &mut engine, ids, edges)?;
     let mut jobs = jobs_of(alloc, scripts)?;
-    run_kept(
-        rt,
-        &mut engine,
-        &mut jobs,
-        schedule.as_slice(),
-        disk,
-        keeper,
-    )?;
+    let schedule = schedule.as_slice();
+    run_kept(rt, &mut engine, &mut jobs, schedule, disk, keeper)?;
     engine.settle();
     let totals = engine.totals();
     Ok(RunResult {

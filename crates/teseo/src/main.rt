@@ -1,10 +1,12 @@
-//! The program `teseo`: runs scripts on a graph, or makes one, over real files.
+//! The program `teseo`: runs scripts on a graph, makes one, or reads a journal file back, over real files.
 //!
 //! 1. The descriptors of standard input, output and error are open before any file is, so that no
 //!    output can take the place of one that was closed.
 #![tactic(auto)]
 
 use desk_io::{OpenGate, StdDesk};
+use journal_disk::StdDisk;
+use kept_program::teseo_kept;
 use std::alloc::Global;
 use std::env::Env;
 use std::fs::{File, OpenOptions};
@@ -12,7 +14,7 @@ use std::os::fd::AsRawFd;
 use std::process::ExitCode;
 use std::rt::Files;
 use std::{env, io};
-use teseo_program::{Left, Outcome, end_with, teseo};
+use teseo_program::{Left, Outcome, end_with};
 
 /// The last descriptor of the three that a program begins with.
 const STANDARD_ERROR: i32 = 2;
@@ -22,9 +24,12 @@ fn main(rt: HostRuntime) -> ExitCode {
     let alloc = rt.alloc();
     let words = words(&rt, alloc);
     let mut desk = StdDesk::new(alloc, &rt);
+    let mut disk = StdDisk::new(&rt);
     let mut left = Left::Nothing;
     ExitCode::from(match words {
-        Ok(words) => teseo(&rt, alloc, &words, &mut desk, &OpenGate, &mut left),
+        Ok(words) => teseo_kept(
+            &rt, alloc, &words, &mut desk, &OpenGate, &mut left, &mut disk,
+        ),
         Err(outcome) => end_with(&mut desk, outcome),
     })
 }

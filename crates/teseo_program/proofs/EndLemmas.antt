@@ -18,7 +18,7 @@ use Rattle.run_model.specs.Run.{answered_scripts, IsRun}
 use Rattle.serial_model.specs.SerialRun.{inputs_read, outputs_read}
 use Rattle.script_lang.specs.Scripts.{script_of, files_of}
 use Rattle.script_lang.specs.declared.refusal.ScriptRefusal.{ScriptRefusal}
-use Rattle.command_words.specs.Words.{RunRequest, Request, run, IsTaken, taken_names}
+use Rattle.command_words.specs.Words.{RunRequest, taken_names}
 use Rattle.desk_io.specs.Files.{Files}
 use Rattle.desk_io.specs.declared.sources.ReadStop.{ReadStop}
 use Rattle.desk_io.specs.declared.sources.ReadStop.TheVariants as reads
@@ -29,9 +29,9 @@ use Rattle.source_run.specs.Requests.{source_names, kind_of, rules_of}
 use Rattle.source_run.specs.Input.{Meaning, Texts, texts_of, AreScripts, IsAccepted, inputs_of}
 use Rattle.source_run.specs.Leaves.{leaves_for, leaves_of, most_rows}
 use Rattle.source_run.specs.Running.{IsRunAs}
-use Rattle.teseo_program.specs.Outcomes.{status_of, is_full, shows_full, IsRunOutcome, IsOutcome, Ends}
+use Rattle.teseo_program.specs.Outcomes.{status_of, is_full, shows_full, IsRunOutcome}
 use Rattle.teseo_program.specs.Laws.{AreTold, HasNoFault, RunsWithRoomEndWell}
-use Rattle.teseo_program.proofs.LawLemmas.{asked_ends, read_told, end_well}
+use Rattle.teseo_program.proofs.LawLemmas.{read_told, end_well}
 use Rattle.teseo_program.proofs.RoomLawLemmas.{loads_find_room, runs_find_room}
 use Rattle.teseo_program.proofs.SerialRunLemmas.{rows_read, full_read}
 
@@ -162,22 +162,19 @@ not_six outcome other ends = ⊎_elim
     ends
 
 pub room_ends_well : RunsWithRoomEndWell
-room_ends_well Full words request sources m old new taken unstated told accepted few no_fault left left' (other, also, ends) =
-    absurd (no_full_run request sources m old new told accepted unstated few left left' (asked_ends Full words (run request) other old new left left' taken also ends))
-room_ends_well LoadFull words request sources m old new taken unstated told accepted few no_fault left left' (other, also, ends) =
-    absurd (no_full_load request sources m old new told accepted unstated few left left' (asked_ends LoadFull words (run request) other old new left left' taken also ends))
-room_ends_well Done words request sources m old new taken unstated told accepted few no_fault left left' ends = inl refl
-room_ends_well NoMemory words request sources m old new taken unstated told accepted few no_fault left left' ends = inr refl
-room_ends_well BadWords words request sources m old new taken unstated told accepted few no_fault left left' (never_taken, says, kept) =
-    absurd (never_taken (run request) taken)
-room_ends_well (NotRead stop) words request sources m old new taken unstated told accepted few no_fault left left' ends =
-    not_six (NotRead stop) (no_read_six stop) (end_well (NotRead stop) words request sources m old new taken told accepted no_fault left left' ends)
+room_ends_well Full request sources m old new unstated told accepted few no_fault left left' is = absurd (no_full_run request sources m old new told accepted unstated few left left' is)
+room_ends_well LoadFull request sources m old new unstated told accepted few no_fault left left' is = absurd (no_full_load request sources m old new told accepted unstated few left left' is)
+room_ends_well Done request sources m old new unstated told accepted few no_fault left left' is = inl refl
+room_ends_well NoMemory request sources m old new unstated told accepted few no_fault left left' is = inr refl
+room_ends_well BadWords request sources m old new unstated told accepted few no_fault left left' is = absurd is.cause
+room_ends_well (NotRead stop) request sources m old new unstated told accepted few no_fault left left' is =
+    not_six (NotRead stop) (no_read_six stop) (end_well (NotRead stop) request sources m old new told accepted no_fault left left' is)
   where
     no_read_six : (stop : ReadStop) → status_of (NotRead stop) ≡ 6 → ⊥
     no_read_six (reads.Fault place) e = let n : 4 ≡ 6 = e in omega (arith, n)
     no_read_six (reads.TooLong place) e = let n : 1 ≡ 6 = e in omega (arith, n)
     no_read_six reads.NoMemory e = let n : 3 ≡ 6 = e in omega (arith, n)
-room_ends_well (NotAccepted place fault) words request sources m old new taken unstated told accepted few no_fault left left' ends =
-    not_six (NotAccepted place fault) (λ e. (let n : 1 ≡ 6 = e in omega (arith, n))) (end_well (NotAccepted place fault) words request sources m old new taken told accepted no_fault left left' ends)
-room_ends_well (NotWritten stop) words request sources m old new taken unstated told accepted few no_fault left left' ends =
-    not_six (NotWritten stop) (λ e. (let n : 5 ≡ 6 = e in omega (arith, n))) (end_well (NotWritten stop) words request sources m old new taken told accepted no_fault left left' ends)
+room_ends_well (NotAccepted place fault) request sources m old new unstated told accepted few no_fault left left' is =
+    not_six (NotAccepted place fault) (λ e. (let n : 1 ≡ 6 = e in omega (arith, n))) (end_well (NotAccepted place fault) request sources m old new told accepted no_fault left left' is)
+room_ends_well (NotWritten stop) request sources m old new unstated told accepted few no_fault left left' is =
+    not_six (NotWritten stop) (λ e. (let n : 5 ≡ 6 = e in omega (arith, n))) (end_well (NotWritten stop) request sources m old new told accepted no_fault left left' is)

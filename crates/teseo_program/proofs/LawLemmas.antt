@@ -16,8 +16,7 @@ use Rattle.script_lang.specs.declared.refusal.ScriptRefusal.TheVariants as scrip
 use Rattle.script_lang.specs.declared.refusal.ScheduleRefusal.{ScheduleRefusal}
 use Rattle.script_lang.specs.declared.refusal.ScheduleRefusal.TheVariants as schedule_refusals
 use Rattle.script_lang.specs.Scripts.{files_of}
-use Rattle.command_words.specs.Words.{RunRequest, MakeRequest, Request, run, make, IsTaken, taken_names}
-use Rattle.command_words.proofs.WordLemmas.{taken_once}
+use Rattle.command_words.specs.Words.{RunRequest, MakeRequest, taken_names}
 use Rattle.source_run.specs.Requests.{source_names, rules_of}
 use Rattle.source_run.specs.declared.fault.SourceFault.{SourceFault}
 use Rattle.source_run.specs.declared.fault.SourceFault.TheVariants as faults
@@ -25,10 +24,10 @@ use Rattle.teseo_program.specs.declared.outcome.Outcome.{Outcome}
 use Rattle.teseo_program.specs.declared.outcome.Outcome.TheVariants.{Done, Full, LoadFull, BadWords, NotRead, NotAccepted, NoMemory, NotWritten}
 use Rattle.teseo_program.specs.declared.left.Left.{Left}
 use Rattle.source_run.specs.Input.{Meaning, Texts, texts_of, HasGraphFault, AreScripts, IsSchedule, IsAccepted, IsFaultBehind, IsNotAccepted}
-use Rattle.teseo_program.specs.Outcomes.{status_of, IsRunOutcome, IsMakeOutcome, Ends}
+use Rattle.teseo_program.specs.Outcomes.{status_of, IsRunOutcome, IsMakeOutcome}
 use Rattle.teseo_program.specs.Laws.{IsTold, AreTold, Stands, HasNoFault, AcceptedRunsEndWell, GraphsAreMade}
 
-stands_still : (before now : ℕ) → Stands before now → Rose before now → ⊥
+pub stands_still : (before now : ℕ) → Stands before now → Rose before now → ⊥
 stands_still before now stands (inl more) = let same : now ≡ before = stands.same in let below : before < 2 ^ 64 - 1 = stands.below in omega arith
 stands_still before now stands (inr last) = let at : before ≡ 2 ^ 64 - 1 = last.0 in let below : before < 2 ^ 64 - 1 = stands.below in omega arith
 
@@ -125,23 +124,9 @@ module _ (request : RunRequest) (sources : List (List ℕ)) (m : Meaning) (old n
       let kept : new.write_faults ≡ is.before.write_faults = ap (λ f. f.write_faults) is.says.rest in
       absurd (stands_still old.write_faults new.write_faults no_fault.writes (subst (Rose old.write_faults) (sym kept) is.cause.1.2.rose))
 
--- words ask for one thing, so the call ends as that does
-pub asked_ends : (outcome : Outcome) (words : List (List ℕ)) (request other : Request) (old new : Files) (left left' : Left) → IsTaken words request → IsTaken words other → Ends outcome other old new left left' → Ends outcome request old new left left'
-asked_ends outcome words request other old new left left' taken also = subst (λ asked. Ends outcome asked old new left left') (taken_once words other request also taken)
-
 -- an accepted run without a fault is done, or finds no place, or wants memory
 pub end_well : AcceptedRunsEndWell
-end_well BadWords words request sources m old new taken told accepted no_fault left left' (never, says, kept) = absurd (never (run request) taken)
-end_well Done words request sources m old new taken told accepted no_fault left left' ends = inl refl
-end_well Full words request sources m old new taken told accepted no_fault left left' ends = inr (inl refl)
-end_well LoadFull words request sources m old new taken told accepted no_fault left left' ends = inr (inl refl)
-end_well NoMemory words request sources m old new taken told accepted no_fault left left' ends = inr (inr refl)
-end_well (NotRead stop) words request sources m old new taken told accepted no_fault left left' (other, also, ends) =
-    run_ends_well request sources m old new told accepted no_fault (NotRead stop) left left' (asked_ends (NotRead stop) words (run request) other old new left left' taken also ends)
-end_well (NotAccepted place fault) words request sources m old new taken told accepted no_fault left left' (other, also, ends) =
-    run_ends_well request sources m old new told accepted no_fault (NotAccepted place fault) left left' (asked_ends (NotAccepted place fault) words (run request) other old new left left' taken also ends)
-end_well (NotWritten stop) words request sources m old new taken told accepted no_fault left left' (other, also, ends) =
-    run_ends_well request sources m old new told accepted no_fault (NotWritten stop) left left' (asked_ends (NotWritten stop) words (run request) other old new left left' taken also ends)
+end_well outcome request sources m old new told accepted no_fault left left' is = run_ends_well request sources m old new told accepted no_fault outcome left left' is
 
 graph_ends_well : (outcome : Outcome) (request : MakeRequest) (old new : Files) → HasNoFault old new → IsMakeOutcome outcome request old new → (outcome ≡ Done) ⊎ (status_of outcome ≡ 3)
 graph_ends_well Done request old new no_fault is = inl refl
@@ -157,16 +142,4 @@ graph_ends_well (NotWritten stop) request old new no_fault is =
 
 -- a graph is made without a fault, or memory is wanted
 pub graphs_made : GraphsAreMade
-graphs_made BadWords words request old new taken no_fault left left' (never, says, kept) = absurd (never (make request) taken)
-graphs_made NoMemory words request old new taken no_fault left left' says = inr refl
-graphs_made Done words request old new taken no_fault left left' ends = inl refl
-graphs_made Full words request old new taken no_fault left left' (other, also, ends) =
-    graph_ends_well Full request old new no_fault (asked_ends Full words (make request) other old new left left' taken also ends).0
-graphs_made LoadFull words request old new taken no_fault left left' (other, also, ends) =
-    graph_ends_well LoadFull request old new no_fault (asked_ends LoadFull words (make request) other old new left left' taken also ends).0
-graphs_made (NotRead stop) words request old new taken no_fault left left' (other, also, ends) =
-    graph_ends_well (NotRead stop) request old new no_fault (asked_ends (NotRead stop) words (make request) other old new left left' taken also ends).0
-graphs_made (NotAccepted place fault) words request old new taken no_fault left left' (other, also, ends) =
-    graph_ends_well (NotAccepted place fault) request old new no_fault (asked_ends (NotAccepted place fault) words (make request) other old new left left' taken also ends).0
-graphs_made (NotWritten stop) words request old new taken no_fault left left' (other, also, ends) =
-    graph_ends_well (NotWritten stop) request old new no_fault (asked_ends (NotWritten stop) words (make request) other old new left left' taken also ends).0
+graphs_made outcome request old new no_fault is = graph_ends_well outcome request old new no_fault is

@@ -4,10 +4,7 @@ use Rattle.graph_model.specs.declared.write.Kind.TheVariants.{Directed}
 use Rattle.teseo_core.specs.Keeping.{LeftStore}
 use Rattle.desk_io.specs.Files.{Files}
 use Rattle.desk_io.specs.Outputs.{names_of, WritesAll, FailsAtPlace}
-use Rattle.command_words.specs.declared.refusal.WordsRefusal.{WordsRefusal}
-use Rattle.command_words.specs.declared.refusal.WordsRefusal.TheVariants as word_refusals
-use Rattle.command_words.specs.Words.{RunRequest, MakeRequest, Request, run, make, IsTaken}
-use Rattle.command_words.specs.Views.{RefusesWords}
+use Rattle.command_words.specs.Words.{RunRequest, MakeRequest}
 use Rattle.teseo_program.specs.declared.outcome.Outcome.{Outcome}
 use Rattle.teseo_program.specs.declared.outcome.Outcome.TheVariants.{Done, Full, LoadFull, BadWords, NotRead, NotAccepted, NoMemory, NotWritten}
 use Rattle.teseo_program.specs.declared.prepare.Prepared.{Prepared}
@@ -15,7 +12,7 @@ use Rattle.teseo_program.specs.declared.left.Left.{Left}
 use Rattle.teseo_program.specs.declared.left.Left.TheVariants.{Stepped}
 use Rattle.source_run.specs.Requests.{source_names}
 use Rattle.teseo_program.specs.Prepared.{IsUnprepared, IsPreparedOf, IsMadeGraph, Writes, IsWritten, made_of}
-use Rattle.teseo_program.specs.Outcomes.{Made, IsCause, OnlySays, SaysOutcome, said_text, blamed, outcome_of_words, IsLeft, IsRunOutcome, IsMakeCause, IsMakeOutcome, Ends, IsOutcome}
+use Rattle.teseo_program.specs.Outcomes.{Made, IsCause, OnlySays, SaysOutcome, said_text, blamed, IsLeft, IsRunOutcome, IsMakeCause, IsMakeOutcome}
 
 -- ---- a run
 
@@ -113,24 +110,3 @@ module _ (request : MakeRequest) (p : Prepared) (made : IsMadeGraph request p) w
     cause = graph_cause old written.before outcome written.writes;
     says = subst (λ text. OnlySays text written.before new) (λ i. said_text (blamed [] (names_of (made.outputs_are i)) outcome) (made.summary_is i) outcome) written.says;
   }
-
--- ---- a call
-
--- a call whose words are taken ends as its request does
-pub taken_ends : (outcome : Outcome) (words : List (List ℕ)) (request : Request) (old new : Files) (left left' : Left) → IsTaken words request → Ends outcome request old new left left' → IsOutcome outcome words old new left left'
-taken_ends Done words request old new left left' taken ends = (request, taken, ends)
-taken_ends Full words request old new left left' taken ends = (request, taken, ends)
-taken_ends LoadFull words request old new left left' taken ends = (request, taken, ends)
-taken_ends BadWords words (run request) old new left left' taken ends = absurd ends.cause
-taken_ends BadWords words (make request) old new left left' taken ends = absurd ends.0.cause
-taken_ends (NotRead stop) words request old new left left' taken ends = (request, taken, ends)
-taken_ends (NotAccepted place fault) words request old new left left' taken ends = (request, taken, ends)
-taken_ends NoMemory words (run request) old new left left' taken ends = (subst (λ files. OnlySays (said_text [] [] NoMemory) files new) ends.cause ends.says, ends.left_is)
-taken_ends NoMemory words (make request) old new left left' taken ends = (subst (λ files. OnlySays (said_text [] [] NoMemory) files new) ends.0.cause ends.0.says, ends.1)
-taken_ends (NotWritten stop) words request old new left left' taken ends = (request, taken, ends)
-
--- and one whose words are refused says so alone
-pub refused_ends : (refusal : WordsRefusal) (words : List (List ℕ)) (old new : Files) (left : Left) → RefusesWords words refusal
-    → OnlySays (said_text [] [] (outcome_of_words refusal)) old new → IsOutcome (outcome_of_words refusal) words old new left left
-refused_ends word_refusals.BadWords words old new left never says = (λ request taken. never (request, taken), says, refl)
-refused_ends word_refusals.NoMemory words old new left never says = (says, refl)

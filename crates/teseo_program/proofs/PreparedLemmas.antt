@@ -91,7 +91,7 @@ module _ (allows : LoadIsAllowed) (limits : LoadIsWithinLimits) (files : FilesAr
     pub are_apart : (outputs : List NamedText) → outputs ≡ sinks_of request.journal (report_names request) (run_outputs r) → AllPairs (λ a b. a ≢ b) (names_of outputs)
     are_apart outputs is = subst (λ os. AllPairs (λ a b. a ≢ b) (names_of os)) (sym is)
         (sinks_apart request.journal (report_names request) (given_names request) (taken_names request) (flat_map files_of m.scripts) (run_outputs r) refl
-        (sub_behind (request.vertices ∷ request.edges ∷ []) (request.journal ∷ []) (request.journal ∷ (option_to_list request.schedule ++ request.scripts)) (inl (refl, tt)))
+        (sub_behind (request.vertices ∷ request.edges ∷ []) (request.journal ∷ []) (request.journal ∷ (option_to_list request.schedule ++ (option_to_list request.keep ++ request.scripts))) (inl (refl, tt)))
         (files_as is_serial (inputs_of kind m) leaves (run_outputs r) run)
         (files_apart (taken_names request) m.scripts (distinct_names request asked) can))
 

@@ -10,13 +10,13 @@ use Rattle.run_model.specs.Run.{IsRun, run_lines}
 use Rattle.desk_io.specs.Files.{Files}
 use Rattle.teseo_program.specs.declared.outcome.Outcome.{Outcome}
 use Rattle.teseo_program.specs.declared.outcome.Outcome.TheVariants.{Done}
-use Rattle.command_words.specs.Words.{RunRequest, MakeRequest, run, make, IsTaken}
+use Rattle.command_words.specs.Words.{RunRequest, MakeRequest}
 use Rattle.teseo_program.specs.declared.left.Left.{Left}
 use Rattle.source_run.specs.Requests.{source_names, kind_of}
 use Rattle.source_run.specs.Input.{Meaning, texts_of, IsAccepted, inputs_of}
 use Rattle.source_run.specs.declared.leaves.TheConstants.{MOST_ROWS}
 use Rattle.source_run.specs.Leaves.{leaves_for, most_rows}
-use Rattle.teseo_program.specs.Outcomes.{status_of, IsOutcome}
+use Rattle.teseo_program.specs.Outcomes.{status_of, IsRunOutcome, IsMakeOutcome}
 
 -- the desk holds these bytes under the name, and they aren't too long
 pub record IsTold (files : Files) (name bytes : List ℕ) : Type 0 where
@@ -37,34 +37,30 @@ pub record HasNoFault (old new : Files) : Type 0 where
   pub reads : Stands old.read_faults new.read_faults
   pub writes : Stands old.write_faults new.write_faults
 
--- a run whose words and sources are accepted, and that meets no fault, is done, or has no place for a row of the graph
--- or of a write, or wants memory
+-- a run whose sources are accepted, and that meets no fault, is done, or has no place for a row of the graph or of a
+-- write, or wants memory
 abbrev pub AcceptedRunsEndWell : Type 0
 AcceptedRunsEndWell =
-    (outcome : Outcome) (words : List (List ℕ)) (request : RunRequest) (sources : List (List ℕ)) (m : Meaning)
-    (old new : Files) → IsTaken words (run request) → AreTold request old sources
-    → IsAccepted request (texts_of request sources) m → HasNoFault old new
-    → (left left' : Left) → IsOutcome outcome words old new left left'
+    (outcome : Outcome) (request : RunRequest) (sources : List (List ℕ)) (m : Meaning) (old new : Files)
+    → AreTold request old sources → IsAccepted request (texts_of request sources) m → HasNoFault old new
+    → (left left' : Left) → IsRunOutcome outcome request old new left left'
     → (outcome ≡ Done) ⊎ ((status_of outcome ≡ 6) ⊎ (status_of outcome ≡ 3))
 
 -- and where no leaves are stated, and the rows of the load and of all lines together fill fewer leaves than there may
 -- be, it is done, or wants memory: the status is 0 or 3
 abbrev pub RunsWithRoomEndWell : Type 0
 RunsWithRoomEndWell =
-    (outcome : Outcome) (words : List (List ℕ)) (request : RunRequest) (sources : List (List ℕ)) (m : Meaning)
-    (old new : Files) → IsTaken words (run request) → request.leaves ≡ None → AreTold request old sources
-    → IsAccepted request (texts_of request sources) m
+    (outcome : Outcome) (request : RunRequest) (sources : List (List ℕ)) (m : Meaning) (old new : Files)
+    → request.leaves ≡ None → AreTold request old sources → IsAccepted request (texts_of request sources) m
     → most_rows (inputs_of (kind_of request) m) < SPLIT_ROWS * MAX_LEAVES → HasNoFault old new
-    → (left left' : Left) → IsOutcome outcome words old new left left'
+    → (left left' : Left) → IsRunOutcome outcome request old new left left'
     → (status_of outcome ≡ 0) ⊎ (status_of outcome ≡ 3)
 
 -- a graph that is asked for is made and written, if no fault is met, or memory is wanted
 abbrev pub GraphsAreMade : Type 0
 GraphsAreMade =
-    (outcome : Outcome) (words : List (List ℕ)) (request : MakeRequest) (old new : Files)
-    → IsTaken words (make request) → HasNoFault old new
-    → (left left' : Left) → IsOutcome outcome words old new left left'
-    → (outcome ≡ Done) ⊎ (status_of outcome ≡ 3)
+    (outcome : Outcome) (request : MakeRequest) (old new : Files) → HasNoFault old new
+    → IsMakeOutcome outcome request old new → (outcome ≡ Done) ⊎ (status_of outcome ≡ 3)
 
 -- ---- limits
 

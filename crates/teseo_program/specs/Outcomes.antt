@@ -18,7 +18,7 @@ use Rattle.graph_files.specs.Faults as graph_faults
 use Rattle.script_lang.specs.Faults.{what_text, schedule_what_text}
 use Rattle.command_words.specs.declared.refusal.WordsRefusal.{WordsRefusal}
 use Rattle.command_words.specs.declared.refusal.WordsRefusal.TheVariants as word_refusals
-use Rattle.command_words.specs.Words.{RunRequest, MakeRequest, Request, run, make, IsTaken}
+use Rattle.command_words.specs.Words.{RunRequest, MakeRequest}
 use Rattle.source_run.specs.Requests.{source_names, report_names, name_at, kind_of}
 use Rattle.source_run.specs.declared.fault.SourceFault.{SourceFault}
 use Rattle.source_run.specs.declared.fault.SourceFault.TheVariants as faults
@@ -247,28 +247,3 @@ pub record IsMakeOutcome (outcome : Outcome) (request : MakeRequest) (old new : 
   pub cause : IsMakeCause outcome request old before
   pub says : OnlySays
       (said_text (blamed [] (names_of (graph_outputs request)) outcome) (made_text request) outcome) before new
-
--- ---- the end of a call
-
--- how a call ends that asks for this
-abbrev pub Ends : Outcome → Request → Files → Files → Left → Left → Type 0
-Ends outcome (run request) old new left left' = IsRunOutcome outcome request old new left left'
-Ends outcome (make request) old new left left' = IsMakeOutcome outcome request old new × (left' ≡ left)
-
--- how a call ends whose words are taken
-abbrev pub TakenEnds : Outcome → List (List ℕ) → Files → Files → Left → Left → Type 0
-TakenEnds outcome words old new left left' =
-    (request : Request) × IsTaken words request × Ends outcome request old new left left'
-
--- how a call ends: by its words first. Memory for the words may be refused before they are taken
-abbrev pub IsOutcome : Outcome → List (List ℕ) → Files → Files → Left → Left → Type 0
-IsOutcome BadWords words old new left left' =
-    ((request : Request) → IsTaken words request → ⊥) × OnlySays (said_text [] [] BadWords) old new × (left' ≡ left)
-IsOutcome NoMemory words old new left left' = OnlySays (said_text [] [] NoMemory) old new × (left' ≡ left)
-IsOutcome Done words old new left left' = TakenEnds Done words old new left left'
-IsOutcome Full words old new left left' = TakenEnds Full words old new left left'
-IsOutcome LoadFull words old new left left' = TakenEnds LoadFull words old new left left'
-IsOutcome (NotRead stop) words old new left left' = TakenEnds (NotRead stop) words old new left left'
-IsOutcome (NotAccepted place fault) words old new left left' =
-    TakenEnds (NotAccepted place fault) words old new left left'
-IsOutcome (NotWritten stop) words old new left left' = TakenEnds (NotWritten stop) words old new left left'

@@ -1,5 +1,5 @@
 -- What is made before the first output is created, and why nothing is.
-use Rattle.std.specs.Prelude.{◌≡◌, ◌≢◌, ◌*◌, ◌≤◌, Bool, true, false, List, [], AllPairs}
+use Rattle.std.specs.Prelude.{◌≡◌, ◌≢◌, ℕ, ◌*◌, ◌≤◌, Bool, true, false, List, [], AllPairs}
 use Rattle.graph_model.specs.declared.limits.TheConstants.{MAX_SOURCE_BYTES, SPLIT_ROWS}
 use Rattle.graph_model.specs.declared.load.LoadRefusal.{LoadRefusal}
 use Rattle.graph_model.specs.declared.load.LoadRefusal.TheVariants as refusals
@@ -8,14 +8,14 @@ use Rattle.graphalytics_io.specs.Load.{load_of}
 use Rattle.run_model.specs.Inputs.{Outputs}
 use Rattle.desk_io.specs.Outputs.{NamedText, names_of, WritesAll, FailsAtPlace}
 use Rattle.desk_io.specs.Files.{Files}
-use Rattle.desk_io.specs.Sources.{IsReadStop}
+use Rattle.desk_io.specs.Sources.{AreRead, IsReadStop}
 use Rattle.command_words.specs.Words.{RunRequest, MakeRequest}
 use Rattle.source_run.specs.Requests.{source_names, report_names, kind_of}
 use Rattle.teseo_program.specs.declared.outcome.Outcome.{Outcome}
 use Rattle.teseo_program.specs.declared.outcome.Outcome.TheVariants.{Done, Full, LoadFull, BadWords, NotRead, NotAccepted, NoMemory, NotWritten}
 use Rattle.teseo_program.specs.declared.prepare.Prepared.{Prepared}
 use Rattle.teseo_program.specs.declared.left.Left.TheVariants.{Stepped}
-use Rattle.source_run.specs.Input.{Meaning, inputs_of}
+use Rattle.source_run.specs.Input.{Meaning, texts_of, IsAccepted, inputs_of}
 use Rattle.source_run.specs.Leaves.{leaves_of}
 use Rattle.teseo_core.specs.Keeping.{LeftStore}
 use Rattle.source_run.specs.Running.{IsRunAs, IsLeftAs}
@@ -35,6 +35,12 @@ IsUnprepared request old new Full = ⊥
 IsUnprepared request old new LoadFull = IsFullLoad request old × (new ≡ old)
 IsUnprepared request old new BadWords = ⊥
 IsUnprepared request old new (NotWritten stop) = ⊥
+
+-- all sources were read and accepted, and stand for this
+abbrev pub AreAccepted : RunRequest → Files → Meaning → Type 0
+AreAccepted request files m =
+    (sources : List (List ℕ)) × AreRead MAX_SOURCE_BYTES files (source_names request) sources
+    × IsAccepted request (texts_of request sources) m
 
 -- ---- what was made
 

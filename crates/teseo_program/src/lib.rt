@@ -1,4 +1,4 @@
-//! The top call: from the words to the written files.
+//! A run, or a graph that is made: from what the words ask for to the written files.
 //!
 //! 1. All sources of a run are read before any of them is parsed, and all are parsed before the first script runs.
 //! 2. All texts are made before the first output is created.
@@ -20,5 +20,8 @@ pub use laws::{
 };
 pub use left::Left;
 pub use outcome::Outcome;
-pub use program::{end_with, teseo};
+pub use outputs::{is_full, output_of, outputs_of, summary_of};
+pub use prepare::{Prepared, read_input};
+pub use program::{blamed_source, end_with, hand_out, make, run, write_and_say};
+pub use say::{say_line, say_outcome};
 pub use source_run::{ParseStop, SourceFault};

@@ -7,7 +7,7 @@ ghost use Rattle.command_words.specs.Views.{run_request};
 ghost use Rattle.source_run.specs.Requests.{IsAsked, kind_of};
 ghost use Rattle.source_run.specs.Input.{Texts, IsAccepted};
 ghost use Rattle.source_run.specs.Parsing.{meaning_of, AreRunnable};
-ghost use Rattle.teseo_program.specs.Prepared.{IsUnprepared, IsPreparedOf, IsMadeOf, IsLoadStop, NamesAreApart};
+ghost use Rattle.teseo_program.specs.Prepared.{IsUnprepared, AreAccepted, IsPreparedOf, IsMadeOf, IsLoadStop, NamesAreApart};
 
 use crate::left::Left;
 use crate::outcome::Outcome;
@@ -18,7 +18,7 @@ use graph_files::{files_are_loadable, load_is_legal};
 use graph_model::{LoadRefusal, MAX_SOURCE_BYTES};
 use graphalytics_io::Text;
 use items::Items;
-use source_run::{Input, ParseStop, kind_of, leaves_of, parse_sources, run_scripts, sources_of};
+use source_run::{Input, kind_of, leaves_of, parse_sources, run_scripts, sources_of};
 use std::alloc::Global;
 use std::thread::Threads;
 
@@ -45,16 +45,33 @@ pub fn prepare<R: Threads + Sync, D: Desk>(
     ensures ok { OnOk result (D.files desk.new ≡ D.files desk.old) }
     ensures refused { IfErr result (IsUnprepared (run_request words.now) (D.files desk.old) (D.files desk.new)) }
 {
-    let names = sources_of(alloc, words)?;
-    let sources = read_all(alloc, desk, &names, MAX_SOURCE_BYTES)?;
-    let input = match parse_sources(rt, alloc, &sources, words) {
-        Ok(input) => input,
-        Err(stop) => return Err(Outcome::from(stop)),
-    };
-    drop(sources);
+    let input = read_input(rt, alloc, desk, words)?;
     match make(rt, alloc, words, input) {
         Ok(prepared) => Ok(prepared),
         Err(refusal) => Err(Outcome::from(refusal)),
+    }
+}
+
+/// Reads the sources, and parses them. Creates nothing.
+pub fn read_input<R: Threads + Sync, D: Desk>(
+    rt: &R,
+    alloc: Global,
+    desk: &mut D,
+    words: &RunWords<'_>,
+) -> Result<Input, Outcome>
+    requires { IsAsked (run_request words.now) }
+    ensures accepted { IfOk result (λ input. AreAccepted (run_request words.now) (D.files desk.old) (meaning_of input)) }
+    ensures runnable { IfOk result (λ input. AreRunnable (taken_names (run_request words.now)) input.scripts) }
+    ensures count { IfOk result (λ input. length input.scripts ≡ length (run_request words.now).scripts) }
+    ensures listed { IfOk result (λ input. All (λ job. job ≤ length input.scripts) input.schedule) }
+    ensures ok { OnOk result (D.files desk.new ≡ D.files desk.old) }
+    ensures refused { IfErr result (IsUnprepared (run_request words.now) (D.files desk.old) (D.files desk.new)) }
+{
+    let names = sources_of(alloc, words)?;
+    let sources = read_all(alloc, desk, &names, MAX_SOURCE_BYTES)?;
+    match parse_sources(rt, alloc, &sources, words) {
+        Ok(input) => Ok(input),
+        Err(stop) => Err(Outcome::from(stop)),
     }
 }
 

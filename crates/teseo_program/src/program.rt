@@ -1,43 +1,24 @@
-//! The top call.
+//! A run, or a graph that is made, to its end.
 
-ghost use Rattle.std.specs.Prelude.{◌≡◌, ◌≢◌, ◌<◌, [], map};
-ghost use Rattle.std.specs.String.{string_bytes};
+ghost use Rattle.std.specs.Prelude.{◌≡◌, ◌≢◌, ◌<◌, []};
 ghost use Rattle.desk_io.specs.Outputs.{names_of};
 ghost use Rattle.command_words.specs.Views.{run_request, make_request};
-ghost use Rattle.teseo_program.specs.declared.outcome.Outcome.{Outcome};
 ghost use Rattle.source_run.specs.Requests.{IsAsked, source_names};
 ghost use Rattle.teseo_program.specs.Prepared.{NamesAreApart, Writes, IsWritten};
-ghost use Rattle.teseo_program.specs.Outcomes.{status_of, said_text, blamed, OnlySays, IsLeft, IsOutcome, IsRunOutcome, IsMakeOutcome};
+ghost use Rattle.teseo_program.specs.Outcomes.{status_of, said_text, blamed, OnlySays, IsLeft, IsRunOutcome, IsMakeOutcome};
 
 use crate::left::Left;
 use crate::make::prepare_graph;
 use crate::outcome::Outcome;
 use crate::prepare::{Prepared, prepare};
 use crate::say::say_outcome;
-use command_words::{Command, MakeWords, RunWords, read_words};
-use desk_io::{Desk, Gate, Output, ReadStop, write_all};
+use command_words::{MakeWords, RunWords};
+use desk_io::{Desk, Output, ReadStop, write_all};
 use graph_model::NoMemory;
 use items::Items;
 use source_run::source_at;
 use std::alloc::Global;
 use std::thread::Threads;
-
-/// Runs `teseo` on the words behind its name, and answers the exit status. Behind a run whose outputs were all written,
-/// `left` is what its store leaves; else it stays as it is. The gate is for runs with several threads, and not called
-/// yet.
-pub fn teseo<R: Threads + Sync, D: Desk, G: Gate>(
-    rt: &R,
-    alloc: Global,
-    words: &[String],
-    desk: &mut D,
-    _gate: &G,
-    left: &mut Left,
-) -> u8
-    ensures { (outcome : Outcome) × (result ≡ status_of outcome)
-        × IsOutcome outcome (map string_bytes words.now) (D.files desk.old) (D.files desk.new) left.old left.new }
-{
-    outcome_of(rt, alloc, words, desk, left).status()
-}
 
 /// Ends a call that has no words to run, as where one of them isn't text: says the outcome, and answers
 /// its exit status.
@@ -49,29 +30,9 @@ pub fn end_with<D: Desk>(desk: &mut D, outcome: Outcome) -> u8
     outcome.status()
 }
 
-/// Runs the words to their end.
-fn outcome_of<R: Threads + Sync, D: Desk>(
-    rt: &R,
-    alloc: Global,
-    words: &[String],
-    desk: &mut D,
-    left: &mut Left,
-) -> Outcome
-    ensures { IsOutcome result (map string_bytes words.now) (D.files desk.old) (D.files desk.new) left.old left.new }
-{
-    match read_words(alloc, words) {
-        Ok(Command::Run(words)) => run(rt, alloc, desk, &words, left),
-        Ok(Command::Make(words)) => make(alloc, desk, &words),
-        Err(refusal) => {
-            let outcome = Outcome::from(refusal);
-            say_outcome(desk, "", &[], outcome);
-            outcome
-        }
-    }
-}
-
-/// Runs the scripts that the words name.
-fn run<R: Threads + Sync, D: Desk>(
+/// Runs the scripts that the words name. Behind a run whose outputs were all written, `left` is what its store leaves;
+/// else it stays as it is.
+pub fn run<R: Threads + Sync, D: Desk>(
     rt: &R,
     alloc: Global,
     desk: &mut D,
@@ -95,7 +56,7 @@ fn run<R: Threads + Sync, D: Desk>(
 }
 
 /// Hands out what a run has left, if all its outputs were written.
-fn hand_out(left: &mut Left, ran: Left, outcome: Outcome)
+pub fn hand_out(left: &mut Left, ran: Left, outcome: Outcome)
     ensures { IsLeft outcome ran left.old left.new }
 {
     match outcome {
@@ -106,7 +67,7 @@ fn hand_out(left: &mut Left, ran: Left, outcome: Outcome)
 }
 
 /// Makes a graph, and writes its two files.
-fn make<D: Desk>(alloc: Global, desk: &mut D, words: &MakeWords<'_>) -> Outcome
+pub fn make<D: Desk>(alloc: Global, desk: &mut D, words: &MakeWords<'_>) -> Outcome
     requires some { 0 < words.now.vertices }
     requires apart { words.now.out.now ≢ words.now.edges_out.now }
     ensures { IsMakeOutcome result (make_request words.now) (D.files desk.old) (D.files desk.new) }
@@ -121,7 +82,7 @@ fn make<D: Desk>(alloc: Global, desk: &mut D, words: &MakeWords<'_>) -> Outcome
 }
 
 /// Writes the outputs, says how that went, and answers it.
-fn write_and_say<D: Desk>(desk: &mut D, prepared: &Prepared) -> Outcome
+pub fn write_and_say<D: Desk>(desk: &mut D, prepared: &Prepared) -> Outcome
     requires { NamesAreApart prepared.now }
     ensures { IsWritten prepared.now result (D.files desk.old) (D.files desk.new) }
 {
@@ -148,7 +109,7 @@ fn write<D: Desk>(desk: &mut D, prepared: &Prepared) -> Outcome
 }
 
 /// The name of the source that an outcome blames, or an empty one.
-fn blamed_source<'a>(words: &RunWords<'a>, outcome: Outcome) -> &'a str
+pub fn blamed_source<'a>(words: &RunWords<'a>, outcome: Outcome) -> &'a str
     ensures { result.now ≡ blamed (source_names (run_request words.now)) [] outcome }
 {
     match outcome {

@@ -59,8 +59,8 @@ fn say_line_fault<D: Desk>(desk: &mut D, name: &str, line: u64, what: &str)
     desk.say(b"\n");
 }
 
-/// Says two texts and a line feed.
-fn say_line<D: Desk>(desk: &mut D, front: &[u8], behind: &[u8])
+/// Says two texts and a line feed. Takes no memory.
+pub fn say_line<D: Desk>(desk: &mut D, front: &[u8], behind: &[u8])
     ensures { OnlySays (text_line front.now behind.now) (D.files desk.old) (D.files desk.new) }
 {
     desk.say(front);

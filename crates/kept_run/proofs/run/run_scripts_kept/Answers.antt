@@ -3,7 +3,9 @@ use Rattle.std.specs.Prelude.{min, slice_get}
 use Rattle.graph_model.specs.Loading.{IsNew}
 use Rattle.source_run.specs.Input.{inputs_of}
 use Rattle.source_run.specs.Parsing.{meaning_of}
-use Rattle.source_run.specs.Running.{IsConfig, IsRefusedLoad}
+use Rattle.source_run.specs.Running.{IsConfig}
+use Rattle.kept_run.specs.Refusals.{of_load, of_keep, IsRefusedKept}
+use Rattle.kept_run.proofs.KeptLemmas.{nothing_lost, kept_of_kind, still_of_kind, load_refused, keep_refused}
 use Rattle.source_run.proofs.RunLemmas.{handed_on, is_new, loadable, refused_load, started, ended, closed_as, kind_as, leaves_are, left_by_run, run_as, none_served, counts_of, all_at, new_jobs_count}
 use Rattle.kept_run.proofs.run.run_scripts_kept.Goals as goal
 
@@ -66,6 +68,27 @@ load_graph-requires-clause-load g c κs within =
 pub returns-in_err-load_graph-clause-refused : goal.returns-in_err-load_graph-clause-refused
 returns-in_err-load_graph-clause-refused g c =
     let config = c.config_of-config.ensures.config in
-    handed_on c.from_residual-in_err-load_graph.result c.in_err-load_graph.field-0.0 (IsRefusedLoad c.args.kind c.args.leaves c.args.input.ids c.args.input.edges) c.from_residual-in_err-load_graph.ensures.1
+    handed_on c.from_residual-in_err-load_graph.result (of_load c.in_err-load_graph.field-0.0) (IsRefusedKept c.args.kind c.args.leaves c.args.input.ids c.args.input.edges (g.K.Disk.state c.args.disk.now) (g.K.Disk.state c.args.disk.now)) c.from_residual-in_err-load_graph.ensures.1
+    (load_refused c.args.kind c.args.leaves c.args.input.ids c.args.input.edges (g.K.Disk.state c.args.disk.now) c.in_err-load_graph.field-0.0
     (refused_load c.in_ok-engine.engine.core c.args.kind c.args.leaves c.args.input.ids c.args.input.edges c.in_err-load_graph.field-0.0 (ap (λ s. s.leaves) c.in_ok-engine.ensures ∙ config.leaves_are)
-    (ap (λ s. s.kind) c.in_ok-engine.ensures ∙ config.kind_is) c.in_err-load_graph.ensures.refused)
+    (ap (λ s. s.kind) c.in_ok-engine.ensures ∙ config.kind_is) c.in_err-load_graph.ensures.refused))
+
+pub returns-in_err-run_kept-clause-refused : goal.returns-in_err-run_kept-clause-refused
+returns-in_err-run_kept-clause-refused g c =
+    handed_on c.from_residual-in_err-run_kept.result (of_keep c.in_err-run_kept.field-0.0) (IsRefusedKept c.args.kind c.args.leaves c.args.input.ids c.args.input.edges (g.K.Disk.state c.args.disk.now) (g.K.Disk.state c.run_kept.new.disk)) c.from_residual-in_err-run_kept.ensures.1
+    (keep_refused c.args.kind c.args.leaves c.args.input.ids c.args.input.edges (g.K.Disk.state c.args.disk.now) (g.K.Disk.state c.run_kept.new.disk) c.in_err-run_kept.field-0.0 c.in_err-run_kept.ensures.refused)
+
+pub returns-clause-kept : goal.returns-clause-kept
+returns-clause-kept g c =
+    let new = started (inputs_of c.args.kind (meaning_of c.args.input)) c.args.leaves c.config_of-config.result (subst (λ scripts. IsConfig c.args.kind c.args.leaves scripts c.config_of-config.result) c.as_slice.ensures c.config_of-config.ensures.config) c.requires.inputs
+    c.in_ok-engine.engine.core c.load_graph.new.engine.core c.in_ok-jobs.jobs c.in_ok-engine.ensures c.in_ok-load_graph.ensures.loaded c.in_ok-jobs.ensures in
+    λ before. kept_of_kind g.K.Disk.moment g.K.Disk.may_leave g.K.Disk.left_since g.K.Disk.state c.args.kind c.args.keeper.now.file c.args.disk.now c.load_graph.new.engine.core.kind new.kind c.load_graph.new.engine.core.journal c.run_kept.new.engine.core.journal
+    c.run_kept.new.keeper.file c.run_kept.new.disk c.in_ok-run_kept.ensures.kept before c.into_journal.result.core.journal (ap (λ s. s.journal) (c.into_journal.ensures.core ∙ c.settle.ensures.core))
+
+pub returns-in_err-run_kept-clause-still : goal.returns-in_err-run_kept-clause-still
+returns-in_err-run_kept-clause-still g c =
+    let new = started (inputs_of c.args.kind (meaning_of c.args.input)) c.args.leaves c.config_of-config.result (subst (λ scripts. IsConfig c.args.kind c.args.leaves scripts c.config_of-config.result) c.as_slice.ensures c.config_of-config.ensures.config) c.requires.inputs
+    c.in_ok-engine.engine.core c.load_graph.new.engine.core c.in_ok-jobs.jobs c.in_ok-engine.ensures c.in_ok-load_graph.ensures.loaded c.in_ok-jobs.ensures in
+    handed_on c.from_residual-in_err-run_kept.result (of_keep c.in_err-run_kept.field-0.0) _ c.from_residual-in_err-run_kept.ensures.1
+    (λ before. still_of_kind g.K.Disk.moment g.K.Disk.may_leave g.K.Disk.left_since g.K.Disk.state c.args.kind c.args.keeper.now.file c.args.disk.now c.load_graph.new.engine.core.kind new.kind c.load_graph.new.engine.core.journal c.run_kept.new.engine.core.journal
+    c.run_kept.new.keeper.file c.run_kept.new.disk c.in_err-run_kept.ensures.still before)

@@ -4,7 +4,7 @@ use Rattle.desk_io.specs.Sources.{AreRead}
 use Rattle.command_words.specs.Views.{run_request}
 use Rattle.source_run.proofs.RequestLemmas.{few_scripts, are_readable}
 use Rattle.teseo_program.proofs.PreparedLemmas.{unparsed}
-use Rattle.teseo_program.proofs.prepare.prepare.Goals as goal
+use Rattle.teseo_program.proofs.prepare.read_input.Goals as goal
 
 pub returns-in-Err-clause-refused : goal.returns-in-Err-clause-refused
 returns-in-Err-clause-refused g c =

@@ -1,0 +1,145 @@
+-- A run whose commits are kept ends as its outputs are written, or as its preparation stopped.
+use Rattle.std.proofs.Common.{◌≡◌, ℕ, ◌*◌, ◌≤◌, List, [], length, refl, sym, ◌∙◌, ap, subst, true, false, inl, inr}
+use Rattle.std.specs.Prelude.{Bool, ◌⊎◌, None, Some}
+use Rattle.graph_model.specs.declared.limits.TheConstants.{MAX_SOURCE_BYTES, SPLIT_ROWS}
+use Rattle.graph_model.specs.declared.write.Kind.{Kind}
+use Rattle.graph_model.specs.declared.journal.Commit.{Commit}
+use Rattle.graph_model.specs.declared.load.LoadRefusal.TheVariants as loads
+use Rattle.graph_model.specs.Inserted.{inserted}
+use Rattle.graphalytics_io.specs.Load.{load_of}
+use Rattle.desk_io.specs.Files.{Files, Rose}
+use Rattle.desk_io.specs.Sources.{AreRead}
+use Rattle.journal_disk.specs.Disk.{DiskState, FaultsStand, FaultsRise}
+use Rattle.journal_file.specs.declared.file.JournalFile.{JournalFile}
+use Rattle.run_keeper.specs.Keeping.{IsKept}
+use Rattle.kept_run.specs.declared.refusal.KeptRefusal.{KeptRefusal}
+use Rattle.kept_run.specs.declared.refusal.KeptRefusal.TheVariants as stops
+use Rattle.kept_run.specs.Refusals.{IsRefusedKept}
+use Rattle.command_words.specs.Words.{RunRequest}
+use Rattle.source_run.specs.Requests.{source_names, report_names, kind_of}
+use Rattle.source_run.specs.declared.run.RunResult.{RunResult}
+use Rattle.source_run.specs.Input.{Meaning, texts_of, IsAccepted, inputs_of}
+use Rattle.source_run.specs.Leaves.{leaves_for, most_rows}
+use Rattle.source_run.specs.Running.{run_outputs, IsRunAs, IsLeftAs, HasCounts, IsRefusedLoad}
+use Rattle.teseo_program.specs.declared.left.Left.{Left}
+use Rattle.teseo_program.specs.declared.left.Left.TheVariants.{Stepped}
+use Rattle.teseo_program.specs.declared.outcome.Outcome.{Outcome}
+use Rattle.teseo_program.specs.declared.outcome.Outcome.TheVariants as ends
+use Rattle.teseo_program.specs.declared.prepare.Prepared.{Prepared}
+use Rattle.teseo_program.specs.Outcomes.{said_text, shows_full, OnlySays, IsLeft, IsRunOutcome}
+use Rattle.teseo_program.specs.Prepared.{IsUnprepared, AreAccepted, IsMadeOf, IsPreparedOf, Writes, IsWritten}
+use Rattle.teseo_program.specs.Sinks.{sinks_of, summary_line}
+use Rattle.teseo_program.proofs.OutcomeLemmas.{written_ends, unprepared_ends}
+use Rattle.teseo_program.proofs.PreparedLemmas.{made_from, stopped_load, load_unprepared, prepared_of}
+use Rattle.kept_program.specs.declared.outcome.KeptOutcome.{KeptOutcome}
+use Rattle.kept_program.specs.declared.outcome.KeptOutcome.TheVariants.{Of, NotMade, NotKept, NotAJournal, NotRecovered}
+use Rattle.kept_program.specs.Outcomes.{stop_text, blamed_by, outcome_of_stop, acknowledged_on, KeepsSome, HasStopped, Keeps, IsKeptRun, KeptRunEnds}
+use Rattle.kept_program.specs.Prepared.{IsKeptMade, IsKeptPrepared, IsKeptStop, IsUnkept}
+
+module _ (acknowledged : Kind → List Commit → ℕ → Type 0) (request : RunRequest) where
+  -- ---- outputs that are written
+
+  written_keeps : (kind : Kind) (journal : List Commit) (p : Prepared) (outcome : Outcome) (old before : Files) (disk disk' : DiskState) → Writes p.is_full p.outputs outcome old before
+      → acknowledged kind journal (length journal) → Keeps acknowledged kind journal disk disk' outcome
+  written_keeps kind journal p ends.Done old before disk disk' writes all_kept = all_kept
+  written_keeps kind journal p ends.Full old before disk disk' writes all_kept = all_kept
+  written_keeps kind journal p (ends.NotWritten stop) old before disk disk' writes all_kept = all_kept
+  written_keeps kind journal p ends.LoadFull old before disk disk' writes all_kept = absurd writes
+  written_keeps kind journal p ends.BadWords old before disk disk' writes all_kept = absurd writes
+  written_keeps kind journal p (ends.NotRead stop) old before disk disk' writes all_kept = absurd writes
+  written_keeps kind journal p (ends.NotAccepted place fault) old before disk disk' writes all_kept = absurd writes
+  written_keeps kind journal p ends.NoMemory old before disk disk' writes all_kept = absurd writes
+
+  -- what was prepared of a run whose commits are kept is written
+  pub kept_ends : (name : List ℕ) (old : Files) (p : Prepared) → IsKeptPrepared acknowledged request old p → (outcome : Outcome) (kept new : Files) (left left' : Left) (disk disk' : DiskState)
+      → kept ≡ old → IsWritten p outcome kept new → IsLeft outcome p.left left left' → FaultsStand disk disk' → KeptRunEnds acknowledged name (Of outcome) request old new left left' disk disk'
+  unfolding written_ends
+  kept_ends name old p is outcome kept new left left' disk disk' same written left_is stand = record {
+    run_ends = written_ends request old p is.prepared outcome kept new left left' same written left_is;
+    stand = stand;
+    keeps = written_keeps (kind_of request) is.prepared.run.journal p outcome kept written.before disk disk' written.writes is.all_kept;
+  }
+
+  -- ---- nothing that is written
+
+  unprepared_keeps : (kind : Kind) (journal : List Commit) (outcome : Outcome) (old before : Files) (disk disk' : DiskState) → IsUnprepared request old before outcome
+      → HasStopped acknowledged kind disk disk' → Keeps acknowledged kind journal disk disk' outcome
+  unprepared_keeps kind journal ends.Done old before disk disk' stopped has = absurd stopped
+  unprepared_keeps kind journal ends.Full old before disk disk' stopped has = absurd stopped
+  unprepared_keeps kind journal (ends.NotWritten stop) old before disk disk' stopped has = absurd stopped
+  unprepared_keeps kind journal ends.LoadFull old before disk disk' stopped has = has
+  unprepared_keeps kind journal ends.BadWords old before disk disk' stopped has = has
+  unprepared_keeps kind journal (ends.NotRead stop) old before disk disk' stopped has = has
+  unprepared_keeps kind journal (ends.NotAccepted place fault) old before disk disk' stopped has = has
+  unprepared_keeps kind journal ends.NoMemory old before disk disk' stopped has = has
+
+  -- nothing was prepared of a run whose commits are kept
+  pub unkept_ends : (name source : List ℕ) (old before new : Files) (left : Left) (disk disk' : DiskState) (outcome : KeptOutcome) → IsUnkept acknowledged request old before disk disk' outcome
+      → source ≡ blamed_by (source_names request) outcome → OnlySays (stop_text source name outcome) before new → KeptRunEnds acknowledged name outcome request old new left left disk disk'
+  unkept_ends name source old before new left disk disk' (Of outcome) stopped is says =
+      let run_ends : IsRunOutcome outcome request old new left left = unprepared_ends request old outcome before new left source stopped.0 is says in
+      record {
+        run_ends = run_ends;
+        stand = stopped.1;
+        keeps = unprepared_keeps (kind_of request) run_ends.made.run.journal outcome old before disk disk' stopped.0 stopped.2;
+      }
+  unkept_ends name source old before new left disk disk' NotMade (m, accepted, same, rose) is says =
+      (record { m = m; accepted = accepted; rose = rose; says = subst (λ files. OnlySays (stop_text source name NotMade) files new) same says }, refl)
+  unkept_ends name source old before new left disk disk' NotKept (m, accepted, same, rose, some) is says =
+      (record { m = m; accepted = accepted; rose = rose; says = subst (λ files. OnlySays (stop_text source name NotKept) files new) same says }, refl, some)
+  unkept_ends name source old before new left disk disk' NotAJournal stopped is says = stopped
+  unkept_ends name source old before new left disk disk' NotRecovered stopped is says = stopped
+
+  -- ---- what was made
+
+  -- sources that weren't read or accepted are found before the file is made
+  pub unread : (old new : Files) (disk : DiskState) (outcome : Outcome) → IsUnprepared request old new outcome → IsUnkept acknowledged request old new disk disk (Of outcome)
+  unread old new disk outcome stopped = (stopped, refl, inl refl)
+
+  -- the file wasn't made
+  pub unmade : (old new : Files) (disk disk' : DiskState) (m : Meaning) → AreAccepted request old m → new ≡ old → FaultsRise disk disk' → IsUnkept acknowledged request old new disk disk' NotMade
+  unmade old new disk disk' m accepted same rose = (m, accepted, same, rose)
+
+  -- what was made of what the sources stand for is prepared
+  pub kept_prepared : (files : Files) (m : Meaning) (p : Prepared) → AreAccepted request files m → IsKeptMade acknowledged request m p → IsKeptPrepared acknowledged request files p
+  unfolding prepared_of
+  kept_prepared files m p (sources, read, accepted) is =
+      record { prepared = prepared_of request files sources m p read accepted is.made; all_kept = is.all_kept }
+
+  -- the file was made, and then the run stopped
+  pub stopped_behind : (old new : Files) (m : Meaning) (disk made disk' : DiskState) (refusal : KeptRefusal) (outcome : KeptOutcome) → outcome ≡ outcome_of_stop refusal → AreAccepted request old m → new ≡ old
+      → FaultsStand disk made → IsKeptStop request m made disk' refusal → KeepsSome acknowledged (kind_of request) → IsUnkept acknowledged request old new disk disk' outcome
+  stopped_behind old new m disk made disk' (stops.Full full) outcome is (sources, read, accepted) same stand (heavy, stands) some =
+      subst (IsUnkept acknowledged request old new disk disk') (sym is) ((((sources, read, m, accepted, heavy), same), stands ∙ stand, inr some))
+  stopped_behind old new m disk made disk' stops.NoMemory outcome is accepted same stand stands some =
+      subst (IsUnkept acknowledged request old new disk disk') (sym is) (same, stands ∙ stand, inr some)
+  stopped_behind old new m disk made disk' stops.DiskFault outcome is accepted same stand rose some =
+      subst (IsUnkept acknowledged request old new disk disk') (sym is) (m, accepted, same, subst (λ n. Rose n disk'.faults) stand rose, some)
+
+-- a file that is kept keeps some commits
+pub kept_some : {D : Type 0} (moment : D → ℕ) (may_leave : D → List ℕ → Type 0) (left_since : D → ℕ → List ℕ → Type 0) (state : D → DiskState) (kind : Kind) (journal : List Commit) (file : JournalFile) (now : D)
+    → IsKept moment may_leave left_since state kind journal file now → KeepsSome (acknowledged_on moment may_leave left_since now) kind
+kept_some moment may_leave left_since state kind journal file now kept = (journal, length journal, kept.acknowledged)
+
+-- ---- what the run left
+
+module _ (request : RunRequest) (m : Meaning) (kind : Kind) (leaves : ℕ) (is : kind ≡ kind_of request) (leaves_are : leaves ≡ leaves_for request.leaves (most_rows (inputs_of kind m))) where
+  -- the texts are of a run by turns, whose commits are kept
+  pub kept_made : (acknowledged : Kind → List Commit → ℕ → Type 0) (p : Prepared) (r : RunResult) (commits : ℕ) → request.is_serial ≡ false
+      → IsRunAs false (inputs_of kind m) leaves (run_outputs r) → IsLeftAs false (inputs_of kind m) leaves m.schedule (run_outputs r) r.ran → HasCounts kind r → commits ≡ length r.ran.core.journal
+      → p.outputs ≡ sinks_of request.journal (report_names request) (run_outputs r) → p.summary ≡ summary_line commits r.totals → shows_full (run_outputs r) ≡ p.is_full → p.left ≡ Stepped r.ran
+      → acknowledged kind r.ran.core.journal (length r.ran.core.journal) → IsKeptMade acknowledged request m p
+  unfolding made_from
+  kept_made acknowledged p r commits by_turns run left counts counted outputs summary full left_is all_kept = record {
+    made = made_from request m p r kind leaves commits is leaves_are
+        (subst (λ b. IsRunAs b (inputs_of kind m) leaves (run_outputs r)) (sym by_turns) run)
+        (subst (λ b. IsLeftAs b (inputs_of kind m) leaves m.schedule (run_outputs r) r.ran) (sym by_turns) left)
+        counts counted outputs summary full left_is;
+    all_kept = subst (λ k. acknowledged k r.ran.core.journal (length r.ran.core.journal)) is all_kept;
+  }
+
+  -- the run came to no end
+  pub kept_stop : (disk disk' : DiskState) (refusal : KeptRefusal) → IsRefusedKept kind leaves m.ids m.edges disk disk' refusal → IsKeptStop request m disk disk' refusal
+  kept_stop disk disk' (stops.Full full) (heavy, stand) = (stopped_load request m kind leaves (loads.Full full) is leaves_are heavy, stand)
+  kept_stop disk disk' stops.NoMemory stand = stand
+  kept_stop disk disk' stops.DiskFault rose = rose

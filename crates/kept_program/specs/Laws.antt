@@ -1,0 +1,60 @@
+-- Laws of how calls end. Each is the contract of a function in `laws`. They hold whatever disk it is.
+use Rattle.std.specs.Prelude.{◌≡◌, ℕ, ◌*◌, ◌<◌, ◌⊎◌, List, None}
+use Rattle.graph_model.specs.declared.limits.TheConstants.{MAX_LEAVES, SPLIT_ROWS}
+use Rattle.desk_io.specs.Files.{Files}
+use Rattle.journal_disk.specs.Disk.{DiskState}
+use Rattle.command_words.specs.Words.{RunRequest, MakeRequest, RecoverRequest, Request, run, make, recover, IsTaken}
+use Rattle.source_run.specs.Requests.{kind_of}
+use Rattle.source_run.specs.Input.{Meaning, texts_of, IsAccepted, inputs_of}
+use Rattle.source_run.specs.Leaves.{most_rows}
+use Rattle.teseo_program.specs.declared.left.Left.{Left}
+use Rattle.teseo_program.specs.Laws.{AreTold, Stands, HasNoFault}
+use Rattle.kept_program.specs.declared.outcome.KeptOutcome.{KeptOutcome}
+use Rattle.kept_program.specs.Outcomes.{acknowledged_on, kept_status, IsEnd}
+
+-- how a call ends that asks for this, if no call of the desk or of the disk fails
+pub record IsFaultlessEnd {D : Type 0} (moment : D → ℕ) (may_leave : D → List ℕ → Type 0)
+    (left_since : D → ℕ → List ℕ → Type 0) (request : Request) (outcome : KeptOutcome) (old new : Files)
+    : Type 0 where
+  pub words : List (List ℕ)
+  pub taken : IsTaken words request
+  pub no_fault : HasNoFault old new
+  pub disk : DiskState
+  pub disk' : DiskState
+  pub stands : Stands disk.faults disk'.faults
+  pub left : Left
+  pub left' : Left
+  pub now : D
+  pub is_end : IsEnd (acknowledged_on moment may_leave left_since now) outcome words old new left left' disk disk'
+
+-- a run whose sources are accepted ends with status 0, or with 6 where a row finds no place, or with 3
+abbrev pub AcceptedCallsEndWell : {D : Type 0} → (D → ℕ) → (D → List ℕ → Type 0) → (D → ℕ → List ℕ → Type 0) → Type 0
+AcceptedCallsEndWell moment may_leave left_since =
+    (outcome : KeptOutcome) (request : RunRequest) (sources : List (List ℕ)) (m : Meaning) (old new : Files)
+    → AreTold request old sources → IsAccepted request (texts_of request sources) m
+    → IsFaultlessEnd moment may_leave left_since (run request) outcome old new
+    → (kept_status outcome ≡ 0) ⊎ ((kept_status outcome ≡ 6) ⊎ (kept_status outcome ≡ 3))
+
+-- with 0 or 3 where no leaves are stated, and the rows of the load and of all lines together fill fewer leaves than
+-- there may be
+abbrev pub CallsWithRoomEndWell : {D : Type 0} → (D → ℕ) → (D → List ℕ → Type 0) → (D → ℕ → List ℕ → Type 0) → Type 0
+CallsWithRoomEndWell moment may_leave left_since =
+    (outcome : KeptOutcome) (request : RunRequest) (sources : List (List ℕ)) (m : Meaning) (old new : Files)
+    → request.leaves ≡ None → AreTold request old sources → IsAccepted request (texts_of request sources) m
+    → most_rows (inputs_of (kind_of request) m) < SPLIT_ROWS * MAX_LEAVES
+    → IsFaultlessEnd moment may_leave left_since (run request) outcome old new
+    → (kept_status outcome ≡ 0) ⊎ (kept_status outcome ≡ 3)
+
+-- a graph that is asked for is made, with status 0, or memory is wanted
+abbrev pub CallsMakeGraphs : {D : Type 0} → (D → ℕ) → (D → List ℕ → Type 0) → (D → ℕ → List ℕ → Type 0) → Type 0
+CallsMakeGraphs moment may_leave left_since =
+    (outcome : KeptOutcome) (request : MakeRequest) (old new : Files)
+    → IsFaultlessEnd moment may_leave left_since (make request) outcome old new
+    → (kept_status outcome ≡ 0) ⊎ (kept_status outcome ≡ 3)
+
+-- a file that is to be read back is, with status 0, or is no journal file, with 1, or memory is wanted
+abbrev pub FilesAreRecovered : {D : Type 0} → (D → ℕ) → (D → List ℕ → Type 0) → (D → ℕ → List ℕ → Type 0) → Type 0
+FilesAreRecovered moment may_leave left_since =
+    (outcome : KeptOutcome) (request : RecoverRequest) (old new : Files)
+    → IsFaultlessEnd moment may_leave left_since (recover request) outcome old new
+    → (kept_status outcome ≡ 0) ⊎ ((kept_status outcome ≡ 1) ⊎ (kept_status outcome ≡ 3))

@@ -1,0 +1,121 @@
+//! The top call.
+
+ghost use Rattle.std.specs.Prelude.{◌≡◌, Some, map};
+ghost use Rattle.std.specs.String.{string_bytes};
+ghost use Rattle.command_words.specs.Views.{run_request};
+ghost use Rattle.source_run.specs.Requests.{IsAsked, source_names};
+ghost use Rattle.kept_program.specs.declared.outcome.KeptOutcome.{KeptOutcome};
+ghost use Rattle.kept_program.specs.Outcomes.{kept_status, acknowledged_on, blamed_by, KeptRunEnds, RunEnds, IsEnd};
+
+use crate::outcome::KeptOutcome;
+use crate::prepare::prepare_kept;
+use crate::recovery::recover;
+use crate::say::say_stop;
+use command_words::{Command, RunWords, read_words};
+use desk_io::{Desk, Gate};
+use journal_disk::Disk;
+use std::alloc::Global;
+use std::thread::Threads;
+use teseo_program::{Left, Outcome, blamed_source, hand_out, make, run, write_and_say};
+
+/// Runs `teseo` on the words behind its name, and answers the exit status. Behind a run whose outputs were all written,
+/// `left` is what its store leaves; else it stays as it is. The disk is used where the words name a journal file. The
+/// gate is for runs with several threads, and not called yet.
+pub fn teseo_kept<R: Threads + Sync, D: Desk, G: Gate, K: Disk>(
+    rt: &R,
+    alloc: Global,
+    words: &[String],
+    desk: &mut D,
+    _gate: &G,
+    left: &mut Left,
+    disk: &mut K,
+) -> u8
+    ensures { (outcome : KeptOutcome) × (result ≡ kept_status outcome)
+        × IsEnd (acknowledged_on K.moment K.may_leave K.left_since disk.new) outcome (map string_bytes words.now)
+        (D.files desk.old) (D.files desk.new) left.old left.new (K.state disk.old) (K.state disk.new) }
+{
+    outcome_of(rt, alloc, words, desk, left, disk).status()
+}
+
+/// Runs the words to their end.
+fn outcome_of<R: Threads + Sync, D: Desk, K: Disk>(
+    rt: &R,
+    alloc: Global,
+    words: &[String],
+    desk: &mut D,
+    left: &mut Left,
+    disk: &mut K,
+) -> KeptOutcome
+    ensures { IsEnd (acknowledged_on K.moment K.may_leave K.left_since disk.new) result (map string_bytes words.now)
+        (D.files desk.old) (D.files desk.new) left.old left.new (K.state disk.old) (K.state disk.new) }
+{
+    match read_words(alloc, words) {
+        Ok(Command::Run(words)) => run_as_asked(rt, alloc, desk, &words, left, disk),
+        Ok(Command::Make(words)) => KeptOutcome::Of(make(alloc, desk, &words)),
+        Ok(Command::Recover(words)) => recover(alloc, desk, &words, disk),
+        Err(refusal) => {
+            let outcome = KeptOutcome::Of(Outcome::from(refusal));
+            say_stop(desk, "", "", outcome);
+            outcome
+        }
+    }
+}
+
+/// Runs the scripts that the words name, and keeps the commits where a journal file is named.
+fn run_as_asked<R: Threads + Sync, D: Desk, K: Disk>(
+    rt: &R,
+    alloc: Global,
+    desk: &mut D,
+    words: &RunWords<'_>,
+    left: &mut Left,
+    disk: &mut K,
+) -> KeptOutcome
+    requires { IsAsked (run_request words.now) }
+    ensures { RunEnds (acknowledged_on K.moment K.may_leave K.left_since disk.new)
+        (run_request words.now).keep result (run_request words.now)
+        (D.files desk.old) (D.files desk.new) left.old left.new (K.state disk.old) (K.state disk.new) }
+{
+    match words.keep {
+        Some(name) => run_and_keep(rt, alloc, desk, words, name, left, disk),
+        None => KeptOutcome::Of(run(rt, alloc, desk, words, left)),
+    }
+}
+
+/// Runs the scripts, and keeps the commits in the file of this name.
+fn run_and_keep<R: Threads + Sync, D: Desk, K: Disk>(
+    rt: &R,
+    alloc: Global,
+    desk: &mut D,
+    words: &RunWords<'_>,
+    name: &str,
+    left: &mut Left,
+    disk: &mut K,
+) -> KeptOutcome
+    requires asked { IsAsked (run_request words.now) }
+    requires keep { (run_request words.now).keep ≡ Some name.now }
+    ensures { KeptRunEnds (acknowledged_on K.moment K.may_leave K.left_since disk.new)
+        name.now result (run_request words.now)
+        (D.files desk.old) (D.files desk.new) left.old left.new (K.state disk.old) (K.state disk.new) }
+{
+    match prepare_kept(rt, alloc, desk, words, name, disk) {
+        Ok(prepared) => {
+            let outcome = write_and_say(desk, &prepared);
+            hand_out(left, prepared.left, outcome);
+            KeptOutcome::Of(outcome)
+        }
+        Err(outcome) => {
+            say_stop(desk, blamed_by(words, outcome), name, outcome);
+            outcome
+        }
+    }
+}
+
+/// The name of the source that an outcome blames, or an empty one.
+fn blamed_by<'a>(words: &RunWords<'a>, outcome: KeptOutcome) -> &'a str
+    ensures { result.now ≡ blamed_by (source_names (run_request words.now)) outcome }
+{
+    match outcome {
+        KeptOutcome::Of(outcome) => blamed_source(words, outcome),
+        _ => "",
+    }
+}
