@@ -1,7 +1,7 @@
 //! A run on the path whose commits are kept, and its journal file, whole and cut, read back.
 
 use cases_setting::{
-    E, End, JOURNAL, REPORT, RESULT, SEARCH, SUMMARY, V, desk_with, difference_with,
+    E, End, JOURNAL, JOURNAL_TEXT, REPORT, RESULT, SEARCH, SUMMARY, V, desk_with, difference_with,
 };
 use journal_disk::MemoryDisk;
 use std::alloc::{AllocError, Global};
@@ -24,7 +24,7 @@ const WHOLE: End = (
     0,
     "commits 1 vertices 4 edges 2\n",
     1,
-    &[("j2", JOURNAL.1)],
+    &[("j2", JOURNAL_TEXT)],
 );
 
 /// No commit is read back.

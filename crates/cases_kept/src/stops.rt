@@ -3,7 +3,7 @@
 //! The calls of the disk, in order: the file is chosen, cut, written and synced; then for each of the two commits its
 //! body is written and synced, and the gate before it is written and synced.
 
-use cases_setting::{E, End, File, JOURNAL, V, desk_with, difference_with};
+use cases_setting::{E, End, File, JOURNAL_TEXT, V, desk_with, difference_with};
 use journal_disk::MemoryDisk;
 use std::test::Fail;
 
@@ -44,7 +44,7 @@ const LOAD: End = (
     0,
     "commits 1 vertices 4 edges 2\n",
     1,
-    &[("j2", JOURNAL.1)],
+    &[("j2", JOURNAL_TEXT)],
 );
 
 const ALL: End = (0, "commits 2 vertices 4 edges 2\n", 1, &[("j2", BOTH)]);

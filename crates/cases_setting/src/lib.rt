@@ -9,4 +9,4 @@ mod path_graph;
 pub use ends::{
     End, File, Run, call_difference, desk_with, difference_on, difference_with, run_difference,
 };
-pub use path_graph::{E, JOURNAL, PATH, REPORT, RESULT, SEARCH, SUMMARY, V, WHOLE};
+pub use path_graph::{E, JOURNAL, JOURNAL_TEXT, PATH, REPORT, RESULT, SEARCH, SUMMARY, V, WHOLE};

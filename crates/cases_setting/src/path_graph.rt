@@ -13,11 +13,12 @@ pub const SEARCH: File = ("s1", "begin\nbfs 1 o\ncommit\n");
 /// The search on the path.
 pub const PATH: Run = (&[V, E, SEARCH], "s1");
 
+/// The text of the journal of the path.
+pub const JOURNAL_TEXT: &str =
+    "commit 1 start 0 by 0.1\nvertex 1\nvertex 2\nvertex 3\nvertex 4\nedge 1 2 1\nedge 2 3 1\n";
+
 /// The journal of the path.
-pub const JOURNAL: File = (
-    "j",
-    "commit 1 start 0 by 0.1\nvertex 1\nvertex 2\nvertex 3\nvertex 4\nedge 1 2 1\nedge 2 3 1\n",
-);
+pub const JOURNAL: File = ("j", JOURNAL_TEXT);
 
 /// The report of the search on the path.
 pub const REPORT: File = ("s1.report", "begin 1.1 start 1\ntable 4\ncommit -\n");
