@@ -83,7 +83,10 @@ fn a_stop_at_each_call_of_the_disk_leaves_what_was_acknowledged(
         later.put("k", disk.get("k").unwrap_or(b""))?;
         let mut empty = desk_with(alloc, &[], &[])?;
         let difference = difference_with(&rt, alloc, &mut empty, &mut later, RECOVER, read_back)?;
-        assert!(rt; difference.is_empty(), "read back behind call {call}: {difference}");
+        assert!(rt;
+            difference.is_empty(),
+            "read back behind call {call}: {difference}"
+        );
     }
     Ok(())
 }

@@ -64,18 +64,18 @@ module _ {D : Type 0} (moment : D → ℕ) (may_leave : D → List ℕ → Type 
   calls_end_well outcome request sources m old new told accepted is = ⊎_elim
       (λ three. inr (inr three))
       (λ asked.
-        (let (plain, same, ends) = plain_end (acknowledged_on moment may_leave left_since is.now) request old new is.left is.left' is.disk is.disk' is.stands request.keep outcome asked in
-        subst (λ o. (kept_status o ≡ 0) ⊎ ((kept_status o ≡ 6) ⊎ (kept_status o ≡ 3))) (sym same)
-        (⊎_elim (λ done. inl (ap status_of done)) (λ rest. inr rest) (end_well plain request sources m old new told accepted is.no_fault is.left is.left' ends))))
+      (let (plain, same, ends) = plain_end (acknowledged_on moment may_leave left_since is.now) request old new is.left is.left' is.disk is.disk' is.stands request.keep outcome asked in
+      subst (λ o. (kept_status o ≡ 0) ⊎ ((kept_status o ≡ 6) ⊎ (kept_status o ≡ 3))) (sym same)
+      (⊎_elim (λ done. inl (ap status_of done)) (λ rest. inr rest) (end_well plain request sources m old new told accepted is.no_fault is.left is.left' ends))))
       (asked_ends moment may_leave left_since (run request) outcome old new is)
 
   pub roomy_calls_end_well : CallsWithRoomEndWell moment may_leave left_since
   roomy_calls_end_well outcome request sources m old new unstated told accepted few is = ⊎_elim
       (λ three. inr three)
       (λ asked.
-        (let (plain, same, ends) = plain_end (acknowledged_on moment may_leave left_since is.now) request old new is.left is.left' is.disk is.disk' is.stands request.keep outcome asked in
-        subst (λ o. (kept_status o ≡ 0) ⊎ (kept_status o ≡ 3)) (sym same)
-        (room_ends_well plain request sources m old new unstated told accepted few is.no_fault is.left is.left' ends)))
+      (let (plain, same, ends) = plain_end (acknowledged_on moment may_leave left_since is.now) request old new is.left is.left' is.disk is.disk' is.stands request.keep outcome asked in
+      subst (λ o. (kept_status o ≡ 0) ⊎ (kept_status o ≡ 3)) (sym same)
+      (room_ends_well plain request sources m old new unstated told accepted few is.no_fault is.left is.left' ends)))
       (asked_ends moment may_leave left_since (run request) outcome old new is)
 
   -- ---- graphs

@@ -1,8 +1,14 @@
 -- Laws of how calls end. Each is the contract of a function in `laws`. They hold whatever disk it is.
-use Rattle.std.specs.Prelude.{◌≡◌, ℕ, ◌*◌, ◌<◌, ◌⊎◌, List, None}
+use Rattle.std.specs.Prelude.{◌≡◌, ℕ, ◌*◌, ◌<◌, ◌≤◌, ◌⊎◌, List, length, take, None, Some, IsTrue}
 use Rattle.graph_model.specs.declared.limits.TheConstants.{MAX_LEAVES, SPLIT_ROWS}
+use Rattle.graph_model.specs.declared.write.Kind.{Kind}
+use Rattle.graph_model.specs.declared.journal.Commit.{Commit}
+use Rattle.run_model.specs.Texts.{journal_text}
 use Rattle.desk_io.specs.Files.{Files}
 use Rattle.journal_disk.specs.Disk.{DiskState}
+use Rattle.journal_recovery.specs.declared.texts.RecoveredTexts.{RecoveredTexts}
+use Rattle.journal_recovery.specs.Texts.{AreTextsOf}
+use Rattle.run_keeper.specs.Keeping.{HasFront}
 use Rattle.command_words.specs.Words.{RunRequest, MakeRequest, RecoverRequest, Request, run, make, recover, IsTaken}
 use Rattle.source_run.specs.Requests.{kind_of}
 use Rattle.source_run.specs.Input.{Meaning, texts_of, IsAccepted, inputs_of}
@@ -58,3 +64,11 @@ FilesAreRecovered moment may_leave left_since =
     (outcome : KeptOutcome) (request : RecoverRequest) (old new : Files)
     → IsFaultlessEnd moment may_leave left_since (recover request) outcome old new
     → (kept_status outcome ≡ 0) ⊎ ((kept_status outcome ≡ 1) ⊎ (kept_status outcome ≡ 3))
+
+-- Behind a stop: where the disk reads as what a crash has left, a front of a run's journal with so many commits at
+-- least, the text that is read back is that front's.
+abbrev pub StopsAreReadBack : Type 0
+StopsAreReadBack =
+    (kind : Kind) (journal : List Commit) (least : ℕ) (image name : List ℕ) (disk : DiskState) (texts : RecoveredTexts)
+    → HasFront kind journal least image → IsTrue disk.tells → disk.holds name ≡ Some image → AreTextsOf disk name texts
+    → (count : ℕ) × (least ≤ count) × (count ≤ length journal) × (texts.journal ≡ journal_text (take count journal))

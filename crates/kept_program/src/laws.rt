@@ -1,6 +1,6 @@
 //! Laws of how calls end, each the contract of a function.
 
-ghost use Rattle.kept_program.specs.Laws.{AcceptedCallsEndWell, CallsWithRoomEndWell, CallsMakeGraphs, FilesAreRecovered};
+ghost use Rattle.kept_program.specs.Laws.{AcceptedCallsEndWell, CallsWithRoomEndWell, CallsMakeGraphs, FilesAreRecovered, StopsAreReadBack};
 
 use journal_disk::Disk;
 
@@ -18,4 +18,10 @@ pub fn accepted_calls_end_well<K: Disk>()
 /// of the desk and of the disk succeed.
 pub fn files_are_recovered<K: Disk>()
     ensures { FilesAreRecovered K.moment K.may_leave K.left_since }
+{}
+
+/// What is read back of what a crash has left of a run's journal file is a front of the run's journal, with all commits
+/// that were acknowledged by then.
+pub fn stops_are_read_back()
+    ensures { StopsAreReadBack }
 {}

@@ -12,6 +12,6 @@ mod program;
 mod recovery;
 mod say;
 
-pub use laws::{accepted_calls_end_well, files_are_recovered};
+pub use laws::{accepted_calls_end_well, files_are_recovered, stops_are_read_back};
 pub use outcome::KeptOutcome;
 pub use program::teseo_kept;

@@ -35,9 +35,9 @@ module _ {D : Type 0} (moment : D → ℕ) (may_leave : D → List ℕ → Type 
         → AreAcknowledged moment may_leave left_since engine_kind journal new.count now)
         → IsKept moment may_leave left_since state kind [] old before → (all : List Commit) × AreAcknowledged moment may_leave left_since kind all new.count now
     still_of_kind still before_kept = (
-        journal,
-        subst (λ k. AreAcknowledged moment may_leave left_since k journal new.count now) same
-        (still [] loaded refl (subst (λ k. IsKept moment may_leave left_since state k [] old before) (sym same) before_kept)),
+      journal,
+      subst (λ k. AreAcknowledged moment may_leave left_since k journal new.count now) same
+          (still [] loaded refl (subst (λ k. IsKept moment may_leave left_since state k [] old before) (sym same) before_kept)),
     )
 
 -- a load that is refused calls no disk

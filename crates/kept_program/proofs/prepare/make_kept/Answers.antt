@@ -5,6 +5,7 @@ use Rattle.source_run.specs.Requests.{kind_of}
 use Rattle.source_run.proofs.RequestLemmas.{stated_leaves}
 use Rattle.source_run.proofs.RunLemmas.{files_fit, handed_on}
 use Rattle.run_keeper.specs.Keeping.{IsKept}
+use Rattle.run_keeper.proofs.KeptLemmas.{on_err}
 use Rattle.teseo_program.proofs.PreparedLemmas.{are_inputs, job_count, are_printable, are_apart}
 use Rattle.kept_program.specs.Prepared.{IsKeptStop}
 use Rattle.kept_program.specs.Outcomes.{acknowledged_on, KeepsSome}
@@ -49,3 +50,27 @@ returns-clause-apart g c =
     are_apart c.load_is_legal.ensures.allowed c.load_is_legal.ensures.within c.files_are_loadable.ensures.loadable (run_request c.args.words.now) c.requires.asked c.requires.accepted.0 (meaning_of c.args.input)
     c.requires.accepted.1 c.requires.runnable c.requires.count c.kind_of-kind.result c.kind_of-kind.ensures false c.leaves_of-leaves.result c.in_ok-run.run' c.in_ok-run.ensures.run c.in_ok-outputs.outputs
     c.in_ok-outputs.ensures
+
+pub returns-in_err-run-clause-still : goal.returns-in_err-run-clause-still
+returns-in_err-run-clause-still g c =
+    let before = subst (λ k. IsKept g.K.Disk.moment g.K.Disk.may_leave g.K.Disk.left_since g.K.Disk.state k [] c.args.keeper.now.file c.args.disk.now) (sym c.kind_of-kind.ensures) c.requires.new in
+    let (journal, acknowledged) = c.in_err-run.ensures.still before in
+    on_err _ (subst (λ k. KeepsSome (acknowledged_on g.K.Disk.moment g.K.Disk.may_leave g.K.Disk.left_since c.run_scripts_kept.new.disk) k) c.kind_of-kind.ensures (journal, c.run_scripts_kept.new.keeper.file.count, acknowledged))
+
+pub returns-in_err-summary-clause-still : goal.returns-in_err-summary-clause-still
+returns-in_err-summary-clause-still g c =
+    let before = subst (λ k. IsKept g.K.Disk.moment g.K.Disk.may_leave g.K.Disk.left_since g.K.Disk.state k [] c.args.keeper.now.file c.args.disk.now) (sym c.kind_of-kind.ensures) c.requires.new in
+    on_err _ (subst (λ k. KeepsSome (acknowledged_on g.K.Disk.moment g.K.Disk.may_leave g.K.Disk.left_since c.run_scripts_kept.new.disk) k) c.kind_of-kind.ensures
+    (kept_some g.K.Disk.moment g.K.Disk.may_leave g.K.Disk.left_since g.K.Disk.state c.kind_of-kind.result c.in_ok-run.run'.ran.core.journal c.run_scripts_kept.new.keeper.file c.run_scripts_kept.new.disk (c.in_ok-run.ensures.kept before)))
+
+pub returns-in_err-outputs-clause-still : goal.returns-in_err-outputs-clause-still
+returns-in_err-outputs-clause-still g c =
+    let before = subst (λ k. IsKept g.K.Disk.moment g.K.Disk.may_leave g.K.Disk.left_since g.K.Disk.state k [] c.args.keeper.now.file c.args.disk.now) (sym c.kind_of-kind.ensures) c.requires.new in
+    on_err _ (subst (λ k. KeepsSome (acknowledged_on g.K.Disk.moment g.K.Disk.may_leave g.K.Disk.left_since c.run_scripts_kept.new.disk) k) c.kind_of-kind.ensures
+    (kept_some g.K.Disk.moment g.K.Disk.may_leave g.K.Disk.left_since g.K.Disk.state c.kind_of-kind.result c.in_ok-run.run'.ran.core.journal c.run_scripts_kept.new.keeper.file c.run_scripts_kept.new.disk (c.in_ok-run.ensures.kept before)))
+
+pub returns-in_err-run-clause-refused : goal.returns-in_err-run-clause-refused
+returns-in_err-run-clause-refused g c =
+    let m = meaning_of c.args.input in
+    handed_on c.from_residual.result c.in_err-run.field-0.0 (IsKeptStop (run_request c.args.words.now) m (g.K.Disk.state c.args.disk.now) (g.K.Disk.state c.run_scripts_kept.new.disk)) c.from_residual.ensures.1
+    (kept_stop (run_request c.args.words.now) m c.kind_of-kind.result c.leaves_of-leaves.result c.kind_of-kind.ensures c.leaves_of-leaves.ensures.leaves (g.K.Disk.state c.args.disk.now) (g.K.Disk.state c.run_scripts_kept.new.disk) c.in_err-run.field-0.0 c.in_err-run.ensures.refused)

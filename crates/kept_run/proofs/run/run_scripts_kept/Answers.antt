@@ -4,6 +4,7 @@ use Rattle.graph_model.specs.Loading.{IsNew}
 use Rattle.source_run.specs.Input.{inputs_of}
 use Rattle.source_run.specs.Parsing.{meaning_of}
 use Rattle.source_run.specs.Running.{IsConfig}
+use Rattle.run_keeper.proofs.KeptLemmas.{on_err}
 use Rattle.kept_run.specs.Refusals.{of_load, of_keep, IsRefusedKept}
 use Rattle.kept_run.proofs.KeptLemmas.{nothing_lost, kept_of_kind, still_of_kind, load_refused, keep_refused}
 use Rattle.source_run.proofs.RunLemmas.{handed_on, is_new, loadable, refused_load, started, ended, closed_as, kind_as, leaves_are, left_by_run, run_as, none_served, counts_of, all_at, new_jobs_count}
@@ -89,6 +90,14 @@ pub returns-in_err-run_kept-clause-still : goal.returns-in_err-run_kept-clause-s
 returns-in_err-run_kept-clause-still g c =
     let new = started (inputs_of c.args.kind (meaning_of c.args.input)) c.args.leaves c.config_of-config.result (subst (λ scripts. IsConfig c.args.kind c.args.leaves scripts c.config_of-config.result) c.as_slice.ensures c.config_of-config.ensures.config) c.requires.inputs
     c.in_ok-engine.engine.core c.load_graph.new.engine.core c.in_ok-jobs.jobs c.in_ok-engine.ensures c.in_ok-load_graph.ensures.loaded c.in_ok-jobs.ensures in
-    handed_on c.from_residual-in_err-run_kept.result (of_keep c.in_err-run_kept.field-0.0) _ c.from_residual-in_err-run_kept.ensures.1
-    (λ before. still_of_kind g.K.Disk.moment g.K.Disk.may_leave g.K.Disk.left_since g.K.Disk.state c.args.kind c.args.keeper.now.file c.args.disk.now c.load_graph.new.engine.core.kind new.kind c.load_graph.new.engine.core.journal c.run_kept.new.engine.core.journal
+    on_err _ (λ before. still_of_kind g.K.Disk.moment g.K.Disk.may_leave g.K.Disk.left_since g.K.Disk.state c.args.kind c.args.keeper.now.file c.args.disk.now c.load_graph.new.engine.core.kind new.kind c.load_graph.new.engine.core.journal c.run_kept.new.engine.core.journal
     c.run_kept.new.keeper.file c.run_kept.new.disk c.in_err-run_kept.ensures.still before)
+
+pub returns-in_err-engine-clause-still : goal.returns-in_err-engine-clause-still
+returns-in_err-engine-clause-still g c = on_err _ (nothing_lost g.K.Disk.moment g.K.Disk.may_leave g.K.Disk.left_since g.K.Disk.state c.args.kind c.args.keeper.now.file c.args.disk.now)
+
+pub returns-in_err-load_graph-clause-still : goal.returns-in_err-load_graph-clause-still
+returns-in_err-load_graph-clause-still g c = on_err _ (nothing_lost g.K.Disk.moment g.K.Disk.may_leave g.K.Disk.left_since g.K.Disk.state c.args.kind c.args.keeper.now.file c.args.disk.now)
+
+pub returns-in_err-jobs-clause-still : goal.returns-in_err-jobs-clause-still
+returns-in_err-jobs-clause-still g c = on_err _ (nothing_lost g.K.Disk.moment g.K.Disk.may_leave g.K.Disk.left_since g.K.Disk.state c.args.kind c.args.keeper.now.file c.args.disk.now)
