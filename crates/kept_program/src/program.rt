@@ -16,7 +16,7 @@ use desk_io::{Desk, Gate};
 use journal_disk::Disk;
 use std::alloc::Global;
 use std::thread::Threads;
-use teseo_program::{Left, Outcome, blamed_source, hand_out, make, run, write_and_say};
+use teseo_program::{Left, Outcome, blamed_source, hand_out, make_files, run, write_and_say};
 
 /// Runs `teseo` on the words behind its name, and answers the exit status. Behind a run whose outputs were all written,
 /// `left` is what its store leaves; else it stays as it is. The disk is used where the words name a journal file. The
@@ -51,7 +51,7 @@ fn outcome_of<R: Threads + Sync, D: Desk, K: Disk>(
 {
     match read_words(alloc, words) {
         Ok(Command::Run(words)) => run_as_asked(rt, alloc, desk, &words, left, disk),
-        Ok(Command::Make(words)) => KeptOutcome::Of(make(alloc, desk, &words)),
+        Ok(Command::Make(words)) => KeptOutcome::Of(make_files(alloc, desk, &words)),
         Ok(Command::Recover(words)) => recover(alloc, desk, &words, disk),
         Err(refusal) => {
             let outcome = KeptOutcome::Of(Outcome::from(refusal));

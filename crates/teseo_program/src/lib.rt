@@ -22,6 +22,6 @@ pub use left::Left;
 pub use outcome::Outcome;
 pub use outputs::{is_full, output_of, outputs_of, summary_of};
 pub use prepare::{Prepared, read_input};
-pub use program::{blamed_source, end_with, hand_out, make, run, write_and_say};
+pub use program::{blamed_source, end_with, hand_out, make_files, run, write_and_say};
 pub use say::{say_line, say_outcome};
 pub use source_run::{ParseStop, SourceFault};

@@ -69,10 +69,11 @@ pub fn read_input<R: Threads + Sync, D: Desk>(
 {
     let names = sources_of(alloc, words)?;
     let sources = read_all(alloc, desk, &names, MAX_SOURCE_BYTES)?;
-    match parse_sources(rt, alloc, &sources, words) {
-        Ok(input) => Ok(input),
-        Err(stop) => Err(Outcome::from(stop)),
-    }
+    let input = match parse_sources(rt, alloc, &sources, words) {
+        Ok(input) => input,
+        Err(stop) => return Err(Outcome::from(stop)),
+    };
+    Ok(input)
 }
 
 /// Runs the scripts on the graph of the sources, and makes the texts of what that leaves.

@@ -67,7 +67,7 @@ pub fn hand_out(left: &mut Left, ran: Left, outcome: Outcome)
 }
 
 /// Makes a graph, and writes its two files.
-pub fn make<D: Desk>(alloc: Global, desk: &mut D, words: &MakeWords<'_>) -> Outcome
+pub fn make_files<D: Desk>(alloc: Global, desk: &mut D, words: &MakeWords<'_>) -> Outcome
     requires some { 0 < words.now.vertices }
     requires apart { words.now.out.now ≢ words.now.edges_out.now }
     ensures { IsMakeOutcome result (make_request words.now) (D.files desk.old) (D.files desk.new) }
