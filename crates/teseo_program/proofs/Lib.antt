@@ -4,8 +4,8 @@ mod TextLemmas
 mod NameLemmas
 mod SinkLemmas
 mod SerialRunLemmas
-mod PreparedLemmas
-mod LawLemmas
-mod OutcomeLemmas
+pub mod PreparedLemmas
+pub mod LawLemmas
+pub mod OutcomeLemmas
 pub mod RoomLawLemmas
-mod EndLemmas
+pub mod EndLemmas

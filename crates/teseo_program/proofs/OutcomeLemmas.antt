@@ -18,7 +18,7 @@ use Rattle.teseo_program.specs.Outcomes.{Made, IsCause, OnlySays, SaysOutcome, s
 
 module _ (request : RunRequest) (old : Files) where
   module _ (p : Prepared) (of_run : IsPreparedOf request old p) where
-    written_cause : (before : Files) (outcome : Outcome) → Writes p.is_full p.outputs outcome old before → IsCause outcome request (made_of of_run.run of_run.ran p) old before
+    pub written_cause : (before : Files) (outcome : Outcome) → Writes p.is_full p.outputs outcome old before → IsCause outcome request (made_of of_run.run of_run.ran p) old before
     written_cause before Done writes = record { of_run = of_run.of_run; shows = of_run.full ∙ writes.0; writes = writes.1 }
     written_cause before Full writes = record { of_run = of_run.of_run; shows = of_run.full ∙ writes.0; writes = writes.1 }
     written_cause before LoadFull writes = absurd writes
@@ -29,7 +29,7 @@ module _ (request : RunRequest) (old : Files) where
     written_cause before (NotWritten stop) writes = (of_run.of_run, writes)
 
     -- no source is blamed where outputs are written
-    written_says : (before new : Files) (outcome : Outcome) → Writes p.is_full p.outputs outcome old before
+    pub written_says : (before new : Files) (outcome : Outcome) → Writes p.is_full p.outputs outcome old before
         → OnlySays (said_text (blamed [] (names_of p.outputs) outcome) p.summary outcome) before new → SaysOutcome request p.outputs p.summary outcome before new
     written_says before new Done writes says = says
     written_says before new Full writes says = says
@@ -41,7 +41,7 @@ module _ (request : RunRequest) (old : Files) where
     written_says before new (NotWritten stop) writes says = says
 
     -- what was prepared of a run is written
-    pub written_ends : (outcome : Outcome) (kept new : Files) (left left' : Left) → kept ≡ old → IsWritten p outcome kept new → IsLeft outcome p.left left left' → IsRunOutcome outcome request old new left left'
+    unfoldable pub written_ends : (outcome : Outcome) (kept new : Files) (left left' : Left) → kept ≡ old → IsWritten p outcome kept new → IsLeft outcome p.left left left' → IsRunOutcome outcome request old new left left'
     written_ends outcome kept new left left' same written left_is =
         let writes : Writes p.is_full p.outputs outcome old written.before = subst (λ files. Writes p.is_full p.outputs outcome files written.before) same written.writes in
         record {

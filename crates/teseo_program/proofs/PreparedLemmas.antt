@@ -100,7 +100,7 @@ pub same_summary : (kind : Kind) (r : RunResult) → HasCounts kind r → (commi
 same_summary kind r has commits is = λ i. summary_line (is i) (record { vertices = has.vertices i; edges = has.edges i; undo = has.undo i; retired = has.retired i })
 
 -- what was made of a run is of what the sources stand for
-pub made_from : (request : RunRequest) (m : Meaning) (p : Prepared) (r : RunResult) (kind : Kind) (leaves commits : ℕ) → kind ≡ kind_of request → leaves ≡ leaves_for request.leaves (most_rows (inputs_of kind m))
+unfoldable pub made_from : (request : RunRequest) (m : Meaning) (p : Prepared) (r : RunResult) (kind : Kind) (leaves commits : ℕ) → kind ≡ kind_of request → leaves ≡ leaves_for request.leaves (most_rows (inputs_of kind m))
     → IsRunAs request.is_serial (inputs_of kind m) leaves (run_outputs r) → IsLeftAs request.is_serial (inputs_of kind m) leaves m.schedule (run_outputs r) r.ran → HasCounts kind r → commits ≡ length r.ran.core.journal
     → p.outputs ≡ sinks_of request.journal (report_names request) (run_outputs r) → p.summary ≡ summary_line commits r.totals → shows_full (run_outputs r) ≡ p.is_full
     → p.left ≡ Stepped r.ran → IsMadeOf request m p
@@ -141,7 +141,7 @@ unparsed request sources old new (parses.NotAccepted place fault) outcome is rea
 unparsed request sources old new parses.NoMemory outcome is read refused same = subst (IsUnprepared request old new) (sym is) same
 
 -- what was made of the meaning of the texts is made of a run of the files
-pub prepared_of : (request : RunRequest) (files : Files) (sources : List (List ℕ)) (m : Meaning) (p : Prepared) → AreRead MAX_SOURCE_BYTES files (source_names request) sources
+unfoldable pub prepared_of : (request : RunRequest) (files : Files) (sources : List (List ℕ)) (m : Meaning) (p : Prepared) → AreRead MAX_SOURCE_BYTES files (source_names request) sources
     → IsAccepted request (texts_of request sources) m → IsMadeOf request m p → IsPreparedOf request files p
 prepared_of request files sources m p read accepted made = record {
   run = made.outputs;
