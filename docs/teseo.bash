@@ -20,7 +20,7 @@ _teseo() {
     local needed='' other='' missing=() left=()
     COMPREPLY=()
     if [ "$COMP_CWORD" -eq 1 ]; then
-        mapfile -t COMPREPLY < <(compgen -W 'run make' -- "$current")
+        mapfile -t COMPREPLY < <(compgen -W 'run make recover' -- "$current")
         return
     fi
     case ${COMP_WORDS[1]}:$previous in
@@ -33,7 +33,8 @@ _teseo() {
         return
         ;;
     run:--leaves | make:--seed | make:--vertices | make:--edges) return ;;
-    run:--vertices | run:--edges | run:--journal | run:--schedule | make:--out | make:--edges-out)
+    run:--vertices | run:--edges | run:--journal | run:--schedule | run:--keep | make:--out | make:--edges-out | \
+        recover:--keep | recover:--journal)
         _teseo_files "$current"
         return
         ;;
@@ -41,11 +42,14 @@ _teseo() {
     case ${COMP_WORDS[1]} in
     run)
         needed='--vertices --edges --journal' other='--directed --weights --cut --leaves'
-        # scripts run on threads, or by turns
-        _teseo_has --threads || other+=' --schedule --serial'
-        _teseo_has --schedule || _teseo_has --serial || other+=' --threads'
+        # scripts run on threads, or by turns, and commits are kept by turns that refuse none
+        _teseo_has --threads || other+=' --schedule'
+        _teseo_has --threads || _teseo_has --keep || other+=' --serial'
+        _teseo_has --threads || _teseo_has --serial || other+=' --keep'
+        _teseo_has --schedule || _teseo_has --serial || _teseo_has --keep || other+=' --threads'
         ;;
     make) needed='--seed --vertices --edges --out --edges-out' ;;
+    recover) needed='--keep --journal' ;;
     *) return ;;
     esac
     for option in $needed; do _teseo_has "$option" || missing+=("$option"); done
