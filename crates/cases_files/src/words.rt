@@ -5,7 +5,7 @@ use std::alloc::Global;
 use std::test::Fail;
 
 /// Words, and what they ask for: the names in the order V, E, J, then what may be left out, then the scripts.
-const TAKEN: [(&str, &str); 12] = [
+const TAKEN: [(&str, &str); 13] = [
     ("run --vertices v --edges e --journal j s", "v e j: s"),
     (
         "run s --cut --journal j --directed t --edges e --weights 9 --schedule p --leaves 131072 --vertices v u",
@@ -42,9 +42,13 @@ const TAKEN: [(&str, &str); 12] = [
         "run --serial --vertices v --edges e --journal j --leaves 7 s",
         "v e j 7 serial: s",
     ),
+    (
+        "run --vertices v --edges e --journal j --threads 32 --leaves 7 s",
+        "v e j 7 threads 32: s",
+    ),
 ];
 
-const REFUSED: [&str; 41] = [
+const REFUSED: [&str; 43] = [
     "",
     "help",
     "--help",
@@ -66,7 +70,9 @@ const REFUSED: [&str; 41] = [
     "run --vertices v --edges e --journal j --cut=1 s",
     "run --vertices -v --edges e --journal j s",
     "run --vertices v --edges e --journal j -s",
-    "run --vertices v --edges e --journal j --threads 2 s",
+    "run --vertices v --edges e --journal j --threads 0 s",
+    "run --vertices v --edges e --journal j --threads 33 s",
+    "run --vertices v --edges e --journal j --threads 2 --schedule p s",
     "run --vertices v --edges e --journal j --serial --threads 2 s",
     "run --vertices v --edges e --journal j --serial --serial s",
     "run --vertices v --edges e --journal j --leaves 0 s",
@@ -153,6 +159,9 @@ fn text_of_run(alloc: Global, run: &RunWords<'_>) -> Result<String, Fail> {
     }
     if let Some(leaves) = run.leaves {
         text.push_str(format!(in alloc; " {leaves}")?.as_str())?;
+    }
+    if let Some(threads) = run.threads {
+        text.push_str(format!(in alloc; " threads {threads}")?.as_str())?;
     }
     if run.is_serial {
         text.push_str(" serial")?;

@@ -2,8 +2,9 @@
 ghost use Rattle.std.specs.Prelude.{◌≡◌, [], IfOk};
 ghost use Rattle.std.specs.String.{string_bytes};
 
-use desk_io::{MemoryDesk, OpenGate};
+use desk_io::{Gate, MemoryDesk, OpenGate};
 use std::alloc::{AllocError, Global};
+use std::sync::Wait;
 use std::thread::Threads;
 use teseo_program::{Left, teseo};
 
@@ -21,7 +22,7 @@ const GRAPH_WORDS: &str = "run --vertices v --edges e --journal j ";
 
 /// How a run ends otherwise than it is wanted, as `call_difference` says it. The calls of the desk of
 /// these numbers fail.
-pub fn run_difference<R: Threads + Sync>(
+pub fn run_difference<R: Threads + Wait + Sync>(
     rt: &R,
     alloc: Global,
     run: Run,
@@ -35,7 +36,7 @@ pub fn run_difference<R: Threads + Sync>(
 
 /// How a call with the words of a line ends otherwise than it is wanted, on a desk with these files, where
 /// the calls of these numbers fail: nothing where it ends as wanted.
-pub fn call_difference<R: Threads + Sync>(
+pub fn call_difference<R: Threads + Wait + Sync>(
     rt: &R,
     alloc: Global,
     files: &[File],
@@ -48,16 +49,28 @@ pub fn call_difference<R: Threads + Sync>(
 }
 
 /// The same on a desk that is there.
-pub fn difference_on<R: Threads + Sync>(
+pub fn difference_on<R: Threads + Wait + Sync>(
     rt: &R,
     alloc: Global,
     desk: &mut MemoryDesk,
     line: &str,
     wanted: End,
 ) -> Result<String, AllocError> {
+    difference_by(rt, alloc, desk, line, &OpenGate, wanted)
+}
+
+/// The same with a gate of the caller's.
+pub fn difference_by<R: Threads + Wait + Sync, G: Gate>(
+    rt: &R,
+    alloc: Global,
+    desk: &mut MemoryDesk,
+    line: &str,
+    gate: &G,
+    wanted: End,
+) -> Result<String, AllocError> {
     let words = split(alloc, line)?;
     let mut left = Left::Nothing;
-    let status = teseo(rt, alloc, &words, desk, &OpenGate, &mut left);
+    let status = teseo(rt, alloc, &words, desk, gate, &mut left);
     let found = text_of_desk(alloc, status, desk, wanted.3)?;
     let wanted = text_of_end(alloc, wanted)?;
     difference(alloc, found.as_str(), wanted.as_str())

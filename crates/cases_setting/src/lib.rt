@@ -6,5 +6,7 @@
 mod ends;
 mod path_graph;
 
-pub use ends::{End, File, Run, call_difference, desk_with, difference_on, run_difference};
+pub use ends::{
+    End, File, Run, call_difference, desk_with, difference_by, difference_on, run_difference,
+};
 pub use path_graph::{E, JOURNAL, PATH, REPORT, RESULT, SEARCH, SUMMARY, V, WHOLE};

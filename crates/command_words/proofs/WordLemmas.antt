@@ -49,6 +49,7 @@ one_run rows a b is also =
     let cut : a.is_cut ≡ b.is_cut = same_test a.is_cut b.is_cut is.cut also.cut in
     let weights : a.weights ≡ b.weights = one_number 0 9 (first_of (codes "weights") rows) a.weights b.weights is.weights also.weights in
     let leaves : a.leaves ≡ b.leaves = one_number 1 131072 (first_of (codes "leaves") rows) a.leaves b.leaves is.leaves also.leaves in
+    let threads : a.threads ≡ b.threads = one_number 1 32 (first_of (codes "threads") rows) a.threads b.threads is.threads also.threads in
     let serial : a.is_serial ≡ b.is_serial = same_test a.is_serial b.is_serial is.serial also.serial in
     λ i. record {
       vertices = vertices i;
@@ -59,6 +60,7 @@ one_run rows a b is also =
       is_cut = cut i;
       schedule = schedule i;
       leaves = leaves i;
+      threads = threads i;
       is_serial = serial i;
       scripts = scripts i;
     }

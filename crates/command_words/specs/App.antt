@@ -30,6 +30,7 @@ run_shape = record (new_shape (codes "run")) {
       ∷ flag_rule (codes "cut")
       ∷ option_rule (codes "schedule") false
       ∷ option_rule (codes "leaves") false
+      ∷ option_rule (codes "threads") false
       ∷ flag_rule (codes "serial")
       ∷ scripts_rule ∷ [];
 }

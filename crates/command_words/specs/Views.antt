@@ -29,6 +29,7 @@ run_request words = record {
   is_cut = words.is_cut;
   schedule = option_map (λ name. name.now) words.schedule;
   leaves = words.leaves;
+  threads = words.threads;
   is_serial = words.is_serial;
   scripts = map (λ name. name.now) words.scripts.items;
 }

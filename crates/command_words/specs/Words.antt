@@ -1,7 +1,7 @@
 -- Which words are taken, and as what.
-use Rattle.std.specs.Prelude.{◌≡◌, ◌≢◌, ◌≤◌, ◌∷◌, ◌++◌, ℕ, Bool, true, List, map, length, codes, AllPairs, Option, Some, IsTrue, ◌↔◌, option_to_list}
+use Rattle.std.specs.Prelude.{◌≡◌, ◌≢◌, ◌≤◌, ◌∷◌, ◌++◌, ℕ, Bool, true, not, ◌&&◌, cond, is_some, List, map, length, codes, AllPairs, Option, Some, IsTrue, ◌↔◌, option_to_list}
 use Rattle.clap.specs.Words.{Row, Text, all_of, first_of, subcommand_of, takes}
-use Rattle.graph_model.specs.declared.limits.TheConstants.{MAX_LEAVES, MAX_SCRIPTS}
+use Rattle.graph_model.specs.declared.limits.TheConstants.{MAX_LEAVES, MAX_SCRIPTS, MAX_THREADS}
 use Rattle.command_words.specs.App.{teseo_app}
 use Rattle.command_words.specs.Numbers.{HasNumber, IsOptionalNumber}
 
@@ -15,6 +15,7 @@ pub record RunRequest : Type 0 where
   pub is_cut : Bool
   pub schedule : Option Text
   pub leaves : Option ℕ
+  pub threads : Option ℕ
   pub is_serial : Bool
   pub scripts : List Text
 
@@ -53,14 +54,21 @@ pub record GivesRun (rows : List Row) (request : RunRequest) : Type 0 where
   pub cut : IsTrue request.is_cut ↔ (first_of (codes "cut") rows ≡ Some (codes "true"))
   pub schedule : first_of (codes "schedule") rows ≡ request.schedule
   pub leaves : IsOptionalNumber 1 MAX_LEAVES (first_of (codes "leaves") rows) request.leaves
+  pub threads : IsOptionalNumber 1 MAX_THREADS (first_of (codes "threads") rows) request.threads
   pub serial : IsTrue request.is_serial ↔ (first_of (codes "serial") rows ≡ Some (codes "true"))
   pub scripts : all_of (codes "script") rows ≡ Some request.scripts
 
--- and the request passes the checks: there are at most 60 scripts, and no two of the names and of the reports' are
--- equal
+-- a run on threads has no turns to schedule, and refuses no commits
+abbrev pub goes_together : RunRequest → Bool
+goes_together request =
+    cond (is_some request.threads) (not (is_some request.schedule) && not request.is_serial) true
+
+-- and the request passes the checks: there are at most 60 scripts, the options go together, and no two of the names and
+-- of the reports' are equal
 pub record IsRun (rows : List Row) (request : RunRequest) : Type 0 where
   pub given : GivesRun rows request
   pub count : length request.scripts ≤ MAX_SCRIPTS
+  pub together : goes_together request ≡ true
   pub distinct : AllPairs (λ a b. a ≢ b) (taken_names request)
 
 -- what clap found for the arguments of `make` gives this request

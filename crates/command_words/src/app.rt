@@ -35,6 +35,7 @@ fn run_command<'a>(alloc: Global) -> Result<Command<'a>, AllocError>
         .arg(flag(alloc, "cut"))?
         .arg(optional(alloc, "schedule"))?
         .arg(optional(alloc, "leaves"))?
+        .arg(optional(alloc, "threads"))?
         .arg(flag(alloc, "serial"))?
         .arg(scripts(alloc))
 }

@@ -1,7 +1,7 @@
 //! What the words ask for.
 
 ghost use Rattle.std.specs.Prelude.{◌≡◌, ◌≢◌, ◌↔◌, ◌+◌, ◌<◌, [], ◌++◌, map, length, get_or, AllPairs, IsTrue};
-ghost use Rattle.command_words.specs.Words.{taken_names, report_name};
+ghost use Rattle.command_words.specs.Words.{taken_names, report_name, goes_together};
 ghost use Rattle.command_words.specs.Views.{run_request, taken_name};
 
 use crate::names::TakenName;
@@ -27,6 +27,8 @@ pub struct RunWords<'a> {
     pub schedule: Option<&'a str>,
     /// How many leaves the store has, 1 to 131,072, where that is stated.
     pub leaves: Option<u32>,
+    /// How many threads run the scripts, 1 to 32, where they run side by side.
+    pub threads: Option<u32>,
     /// Whether commits that would not leave a serial order are refused.
     pub is_serial: bool,
     /// The names of the scripts, in the order of the words.
@@ -94,6 +96,16 @@ impl<'a> RunWords<'a> {
             TakenName::Given(self.scripts[place])
         } else {
             TakenName::ReportOf(self.scripts[place - count])
+        }
+    }
+
+    /// Whether the options may be given together.
+    pub(crate) fn goes_together(&self) -> bool
+        ensures { result ≡ goes_together (run_request self.now) }
+    {
+        match self.threads {
+            Some(_) => self.schedule.is_none() && !self.is_serial,
+            None => true,
         }
     }
 

@@ -5,7 +5,7 @@
 
 ghost use Rattle.std.specs.Prelude.{◌≡◌, ℕ, true, map, option_map, codes, IsTrue, ◌↔◌, Option, Some, None, IfOk, IfErr};
 ghost use Rattle.std.specs.String.{string_bytes};
-ghost use Rattle.graph_model.specs.declared.limits.TheConstants.{MAX_LEAVES};
+ghost use Rattle.graph_model.specs.declared.limits.TheConstants.{MAX_LEAVES, MAX_THREADS};
 ghost use Rattle.clap.specs.Words.{all_of, first_of, subcommand_rows_of, takes};
 ghost use Rattle.command_words.specs.App.{teseo_app};
 ghost use Rattle.command_words.specs.Words.{RunRequest, MakeRequest, IsTaken, GivesRun, IsRun, GivesMake, IsMake};
@@ -18,7 +18,7 @@ use crate::command::{Command, MakeWords, RunWords};
 use crate::number::read_number;
 use crate::refusal::WordsRefusal;
 use clap::ArgMatches;
-use graph_model::{MAX_LEAVES, MAX_SCRIPTS};
+use graph_model::{MAX_LEAVES, MAX_SCRIPTS, MAX_THREADS};
 use std::alloc::Global;
 
 /// How many digits of a weight may stand behind the point.
@@ -76,6 +76,9 @@ fn run_words<'a>(alloc: Global, found: &ArgMatches<'a>) -> Result<RunWords<'a>, 
     if words.scripts.len() > MAX_SCRIPTS {
         return Err(WordsRefusal::BadWords);
     }
+    if !words.goes_together() {
+        return Err(WordsRefusal::BadWords);
+    }
     if !words.has_distinct_names() {
         return Err(WordsRefusal::BadWords);
     }
@@ -93,6 +96,7 @@ fn given_run<'a>(alloc: Global, found: &ArgMatches<'a>) -> Result<RunWords<'a>, 
     let journal = text_in(found, "journal")?;
     let weights = weights_in(found)?;
     let leaves = leaves_in(found)?;
+    let threads = threads_in(found)?;
     Ok(RunWords {
         vertices,
         edges,
@@ -102,6 +106,7 @@ fn given_run<'a>(alloc: Global, found: &ArgMatches<'a>) -> Result<RunWords<'a>, 
         is_cut: is_used(found, "cut"),
         schedule: optional_text(found, "schedule"),
         leaves,
+        threads,
         is_serial: is_used(found, "serial"),
         scripts,
     })
@@ -205,6 +210,21 @@ fn leaves_in(found: &ArgMatches<'_>) -> Result<Option<u32>, WordsRefusal>
     };
     match read_number(text, 1, MAX_LEAVES as u64) {
         Some(leaves) => Ok(Some(leaves as u32)),
+        None => Err(WordsRefusal::BadWords),
+    }
+}
+
+/// How many threads run the scripts, where they run side by side.
+fn threads_in(found: &ArgMatches<'_>) -> Result<Option<u32>, WordsRefusal>
+    ensures given { IfOk result (IsOptionalNumber 1 MAX_THREADS (first_of (codes "threads") (rows_in found.now))) }
+    ensures refused { IfErr result (λ _. (threads : Option ℕ)
+        → IsOptionalNumber 1 MAX_THREADS (first_of (codes "threads") (rows_in found.now)) threads → ⊥) }
+{
+    let Some(text) = optional_text(found, "threads") else {
+        return Ok(None)
+    };
+    match read_number(text, 1, MAX_THREADS as u64) {
+        Some(threads) => Ok(Some(threads as u32)),
         None => Err(WordsRefusal::BadWords),
     }
 }

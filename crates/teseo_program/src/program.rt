@@ -20,23 +20,24 @@ use graph_model::NoMemory;
 use items::Items;
 use source_run::source_at;
 use std::alloc::Global;
+use std::sync::Wait;
 use std::thread::Threads;
 
 /// Runs `teseo` on the words behind its name, and answers the exit status. Behind a run whose outputs were all written,
-/// `left` is what its store leaves; else it stays as it is. The gate is for runs with several threads, and not called
-/// yet.
-pub fn teseo<R: Threads + Sync, D: Desk, G: Gate>(
+/// `left` is what its store leaves; else it stays as it is. Where the scripts run on threads the gate is called before
+/// each of their turns, and the call may wait.
+pub fn teseo<R: Threads + Wait + Sync, D: Desk, G: Gate>(
     rt: &R,
     alloc: Global,
     words: &[String],
     desk: &mut D,
-    _gate: &G,
+    gate: &G,
     left: &mut Left,
 ) -> u8
     ensures { (outcome : Outcome) × (result ≡ status_of outcome)
         × IsOutcome outcome (map string_bytes words.now) (D.files desk.old) (D.files desk.new) left.old left.new }
 {
-    outcome_of(rt, alloc, words, desk, left).status()
+    outcome_of(rt, alloc, words, desk, gate, left).status()
 }
 
 /// Ends a call that has no words to run, as where one of them isn't text: says the outcome, and answers
@@ -50,17 +51,18 @@ pub fn end_with<D: Desk>(desk: &mut D, outcome: Outcome) -> u8
 }
 
 /// Runs the words to their end.
-fn outcome_of<R: Threads + Sync, D: Desk>(
+fn outcome_of<R: Threads + Wait + Sync, D: Desk, G: Gate>(
     rt: &R,
     alloc: Global,
     words: &[String],
     desk: &mut D,
+    gate: &G,
     left: &mut Left,
 ) -> Outcome
     ensures { IsOutcome result (map string_bytes words.now) (D.files desk.old) (D.files desk.new) left.old left.new }
 {
     match read_words(alloc, words) {
-        Ok(Command::Run(words)) => run(rt, alloc, desk, &words, left),
+        Ok(Command::Run(words)) => run(rt, alloc, desk, &words, gate, left),
         Ok(Command::Make(words)) => make(alloc, desk, &words),
         Err(refusal) => {
             let outcome = Outcome::from(refusal);
@@ -71,17 +73,18 @@ fn outcome_of<R: Threads + Sync, D: Desk>(
 }
 
 /// Runs the scripts that the words name.
-fn run<R: Threads + Sync, D: Desk>(
+fn run<R: Threads + Wait + Sync, D: Desk, G: Gate>(
     rt: &R,
     alloc: Global,
     desk: &mut D,
     words: &RunWords<'_>,
+    gate: &G,
     left: &mut Left,
 ) -> Outcome
     requires { IsAsked (run_request words.now) }
     ensures { IsRunOutcome result (run_request words.now) (D.files desk.old) (D.files desk.new) left.old left.new }
 {
-    match prepare(rt, alloc, desk, words) {
+    match prepare(rt, alloc, desk, words, gate) {
         Ok(prepared) => {
             let outcome = write_and_say(desk, &prepared);
             hand_out(left, prepared.left, outcome);

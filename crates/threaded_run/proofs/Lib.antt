@@ -1,0 +1,4 @@
+pub mod FreshLemmas
+pub mod SeatLemmas
+pub mod EndLemmas
+pub mod HomeLemmas
