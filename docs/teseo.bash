@@ -1,5 +1,5 @@
-# Completes the words of teseo in bash: the subcommand, its options, those first that it needs and none twice, and names of
-# files, where reports aren't offered as sources.
+# Completes the words of teseo in bash: the subcommand, its options, those first that it needs and none twice, and names
+# of files, where reports aren't offered as sources.
 
 # Whether an option stands on the line already.
 _teseo_has() {
@@ -28,6 +28,10 @@ _teseo() {
         mapfile -t COMPREPLY < <(compgen -W '0 1 2 3 4 5 6 7 8 9' -- "$current")
         return
         ;;
+    run:--threads)
+        mapfile -t COMPREPLY < <(compgen -W '1 2 4 8 16 32' -- "$current")
+        return
+        ;;
     run:--leaves | make:--seed | make:--vertices | make:--edges) return ;;
     run:--vertices | run:--edges | run:--journal | run:--schedule | make:--out | make:--edges-out)
         _teseo_files "$current"
@@ -35,7 +39,12 @@ _teseo() {
         ;;
     esac
     case ${COMP_WORDS[1]} in
-    run) needed='--vertices --edges --journal' other='--directed --weights --cut --schedule --leaves --serial' ;;
+    run)
+        needed='--vertices --edges --journal' other='--directed --weights --cut --leaves'
+        # scripts run on threads, or by turns
+        _teseo_has --threads || other+=' --schedule --serial'
+        _teseo_has --schedule || _teseo_has --serial || other+=' --threads'
+        ;;
     make) needed='--seed --vertices --edges --out --edges-out' ;;
     *) return ;;
     esac
