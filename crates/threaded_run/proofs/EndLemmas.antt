@@ -162,27 +162,19 @@ module _ (inputs : Inputs) (store : Store) where
       let cs_is : c ≡ cs = some_eq c cs script in
       let plus : number ≡ number + 0 = omega arith in (
         y.1,
-        (
-          refl,
-          (
-            ended.0.number_is ∙ plus,
-            subst (λ n. HasRunBy inputs.kind inputs.load n cs job.answers (map file_of job.tables) (account_of store y.1)) plus
-                (subst (λ (j : Progress). HasRunBy inputs.kind inputs.load number cs j.answers (map file_of j.tables) (account_of store y.1)) same
-                (subst (λ xs. HasRunBy inputs.kind inputs.load number xs y.0.answers (map file_of y.0.tables) (account_of store y.1)) cs_is (ended.0.ran given.0))),
-          ),
-        ),
+        refl,
+        ended.0.number_is ∙ plus,
+        subst (λ n. HasRunBy inputs.kind inputs.load n cs job.answers (map file_of job.tables) (account_of store y.1)) plus
+            (subst (λ (j : Progress). HasRunBy inputs.kind inputs.load number cs j.answers (map file_of j.tables) (account_of store y.1)) same
+            (subst (λ xs. HasRunBy inputs.kind inputs.load number xs y.0.answers (map file_of y.0.tables) (account_of store y.1)) cs_is (ended.0.ran given.0))),
       )
   ran_at number (c ∷ scripts) (y ∷ ys) ended given (suc k) cs job script at =
       let rest = ran_at (number + 1) scripts ys ended.1 given.1 k cs job script at in
       let plus : number + 1 + k ≡ number + suc k = omega arith in (
         rest.0,
-        (
-          rest.1,
-          (
-            rest.2 ∙ plus,
-            subst (λ n. HasRunBy inputs.kind inputs.load n cs job.answers (map file_of job.tables) (account_of store rest.0)) plus rest.3,
-          ),
-        ),
+        rest.1,
+        rest.2 ∙ plus,
+        subst (λ n. HasRunBy inputs.kind inputs.load n cs job.answers (map file_of job.tables) (account_of store rest.0)) plus rest.3,
       )
 
   module _ (can : CanRun inputs store.accounts.config) (service : Pass) (first : IsIdle store service) (zero_is : service.seats.number ≡ 0)

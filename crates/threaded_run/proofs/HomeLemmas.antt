@@ -23,7 +23,7 @@ use Rattle.threaded_run.specs.Running.{CanRun}
 use Rattle.threaded_run.specs.Seats.{AreSeated, CanRunOn}
 use Rattle.threaded_run.specs.Ended.{HaveEnded}
 use Rattle.threaded_run.proofs.FreshLemmas.{AreUnused, loader_idle, loader_number, loader_loaded, others_unused, loaded_on}
-use Rattle.threaded_run.proofs.SeatLemmas.{are_fit, seats_ready}
+use Rattle.threaded_run.proofs.SeatLemmas.{AreFit, are_fit, seats_ready}
 use Rattle.threaded_run.proofs.EndLemmas.{bare, AreHome, run_bare, gave_bare, have_ended, none_given, all_idle, have_run_on}
 
 -- ---- how many there are
@@ -99,7 +99,7 @@ module _ (inputs : Inputs) (store : Store) (list : List Pass) (scripts : List (L
     are_ready xs at seated =
         ready_home xs at
         (seats_ready inputs store can.can (account_of store loader).seen (loader_loaded store inputs.load loader rest are_loaded).seen 1 scripts rest (bare home pass_of store xs)
-        (subst (λ cs. AllByRecursion _ cs) (sym can.scripts_are) (are_fit inputs store can.can)) unused seated)
+        (subst (AreFit store.accounts.config.txns_per_pass) (sym can.scripts_are) (are_fit inputs store can.can)) unused seated)
 
     -- ---- behind them
 

@@ -2,3 +2,4 @@ pub mod FreshLemmas
 pub mod SeatLemmas
 pub mod EndLemmas
 pub mod HomeLemmas
+pub mod RunLemmas

@@ -16,6 +16,7 @@ use graph_model::{LoadRefusal, NoMemory, Writes};
 use items::Items;
 use job_runner::Jobs;
 use run_model::Script;
+use shared_runs::closed_stores_leave_runs;
 use shared_store::{Closed, LoadedRefusal, Passes, Store, close, loaded};
 use std::alloc::Global;
 use std::sync::Wait;
@@ -51,6 +52,7 @@ pub fn run_on_threads<R: Threads + Wait + Sync, G: Gate>(
         (graph_at config.kind r.closed.journal (length r.closed.journal)) r.closed.totals) }
     ensures refused { IfErr result (IsStopped config load) }
 {
+    closed_stores_leave_runs();
     let (store, mut passes) = load_store(alloc, config, load)?;
     let ran = run_passes(rt, alloc, &store, &mut passes.list, scripts, workers, gate);
     let closed = close(store, passes);

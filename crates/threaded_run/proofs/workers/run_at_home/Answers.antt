@@ -1,21 +1,26 @@
+use denote.Param.Send.{sendable}
 use Rattle.std.proofs.Common.{◌≡◌, ◌≤◌, ◌+◌, ◌++◌, [], ◌∷◌, arith, ap, ◌∙◌, sym, subst, length, map, rules, length-append}
 use Rattle.graph_model.specs.AccountSteps.{ReadsBy}
 use Rattle.graph_model.specs.Account.{Account}
 use Rattle.shared_store.specs.Passes.{account_of}
+use Rattle.rebalance_service.proofs.SendLemmas.{worker_send}
 use Rattle.threaded_run.specs.Seats.{AreSeated}
 use Rattle.threaded_run.proofs.SeatLemmas.{first_out}
 use Rattle.threaded_run.proofs.HomeLemmas.{some_passes, first_idle, rest_idle, rest_count, are_ready, idle_again, run_again, seats_count, zip_count, served_as}
 use Rattle.threaded_run.proofs.workers.run_at_home.Goals as goal
 
+pub run_threads-ended-requires-send-E : goal.run_threads-ended-requires-send-E
+run_threads-ended-requires-send-E g c = search (sendable, worker_send, c.type_bounds.sync-R)
+
 pub seat_all-requires-clause-loader : goal.seat_all-requires-clause-loader
-seat_all-requires-clause-loader g c κs within =
+seat_all-requires-clause-loader g c =
     let inputs = c.requires.can.0 in
     let can = c.requires.can.1 in
     let split = first_out c.args.passes.now.items c.remove-loader.new.self.items c.remove-loader.result (some_passes inputs c.args.store.now c.args.passes.now.items c.args.scripts can) c.remove-loader.ensures.value c.remove-loader.ensures.items in
     first_idle inputs c.args.store.now c.args.passes.now.items c.args.scripts can c.remove-loader.result c.remove-loader.new.self.items split
 
 pub seat_all-requires-clause-idle : goal.seat_all-requires-clause-idle
-seat_all-requires-clause-idle g c κs within =
+seat_all-requires-clause-idle g c =
     let inputs = c.requires.can.0 in
     let can = c.requires.can.1 in
     let split = first_out c.args.passes.now.items c.remove-loader.new.self.items c.remove-loader.result (some_passes inputs c.args.store.now c.args.passes.now.items c.args.scripts can) c.remove-loader.ensures.value c.remove-loader.ensures.items in
@@ -30,7 +35,7 @@ run_threads-ended-requires-clause-ready g c κs within =
     (subst (λ cs. AreSeated c.args.store.now (account_of c.args.store.now c.remove-loader.result).seen 1 cs c.remove-loader.new.self.items (map (λ x. (x.0, x.1.pass)) c.seat_all.new.seats.items)) c.into_vec.ensures c.seat_all.ensures.seated)
 
 pub leave_all-requires-clause-passes : goal.leave_all-requires-clause-passes
-leave_all-requires-clause-passes g c κs within =
+leave_all-requires-clause-passes g c =
     let all = zip_count _ c.seat_all.new.seats.items c.run_threads-ended.new.jobs.jobs.items c.run_threads-ended.ensures.ran in
     let seats = seats_count c.args.store.now _ 1 c.into_vec.result.items c.remove-loader.new.self.items (λ x. (x.0, x.1.pass)) c.seat_all.new.seats.items c.seat_all.ensures.seated in
     let none = ap length c.seat_all.ensures.passes.0 in
@@ -41,10 +46,10 @@ leave_all-requires-clause-passes g c κs within =
     let before = c.remove-loader.ensures.capacity in
     let held = c.args.passes.now.ok in
     let inside = c.args.passes.now.small in
-    omega (arith, all, seats.1, none, pushed, kept, same, fewer, before, held, inside.1)
+    omega (arith, all, seats.1, none, pushed, kept, same, fewer, before, held, inside)
 
 pub leave_all-requires-clause-jobs : goal.leave_all-requires-clause-jobs
-leave_all-requires-clause-jobs g c κs within =
+leave_all-requires-clause-jobs g c =
     let all = zip_count _ c.seat_all.new.seats.items c.run_threads-ended.new.jobs.jobs.items c.run_threads-ended.ensures.ran in
     let seats = seats_count c.args.store.now _ 1 c.into_vec.result.items c.remove-loader.new.self.items (λ x. (x.0, x.1.pass)) c.seat_all.new.seats.items c.seat_all.ensures.seated in
     let inputs = c.requires.can.0 in
