@@ -2,10 +2,10 @@
 # Builds the program, runs the whole command on graphs of three sizes and two kinds, and prints a table. Then come a table
 # of what it takes to read and load a graph with weights, one of many scripts of short transactions, one of such scripts
 # with --serial and without, one of the image and the kernels by themselves, one of the parts of the store over leaves, one
-# of latches and pins, one of transactions by calls of the engine, and one of transactions of threads on one store. All
-# inputs are made from a seed in a temporary folder, which is removed at the end. RUNS=N and SEED=N change how often each is
-# run (3), and which inputs they are (1). ONLY=runs, ONLY=serial, ONLY=kernels, ONLY=segments, ONLY=latches, ONLY=engine,
-# ONLY=churn and ONLY=shared print one part alone.
+# of latches and pins, one of transactions by calls of the engine, one of transactions of threads on one store, and one of
+# scripts with --threads. All inputs are made from a seed in a temporary folder, which is removed at the end. RUNS=N and
+# SEED=N change how often each is run (3), and which inputs they are (1). ONLY=runs, ONLY=serial, ONLY=kernels,
+# ONLY=segments, ONLY=latches, ONLY=engine, ONLY=churn, ONLY=shared and ONLY=threads print one part alone.
 set -euo pipefail
 
 top=$(cd "$(dirname "$0")/.." && pwd)
@@ -292,6 +292,55 @@ print_shared() {
     echo
 }
 
+# Runs the command on the graph with these words once, and adds its seconds to a file.
+run_threaded() {
+    local file=$1
+    shift
+    python3 "$top/bench/measure.py" --runs 1 --remove journal -- "$program" run --vertices graph.v \
+        --edges graph.e --journal journal "$@" 2>said >>"$file" || fail
+}
+
+# The least of the first numbers of a file's lines.
+least_of() {
+    sort -n "$1" | awk 'NR == 1 { print $1 }'
+}
+
+# Prints the table of four scripts of 65,536 transactions of one edge each, by turns and on so many threads, alone and
+# beside a script of analyses, on a power-law graph of 1,000,000 vertices.
+print_threads() {
+    local vertices=1000000 each=65536 way name load_best alone beside
+    make_inputs power-law "$vertices" $((vertices * 7 / 2))
+    python3 "$top/bench/scripts.py" --scripts 4 --transactions "$each" --vertices "$vertices" --seed "$seed" --out short
+    printf 'begin\ncommit\n' >none
+    for name in o1 o2 o3; do printf 'begin\nbfs 1 %s\nabort\n' "$name"; done >searches
+    for _run in $(seq "$runs"); do
+        for way in turns 1 2 4; do
+            local words=()
+            [ "$way" = turns ] || words=(--threads "$way")
+            run_threaded "load.$way" "${words[@]}" none
+            run_threaded "alone.$way" "${words[@]}" short.1 short.2 short.3 short.4
+            [ "$way" = turns ] || words=(--threads $((way + 1)))
+            run_threaded "beside.$way" "${words[@]}" searches short.1 short.2 short.3 short.4
+        done
+    done
+    echo '| Threads | Load, s | Alone, s | a second | Beside, s |'
+    echo '|--------:|--------:|---------:|---------:|----------:|'
+    for way in turns 1 2 4; do
+        load_best=$(least_of "load.$way")
+        alone=$(least_of "alone.$way")
+        beside=$(least_of "beside.$way")
+        name=$way
+        [ "$way" != turns ] || name=none
+        printf '| %7s | %7.2f | %8.2f | %8.0f | %9.2f |\n' "$name" "$load_best" "$alone" \
+            "$(awk -v n=$((4 * each)) -v all="$alone" -v load="$load_best" 'BEGIN { print n / (all - load) }')" "$beside"
+    done
+    echo
+    echo "Seconds of the whole command, the best of $runs runs by turns. Load is a run of one empty transaction, Alone one of four"
+    echo "scripts of $each transactions of one edge each, a second the transactions by what is left of Alone without Load,"
+    echo "and Beside the same scripts with three searches in a fifth one, on a thread more. Load of the machine is $(load) now."
+    echo
+}
+
 # The least and the most of each name's numbers, by name.
 spread() {
     sort -k 1,1 -k 2,2n "$1" | awk '
@@ -307,7 +356,7 @@ is_wanted() {
 
 # Builds what the wanted tables need. `rt run` builds a program only to run it; with no words these do nothing.
 build() {
-    if is_wanted runs || is_wanted serial; then make -s -C "$top" build >/dev/null; fi
+    if is_wanted runs || is_wanted serial || is_wanted threads; then make -s -C "$top" build >/dev/null; fi
     if is_wanted kernels; then (cd "$top/crates/bench_kernels" && rt run >/dev/null 2>&1); fi
     if is_wanted segments; then (cd "$top/crates/bench_store" && rt run >/dev/null 2>&1); fi
     if is_wanted latches; then (cd "$top/crates/bench_latches" && rt run >/dev/null 2>&1); fi
@@ -335,6 +384,7 @@ if is_wanted engine; then
     print_engine 1 'drawn by R-MAT'
 fi
 if is_wanted shared; then print_shared; fi
+if is_wanted threads; then print_threads; fi
 if is_wanted churn; then
     print_churn 0 'no other transaction is open'
     print_churn 1 'one of another pass stays open'

@@ -13,8 +13,8 @@ work=$(mktemp -d)
 trap 'rm -rf "$work"' EXIT
 mkdir "$work/outputs"
 
-[ -x "$examples/$example/run.sh" ] || {
-    echo "There is no example $example. There are: $(cd "$examples" && echo */run.sh | sed 's|/run.sh||g')"
+[ -d "$examples/$example/expected" ] || {
+    echo "There is no example $example. There are: $(cd "$examples" && echo */expected | sed 's|/expected||g')"
     exit 1
 }
 command=("$(cd "$examples/../crates/teseo" && pwd)/out/teseo")

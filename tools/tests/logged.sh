@@ -35,8 +35,9 @@ try 'the same, to be seen in the status' --undone run --vertices v --edges e --j
 printf 'begin\nweight 2 3\nset 1 2 5\ncommit\n' >s5
 printf 'begin\nweight 1 2\nset 2 3 5\ncommit\n' >s6
 try 'a commit that would leave no serial order' --undone run --serial --vertices v --edges e --journal j s5 s6
-echo '== questions about what is not there are answered'
 printf 'begin\nneighbours 9\nweight 1 3\nbfs 9 o\ncommit\n' >s4
+try 'a run on threads' run --threads 2 --vertices v --edges e --journal j s1 s4
+echo '== questions about what is not there are answered'
 teseo-logged --into asked --undone run --vertices v --edges e --journal j s4
 echo "status $?"
 try 'a script that is a pipe' run --vertices v --edges e --journal j <(cat s1) | sed -E 's/[0-9]+\.report/N.report/'
@@ -74,5 +75,6 @@ try 'no such script' run --vertices v --edges e --journal j gone
 try 'no words' run
 try 'words that are wrong' run --vertices v --edge e --weights 2.5 s1
 try 'numbers and names' run --vertices v --edges v --journal j --weights 12 s1 s1
+try 'threads and turns' run --vertices v --edges e --journal j --threads 33 --schedule t --serial s1
 try 'no text' run --vertices v --edges e --journal
 try 'another subcommand' make --seed 1

@@ -2,10 +2,11 @@
 ghost use Rattle.std.specs.Prelude.{◌≡◌, [], IfOk};
 ghost use Rattle.std.specs.String.{string_bytes};
 
-use desk_io::{MemoryDesk, OpenGate};
+use desk_io::{Gate, MemoryDesk, OpenGate};
 use journal_disk::MemoryDisk;
 use kept_program::teseo_kept;
 use std::alloc::{AllocError, Global};
+use std::sync::Wait;
 use std::thread::Threads;
 use teseo_program::Left;
 
@@ -23,7 +24,7 @@ const GRAPH_WORDS: &str = "run --vertices v --edges e --journal j ";
 
 /// How a run ends otherwise than it is wanted, as `call_difference` says it. The calls of the desk of
 /// these numbers fail.
-pub fn run_difference<R: Threads + Sync>(
+pub fn run_difference<R: Threads + Wait + Sync>(
     rt: &R,
     alloc: Global,
     run: Run,
@@ -37,7 +38,7 @@ pub fn run_difference<R: Threads + Sync>(
 
 /// How a call with the words of a line ends otherwise than it is wanted, on a desk with these files, where
 /// the calls of these numbers fail: nothing where it ends as wanted.
-pub fn call_difference<R: Threads + Sync>(
+pub fn call_difference<R: Threads + Wait + Sync>(
     rt: &R,
     alloc: Global,
     files: &[File],
@@ -50,19 +51,34 @@ pub fn call_difference<R: Threads + Sync>(
 }
 
 /// The same on a desk that is there.
-pub fn difference_on<R: Threads + Sync>(
+pub fn difference_on<R: Threads + Wait + Sync>(
     rt: &R,
     alloc: Global,
     desk: &mut MemoryDesk,
     line: &str,
     wanted: End,
 ) -> Result<String, AllocError> {
-    let mut disk = MemoryDisk::with_failing(alloc, &[])?;
-    difference_with(rt, alloc, desk, &mut disk, line, wanted)
+    difference_by(rt, alloc, desk, line, &OpenGate, wanted)
 }
 
-/// The same with a disk that is there.
-pub fn difference_with<R: Threads + Sync>(
+/// The same with a gate of the caller's.
+pub fn difference_by<R: Threads + Wait + Sync, G: Gate>(
+    rt: &R,
+    alloc: Global,
+    desk: &mut MemoryDesk,
+    line: &str,
+    gate: &G,
+    wanted: End,
+) -> Result<String, AllocError> {
+    let mut disk = MemoryDisk::with_failing(alloc, &[])?;
+    let mut left = Left::Nothing;
+    let words = split(alloc, line)?;
+    let status = teseo_kept(rt, alloc, &words, desk, gate, &mut left, &mut disk);
+    difference_to(alloc, status, desk, wanted)
+}
+
+/// The same on a desk and a disk that are there.
+pub fn difference_with<R: Threads + Wait + Sync>(
     rt: &R,
     alloc: Global,
     desk: &mut MemoryDesk,
@@ -70,9 +86,19 @@ pub fn difference_with<R: Threads + Sync>(
     line: &str,
     wanted: End,
 ) -> Result<String, AllocError> {
-    let words = split(alloc, line)?;
     let mut left = Left::Nothing;
+    let words = split(alloc, line)?;
     let status = teseo_kept(rt, alloc, &words, desk, &OpenGate, &mut left, disk);
+    difference_to(alloc, status, desk, wanted)
+}
+
+/// How a call that ended with this status ended otherwise than it is wanted.
+fn difference_to(
+    alloc: Global,
+    status: u8,
+    desk: &MemoryDesk,
+    wanted: End,
+) -> Result<String, AllocError> {
     let found = text_of_desk(alloc, status, desk, wanted.3)?;
     let wanted = text_of_end(alloc, wanted)?;
     difference(alloc, found.as_str(), wanted.as_str())

@@ -7,6 +7,7 @@ mod ends;
 mod path_graph;
 
 pub use ends::{
-    End, File, Run, call_difference, desk_with, difference_on, difference_with, run_difference,
+    End, File, Run, call_difference, desk_with, difference_by, difference_on, difference_with,
+    run_difference,
 };
 pub use path_graph::{E, JOURNAL, JOURNAL_TEXT, PATH, REPORT, RESULT, SEARCH, SUMMARY, V, WHOLE};

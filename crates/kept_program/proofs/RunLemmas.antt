@@ -17,16 +17,15 @@ use Rattle.kept_run.specs.declared.refusal.KeptRefusal.TheVariants as stops
 use Rattle.kept_run.specs.Refusals.{IsRefusedKept}
 use Rattle.command_words.specs.Words.{RunRequest}
 use Rattle.source_run.specs.Requests.{source_names, report_names, kind_of}
-use Rattle.source_run.specs.declared.run.RunResult.{RunResult}
+use Rattle.source_run.specs.declared.ran.RunResult.{RunResult}
 use Rattle.source_run.specs.Input.{Meaning, texts_of, IsAccepted, inputs_of}
 use Rattle.source_run.specs.Leaves.{leaves_for, most_rows}
-use Rattle.source_run.specs.Running.{run_outputs, IsRunAs, IsLeftAs, HasCounts, IsRefusedLoad}
+use Rattle.source_run.specs.Running.{run_outputs, journal_of, IsRunAs, IsLeftOf, HasCounts, IsRefusedLoad}
 use Rattle.teseo_program.specs.declared.left.Left.{Left}
-use Rattle.teseo_program.specs.declared.left.Left.TheVariants.{Stepped}
 use Rattle.teseo_program.specs.declared.outcome.Outcome.{Outcome}
 use Rattle.teseo_program.specs.declared.outcome.Outcome.TheVariants as ends
 use Rattle.teseo_program.specs.declared.prepare.Prepared.{Prepared}
-use Rattle.teseo_program.specs.Outcomes.{said_text, shows_full, OnlySays, IsLeft, IsRunOutcome}
+use Rattle.teseo_program.specs.Outcomes.{said_text, shows_full, left_of, OnlySays, IsLeft, IsRunOutcome}
 use Rattle.teseo_program.specs.Prepared.{IsUnprepared, AreAccepted, IsMadeOf, IsPreparedOf, Writes, IsWritten}
 use Rattle.teseo_program.specs.Sinks.{sinks_of, summary_line}
 use Rattle.teseo_program.proofs.OutcomeLemmas.{written_ends, unprepared_ends}
@@ -125,17 +124,18 @@ kept_some moment may_leave left_since state kind journal file now kept = (journa
 
 module _ (request : RunRequest) (m : Meaning) (kind : Kind) (leaves : ℕ) (is : kind ≡ kind_of request) (leaves_are : leaves ≡ leaves_for request.leaves (most_rows (inputs_of kind m))) where
   -- the texts are of a run by turns, whose commits are kept
-  pub kept_made : (acknowledged : Kind → List Commit → ℕ → Type 0) (p : Prepared) (r : RunResult) (commits : ℕ) → request.is_serial ≡ false
-      → IsRunAs false (inputs_of kind m) leaves (run_outputs r) → IsLeftAs false (inputs_of kind m) leaves m.schedule (run_outputs r) r.ran → HasCounts kind r → commits ≡ length r.ran.core.journal
-      → p.outputs ≡ sinks_of request.journal (report_names request) (run_outputs r) → p.summary ≡ summary_line commits r.totals → shows_full (run_outputs r) ≡ p.is_full → p.left ≡ Stepped r.ran
-      → acknowledged kind r.ran.core.journal (length r.ran.core.journal) → IsKeptMade acknowledged request m p
+  pub kept_made : (acknowledged : Kind → List Commit → ℕ → Type 0) (p : Prepared) (r : RunResult) (commits : ℕ) → request.threads ≡ None → request.is_serial ≡ false
+      → IsRunAs false (inputs_of kind m) leaves (run_outputs r) → IsLeftOf None false (inputs_of kind m) leaves m.schedule (run_outputs r) r.ran → HasCounts kind (journal_of r.ran) r.totals → commits ≡ length (journal_of r.ran)
+      → p.outputs ≡ sinks_of request.journal (report_names request) (run_outputs r) → p.summary ≡ summary_line commits r.totals → shows_full (run_outputs r) ≡ p.is_full → p.left ≡ left_of r.ran
+      → acknowledged kind (journal_of r.ran) (length (journal_of r.ran)) → IsKeptMade acknowledged request m p
   unfolding made_from
-  kept_made acknowledged p r commits by_turns run left counts counted outputs summary full left_is all_kept = record {
+  kept_made acknowledged p r commits by_turns plain run left counts counted outputs summary full left_is all_kept = record {
     made = made_from request m p r kind leaves commits is leaves_are
-        (subst (λ b. IsRunAs b (inputs_of kind m) leaves (run_outputs r)) (sym by_turns) run)
-        (subst (λ b. IsLeftAs b (inputs_of kind m) leaves m.schedule (run_outputs r) r.ran) (sym by_turns) left)
+        (subst (λ b. IsRunAs b (inputs_of kind m) leaves (run_outputs r)) (sym plain) run)
+        (subst (λ n. IsLeftOf n request.is_serial (inputs_of kind m) leaves m.schedule (run_outputs r) r.ran) (sym by_turns)
+        (subst (λ b. IsLeftOf None b (inputs_of kind m) leaves m.schedule (run_outputs r) r.ran) (sym plain) left))
         counts counted outputs summary full left_is;
-    all_kept = subst (λ k. acknowledged k r.ran.core.journal (length r.ran.core.journal)) is all_kept;
+    all_kept = subst (λ k. acknowledged k (journal_of r.ran) (length (journal_of r.ran))) is all_kept;
   }
 
   -- the run came to no end

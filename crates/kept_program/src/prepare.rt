@@ -1,7 +1,7 @@
 //! All that comes before the first output of a run whose commits are kept: the sources are read and parsed, the journal
 //! file is made, the scripts run, and the texts are made.
 
-ghost use Rattle.std.specs.Prelude.{◌≡◌, ◌≤◌, [], false, length, All, IfOk, IfErr, OnOk, OnErr};
+ghost use Rattle.std.specs.Prelude.{◌≡◌, ◌≤◌, [], false, None, length, All, IfOk, IfErr, OnOk, OnErr};
 ghost use Rattle.journal_disk.specs.Disk.{FaultsStand};
 ghost use Rattle.run_keeper.specs.Keeping.{IsKept};
 ghost use Rattle.command_words.specs.Words.{taken_names};
@@ -36,7 +36,8 @@ pub fn prepare_kept<R: Threads + Sync, D: Desk, K: Disk>(
     disk: &mut K,
 ) -> Result<Prepared, KeptOutcome>
     requires asked { IsAsked (run_request words.now) }
-    requires by_turns { (run_request words.now).is_serial ≡ false }
+    requires by_turns { (run_request words.now).threads ≡ None }
+    requires plain { (run_request words.now).is_serial ≡ false }
     ensures prepared { IfOk result (IsKeptPrepared
         (acknowledged_on K.moment K.may_leave K.left_since disk.new) (run_request words.now) (D.files desk.old)) }
     ensures apart { IfOk result NamesAreApart }
@@ -71,7 +72,8 @@ fn make_kept<R: Threads + Sync, K: Disk>(
     keeper: &mut Keeper,
 ) -> Result<Prepared, KeptRefusal>
     requires asked { IsAsked (run_request words.now) }
-    requires by_turns { (run_request words.now).is_serial ≡ false }
+    requires by_turns { (run_request words.now).threads ≡ None }
+    requires plain { (run_request words.now).is_serial ≡ false }
     requires accepted { (texts : Texts) × IsAccepted (run_request words.now) texts (meaning_of input) }
     requires runnable { AreRunnable (taken_names (run_request words.now)) input.scripts }
     requires count { length input.scripts ≡ length (run_request words.now).scripts }
@@ -100,6 +102,6 @@ fn make_kept<R: Threads + Sync, K: Disk>(
         outputs,
         summary,
         is_full,
-        left: Left::Stepped { ran: run.ran },
+        left: Left::from(run.ran),
     })
 }

@@ -15,18 +15,19 @@ use command_words::{Command, RunWords, read_words};
 use desk_io::{Desk, Gate};
 use journal_disk::Disk;
 use std::alloc::Global;
+use std::sync::Wait;
 use std::thread::Threads;
 use teseo_program::{Left, Outcome, blamed_source, hand_out, make_files, run, write_and_say};
 
 /// Runs `teseo` on the words behind its name, and answers the exit status. Behind a run whose outputs were all written,
-/// `left` is what its store leaves; else it stays as it is. The disk is used where the words name a journal file. The
-/// gate is for runs with several threads, and not called yet.
-pub fn teseo_kept<R: Threads + Sync, D: Desk, G: Gate, K: Disk>(
+/// `left` is what its store leaves; else it stays as it is. The disk is used where the words name a journal file.
+/// Where the scripts run on threads the gate is called before each of their turns, and the call may wait.
+pub fn teseo_kept<R: Threads + Wait + Sync, D: Desk, G: Gate, K: Disk>(
     rt: &R,
     alloc: Global,
     words: &[String],
     desk: &mut D,
-    _gate: &G,
+    gate: &G,
     left: &mut Left,
     disk: &mut K,
 ) -> u8
@@ -34,15 +35,16 @@ pub fn teseo_kept<R: Threads + Sync, D: Desk, G: Gate, K: Disk>(
         × IsEnd (acknowledged_on K.moment K.may_leave K.left_since disk.new) outcome (map string_bytes words.now)
         (D.files desk.old) (D.files desk.new) left.old left.new (K.state disk.old) (K.state disk.new) }
 {
-    outcome_of(rt, alloc, words, desk, left, disk).status()
+    outcome_of(rt, alloc, words, desk, gate, left, disk).status()
 }
 
 /// Runs the words to their end.
-fn outcome_of<R: Threads + Sync, D: Desk, K: Disk>(
+fn outcome_of<R: Threads + Wait + Sync, D: Desk, G: Gate, K: Disk>(
     rt: &R,
     alloc: Global,
     words: &[String],
     desk: &mut D,
+    gate: &G,
     left: &mut Left,
     disk: &mut K,
 ) -> KeptOutcome
@@ -50,7 +52,7 @@ fn outcome_of<R: Threads + Sync, D: Desk, K: Disk>(
         (D.files desk.old) (D.files desk.new) left.old left.new (K.state disk.old) (K.state disk.new) }
 {
     match read_words(alloc, words) {
-        Ok(Command::Run(words)) => run_as_asked(rt, alloc, desk, &words, left, disk),
+        Ok(Command::Run(words)) => run_as_asked(rt, alloc, desk, &words, gate, left, disk),
         Ok(Command::Make(words)) => KeptOutcome::Of(make_files(alloc, desk, &words)),
         Ok(Command::Recover(words)) => recover(alloc, desk, &words, disk),
         Err(refusal) => {
@@ -62,11 +64,12 @@ fn outcome_of<R: Threads + Sync, D: Desk, K: Disk>(
 }
 
 /// Runs the scripts that the words name, and keeps the commits where a journal file is named.
-fn run_as_asked<R: Threads + Sync, D: Desk, K: Disk>(
+fn run_as_asked<R: Threads + Wait + Sync, D: Desk, G: Gate, K: Disk>(
     rt: &R,
     alloc: Global,
     desk: &mut D,
     words: &RunWords<'_>,
+    gate: &G,
     left: &mut Left,
     disk: &mut K,
 ) -> KeptOutcome
@@ -77,7 +80,7 @@ fn run_as_asked<R: Threads + Sync, D: Desk, K: Disk>(
 {
     match words.keep {
         Some(name) => run_and_keep(rt, alloc, desk, words, name, left, disk),
-        None => KeptOutcome::Of(run(rt, alloc, desk, words, left)),
+        None => KeptOutcome::Of(run(rt, alloc, desk, words, gate, left)),
     }
 }
 

@@ -1,6 +1,6 @@
 //! The run of the scripts, with its commits kept.
 
-ghost use Rattle.std.specs.Prelude.{◌≡◌, ◌≤◌, [], List, length, All, OnOk, OnErr, IfOk, IfErr, false};
+ghost use Rattle.std.specs.Prelude.{◌≡◌, ◌≤◌, [], List, length, All, None, OnOk, OnErr, IfOk, IfErr, false};
 ghost use Rattle.graph_model.specs.declared.limits.TheConstants.{MAX_LEAVES};
 ghost use Rattle.graph_model.specs.declared.journal.Commit.{Commit};
 ghost use Rattle.run_model.specs.Inputs.{AreInputs};
@@ -9,7 +9,7 @@ ghost use Rattle.journal_disk.specs.Disk.{FaultsStand};
 ghost use Rattle.run_keeper.specs.Keeping.{IsKept, AreAcknowledged};
 ghost use Rattle.source_run.specs.Input.{inputs_of};
 ghost use Rattle.source_run.specs.Parsing.{meaning_of};
-ghost use Rattle.source_run.specs.Running.{run_outputs, HasCounts, IsSteppedRun};
+ghost use Rattle.source_run.specs.Running.{journal_of, run_outputs, HasCounts, IsLeftOf};
 ghost use Rattle.kept_run.specs.Refusals.{IsRefusedKept};
 
 use crate::refusal::KeptRefusal;
@@ -18,7 +18,7 @@ use journal_disk::Disk;
 use run_keeper::{Keeper, run_kept};
 use run_model::stepped_runs_are_runs;
 use serial_model::serial_stepped_runs_are_serial_runs;
-use source_run::{Input, RunResult, config_of, jobs_of, load_graph, new_engine};
+use source_run::{Input, Ran, RunResult, config_of, jobs_of, load_graph, new_engine};
 use std::alloc::Global;
 use std::thread::Threads;
 
@@ -38,11 +38,12 @@ pub fn run_scripts_kept<R: Threads + Sync, K: Disk>(
     requires inputs { AreInputs (inputs_of kind (meaning_of input)) }
     requires listed { All (λ job. job ≤ length input.scripts) input.schedule }
     ensures run { IfOk result (λ r. IsRun (inputs_of kind (meaning_of input)) leaves (run_outputs r)) }
-    ensures left { IfOk result (IsSteppedRun false kind leaves input) }
-    ensures counts { IfOk result (HasCounts kind) }
+    ensures left { IfOk result (λ r. IsLeftOf None false (inputs_of kind (meaning_of input)) leaves input.schedule
+        (run_outputs r) r.ran) }
+    ensures counts { IfOk result (λ r. HasCounts kind (journal_of r.ran) r.totals) }
     ensures kept { IfOk result (λ r.
         IsKept K.moment K.may_leave K.left_since K.state kind [] keeper.old.file disk.old
-        → IsKept K.moment K.may_leave K.left_since K.state kind r.ran.core.journal keeper.new.file disk.new) }
+        → IsKept K.moment K.may_leave K.left_since K.state kind (journal_of r.ran) keeper.new.file disk.new) }
     ensures still { OnErr result (IsKept K.moment K.may_leave K.left_since K.state kind [] keeper.old.file disk.old
         → (journal : List Commit)
         × AreAcknowledged K.moment K.may_leave K.left_since kind journal keeper.new.file.count disk.new) }
@@ -67,7 +68,7 @@ pub fn run_scripts_kept<R: Threads + Sync, K: Disk>(
     engine.settle();
     let totals = engine.totals();
     Ok(RunResult {
-        ran: engine.into_journal(),
+        ran: Ran::Stepped(engine.into_journal()),
         jobs,
         totals,
     })

@@ -2,3 +2,4 @@ pub mod RequestLemmas
 pub mod InputLemmas
 pub mod RunLemmas
 pub mod LeavesLemmas
+pub mod ThreadLemmas

@@ -1,7 +1,7 @@
 -- What is known of a request that words are taken as.
-use Rattle.std.proofs.Common.{◌≢◌, ℕ, ◌<◌, ◌≤◌, List, length, arith, AllPairs}
-use Rattle.std.specs.Prelude.{Bool, IfSome, Option, None, Some}
-use Rattle.graph_model.specs.declared.limits.TheConstants.{MAX_LEAVES, MAX_SCRIPTS}
+use Rattle.std.proofs.Common.{◌≢◌, ℕ, ◌<◌, ◌≤◌, List, length, refl, arith, AllPairs}
+use Rattle.std.specs.Prelude.{◌≡◌, Bool, true, false, ◌&&◌, not, cond, is_some, IfSome, Option, None, Some}
+use Rattle.graph_model.specs.declared.limits.TheConstants.{MAX_LEAVES, MAX_SCRIPTS, MAX_THREADS}
 use Rattle.graph_files.specs.Weights.{AreReadable}
 use Rattle.command_words.specs.Numbers.{HasNumber, IsOptionalNumber}
 use Rattle.command_words.specs.Words.{RunRequest, MakeRequest, make, IsTaken, taken_names}
@@ -30,6 +30,28 @@ leaves_read (Some n) (Some text) is = (is.low, is.high)
 -- a stated number of leaves is within its limits
 pub stated_leaves : (request : RunRequest) → IsAsked request → IfSome request.leaves (λ n. 1 ≤ n) × IfSome request.leaves (λ n. n ≤ MAX_LEAVES)
 stated_leaves request (words, taken) = leaves_read request.leaves _ taken.given.1.given.leaves
+
+threads_read : (threads : Option ℕ) (text : Option (List ℕ)) → IsOptionalNumber 1 MAX_THREADS text threads → IfSome threads (λ n. (1 ≤ n) × (n ≤ MAX_THREADS))
+threads_read None text is = tt
+threads_read (Some n) None is = cc
+threads_read (Some n) (Some text) is = (is.low, is.high)
+
+serial_apart : (threads : Option ℕ) (a b keep : Bool) → cond (is_some threads) (a && (not b && not keep)) (not (b && keep)) ≡ true → IfSome threads (λ _. b ≡ false)
+serial_apart None a b keep e = tt
+serial_apart (Some n) true false keep e = refl
+serial_apart (Some n) true true keep e = cc
+serial_apart (Some n) false b keep e = cc
+
+-- a stated number of threads is within its limits, and goes with no serial run
+pub stated_threads : (request : RunRequest) → IsAsked request → IfSome request.threads (λ n. (1 ≤ n) × (n ≤ MAX_THREADS) × (request.is_serial ≡ false))
+stated_threads request (words, taken) = nested request.threads
+    (threads_read request.threads _ taken.given.1.given.threads)
+    (serial_apart request.threads (not (is_some request.schedule)) request.is_serial (is_some request.keep) taken.given.1.together)
+  where
+    nested : (threads : Option ℕ) → IfSome threads (λ n. (1 ≤ n) × (n ≤ MAX_THREADS)) → IfSome threads (λ _. request.is_serial ≡ false)
+        → IfSome threads (λ n. (1 ≤ n) × (n ≤ MAX_THREADS) × (request.is_serial ≡ false))
+    nested None p q = tt
+    nested (Some n) p q = (p.0, p.1, q)
 
 some_number : (text : Option (List ℕ)) (number : ℕ) → HasNumber 2 1000000 text number → 0 < number
 some_number None number has = absurd has

@@ -37,9 +37,9 @@ use Rattle.job_runner.specs.Progress.{Progress}
 use Rattle.job_runner.specs.Runs.{new_jobs, IsUnused, AreNew, outputs_of}
 use Rattle.command_words.specs.Words.{RunRequest}
 use Rattle.source_run.specs.Requests.{kind_of, rules_of}
-use Rattle.source_run.specs.declared.run.RunResult.{RunResult}
+use Rattle.source_run.specs.declared.run.SteppedRun.{SteppedRun}
 use Rattle.source_run.specs.Input.{Meaning, Texts, IsAccepted}
-use Rattle.source_run.specs.Running.{run_outputs, IsRunAs, IsLeftAs, EndsAs, HasCounts, Fits, IsConfig, IsRefusedLoad}
+use Rattle.source_run.specs.Running.{stepped_outputs, IsRunAs, IsLeftAs, EndsAs, HasCounts, Fits, IsConfig, IsRefusedLoad}
 
 -- ---- transactions that a script begins
 
@@ -191,10 +191,10 @@ pub kind_as : (is_serial : Bool) (inputs : Inputs) (listed : List ℕ) (engine n
 kind_as false inputs listed engine new jobs ends = ends.kind
 kind_as true inputs listed engine new jobs ends = ends.kind
 
-module _ (inputs : Inputs) (leaves : ℕ) (schedule listed : List ℕ) (engine new : Core) (jobs : List Progress) (r : RunResult) (same : listed ≡ schedule) (leaves_is : engine.leaves ≡ leaves) (zero_served : engine.served ≡ 0)
+module _ (inputs : Inputs) (leaves : ℕ) (schedule listed : List ℕ) (engine new : Core) (jobs : List Progress) (r : SteppedRun) (same : listed ≡ schedule) (leaves_is : engine.leaves ≡ leaves) (zero_served : engine.served ≡ 0)
     (ran : r.ran.core ≡ new) (settled : r.ran.settled ≡ true) (jobs_are : r.jobs ≡ jobs) where
   -- the run, as the code hands it on
-  left_as : (is_serial : Bool) → IsLeftAs is_serial inputs engine.leaves listed (outputs_of new jobs) (record { core = new; settled = r.ran.settled }) → IsLeftAs is_serial inputs leaves schedule (run_outputs r) r.ran
+  left_as : (is_serial : Bool) → IsLeftAs is_serial inputs engine.leaves listed (outputs_of new jobs) (record { core = new; settled = r.ran.settled }) → IsLeftAs is_serial inputs leaves schedule (stepped_outputs r) r.ran
   left_as is_serial left =
       subst (λ (x : Core). IsLeftAs is_serial inputs leaves schedule (outputs_of x r.jobs) (record { core = x; settled = r.ran.settled })) (sym ran)
       (subst (λ js. IsLeftAs is_serial inputs leaves schedule (outputs_of new js) (record { core = new; settled = r.ran.settled })) (sym jobs_are)
@@ -204,7 +204,7 @@ module _ (inputs : Inputs) (leaves : ℕ) (schedule listed : List ℕ) (engine n
   served_is : (turns : ℕ) → (engine.served < 2 ^ 64 → new.served ≡ min (engine.served + turns) (2 ^ 64 - 1)) → new.served ≡ min turns (2 ^ 64 - 1)
   served_is turns served = served (omega (arith, zero_served)) ∙ ap (λ n. min n (2 ^ 64 - 1)) (omega (arith, zero_served))
 
-  pub left_by_run : (is_serial : Bool) → EndsAs is_serial inputs listed engine new jobs → IsLeftAs is_serial inputs leaves schedule (run_outputs r) r.ran
+  pub left_by_run : (is_serial : Bool) → EndsAs is_serial inputs listed engine new jobs → IsLeftAs is_serial inputs leaves schedule (stepped_outputs r) r.ran
   left_by_run false ends = left_as false
       (record { stepped = ends.run; journal = refl; passes = ends.passes; served = served_is (service_turns (length inputs.scripts) listed ends.run.turns) ends.served; settled = settled })
   left_by_run true ends = left_as true
@@ -216,7 +216,7 @@ pub run_as : SteppedRunsAreRuns → SerialSteppedRunsAreSerialRuns → (is_seria
 run_as runs serial_runs false inputs leaves schedule run ran given left = runs inputs leaves schedule run given left.stepped
 run_as runs serial_runs true inputs leaves schedule run ran given left = serial_runs inputs leaves schedule run given left.stepped
 
-pub counts_of : (asked : Kind) (new : Core) (r : RunResult) → new.kind ≡ asked → r.ran.core ≡ new → r.totals.vertices ≡ length (vertices_of (newest_graph new)) → r.totals.edges ≡ edges_of new.kind (newest_graph new) → (r.totals.undo ≡ 0) × (r.totals.retired ≡ 0) → HasCounts asked r
+pub counts_of : (asked : Kind) (new : Core) (r : SteppedRun) → new.kind ≡ asked → r.ran.core ≡ new → r.totals.vertices ≡ length (vertices_of (newest_graph new)) → r.totals.edges ≡ edges_of new.kind (newest_graph new) → (r.totals.undo ≡ 0) × (r.totals.retired ≡ 0) → HasCounts asked r.ran.core.journal r.totals
 counts_of asked new r kind ran vertices edges none = record {
   vertices = vertices ∙ ap (λ g. length (vertices_of g)) graphs_agree;
   edges = edges ∙ (λ i. edges_of (kind i) (graphs_agree i));

@@ -1,7 +1,8 @@
 -- What the run of the scripts leaves, as the code has it.
-use Rattle.std.specs.Prelude.{◌≡◌, ℕ, suc, ◌-◌, ◌*◌, ◌^◌, ◌<◌, ◌≤◌, ◌⊎◌, min, Bool, true, false, List, map, length, All, slice_get, Some}
+use Rattle.std.specs.Prelude.{◌≡◌, ℕ, suc, ◌-◌, ◌*◌, ◌^◌, ◌<◌, ◌≤◌, ◌⊎◌, min, Bool, true, false, List, length, All, slice_get, Option, Some, None}
 use Rattle.std.specs.List.{AllByRecursion}
 use Rattle.graph_model.specs.declared.limits.TheConstants.{SPLIT_ROWS, MAX_LEAVES}
+use Rattle.graph_model.specs.declared.journal.Commit.{Commit}
 use Rattle.graph_model.specs.declared.write.Kind.{Kind}
 use Rattle.graph_model.specs.Inserted.{inserted}
 use Rattle.graph_model.specs.Graph.{vertices_of}
@@ -19,25 +20,34 @@ use Rattle.serial_model.specs.SerialTurns.{IsSeriallyStepped}
 use Rattle.serial_model.specs.SerialRun.{IsSerialRun}
 use Rattle.script_lang.specs.FieldFaults.{IsNameByte}
 use Rattle.txn_manager.specs.declared.config.Config.{Config}
+use Rattle.txn_manager.specs.declared.config.Totals.{Totals}
 use Rattle.graph_model.specs.declared.load.LoadRefusal.{LoadRefusal}
 use Rattle.graph_model.specs.declared.load.LoadRefusal.TheVariants as refusals
 use Rattle.teseo_core.specs.Keeping.{LeftStore, new_core}
-use Rattle.job_runner.specs.Phases.{file_of}
+use Rattle.shared_runs.specs.Closing.{LeavesRun, outputs_with}
 use Rattle.job_runner.specs.Progress.{Progress}
 use Rattle.job_runner.specs.Runs.{HaveDone, Ends}
 use Rattle.serial_runner.specs.SerialRuns.{SerialEnds}
 use Rattle.source_run.specs.declared.input.Input.{Input}
-use Rattle.source_run.specs.declared.run.RunResult.{RunResult}
+use Rattle.source_run.specs.declared.run.SteppedRun.{SteppedRun}
+use Rattle.source_run.specs.declared.ran.Ran.{Ran}
+use Rattle.source_run.specs.declared.ran.Ran.TheVariants.{Stepped, Shared}
+use Rattle.source_run.specs.declared.ran.RunResult.{RunResult}
 use Rattle.source_run.specs.Input.{inputs_of}
 use Rattle.source_run.specs.Parsing.{meaning_of}
 
+-- the journal, the reports and the kernel files of a run by turns
+abbrev pub stepped_outputs : SteppedRun → Outputs
+stepped_outputs r = outputs_with r.ran.core.journal r.jobs
+
+-- the journal of what ran
+abbrev pub journal_of : Ran → List Commit
+journal_of (Stepped ran) = ran.core.journal
+journal_of (Shared ran) = ran.journal
+
 -- the journal, the reports and the kernel files
 abbrev pub run_outputs : RunResult → Outputs
-run_outputs r = record {
-  journal = r.ran.core.journal;
-  reports = map (λ job. job.answers) r.jobs;
-  files = map (λ job. map file_of job.tables) r.jobs;
-}
+run_outputs r = outputs_with (journal_of r.ran) r.jobs
 
 -- What a run by turns leaves: the run is one of these inputs on so many leaves, by the turns of the schedule, and the
 -- engine has its journal, has done for each script what its lines were answered, has counted the service's turns, and
@@ -69,26 +79,35 @@ abbrev pub IsLeftAs : Bool → Inputs → ℕ → List ℕ → Outputs → LeftS
 IsLeftAs false inputs leaves schedule run ran = IsLeftBy inputs leaves schedule run ran
 IsLeftAs true inputs leaves schedule run ran = IsSeriallyLeftBy inputs leaves schedule run ran
 
+-- What ran: by turns an engine of one owner, which was left so; on threads a store of many passes, whose passes leave
+-- the run
+abbrev pub IsLeftOf : Option ℕ → Bool → Inputs → ℕ → List ℕ → Outputs → Ran → Type 0
+IsLeftOf None is_serial inputs leaves schedule run (Stepped ran) = IsLeftAs is_serial inputs leaves schedule run ran
+IsLeftOf None is_serial inputs leaves schedule run (Shared ran) = ⊥
+IsLeftOf (Some workers) is_serial inputs leaves schedule run (Stepped ran) = ⊥
+IsLeftOf (Some workers) is_serial inputs leaves schedule run (Shared ran) =
+    (ran.journal ≡ run.journal) × LeavesRun inputs leaves run
+
 -- how the jobs of a run end by such turns
 abbrev pub EndsAs : Bool → Inputs → List ℕ → Core → Core → List Progress → Type 0
 EndsAs false inputs schedule old new jobs = Ends inputs schedule old new jobs
 EndsAs true inputs schedule old new jobs = SerialEnds inputs schedule old new jobs
 
 -- what was left is of a run of this input
-abbrev pub IsSteppedRun : Bool → Kind → ℕ → Input → RunResult → Type 0
+abbrev pub IsSteppedRun : Bool → Kind → ℕ → Input → SteppedRun → Type 0
 IsSteppedRun is_serial kind leaves input r =
-    IsLeftAs is_serial (inputs_of kind (meaning_of input)) leaves input.schedule (run_outputs r) r.ran
+    IsLeftAs is_serial (inputs_of kind (meaning_of input)) leaves input.schedule (stepped_outputs r) r.ran
 
 -- the names of all kernel files are printable ASCII
 abbrev pub HavePrintableNames : List Progress → Type 0
 HavePrintableNames jobs = AllByRecursion (λ job. AllByRecursion (λ t. All IsNameByte t.name) job.tables) jobs
 
--- the counts are those of the newest graph, in a settled store
-pub record HasCounts (kind : Kind) (r : RunResult) : Type 0 where
-  pub vertices : r.totals.vertices ≡ length (vertices_of (graph_at kind r.ran.core.journal (length r.ran.core.journal)))
-  pub edges : r.totals.edges ≡ edges_in kind (graph_at kind r.ran.core.journal (length r.ran.core.journal))
-  pub undo : r.totals.undo ≡ 0
-  pub retired : r.totals.retired ≡ 0
+-- the counts are those of the journal's graph, in a settled store
+pub record HasCounts (kind : Kind) (journal : List Commit) (totals : Totals) : Type 0 where
+  pub vertices : totals.vertices ≡ length (vertices_of (graph_at kind journal (length journal)))
+  pub edges : totals.edges ≡ edges_in kind (graph_at kind journal (length journal))
+  pub undo : totals.undo ≡ 0
+  pub retired : totals.retired ≡ 0
 
 -- ---- the engine
 

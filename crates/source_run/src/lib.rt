@@ -8,11 +8,15 @@
 mod fault;
 mod input;
 mod leaves;
+mod ran;
 mod request;
 mod run;
+mod threads;
 
 pub use fault::{ParseStop, SourceFault};
 pub use input::{Input, parse_sources};
 pub use leaves::{MOST_ROWS, leaves_of};
+pub use ran::{Manner, Ran, RunResult, run_scripts};
 pub use request::{kind_of, script_at, source_at, sources_of};
-pub use run::{RunResult, config_of, jobs_of, load_graph, new_engine, run_scripts};
+pub use run::{SteppedRun, config_of, jobs_of, load_graph, new_engine, run_by_turns};
+pub use threads::run_by_threads;

@@ -1,4 +1,4 @@
-//! The run of the scripts on the loaded graph.
+//! The run of the scripts on the loaded graph, by their turns.
 //!
 //! 1. The graph is loaded as the first transaction of a new engine, and the scripts take their turns behind it.
 //! 2. Script k uses pass k of the engine, and the load and the service use pass 0.
@@ -18,7 +18,7 @@ ghost use Rattle.teseo_core.specs.Keeping.{new_core};
 ghost use Rattle.job_runner.specs.Runs.{new_jobs, AreNew, GivesUp};
 ghost use Rattle.source_run.specs.Input.{inputs_of};
 ghost use Rattle.source_run.specs.Parsing.{meaning_of};
-ghost use Rattle.source_run.specs.Running.{run_outputs, IsRunAs, EndsAs, HasCounts, IsSteppedRun, IsRefusedLoad, MayBegin, IsConfig};
+ghost use Rattle.source_run.specs.Running.{stepped_outputs, IsRunAs, EndsAs, HasCounts, IsSteppedRun, IsRefusedLoad, MayBegin, IsConfig};
 
 use crate::input::Input;
 use graph_model::{Ids, Kind, LoadRefusal, NoMemory};
@@ -33,31 +33,31 @@ use std::thread::Threads;
 use teseo_core::{Core, CoreJournal};
 use txn_manager::{Config, StoreRefusal, Totals};
 
-/// What the run of the scripts leaves: the engine's journal, the scripts with their answers and tables, and what the
-/// settled store holds.
+/// What a run by turns leaves: the engine's journal, the scripts with their answers and tables, and what the settled
+/// store holds.
 #[derive(Drop)]
-pub struct RunResult {
+pub struct SteppedRun {
     pub ran: CoreJournal,
     pub jobs: Jobs,
     pub totals: Totals,
 }
 
-/// Loads the graph, and runs the scripts on it by their turns.
-pub fn run_scripts<R: Threads + Sync>(
+/// Loads the graph into an engine of one owner, and runs the scripts on it by their turns.
+pub fn run_by_turns<R: Threads + Sync>(
     rt: &R,
     alloc: Global,
     kind: Kind,
     leaves: u32,
     is_serial: bool,
     input: Input,
-) -> Result<RunResult, LoadRefusal>
+) -> Result<SteppedRun, LoadRefusal>
     requires some { 1 ≤ leaves }
     requires few { leaves ≤ MAX_LEAVES }
     requires inputs { AreInputs (inputs_of kind (meaning_of input)) }
     requires listed { All (λ job. job ≤ length input.scripts) input.schedule }
-    ensures run { IfOk result (λ r. IsRunAs is_serial (inputs_of kind (meaning_of input)) leaves (run_outputs r)) }
+    ensures run { IfOk result (λ r. IsRunAs is_serial (inputs_of kind (meaning_of input)) leaves (stepped_outputs r)) }
     ensures left { IfOk result (IsSteppedRun is_serial kind leaves input) }
-    ensures counts { IfOk result (HasCounts kind) }
+    ensures counts { IfOk result (λ r. HasCounts kind r.ran.core.journal r.totals) }
     ensures refused { IfErr result (IsRefusedLoad kind leaves input.ids input.edges) }
 {
     stepped_runs_are_runs();
@@ -76,7 +76,7 @@ pub fn run_scripts<R: Threads + Sync>(
     run_jobs(rt, alloc, &mut engine, &mut jobs, schedule, is_serial)?;
     engine.settle();
     let totals = engine.totals();
-    Ok(RunResult {
+    Ok(SteppedRun {
         ran: engine.into_journal(),
         jobs,
         totals,

@@ -1,7 +1,8 @@
 -- A call ends as its outputs are written, or as its preparation stopped.
 use Rattle.std.proofs.Common.{◌≡◌, ℕ, List, [], refl, sym, ◌∙◌, subst, true, false}
 use Rattle.graph_model.specs.declared.write.Kind.TheVariants.{Directed}
-use Rattle.teseo_core.specs.Keeping.{LeftStore}
+use Rattle.source_run.specs.declared.ran.Ran.{Ran}
+use Rattle.source_run.specs.declared.ran.Ran.TheVariants.{Stepped}
 use Rattle.desk_io.specs.Files.{Files}
 use Rattle.desk_io.specs.Outputs.{names_of, WritesAll, FailsAtPlace}
 use Rattle.command_words.specs.Words.{RunRequest, MakeRequest}
@@ -9,10 +10,9 @@ use Rattle.teseo_program.specs.declared.outcome.Outcome.{Outcome}
 use Rattle.teseo_program.specs.declared.outcome.Outcome.TheVariants.{Done, Full, LoadFull, BadWords, NotRead, NotAccepted, NoMemory, NotWritten}
 use Rattle.teseo_program.specs.declared.prepare.Prepared.{Prepared}
 use Rattle.teseo_program.specs.declared.left.Left.{Left}
-use Rattle.teseo_program.specs.declared.left.Left.TheVariants.{Stepped}
 use Rattle.source_run.specs.Requests.{source_names}
 use Rattle.teseo_program.specs.Prepared.{IsUnprepared, IsPreparedOf, IsMadeGraph, Writes, IsWritten, made_of}
-use Rattle.teseo_program.specs.Outcomes.{Made, IsCause, OnlySays, SaysOutcome, said_text, blamed, IsLeft, IsRunOutcome, IsMakeCause, IsMakeOutcome}
+use Rattle.teseo_program.specs.Outcomes.{Made, IsCause, OnlySays, SaysOutcome, said_text, blamed, IsLeft, IsRunOutcome, IsMakeCause, IsMakeOutcome, left_of}
 
 -- ---- a run
 
@@ -52,8 +52,8 @@ module _ (request : RunRequest) (old : Files) where
           left_is = subst (λ ran. IsLeft outcome ran left left') of_run.left left_is;
         }
 
-  no_core : LeftStore
-  no_core = record { core = record { kind = Directed; leaves = 0; journal = []; passes = []; selected = 0; served = 0 }; settled = true }
+  no_core : Ran
+  no_core = Stepped (record { core = record { kind = Directed; leaves = 0; journal = []; passes = []; selected = 0; served = 0 }; settled = true })
 
   nothing : Made
   nothing = record { run = record { journal = []; reports = []; files = [] }; ran = no_core; outputs = []; summary = [] }
@@ -87,7 +87,7 @@ module _ (request : RunRequest) (old : Files) where
     before = before;
     cause = unprepared_cause before outcome stopped;
     says = subst (λ blame. OnlySays (said_text blame [] outcome) before new) is says;
-    left_is = unprepared_left before outcome (Stepped no_core) left stopped;
+    left_is = unprepared_left before outcome (left_of no_core) left stopped;
   }
 
 -- ---- a graph that is made

@@ -23,19 +23,18 @@ use Rattle.desk_io.specs.Sources.{AreRead}
 use Rattle.desk_io.specs.Outputs.{NamedText, names_of}
 use Rattle.command_words.specs.Words.{RunRequest, taken_names, given_names}
 use Rattle.source_run.specs.Requests.{IsAsked, source_names, report_names, kind_of, rules_of}
-use Rattle.source_run.specs.declared.run.RunResult.{RunResult}
+use Rattle.source_run.specs.declared.ran.RunResult.{RunResult}
 use Rattle.source_run.specs.declared.fault.ParseStop.{ParseStop}
 use Rattle.source_run.specs.declared.fault.ParseStop.TheVariants as parses
 use Rattle.teseo_program.specs.declared.outcome.Outcome.{Outcome}
 use Rattle.teseo_program.specs.declared.prepare.Prepared.{Prepared}
-use Rattle.teseo_program.specs.declared.left.Left.TheVariants.{Stepped}
 use Rattle.source_run.specs.Input.{Meaning, Texts, texts_of, IsAccepted, inputs_of}
 use Rattle.source_run.specs.Parsing.{AreRunnable, IsParseStop}
 use Rattle.source_run.specs.Leaves.{leaves_for, leaves_of, most_rows}
-use Rattle.teseo_program.specs.Outcomes.{outcome_of_load, outcome_of_parse, shows_full}
+use Rattle.teseo_program.specs.Outcomes.{outcome_of_load, outcome_of_parse, shows_full, left_of}
 use Rattle.teseo_program.specs.Prepared.{IsUnprepared, IsPreparedOf, IsMadeOf, IsLoadStop}
 use Rattle.teseo_program.specs.Sinks.{sinks_of, summary_line, summary_text}
-use Rattle.source_run.specs.Running.{run_outputs, IsRunAs, IsLeftAs, HasCounts, HavePrintableNames, IsRefusedLoad}
+use Rattle.source_run.specs.Running.{run_outputs, journal_of, IsRunAs, IsLeftOf, HasCounts, HavePrintableNames, IsRefusedLoad}
 use Rattle.source_run.proofs.RequestLemmas.{few_scripts, distinct_names}
 use Rattle.teseo_program.proofs.SublistLemmas.{sub_all, sub_behind}
 use Rattle.teseo_program.proofs.FileLemmas.{names_in, files_apart}
@@ -96,19 +95,19 @@ module _ (allows : LoadIsAllowed) (limits : LoadIsWithinLimits) (files : FilesAr
         (files_apart (taken_names request) m.scripts (distinct_names request asked) can))
 
 -- the summary has the counts of the journal's graph
-pub same_summary : (kind : Kind) (r : RunResult) → HasCounts kind r → (commits : ℕ) → commits ≡ length r.ran.core.journal → summary_line commits r.totals ≡ summary_text kind (run_outputs r)
+pub same_summary : (kind : Kind) (r : RunResult) → HasCounts kind (journal_of r.ran) r.totals → (commits : ℕ) → commits ≡ length (journal_of r.ran) → summary_line commits r.totals ≡ summary_text kind (run_outputs r)
 same_summary kind r has commits is = λ i. summary_line (is i) (record { vertices = has.vertices i; edges = has.edges i; undo = has.undo i; retired = has.retired i })
 
 -- what was made of a run is of what the sources stand for
 unfoldable pub made_from : (request : RunRequest) (m : Meaning) (p : Prepared) (r : RunResult) (kind : Kind) (leaves commits : ℕ) → kind ≡ kind_of request → leaves ≡ leaves_for request.leaves (most_rows (inputs_of kind m))
-    → IsRunAs request.is_serial (inputs_of kind m) leaves (run_outputs r) → IsLeftAs request.is_serial (inputs_of kind m) leaves m.schedule (run_outputs r) r.ran → HasCounts kind r → commits ≡ length r.ran.core.journal
+    → IsRunAs request.is_serial (inputs_of kind m) leaves (run_outputs r) → IsLeftOf request.threads request.is_serial (inputs_of kind m) leaves m.schedule (run_outputs r) r.ran → HasCounts kind (journal_of r.ran) r.totals → commits ≡ length (journal_of r.ran)
     → p.outputs ≡ sinks_of request.journal (report_names request) (run_outputs r) → p.summary ≡ summary_line commits r.totals → shows_full (run_outputs r) ≡ p.is_full
-    → p.left ≡ Stepped r.ran → IsMadeOf request m p
+    → p.left ≡ left_of r.ran → IsMadeOf request m p
 made_from request m p r kind leaves commits is leaves_are run left_by counts counted outputs summary full left = record {
   outputs = run_outputs r;
   ran = r.ran;
   run = subst (λ n. IsRunAs request.is_serial (inputs_of (kind_of request) m) n (run_outputs r)) all_leaves (subst (λ k. IsRunAs request.is_serial (inputs_of k m) leaves (run_outputs r)) is run);
-  left_by = subst (λ n. IsLeftAs request.is_serial (inputs_of (kind_of request) m) n m.schedule (run_outputs r) r.ran) all_leaves (subst (λ k. IsLeftAs request.is_serial (inputs_of k m) leaves m.schedule (run_outputs r) r.ran) is left_by);
+  left_by = subst (λ n. IsLeftOf request.threads request.is_serial (inputs_of (kind_of request) m) n m.schedule (run_outputs r) r.ran) all_leaves (subst (λ k. IsLeftOf request.threads request.is_serial (inputs_of k m) leaves m.schedule (run_outputs r) r.ran) is left_by);
   outputs_are = outputs;
   summary_is = summary ∙ same_summary kind r counts commits counted ∙ ap (λ k. summary_text k (run_outputs r)) is;
   full = full;

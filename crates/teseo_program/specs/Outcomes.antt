@@ -29,9 +29,10 @@ use Rattle.teseo_program.specs.declared.outcome.Outcome.TheVariants.{Done, Full,
 use Rattle.source_run.specs.Input.{Meaning, Texts, texts_of, IsAccepted, IsNotAccepted, inputs_of}
 use Rattle.source_run.specs.Leaves.{leaves_of}
 use Rattle.teseo_program.specs.declared.left.Left.{Left}
-use Rattle.teseo_program.specs.declared.left.Left.TheVariants.{Stepped}
-use Rattle.teseo_core.specs.Keeping.{LeftStore}
-use Rattle.source_run.specs.Running.{IsRunAs, IsLeftAs}
+use Rattle.teseo_program.specs.declared.left.Left.TheVariants.{Stepped, Shared}
+use Rattle.source_run.specs.declared.ran.Ran.{Ran}
+use Rattle.source_run.specs.declared.ran.Ran.TheVariants as rans
+use Rattle.source_run.specs.Running.{IsRunAs, IsLeftOf}
 use Rattle.teseo_program.specs.Sinks.{sinks_of, summary_text}
 use Rattle.teseo_program.specs.MadeGraphs.{graph_outputs, made_text}
 
@@ -127,10 +128,10 @@ SaysOutcome request outputs summary outcome old new =
 
 -- ---- the causes
 
--- what a run gives, the engine that is left of it, the texts, each with its name, and the summary
+-- what a run gives, the store that is left of it, the texts, each with its name, and the summary
 pub record Made : Type 0 where
   pub run : Outputs
-  pub ran : LeftStore
+  pub ran : Ran
   pub outputs : List NamedText
   pub summary : List ℕ
 
@@ -157,14 +158,14 @@ is_full answers.Skipped = false
 abbrev pub shows_full : Outputs → Bool
 shows_full o = list_any (list_any is_full) o.reports
 
--- what was made is a run of what these texts mean, by the turns that the schedule gives; a serialisable one where that
--- is asked for
+-- what was made is a run of what these texts mean, a serialisable one where that is asked for: by the turns that the
+-- schedule gives, or on threads
 pub record IsOfTexts (request : RunRequest) (texts : Texts) (made : Made) : Type 0 where
   pub m : Meaning
   pub accepted : IsAccepted request texts m
   pub run : IsRunAs request.is_serial (inputs_of (kind_of request) m) (leaves_of request m) made.run
-  pub left : IsLeftAs request.is_serial (inputs_of (kind_of request) m) (leaves_of request m) m.schedule made.run
-      made.ran
+  pub left : IsLeftOf request.threads request.is_serial (inputs_of (kind_of request) m) (leaves_of request m) m.schedule
+      made.run made.ran
   pub outputs_are : made.outputs ≡ sinks_of request.journal (report_names request) made.run
   pub summary_is : made.summary ≡ summary_text (kind_of request) made.run
 
@@ -205,6 +206,11 @@ IsCause NoMemory request made old new = new ≡ old
 IsCause (NotWritten stop) request made old new =
     AreOfRun request old made × FailsAtPlace made.outputs stop.place old new
 
+-- what ran, as it is left
+abbrev pub left_of : Ran → Left
+left_of (rans.Stepped ran) = Stepped ran
+left_of (rans.Shared ran) = Shared ran
+
 -- what is left behind an outcome: of a run whose outputs were all written, what it has left, else what there was
 abbrev pub IsLeft : Outcome → Left → Left → Left → Type 0
 IsLeft Done ran old new = new ≡ ran
@@ -225,7 +231,7 @@ pub record IsRunOutcome (outcome : Outcome) (request : RunRequest) (old new : Fi
   pub before : Files
   pub cause : IsCause outcome request made old before
   pub says : SaysOutcome request made.outputs made.summary outcome before new
-  pub left_is : IsLeft outcome (Stepped made.ran) left left'
+  pub left_is : IsLeft outcome (left_of made.ran) left left'
 
 -- ---- the end of `make`
 

@@ -14,14 +14,13 @@ use Rattle.source_run.specs.Requests.{source_names, report_names, kind_of}
 use Rattle.teseo_program.specs.declared.outcome.Outcome.{Outcome}
 use Rattle.teseo_program.specs.declared.outcome.Outcome.TheVariants.{Done, Full, LoadFull, BadWords, NotRead, NotAccepted, NoMemory, NotWritten}
 use Rattle.teseo_program.specs.declared.prepare.Prepared.{Prepared}
-use Rattle.teseo_program.specs.declared.left.Left.TheVariants.{Stepped}
 use Rattle.source_run.specs.Input.{Meaning, texts_of, IsAccepted, inputs_of}
 use Rattle.source_run.specs.Leaves.{leaves_of}
-use Rattle.teseo_core.specs.Keeping.{LeftStore}
-use Rattle.source_run.specs.Running.{IsRunAs, IsLeftAs}
+use Rattle.source_run.specs.declared.ran.Ran.{Ran}
+use Rattle.source_run.specs.Running.{IsRunAs, IsLeftOf}
 use Rattle.teseo_program.specs.Sinks.{sinks_of, summary_text}
 use Rattle.teseo_program.specs.MadeGraphs.{graph_outputs, made_text}
-use Rattle.teseo_program.specs.Outcomes.{Made, shows_full, AreOfRun, IsFullLoad, IsRefusedAt, OnlySays, said_text, blamed}
+use Rattle.teseo_program.specs.Outcomes.{Made, shows_full, left_of, AreOfRun, IsFullLoad, IsRefusedAt, OnlySays, said_text, blamed}
 
 -- ---- why nothing was made
 
@@ -44,27 +43,28 @@ AreAccepted request files m =
 
 -- ---- what was made
 
-abbrev pub made_of : Outputs → LeftStore → Prepared → Made
+abbrev pub made_of : Outputs → Ran → Prepared → Made
 made_of run ran p = record { run = run; ran = ran; outputs = p.outputs; summary = p.summary }
 
 -- of a run of these files
 pub record IsPreparedOf (request : RunRequest) (files : Files) (p : Prepared) : Type 0 where
   pub run : Outputs
-  pub ran : LeftStore
+  pub ran : Ran
   pub of_run : AreOfRun request files (made_of run ran p)
   pub full : shows_full run ≡ p.is_full
-  pub left : p.left ≡ Stepped ran
+  pub left : p.left ≡ left_of ran
 
 -- of a run of what the sources stand for
 pub record IsMadeOf (request : RunRequest) (m : Meaning) (p : Prepared) : Type 0 where
   pub outputs : Outputs
-  pub ran : LeftStore
+  pub ran : Ran
   pub run : IsRunAs request.is_serial (inputs_of (kind_of request) m) (leaves_of request m) outputs
-  pub left_by : IsLeftAs request.is_serial (inputs_of (kind_of request) m) (leaves_of request m) m.schedule outputs ran
+  pub left_by : IsLeftOf request.threads request.is_serial (inputs_of (kind_of request) m) (leaves_of request m)
+      m.schedule outputs ran
   pub outputs_are : p.outputs ≡ sinks_of request.journal (report_names request) outputs
   pub summary_is : p.summary ≡ summary_text (kind_of request) outputs
   pub full : shows_full outputs ≡ p.is_full
-  pub left : p.left ≡ Stepped ran
+  pub left : p.left ≡ left_of ran
 
 -- why nothing was made of what the sources stand for: the rows of the graph may fill the leaves, or memory is wanted
 abbrev pub IsLoadStop : RunRequest → Meaning → LoadRefusal → Type 0

@@ -13,13 +13,14 @@ use crate::left::Left;
 use crate::outcome::Outcome;
 use crate::outputs::{is_full, outputs_of, summary_of};
 use command_words::RunWords;
-use desk_io::{Desk, Output, read_all};
+use desk_io::{Desk, Gate, Output, read_all};
 use graph_files::{files_are_loadable, load_is_legal};
 use graph_model::{LoadRefusal, MAX_SOURCE_BYTES};
 use graphalytics_io::Text;
 use items::Items;
-use source_run::{Input, kind_of, leaves_of, parse_sources, run_scripts, sources_of};
+use source_run::{Input, Manner, kind_of, leaves_of, parse_sources, run_scripts, sources_of};
 use std::alloc::Global;
+use std::sync::Wait;
 use std::thread::Threads;
 
 /// The outputs in the order in which they are written, the summary that is said at the end, whether a report has a
@@ -33,11 +34,12 @@ pub struct Prepared {
 }
 
 /// Reads and parses the sources, runs the scripts, and makes all texts. Creates nothing.
-pub fn prepare<R: Threads + Sync, D: Desk>(
+pub fn prepare<R: Threads + Wait + Sync, D: Desk, G: Gate>(
     rt: &R,
     alloc: Global,
     desk: &mut D,
     words: &RunWords<'_>,
+    gate: &G,
 ) -> Result<Prepared, Outcome>
     requires { IsAsked (run_request words.now) }
     ensures prepared { IfOk result (IsPreparedOf (run_request words.now) (D.files desk.old)) }
@@ -46,7 +48,7 @@ pub fn prepare<R: Threads + Sync, D: Desk>(
     ensures refused { IfErr result (IsUnprepared (run_request words.now) (D.files desk.old) (D.files desk.new)) }
 {
     let input = read_input(rt, alloc, desk, words)?;
-    match make(rt, alloc, words, input) {
+    match make(rt, alloc, words, input, gate) {
         Ok(prepared) => Ok(prepared),
         Err(refusal) => Err(Outcome::from(refusal)),
     }
@@ -77,11 +79,12 @@ pub fn read_input<R: Threads + Sync, D: Desk>(
 }
 
 /// Runs the scripts on the graph of the sources, and makes the texts of what that leaves.
-fn make<R: Threads + Sync>(
+fn make<R: Threads + Wait + Sync, G: Gate>(
     rt: &R,
     alloc: Global,
     words: &RunWords<'_>,
     input: Input,
+    gate: &G,
 ) -> Result<Prepared, LoadRefusal>
     requires asked { IsAsked (run_request words.now) }
     requires accepted { (texts : Texts) × IsAccepted (run_request words.now) texts (meaning_of input) }
@@ -96,7 +99,11 @@ fn make<R: Threads + Sync>(
     load_is_legal();
     let kind = kind_of(words);
     let leaves = leaves_of(words.leaves, kind, &input);
-    let run = run_scripts(rt, alloc, kind, leaves, words.is_serial, input)?;
+    let manner = Manner {
+        threads: words.threads,
+        is_serial: words.is_serial,
+    };
+    let run = run_scripts(rt, alloc, kind, leaves, manner, input, gate)?;
     let commits = run.ran.journal().len() as u64;
     let summary = summary_of(alloc, commits, run.totals)?;
     let outputs = outputs_of(alloc, words, &run)?;
@@ -105,6 +112,6 @@ fn make<R: Threads + Sync>(
         outputs,
         summary,
         is_full,
-        left: Left::Stepped { ran: run.ran },
+        left: Left::from(run.ran),
     })
 }

@@ -13,11 +13,12 @@ use crate::outcome::Outcome;
 use crate::prepare::{Prepared, prepare};
 use crate::say::say_outcome;
 use command_words::{MakeWords, RunWords};
-use desk_io::{Desk, Output, ReadStop, write_all};
+use desk_io::{Desk, Gate, Output, ReadStop, write_all};
 use graph_model::NoMemory;
 use items::Items;
 use source_run::source_at;
 use std::alloc::Global;
+use std::sync::Wait;
 use std::thread::Threads;
 
 /// Ends a call that has no words to run, as where one of them isn't text: says the outcome, and answers
@@ -31,18 +32,20 @@ pub fn end_with<D: Desk>(desk: &mut D, outcome: Outcome) -> u8
 }
 
 /// Runs the scripts that the words name. Behind a run whose outputs were all written, `left` is what its store leaves;
-/// else it stays as it is.
-pub fn run<R: Threads + Sync, D: Desk>(
+/// else it stays as it is. Where the scripts run on threads the gate is called before each of their turns, and the call
+/// may wait.
+pub fn run<R: Threads + Wait + Sync, D: Desk, G: Gate>(
     rt: &R,
     alloc: Global,
     desk: &mut D,
     words: &RunWords<'_>,
+    gate: &G,
     left: &mut Left,
 ) -> Outcome
     requires { IsAsked (run_request words.now) }
     ensures { IsRunOutcome result (run_request words.now) (D.files desk.old) (D.files desk.new) left.old left.new }
 {
-    match prepare(rt, alloc, desk, words) {
+    match prepare(rt, alloc, desk, words, gate) {
         Ok(prepared) => {
             let outcome = write_and_say(desk, &prepared);
             hand_out(left, prepared.left, outcome);

@@ -2,6 +2,7 @@ use Rattle.std.proofs.Common.{refl, sym, ap, ◌∙◌, subst, length, false, []
 use Rattle.command_words.specs.Views.{run_request}
 use Rattle.source_run.specs.Parsing.{meaning_of}
 use Rattle.source_run.specs.Requests.{kind_of}
+use Rattle.source_run.specs.Running.{journal_of}
 use Rattle.source_run.proofs.RequestLemmas.{stated_leaves}
 use Rattle.source_run.proofs.RunLemmas.{files_fit, handed_on}
 use Rattle.run_keeper.specs.Keeping.{IsKept}
@@ -41,7 +42,7 @@ returns-clause-made g c =
     let before = subst (λ k. IsKept g.K.Disk.moment g.K.Disk.may_leave g.K.Disk.left_since g.K.Disk.state k [] c.args.keeper.now.file c.args.disk.now) (sym c.kind_of-kind.ensures) c.requires.new in
     let kept = c.in_ok-run.ensures.kept before in
     kept_made (run_request c.args.words.now) (meaning_of c.args.input) c.kind_of-kind.result c.leaves_of-leaves.result c.kind_of-kind.ensures c.leaves_of-leaves.ensures.leaves
-    (acknowledged_on g.K.Disk.moment g.K.Disk.may_leave g.K.Disk.left_since c.run_scripts_kept.new.disk) _ c.in_ok-run.run' _ c.requires.by_turns
+    (acknowledged_on g.K.Disk.moment g.K.Disk.may_leave g.K.Disk.left_since c.run_scripts_kept.new.disk) _ c.in_ok-run.run' _ c.requires.by_turns c.requires.plain
     c.in_ok-run.ensures.run c.in_ok-run.ensures.left c.in_ok-run.ensures.counts (c.len-commits.ensures ∙ ap length c.journal.ensures)
     c.in_ok-outputs.ensures c.in_ok-summary.ensures (sym c.is_full-is_full.ensures) refl kept.acknowledged
 
@@ -61,13 +62,13 @@ pub returns-in_err-summary-clause-still : goal.returns-in_err-summary-clause-sti
 returns-in_err-summary-clause-still g c =
     let before = subst (λ k. IsKept g.K.Disk.moment g.K.Disk.may_leave g.K.Disk.left_since g.K.Disk.state k [] c.args.keeper.now.file c.args.disk.now) (sym c.kind_of-kind.ensures) c.requires.new in
     on_err _ (subst (λ k. KeepsSome (acknowledged_on g.K.Disk.moment g.K.Disk.may_leave g.K.Disk.left_since c.run_scripts_kept.new.disk) k) c.kind_of-kind.ensures
-    (kept_some g.K.Disk.moment g.K.Disk.may_leave g.K.Disk.left_since g.K.Disk.state c.kind_of-kind.result c.in_ok-run.run'.ran.core.journal c.run_scripts_kept.new.keeper.file c.run_scripts_kept.new.disk (c.in_ok-run.ensures.kept before)))
+    (kept_some g.K.Disk.moment g.K.Disk.may_leave g.K.Disk.left_since g.K.Disk.state c.kind_of-kind.result (journal_of c.in_ok-run.run'.ran) c.run_scripts_kept.new.keeper.file c.run_scripts_kept.new.disk (c.in_ok-run.ensures.kept before)))
 
 pub returns-in_err-outputs-clause-still : goal.returns-in_err-outputs-clause-still
 returns-in_err-outputs-clause-still g c =
     let before = subst (λ k. IsKept g.K.Disk.moment g.K.Disk.may_leave g.K.Disk.left_since g.K.Disk.state k [] c.args.keeper.now.file c.args.disk.now) (sym c.kind_of-kind.ensures) c.requires.new in
     on_err _ (subst (λ k. KeepsSome (acknowledged_on g.K.Disk.moment g.K.Disk.may_leave g.K.Disk.left_since c.run_scripts_kept.new.disk) k) c.kind_of-kind.ensures
-    (kept_some g.K.Disk.moment g.K.Disk.may_leave g.K.Disk.left_since g.K.Disk.state c.kind_of-kind.result c.in_ok-run.run'.ran.core.journal c.run_scripts_kept.new.keeper.file c.run_scripts_kept.new.disk (c.in_ok-run.ensures.kept before)))
+    (kept_some g.K.Disk.moment g.K.Disk.may_leave g.K.Disk.left_since g.K.Disk.state c.kind_of-kind.result (journal_of c.in_ok-run.run'.ran) c.run_scripts_kept.new.keeper.file c.run_scripts_kept.new.disk (c.in_ok-run.ensures.kept before)))
 
 pub returns-in_err-run-clause-refused : goal.returns-in_err-run-clause-refused
 returns-in_err-run-clause-refused g c =

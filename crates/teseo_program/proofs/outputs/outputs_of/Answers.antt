@@ -4,6 +4,7 @@ use Rattle.run_model.specs.Texts.{journal_text, report_text}
 use Rattle.command_words.specs.Words.{report_name}
 use Rattle.command_words.specs.Views.{run_request}
 use Rattle.job_runner.specs.Phases.{file_of}
+use Rattle.source_run.specs.Running.{journal_of}
 use Rattle.teseo_program.specs.Sinks.{report_outputs, file_output}
 use Rattle.teseo_program.proofs.SinkLemmas.{report_pushed, all_results}
 use Rattle.teseo_program.proofs.outputs.outputs_of.Goals as goal
@@ -20,7 +21,7 @@ reports-preserved c =
 pub returns : goal.returns
 returns c =
     c.jobs.invariant
-    ∙ ap (λ rest. record { name = c.args.words.now.journal.now; text = journal_text c.args.run.now.ran.core.journal }
+    ∙ ap (λ rest. record { name = c.args.words.now.journal.now; text = journal_text (journal_of c.args.run.now.ran) }
     ∷ (report_outputs (map report_name (run_request c.args.words.now).scripts) (map (λ job. job.answers) c.args.run.now.jobs) ++ rest))
     (all_results c.as_slice-jobs.result.now c.jobs.job-index (omega arith)
     ∙ ap (λ js. flat_map (λ files. map file_output files) (map (λ job. map file_of job.tables) js)) c.as_slice-jobs.ensures)

@@ -3,7 +3,7 @@ use Rattle.command_words.specs.Views.{run_request}
 use Rattle.source_run.specs.Parsing.{meaning_of}
 use Rattle.teseo_program.specs.Prepared.{IsLoadStop}
 use Rattle.teseo_program.proofs.PreparedLemmas.{are_inputs, job_count, are_printable, are_apart, made_from, stopped_load}
-use Rattle.source_run.proofs.RequestLemmas.{stated_leaves}
+use Rattle.source_run.proofs.RequestLemmas.{stated_leaves, stated_threads}
 use Rattle.source_run.proofs.RunLemmas.{files_fit, handed_on}
 use Rattle.teseo_program.proofs.prepare.make.Goals as goal
 
@@ -48,3 +48,6 @@ returns-in_err-run-clause-refused g c =
     let m = meaning_of c.args.input in
     handed_on c.from_residual.result c.in_err-run.field-0.0 (IsLoadStop (run_request c.args.words.now) m) c.from_residual.ensures.1
     (stopped_load (run_request c.args.words.now) m c.kind_of-kind.result c.leaves_of-leaves.result c.in_err-run.field-0.0 c.kind_of-kind.ensures c.leaves_of-leaves.ensures.leaves c.in_err-run.ensures.refused)
+
+pub run_scripts-requires-clause-workers : goal.run_scripts-requires-clause-workers
+run_scripts-requires-clause-workers g c κs within = stated_threads (run_request c.args.words.now) c.requires.asked

@@ -5,7 +5,7 @@ use Rattle.source_run.specs.Input.{inputs_of}
 use Rattle.source_run.specs.Parsing.{meaning_of}
 use Rattle.source_run.specs.Running.{IsConfig, IsRefusedLoad}
 use Rattle.source_run.proofs.RunLemmas.{handed_on, is_new, loadable, refused_load, started, ended, closed_as, kind_as, leaves_are, left_by_run, run_as, none_served, counts_of, all_at, new_jobs_count}
-use Rattle.source_run.proofs.run.run_scripts.Goals as goal
+use Rattle.source_run.proofs.run.run_by_turns.Goals as goal
 
 pub run_jobs-requires-clause-new : goal.run_jobs-requires-clause-new
 run_jobs-requires-clause-new g c κs within = (

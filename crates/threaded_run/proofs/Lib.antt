@@ -1,0 +1,5 @@
+pub mod FreshLemmas
+pub mod SeatLemmas
+pub mod EndLemmas
+pub mod HomeLemmas
+pub mod RunLemmas

@@ -1,0 +1,24 @@
+-- What a run on a store leaves once the store is closed.
+use Rattle.std.proofs.Common.{◌≡◌, List, sym, subst}
+use Rattle.graph_model.specs.declared.journal.Commit.{Commit}
+use Rattle.run_model.specs.declared.command.Command.{Command}
+use Rattle.run_model.specs.Inputs.{Inputs}
+use Rattle.run_model.specs.Run.{IsRun}
+use Rattle.job_runner.specs.Progress.{Progress}
+use Rattle.txn_manager.specs.declared.config.Config.{Config}
+use Rattle.store_rule.specs.declared.store.Store.{Store}
+use Rattle.shared_store.specs.declared.pass.Pass.{Pass}
+use Rattle.shared_store.specs.Ends.{HasClosed}
+use Rattle.shared_store.specs.Loading.{AreLoaded}
+use Rattle.shared_runs.specs.Closing.{ClosedStoresLeaveRuns, HaveRunOn, LeavesRun, outputs_with}
+use Rattle.threaded_run.specs.Running.{CanRun}
+use Rattle.threaded_run.specs.Seats.{CanRunOn}
+
+pub left_run : ClosedStoresLeaveRuns → (inputs : Inputs) (config : Config) (store : Store) (first last : List Pass) (scripts : List (List Command)) (jobs : List Progress) (journal : List Commit)
+    → CanRun inputs config → scripts ≡ inputs.scripts → store.accounts.config ≡ config → AreLoaded inputs.load store first
+    → ((given : Inputs) → CanRunOn given store first scripts → HaveRunOn given store.accounts.config last jobs) → HasClosed store.accounts.config last journal
+    → IsRun inputs config.leaves (outputs_with journal jobs) × LeavesRun inputs config.leaves (outputs_with journal jobs)
+left_run leave_runs inputs config store first last scripts jobs journal can same is loaded ran closed =
+    let on : CanRunOn inputs store first scripts = record { can = subst (CanRun inputs) (sym is) can; scripts_are = same; loaded = loaded } in
+    let both = leave_runs inputs store.accounts.config last jobs journal can.inputs_are (ran inputs on) closed in
+    subst (λ (z : Config). IsRun inputs z.leaves (outputs_with journal jobs) × LeavesRun inputs z.leaves (outputs_with journal jobs)) is both

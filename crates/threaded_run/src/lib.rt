@@ -1,0 +1,13 @@
+//! A run of scripts by threads on a shared store: it is made with the load, each script has a pass of its own, and it is
+//! closed behind them.
+//!
+//! 1. Pass 0 has the load, and takes the turns of the service. The pass of each script has seen the load before its
+//!    first turn.
+//! 2. However the scripts end, all passes come back, and the store is closed with them.
+#![tactic(auto)]
+
+mod run;
+mod seats;
+mod workers;
+
+pub use run::{ThreadedRun, run_on_threads};
