@@ -21,7 +21,6 @@ use Rattle.cells_model.specs.Indexed.{covers}
 use Rattle.cells_model.specs.Words.{Spells}
 use Rattle.cells_model.proofs.WordLemmas.{no_row_is_told, value_is_told}
 use Rattle.optimistic_read.specs.declared.decode.LookedUp.{LookedUp}
-use Rattle.optimistic_read.specs.declared.tried.Tried.{Tried}
 use Rattle.optimistic_read.specs.declared.tried.Tried.TheVariants.{Value, Chained, Moved}
 use Rattle.optimistic_read.specs.Reads.{IsLookedUp}
 use Rattle.optimistic_read.specs.Tried.{decoded, is_chained}

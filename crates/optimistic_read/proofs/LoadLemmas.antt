@@ -1,5 +1,5 @@
 -- What a read learns by its loads.
-use Rattle.std.proofs.Common.{◌≡◌, ℕ, zero, suc, ◌+◌, ◌*◌, ◌-◌, ◌<◌, ◌≤◌, List, [], ◌∷◌, length, refl, sym, ◌∙◌, ap, subst, arith, Option, Some, None, get_or, min}
+use Rattle.std.proofs.Common.{◌≡◌, ℕ, zero, suc, ◌+◌, ◌*◌, ◌<◌, ◌≤◌, List, [], ◌∷◌, length, refl, sym, ◌∙◌, ap, subst, arith, Option, Some, None, get_or, min}
 use Rattle.std.specs.Prelude.{true, false, slice_get, slice_index}
 use Rattle.std.proofs.lemmas.List.{length-map}
 use Rattle.atomic_table.specs.declared.shared.Seat.{Seat}
@@ -229,18 +229,22 @@ module _ (cell first : ℕ) where
         (λ block s spells t at.
         let inside : place + half < length (word_rows s) = (let c = t.1.within in omega arith) in
         let row = get_or (word_rows s) (place + half) no_row in
-        let same = key_at block s (place + half) middle row spells at (row_there (word_rows s) (place + half) inside) in
-        (t.0, halved_up row_key (word_rows s) key place rest (place + half) no_row (words_rise s spells.sound) t.1
-        (omega arith) (ap (λ k. is_below k key) same ∙ below) p n ep en))
+        let same = key_at block s (place + half) middle row spells at (row_there (word_rows s) (place + half) inside) in (
+          t.0,
+          halved_up row_key (word_rows s) key place rest (place + half) no_row (words_rise s spells.sound) t.1
+              (omega arith) (ap (λ k. is_below k key) same ∙ below) p n ep en,
+        ))
 
     pub goes_down : is_below middle key ≡ false → IsReadingOn cell first w (Halved h key place half)
     goes_down below = after_key (6 + 3 * (place + half)) middle v w (Halved h key place rest) (Halved h key place half) is x
         (λ block s spells t at.
         let inside : place + half < length (word_rows s) = (let c = t.1.within in omega arith) in
         let row = get_or (word_rows s) (place + half) no_row in
-        let same = key_at block s (place + half) middle row spells at (row_there (word_rows s) (place + half) inside) in
-        (t.0, halved_down row_key (word_rows s) key place rest (place + half) no_row (words_rise s spells.sound) t.1
-        (omega arith) (ap (λ k. is_below k key) same ∙ below) half (omega arith) (omega arith)))
+        let same = key_at block s (place + half) middle row spells at (row_there (word_rows s) (place + half) inside) in (
+          t.0,
+          halved_down row_key (word_rows s) key place rest (place + half) no_row (words_rise s spells.sound) t.1
+              (omega arith) (ap (λ k. is_below k key) same ∙ below) half (omega arith) (omega arith),
+        ))
 
   -- ---- the row that was found
 

@@ -1,32 +1,26 @@
 -- A leaf is noted with the index in hand.
-use Rattle.std.proofs.Common.{◌≡◌, ℕ, ◌+◌, ◌*◌, ◌/◌, ◌<◌, ◌≤◌, length, List, [], ◌∷◌, ◌++◌, refl, sym, ◌∙◌, ap, subst, cond, arith, Some, None}
-use Rattle.std.specs.Prelude.{Bool, true, false, ◌==◌, ◌||◌, count_by, unwrap_or}
+use Rattle.std.proofs.Common.{◌≡◌, ℕ, ◌/◌, ◌<◌, List, [], ◌∷◌, ◌++◌, refl, sym, ◌∙◌, ap, cond, arith, Some, None}
+use Rattle.std.specs.Prelude.{Bool, true, false, ◌==◌, ◌||◌, count_by}
 use Rattle.std.specs.List.{list_any}
 use Rattle.std.specs.declared.alloc.Global.{Global}
-use Rattle.atomic_table.specs.Table.{Me}
 use Rattle.graph_model.specs.declared.row.Key.{Key}
-use Rattle.graph_model.specs.Legal.{IsLegal}
 use Rattle.graph_model.proofs.TestLemmas.{self_eq}
 use Rattle.txn_manager.specs.declared.config.Config.{Config}
 use Rattle.leaf_index.specs.Index.{Entry, Index, IsIndex, IsRoute}
 use Rattle.leaf_index.specs.declared.route.Route.{Route}
 use Rattle.leaf_index.proofs.CountLemmas.{count_append, count_cons, existing}
-use Rattle.latch_table.specs.Latched.{number_of}
-use Rattle.latch_table.specs.Latched.{IsPassOf as IsLatchPass}
-use Rattle.seat_views.specs.Keeping.{kept_at, without}
+use Rattle.seat_views.specs.Keeping.{kept_at}
 use Rattle.cells_model.specs.Indexed.{is_live}
 use Rattle.rule_model.specs.Places.{Layout}
-use Rattle.rule_model.specs.Sight.{HasIndex, HasPin, IndexState, PinState, Sight, cells_of, with_index, with_pin}
+use Rattle.rule_model.specs.Sight.{HasIndex, HasPin, IndexState, PinState, cells_of, with_index, with_pin}
 use Rattle.rule_model.specs.Steps.{AllowsLoad}
 use Rattle.rule_model.proofs.FrameLemmas.{M, index_is}
 use Rattle.rule_model.proofs.PinStepLemmas.{leaf_is_noted}
 use Rattle.store_rule.specs.Passes.{OnlyAccount}
 use Rattle.store_rule.specs.declared.store.Pass.{Pass}
 use Rattle.store_rule.specs.declared.store.Store.{Store}
-use Rattle.store_words.specs.Notes.{without_index}
-use Rattle.store_relation.specs.Passes.{PassState, fresh_pass}
-use Rattle.pass_steps.specs.Passes.{HasOpenTxn, IsOpenPass, IsOwnSight, IsSamePass, pin_in, pin_of, state_in, state_of}
-use Rattle.pass_steps.proofs.SightLemmas.{kept_here, own_pin, pin_here, without_here}
+use Rattle.pass_steps.specs.Passes.{IsOpenPass, pin_in, pin_of}
+use Rattle.pass_steps.proofs.SightLemmas.{kept_here}
 use Rattle.optimistic_read.specs.Routes.{MayNote, noting}
 
 -- ---- the step
@@ -94,17 +88,17 @@ module _ (key : Key) (index : Index) (route : Route) (sound : IsIndex index) (is
 
 -- ---- the pass
 
--- its view before and after: the index was taken in, the leaf noted, and the index's note laid
-module _ (store : Store) (p0 p1 p2 p3 p4 p5 : Pass) (y : IndexState) (leaf : ℕ) (opened : IsOpenPass store p0)
-    (taken : p1.account ≡ p0.account) (number : p1.number ≡ p0.number) (buffers : p1.buffers ≡ p0.buffers)
+-- it has taken the index in
+module _ (store : Store) (p0 p1 p2 : Pass) (y : IndexState) (leaf : ℕ) (opened : IsOpenPass store p0)
+    (taken : p1.account ≡ p0.account) (number : p1.number ≡ p0.number)
     (gathered : OnlyAccount p1 p2 (with_index p1.account.me.0 y)) where
   view_before : p2.account.me.0 ≡ with_index p0.account.me.0 y
   view_before = (λ i. (gathered.account.me i).0) ∙ (λ i. with_index (taken i).me.0 y)
 
-  pub number_before : p2.number ≡ p0.number
+  number_before : p2.number ≡ p0.number
   number_before = gathered.number ∙ number
 
-  pub pin_before : pin_of p2 ≡ pin_of p0
+  pin_before : pin_of p2 ≡ pin_of p0
   pin_before i = pin_in (view_before i) (number_before i)
 
   pub index_before : HasIndex p2.account.me.0 y
@@ -121,71 +115,3 @@ module _ (store : Store) (p0 p1 p2 p3 p4 p5 : Pass) (y : IndexState) (leaf : ℕ
     alone = alone;
     live = live;
   }
-
-  module _ (noted : OnlyAccount p2 p3 (with_pin p2.account.me.0 p2.number (noting (pin_of p2) leaf))) where
-    view_noted : p3.account.me.0 ≡ with_pin (with_index p0.account.me.0 y) p0.number (noting (pin_of p0) leaf)
-    view_noted = (λ i. (noted.account.me i).0)
-        ∙ (λ i. with_pin (view_before i) (number_before i) (noting (pin_before i) leaf))
-
-    pub table_noted : p3.account.table_id ≡ store.accounts.table.shared.table_id
-    table_noted = noted.account.table ∙ gathered.account.table ∙ (λ i. (taken i).table_id) ∙ opened.of.table
-
-    pub index_noted : HasIndex p3.account.me.0 y
-    index_noted = (λ i. kept_at (view_noted i).indexes 0) ∙ kept_here p0.account.me.0.indexes 0 y
-
-    module _ (laid : OnlyAccount p3 p4 (without_index p3.account.me.0)) (given : p5.account ≡ p4.account)
-        (number' : p5.number ≡ p4.number) (buffers' : p5.buffers ≡ p4.buffers) where
-      view_after : p5.account.me.0 ≡ with_pin p0.account.me.0 p0.number (noting (pin_of p0) leaf)
-      view_after =
-          (λ i. (given i).me.0) ∙ (λ i. (laid.account.me i).0) ∙ (λ i. without_index (view_noted i))
-          ∙ (λ i. record (with_pin p0.account.me.0 p0.number (noting (pin_of p0) leaf)) {
-            indexes = (without_here p0.account.me.0.indexes 0 y ∙ ap (without 0) opened.none.contents.indexes
-            ∙ sym opened.none.contents.indexes) i;
-          })
-
-      number_after : p5.number ≡ p0.number
-      number_after = number' ∙ laid.number ∙ noted.number ∙ number_before
-
-      pub state_after : state_of p5 ≡ state_of p0
-      state_after i = state_in (view_after i) (number_after i)
-
-      pub pin_after : pin_of p5 ≡ noting (pin_of p0) leaf
-      pin_after = (λ i. pin_in (view_after i) (number_after i))
-          ∙ pin_here p0.account.me.0 p0.number (noting (pin_of p0) leaf)
-
-      pub same_after : IsSamePass p0 p5
-      same_after = record { number = number_after; reads = λ i. (view_after i).reads }
-
-      pub open_after : IsLatchPass store.latches.table.shared.key.config.passes store.latches.table.shared.key
-          store.latches.table.shared.table_id p5.latch → number_of p5.latch.me.0 ≡ number_of p0.latch.me.0
-          → p5.latch.me.1 ≡ [] → IsOpenPass store p5
-      open_after latch same none = record {
-        of = record {
-          inside = subst (λ n. n < store.accounts.config.passes) (sym number_after) opened.of.inside;
-          latch = latch;
-          same = same ∙ opened.of.same ∙ sym number_after;
-          table = (λ i. (given i).table_id) ∙ laid.account.table ∙ table_noted;
-          slots = (λ i. (given i).me.1) ∙ (λ i. (laid.account.me i).1) ∙ (λ i. (noted.account.me i).1)
-              ∙ (λ i. (gathered.account.me i).1) ∙ (λ i. (taken i).me.1) ∙ opened.of.slots;
-          sight = subst (λ (u : ℕ × Sight). IsOwnSight u.0 u.1) (λ i. (sym number_after i, sym view_after i))
-              (own_pin opened.of.sight (noting (pin_of p0) leaf));
-          legal = subst (λ (st : PassState). IsLegal store.accounts.config.kind st.seen) (sym state_after)
-              opened.of.legal;
-        };
-        none = record {
-          latches = none;
-          buffers = buffers' ∙ laid.buffers ∙ noted.buffers ∙ gathered.buffers ∙ buffers ∙ opened.none.buffers;
-          contents = record {
-            cells = (λ i. (view_after i).cells) ∙ opened.none.contents.cells;
-            indexes = (λ i. (view_after i).indexes) ∙ opened.none.contents.indexes;
-            journals = (λ i. (view_after i).journals) ∙ opened.none.contents.journals;
-          };
-        };
-        opened = record {
-          stage = (λ i. (state_after i).stage) ∙ opened.opened.stage;
-          laid = (λ i. (state_after i).laid) ∙ opened.opened.laid ∙ (λ i. (sym state_after i).own);
-          started = subst (λ (st : PassState). st.start ≤ length st.seen) (sym state_after) opened.opened.started;
-          stamped = (λ i. (state_after i).unstamped) ∙ opened.opened.stamped;
-          pinned = (λ i. (pin_after i).announced) ∙ opened.opened.pinned;
-        };
-      }

@@ -1,6 +1,6 @@
 -- A try from its first load to its answer.
-use Rattle.std.proofs.Common.{◌≡◌, ◌≢◌, ◌⊎◌, inl, inr, ℕ, suc, ◌+◌, ◌-◌, ◌%◌, List, [], ◌∷◌, refl, sym, ◌∙◌, ap, subst, cond, arith, Option, Some, None}
-use Rattle.std.specs.Prelude.{Bool, true, false, ◌==◌, not, is_some, ◌&&◌, ◌||◌}
+use Rattle.std.proofs.Common.{◌≡◌, ◌≢◌, inl, inr, ℕ, ◌+◌, ◌-◌, ◌%◌, List, [], ◌∷◌, refl, sym, ◌∙◌, ap, cond, arith, Option, Some, None}
+use Rattle.std.specs.Prelude.{Bool, true, false, ◌==◌}
 use Rattle.std.proofs.lemmas.Bool.Decides.{nat_tests}
 use Rattle.atomic_table.specs.declared.shared.Seat.{Seat}
 use Rattle.graph_model.specs.declared.journal.TxnName.{TxnName}
@@ -19,15 +19,14 @@ use Rattle.store_relation.specs.Passes.{PassState, name_at}
 use Rattle.cells_model.specs.Indexed.{covers}
 use Rattle.cells_model.specs.Reads.{Reading, first_loaded, second_loaded}
 use Rattle.cells_model.specs.Words.{Spells}
-use Rattle.rule_model.specs.BlockSteps.{GiveView}
-use Rattle.rule_model.specs.Sight.{FoundWord, HasPass, Sight, with_found}
+use Rattle.rule_model.specs.Sight.{HasPass, Sight, with_found}
 use Rattle.store_words.specs.Reads.{HasOpenPass, PassIsTold, read_ended, reading_ended}
 use Rattle.store_words.specs.Steps.{Knows}
 use Rattle.optimistic_read.specs.declared.decode.LookedUp.{LookedUp}
 use Rattle.optimistic_read.specs.declared.tried.Tried.{Tried}
 use Rattle.optimistic_read.specs.declared.tried.Tried.TheVariants.{Value, Busy, Chained, Moved}
 use Rattle.optimistic_read.specs.Reads.{IsLookedUp, IsReadingOn, IsStill, IsValid, StillReads, begun_read}
-use Rattle.optimistic_read.specs.Tried.{FindsAgain, IsBusy, IsRead, IsTried, IsValueOf, SeatReads, decoded, is_chained}
+use Rattle.optimistic_read.specs.Tried.{IsBusy, IsRead, IsTried, IsValueOf, SeatReads, decoded, is_chained}
 
 -- ---- the view is as it was, but for its reads
 

@@ -1,4 +1,4 @@
-use Rattle.std.proofs.Common.{◌∙◌, ◌+◌, ◌*◌, ◌-◌, ◌/◌, sym, refl, arith}
+use Rattle.std.proofs.Common.{◌∙◌, ◌+◌, ◌*◌, ◌-◌, ◌/◌, sym, arith}
 use Rattle.optimistic_read.proofs.LoadLemmas.{Halved, goes_down, goes_up, key_on, reads_of, search_begins, search_ends, still_here}
 use Rattle.optimistic_read.proofs.block.search.Goals as goal
 

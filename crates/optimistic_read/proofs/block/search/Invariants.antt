@@ -1,4 +1,4 @@
-use Rattle.std.proofs.Common.{◌≡◌, ◌≤◌, ◌+◌}
+use Rattle.std.proofs.Common.{◌≤◌, ◌+◌}
 use Rattle.optimistic_read.specs.Reads.{IsReadingOn, StillReads}
 use Rattle.optimistic_read.proofs.LoadLemmas.{Halved}
 use Rattle.optimistic_read.proofs.block.search.Given as goal

@@ -1,7 +1,6 @@
-use Rattle.std.proofs.Common.{◌≡◌, ◌≢◌, ◌∙◌, ap, sym, rules}
+use Rattle.std.proofs.Common.{◌≡◌, ◌∙◌, ap, sym, rules}
 use Rattle.std.specs.Prelude.{true, false}
 use Rattle.graph_model.specs.Rows.{is_between}
-use Rattle.version_segment.specs.Resting.{is_marked}
 use Rattle.optimistic_read.specs.declared.tried.Tried.TheVariants.{Value}
 use Rattle.optimistic_read.proofs.DecodeLemmas.{chained, moved, no_row, other_key, other_row, same_key, valued}
 use Rattle.optimistic_read.proofs.decode.decode.Goals as goal
