@@ -14,6 +14,6 @@ mod read;
 mod routing;
 mod tried;
 
-pub use read::{try_has_vertex, try_weight};
+pub use read::{try_has_vertex, try_key, try_weight};
 pub use routing::route;
 pub use tried::{Route, Tried};

@@ -49,8 +49,9 @@ pub fn try_weight(store: &Store, pass: &mut Pass, route: &Route, u: u64, v: u64)
     try_key(store, pass, route, Key::of_arc(u, v))
 }
 
-/// Tries to read what the open transaction sees at a key.
-fn try_key(store: &Store, pass: &mut Pass, route: &Route, key: Key) -> Tried
+/// Tries to read what the open transaction sees at a key: a weight of an arc, or 0 of a vertex. It makes loads alone,
+/// takes no latch and no memory, and waits for nobody.
+pub fn try_key(store: &Store, pass: &mut Pass, route: &Route, key: Key) -> Tried
     requires pass { IsPassOf store.now pass.old }
     requires opened { (state_of pass.old).stage ≡ Open }
     requires cell { route.now.cell < cells_of store.now.accounts.config }
