@@ -1,10 +1,9 @@
 //! What stores are made of.
 
-ghost use Rattle.std.specs.Prelude.{◌≡◌, IfOk, false};
+ghost use Rattle.std.specs.Prelude.{◌≡◌, IfOk, IfSome};
 ghost use Rattle.graph_model.specs.declared.write.Kind.TheVariants.{Undirected};
-ghost use Rattle.loaded_cells.specs.Numbered.{AreRowsOf};
 ghost use Rattle.store_rule.specs.Making.{AreLoadedPasses};
-ghost use Rattle.txn_manager.specs.Config.{too_large};
+ghost use Rattle.bench_rule.specs.Sourced.{IsSource};
 
 use anyhow::Result;
 use bench_graphs::{count_of, made_graph};
@@ -27,13 +26,13 @@ pub struct Source {
     config: Config,
     load: Writes,
     rows: Vec<Row>,
-    ghost sized: { too_large config ≡ false },
-    ghost sorted: { AreRowsOf config load rows.items },
 }
 
 impl Source {
     /// Of a random graph of so many vertices and about so many edges; none, where there is no vertex.
-    pub fn make(alloc: Global, vertices: u64, edges: u64) -> Result<Option<Source>> {
+    pub fn make(alloc: Global, vertices: u64, edges: u64) -> Result<Option<Source>>
+        ensures { IfOk result (λ made. IfSome made IsSource) }
+    {
         if vertices == 0 {
             return Ok(None);
         }
@@ -63,7 +62,8 @@ impl Source {
 
     /// A store of the rows, which takes the copy of the writes.
     pub fn store(&self, alloc: Global, copy: Writes) -> Result<(Store, Passes), RoomRefusal>
-        requires { copy ≡ self.now.load }
+        requires source { IsSource self.now }
+        requires copy { copy ≡ self.now.load }
         ensures { IfOk result (λ made. AreLoadedPasses self.now.load made.0.latches.table.shared.key
             made.0.latches.table.shared.table_id made.0.accounts.table.shared.table_id made.1.list.items) }
     {

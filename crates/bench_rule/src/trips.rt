@@ -7,6 +7,7 @@
 ghost use Rattle.std.specs.Prelude.{◌<◌, length};
 ghost use Rattle.cases_store.specs.Visits.{AreAtEase, IsAtEase};
 ghost use Rattle.rule_model.specs.Sight.{cells_of};
+ghost use Rattle.bench_rule.specs.Sourced.{IsSource};
 
 use crate::best::Best;
 use crate::source::Source;
@@ -27,7 +28,9 @@ pub fn time<R: Clock + Print + Wait>(
     alloc: Global,
     source: &Source,
     trips: u64,
-) -> Result<()> {
+) -> Result<()>
+    requires { IsSource source.now }
+{
     let copy = source.copy(alloc)?;
     let (store, passes) = source.store(alloc, copy)?;
     let mut passes = passes;
