@@ -3,3 +3,4 @@ pub mod RoomLemmas
 pub mod PropLemmas
 pub mod CallLemmas
 pub mod KeptLemmas
+pub mod SendLemmas

@@ -1,0 +1,56 @@
+-- A worker may go to another thread, where threads may share its handle.
+use denote.Param.Send.{IsSend, IsSync, recorded_send, sendable, shr_send}
+use denote.Param.SendFields.{as_row_send, declared_send}
+use denote.RattleType.{RattleType}
+use denote.Ref.{NamedLft, ShrRef}
+use denote.Struct.Field.{row_field, shr_ref_field}
+use Rattle.std.proofs.Crossing.{crosses}
+use Rattle.std.proofs.marker.PhantomData.TheSendSync as phantom
+use Rattle.std.proofs.option.Option.TheSendSync as option
+use Rattle.latch_table.proofs.cells.Held.TheSendSync as held
+use Rattle.latch_table.proofs.cells.Laid.TheSendSync as laid
+use Rattle.leaf_array.proofs.leaf.Leaf.TheSendSync as leaf
+use Rattle.pass_cells.proofs.taken.TakenCell.TheSendSync as cell
+use Rattle.rebalance_service.proofs.serve.ServiceKeys.TheSendSync as keys
+use Rattle.shared_store.proofs.SendLemmas.{pass_send, slot_send, store_sync}
+use Rattle.pass_leaves.specs.contracts.own.PassLeaves as Leaves
+use Rattle.pass_room.specs.contracts.own.PassRoom as Room
+use Rattle.store_rule.specs.contracts.store.Store as Store
+use Rattle.rebalance_service.specs.declared.worker.Home.{Ghosts}
+use Rattle.rebalance_service.specs.contracts.worker.Worker as Worker
+
+-- what it keeps for rows that move
+leaves_send : IsSend Leaves.the_field.row
+leaves_send = search (sendable, crosses, cell.the_send, held.the_send, laid.the_send, slot_send) depth 60 fits 100000
+
+room_field_send : IsSend Room.the_field.row
+room_field_send = search (sendable, crosses, leaves_send, leaf.the_field_send) depth 60 fits 100000
+
+room_send : IsSend Room.the_row
+room_send = recorded_send Room.the_field.row _ _ Room.the_type.to_one room_field_send
+
+-- in the order of its fields
+pub worker_send : (a : NamedLft) (R H : RattleType) (h : Ghosts H.Denot) → IsSync R → IsSend (Worker.the_row a R H h)
+worker_send a R H h shared =
+    declared_send (Worker.the_type a R H h) (
+      as_row_send (row_field (ShrRef a.mir a.lft R)) (shr_send _ _ R shared),
+      (
+        as_row_send (shr_ref_field a Store.the_row tt) (shr_send _ _ _ store_sync),
+        (
+          pass_send,
+          (
+            option.the_send Room.the_row room_send,
+            (
+              search sendable,
+              (
+                keys.the_send,
+                (
+                  phantom.the_send H,
+                  tt,
+                ),
+              ),
+            ),
+          ),
+        ),
+      ),
+    )
