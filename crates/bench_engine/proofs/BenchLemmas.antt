@@ -18,8 +18,9 @@ use Rattle.graphalytics_io.specs.Load.{load_of}
 use Rattle.txn_manager.specs.declared.config.Config.{Config}
 use Rattle.teseo_core.specs.Keeping.{new_core}
 use Rattle.teseo_core.specs.Passes.{new_pass}
-use Rattle.bench_engine.specs.declared.graph.Graph.{Graph}
-use Rattle.bench_engine.specs.Loadable.{IsLoadableGraph}
+use Rattle.bench_graphs.specs.declared.graph.Graph.{Graph}
+use Rattle.bench_graphs.proofs.LoadLemmas.{load_adds}
+use Rattle.bench_graphs.specs.Loadable.{IsLoadableGraph}
 
 -- what goes on as this account has its start
 same_start : (old changed new : Account) → changed.start ≡ old.start → GoesOn old changed new → new.start ≡ old.start
@@ -81,11 +82,6 @@ pub loaded_closed : (config : Config) (core new : Core) (graph : Graph) → conf
 loaded_closed config core new graph one is behind =
     ap (λ (c : Core). (account_here c).start) (behind ∙ ap (λ c. loaded c (load_of graph.ids graph.edges)) is)
     ∙ ap (λ n. (account_here (loaded (new_core (record config { passes = n })) (load_of graph.ids graph.edges))).start) one
-
-load_adds : (ids : List ℕ) (edges : List Edge) → AllByRecursion IsAdd (load_of ids edges)
-load_adds [] [] = tt
-load_adds [] (edge ∷ edges) = (tt, load_adds [] edges)
-load_adds (v ∷ ids) edges = (tt, load_adds ids edges)
 
 -- and takes the graph
 pub takes_graph : (core : Core) (graph : Graph) → core.kind ≡ Undirected → IsLoadableGraph graph → IsLoad core (load_of graph.ids graph.edges)

@@ -1,1 +1,1 @@
-pub mod Loadable
+pub mod Configured

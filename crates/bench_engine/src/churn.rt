@@ -3,9 +3,9 @@
 ghost use Rattle.std.specs.Prelude.{◌≡◌, None, OnOk};
 
 use crate::bench_engine::BenchEngine;
-use crate::edits::Edit;
 use crate::turns::run_all;
 use anyhow::Result;
+use bench_graphs::Edit;
 use std::rt::Clock;
 use std::time::{Duration, Instant};
 

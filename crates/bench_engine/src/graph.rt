@@ -1,62 +1,17 @@
-//! A graph made from a seed, and engines that load it.
+//! Engines that load a graph.
 
-ghost use Rattle.std.specs.Prelude.{◌≡◌, ◌<◌, None, IfOk, OnOk};
+ghost use Rattle.std.specs.Prelude.{◌≡◌, None, IfOk, OnOk};
+ghost use Rattle.bench_engine.specs.Configured.{bench_config};
+ghost use Rattle.bench_graphs.specs.Loadable.{IsLoadableGraph};
 ghost use Rattle.teseo_core.specs.Keeping.{new_core};
-ghost use Rattle.bench_engine.specs.Loadable.{IsLoadableGraph, bench_config};
 
-use crate::rmat::{Ends, edge_text};
 use anyhow::Result;
-use graph_files::{Weights, files_are_loadable, load_is_legal, read_edges, read_vertices};
-use graph_maker::make_graph;
-use graph_model::{Ids, Kind, LoadEngine, MAX_BEGINS, MAX_LEAVES, MAX_LOAD_ROWS};
-use graphalytics_io::{Edges, load_graph};
+use bench_graphs::Graph;
+use graph_model::{Kind, LoadEngine, MAX_BEGINS, MAX_LEAVES};
+use graphalytics_io::load_graph;
 use std::alloc::Global;
 use teseo_core::Core;
 use txn_manager::Config;
-
-/// The ids and the edges of a graph.
-#[derive(Drop)]
-pub struct Graph {
-    pub ids: Ids,
-    pub edges: Edges,
-}
-
-/// A graph of so many vertices, from 1 on, and about so many edges, in no order.
-pub fn made_graph(alloc: Global, seed: u64, vertices: u32, edges: u32) -> Result<Graph>
-    requires { 0 < vertices }
-    ensures { IfOk result IsLoadableGraph }
-{
-    let made = make_graph(alloc, seed, vertices, edges)?;
-    graph_of(alloc, made.vertices.as_slice(), made.edges.as_slice())
-}
-
-/// A graph of so many vertices, from 1 on, and these edges.
-pub fn drawn_graph(alloc: Global, vertices: u32, edges: &[Ends]) -> Result<Graph>
-    requires { 0 < vertices }
-    ensures { IfOk result IsLoadableGraph }
-{
-    let made = make_graph(alloc, 0, vertices, 0)?;
-    let text = edge_text(alloc, edges)?;
-    graph_of(alloc, made.vertices.as_slice(), text.as_slice())
-}
-
-/// What the texts of a graph's files stand for.
-fn graph_of(alloc: Global, vertices: &[u8], edges: &[u8]) -> Result<Graph>
-    ensures { IfOk result IsLoadableGraph }
-{
-    files_are_loadable();
-    load_is_legal();
-    let ids = read_vertices(alloc, vertices, MAX_LOAD_ROWS)?;
-    let edges = read_edges(
-        alloc,
-        edges,
-        &ids,
-        Kind::Undirected,
-        Weights::Ones,
-        MAX_LOAD_ROWS,
-    )?;
-    Ok(Graph { ids, edges })
-}
 
 /// A new engine of so many passes.
 pub fn new_engine(alloc: Global, passes: u32) -> Result<Core>

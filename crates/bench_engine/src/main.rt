@@ -12,30 +12,25 @@
 
 mod bench_engine;
 mod churn;
-mod edits;
 mod graph;
-mod rmat;
 mod turns;
 
-ghost use Rattle.std.specs.Prelude.{◌≡◌, ◌<◌, IfOk};
+ghost use Rattle.std.specs.Prelude.{◌≡◌};
+ghost use Rattle.bench_engine.specs.Configured.{bench_config};
+ghost use Rattle.bench_graphs.specs.Loadable.{IsLoadableGraph};
 ghost use Rattle.teseo_core.specs.Keeping.{new_core};
-ghost use Rattle.bench_engine.specs.Loadable.{IsLoadableGraph, bench_config};
 
 use anyhow::Result;
 use bench_engine::BenchEngine;
+use bench_graphs::{Workload, count_of, made_graph, make_workload, settings_of};
 use churn::churn;
-use edits::{Edit, edits_of, settings_of, spread_edits};
-use graph::{Graph, drawn_graph, load, load_beside_reader, made_graph, new_engine};
-use rmat::drawn_ends;
+use graph::{load, load_beside_reader, new_engine};
 use std::alloc::Global;
 use std::env;
 use std::env::Env;
 use std::rt::Clock;
 use std::time::{Duration, Instant};
 use turns::{run_all, scan_all};
-
-/// The greatest number of vertices, edges or transactions.
-const MOST: u64 = 4_000_000;
 
 fn main(rt: HostRuntime) -> Result<()> {
     let alloc = rt.alloc();
@@ -74,33 +69,6 @@ fn numbers(rt: &(impl Env + Alloc<A = Global>), alloc: Global) -> Result<[u64; 7
         }
     }
     Ok(numbers)
-}
-
-/// A graph and the changes of it that are timed.
-#[derive(Drop)]
-struct Workload {
-    graph: Graph,
-    edits: Vec<Edit>,
-}
-
-/// A graph and its edits, drawn with the same chance for each pair of vertices, or by R-MAT.
-fn make_workload(alloc: Global, counts: [u64; 3], seed: u64, is_skewed: bool) -> Result<Workload>
-    ensures { IfOk result (λ workload. IsLoadableGraph workload.graph) }
-{
-    let [vertices, edges, transactions] = counts;
-    let vertices = count_of(vertices);
-    let edits = count_of(transactions);
-    if !is_skewed {
-        let graph = made_graph(alloc, seed, vertices, count_of(edges))?;
-        let edits = edits_of(alloc, &graph, vertices, edits, seed)?;
-        return Ok(Workload { graph, edits });
-    }
-    let added = u64::from(edits / 2).saturating_add(1);
-    let ends = drawn_ends(alloc, seed, vertices, edges.saturating_add(added))?;
-    let (edges, others) = ends.as_slice().split_at((edges as usize).min(ends.len()));
-    let graph = drawn_graph(alloc, vertices, edges)?;
-    let edits = spread_edits(alloc, edges, others, edits)?;
-    Ok(Workload { graph, edits })
 }
 
 /// Times the load, the transactions and the scan.
@@ -170,13 +138,6 @@ fn repeat_in<R: Clock + Print, E: BenchEngine + Drop>(
 {
     load_beside_reader(alloc, &mut engine, &workload.graph, is_read)?;
     churn(rt, &mut engine, workload.edits.as_slice(), rounds)
-}
-
-/// A count, at least 1 and at most the greatest.
-fn count_of(number: u64) -> u32
-    ensures { 0 < result }
-{
-    number.min(MOST).max(1) as u32
 }
 
 /// Prints a part's name, how many there were, and how many a second.

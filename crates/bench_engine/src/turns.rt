@@ -2,7 +2,7 @@
 
 ghost use Rattle.std.specs.Prelude.{◌≡◌, None, IsSome, OnOk};
 
-use crate::edits::{Act, Edit};
+use bench_graphs::{Act, Edit};
 use graph_model::{BeginRefusal, Cursor, Engine, Key, Refusal, Rows64};
 
 /// So many transactions stand between two turns of the service: as many as when sixty scripts take their three lines

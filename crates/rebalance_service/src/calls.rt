@@ -8,6 +8,7 @@ ghost use Rattle.graph_model.specs.Scans.{ScansBy};
 ghost use Rattle.shared_store.specs.Passes.{account_of};
 ghost use Rattle.rebalance_service.specs.Ready.{HasSeenLegal, IsReady};
 
+use crate::reads;
 use graph_model::{BeginRefusal, Begun, Cursor, Rows64};
 use shared_store::{Pass, Store};
 use std::sync::Wait;
@@ -34,7 +35,7 @@ pub(crate) fn has_vertex(rt: &impl Wait, store: &Store, pass: &mut Pass, v: u64)
     ensures answer { (start : ℕ) → (account_of store.now pass.old).start ≡ Some start
         → result ≡ has_vertex (view_of (account_of store.now pass.old) start) v }
 {
-    shared_store::has_vertex(rt, store, pass, v)
+    reads::has_vertex(rt, store, pass, v)
 }
 
 /// The weight of an arc that the open transaction sees.
@@ -49,7 +50,7 @@ pub(crate) fn weight(rt: &impl Wait, store: &Store, pass: &mut Pass, u: u64, v: 
     ensures answer { (start : ℕ) → (account_of store.now pass.old).start ≡ Some start
         → result ≡ weight_of (view_of (account_of store.now pass.old) start) u v }
 {
-    shared_store::weight(rt, store, pass, u, v)
+    reads::weight(rt, store, pass, u, v)
 }
 
 /// Takes one turn of a scan.

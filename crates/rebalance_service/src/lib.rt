@@ -7,6 +7,7 @@
 
 mod calls;
 mod engine;
+mod reads;
 mod room;
 mod serve;
 mod worker;

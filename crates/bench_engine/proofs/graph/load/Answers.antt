@@ -1,7 +1,7 @@
 use Rattle.std.proofs.Common.{refl, ap, arith, ◌∙◌}
 use Rattle.graph_model.specs.Account.{Account}
 use Rattle.graph_model.specs.OwnerCalls.{Core}
-use Rattle.bench_engine.specs.Loadable.{bench_config}
+use Rattle.bench_engine.specs.Configured.{bench_config}
 use Rattle.bench_engine.proofs.BenchLemmas.{loaded_closed, one_new, takes_graph}
 use Rattle.bench_engine.proofs.graph.load.Goals as goal
 

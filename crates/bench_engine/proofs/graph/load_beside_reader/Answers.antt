@@ -1,6 +1,6 @@
 use Rattle.std.proofs.Common.{refl, ap, arith}
 use Rattle.graph_model.specs.OwnerCalls.{Core}
-use Rattle.bench_engine.specs.Loadable.{bench_config}
+use Rattle.bench_engine.specs.Configured.{bench_config}
 use Rattle.bench_engine.proofs.BenchLemmas.{takes_graph, two_new}
 use Rattle.bench_engine.proofs.graph.load_beside_reader.Goals as goal
 

@@ -1,0 +1,4 @@
+pub mod LoadLemmas
+pub mod DecodeLemmas
+pub mod TryLemmas
+pub mod RouteLemmas

@@ -1,0 +1,67 @@
+//! What a validated read answers.
+
+ghost use Rattle.std.specs.Prelude.{◌≡◌, ℕ, List};
+ghost use Rattle.graph_model.specs.Rows.{is_between};
+ghost use Rattle.version_segment.specs.Rows.{VersionedRows};
+ghost use Rattle.cells_model.specs.Words.{Spells};
+ghost use Rattle.optimistic_read.specs.Reads.{IsLookedUp, IsValid};
+ghost use Rattle.optimistic_read.specs.Tried.{decoded};
+
+use crate::tried::Tried;
+use graph_model::{Key, Row};
+use store_words::Account;
+use version_segment::{is_marked, value_in_word};
+
+/// The first words of a block: how many rows it has, 32 at most, and its fence keys.
+#[derive(Clone, Copy)]
+pub struct Head {
+    pub count: u32,
+    pub low: Key,
+    pub high: Key,
+}
+
+impl Head {
+    /// Whether a key lies between the fence keys.
+    fn holds(&self, key: Key) -> bool
+        ensures { result ≡ is_between self.now.low self.now.high key }
+    {
+        !key.is_below(self.low) && key.is_below(self.high)
+    }
+}
+
+/// The words that were loaded for a key: the head, and the first row that isn't below the key, with its value word in
+/// place of a weight.
+#[derive(Drop)]
+pub struct LookedUp {
+    pub head: Head,
+    pub row: Option<Row>,
+}
+
+/// Decodes what was looked up, once the seat's view shows the block as validated. Nothing else in this crate says what a
+/// word means.
+pub fn decode(seat: &Account, cell: u32, looked: LookedUp, key: Key) -> Tried
+    requires valid { IsValid seat.now.me.0 cell }
+    ensures decoded { (block : List ℕ) (s : VersionedRows) → Spells block s → IsLookedUp looked key s
+        → result ≡ decoded s cell key }
+{
+    let _ = seat;
+    let LookedUp { head, row } = looked;
+    if !head.holds(key) {
+        return Tried::Moved {
+            low: head.low,
+            high: head.high,
+        };
+    }
+    let Some(row) = row else {
+        return Tried::Value { weight: None };
+    };
+    if row.key != key {
+        return Tried::Value { weight: None };
+    }
+    if is_marked(row.weight) {
+        return Tried::Chained { cell, key };
+    }
+    Tried::Value {
+        weight: value_in_word(row.weight),
+    }
+}

@@ -1,0 +1,23 @@
+//! Where a read looks, and what it answers.
+
+use graph_model::Key;
+
+/// The cell in which a key is read: the one that the index had for it, or that a hint names.
+#[derive(Clone, Copy, Debug, PartialEq, Eq)]
+pub struct Route {
+    pub cell: u32,
+}
+
+/// What one try to read without a latch has found.
+#[derive(Clone, Copy, Debug, PartialEq, Eq)]
+pub enum Tried {
+    /// The value in the transaction's view: the weight of an arc, 0 for a vertex, or none.
+    Value { weight: Option<u64> },
+    /// Somebody changes the cell, or has changed it meanwhile: the two version words that this call found, or the odd
+    /// one twice.
+    Busy { cell: u32, first: u64, second: u64 },
+    /// The key's row has undo records, which only whoever holds the cell may read.
+    Chained { cell: u32, key: Key },
+    /// The cell has other keys, between these fence keys.
+    Moved { low: Key, high: Key },
+}
