@@ -51,7 +51,7 @@ stated_threads request (words, taken) = nested request.threads
     nested : (threads : Option ℕ) → IfSome threads (λ n. (1 ≤ n) × (n ≤ MAX_THREADS)) → IfSome threads (λ _. request.is_serial ≡ false)
         → IfSome threads (λ n. (1 ≤ n) × (n ≤ MAX_THREADS) × (request.is_serial ≡ false))
     nested None p q = tt
-    nested (Some n) p q = (p.0, (p.1, q))
+    nested (Some n) p q = (p.0, p.1, q)
 
 some_number : (text : Option (List ℕ)) (number : ℕ) → HasNumber 2 1000000 text number → 0 < number
 some_number None number has = absurd has
