@@ -1,8 +1,8 @@
 -- What a run on threads asks for, and what it gives, in the words of the sources.
 use Rattle.std.proofs.Common.{◌≡◌, ℕ, suc, ◌+◌, ◌*◌, ◌≤◌, List, length, refl, sym, ◌∙◌, ap, subst, arith}
-use Rattle.std.specs.Prelude.{Bool, false, Option, None, Some, IfSome, Result, Ok, Err, IfOk, IfErr}
+use Rattle.std.specs.Prelude.{Result, Ok, Err, IfOk, IfErr}
 use Rattle.graph_model.specs.declared.journal.Commit.{Commit}
-use Rattle.graph_model.specs.declared.limits.TheConstants.{MAX_THREADS, SPLIT_ROWS}
+use Rattle.graph_model.specs.declared.limits.TheConstants.{SPLIT_ROWS}
 use Rattle.graph_model.specs.declared.load.LoadRefusal.{LoadRefusal}
 use Rattle.graph_model.specs.declared.load.LoadRefusal.TheVariants as refusals
 use Rattle.graph_model.specs.declared.write.Kind.{Kind}
@@ -15,18 +15,13 @@ use Rattle.graphalytics_io.specs.declared.edges.Edge.{Edge}
 use Rattle.graphalytics_io.specs.Load.{load_of}
 use Rattle.run_model.specs.declared.command.Command.{Command}
 use Rattle.run_model.specs.Answering.{edges_in}
-use Rattle.run_model.specs.Inputs.{Inputs, Outputs, AreInputs}
-use Rattle.run_model.specs.Run.{IsRun}
+use Rattle.run_model.specs.Inputs.{Inputs, AreInputs}
 use Rattle.txn_manager.specs.declared.config.Config.{Config}
 use Rattle.txn_manager.specs.declared.config.Totals.{Totals}
-use Rattle.teseo_core.specs.Keeping.{LeftStore}
-use Rattle.shared_runs.specs.Closing.{LeavesRun}
-use Rattle.shared_store.specs.declared.ends.Closed.{Closed}
 use Rattle.shared_store.specs.Totals.{AreTotals, edges_of}
 use Rattle.threaded_run.specs.declared.run.ThreadedRun.{ThreadedRun}
 use Rattle.threaded_run.specs.Running.{CanRun, IsStopped, inputs_on}
-use Rattle.source_run.specs.declared.ran.Ran.TheVariants.{Stepped, Shared}
-use Rattle.source_run.specs.Running.{HasCounts, IsConfig, IsLeftAs, IsLeftOf, IsRefusedLoad, IsRunAs}
+use Rattle.source_run.specs.Running.{HasCounts, IsConfig, IsRefusedLoad}
 use Rattle.source_run.proofs.RunLemmas.{load_adds}
 
 module _ (kind : Kind) (leaves : ℕ) (ids : List ℕ) (edges : List Edge) (scripts : List (List Command)) (config : Config) (load : List Write) (made : load ≡ load_of ids edges)
@@ -52,7 +47,7 @@ module _ (kind : Kind) (leaves : ℕ) (ids : List ℕ) (edges : List Edge) (scri
 
   pub refused : (refusal : LoadRefusal) → IsStopped config load refusal → IsRefusedLoad kind leaves ids edges refusal
   refused (refusals.Full full) stopped =
-      subst (λ (u : ℕ × Kind × List Write). SPLIT_ROWS * u.0 ≤ inserted u.1 u.2) (λ i. (is.leaves_are i, (is.kind_is i, made i))) stopped.1
+      subst (λ (u : ℕ × Kind × List Write). SPLIT_ROWS * u.0 ≤ inserted u.1 u.2) (λ i. (is.leaves_are i, is.kind_is i, made i)) stopped.1
   refused refusals.NoMemory stopped = tt
 
 same_edges : (kind : Kind) (g : Graph) → edges_of kind g ≡ edges_in kind g
@@ -80,24 +75,3 @@ module _ (kind : Kind) (leaves : ℕ) (ids : List ℕ) (edges : List Edge) (scri
       → IfOk result (λ r. HasCounts kind r.closed.journal r.closed.totals)
   all_counted (Ok r) are = counts_on config.kind kind r.closed.journal r.closed.totals is.kind_is are
   all_counted (Err refusal) are = tt
-
--- ---- by turns or on threads
-
-pub left_by_turns : (threads : Option ℕ) (is_serial : Bool) (inputs : Inputs) (leaves : ℕ) (schedule : List ℕ) (run : Outputs) (ran : LeftStore) → threads ≡ None
-    → IsLeftAs is_serial inputs leaves schedule run ran → IsLeftOf threads is_serial inputs leaves schedule run (Stepped ran)
-left_by_turns threads is_serial inputs leaves schedule run ran none left = subst (λ t. IsLeftOf t is_serial inputs leaves schedule run (Stepped ran)) (sym none) left
-
-pub left_by_threads : (threads : Option ℕ) (workers : ℕ) (is_serial : Bool) (inputs : Inputs) (leaves : ℕ) (schedule : List ℕ) (run : Outputs) (ran : Closed) → threads ≡ Some workers
-    → ran.journal ≡ run.journal → LeavesRun inputs leaves run → IsLeftOf threads is_serial inputs leaves schedule run (Shared ran)
-left_by_threads threads workers is_serial inputs leaves schedule run ran some journal left =
-    subst (λ t. IsLeftOf t is_serial inputs leaves schedule run (Shared ran)) (sym some) (journal, left)
-
--- what is asked where scripts run on threads
-abbrev pub IsAskedOf : Bool → ℕ → Type 0
-IsAskedOf is_serial n = (1 ≤ n) × (n ≤ MAX_THREADS) × (is_serial ≡ false)
-
-pub asked_of : (threads : Option ℕ) (workers : ℕ) (is_serial : Bool) → threads ≡ Some workers → IfSome threads (IsAskedOf is_serial) → IsAskedOf is_serial workers
-asked_of threads workers is_serial some asked = subst (λ t. IfSome t (IsAskedOf is_serial)) some asked
-
-pub run_on_threads_as : (is_serial : Bool) (inputs : Inputs) (leaves : ℕ) (run : Outputs) → is_serial ≡ false → IsRun inputs leaves run → IsRunAs is_serial inputs leaves run
-run_on_threads_as is_serial inputs leaves run no is = subst (λ b. IsRunAs b inputs leaves run) (sym no) is

@@ -50,7 +50,7 @@ pub returns-clause-counts : goal.returns-clause-counts
 returns-clause-counts g c =
     let ends = ended (inputs_of c.args.kind (meaning_of c.args.input)) c.args.leaves c.config_of-config.result (subst (λ scripts. IsConfig c.args.kind c.args.leaves scripts c.config_of-config.result) c.as_slice.ensures c.config_of-config.ensures.config) c.requires.inputs
     c.args.is_serial c.in_ok-engine.engine.core c.load_graph.new.engine.core c.run_jobs.new.engine.core c.in_ok-jobs.jobs c.run_jobs.new.jobs c.as_slice-schedule.result.now c.in_ok-engine.ensures c.in_ok-load_graph.ensures.loaded c.in_ok-jobs.ensures c.in_ok-run_jobs.ensures.ends in
-    counts_of c.args.kind c.settle.new.self.core _ (ap (λ s. s.kind) c.settle.ensures.core ∙ kind_as c.args.is_serial (inputs_of c.args.kind (meaning_of c.args.input)) c.as_slice-schedule.result.now c.load_graph.new.engine.core c.run_jobs.new.engine.core c.run_jobs.new.jobs ends) c.into_journal.ensures.core c.totals-totals.ensures.vertices c.totals-totals.ensures.edges
+    counts_of c.args.kind c.settle.new.self.core (record { ran = c.into_journal.result; jobs = c.run_jobs.new.jobs; totals = c.totals-totals.result }) (ap (λ s. s.kind) c.settle.ensures.core ∙ kind_as c.args.is_serial (inputs_of c.args.kind (meaning_of c.args.input)) c.as_slice-schedule.result.now c.load_graph.new.engine.core c.run_jobs.new.engine.core c.run_jobs.new.jobs ends) c.into_journal.ensures.core c.totals-totals.ensures.vertices c.totals-totals.ensures.edges
     (c.totals-totals.ensures.undo ∙ ap (λ n. min n (2 ^ 64 - 1)) c.settle.ensures.settled.records, c.totals-totals.ensures.retired ∙ ap length c.settle.ensures.settled.retired)
 
 pub load_graph-requires-clause-new : goal.load_graph-requires-clause-new

@@ -7,7 +7,7 @@ use Rattle.source_run.proofs.ThreadLemmas.{can_run, of_sources, all_refused, all
 use Rattle.source_run.proofs.threads.run_by_threads.Goals as goal
 
 pub run_on_threads-requires-clause-can : goal.run_on_threads-requires-clause-can
-run_on_threads-requires-clause-can g c =
+run_on_threads-requires-clause-can g c κs within =
     can_run c.args.kind c.args.leaves c.args.input.ids c.args.input.edges c.args.input.scripts c.config_of-config.result c.in_ok-load.load c.in_ok-load.ensures
     (subst (λ scripts. IsConfig c.args.kind c.args.leaves scripts c.config_of-config.result) c.as_slice.ensures c.config_of-config.ensures.config) c.requires.inputs
 
