@@ -1,4 +1,4 @@
-use Rattle.std.proofs.Common.{refl, sym, ap, ◌∙◌, subst, length, false, []}
+use Rattle.std.proofs.Common.{rules, sym, ap, ◌∙◌, subst, length, false, []}
 use Rattle.command_words.specs.Views.{run_request}
 use Rattle.source_run.specs.Parsing.{meaning_of}
 use Rattle.source_run.specs.Requests.{kind_of}
@@ -44,7 +44,7 @@ returns-clause-made g c =
     kept_made (run_request c.args.words.now) (meaning_of c.args.input) c.kind_of-kind.result c.leaves_of-leaves.result c.kind_of-kind.ensures c.leaves_of-leaves.ensures.leaves
     (acknowledged_on g.K.Disk.moment g.K.Disk.may_leave g.K.Disk.left_since c.run_scripts_kept.new.disk) _ c.in_ok-run.run' _ c.requires.by_turns c.requires.plain
     c.in_ok-run.ensures.run c.in_ok-run.ensures.left c.in_ok-run.ensures.counts (c.len-commits.ensures ∙ ap length c.journal.ensures)
-    c.in_ok-outputs.ensures c.in_ok-summary.ensures (sym c.is_full-is_full.ensures) refl kept.acknowledged
+    c.in_ok-outputs.ensures c.in_ok-summary.ensures (sym c.is_full-is_full.ensures) (search rules) kept.acknowledged
 
 pub returns-clause-apart : goal.returns-clause-apart
 returns-clause-apart g c =

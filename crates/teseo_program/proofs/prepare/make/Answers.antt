@@ -1,4 +1,4 @@
-use Rattle.std.proofs.Common.{refl, sym, ap, ◌∙◌, length}
+use Rattle.std.proofs.Common.{rules, sym, ap, ◌∙◌, length}
 use Rattle.command_words.specs.Views.{run_request}
 use Rattle.source_run.specs.Parsing.{meaning_of}
 use Rattle.teseo_program.specs.Prepared.{IsLoadStop}
@@ -29,7 +29,7 @@ pub returns-clause-made : goal.returns-clause-made
 returns-clause-made g c =
     made_from (run_request c.args.words.now) (meaning_of c.args.input) _ c.in_ok-run.run' c.kind_of-kind.result c.leaves_of-leaves.result _ c.kind_of-kind.ensures c.leaves_of-leaves.ensures.leaves c.in_ok-run.ensures.run c.in_ok-run.ensures.left
     c.in_ok-run.ensures.counts (c.len-commits.ensures ∙ ap length c.journal.ensures)
-    c.in_ok-outputs.ensures c.in_ok-summary.ensures (sym c.is_full-is_full.ensures) refl
+    c.in_ok-outputs.ensures c.in_ok-summary.ensures (sym c.is_full-is_full.ensures) (search rules)
 
 pub returns-clause-apart : goal.returns-clause-apart
 returns-clause-apart g c =
