@@ -1,0 +1,55 @@
+//! A cell that another pass holds.
+
+ghost use Rattle.std.specs.Prelude.{◌≡◌, ◌<◌};
+ghost use Rattle.rule_model.specs.Sight.{cells_of};
+ghost use Rattle.shared_store.specs.Passes.{IsIdle, IsOpen};
+
+use crate::txns::{route_of, tried_in};
+use cases_shared::Case;
+use graph_model::Key;
+use optimistic_read::{Route, Tried};
+use shared_store::{Pass, Store, abort, begin};
+use std::sync::Wait;
+
+/// The first pass looks for vertex 5 in its cell while the second one holds the cell, and once it has given it back.
+#[derive(Clone, Copy, Debug, PartialEq, Eq)]
+pub struct ReadHeldCell {
+    pub held: Option<Tried>,
+    pub free: Option<Tried>,
+}
+
+impl<R: Wait> Case<R> for ReadHeldCell {
+    fn run(&mut self, rt: &R, store: &Store, one: &mut Pass, two: &mut Pass) {
+        match begin(rt, store, one) {
+            Ok(_) => {}
+            Err(_) => return,
+        }
+        let route = route_of(rt, store, one, 5);
+        self.held = Some(try_beside_holder(rt, store, one, two, &route));
+        self.free = Some(tried_in(store, one, &route, 5));
+        abort(rt, store, one);
+    }
+}
+
+/// Tries while the second pass holds the cell.
+fn try_beside_holder(
+    rt: &impl Wait,
+    store: &Store,
+    one: &mut Pass,
+    two: &mut Pass,
+    route: &Route,
+) -> Tried
+    requires one { IsOpen store.now one.old }
+    requires two { IsIdle store.now two.old }
+    requires cell { route.now.cell < cells_of store.now.accounts.config }
+    ensures one { IsOpen store.now one.new }
+    ensures two { IsIdle store.now two.new }
+    ensures first_number { one.new.seats.number ≡ one.old.seats.number }
+    ensures second_number { two.new.seats.number ≡ two.old.seats.number }
+{
+    let key = Key::of_vertex(5);
+    two.cells.take(rt, store, &mut two.seats, &[key]);
+    let tried = tried_in(store, one, route, 5);
+    two.cells.put_back(store, &mut two.seats);
+    tried
+}

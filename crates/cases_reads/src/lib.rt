@@ -1,0 +1,12 @@
+//! Worked cases of reads without a latch.
+#![tactic(auto)]
+
+mod busy;
+mod rows;
+#[cfg(test)]
+mod tests;
+mod txns;
+
+pub use busy::ReadHeldCell;
+pub use rows::{ReadOwnWrite, ReadSettled};
+pub use txns::{route_of, tried_in};
