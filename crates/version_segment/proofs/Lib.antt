@@ -6,3 +6,4 @@ pub mod WordLemmas
 pub mod RestLemmas
 pub use Rattle.head_map.proofs.KeyedLemmas
 pub use Rattle.row_table.proofs.WalkLemmas
+pub mod ReweighLemmas

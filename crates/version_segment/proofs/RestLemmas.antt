@@ -1,8 +1,7 @@
 -- The parts of a segment that is laid to rest and woken again.
-use Rattle.std.proofs.Common.{◌≡◌, ◌⊎◌, inl, inr, ℕ, zero, suc, ◌+◌, ◌-◌, ◌<◌, ◌≤◌, List, [], ◌∷◌, ◌++◌, map, length, take, refl, sym, ◌∙◌, ap, subst, cond, arith, Option, Some, None, min, get_or}
+use Rattle.std.proofs.Common.{◌≡◌, ◌⊎◌, inl, inr, ℕ, zero, suc, ◌-◌, ◌<◌, ◌≤◌, List, [], ◌∷◌, map, length, refl, sym, ◌∙◌, ap, subst, cond, arith, Option, Some, None, min, get_or}
 use Rattle.std.specs.Prelude.{Bool, true, false, ◌==◌, ◌||◌, not, is_some, nat_le, slice_get, IfSome, IsSomeAnd}
 use Rattle.std.specs.List.{AllByRecursion}
-use Rattle.std.proofs.lemmas.Bool.Decides.{nat_tests}
 use Rattle.std.specs.Ordering.{eq_by_cmp}
 use mathlib.Core.Logic.{dite}
 use native.Mathlib.Decide.{dec_lt}
@@ -21,7 +20,7 @@ use Rattle.row_table.specs.Lists.{AreHeads, AreOthers, HasRest}
 use Rattle.row_table.specs.Parts.{of_lists, value_in, versions_in, versioned, view_of, AreParts}
 use Rattle.row_table.specs.Rows.{is_empty}
 use Rattle.version_segment.specs.Resting.{newest_value, with_newest, mark, no_value, word_of, value_in_word, RestingRow, RestingRows, resting_row, resting_of, word_row, word_rows, HasSmallWeights, woken_rows, woken, AgreeWith, AreErased, weight_in_word, settled_rest}
-use Rattle.version_segment.specs.RestingParts.{resting_at, resting_places, resting_view, AreRestingParts, head_word, words_from, placed_words, plain_rows, reweighed, AreSmallAt}
+use Rattle.version_segment.specs.RestingParts.{resting_at, resting_places, resting_view, AreRestingParts, words_from, placed_words, plain_rows, reweighed, AreSmallAt}
 use Rattle.head_map.proofs.KeyedLemmas.{tied_self, below_untied, above_untied}
 use Rattle.row_table.proofs.TableLemmas.{table_there, table_cases}
 use Rattle.row_table.proofs.PartLemmas.{list_there}
@@ -267,11 +266,6 @@ pub words_length : (f : ℕ → Heads) (rows : List Row) → length (words_from 
 words_length f [] = refl
 words_length f (r ∷ rs) = ap suc (words_length (λ p. f (suc p)) rs)
 
--- once all rows have their words these are those of their heads
-pub words_all : (f : ℕ → Heads) (rows : List Row) → reweighed (λ p weight. head_word (f p) weight) (length rows) rows ≡ words_from f rows
-words_all f [] = refl
-words_all f (r ∷ rs) = ap (λ l. record { key = r.key; weight = head_word (f 0) r.weight } ∷ l) (words_all (λ p. f (suc p)) rs)
-
 -- once all rows have the weights that their words tell these are plain
 pub plain_all : (rows : List Row) → reweighed (λ p word. weight_in_word word) (length rows) rows ≡ plain_rows rows
 plain_all [] = refl
@@ -279,19 +273,10 @@ plain_all (r ∷ rs) = ap (λ l. record { key = r.key; weight = weight_in_word r
 
 -- ---- settled rows
 
--- nothing is named
-pub no_rows : (entries : List PlacedRow) → (length entries == 0) ≡ true → length entries ≡ 0
-no_rows entries none = grind (arith, nat_tests)
-
 -- no row is changed
 pub no_heads : (entries : List PlacedRow) → length entries ≡ 0 → (p : ℕ) → heads_placed entries p ≡ settled_heads
 no_heads [] none p = refl
 no_heads (x ∷ xs) none p = absurd (omega (arith, none))
-
--- the words of settled rows are their weights
-pub settled_words : (f : ℕ → Heads) (rows : List Row) → ((p : ℕ) → f p ≡ settled_heads) → words_from f rows ≡ rows
-settled_words f [] same = refl
-settled_words f (r ∷ rs) same = λ i. record { key = r.key; weight = head_word (same 0 i) r.weight } ∷ settled_words (λ p. f (suc p)) rs (λ p. same (suc p)) i
 
 module _ (c : ChainMap) where
   -- words that agree with settled rows are weights

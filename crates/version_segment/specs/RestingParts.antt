@@ -57,6 +57,13 @@ reweighed weigh (suc count) [] = []
 reweighed weigh (suc count) (row ∷ rows) =
     record { key = row.key; weight = weigh 0 row.weight } ∷ reweighed (λ p. weigh (suc p)) count rows
 
+-- the rows, of which those from a place on have another weight, by their place and the weight that they had
+abbrev pub reweighed_from : (ℕ → ℕ → ℕ) → ℕ → List Row → List Row
+reweighed_from weigh count [] = []
+reweighed_from weigh zero (row ∷ rows) =
+    record { key = row.key; weight = weigh 0 row.weight } ∷ reweighed_from (λ p. weigh (suc p)) zero rows
+reweighed_from weigh (suc count) (row ∷ rows) = row ∷ reweighed_from (λ p. weigh (suc p)) count rows
+
 -- each value is within its limit
 abbrev pub AreSmallAt : (ℕ → Heads) → List Row → Type 0
 AreSmallAt f [] = Unit {0}

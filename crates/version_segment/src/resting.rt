@@ -128,20 +128,18 @@ impl VersionSegment {
     }
 }
 
-/// Gives each row the word of its value. Settled rows have it: it is their weight.
+/// Gives each row the word of its value. Settled rows have it: it is their weight. So changed rows alone are looked at.
 fn put_words(heads: &HeadMap, room: &mut Segment)
     requires small { AreSmallAt (heads_placed heads.now.entries) room.old.rows }
     ensures { room.new ≡ record room.old { rows = placed_words heads.now.entries room.old.rows } }
 {
-    if heads.is_empty() {
-        return;
-    }
-    let count = room.len();
-    'words: for place in 0..count {
+    let mut end = room.len();
+    'words: while let Some(place) = heads.last_before(end) {
         let all = room.rows();
         let row = all[place];
         let word = value_word(heads.get(place), row.weight);
         room.set_at(place, word);
+        end = place;
     }
 }
 

@@ -1,8 +1,8 @@
-use Rattle.std.proofs.Common.{◌≡◌, ◌∙◌, ◌<◌, ℕ, suc, ◌+◌, ap, sym, subst, arith, length, slice_index_or}
+use Rattle.std.proofs.Common.{◌≡◌, ◌∙◌, ◌<◌, ℕ, suc, ◌+◌, ap, sym, arith, length, slice_index_or}
 use Rattle.std.specs.Prelude.{slice_get, Some}
 use Rattle.gap_segment.specs.Fenced.{FencedRows, with_weight}
 use Rattle.version_segment.specs.Resting.{weight_in_word}
-use Rattle.version_segment.specs.RestingParts.{plain_rows, reweighed}
+use Rattle.version_segment.specs.RestingParts.{reweighed}
 use Rattle.version_segment.proofs.RestLemmas.{at_index, reweighed_get, reweighed_length, reweighed_next, plain_all}
 use Rattle.version_segment.proofs.resting.put_weights.Goals as goal
 

@@ -1,5 +1,4 @@
 use Rattle.std.proofs.Common.{◌≡◌}
-use Rattle.gap_segment.specs.Fenced.{FencedRows}
 use Rattle.version_segment.specs.Resting.{weight_in_word}
 use Rattle.version_segment.specs.RestingParts.{reweighed}
 use Rattle.version_segment.proofs.resting.put_weights.Given as goal

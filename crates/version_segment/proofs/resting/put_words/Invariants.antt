@@ -1,8 +1,13 @@
-use Rattle.std.proofs.Common.{◌≡◌}
-use Rattle.gap_segment.specs.Fenced.{FencedRows}
+use Rattle.std.proofs.Common.{◌≡◌, ◌≤◌, length}
 use Rattle.head_map.specs.Heads.{heads_placed}
-use Rattle.version_segment.specs.RestingParts.{head_word, reweighed}
+use Rattle.version_segment.specs.RestingParts.{head_word, reweighed_from}
 use Rattle.version_segment.proofs.resting.put_words.Given as goal
 
+-- rows from the place on have their words
 abbrev pub invariant-words : goal.invariant-words
-invariant-words l = l.room ≡ record l.initial.room { rows = reweighed (λ p weight. head_word (heads_placed l.heads.entries p) weight) l.place l.initial.room.rows }
+invariant-words l = (l.end ≤ length l.initial.room.rows) × (l.room ≡ record l.initial.room {
+  rows = reweighed_from (λ p weight. head_word (heads_placed l.heads.entries p) weight) l.end l.initial.room.rows;
+})
+
+abbrev pub decreases-words : goal.decreases-words
+decreases-words l = l.end

@@ -1,4 +1,4 @@
-use Rattle.std.proofs.Common.{◌≡◌, ◌∙◌, ap, subst, sym, length, arith}
+use Rattle.std.proofs.Common.{◌∙◌, ap, length, arith}
 use Rattle.head_map.specs.Heads.{heads_placed}
 use Rattle.version_segment.specs.Resting.{settled_rest}
 use Rattle.version_segment.proofs.RestLemmas.{no_heads, settled_left, settled_parts}

@@ -3,7 +3,6 @@ use Rattle.gap_segment.specs.Fenced.{FencedRows}
 use Rattle.head_map.specs.Heads.{HeadTable, heads_placed, keyed, keyed_table}
 use Rattle.row_table.specs.Parts.{AreParts, view_of}
 use Rattle.version_segment.specs.Resting.{RestingRows, resting_of, word_rows, HasSmallWeights}
-use Rattle.version_segment.specs.RestingParts.{resting_view}
 use Rattle.version_segment.proofs.RestLemmas.{kept_parts, kept_rows, rest_parts, rest_view, rest_words, rest_small, words_length}
 use Rattle.version_segment.proofs.segment.VersionSegment.rest.Goals as goal
 
