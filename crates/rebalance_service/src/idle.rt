@@ -1,7 +1,7 @@
 //! Leaves of which the words of their cells tell that no turn of merging has anything to do with them.
 //!
-//! The words are loaded with no latch, while others change cells. So they tell nothing for sure, and no clause speaks of
-//! what is found. A leaf that is passed over by mistake has its turn in the next round. The cost of a look is twelve
+//! The words are loaded with no latch, while others change cells. So they tell nothing for sure, and no clause speaks
+//! of what is found. A leaf that is passed over by mistake has its turn in the next round. The cost of a look is twelve
 //! loads, where taking the leaf costs nine latches and the rows of eight cells.
 
 ghost use Rattle.std.specs.Prelude.{◌<◌};
@@ -22,8 +22,8 @@ const LOW: u32 = 2;
 
 const HIGH: u32 = 4;
 
-/// Where the leaf of a key ends, if it is likely that its cells have enough rows each, and too many in all to be merged.
-/// None at the last leaf, with which a round ends.
+/// Where the leaf of a key ends, if it is likely that its cells have enough rows each, and too many in all to be
+/// merged. None at the last leaf, with which a round ends.
 pub(crate) fn beyond_full_leaf(store: &Store, hints: &CellHints, key: Key) -> Option<Key> {
     let first = hints.leaf_of(key).saturating_mul(LEAF_SEGMENTS as u32);
     let last = first.saturating_add(LEAF_SEGMENTS as u32 - 1);
