@@ -2,11 +2,13 @@
 //!
 //! 1. Between two calls its pass has no transaction, or an open one, and holds no latch.
 //! 2. A write that finds no place is tried again as soon as there is room, as one write to whoever asked for it.
-//! 3. Turns of the service change no view.
+//! 3. Turns of the service change no view. A turn of merging takes a leaf only where words that are loaded with no
+//!    latch don't tell that it is full.
 #![tactic(auto)]
 
 mod calls;
 mod engine;
+mod idle;
 mod reads;
 mod room;
 mod serve;

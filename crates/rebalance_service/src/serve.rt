@@ -6,6 +6,7 @@ ghost use Rattle.shared_store.specs.Passes.{account_of};
 ghost use Rattle.rebalance_service.specs.Ready.{HasSeenLegal, IsReady};
 ghost use Rattle.rebalance_service.specs.Turns.{next_turn};
 
+use crate::idle::beyond_full_leaf;
 use crate::room::has_room;
 use graph_model::NoMemory;
 use pass_merges::{MergeKey, MergeTurn, merge_step};
@@ -79,7 +80,7 @@ fn sweep(rt: &impl Wait, store: &Store, pass: &mut Pass, key: &mut SweepKey) -> 
 }
 
 /// Spreads a window of the next leaf, or makes one leaf of it and the one behind it, if there is anything to do with
-/// it. Answers whether a cell has changed.
+/// it. Answers whether a cell has changed. A leaf that is likely to be full is passed over without a latch.
 fn merge(
     rt: &impl Wait,
     store: &Store,
@@ -92,6 +93,10 @@ fn merge(
     ensures legal { HasSeenLegal (account_of store.now pass.new) }
     ensures reads { ReadsBy (account_of store.now pass.old) (account_of store.now pass.new) }
 {
+    if let Some(next) = beyond_full_leaf(store, &pass.cells.hints, key.next) {
+        key.next = next;
+        return Ok(false);
+    }
     let alloc = pass.alloc;
     match has_room(room, alloc) {
         Ok(()) => {}

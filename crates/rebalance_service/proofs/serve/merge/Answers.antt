@@ -5,6 +5,10 @@ use Rattle.rebalance_service.proofs.RoomLemmas.{goes_on}
 use Rattle.shared_store.specs.Passes.{account_of}
 use Rattle.rebalance_service.proofs.serve.merge.Goals as goal
 
+pub returns-in-Some-clause-legal : goal.returns-in-Some-clause-legal
+returns-in-Some-clause-legal g c =
+    legal_ready c.args.store.now c.args.pass.now (is_ready c.args.store.now c.args.pass.now c.requires.ready)
+
 pub returns-in-Err-clause-legal : goal.returns-in-Err-clause-legal
 returns-in-Err-clause-legal g c =
     legal_ready c.args.store.now c.args.pass.now (is_ready c.args.store.now c.args.pass.now c.requires.ready)

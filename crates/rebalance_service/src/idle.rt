@@ -1,0 +1,67 @@
+//! Leaves of which the words of their cells tell that no turn of merging has anything to do with them.
+//!
+//! The words are loaded with no latch, while others change cells. So they tell nothing for sure, and no clause speaks
+//! of what is found. A leaf that is passed over by mistake has its turn in the next round. The cost of a look is twelve
+//! loads, where taking the leaf costs nine latches and the rows of eight cells.
+
+ghost use Rattle.std.specs.Prelude.{◌<◌};
+ghost use Rattle.cells_model.specs.Words.{block_words};
+
+use density_tree::LOWER_LIMITS;
+use graph_model::{Key, LEAF_SEGMENTS};
+use leaf_store::MERGE_ROWS;
+use pass_cells::CellHints;
+use std::ops::Range;
+use store_rule::Store;
+
+/// The word of a block that has the number of its rows.
+const COUNT: u32 = 1;
+
+/// The first word of a block's low fence key, and of its high one.
+const LOW: u32 = 2;
+
+const HIGH: u32 = 4;
+
+/// Where the leaf of a key ends, if it is likely that its cells have enough rows each, and too many in all to be
+/// merged. None at the last leaf, with which a round ends.
+pub(crate) fn beyond_full_leaf(store: &Store, hints: &CellHints, key: Key) -> Option<Key> {
+    let first = hints.leaf_of(key).saturating_mul(LEAF_SEGMENTS as u32);
+    let last = first.saturating_add(LEAF_SEGMENTS as u32 - 1);
+    let low = key_in(store, first, LOW);
+    let high = key_in(store, last, HIGH);
+    let holds = !key.is_below(low) && key.is_below(high) && high.is_below(Key::END);
+    (holds && are_full(store, first..last.saturating_add(1))).then_some(high)
+}
+
+/// Whether these cells of a leaf have enough rows each, and too many in all for a merge.
+fn are_full(store: &Store, cells: Range<u32>) -> bool {
+    let mut rows: u64 = 0;
+    'cells: for cell in cells {
+        let count = word_in(store, cell, COUNT);
+        if count < u64::from(LOWER_LIMITS[0]) {
+            return false;
+        }
+        rows = rows.saturating_add(count);
+    }
+    rows > MERGE_ROWS as u64
+}
+
+/// The fence key that begins at a word of a cell's block.
+fn key_in(store: &Store, cell: u32, word: u32) -> Key
+    requires { word < 8 }
+{
+    Key {
+        src: word_in(store, cell, word),
+        second: word_in(store, cell, word + 1),
+    }
+}
+
+/// A word of a cell's block, or 0 if there is no such cell.
+fn word_in(store: &Store, cell: u32, word: u32) -> u64
+    requires { word < block_words }
+{
+    if cell >= store.index_place() {
+        return 0;
+    }
+    store.accounts.peek_word(cell, word)
+}
