@@ -16,6 +16,7 @@ pub enum Left {
 }
 
 impl From<Ran> for Left {
+    ghost use Rattle.std.specs.Prelude.{◌≡◌};
     ghost use Rattle.teseo_program.specs.Outcomes.{left_of};
 
     ghost from_gives = { λ ran left. left ≡ left_of ran };
