@@ -1,7 +1,7 @@
 //! Rows with undo records, without them, and in other cells.
 
-ghost use Rattle.std.specs.Prelude.{◌≡◌, ◌≤◌, ◌<◌};
-ghost use Rattle.shared_store.specs.Passes.{IsIdle, IsOpen};
+ghost use Rattle.std.specs.Prelude.{◌≡◌};
+ghost use Rattle.shared_store.specs.Passes.{IsIdle};
 
 use crate::txns::{route_of, tried_in};
 use cases_shared::{Case, makes};

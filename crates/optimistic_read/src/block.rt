@@ -8,7 +8,7 @@ ghost use Rattle.cells_model.specs.Words.{block_words};
 ghost use Rattle.rule_model.specs.Sight.{cells_of};
 ghost use Rattle.store_words.specs.Reads.{IsReadOf};
 ghost use Rattle.store_words.specs.Steps.{Knows};
-ghost use Rattle.optimistic_read.specs.Reads.{AnyContents, IsHead, IsLookedUp, IsReadingOn, IsSearched, StillReads, begun_read, key_read, row_read};
+ghost use Rattle.optimistic_read.specs.Reads.{IsHead, IsLookedUp, IsReadingOn, IsSearched, StillReads, begun_read, key_read, row_read};
 
 use crate::decode::{Head, LookedUp};
 use graph_model::{Key, Row};

@@ -1,7 +1,6 @@
 //! Where the index has a key.
 
-ghost use Rattle.std.specs.Prelude.{◌≡◌, ℕ, ◌*◌, ◌/◌, ◌<◌, true, false, None};
-ghost use Rattle.cells_model.specs.Indexed.{is_live};
+ghost use Rattle.std.specs.Prelude.{◌≡◌, ◌/◌, ◌<◌};
 ghost use Rattle.rule_model.specs.Sight.{HasIndex, IndexState, cells_of, with_pin};
 ghost use Rattle.store_rule.specs.Passes.{OnlyAccount};
 ghost use Rattle.pass_steps.specs.Passes.{IsOpenPass, IsSamePass, pin_of, state_of};
