@@ -8,7 +8,7 @@ PROGRAM = crates/teseo/out/teseo
 FOLD = examples/handoff/fold
 ARCHIVE = teseo-$(shell git rev-parse --short HEAD).tar.gz
 
-.PHONY: help demo quick build install uninstall package test wrong bench dist clean
+.PHONY: help demo quick build install uninstall package test wrong stress bench dist clean
 
 help:
 	@echo 'make demo       runs an example, checked and not proved, in a minute: EXAMPLE=first'
@@ -19,6 +19,7 @@ help:
 	@echo 'make uninstall  removes them from there'
 	@echo 'make test       the gate: proves every crate from nothing, and runs all tests (an hour)'
 	@echo 'make wrong      tries the wrong bodies that the gate leaves out (half an hour)'
+	@echo 'make stress     builds, and reads damaged journal files back, and those of killed runs (a minute)'
 	@echo 'make bench      builds, and prints a table of times and of memory (some minutes)'
 	@echo 'make package    builds, and packs the program with all that make install installs into a .tar.gz'
 	@echo 'make dist       packs the last commit into teseo-COMMIT.tar.gz'
@@ -55,6 +56,10 @@ test:
 
 wrong:
 	.ci/wrong
+
+stress: build
+	python3 stress/recover.py
+	python3 stress/kills.py
 
 bench:
 	bench/run.sh
