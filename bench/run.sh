@@ -2,10 +2,11 @@
 # Builds the program, runs the whole command on graphs of three sizes and two kinds, and prints a table. Then come a table
 # of what it takes to read and load a graph with weights, one of many scripts of short transactions, one of such scripts
 # with --serial and without, one of the image and the kernels by themselves, one of the parts of the store over leaves, one
-# of latches and pins, one of transactions by calls of the engine, one of transactions of threads on one store, and one of
-# scripts with --threads. All inputs are made from a seed in a temporary folder, which is removed at the end. RUNS=N and
-# SEED=N change how often each is run (3), and which inputs they are (1). ONLY=runs, ONLY=serial, ONLY=kernels,
-# ONLY=segments, ONLY=latches, ONLY=engine, ONLY=churn, ONLY=shared and ONLY=threads print one part alone.
+# of latches and pins, one of transactions by calls of the engine, one of transactions of threads on one store, one of
+# scripts with --threads, and one of commits that are kept. All inputs are made from a seed in a temporary folder, which is
+# removed at the end. RUNS=N and SEED=N change how often each is run (3), and which inputs they are (1). ONLY=runs,
+# ONLY=serial, ONLY=kernels, ONLY=segments, ONLY=latches, ONLY=engine, ONLY=churn, ONLY=shared, ONLY=threads and ONLY=keep
+# print one part alone.
 set -euo pipefail
 
 top=$(cd "$(dirname "$0")/.." && pwd)
@@ -292,8 +293,8 @@ print_shared() {
     echo
 }
 
-# Runs the command on the graph with these words once, and adds its seconds to a file.
-run_threaded() {
+# Runs the command on the graph once, with these words, and adds its seconds to a file.
+run_once() {
     local file=$1
     shift
     python3 "$top/bench/measure.py" --runs 1 --remove journal -- "$program" run --vertices graph.v \
@@ -317,10 +318,10 @@ print_threads() {
         for way in turns 1 2 4; do
             local words=()
             [ "$way" = turns ] || words=(--threads "$way")
-            run_threaded "load.$way" "${words[@]}" none
-            run_threaded "alone.$way" "${words[@]}" short.1 short.2 short.3 short.4
+            run_once "load.$way" "${words[@]}" none
+            run_once "alone.$way" "${words[@]}" short.1 short.2 short.3 short.4
             [ "$way" = turns ] || words=(--threads $((way + 1)))
-            run_threaded "beside.$way" "${words[@]}" searches short.1 short.2 short.3 short.4
+            run_once "beside.$way" "${words[@]}" searches short.1 short.2 short.3 short.4
         done
     done
     echo '| Threads | Load, s | Alone, s | a second | Beside, s |'
@@ -341,6 +342,34 @@ print_threads() {
     echo
 }
 
+# Prints the table of 20,000 vertices that are added in transactions of one, ten and a hundred, with `--keep` and without,
+# by turns. The journal file is in the temporary folder (TMPDIR), so the figures are those of its disk.
+print_keep() {
+    local vertices=1000 added=20000 size without with
+    make_inputs random "$vertices" $((vertices * 3))
+    echo '| Vertices a transaction | Transactions | Without, s | With --keep, s | Commits a second |'
+    echo '|-----------------------:|-------------:|-----------:|---------------:|-----------------:|'
+    for size in 1 10 100; do
+        awk -v first=$((vertices + 1)) -v added="$added" -v size="$size" 'BEGIN {
+            for (n = 0; n < added; n++) {
+                if (n % size == 0) print "begin"
+                print "vertex", first + n
+                if (n % size == size - 1) print "commit"
+            } }' >grows
+        for _run in $(seq "$runs"); do
+            run_once "without.$size" grows
+            run_once "with.$size" --keep kept grows
+        done
+        without=$(least_of "without.$size")
+        with=$(least_of "with.$size")
+        printf '| %22d | %12d | %10.2f | %14.2f | %16.0f |\n' "$size" $((added / size)) "$without" "$with" \
+            "$(awk -v n=$((added / size)) -v with="$with" -v without="$without" 'BEGIN { print n / (with - without) }')"
+    done
+    echo
+    echo "Seconds of the whole command, the best of $runs runs by turns; a second counts what --keep takes alone. Load is $(load) now."
+    echo
+}
+
 # The least and the most of each name's numbers, by name.
 spread() {
     sort -k 1,1 -k 2,2n "$1" | awk '
@@ -356,7 +385,7 @@ is_wanted() {
 
 # Builds what the wanted tables need. `rt run` builds a program only to run it; with no words these do nothing.
 build() {
-    if is_wanted runs || is_wanted serial || is_wanted threads; then make -s -C "$top" build >/dev/null; fi
+    if is_wanted runs || is_wanted serial || is_wanted threads || is_wanted keep; then make -s -C "$top" build >/dev/null; fi
     if is_wanted kernels; then (cd "$top/crates/bench_kernels" && rt run >/dev/null 2>&1); fi
     if is_wanted segments; then (cd "$top/crates/bench_store" && rt run >/dev/null 2>&1); fi
     if is_wanted latches; then (cd "$top/crates/bench_latches" && rt run >/dev/null 2>&1); fi
@@ -385,6 +414,7 @@ if is_wanted engine; then
 fi
 if is_wanted shared; then print_shared; fi
 if is_wanted threads; then print_threads; fi
+if is_wanted keep; then print_keep; fi
 if is_wanted churn; then
     print_churn 0 'no other transaction is open'
     print_churn 1 'one of another pass stays open'
