@@ -37,6 +37,8 @@ printf 'begin\nweight 1 2\nset 2 3 5\ncommit\n' >s6
 try 'a commit that would leave no serial order' --undone run --serial --vertices v --edges e --journal j s5 s6
 printf 'begin\nneighbours 9\nweight 1 3\nbfs 9 o\ncommit\n' >s4
 try 'a run on threads' run --threads 2 --vertices v --edges e --journal j s1 s4
+try 'commits that are kept' run --keep k --vertices v --edges e --journal j s1
+ls out
 echo '== questions about what is not there are answered'
 teseo-logged --into asked --undone run --vertices v --edges e --journal j s4
 echo "status $?"
@@ -76,5 +78,6 @@ try 'no words' run
 try 'words that are wrong' run --vertices v --edge e --weights 2.5 s1
 try 'numbers and names' run --vertices v --edges v --journal j --weights 12 s1 s1
 try 'threads and turns' run --vertices v --edges e --journal j --threads 33 --schedule t --serial s1
+try 'kept and on threads' run --vertices v --edges e --journal j --keep j --threads 2 s1
 try 'no text' run --vertices v --edges e --journal
 try 'another subcommand' make --seed 1
