@@ -8,6 +8,7 @@ use std::thread::yield_now;
 const TRIES: u32 = 1_000_000;
 
 /// Holds job 1 at its first turn until job 2 has taken one, and notes where it never did.
+#[derive(Drop)]
 pub struct SecondFirst {
     second_went: AtomicBool,
     tries_spent: AtomicBool,
