@@ -14,6 +14,7 @@ use Rattle.store_rule.specs.declared.store.Store.{Store}
 use Rattle.pass_steps.specs.Passes.{HasOpenTxn, HoldsNone, IsPassOf, pin_of, state_of}
 use Rattle.pass_sweeps.specs.Sweeping.{GoesOn}
 use Rattle.pass_cells.specs.Holding.{KeepsPass}
+use Rattle.pass_cells.specs.declared.own.PassCells.{PassCells}
 use Rattle.pass_sweeps.proofs.GoingLemmas.{account_goes_on, idle_goes_on, open_goes_on}
 use Rattle.pass_writes.proofs.HandLemmas.{keeps_state}
 use Rattle.store_relation.proofs.ListLemmas.{prefix_all}
@@ -172,3 +173,19 @@ ready_of store pass (inr opened) = opened.opened.of
 pub ready_none : (store : Store) (pass : Pass) → IsReady store pass → HoldsNone pass.seats
 ready_none store pass (inl idle) = idle.idle.none
 ready_none store pass (inr opened) = opened.opened.none
+
+-- other hints beside the same cells change nothing
+pub ready_hinted : (store : Store) (pass : Pass) (cells : PassCells) → cells.taken.list.items ≡ pass.cells.taken.list.items → IsReady store pass → IsReady store (record pass { cells = cells })
+ready_hinted store pass cells same (inl idle) =
+    inl (record { idle = idle.idle; cells = same ∙ idle.cells; begun = idle.begun; own = idle.own; changed = idle.changed; valid = idle.valid })
+ready_hinted store pass cells same (inr opened) =
+    inr (record {
+      opened = opened.opened;
+      alone = opened.alone;
+      cells = same ∙ opened.cells;
+      begun = opened.begun;
+      start = opened.start;
+      own = opened.own;
+      changed = opened.changed;
+      valid = opened.valid;
+    })

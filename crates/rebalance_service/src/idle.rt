@@ -23,8 +23,10 @@ const LOW: u32 = 2;
 const HIGH: u32 = 4;
 
 /// Where the leaf of a key ends, if it is likely that its cells have enough rows each, and too many in all to be
-/// merged. None at the last leaf, with which a round ends.
-pub(crate) fn beyond_full_leaf(store: &Store, hints: &CellHints, key: Key) -> Option<Key> {
+/// merged. None at the last leaf, with which a round ends. The first call looks at the first blocks of all leaves: a pass
+/// that hands out no hint of its own would else come to know one leaf a turn.
+pub(crate) fn beyond_full_leaf(store: &Store, hints: &mut CellHints, key: Key) -> Option<Key> {
+    hints.survey_once(store);
     let first = hints.leaf_of(key).saturating_mul(LEAF_SEGMENTS as u32);
     let last = first.saturating_add(LEAF_SEGMENTS as u32 - 1);
     let low = key_in(store, first, LOW);

@@ -93,7 +93,7 @@ fn merge(
     ensures legal { HasSeenLegal (account_of store.now pass.new) }
     ensures reads { ReadsBy (account_of store.now pass.old) (account_of store.now pass.new) }
 {
-    if let Some(next) = beyond_full_leaf(store, &pass.cells.hints, key.next) {
+    if let Some(next) = beyond_full_leaf(store, &mut pass.cells.hints, key.next) {
         key.next = next;
         return Ok(false);
     }

@@ -1,5 +1,6 @@
 use Rattle.std.proofs.Common.{refl}
 use Rattle.rebalance_service.proofs.CallLemmas.{legal_ready}
+use Rattle.rebalance_service.proofs.KeptLemmas.{ready_hinted}
 use Rattle.rebalance_service.proofs.PropLemmas.{is_ready}
 use Rattle.rebalance_service.proofs.RoomLemmas.{goes_on}
 use Rattle.shared_store.specs.Passes.{account_of}
@@ -16,3 +17,12 @@ returns-in-Err-clause-legal g c =
 pub returns-in-Err-clause-reads : goal.returns-in-Err-clause-reads
 returns-in-Err-clause-reads g c =
     goes_on (account_of c.args.store.now c.args.pass.now) (account_of c.args.store.now c.args.pass.now) refl
+
+pub returns-in-Some-clause-ready : goal.returns-in-Some-clause-ready
+returns-in-Some-clause-ready g c = ∣ ready_hinted c.args.store.now c.args.pass.now _ refl (is_ready c.args.store.now c.args.pass.now c.requires.ready) ∣₁
+
+pub returns-in-Err-clause-ready : goal.returns-in-Err-clause-ready
+returns-in-Err-clause-ready g c = ∣ ready_hinted c.args.store.now c.args.pass.now _ refl (is_ready c.args.store.now c.args.pass.now c.requires.ready) ∣₁
+
+pub merge_here-requires : goal.merge_here-requires
+merge_here-requires g c = record { ready = ∣ ready_hinted c.args.store.now c.args.pass.now _ refl (is_ready c.args.store.now c.args.pass.now c.requires.ready) ∣₁ }
