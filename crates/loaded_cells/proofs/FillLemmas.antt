@@ -1,5 +1,5 @@
 -- Only live leaves have memory.
-use Rattle.std.proofs.Common.{◌≡◌, ◌≢◌, ℕ, zero, suc, ◌-◌, List, [], ◌∷◌, ◌++◌, Option, length, set, refl, sym, ◌∙◌, ap, subst, arith}
+use Rattle.std.proofs.Common.{◌≡◌, ℕ, zero, suc, List, [], ◌∷◌, ◌++◌, Option, length, set, refl, sym, ◌∙◌, ap, subst}
 use Rattle.std.specs.Prelude.{Bool, true, false, ◌==◌, ◌||◌, Some, None, replicate, slice_get}
 use Rattle.std.specs.List.{list_any}
 use Rattle.std.specs.declared.boxed.Box.{Box}
@@ -14,7 +14,7 @@ use Rattle.leaf_queue.proofs.ListLemmas.{get_set_other}
 use Rattle.leaf_store.specs.Table.{segments_at, segments_or_none}
 use Rattle.loaded_cells.specs.Laid.{IsOnlyLive}
 
-abbrev Table : Type 0
+abbrev pub Table : Type 0
 Table = List (Option (Box Leaf Global))
 
 -- ---- none of two lists

@@ -1,5 +1,5 @@
 -- Leaves by their numbers are the cells that were laid.
-use Rattle.std.proofs.Common.{◌≡◌, ◌⊎◌, inl, inr, ℕ, zero, suc, ◌+◌, ◌*◌, ◌<◌, ◌≤◌, List, [], ◌∷◌, ◌++◌, Option, length, map, refl, sym, ◌∙◌, ap, subst, arith, append_assoc, length-append}
+use Rattle.std.proofs.Common.{◌≡◌, ◌⊎◌, inl, inr, ℕ, zero, suc, ◌+◌, ◌*◌, ◌<◌, List, [], ◌∷◌, ◌++◌, Option, length, map, refl, sym, ◌∙◌, ap, subst, arith, append_assoc, length-append}
 use Rattle.std.specs.Prelude.{Bool, true, false, ◌==◌, ◌||◌, Some, drop, slice_get}
 use Rattle.std.specs.List.{AllByRecursion, list_any}
 use Rattle.std.specs.declared.boxed.Box.{Box}
@@ -9,7 +9,6 @@ use Rattle.graph_model.specs.declared.row.Key.{Key}
 use Rattle.store_model.specs.Stamped.{StampedVersions}
 use Rattle.version_segment.specs.Resting.{RestingRows}
 use Rattle.version_segment.specs.Rows.{IsSegment, VersionedRows}
-use Rattle.gap_segment.proofs.FencedLemmas.{all_append}
 use Rattle.leaf_array.specs.declared.leaf.Leaf.{Leaf}
 use Rattle.leaf_array.specs.Segments.{rows_of}
 use Rattle.leaf_array.proofs.PairLemmas.{rows-append}
@@ -19,11 +18,19 @@ use Rattle.leaf_store.proofs.ListLemmas.{all_back, all_front}
 use Rattle.leaf_store.proofs.StoreLemmas.{cells_in}
 use Rattle.cells_model.specs.Indexed.{AreNumbered, IsIdle, cells_from, is_live, leaf_cells}
 use Rattle.cells_model.specs.InPlace.{segment_of}
-use Rattle.loaded_cells.specs.Laid.{AreLaid, IsOnlyLive}
-use Rattle.loaded_cells.specs.Numbered.{AreRestOf, cell_of, eight_or_idle, first_state, idle_segment, numbered_segments, rest_rows}
+use Rattle.loaded_cells.specs.Laid.{HaveCells, IsOnlyLive}
+use Rattle.loaded_cells.specs.Numbered.{AreRestOf, cell_of, rest_rows}
+use Rattle.loaded_cells.specs.Ranges.{cells_in_memory, eight_or_idle, idle_segment, leaf_segments, loaded_segments}
+use Rattle.loaded_cells.specs.declared.fill.LoadedRange.{LoadedRange}
+use Rattle.loaded_cells.proofs.RangeLemmas.{length_from}
 
 abbrev pub Table : Type 0
 Table = List (Option (Box Leaf Global))
+
+-- what stands in the cells of all leaves in memory, one leaf after the other
+abbrev pub numbered_segments : Table → List VersionedRows
+numbered_segments [] = []
+numbered_segments (m ∷ ms) = cells_in_memory m ++ numbered_segments ms
 
 -- the contents of the cells of these segments
 abbrev pub contents_of : List VersionedRows → ℕ → VersionedRows
@@ -191,6 +198,29 @@ module _ (leaves : ℕ) (index : Index) (table : Table) (kept : IsKept index tab
 
       all_idle : AllByRecursion IsIdle (eight_or_idle [])
       all_idle = (one_idle, (one_idle, (one_idle, (one_idle, (one_idle, (one_idle, (one_idle, (one_idle, tt))))))))
+
+-- ---- ranges
+
+-- leaves with the same cells have the same ones by their numbers
+pub same_segments : (table : Table) (ranges : List LoadedRange) → HaveCells table ranges
+    → numbered_segments table ≡ loaded_segments ranges
+same_segments [] [] same = refl
+same_segments [] (r ∷ rs) same = let none = ap length same in absurd (omega (arith, none))
+same_segments (m ∷ ms) [] same = let none = ap length same in absurd (omega (arith, none))
+same_segments (m ∷ ms) (r ∷ rs) same =
+    let head : cells_in_memory m ≡ leaf_segments r =
+    some_is (cells_in_memory m) (leaf_segments r) (ap (λ l. slice_get l 0) same) in
+    let rest = same_segments ms rs (ap (drop 1) same) in
+    λ i. head i ++ rest i
+
+-- eight a leaf
+pub count_loaded : (ranges : List LoadedRange) → length (loaded_segments ranges) ≡ 8 * length ranges
+count_loaded [] = refl
+count_loaded (r ∷ rs) =
+    let one = length_from 8 r.low r.high r.rows.now in
+    let both = length-append (leaf_segments r) (loaded_segments rs) in
+    let rest = count_loaded rs in
+    omega (arith, one, both, rest)
 
 -- ---- what rests of a cell
 

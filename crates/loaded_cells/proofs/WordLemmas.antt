@@ -1,19 +1,14 @@
 -- The words of cells that begin packed, and those before them.
-use Rattle.std.proofs.Common.{◌≡◌, ◌≢◌, ℕ, zero, suc, ◌+◌, ◌-◌, ◌*◌, ◌<◌, ◌≤◌, List, [], ◌∷◌, ◌++◌, Option, length, map, refl, sym, ◌∙◌, ap, subst, cond, arith, length-append, append_assoc}
-use Rattle.std.specs.Prelude.{Bool, true, false, ◌==◌, Some, replicate, slice_get, slice_index, reverse, slice_index_or, slice_set, take}
+use Rattle.std.proofs.Common.{◌≡◌, ◌≢◌, ℕ, zero, suc, ◌+◌, ◌-◌, ◌*◌, ◌<◌, ◌≤◌, List, [], ◌∷◌, ◌++◌, length, map, refl, sym, ◌∙◌, ap, cond, arith, length-append, append_assoc}
+use Rattle.std.specs.Prelude.{Bool, true, false, ◌==◌, Some, slice_get, slice_index, reverse, slice_index_or, slice_set, take}
 use Rattle.std.specs.List.{AllByRecursion}
-use Rattle.std.specs.declared.boxed.Box.{Box}
-use Rattle.std.specs.declared.alloc.Global.{Global}
 use Rattle.std.proofs.lemmas.Bool.Decides.{nat_tests}
 use Rattle.std.proofs.lemmas.List.{get_or-set_other, get_or-set_same, get_or_append_left, get_or-append_right, append-nil, length-map, length-set, map-append, reverse-append}
-use Rattle.graph_model.specs.declared.row.Key.{Key}
 use Rattle.graph_model.specs.declared.row.Row.{Row}
 use Rattle.seat_views.proofs.NumberLemmas.{some_is}
 use Rattle.txn_manager.specs.declared.config.Config.{Config}
 use Rattle.version_segment.specs.Resting.{RestingRows, word_row, word_rows}
 use Rattle.version_segment.specs.Rows.{IsSegment, VersionedRows}
-use Rattle.leaf_array.specs.declared.leaf.Leaf.{Leaf}
-use Rattle.leaf_store.specs.Table.{segments_or_none}
 use Rattle.store_relation.specs.Loads.{loaded_word}
 use Rattle.store_relation.specs.Words.{commit_word}
 use Rattle.cells_model.specs.Words.{HasSmallWeights, Spells, block_words, flat, spelled}
@@ -21,9 +16,9 @@ use Rattle.rule_model.specs.EndSteps.{AreLoadedWords, IsFirstState, zeros}
 use Rattle.rule_model.specs.Places.{lines}
 use Rattle.rule_model.specs.Sight.{cells_of}
 use Rattle.rule_model.proofs.PlaceLemmas.{lines_keep_apart}
-use Rattle.loaded_cells.specs.Laying.{LaysSegments}
-use Rattle.loaded_cells.specs.Numbered.{block_of, blocks_of, cell_of, eight_or_idle, first_state, idle_segment, AreRestOf, loaded_head, loaded_words, numbered_segments, rest_rows}
-use Rattle.loaded_cells.specs.declared.words.LaidWords.{LaidWords}
+use Rattle.loaded_cells.specs.Numbered.{block_of, blocks_of, cell_of, first_state, AreRestOf, loaded_head, loaded_words, rest_rows, resting_rows}
+use Rattle.loaded_cells.specs.Ranges.{idle_segment, leaf_segments, loaded_segments}
+use Rattle.loaded_cells.specs.declared.fill.LoadedRange.{LoadedRange}
 
 -- ---- lengths
 
@@ -189,49 +184,21 @@ blocks_append [] ys = refl
 blocks_append (s ∷ xs) ys =
     ap (λ l. block_of s ++ l) (blocks_append xs ys) ∙ sym (append_assoc (block_of s) (blocks_of xs) (blocks_of ys))
 
--- more segments are laid
-pub lays_more : (ss more : List VersionedRows) (a b c : LaidWords) → LaysSegments ss a b → LaysSegments more b c
-    → LaysSegments (ss ++ more) a c
-lays_more ss more a b c first next = record {
-  words = next.words ∙ ap (λ l. l ++ blocks_of more) first.words
-      ∙ append_assoc a.words.items (blocks_of ss) (blocks_of more)
-      ∙ ap (λ l. a.words.items ++ l) (sym (blocks_append ss more));
-  resting = next.resting ∙ ap (λ l. l ++ map rest_rows more) first.resting
-      ∙ append_assoc (map (λ (r : RestingRows). r.rows) a.resting.items) (map rest_rows ss) (map rest_rows more)
-      ∙ ap (λ l. map (λ (r : RestingRows). r.rows) a.resting.items ++ l) (sym (map-append rest_rows ss more));
-}
+pub loaded_append : (xs ys : List LoadedRange) → loaded_segments (xs ++ ys) ≡ loaded_segments xs ++ loaded_segments ys
+loaded_append [] ys = refl
+loaded_append (r ∷ xs) ys =
+    let ss = leaf_segments r in
+    ap (λ l. ss ++ l) (loaded_append xs ys) ∙ sym (append_assoc ss (loaded_segments xs) (loaded_segments ys))
 
--- none
-pub lays_none : (a : LaidWords) → LaysSegments [] a a
-lays_none a = record {
-  words = sym (append-nil a.words.items);
-  resting = sym (append-nil (map (λ (r : RestingRows). r.rows) a.resting.items));
-}
-
-pub numbered_append : (xs ys : List (Option (Box Leaf Global)))
-    → numbered_segments (xs ++ ys) ≡ numbered_segments xs ++ numbered_segments ys
-numbered_append [] ys = refl
-numbered_append (m ∷ xs) ys =
-    let ss = eight_or_idle (segments_or_none (Some m)) in
-    ap (λ l. ss ++ l) (numbered_append xs ys) ∙ sym (append_assoc ss (numbered_segments xs) (numbered_segments ys))
-
--- a row more
-pub take_one : (xs : List Row) (p : ℕ) (d : Row) → p < length xs
+-- one more of a list
+pub take_one : {A : Type 0} (xs : List A) (p : ℕ) (d : A) → p < length xs
     → take (p + 1) xs ≡ take p xs ++ slice_index_or xs p d ∷ []
-take_one xs p d less = let last : p + 1 ≡ suc p = omega arith in ap (λ n. take n xs) last ∙ more xs p less
+take_one {A = A} xs p d less = let last : p + 1 ≡ suc p = omega arith in ap (λ n. take n xs) last ∙ more xs p less
   where
-    more : (xs : List Row) (p : ℕ) → p < length xs → take (suc p) xs ≡ take p xs ++ slice_index_or xs p d ∷ []
+    more : (xs : List A) (p : ℕ) → p < length xs → take (suc p) xs ≡ take p xs ++ slice_index_or xs p d ∷ []
     more [] p less = absurd (omega (arith, less))
     more (x ∷ xs) zero less = refl
     more (x ∷ xs) (suc p) less = ap (λ l. x ∷ l) (more xs p (omega (arith, less)))
-
--- one more of the same
-pub replicate_more : (n : ℕ) (s : VersionedRows) → replicate n s ++ s ∷ [] ≡ replicate (n + 1) s
-replicate_more n s = let last : suc n ≡ n + 1 = omega arith in more n ∙ ap (λ m. replicate m s) last
-  where
-    more : (n : ℕ) → replicate n s ++ s ∷ [] ≡ replicate (suc n) s
-    more zero = refl
-    more (suc n) = ap (λ l. s ∷ l) (more n)
 
 -- the next of what is turned round is taken from its end
 pub popped : {A : Type 0} (all front old new : List A) (x : A) → all ≡ front ++ reverse old → old ≡ new ++ x ∷ []
@@ -239,11 +206,6 @@ pub popped : {A : Type 0} (all front old new : List A) (x : A) → all ≡ front
 popped all front old new x is last =
     is ∙ ap (λ l. front ++ l) (ap reverse last ∙ reverse-append new (x ∷ []))
     ∙ sym (append_assoc front (x ∷ []) (reverse new))
-
--- and what holds of all that are left holds of it
-pub popped_all : {A : Type 0} (P : A → Type 0) (old new : List A) (x : A) → old ≡ new ++ x ∷ []
-    → AllByRecursion P (reverse old) → P x × AllByRecursion P (reverse new)
-popped_all P old new x last all = subst (AllByRecursion P) (ap reverse last ∙ reverse-append new (x ∷ [])) all
 
 -- the words of a row more
 pub rows_more : (start old new : List ℕ) (rows : List Row) (p : ℕ) (d : Row) → old ≡ start ++ flat (take p rows)
@@ -253,30 +215,51 @@ rows_more start old new rows p d was less now =
     now ∙ ap (λ l. l ++ flat (row ∷ [])) was ∙ append_assoc start (flat (take p rows)) (flat (row ∷ []))
     ∙ ap (λ l. start ++ l) (sym (flat_append (take p rows) (row ∷ [])) ∙ ap flat (sym (take_one rows p d less)))
 
-pub empty_of : {A : Type 0} (xs : List A) → length xs ≡ 0 → xs ≡ []
-empty_of [] none = refl
-empty_of (x ∷ xs) none = absurd (omega (arith, none))
+-- ---- a leaf more of a list
 
--- a leaf's segments are eight
-pub eight_are : (ss : List VersionedRows) → length ss ≡ 8 → eight_or_idle ss ≡ ss
-eight_are [] eight = absurd (omega (arith, eight))
-eight_are (s ∷ ss) eight = refl
+-- its cells stand behind those of the others
+pub cells_more : (leaves : List LoadedRange) (p : ℕ) (d : LoadedRange) → p < length leaves
+    → loaded_segments (take (p + 1) leaves)
+    ≡ loaded_segments (take p leaves) ++ leaf_segments (slice_index_or leaves p d)
+cells_more leaves p d less =
+    let r = slice_index_or leaves p d in
+    ap loaded_segments (take_one leaves p d less) ∙ loaded_append (take p leaves) (r ∷ [])
+    ∙ ap (λ l. loaded_segments (take p leaves) ++ l) (append-nil (leaf_segments r))
 
--- the words so far, and those of a leaf more
-pub more_words : (z : Config) (front : List (Option (Box Leaf Global))) (m : Option (Box Leaf Global))
-    (old new : LaidWords) → old.words.items ≡ loaded_words z (numbered_segments front)
-    → AreRestOf (numbered_segments front) old.resting.items
-    → LaysSegments (eight_or_idle (segments_or_none (Some m))) old new
-    → (new.words.items ≡ loaded_words z (numbered_segments (front ++ m ∷ [])))
-    × AreRestOf (numbered_segments (front ++ m ∷ [])) new.resting.items
-more_words z front m old new words rest lays =
-    let ss = eight_or_idle (segments_or_none (Some m)) in
+pub words_more : (z : Config) (leaves : List LoadedRange) (p : ℕ) (d : LoadedRange) (old new : List ℕ)
+    → p < length leaves → old ≡ loaded_words z (loaded_segments (take p leaves))
+    → new ≡ old ++ blocks_of (leaf_segments (slice_index_or leaves p d))
+    → new ≡ loaded_words z (loaded_segments (take (p + 1) leaves))
+words_more z leaves p d old new less words lays =
     let head = loaded_head z.passes in
-    let all : numbered_segments (front ++ m ∷ []) ≡ numbered_segments front ++ ss =
-    numbered_append front (m ∷ []) ∙ ap (λ l. numbered_segments front ++ l) (append-nil ss) in (
-      lays.words ∙ ap (λ l. l ++ blocks_of ss) words
-          ∙ append_assoc head (blocks_of (numbered_segments front)) (blocks_of ss)
-          ∙ ap (λ l. head ++ l) (sym (blocks_append (numbered_segments front) ss) ∙ ap blocks_of (sym all)),
-      lays.resting ∙ ap (λ l. l ++ map rest_rows ss) rest
-          ∙ sym (map-append rest_rows (numbered_segments front) ss) ∙ ap (map rest_rows) (sym all),
-    )
+    let front = loaded_segments (take p leaves) in
+    let ss = leaf_segments (slice_index_or leaves p d) in
+    lays ∙ ap (λ l. l ++ blocks_of ss) words ∙ append_assoc head (blocks_of front) (blocks_of ss)
+    ∙ ap (λ l. head ++ l) (sym (blocks_append front ss) ∙ ap blocks_of (sym (cells_more leaves p d less)))
+
+pub rests_more : (leaves : List LoadedRange) (p : ℕ) (d : LoadedRange) (old new : List RestingRows) → p < length leaves
+    → AreRestOf (loaded_segments (take p leaves)) old
+    → resting_rows new ≡ resting_rows old ++ map rest_rows (leaf_segments (slice_index_or leaves p d))
+    → AreRestOf (loaded_segments (take (p + 1) leaves)) new
+rests_more leaves p d old new less are rests =
+    let front = loaded_segments (take p leaves) in
+    let ss = leaf_segments (slice_index_or leaves p d) in
+    rests ∙ ap (λ l. l ++ map rest_rows ss) are ∙ sym (map-append rest_rows front ss)
+    ∙ ap (map rest_rows) (sym (cells_more leaves p d less))
+
+-- ---- a segment more of a leaf
+
+pub block_more : (start old new : List ℕ) (front : List VersionedRows) (s : VersionedRows)
+    → old ≡ start ++ blocks_of front → new ≡ old ++ block_of s → new ≡ start ++ blocks_of (front ++ s ∷ [])
+block_more start old new front s was lays =
+    lays ∙ ap (λ l. l ++ block_of s) was ∙ append_assoc start (blocks_of front) (block_of s)
+    ∙ ap (λ l. start ++ l) (sym (blocks_append front (s ∷ [])
+    ∙ ap (λ l. blocks_of front ++ l) (append-nil (block_of s))))
+
+pub rest_more : (start old new : List RestingRows) (front : List VersionedRows) (s : VersionedRows) (r : RestingRows)
+    → resting_rows old ≡ resting_rows start ++ map rest_rows front → new ≡ old ++ r ∷ [] → r.rows ≡ rest_rows s
+    → resting_rows new ≡ resting_rows start ++ map rest_rows (front ++ s ∷ [])
+rest_more start old new front s r was lays own =
+    ap resting_rows lays ∙ map-append (λ (x : RestingRows). x.rows) old (r ∷ [])
+    ∙ (λ i. was i ++ own i ∷ []) ∙ append_assoc (resting_rows start) (map rest_rows front) (rest_rows s ∷ [])
+    ∙ ap (λ l. resting_rows start ++ l) (sym (map-append rest_rows front (s ∷ [])))

@@ -1,3 +1,3 @@
+pub mod Ranges
 pub mod Laid
 pub mod Numbered
-pub mod Laying

@@ -1,7 +1,6 @@
--- The cells of leaves by their numbers, and the words of a table that begins with them.
-use Rattle.std.specs.Prelude.{◌≡◌, ℕ, zero, suc, ◌+◌, ◌-◌, ◌*◌, ◌<◌, ◌≤◌, false, List, [], ◌∷◌, ◌++◌, Option, Some, length, map, slice_set}
+-- The words of a table that begins with cells, and what is known of these.
+use Rattle.std.specs.Prelude.{◌≡◌, ℕ, zero, suc, ◌+◌, ◌-◌, ◌*◌, ◌<◌, ◌≤◌, false, List, [], ◌∷◌, ◌++◌, length, map, slice_set}
 use Rattle.std.specs.List.{AllByRecursion}
-use Rattle.std.specs.declared.boxed.Box.{Box}
 use Rattle.std.specs.declared.alloc.Global.{Global}
 use Rattle.atomic_table.specs.Table.{opening}
 use Rattle.graph_model.specs.declared.limits.TheConstants.{MAX_WEIGHT}
@@ -11,15 +10,13 @@ use Rattle.graph_model.specs.declared.write.Write.{Write}
 use Rattle.graph_model.specs.Graph.{apply_all, empty_graph}
 use Rattle.graph_model.specs.Inserted.{inserted}
 use Rattle.graph_model.specs.Refused.{AllAllowed, IsWithinLimits}
-use Rattle.graph_model.specs.Rows.{end_key, value_at}
+use Rattle.graph_model.specs.Rows.{value_at}
 use Rattle.txn_manager.specs.Config.{too_large}
 use Rattle.txn_manager.specs.declared.config.Config.{Config}
 use Rattle.version_segment.specs.Resting.{RestingRow, RestingRows, resting_of, word_rows}
 use Rattle.version_segment.specs.Rows.{VersionedRows}
-use Rattle.leaf_array.specs.declared.leaf.Leaf.{Leaf}
 use Rattle.leaf_index.specs.Index.{Index}
 use Rattle.leaf_store.specs.Changes.{AreRising, settled_at}
-use Rattle.leaf_store.specs.Table.{segments_or_none}
 use Rattle.store_relation.specs.Ends.{only_value}
 use Rattle.store_relation.specs.Words.{commit_word}
 use Rattle.cells_model.specs.Cells.{CellState}
@@ -29,23 +26,8 @@ use Rattle.rule_model.specs.Places.{lines}
 use Rattle.rule_model.specs.Rule.{IsStoreRule}
 use Rattle.rule_model.specs.Sight.{Sight}
 use Rattle.loaded_cells.specs.Laid.{AreLaid}
-
--- ---- cells
-
--- what stands in the cells of a leaf that isn't live
-abbrev pub idle_segment : VersionedRows
-idle_segment = record { low = end_key; high = end_key; rows = []; spare = 0 }
-
--- the segments of a leaf, or eight idle ones where it has none
-abbrev pub eight_or_idle : List VersionedRows → List VersionedRows
-eight_or_idle [] = idle_segment ∷ idle_segment ∷ idle_segment ∷ idle_segment
-    ∷ idle_segment ∷ idle_segment ∷ idle_segment ∷ idle_segment ∷ []
-eight_or_idle (s ∷ ss) = s ∷ ss
-
--- those of all leaves, one leaf after the other
-abbrev pub numbered_segments : List (Option (Box Leaf Global)) → List VersionedRows
-numbered_segments [] = []
-numbered_segments (m ∷ ms) = eight_or_idle (segments_or_none (Some m)) ++ numbered_segments ms
+use Rattle.loaded_cells.specs.Ranges.{idle_segment, loaded_segments}
+use Rattle.loaded_cells.specs.declared.fill.LoadedRange.{LoadedRange}
 
 -- ---- words
 
@@ -80,18 +62,20 @@ cell_of (s ∷ ss) zero = first_state s
 cell_of (s ∷ ss) (suc k) = cell_of ss k
 
 -- what one seat knows then
-abbrev pub loaded_sight : Config → List Write → ℕ → Index → List (Option (Box Leaf Global)) → Sight
-loaded_sight z load room index table =
-    sight_of z (loaded_known load room index (cell_of (numbered_segments table)))
+abbrev pub loaded_sight : Config → List Write → ℕ → Index → List VersionedRows → Sight
+loaded_sight z load room index ss = sight_of z (loaded_known load room index (cell_of ss))
 
 -- ---- what rests
 
 abbrev pub rest_rows : VersionedRows → List RestingRow
 rest_rows s = (resting_of s).rows
 
+abbrev pub resting_rows : List RestingRows → List (List RestingRow)
+resting_rows resting = map (λ (r : RestingRows). r.rows) resting
+
 -- so much is kept of these segments beside the words
 abbrev pub AreRestOf : List VersionedRows → List RestingRows → Type 0
-AreRestOf ss resting = map (λ (r : RestingRows). r.rows) resting ≡ map rest_rows ss
+AreRestOf ss resting = resting_rows resting ≡ map rest_rows ss
 
 -- ---- the law
 
@@ -105,11 +89,11 @@ pub record AreRowsOf (z : Config) (load : List Write) (rows : List Row) : Type 0
   pub settled : (q : Key) → settled_at rows q ≡ only_value (value_at (apply_all z.kind empty_graph load) q)
   pub few : length rows ≤ inserted z.kind load
 
--- BEGIN: the words of such leaves, and a seat that knows their cells, keep the rule
+-- BEGIN: the words of the cells of such leaves, and a seat that knows these cells, keep the rule
 abbrev pub LoadBegins : Type 0
 LoadBegins =
     (z : Config) (heap : Global) (load : List Write) (rows : List Row) (room : ℕ) (index : Index)
-    (table : List (Option (Box Leaf Global))) → too_large z ≡ false → AreRowsOf z load rows
-    → AreLaid z.leaves rows index table
+    (ranges : List LoadedRange) → too_large z ≡ false → AreRowsOf z load rows
+    → AreLaid z.leaves rows index ranges
     → IsStoreRule z (lines z.passes) heap
-    (opening (loaded_words z (numbered_segments table)) [] (loaded_sight z load room index table))
+    (opening (loaded_words z (loaded_segments ranges)) [] (loaded_sight z load room index (loaded_segments ranges)))

@@ -1,39 +1,72 @@
-//! Leaves with the rows of a load.
+//! Rows of a load, divided among leaves.
 //!
-//! 1. Rows are laid from left to right, as many in a segment as the density limits allow, and each is copied once.
-//! 2. A leaf ends where the first row behind it begins.
+//! 1. Rows go from left to right, as many to a segment as the density limits allow. None is copied.
+//! 2. A leaf ends where the first row behind it begins, and so does each of its segments.
 
-ghost use Rattle.std.specs.Prelude.{◌≡◌, ◌*◌, ◌<◌, ◌≤◌, false, [], length, IfErr, IfOk, OnOk, None, replicate};
-ghost use Rattle.graph_model.specs.Rows.{is_below, first_key, end_key};
-ghost use Rattle.gap_segment.specs.Fenced.{AreSorted, AreWithin, first_key_or};
-ghost use Rattle.leaf_array.specs.Leaves.{IsLeaf};
-ghost use Rattle.leaf_array.specs.Segments.{rows_of};
+ghost use Rattle.std.specs.Prelude.{◌≡◌, ◌*◌, ◌<◌, ◌≤◌, length, take, drop, slice_set, IfErr, IfOk, OnOk};
+ghost use Rattle.graph_model.specs.Rows.{first_key, end_key};
 ghost use Rattle.graph_model.specs.declared.limits.TheConstants.{MAX_LEAVES};
+ghost use Rattle.gap_segment.specs.Fenced.{AreSorted, AreWithin, first_key_or};
+ghost use Rattle.leaf_array.specs.Segments.{lows_of};
 ghost use Rattle.leaf_index.specs.Calls.{new_index};
 ghost use Rattle.leaf_store.specs.Changes.{AreRising, IsFillRefusal};
-ghost use Rattle.leaf_store.specs.Fill.{AreSettled, IsFilling, IsFillStop};
-ghost use Rattle.loaded_cells.specs.Laid.{AreLaid, IsOnlyLive};
+ghost use Rattle.leaf_store.specs.Fill.{IsFillStop};
+ghost use Rattle.loaded_cells.specs.Laid.{AreDivided, AreLaid};
+ghost use Rattle.loaded_cells.specs.Ranges.{AreIdle, leaf_segments, segments_from};
 
-use graph_model::{Key, NoMemory, Row};
-use leaf_array::Leaf;
+use graph_model::{Key, LEAF_SEGMENTS, NoMemory, Row};
 use leaf_index::LeafIndex;
-use leaf_table::{cuts_of, empty_table, put_leaf};
 use std::alloc::Global;
 use txn_manager::RoomRefusal;
-use version_segment::VersionSegment;
 
-/// Leaves under their index. Only those that are live have memory.
+/// Rows of a load between two fence keys: those of a leaf, or of a segment.
+#[derive(Clone, Copy)]
+pub struct LoadedRange<'a> {
+    pub low: Key,
+    pub high: Key,
+    pub rows: &'a [Row],
+}
+
+/// The rows of each leaf by its number, and the index of the leaves. A leaf that isn't live has no rows.
 #[derive(Drop)]
-pub struct LoadedLeaves {
+pub struct LoadedLeaves<'a> {
     pub index: LeafIndex,
-    pub leaves: Vec<Option<Box<Leaf>>>,
+    pub ranges: Vec<LoadedRange<'a>>,
 }
 
 /// How many rows a segment has in a leaf that is as full as a spread may leave it.
-const FULL_SEGMENT: usize = 26;
+pub(crate) const FULL_SEGMENT: usize = 26;
 
 /// How many rows such a leaf has.
 const FULL_LEAF: usize = 208;
+
+impl<'a> LoadedRange<'a> {
+    /// The first so many rows, up to the first one behind them, and the others from there on.
+    pub fn split(self, count: usize) -> (LoadedRange<'a>, LoadedRange<'a>)
+        ensures low { result.0.low ≡ self.entry.low }
+        ensures front { result.0.rows.now ≡ take count self.entry.rows.now }
+        ensures cut { result.0.high ≡ first_key_or (drop count self.entry.rows.now) self.entry.high }
+        ensures next { result.1.low ≡ first_key_or (drop count self.entry.rows.now) self.entry.high }
+        ensures high { result.1.high ≡ self.entry.high }
+        ensures back { result.1.rows.now ≡ drop count self.entry.rows.now }
+    {
+        let LoadedRange { low, high, rows } = self;
+        let (here, behind) = rows.split_at(rows.len().min(count));
+        let cut = begin_of(behind, high);
+        (
+            LoadedRange {
+                low,
+                high: cut,
+                rows: here,
+            },
+            LoadedRange {
+                low: cut,
+                high,
+                rows: behind,
+            },
+        )
+    }
+}
 
 /// The key of the first row, or the other key where there is none.
 fn begin_of(rows: &[Row], other: Key) -> Key
@@ -45,54 +78,68 @@ fn begin_of(rows: &[Row], other: Key) -> Key
     }
 }
 
-/// Lays rows in segments that have none, from the low key on and up to the high one.
-fn settle_all(segments: &mut [VersionSegment], alloc: Global, low: Key, high: Key, rows: &[Row])
-    requires empty { rows_of segments.old ≡ [] }
-    requires few { length rows.now ≤ 26 * length segments.old }
-    requires fences { is_below high low ≡ false }
-    requires none { length segments.old ≡ 0 → low ≡ high }
-    requires sorted { AreSorted rows.now }
-    requires within { AreWithin low high rows.now }
-    ensures { AreSettled low high rows.now segments.new }
+/// Writes down where each segment begins of a key range with so many segments.
+fn set_cuts(cuts: &mut [Key], range: LoadedRange)
+    ensures { cuts.new ≡ lows_of
+        (segments_from (length cuts.old) range.entry.low range.entry.high range.entry.rows.now) }
 {
-    let Some((first, rest)) = segments.split_first_mut() else {
+    let Some((first, rest)) = cuts.split_first_mut() else {
         return;
     };
-    let (here, behind) = rows.split_at(rows.len().min(FULL_SEGMENT));
-    let cut = begin_of(behind, high);
-    first.settle(alloc, low, cut, here);
-    settle_all(rest, alloc, cut, high, behind);
+    let (segment, behind) = range.split(FULL_SEGMENT);
+    *first = segment.low;
+    set_cuts(rest, behind);
 }
 
-/// Memory for a leaf with these rows.
-fn settled_leaf(alloc: Global, low: Key, high: Key, rows: &[Row]) -> Result<Box<Leaf>, NoMemory>
-    requires few { length rows.now ≤ 208 }
-    requires fences { is_below high low ≡ false }
-    requires sorted { AreSorted rows.now }
-    requires within { AreWithin low high rows.now }
-    ensures settled { IfOk result (λ leaf. AreSettled low high rows.now leaf.value.segments) }
-    ensures leaf { IfOk result (λ leaf. IsLeaf leaf.value.segments) }
+/// Where each segment of a leaf begins.
+fn cuts_of(leaf: LoadedRange) -> [Key; LEAF_SEGMENTS]
+    ensures { result ≡ lows_of (leaf_segments leaf.entry) }
 {
-    let mut leaf = Leaf::new(alloc, low, high)?;
-    settle_all(&mut leaf.segments, alloc, low, high, rows);
-    Ok(Box::new(alloc, leaf)?)
+    let mut cuts = [leaf.low; LEAF_SEGMENTS];
+    set_cuts(&mut cuts, leaf);
+    cuts
 }
 
-/// Lays the next rows in a leaf of their own, and answers how many are laid then.
-fn fill_next(
-    index: &mut LeafIndex,
-    leaves: &mut Vec<Option<Box<Leaf>>>,
+/// No leaf has rows yet.
+fn idle_ranges<'a>(
     alloc: Global,
-    rows: &[Row],
+    leaves: u32,
+    rows: &'a [Row],
+) -> Result<Vec<LoadedRange<'a>>, NoMemory>
+    ensures { IfOk result (λ ranges. (length ranges.items ≡ leaves) × AreIdle ranges.items) }
+{
+    let (_, none) = rows.split_at(rows.len());
+    let idle = LoadedRange {
+        low: Key::END,
+        high: Key::END,
+        rows: none,
+    };
+    let ranges = vec![in alloc; idle; leaves as usize]?;
+    Ok(ranges)
+}
+
+/// The leaf with this number has these rows now.
+fn put_range<'a>(ranges: &mut Vec<LoadedRange<'a>>, leaf: usize, range: LoadedRange<'a>)
+    requires { leaf < length ranges.old.items }
+    ensures { ranges.new.items ≡ slice_set ranges.old.items leaf range.entry }
+{
+    ranges[leaf] = range;
+}
+
+/// Gives the next rows to a leaf of their own, and answers how many have a leaf then.
+fn fill_next<'a>(
+    index: &mut LeafIndex,
+    ranges: &mut Vec<LoadedRange<'a>>,
+    alloc: Global,
+    rows: &'a [Row],
     at: usize,
 ) -> Result<usize, RoomRefusal>
     requires sorted { AreSorted rows.now }
     requires within { AreWithin first_key end_key rows.now }
-    requires filling { IsFilling rows.now at index.old leaves.old.items }
+    requires divided { AreDivided rows.now at index.old ranges.old.items }
     requires more { at < length rows.now }
-    ensures ok { IfOk result (λ next. IsFilling rows.now next index.new leaves.new.items) }
+    ensures ok { IfOk result (λ next. AreDivided rows.now next index.new ranges.new.items) }
     ensures more { IfOk result (λ next. at < next) }
-    ensures only { IfOk result (λ _. IsOnlyLive index.old leaves.old.items → IsOnlyLive index.new leaves.new.items) }
     ensures limit { IfOk result (λ next. index.new.leaves ≡ index.old.leaves) }
     ensures stop { IfErr result (λ refusal. IsFillStop refusal index.old rows.now) }
 {
@@ -101,80 +148,82 @@ fn fill_next(
         return Err(RoomRefusal::Full { leaves });
     };
     let (_, rest) = rows.split_at(at);
-    let (here, behind) = rest.split_at(rest.len().min(FULL_LEAF));
-    let low = begin_of(here, Key::END);
-    let high = begin_of(behind, Key::END);
-    let memory = settled_leaf(alloc, low, high, here)?;
-    index.add_leaf(alloc, low, leaf, cuts_of(&memory))?;
+    let rest = LoadedRange {
+        low: begin_of(rest, Key::END),
+        high: Key::END,
+        rows: rest,
+    };
+    let (here, behind) = rest.split(FULL_LEAF);
+    index.add_leaf(alloc, here.low, leaf, cuts_of(here))?;
     index.is_index();
-    put_leaf(leaves, leaf as usize, memory);
-    Ok(at + here.len())
+    put_range(ranges, leaf as usize, here);
+    Ok(rows.len() - behind.rows.len())
 }
 
-/// Lays the first rows in the first leaf, and answers how many.
-fn fill_first(
+/// Gives the first rows to the first leaf, and answers how many.
+fn fill_first<'a>(
     index: &mut LeafIndex,
-    leaves: &mut Vec<Option<Box<Leaf>>>,
-    alloc: Global,
-    rows: &[Row],
-) -> Result<usize, NoMemory>
+    ranges: &mut Vec<LoadedRange<'a>>,
+    rows: &'a [Row],
+) -> usize
     requires sorted { AreSorted rows.now }
     requires within { AreWithin first_key end_key rows.now }
-    requires index { index.old ≡ new_index (length leaves.old.items) }
-    requires some { 1 ≤ length leaves.old.items }
-    requires none { leaves.old.items ≡ replicate (length leaves.old.items) None }
-    ensures ok { IfOk result (λ laid. IsFilling rows.now laid index.new leaves.new.items) }
-    ensures only { OnOk result (IsOnlyLive index.new leaves.new.items) }
+    requires index { index.old ≡ new_index (length ranges.old.items) }
+    requires some { 1 ≤ length ranges.old.items }
+    requires idle { AreIdle ranges.old.items }
+    ensures ok { AreDivided rows.now result index.new ranges.new.items }
     ensures limit { index.new.leaves ≡ index.old.leaves }
 {
-    let (here, behind) = rows.split_at(rows.len().min(FULL_LEAF));
-    let low = Key { src: 0, second: 0 };
-    let high = begin_of(behind, Key::END);
-    let memory = settled_leaf(alloc, low, high, here)?;
-    index.set_separators(low, cuts_of(&memory));
+    let all = LoadedRange {
+        low: Key { src: 0, second: 0 },
+        high: Key::END,
+        rows,
+    };
+    let (here, _) = all.split(FULL_LEAF);
+    index.set_separators(here.low, cuts_of(here));
     index.is_index();
-    put_leaf(leaves, 0, memory);
-    Ok(here.len())
+    put_range(ranges, 0, here);
+    here.rows.len()
 }
 
-/// Lays all rows that are left.
-fn fill_rest(
+/// Gives leaves to all rows that are left.
+fn fill_rest<'a>(
     index: &mut LeafIndex,
-    leaves: &mut Vec<Option<Box<Leaf>>>,
+    ranges: &mut Vec<LoadedRange<'a>>,
     alloc: Global,
-    rows: &[Row],
-    laid: usize,
+    rows: &'a [Row],
+    first: usize,
 ) -> Result<(), RoomRefusal>
     requires sorted { AreSorted rows.now }
     requires within { AreWithin first_key end_key rows.now }
-    requires filling { IsFilling rows.now laid index.old leaves.old.items }
-    ensures ok { OnOk result (IsFilling rows.now (length rows.now) index.new leaves.new.items) }
+    requires divided { AreDivided rows.now first index.old ranges.old.items }
+    ensures ok { OnOk result (AreDivided rows.now (length rows.now) index.new ranges.new.items) }
     ensures limit { OnOk result (index.new.leaves ≡ index.old.leaves) }
-    ensures only { OnOk result (IsOnlyLive index.old leaves.old.items → IsOnlyLive index.new leaves.new.items) }
     ensures stop { IfErr result (λ refusal. IsFillStop refusal index.old rows.now) }
 {
-    let mut at = laid;
+    let mut at = first;
     'leaves: while at < rows.len() {
-        at = fill_next(index, leaves, alloc, rows, at)?;
+        at = fill_next(index, ranges, alloc, rows, at)?;
     }
     Ok(())
 }
 
-/// Rows of a load, in rising order of their keys, each of them settled. As many as the density limits allow stand in
-/// each leaf.
-pub fn lay_rows(alloc: Global, leaves: u32, rows: &[Row]) -> Result<LoadedLeaves, RoomRefusal>
+/// Divides the rows of a load among so many leaves: they are in rising order of their keys, and each is settled. A leaf
+/// has as many as the density limits allow.
+pub fn divide_rows(
+    alloc: Global,
+    leaves: u32,
+    rows: &[Row],
+) -> Result<LoadedLeaves<'_>, RoomRefusal>
     requires some { 1 ≤ leaves }
     requires few { leaves ≤ MAX_LEAVES }
     requires rising { AreRising rows.now }
-    ensures ok { IfOk result (λ laid. AreLaid leaves rows.now laid.index laid.leaves.items) }
+    ensures ok { IfOk result (λ loaded. AreLaid leaves rows.now loaded.index loaded.ranges.items) }
     ensures full { IfErr result (λ refusal. IsFillRefusal leaves rows.now refusal) }
 {
     let mut index = LeafIndex::new(alloc, leaves)?;
-    let mut table = empty_table(alloc, leaves)?;
-    let laid = fill_first(&mut index, &mut table, alloc, rows)?;
-    fill_rest(&mut index, &mut table, alloc, rows, laid)?;
-    Ok(LoadedLeaves {
-        index,
-        leaves: table,
-    })
+    let mut ranges = idle_ranges(alloc, leaves, rows)?;
+    let first = fill_first(&mut index, &mut ranges, rows);
+    fill_rest(&mut index, &mut ranges, alloc, rows, first)?;
+    Ok(LoadedLeaves { index, ranges })
 }

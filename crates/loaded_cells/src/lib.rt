@@ -1,14 +1,16 @@
-//! The rows of a load, laid in leaves under an index, and then in the words of numbered cells.
+//! The rows of a load, divided among leaves under an index, and then in the words of numbered cells.
 //!
-//! 1. Rows are laid from left to right, as many in a segment as the density limits allow. A leaf ends where the first
-//!    row behind it begins.
+//! 1. Rows go from left to right, as many to a segment as the density limits allow. A leaf ends where the first row
+//!    behind it begins.
 //! 2. The words of all cells follow each other by the numbers of the cells. A leaf that isn't live has cells without
 //!    rows there.
 #![tactic(auto)]
 
 mod fill;
 mod laws;
+mod rest;
 mod words;
 
-pub use fill::{LoadedLeaves, lay_rows};
-pub use words::{LaidWords, lay_words};
+pub use fill::{LoadedLeaves, LoadedRange, divide_rows};
+pub use rest::rest_cells;
+pub use words::lay_words;

@@ -1,9 +1,7 @@
 -- A store that begins with the rows of a load.
-use Rattle.std.proofs.Common.{◌≡◌, ℕ, ◌+◌, List, [], ◌∷◌, Option, ◌≤◌, length, length-append, map, refl, sym, ◌∙◌, ap, subst, arith}
-use Rattle.std.specs.Prelude.{false, None}
+use Rattle.std.proofs.Common.{◌≡◌, List, [], ◌∷◌, ◌≤◌, length, length-append, refl, sym, ◌∙◌, ap, subst, arith}
+use Rattle.std.specs.Prelude.{None}
 use Rattle.std.specs.List.{AllByRecursion}
-use Rattle.std.specs.declared.boxed.Box.{Box}
-use Rattle.std.specs.declared.alloc.Global.{Global}
 use Rattle.std.proofs.lemmas.List.{length-map}
 use Rattle.atomic_table.specs.declared.shared.Seat.{Seat}
 use Rattle.graph_model.specs.declared.limits.TheConstants.{MAX_WEIGHT}
@@ -11,29 +9,29 @@ use Rattle.graph_model.specs.declared.row.Row.{Row}
 use Rattle.graph_model.specs.declared.write.Write.{Write}
 use Rattle.txn_manager.specs.declared.config.Config.{Config}
 use Rattle.version_segment.specs.Resting.{RestingRows}
-use Rattle.leaf_array.specs.declared.leaf.Leaf.{Leaf}
+use Rattle.version_segment.specs.Rows.{VersionedRows}
 use Rattle.leaf_index.specs.Index.{Index}
 use Rattle.store_relation.specs.Loads.{load_commit, loaded_journal}
 use Rattle.rule_model.specs.EndSteps.{loaded_known}
 use Rattle.rule_model.specs.Sight.{HasIndex, Known, Sight, cells_of}
 use Rattle.store_words.specs.Steps.{word_count}
 use Rattle.loaded_cells.specs.Laid.{AreLaid}
-use Rattle.loaded_cells.specs.Numbered.{AreRestOf, blocks_of, cell_of, loaded_head, loaded_sight, loaded_words, numbered_segments, rest_rows}
-use Rattle.loaded_cells.proofs.BeginLemmas.{may_spell}
+use Rattle.loaded_cells.specs.Numbered.{AreRestOf, blocks_of, cell_of, loaded_head, loaded_sight, loaded_words, rest_rows}
+use Rattle.loaded_cells.specs.Ranges.{loaded_segments}
+use Rattle.loaded_cells.specs.declared.fill.LoadedRange.{LoadedRange}
+use Rattle.loaded_cells.proofs.BeginLemmas.{loaded_count, may_spell}
 use Rattle.loaded_cells.proofs.WordLemmas.{blocks_length, head_length}
-use Rattle.loaded_cells.proofs.NumberedLemmas.{count_segments, eights, rest_at}
+use Rattle.loaded_cells.proofs.NumberedLemmas.{rest_at}
 use Rattle.store_rule.specs.Making.{KnowsParts}
 use Rattle.store_rule.specs.declared.make.Parts.{Parts}
 use Rattle.store_rule.proofs.MakeLemmas.{first_cell, first_index, first_journal, get_inside}
 
--- a view of a store that begins with these leaves knows them
+-- a view of a store that begins with these cells knows them
 pub load_parts : (z : Config) (seat : Seat (Unit {0}) Sight) (parts : Parts) (load : List Write) (index : Index)
-    (table : List (Option (Box Leaf Global))) → seat.me ≡ (loaded_sight z load 0 index table, [])
-    → parts.index ≡ index → parts.journal.items ≡ load_commit load ∷ []
-    → AreRestOf (numbered_segments table) parts.resting.items → length (numbered_segments table) ≡ cells_of z
+    (ss : List VersionedRows) → seat.me ≡ (loaded_sight z load 0 index ss, []) → parts.index ≡ index
+    → parts.journal.items ≡ load_commit load ∷ [] → AreRestOf ss parts.resting.items → length ss ≡ cells_of z
     → KnowsParts z seat.me.0 parts
-load_parts z seat parts load index table me index_is journal are counted =
-    let ss = numbered_segments table in
+load_parts z seat parts load index ss me index_is journal are counted =
     let k : Known = loaded_known load 0 index (cell_of ss) in
     let count : length parts.resting.items ≡ cells_of z =
     sym (length-map parts.resting.items (λ (r : RestingRows). r.rows)) ∙ ap length are ∙ length-map ss rest_rows ∙ counted in
@@ -60,23 +58,13 @@ load_parts z seat parts load index table me index_is journal are counted =
     }
 
 -- how many words they make
-pub words_count : (z : Config) (rows : List Row) (index : Index) (table : List (Option (Box Leaf Global)))
-    → AreLaid z.leaves rows index table → AllByRecursion (λ r. r.weight ≤ MAX_WEIGHT) rows
-    → length (loaded_words z (numbered_segments table)) ≡ word_count z
-words_count z rows index table laid small =
-    let ss = numbered_segments table in
+pub words_count : (z : Config) (rows : List Row) (index : Index) (ranges : List LoadedRange)
+    → AreLaid z.leaves rows index ranges → AllByRecursion (λ r. r.weight ≤ MAX_WEIGHT) rows
+    → length (loaded_words z (loaded_segments ranges)) ≡ word_count z
+words_count z rows index ranges laid small =
+    let ss = loaded_segments ranges in
     let both = length-append (loaded_head z.passes) (blocks_of ss) in
     let head = head_length z.passes in
-    let back = blocks_length ss (may_spell z.leaves rows index table laid small) in
-    let counted = count_segments table (eights z.leaves index table laid.kept laid.only) in
-    let wide = laid.kept.count in
-    let limit = laid.filled.limit_is in
-    omega (arith, both, head, back, counted, wide, limit)
-
-pub segments_count : (z : Config) (rows : List Row) (index : Index) (table : List (Option (Box Leaf Global)))
-    → AreLaid z.leaves rows index table → length (numbered_segments table) ≡ cells_of z
-segments_count z rows index table laid =
-    let counted = count_segments table (eights z.leaves index table laid.kept laid.only) in
-    let wide = laid.kept.count in
-    let limit = laid.filled.limit_is in
-    omega (arith, counted, wide, limit)
+    let back = blocks_length ss (may_spell z.leaves rows index ranges laid small) in
+    let counted = loaded_count z.leaves rows index ranges laid in
+    omega (arith, both, head, back, counted)

@@ -2,7 +2,8 @@
 //!
 //! 1. It is as if pass 0 had begun, made the writes of a load and committed them, and all rows had been pruned then. So
 //!    a load costs what it costs one owner.
-//! 2. Rows are laid in leaves, as one owner lays them, and the leaves then become words. No word is stored by a step.
+//! 2. Rows are divided among leaves, as one owner lays them, and the words of all cells are spelled from them. No leaf
+//!    is made, and no word is stored by a step.
 
 ghost use Rattle.std.specs.Prelude.{◌≡◌, [], ◌∷◌, false, IfErr, IfOk};
 ghost use Rattle.leaf_store.specs.Changes.{IsFillRefusal};
@@ -16,26 +17,26 @@ ghost use Rattle.txn_manager.specs.Config.{too_large};
 use crate::make::{Parts, deal_out};
 use crate::store::{Passes, Store};
 use graph_model::{Commit, NoMemory, RoomyJournal, Row, TxnName, Writes};
-use leaf_array::Leaf;
 use leaf_index::LeafIndex;
-use loaded_cells::{LaidWords, LoadedLeaves, lay_rows, lay_words};
+use loaded_cells::{LoadedLeaves, LoadedRange, divide_rows, lay_words, rest_cells};
 use std::alloc::Global;
 use store_words::{Accounts, Begins, first_seat};
 use txn_manager::{Config, RoomRefusal};
 
 /// What a store with the rows of a load is known by.
 #[derive(Drop)]
-struct Plan {
+struct Plan<'a> {
     config: Config,
     load: Writes,
     index: LeafIndex,
-    leaves: Vec<Option<Box<Leaf>>>,
+    ranges: Vec<LoadedRange<'a>>,
 }
 
-impl Begins for Plan {
+impl<'a> Begins for Plan<'a> {
     ghost use Rattle.loaded_cells.specs.Numbered.{loaded_sight};
+    ghost use Rattle.loaded_cells.specs.Ranges.{loaded_segments};
 
-    ghost sight = { λ p. loaded_sight p.config p.load 0 p.index p.leaves.items };
+    ghost sight = { λ p. loaded_sight p.config p.load 0 p.index (loaded_segments p.ranges.items) };
 }
 
 impl Store {
@@ -55,26 +56,25 @@ impl Store {
             made.0.latches.table.shared.table_id made.0.accounts.table.shared.table_id made.1.list.items) }
         ensures seats { IfOk result (λ made. AreIn made.0 made.1) }
     {
-        let laid = lay_rows(alloc, config.leaves, rows)?;
-        let LoadedLeaves { index, leaves } = laid;
+        let LoadedLeaves { index, ranges } = divide_rows(alloc, config.leaves, rows)?;
         let plan = Plan {
             config,
             load,
             index,
-            leaves,
+            ranges,
         };
         let made = fill_both(alloc, plan)?;
         Ok(made)
     }
 }
 
-/// A store with these leaves.
+/// A store whose leaves have these rows.
 fn fill_both(alloc: Global, plan: Plan) -> Result<(Store, Passes), NoMemory>
     requires sized { too_large plan.config ≡ false }
     requires laid { (rows : _) × AreRowsOf plan.config plan.load rows
-        × AreLaid plan.config.leaves rows plan.index plan.leaves.items }
-    ensures config { IfOk result (λ made. made.0.accounts.config ≡ plan.config) }
-    ensures passes { IfOk result (λ made. AreLoadedPasses plan.load made.0.latches.table.shared.key
+        × AreLaid plan.config.leaves rows plan.index plan.ranges.items }
+    ensures config { IfOk result (λ made. made.0.accounts.config ≡ plan.entry.config) }
+    ensures passes { IfOk result (λ made. AreLoadedPasses plan.entry.load made.0.latches.table.shared.key
         made.0.latches.table.shared.table_id made.0.accounts.table.shared.table_id made.1.list.items) }
     ensures seats { IfOk result (λ made. AreIn made.0 made.1) }
 {
@@ -83,12 +83,13 @@ fn fill_both(alloc: Global, plan: Plan) -> Result<(Store, Passes), NoMemory>
         config,
         load,
         index,
-        leaves,
+        ranges,
     } = plan;
-    let laid = lay_words(alloc, &config, leaves)?;
-    let LaidWords { words, resting } = laid;
+    let words = lay_words(alloc, &config, ranges.as_slice())?;
     let (accounts, seat) = Accounts::open_at(alloc, config, words.as_slice(), first)?;
+    // The words take the most memory, so nothing is made beside them that may be made after them.
     drop(words);
+    let resting = rest_cells(alloc, ranges.as_slice())?;
     let journal = load_journal(alloc, load)?;
     let parts = Parts {
         resting,

@@ -1,6 +1,4 @@
-use Rattle.std.proofs.Common.{◌≡◌, ◌∙◌, ◌<◌, ◌++◌, ◌∷◌, List, ℕ, [], ap, append_assoc, arith, length, sym, take}
-use Rattle.graph_model.specs.declared.row.Row.{Row}
-use Rattle.cells_model.specs.Words.{flat}
+use Rattle.std.proofs.Common.{◌<◌, arith, length}
 use Rattle.loaded_cells.proofs.WordLemmas.{rows_more}
 use Rattle.loaded_cells.proofs.words.push_rows.Goals as goal
 

@@ -1,8 +1,7 @@
-use Rattle.std.proofs.Common.{◌≡◌, ◌∙◌, ap, subst, sym}
+use Rattle.std.proofs.Common.{◌∙◌, ap, subst, sym}
 use Rattle.seat_views.proofs.NumberLemmas.{some_is}
 use Rattle.version_segment.specs.Resting.{CanWake, woken}
 use Rattle.cells_model.specs.Cells.{CellState, unpacked}
-use Rattle.rule_model.specs.Sight.{HasCell}
 use Rattle.store_words.proofs.SpellLemmas.{has_now}
 use Rattle.store_rule.specs.Slots.{RestsAs}
 use Rattle.store_rule.proofs.PackLemmas.{untouched_now, wakes_same, wakes_with}

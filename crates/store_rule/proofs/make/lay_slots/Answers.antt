@@ -1,4 +1,4 @@
-use Rattle.std.proofs.Common.{◌≡◌, ◌∙◌, ◌++◌, ◌∷◌, [], ap, refl}
+use Rattle.std.proofs.Common.{◌∙◌, ◌++◌, ◌∷◌, [], ap, refl}
 use Rattle.seat_views.specs.Keeping.{kept_at}
 use Rattle.store_words.specs.Notes.{without_index, without_journal}
 use Rattle.store_rule.proofs.MakeLemmas.{all_slots, still_dealing}

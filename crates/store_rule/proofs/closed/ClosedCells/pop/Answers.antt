@@ -1,4 +1,4 @@
-use Rattle.std.proofs.Common.{◌≡◌, ◌≤◌, ◌∙◌, ◌∷◌, ◌-◌, ◌+◌, ℕ, [], ap, arith, length, length-append, subst, sym}
+use Rattle.std.proofs.Common.{◌≡◌, ◌∙◌, ◌∷◌, ◌-◌, ◌+◌, ℕ, [], ap, arith, length, length-append, subst, sym}
 use Rattle.std.specs.Prelude.{Some}
 use Rattle.gap_segment.specs.Fenced.{FencedRows}
 use Rattle.cells_model.specs.Cells.{CellState, unpacked}

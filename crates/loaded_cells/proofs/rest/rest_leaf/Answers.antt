@@ -1,0 +1,27 @@
+use Rattle.std.proofs.Common.{◌≡◌, ◌∙◌, suc, ◌+◌, ◌-◌, ◌++◌, ◌∷◌, [], ap, arith, length}
+use Rattle.std.proofs.lemmas.List.{length-take}
+use Rattle.loaded_cells.specs.Ranges.{leaf_segments, segment_of}
+use Rattle.loaded_cells.proofs.RangeLemmas.{next_segment, settled_rests}
+use Rattle.loaded_cells.proofs.WordLemmas.{rest_more}
+use Rattle.loaded_cells.proofs.rest.rest_leaf.Goals as goal
+
+pub settled-requires : goal.settled-requires
+settled-requires c =
+    let front = length-take 26 c.segments.rest.rows.now in
+    let own = ap length c.split.ensures.front in
+    omega (arith, front, own)
+
+pub segments-preserved : goal.segments-preserved
+segments-preserved c =
+    let h = c.segments.invariant in
+    let p = c.segments._segment in
+    let segment = c.split.result.0 in
+    let is = c.split.ensures in
+    let count : 8 - p ≡ suc (8 - (p + 1)) =
+    let test = c.segments-test.true in let end = c.segments.auto._segment-end in omega arith in (
+      h.0 ++ segment_of segment ∷ [],
+      next_segment (leaf_segments c.args.leaf) h.0 (8 - p) (8 - (p + 1)) c.segments.rest segment c.split.result.1 count
+          is.low is.front is.cut is.next is.high is.back h.1,
+      rest_more c.args.resting.now.items c.segments.resting.items c.push.new.self.items h.0 (segment_of segment)
+          c.settled.result h.2 c.in_ok-push.ensures.items (c.settled.ensures ∙ settled_rests segment.rows.now),
+    )

@@ -1,0 +1,11 @@
+use Rattle.std.proofs.Common.{◌≡◌, ◌++◌, ◌-◌, List, map}
+use Rattle.version_segment.specs.Rows.{VersionedRows}
+use Rattle.loaded_cells.specs.Numbered.{rest_rows, resting_rows}
+use Rattle.loaded_cells.specs.Ranges.{leaf_segments, segments_from}
+use Rattle.loaded_cells.proofs.rest.rest_leaf.Given as goal
+
+abbrev pub invariant-segments : goal.invariant-segments
+invariant-segments l =
+    (front : List VersionedRows)
+    × (leaf_segments l.fn.leaf ≡ front ++ segments_from (8 - l._segment) l.rest.low l.rest.high l.rest.rows.now)
+    × (resting_rows l.resting.items ≡ resting_rows l.fn.resting.items ++ map rest_rows front)

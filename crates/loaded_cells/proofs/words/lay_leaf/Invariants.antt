@@ -1,0 +1,11 @@
+use Rattle.std.proofs.Common.{◌≡◌, ◌++◌, ◌-◌, List}
+use Rattle.version_segment.specs.Rows.{VersionedRows}
+use Rattle.loaded_cells.specs.Numbered.{blocks_of}
+use Rattle.loaded_cells.specs.Ranges.{leaf_segments, segments_from}
+use Rattle.loaded_cells.proofs.words.lay_leaf.Given as goal
+
+abbrev pub invariant-segments : goal.invariant-segments
+invariant-segments l =
+    (front : List VersionedRows)
+    × (leaf_segments l.fn.leaf ≡ front ++ segments_from (8 - l._segment) l.rest.low l.rest.high l.rest.rows.now)
+    × (l.words.items ≡ l.fn.words.items ++ blocks_of front)
