@@ -1,5 +1,5 @@
 -- What a pass knows of the cells in hand once a step has made its view know their rows.
-use Rattle.std.proofs.Common.{◌≡◌, ℕ, suc, ◌<◌, List, [], ◌∷◌, length, refl, sym, ◌∙◌, ap, subst, cond, arith, inl, inr, Some}
+use Rattle.std.proofs.Common.{◌≡◌, ℕ, suc, ◌<◌, List, [], ◌∷◌, ◌++◌, length, refl, sym, ◌∙◌, ap, subst, cond, arith, inl, inr, Some}
 use Rattle.std.specs.Prelude.{Bool, true, false, ◌==◌, ◌||◌}
 use Rattle.std.specs.List.{AllByRecursion}
 use Rattle.std.specs.FinMap.Entries.{find}
@@ -12,7 +12,7 @@ use Rattle.seat_views.specs.Keeping.{kept_at}
 use Rattle.seat_views.proofs.NumberLemmas.{kept-append, none_or_some}
 use Rattle.store_model.specs.Stamped.{StampedVersions}
 use Rattle.version_segment.specs.Rows.{VersionedRows, IsSameSegment, IsSegment, or_nothing, versions_at}
-use Rattle.store_relation.specs.Passes.{PassState}
+use Rattle.store_relation.specs.Passes.{PassState, fresh_pass}
 use Rattle.cells_model.specs.Cells.{CellState}
 use Rattle.cells_model.specs.Indexed.{covers}
 use Rattle.cells_model.specs.Words.{HasSmallValues, HasSmallWeights}
@@ -209,29 +209,60 @@ module _ (z : Config) (v : Sight) (ts us : List TakenCell) (known : AreKnown z v
         | inr some ↦ news_taken z v k us some.0 some.1
       ])
 
--- a pass whose view alone has changed so has the cells in hand
-pub holds_after : (store : Store) (old new : Pass) (ts us : List TakenCell) → Holds store old ts → KeepCells ts us
-    → (small : (u : TakenCell) → IsAmong u us → HasSmallWeights u.held.value) → (p : ℕ) (st : PassState)
-    → OnlyAccount old new (with_rows old.account.me.0 p st (news_of old.account.me.0 us)) → Holds store new (counted us)
-holds_after store old new ts us holds kept small p st step =
+-- another view that has the same of all cells knows them as well
+pub known_in : (z : Config) (v w : Sight) → w.cells ≡ v.cells → (ts : List TakenCell) → AreKnown z v ts
+    → AreKnown z w ts
+known_in z v w same [] known = tt
+known_in z v w same (t ∷ ts) known = (
+  record {
+    state = known.0.state;
+    has = (λ i. kept_at (same i) t.held.cell) ∙ known.0.has;
+    inside = known.0.inside;
+    unpacked = known.0.unpacked;
+    wide = known.0.wide;
+    same = known.0.same;
+    sound = known.0.sound;
+    small = known.0.small;
+    untouched = known.0.untouched;
+    count = known.0.count;
+  },
+  known_in z v w same ts known.1,
+)
+
+-- a pass whose view alone has changed, and has news of these cells alone, has them in hand
+pub holds_told : (store : Store) (old new : Pass) (ts us : List TakenCell) → Holds store old ts → KeepCells ts us
+    → (small : (u : TakenCell) → IsAmong u us → HasSmallWeights u.held.value) → (w : Sight) → OnlyAccount old new w
+    → w.cells ≡ news_of old.account.me.0 us ++ old.account.me.0.cells → w.indexes ≡ old.account.me.0.indexes
+    → Holds store new (counted us)
+holds_told store old new ts us holds kept small w step cells indexes =
     let has = holds.taken in
-    let sight : new.account.me.0 ≡ with_rows old.account.me.0 p st (news_of old.account.me.0 us) =
-    ap (λ m. m.0) step.account.me in
+    let z = store.accounts.config in
+    let v = old.account.me.0 in
+    let sight : new.account.me.0 ≡ w = ap (λ m. m.0) step.account.me in
+    let known = known_after z v ts us has.known kept has.apart small 0 fresh_pass in
+    let all : new.account.me.0.cells ≡ news_of v us ++ v.cells = ap (λ (x : Sight). x.cells) sight ∙ cells in
     record {
       taken = record {
         latch = subst (IsLatchOf store) (sym step.latch) has.latch;
         out = ap (λ (s : Seat StoreSlot (LatchSight Room)). s.me.1) step.latch ∙ has.out
             ∙ ap slots_out (sym (numbers_counted us ∙ numbers_kept ts us kept));
         table = step.account.table ∙ has.table;
-        known = subst (λ x. AreKnown store.accounts.config x (counted us)) (sym sight)
-            (known_after store.accounts.config old.account.me.0 ts us has.known kept has.apart small p st);
-        only = λ k c h. only_after store.accounts.config old.account.me.0 ts us has.known kept has.apart small p st
-            has.only k c (subst (λ x. HasCell x k c) sight h);
+        known = known_in z (with_rows v 0 fresh_pass (news_of v us)) new.account.me.0 all (counted us) known;
+        only = λ k c h. only_after z v ts us has.known kept has.apart small 0 fresh_pass
+            has.only k c ((λ i. kept_at (sym all i) k) ∙ h);
         apart = apart_counted us (apart_kept ts us kept has.apart);
         few = let e = length_counted us ∙ length_kept ts us kept in let few = has.few in omega (arith, e, few);
         buffers = let e = length_counted us ∙ length_kept ts us kept in let same = step.buffers in let room =
             has.buffers in omega (arith, e, same, room);
-        no_index = ap (λ (x : Sight). x.indexes) sight ∙ has.no_index;
+        no_index = ap (λ (x : Sight). x.indexes) sight ∙ indexes ∙ has.no_index;
       };
       rising = from_counted first_key us (from_kept first_key ts us kept holds.rising);
     }
+
+-- so it is where the view has news of a pass as well
+pub holds_after : (store : Store) (old new : Pass) (ts us : List TakenCell) → Holds store old ts → KeepCells ts us
+    → (small : (u : TakenCell) → IsAmong u us → HasSmallWeights u.held.value) → (p : ℕ) (st : PassState)
+    → OnlyAccount old new (with_rows old.account.me.0 p st (news_of old.account.me.0 us)) → Holds store new (counted us)
+holds_after store old new ts us holds kept small p st step =
+    holds_told store old new ts us holds kept small
+    (with_rows old.account.me.0 p st (news_of old.account.me.0 us)) step refl refl

@@ -128,7 +128,7 @@ impl TakenCells {
     }
 
     /// All rows that are there are known.
-    pub(crate) fn count_rows(&mut self)
+    pub fn count_rows(&mut self)
         ensures counted { self.new.list.items ≡ counted self.old.list.items }
         ensures capacity { vec_capacity self.old.list ≤ vec_capacity self.new.list }
     {

@@ -118,7 +118,7 @@ pub record IsOpenPass (store : Store) (pass : Pass) : Type 0 where
   pub none : HoldsNone pass
   pub opened : HasOpenTxn (state_of pass) (pin_of pass)
 
--- its transaction has ended; rows may still have to be stamped, and it is pinned
+-- its transaction has ended; rows may still have to be stamped, and it may still be pinned
 pub record IsEndedPass (store : Store) (pass : Pass) : Type 0 where
   pub of : IsPassOf store pass
   pub none : HoldsNone pass

@@ -1,6 +1,6 @@
 -- A cell in hand that is pruned, as it is counted.
 use Rattle.std.proofs.Common.{◌≡◌, inl, inr, ℕ, ◌≤◌, List, length, refl, sym, ◌∙◌, ap, subst, Option}
-use Rattle.std.specs.Prelude.{Bool, false}
+use Rattle.std.specs.Prelude.{Bool, false, true}
 use Rattle.graph_model.specs.declared.journal.Commit.{Commit}
 use Rattle.graph_model.specs.declared.row.Key.{Key}
 use Rattle.graph_model.specs.Transactions.{stamp_in}
@@ -34,20 +34,26 @@ taken_finds store old new k c only same = finds_none old new same.number only.st
 pub settled_in_hand : (store : Store) (old new : Pass) (sweep : Sweep) (k : ℕ) (c : CellState) (resting : RestingRows)
     → HasCellOnly store new (state_of old) (pin_of old) k c 0 → IsSamePass old new → HasSwept store old sweep
     → RestsAs c.segment resting → resting.rows ≡ settled_rest (length resting.rows)
-    → IsPrunedInHand store new sweep k false
-settled_in_hand store old new sweep k c resting only same swept rests settled = record {
-  cell = c;
-  only = own_self store new (state_of old) (pin_of old) k c 0 only;
-  swept = swept_still store old new sweep swept (taken_finds store old new k c only same);
-  pruned = inr (settled_none c.segment.rows (length resting.rows) (sym rests ∙ settled), refl);
-}
+    → IsPrunedInHand store new sweep k false true
+settled_in_hand store old new sweep k c resting only same swept rests settled =
+    let none = settled_none c.segment.rows (length resting.rows) (sym rests ∙ settled) in
+    record {
+      cell = c;
+      only = own_self store new (state_of old) (pin_of old) k c 0 only;
+      swept = swept_still store old new sweep swept (taken_finds store old new k c only same);
+      pruned = inr (none, refl);
+      none = λ _. none;
+    }
 
 -- one that was pruned
-pub pruned_in_hand : (store : Store) (old new : Pass) (sweep : Sweep) (k : ℕ) (c d : CellState) (went : Bool)
+pub pruned_in_hand : (store : Store) (old new : Pass) (sweep : Sweep) (k : ℕ) (c d : CellState)
+    (resting : RestingRows) (went settled : Bool)
     → HasCellOnly store new (state_of new) (pin_of old) k d 0 → HasSwept store old sweep → FindsWords old new
+    → RestsAs d.segment resting
     → IsPruned (stamps_seen (state_of old)) (horizon_of sweep) c.segment d.segment went
-    → IsPrunedInHand store new sweep k went
-pruned_in_hand store old new sweep k c d went only swept finds pruned = record {
+    → (settled ≡ true → resting.rows ≡ settled_rest (length resting.rows))
+    → IsPrunedInHand store new sweep k went settled
+pruned_in_hand store old new sweep k c d resting went settled only swept finds rests pruned none = record {
   cell = d;
   only = own_self store new (state_of new) (pin_of old) k d 0 only;
   swept = swept_still store old new sweep swept finds;
@@ -56,6 +62,7 @@ pruned_in_hand store old new sweep k c d went only swept finds pruned = record {
     subst (λ (st : PassState). IsPruned (stamps_seen st) (horizon_of sweep) c.segment d.segment went)
         (sym finds.state) pruned,
   );
+  none = λ is. settled_none d.segment.rows (length resting.rows) (sym rests ∙ none is);
 }
 
 -- the state of the pass that has the index may be said otherwise

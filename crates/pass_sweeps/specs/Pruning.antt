@@ -82,12 +82,15 @@ abbrev pub IsSweptTo : (TxnName → Option ℕ) → ℕ → VersionedRows → Bo
 IsSweptTo stamps horizon new went = ((old : VersionedRows) × IsPruned stamps horizon old new went)
     ⊎ ((all_records new.rows ≡ 0) × (went ≡ false))
 
--- the pass has this cell in hand, packed, which has been pruned at the horizon of its sweep
-pub record IsPrunedInHand (store : Store) (pass : Pass) (sweep : Sweep) (k : ℕ) (went : Bool) : Type 0 where
+-- the pass has this cell in hand, packed, which has been pruned at the horizon of its sweep; no record is left where it
+-- is called settled
+pub record IsPrunedInHand (store : Store) (pass : Pass) (sweep : Sweep) (k : ℕ) (went settled : Bool)
+    : Type 0 where
   pub cell : CellState
   pub only : HasCellOnly store pass (state_of pass) (pin_of pass) k cell 0
   pub swept : HasSwept store pass sweep
   pub pruned : IsSweptTo (stamps_seen (state_of pass)) (horizon_of sweep) cell.segment went
+  pub none : settled ≡ true → all_records cell.segment.rows ≡ 0
 
 -- a cell was found with some rows, and a record went exactly where a prune takes one away
 pub record TakesAway (stamps : TxnName → Option ℕ) (horizon : ℕ) (went : Bool) : Type 0 where

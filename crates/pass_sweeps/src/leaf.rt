@@ -1,10 +1,10 @@
 //! The cells of a leaf are pruned, each held by itself.
 
-ghost use Rattle.std.specs.Prelude.{◌≡◌, ◌<◌, ◌||◌, Bool, false};
+ghost use Rattle.std.specs.Prelude.{◌≡◌, ◌<◌, ◌&&◌, ◌||◌, Bool, false, true};
 ghost use Rattle.epoch_reclaim.specs.Pinned.{horizon_of};
 ghost use Rattle.pass_steps.specs.Passes.{HoldsNone, IsPassOf, state_of};
 ghost use Rattle.pass_sweeps.specs.Pruning.{FindsWords, IsPrunedInHand, TakesAway, TakesAwayOf, stamps_seen};
-ghost use Rattle.pass_sweeps.specs.Swept.{IsWhole, leaf_of, next_cell, took_of, with_cell};
+ghost use Rattle.pass_sweeps.specs.Swept.{IsWhole, leaf_of, next_cell, settled_of, took_of, with_cell};
 ghost use Rattle.pass_sweeps.specs.Sweeping.{HasSwept};
 
 use crate::cells::{give_cell, take_cell};
@@ -16,36 +16,48 @@ use store_rule::{Pass, Store};
 /// A leaf has so many cells.
 const CELLS: u32 = 8;
 
-/// Cells of a leaf that were pruned one after the other, and whether a record went. A cell is counted with it in hand,
-/// here alone, and the count can't be copied: whoever has one of all cells has it of a leaf that was pruned.
+/// Cells of a leaf that were pruned one after the other, whether a record went, and whether none is left. A cell is
+/// counted with it in hand, here alone, and the count can't be copied: whoever has one of all cells has it of a leaf
+/// that was pruned.
 #[derive(Debug, Drop, PartialEq, Eq)]
 pub struct LeafSwept {
     leaf: u32,
     cells: u32,
     took: bool,
+    settled: bool,
 }
 
 impl LeafSwept {
     /// No cell of the leaf.
     fn none_of(leaf: u32) -> LeafSwept
-        ensures { result ≡ record { leaf = leaf; cells = 0; took = false } }
+        ensures { result ≡ record { leaf = leaf; cells = 0; took = false; settled = true } }
     {
         LeafSwept {
             leaf,
             cells: 0,
             took: false,
+            settled: true,
         }
     }
 
     /// Counts the next cell, which is in hand and has been pruned.
-    fn count(&mut self, store: &Store, pass: &Pass, sweep: &Sweep, cell: u32, went: bool)
+    fn count(
+        &mut self,
+        store: &Store,
+        pass: &Pass,
+        sweep: &Sweep,
+        cell: u32,
+        went: bool,
+        settled: bool,
+    )
         requires next { cell ≡ next_cell self.old }
         requires more { self.old.cells < 8 }
-        requires pruned { IsPrunedInHand store.now pass.now sweep.now cell went }
-        ensures { self.new ≡ with_cell self.old went }
+        requires pruned { IsPrunedInHand store.now pass.now sweep.now cell went settled }
+        ensures { self.new ≡ with_cell self.old went settled }
     {
         self.cells += 1;
         self.took = either(went, self.took);
+        self.settled = both(settled, self.settled);
     }
 
     /// The number of the leaf.
@@ -60,6 +72,13 @@ impl LeafSwept {
         ensures { result ≡ took_of self.now }
     {
         self.took
+    }
+
+    /// Whether all cells were without records when they were given back.
+    pub fn settled(&self) -> bool
+        ensures { result ≡ settled_of self.now }
+    {
+        self.settled
     }
 }
 
@@ -96,6 +115,13 @@ fn either(one: bool, other: bool) -> bool
     one || other
 }
 
+/// Whether both are true.
+fn both(one: bool, other: bool) -> bool
+    ensures { result ≡ (one && other) }
+{
+    one && other
+}
+
 /// Prunes the next cell of a leaf. One without records is given back as it was found.
 fn sweep_cell(rt: &impl Wait, store: &Store, pass: &mut Pass, sweep: &Sweep, swept: &mut LeafSwept)
     requires pass { IsPassOf store.now pass.old }
@@ -106,17 +132,18 @@ fn sweep_cell(rt: &impl Wait, store: &Store, pass: &mut Pass, sweep: &Sweep, swe
     ensures pass { IsPassOf store.now pass.new }
     ensures none { HoldsNone pass.new }
     ensures same { FindsWords pass.old pass.new }
-    ensures took { (went : Bool) × TakesAway (stamps_seen (state_of pass.old)) (horizon_of sweep.now) went
-        × (swept.new ≡ with_cell swept.old went) }
+    ensures took { (went settled : Bool) × TakesAway (stamps_seen (state_of pass.old)) (horizon_of sweep.now) went
+        × (swept.new ≡ with_cell swept.old went settled) }
 {
     let cell = CELLS * swept.leaf + swept.cells;
     let held = take_cell(rt, store, pass, cell);
     if held.value.is_settled() {
-        swept.count(store, pass, sweep, cell, false);
+        swept.count(store, pass, sweep, cell, false, true);
         give_cell(store, pass, held);
         return;
     }
     let (held, went) = prune_cell(store, pass, sweep, held);
-    swept.count(store, pass, sweep, cell, went);
+    let settled = held.value.is_settled();
+    swept.count(store, pass, sweep, cell, went, settled);
     give_cell(store, pass, held);
 }

@@ -22,4 +22,6 @@ pub use index::LeavesFreed;
 pub use laws::{sweeps_keep_the_rule, swept_passes_go_on};
 pub use leaf::{LeafSwept, sweep_leaf};
 pub use pins::{end_sweep, sweep_pins};
+pub use prune::prune_rows;
+pub use seen::learn_writers;
 pub use step::{SweepKey, SweepTurn, key_after, sweep_step};

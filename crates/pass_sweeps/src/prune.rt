@@ -111,7 +111,7 @@ impl Change for KnowsPruned<'_> {
 }
 
 /// Prunes the rows of a cell in hand, and answers how many records went.
-fn prune_rows(
+pub fn prune_rows(
     store: &Store,
     pass: &mut Pass,
     clock: u64,

@@ -73,7 +73,7 @@ fn see_as<C: Publishing>(store: &Store, pass: &mut Pass)
 
 /// Loads the clock, and learns that whoever wrote a record without a stamp, in the rows that the pass holds, is a pass
 /// of the store.
-pub(crate) fn learn_writers(store: &Store, pass: &mut Pass) -> u64
+pub fn learn_writers(store: &Store, pass: &mut Pass) -> u64
     requires pass { IsPassOf store.now pass.old }
     ensures same { OnlyAccount pass.old pass.new pass.old.account.me.0 }
     ensures told { TellsWriters store.now.accounts.config pass.old.account.me.0 (state_of pass.old) result }

@@ -21,7 +21,7 @@ use Rattle.row_writes.proofs.WrittenLemmas.{keys_are}
 use Rattle.store_relation.specs.Keys.{changed_keys, ends_of, has_key}
 use Rattle.store_relation.specs.Passes.{PassState, name_at}
 use Rattle.store_relation.specs.Readers.{reader_of}
-use Rattle.store_relation.specs.Steps.{meeting, sighting, with_holder, with_meeting, with_sighting, with_unstamped}
+use Rattle.store_relation.specs.Steps.{meeting, sighting, with_holder, with_meeting, with_sighting}
 use Rattle.store_relation.specs.Words.{Look}
 use Rattle.cells_model.specs.Cells.{CellState}
 use Rattle.rule_model.specs.NoteSteps.{LearnsRows}
@@ -36,7 +36,7 @@ use Rattle.pass_steps.specs.Asking.{HasLooked, IsSnapshotOf, KnowsLooks}
 use Rattle.pass_steps.specs.Passes.{IsSamePass, pin_of, reader_of_pass, state_in, state_of}
 use Rattle.pass_steps.proofs.PassLemmas.{pass_after, pass_has_looked, pass_is_stepped, pin_is, sight_is, state_is}
 use Rattle.pass_steps.proofs.SightLemmas.{own_rows, state_here}
-use Rattle.pass_writes.specs.Ending.{AreLeft, AreStampedTo, keys_changed}
+use Rattle.pass_writes.specs.Ending.{AreLeft, AreStampedTo, LeavesRows, keys_changed}
 use Rattle.pass_writes.specs.Found.{Finds}
 use Rattle.pass_writes.specs.Hand.{HasInHand}
 use Rattle.pass_writes.specs.Making.{IsOpenIn, Makes, NotesOnly, after_note, after_refusal, noted}
@@ -293,11 +293,10 @@ drop_at (y ∷ xs) (suc n) x at = drop_at xs n x at
 
 -- STAMPED: the rows of one write more
 pub stamps_on : (kind : Kind) (first old new : PassState) (w : Write) (ws : List Write)
-    → old ≡ with_unstamped first old.unstamped → AreLeft kind (w ∷ ws) old.unstamped
-    → AreStampedTo kind w old new → (new ≡ with_unstamped first new.unstamped) × AreLeft kind ws new.unstamped
+    → LeavesRows old.unstamped first old → AreLeft kind (w ∷ ws) old.unstamped
+    → AreStampedTo kind w old new → LeavesRows new.unstamped first new × AreLeft kind ws new.unstamped
 stamps_on kind first old new w ws was left is = (
-  is ∙ (λ i. with_unstamped (was i) (keys_beside (keys_changed kind w) old.unstamped))
-      ∙ (λ i. with_unstamped first (sym is i).unstamped),
+  is ∙ (λ i. record (was i) { unstamped = (sym is i).unstamped; looks = new.looks }),
   subst (λ (st : PassState). AreLeft kind ws st.unstamped) (sym is) (fewer_left kind w ws old.unstamped left),
 )
 

@@ -17,6 +17,10 @@ AreLeft kind ws keys = (q : Key) → has_key keys q ≡ true → has_key (change
 abbrev pub keys_changed : Kind → Write → List Key
 keys_changed kind w = written_keys (rows_of kind w) ++ touched_keys (rows_of kind w)
 
--- those of one write are stamped, and nothing else of the pass has changed
+-- these rows are left, more words may have been found, and nothing else of the pass has changed
+abbrev pub LeavesRows : List Key → PassState → PassState → Type 0
+LeavesRows keys old new = new ≡ record (with_unstamped old keys) { looks = new.looks }
+
+-- those of one write are stamped
 abbrev pub AreStampedTo : Kind → Write → PassState → PassState → Type 0
-AreStampedTo kind w old new = new ≡ with_unstamped old (keys_beside (keys_changed kind w) old.unstamped)
+AreStampedTo kind w old new = LeavesRows (keys_beside (keys_changed kind w) old.unstamped) old new

@@ -4,17 +4,20 @@ ghost use Rattle.std.specs.Prelude.{◌≡◌, [], ◌∷◌, ◌++◌};
 ghost use Rattle.std.specs.List.{AllByRecursion};
 ghost use Rattle.graph_model.specs.Refused.{IsWithinLimits};
 ghost use Rattle.store_relation.specs.declared.stage.Stage.TheVariants.{Aborting, Idle};
-ghost use Rattle.store_relation.specs.Steps.{taken_back, with_unstamped};
+ghost use Rattle.store_relation.specs.Steps.{taken_back};
 ghost use Rattle.pass_cells.specs.Changes.{but_newest};
 ghost use Rattle.pass_steps.specs.Passes.{IsSamePass, name_of_pass, pin_of, state_of};
 ghost use Rattle.pass_steps.specs.Txns.{HasCommitted};
-ghost use Rattle.pass_writes.specs.Ending.{AreLeft, AreStampedTo};
+ghost use Rattle.pass_sweeps.specs.Sweeping.{HasSwept};
+ghost use Rattle.pass_writes.specs.Ending.{AreLeft, AreStampedTo, LeavesRows};
 ghost use Rattle.pass_writes.specs.Hand.{HasNothing};
 
 use crate::hand::{put_cells_back, take_cells};
 use crate::keys::FewKeys;
+use epoch_reclaim::Sweep;
 use graph_model::{TxnName, Write};
 use pass_cells::PassCells;
+use pass_prunes::prune_taken;
 use row_writes::WrittenRows;
 use std::sync::Wait;
 use store_rule::{Pass, Store};
@@ -71,13 +74,15 @@ fn undo_one(
     put_cells_back(store, pass, cells);
 }
 
-/// Gives the records in all rows of the last commit its stamp, given its writes. Takes no memory. The journal is free
-/// meanwhile: whoever meets a record without a stamp is told by the pass's word.
+/// Gives the records in all rows of the last commit its stamp, given its writes, and prunes the cells of these rows at
+/// the horizon of the pass's sweep. Takes no memory. The journal is free meanwhile: whoever meets a record without a
+/// stamp is told by the pass's word.
 pub fn stamp_all(
     rt: &impl Wait,
     store: &Store,
     pass: &mut Pass,
     cells: &mut PassCells,
+    sweep: &Sweep,
     by: TxnName,
     stamp: u64,
     writes: &[Write],
@@ -87,23 +92,25 @@ pub fn stamp_all(
     requires committed { HasCommitted pass.old.number (state_of pass.old) stamp }
     requires name { by ≡ name_of_pass pass.old }
     requires left { AreLeft store.now.accounts.config.kind writes.now (state_of pass.old).unstamped }
+    requires swept { HasSwept store.now pass.old sweep.now }
     requires within { AllByRecursion IsWithinLimits writes.now }
     ensures none { HasNothing store.now pass.new cells.new.taken.list.items }
-    ensures stamped { state_of pass.new ≡ with_unstamped (state_of pass.old) [] }
+    ensures stamped { LeavesRows [] (state_of pass.old) (state_of pass.new) }
     ensures pin { pin_of pass.new ≡ pin_of pass.old }
     ensures same { IsSamePass pass.old pass.new }
 {
     'writes: for place in 0..writes.len() {
-        stamp_one(rt, store, pass, cells, by, stamp, writes[place]);
+        stamp_one(rt, store, pass, cells, sweep, by, stamp, writes[place]);
     }
 }
 
-/// Stamps the rows of one write.
+/// Stamps the rows of one write, and prunes their cells.
 fn stamp_one(
     rt: &impl Wait,
     store: &Store,
     pass: &mut Pass,
     cells: &mut PassCells,
+    sweep: &Sweep,
     by: TxnName,
     stamp: u64,
     write: Write,
@@ -112,6 +119,7 @@ fn stamp_one(
     requires stage { (state_of pass.old).stage ≡ Idle }
     requires committed { HasCommitted pass.old.number (state_of pass.old) stamp }
     requires name { by ≡ name_of_pass pass.old }
+    requires swept { HasSwept store.now pass.old sweep.now }
     requires within { IsWithinLimits write }
     ensures none { HasNothing store.now pass.new cells.new.taken.list.items }
     ensures stamped { AreStampedTo store.now.accounts.config.kind write (state_of pass.old) (state_of pass.new) }
@@ -122,5 +130,6 @@ fn stamp_one(
     let keys = FewKeys::of_changes(&rows);
     take_cells(rt, store, pass, cells, keys.as_slice());
     cells.stamp(store, pass, by, stamp, keys.as_slice());
+    prune_taken(store, pass, cells, sweep);
     put_cells_back(store, pass, cells);
 }

@@ -5,7 +5,6 @@ use Rattle.std.specs.List.{list_any}
 use Rattle.std.proofs.lemmas.Bool.Decides.{nat_tests}
 use Rattle.graph_model.specs.declared.limits.TheConstants.{MAX_ID}
 use Rattle.graph_model.specs.declared.row.Cursor.{Cursor}
-use Rattle.graph_model.specs.declared.row.Key.{Key}
 use Rattle.graph_model.specs.declared.row.Row.{Row}
 use Rattle.graph_model.specs.Graph.{Graph, HasBothEnds, IsBounded}
 use Rattle.graph_model.specs.Rows.{end_key, is_below, value_at}

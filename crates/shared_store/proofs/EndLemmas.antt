@@ -1,10 +1,12 @@
 -- How a transaction ends.
-use Rattle.std.proofs.Common.{◌≡◌, ℕ, ◌+◌, List, [], length, refl, sym, ◌∙◌, ap, subst}
+use Rattle.std.proofs.Common.{◌≡◌, ℕ, ◌+◌, List, [], ◌++◌, length, refl, sym, ◌∙◌, ap, append_assoc, subst}
 use Rattle.std.specs.Prelude.{true, false, Option, Some, None, IfSome, IfNone}
 use Rattle.std.specs.List.{AllByRecursion}
 use Rattle.graph_model.specs.declared.journal.TxnName.{TxnName}
 use Rattle.graph_model.specs.declared.write.Write.{Write}
-use Rattle.graph_model.specs.AccountSteps.{AbortsBy, CommitsBy}
+use Rattle.graph_model.specs.Account.{Account}
+use Rattle.graph_model.specs.AccountSteps.{AbortsBy, CommitsBy, GoesOn, ReadsBy}
+use Rattle.graph_model.specs.AccountSteps.{ended as account_ended, stamped as account_stamped}
 use Rattle.graph_model.specs.Legal.{IsLegal}
 use Rattle.graph_model.specs.Refused.{IsWithinLimits}
 use Rattle.graph_model.proofs.AccountLemmas.{commit_keeps}
@@ -15,7 +17,7 @@ use Rattle.store_relation.specs.Passes.{PassState, is_active, number_of}
 use Rattle.store_relation.specs.Passes.{account_of as state_account}
 use Rattle.store_relation.specs.Steps.{committed, ended, stopped, taken_back, with_entry, with_unstamped}
 use Rattle.store_relation.proofs.AccountLemmas.{account_aborts}
-use Rattle.store_relation.proofs.ListLemmas.{prefix_all}
+use Rattle.store_relation.proofs.ListLemmas.{prefix_all, prefix_get}
 use Rattle.store_relation.proofs.MadeLemmas.{made_active, made_ended}
 use Rattle.rule_model.specs.Sight.{PinState, with_pass, with_pin, with_rows}
 use Rattle.store_rule.specs.Passes.{OnlyAccount}
@@ -170,6 +172,36 @@ stamped_ended store new st of none ended state = record {
     alone = ended.alone;
   });
 }
+
+-- more of the journal may be seen after a call
+goes_reads : (old changed mid new : Account) → GoesOn old changed mid → ReadsBy mid new → GoesOn old changed new
+goes_reads old changed mid new goes reads = record {
+  seen = (
+    goes.seen.0 ++ reads.seen.0,
+    reads.seen.1 ∙ ap (λ l. l ++ reads.seen.0) goes.seen.1 ∙ append_assoc old.seen goes.seen.0 reads.seen.0,
+  );
+  others = reads.others ∙ (λ i. record (goes.others i) { seen = new.seen });
+}
+
+-- so too after a commit
+pub commits_on : (old mid new : Account) (stamp : Option ℕ) → CommitsBy old stamp mid → ReadsBy mid new
+    → CommitsBy old stamp new
+commits_on old mid new None commits reads = (commits.0, goes_reads old (account_ended old) mid new commits.1 reads)
+commits_on old mid new (Some stamp) commits reads = (
+  (λ start is.
+      let had = commits.0 start is in
+      record {
+        wrote = had.wrote;
+        place = had.place;
+        commit = had.commit;
+        at = prefix_get mid.seen new.seen (reads.seen.0, sym reads.seen.1) had.place had.commit had.at;
+        stamped = had.stamped;
+        begun = had.begun;
+        by = had.by;
+        writes = had.writes;
+      }),
+  goes_reads old (account_stamped old stamp) mid new commits.1 reads,
+)
 
 -- IDLE: after a commit
 pub commits_idle : (store : Store) (old new : Pass) (stamp : Option ℕ) → IsOpen store old

@@ -17,16 +17,16 @@ use Rattle.graph_model.specs.Rows.{end_key, first_key, is_below, is_between, row
 use Rattle.graph_model.specs.Transactions.{reached}
 use Rattle.graph_model.proofs.KeyLemmas.{below_chain, below_self, between_of, between_parts, upto_chain}
 use Rattle.txn_manager.specs.declared.config.Config.{Config}
-use Rattle.store_model.specs.Stamped.{Stamped, StampedVersions, first_stamped, forget, forget_row, known, prune_stamped, stamped_front}
+use Rattle.store_model.specs.Stamped.{Stamped, StampedVersions, first_stamped, forget, known, prune_stamped, stamped_front}
 use Rattle.store_model.specs.Versions.{first_seen, sees}
 use Rattle.undo_chain.specs.declared.states.Snapshot.{Snapshot}
-use Rattle.version_segment.specs.Resting.{value_in_word, mark, newest_in, newest_value, no_value, value_word, word_of, word_row, word_rows}
+use Rattle.version_segment.specs.Resting.{value_in_word, mark, newest_in, newest_value, no_value, word_of, word_row, word_rows}
 use Rattle.version_segment.specs.Rows.{VersionedRows, IsSameSegment, IsSegment, is_empty, range_of, rows_read, versions_at, with_row}
 use Rattle.leaf_array.specs.Segments.{AreChained, high_or, low_or}
 use Rattle.leaf_index.specs.declared.route.Route.{Route}
 use Rattle.leaf_index.specs.Index.{Index, IsRoute}
 use Rattle.leaf_table.specs.declared.place.Place.{Place}
-use Rattle.leaf_store.specs.Leaves.{Leaves, AreLeaves, cell_at, cell_in, cells_of, versions_of}
+use Rattle.leaf_store.specs.Leaves.{Leaves, AreLeaves, cell_in, cells_of, versions_of}
 use Rattle.leaf_store.specs.Table.{segments_at, segments_or_none}
 use Rattle.leaf_store.proofs.TableLemmas.{Located, kept_leaves, located}
 use Rattle.leaf_rows.specs.Counted.{is_vertex_row}
@@ -36,7 +36,7 @@ use Rattle.leaf_rows.proofs.RunLemmas.{range_read}
 use Rattle.store_relation.specs.Ends.{only_value}
 use Rattle.cells_model.specs.Cells.{CellState}
 use Rattle.cells_model.specs.InPlace.{segment_of}
-use Rattle.cells_model.specs.Indexed.{IsIndexed, cells_from, covers, leaf_cells, store_of, table_of}
+use Rattle.cells_model.specs.Indexed.{IsIndexed, cells_from, covers, store_of, table_of}
 use Rattle.cells_model.specs.Words.{HasSmallValues, IsSmall}
 use Rattle.cells_model.proofs.IndexedLemmas.{cells_show, fences_tell}
 use Rattle.cells_model.proofs.RunLemmas.{segments_table}

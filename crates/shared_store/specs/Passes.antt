@@ -70,6 +70,11 @@ pub record MayStamp (store : Store) (pass : Pass) (by : TxnName) (stamp : Option
   pub none : IfNone stamp ((state_of pass.seats).unstamped ≡ [])
   pub within : AllByRecursion IsWithinLimits pass.changed.items
 
+-- all rows of its commit are stamped, and it may have seen more of the journal and found more words
+pub record Settles (old new : PassState) : Type 0 where
+  pub front : IsPrefix old.seen new.seen
+  pub is : new ≡ record old { unstamped = []; seen = new.seen; looks = new.looks }
+
 -- it has no cell in hand; of its lists one is as it was, and the other is this
 pub record KeepsLists (old new : Pass) (changed : List Write) : Type 0 where
   pub cells : new.cells.taken.list.items ≡ []

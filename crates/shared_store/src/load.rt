@@ -1,7 +1,7 @@
 //! A store that begins with a load.
 //!
 //! 1. It is as if pass 0 had begun on a new store, made the writes of a load and committed them.
-//! 2. The rows of the load are sorted, and laid in leaves from left to right.
+//! 2. The rows of the load are sorted, and divided among leaves from left to right.
 
 ghost use Rattle.std.specs.Prelude.{◌≡◌, ◌<◌, ◌↔◌, Err, IfErr, IfOk, false, true, length};
 ghost use Rattle.std.specs.List.{AllByRecursion};

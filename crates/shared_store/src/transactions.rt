@@ -3,19 +3,22 @@
 //! 1. `begin` makes room in the journal, and a write makes room in its pass's lists, so neither a commit nor an abort
 //!    takes memory.
 //! 2. The rows of a commit are stamped once the journal is free. Whoever meets one before is told by the pass's word.
+//! 3. Whoever has committed holds nothing back any more, so its own rows may be pruned while they are stamped: where
+//!    nobody is open who began before, they keep no record.
 
 ghost use Rattle.std.specs.Prelude.{◌≡◌, ◌⊎◌, ◌≤◌, ◌↔◌, Err, OnOk, OnErr, []};
 ghost use mathlib.Core.List.{IsPrefix};
 ghost use Rattle.graph_model.specs.AccountSteps.{AbortsBy, BeginsBy, CommitsBy, ReadsBy};
 ghost use Rattle.graph_model.specs.declared.refusal.BeginRefusal.TheVariants.{TxnsUsed};
-ghost use Rattle.pass_steps.specs.Passes.{IsEndedPass, IsIdlePass, state_of};
-ghost use Rattle.store_relation.specs.Steps.{with_unstamped};
-ghost use Rattle.shared_store.specs.Passes.{IsIdle, IsOpen, KeepsLists, MayStamp, account_of};
+ghost use Rattle.pass_steps.specs.Passes.{IsEndedPass, IsIdlePass, pin_of, state_of};
+ghost use Rattle.pass_sweeps.specs.Sweeping.{with_sweep};
+ghost use Rattle.shared_store.specs.Passes.{IsIdle, IsOpen, KeepsLists, MayStamp, Settles, account_of};
 
 use crate::pass::Pass;
 use graph_model::{BeginRefusal, Begun, RoomyWrites, TxnName};
 use items::RoomyItems;
 use pass_steps::{end, stop, unpin};
+use pass_sweeps::{end_sweep, sweep_pins};
 use pass_writes::{stamp_all, undo_all};
 use std::mem::replace;
 use std::sync::Wait;
@@ -55,38 +58,44 @@ pub fn commit(rt: &impl Wait, store: &Store, pass: &mut Pass) -> Option<u64>
     stamp
 }
 
-/// Stamps the rows of a transaction that has ended with this answer, forgets its writes, and holds nothing back.
+/// Holds nothing back for a transaction that has ended with this answer, stamps its rows, and forgets its writes.
 fn finish(rt: &impl Wait, store: &Store, pass: &mut Pass, by: TxnName, stamp: Option<u64>)
     requires { MayStamp store.now pass.old by stamp }
     ensures idle { IsIdlePass store.now pass.new.seats }
-    ensures account { account_of store.now pass.new ≡ account_of store.now pass.old }
+    ensures account { ReadsBy (account_of store.now pass.old) (account_of store.now pass.new) }
     ensures number { pass.new.seats.number ≡ pass.old.seats.number }
     ensures lists { KeepsLists pass.old pass.new [] }
 {
+    unpin(store, &mut pass.seats);
     stamp_rows(rt, store, pass, by, stamp);
     clear(&mut pass.changed);
-    unpin(store, &mut pass.seats);
 }
 
-/// Stamps the rows of a commit, if there was one.
+/// Stamps the rows of a commit, if there was one, and prunes them at the horizon that the pass finds then: where nobody
+/// is open they have no record any more.
 fn stamp_rows(rt: &impl Wait, store: &Store, pass: &mut Pass, by: TxnName, stamp: Option<u64>)
     requires { MayStamp store.now pass.old by stamp }
     ensures ended { IsEndedPass store.now pass.new.seats }
-    ensures stamped { state_of pass.new.seats ≡ with_unstamped (state_of pass.old.seats) [] }
+    ensures settled { Settles (state_of pass.old.seats) (state_of pass.new.seats) }
+    ensures pin { pin_of pass.new.seats ≡ with_sweep (pin_of pass.old.seats) (pin_of pass.new.seats).sweep }
     ensures number { pass.new.seats.number ≡ pass.old.seats.number }
     ensures lists { KeepsLists pass.old pass.new pass.old.changed.items }
 {
-    if let Some(stamp) = stamp {
-        stamp_all(
-            rt,
-            store,
-            &mut pass.seats,
-            &mut pass.cells,
-            by,
-            stamp,
-            pass.changed.as_slice(),
-        );
-    }
+    let Some(stamp) = stamp else {
+        return;
+    };
+    let sweep = sweep_pins(store, &mut pass.seats);
+    stamp_all(
+        rt,
+        store,
+        &mut pass.seats,
+        &mut pass.cells,
+        &sweep,
+        by,
+        stamp,
+        pass.changed.as_slice(),
+    );
+    end_sweep(store, &mut pass.seats);
 }
 
 /// Ends the open transaction and takes its writes back. May wait, and takes no memory.

@@ -38,9 +38,9 @@ pub cells-preserved : goal.cells-preserved
 cells-preserved g c =
     let inv = c.cells.invariant in
     let out = c.sweep_cell.ensures in
-    let is = out.took.2 in
+    let is = out.took.3 in
     let took = subst (λ (st : PassState). TakesAway (stamps_seen st) (horizon_of c.args.sweep.now) out.took.0)
-    inv.2.state out.took.1 in (
+    inv.2.state out.took.2 in (
       out.pass,
       out.none,
       finds_then c.args.pass.now c.cells.pass c.sweep_cell.new.pass inv.2 out.same,

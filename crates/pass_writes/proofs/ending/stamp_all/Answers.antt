@@ -1,8 +1,7 @@
-use Rattle.std.proofs.Common.{◌≡◌, ℕ, suc, ◌+◌, ◌<◌, ◌≤◌, ◌∙◌, [], ◌∷◌, List, ap, arith, drop, get_or, length, subst}
+use Rattle.std.proofs.Common.{◌≡◌, ℕ, suc, ◌+◌, ◌<◌, ◌≤◌, ◌∙◌, [], ◌∷◌, List, arith, drop, get_or, length, subst}
 use Rattle.std.proofs.lemmas.Option.{slice_get-get_or}
 use Rattle.graph_model.specs.declared.write.Write.{Write}
 use Rattle.graph_model.specs.declared.write.Write.TheVariants.{AddVertex}
-use Rattle.store_relation.specs.Steps.{with_unstamped}
 use Rattle.pass_steps.specs.Passes.{state_of}
 use Rattle.pass_writes.specs.Ending.{AreLeft}
 use Rattle.pass_writes.proofs.StateLemmas.{drop_at, drop_end, none_left, same_again, stamps_on}
@@ -43,4 +42,7 @@ returns-clause-stamped g c =
     let left : AreLeft kind [] (state_of c.writes.pass).unstamped =
     subst (λ (ws : List Write). AreLeft kind ws (state_of c.writes.pass).unstamped)
     (drop_end c.args.writes.now c.writes.place over) inv.left in
-    inv.state ∙ ap (with_unstamped (state_of c.args.pass.now)) (none_left kind (state_of c.writes.pass).unstamped left)
+    inv.state ∙ (λ i. record (state_of c.args.pass.now) {
+      unstamped = none_left kind (state_of c.writes.pass).unstamped left i;
+      looks = (state_of c.writes.pass).looks;
+    })

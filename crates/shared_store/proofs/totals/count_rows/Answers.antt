@@ -1,11 +1,10 @@
-use Rattle.std.proofs.Common.{◌≡◌, ◌∙◌, ◌+◌, ◌<◌, Some, ap, arith, length, refl, subst, sym}
-use Rattle.std.specs.Prelude.{count_by, false, slice_get, true}
-use Rattle.graph_model.specs.Rows.{end_key, first_key, is_below, rows, vertex_key}
+use Rattle.std.proofs.Common.{◌≡◌, ◌∙◌, ◌<◌, Some, ap, arith, length, refl, subst, sym}
+use Rattle.std.specs.Prelude.{count_by, slice_get}
+use Rattle.graph_model.specs.Rows.{end_key, first_key, rows, vertex_key}
 use Rattle.graph_model.proofs.KeyLemmas.{below_flip, below_self, tied_keys, upto_chain}
 use Rattle.version_segment.specs.Rows.{VersionedRows}
 use Rattle.store_words.specs.Spelling.{CanSpell}
 use Rattle.leaf_rows.specs.Counted.{is_vertex_row}
-use Rattle.leaf_rows.specs.Runs.{cells_behind}
 use Rattle.leaf_rows.proofs.CountLemmas.{count_on, length_on}
 use Rattle.leaf_rows.proofs.RunLemmas.{none_between}
 use Rattle.shared_store.specs.Totals.{is_seen, is_seen_vertex}

@@ -1,7 +1,6 @@
-use Rattle.std.proofs.Common.{refl, subst, sym}
-use Rattle.graph_model.specs.AccountSteps.{CommitsBy}
+use Rattle.std.proofs.Common.{refl}
 use Rattle.shared_store.specs.Passes.{account_of}
-use Rattle.shared_store.proofs.EndLemmas.{may_stamp}
+use Rattle.shared_store.proofs.EndLemmas.{commits_on, may_stamp}
 use Rattle.shared_store.proofs.transactions.commit.Goals as goal
 
 pub finish-requires : goal.finish-requires
@@ -12,6 +11,5 @@ finish-requires g c =
 
 pub returns-clause-commits : goal.returns-clause-commits
 returns-clause-commits g c =
-    let store = c.args.store.now in
-    subst (λ a. CommitsBy (account_of store c.args.pass.now) c.commit-stamp.result a) (sym c.finish.ensures.account)
-    c.commit-stamp.ensures.account
+    commits_on (account_of c.args.store.now c.args.pass.now) _ (account_of c.args.store.now c.finish.new.pass)
+    c.commit-stamp.result c.commit-stamp.ensures.account c.finish.ensures.account
