@@ -12,6 +12,7 @@ use Rattle.latch_table.proofs.cells.Laid.TheSendSync as laid
 use Rattle.leaf_array.proofs.leaf.Leaf.TheSendSync as leaf
 use Rattle.pass_cells.proofs.taken.TakenCell.TheSendSync as cell
 use Rattle.rebalance_service.proofs.serve.ServiceKeys.TheSendSync as keys
+use Rattle.rebalance_service.proofs.settled.SettledLeaves.TheSendSync as settled
 use Rattle.shared_store.proofs.SendLemmas.{pass_send, slot_send, store_sync}
 use Rattle.pass_leaves.specs.contracts.own.PassLeaves as Leaves
 use Rattle.pass_room.specs.contracts.own.PassRoom as Room
@@ -41,12 +42,15 @@ worker_send a R H h shared =
           (
             option.the_send Room.the_row room_send,
             (
-              search sendable,
+              settled.the_send,
               (
-                keys.the_send,
+                search sendable,
                 (
-                  phantom.the_send H,
-                  tt,
+                  keys.the_send,
+                  (
+                    phantom.the_send H,
+                    tt,
+                  ),
                 ),
               ),
             ),

@@ -88,6 +88,7 @@ impl<'a, R: Wait, H: Home> Engine for Worker<'a, R, H> {
             self.store,
             &mut self.pass,
             &mut self.room,
+            &mut self.settled,
             &mut self.keys,
         )
     }

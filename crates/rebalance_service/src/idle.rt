@@ -1,4 +1,4 @@
-//! Leaves of which the words of their cells tell that no turn of merging has anything to do with them.
+//! Leaves of which the words of their cells tell that a turn of the service has nothing to do with them.
 //!
 //! The words are loaded with no latch, while others change cells. So they tell nothing for sure, and no clause speaks
 //! of what is found. A leaf that is passed over by mistake has its turn in the next round. The cost of a look is twelve
@@ -22,17 +22,38 @@ const LOW: u32 = 2;
 
 const HIGH: u32 = 4;
 
-/// Where the leaf of a key ends, if it is likely that its cells have enough rows each, and too many in all to be
-/// merged. None at the last leaf, with which a round ends. The first call looks at the first blocks of all leaves: a pass
-/// that hands out no hint of its own would else come to know one leaf a turn.
-pub(crate) fn beyond_full_leaf(store: &Store, hints: &mut CellHints, key: Key) -> Option<Key> {
+/// The leaf that a hint names for a key.
+#[derive(Clone, Copy, Debug, PartialEq, Eq)]
+pub(crate) struct LikelyLeaf {
+    pub leaf: u32,
+    /// Where it ends.
+    pub high: Key,
+}
+
+/// The leaf that a hint names for a key, if the fence keys of its cells hold the key. None at the last leaf, with which
+/// a round ends. The first call looks at the first blocks of all leaves: a pass that hands out no hint of its own would
+/// else come to know one leaf a turn.
+pub(crate) fn likely_leaf(store: &Store, hints: &mut CellHints, key: Key) -> Option<LikelyLeaf> {
     hints.survey_once(store);
-    let first = hints.leaf_of(key).saturating_mul(LEAF_SEGMENTS as u32);
-    let last = first.saturating_add(LEAF_SEGMENTS as u32 - 1);
-    let low = key_in(store, first, LOW);
-    let high = key_in(store, last, HIGH);
+    let leaf = hints.leaf_of(key);
+    let cells = cells_of(leaf);
+    let low = key_in(store, cells.start, LOW);
+    let high = key_in(store, cells.end.saturating_sub(1), HIGH);
     let holds = !key.is_below(low) && key.is_below(high) && high.is_below(Key::END);
-    (holds && are_full(store, first..last.saturating_add(1))).then_some(high)
+    holds.then_some(LikelyLeaf { leaf, high })
+}
+
+/// The cells of a leaf.
+pub(crate) fn cells_of(leaf: u32) -> Range<u32> {
+    let first = leaf.saturating_mul(LEAF_SEGMENTS as u32);
+    first..first.saturating_add(LEAF_SEGMENTS as u32)
+}
+
+/// Where the leaf of a key ends, if it is likely that its cells have enough rows each, and too many in all to be
+/// merged.
+pub(crate) fn beyond_full_leaf(store: &Store, hints: &mut CellHints, key: Key) -> Option<Key> {
+    let LikelyLeaf { leaf, high } = likely_leaf(store, hints, key)?;
+    are_full(store, cells_of(leaf)).then_some(high)
 }
 
 /// Whether these cells of a leaf have enough rows each, and too many in all for a merge.

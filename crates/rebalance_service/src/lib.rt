@@ -2,8 +2,9 @@
 //!
 //! 1. Between two calls its pass has no transaction, or an open one, and holds no latch.
 //! 2. A write that finds no place is tried again as soon as there is room, as one write to whoever asked for it.
-//! 3. Turns of the service change no view. A turn of merging takes a leaf only where words that are loaded with no
-//!    latch don't tell that it is full.
+//! 3. Turns of the service change no view. A turn takes a leaf only where words that are loaded with no latch don't
+//!    tell that there is nothing to do with it: for a turn of merging that it is full, for a sweep that it had no
+//!    records when it was last swept, and hasn't changed since.
 #![tactic(auto)]
 
 mod calls;
@@ -12,6 +13,7 @@ mod idle;
 mod reads;
 mod room;
 mod serve;
+mod settled;
 mod worker;
 mod writes;
 

@@ -8,10 +8,11 @@ ghost use Rattle.rebalance_service.specs.Turns.{next_turn};
 
 use crate::idle::beyond_full_leaf;
 use crate::room::has_room;
+use crate::settled::{FreeLeaf, SettledLeaves};
 use graph_model::NoMemory;
 use pass_merges::{MergeKey, MergeTurn, merge_step};
 use pass_room::PassRoom;
-use pass_sweeps::{SweepKey, sweep_step};
+use pass_sweeps::{LeafSwept, SweepKey, SweepTurn, sweep_step};
 use shared_store::{Pass, Store};
 use std::alloc::Global;
 use std::sync::Wait;
@@ -48,6 +49,7 @@ pub(crate) fn serve(
     store: &Store,
     pass: &mut Pass,
     room: &mut Option<PassRoom>,
+    settled: &mut SettledLeaves,
     keys: &mut ServiceKeys,
 ) -> Result<bool, NoMemory>
     requires ready { ∥ IsReady store.now pass.old ∥₁ }
@@ -59,24 +61,49 @@ pub(crate) fn serve(
     match keys.turn {
         ServiceTurn::Sweep => {
             keys.turn = ServiceTurn::Merge;
-            Ok(sweep(rt, store, pass, &mut keys.sweep))
+            Ok(sweep(rt, store, pass, settled, &mut keys.sweep))
         }
         ServiceTurn::Merge => {
             keys.turn = ServiceTurn::Sweep;
-            merge(rt, store, pass, room, &mut keys.merge)
+            merge(rt, store, pass, room, settled, &mut keys.merge)
         }
     }
 }
 
-/// Prunes the next leaf, and answers whether a record went.
-fn sweep(rt: &impl Wait, store: &Store, pass: &mut Pass, key: &mut SweepKey) -> bool
+/// Prunes the next leaf, and answers whether a record went. A leaf that is likely to have none is passed over without a
+/// latch.
+fn sweep(
+    rt: &impl Wait,
+    store: &Store,
+    pass: &mut Pass,
+    settled: &mut SettledLeaves,
+    key: &mut SweepKey,
+) -> bool
+    requires ready { ∥ IsReady store.now pass.old ∥₁ }
+    ensures ready { ∥ IsReady store.now pass.new ∥₁ }
+    ensures legal { HasSeenLegal (account_of store.now pass.new) }
+    ensures reads { ReadsBy (account_of store.now pass.old) (account_of store.now pass.new) }
+{
+    let looked = FreeLeaf::of_key(store, &mut pass.cells.hints, key.next);
+    if let Some(next) = settled.beyond(looked) {
+        key.next = next;
+        return false;
+    }
+    let swept = sweep_here(rt, store, pass, key);
+    settled.note(store, looked, &swept);
+    swept.took()
+}
+
+/// Prunes the next leaf, and answers what was swept.
+fn sweep_here(rt: &impl Wait, store: &Store, pass: &mut Pass, key: &mut SweepKey) -> LeafSwept
     requires ready { ∥ IsReady store.now pass.old ∥₁ }
     ensures ready { ∥ IsReady store.now pass.new ∥₁ }
     ensures legal { HasSeenLegal (account_of store.now pass.new) }
     ensures reads { ReadsBy (account_of store.now pass.old) (account_of store.now pass.new) }
 {
     let turn = sweep_step(rt, store, &mut pass.seats, key);
-    turn.swept.took()
+    let SweepTurn { swept, freed: _ } = turn;
+    swept
 }
 
 /// Spreads a window of the next leaf, or makes one leaf of it and the one behind it, if there is anything to do with
@@ -86,6 +113,7 @@ fn merge(
     store: &Store,
     pass: &mut Pass,
     room: &mut Option<PassRoom>,
+    settled: &mut SettledLeaves,
     key: &mut MergeKey,
 ) -> Result<bool, NoMemory>
     requires ready { ∥ IsReady store.now pass.old ∥₁ }
@@ -99,6 +127,10 @@ fn merge(
     }
     let alloc = pass.alloc;
     match has_room(room, alloc) {
+        Ok(()) => {}
+        Err(refused) => return Err(refused),
+    }
+    match settled.make_room(alloc, store.accounts.config.leaves) {
         Ok(()) => {}
         Err(refused) => return Err(refused),
     }

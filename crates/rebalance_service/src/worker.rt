@@ -6,6 +6,7 @@ ghost use Rattle.shared_store.specs.Passes.{IsIdle};
 ghost use Rattle.rebalance_service.specs.Ready.{IsReady};
 
 use crate::serve::ServiceKeys;
+use crate::settled::SettledLeaves;
 use pass_room::PassRoom;
 use shared_store::{Pass, Store};
 use std::marker::{Brand, PhantomData};
@@ -33,6 +34,7 @@ pub struct Worker<'a, R: Wait, H: Home> {
     pub(crate) pass: Pass,
     /// Made by the first call that moves rows.
     pub(crate) room: Option<PassRoom>,
+    pub(crate) settled: SettledLeaves,
     /// How many turns of the service it has taken, up to the last number.
     pub(crate) served: u64,
     pub(crate) keys: ServiceKeys,
@@ -50,11 +52,13 @@ impl<'a, R: Wait, H: Home> Worker<'a, R, H> {
         ensures pass { result.pass ≡ pass }
         ensures served { result.served ≡ 0 }
     {
+        let settled = SettledLeaves::none(pass.alloc);
         Worker {
             rt,
             store,
             pass,
             room: None,
+            settled,
             served: 0,
             keys: ServiceKeys::first(),
             of: PhantomData,
@@ -72,6 +76,7 @@ impl<'a, R: Wait, H: Home> Worker<'a, R, H> {
             store: _,
             pass,
             room,
+            settled: _,
             served: _,
             keys: _,
             of: _,

@@ -19,10 +19,26 @@ returns-in-Err-clause-reads g c =
     goes_on (account_of c.args.store.now c.args.pass.now) (account_of c.args.store.now c.args.pass.now) refl
 
 pub returns-in-Some-clause-ready : goal.returns-in-Some-clause-ready
-returns-in-Some-clause-ready g c = ∣ ready_hinted c.args.store.now c.args.pass.now _ refl (is_ready c.args.store.now c.args.pass.now c.requires.ready) ∣₁
+returns-in-Some-clause-ready g c =
+    ∣ ready_hinted c.args.store.now c.args.pass.now _ refl
+    (is_ready c.args.store.now c.args.pass.now c.requires.ready) ∣₁
 
 pub returns-in-Err-clause-ready : goal.returns-in-Err-clause-ready
-returns-in-Err-clause-ready g c = ∣ ready_hinted c.args.store.now c.args.pass.now _ refl (is_ready c.args.store.now c.args.pass.now c.requires.ready) ∣₁
+returns-in-Err-clause-ready g c =
+    ∣ ready_hinted c.args.store.now c.args.pass.now _ refl
+    (is_ready c.args.store.now c.args.pass.now c.requires.ready) ∣₁
 
 pub merge_here-requires : goal.merge_here-requires
-merge_here-requires g c = record { ready = ∣ ready_hinted c.args.store.now c.args.pass.now _ refl (is_ready c.args.store.now c.args.pass.now c.requires.ready) ∣₁ }
+merge_here-requires g c = record {
+  ready = ∣ ready_hinted c.args.store.now c.args.pass.now _ refl
+      (is_ready c.args.store.now c.args.pass.now c.requires.ready) ∣₁;
+}
+
+pub returns-in-Err-make_room-clause-ready : goal.returns-in-Err-make_room-clause-ready
+returns-in-Err-make_room-clause-ready g c =
+    ∣ ready_hinted c.args.store.now c.args.pass.now _ refl
+    (is_ready c.args.store.now c.args.pass.now c.requires.ready) ∣₁
+
+pub returns-in-Err-make_room-clause-legal : goal.returns-in-Err-make_room-clause-legal
+returns-in-Err-make_room-clause-legal g c =
+    legal_ready c.args.store.now c.args.pass.now (is_ready c.args.store.now c.args.pass.now c.requires.ready)
