@@ -21,9 +21,10 @@ use Rattle.teseo_program.specs.Outcomes.{status_of, outcome_of_words, IsRunOutco
 use Rattle.teseo_program.specs.Laws.{AreTold, Stands, HasNoFault}
 use Rattle.teseo_program.proofs.LawLemmas.{end_well, graphs_made, stands_still}
 use Rattle.teseo_program.proofs.EndLemmas.{room_ends_well}
+use Rattle.run_keeper.specs.Keeping.{acknowledged_on}
 use Rattle.kept_program.specs.declared.outcome.KeptOutcome.{KeptOutcome}
 use Rattle.kept_program.specs.declared.outcome.KeptOutcome.TheVariants.{Of, NotMade, NotKept, NotAJournal, NotRecovered}
-use Rattle.kept_program.specs.Outcomes.{kept_status, acknowledged_on, RunEnds, RecoverEnds, IsRecovery, Ends, IsEnd, IsUntaken}
+use Rattle.kept_program.specs.Outcomes.{kept_status, RunEnds, RecoverEnds, IsRecovery, Ends, IsEnd, IsUntaken}
 use Rattle.kept_program.specs.Laws.{IsFaultlessEnd, AcceptedCallsEndWell, CallsWithRoomEndWell, CallsMakeGraphs, FilesAreRecovered}
 
 -- ---- words that are taken

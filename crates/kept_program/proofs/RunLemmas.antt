@@ -1,5 +1,5 @@
 -- A run whose commits are kept ends as its outputs are written, or as its preparation stopped.
-use Rattle.std.proofs.Common.{◌≡◌, ℕ, ◌*◌, ◌≤◌, List, [], length, refl, sym, ◌∙◌, ap, subst, true, false, inl, inr}
+use Rattle.std.proofs.Common.{◌≡◌, ℕ, ◌*◌, ◌≤◌, List, [], length, refl, sym, ◌∙◌, ap, subst, arith, true, false, inl, inr}
 use Rattle.std.specs.Prelude.{Bool, ◌⊎◌, None, Some}
 use Rattle.graph_model.specs.declared.limits.TheConstants.{MAX_SOURCE_BYTES, SPLIT_ROWS}
 use Rattle.graph_model.specs.declared.write.Kind.{Kind}
@@ -10,13 +10,14 @@ use Rattle.graphalytics_io.specs.Load.{load_of}
 use Rattle.desk_io.specs.Files.{Files, Rose}
 use Rattle.desk_io.specs.Sources.{AreRead}
 use Rattle.journal_disk.specs.Disk.{DiskState, FaultsStand, FaultsRise}
-use Rattle.journal_file.specs.declared.file.JournalFile.{JournalFile}
-use Rattle.run_keeper.specs.Keeping.{IsKept}
+use Rattle.run_keeper.specs.Keeping.{IsJournalSoFar, KeepsSoFar}
 use Rattle.kept_run.specs.declared.refusal.KeptRefusal.{KeptRefusal}
 use Rattle.kept_run.specs.declared.refusal.KeptRefusal.TheVariants as stops
 use Rattle.kept_run.specs.Refusals.{IsRefusedKept}
 use Rattle.command_words.specs.Words.{RunRequest}
 use Rattle.source_run.specs.Requests.{source_names, report_names, kind_of}
+use Rattle.source_run.specs.declared.ran.Ran.{Ran}
+use Rattle.source_run.specs.declared.ran.Ran.TheVariants.{Stepped, Shared}
 use Rattle.source_run.specs.declared.ran.RunResult.{RunResult}
 use Rattle.source_run.specs.Input.{Meaning, texts_of, IsAccepted, inputs_of}
 use Rattle.source_run.specs.Leaves.{leaves_for, most_rows}
@@ -32,22 +33,22 @@ use Rattle.teseo_program.proofs.OutcomeLemmas.{written_ends, unprepared_ends}
 use Rattle.teseo_program.proofs.PreparedLemmas.{made_from, stopped_load, load_unprepared, prepared_of}
 use Rattle.kept_program.specs.declared.outcome.KeptOutcome.{KeptOutcome}
 use Rattle.kept_program.specs.declared.outcome.KeptOutcome.TheVariants.{Of, NotMade, NotKept, NotAJournal, NotRecovered}
-use Rattle.kept_program.specs.Outcomes.{stop_text, blamed_by, outcome_of_stop, acknowledged_on, KeepsSome, HasStopped, Keeps, IsKeptRun, KeptRunEnds}
+use Rattle.kept_program.specs.Outcomes.{stop_text, blamed_by, outcome_of_stop, KeepsSome, HasStopped, Keeps, IsKeptRun, KeptRunEnds}
 use Rattle.kept_program.specs.Prepared.{IsKeptMade, IsKeptPrepared, IsKeptStop, IsUnkept}
 
 module _ (acknowledged : Kind → List Commit → ℕ → Type 0) (request : RunRequest) where
   -- ---- outputs that are written
 
-  written_keeps : (kind : Kind) (journal : List Commit) (p : Prepared) (outcome : Outcome) (old before : Files) (disk disk' : DiskState) → Writes p.is_full p.outputs outcome old before
-      → acknowledged kind journal (length journal) → Keeps acknowledged kind journal disk disk' outcome
-  written_keeps kind journal p ends.Done old before disk disk' writes all_kept = all_kept
-  written_keeps kind journal p ends.Full old before disk disk' writes all_kept = all_kept
-  written_keeps kind journal p (ends.NotWritten stop) old before disk disk' writes all_kept = all_kept
-  written_keeps kind journal p ends.LoadFull old before disk disk' writes all_kept = absurd writes
-  written_keeps kind journal p ends.BadWords old before disk disk' writes all_kept = absurd writes
-  written_keeps kind journal p (ends.NotRead stop) old before disk disk' writes all_kept = absurd writes
-  written_keeps kind journal p (ends.NotAccepted place fault) old before disk disk' writes all_kept = absurd writes
-  written_keeps kind journal p ends.NoMemory old before disk disk' writes all_kept = absurd writes
+  written_keeps : (journal : List Commit) (p : Prepared) (outcome : Outcome) (first old before : Files) (disk disk' : DiskState) → Writes p.is_full p.outputs outcome old before
+      → acknowledged (kind_of request) journal (length journal) → Keeps acknowledged request first journal disk disk' outcome
+  written_keeps journal p ends.Done first old before disk disk' writes all_kept = all_kept
+  written_keeps journal p ends.Full first old before disk disk' writes all_kept = all_kept
+  written_keeps journal p (ends.NotWritten stop) first old before disk disk' writes all_kept = all_kept
+  written_keeps journal p ends.LoadFull first old before disk disk' writes all_kept = absurd writes
+  written_keeps journal p ends.BadWords first old before disk disk' writes all_kept = absurd writes
+  written_keeps journal p (ends.NotRead stop) first old before disk disk' writes all_kept = absurd writes
+  written_keeps journal p (ends.NotAccepted place fault) first old before disk disk' writes all_kept = absurd writes
+  written_keeps journal p ends.NoMemory first old before disk disk' writes all_kept = absurd writes
 
   -- what was prepared of a run whose commits are kept is written
   pub kept_ends : (name : List ℕ) (old : Files) (p : Prepared) → IsKeptPrepared acknowledged request old p → (outcome : Outcome) (kept new : Files) (left left' : Left) (disk disk' : DiskState)
@@ -56,21 +57,21 @@ module _ (acknowledged : Kind → List Commit → ℕ → Type 0) (request : Run
   kept_ends name old p is outcome kept new left left' disk disk' same written left_is stand = record {
     run_ends = written_ends request old p is.prepared outcome kept new left left' same written left_is;
     stand = stand;
-    keeps = written_keeps (kind_of request) is.prepared.run.journal p outcome kept written.before disk disk' written.writes is.all_kept;
+    keeps = written_keeps is.prepared.run.journal p outcome old kept written.before disk disk' written.writes is.all_kept;
   }
 
   -- ---- nothing that is written
 
-  unprepared_keeps : (kind : Kind) (journal : List Commit) (outcome : Outcome) (old before : Files) (disk disk' : DiskState) → IsUnprepared request old before outcome
-      → HasStopped acknowledged kind disk disk' → Keeps acknowledged kind journal disk disk' outcome
-  unprepared_keeps kind journal ends.Done old before disk disk' stopped has = absurd stopped
-  unprepared_keeps kind journal ends.Full old before disk disk' stopped has = absurd stopped
-  unprepared_keeps kind journal (ends.NotWritten stop) old before disk disk' stopped has = absurd stopped
-  unprepared_keeps kind journal ends.LoadFull old before disk disk' stopped has = has
-  unprepared_keeps kind journal ends.BadWords old before disk disk' stopped has = has
-  unprepared_keeps kind journal (ends.NotRead stop) old before disk disk' stopped has = has
-  unprepared_keeps kind journal (ends.NotAccepted place fault) old before disk disk' stopped has = has
-  unprepared_keeps kind journal ends.NoMemory old before disk disk' stopped has = has
+  unprepared_keeps : (journal : List Commit) (outcome : Outcome) (old before : Files) (disk disk' : DiskState) → IsUnprepared request old before outcome
+      → HasStopped acknowledged request old disk disk' → Keeps acknowledged request old journal disk disk' outcome
+  unprepared_keeps journal ends.Done old before disk disk' stopped has = absurd stopped
+  unprepared_keeps journal ends.Full old before disk disk' stopped has = absurd stopped
+  unprepared_keeps journal (ends.NotWritten stop) old before disk disk' stopped has = absurd stopped
+  unprepared_keeps journal ends.LoadFull old before disk disk' stopped has = has
+  unprepared_keeps journal ends.BadWords old before disk disk' stopped has = has
+  unprepared_keeps journal (ends.NotRead stop) old before disk disk' stopped has = has
+  unprepared_keeps journal (ends.NotAccepted place fault) old before disk disk' stopped has = has
+  unprepared_keeps journal ends.NoMemory old before disk disk' stopped has = has
 
   -- nothing was prepared of a run whose commits are kept
   pub unkept_ends : (name source : List ℕ) (old before new : Files) (left : Left) (disk disk' : DiskState) (outcome : KeptOutcome) → IsUnkept acknowledged request old before disk disk' outcome
@@ -80,7 +81,7 @@ module _ (acknowledged : Kind → List Commit → ℕ → Type 0) (request : Run
       record {
         run_ends = run_ends;
         stand = stopped.1;
-        keeps = unprepared_keeps (kind_of request) run_ends.made.run.journal outcome old before disk disk' stopped.0 stopped.2;
+        keeps = unprepared_keeps run_ends.made.run.journal outcome old before disk disk' stopped.0 stopped.2;
       }
   unkept_ends name source old before new left disk disk' NotMade (m, accepted, same, rose) is says =
       (record { m = m; accepted = accepted; rose = rose; says = subst (λ files. OnlySays (stop_text source name NotMade) files new) same says }, refl)
@@ -107,18 +108,14 @@ module _ (acknowledged : Kind → List Commit → ℕ → Type 0) (request : Run
 
   -- the file was made, and then the run stopped
   pub stopped_behind : (old new : Files) (m : Meaning) (disk made disk' : DiskState) (refusal : KeptRefusal) (outcome : KeptOutcome) → outcome ≡ outcome_of_stop refusal → AreAccepted request old m → new ≡ old
-      → FaultsStand disk made → IsKeptStop request m made disk' refusal → KeepsSome acknowledged (kind_of request) → IsUnkept acknowledged request old new disk disk' outcome
-  stopped_behind old new m disk made disk' (stops.Full full) outcome is (sources, read, accepted) same stand (heavy, stands) some =
-      subst (IsUnkept acknowledged request old new disk disk') (sym is) ((((sources, read, m, accepted, heavy), same), stands ∙ stand, inr some))
+      → FaultsStand disk made → IsKeptStop request m made disk' refusal → KeepsSome acknowledged request m → IsUnkept acknowledged request old new disk disk' outcome
+  stopped_behind old new m disk made disk' (stops.Full full) outcome is accepted same stand (heavy, stands) some =
+      let (sources, read, meant) = accepted in
+      subst (IsUnkept acknowledged request old new disk disk') (sym is) ((((sources, read, m, meant, heavy), same), stands ∙ stand, inr (m, accepted, some)))
   stopped_behind old new m disk made disk' stops.NoMemory outcome is accepted same stand stands some =
-      subst (IsUnkept acknowledged request old new disk disk') (sym is) (same, stands ∙ stand, inr some)
+      subst (IsUnkept acknowledged request old new disk disk') (sym is) (same, stands ∙ stand, inr (m, accepted, some))
   stopped_behind old new m disk made disk' stops.DiskFault outcome is accepted same stand rose some =
       subst (IsUnkept acknowledged request old new disk disk') (sym is) (m, accepted, same, subst (λ n. Rose n disk'.faults) stand rose, some)
-
--- a file that is kept keeps some commits
-pub kept_some : {D : Type 0} (moment : D → ℕ) (may_leave : D → List ℕ → Type 0) (left_since : D → ℕ → List ℕ → Type 0) (state : D → DiskState) (kind : Kind) (journal : List Commit) (file : JournalFile) (now : D)
-    → IsKept moment may_leave left_since state kind journal file now → KeepsSome (acknowledged_on moment may_leave left_since now) kind
-kept_some moment may_leave left_since state kind journal file now kept = (journal, length journal, kept.acknowledged)
 
 -- ---- what the run left
 
@@ -143,3 +140,26 @@ module _ (request : RunRequest) (m : Meaning) (kind : Kind) (leaves : ℕ) (is :
   kept_stop disk disk' (stops.Full full) (heavy, stand) = (stopped_load request m kind leaves (loads.Full full) is leaves_are heavy, stand)
   kept_stop disk disk' stops.NoMemory stand = stand
   kept_stop disk disk' stops.DiskFault rose = rose
+
+  -- what is kept of the run is kept of what was asked for
+  pub kept_some : (acknowledged : Kind → List Commit → ℕ → Type 0) (count : ℕ) → KeepsSoFar acknowledged (inputs_of kind m) leaves m.schedule count → KeepsSome acknowledged request m
+  kept_some acknowledged count keeps = (
+    count,
+    subst (λ k. KeepsSoFar acknowledged (inputs_of k m) (leaves_for request.leaves (most_rows (inputs_of k m))) m.schedule count) is
+        (subst (λ n. KeepsSoFar acknowledged (inputs_of kind m) n m.schedule count) leaves_are keeps),
+  )
+
+  -- all is kept of a run that was over when memory was wanted for its texts
+  pub kept_whole : (acknowledged : Kind → List Commit → ℕ → Type 0) (r : RunResult) → IsRunAs false (inputs_of kind m) leaves (run_outputs r) → IsLeftOf None false (inputs_of kind m) leaves m.schedule (run_outputs r) r.ran
+      → acknowledged kind (journal_of r.ran) (length (journal_of r.ran)) → KeepsSome acknowledged request m
+  kept_whole acknowledged r run left all_kept = kept_some acknowledged (length (journal_of r.ran)) (record {
+    journal = journal_of r.ran;
+    so_far = by_turns r.ran left;
+    one_more = omega arith;
+    kept = all_kept;
+  })
+    where
+      by_turns : (ran : Ran) → IsLeftOf None false (inputs_of kind m) leaves m.schedule (run_outputs r) ran → IsJournalSoFar (inputs_of kind m) leaves m.schedule (journal_of r.ran)
+      by_turns (Stepped ran) is_left =
+          record { turns = is_left.stepped.turns; state = is_left.stepped.last; reached = is_left.stepped.reached; shown = sym is_left.stepped.journal; legal = run.legal; loaded = run.loaded }
+      by_turns (Shared ran) is_left = absurd is_left

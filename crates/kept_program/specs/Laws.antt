@@ -8,7 +8,7 @@ use Rattle.desk_io.specs.Files.{Files}
 use Rattle.journal_disk.specs.Disk.{DiskState}
 use Rattle.journal_recovery.specs.declared.texts.RecoveredTexts.{RecoveredTexts}
 use Rattle.journal_recovery.specs.Texts.{AreTextsOf}
-use Rattle.run_keeper.specs.Keeping.{HasFront}
+use Rattle.run_keeper.specs.Keeping.{HasFront, acknowledged_on}
 use Rattle.command_words.specs.Words.{RunRequest, MakeRequest, RecoverRequest, Request, run, make, recover, IsTaken}
 use Rattle.source_run.specs.Requests.{kind_of}
 use Rattle.source_run.specs.Input.{Meaning, texts_of, IsAccepted, inputs_of}
@@ -16,7 +16,7 @@ use Rattle.source_run.specs.Leaves.{most_rows}
 use Rattle.teseo_program.specs.declared.left.Left.{Left}
 use Rattle.teseo_program.specs.Laws.{AreTold, Stands, HasNoFault}
 use Rattle.kept_program.specs.declared.outcome.KeptOutcome.{KeptOutcome}
-use Rattle.kept_program.specs.Outcomes.{acknowledged_on, kept_status, IsEnd}
+use Rattle.kept_program.specs.Outcomes.{kept_status, IsEnd}
 
 -- how a call ends that asks for this, if no call of the desk or of the disk fails
 pub record IsFaultlessEnd {D : Type 0} (moment : D → ℕ) (may_leave : D → List ℕ → Type 0)

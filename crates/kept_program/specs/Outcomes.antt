@@ -10,14 +10,15 @@ use Rattle.journal_file.specs.declared.refusal.RecoverRefusal.TheVariants as rec
 use Rattle.journal_file.specs.Recovering.{IsRefused}
 use Rattle.journal_recovery.specs.declared.texts.RecoveredTexts.{RecoveredTexts}
 use Rattle.journal_recovery.specs.Texts.{AreTextsOf}
-use Rattle.run_keeper.specs.Keeping.{AreAcknowledged}
+use Rattle.run_keeper.specs.Keeping.{KeepsSoFar}
 use Rattle.kept_run.specs.declared.refusal.KeptRefusal.{KeptRefusal}
 use Rattle.kept_run.specs.declared.refusal.KeptRefusal.TheVariants as stops
 use Rattle.command_words.specs.declared.refusal.WordsRefusal.{WordsRefusal}
 use Rattle.command_words.specs.Words.{RunRequest, MakeRequest, RecoverRequest, Request, run, make, recover, IsTaken}
 use Rattle.command_words.specs.Views.{RefusesWords}
 use Rattle.source_run.specs.Requests.{kind_of}
-use Rattle.source_run.specs.Input.{Meaning}
+use Rattle.source_run.specs.Input.{Meaning, inputs_of}
+use Rattle.source_run.specs.Leaves.{leaves_of}
 use Rattle.teseo_program.specs.declared.left.Left.{Left}
 use Rattle.teseo_program.specs.declared.outcome.Outcome.{Outcome}
 use Rattle.teseo_program.specs.declared.outcome.Outcome.TheVariants as ends
@@ -70,37 +71,37 @@ outcome_of_recovery recoveries.NoMemory = Of ends.NoMemory
 -- what a crash leaves at any moment since the file was made is a front of the journal, with all that were acknowledged
 -- by then
 
--- so many commits are acknowledged on this disk
-abbrev pub acknowledged_on : {D : Type 0} → (D → ℕ) → (D → List ℕ → Type 0) → (D → ℕ → List ℕ → Type 0) → D
-    → Kind → List Commit → ℕ → Type 0
-acknowledged_on moment may_leave left_since now kind journal count =
-    AreAcknowledged moment may_leave left_since kind journal count now
+-- Of a run of what its sources stand for, by its turns: all commits of its journal so far are acknowledged but the last
+-- at most, and no crash leaves any but those of this journal
+abbrev pub KeepsSome : (Kind → List Commit → ℕ → Type 0) → RunRequest → Meaning → Type 0
+KeepsSome acknowledged request m = (count : ℕ)
+    × KeepsSoFar acknowledged (inputs_of (kind_of request) m) (leaves_of request m) m.schedule count
 
--- some commits are acknowledged, and no crash leaves any but those of one journal
-abbrev pub KeepsSome : (Kind → List Commit → ℕ → Type 0) → Kind → Type 0
-KeepsSome acknowledged kind = (journal : List Commit) × (count : ℕ) × acknowledged kind journal count
-
--- the disk is as it was, or the file was made and keeps some commits
-abbrev pub HasStopped : (Kind → List Commit → ℕ → Type 0) → Kind → DiskState → DiskState → Type 0
-HasStopped acknowledged kind disk disk' = (disk' ≡ disk) ⊎ KeepsSome acknowledged kind
+-- the disk is as it was, or the sources were accepted, the file was made, and some commits are kept
+abbrev pub HasStopped : (Kind → List Commit → ℕ → Type 0) → RunRequest → Files → DiskState → DiskState → Type 0
+HasStopped acknowledged request old disk disk' =
+    (disk' ≡ disk) ⊎ ((m : Meaning) × AreAccepted request old m × KeepsSome acknowledged request m)
 
 -- of a run whose outputs were to be written, all commits are acknowledged
-abbrev pub Keeps : (Kind → List Commit → ℕ → Type 0) → Kind → List Commit → DiskState → DiskState → Outcome → Type 0
-Keeps acknowledged kind journal disk disk' ends.Done = acknowledged kind journal (length journal)
-Keeps acknowledged kind journal disk disk' ends.Full = acknowledged kind journal (length journal)
-Keeps acknowledged kind journal disk disk' (ends.NotWritten stop) = acknowledged kind journal (length journal)
-Keeps acknowledged kind journal disk disk' ends.LoadFull = HasStopped acknowledged kind disk disk'
-Keeps acknowledged kind journal disk disk' ends.BadWords = HasStopped acknowledged kind disk disk'
-Keeps acknowledged kind journal disk disk' (ends.NotRead stop) = HasStopped acknowledged kind disk disk'
-Keeps acknowledged kind journal disk disk' (ends.NotAccepted place fault) = HasStopped acknowledged kind disk disk'
-Keeps acknowledged kind journal disk disk' ends.NoMemory = HasStopped acknowledged kind disk disk'
+abbrev pub Keeps : (Kind → List Commit → ℕ → Type 0) → RunRequest → Files → List Commit → DiskState → DiskState
+    → Outcome → Type 0
+Keeps acknowledged request old journal disk disk' ends.Done = acknowledged (kind_of request) journal (length journal)
+Keeps acknowledged request old journal disk disk' ends.Full = acknowledged (kind_of request) journal (length journal)
+Keeps acknowledged request old journal disk disk' (ends.NotWritten stop) =
+    acknowledged (kind_of request) journal (length journal)
+Keeps acknowledged request old journal disk disk' ends.LoadFull = HasStopped acknowledged request old disk disk'
+Keeps acknowledged request old journal disk disk' ends.BadWords = HasStopped acknowledged request old disk disk'
+Keeps acknowledged request old journal disk disk' (ends.NotRead stop) = HasStopped acknowledged request old disk disk'
+Keeps acknowledged request old journal disk disk' (ends.NotAccepted place fault) =
+    HasStopped acknowledged request old disk disk'
+Keeps acknowledged request old journal disk disk' ends.NoMemory = HasStopped acknowledged request old disk disk'
 
 -- the run ends as one whose commits aren't kept, no call of the disk failed, and its commits are kept
 pub record IsKeptRun (acknowledged : Kind → List Commit → ℕ → Type 0) (outcome : Outcome) (request : RunRequest)
     (old new : Files) (left left' : Left) (disk disk' : DiskState) : Type 0 where
   pub run_ends : IsRunOutcome outcome request old new left left'
   pub stand : FaultsStand disk disk'
-  pub keeps : Keeps acknowledged (kind_of request) run_ends.made.run.journal disk disk' outcome
+  pub keeps : Keeps acknowledged request old run_ends.made.run.journal disk disk' outcome
 
 -- all sources were read and accepted, and then a call of the disk failed. Nothing is created, and the name of the
 -- journal file is said
@@ -119,7 +120,7 @@ KeptRunEnds acknowledged name (Of outcome) request old new left left' disk disk'
 KeptRunEnds acknowledged name NotMade request old new left left' disk disk' =
     IsFileFault name request old new disk disk' × (left' ≡ left)
 KeptRunEnds acknowledged name NotKept request old new left left' disk disk' =
-    IsFileFault name request old new disk disk' × (left' ≡ left) × KeepsSome acknowledged (kind_of request)
+    (fault : IsFileFault name request old new disk disk') × (left' ≡ left) × KeepsSome acknowledged request fault.m
 KeptRunEnds acknowledged name NotAJournal request old new left left' disk disk' = ⊥
 KeptRunEnds acknowledged name NotRecovered request old new left left' disk disk' = ⊥
 

@@ -47,12 +47,12 @@ IsKeptStop request m disk disk' DiskFault = FaultsRise disk disk'
 abbrev pub IsUnkept : (Kind → List Commit → ℕ → Type 0) → RunRequest → Files → Files → DiskState → DiskState
     → KeptOutcome → Type 0
 IsUnkept acknowledged request old new disk disk' (Of outcome) =
-    IsUnprepared request old new outcome × FaultsStand disk disk' × HasStopped acknowledged (kind_of request) disk disk'
+    IsUnprepared request old new outcome × FaultsStand disk disk' × HasStopped acknowledged request old disk disk'
 IsUnkept acknowledged request old new disk disk' NotMade =
     (m : Meaning) × AreAccepted request old m × (new ≡ old) × FaultsRise disk disk'
 IsUnkept acknowledged request old new disk disk' NotKept =
     (m : Meaning) × AreAccepted request old m × (new ≡ old) × FaultsRise disk disk'
-    × KeepsSome acknowledged (kind_of request)
+    × KeepsSome acknowledged request m
 IsUnkept acknowledged request old new disk disk' NotAJournal = ⊥
 IsUnkept acknowledged request old new disk disk' NotRecovered = ⊥
 

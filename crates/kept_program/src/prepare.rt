@@ -3,14 +3,14 @@
 
 ghost use Rattle.std.specs.Prelude.{◌≡◌, ◌≤◌, [], false, None, length, All, IfOk, IfErr, OnOk, OnErr};
 ghost use Rattle.journal_disk.specs.Disk.{FaultsStand};
-ghost use Rattle.run_keeper.specs.Keeping.{IsKept};
+ghost use Rattle.run_keeper.specs.Keeping.{IsKept, acknowledged_on};
 ghost use Rattle.command_words.specs.Words.{taken_names};
 ghost use Rattle.command_words.specs.Views.{run_request};
 ghost use Rattle.source_run.specs.Requests.{IsAsked, kind_of};
 ghost use Rattle.source_run.specs.Input.{Texts, IsAccepted};
 ghost use Rattle.source_run.specs.Parsing.{meaning_of, AreRunnable};
 ghost use Rattle.teseo_program.specs.Prepared.{NamesAreApart};
-ghost use Rattle.kept_program.specs.Outcomes.{acknowledged_on, KeepsSome};
+ghost use Rattle.kept_program.specs.Outcomes.{KeepsSome};
 ghost use Rattle.kept_program.specs.Prepared.{IsKeptPrepared, IsKeptMade, IsKeptStop, IsUnkept};
 
 use crate::outcome::KeptOutcome;
@@ -85,7 +85,7 @@ fn make_kept<R: Threads + Sync, K: Disk>(
     ensures apart { IfOk result NamesAreApart }
     ensures stand { OnOk result (FaultsStand (K.state disk.old) (K.state disk.new)) }
     ensures still { OnErr result (KeepsSome
-        (acknowledged_on K.moment K.may_leave K.left_since disk.new) (kind_of (run_request words.now))) }
+        (acknowledged_on K.moment K.may_leave K.left_since disk.new) (run_request words.now) (meaning_of input)) }
     ensures refused { IfErr result
         (IsKeptStop (run_request words.now) (meaning_of input) (K.state disk.old) (K.state disk.new)) }
 {

@@ -1,12 +1,11 @@
 //! The run of the scripts, with its commits kept.
 
-ghost use Rattle.std.specs.Prelude.{◌≡◌, ◌≤◌, [], List, length, All, None, OnOk, OnErr, IfOk, IfErr, false};
+ghost use Rattle.std.specs.Prelude.{◌≡◌, ◌≤◌, [], length, All, None, OnOk, OnErr, IfOk, IfErr, false};
 ghost use Rattle.graph_model.specs.declared.limits.TheConstants.{MAX_LEAVES};
-ghost use Rattle.graph_model.specs.declared.journal.Commit.{Commit};
 ghost use Rattle.run_model.specs.Inputs.{AreInputs};
 ghost use Rattle.run_model.specs.Run.{IsRun};
 ghost use Rattle.journal_disk.specs.Disk.{FaultsStand};
-ghost use Rattle.run_keeper.specs.Keeping.{IsKept, AreAcknowledged};
+ghost use Rattle.run_keeper.specs.Keeping.{IsKept, acknowledged_on, KeepsSoFar};
 ghost use Rattle.source_run.specs.Input.{inputs_of};
 ghost use Rattle.source_run.specs.Parsing.{meaning_of};
 ghost use Rattle.source_run.specs.Running.{journal_of, run_outputs, HasCounts, IsLeftOf};
@@ -45,8 +44,8 @@ pub fn run_scripts_kept<R: Threads + Sync, K: Disk>(
         IsKept K.moment K.may_leave K.left_since K.state kind [] keeper.old.file disk.old
         → IsKept K.moment K.may_leave K.left_since K.state kind (journal_of r.ran) keeper.new.file disk.new) }
     ensures still { OnErr result (IsKept K.moment K.may_leave K.left_since K.state kind [] keeper.old.file disk.old
-        → (journal : List Commit)
-        × AreAcknowledged K.moment K.may_leave K.left_since kind journal keeper.new.file.count disk.new) }
+        → KeepsSoFar (acknowledged_on K.moment K.may_leave K.left_since disk.new)
+        (inputs_of kind (meaning_of input)) leaves input.schedule keeper.new.file.count) }
     ensures ok { OnOk result (FaultsStand (K.state disk.old) (K.state disk.new)) }
     ensures refused { IfErr result
         (IsRefusedKept kind leaves input.ids input.edges (K.state disk.old) (K.state disk.new)) }

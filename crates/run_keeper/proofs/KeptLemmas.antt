@@ -1,7 +1,7 @@
 -- What is kept of a journal, from one commit to the next.
-use Rattle.std.proofs.Common.{◌≡◌, ◌⊎◌, inl, inr, ⊎_elim, ℕ, suc, ◌+◌, ◌<◌, ◌≤◌, List, [], ◌∷◌, ◌++◌, length, take, drop, refl, sym, ◌∙◌, ap, subst, arith, eq-or-lt_of_le}
+use Rattle.std.proofs.Common.{◌≡◌, inl, inr, ⊎_elim, ℕ, ◌+◌, ◌<◌, ◌≤◌, List, [], ◌∷◌, ◌++◌, length, take, drop, refl, sym, ◌∙◌, ap, subst, arith, eq-or-lt_of_le}
 use Rattle.std.specs.Prelude.{Some, slice_get, Result, Ok, Err, OnErr}
-use Rattle.std.proofs.lemmas.List.{take_all, take_more, length-append, length-take-le, take-append-le, take-append-drop, append_assoc}
+use Rattle.std.proofs.lemmas.List.{take_all, take_more, length-append, length-take-le, take-append-le, take-append-drop}
 use Rattle.std.proofs.lemmas.Option.{slice_get_within, get_or_from_slice_get}
 use Rattle.graph_model.specs.declared.write.Kind.{Kind}
 use Rattle.graph_model.specs.declared.journal.Commit.{Commit}
@@ -209,25 +209,30 @@ module _ {D : Type 0} (moment : D → ℕ) (may_leave : D → List ℕ → Type 
     )
 
     -- one of the commits wasn't kept
-    pub still_kept : (journal : List Commit) (n : ℕ) (c : Commit) (first mid last : JournalFile) (old new then_new : D) → slice_get journal n ≡ Some c
+    pub still_kept : (journal : List Commit) (n : ℕ) (c : Commit) (first mid last : JournalFile) (old new then_new : D) → slice_get journal n ≡ Some c → first.count ≤ n
         → ((kind : Kind) (commits rest : List Commit) → journal ≡ commits ++ rest → IsLegal kind journal → IsKept moment may_leave left_since state kind commits first old
         → IsKept moment may_leave left_since state kind (take n journal) mid new)
         → ((kind : Kind) (all commits : List Commit) → IsLegalCommit kind all (length commits) c → IsKept moment may_leave left_since state kind commits mid new
         → (last.count ≡ length commits) × AreAcknowledged moment may_leave left_since kind (commits ++ c ∷ []) (length commits) then_new)
         → (kind : Kind) (commits rest : List Commit) → journal ≡ commits ++ rest → IsLegal kind journal → IsKept moment may_leave left_since state kind commits first old
-        → AreAcknowledged moment may_leave left_since kind journal last.count then_new
-    still_kept journal n c first mid last old new then_new at before next kind commits rest same legal kept =
+        → (length commits ≤ last.count) × AreAcknowledged moment may_leave left_since kind journal last.count then_new
+    still_kept journal n c first mid last old new then_new at past before next kind commits rest same legal kept =
         let still = next kind journal (take n journal) (legal_at kind journal n c legal at) (before kind commits rest same legal kept) in
-        whole_acknowledged kind journal n c last.count then_new at still.0 still.1
+        let counted : first.count ≡ length commits = kept.settled.count in
+        let lt : n < length journal = slice_get_within journal n c at in (
+          omega (arith, still.0, counted, past, count_is journal n (omega (arith, lt))),
+          whole_acknowledged kind journal n c last.count then_new at still.0 still.1,
+        )
 
     -- the commits of a journal weren't kept that goes on from those that are
     pub still_longer : (kind : Kind) (journal lent commits rest : List Commit) (file last : JournalFile) (old new : D) → lent ≡ journal → journal ≡ commits ++ rest → IsLegal kind journal
         → ((k : Kind) (cs more : List Commit) → lent ≡ cs ++ more → IsLegal k lent → IsKept moment may_leave left_since state k cs file old
-        → AreAcknowledged moment may_leave left_since k lent last.count new)
-        → IsKept moment may_leave left_since state kind commits file old → AreAcknowledged moment may_leave left_since kind journal last.count new
+        → (length cs ≤ last.count) × AreAcknowledged moment may_leave left_since k lent last.count new)
+        → IsKept moment may_leave left_since state kind commits file old
+        → (length commits ≤ last.count) × AreAcknowledged moment may_leave left_since kind journal last.count new
     still_longer kind journal lent commits rest file last old new same goes legal keep kept =
-        subst (λ cs. AreAcknowledged moment may_leave left_since kind cs last.count new) same
-        (keep kind commits rest (same ∙ goes) (subst (IsLegal kind) (sym same) legal) kept)
+        let still = keep kind commits rest (same ∙ goes) (subst (IsLegal kind) (sym same) legal) kept in
+        (still.0, subst (λ cs. AreAcknowledged moment may_leave left_since kind cs last.count new) same still.1)
 
     -- the commits of such a journal are kept
     pub kept_longer : (kind : Kind) (journal lent commits rest : List Commit) (file last : JournalFile) (old new : D) → lent ≡ journal → journal ≡ commits ++ rest → IsLegal kind journal
@@ -238,32 +243,6 @@ module _ {D : Type 0} (moment : D → ℕ) (may_leave : D → List ℕ → Type 
         subst (λ cs. IsKept moment may_leave left_since state kind cs last new) same
         (keep kind commits rest (same ∙ goes) (subst (IsLegal kind) (sym same) legal) kept)
 
-    -- memory was wanted in a turn
-    pub still_stuck : (kind : Kind) (journal commits rest : List Commit) (file : JournalFile) (now : D) → journal ≡ commits ++ rest
-        → IsKept moment may_leave left_since state kind commits file now → AreAcknowledged moment may_leave left_since kind journal file.count now
-    still_stuck kind journal commits rest file now goes kept =
-        subst (λ n. AreAcknowledged moment may_leave left_since kind journal n now) (sym kept.settled.count)
-        (front_acknowledged state kind journal commits rest goes file now kept)
-
-    -- the first commits of the run weren't kept
-    pub still_begun : (kind : Kind) (journal lent : List Commit) (file last : JournalFile) (old new : D) → lent ≡ journal → IsLegal kind journal
-        → ((k : Kind) (cs more : List Commit) → lent ≡ cs ++ more → IsLegal k lent → IsKept moment may_leave left_since state k cs file old
-        → AreAcknowledged moment may_leave left_since k lent last.count new)
-        → (commits rest : List Commit) → journal ≡ commits ++ rest
-        → IsKept moment may_leave left_since state kind commits file old → AreAcknowledged moment may_leave left_since kind journal last.count new
-    still_begun kind journal lent file last old new same legal keep commits rest goes kept =
-        still_longer kind journal lent commits rest file last old new same goes legal keep kept
-
-    -- and the run was refused behind them
-    pub still_behind : (kind : Kind) (journal lent after : List Commit) (file mid last : JournalFile) (old now new : D) → lent ≡ journal → IsLegal kind journal
-        → ((k : Kind) (cs more : List Commit) → lent ≡ cs ++ more → IsLegal k lent → IsKept moment may_leave left_since state k cs file old
-        → IsKept moment may_leave left_since state k lent mid now)
-        → (IsKept moment may_leave left_since state kind journal mid now → AreAcknowledged moment may_leave left_since kind after last.count new)
-        → (commits rest : List Commit) → journal ≡ commits ++ rest
-        → IsKept moment may_leave left_since state kind commits file old → AreAcknowledged moment may_leave left_since kind after last.count new
-    still_behind kind journal lent after file mid last old now new same legal keep run commits rest goes kept =
-        run (kept_longer kind journal lent commits rest file mid old now same goes legal keep kept)
-
   -- a turn of the run, whose graph has the same kind throughout
   module _ (state : D → DiskState) (kind first : Kind) (same : kind ≡ first) (journal longer : List Commit) (file file' : JournalFile) (old new : D) where
     pub kept_on : (IsKept moment may_leave left_since state kind journal file old → IsKept moment may_leave left_since state kind longer file' new)
@@ -271,10 +250,3 @@ module _ {D : Type 0} (moment : D → ℕ) (may_leave : D → List ℕ → Type 
     kept_on turn kept =
         subst (λ k. IsKept moment may_leave left_since state k longer file' new) same
         (turn (subst (λ k. IsKept moment may_leave left_since state k journal file old) (sym same) kept))
-
-    pub still_on : {A : Type 0} → (A → IsKept moment may_leave left_since state first journal file old)
-        → (IsKept moment may_leave left_since state kind journal file old → AreAcknowledged moment may_leave left_since kind longer file'.count new)
-        → A → AreAcknowledged moment may_leave left_since first longer file'.count new
-    still_on before turn a =
-        subst (λ k. AreAcknowledged moment may_leave left_since k longer file'.count new) same
-        (turn (subst (λ k. IsKept moment may_leave left_since state k journal file old) (sym same) (before a)))

@@ -1,7 +1,15 @@
 -- What a disk keeps of a run's commits: at each moment a front of them, with all that were acknowledged by then.
-use Rattle.std.specs.Prelude.{◌≡◌, ℕ, ◌≤◌, List, length, take}
+use Rattle.std.specs.Prelude.{◌≡◌, ◌⊎◌, ℕ, ◌+◌, ◌≤◌, Bool, List, [], ◌++◌, length, take, slice_get, Some}
 use Rattle.graph_model.specs.declared.write.Kind.{Kind}
 use Rattle.graph_model.specs.declared.journal.Commit.{Commit}
+use Rattle.graph_model.specs.Legal.{IsLegal}
+use Rattle.graph_model.specs.OwnerCalls.{Core}
+use Rattle.run_model.specs.Inputs.{Inputs}
+use Rattle.run_model.specs.Run.{load_commit}
+use Rattle.run_model.specs.Jobs.{RunState, first_state}
+use Rattle.run_model.specs.Stepped.{setting_of, IsReached}
+use Rattle.job_runner.specs.Progress.{Progress}
+use Rattle.job_runner.specs.Runs.{Turns}
 use Rattle.journal_disk.specs.Disk.{DiskState}
 use Rattle.journal_disk.specs.Crashes.{Only}
 use Rattle.journal_file.specs.declared.file.JournalFile.{JournalFile}
@@ -34,3 +42,43 @@ pub record IsKept {D : Type 0} (moment : D → ℕ) (may_leave : D → List ℕ 
     (file : JournalFile) (now : D) : Type 0 where
   pub settled : IsSettled kind commits file (state now) (may_leave now)
   pub acknowledged : AreAcknowledged moment may_leave left_since kind commits (length commits) now
+
+-- so many commits are acknowledged on this disk
+abbrev pub acknowledged_on : {D : Type 0} → (D → ℕ) → (D → List ℕ → Type 0) → (D → ℕ → List ℕ → Type 0) → D
+    → Kind → List Commit → ℕ → Type 0
+acknowledged_on moment may_leave left_since now kind journal count =
+    AreAcknowledged moment may_leave left_since kind journal count now
+
+-- ---- what is kept of a run that stops
+
+-- A turn was taken behind which not all commits were kept, or memory was wanted in it. Those before it were all kept
+abbrev pub TurnStops : (List Commit → ℕ → Type 0) → Core → List Progress → ℕ → Core → List Progress → ℕ → Type 0
+TurnStops acknowledged old jobs number new next count =
+    ((ended : Bool) × Turns old jobs number ended new next × (length old.journal ≤ count)
+    × acknowledged new.journal count)
+    ⊎ ((rest : List Commit) × (new.journal ≡ old.journal ++ rest) × (count ≡ length old.journal)
+    × acknowledged old.journal count)
+
+-- The journal of a run by these turns, as it stands behind some of them. It is legal, and its first commit is the load,
+-- unless that writes nothing
+pub record IsJournalSoFar (inputs : Inputs) (leaves : ℕ) (schedule : List ℕ) (journal : List Commit) : Type 0 where
+  pub turns : ℕ
+  pub state : RunState
+  pub reached : IsReached (setting_of inputs leaves schedule) (first_state inputs) turns state
+  pub shown : state.journal ≡ journal
+  pub legal : IsLegal inputs.kind journal
+  pub loaded : (inputs.load ≡ []) ⊎ (slice_get journal 0 ≡ Some (load_commit inputs.load))
+
+-- so many commits of the journal of such a run so far are acknowledged, and it has one more at most
+pub record KeepsSoFar (acknowledged : Kind → List Commit → ℕ → Type 0) (inputs : Inputs) (leaves : ℕ)
+    (schedule : List ℕ) (count : ℕ) : Type 0 where
+  pub journal : List Commit
+  pub so_far : IsJournalSoFar inputs leaves schedule journal
+  pub one_more : length journal ≤ count + 1
+  pub kept : acknowledged inputs.kind journal count
+
+-- and the engine's journal begins with it
+abbrev pub StopsSoFar : (Kind → List Commit → ℕ → Type 0) → Inputs → ℕ → List ℕ → ℕ → List Commit → Type 0
+StopsSoFar acknowledged inputs leaves schedule count engine_journal =
+    (keeps : KeepsSoFar acknowledged inputs leaves schedule count)
+    × (rest : List Commit) × (engine_journal ≡ keeps.journal ++ rest)

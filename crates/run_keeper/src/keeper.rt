@@ -79,7 +79,8 @@ impl Keeper {
         ensures still { OnErr result ((kind : Kind) (commits rest : List Commit) → journal.now ≡ commits ++ rest
             → IsLegal kind journal.now
             → IsKept K.moment K.may_leave K.left_since K.state kind commits self.old.file disk.old
-            → AreAcknowledged K.moment K.may_leave K.left_since kind journal.now self.new.file.count disk.new) }
+            → (length commits ≤ self.new.file.count)
+            × AreAcknowledged K.moment K.may_leave K.left_since kind journal.now self.new.file.count disk.new) }
         ensures ok { OnOk result (FaultsStand (K.state disk.old) (K.state disk.new)) }
         ensures refused { IfErr result (Stops (K.state disk.old) (K.state disk.new)) }
     {

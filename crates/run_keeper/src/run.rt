@@ -8,7 +8,7 @@ ghost use Rattle.graph_model.specs.declared.journal.Commit.{Commit};
 ghost use Rattle.journal_disk.specs.Disk.{FaultsStand};
 ghost use Rattle.run_model.specs.Inputs.{Inputs};
 ghost use Rattle.job_runner.specs.Runs.{AreNew, AreUnderWay, Turns, Goes, Ends};
-ghost use Rattle.run_keeper.specs.Keeping.{IsKept, AreAcknowledged};
+ghost use Rattle.run_keeper.specs.Keeping.{IsKept, acknowledged_on, TurnStops, StopsSoFar};
 ghost use Rattle.run_keeper.specs.Refusals.{Stops};
 
 use crate::engine::JournalEngine;
@@ -35,10 +35,11 @@ pub fn run_kept<R: Threads + Sync, E: JournalEngine, K: Disk>(
         → IsKept K.moment K.may_leave K.left_since K.state (E.core engine.old).kind commits keeper.old.file disk.old
         → IsKept K.moment K.may_leave K.left_since K.state (E.core engine.old).kind (E.core engine.new).journal
         keeper.new.file disk.new) }
-    ensures still { OnErr result ((commits rest : List Commit) → (E.core engine.old).journal ≡ commits ++ rest
+    ensures still { OnErr result ((inputs : Inputs) (commits rest : List Commit)
+        → AreNew inputs (E.core engine.old) jobs.old → (E.core engine.old).journal ≡ commits ++ rest
         → IsKept K.moment K.may_leave K.left_since K.state (E.core engine.old).kind commits keeper.old.file disk.old
-        → AreAcknowledged K.moment K.may_leave K.left_since (E.core engine.old).kind (E.core engine.new).journal
-        keeper.new.file.count disk.new) }
+        → StopsSoFar (acknowledged_on K.moment K.may_leave K.left_since disk.new) inputs (E.core engine.old).leaves
+        schedule.now keeper.new.file.count (E.core engine.new).journal) }
     ensures ok { OnOk result (FaultsStand (K.state disk.old) (K.state disk.new)) }
     ensures refused { IfErr result (Stops (K.state disk.old) (K.state disk.new)) }
 {
@@ -64,10 +65,11 @@ fn take_turns<R: Threads + Sync, E: JournalEngine, K: Disk>(
         (E.core engine.old).kind (E.core engine.old).journal keeper.old.file disk.old
         → IsKept K.moment K.may_leave K.left_since K.state
         (E.core engine.old).kind (E.core engine.new).journal keeper.new.file disk.new) }
-    ensures still { OnErr result (IsKept K.moment K.may_leave K.left_since K.state
+    ensures still { OnErr result ((inputs : Inputs) → AreNew inputs (E.core engine.old) jobs.old
+        → IsKept K.moment K.may_leave K.left_since K.state
         (E.core engine.old).kind (E.core engine.old).journal keeper.old.file disk.old
-        → AreAcknowledged K.moment K.may_leave K.left_since
-        (E.core engine.old).kind (E.core engine.new).journal keeper.new.file.count disk.new) }
+        → StopsSoFar (acknowledged_on K.moment K.may_leave K.left_since disk.new) inputs (E.core engine.old).leaves
+        schedule.now keeper.new.file.count (E.core engine.new).journal) }
     ensures ok { OnOk result (FaultsStand (K.state disk.old) (K.state disk.new)) }
     ensures refused { IfErr result (Stops (K.state disk.old) (K.state disk.new)) }
 {
@@ -111,8 +113,8 @@ fn take_kept_turn<R: Threads + Sync, E: JournalEngine, K: Disk>(
         (E.core engine.old).kind (E.core engine.new).journal keeper.new.file disk.new) }
     ensures still { OnErr result (IsKept K.moment K.may_leave K.left_since K.state
         (E.core engine.old).kind (E.core engine.old).journal keeper.old.file disk.old
-        → AreAcknowledged K.moment K.may_leave K.left_since
-        (E.core engine.old).kind (E.core engine.new).journal keeper.new.file.count disk.new) }
+        → TurnStops (acknowledged_on K.moment K.may_leave K.left_since disk.new (E.core engine.old).kind)
+        (E.core engine.old) jobs.old number (E.core engine.new) jobs.new keeper.new.file.count) }
     ensures ok { OnOk result (FaultsStand (K.state disk.old) (K.state disk.new)) }
     ensures refused { IfErr result (Stops (K.state disk.old) (K.state disk.new)) }
 {

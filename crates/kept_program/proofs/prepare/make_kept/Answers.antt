@@ -2,15 +2,13 @@ use Rattle.std.proofs.Common.{rules, sym, ap, ◌∙◌, subst, length, false, [
 use Rattle.command_words.specs.Views.{run_request}
 use Rattle.source_run.specs.Parsing.{meaning_of}
 use Rattle.source_run.specs.Requests.{kind_of}
-use Rattle.source_run.specs.Running.{journal_of}
 use Rattle.source_run.proofs.RequestLemmas.{stated_leaves}
 use Rattle.source_run.proofs.RunLemmas.{files_fit, handed_on}
-use Rattle.run_keeper.specs.Keeping.{IsKept}
+use Rattle.run_keeper.specs.Keeping.{IsKept, acknowledged_on}
 use Rattle.run_keeper.proofs.KeptLemmas.{on_err}
 use Rattle.teseo_program.proofs.PreparedLemmas.{are_inputs, job_count, are_printable, are_apart}
 use Rattle.kept_program.specs.Prepared.{IsKeptStop}
-use Rattle.kept_program.specs.Outcomes.{acknowledged_on, KeepsSome}
-use Rattle.kept_program.proofs.RunLemmas.{kept_made, kept_stop, kept_some}
+use Rattle.kept_program.proofs.RunLemmas.{kept_made, kept_stop, kept_some, kept_whole}
 use Rattle.kept_program.proofs.prepare.make_kept.Goals as goal
 
 pub run_scripts_kept-requires-clause-inputs : goal.run_scripts_kept-requires-clause-inputs
@@ -55,20 +53,22 @@ returns-clause-apart g c =
 pub returns-in_err-run-clause-still : goal.returns-in_err-run-clause-still
 returns-in_err-run-clause-still g c =
     let before = subst (λ k. IsKept g.K.Disk.moment g.K.Disk.may_leave g.K.Disk.left_since g.K.Disk.state k [] c.args.keeper.now.file c.args.disk.now) (sym c.kind_of-kind.ensures) c.requires.new in
-    let (journal, acknowledged) = c.in_err-run.ensures.still before in
-    on_err _ (subst (λ k. KeepsSome (acknowledged_on g.K.Disk.moment g.K.Disk.may_leave g.K.Disk.left_since c.run_scripts_kept.new.disk) k) c.kind_of-kind.ensures (journal, c.run_scripts_kept.new.keeper.file.count, acknowledged))
+    on_err _ (kept_some (run_request c.args.words.now) (meaning_of c.args.input) c.kind_of-kind.result c.leaves_of-leaves.result c.kind_of-kind.ensures c.leaves_of-leaves.ensures.leaves
+    (acknowledged_on g.K.Disk.moment g.K.Disk.may_leave g.K.Disk.left_since c.run_scripts_kept.new.disk) c.run_scripts_kept.new.keeper.file.count (c.in_err-run.ensures.still before))
 
 pub returns-in_err-summary-clause-still : goal.returns-in_err-summary-clause-still
 returns-in_err-summary-clause-still g c =
     let before = subst (λ k. IsKept g.K.Disk.moment g.K.Disk.may_leave g.K.Disk.left_since g.K.Disk.state k [] c.args.keeper.now.file c.args.disk.now) (sym c.kind_of-kind.ensures) c.requires.new in
-    on_err _ (subst (λ k. KeepsSome (acknowledged_on g.K.Disk.moment g.K.Disk.may_leave g.K.Disk.left_since c.run_scripts_kept.new.disk) k) c.kind_of-kind.ensures
-    (kept_some g.K.Disk.moment g.K.Disk.may_leave g.K.Disk.left_since g.K.Disk.state c.kind_of-kind.result (journal_of c.in_ok-run.run'.ran) c.run_scripts_kept.new.keeper.file c.run_scripts_kept.new.disk (c.in_ok-run.ensures.kept before)))
+    let kept = c.in_ok-run.ensures.kept before in
+    on_err _ (kept_whole (run_request c.args.words.now) (meaning_of c.args.input) c.kind_of-kind.result c.leaves_of-leaves.result c.kind_of-kind.ensures c.leaves_of-leaves.ensures.leaves
+    (acknowledged_on g.K.Disk.moment g.K.Disk.may_leave g.K.Disk.left_since c.run_scripts_kept.new.disk) c.in_ok-run.run' c.in_ok-run.ensures.run c.in_ok-run.ensures.left kept.acknowledged)
 
 pub returns-in_err-outputs-clause-still : goal.returns-in_err-outputs-clause-still
 returns-in_err-outputs-clause-still g c =
     let before = subst (λ k. IsKept g.K.Disk.moment g.K.Disk.may_leave g.K.Disk.left_since g.K.Disk.state k [] c.args.keeper.now.file c.args.disk.now) (sym c.kind_of-kind.ensures) c.requires.new in
-    on_err _ (subst (λ k. KeepsSome (acknowledged_on g.K.Disk.moment g.K.Disk.may_leave g.K.Disk.left_since c.run_scripts_kept.new.disk) k) c.kind_of-kind.ensures
-    (kept_some g.K.Disk.moment g.K.Disk.may_leave g.K.Disk.left_since g.K.Disk.state c.kind_of-kind.result (journal_of c.in_ok-run.run'.ran) c.run_scripts_kept.new.keeper.file c.run_scripts_kept.new.disk (c.in_ok-run.ensures.kept before)))
+    let kept = c.in_ok-run.ensures.kept before in
+    on_err _ (kept_whole (run_request c.args.words.now) (meaning_of c.args.input) c.kind_of-kind.result c.leaves_of-leaves.result c.kind_of-kind.ensures c.leaves_of-leaves.ensures.leaves
+    (acknowledged_on g.K.Disk.moment g.K.Disk.may_leave g.K.Disk.left_since c.run_scripts_kept.new.disk) c.in_ok-run.run' c.in_ok-run.ensures.run c.in_ok-run.ensures.left kept.acknowledged)
 
 pub returns-in_err-run-clause-refused : goal.returns-in_err-run-clause-refused
 returns-in_err-run-clause-refused g c =

@@ -88,16 +88,22 @@ returns-clause-kept g c =
 
 pub returns-in_err-run_kept-clause-still : goal.returns-in_err-run_kept-clause-still
 returns-in_err-run_kept-clause-still g c =
-    let new = started (inputs_of c.args.kind (meaning_of c.args.input)) c.args.leaves c.config_of-config.result (subst (λ scripts. IsConfig c.args.kind c.args.leaves scripts c.config_of-config.result) c.as_slice.ensures c.config_of-config.ensures.config) c.requires.inputs
+    let inputs = inputs_of c.args.kind (meaning_of c.args.input) in
+    let config = subst (λ scripts. IsConfig c.args.kind c.args.leaves scripts c.config_of-config.result) c.as_slice.ensures c.config_of-config.ensures.config in
+    let new = started inputs c.args.leaves c.config_of-config.result config c.requires.inputs
     c.in_ok-engine.engine.core c.load_graph.new.engine.core c.in_ok-jobs.jobs c.in_ok-engine.ensures c.in_ok-load_graph.ensures.loaded c.in_ok-jobs.ensures in
-    on_err _ (still_of_kind g.K.Disk.moment g.K.Disk.may_leave g.K.Disk.left_since g.K.Disk.state c.args.kind c.args.keeper.now.file c.args.disk.now c.load_graph.new.engine.core.kind new.kind c.load_graph.new.engine.core.journal c.run_kept.new.engine.core.journal
-    c.run_kept.new.keeper.file c.run_kept.new.disk c.in_err-run_kept.ensures.still)
+    let leaves = leaves_are inputs c.args.leaves c.config_of-config.result config c.requires.inputs c.in_ok-engine.engine.core c.load_graph.new.engine.core c.in_ok-engine.ensures c.in_ok-load_graph.ensures.loaded in
+    on_err _ (still_of_kind g.K.Disk.moment g.K.Disk.may_leave g.K.Disk.left_since g.K.Disk.state c.args.kind c.args.keeper.now.file c.args.disk.now inputs c.load_graph.new.engine.core c.in_ok-jobs.jobs c.args.leaves c.args.input.schedule c.as_slice-schedule.result.now
+    c.run_kept.new.engine.core.journal c.run_kept.new.keeper.file c.run_kept.new.disk refl leaves c.as_slice-schedule.ensures new c.in_err-run_kept.ensures.still)
 
 pub returns-in_err-engine-clause-still : goal.returns-in_err-engine-clause-still
-returns-in_err-engine-clause-still g c = on_err _ (nothing_lost g.K.Disk.moment g.K.Disk.may_leave g.K.Disk.left_since g.K.Disk.state c.args.kind c.args.keeper.now.file c.args.disk.now)
+returns-in_err-engine-clause-still g c =
+    on_err _ (nothing_lost g.K.Disk.moment g.K.Disk.may_leave g.K.Disk.left_since g.K.Disk.state c.args.kind c.args.keeper.now.file c.args.disk.now (inputs_of c.args.kind (meaning_of c.args.input)) c.args.leaves c.args.input.schedule c.requires.inputs refl)
 
 pub returns-in_err-load_graph-clause-still : goal.returns-in_err-load_graph-clause-still
-returns-in_err-load_graph-clause-still g c = on_err _ (nothing_lost g.K.Disk.moment g.K.Disk.may_leave g.K.Disk.left_since g.K.Disk.state c.args.kind c.args.keeper.now.file c.args.disk.now)
+returns-in_err-load_graph-clause-still g c =
+    on_err _ (nothing_lost g.K.Disk.moment g.K.Disk.may_leave g.K.Disk.left_since g.K.Disk.state c.args.kind c.args.keeper.now.file c.args.disk.now (inputs_of c.args.kind (meaning_of c.args.input)) c.args.leaves c.args.input.schedule c.requires.inputs refl)
 
 pub returns-in_err-jobs-clause-still : goal.returns-in_err-jobs-clause-still
-returns-in_err-jobs-clause-still g c = on_err _ (nothing_lost g.K.Disk.moment g.K.Disk.may_leave g.K.Disk.left_since g.K.Disk.state c.args.kind c.args.keeper.now.file c.args.disk.now)
+returns-in_err-jobs-clause-still g c =
+    on_err _ (nothing_lost g.K.Disk.moment g.K.Disk.may_leave g.K.Disk.left_since g.K.Disk.state c.args.kind c.args.keeper.now.file c.args.disk.now (inputs_of c.args.kind (meaning_of c.args.input)) c.args.leaves c.args.input.schedule c.requires.inputs refl)

@@ -3,7 +3,8 @@ use Rattle.std.proofs.lemmas.Option.{slice_get-get_or}
 use Rattle.job_runner.specs.Runs.{Turns, Goes, under_way}
 use Rattle.job_runner.proofs.RunLemmas.{IsAt, at_first, at_next, at_end, scheduled, behind_schedule}
 use Rattle.job_runner.proofs.RotationLemmas.{measure, falls, rotates_on, next_zero, next_one, left_after}
-use Rattle.run_keeper.proofs.KeptLemmas.{kept_on, still_on, on_err}
+use Rattle.run_keeper.proofs.KeptLemmas.{kept_on, on_err}
+use Rattle.run_keeper.proofs.StopLemmas.{stops_in_turn}
 use Rattle.run_keeper.proofs.run.take_turns.Goals as goal
 use Rattle.run_keeper.proofs.run.take_turns.Goals.{then-branch, else-branch, then-branch-2, else-branch-2}
 
@@ -171,13 +172,26 @@ returns-in_err-take_kept_turn-clause-still g c =
     let first = g.E.StepEngine.core c.args.engine.now in
     let core = g.E.StepEngine.core c.schedule.engine in
     let new = g.E.StepEngine.core c.take_kept_turn.new.engine in
-    on_err _ (still_on g.K.Disk.moment g.K.Disk.may_leave g.K.Disk.left_since g.K.Disk.state core.kind first.kind c.schedule.invariant.kind core.journal new.journal c.schedule.keeper.file c.take_kept_turn.new.keeper.file
-    c.schedule.disk c.take_kept_turn.new.disk c.schedule.invariant.kept c.in_err-take_kept_turn.ensures.still)
+    let schedule = c.args.schedule.now in
+    let i = c.schedule.job-index in
+    let number = slice_index_or schedule i 0 in
+    let inside : i < length schedule = omega arith in
+    let left : c.schedule.left ≡ under_way c.schedule.jobs = c.schedule.invariant.left in
+    let some : 0 < under_way c.schedule.jobs = omega (arith, left, c.if-left-eq0.false) in
+    on_err _ (stops_in_turn g.K.Disk.moment g.K.Disk.may_leave g.K.Disk.left_since g.K.Disk.state schedule first c.args.jobs.now core c.schedule.jobs number new c.take_kept_turn.new.jobs c.take_kept_turn.new.keeper.file.count
+    c.args.keeper.now.file c.schedule.keeper.file c.args.disk.now c.schedule.disk c.take_kept_turn.new.disk c.schedule.invariant.kind some
+    (λ inputs are. (i, c.schedule.invariant.at inputs are, scheduled (length inputs.scripts) schedule i number (slice_get-get_or schedule i 0 inside)))
+    c.schedule.invariant.kept c.in_err-take_kept_turn.ensures.still)
 
 pub returns-in_err-take_kept_turn-2-clause-still : goal.returns-in_err-take_kept_turn-2-clause-still
 returns-in_err-take_kept_turn-2-clause-still g c =
     let first = g.E.StepEngine.core c.args.engine.now in
     let core = g.E.StepEngine.core c.rotation.engine in
     let new = g.E.StepEngine.core c.take_kept_turn-in-rotation.new.engine in
-    on_err _ (still_on g.K.Disk.moment g.K.Disk.may_leave g.K.Disk.left_since g.K.Disk.state core.kind first.kind c.rotation.invariant.kind core.journal new.journal c.rotation.keeper.file c.take_kept_turn-in-rotation.new.keeper.file
-    c.rotation.disk c.take_kept_turn-in-rotation.new.disk c.rotation.invariant.kept c.in_err-take_kept_turn-2.ensures.still)
+    let schedule = c.args.schedule.now in
+    let left : c.rotation.left ≡ under_way c.rotation.jobs = c.rotation.invariant.left in
+    let some : 0 < under_way c.rotation.jobs = omega (arith, left, c.rotation-test.true) in
+    on_err _ (stops_in_turn g.K.Disk.moment g.K.Disk.may_leave g.K.Disk.left_since g.K.Disk.state schedule first c.args.jobs.now core c.rotation.jobs c.rotation.job new c.take_kept_turn-in-rotation.new.jobs
+    c.take_kept_turn-in-rotation.new.keeper.file.count c.args.keeper.now.file c.rotation.keeper.file c.args.disk.now c.rotation.disk c.take_kept_turn-in-rotation.new.disk c.rotation.invariant.kind some
+    (λ inputs are. let a = c.rotation.invariant.at inputs are in (length schedule + a.0, a.1, behind_schedule (length inputs.scripts) schedule (length schedule + a.0) a.0 refl ∙ sym a.2))
+    c.rotation.invariant.kept c.in_err-take_kept_turn-2.ensures.still)

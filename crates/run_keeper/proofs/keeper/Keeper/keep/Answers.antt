@@ -1,4 +1,4 @@
-use Rattle.std.proofs.Common.{◌≡◌, ◌+◌, ◌<◌, ◌≤◌, ◌∙◌, length, take, refl, sym, subst, arith, slice_index_or}
+use Rattle.std.proofs.Common.{◌≡◌, ◌<◌, ◌≤◌, ◌∙◌, length, take, refl, sym, subst, arith}
 use Rattle.std.specs.Prelude.{slice_get, Some}
 use Rattle.std.proofs.lemmas.List.{take_all}
 use Rattle.std.proofs.lemmas.Option.{slice_get_read}
@@ -42,5 +42,6 @@ returns-in_err-keep_next-clause-still g c =
     let place = c.commits.place in
     let inside : place < length journal = omega arith in
     let at : slice_get journal place ≡ Some c.index-journal-place.result = slice_get_read journal (length journal) place c.index-journal-place.result refl inside c.index-journal-place.is in
+    let past : c.args.self.now.file.count ≤ place = omega (arith, c.len-first.ensures) in
     on_err _ (still_kept g.K.Disk.moment g.K.Disk.may_leave g.K.Disk.left_since g.K.Disk.state journal place c.index-journal-place.result c.args.self.now.file c.commits.self.file c.keep_next.new.self.file
-    c.args.disk.now c.commits.disk c.keep_next.new.disk at c.commits.invariant.kept c.in_err-keep_next.ensures.still)
+    c.args.disk.now c.commits.disk c.keep_next.new.disk at past c.commits.invariant.kept c.in_err-keep_next.ensures.still)
