@@ -1,8 +1,10 @@
 //! What tries to read without a latch find.
 
 use crate::busy::ReadHeldCell;
+use crate::routes::{OldRoute, run_with_route};
 use crate::rows::{ReadOwnWrite, ReadSettled};
 use cases_shared::run_case;
+use cases_workers::{AddVertices, CutBack, ServeOften};
 use graph_model::{Key, Kind};
 use optimistic_read::Tried;
 use std::test::Fail;
@@ -66,5 +68,75 @@ fn a_settled_row_is_read_in_its_cell_alone(rt: HostRuntime) -> Result<(), Fail> 
         }),
     };
     assert_eq!(rt; read, want);
+    Ok(())
+}
+
+/// Nothing was done yet.
+fn add_vertices(count: u32) -> AddVertices {
+    AddVertices {
+        count,
+        added: 0,
+        refused: None,
+        stamp: None,
+        seen: 0,
+    }
+}
+
+fn serve_often(turns: u32) -> ServeOften {
+    ServeOften {
+        turns,
+        changed: 0,
+        still: 0,
+    }
+}
+
+/// The 33rd vertex spreads the rows of the first cell over two, 16 in each.
+#[test]
+fn a_cell_whose_rows_were_spread_has_other_keys(rt: HostRuntime) -> Result<(), Fail> {
+    let config = Config {
+        txns_per_pass: 4,
+        ..CONFIG
+    };
+    let mut before = add_vertices(0);
+    let mut rows = add_vertices(33);
+    let found = run_with_route(&rt, rt.alloc(), config, 40, &mut before, &mut rows)?;
+    let missing = Tried::Value { weight: None };
+    let want = OldRoute {
+        first: missing,
+        later: Tried::Moved {
+            low: Key::of_vertex(0),
+            high: Key::of_vertex(17),
+        },
+        again: missing,
+    };
+    assert_eq!(rt; found, Some(want));
+    assert_eq!(rt; rows.added, 33);
+    Ok(())
+}
+
+/// Of 500 vertices each tenth is left, and turns of the service make one leaf of all. The transaction began before
+/// these turns, so the leaf of its route isn't given out again.
+#[test]
+fn the_cells_of_a_merged_leaf_have_no_keys(rt: HostRuntime) -> Result<(), Fail> {
+    let config = Config {
+        txns_per_pass: 4,
+        ..CONFIG
+    };
+    let mut cut = CutBack {
+        vertices: add_vertices(500),
+        service: serve_often(0),
+    };
+    let mut service = serve_often(60);
+    let found = run_with_route(&rt, rt.alloc(), config, 491, &mut cut, &mut service)?;
+    let Some(found) = found else {
+        return Err(Fail::new("no transaction began"));
+    };
+    assert_eq!(rt; found.first, Tried::Value { weight: Some(0) });
+    let want = Tried::Moved {
+        low: Key::END,
+        high: Key::END,
+    };
+    assert_eq!(rt; found.later, want);
+    assert_eq!(rt; found.again, Tried::Value { weight: Some(0) });
     Ok(())
 }

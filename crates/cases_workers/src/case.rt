@@ -56,7 +56,7 @@ fn run_by_last<R: Wait, C: EngineCase, H: Home>(
 }
 
 /// The last pass of a list that has one.
-pub(crate) fn take_last(list: &mut Vec<Pass>) -> Pass
+pub fn take_last(list: &mut Vec<Pass>) -> Pass
     requires { 1 ≤ length list.old.items }
     ensures items { list.old.items ≡ list.new.items ++ result ∷ [] }
     ensures capacity { vec_capacity list.old ≤ vec_capacity list.new }
@@ -68,7 +68,7 @@ pub(crate) fn take_last(list: &mut Vec<Pass>) -> Pass
 }
 
 /// Puts a pass at the end of a list that has room for it.
-pub(crate) fn put_last(list: &mut Vec<Pass>, pass: Pass)
+pub fn put_last(list: &mut Vec<Pass>, pass: Pass)
     requires { length list.old.items + 1 ≤ vec_capacity list.old }
     ensures items { list.new.items ≡ list.old.items ++ pass ∷ [] }
     ensures capacity { vec_capacity list.old ≤ vec_capacity list.new }
@@ -80,7 +80,7 @@ pub(crate) fn put_last(list: &mut Vec<Pass>, pass: Pass)
 }
 
 /// The pass of a worker of this store that has no transaction.
-pub(crate) fn leave<R: Wait, H: Home>(store: &Store, worker: Worker<'_, R, H>) -> Pass
+pub fn leave<R: Wait, H: Home>(store: &Store, worker: Worker<'_, R, H>) -> Pass
     requires home { H.home ≡ Some store.now }
     requires closed { (account_of worker.store.now worker.pass).start ≡ None }
     ensures pass { result ≡ worker.entry.pass }

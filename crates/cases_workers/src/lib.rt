@@ -10,6 +10,6 @@ mod rows;
 mod tests;
 mod three;
 
-pub use case::{EngineCase, run_case};
-pub use rows::{AddEachSecond, AddVertices, BeginOften, CutBack, ScanOften};
+pub use case::{EngineCase, leave, put_last, run_case, take_last};
+pub use rows::{AddEachSecond, AddVertices, BeginOften, CutBack, ScanOften, ServeOften};
 pub use three::run_together;

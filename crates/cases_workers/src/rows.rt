@@ -93,11 +93,7 @@ fn count_seen<E: Engine>(engine: &mut E, count: u32) -> u32
 #[derive(Clone, Copy, Debug, PartialEq, Eq)]
 pub struct CutBack {
     pub vertices: AddVertices,
-    pub turns: u32,
-    /// How many turns changed a cell.
-    pub changed: u32,
-    /// How many of the last turns, one behind the other, changed none.
-    pub still: u32,
+    pub service: ServeOften,
 }
 
 impl EngineCase for CutBack {
@@ -107,7 +103,7 @@ impl EngineCase for CutBack {
             remove(engine, self.vertices.count);
             engine.commit();
         }
-        serve(engine, self);
+        self.service.run(engine);
     }
 }
 
@@ -128,18 +124,25 @@ fn remove<E: VertexEngine>(engine: &mut E, count: u32)
 }
 
 /// Takes turns of the service.
-fn serve<E: Engine>(engine: &mut E, case: &mut CutBack)
-    requires closed { (E.account engine.old).start ≡ None }
-    ensures closed { (E.account engine.new).start ≡ None }
-    ensures job { (E.account engine.new).job ≡ (E.account engine.old).job }
-{
-    'turns: for _turn in 0..case.turns {
-        match engine.service_step() {
-            Ok(true) => {
-                case.changed = case.changed.saturating_add(1);
-                case.still = 0;
+#[derive(Clone, Copy, Debug, PartialEq, Eq)]
+pub struct ServeOften {
+    pub turns: u32,
+    /// How many turns changed a cell.
+    pub changed: u32,
+    /// How many of the last turns, one behind the other, changed none.
+    pub still: u32,
+}
+
+impl EngineCase for ServeOften {
+    fn run<E: VertexEngine>(&mut self, engine: &mut E) {
+        'turns: for _turn in 0..self.turns {
+            match engine.service_step() {
+                Ok(true) => {
+                    self.changed = self.changed.saturating_add(1);
+                    self.still = 0;
+                }
+                _ => self.still = self.still.saturating_add(1),
             }
-            _ => case.still = case.still.saturating_add(1),
         }
     }
 }

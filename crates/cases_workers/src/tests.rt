@@ -1,7 +1,7 @@
 //! What a worker is answered.
 
 use crate::case::run_case;
-use crate::rows::{AddEachSecond, AddVertices, BeginOften, CutBack, ScanOften};
+use crate::rows::{AddEachSecond, AddVertices, BeginOften, CutBack, ScanOften, ServeOften};
 use crate::three::run_together;
 use graph_model::{BeginRefusal, Kind, Refusal};
 use std::test::Fail;
@@ -79,13 +79,15 @@ fn a_store_without_a_free_leaf_is_full(rt: HostRuntime) -> Result<(), Fail> {
 fn turns_of_the_service_come_to_an_end(rt: HostRuntime) -> Result<(), Fail> {
     let mut cut = CutBack {
         vertices: add_vertices(500),
-        turns: 60,
-        changed: 0,
-        still: 0,
+        service: ServeOften {
+            turns: 60,
+            changed: 0,
+            still: 0,
+        },
     };
     let closed = run_case(&rt, rt.alloc(), CONFIG, &mut cut)?;
-    assert!(rt; cut.changed > 0);
-    assert!(rt; cut.still > 20);
+    assert!(rt; cut.service.changed > 0);
+    assert!(rt; cut.service.still > 20);
     assert_eq!(rt; closed.totals.vertices, 50);
     Ok(())
 }

@@ -1,5 +1,5 @@
 use Rattle.std.proofs.Common.{◌≡◌, None}
-use Rattle.cases_workers.proofs.rows.serve.Given as goal
+use Rattle.bench_workers.proofs.parts.serve_beside.Given as goal
 
 abbrev pub invariant-turns : goal.invariant-turns
 invariant-turns g l =

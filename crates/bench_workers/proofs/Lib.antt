@@ -1,0 +1,2 @@
+pub mod HireLemmas
+pub mod RoundLemmas
