@@ -14,12 +14,12 @@ help:
 	@echo 'make demo       runs an example, checked and not proved, in a minute: EXAMPLE=first'
 	@echo '                or tour, transfers, fraud, routes, network, conflict, kernels'
 	@echo 'make quick      runs all tests, the examples and the guide, checked and not proved, in 3 minutes'
-	@echo 'make build      proves and builds the program: a quarter of an hour the first time on four cores'
+	@echo 'make build      proves and builds the program: half an hour or so the first time on four cores'
 	@echo 'make install    builds, and puts teseo, its manual page, its completion and the tools below PREFIX ($(PREFIX))'
 	@echo 'make uninstall  removes them from there'
 	@echo 'make test       the gate: proves every crate from nothing, and runs all tests (an hour)'
 	@echo 'make wrong      tries the wrong bodies that the gate leaves out (half an hour)'
-	@echo 'make stress     builds, and reads damaged journal files back, and those of killed runs (a minute)'
+	@echo 'make stress     builds, and tries failing calls, damaged files, killed runs and random runs (ten minutes at most)'
 	@echo 'make bench      builds, and prints a table of times and of memory (some minutes)'
 	@echo 'make package    builds, and packs the program with all that make install installs into a .tar.gz'
 	@echo 'make dist       packs the last commit into teseo-COMMIT.tar.gz'
@@ -32,7 +32,7 @@ quick:
 	.ci/quick
 
 build:
-	@echo 'Proving and building takes a quarter of an hour the first time on four quiet cores, and seconds where nothing changed.'
+	@echo 'Proving and building takes half an hour or so the first time on four quiet cores, and seconds where nothing changed.'
 	@.ci/build
 
 install: build
@@ -58,8 +58,7 @@ wrong:
 	.ci/wrong
 
 stress: build
-	python3 stress/recover.py
-	python3 stress/kills.py
+	stress/run.sh
 
 bench:
 	bench/run.sh

@@ -1,13 +1,14 @@
 #!/usr/bin/env python3
-"""Runs bench_engine with a sixth number, and prints a row of a table for each line of it.
+"""Runs bench_engine with a sixth number, or bench_workers with the word churn, and prints a row of a table for each line of it.
 
-    churn.py -- COMMAND...
+    churn.py [--kept BYTES] -- COMMAND...
 
 A row has how many transactions were made so far, how many a second in the
 tenth of the run that ended, what the store holds then (undo records, retired
 leaves, leaves in use), the memory of the whole process in MiB, as Linux
 counts its resident set when the line arrives, and what of it is left without
-the journal and the list of what the pass did, which a run keeps to its end.
+what a run keeps of each transaction to its end, so many bytes: in bench_engine
+152, the journal and the list of what the pass did.
 """
 
 import argparse
@@ -38,17 +39,17 @@ def resident_mebibytes(process):
     return 0
 
 
-def print_rows(command):
+def print_rows(command, kept):
     """Runs the command, and prints a row for each of its lines."""
     made = 0
     with subprocess.Popen(command, stdout=subprocess.PIPE, text=True) as process:
         for line in process.stdout:
             found = LINE.match(line)
             if not found:
-                sys.exit(f"churn.py: not a line of bench_engine: {line!r}")
+                sys.exit(f"churn.py: not a line that tells of a store: {line!r}")
             made += int(found["made"])
             memory = resident_mebibytes(process.pid)
-            rest = memory - made * KEPT_BYTES // BYTES_IN_A_MEBIBYTE
+            rest = memory - made * kept // BYTES_IN_A_MEBIBYTE
             print(
                 f"| {made:8d} | {found['rate']:>8} | {found['undo']:>8}"
                 f" | {found['retired']:>7} | {found['leaves']:>6}"
@@ -64,8 +65,10 @@ def main():
     parser = argparse.ArgumentParser(
         description=__doc__, formatter_class=argparse.RawDescriptionHelpFormatter
     )
+    parser.add_argument("--kept", type=int, default=KEPT_BYTES, metavar="BYTES")
     parser.add_argument("command", nargs="+", metavar="COMMAND")
-    print_rows(parser.parse_args().command)
+    words = parser.parse_args()
+    print_rows(words.command, words.kept)
 
 
 if __name__ == "__main__":

@@ -2,11 +2,11 @@
 # Builds the program, runs the whole command on graphs of three sizes and two kinds, and prints a table. Then come a table
 # of what it takes to read and load a graph with weights, one of many scripts of short transactions, one of such scripts
 # with --serial and without, one of the image and the kernels by themselves, one of the parts of the store over leaves, one
-# of latches and pins, one of transactions by calls of the engine, one of transactions of threads on one store, one of
-# scripts with --threads, and one of commits that are kept. All inputs are made from a seed in a temporary folder, which is
+# of latches and pins, one of transactions by calls of the engine, one of transactions of threads on one store, three of
+# workers of one store, one of scripts with --threads, and one of commits that are kept. All inputs are made from a seed in a temporary folder, which is
 # removed at the end. RUNS=N and SEED=N change how often each is run (3), and which inputs they are (1). ONLY=runs,
-# ONLY=serial, ONLY=kernels, ONLY=segments, ONLY=latches, ONLY=engine, ONLY=churn, ONLY=shared, ONLY=threads and ONLY=keep
-# print one part alone.
+# ONLY=serial, ONLY=kernels, ONLY=segments, ONLY=latches, ONLY=engine, ONLY=churn, ONLY=shared, ONLY=workers, ONLY=threads
+# and ONLY=keep print one part alone.
 set -euo pipefail
 
 top=$(cd "$(dirname "$0")/.." && pwd)
@@ -16,6 +16,7 @@ segments=$top/crates/bench_store/out/bench_store
 engine=$top/crates/bench_engine/out/bench_engine
 latches=$top/crates/bench_latches/out/bench_latches
 shared=$top/crates/bench_shared/out/bench_shared
+workers=$top/crates/bench_workers/out/bench_workers
 runs=${RUNS:-3}
 seed=${SEED:-1}
 
@@ -293,6 +294,82 @@ print_shared() {
     echo
 }
 
+# The greatest of the last words but one, and of the last words, of the lines in a file that begin so.
+most_of() {
+    awk -v begins="$1 " 'index($0, begins) == 1 {
+        if ($(NF - 1) + 0 > rate) rate = $(NF - 1)
+        if ($NF + 0 > beside) beside = $NF
+    }
+    END { print rate + 0, beside + 0 }' "$2"
+}
+
+# Adds the lines of one run of reads and scans by so many readers, and of reads of an ordered map where it was built.
+measure_readers() {
+    local readers=$1 writer
+    "$workers" reads 1000000 3500000 "$seed" "$readers" 1000000 >>worker_lines
+    "$workers" scans 1000000 3500000 "$seed" "$readers" 10 >>worker_lines
+    [ -x ordered_map ] || return 0
+    for writer in 0 1; do
+        echo "map $readers $writer $(./ordered_map s . "$readers" reads "$writer" 1000000 | awk '{ print $2 }' | paste -sd' ')" >>map_lines
+    done
+}
+
+# Prints the rows of a table of reads or of scans: readers, writers, millions a second, transactions beside them a second, and
+# of reads the same two of an ordered map.
+print_readers() {
+    local part=$1 readers writer rate beside map
+    echo "| $part by | Writers | M a second | Transactions a second | Ordered map, M a second | Transactions a second |"
+    echo '|---:|---:|---:|---:|---:|---:|'
+    for readers in 1 2 3; do
+        for writer in 0 1; do
+            read -r rate beside < <(most_of "$part $readers $writer" worker_lines)
+            map=' | '
+            if [ "$part" = reads ] && [ -f map_lines ]; then
+                map=$(most_of "map $readers $writer" map_lines | awk '{ printf "%.2f | %d", $1 / 1e6, $2 }')
+            fi
+            printf '| %d | %d | %s | %d | %s |\n' "$readers" "$writer" \
+                "$(awk -v n="$rate" 'BEGIN { printf "%.2f", n / 1e6 }')" "$beside" "$map"
+        done
+    done
+    echo
+}
+
+# Prints the tables of reads and of scans by one to three readers, alone and beside a writer, by turns, with those of an
+# ordered map behind a lock where rustc is installed, and the table of turns of the service.
+print_workers() {
+    local readers
+    if rustc --edition=2021 -Copt-level=2 "$top/bench/others/ordered_map.rs" -o ordered_map 2>said; then
+        g++ -O2 -std=c++20 "$top/bench/others/graphs.cpp" -o graphs
+        ./graphs s 1000000 3500000 "$seed" 1
+    fi
+    for _run in $(seq "$runs"); do
+        for readers in 1 2 3; do measure_readers "$readers"; done
+        "$workers" turns 1000000 3500000 "$seed" 1 400000 >>turn_lines
+    done
+    print_readers reads
+    print_readers scans
+    echo '| Part  | Least ns | Most |'
+    echo '|-------|---------:|-----:|'
+    awk '$1 == "turn" || $1 == "sweep" { print $1, $3 }' turn_lines >turn_times
+    spread turn_times | awk '{ printf "| %-5s | %8d | %4d |\n", $1, $2, $3 }'
+    echo
+    echo "The best of $runs runs, on a graph of 1,000,000 vertices and 3,500,000 edges by R-MAT. What a part does is told in"
+    echo "crates/bench_workers/README.md: a turn is a sweep or a turn of merging, and a sweep is one by itself. Load is $(load) now."
+    echo
+    print_worker_churn
+}
+
+# Prints the table of 2,000,000 updates of the same 10,000 edges by four workers beside the service, at ten moments.
+print_worker_churn() {
+    echo "| Made     | a second |     Undo | Retired | Leaves | Memory |   Rest |"
+    echo "|---------:|---------:|---------:|--------:|-------:|-------:|-------:|"
+    "$top/bench/churn.py" --kept 96 -- "$workers" churn 100000 300000 "$seed" 4 2000000 || fail
+    echo
+    echo "Four workers set 10,000 edges of a graph by R-MAT of 100,000 vertices and 300,000 edges again and again, and a fifth"
+    echo "takes turns of the service. The columns are those of ONLY=churn; Rest is without the journal, 96 bytes a transaction."
+    echo
+}
+
 # Runs the command on the graph once, with these words, and adds its seconds to a file.
 run_once() {
     local file=$1
@@ -390,6 +467,7 @@ build() {
     if is_wanted segments; then (cd "$top/crates/bench_store" && rt run >/dev/null 2>&1); fi
     if is_wanted latches; then (cd "$top/crates/bench_latches" && rt run >/dev/null 2>&1); fi
     if is_wanted engine || is_wanted churn; then (cd "$top/crates/bench_engine" && rt run >/dev/null 2>&1); fi
+    if is_wanted workers; then (cd "$top/crates/bench_workers" && rt run >/dev/null 2>&1); fi
     if is_wanted shared; then (cd "$top/crates/bench_shared" && rt run >/dev/null 2>&1); fi
 }
 
@@ -413,6 +491,7 @@ if is_wanted engine; then
     print_engine 1 'drawn by R-MAT'
 fi
 if is_wanted shared; then print_shared; fi
+if is_wanted workers; then print_workers; fi
 if is_wanted threads; then print_threads; fi
 if is_wanted keep; then print_keep; fi
 if is_wanted churn; then

@@ -1,9 +1,11 @@
 #!/usr/bin/env python3
-"""Draws the pictures of ARCHITECTURE.md: store.svg, versions.svg and rebalance.svg, beside this file.
+"""Draws the pictures of ARCHITECTURE.md: store.svg, versions.svg, rebalance.svg and passes.svg, beside this file; and
+reads.svg, from the first table of BENCHMARKS.md under "Reads beside writers", where each of its cells of reads has a figure.
 
 Needs Python 3.9 or later with its standard library alone, and is run by hand: docs/pictures.py"""
 
 import pathlib
+import re
 from xml.sax.saxutils import escape
 
 HERE = pathlib.Path(__file__).resolve().parent
@@ -43,6 +45,12 @@ class Picture:
         path = " ".join(f"{x},{y}" for x, y in points)
         self.parts.append(
             f'<polyline points="{path}" fill="none" stroke="{INK}" marker-end="url(#tip)"/>\n'
+        )
+
+    def dashed(self, x, y, width, height):
+        self.parts.append(
+            f'<rect x="{x}" y="{y}" width="{width}" height="{height}" fill="none" stroke="{INK}"'
+            ' stroke-dasharray="4 3"/>\n'
         )
 
     def save(self):
@@ -151,7 +159,7 @@ def draw_rebalance():
     picture = Picture("rebalance", "A full segment is spread over a window, and a full leaf is split in two", 330)
     picture.word(10, 24, "spread: the first segment is full, and the window of two has room (32 + 1 of at most 60)", weight="bold")
     draw_leaf(picture, 20, 40, (32, 0, 0, 0, 0, 0, 0, 0))
-    picture.parts.append(f'<rect x="17" y="36" width="78" height="74" fill="none" stroke="{INK}" stroke-dasharray="4 3"/>\n')
+    picture.dashed(17, 36, 78, 74)
     picture.arrow((325, 64), (415, 64))
     draw_leaf(picture, 430, 40, (16, 16, 0, 0, 0, 0, 0, 0))
     picture.word(10, 150, "split: no window has room (207 + 2 of at most 208), and half of the rows move to a free leaf", weight="bold")
@@ -164,7 +172,114 @@ def draw_rebalance():
     picture.save()
 
 
+def draw_views(picture):
+    """What two passes know by themselves."""
+    picture.word(10, 36, "passes", weight="bold")
+    picture.word(10, 52, "each on a thread,", colour=GREY)
+    picture.word(10, 67, "with a view of its own", colour=GREY)
+    views = [
+        (190, "pass 1 has committed", ("its transaction, and what it has", "seen of the journal: commits 1, 2")),
+        (470, "pass 2 has cell 1 in hand", ("its transaction, which began at 1,", "and the rows of cell 1")),
+    ]
+    for x, name, lines in views:
+        picture.box(x, 15, 260, 66)
+        picture.word(x + 10, 34, name, weight="bold")
+        picture.word(x + 10, 53, lines[0])
+        picture.word(x + 10, 69, lines[1])
+
+
+def draw_words(picture):
+    """Numbers that any pass loads and stores in one step, each with what it says."""
+    picture.word(10, 151, "words", weight="bold")
+    picture.word(10, 167, "any pass loads any,", colour=GREY)
+    picture.word(10, 182, "in one step", colour=GREY)
+    picture.arrow((240, 81), (240, 120))
+    picture.word(250, 104, "a load or a store of one word", colour=GREY)
+    words = [
+        ("clock", "2", "two commits"),
+        ("word of pass 1", "4", "is commit 2"),
+        ("word of pass 2", "1", "is open"),
+        ("pin of pass 2", "3", "began at 1"),
+        ("latch of cell 1", "7", "odd: held"),
+        ("block of cell 0", "8 ..", "even: whole"),
+    ]
+    for place, (name, number, says) in enumerate(words):
+        x = 150 + place * 97
+        picture.word(x + 46, 135, name, "middle")
+        picture.labelled(x, 142, 92, 26, number, ROW)
+        picture.word(x + 46, 184, says, "middle", GREY)
+
+
+def draw_values(picture):
+    """What is taken out by its latch, and a record that asks for a word."""
+    picture.word(10, 266, "values", weight="bold")
+    picture.word(10, 282, "one pass at a time", colour=GREY)
+    picture.word(10, 297, "has them, by a latch", colour=GREY)
+    values = [("journal", "commit 1, commit 2"), ("index", "leaf of each key"), ("cell 0", "rows, records")]
+    for place, (name, holds) in enumerate(values):
+        x = 150 + place * 145
+        picture.word(x + 66, 255, name, "middle")
+        picture.labelled(x, 262, 132, 26, holds)
+    picture.word(651, 255, "cell 1", "middle")
+    picture.dashed(585, 262, 132, 26)
+    picture.word(651, 279, "out, with pass 2", "middle", GREY)
+    picture.arrow((717, 275), (748, 275), (748, 48), (732, 48))
+    picture.labelled(440, 320, 132, 26, "record of 2.1", RECORD)
+    picture.arrow((506, 288), (506, 320))
+    picture.arrow((440, 333), (433, 333), (433, 192))
+    picture.word(425, 337, "no stamp: the word of its writer’s pass tells", "end", GREY)
+
+
+def draw_passes():
+    """Words, views and latches of a store that passes share."""
+    picture = Picture("passes", "Two passes with their views, the words that any pass loads, and values with latches", 365)
+    draw_views(picture)
+    draw_words(picture)
+    draw_values(picture)
+    picture.save()
+
+
+def read_rates():
+    """Millions of reads a second by readers and by whether there is a writer: here, and of the ordered map. The best of each."""
+    text = (HERE / "BENCHMARKS.md").read_text(encoding="utf-8").partition("## Reads beside writers\n")[2]
+    rates = {}
+    for line in text.partition("\n\nMillions of rows")[0].splitlines():
+        cells = [cell.strip() for cell in line.strip("|").split("|")]
+        if cells[0].isdecimal():
+            figures = [re.findall(r"[\d.]+", cells[column].replace(",", "")) for column in (2, 6)]
+            if not all(figures):
+                return {}
+            rates[int(cells[0]), cells[1] != "nobody"] = tuple(max(map(float, found)) for found in figures)
+    return rates
+
+
+def draw_reads():
+    """Reads a second by the number of readers, alone and beside a writer, here and of an ordered map behind a lock."""
+    rates = read_rates()
+    if not rates:
+        print("reads.svg isn't drawn: the table has no figures yet")
+        return
+    picture = Picture("reads", "Millions of reads a second by one to three readers, alone and beside a writer", 330)
+    most = max(max(pair) for pair in rates.values())
+    kinds = [(0, False, ROW, "alone"), (0, True, TOUCH, "beside a writer"), (1, False, RECORD, "ordered map, alone"),
+             (1, True, GREY, "ordered map, beside a writer")]
+    for place, (column, is_written, fill, name) in enumerate(kinds):
+        picture.box(20 + place * 180, 14, 12, 12, fill)
+        picture.word(38 + place * 180, 24, name)
+        for readers in (1, 2, 3):
+            rate = rates[readers, is_written][column]
+            x, tall = 60 + (readers - 1) * 230 + place * 48, rate / most * 210
+            picture.box(x, 275 - tall, 40, tall, fill)
+            picture.word(x + 20, 270 - tall, f"{rate:.2f}", "middle")
+    for readers in (1, 2, 3):
+        picture.word(152 + (readers - 1) * 230, 295, f"{readers} reader{'s' if readers > 1 else ''}", "middle")
+    picture.word(20, 320, "millions of reads a second, the best runs", colour=GREY)
+    picture.save()
+
+
 if __name__ == "__main__":
     draw_store()
     draw_versions()
     draw_rebalance()
+    draw_passes()
+    draw_reads()

@@ -1,5 +1,8 @@
 //! Transactions of one edge each on an ordered map of Rust's library behind a lock: one writer at a time, and a scan stops the
 //! writer. The words and what is printed are told in stores.h; FOLDER isn't used.
+//!
+//! With `reads WRITERS COUNT` behind THREADS so many threads look up COUNT drawn edges each in place of that, 1,024 while they hold
+//! the lock once, and so many others set edges meanwhile. It prints `reads` and `transactions`, each with how many a second.
 
 use std::collections::BTreeMap;
 use std::sync::atomic::{AtomicBool, AtomicU64, Ordering::SeqCst};
@@ -31,6 +34,50 @@ fn make(store: &RwLock<Rows>, [act, source, target]: [u32; 3]) -> bool {
         }
     }
     may
+}
+
+/// How many edges are looked up under the lock at once.
+const READS: usize = 1024;
+
+/// So many edges, each drawn among all of them by SplitMix64.
+fn drawn_edges(edges: &[[u32; 3]], count: usize, mut state: u64) -> Vec<[u32; 3]> {
+    let mut draw = || {
+        state = state.wrapping_add(0x9e37_79b9_7f4a_7c15);
+        let mixed = (state ^ (state >> 30)).wrapping_mul(0xbf58_476d_1ce4_e5b9);
+        let mixed = (mixed ^ (mixed >> 27)).wrapping_mul(0x94d0_49bb_1331_11eb);
+        mixed ^ (mixed >> 31)
+    };
+    (0..count).map(|_| edges[(draw() % edges.len() as u64) as usize]).collect()
+}
+
+/// How many of the edges there are.
+fn read(store: &RwLock<Rows>, edges: &[[u32; 3]]) -> u64 {
+    let count = |batch: &[[u32; 3]]| {
+        let rows = store.read().expect("nobody fails with the lock");
+        batch.iter().filter(|[source, target, _]| rows.contains_key(&(*source, *target))).count() as u64
+    };
+    edges.chunks(READS).map(count).sum()
+}
+
+/// Times reads by so many threads, each of its part of the edges, while so many others set edges.
+fn time_reads(store: &RwLock<Rows>, edges: &[[u32; 3]], readers: usize, writers: usize) {
+    let (set, is_done) = (AtomicU64::new(0), AtomicBool::new(false));
+    let parts: Vec<_> = edges.chunks(edges.len() / (readers + writers) + 1).collect();
+    let begun = Instant::now();
+    thread::scope(|scope| {
+        for part in &parts[readers..] {
+            scope.spawn(|| {
+                for [source, target, _] in part.iter().cycle().take_while(|_| !is_done.load(SeqCst)) {
+                    set.fetch_add(u64::from(make(store, [1, *source, *target])), SeqCst);
+                }
+            });
+        }
+        let readers: Vec<_> = parts[..readers].iter().map(|part| scope.spawn(|| read(store, part))).collect();
+        let found = readers.into_iter().map(|reader| reader.join().expect("a reader ends")).sum();
+        say_rate("reads", found, begun);
+        say_rate("transactions", set.load(SeqCst), begun);
+        is_done.store(true, SeqCst);
+    });
 }
 
 /// How many rows there are, a sum of them, and whether an edge has one arc without the other.
@@ -66,6 +113,13 @@ fn rows_of(graph: &str) -> Vec<((u32, u32), u32)> {
 fn main() {
     let words: Vec<String> = env::args().collect();
     let threads: usize = words[3].parse().expect("a number of threads");
+    if words.get(4).is_some_and(|word| word == "reads") {
+        let number = |place: usize| words[place].parse::<usize>().expect("a number");
+        let (writers, count) = (number(5), number(6));
+        let edges = drawn_edges(&numbers_of::<3>(&format!("{}.e", words[1])), count * (threads + writers), 1);
+        let store: RwLock<Rows> = RwLock::new(rows_of(&words[1]).into_iter().collect());
+        return time_reads(&store, &edges, threads, writers);
+    }
     let changes = numbers_of::<3>(&format!("{}.changes", words[1]));
     let rows = rows_of(&words[1]);
     let begun = Instant::now();
