@@ -4,11 +4,11 @@ use Rattle.std.specs.Prelude.{slice_get, Some}
 use Rattle.graph_model.specs.declared.write.Write.{Write}
 use Rattle.seat_views.specs.Keeping.{kept_at}
 use Rattle.seat_views.proofs.NumberLemmas.{other_number, same_number}
-use Rattle.store_relation.specs.Loads.{loaded_pass}
-use Rattle.store_rule.specs.Closing.{IsBackPass}
-use Rattle.store_rule.specs.Making.{AreLoadedPasses, IsFirstPass}
-use Rattle.store_rule.specs.declared.store.Pass.{Pass}
-use Rattle.store_rule.specs.declared.store.Store.{Store}
+use Rattle.cases_store.specs.StoreRelation.Loads.{loaded_pass}
+use Rattle.cases_store.specs.StoreRule.Closing.{IsBackPass}
+use Rattle.cases_store.specs.StoreRule.Making.{AreLoadedPasses, IsFirstPass}
+use Rattle.cases_store.specs.StoreRuleDeclared.store.Pass.{Pass}
+use Rattle.cases_store.specs.StoreRuleDeclared.store.Store.{Store}
 use Rattle.cases_store.specs.Visits.{AreAtEase}
 
 module _ (store : Store) (load : List Write) where

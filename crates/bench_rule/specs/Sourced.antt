@@ -1,6 +1,6 @@
 -- What stores are made of.
 use Rattle.std.specs.Prelude.{◌≡◌, false}
-use Rattle.loaded_cells.specs.Numbered.{AreRowsOf}
+use Rattle.cases_store.specs.LoadedCells.Numbered.{AreRowsOf}
 use Rattle.txn_manager.specs.Config.{too_large}
 use Rattle.bench_rule.specs.declared.source.Source.{Source}
 

@@ -2,16 +2,16 @@
 
 ghost use Rattle.std.specs.Prelude.{◌≡◌, IfOk, IfSome};
 ghost use Rattle.graph_model.specs.declared.write.Kind.TheVariants.{Undirected};
-ghost use Rattle.store_rule.specs.Making.{AreLoadedPasses};
+ghost use Rattle.cases_store.specs.StoreRule.Making.{AreLoadedPasses};
 ghost use Rattle.bench_rule.specs.Sourced.{IsSource};
 
 use anyhow::Result;
 use bench_graphs::{count_of, made_graph};
+use cases_store::below::{Passes, Store};
 use graph_model::{Kind, MAX_LEAVES, MAX_TXNS_PER_PASS, NoMemory, Row, Writes};
 use items::Items;
 use load_order::sorted_rows;
 use std::alloc::Global;
-use store_rule::{Passes, Store};
 use txn_manager::{Config, RoomRefusal};
 
 /// How many rows a leaf has at first.

@@ -6,18 +6,18 @@
 
 ghost use Rattle.std.specs.Prelude.{◌<◌, length};
 ghost use Rattle.cases_store.specs.Visits.{AreAtEase, IsAtEase};
-ghost use Rattle.rule_model.specs.Sight.{cells_of};
+ghost use Rattle.cases_store.specs.RuleModel.Sight.{cells_of};
 ghost use Rattle.bench_rule.specs.Sourced.{IsSource};
 
 use crate::best::Best;
 use crate::source::Source;
 use anyhow::Result;
+use cases_store::below::{Pass, Store};
 use cases_store::visit;
 use std::alloc::Global;
 use std::rt::Clock;
 use std::sync::Wait;
 use std::time::Instant;
-use store_rule::{Pass, Store};
 
 /// How many rounds there are, each of so many trips as are asked for.
 const ROUNDS: u32 = 40;

@@ -12,11 +12,11 @@ use crate::random::{Random, drawn_order};
 use crate::segments::{FEW, FULL, USUAL, row};
 use anyhow::Result;
 use graph_model::{Key, NoMemory, TxnName};
+use leaf_array::below::{Rows32, VersionSegment};
 use std::alloc::Global;
 use std::rt::Clock;
 use std::time::Instant;
 use undo_chain::Snapshot;
-use version_segment::{Rows32, VersionSegment};
 
 /// Who writes all rows.
 const WRITER: TxnName = TxnName { job: 1, number: 1 };

@@ -32,7 +32,7 @@ struct Whole {
 
 impl Model for Whole {
     ghost use Rattle.std.specs.Prelude.{List};
-    ghost use Rattle.version_segment.specs.Rows.{VersionedRows};
+    ghost use Rattle.leaf_array.specs.VersionSegment.Rows.{VersionedRows};
     ghost use Rattle.leaf_array.specs.Leaves.{IsLeaf};
 
     ghost Value = { List VersionedRows };

@@ -8,12 +8,12 @@ use Rattle.std.specs.List.{AllByRecursion}
 use Rattle.graph_model.proofs.HistoryLemmas.{each_item}
 use Rattle.graph_model.proofs.SortedLemmas.{map_at, slice_get-map}
 use Rattle.graph_model.specs.Account.{Account}
-use Rattle.store_rule.specs.declared.store.Store.{Store}
-use Rattle.shared_store.specs.declared.pass.Pass.{Pass}
-use Rattle.shared_store.specs.Ends.{AreIdle}
-use Rattle.shared_store.specs.Passes.{IsIdle, account_of}
-use Rattle.rebalance_service.specs.Ready.{IsReady}
-use Rattle.rebalance_service.proofs.ReadyLemmas.{idle_here, start_none}
+use Rattle.cases_workers.specs.StoreRuleDeclared.store.Store.{Store}
+use Rattle.cases_workers.specs.SharedStoreDeclared.pass.Pass.{Pass}
+use Rattle.cases_workers.specs.SharedStore.Ends.{AreIdle}
+use Rattle.cases_workers.specs.SharedStore.Passes.{IsIdle, account_of}
+use Rattle.cases_workers.specs.RebalanceService.Ready.{IsReady}
+use Rattle.cases_workers.proofs.RebalanceService.ReadyLemmas.{idle_here, start_none}
 use Rattle.cases_workers.proofs.PassLemmas.{AreInOrder, HasLeft, all_idle, comes_back, has_left, in_order}
 use Rattle.bench_workers.specs.Engines.{AreClosed, jobs_of}
 

@@ -1,14 +1,14 @@
 //! The same edges set again and again by several engines, with another one that takes turns of the service.
 
 ghost use Rattle.std.specs.Prelude.{◌≡◌};
-ghost use Rattle.shared_store.specs.Passes.{IsIdle};
+ghost use Rattle.cases_workers.specs.SharedStore.Passes.{IsIdle};
 ghost use Rattle.bench_workers.specs.Engines.{AreClosed, jobs_of};
 
 use crate::held::{leaves_now, records_now};
 use crate::round::{Round, rate_of};
 use anyhow::Result;
+use cases_workers::below::{Pass, Store};
 use graph_model::Engine;
-use shared_store::{Pass, Store};
 use std::rt::Clock;
 use std::sync::Wait;
 use std::thread::Threads;

@@ -1,12 +1,11 @@
 //! What a store holds, as a pass without a transaction finds it cell by cell.
 
 ghost use Rattle.std.specs.Prelude.{◌≡◌};
-ghost use Rattle.shared_store.specs.Passes.{IsIdle};
+ghost use Rattle.cases_workers.specs.SharedStore.Passes.{IsIdle};
 
+use cases_workers::below::{Pass, Store, VersionSegment};
 use graph_model::Key;
-use shared_store::{Pass, Store};
 use std::sync::Wait;
-use version_segment::VersionSegment;
 
 /// How many leaves are neither free nor retired, and how many are retired.
 #[derive(Clone, Copy, Debug, PartialEq, Eq)]

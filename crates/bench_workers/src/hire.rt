@@ -3,11 +3,10 @@
 ghost use Rattle.std.specs.Prelude.{◌≡◌, ◌≤◌, ◌+◌, ◌++◌, [], Some, length, map};
 ghost use Rattle.std.specs.List.{AllByRecursion};
 ghost use Rattle.std.specs.Vec.{vec_capacity};
-ghost use Rattle.shared_store.specs.Passes.{IsIdle};
-ghost use Rattle.rebalance_service.specs.Ready.{IsReady};
+ghost use Rattle.cases_workers.specs.SharedStore.Passes.{IsIdle};
+ghost use Rattle.cases_workers.specs.RebalanceService.Ready.{IsReady};
 
-use rebalance_service::{Home, Worker};
-use shared_store::{Pass, Store};
+use cases_workers::below::{Home, Pass, Store, Worker};
 use std::sync::Wait;
 
 /// Makes a worker of each pass. Takes no memory.

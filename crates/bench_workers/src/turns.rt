@@ -1,14 +1,13 @@
 //! Turns of the service in a store in which there is nothing to do.
 
 ghost use Rattle.std.specs.Prelude.{◌≡◌};
-ghost use Rattle.shared_store.specs.Passes.{IsIdle};
+ghost use Rattle.cases_workers.specs.SharedStore.Passes.{IsIdle};
 ghost use Rattle.bench_workers.specs.Engines.{AreClosed, jobs_of};
 
 use crate::round::Round;
 use anyhow::Result;
+use cases_workers::below::{Pass, Store, SweepKey, sweep_step};
 use graph_model::Engine;
-use pass_sweeps::{SweepKey, sweep_step};
-use shared_store::{Pass, Store};
 use std::rt::Clock;
 use std::sync::Wait;
 use std::thread::Threads;

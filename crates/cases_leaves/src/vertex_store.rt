@@ -5,9 +5,9 @@ ghost use Rattle.graph_model.specs.Rows.{is_below, end_key};
 ghost use Rattle.leaf_store.specs.Leaves.{room_at};
 
 use graph_model::{Key, NoMemory, TxnName};
+use leaf_store::below::RowChange;
 use leaf_store::{Finger, LeafStore};
 use txn_manager::RoomRefusal;
-use version_segment::RowChange;
 
 /// The transaction that puts all rows.
 const WRITER: TxnName = TxnName { job: 1, number: 1 };

@@ -1,14 +1,14 @@
 //! A cell that another pass holds.
 
 ghost use Rattle.std.specs.Prelude.{◌≡◌, ◌<◌};
-ghost use Rattle.rule_model.specs.Sight.{cells_of};
-ghost use Rattle.shared_store.specs.Passes.{IsIdle, IsOpen};
+ghost use Rattle.cases_workers.specs.RuleModel.Sight.{cells_of};
+ghost use Rattle.cases_shared.specs.SharedStore.Passes.{IsIdle, IsOpen};
 
 use crate::txns::{route_of, tried_in};
 use cases_shared::Case;
+use cases_shared::below::{Pass, Store, abort, begin};
+use cases_workers::below::{Route, Tried};
 use graph_model::Key;
-use optimistic_read::{Route, Tried};
-use shared_store::{Pass, Store, abort, begin};
 use std::sync::Wait;
 
 /// The first pass looks for vertex 5 in its cell while the second one holds the cell, and once it has given it back.

@@ -2,16 +2,15 @@
 
 ghost use Rattle.std.specs.Prelude.{◌≡◌, ◌≤◌, None, Some};
 ghost use Rattle.graph_model.specs.declared.limits.TheConstants.{MAX_ID};
-ghost use Rattle.shared_store.specs.Ends.{AreIdle};
-ghost use Rattle.shared_store.specs.Passes.{IsIdle};
+ghost use Rattle.cases_shared.specs.SharedStore.Ends.{AreIdle};
+ghost use Rattle.cases_shared.specs.SharedStore.Passes.{IsIdle};
 ghost use Rattle.cases_workers.specs.Cases.{StaysClosed};
 
 use crate::txns::{route_of, tried_in};
+use cases_shared::below::{Pass, Store, abort, begin, close, new};
+use cases_workers::below::{Home, Tried, Worker};
 use cases_workers::{EngineCase, leave, put_last, take_last};
 use graph_model::VertexEngine;
-use optimistic_read::Tried;
-use rebalance_service::{Home, Worker};
-use shared_store::{Pass, Store, abort, begin, close, new};
 use std::alloc::Global;
 use std::marker::Brand;
 use std::sync::Wait;

@@ -1,14 +1,13 @@
 //! Rows with undo records, without them, and in other cells.
 
 ghost use Rattle.std.specs.Prelude.{◌≡◌};
-ghost use Rattle.shared_store.specs.Passes.{IsIdle};
+ghost use Rattle.cases_shared.specs.SharedStore.Passes.{IsIdle};
 
 use crate::txns::{route_of, tried_in};
+use cases_shared::below::{Pass, Store, SweepKey, abort, begin, commit, sweep_step};
 use cases_shared::{Case, makes};
+use cases_workers::below::{Route, Tried};
 use graph_model::Write;
-use optimistic_read::{Route, Tried};
-use pass_sweeps::{SweepKey, sweep_step};
-use shared_store::{Pass, Store, abort, begin, commit};
 use std::sync::Wait;
 
 /// A transaction adds vertex 5 and looks for it.

@@ -4,9 +4,9 @@ use crate::busy::ReadHeldCell;
 use crate::routes::{OldRoute, run_with_route};
 use crate::rows::{ReadOwnWrite, ReadSettled};
 use cases_shared::run_case;
+use cases_workers::below::Tried;
 use cases_workers::{AddVertices, CutBack, ServeOften};
 use graph_model::{Key, Kind};
-use optimistic_read::Tried;
 use std::test::Fail;
 use txn_manager::Config;
 

@@ -2,12 +2,12 @@
 
 ghost use Rattle.std.specs.Prelude.{◌≡◌, ◌≤◌, ◌<◌};
 ghost use Rattle.graph_model.specs.declared.limits.TheConstants.{MAX_ID};
-ghost use Rattle.rule_model.specs.Sight.{cells_of};
-ghost use Rattle.shared_store.specs.Passes.{IsOpen};
+ghost use Rattle.cases_workers.specs.RuleModel.Sight.{cells_of};
+ghost use Rattle.cases_shared.specs.SharedStore.Passes.{IsOpen};
 
+use cases_shared::below::{Pass, Store};
+use cases_workers::below::{Route, Tried, route, try_has_vertex};
 use graph_model::Key;
-use optimistic_read::{Route, Tried, route, try_has_vertex};
-use shared_store::{Pass, Store};
 use std::sync::Wait;
 
 /// The cell that the index has for a vertex.

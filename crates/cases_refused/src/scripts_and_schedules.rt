@@ -1,9 +1,9 @@
 //! What scripts and schedules are read as, or the first fault that is said of each.
 
+use cases_setting::below::{Names, read_schedule, read_script};
 use graph_model::NoMemory;
 use graphalytics_io::Text;
 use run_model::{Command, Name};
-use script_lang::{Names, read_schedule, read_script};
 use std::alloc::Global;
 use std::test::Fail;
 

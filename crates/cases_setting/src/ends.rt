@@ -4,11 +4,11 @@ ghost use Rattle.std.specs.String.{string_bytes};
 
 use desk_io::{Gate, MemoryDesk, OpenGate};
 use journal_disk::MemoryDisk;
+use kept_program::below::Left;
 use kept_program::teseo_kept;
 use std::alloc::{AllocError, Global};
 use std::sync::Wait;
 use std::thread::Threads;
-use teseo_program::Left;
 
 /// A file: its name and its text.
 pub type File<'a> = (&'a str, &'a str);

@@ -3,6 +3,7 @@
 //! A case is one comparison, of two texts: the end that was found, and the end that is wanted.
 #![tactic(auto)]
 
+pub mod below;
 mod ends;
 mod path_graph;
 

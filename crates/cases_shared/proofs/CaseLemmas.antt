@@ -1,7 +1,7 @@
 -- Lists of passes of which the first two do something.
 use Rattle.std.proofs.Common.{◌≡◌, ℕ, zero, suc, List, [], ◌∷◌, refl, ◌∙◌, subst}
 use Rattle.std.specs.Prelude.{Option, Some, slice_get, slice_set}
-use Rattle.store_rule.specs.declared.store.Store.{Store}
+use Rattle.shared_store.specs.StoreRuleDeclared.store.Store.{Store}
 use Rattle.shared_store.specs.declared.pass.Pass.{Pass}
 use Rattle.shared_store.specs.Ends.{AreIdle}
 use Rattle.shared_store.specs.Passes.{IsIdle}

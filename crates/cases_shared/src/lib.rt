@@ -2,6 +2,7 @@
 #![tactic(auto)]
 
 mod begins;
+pub mod below;
 mod case;
 mod clashes;
 mod rows;

@@ -6,10 +6,10 @@ use crate::clashes::AddTheSame;
 use crate::rows::{CommitThenLook, FillCell, ReadAroundSets};
 use crate::two::{Added, CommitByTwo};
 use graph_model::{BeginRefusal, Begun, Cause, Key, Kind, Refusal, TxnName};
+use shared_store::below::Store;
 use shared_store::{close, new};
 use std::alloc::Global;
 use std::test::Fail;
-use store_rule::Store;
 use txn_manager::{Config, StoreRefusal, Totals};
 
 /// Two passes on four leaves.

@@ -7,12 +7,12 @@ use Rattle.atomic_table.specs.Seated.{TableId}
 use Rattle.latch_table.specs.Latched.{IsIdle, number_of}
 use Rattle.seat_views.specs.Keeping.{kept_at}
 use Rattle.seat_views.proofs.NumberLemmas.{other_number, same_number}
-use Rattle.cells_model.specs.Cells.{CellState}
-use Rattle.cells_model.specs.Words.{HasSmallWeights}
-use Rattle.version_segment.specs.Rows.{IsSameSegment, VersionedRows}
-use Rattle.rule_model.specs.Sight.{HasCell, Sight, cells_of, with_cell}
-use Rattle.store_relation.specs.Passes.{fresh_pass}
-use Rattle.store_words.proofs.SpellLemmas.{has_now}
+use Rattle.store_rule.specs.CellsModel.Cells.{CellState}
+use Rattle.store_rule.specs.CellsModel.Words.{HasSmallWeights}
+use Rattle.store_rule.specs.VersionSegment.Rows.{IsSameSegment, VersionedRows}
+use Rattle.store_rule.specs.RuleModel.Sight.{HasCell, Sight, cells_of, with_cell}
+use Rattle.store_rule.specs.StoreRelation.Passes.{fresh_pass}
+use Rattle.store_rule.proofs.StoreWords.SpellLemmas.{has_now}
 use Rattle.store_rule.specs.Closing.{AreBack, IsBackPass}
 use Rattle.store_rule.specs.Making.{AreNewPasses, IsNewPass}
 use Rattle.store_rule.specs.Passes.{OnlyAccount}

@@ -1,1 +1,6 @@
 pub mod Visits
+pub mod LoadedCells
+pub mod RuleModel
+pub mod StoreRelation
+pub mod StoreRule
+pub mod StoreRuleDeclared

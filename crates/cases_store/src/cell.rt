@@ -2,8 +2,8 @@
 
 ghost use Rattle.std.specs.Prelude.{◌≡◌, ◌<◌, false};
 ghost use Rattle.cases_store.specs.Visits.{IsAtEase, KeepsPass, StaysAtEase};
-ghost use Rattle.cells_model.specs.Cells.{CellState};
-ghost use Rattle.rule_model.specs.Sight.{HasCell, cells_of};
+ghost use Rattle.store_rule.specs.CellsModel.Cells.{CellState};
+ghost use Rattle.store_rule.specs.RuleModel.Sight.{HasCell, cells_of};
 ghost use Rattle.store_rule.specs.Slots.{IsCellSlot, RestsAs};
 
 use latch_table::Held;

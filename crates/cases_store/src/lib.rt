@@ -1,6 +1,7 @@
 //! Worked cases of `store_rule`: two threads on the cells of one store.
 #![tactic(auto)]
 
+pub mod below;
 mod cell;
 #[cfg(test)]
 mod tests;

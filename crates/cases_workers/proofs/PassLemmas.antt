@@ -4,10 +4,10 @@ use Rattle.std.specs.Prelude.{◌<◌, None, Some, slice_get}
 use Rattle.std.proofs.lemmas.List.{length-append}
 use Rattle.graph_model.proofs.LegalLemmas.{get_front}
 use Rattle.graph_model.proofs.PlaceLemmas.{get_end, get_snoc}
-use Rattle.store_rule.specs.declared.store.Store.{Store}
-use Rattle.shared_store.specs.declared.pass.Pass.{Pass}
-use Rattle.shared_store.specs.Ends.{AreIdle}
-use Rattle.shared_store.specs.Passes.{IsIdle, account_of}
+use Rattle.rebalance_service.specs.StoreRuleDeclared.store.Store.{Store}
+use Rattle.rebalance_service.specs.SharedStoreDeclared.pass.Pass.{Pass}
+use Rattle.rebalance_service.specs.SharedStore.Ends.{AreIdle}
+use Rattle.rebalance_service.specs.SharedStore.Passes.{IsIdle, account_of}
 use Rattle.rebalance_service.proofs.ReadyLemmas.{start_none}
 
 -- none has a transaction, and they stand in the order of their numbers, from 0

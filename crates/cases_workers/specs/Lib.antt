@@ -1,1 +1,6 @@
 pub mod Cases
+pub mod RebalanceService
+pub mod RuleModel
+pub mod SharedStore
+pub mod SharedStoreDeclared
+pub mod StoreRuleDeclared

@@ -2,13 +2,13 @@
 
 ghost use Rattle.std.specs.Prelude.{◌≡◌, ◌≤◌, ◌+◌, ◌++◌, [], ◌∷◌, length, None, Some};
 ghost use Rattle.std.specs.Vec.{vec_capacity};
-ghost use Rattle.shared_store.specs.Ends.{AreIdle};
-ghost use Rattle.shared_store.specs.Passes.{IsIdle, account_of};
+ghost use Rattle.rebalance_service.specs.SharedStore.Ends.{AreIdle};
+ghost use Rattle.rebalance_service.specs.SharedStore.Passes.{IsIdle, account_of};
 ghost use Rattle.cases_workers.specs.Cases.{StaysClosed};
 
 use graph_model::VertexEngine;
+use rebalance_service::below::{Closed, Pass, Store, close, new};
 use rebalance_service::{Home, Worker};
-use shared_store::{Closed, Pass, Store, close, new};
 use std::alloc::Global;
 use std::marker::Brand;
 use std::sync::Wait;

@@ -4,6 +4,7 @@
 //! 2. The expected answers were worked out by hand, and never taken from a run.
 #![tactic(auto)]
 
+pub mod below;
 mod case;
 mod rows;
 #[cfg(test)]

@@ -2,13 +2,13 @@
 
 ghost use Rattle.std.specs.Prelude.{◌≡◌, None, Some};
 ghost use Rattle.std.specs.Thread.{IsSend, IsSync};
-ghost use Rattle.shared_store.specs.Ends.{AreIdle};
+ghost use Rattle.rebalance_service.specs.SharedStore.Ends.{AreIdle};
 ghost use Rattle.cases_workers.specs.Cases.{StaysClosed};
 
 use crate::case::{EngineCase, leave, put_last, take_last};
 use graph_model::VertexEngine;
+use rebalance_service::below::{Closed, Pass, Store, close, new};
 use rebalance_service::{Home, Worker};
-use shared_store::{Closed, Pass, Store, close, new};
 use std::alloc::Global;
 use std::marker::Brand;
 use std::sync::Wait;

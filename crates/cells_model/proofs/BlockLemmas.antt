@@ -9,7 +9,7 @@ use mathlib.Core.Logic.{dite}
 use native.Mathlib.Decide.{ℕ_discrete}
 use Rattle.seat_views.specs.Keeping.{revised}
 use Rattle.seat_views.proofs.NumberLemmas.{put_here, put_else, all_put}
-use Rattle.version_segment.specs.Rows.{VersionedRows}
+use Rattle.leaf_store.specs.VersionSegment.Rows.{VersionedRows}
 use Rattle.cells_model.specs.Words.{Spells, block_words}
 use Rattle.cells_model.specs.Cells.{CellState, AreBlocks, ChangesContents, IsVersioned, StoresBlockWord, version_word, last_word, raised_word, lowered_word, unpacked, stored, packed}
 use Rattle.cells_model.specs.Reads.{Reading, IsReading, IsUnchangedSince, AreLoadedFrom}

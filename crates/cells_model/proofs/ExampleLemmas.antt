@@ -5,9 +5,9 @@ use Rattle.std.specs.List.{AllByRecursion}
 use Rattle.graph_model.specs.declared.row.Key.{Key}
 use Rattle.graph_model.specs.Rows.{is_between}
 use Rattle.store_model.specs.Stamped.{StampedVersions}
-use Rattle.version_segment.specs.Rows.{VersionedRows}
+use Rattle.leaf_store.specs.VersionSegment.Rows.{VersionedRows}
 use Rattle.seat_views.proofs.NumberLemmas.{some_is}
-use Rattle.version_segment.specs.Resting.{word_row}
+use Rattle.leaf_store.specs.VersionSegment.Resting.{word_row}
 use Rattle.cells_model.specs.Words.{Spells}
 use Rattle.cells_model.specs.Reads.{AreLoadedFrom}
 use Rattle.cells_model.specs.Noted.{IsAmong}

@@ -10,8 +10,8 @@ use Rattle.graph_model.specs.Rows.{is_below, key_cmp}
 use Rattle.graph_model.proofs.OrderLemmas.{keys_total}
 use Rattle.store_model.specs.Stamped.{StampedVersions}
 use Rattle.seat_views.specs.Keeping.{revised}
-use Rattle.version_segment.specs.Keyed.{RisesBy}
-use Rattle.version_segment.specs.Rows.{VersionedRows, is_nothing}
+use Rattle.leaf_store.specs.VersionSegment.Keyed.{RisesBy}
+use Rattle.leaf_store.specs.VersionSegment.Rows.{VersionedRows, is_nothing}
 use Rattle.cells_model.specs.InPlace.{growth}
 use Rattle.cells_model.specs.Growth.{ChangesRow, GrowthIsByRows}
 

@@ -9,7 +9,7 @@ use Rattle.graph_model.specs.Rows.{is_between}
 use Rattle.store_model.specs.Stamped.{StampedVersions}
 use Rattle.seat_views.specs.Keeping.{kept_at, revised}
 use Rattle.seat_views.proofs.NumberLemmas.{eq_of, same_number, revised-some}
-use Rattle.version_segment.specs.Rows.{VersionedRows, versions_at}
+use Rattle.leaf_store.specs.VersionSegment.Rows.{VersionedRows, versions_at}
 use Rattle.leaf_index.specs.Index.{Index}
 use Rattle.leaf_store.specs.Leaves.{versions_of, weight}
 use Rattle.cells_model.specs.Cells.{CellState}

@@ -12,9 +12,9 @@ use mathlib.Core.Logic.{dite}
 use native.Mathlib.Decide.{ℕ_discrete}
 use Rattle.seat_views.specs.Keeping.{revised}
 use Rattle.seat_views.proofs.NumberLemmas.{eq_of, other_number}
-use Rattle.version_segment.specs.Rows.{VersionedRows, IsSegment, versions_at}
-use Rattle.leaf_array.specs.declared.leaf.Leaf.{Leaf}
-use Rattle.leaf_array.specs.Segments.{lows_of}
+use Rattle.leaf_store.specs.VersionSegment.Rows.{VersionedRows, IsSegment, versions_at}
+use Rattle.leaf_store.specs.LeafArrayDeclared.leaf.Leaf.{Leaf}
+use Rattle.leaf_store.specs.LeafArray.Segments.{lows_of}
 use Rattle.leaf_index.specs.Index.{Index, Entry, IsIndex, end_of, uses}
 use Rattle.leaf_index.specs.Calls.{new_index}
 use Rattle.leaf_index.proofs.CountLemmas.{worth, count_cons, count_range}

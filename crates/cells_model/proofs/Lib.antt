@@ -9,3 +9,5 @@ pub mod MovedLemmas
 pub mod InPlaceLemmas
 pub mod GrowthLemmas
 pub mod ExampleLemmas
+pub mod LeafArray
+pub mod LeafStore

@@ -7,9 +7,9 @@ use Rattle.std.proofs.lemmas.Bool.{true≢false}
 use mathlib.Core.Logic.{dite}
 use native.Mathlib.Decide.{ℕ_discrete}
 use Rattle.graph_model.specs.declared.row.Key.{Key}
-use Rattle.version_segment.specs.Rows.{VersionedRows, IsSegment}
-use Rattle.leaf_array.specs.Leaves.{Merges, Splits}
-use Rattle.leaf_array.specs.Segments.{lows_of, rows_of, counts_of}
+use Rattle.leaf_store.specs.VersionSegment.Rows.{VersionedRows, IsSegment}
+use Rattle.leaf_store.specs.LeafArray.Leaves.{Merges, Splits}
+use Rattle.leaf_store.specs.LeafArray.Segments.{lows_of, rows_of, counts_of}
 use Rattle.leaf_index.specs.Index.{Index, Entry, AreRising, HaveCuts, end_of}
 use Rattle.leaf_index.specs.Calls.{freed}
 use Rattle.density_tree.specs.Windows.{Fits, IsSmallestWindow}

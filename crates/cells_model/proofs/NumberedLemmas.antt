@@ -5,8 +5,8 @@ use Rattle.std.specs.List.{list_any}
 use Rattle.std.specs.declared.boxed.Box.{Box}
 use Rattle.std.specs.declared.alloc.Global.{Global}
 use Rattle.seat_views.proofs.NumberLemmas.{same_number}
-use Rattle.version_segment.specs.Rows.{VersionedRows}
-use Rattle.leaf_array.specs.declared.leaf.Leaf.{Leaf}
+use Rattle.leaf_store.specs.VersionSegment.Rows.{VersionedRows}
+use Rattle.leaf_store.specs.LeafArrayDeclared.leaf.Leaf.{Leaf}
 use Rattle.leaf_index.specs.Index.{Index, Entry, end_of}
 use Rattle.leaf_store.specs.Table.{IsKept, IsTied, AreTied, part_of, segments_at}
 use Rattle.cells_model.specs.Indexed.{AreNumbered, NumberedIsIndexed, is_live, leaf_cells, table_of}

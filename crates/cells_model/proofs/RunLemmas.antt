@@ -3,7 +3,7 @@ use Rattle.std.proofs.Common.{◌≡◌, ◌≢◌, ℕ, zero, suc, ◌+◌, ◌
 use Rattle.std.specs.declared.alloc.Global.{Global}
 use Rattle.seat_views.specs.Keeping.{revised}
 use Rattle.seat_views.proofs.NumberLemmas.{put_here, put_else}
-use Rattle.version_segment.specs.Rows.{VersionedRows}
+use Rattle.leaf_store.specs.VersionSegment.Rows.{VersionedRows}
 use Rattle.leaf_store.specs.Table.{segments_at}
 use Rattle.cells_model.specs.Indexed.{cells_from, leaf_cells, leaves_from, table_of}
 

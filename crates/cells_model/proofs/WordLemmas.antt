@@ -10,12 +10,12 @@ use Rattle.graph_model.specs.declared.limits.TheConstants.{MAX_WEIGHT}
 use Rattle.graph_model.specs.Rows.{key_cmp, is_below}
 use Rattle.graph_model.proofs.PlaceLemmas.{some_eq}
 use Rattle.store_model.specs.Stamped.{Stamped, StampedVersions}
-use Rattle.version_segment.specs.Keyed.{RisesBy, IsPlaceBy, IsGapBy, entries_by}
-use Rattle.version_segment.specs.Resting as may_rest
-use Rattle.version_segment.specs.Rows.{VersionedRows, IsSegment, versions_at, or_nothing, is_empty}
-use Rattle.version_segment.specs.Resting.{newest_in, newest_value, value_word, value_in_word, is_marked, word_of, mark, no_value, word_row, word_rows}
+use Rattle.leaf_store.specs.VersionSegment.Keyed.{RisesBy, IsPlaceBy, IsGapBy, entries_by}
+use Rattle.leaf_store.specs.VersionSegment.Resting as may_rest
+use Rattle.leaf_store.specs.VersionSegment.Rows.{VersionedRows, IsSegment, versions_at, or_nothing, is_empty}
+use Rattle.leaf_store.specs.VersionSegment.Resting.{newest_in, newest_value, value_word, value_in_word, is_marked, word_of, mark, no_value, word_row, word_rows}
 use Rattle.cells_model.specs.Words.{HasSmallValues, HasSmallWeights, IsSmall, flat}
-use Rattle.version_segment.proofs.KeyedLemmas.{find_there, find_gap, gap_of_place}
+use Rattle.leaf_store.proofs.VersionSegment.KeyedLemmas.{find_there, find_gap, gap_of_place}
 use Rattle.cells_model.specs.BlockLaws.{HeadIsTold, RowIsTold, TellsVersions, ValueIsTold, NoRowIsTold, row_key}
 
 -- the words of the row at a place stand at three times the place

@@ -4,9 +4,9 @@ use Rattle.std.specs.Prelude.{◌≡◌, ◌⊎◌, ◌≢◌, ℕ, ◌<◌, ◌
 use Rattle.graph_model.specs.declared.row.Key.{Key}
 use Rattle.graph_model.specs.declared.row.Row.{Row}
 use Rattle.seat_views.specs.Keeping.{revised}
-use Rattle.version_segment.specs.Keyed.{IsPlaceBy}
-use Rattle.version_segment.specs.Rows.{VersionedRows, versions_at, is_empty, nothing}
-use Rattle.version_segment.specs.Resting.{newest_value, value_in_word, is_marked, word_rows}
+use Rattle.leaf_store.specs.VersionSegment.Keyed.{IsPlaceBy}
+use Rattle.leaf_store.specs.VersionSegment.Rows.{VersionedRows, versions_at, is_empty, nothing}
+use Rattle.leaf_store.specs.VersionSegment.Resting.{newest_value, value_in_word, is_marked, word_rows}
 use Rattle.cells_model.specs.Words.{Spells, IsRowAt, IsHeadOf, block_words}
 use Rattle.cells_model.specs.Cells.{CellState, AreBlocks, ChangesContents, StoresBlockWord, version_word, raised_word, lowered_word, unpacked, stored, packed}
 use Rattle.cells_model.specs.Reads.{Reading, IsReading, IsValidated, first_loaded, word_loaded, second_loaded}

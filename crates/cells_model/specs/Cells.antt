@@ -1,6 +1,6 @@
 -- What a cell's holder knows of it, and what the words of all blocks say.
 use Rattle.std.specs.Prelude.{◌≡◌, ◌⊎◌, ℕ, ◌+◌, ◌-◌, ◌%◌, ◌<◌, ◌==◌, Bool, true, false, cond, List, length, slice_index, slice_set}
-use Rattle.version_segment.specs.Rows.{VersionedRows}
+use Rattle.leaf_store.specs.VersionSegment.Rows.{VersionedRows}
 use Rattle.cells_model.specs.Words.{Spells, block_words}
 
 -- A cell's contents and the words of its block; whether a holder has unpacked it, and has stored

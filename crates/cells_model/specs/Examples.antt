@@ -3,12 +3,12 @@
 use Rattle.std.specs.Prelude.{◌≡◌, ℕ, ◌==◌, Bool, true, false, [], ◌∷◌, Option, Some, None}
 use Rattle.graph_model.specs.declared.row.Key.{Key}
 use Rattle.store_model.specs.Stamped.{StampedVersions}
-use Rattle.version_segment.specs.Rows.{VersionedRows}
+use Rattle.leaf_store.specs.VersionSegment.Rows.{VersionedRows}
 use Rattle.leaf_index.specs.Calls.{kept_of}
 use Rattle.leaf_index.specs.Index.{Index}
 use Rattle.epoch_reclaim.specs.declared.sweep.Sweep.{Sweep}
 use Rattle.epoch_reclaim.specs.Pinned.{announced_word, begun, looked_at, pinned_word}
-use Rattle.version_segment.specs.Resting.{is_marked, no_value, value_in_word, value_word}
+use Rattle.leaf_store.specs.VersionSegment.Resting.{is_marked, no_value, value_in_word, value_word}
 use Rattle.cells_model.specs.Cells.{CellState, last_word, lowered_word, raised_word, version_word}
 use Rattle.cells_model.specs.Reads.{Reading, IsReading, IsValidated, first_loaded, second_loaded}
 use Rattle.cells_model.specs.Noted.{AreNoted}

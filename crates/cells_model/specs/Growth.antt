@@ -4,7 +4,7 @@ use Rattle.std.specs.Prelude.{◌≡◌, ℕ, ◌≤◌, Bool, true, false, List
 use Rattle.graph_model.specs.declared.row.Key.{Key}
 use Rattle.store_model.specs.Stamped.{StampedVersions}
 use Rattle.seat_views.specs.Keeping.{revised}
-use Rattle.version_segment.specs.Rows.{VersionedRows, ChangesKey, IsSegment, has_row}
+use Rattle.leaf_store.specs.VersionSegment.Rows.{VersionedRows, ChangesKey, IsSegment, has_row}
 use Rattle.cells_model.specs.Cells.{CellState}
 use Rattle.cells_model.specs.InPlace.{growth}
 

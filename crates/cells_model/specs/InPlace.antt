@@ -5,7 +5,7 @@ use Rattle.std.specs.List.{AllByRecursion}
 use Rattle.std.specs.declared.alloc.Global.{Global}
 use Rattle.graph_model.specs.declared.row.Key.{Key}
 use Rattle.seat_views.specs.Keeping.{kept_at, revised}
-use Rattle.version_segment.specs.Rows.{VersionedRows, IsSegment, versions_at}
+use Rattle.leaf_store.specs.VersionSegment.Rows.{VersionedRows, IsSegment, versions_at}
 use Rattle.leaf_index.specs.Index.{Index}
 use Rattle.leaf_store.specs.Leaves.{versions_of, weight}
 use Rattle.cells_model.specs.Cells.{CellState}

@@ -8,3 +8,8 @@ pub mod Moved
 pub mod Noted
 pub mod Growth
 pub mod Examples
+pub mod LeafArray
+pub mod LeafArrayDeclared
+pub mod LeafStore
+pub mod LeafStoreDeclared
+pub mod LeafTableDeclared

@@ -7,9 +7,9 @@ use Rattle.graph_model.specs.declared.row.Key.{Key}
 use Rattle.graph_model.specs.declared.limits.TheConstants.{SPLIT_ROWS}
 use Rattle.graph_model.specs.Rows.{is_below, end_key}
 use Rattle.density_tree.specs.Windows.{Fits, IsSmallestWindow}
-use Rattle.version_segment.specs.Rows.{VersionedRows, IsSegment}
-use Rattle.leaf_array.specs.Leaves.{Merges, Splits}
-use Rattle.leaf_array.specs.Segments.{counts_of, lows_of, rows_of}
+use Rattle.leaf_store.specs.VersionSegment.Rows.{VersionedRows, IsSegment}
+use Rattle.leaf_store.specs.LeafArray.Leaves.{Merges, Splits}
+use Rattle.leaf_store.specs.LeafArray.Segments.{counts_of, lows_of, rows_of}
 use Rattle.leaf_index.specs.Index.{Index, Entry, IsFloor, IsIndex, IsTaken, IsSegment as IsSegmentOf}
 use Rattle.leaf_index.specs.Calls.{freed}
 use Rattle.leaf_store.specs.declared.pair.TheConstants.{MERGE_ROWS, STAMPS_END}

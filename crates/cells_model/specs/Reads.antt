@@ -2,7 +2,7 @@
 -- word again.
 use Rattle.std.specs.Prelude.{◌≡◌, ◌⊎◌, ℕ, ◌+◌, ◌%◌, ◌<◌, ◌≤◌, ◌==◌, Bool, false, cond, List, [], ◌∷◌, slice_index, Option, Some, None}
 use Rattle.std.specs.List.{AllByRecursion}
-use Rattle.version_segment.specs.Rows.{VersionedRows}
+use Rattle.leaf_store.specs.VersionSegment.Rows.{VersionedRows}
 use Rattle.cells_model.specs.Words.{Spells}
 use Rattle.cells_model.specs.Cells.{CellState, version_word}
 

@@ -6,8 +6,8 @@ use Rattle.graph_model.specs.declared.row.Key.{Key}
 use Rattle.graph_model.specs.declared.row.Row.{Row}
 use Rattle.graph_model.specs.declared.limits.TheConstants.{MAX_WEIGHT}
 use Rattle.store_model.specs.Stamped.{StampedVersions}
-use Rattle.version_segment.specs.Resting.{word_rows}
-use Rattle.version_segment.specs.Rows.{VersionedRows, IsSegment}
+use Rattle.leaf_store.specs.VersionSegment.Resting.{word_rows}
+use Rattle.leaf_store.specs.VersionSegment.Rows.{VersionedRows, IsSegment}
 
 -- ---- the words of a block
 

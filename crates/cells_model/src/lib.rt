@@ -6,6 +6,7 @@
 //! 3. Cells and their leaves are those of the store of one owner, by number: each law on moves is one of its laws.
 #![tactic(auto)]
 
+pub mod below;
 mod laws;
 
 pub use laws::{

@@ -7,3 +7,4 @@ pub mod StepLemmas
 pub mod TookLemmas
 pub mod RunLemmas
 pub mod RotationLemmas
+pub mod LineRunner

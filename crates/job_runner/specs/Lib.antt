@@ -6,3 +6,5 @@ pub use Rattle.line_runner.specs.Phases
 pub use Rattle.line_runner.specs.Turns
 pub use Rattle.line_runner.specs.Lines
 pub use Rattle.line_runner.specs.declared.table.NamedTable
+pub mod LineRunner
+pub mod LineRunnerDeclared

@@ -11,9 +11,9 @@ use Rattle.command_words.specs.declared.refusal.WordsRefusal.TheVariants as word
 use Rattle.command_words.specs.Words.{RunRequest, MakeRequest, RecoverRequest, Request, run, make, recover, IsTaken}
 use Rattle.command_words.specs.Views.{RefusesWords}
 use Rattle.command_words.proofs.WordLemmas.{taken_once}
-use Rattle.source_run.specs.Requests.{kind_of}
-use Rattle.source_run.specs.Input.{Meaning, texts_of, IsAccepted, inputs_of}
-use Rattle.source_run.specs.Leaves.{most_rows}
+use Rattle.kept_run.specs.SourceRun.Requests.{kind_of}
+use Rattle.kept_run.specs.SourceRun.Input.{Meaning, texts_of, IsAccepted, inputs_of}
+use Rattle.kept_run.specs.SourceRun.Leaves.{most_rows}
 use Rattle.teseo_program.specs.declared.left.Left.{Left}
 use Rattle.teseo_program.specs.declared.outcome.Outcome.{Outcome}
 use Rattle.teseo_program.specs.declared.outcome.Outcome.TheVariants as ends
@@ -21,7 +21,7 @@ use Rattle.teseo_program.specs.Outcomes.{status_of, outcome_of_words, IsRunOutco
 use Rattle.teseo_program.specs.Laws.{AreTold, Stands, HasNoFault}
 use Rattle.teseo_program.proofs.LawLemmas.{end_well, graphs_made, stands_still}
 use Rattle.teseo_program.proofs.EndLemmas.{room_ends_well}
-use Rattle.run_keeper.specs.Keeping.{acknowledged_on}
+use Rattle.kept_run.specs.RunKeeper.Keeping.{acknowledged_on}
 use Rattle.kept_program.specs.declared.outcome.KeptOutcome.{KeptOutcome}
 use Rattle.kept_program.specs.declared.outcome.KeptOutcome.TheVariants.{Of, NotMade, NotKept, NotAJournal, NotRecovered}
 use Rattle.kept_program.specs.Outcomes.{kept_status, RunEnds, RecoverEnds, IsRecovery, Ends, IsEnd, IsUntaken}

@@ -10,18 +10,18 @@ use Rattle.graphalytics_io.specs.Load.{load_of}
 use Rattle.desk_io.specs.Files.{Files, Rose}
 use Rattle.desk_io.specs.Sources.{AreRead}
 use Rattle.journal_disk.specs.Disk.{DiskState, FaultsStand, FaultsRise}
-use Rattle.run_keeper.specs.Keeping.{IsJournalSoFar, KeepsSoFar}
+use Rattle.kept_run.specs.RunKeeper.Keeping.{IsJournalSoFar, KeepsSoFar}
 use Rattle.kept_run.specs.declared.refusal.KeptRefusal.{KeptRefusal}
 use Rattle.kept_run.specs.declared.refusal.KeptRefusal.TheVariants as stops
 use Rattle.kept_run.specs.Refusals.{IsRefusedKept}
 use Rattle.command_words.specs.Words.{RunRequest}
-use Rattle.source_run.specs.Requests.{source_names, report_names, kind_of}
-use Rattle.source_run.specs.declared.ran.Ran.{Ran}
-use Rattle.source_run.specs.declared.ran.Ran.TheVariants.{Stepped, Shared}
-use Rattle.source_run.specs.declared.ran.RunResult.{RunResult}
-use Rattle.source_run.specs.Input.{Meaning, texts_of, IsAccepted, inputs_of}
-use Rattle.source_run.specs.Leaves.{leaves_for, most_rows}
-use Rattle.source_run.specs.Running.{run_outputs, journal_of, IsRunAs, IsLeftOf, HasCounts, IsRefusedLoad}
+use Rattle.kept_run.specs.SourceRun.Requests.{source_names, report_names, kind_of}
+use Rattle.kept_run.specs.SourceRunDeclared.ran.Ran.{Ran}
+use Rattle.kept_run.specs.SourceRunDeclared.ran.Ran.TheVariants.{Stepped, Shared}
+use Rattle.kept_run.specs.SourceRunDeclared.ran.RunResult.{RunResult}
+use Rattle.kept_run.specs.SourceRun.Input.{Meaning, texts_of, IsAccepted, inputs_of}
+use Rattle.kept_run.specs.SourceRun.Leaves.{leaves_for, most_rows}
+use Rattle.kept_run.specs.SourceRun.Running.{run_outputs, journal_of, IsRunAs, IsLeftOf, HasCounts, IsRefusedLoad}
 use Rattle.teseo_program.specs.declared.left.Left.{Left}
 use Rattle.teseo_program.specs.declared.outcome.Outcome.{Outcome}
 use Rattle.teseo_program.specs.declared.outcome.Outcome.TheVariants as ends

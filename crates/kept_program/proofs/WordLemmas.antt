@@ -2,7 +2,7 @@
 use Rattle.std.proofs.Common.{◌≡◌, ℕ, List, refl, subst, ap, ◌∙◌}
 use Rattle.std.specs.Prelude.{Bool, true, false, not, ◌&&◌, cond, is_some, Option, None, Some}
 use Rattle.command_words.specs.Words.{RunRequest, goes_together}
-use Rattle.source_run.specs.Requests.{IsAsked}
+use Rattle.kept_run.specs.SourceRun.Requests.{IsAsked}
 
 apart : (threads schedule serial : Bool) → cond threads (not schedule && (not serial && not true)) (not (serial && true)) ≡ true → serial ≡ false
 apart false schedule false e = refl

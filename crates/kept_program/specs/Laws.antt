@@ -8,11 +8,11 @@ use Rattle.desk_io.specs.Files.{Files}
 use Rattle.journal_disk.specs.Disk.{DiskState}
 use Rattle.journal_recovery.specs.declared.texts.RecoveredTexts.{RecoveredTexts}
 use Rattle.journal_recovery.specs.Texts.{AreTextsOf}
-use Rattle.run_keeper.specs.Keeping.{HasFront, acknowledged_on}
+use Rattle.kept_run.specs.RunKeeper.Keeping.{HasFront, acknowledged_on}
 use Rattle.command_words.specs.Words.{RunRequest, MakeRequest, RecoverRequest, Request, run, make, recover, IsTaken}
-use Rattle.source_run.specs.Requests.{kind_of}
-use Rattle.source_run.specs.Input.{Meaning, texts_of, IsAccepted, inputs_of}
-use Rattle.source_run.specs.Leaves.{most_rows}
+use Rattle.kept_run.specs.SourceRun.Requests.{kind_of}
+use Rattle.kept_run.specs.SourceRun.Input.{Meaning, texts_of, IsAccepted, inputs_of}
+use Rattle.kept_run.specs.SourceRun.Leaves.{most_rows}
 use Rattle.teseo_program.specs.declared.left.Left.{Left}
 use Rattle.teseo_program.specs.Laws.{AreTold, Stands, HasNoFault}
 use Rattle.kept_program.specs.declared.outcome.KeptOutcome.{KeptOutcome}

@@ -10,15 +10,15 @@ use Rattle.journal_file.specs.declared.refusal.RecoverRefusal.TheVariants as rec
 use Rattle.journal_file.specs.Recovering.{IsRefused}
 use Rattle.journal_recovery.specs.declared.texts.RecoveredTexts.{RecoveredTexts}
 use Rattle.journal_recovery.specs.Texts.{AreTextsOf}
-use Rattle.run_keeper.specs.Keeping.{KeepsSoFar}
+use Rattle.kept_run.specs.RunKeeper.Keeping.{KeepsSoFar}
 use Rattle.kept_run.specs.declared.refusal.KeptRefusal.{KeptRefusal}
 use Rattle.kept_run.specs.declared.refusal.KeptRefusal.TheVariants as stops
 use Rattle.command_words.specs.declared.refusal.WordsRefusal.{WordsRefusal}
 use Rattle.command_words.specs.Words.{RunRequest, MakeRequest, RecoverRequest, Request, run, make, recover, IsTaken}
 use Rattle.command_words.specs.Views.{RefusesWords}
-use Rattle.source_run.specs.Requests.{kind_of}
-use Rattle.source_run.specs.Input.{Meaning, inputs_of}
-use Rattle.source_run.specs.Leaves.{leaves_of}
+use Rattle.kept_run.specs.SourceRun.Requests.{kind_of}
+use Rattle.kept_run.specs.SourceRun.Input.{Meaning, inputs_of}
+use Rattle.kept_run.specs.SourceRun.Leaves.{leaves_of}
 use Rattle.teseo_program.specs.declared.left.Left.{Left}
 use Rattle.teseo_program.specs.declared.outcome.Outcome.{Outcome}
 use Rattle.teseo_program.specs.declared.outcome.Outcome.TheVariants as ends

@@ -12,9 +12,9 @@ use Rattle.journal_recovery.specs.Texts.{AreTextsOf}
 use Rattle.kept_run.specs.declared.refusal.KeptRefusal.{KeptRefusal}
 use Rattle.kept_run.specs.declared.refusal.KeptRefusal.TheVariants.{Full, NoMemory, DiskFault}
 use Rattle.command_words.specs.Words.{RunRequest, RecoverRequest}
-use Rattle.source_run.specs.Requests.{kind_of}
-use Rattle.source_run.specs.Input.{Meaning}
-use Rattle.source_run.specs.Leaves.{leaves_of}
+use Rattle.kept_run.specs.SourceRun.Requests.{kind_of}
+use Rattle.kept_run.specs.SourceRun.Input.{Meaning}
+use Rattle.kept_run.specs.SourceRun.Leaves.{leaves_of}
 use Rattle.teseo_program.specs.declared.prepare.Prepared.{Prepared}
 use Rattle.teseo_program.specs.Prepared.{IsUnprepared, AreAccepted, IsMadeOf, IsPreparedOf}
 use Rattle.kept_program.specs.declared.outcome.KeptOutcome.{KeptOutcome}

@@ -5,6 +5,7 @@
 //! 3. No output is created before all commits of the run are on the disk.
 #![tactic(auto)]
 
+pub mod below;
 mod laws;
 mod outcome;
 mod prepare;

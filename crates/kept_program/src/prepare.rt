@@ -3,12 +3,12 @@
 
 ghost use Rattle.std.specs.Prelude.{◌≡◌, ◌≤◌, [], false, None, length, All, IfOk, IfErr, OnOk, OnErr};
 ghost use Rattle.journal_disk.specs.Disk.{FaultsStand};
-ghost use Rattle.run_keeper.specs.Keeping.{IsKept, acknowledged_on};
+ghost use Rattle.kept_run.specs.RunKeeper.Keeping.{IsKept, acknowledged_on};
 ghost use Rattle.command_words.specs.Words.{taken_names};
 ghost use Rattle.command_words.specs.Views.{run_request};
-ghost use Rattle.source_run.specs.Requests.{IsAsked, kind_of};
-ghost use Rattle.source_run.specs.Input.{Texts, IsAccepted};
-ghost use Rattle.source_run.specs.Parsing.{meaning_of, AreRunnable};
+ghost use Rattle.kept_run.specs.SourceRun.Requests.{IsAsked, kind_of};
+ghost use Rattle.kept_run.specs.SourceRun.Input.{Texts, IsAccepted};
+ghost use Rattle.kept_run.specs.SourceRun.Parsing.{meaning_of, AreRunnable};
 ghost use Rattle.teseo_program.specs.Prepared.{NamesAreApart};
 ghost use Rattle.kept_program.specs.Outcomes.{KeepsSome};
 ghost use Rattle.kept_program.specs.Prepared.{IsKeptPrepared, IsKeptMade, IsKeptStop, IsUnkept};
@@ -16,12 +16,10 @@ ghost use Rattle.kept_program.specs.Prepared.{IsKeptPrepared, IsKeptMade, IsKept
 use crate::outcome::KeptOutcome;
 use command_words::RunWords;
 use desk_io::Desk;
-use graph_files::{files_are_loadable, load_is_legal};
 use journal_disk::Disk;
 use journal_file::DiskFault;
+use kept_run::below::{Input, Keeper, files_are_loadable, kind_of, leaves_of, load_is_legal};
 use kept_run::{KeptRefusal, run_scripts_kept};
-use run_keeper::Keeper;
-use source_run::{Input, kind_of, leaves_of};
 use std::alloc::Global;
 use std::thread::Threads;
 use teseo_program::{Left, Prepared, is_full, outputs_of, read_input, summary_of};

@@ -3,8 +3,8 @@
 ghost use Rattle.std.specs.Prelude.{◌≡◌, Some, map};
 ghost use Rattle.std.specs.String.{string_bytes};
 ghost use Rattle.command_words.specs.Views.{run_request};
-ghost use Rattle.source_run.specs.Requests.{IsAsked, source_names};
-ghost use Rattle.run_keeper.specs.Keeping.{acknowledged_on};
+ghost use Rattle.kept_run.specs.SourceRun.Requests.{IsAsked, source_names};
+ghost use Rattle.kept_run.specs.RunKeeper.Keeping.{acknowledged_on};
 ghost use Rattle.kept_program.specs.declared.outcome.KeptOutcome.{KeptOutcome};
 ghost use Rattle.kept_program.specs.Outcomes.{kept_status, blamed_by, KeptRunEnds, RunEnds, IsEnd};
 

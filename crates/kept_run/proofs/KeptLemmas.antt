@@ -11,8 +11,8 @@ use Rattle.run_model.specs.Inputs.{Inputs, AreInputs}
 use Rattle.run_model.specs.Jobs.{first_state, load_journal}
 use Rattle.run_model.specs.UnderWay.{IsUnderWay}
 use Rattle.run_model.proofs.SteppedLemmas.{first_is}
-use Rattle.job_runner.specs.Progress.{Progress}
-use Rattle.job_runner.specs.Runs.{AreNew}
+use Rattle.run_keeper.specs.JobRunner.Progress.{Progress}
+use Rattle.run_keeper.specs.JobRunner.Runs.{AreNew}
 use Rattle.journal_disk.specs.Disk.{DiskState}
 use Rattle.journal_file.specs.declared.file.JournalFile.{JournalFile}
 use Rattle.run_keeper.specs.declared.keeper.KeepRefusal.{KeepRefusal}

@@ -1,1 +1,4 @@
 pub mod Refusals
+pub mod RunKeeper
+pub mod SourceRun
+pub mod SourceRunDeclared

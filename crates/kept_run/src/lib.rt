@@ -4,6 +4,7 @@
 //! 2. All else is as in a run without a journal file.
 #![tactic(auto)]
 
+pub mod below;
 mod refusal;
 mod run;
 

@@ -8,3 +8,4 @@ pub mod NewLeafLemmas
 pub mod EightLemmas
 pub mod StayLemmas
 pub mod RowLemmas
+pub mod VersionSegment

@@ -1,2 +1,3 @@
 pub mod Segments
 pub mod Leaves
+pub mod VersionSegment

@@ -6,6 +6,7 @@
 //!    a move what is left over is given back.
 #![tactic(auto)]
 
+pub mod below;
 mod counting;
 mod leaf;
 mod memory;

@@ -15,9 +15,9 @@ use Rattle.store_model.specs.Check.{check, looked, newest, droppers, no_value}
 use Rattle.txn_manager.specs.Manager.{Manager, IsManaged, open_start, state_from, state_of}
 use Rattle.undo_chain.specs.declared.states.Snapshot.{Snapshot}
 use Rattle.undo_chain.specs.States.{Grows}
-use Rattle.version_segment.specs.Checks.{IsChecked, IsStateBy, AreStatesOf, newest_of, newest_and_touches, drops_in, drops_of}
-use Rattle.version_segment.specs.Laws.{IsFit, AreFit}
-use Rattle.version_segment.proofs.LawLemmas.{blocked_is_check}
+use Rattle.row_writes.specs.VersionSegment.Checks.{IsChecked, IsStateBy, AreStatesOf, newest_of, newest_and_touches, drops_in, drops_of}
+use Rattle.row_writes.specs.VersionSegment.Laws.{IsFit, AreFit}
+use Rattle.row_writes.proofs.VersionSegment.LawLemmas.{blocked_is_check}
 use Rattle.graph_model.specs.declared.row.Key.{Key}
 use Rattle.graph_model.specs.declared.write.Write.{Write}
 use Rattle.graph_model.specs.declared.write.Write.TheVariants.{AddVertex, DropVertex, AddEdge, SetEdge, DropEdge}

@@ -9,8 +9,8 @@ use Rattle.graph_model.specs.Rows.{key_cmp, is_below, is_between, end_key}
 use Rattle.graph_model.proofs.OrderLemmas.{keys_total}
 use Rattle.graph_model.proofs.KeyLemmas.{below_self}
 use Rattle.store_model.specs.Stamped.{StampedVersions}
-use Rattle.version_segment.specs.Rows.{VersionedRows, IsSegment, or_nothing, is_nothing, with_versions, has_row as has_row_in}
-use Rattle.version_segment.specs.Keyed.{RisesBy}
+use Rattle.row_writes.specs.VersionSegment.Rows.{VersionedRows, IsSegment, or_nothing, is_nothing, with_versions, has_row as has_row_in}
+use Rattle.row_writes.specs.VersionSegment.Keyed.{RisesBy}
 use Rattle.leaf_store.specs.Leaves.{Leaves, AreLeaves, KeysHaveCells, CellsAreApart, cells_of, cell_in, cell_at, shares, versions_of, has_row}
 use Rattle.leaf_store.specs.Changes.{ChangesCell}
 

@@ -17,7 +17,7 @@ use Rattle.graph_model.proofs.OrderLemmas.{keys_total, keys_exact, key_tie, arc_
 use Rattle.graph_model.proofs.RowLemmas.{second_tie, find-entries, ranges_adjoin}
 use Rattle.graph_model.proofs.SortedLemmas.{true_from_T, T_from_true, both_true}
 use Rattle.undo_chain.specs.declared.states.Snapshot.{Snapshot}
-use Rattle.version_segment.specs.Rows.{VersionedRows}
+use Rattle.row_writes.specs.VersionSegment.Rows.{VersionedRows}
 use Rattle.leaf_store.specs.Leaves.{Leaves, Part, AreLeaves, IsPart, cells_of}
 use Rattle.leaf_rows.specs.Counted.{is_vertex_row}
 use Rattle.leaf_rows.specs.Runs.{ShowsBy, cells_behind, runs_left}

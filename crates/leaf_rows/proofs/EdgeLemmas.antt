@@ -15,7 +15,7 @@ use Rattle.graph_model.proofs.TestLemmas.{either_of, eq_of, self_eq, never}
 use Rattle.store_model.specs.Versions.{read}
 use Rattle.store_model.specs.Stamped.{forget_row}
 use Rattle.undo_chain.specs.declared.states.Snapshot.{Snapshot}
-use Rattle.version_segment.specs.Rows.{VersionedRows, versions_at}
+use Rattle.row_writes.specs.VersionSegment.Rows.{VersionedRows, versions_at}
 use Rattle.leaf_store.specs.Leaves.{Leaves, AreLeaves, cells_of, cell_at}
 use Rattle.row_writes.proofs.CheckLemmas.{not_zero, weight_is_value}
 use Rattle.leaf_rows.specs.Runs.{ShowsBy, lesser, run_end, has_second}

@@ -12,11 +12,11 @@ use Rattle.graph_model.specs.Rows.{key_cmp, is_below, is_between, end_key}
 use Rattle.graph_model.proofs.OrderLemmas.{key_tie}
 use Rattle.graph_model.proofs.TestLemmas.{never}
 use Rattle.store_model.specs.Stamped.{Stamped, StampedVersions}
-use Rattle.version_segment.specs.declared.change.RowChange.{RowChange}
-use Rattle.version_segment.specs.declared.change.RowChange.TheVariants.{Write, Undo, Touch, Untouch}
-use Rattle.version_segment.specs.Changes.{MayChange, changed, records_for}
-use Rattle.version_segment.specs.Rows.{VersionedRows, is_empty, is_nothing, or_nothing, versions_at, new_record, has_record, undone, touched, untouched}
-use Rattle.version_segment.proofs.LawLemmas.{key_changed}
+use Rattle.row_writes.specs.VersionSegmentDeclared.change.RowChange.{RowChange}
+use Rattle.row_writes.specs.VersionSegmentDeclared.change.RowChange.TheVariants.{Write, Undo, Touch, Untouch}
+use Rattle.row_writes.specs.VersionSegment.Changes.{MayChange, changed, records_for}
+use Rattle.row_writes.specs.VersionSegment.Rows.{VersionedRows, is_empty, is_nothing, or_nothing, versions_at, new_record, has_record, undone, touched, untouched}
+use Rattle.row_writes.proofs.VersionSegment.LawLemmas.{key_changed}
 use Rattle.leaf_store.specs.Leaves.{Leaves, AreLeaves, KeysHaveCells, CellsAreApart, cell_at, shares, versions_of, has_row, room_at}
 use Rattle.leaf_store.specs.Changes.{ChangesVersions, KeepsCells, KeepsRecordRoom, UsesRecords}
 use Rattle.row_writes.specs.Held.{AllowsChange, Changes, Reserves, rows_for}

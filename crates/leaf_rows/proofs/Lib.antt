@@ -13,3 +13,7 @@ pub mod FillLemmas
 pub mod SweepLemmas
 pub mod MergeLemmas
 pub mod PlacingLemmas
+pub mod LeafArrayMade
+pub mod LeafStore
+pub mod RowWrites
+pub mod VersionSegmentMade

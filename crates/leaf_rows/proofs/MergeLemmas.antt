@@ -20,14 +20,14 @@ use Rattle.store_model.specs.declared.versions.Versions.{Versions}
 use Rattle.density_tree.specs.declared.window.Window.{Window}
 use Rattle.density_tree.specs.declared.window.TheConstants.{LOWER_LIMITS}
 use Rattle.density_tree.specs.Division.{share_of}
-use Rattle.version_segment.specs.Keyed.{RisesBy}
-use Rattle.version_segment.proofs.KeyedLemmas.{tied_self}
-use Rattle.version_segment.specs.Rows.{VersionedRows, all_records, or_nothing, records_in}
-use Rattle.leaf_array.specs.Leaves.{SpreadsWindow, window_of}
-use Rattle.leaf_array.specs.Segments.{counts_of, records_of, rows_of}
-use Rattle.leaf_array.proofs.LeafLemmas.{Follow}
-use Rattle.leaf_array.proofs.PairLemmas.{rows-append, sum-of-counts}
-use Rattle.leaf_array.proofs.SegmentLemmas.{records-append}
+use Rattle.row_writes.specs.VersionSegment.Keyed.{RisesBy}
+use Rattle.row_writes.proofs.VersionSegment.KeyedLemmas.{tied_self}
+use Rattle.row_writes.specs.VersionSegment.Rows.{VersionedRows, all_records, or_nothing, records_in}
+use Rattle.leaf_store.specs.LeafArray.Leaves.{SpreadsWindow, window_of}
+use Rattle.leaf_store.specs.LeafArray.Segments.{counts_of, records_of, rows_of}
+use Rattle.leaf_store.proofs.LeafArray.LeafLemmas.{Follow}
+use Rattle.leaf_store.proofs.LeafArray.PairLemmas.{rows-append, sum-of-counts}
+use Rattle.leaf_store.proofs.LeafArray.SegmentLemmas.{records-append}
 use Rattle.leaf_index.proofs.CountLemmas.{count_append, count_cons}
 use Rattle.leaf_store.specs.Leaves.{Leaves, Part, AreLeaves, IsPart, cell_at, cell_in, cells_of, record_count, versions_of}
 use Rattle.leaf_store.specs.Merging.{IsSparseWindow, MergesTwo, SpreadsOne}

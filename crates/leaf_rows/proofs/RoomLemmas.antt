@@ -8,7 +8,7 @@ use Rattle.graph_model.specs.Rows.{is_below, is_between, end_key}
 use Rattle.store_model.specs.Stamped.{forget_row}
 use Rattle.txn_manager.specs.declared.config.RoomRefusal.{RoomRefusal}
 use Rattle.txn_manager.specs.declared.config.RoomRefusal.TheVariants.{Full, NoMemory}
-use Rattle.version_segment.specs.Rows.{VersionedRows, has_row as has_row_in}
+use Rattle.row_writes.specs.VersionSegment.Rows.{VersionedRows, has_row as has_row_in}
 use Rattle.leaf_store.specs.Leaves.{Leaves, Part, AreLeaves, KeysHaveCells, CellsAreApart, cell_at, cell_in, has_row, room_at, shares}
 use Rattle.leaf_index.specs.declared.route.Retired.{Retired}
 use Rattle.leaf_index.specs.Calls.{freed_of, kept_of}

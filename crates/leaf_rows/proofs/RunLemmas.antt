@@ -17,8 +17,8 @@ use Rattle.graph_model.proofs.RowLemmas.{rows_of_values}
 use Rattle.graph_model.proofs.SortedLemmas.{true_from_T, both_true}
 use Rattle.store_model.specs.Stamped.{StampedVersions, read_stamped}
 use Rattle.undo_chain.specs.declared.states.Snapshot.{Snapshot}
-use Rattle.version_segment.specs.Rows.{VersionedRows, IsSegment, nothing, or_nothing, versions_at, with_row, rows_read, range_of, rows_at}
-use Rattle.version_segment.specs.Checks.{AreNamedIn, AreNamedRows}
+use Rattle.row_writes.specs.VersionSegment.Rows.{VersionedRows, IsSegment, nothing, or_nothing, versions_at, with_row, rows_read, range_of, rows_at}
+use Rattle.row_writes.specs.VersionSegment.Checks.{AreNamedIn, AreNamedRows}
 use Rattle.store_model.specs.Stamped.{Stamped}
 use Rattle.leaf_store.specs.Leaves.{Leaves, cell_in, cell_at, cells_of, versions_of}
 use Rattle.leaf_rows.specs.Readers.{AreUnstamped}

@@ -10,8 +10,8 @@ use Rattle.graph_model.specs.Rows.{is_below, is_between, first_key, end_key, row
 use Rattle.graph_model.specs.Scans.{ScansBy}
 use Rattle.graph_model.proofs.KeyLemmas.{below_self, between_parts, upto_chain}
 use Rattle.graph_model.proofs.RowLemmas.{rows_of_values}
-use Rattle.version_segment.specs.Rows.{VersionedRows, IsSegment, versions_at}
-use Rattle.leaf_array.specs.Segments.{high_or, AreChained}
+use Rattle.row_writes.specs.VersionSegment.Rows.{VersionedRows, IsSegment, versions_at}
+use Rattle.leaf_store.specs.LeafArray.Segments.{high_or, AreChained}
 use Rattle.store_model.specs.Stamped.{forget_row}
 use Rattle.store_model.specs.Versions.{read}
 use Rattle.edge_scan.specs.Steps.{IsUnderWay, end_of}

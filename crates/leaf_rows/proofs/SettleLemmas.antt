@@ -11,8 +11,8 @@ use Rattle.store_model.specs.declared.versions.Versions.{Versions}
 use Rattle.store_model.specs.Versions.{no_versions, first_seen, unseen_front, prune, is_settled}
 use Rattle.store_model.specs.Stamped.{Stamped, StampedVersions, forget_row, prune_stamped, stamped_front}
 use Rattle.store_model.proofs.StampedLemmas.{prune_forgets}
-use Rattle.version_segment.specs.Rows.{VersionedRows, pruned_rows, is_nothing, versions_at}
-use Rattle.version_segment.proofs.LawLemmas.{keys_pruned}
+use Rattle.row_writes.specs.VersionSegment.Rows.{VersionedRows, pruned_rows, is_nothing, versions_at}
+use Rattle.row_writes.proofs.VersionSegment.LawLemmas.{keys_pruned}
 use Rattle.leaf_store.specs.declared.store.Pruned.{Pruned}
 use Rattle.leaf_store.specs.Leaves.{Leaves, AreLeaves, CellsAreApart, cells_of, cell_at, shares, versions_of, contents_of, weight}
 use Rattle.leaf_store.specs.Changes.{PrunesCell}

@@ -9,3 +9,10 @@ pub mod Loaded
 pub mod Counted
 pub mod Filling
 pub mod Placing
+pub mod LeafArray
+pub mod LeafStore
+pub mod LeafStoreDeclared
+pub mod LeafTableDeclared
+pub mod RowWrites
+pub mod RowWritesDeclared
+pub mod VersionSegment

@@ -8,7 +8,7 @@ use Rattle.graph_model.specs.Rows.{is_below, value_at}
 use Rattle.store_model.specs.Versions.{read}
 use Rattle.undo_chain.specs.declared.states.Snapshot.{Snapshot}
 use Rattle.undo_chain.specs.States.{Knowledge}
-use Rattle.version_segment.specs.Rows.{VersionedRows}
+use Rattle.row_writes.specs.VersionSegment.Rows.{VersionedRows}
 use Rattle.leaf_store.specs.Leaves.{Leaves, cells_of, cell_at, contents_of}
 
 -- a snapshot sees this graph in the rows, by the stamps of their writers

@@ -5,7 +5,7 @@ use Rattle.graph_model.specs.declared.row.Key.{Key}
 use Rattle.leaf_store.specs.Leaves.{Leaves, room_at}
 use Rattle.graph_model.specs.declared.limits.TheConstants.{SEGMENT_ROWS}
 use Rattle.graph_model.specs.Rows.{is_between}
-use Rattle.version_segment.specs.Rows.{VersionedRows, has_row as has_row_in}
+use Rattle.row_writes.specs.VersionSegment.Rows.{VersionedRows, has_row as has_row_in}
 
 -- one key or two
 abbrev pub keys_with : Key → Option Key → List Key

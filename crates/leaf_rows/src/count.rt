@@ -10,7 +10,7 @@ ghost use Rattle.leaf_rows.specs.Readers.{Shows};
 use crate::reader::Reader;
 use crate::rows::{Counts, LeafRows};
 use graph_model::{Key, Row};
-use version_segment::Rows32;
+use row_writes::below::Rows32;
 
 impl LeafRows {
     /// Counts the vertices and the arcs that a reader sees.

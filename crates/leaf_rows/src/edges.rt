@@ -12,7 +12,7 @@ ghost use Rattle.leaf_rows.specs.Runs.{has_second};
 use crate::reader::Reader;
 use crate::rows::LeafRows;
 use graph_model::{Key, Kind, Row};
-use version_segment::Rows32;
+use row_writes::below::Rows32;
 
 impl LeafRows {
     /// Whether a vertex is an end of an arc that the reader sees. Where arcs have a direction, those that lead to the

@@ -10,7 +10,7 @@ use crate::rows::LeafRows;
 use graph_model::{Key, NoMemory, TxnName};
 use leaf_store::Finger;
 use row_writes::HeldCells;
-use version_segment::{RowChange, RowView};
+use row_writes::below::{RowChange, RowView};
 
 /// Where the rows of a write were found in leaves.
 pub type Fingers = row_writes::Fingers<Finger>;

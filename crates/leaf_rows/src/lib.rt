@@ -6,6 +6,7 @@
 //! 3. Room and memory for all rows of a write are made before the first of them changes.
 #![tactic(auto)]
 
+pub mod below;
 mod check;
 mod count;
 mod edges;

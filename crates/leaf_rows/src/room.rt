@@ -8,7 +8,7 @@ ghost use Rattle.std.specs.Prelude.{◌≡◌, ◌-◌, ◌<◌, ◌≤◌, ◌�
 ghost use Rattle.std.specs.Prelude.{None, IfSome, OnOk, IfErr};
 ghost use Rattle.graph_model.specs.declared.limits.TheConstants.{SEGMENT_ROWS};
 ghost use Rattle.graph_model.specs.Rows.{is_below, is_between, end_key};
-ghost use Rattle.version_segment.specs.Rows as segments;
+ghost use Rattle.row_writes.specs.VersionSegment.Rows as segments;
 ghost use Rattle.leaf_store.specs.Leaves.{KeysHaveCells, has_row, room_at};
 ghost use Rattle.leaf_store.specs.Changes.{IsRoomRefusal};
 ghost use Rattle.leaf_store.specs.Making.{MakesRoom};
@@ -22,8 +22,8 @@ use crate::held::FoundRows;
 use crate::rows::LeafRows;
 use graph_model::Key;
 use leaf_store::Finger;
+use row_writes::below::VersionSegment;
 use txn_manager::RoomRefusal;
-use version_segment::VersionSegment;
 
 /// A key, and where it was found.
 #[derive(Clone, Copy)]

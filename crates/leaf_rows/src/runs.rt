@@ -15,8 +15,8 @@ use crate::reader::Reader;
 use crate::rows::LeafRows;
 use graph_model::{Key, Row};
 use leaf_store::Finger;
+use row_writes::below::Rows32;
 use undo_chain::{Snapshot, States};
-use version_segment::Rows32;
 
 /// Rows that are lent, and the key before which they end.
 #[derive(Clone, Copy)]

@@ -14,7 +14,7 @@ use crate::reader::Reader;
 use crate::rows::LeafRows;
 use edge_scan::step;
 use graph_model::{Cursor, Key, Row, Rows64};
-use version_segment::Rows32;
+use row_writes::below::Rows32;
 
 impl LeafRows {
     /// Gives the next rows of a scan, 64 at most.

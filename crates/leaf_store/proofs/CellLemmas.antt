@@ -11,10 +11,10 @@ use Rattle.graph_model.specs.Rows.{key_cmp, is_below, is_between, end_key}
 use Rattle.graph_model.proofs.KeyLemmas.{between_parts, below_self, below_up, upto_chain}
 use Rattle.graph_model.proofs.OrderLemmas.{keys_exact}
 use Rattle.store_model.specs.Stamped.{StampedVersions}
-use Rattle.version_segment.specs.Rows.{VersionedRows, IsSegment, or_nothing, versions_at}
-use Rattle.leaf_array.specs.Segments.{rows_of, high_or}
-use Rattle.leaf_array.proofs.LeafLemmas.{Follow, follow-front, follow-behind, follow-both}
-use Rattle.leaf_array.proofs.PairLemmas.{high-append}
+use Rattle.leaf_table.specs.VersionSegment.Rows.{VersionedRows, IsSegment, or_nothing, versions_at}
+use Rattle.leaf_table.specs.LeafArray.Segments.{rows_of, high_or}
+use Rattle.leaf_table.proofs.LeafArray.LeafLemmas.{Follow, follow-front, follow-behind, follow-both}
+use Rattle.leaf_table.proofs.LeafArray.PairLemmas.{high-append}
 use Rattle.leaf_store.proofs.ListLemmas.{all_front, all_back}
 use Rattle.gap_segment.proofs.FencedLemmas.{all_append}
 use Rattle.leaf_store.specs.Leaves.{cell_in}

@@ -11,14 +11,14 @@ use Rattle.graph_model.specs.declared.row.Key.{Key}
 use Rattle.std.specs.List.{AllByRecursion}
 use Rattle.graph_model.specs.declared.limits.TheConstants.{SEGMENT_ROWS}
 use Rattle.graph_model.specs.Rows.{is_below, is_between, end_key}
-use Rattle.version_segment.specs.Keyed.{RisesBy}
-use Rattle.version_segment.specs.Rows.{VersionedRows, IsSegment, IsSameSegment, ChangesKey, PrunesRows, all_records, is_nothing, versions_at}
+use Rattle.leaf_table.specs.VersionSegment.Keyed.{RisesBy}
+use Rattle.leaf_table.specs.VersionSegment.Rows.{VersionedRows, IsSegment, IsSameSegment, ChangesKey, PrunesRows, all_records, is_nothing, versions_at}
 use Rattle.graph_model.specs.declared.journal.TxnName.{TxnName}
 use Rattle.store_model.specs.Stamped.{StampedVersions}
-use Rattle.leaf_array.specs.declared.leaf.Leaf.{Leaf}
-use Rattle.leaf_array.specs.Segments.{lows_of, low_or, high_or, AreChained}
-use Rattle.leaf_array.proofs.LeafLemmas.{Follow, follow-of, follow-chained, own-low, no_key}
-use Rattle.leaf_array.proofs.PairLemmas.{high-append}
+use Rattle.leaf_table.specs.LeafArrayDeclared.leaf.Leaf.{Leaf}
+use Rattle.leaf_table.specs.LeafArray.Segments.{lows_of, low_or, high_or, AreChained}
+use Rattle.leaf_table.proofs.LeafArray.LeafLemmas.{Follow, follow-of, follow-chained, own-low, no_key}
+use Rattle.leaf_table.proofs.LeafArray.PairLemmas.{high-append}
 use Rattle.leaf_index.specs.Index.{Index, Entry, end_of}
 use Rattle.leaf_table.specs.declared.place.Place.{Place}
 use Rattle.leaf_store.specs.declared.store.Pruned.{Pruned}

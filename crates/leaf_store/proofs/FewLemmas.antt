@@ -4,7 +4,7 @@ use Rattle.std.specs.Prelude.{Option}
 use Rattle.std.specs.declared.alloc.Global.{Global}
 use Rattle.std.specs.declared.boxed.Box.{Box}
 use Rattle.std.proofs.lemmas.List.{length-map}
-use Rattle.leaf_array.specs.declared.leaf.Leaf.{Leaf}
+use Rattle.leaf_table.specs.LeafArrayDeclared.leaf.Leaf.{Leaf}
 use Rattle.leaf_index.specs.Index.{Index, IsIndex}
 use Rattle.leaf_index.proofs.CountLemmas.{at_most, count_map}
 use Rattle.leaf_store.specs.Table.{leaves_of, part_of}

@@ -16,11 +16,11 @@ use Rattle.graph_model.specs.declared.row.Row.{Row}
 use Rattle.graph_model.specs.Rows.{key_cmp, is_below, first_key, end_key}
 use Rattle.graph_model.proofs.KeyLemmas.{between_of}
 use Rattle.gap_segment.specs.Fenced.{AreAbove, AreSorted, AreWithin, first_key_or}
-use Rattle.version_segment.specs.Rows.{VersionedRows, or_nothing, settled_row, settled_rows}
-use Rattle.leaf_array.specs.declared.leaf.Leaf.{Leaf}
-use Rattle.leaf_array.specs.Leaves.{IsLeaf}
-use Rattle.leaf_array.specs.Segments.{rows_of, lows_of}
-use Rattle.leaf_array.proofs.LeafLemmas.{follow-of}
+use Rattle.leaf_table.specs.VersionSegment.Rows.{VersionedRows, or_nothing, settled_row, settled_rows}
+use Rattle.leaf_table.specs.LeafArrayDeclared.leaf.Leaf.{Leaf}
+use Rattle.leaf_table.specs.LeafArray.Leaves.{IsLeaf}
+use Rattle.leaf_table.specs.LeafArray.Segments.{rows_of, lows_of}
+use Rattle.leaf_table.proofs.LeafArray.LeafLemmas.{follow-of}
 use Rattle.leaf_index.specs.Index.{Index, Entry, AreCuts, BeginBelow, IsIndex, end_of}
 use Rattle.leaf_index.specs.Calls.{CanCut, new_index, with_cuts}
 use Rattle.txn_manager.specs.declared.config.RoomRefusal.{RoomRefusal}

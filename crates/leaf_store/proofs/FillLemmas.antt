@@ -8,8 +8,8 @@ use Rattle.graph_model.specs.Rows.{is_below}
 use Rattle.graph_model.proofs.KeyLemmas.{below_flip, below_self, between_of, between_parts}
 use Rattle.store_model.specs.Stamped.{StampedVersions}
 use Rattle.gap_segment.specs.Fenced.{AreAbove, AreSorted, AreWithin, first_key_or}
-use Rattle.version_segment.specs.Rows.{VersionedRows, settled_row, settled_rows}
-use Rattle.leaf_array.specs.Segments.{rows_of, low_or, high_or}
+use Rattle.leaf_table.specs.VersionSegment.Rows.{VersionedRows, settled_row, settled_rows}
+use Rattle.leaf_table.specs.LeafArray.Segments.{rows_of, low_or, high_or}
 use Rattle.leaf_store.specs.Fill.{AreSettled}
 
 -- ---- rows in two parts

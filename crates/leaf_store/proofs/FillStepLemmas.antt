@@ -14,12 +14,12 @@ use Rattle.graph_model.proofs.KeyLemmas.{below_chain, between_parts, upto_chain}
 use Rattle.graph_model.proofs.PlaceLemmas.{some_eq}
 use Rattle.std.proofs.Math.Seq.{take-append_seam, drop-append_seam}
 use Rattle.gap_segment.specs.Fenced.{AreAbove, AreSorted, AreWithin, first_key_or}
-use Rattle.version_segment.specs.Rows.{VersionedRows, settled_row, settled_rows}
-use Rattle.leaf_array.specs.declared.leaf.Leaf.{Leaf}
-use Rattle.leaf_array.specs.Leaves.{IsLeaf}
-use Rattle.leaf_array.specs.Segments.{rows_of, lows_of, low_or, high_or}
-use Rattle.leaf_array.proofs.LeafLemmas.{Follow, follow-of}
-use Rattle.leaf_array.proofs.PairLemmas.{rows-append}
+use Rattle.leaf_table.specs.VersionSegment.Rows.{VersionedRows, settled_row, settled_rows}
+use Rattle.leaf_table.specs.LeafArrayDeclared.leaf.Leaf.{Leaf}
+use Rattle.leaf_table.specs.LeafArray.Leaves.{IsLeaf}
+use Rattle.leaf_table.specs.LeafArray.Segments.{rows_of, lows_of, low_or, high_or}
+use Rattle.leaf_table.proofs.LeafArray.LeafLemmas.{Follow, follow-of}
+use Rattle.leaf_table.proofs.LeafArray.PairLemmas.{rows-append}
 use Rattle.leaf_index.specs.Index.{Index, Entry, AreCuts, AreSorted as AreSortedKeys, HaveCuts, IsIndex, IsTaken, NotAbove, end_of, first_or}
 use Rattle.leaf_index.specs.Calls.{CanAdd, with_leaf}
 use Rattle.leaf_store.specs.Fill.{AreSettled, AreTiedTo, IsFilling, begin_of, next_key, parts_in}

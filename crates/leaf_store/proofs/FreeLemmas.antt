@@ -6,7 +6,7 @@ use Rattle.std.proofs.lemmas.List.{append-nil, take_all}
 use Rattle.leaf_index.specs.declared.route.Retired.{Retired}
 use Rattle.leaf_index.specs.Calls.{freed, freed_of, kept_of}
 use Rattle.graph_model.specs.Rows.{end_key}
-use Rattle.version_segment.specs.Rows.{versions_at}
+use Rattle.leaf_table.specs.VersionSegment.Rows.{versions_at}
 use Rattle.leaf_index.specs.Index.{Index, BeginBelow, IsIndex}
 use Rattle.leaf_store.specs.declared.pair.TheConstants.{STAMPS_END}
 use Rattle.std.specs.List.{flat_map}

@@ -6,14 +6,14 @@ use Rattle.std.proofs.lemmas.List.{append-nil, take_all}
 use Rattle.graph_model.specs.declared.limits.TheConstants.{SPLIT_ROWS}
 use Rattle.graph_model.specs.declared.row.Key.{Key}
 use Rattle.graph_model.specs.Rows.{is_below, end_key, first_key}
-use Rattle.version_segment.specs.Rows.{VersionedRows, IsSegment}
+use Rattle.leaf_table.specs.VersionSegment.Rows.{VersionedRows, IsSegment}
 use Rattle.density_tree.specs.declared.window.Window.{Window}
 use Rattle.density_tree.specs.Windows.{Fits, IsSmallestWindow, rows_in, window_round}
 use Rattle.density_tree.proofs.DivisionLemmas.{shares_are_all}
-use Rattle.leaf_array.specs.Leaves.{Splits, SpreadsWindow}
-use Rattle.leaf_array.specs.Segments.{rows_of, counts_of, lows_of, high_or}
-use Rattle.leaf_array.proofs.LeafLemmas.{Follow, follow-of, follow-low, follow-both}
-use Rattle.leaf_array.proofs.PairLemmas.{rows-append, high-append}
+use Rattle.leaf_table.specs.LeafArray.Leaves.{Splits, SpreadsWindow}
+use Rattle.leaf_table.specs.LeafArray.Segments.{rows_of, counts_of, lows_of, high_or}
+use Rattle.leaf_table.proofs.LeafArray.LeafLemmas.{Follow, follow-of, follow-low, follow-both}
+use Rattle.leaf_table.proofs.LeafArray.PairLemmas.{rows-append, high-append}
 use Rattle.leaf_index.specs.Index.{Index, Entry, AreRising, BeginBelow, HaveCuts, IsIndex, IsTaken, end_of}
 use Rattle.txn_manager.specs.declared.config.RoomRefusal.{RoomRefusal}
 use Rattle.txn_manager.specs.declared.config.RoomRefusal.TheVariants as refusals

@@ -7,11 +7,11 @@ use Rattle.graph_model.specs.Rows.{is_below, is_between}
 use Rattle.graph_model.proofs.KeyLemmas.{below_up, between_parts, upto_chain}
 use Rattle.graph_model.proofs.PlaceLemmas.{some_eq}
 use Rattle.store_model.specs.Stamped.{StampedVersions}
-use Rattle.version_segment.specs.Keyed.{RisesBy}
-use Rattle.version_segment.specs.Rows.{VersionedRows}
-use Rattle.leaf_array.specs.Segments.{rows_of, high_or}
-use Rattle.leaf_array.specs.Leaves.{IsSplitKey}
-use Rattle.leaf_array.proofs.LeafLemmas.{Follow}
+use Rattle.leaf_table.specs.VersionSegment.Keyed.{RisesBy}
+use Rattle.leaf_table.specs.VersionSegment.Rows.{VersionedRows}
+use Rattle.leaf_table.specs.LeafArray.Segments.{rows_of, high_or}
+use Rattle.leaf_table.specs.LeafArray.Leaves.{IsSplitKey}
+use Rattle.leaf_table.proofs.LeafArray.LeafLemmas.{Follow}
 use Rattle.leaf_store.proofs.CellLemmas.{AreSound, clash, low_to_high}
 
 -- a key above one that is not below another one is above that one

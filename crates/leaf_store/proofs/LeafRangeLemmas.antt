@@ -5,10 +5,10 @@ use Rattle.std.proofs.lemmas.List.{append_assoc}
 use Rattle.graph_model.specs.declared.row.Key.{Key}
 use Rattle.graph_model.specs.Rows.{is_below, is_between, first_key, end_key}
 use Rattle.graph_model.proofs.KeyLemmas.{between_of, between_parts}
-use Rattle.version_segment.specs.Rows.{VersionedRows, IsSegment}
-use Rattle.leaf_array.specs.Segments.{low_or, high_or}
-use Rattle.leaf_array.proofs.LeafLemmas.{Follow, follow-behind, follow-low}
-use Rattle.leaf_array.proofs.PairLemmas.{any-high, any-low, high-append}
+use Rattle.leaf_table.specs.VersionSegment.Rows.{VersionedRows, IsSegment}
+use Rattle.leaf_table.specs.LeafArray.Segments.{low_or, high_or}
+use Rattle.leaf_table.proofs.LeafArray.LeafLemmas.{Follow, follow-behind, follow-low}
+use Rattle.leaf_table.proofs.LeafArray.PairLemmas.{any-high, any-low, high-append}
 use Rattle.leaf_index.specs.Calls.{IsLeafRange}
 use Rattle.leaf_index.specs.Index.{Index, Entry, HaveCuts, end_of}
 use Rattle.leaf_index.specs.declared.route.LeafRange.{LeafRange}

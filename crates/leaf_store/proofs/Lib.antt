@@ -25,3 +25,6 @@ pub mod SparseLemmas
 pub mod FreeLemmas
 pub mod LeafRangeLemmas
 pub mod RecordLemmas
+pub mod LeafArray
+pub mod LeafArrayMade
+pub mod VersionSegment

@@ -10,14 +10,14 @@ use Rattle.graph_model.proofs.PlaceLemmas.{drop_cut}
 use Rattle.graph_model.specs.declared.limits.TheConstants.{SEGMENT_ROWS, SPLIT_ROWS}
 use Rattle.graph_model.specs.declared.row.Key.{Key}
 use Rattle.graph_model.specs.Rows.{key_cmp, first_key, end_key, is_below, is_between}
-use Rattle.version_segment.specs.Rows.{VersionedRows, IsSegment, or_nothing}
+use Rattle.leaf_table.specs.VersionSegment.Rows.{VersionedRows, IsSegment, or_nothing}
 use Rattle.density_tree.specs.declared.window.Window.{Window}
 use Rattle.density_tree.specs.Division.{share_of, evenly}
-use Rattle.leaf_array.specs.Segments.{rows_of, counts_of, lows_of, low_or, high_or, AreSame}
-use Rattle.leaf_array.specs.Leaves.{IsLeaf, SpreadsWindow, window_of}
-use Rattle.leaf_array.proofs.CountLemmas.{same-chained, same-rows, same-length, same-low, same-high}
-use Rattle.leaf_array.proofs.LeafLemmas.{Follow, follow-of, follow-low, follow-front, follow-behind, own-low, no_key}
-use Rattle.leaf_array.proofs.PairLemmas.{rows-append}
+use Rattle.leaf_table.specs.LeafArray.Segments.{rows_of, counts_of, lows_of, low_or, high_or, AreSame}
+use Rattle.leaf_table.specs.LeafArray.Leaves.{IsLeaf, SpreadsWindow, window_of}
+use Rattle.leaf_table.proofs.LeafArray.CountLemmas.{same-chained, same-rows, same-length, same-low, same-high}
+use Rattle.leaf_table.proofs.LeafArray.LeafLemmas.{Follow, follow-of, follow-low, follow-front, follow-behind, own-low, no_key}
+use Rattle.leaf_table.proofs.LeafArray.PairLemmas.{rows-append}
 use Rattle.leaf_index.specs.Index.{Index, Entry, AreSorted, BeginBelow, IsIndex, NotAbove, end_of, first_or}
 use Rattle.leaf_store.specs.Leaves.{Part, Leaves, AreLeaves, cells_of, cell_in, cell_at, weight}
 use Rattle.leaf_store.specs.Changes.{MovesRows}

@@ -8,10 +8,10 @@ use Rattle.std.proofs.Math.ListN.{length-set}
 use Rattle.std.proofs.lemmas.List.{length-replicate, append-nil}
 use Rattle.std.proofs.lemmas.List.FromFn.{length-range_with_len}
 use Rattle.graph_model.specs.Rows.{key_cmp, first_key, end_key}
-use Rattle.version_segment.specs.Rows.{or_nothing}
-use Rattle.leaf_array.specs.declared.leaf.Leaf.{Leaf}
-use Rattle.leaf_array.specs.Segments.{rows_of, lows_of, high_or}
-use Rattle.leaf_array.specs.Leaves.{IsLeaf, IsEmptyFrom}
+use Rattle.leaf_table.specs.VersionSegment.Rows.{or_nothing}
+use Rattle.leaf_table.specs.LeafArrayDeclared.leaf.Leaf.{Leaf}
+use Rattle.leaf_table.specs.LeafArray.Segments.{rows_of, lows_of, high_or}
+use Rattle.leaf_table.specs.LeafArray.Leaves.{IsLeaf, IsEmptyFrom}
 use Rattle.leaf_index.specs.Index.{Index, IsIndex}
 use Rattle.leaf_index.specs.Calls.{new_index}
 use Rattle.leaf_store.specs.Leaves.{Part}

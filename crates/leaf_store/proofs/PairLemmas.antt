@@ -9,13 +9,13 @@ use Rattle.graph_model.specs.declared.limits.TheConstants.{SPLIT_ROWS}
 use Rattle.graph_model.specs.declared.row.Key.{Key}
 use Rattle.graph_model.specs.Rows.{is_below, end_key}
 use Rattle.graph_model.proofs.KeyLemmas.{below_self}
-use Rattle.version_segment.specs.Rows.{VersionedRows}
-use Rattle.leaf_array.specs.declared.leaf.Leaf.{Leaf}
-use Rattle.leaf_array.specs.Leaves.{Merges}
-use Rattle.leaf_array.specs.Segments.{records_of, rows_of, lows_of, high_or, AreSame}
-use Rattle.leaf_array.proofs.LeafLemmas.{Follow, follow-of, follow-low}
-use Rattle.leaf_array.proofs.CountLemmas.{same-rows, same-high}
-use Rattle.leaf_array.proofs.PairLemmas.{rows-append, high-append}
+use Rattle.leaf_table.specs.VersionSegment.Rows.{VersionedRows}
+use Rattle.leaf_table.specs.LeafArrayDeclared.leaf.Leaf.{Leaf}
+use Rattle.leaf_table.specs.LeafArray.Leaves.{Merges}
+use Rattle.leaf_table.specs.LeafArray.Segments.{records_of, rows_of, lows_of, high_or, AreSame}
+use Rattle.leaf_table.proofs.LeafArray.LeafLemmas.{Follow, follow-of, follow-low}
+use Rattle.leaf_table.proofs.LeafArray.CountLemmas.{same-rows, same-high}
+use Rattle.leaf_table.proofs.LeafArray.PairLemmas.{rows-append, high-append}
 use Rattle.leaf_index.specs.declared.route.LeafRange.{LeafRange}
 use Rattle.leaf_index.specs.declared.route.Retired.{Retired}
 use Rattle.leaf_index.specs.Calls.{CanCut, CanDrop, IsLeafRange, IsRangeOf, with_cuts, without_leaf}

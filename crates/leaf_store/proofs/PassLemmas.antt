@@ -4,7 +4,7 @@ use Rattle.std.specs.Prelude.{true, false, slice_get, ◌⊎◌}
 use Rattle.std.specs.List.{AllByRecursion}
 use Rattle.graph_model.specs.declared.row.Key.{Key}
 use Rattle.graph_model.specs.Rows.{is_below, end_key}
-use Rattle.leaf_array.specs.Segments.{low_or}
+use Rattle.leaf_table.specs.LeafArray.Segments.{low_or}
 use Rattle.leaf_queue.specs.declared.waiting.Stage.{Stage}
 use Rattle.leaf_queue.specs.declared.waiting.Stage.TheVariants.{Windows, Neighbours}
 use Rattle.leaf_queue.specs.declared.waiting.Waiting.{Waiting}

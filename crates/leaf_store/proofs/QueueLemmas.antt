@@ -4,8 +4,8 @@ use Rattle.std.specs.Prelude.{sum, slice_get, ◌⊎◌}
 use Rattle.std.specs.List.{AllByRecursion}
 use Rattle.std.proofs.Math.ListN.{length-set}
 use Rattle.graph_model.specs.Rows.{end_key}
-use Rattle.version_segment.specs.Rows.{VersionedRows}
-use Rattle.leaf_array.specs.Segments.{AreSame, counts_of, low_or}
+use Rattle.leaf_table.specs.VersionSegment.Rows.{VersionedRows}
+use Rattle.leaf_table.specs.LeafArray.Segments.{AreSame, counts_of, low_or}
 use Rattle.leaf_queue.specs.declared.waiting.Stage.{Stage}
 use Rattle.leaf_queue.specs.declared.waiting.Stage.TheVariants.{Windows}
 use Rattle.leaf_queue.specs.declared.waiting.Waiting.{Waiting}

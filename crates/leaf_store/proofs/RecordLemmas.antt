@@ -6,10 +6,10 @@ use Rattle.std.proofs.lemmas.List.{append-nil}
 use Rattle.graph_model.specs.declared.row.Key.{Key}
 use Rattle.graph_model.specs.Rows.{is_below, first_key, end_key}
 use Rattle.graph_model.proofs.KeyLemmas.{below_self}
-use Rattle.version_segment.specs.Rows.{all_records}
-use Rattle.leaf_array.specs.Segments.{rows_of, records_of}
-use Rattle.leaf_array.proofs.PairLemmas.{rows-append}
-use Rattle.leaf_array.proofs.SegmentLemmas.{records-append}
+use Rattle.leaf_table.specs.VersionSegment.Rows.{all_records}
+use Rattle.leaf_table.specs.LeafArray.Segments.{rows_of, records_of}
+use Rattle.leaf_table.proofs.LeafArray.PairLemmas.{rows-append}
+use Rattle.leaf_table.proofs.LeafArray.SegmentLemmas.{records-append}
 use Rattle.leaf_index.specs.Index.{Index, Entry, BeginBelow, end_of}
 use Rattle.leaf_index.specs.Calls.{IsLeafRange}
 use Rattle.leaf_index.specs.declared.route.LeafRange.{LeafRange}

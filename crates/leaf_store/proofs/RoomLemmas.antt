@@ -10,14 +10,14 @@ use Rattle.std.proofs.lemmas.List.{length-map, take-map}
 use Rattle.std.proofs.lemmas.List.Sums.{sum_by-cons}
 use Rattle.graph_model.specs.declared.row.Key.{Key}
 use Rattle.graph_model.specs.Rows.{is_below, first_key, end_key}
-use Rattle.version_segment.specs.Rows.{VersionedRows}
+use Rattle.leaf_table.specs.VersionSegment.Rows.{VersionedRows}
 use Rattle.density_tree.specs.declared.window.Window.{Window}
 use Rattle.density_tree.specs.declared.window.TheConstants.{UPPER_LIMITS}
 use Rattle.density_tree.specs.Windows.{Fits, IsRound, IsSmallest, rows_in}
-use Rattle.leaf_array.specs.declared.leaf.Leaf.{Leaf}
-use Rattle.leaf_array.specs.Segments.{records_of, rows_of, counts_of, count_of, lows_of, AreSame}
-use Rattle.leaf_array.specs.Leaves.{IsLeaf, IsWindow, SpreadsWindow, window_of}
-use Rattle.leaf_array.proofs.LeafLemmas.{Follow, follow-of, follow-low}
+use Rattle.leaf_table.specs.LeafArrayDeclared.leaf.Leaf.{Leaf}
+use Rattle.leaf_table.specs.LeafArray.Segments.{records_of, rows_of, counts_of, count_of, lows_of, AreSame}
+use Rattle.leaf_table.specs.LeafArray.Leaves.{IsLeaf, IsWindow, SpreadsWindow, window_of}
+use Rattle.leaf_table.proofs.LeafArray.LeafLemmas.{Follow, follow-of, follow-low}
 use Rattle.leaf_index.specs.Index.{Index, Entry, AreCuts, AreSorted, HaveCuts, IsIndex, end_of}
 use Rattle.leaf_index.specs.Calls.{CanCut, with_cuts}
 use Rattle.leaf_table.specs.declared.place.Place.{Place}

@@ -5,13 +5,13 @@ use Rattle.std.proofs.lemmas.Grind.{flat_map-append}
 use Rattle.graph_model.specs.declared.limits.TheConstants.{SPLIT_ROWS}
 use Rattle.graph_model.specs.declared.row.Key.{Key}
 use Rattle.graph_model.specs.Rows.{is_between}
-use Rattle.version_segment.specs.Rows.{VersionedRows, IsSameSegment, all_records}
+use Rattle.leaf_table.specs.VersionSegment.Rows.{VersionedRows, IsSameSegment, all_records}
 use Rattle.density_tree.specs.declared.window.Window.{Window}
-use Rattle.leaf_array.specs.Leaves.{window_of}
-use Rattle.leaf_array.specs.Segments.{AreSame, records_of, rows_of}
-use Rattle.leaf_array.proofs.CountLemmas.{same-rows}
-use Rattle.leaf_array.proofs.PairLemmas.{rows-append}
-use Rattle.leaf_array.proofs.SegmentLemmas.{records-append}
+use Rattle.leaf_table.specs.LeafArray.Leaves.{window_of}
+use Rattle.leaf_table.specs.LeafArray.Segments.{AreSame, records_of, rows_of}
+use Rattle.leaf_table.proofs.LeafArray.CountLemmas.{same-rows}
+use Rattle.leaf_table.proofs.LeafArray.PairLemmas.{rows-append}
+use Rattle.leaf_table.proofs.LeafArray.SegmentLemmas.{records-append}
 use Rattle.leaf_index.specs.Index.{Index, Entry}
 use Rattle.leaf_queue.proofs.ListLemmas.{same_or_not}
 use Rattle.leaf_store.specs.Leaves.{Part, cell_in, record_count, weight_of_part}

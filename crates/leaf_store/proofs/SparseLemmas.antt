@@ -1,11 +1,11 @@
 -- Windows with a segment that has too few rows, and what their being there says of the store.
 use Rattle.std.proofs.Common.{◌≡◌, ℕ, zero, suc, ◌+◌, ◌*◌, ◌<◌, ◌≤◌, List, [], ◌∷◌, ◌++◌, length, take, drop, refl, sym, ap, subst, arith}
 use Rattle.std.specs.Prelude.{slice_index}
-use Rattle.version_segment.specs.Rows.{VersionedRows}
+use Rattle.leaf_table.specs.VersionSegment.Rows.{VersionedRows}
 use Rattle.density_tree.specs.declared.window.Window.{Window}
 use Rattle.density_tree.specs.Windows.{IsDense, IsRound, IsSmallest}
-use Rattle.leaf_array.specs.Leaves.{IsWindow, window_of}
-use Rattle.leaf_array.specs.Segments.{rows_of, counts_of}
+use Rattle.leaf_table.specs.LeafArray.Leaves.{IsWindow, window_of}
+use Rattle.leaf_table.specs.LeafArray.Segments.{rows_of, counts_of}
 use Rattle.leaf_index.specs.Index.{Index}
 use Rattle.leaf_store.specs.declared.sparse.SparseWindow.{SparseWindow}
 use Rattle.leaf_store.specs.Leaves.{Leaves, Part}

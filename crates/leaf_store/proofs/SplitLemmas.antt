@@ -9,12 +9,12 @@ use Rattle.std.proofs.lemmas.List.{length-map}
 use Rattle.std.proofs.lemmas.Option.{slice_get_read}
 use Rattle.graph_model.specs.declared.row.Key.{Key}
 use Rattle.graph_model.specs.Rows.{is_below, first_key}
-use Rattle.version_segment.specs.Rows.{VersionedRows}
-use Rattle.leaf_array.specs.declared.leaf.Leaf.{Leaf}
-use Rattle.leaf_array.specs.Leaves.{IsSplitKey, Splits}
-use Rattle.leaf_array.specs.Segments.{rows_of, lows_of, high_or, AreSame}
-use Rattle.leaf_array.proofs.CountLemmas.{same-again}
-use Rattle.leaf_array.proofs.LeafLemmas.{Follow, follow-of, follow-low}
+use Rattle.leaf_table.specs.VersionSegment.Rows.{VersionedRows}
+use Rattle.leaf_table.specs.LeafArrayDeclared.leaf.Leaf.{Leaf}
+use Rattle.leaf_table.specs.LeafArray.Leaves.{IsSplitKey, Splits}
+use Rattle.leaf_table.specs.LeafArray.Segments.{rows_of, lows_of, high_or, AreSame}
+use Rattle.leaf_table.proofs.LeafArray.CountLemmas.{same-again}
+use Rattle.leaf_table.proofs.LeafArray.LeafLemmas.{Follow, follow-of, follow-low}
 use Rattle.leaf_index.specs.Index.{Index, Entry, AreCuts, AreSorted, IsTaken, end_of}
 use Rattle.leaf_index.specs.Calls.{CanCut, with_cuts}
 use Rattle.leaf_store.specs.Ranges.{CanHalve, CanJoin, IsLive, KeepsLeaves, SplitsEntry, SplitsLeaf, eight, first_and, in_two}

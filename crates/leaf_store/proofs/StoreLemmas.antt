@@ -12,11 +12,11 @@ use Rattle.std.proofs.lemmas.List.Sums.{sum-map, sum_by-append, sum_by-cons}
 use Rattle.graph_model.specs.declared.limits.TheConstants.{SPLIT_ROWS}
 use Rattle.graph_model.specs.declared.row.Key.{Key}
 use Rattle.graph_model.specs.Rows.{key_cmp, is_below, is_between, first_key, end_key}
-use Rattle.version_segment.specs.Rows.{VersionedRows, IsSameSegment, all_records, or_nothing}
-use Rattle.leaf_array.specs.Segments.{rows_of, records_of, low_or}
-use Rattle.leaf_array.proofs.LeafLemmas.{Follow, follow-of}
-use Rattle.leaf_array.proofs.PairLemmas.{rows-append}
-use Rattle.leaf_array.proofs.SegmentLemmas.{records-append}
+use Rattle.leaf_table.specs.VersionSegment.Rows.{VersionedRows, IsSameSegment, all_records, or_nothing}
+use Rattle.leaf_table.specs.LeafArray.Segments.{rows_of, records_of, low_or}
+use Rattle.leaf_table.proofs.LeafArray.LeafLemmas.{Follow, follow-of}
+use Rattle.leaf_table.proofs.LeafArray.PairLemmas.{rows-append}
+use Rattle.leaf_table.proofs.LeafArray.SegmentLemmas.{records-append}
 use Rattle.leaf_store.specs.Leaves.{Part, Leaves, AreLeaves, KeysHaveCells, CellsAreApart, cells_of, cell_in, cell_at, versions_of, spare_at, record_count, weight_of_part}
 use Rattle.leaf_store.specs.Changes.{ChangesCell, KeepsCells}
 use Rattle.leaf_store.proofs.CellLemmas.{AreSound, holds, covered, apart, cell_here, cell_beside, versions_found}

@@ -10,11 +10,11 @@ use Rattle.graph_model.specs.declared.row.Key.{Key}
 use Rattle.graph_model.specs.Rows.{is_below, first_key, end_key}
 use Rattle.graph_model.proofs.KeyLemmas.{between_of}
 use Rattle.graph_model.proofs.PlaceLemmas.{some_eq}
-use Rattle.version_segment.specs.Rows.{VersionedRows, IsSegment}
-use Rattle.leaf_array.specs.declared.leaf.Leaf.{Leaf}
-use Rattle.leaf_array.specs.Segments.{lows_of, low_or, high_or}
-use Rattle.leaf_array.proofs.LeafLemmas.{Follow, follow-of, follow-chained, follow-both}
-use Rattle.leaf_array.proofs.PairLemmas.{high-append}
+use Rattle.leaf_table.specs.VersionSegment.Rows.{VersionedRows, IsSegment}
+use Rattle.leaf_table.specs.LeafArrayDeclared.leaf.Leaf.{Leaf}
+use Rattle.leaf_table.specs.LeafArray.Segments.{lows_of, low_or, high_or}
+use Rattle.leaf_table.proofs.LeafArray.LeafLemmas.{Follow, follow-of, follow-chained, follow-both}
+use Rattle.leaf_table.proofs.LeafArray.PairLemmas.{high-append}
 use Rattle.leaf_index.specs.Index.{Index, Entry, AreCuts, AreOnce, BeginAbove, HaveCuts, end_of}
 use Rattle.leaf_index.proofs.CountLemmas.{count_append, count_cons, none_counted, at_most_one, worth}
 use Rattle.leaf_table.specs.declared.place.Place.{Place}

@@ -8,11 +8,11 @@ use Rattle.std.specs.declared.alloc.Global.{Global}
 use Rattle.std.proofs.Math.ListN.{length-set}
 use Rattle.graph_model.specs.declared.row.Key.{Key}
 use Rattle.graph_model.specs.Rows.{is_below, end_key}
-use Rattle.version_segment.specs.Rows.{VersionedRows}
+use Rattle.leaf_table.specs.VersionSegment.Rows.{VersionedRows}
 use Rattle.density_tree.specs.declared.window.Window.{Window}
-use Rattle.leaf_array.specs.declared.leaf.Leaf.{Leaf}
-use Rattle.leaf_array.specs.Leaves.{IsLeaf}
-use Rattle.leaf_array.specs.Segments.{counts_of}
+use Rattle.leaf_table.specs.LeafArrayDeclared.leaf.Leaf.{Leaf}
+use Rattle.leaf_table.specs.LeafArray.Leaves.{IsLeaf}
+use Rattle.leaf_table.specs.LeafArray.Segments.{counts_of}
 use Rattle.leaf_index.specs.Index.{Index, Entry}
 use Rattle.leaf_queue.specs.declared.waiting.Stage.TheVariants.{Windows}
 use Rattle.leaf_queue.proofs.ListLemmas.{get_set_other, get_set_same, same_or_not}

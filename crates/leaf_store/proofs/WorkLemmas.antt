@@ -10,10 +10,10 @@ use Rattle.graph_model.specs.declared.row.Key.{Key}
 use Rattle.graph_model.specs.Rows.{is_below, end_key}
 use Rattle.graph_model.proofs.KeyLemmas.{below_chain, below_flip, below_self, tied_keys}
 use Rattle.density_tree.specs.declared.window.Window.{Window}
-use Rattle.version_segment.specs.Rows.{VersionedRows}
-use Rattle.leaf_array.specs.declared.leaf.Leaf.{Leaf}
-use Rattle.leaf_array.specs.Segments.{counts_of, low_or}
-use Rattle.leaf_array.proofs.LeafLemmas.{Follow}
+use Rattle.leaf_table.specs.VersionSegment.Rows.{VersionedRows}
+use Rattle.leaf_table.specs.LeafArrayDeclared.leaf.Leaf.{Leaf}
+use Rattle.leaf_table.specs.LeafArray.Segments.{counts_of, low_or}
+use Rattle.leaf_table.proofs.LeafArray.LeafLemmas.{Follow}
 use Rattle.leaf_index.specs.declared.route.LeafRange.{LeafRange}
 use Rattle.leaf_index.specs.Calls.{BeginsBelow, IsLeafRange, IsRangeOf}
 use Rattle.leaf_index.specs.Index.{AreCuts, AreRising, BeginAbove, Entry, HaveCuts, Index, NotAbove, end_of}

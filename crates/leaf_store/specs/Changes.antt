@@ -12,8 +12,8 @@ use Rattle.txn_manager.specs.declared.config.RoomRefusal.TheVariants as refusals
 use Rattle.leaf_store.specs.declared.store.Pruned.{Pruned}
 use Rattle.store_model.specs.Stamped.{StampedVersions}
 use Rattle.density_tree.specs.Windows.{Fits, IsSmallestWindow}
-use Rattle.leaf_array.specs.Segments.{counts_of}
-use Rattle.version_segment.specs.Rows.{VersionedRows, ChangesKey, PrunesRows, IsSameSegment, all_records, nothing}
+use Rattle.leaf_table.specs.LeafArray.Segments.{counts_of}
+use Rattle.leaf_table.specs.VersionSegment.Rows.{VersionedRows, ChangesKey, PrunesRows, IsSameSegment, all_records, nothing}
 use Rattle.leaf_store.specs.Leaves.{Leaves, Part, cell_at, shares, versions_of, room_at, spare_at, record_count, weight}
 
 -- ---- one cell

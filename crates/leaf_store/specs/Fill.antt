@@ -8,14 +8,14 @@ use Rattle.graph_model.specs.Rows.{is_below, end_key}
 use Rattle.gap_segment.specs.Fenced.{first_key_or}
 use Rattle.txn_manager.specs.declared.config.RoomRefusal.{RoomRefusal}
 use Rattle.txn_manager.specs.declared.config.RoomRefusal.TheVariants as refusals
-use Rattle.leaf_array.specs.declared.leaf.Leaf.{Leaf}
+use Rattle.leaf_table.specs.LeafArrayDeclared.leaf.Leaf.{Leaf}
 use Rattle.leaf_index.specs.Index.{Entry, Index, IsIndex}
 use Rattle.leaf_store.specs.Leaves.{Part, weight_of_part}
 use Rattle.leaf_store.specs.Table.{IsTied, part_of, segments_at}
 use Rattle.graph_model.specs.declared.row.Key.{Key}
 use Rattle.graph_model.specs.declared.row.Row.{Row}
-use Rattle.version_segment.specs.Rows.{VersionedRows, settled_rows}
-use Rattle.leaf_array.specs.Segments.{rows_of, low_or, high_or, AreChained}
+use Rattle.leaf_table.specs.VersionSegment.Rows.{VersionedRows, settled_rows}
+use Rattle.leaf_table.specs.LeafArray.Segments.{rows_of, low_or, high_or, AreChained}
 
 -- the rows, each of them settled, between these fence keys
 pub record AreSettled (low high : Key) (rows : List Row) (ss : List VersionedRows) : Type 0 where

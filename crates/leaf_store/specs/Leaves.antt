@@ -6,9 +6,9 @@ use Rattle.graph_model.specs.declared.row.Key.{Key}
 use Rattle.graph_model.specs.Rows.{is_below, is_between, first_key, end_key}
 use Rattle.store_model.specs.Stamped.{StampedVersions, forget_row}
 use Rattle.store_model.specs.declared.versions.Versions.{Versions}
-use Rattle.version_segment.specs.Rows.{VersionedRows, IsSegment, versions_at, has_row as has_row_in}
+use Rattle.leaf_table.specs.VersionSegment.Rows.{VersionedRows, IsSegment, versions_at, has_row as has_row_in}
 use Rattle.leaf_index.specs.declared.route.Retired.{Retired}
-use Rattle.leaf_array.specs.Segments.{rows_of, records_of, low_or, high_or, AreChained}
+use Rattle.leaf_table.specs.LeafArray.Segments.{rows_of, records_of, low_or, high_or, AreChained}
 
 -- a live leaf: its number, and its segments in the order of their keys
 pub record Part : Type 0 where

@@ -7,3 +7,7 @@ pub mod Merging
 pub mod Making
 pub mod Pairs
 pub mod Queued
+pub mod LeafArray
+pub mod LeafArrayDeclared
+pub mod LeafTableDeclared
+pub mod VersionSegment

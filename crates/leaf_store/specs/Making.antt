@@ -1,11 +1,11 @@
 -- How room for rows is made in a key's cell: a window is spread, or a leaf is split.
 use Rattle.std.specs.Prelude.{◌≡◌, ◌⊎◌, ℕ, List, [], ◌∷◌, ◌++◌, Some, None, slice_get}
 use Rattle.graph_model.specs.declared.row.Key.{Key}
-use Rattle.version_segment.specs.Rows.{VersionedRows}
+use Rattle.leaf_table.specs.VersionSegment.Rows.{VersionedRows}
 use Rattle.density_tree.specs.declared.window.Window.{Window}
 use Rattle.density_tree.specs.Windows.{Fits, IsSmallestWindow}
-use Rattle.leaf_array.specs.Leaves.{Splits, SpreadsWindow}
-use Rattle.leaf_array.specs.Segments.{counts_of}
+use Rattle.leaf_table.specs.LeafArray.Leaves.{Splits, SpreadsWindow}
+use Rattle.leaf_table.specs.LeafArray.Segments.{counts_of}
 use Rattle.leaf_store.specs.Leaves.{Leaves, Part, cell_at}
 
 -- where a key's cell stands: it is this segment of a live leaf, between others

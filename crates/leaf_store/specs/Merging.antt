@@ -4,12 +4,12 @@ use Rattle.std.specs.List.{AllByRecursion}
 use Rattle.leaf_store.specs.declared.pair.TheConstants.{MERGE_ROWS}
 use Rattle.leaf_index.specs.declared.route.Retired.{Retired}
 use Rattle.leaf_index.specs.Calls.{freed_of, kept_of}
-use Rattle.version_segment.specs.Rows.{VersionedRows}
+use Rattle.leaf_table.specs.VersionSegment.Rows.{VersionedRows}
 use Rattle.density_tree.specs.declared.window.Window.{Window}
 use Rattle.density_tree.specs.declared.window.TheConstants.{LOWER_LIMITS}
 use Rattle.density_tree.specs.Windows.{IsDense, IsRound, IsSmallest, IsSmallestWindow}
-use Rattle.leaf_array.specs.Leaves.{Merges, SpreadsWindow}
-use Rattle.leaf_array.specs.Segments.{AreSame, rows_of, counts_of}
+use Rattle.leaf_table.specs.LeafArray.Leaves.{Merges, SpreadsWindow}
+use Rattle.leaf_table.specs.LeafArray.Segments.{AreSame, rows_of, counts_of}
 use Rattle.graph_model.specs.declared.row.Key.{Key}
 use Rattle.leaf_store.specs.Leaves.{Leaves, Part, versions_of, weight}
 use Rattle.leaf_store.specs.Changes.{KeepsCells, MovesRows}

@@ -4,10 +4,10 @@ use Rattle.std.specs.declared.boxed.Box.{Box}
 use Rattle.std.specs.declared.alloc.Global.{Global}
 use Rattle.graph_model.specs.declared.row.Key.{Key}
 use Rattle.graph_model.specs.Rows.{is_below}
-use Rattle.version_segment.specs.Rows.{VersionedRows}
-use Rattle.leaf_array.specs.declared.leaf.Leaf.{Leaf}
-use Rattle.leaf_array.specs.Leaves as leaves
-use Rattle.leaf_array.specs.Segments.{rows_of, counts_of, lows_of}
+use Rattle.leaf_table.specs.VersionSegment.Rows.{VersionedRows}
+use Rattle.leaf_table.specs.LeafArrayDeclared.leaf.Leaf.{Leaf}
+use Rattle.leaf_table.specs.LeafArray.Leaves as leaves
+use Rattle.leaf_table.specs.LeafArray.Segments.{rows_of, counts_of, lows_of}
 use Rattle.leaf_index.specs.declared.route.LeafRange.{LeafRange}
 use Rattle.leaf_index.specs.Calls.{IsRangeOf}
 use Rattle.leaf_index.specs.Index.{Entry, Index, AreCuts, end_of}

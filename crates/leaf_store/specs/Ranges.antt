@@ -2,16 +2,16 @@
 use Rattle.std.specs.Prelude.{◌≡◌, ◌≢◌, ℕ, ◌≤◌, length, true, List, [], ◌∷◌, ◌++◌, Option}
 use Rattle.graph_model.specs.declared.row.Key.{Key}
 use Rattle.graph_model.specs.Rows.{is_below, end_key}
-use Rattle.version_segment.specs.Rows.{VersionedRows}
-use Rattle.leaf_array.specs.Leaves.{Splits}
-use Rattle.leaf_array.specs.Segments.{lows_of}
+use Rattle.leaf_table.specs.VersionSegment.Rows.{VersionedRows}
+use Rattle.leaf_table.specs.LeafArray.Leaves.{Splits}
+use Rattle.leaf_table.specs.LeafArray.Segments.{lows_of}
 use Rattle.leaf_index.specs.Index.{Entry, Index, AreCuts, BeginAbove, end_of}
 use Rattle.std.specs.List.{AllByRecursion}
 use Rattle.std.specs.declared.boxed.Box.{Box}
 use Rattle.std.specs.declared.alloc.Global.{Global}
-use Rattle.version_segment.specs.Rows.{IsSegment}
-use Rattle.leaf_array.specs.declared.leaf.Leaf.{Leaf}
-use Rattle.leaf_array.specs.Segments.{AreSame}
+use Rattle.leaf_table.specs.VersionSegment.Rows.{IsSegment}
+use Rattle.leaf_table.specs.LeafArrayDeclared.leaf.Leaf.{Leaf}
+use Rattle.leaf_table.specs.LeafArray.Segments.{AreSame}
 use Rattle.txn_manager.specs.declared.config.RoomRefusal.{RoomRefusal}
 use Rattle.txn_manager.specs.declared.config.RoomRefusal.TheVariants as refusals
 use Rattle.density_tree.specs.declared.window.Window.{Window}

@@ -3,10 +3,10 @@ use Rattle.std.specs.Prelude.{◌≡◌, ℕ, ◌<◌, List, [], ◌∷◌, map,
 use Rattle.std.specs.List.{AllByRecursion}
 use Rattle.std.specs.declared.boxed.Box.{Box}
 use Rattle.std.specs.declared.alloc.Global.{Global}
-use Rattle.version_segment.specs.Rows.{VersionedRows, IsSegment}
-use Rattle.leaf_array.specs.declared.leaf.Leaf.{Leaf}
-use Rattle.leaf_array.specs.Leaves.{IsLeaf}
-use Rattle.leaf_array.specs.Segments.{counts_of, lows_of, high_or}
+use Rattle.leaf_table.specs.VersionSegment.Rows.{VersionedRows, IsSegment}
+use Rattle.leaf_table.specs.LeafArrayDeclared.leaf.Leaf.{Leaf}
+use Rattle.leaf_table.specs.LeafArray.Leaves.{IsLeaf}
+use Rattle.leaf_table.specs.LeafArray.Segments.{counts_of, lows_of, high_or}
 use Rattle.density_tree.specs.declared.window.Window.{Window}
 use Rattle.density_tree.specs.Windows.{Fits, IsSmallestWindow}
 use Rattle.graph_model.specs.declared.row.Key.{Key}

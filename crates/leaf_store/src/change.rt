@@ -7,8 +7,8 @@
 ghost use Rattle.std.specs.Prelude.{◌≡◌, ◌≤◌, true, OnOk};
 ghost use Rattle.graph_model.specs.Rows.{is_below, end_key};
 ghost use Rattle.undo_chain.specs.States.{Grows};
-ghost use Rattle.version_segment.specs.Checks.{AreNamedRows};
-ghost use Rattle.version_segment.specs.Changes.{MayChange, changed, records_for};
+ghost use Rattle.leaf_table.specs.VersionSegment.Checks.{AreNamedRows};
+ghost use Rattle.leaf_table.specs.VersionSegment.Changes.{MayChange, changed, records_for};
 ghost use Rattle.leaf_store.specs.Leaves.{cell_at, spare_at, versions_of};
 ghost use Rattle.leaf_store.specs.Changes.{ChangesVersions, KeepsCells, KeepsRecordRoom, PrunesCell, UsesRecords};
 
@@ -17,8 +17,8 @@ use crate::queue::queue_change;
 use crate::store::{LeafStore, Pruned};
 use graph_model::{Key, NoMemory, TxnName};
 use leaf_table::Finger;
+use leaf_table::below::RowChange;
 use undo_chain::States;
-use version_segment::RowChange;
 
 impl LeafStore {
     /// Makes room in the key's cell for four writes or touches.

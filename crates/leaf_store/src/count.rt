@@ -1,15 +1,15 @@
 //! How many records and retired leaves there are.
 
 ghost use Rattle.std.specs.Prelude.{◌≡◌, ◌-◌, ◌^◌, length, min};
-ghost use Rattle.leaf_array.specs.Leaves.{IsLeaf};
-ghost use Rattle.leaf_array.specs.Segments.{records_of};
+ghost use Rattle.leaf_table.specs.LeafArray.Leaves.{IsLeaf};
+ghost use Rattle.leaf_table.specs.LeafArray.Segments.{records_of};
 ghost use Rattle.leaf_store.specs.Leaves.{record_count};
 ghost use Rattle.leaf_store.specs.Table.{IsKept, leaves_of, segments_at};
 
 use crate::store::LeafStore;
 use graph_model::Key;
-use leaf_array::Leaf;
 use leaf_index::LeafIndex;
+use leaf_table::below::Leaf;
 
 impl LeafStore {
     /// How many records stand in all rows, up to the last number.

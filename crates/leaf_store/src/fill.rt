@@ -6,8 +6,8 @@
 ghost use Rattle.std.specs.Prelude.{◌≡◌, ◌*◌, ◌<◌, ◌≤◌, false, [], length, IfErr, IfOk, OnOk};
 ghost use Rattle.graph_model.specs.Rows.{is_below, first_key, end_key};
 ghost use Rattle.gap_segment.specs.Fenced.{AreSorted, AreWithin, first_key_or};
-ghost use Rattle.leaf_array.specs.Leaves.{IsLeaf};
-ghost use Rattle.leaf_array.specs.Segments.{rows_of};
+ghost use Rattle.leaf_table.specs.LeafArray.Leaves.{IsLeaf};
+ghost use Rattle.leaf_table.specs.LeafArray.Segments.{rows_of};
 ghost use Rattle.graph_model.specs.declared.limits.TheConstants.{MAX_LEAVES};
 ghost use Rattle.leaf_index.specs.Calls.{new_index};
 ghost use Rattle.leaf_store.specs.Changes.{AreFilled, AreRising, IsFillRefusal};
@@ -16,13 +16,12 @@ ghost use Rattle.leaf_store.specs.Fill.{AreSettled, IsFilling, IsFillStop};
 use crate::queue::queue_thin;
 use crate::store::LeafStore;
 use graph_model::{Key, LEAF_SEGMENTS, NoMemory, Row};
-use leaf_array::Leaf;
 use leaf_index::LeafIndex;
 use leaf_queue::LeafQueue;
+use leaf_table::below::{Leaf, VersionSegment};
 use leaf_table::{cuts_of, empty_table, put_leaf};
 use std::alloc::Global;
 use txn_manager::RoomRefusal;
-use version_segment::VersionSegment;
 
 /// How many rows a segment has in a leaf that is as full as a spread may leave it.
 const FULL_SEGMENT: usize = 26;

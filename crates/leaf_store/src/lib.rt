@@ -7,6 +7,7 @@
 //! 4. Where a window is to be spread, or two neighbours are to become one leaf, a leaf of it waits in the queue.
 #![tactic(auto)]
 
+pub mod below;
 mod change;
 mod count;
 mod fill;

@@ -18,9 +18,9 @@ use crate::room::spread_queued;
 use crate::store::LeafStore;
 use crate::work::{Work, find_work};
 use graph_model::NoMemory;
-use leaf_array::Leaf;
 use leaf_index::LeafIndex;
 use leaf_queue::LeafQueue;
+use leaf_table::below::Leaf;
 use std::alloc::Global;
 
 impl LeafStore {

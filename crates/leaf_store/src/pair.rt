@@ -6,17 +6,17 @@
 
 ghost use Rattle.std.specs.Prelude.{◌≡◌, ◌+◌, ◌*◌, ◌<◌, ◌≤◌, None, IfSome, IsOk, OnErr, OnOk, length, sum};
 ghost use Rattle.std.specs.List.{AllByRecursion};
-ghost use Rattle.version_segment.specs.Rows.{IsSegment};
-ghost use Rattle.leaf_array.specs.Leaves.{IsLeaf};
-ghost use Rattle.leaf_array.specs.Segments.{AreSame, records_of, rows_of};
+ghost use Rattle.leaf_table.specs.VersionSegment.Rows.{IsSegment};
+ghost use Rattle.leaf_table.specs.LeafArray.Leaves.{IsLeaf};
+ghost use Rattle.leaf_table.specs.LeafArray.Segments.{AreSame, records_of, rows_of};
 ghost use Rattle.leaf_store.specs.Leaves.{record_count};
 ghost use Rattle.leaf_store.specs.Merging.{Compacts, KeepsParts};
 ghost use Rattle.leaf_store.specs.Pairs.{AreNeighbours, IsApartBehind, IsFirstFoundPair, IsPairBehind, IsRangeIn, MergesEntries, MergesLeaf};
 ghost use Rattle.leaf_store.specs.Table.{IsKept, leaves_of, segments_at};
 
 use graph_model::{Key, NoMemory};
-use leaf_array::{Leaf, merge_leaves};
 use leaf_index::{LeafIndex, LeafRange};
+use leaf_table::below::{Leaf, merge_leaves};
 use leaf_table::{counts_of, cuts_of, put_leaf};
 use std::alloc::Global;
 use std::mem::replace;

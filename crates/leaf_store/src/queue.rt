@@ -1,8 +1,8 @@
 //! Leaves that come into the queue: those that may have a sparse window, or too few rows beside a neighbour.
 
 ghost use Rattle.std.specs.Prelude.{◌≡◌, ◌<◌, ◌≤◌, ℕ, true, None, IfSome, length, slice_index, sum};
-ghost use Rattle.leaf_array.specs.Leaves.{IsLeaf};
-ghost use Rattle.leaf_array.specs.Segments.{counts_of};
+ghost use Rattle.leaf_table.specs.LeafArray.Leaves.{IsLeaf};
+ghost use Rattle.leaf_table.specs.LeafArray.Segments.{counts_of};
 ghost use Rattle.leaf_index.specs.Calls.{IsLeafRange};
 ghost use Rattle.leaf_queue.specs.declared.waiting.Stage.TheVariants.{Windows};
 ghost use Rattle.leaf_store.specs.Queued.{IsNotLiveAs, IsThick, IsThickOrQueued, QueuesChange, waiting_with, with_leaf};
@@ -11,9 +11,9 @@ ghost use Rattle.leaf_store.specs.Table.{IsKept, segments_at};
 use crate::pair::{MERGE_ROWS, total};
 use density_tree::LOWER_LIMITS;
 use graph_model::LEAF_SEGMENTS;
-use leaf_array::Leaf;
 use leaf_index::{LeafIndex, LeafRange};
 use leaf_queue::{LeafQueue, Stage, Waiting};
+use leaf_table::below::Leaf;
 use leaf_table::counts_of;
 
 /// A leaf that waits that its windows are looked at.

@@ -1,14 +1,14 @@
 //! Windows that have a segment with too few rows.
 
 ghost use Rattle.std.specs.Prelude.{◌≡◌, None, IfSome, length};
-ghost use Rattle.leaf_array.specs.Leaves.{IsLeaf};
-ghost use Rattle.leaf_array.specs.Segments.{counts_of};
+ghost use Rattle.leaf_table.specs.LeafArray.Leaves.{IsLeaf};
+ghost use Rattle.leaf_table.specs.LeafArray.Segments.{counts_of};
 ghost use Rattle.leaf_store.specs.Merging.{IsLeftmostWindow, IsLevel};
 ghost use Rattle.leaf_store.specs.Table.{segments_at};
 
 use density_tree::{LOWER_LIMITS, Window, window_for_sparse};
 use graph_model::LEAF_SEGMENTS;
-use leaf_array::Leaf;
+use leaf_table::below::Leaf;
 use leaf_table::counts_of;
 
 /// A window that is to be spread, in the live leaf with this number.

@@ -7,9 +7,9 @@ ghost use Rattle.std.specs.Prelude.{◌≡◌, ◌≤◌, true, [], length, IfEr
 ghost use Rattle.graph_model.specs.declared.row.Key.{Key};
 ghost use Rattle.graph_model.specs.Rows.{is_below, end_key};
 ghost use Rattle.std.specs.List.{AllByRecursion};
-ghost use Rattle.version_segment.specs.Rows.{IsSegment};
-ghost use Rattle.leaf_array.specs.Leaves.{IsLeaf};
-ghost use Rattle.leaf_array.specs.Segments.{AreSame, rows_of};
+ghost use Rattle.leaf_table.specs.VersionSegment.Rows.{IsSegment};
+ghost use Rattle.leaf_table.specs.LeafArray.Leaves.{IsLeaf};
+ghost use Rattle.leaf_table.specs.LeafArray.Segments.{AreSame, rows_of};
 ghost use Rattle.leaf_index.specs.Index.{IsTaken};
 ghost use Rattle.leaf_store.specs.Changes.{MovesRows};
 ghost use Rattle.leaf_store.specs.Leaves.{room_at};
@@ -20,8 +20,8 @@ ghost use Rattle.leaf_store.specs.Table.{IsKept, IsPlace, leaves_of, segments_at
 
 use crate::range::{halve_range, join_range};
 use graph_model::{Key, NoMemory};
-use leaf_array::{Leaf, split_key, split_leaf};
 use leaf_index::LeafIndex;
+use leaf_table::below::{Leaf, split_key, split_leaf};
 use leaf_table::{Place, cuts_of, put_leaf};
 use std::alloc::Global;
 use txn_manager::RoomRefusal;

@@ -3,8 +3,8 @@
 //! Cuts are set in the index as soon as the rows of a leaf have moved.
 
 ghost use Rattle.std.specs.Prelude.{◌≡◌, ◌≤◌, ◌*◌, length, IsOk, OnErr, OnOk};
-ghost use Rattle.leaf_array.specs.Leaves.{IsWindow, window_of};
-ghost use Rattle.leaf_array.specs.Segments.{rows_of};
+ghost use Rattle.leaf_table.specs.LeafArray.Leaves.{IsWindow, window_of};
+ghost use Rattle.leaf_table.specs.LeafArray.Segments.{rows_of};
 ghost use Rattle.leaf_store.specs.Changes.{MovesRows};
 ghost use Rattle.leaf_store.specs.Leaves.{record_count};
 ghost use Rattle.leaf_store.specs.Merging.{KeepsParts};
@@ -14,8 +14,8 @@ ghost use Rattle.leaf_store.specs.Table.{IsKept, leaves_of, segments_at};
 
 use density_tree::Window;
 use graph_model::NoMemory;
-use leaf_array::{Leaf, spread};
 use leaf_index::LeafIndex;
+use leaf_table::below::{Leaf, spread};
 use leaf_table::cuts_of;
 use std::alloc::Global;
 

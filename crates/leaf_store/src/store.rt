@@ -10,9 +10,9 @@ ghost use Rattle.leaf_store.specs.Changes.{AreFilled, AreNew, AreRising, IsFillR
 use crate::place::place_near;
 use crate::queue::queue_thin;
 use graph_model::{Key, NoMemory, Row};
-use leaf_array::Leaf;
 use leaf_index::LeafIndex;
 use leaf_queue::LeafQueue;
+use leaf_table::below::{Leaf, NOWHERE, VersionSegment};
 use leaf_table::{
     Finger, Place, count_with_memory, cuts_of, empty_table, fingers_at, put_leaf, sum_ahead,
     sum_leaf_ahead,
@@ -20,7 +20,6 @@ use leaf_table::{
 use std::alloc::Global;
 use std::marker::Model;
 use txn_manager::RoomRefusal;
-use version_segment::{NOWHERE, VersionSegment};
 
 /// The live leaves of a store. A leaf that was never live has no memory.
 #[derive(Drop)]

@@ -14,9 +14,9 @@ ghost use Rattle.leaf_store.specs.Queued.{IsApartAhead, IsDone, IsNextPair, IsTe
 use crate::pair::{Pair, pair_at};
 use crate::queue::live_range;
 use crate::sparse::{SparseWindow, sparse_at};
-use leaf_array::Leaf;
 use leaf_index::{LeafIndex, LeafRange};
 use leaf_queue::{LeafQueue, Stage, Waiting};
+use leaf_table::below::Leaf;
 
 /// A window that is to be spread, or two leaves that are to become one.
 #[derive(Clone, Copy, Debug, PartialEq, Eq)]

@@ -1,1 +1,4 @@
 pub mod LookLemmas
+pub mod LeafArray
+pub mod LeafArrayMade
+pub mod VersionSegment

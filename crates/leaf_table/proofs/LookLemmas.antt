@@ -4,7 +4,7 @@ use Rattle.std.specs.List.{AllByRecursion}
 use Rattle.std.proofs.Math.ListN.{length-set}
 use Rattle.std.proofs.lemmas.List.{map_more, take_all, take_more, take_more_set}
 use Rattle.gap_segment.proofs.FencedLemmas.{all_append}
-use Rattle.version_segment.specs.Rows.{VersionedRows, IsSegment}
+use Rattle.leaf_array.specs.VersionSegment.Rows.{VersionedRows, IsSegment}
 
 -- the first segments have been read, and are sound
 pub record IsRead {X : Type 0} (f : VersionedRows → X) (i : ℕ) (xs : List X) (ss : List VersionedRows) : Type 0 where

@@ -1,0 +1,3 @@
+pub mod LeafArray
+pub mod LeafArrayDeclared
+pub mod VersionSegment

@@ -10,7 +10,7 @@ use crate::finger::Finger;
 use crate::place::Place;
 use graph_model::Key;
 use leaf_array::Leaf;
-use version_segment::{NOWHERE, VersionSegment};
+use leaf_array::below::{NOWHERE, VersionSegment};
 
 /// How many of four leaves have memory, which takes a look at where each of them lies.
 pub fn count_with_memory(leaves: &Vec<Option<Box<Leaf>>>, likely: [u32; 4]) -> u64 {

@@ -6,7 +6,7 @@
 //!    one costs time alone.
 //! 3. A write asks eight to fourteen times for its four keys. With fingers each is searched for once.
 
-use version_segment::NOWHERE;
+use leaf_array::below::NOWHERE;
 
 /// Where a key was found.
 #[derive(Clone, Copy, Debug, PartialEq, Eq)]

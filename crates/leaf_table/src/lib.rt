@@ -5,6 +5,7 @@
 #![tactic(auto)]
 
 mod ahead;
+pub mod below;
 mod finger;
 mod look;
 mod place;

@@ -2,7 +2,7 @@
 
 ghost use Rattle.std.specs.Prelude.{◌≡◌, length};
 ghost use Rattle.std.specs.List.{AllByRecursion};
-ghost use Rattle.version_segment.specs.Rows.{IsSegment};
+ghost use Rattle.leaf_array.specs.VersionSegment.Rows.{IsSegment};
 ghost use Rattle.leaf_array.specs.Segments.{counts_of, lows_of};
 
 use graph_model::{Key, LEAF_SEGMENTS};

@@ -8,16 +8,16 @@ use Rattle.graph_model.specs.declared.limits.TheConstants.{MAX_WEIGHT}
 use Rattle.graph_model.specs.declared.row.Key.{Key}
 use Rattle.graph_model.specs.declared.row.Row.{Row}
 use Rattle.store_model.specs.Stamped.{StampedVersions}
-use Rattle.version_segment.specs.Rows.{IsSegment, VersionedRows, settled_rows}
+use Rattle.rule_model.specs.VersionSegment.Rows.{IsSegment, VersionedRows, settled_rows}
 use Rattle.gap_segment.proofs.FencedLemmas.{all_append}
-use Rattle.leaf_array.specs.Segments.{rows_of}
+use Rattle.rule_model.specs.LeafArray.Segments.{rows_of}
 use Rattle.leaf_index.specs.Index.{Index}
-use Rattle.leaf_store.specs.Leaves.{Leaves, versions_of, weight}
-use Rattle.leaf_store.specs.Table.{IsKept, part_of, segments_at, segments_or_none}
-use Rattle.leaf_store.proofs.StoreLemmas.{cells_in}
-use Rattle.cells_model.specs.Indexed.{AreNumbered}
-use Rattle.cells_model.specs.Words.{HasSmallValues}
-use Rattle.cells_model.proofs.NumberedLemmas.{numbered_is_indexed}
+use Rattle.rule_model.specs.LeafStore.Leaves.{Leaves, versions_of, weight}
+use Rattle.rule_model.specs.LeafStore.Table.{IsKept, part_of, segments_at, segments_or_none}
+use Rattle.rule_model.proofs.LeafStore.StoreLemmas.{cells_in}
+use Rattle.rule_model.specs.CellsModel.Indexed.{AreNumbered}
+use Rattle.rule_model.specs.CellsModel.Words.{HasSmallValues}
+use Rattle.rule_model.proofs.CellsModel.NumberedLemmas.{numbered_is_indexed}
 use Rattle.rule_model.specs.EndSteps.{IsLoaded}
 use Rattle.rule_model.specs.Places.{lines}
 use Rattle.rule_model.proofs.LoadedLemmas.{loaded_table}

@@ -11,15 +11,15 @@ use Rattle.graph_model.specs.declared.row.Row.{Row}
 use Rattle.graph_model.specs.Rows.{end_key, first_key, is_below}
 use Rattle.graph_model.proofs.KeyLemmas.{below_flip}
 use Rattle.gap_segment.specs.Fenced.{AreSorted, AreWithin, first_key_or}
-use Rattle.version_segment.specs.Rows.{IsSegment, VersionedRows}
-use Rattle.leaf_array.specs.declared.leaf.Leaf.{Leaf}
-use Rattle.leaf_array.specs.Leaves.{IsLeaf}
-use Rattle.leaf_array.specs.Segments.{lows_of}
+use Rattle.rule_model.specs.VersionSegment.Rows.{IsSegment, VersionedRows}
+use Rattle.rule_model.specs.LeafArrayDeclared.leaf.Leaf.{Leaf}
+use Rattle.rule_model.specs.LeafArray.Leaves.{IsLeaf}
+use Rattle.rule_model.specs.LeafArray.Segments.{lows_of}
 use Rattle.leaf_index.specs.Index.{Index, IsIndex, IsTaken}
 use Rattle.leaf_index.specs.Calls.{CanAdd, CanCut, new_index, with_cuts, with_leaf}
-use Rattle.leaf_store.specs.Fill.{AreSettled, IsFilling}
-use Rattle.leaf_store.proofs.FillEndLemmas.{FirstRows, first_cuts, first_filling, first_rows}
-use Rattle.leaf_store.proofs.FillStepLemmas.{NextRows, can_add, filling_more, next_rows}
+use Rattle.rule_model.specs.LeafStore.Fill.{AreSettled, IsFilling}
+use Rattle.rule_model.proofs.LeafStore.FillEndLemmas.{FirstRows, first_cuts, first_filling, first_rows}
+use Rattle.rule_model.proofs.LeafStore.FillStepLemmas.{NextRows, can_add, filling_more, next_rows}
 use Rattle.loaded_cells.specs.Laid.{AreDivided, HaveCells}
 use Rattle.loaded_cells.specs.Ranges.{AreIdle, cells_in_memory, eight_or_idle, leaf_segments, segments_from}
 use Rattle.loaded_cells.specs.declared.fill.LoadedRange.{LoadedRange}

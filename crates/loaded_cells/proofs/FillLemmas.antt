@@ -7,11 +7,11 @@ use Rattle.std.specs.declared.alloc.Global.{Global}
 use Rattle.std.proofs.lemmas.List.Folds.{list_any-append}
 use Rattle.seat_views.proofs.NumberLemmas.{same_number}
 use Rattle.graph_model.specs.declared.row.Key.{Key}
-use Rattle.leaf_array.specs.declared.leaf.Leaf.{Leaf}
+use Rattle.rule_model.specs.LeafArrayDeclared.leaf.Leaf.{Leaf}
 use Rattle.leaf_index.specs.Index.{Entry, Index}
 use Rattle.leaf_index.specs.Calls.{CanAdd, CanCut, new_index, with_cuts, with_leaf}
 use Rattle.leaf_queue.proofs.ListLemmas.{get_set_other}
-use Rattle.leaf_store.specs.Table.{segments_at, segments_or_none}
+use Rattle.rule_model.specs.LeafStore.Table.{segments_at, segments_or_none}
 use Rattle.loaded_cells.specs.Laid.{IsOnlyLive}
 
 abbrev pub Table : Type 0

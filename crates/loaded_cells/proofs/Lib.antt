@@ -4,3 +4,10 @@ pub mod DividedLemmas
 pub mod WordLemmas
 pub mod NumberedLemmas
 pub mod BeginLemmas
+pub mod CellsModel
+pub mod HeadMap
+pub mod LeafArray
+pub mod LeafStore
+pub mod RuleModel
+pub mod StoreRelation
+pub mod VersionSegment

@@ -7,17 +7,17 @@ use Rattle.std.specs.declared.alloc.Global.{Global}
 use Rattle.seat_views.proofs.NumberLemmas.{eq_of, some_is}
 use Rattle.graph_model.specs.declared.row.Key.{Key}
 use Rattle.store_model.specs.Stamped.{StampedVersions}
-use Rattle.version_segment.specs.Resting.{RestingRows}
-use Rattle.version_segment.specs.Rows.{IsSegment, VersionedRows}
-use Rattle.leaf_array.specs.declared.leaf.Leaf.{Leaf}
-use Rattle.leaf_array.specs.Segments.{rows_of}
-use Rattle.leaf_array.proofs.PairLemmas.{rows-append}
+use Rattle.rule_model.specs.VersionSegment.Resting.{RestingRows}
+use Rattle.rule_model.specs.VersionSegment.Rows.{IsSegment, VersionedRows}
+use Rattle.rule_model.specs.LeafArrayDeclared.leaf.Leaf.{Leaf}
+use Rattle.rule_model.specs.LeafArray.Segments.{rows_of}
+use Rattle.rule_model.proofs.LeafArray.PairLemmas.{rows-append}
 use Rattle.leaf_index.specs.Index.{Entry, Index, end_of}
-use Rattle.leaf_store.specs.Table.{AreTied, IsKept, IsTied, part_of, segments_at, segments_or_none}
-use Rattle.leaf_store.proofs.ListLemmas.{all_back, all_front}
-use Rattle.leaf_store.proofs.StoreLemmas.{cells_in}
-use Rattle.cells_model.specs.Indexed.{AreNumbered, IsIdle, cells_from, is_live, leaf_cells}
-use Rattle.cells_model.specs.InPlace.{segment_of}
+use Rattle.rule_model.specs.LeafStore.Table.{AreTied, IsKept, IsTied, part_of, segments_at, segments_or_none}
+use Rattle.rule_model.proofs.LeafStore.ListLemmas.{all_back, all_front}
+use Rattle.rule_model.proofs.LeafStore.StoreLemmas.{cells_in}
+use Rattle.rule_model.specs.CellsModel.Indexed.{AreNumbered, IsIdle, cells_from, is_live, leaf_cells}
+use Rattle.rule_model.specs.CellsModel.InPlace.{segment_of}
 use Rattle.loaded_cells.specs.Laid.{HaveCells, IsOnlyLive}
 use Rattle.loaded_cells.specs.Numbered.{AreRestOf, cell_of, rest_rows}
 use Rattle.loaded_cells.specs.Ranges.{cells_in_memory, eight_or_idle, idle_segment, leaf_segments, loaded_segments}

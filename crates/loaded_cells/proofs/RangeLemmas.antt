@@ -6,13 +6,13 @@ use Rattle.std.proofs.lemmas.List.{take-append-drop, length-take, length-drop, l
 use Rattle.graph_model.specs.declared.row.Key.{Key}
 use Rattle.graph_model.specs.declared.row.Row.{Row}
 use Rattle.graph_model.specs.Rows.{is_below, is_between}
-use Rattle.version_segment.specs.Keyed.{RisesBy}
+use Rattle.rule_model.specs.VersionSegment.Keyed.{RisesBy}
 use Rattle.gap_segment.specs.Fenced.{AreAbove, AreSorted, AreWithin, first_key_or}
 use Rattle.store_model.specs.Stamped.{StampedVersions}
-use Rattle.version_segment.specs.Rows.{IsSegment, VersionedRows, is_nothing, settled_rows, settled_row}
-use Rattle.version_segment.specs.Resting.{resting_row, settled_rest, word_row}
-use Rattle.leaf_store.specs.Fill.{AreSettled}
-use Rattle.leaf_store.proofs.FillLemmas.{cut_from, cut_until, last_cut, more_settled, none_settled, sorted_back, sorted_front, within_back, within_front}
+use Rattle.rule_model.specs.VersionSegment.Rows.{IsSegment, VersionedRows, is_nothing, settled_rows, settled_row}
+use Rattle.rule_model.specs.VersionSegment.Resting.{resting_row, settled_rest, word_row}
+use Rattle.rule_model.specs.LeafStore.Fill.{AreSettled}
+use Rattle.rule_model.proofs.LeafStore.FillLemmas.{cut_from, cut_until, last_cut, more_settled, none_settled, sorted_back, sorted_front, within_back, within_front}
 use Rattle.loaded_cells.specs.Ranges.{AreIdle, IsIdleRange, eight_or_idle, leaf_segments, segment_of, segments_from}
 use Rattle.loaded_cells.specs.declared.fill.LoadedRange.{LoadedRange}
 

@@ -7,11 +7,11 @@ use Rattle.std.proofs.lemmas.List.{get_or-set_other, get_or-set_same, get_or_app
 use Rattle.graph_model.specs.declared.row.Row.{Row}
 use Rattle.seat_views.proofs.NumberLemmas.{some_is}
 use Rattle.txn_manager.specs.declared.config.Config.{Config}
-use Rattle.version_segment.specs.Resting.{RestingRows, word_row, word_rows}
-use Rattle.version_segment.specs.Rows.{IsSegment, VersionedRows}
-use Rattle.store_relation.specs.Loads.{loaded_word}
-use Rattle.store_relation.specs.Words.{commit_word}
-use Rattle.cells_model.specs.Words.{HasSmallWeights, Spells, block_words, flat, spelled}
+use Rattle.rule_model.specs.VersionSegment.Resting.{RestingRows, word_row, word_rows}
+use Rattle.rule_model.specs.VersionSegment.Rows.{IsSegment, VersionedRows}
+use Rattle.rule_model.specs.StoreRelation.Loads.{loaded_word}
+use Rattle.rule_model.specs.StoreRelation.Words.{commit_word}
+use Rattle.rule_model.specs.CellsModel.Words.{HasSmallWeights, Spells, block_words, flat, spelled}
 use Rattle.rule_model.specs.EndSteps.{AreLoadedWords, IsFirstState, zeros}
 use Rattle.rule_model.specs.Places.{lines}
 use Rattle.rule_model.specs.Sight.{cells_of}

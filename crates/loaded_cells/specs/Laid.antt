@@ -3,12 +3,12 @@ use Rattle.std.specs.Prelude.{◌≡◌, ℕ, false, List, [], length, map, Opti
 use Rattle.std.specs.declared.boxed.Box.{Box}
 use Rattle.std.specs.declared.alloc.Global.{Global}
 use Rattle.graph_model.specs.declared.row.Row.{Row}
-use Rattle.leaf_array.specs.declared.leaf.Leaf.{Leaf}
+use Rattle.rule_model.specs.LeafArrayDeclared.leaf.Leaf.{Leaf}
 use Rattle.leaf_index.specs.Index.{Index}
-use Rattle.leaf_store.specs.Changes.{AreFilled}
-use Rattle.leaf_store.specs.Fill.{IsFilling}
-use Rattle.leaf_store.specs.Table.{IsKept, leaves_of, segments_at}
-use Rattle.cells_model.specs.Indexed.{is_live}
+use Rattle.rule_model.specs.LeafStore.Changes.{AreFilled}
+use Rattle.rule_model.specs.LeafStore.Fill.{IsFilling}
+use Rattle.rule_model.specs.LeafStore.Table.{IsKept, leaves_of, segments_at}
+use Rattle.rule_model.specs.CellsModel.Indexed.{is_live}
 use Rattle.loaded_cells.specs.Ranges.{cells_in_memory, leaf_segments}
 use Rattle.loaded_cells.specs.declared.fill.LoadedRange.{LoadedRange}
 

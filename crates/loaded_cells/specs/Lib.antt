@@ -1,3 +1,13 @@
 pub mod Ranges
 pub mod Laid
 pub mod Numbered
+pub mod CellsModel
+pub mod LeafArray
+pub mod LeafStore
+pub mod LeafStoreDeclared
+pub mod LeafTableDeclared
+pub mod RuleModel
+pub mod StoreRelation
+pub mod StoreRelationContracts
+pub mod StoreRelationDeclared
+pub mod VersionSegment

@@ -13,14 +13,14 @@ use Rattle.graph_model.specs.Refused.{AllAllowed, IsWithinLimits}
 use Rattle.graph_model.specs.Rows.{value_at}
 use Rattle.txn_manager.specs.Config.{too_large}
 use Rattle.txn_manager.specs.declared.config.Config.{Config}
-use Rattle.version_segment.specs.Resting.{RestingRow, RestingRows, resting_of, word_rows}
-use Rattle.version_segment.specs.Rows.{VersionedRows}
+use Rattle.rule_model.specs.VersionSegment.Resting.{RestingRow, RestingRows, resting_of, word_rows}
+use Rattle.rule_model.specs.VersionSegment.Rows.{VersionedRows}
 use Rattle.leaf_index.specs.Index.{Index}
-use Rattle.leaf_store.specs.Changes.{AreRising, settled_at}
-use Rattle.store_relation.specs.Ends.{only_value}
-use Rattle.store_relation.specs.Words.{commit_word}
-use Rattle.cells_model.specs.Cells.{CellState}
-use Rattle.cells_model.specs.Words.{spelled}
+use Rattle.rule_model.specs.LeafStore.Changes.{AreRising, settled_at}
+use Rattle.rule_model.specs.StoreRelation.Ends.{only_value}
+use Rattle.rule_model.specs.StoreRelation.Words.{commit_word}
+use Rattle.rule_model.specs.CellsModel.Cells.{CellState}
+use Rattle.rule_model.specs.CellsModel.Words.{spelled}
 use Rattle.rule_model.specs.EndSteps.{loaded_known, sight_of, zeros}
 use Rattle.rule_model.specs.Places.{lines}
 use Rattle.rule_model.specs.Rule.{IsStoreRule}

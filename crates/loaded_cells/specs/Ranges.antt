@@ -7,9 +7,9 @@ use Rattle.graph_model.specs.declared.row.Key.{Key}
 use Rattle.graph_model.specs.declared.row.Row.{Row}
 use Rattle.graph_model.specs.Rows.{end_key}
 use Rattle.gap_segment.specs.Fenced.{first_key_or}
-use Rattle.version_segment.specs.Rows.{VersionedRows, settled_rows}
-use Rattle.leaf_array.specs.declared.leaf.Leaf.{Leaf}
-use Rattle.leaf_store.specs.Table.{segments_or_none}
+use Rattle.rule_model.specs.VersionSegment.Rows.{VersionedRows, settled_rows}
+use Rattle.rule_model.specs.LeafArrayDeclared.leaf.Leaf.{Leaf}
+use Rattle.rule_model.specs.LeafStore.Table.{segments_or_none}
 use Rattle.loaded_cells.specs.declared.fill.LoadedRange.{LoadedRange}
 use Rattle.loaded_cells.specs.declared.fill.TheConstants.{FULL_SEGMENT}
 

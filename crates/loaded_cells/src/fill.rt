@@ -7,10 +7,10 @@ ghost use Rattle.std.specs.Prelude.{◌≡◌, ◌*◌, ◌<◌, ◌≤◌, leng
 ghost use Rattle.graph_model.specs.Rows.{first_key, end_key};
 ghost use Rattle.graph_model.specs.declared.limits.TheConstants.{MAX_LEAVES};
 ghost use Rattle.gap_segment.specs.Fenced.{AreSorted, AreWithin, first_key_or};
-ghost use Rattle.leaf_array.specs.Segments.{lows_of};
+ghost use Rattle.rule_model.specs.LeafArray.Segments.{lows_of};
 ghost use Rattle.leaf_index.specs.Calls.{new_index};
-ghost use Rattle.leaf_store.specs.Changes.{AreRising, IsFillRefusal};
-ghost use Rattle.leaf_store.specs.Fill.{IsFillStop};
+ghost use Rattle.rule_model.specs.LeafStore.Changes.{AreRising, IsFillRefusal};
+ghost use Rattle.rule_model.specs.LeafStore.Fill.{IsFillStop};
 ghost use Rattle.loaded_cells.specs.Laid.{AreDivided, AreLaid};
 ghost use Rattle.loaded_cells.specs.Ranges.{AreIdle, leaf_segments, segments_from};
 

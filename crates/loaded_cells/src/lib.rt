@@ -6,6 +6,7 @@
 //!    rows there.
 #![tactic(auto)]
 
+pub mod below;
 mod fill;
 mod laws;
 mod rest;

@@ -6,8 +6,8 @@ ghost use Rattle.loaded_cells.specs.Ranges.{leaf_segments, loaded_segments};
 
 use crate::fill::{FULL_SEGMENT, LoadedRange};
 use graph_model::{LEAF_SEGMENTS, NoMemory};
+use rule_model::below::Resting;
 use std::alloc::Global;
-use version_segment::Resting;
 
 /// What is kept of the cells of leaves with these rows, by their numbers.
 pub fn rest_cells(alloc: Global, leaves: &[LoadedRange]) -> Result<Vec<Resting>, NoMemory>

@@ -1,7 +1,7 @@
 //! The words of cells, as the rows of a load fill them.
 
 ghost use Rattle.std.specs.Prelude.{◌≡◌, ◌<◌, ◌≤◌, ◌*◌, ◌++◌, ◌∷◌, [], false, length, slice_set, IfOk, OnOk};
-ghost use Rattle.cells_model.specs.Words.{flat};
+ghost use Rattle.rule_model.specs.CellsModel.Words.{flat};
 ghost use Rattle.rule_model.specs.EndSteps.{zeros};
 ghost use Rattle.loaded_cells.specs.Numbered.{blocks_of, first_block, loaded_head, loaded_words};
 ghost use Rattle.loaded_cells.specs.Ranges.{leaf_segments, loaded_segments};

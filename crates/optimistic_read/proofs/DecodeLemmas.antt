@@ -13,13 +13,13 @@ use Rattle.graph_model.proofs.PlaceLemmas.{some_eq}
 use Rattle.graph_model.proofs.TestLemmas.{never}
 use Rattle.seat_views.proofs.NumberLemmas.{eq_of}
 use Rattle.store_model.specs.Stamped.{Stamped, StampedVersions}
-use Rattle.version_segment.proofs.KeyedLemmas.{tied_self}
-use Rattle.version_segment.specs.Resting.{is_marked, mark, newest_in, newest_value, no_value, value_in_word, word_row, word_rows}
-use Rattle.version_segment.specs.Rows.{VersionedRows, is_empty, is_nothing, nothing, or_nothing, versions_at}
-use Rattle.cells_model.specs.BlockLaws.{TellsVersions}
-use Rattle.cells_model.specs.Indexed.{covers}
-use Rattle.cells_model.specs.Words.{Spells}
-use Rattle.cells_model.proofs.WordLemmas.{no_row_is_told, value_is_told}
+use Rattle.pass_steps.proofs.VersionSegment.KeyedLemmas.{tied_self}
+use Rattle.pass_steps.specs.VersionSegment.Resting.{is_marked, mark, newest_in, newest_value, no_value, value_in_word, word_row, word_rows}
+use Rattle.pass_steps.specs.VersionSegment.Rows.{VersionedRows, is_empty, is_nothing, nothing, or_nothing, versions_at}
+use Rattle.pass_steps.specs.CellsModel.BlockLaws.{TellsVersions}
+use Rattle.pass_steps.specs.CellsModel.Indexed.{covers}
+use Rattle.pass_steps.specs.CellsModel.Words.{Spells}
+use Rattle.pass_steps.proofs.CellsModel.WordLemmas.{no_row_is_told, value_is_told}
 use Rattle.optimistic_read.specs.declared.decode.LookedUp.{LookedUp}
 use Rattle.optimistic_read.specs.declared.tried.Tried.TheVariants.{Value, Chained, Moved}
 use Rattle.optimistic_read.specs.Reads.{IsLookedUp}

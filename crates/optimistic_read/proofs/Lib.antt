@@ -2,3 +2,4 @@ pub mod LoadLemmas
 pub mod DecodeLemmas
 pub mod TryLemmas
 pub mod RouteLemmas
+pub mod StoreRelation

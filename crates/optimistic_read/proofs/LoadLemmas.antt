@@ -6,17 +6,17 @@ use Rattle.atomic_table.specs.declared.shared.Seat.{Seat}
 use Rattle.graph_model.specs.declared.row.Key.{Key}
 use Rattle.graph_model.specs.declared.row.Row.{Row}
 use Rattle.graph_model.specs.Rows.{is_below}
-use Rattle.head_map.proofs.HeadLemmas.{index_of, there_at}
-use Rattle.version_segment.proofs.KeyedLemmas.{IsHalved, halved_down, halved_end, halved_start, halved_up}
-use Rattle.version_segment.specs.Resting.{word_row, word_rows}
-use Rattle.version_segment.specs.Rows.{VersionedRows}
-use Rattle.cells_model.specs.BlockLaws.{row_key}
-use Rattle.cells_model.specs.Reads.{Reading, word_loaded}
-use Rattle.cells_model.specs.Words.{Spells}
-use Rattle.cells_model.proofs.WordLemmas.{few_words, head_is_told, row_is_told, words_rise}
-use Rattle.rule_model.specs.Sight.{Sight, with_reading}
-use Rattle.store_words.specs.Reads.{IsReadOf, reading_on, word_read}
-use Rattle.store_words.specs.Steps.{Knows}
+use Rattle.pass_steps.proofs.HeadMap.HeadLemmas.{index_of, there_at}
+use Rattle.pass_steps.proofs.VersionSegment.KeyedLemmas.{IsHalved, halved_down, halved_end, halved_start, halved_up}
+use Rattle.pass_steps.specs.VersionSegment.Resting.{word_row, word_rows}
+use Rattle.pass_steps.specs.VersionSegment.Rows.{VersionedRows}
+use Rattle.pass_steps.specs.CellsModel.BlockLaws.{row_key}
+use Rattle.pass_steps.specs.CellsModel.Reads.{Reading, word_loaded}
+use Rattle.pass_steps.specs.CellsModel.Words.{Spells}
+use Rattle.pass_steps.proofs.CellsModel.WordLemmas.{few_words, head_is_told, row_is_told, words_rise}
+use Rattle.pass_steps.specs.RuleModel.Sight.{Sight, with_reading}
+use Rattle.pass_steps.specs.StoreWords.Reads.{IsReadOf, reading_on, word_read}
+use Rattle.pass_steps.specs.StoreWords.Steps.{Knows}
 use Rattle.optimistic_read.specs.declared.decode.Head.{Head}
 use Rattle.optimistic_read.specs.Reads.{AnyContents, IsHead, IsLookedUp, IsReadingOn, IsSearched, IsStill, StillReads, begun_read, key_read, row_read}
 

@@ -10,15 +10,15 @@ use Rattle.leaf_index.specs.Index.{Entry, Index, IsIndex, IsRoute}
 use Rattle.leaf_index.specs.declared.route.Route.{Route}
 use Rattle.leaf_index.proofs.CountLemmas.{count_append, count_cons, existing}
 use Rattle.seat_views.specs.Keeping.{kept_at}
-use Rattle.cells_model.specs.Indexed.{is_live}
-use Rattle.rule_model.specs.Places.{Layout}
-use Rattle.rule_model.specs.Sight.{HasIndex, HasPin, IndexState, PinState, cells_of, with_index, with_pin}
-use Rattle.rule_model.specs.Steps.{AllowsLoad}
-use Rattle.rule_model.proofs.FrameLemmas.{M, index_is}
-use Rattle.rule_model.proofs.PinStepLemmas.{leaf_is_noted}
-use Rattle.store_rule.specs.Passes.{OnlyAccount}
-use Rattle.store_rule.specs.declared.store.Pass.{Pass}
-use Rattle.store_rule.specs.declared.store.Store.{Store}
+use Rattle.pass_steps.specs.CellsModel.Indexed.{is_live}
+use Rattle.pass_steps.specs.RuleModel.Places.{Layout}
+use Rattle.pass_steps.specs.RuleModel.Sight.{HasIndex, HasPin, IndexState, PinState, cells_of, with_index, with_pin}
+use Rattle.pass_steps.specs.RuleModel.Steps.{AllowsLoad}
+use Rattle.pass_steps.proofs.RuleModel.FrameLemmas.{M, index_is}
+use Rattle.pass_steps.proofs.RuleModel.PinStepLemmas.{leaf_is_noted}
+use Rattle.pass_steps.specs.StoreRule.Passes.{OnlyAccount}
+use Rattle.pass_steps.specs.StoreRuleDeclared.store.Pass.{Pass}
+use Rattle.pass_steps.specs.StoreRuleDeclared.store.Store.{Store}
 use Rattle.pass_steps.specs.Passes.{IsOpenPass, pin_in, pin_of}
 use Rattle.pass_steps.proofs.SightLemmas.{kept_here}
 use Rattle.optimistic_read.specs.Routes.{MayNote, noting}

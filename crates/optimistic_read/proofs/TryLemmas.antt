@@ -12,16 +12,16 @@ use Rattle.txn_manager.specs.declared.config.Config.{Config}
 use Rattle.seat_views.specs.Keeping.{kept_at}
 use Rattle.seat_views.proofs.NumberLemmas.{same_number}
 use Rattle.store_model.specs.Stamped.{Stamped, StampedVersions, read_stamped}
-use Rattle.version_segment.specs.Resting.{newest_value}
-use Rattle.version_segment.specs.Rows.{VersionedRows, versions_at}
-use Rattle.store_relation.specs.declared.stage.Stage.TheVariants.{Open}
-use Rattle.store_relation.specs.Passes.{PassState, name_at}
-use Rattle.cells_model.specs.Indexed.{covers}
-use Rattle.cells_model.specs.Reads.{Reading, first_loaded, second_loaded}
-use Rattle.cells_model.specs.Words.{Spells}
-use Rattle.rule_model.specs.Sight.{HasPass, Sight, with_found}
-use Rattle.store_words.specs.Reads.{HasOpenPass, PassIsTold, read_ended, reading_ended}
-use Rattle.store_words.specs.Steps.{Knows}
+use Rattle.pass_steps.specs.VersionSegment.Resting.{newest_value}
+use Rattle.pass_steps.specs.VersionSegment.Rows.{VersionedRows, versions_at}
+use Rattle.pass_steps.specs.StoreRelationDeclared.stage.Stage.TheVariants.{Open}
+use Rattle.pass_steps.specs.StoreRelation.Passes.{PassState, name_at}
+use Rattle.pass_steps.specs.CellsModel.Indexed.{covers}
+use Rattle.pass_steps.specs.CellsModel.Reads.{Reading, first_loaded, second_loaded}
+use Rattle.pass_steps.specs.CellsModel.Words.{Spells}
+use Rattle.pass_steps.specs.RuleModel.Sight.{HasPass, Sight, with_found}
+use Rattle.pass_steps.specs.StoreWords.Reads.{HasOpenPass, PassIsTold, read_ended, reading_ended}
+use Rattle.pass_steps.specs.StoreWords.Steps.{Knows}
 use Rattle.optimistic_read.specs.declared.decode.LookedUp.{LookedUp}
 use Rattle.optimistic_read.specs.declared.tried.Tried.{Tried}
 use Rattle.optimistic_read.specs.declared.tried.Tried.TheVariants.{Value, Busy, Chained, Moved}

@@ -1,3 +1,11 @@
 pub mod Reads
 pub mod Tried
 pub mod Routes
+pub mod CellsModel
+pub mod PassSteps
+pub mod RuleModel
+pub mod StoreRelation
+pub mod StoreRelationContracts
+pub mod StoreRelationDeclared
+pub mod StoreRuleContracts
+pub mod StoreRuleDeclared

@@ -3,14 +3,14 @@ use Rattle.std.specs.Prelude.{◌≡◌, ℕ, ◌+◌, ◌*◌, true, false, Lis
 use Rattle.atomic_table.specs.declared.shared.Seat.{Seat}
 use Rattle.graph_model.specs.declared.row.Key.{Key}
 use Rattle.graph_model.specs.declared.row.Row.{Row}
-use Rattle.version_segment.specs.Keyed.{IsPlaceBy}
-use Rattle.version_segment.specs.Resting.{word_rows}
-use Rattle.version_segment.specs.Rows.{VersionedRows}
-use Rattle.cells_model.specs.BlockLaws.{row_key}
-use Rattle.cells_model.specs.Reads.{AreLoadedFrom, Reading}
-use Rattle.cells_model.specs.Words.{Spells}
-use Rattle.rule_model.specs.Sight.{Sight, with_reading}
-use Rattle.store_words.specs.Reads.{word_read}
+use Rattle.pass_steps.specs.VersionSegment.Keyed.{IsPlaceBy}
+use Rattle.pass_steps.specs.VersionSegment.Resting.{word_rows}
+use Rattle.pass_steps.specs.VersionSegment.Rows.{VersionedRows}
+use Rattle.pass_steps.specs.CellsModel.BlockLaws.{row_key}
+use Rattle.pass_steps.specs.CellsModel.Reads.{AreLoadedFrom, Reading}
+use Rattle.pass_steps.specs.CellsModel.Words.{Spells}
+use Rattle.pass_steps.specs.RuleModel.Sight.{Sight, with_reading}
+use Rattle.pass_steps.specs.StoreWords.Reads.{word_read}
 use Rattle.optimistic_read.specs.declared.decode.Head.{Head}
 use Rattle.optimistic_read.specs.declared.decode.LookedUp.{LookedUp}
 

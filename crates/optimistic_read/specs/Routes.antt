@@ -1,9 +1,9 @@
 -- Leaves that a pass notes.
 use Rattle.std.specs.Prelude.{◌≡◌, ℕ, true, false, ◌∷◌, None}
-use Rattle.cells_model.specs.Indexed.{is_live}
-use Rattle.rule_model.specs.Sight.{HasIndex, HasPin, IndexState, PinState}
-use Rattle.store_rule.specs.declared.store.Pass.{Pass}
-use Rattle.store_rule.specs.declared.store.Store.{Store}
+use Rattle.pass_steps.specs.CellsModel.Indexed.{is_live}
+use Rattle.pass_steps.specs.RuleModel.Sight.{HasIndex, HasPin, IndexState, PinState}
+use Rattle.pass_steps.specs.StoreRuleDeclared.store.Pass.{Pass}
+use Rattle.pass_steps.specs.StoreRuleDeclared.store.Store.{Store}
 use Rattle.pass_steps.specs.Passes.{pin_of}
 
 -- this leaf was noted

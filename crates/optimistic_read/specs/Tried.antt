@@ -6,14 +6,14 @@ use Rattle.graph_model.specs.Graph.{Graph, has_vertex}
 use Rattle.graph_model.specs.History.{view}
 use Rattle.txn_manager.specs.declared.config.Config.{Config}
 use Rattle.store_model.specs.Stamped.{StampedVersions}
-use Rattle.version_segment.specs.Resting.{newest_value}
-use Rattle.version_segment.specs.Rows.{VersionedRows, is_empty, versions_at}
-use Rattle.store_relation.specs.Passes.{PassState, name_at}
-use Rattle.cells_model.specs.Indexed.{covers}
-use Rattle.rule_model.specs.BlockSteps.{GiveView}
-use Rattle.rule_model.specs.Sight.{FoundWord, Sight}
-use Rattle.store_rule.specs.declared.store.Pass.{Pass}
-use Rattle.store_rule.specs.declared.store.Store.{Store}
+use Rattle.pass_steps.specs.VersionSegment.Resting.{newest_value}
+use Rattle.pass_steps.specs.VersionSegment.Rows.{VersionedRows, is_empty, versions_at}
+use Rattle.pass_steps.specs.StoreRelation.Passes.{PassState, name_at}
+use Rattle.pass_steps.specs.CellsModel.Indexed.{covers}
+use Rattle.pass_steps.specs.RuleModel.BlockSteps.{GiveView}
+use Rattle.pass_steps.specs.RuleModel.Sight.{FoundWord, Sight}
+use Rattle.pass_steps.specs.StoreRuleDeclared.store.Pass.{Pass}
+use Rattle.pass_steps.specs.StoreRuleDeclared.store.Store.{Store}
 use Rattle.pass_steps.specs.Passes.{state_of}
 use Rattle.optimistic_read.specs.declared.tried.Tried.{Tried}
 use Rattle.optimistic_read.specs.declared.tried.Tried.TheVariants.{Value, Busy, Chained, Moved}

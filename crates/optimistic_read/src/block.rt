@@ -4,15 +4,15 @@
 //! these words are of, and whether there is one the second load of the version word shows.
 
 ghost use Rattle.std.specs.Prelude.{◌≡◌, ◌≤◌, ◌<◌, ◌+◌};
-ghost use Rattle.cells_model.specs.Words.{block_words};
-ghost use Rattle.rule_model.specs.Sight.{cells_of};
-ghost use Rattle.store_words.specs.Reads.{IsReadOf};
-ghost use Rattle.store_words.specs.Steps.{Knows};
+ghost use Rattle.pass_steps.specs.CellsModel.Words.{block_words};
+ghost use Rattle.pass_steps.specs.RuleModel.Sight.{cells_of};
+ghost use Rattle.pass_steps.specs.StoreWords.Reads.{IsReadOf};
+ghost use Rattle.pass_steps.specs.StoreWords.Steps.{Knows};
 ghost use Rattle.optimistic_read.specs.Reads.{IsHead, IsLookedUp, IsReadingOn, IsSearched, StillReads, begun_read, key_read, row_read};
 
 use crate::decode::{Head, LookedUp};
 use graph_model::{Key, Row};
-use store_words::{Account, Accounts};
+use pass_steps::below::{Account, Accounts};
 
 /// A read that is under way: of which cell, and the even version word that it found first.
 #[derive(Clone, Copy)]

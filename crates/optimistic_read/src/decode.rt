@@ -2,15 +2,14 @@
 
 ghost use Rattle.std.specs.Prelude.{◌≡◌, ℕ, List};
 ghost use Rattle.graph_model.specs.Rows.{is_between};
-ghost use Rattle.version_segment.specs.Rows.{VersionedRows};
-ghost use Rattle.cells_model.specs.Words.{Spells};
+ghost use Rattle.pass_steps.specs.VersionSegment.Rows.{VersionedRows};
+ghost use Rattle.pass_steps.specs.CellsModel.Words.{Spells};
 ghost use Rattle.optimistic_read.specs.Reads.{IsLookedUp, IsValid};
 ghost use Rattle.optimistic_read.specs.Tried.{decoded};
 
 use crate::tried::Tried;
 use graph_model::{Key, Row};
-use store_words::Account;
-use version_segment::{is_marked, value_in_word};
+use pass_steps::below::{Account, is_marked, value_in_word};
 
 /// The first words of a block: how many rows it has, 32 at most, and its fence keys.
 #[derive(Clone, Copy)]

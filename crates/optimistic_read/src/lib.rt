@@ -8,6 +8,7 @@
 //! 3. A cell's fence keys tell whether it is the key's. So any cell may be read for any key, by the index or by a hint.
 #![tactic(auto)]
 
+pub mod below;
 mod block;
 mod decode;
 mod read;

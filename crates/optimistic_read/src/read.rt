@@ -4,10 +4,10 @@ ghost use Rattle.std.specs.Prelude.{◌≡◌, ◌≤◌, ◌<◌, ℕ};
 ghost use Rattle.graph_model.specs.declared.limits.TheConstants.{MAX_ID};
 ghost use Rattle.graph_model.specs.Graph.{weight_of};
 ghost use Rattle.graph_model.specs.Rows.{arc_key, value_at, vertex_key};
-ghost use Rattle.rule_model.specs.Sight.{HasPass, cells_of};
-ghost use Rattle.store_relation.specs.Passes.{PassState};
-ghost use Rattle.store_relation.specs.declared.stage.Stage.TheVariants.{Open};
-ghost use Rattle.store_words.specs.Reads.{HasOpenPass};
+ghost use Rattle.pass_steps.specs.RuleModel.Sight.{HasPass, cells_of};
+ghost use Rattle.pass_steps.specs.StoreRelation.Passes.{PassState};
+ghost use Rattle.pass_steps.specs.StoreRelationDeclared.stage.Stage.TheVariants.{Open};
+ghost use Rattle.pass_steps.specs.StoreWords.Reads.{HasOpenPass};
 ghost use Rattle.pass_steps.specs.Passes.{IsPassOf, state_of};
 ghost use Rattle.optimistic_read.specs.Tried.{IsTried, IsValueOf, OnlyReads, SeatReads, vertex_value, view_in};
 
@@ -15,8 +15,7 @@ use crate::block::{BlockRead, look_up};
 use crate::decode::decode;
 use crate::tried::{Route, Tried};
 use graph_model::Key;
-use store_rule::{Pass, Store};
-use store_words::{Account, Accounts};
+use pass_steps::below::{Account, Accounts, Pass, Store};
 
 /// Tries to read whether the open transaction sees a vertex, whose value is 0. It makes loads alone, takes no latch and
 /// no memory, and waits for nobody.

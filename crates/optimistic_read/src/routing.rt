@@ -1,15 +1,15 @@
 //! Where the index has a key.
 
 ghost use Rattle.std.specs.Prelude.{◌≡◌, ◌/◌, ◌<◌};
-ghost use Rattle.rule_model.specs.Sight.{HasIndex, IndexState, cells_of, with_pin};
-ghost use Rattle.store_rule.specs.Passes.{OnlyAccount};
+ghost use Rattle.pass_steps.specs.RuleModel.Sight.{HasIndex, IndexState, cells_of, with_pin};
+ghost use Rattle.pass_steps.specs.StoreRule.Passes.{OnlyAccount};
 ghost use Rattle.pass_steps.specs.Passes.{IsOpenPass, IsSamePass, pin_of, state_of};
 ghost use Rattle.optimistic_read.specs.Routes.{MayNote, noting};
 
 use crate::tried::Route;
 use graph_model::{Key, LEAF_SEGMENTS};
+use pass_steps::below::{Change, Pass, Store};
 use std::sync::Wait;
-use store_rule::{Change, Pass, Store};
 
 /// Asks the index for the cell of a key, and notes its leaf: it is not given out again before the transaction ends, so
 /// the cell stays the key's until rows move. Waits for the index, holds it meanwhile, and takes no memory.
@@ -58,7 +58,7 @@ struct NotesLeaf {
 
 impl Change for NotesLeaf {
     ghost use Rattle.std.specs.Prelude.{◌≡◌};
-    ghost use Rattle.rule_model.specs.Sight.{HasIndex, IndexState, with_pin};
+    ghost use Rattle.pass_steps.specs.RuleModel.Sight.{HasIndex, IndexState, with_pin};
     ghost use Rattle.pass_steps.specs.Passes.{pin_in};
     ghost use Rattle.optimistic_read.specs.Routes.{noting};
 

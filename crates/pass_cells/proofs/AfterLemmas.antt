@@ -11,13 +11,13 @@ use Rattle.txn_manager.specs.declared.config.Config.{Config}
 use Rattle.seat_views.specs.Keeping.{kept_at}
 use Rattle.seat_views.proofs.NumberLemmas.{kept-append, none_or_some}
 use Rattle.store_model.specs.Stamped.{StampedVersions}
-use Rattle.version_segment.specs.Rows.{VersionedRows, IsSameSegment, IsSegment, or_nothing, versions_at}
-use Rattle.store_relation.specs.Passes.{PassState, fresh_pass}
-use Rattle.cells_model.specs.Cells.{CellState}
-use Rattle.cells_model.specs.Indexed.{covers}
-use Rattle.cells_model.specs.Words.{HasSmallValues, HasSmallWeights}
-use Rattle.store_words.specs.Spelling.{IsUntouched}
-use Rattle.rule_model.specs.Sight.{HasCell, Sight, cells_of, with_rows}
+use Rattle.row_writes.specs.VersionSegment.Rows.{VersionedRows, IsSameSegment, IsSegment, or_nothing, versions_at}
+use Rattle.store_rule.specs.StoreRelation.Passes.{PassState, fresh_pass}
+use Rattle.store_rule.specs.CellsModel.Cells.{CellState}
+use Rattle.store_rule.specs.CellsModel.Indexed.{covers}
+use Rattle.store_rule.specs.CellsModel.Words.{HasSmallValues, HasSmallWeights}
+use Rattle.store_rule.specs.StoreWords.Spelling.{IsUntouched}
+use Rattle.store_rule.specs.RuleModel.Sight.{HasCell, Sight, cells_of, with_rows}
 use Rattle.latch_table.specs.declared.sight.LatchSight.{LatchSight}
 use Rattle.store_rule.specs.declared.slot.Room.{Room}
 use Rattle.store_rule.specs.declared.slot.StoreSlot.{StoreSlot}

@@ -6,9 +6,9 @@ use Rattle.graph_model.specs.Effects.{same_key}
 use Rattle.graph_model.specs.Rows.{is_between}
 use Rattle.graph_model.proofs.TestLemmas.{never}
 use Rattle.seat_views.proofs.NumberLemmas.{some_is}
-use Rattle.version_segment.specs.Rows.{VersionedRows}
+use Rattle.row_writes.specs.VersionSegment.Rows.{VersionedRows}
 use Rattle.row_writes.proofs.KeyLemmas.{key_eq}
-use Rattle.cells_model.specs.Indexed.{covers}
+use Rattle.store_rule.specs.CellsModel.Indexed.{covers}
 use Rattle.pass_cells.specs.declared.taken.TakenCell.{TakenCell}
 use Rattle.pass_cells.specs.Taken.{IsPlace, KeepsCell, KeepCells, cell_at, has_cell, keep_all, keeps_one, rows_come}
 

@@ -13,17 +13,17 @@ use Rattle.graph_model.specs.Rows.{first_key, vertex_key}
 use Rattle.graph_model.proofs.TestLemmas.{either_of, never}
 use Rattle.txn_manager.specs.declared.config.Config.{Config}
 use Rattle.store_model.specs.Stamped.{StampedVersions, stamp}
-use Rattle.version_segment.specs.Rows.{touched, undone, untouched, written}
+use Rattle.row_writes.specs.VersionSegment.Rows.{touched, undone, untouched, written}
 use Rattle.row_writes.specs.Held.{AreHeld}
 use Rattle.row_writes.specs.Written.{all_keys, ends_in, rows_of, stamped_after, stamped_before, touched_keys, written_keys}
 use Rattle.row_writes.proofs.KeyLemmas.{key_eq}
 use Rattle.row_writes.proofs.WrittenLemmas.{keys_are}
-use Rattle.store_relation.specs.Keys.{has_key}
-use Rattle.store_relation.specs.Passes.{PassState, fresh_pass, name_at}
-use Rattle.store_relation.specs.Rows.{row_after, row_before}
-use Rattle.cells_model.specs.Indexed.{covers}
-use Rattle.rule_model.specs.RowSteps.{CanStamp, CanUndo, CanWrite, GrowsBy, HoldsKeys, IsBeside}
-use Rattle.rule_model.specs.Sight.{HasPass, Sight}
+use Rattle.store_rule.specs.StoreRelation.Keys.{has_key}
+use Rattle.store_rule.specs.StoreRelation.Passes.{PassState, fresh_pass, name_at}
+use Rattle.store_rule.specs.StoreRelation.Rows.{row_after, row_before}
+use Rattle.store_rule.specs.CellsModel.Indexed.{covers}
+use Rattle.store_rule.specs.RuleModel.RowSteps.{CanStamp, CanUndo, CanWrite, GrowsBy, HoldsKeys, IsBeside}
+use Rattle.store_rule.specs.RuleModel.Sight.{HasPass, Sight}
 use Rattle.pass_cells.specs.declared.taken.TakenCell.{TakenCell}
 use Rattle.pass_cells.specs.Changes.{MayMake, MayStamp, MayUndo, StampsRows, but_newest, keys_beside, news_of, pass_of}
 use Rattle.pass_cells.specs.Holding.{AreKnown}

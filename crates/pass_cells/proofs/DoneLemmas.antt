@@ -4,22 +4,22 @@ use Rattle.std.specs.Prelude.{Bool, true, false, ◌==◌, ◌||◌, slice_get, 
 use Rattle.std.specs.List.{remove}
 use Rattle.graph_model.specs.declared.row.Key.{Key}
 use Rattle.seat_views.proofs.NumberLemmas.{some_is}
-use Rattle.version_segment.specs.Changes.{MayChange, changed, records_for}
-use Rattle.version_segment.specs.Rows.{ChangesKey, IsSameSegment, IsSegment, versions_at}
-use Rattle.version_segment.specs.declared.change.RowChange.{RowChange}
+use Rattle.row_writes.specs.VersionSegment.Changes.{MayChange, changed, records_for}
+use Rattle.row_writes.specs.VersionSegment.Rows.{ChangesKey, IsSameSegment, IsSegment, versions_at}
+use Rattle.row_writes.specs.VersionSegmentDeclared.change.RowChange.{RowChange}
 use Rattle.graph_model.specs.declared.journal.TxnName.{TxnName}
 use Rattle.row_writes.specs.Held.{Changes, Reserves}
-use Rattle.cells_model.specs.Indexed.{covers}
-use Rattle.cells_model.specs.Words.{HasSmallValues, HasSmallWeights}
+use Rattle.store_rule.specs.CellsModel.Indexed.{covers}
+use Rattle.store_rule.specs.CellsModel.Words.{HasSmallValues, HasSmallWeights}
 use Rattle.txn_manager.specs.declared.config.Config.{Config}
-use Rattle.rule_model.specs.Sight.{Sight}
+use Rattle.store_rule.specs.RuleModel.Sight.{Sight}
 use Rattle.graph_model.specs.declared.write.Kind.{Kind}
 use Rattle.graph_model.specs.declared.write.Write.{Write}
 use Rattle.graph_model.specs.Refused.{IsWithinLimits}
 use Rattle.graph_model.specs.Rows.{first_key}
 use Rattle.store_model.specs.Stamped.{StampedVersions, stamp}
 use Rattle.row_writes.specs.Written.{rows_of, stamped_after, stamped_before}
-use Rattle.store_relation.specs.Keys.{has_key}
+use Rattle.store_rule.specs.StoreRelation.Keys.{has_key}
 use Rattle.pass_cells.specs.declared.taken.TakenCell.{TakenCell}
 use Rattle.pass_cells.specs.Changes.{StampsRows, news_of, state_of}
 use Rattle.pass_cells.proofs.AfterLemmas.{all_small, partner}

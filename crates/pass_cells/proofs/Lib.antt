@@ -13,3 +13,13 @@ pub mod WriteLemmas
 pub mod DoneLemmas
 pub mod RunLemmas
 pub mod StampLemmas
+pub mod CellsModel
+pub mod LeafArray
+pub mod LeafStore
+pub mod RowWrites
+pub mod RuleModel
+pub mod StoreRelation
+pub mod StoreRule
+pub mod StoreRuleMade
+pub mod StoreWordsMade
+pub mod VersionSegment

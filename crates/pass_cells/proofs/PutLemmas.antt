@@ -11,11 +11,11 @@ use Rattle.latch_table.specs.declared.cells.Held.{Held}
 use Rattle.latch_table.specs.declared.sight.LatchSight.{LatchSight}
 use Rattle.latch_table.specs.Latched.{number_of}
 use Rattle.latch_table.specs.Several.{taken_of}
-use Rattle.cells_model.specs.Cells.{CellState}
-use Rattle.rule_model.specs.Sight.{HasCell, Sight, cells_of}
-use Rattle.store_words.specs.Notes.{without_cell}
-use Rattle.store_words.specs.Spelling.{KeepsOtherCells}
-use Rattle.store_words.proofs.NoteLemmas.{without_else}
+use Rattle.store_rule.specs.CellsModel.Cells.{CellState}
+use Rattle.store_rule.specs.RuleModel.Sight.{HasCell, Sight, cells_of}
+use Rattle.store_rule.specs.StoreWords.Notes.{without_cell}
+use Rattle.store_rule.specs.StoreWords.Spelling.{KeepsOtherCells}
+use Rattle.store_rule.proofs.StoreWords.NoteLemmas.{without_else}
 use Rattle.store_rule.specs.Passes.{OnlyAccount}
 use Rattle.store_rule.specs.Packing.{IsPackedCell}
 use Rattle.store_rule.specs.Slots.{FitsPlace, IsCellSlot}
@@ -25,7 +25,7 @@ use Rattle.store_rule.specs.declared.slot.StoreSlot.{StoreSlot}
 use Rattle.store_rule.specs.declared.slot.StoreSlot.TheVariants as slots
 use Rattle.store_rule.specs.declared.store.Pass.{Pass}
 use Rattle.store_rule.specs.declared.store.Store.{Store}
-use Rattle.version_segment.specs.Resting.{RestingRows}
+use Rattle.row_writes.specs.VersionSegment.Resting.{RestingRows}
 use Rattle.pass_cells.specs.declared.taken.TakenCell.{TakenCell}
 use Rattle.pass_cells.specs.Holding.{AreFit, AreKnown, HasTaken, IsKnown, IsPutting, numbers_of, slots_out}
 use Rattle.pass_cells.specs.Taken.{is_taken}

@@ -12,14 +12,14 @@ use Rattle.graph_model.proofs.OrderLemmas.{key_tie, keys_exact, keys_total}
 use Rattle.graph_model.proofs.TestLemmas.{never}
 use Rattle.seat_views.proofs.NumberLemmas.{some_is}
 use Rattle.store_model.specs.Stamped.{StampedVersions}
-use Rattle.version_segment.specs.Rows.{VersionedRows, IsSameSegment, IsSegment, is_nothing, nothing, or_nothing, versions_at}
+use Rattle.row_writes.specs.VersionSegment.Rows.{VersionedRows, IsSameSegment, IsSegment, is_nothing, nothing, or_nothing, versions_at}
 use Rattle.row_writes.specs.Held.{Reserves}
 use Rattle.row_writes.proofs.KeyLemmas.{key_eq, key_self}
-use Rattle.cells_model.specs.Indexed.{covers}
-use Rattle.cells_model.specs.Words.{HasSmallWeights}
+use Rattle.store_rule.specs.CellsModel.Indexed.{covers}
+use Rattle.store_rule.specs.CellsModel.Words.{HasSmallWeights}
 use Rattle.store_rule.specs.declared.store.Pass.{Pass}
 use Rattle.store_rule.specs.declared.store.Store.{Store}
-use Rattle.rule_model.specs.Sight.{HasCell, Sight, cells_of}
+use Rattle.store_rule.specs.RuleModel.Sight.{HasCell, Sight, cells_of}
 use Rattle.txn_manager.specs.declared.config.Config.{Config}
 use Rattle.pass_cells.specs.declared.taken.TakenCell.{TakenCell}
 use Rattle.pass_cells.specs.Holding.{AreKnown, Holds, IsKnown, slots_out}

@@ -8,14 +8,14 @@ use Rattle.graph_model.specs.declared.limits.TheConstants.{SEGMENT_ROWS}
 use Rattle.graph_model.specs.Rows.{first_key, is_below, key_cmp}
 use Rattle.graph_model.proofs.KeyLemmas.{between_parts}
 use Rattle.graph_model.proofs.TestLemmas.{both_of, either_of, eq_of, never}
-use Rattle.version_segment.specs.Rows.{VersionedRows, IsSameSegment, has_row, or_nothing, versions_at}
+use Rattle.row_writes.specs.VersionSegment.Rows.{VersionedRows, IsSameSegment, has_row, or_nothing, versions_at}
 use Rattle.row_writes.specs.Held.{HaveRoom, wanted}
 use Rattle.row_writes.specs.Written.{with_back}
 use Rattle.row_writes.proofs.KeyLemmas.{key_self}
-use Rattle.store_relation.specs.Keys.{has_key}
-use Rattle.cells_model.specs.Cells.{CellState}
-use Rattle.cells_model.specs.Indexed.{covers}
-use Rattle.rule_model.specs.Sight.{Sight}
+use Rattle.store_rule.specs.StoreRelation.Keys.{has_key}
+use Rattle.store_rule.specs.CellsModel.Cells.{CellState}
+use Rattle.store_rule.specs.CellsModel.Indexed.{covers}
+use Rattle.store_rule.specs.RuleModel.Sight.{Sight}
 use Rattle.seat_views.specs.Keeping.{kept_at}
 use Rattle.seat_views.proofs.NumberLemmas.{some_is}
 use Rattle.txn_manager.specs.declared.config.Config.{Config}

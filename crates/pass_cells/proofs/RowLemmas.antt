@@ -11,12 +11,12 @@ use Rattle.graph_model.specs.Effects.{same_key}
 use Rattle.graph_model.specs.Rows.{key_cmp, is_below}
 use Rattle.graph_model.proofs.OrderLemmas.{key_tie, keys_total}
 use Rattle.store_model.specs.Stamped.{Stamped, StampedVersions}
-use Rattle.version_segment.specs.declared.change.RowChange.{RowChange}
-use Rattle.version_segment.specs.declared.change.RowChange.TheVariants.{Write, Undo, Touch, Untouch}
-use Rattle.version_segment.specs.Changes.{MayChange, changed, records_for}
-use Rattle.version_segment.specs.Keyed.{RisesBy}
-use Rattle.version_segment.specs.Rows.{VersionedRows, ChangesKey, IsSegment, has_row, is_empty, is_nothing, or_nothing, versions_at, with_versions, new_record, has_record, undone, touched, untouched}
-use Rattle.version_segment.proofs.LawLemmas.{key_changed}
+use Rattle.row_writes.specs.VersionSegmentDeclared.change.RowChange.{RowChange}
+use Rattle.row_writes.specs.VersionSegmentDeclared.change.RowChange.TheVariants.{Write, Undo, Touch, Untouch}
+use Rattle.row_writes.specs.VersionSegment.Changes.{MayChange, changed, records_for}
+use Rattle.row_writes.specs.VersionSegment.Keyed.{RisesBy}
+use Rattle.row_writes.specs.VersionSegment.Rows.{VersionedRows, ChangesKey, IsSegment, has_row, is_empty, is_nothing, or_nothing, versions_at, with_versions, new_record, has_record, undone, touched, untouched}
+use Rattle.row_writes.proofs.VersionSegment.LawLemmas.{key_changed}
 use Rattle.row_writes.specs.Held.{rows_for}
 use Rattle.row_writes.proofs.KeyLemmas.{key_eq, key_self}
 

@@ -16,9 +16,9 @@ use Rattle.graph_model.proofs.RowLemmas.{rows_of_values}
 use Rattle.graph_model.proofs.SortedLemmas.{true_from_T, both_true}
 use Rattle.store_model.specs.Stamped.{StampedVersions, read_stamped}
 use Rattle.undo_chain.specs.declared.states.Snapshot.{Snapshot}
-use Rattle.version_segment.specs.Rows.{VersionedRows, IsSegment, nothing, or_nothing, versions_at, with_row, rows_read, range_of, rows_at}
+use Rattle.row_writes.specs.VersionSegment.Rows.{VersionedRows, IsSegment, nothing, or_nothing, versions_at, with_row, rows_read, range_of, rows_at}
 use Rattle.row_writes.specs.Checks.{ShowsHeld}
-use Rattle.cells_model.specs.Indexed.{covers}
+use Rattle.store_rule.specs.CellsModel.Indexed.{covers}
 use Rattle.pass_cells.specs.declared.taken.TakenCell.{TakenCell}
 use Rattle.pass_cells.specs.Reading.{lesser}
 use Rattle.pass_cells.specs.Taken.{AreRising, held_rows}

@@ -15,12 +15,12 @@ use Rattle.graph_model.specs.Refused.{IsWithinLimits}
 use Rattle.graph_model.specs.Rows.{is_between, key_cmp}
 use Rattle.seat_views.proofs.NumberLemmas.{some_is}
 use Rattle.store_model.specs.Stamped.{Stamped, StampedVersions, lacks_stamp, stamp, stamp_one}
-use Rattle.version_segment.specs.Keyed.{entries_by}
-use Rattle.version_segment.proofs.KeyedLemmas.{find_there}
-use Rattle.version_segment.specs.Rows.{VersionedRows, IsSegment, nothing, or_nothing, touched, undone, untouched, versions_at, written}
-use Rattle.store_relation.specs.Rows.{row_after, row_before}
-use Rattle.cells_model.specs.Indexed.{covers}
-use Rattle.cells_model.specs.Words.{HasSmallValues, HasSmallWeights, IsSmall}
+use Rattle.row_writes.specs.VersionSegment.Keyed.{entries_by}
+use Rattle.row_writes.proofs.VersionSegment.KeyedLemmas.{find_there}
+use Rattle.row_writes.specs.VersionSegment.Rows.{VersionedRows, IsSegment, nothing, or_nothing, touched, undone, untouched, versions_at, written}
+use Rattle.store_rule.specs.StoreRelation.Rows.{row_after, row_before}
+use Rattle.store_rule.specs.CellsModel.Indexed.{covers}
+use Rattle.store_rule.specs.CellsModel.Words.{HasSmallValues, HasSmallWeights, IsSmall}
 
 -- ---- one row
 

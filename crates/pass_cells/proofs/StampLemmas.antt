@@ -11,10 +11,10 @@ use Rattle.graph_model.specs.Effects.{same_key}
 use Rattle.graph_model.proofs.OrderLemmas.{key_tie}
 use Rattle.graph_model.proofs.TestLemmas.{never}
 use Rattle.store_model.specs.Stamped.{Stamped, StampedVersions, lacks_stamp, stamp, stamp_one}
-use Rattle.version_segment.specs.Rows.{VersionedRows, ChangesKey, IsSegment, has_row, is_empty, is_nothing, versions_at}
-use Rattle.version_segment.proofs.LawLemmas.{key_changed}
+use Rattle.row_writes.specs.VersionSegment.Rows.{VersionedRows, ChangesKey, IsSegment, has_row, is_empty, is_nothing, versions_at}
+use Rattle.row_writes.proofs.VersionSegment.LawLemmas.{key_changed}
 use Rattle.row_writes.proofs.KeyLemmas.{key_eq}
-use Rattle.store_relation.specs.Keys.{has_key}
+use Rattle.store_rule.specs.StoreRelation.Keys.{has_key}
 use Rattle.pass_cells.specs.declared.taken.TakenCell.{TakenCell}
 use Rattle.pass_cells.specs.Changes.{StampsRows}
 use Rattle.pass_cells.specs.Taken.{IsPlace, KeepCells, cell_at, has_cell, held_rows, rows_come}

@@ -9,14 +9,14 @@ use Rattle.txn_manager.specs.declared.config.Config.{Config}
 use Rattle.seat_views.specs.Keeping.{kept_at, revised}
 use Rattle.seat_views.proofs.NumberLemmas.{none_or_some, revised-none, some_is}
 use Rattle.store_model.specs.Stamped.{StampedVersions}
-use Rattle.version_segment.specs.Rows.{VersionedRows, IsSameSegment, IsSegment}
-use Rattle.cells_model.specs.Cells.{CellState}
-use Rattle.cells_model.specs.Indexed.{covers}
-use Rattle.cells_model.specs.InPlace.{growth}
-use Rattle.cells_model.specs.Words.{Spells}
-use Rattle.rule_model.specs.EndSteps.{new_state}
-use Rattle.rule_model.specs.RowSteps.{AreChanges, IsChange}
-use Rattle.rule_model.specs.Sight.{Agrees, HasCell, Sight, cells_of}
+use Rattle.row_writes.specs.VersionSegment.Rows.{VersionedRows, IsSameSegment, IsSegment}
+use Rattle.store_rule.specs.CellsModel.Cells.{CellState}
+use Rattle.store_rule.specs.CellsModel.Indexed.{covers}
+use Rattle.store_rule.specs.CellsModel.InPlace.{growth}
+use Rattle.store_rule.specs.CellsModel.Words.{Spells}
+use Rattle.store_rule.specs.RuleModel.EndSteps.{new_state}
+use Rattle.store_rule.specs.RuleModel.RowSteps.{AreChanges, IsChange}
+use Rattle.store_rule.specs.RuleModel.Sight.{Agrees, HasCell, Sight, cells_of}
 use Rattle.pass_cells.specs.declared.taken.TakenCell.{TakenCell}
 use Rattle.pass_cells.specs.Changes.{news_of, state_of}
 use Rattle.pass_cells.specs.Holding.{AreKnown, IsKnown, numbers_of}

@@ -12,11 +12,11 @@ use Rattle.latch_table.specs.declared.cells.Held.{Held}
 use Rattle.latch_table.specs.declared.sight.LatchSight.{LatchSight}
 use Rattle.store_rule.specs.Packing.{LendsBuffer}
 use Rattle.store_rule.specs.Passes.{OnlyAccount}
-use Rattle.version_segment.specs.Rows.{VersionedRows, IsSameSegment, IsSegment}
-use Rattle.cells_model.specs.Cells.{CellState, unpacked}
-use Rattle.cells_model.specs.Words.{HasSmallWeights}
-use Rattle.rule_model.specs.Sight.{HasCell, Sight, cells_of, with_cell}
-use Rattle.store_words.specs.Spelling.{IsUntouched}
+use Rattle.row_writes.specs.VersionSegment.Rows.{VersionedRows, IsSameSegment, IsSegment}
+use Rattle.store_rule.specs.CellsModel.Cells.{CellState, unpacked}
+use Rattle.store_rule.specs.CellsModel.Words.{HasSmallWeights}
+use Rattle.store_rule.specs.RuleModel.Sight.{HasCell, Sight, cells_of, with_cell}
+use Rattle.store_rule.specs.StoreWords.Spelling.{IsUntouched}
 use Rattle.store_rule.specs.declared.slot.Room.{Room}
 use Rattle.store_rule.specs.declared.slot.StoreSlot.{StoreSlot}
 use Rattle.store_rule.specs.declared.slot.StoreSlot.TheVariants as slots

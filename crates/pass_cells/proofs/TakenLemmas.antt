@@ -7,13 +7,13 @@ use Rattle.graph_model.specs.declared.journal.TxnName.{TxnName}
 use Rattle.graph_model.specs.Effects.{same_key}
 use Rattle.graph_model.proofs.TestLemmas.{never}
 use Rattle.store_model.specs.Stamped.{StampedVersions}
-use Rattle.version_segment.specs.declared.change.RowChange.{RowChange}
-use Rattle.version_segment.specs.declared.change.RowChange.TheVariants.{Write, Undo, Touch, Untouch}
-use Rattle.version_segment.specs.Changes.{MayChange, changed, records_for}
-use Rattle.version_segment.specs.Rows.{VersionedRows, ChangesKey, IsSegment, has_row, versions_at}
+use Rattle.row_writes.specs.VersionSegmentDeclared.change.RowChange.{RowChange}
+use Rattle.row_writes.specs.VersionSegmentDeclared.change.RowChange.TheVariants.{Write, Undo, Touch, Untouch}
+use Rattle.row_writes.specs.VersionSegment.Changes.{MayChange, changed, records_for}
+use Rattle.row_writes.specs.VersionSegment.Rows.{VersionedRows, ChangesKey, IsSegment, has_row, versions_at}
 use Rattle.row_writes.specs.Held.{AllowsChange, Changes, HaveCells, rows_for}
 use Rattle.row_writes.proofs.KeyLemmas.{key_self}
-use Rattle.cells_model.specs.Indexed.{covers}
+use Rattle.store_rule.specs.CellsModel.Indexed.{covers}
 use Rattle.pass_cells.specs.declared.taken.TakenCell.{TakenCell}
 use Rattle.pass_cells.specs.Taken.{IsPlace, KeepCells, cell_at, has_cell, held_rows, rows_come}
 use Rattle.pass_cells.proofs.CellLemmas.{at_place, covers_own, covers_same, either_cell, has_same, kept_others, more_come, replaced}

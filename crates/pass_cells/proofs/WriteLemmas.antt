@@ -18,7 +18,7 @@ use Rattle.graph_model.specs.Rows.{key_cmp, vertex_key, arc_key, value_at}
 use Rattle.graph_model.proofs.WriteLemmas.{allowed_ends}
 use Rattle.store_model.specs.Stamped.{StampedVersions, read_stamped}
 use Rattle.undo_chain.specs.declared.states.Snapshot.{Snapshot}
-use Rattle.version_segment.specs.Rows.{or_nothing}
+use Rattle.row_writes.specs.VersionSegment.Rows.{or_nothing}
 use Rattle.row_writes.specs.Checks.{ShowsHeld}
 use Rattle.row_writes.specs.Held.{AreHeld}
 use Rattle.row_writes.specs.Laying.{MayLay, rows_missing}

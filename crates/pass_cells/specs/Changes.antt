@@ -16,22 +16,22 @@ use Rattle.seat_views.specs.Keeping.{kept_at}
 use Rattle.store_model.specs.Check.{MayWrite}
 use Rattle.store_model.specs.Stamped.{forget_row, stamp}
 use Rattle.store_model.specs.Versions.{sees}
-use Rattle.version_segment.specs.Rows.{versions_at}
+use Rattle.row_writes.specs.VersionSegment.Rows.{versions_at}
 use Rattle.undo_chain.specs.declared.states.Snapshot.{Snapshot}
 use Rattle.row_writes.specs.Checks.{ShowsHeld}
 use Rattle.row_writes.specs.Held.{AreHeld, HeldRows}
 use Rattle.row_writes.specs.Laying.{MayLay, rows_missing}
 use Rattle.row_writes.specs.Written.{all_keys, rows_of}
-use Rattle.store_relation.specs.declared.stage.Stage.TheVariants.{Idle, Open, Aborting}
-use Rattle.store_relation.specs.Keys.{has_key}
-use Rattle.store_relation.specs.Passes.{PassState, fresh_pass, name_at}
-use Rattle.store_relation.specs.Rows.{row_after, row_before}
-use Rattle.store_relation.specs.Steps.{taken_back, with_unstamped, written_by}
-use Rattle.cells_model.specs.Cells.{CellState}
-use Rattle.rule_model.specs.EndSteps.{new_state}
-use Rattle.rule_model.specs.NoteSteps.{HasRow}
-use Rattle.rule_model.specs.RowSteps.{looks_in}
-use Rattle.rule_model.specs.Sight.{HasPass, Sight, with_rows}
+use Rattle.store_rule.specs.StoreRelationDeclared.stage.Stage.TheVariants.{Idle, Open, Aborting}
+use Rattle.store_rule.specs.StoreRelation.Keys.{has_key}
+use Rattle.store_rule.specs.StoreRelation.Passes.{PassState, fresh_pass, name_at}
+use Rattle.store_rule.specs.StoreRelation.Rows.{row_after, row_before}
+use Rattle.store_rule.specs.StoreRelation.Steps.{taken_back, with_unstamped, written_by}
+use Rattle.store_rule.specs.CellsModel.Cells.{CellState}
+use Rattle.store_rule.specs.RuleModel.EndSteps.{new_state}
+use Rattle.store_rule.specs.RuleModel.NoteSteps.{HasRow}
+use Rattle.store_rule.specs.RuleModel.RowSteps.{looks_in}
+use Rattle.store_rule.specs.RuleModel.Sight.{HasPass, Sight, with_rows}
 use Rattle.store_rule.specs.declared.store.Pass.{Pass}
 use Rattle.store_rule.specs.Passes.{OnlyAccount}
 use Rattle.graph_model.specs.declared.journal.TxnName.{TxnName}

@@ -7,13 +7,13 @@ use Rattle.txn_manager.specs.declared.config.Config.{Config}
 use Rattle.latch_table.specs.declared.cells.Held.{Held}
 use Rattle.latch_table.specs.declared.sight.LatchSight.{LatchSight}
 use Rattle.latch_table.specs.Latched.{IsPassOf, number_of}
-use Rattle.version_segment.specs.Rows.{IsSameSegment, IsSegment, VersionedRows, versions_at}
+use Rattle.row_writes.specs.VersionSegment.Rows.{IsSameSegment, IsSegment, VersionedRows, versions_at}
 use Rattle.row_writes.specs.Held.{HeldRows}
-use Rattle.cells_model.specs.Cells.{CellState, unpacked}
-use Rattle.cells_model.specs.Words.{HasSmallWeights, block_words}
-use Rattle.rule_model.specs.NoteSteps.{HasRow}
-use Rattle.rule_model.specs.Sight.{HasCell, Sight, cells_of, with_cell}
-use Rattle.store_words.specs.Spelling.{IsUntouched}
+use Rattle.store_rule.specs.CellsModel.Cells.{CellState, unpacked}
+use Rattle.store_rule.specs.CellsModel.Words.{HasSmallWeights, block_words}
+use Rattle.store_rule.specs.RuleModel.NoteSteps.{HasRow}
+use Rattle.store_rule.specs.RuleModel.Sight.{HasCell, Sight, cells_of, with_cell}
+use Rattle.store_rule.specs.StoreWords.Spelling.{IsUntouched}
 use Rattle.store_rule.specs.Packing.{LendsBuffer}
 use Rattle.store_rule.specs.Slots.{FitsPlace}
 use Rattle.store_rule.specs.declared.buffers.TheConstants.{MOST_UNPACKED}

@@ -1,10 +1,10 @@
 -- Places that are missing in the cells in hand.
 use Rattle.std.specs.Prelude.{◌≡◌, ℕ, ◌<◌, ◌≤◌, ◌&&◌, true, false, not, cond, List, Option, Some, None}
 use Rattle.graph_model.specs.declared.row.Key.{Key}
-use Rattle.version_segment.specs.Rows.{VersionedRows, has_row}
+use Rattle.row_writes.specs.VersionSegment.Rows.{VersionedRows, has_row}
 use Rattle.row_writes.specs.Held.{HeldRows, wanted}
-use Rattle.cells_model.specs.Indexed.{covers}
-use Rattle.store_relation.specs.Keys.{has_key}
+use Rattle.store_rule.specs.CellsModel.Indexed.{covers}
+use Rattle.store_rule.specs.StoreRelation.Keys.{has_key}
 use Rattle.pass_cells.specs.declared.room.RoomNeed.{RoomNeed}
 
 -- what is short of places: the key, and how many its cell would have to have

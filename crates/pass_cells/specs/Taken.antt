@@ -5,9 +5,9 @@ use Rattle.std.specs.List.{AllByRecursion, list_any}
 use Rattle.graph_model.specs.declared.limits.TheConstants.{SEGMENT_ROWS}
 use Rattle.graph_model.specs.declared.row.Key.{Key}
 use Rattle.graph_model.specs.Rows.{first_key, is_below}
-use Rattle.version_segment.specs.Rows.{VersionedRows, IsSameSegment, IsSegment, has_row, versions_at}
+use Rattle.row_writes.specs.VersionSegment.Rows.{VersionedRows, IsSameSegment, IsSegment, has_row, versions_at}
 use Rattle.row_writes.specs.Held.{HeldRows}
-use Rattle.cells_model.specs.Indexed.{covers}
+use Rattle.store_rule.specs.CellsModel.Indexed.{covers}
 use Rattle.pass_cells.specs.declared.taken.TakenCell.{TakenCell}
 use Rattle.pass_cells.specs.declared.taken.TakenCells.{TakenCells}
 

@@ -3,7 +3,7 @@
 //! A load with no latch tells nothing: no clause speaks of what is found, and whoever uses it may be wrong.
 
 ghost use Rattle.std.specs.Prelude.{◌<◌};
-ghost use Rattle.rule_model.specs.Sight.{cells_of};
+ghost use Rattle.store_rule.specs.RuleModel.Sight.{cells_of};
 
 use graph_model::Key;
 use store_rule::Store;

@@ -15,10 +15,10 @@ ghost use Rattle.pass_cells.specs.Taken.{KeepsTaken, rows_come, rows_in};
 use crate::own::PassCells;
 use crate::taken::TakenCells;
 use graph_model::{Key, NoMemory, TxnName, Write};
+use row_writes::below::NOWHERE;
 use row_writes::{Fingers, FoundRows, WrittenRows, lay};
 use store_rule::{Change, Pass, Store};
 use undo_chain::Touched;
-use version_segment::NOWHERE;
 
 /// The pass has made a write.
 #[derive(Drop)]
@@ -29,9 +29,9 @@ struct Writing<'a> {
 }
 
 impl Change for Writing<'_> {
-    ghost use Rattle.rule_model.specs.Sight.{with_rows};
-    ghost use Rattle.rule_model.specs.Steps.{Nothing};
-    ghost use Rattle.store_relation.specs.Steps.{written_by};
+    ghost use Rattle.store_rule.specs.RuleModel.Sight.{with_rows};
+    ghost use Rattle.store_rule.specs.RuleModel.Steps.{Nothing};
+    ghost use Rattle.store_rule.specs.StoreRelation.Steps.{written_by};
     ghost use Rattle.pass_cells.specs.Changes.{news_of, pass_of};
 
     ghost next = { λ c _ v. with_rows v c.pass (written_by (pass_of v c.pass) c.write)
@@ -48,9 +48,9 @@ struct Undoing<'a> {
 }
 
 impl Change for Undoing<'_> {
-    ghost use Rattle.rule_model.specs.Sight.{with_rows};
-    ghost use Rattle.rule_model.specs.Steps.{Nothing};
-    ghost use Rattle.store_relation.specs.Steps.{taken_back};
+    ghost use Rattle.store_rule.specs.RuleModel.Sight.{with_rows};
+    ghost use Rattle.store_rule.specs.RuleModel.Steps.{Nothing};
+    ghost use Rattle.store_rule.specs.StoreRelation.Steps.{taken_back};
     ghost use Rattle.pass_cells.specs.Changes.{but_newest, news_of, pass_of};
 
     ghost next = { λ c _ v. with_rows v c.pass
@@ -69,9 +69,9 @@ struct Stamping<'a> {
 }
 
 impl Change for Stamping<'_> {
-    ghost use Rattle.rule_model.specs.Sight.{with_rows};
-    ghost use Rattle.rule_model.specs.Steps.{Nothing};
-    ghost use Rattle.store_relation.specs.Steps.{with_unstamped};
+    ghost use Rattle.store_rule.specs.RuleModel.Sight.{with_rows};
+    ghost use Rattle.store_rule.specs.RuleModel.Steps.{Nothing};
+    ghost use Rattle.store_rule.specs.StoreRelation.Steps.{with_unstamped};
     ghost use Rattle.pass_cells.specs.Changes.{keys_beside, news_of, pass_of};
 
     ghost next = { λ c _ v. with_rows v c.pass

@@ -4,7 +4,7 @@ ghost use Rattle.std.specs.Prelude.{◌≡◌, ◌<◌, ◌≤◌, ◌+◌, [], 
 ghost use Rattle.std.specs.Vec.{vec_capacity};
 ghost use Rattle.latch_table.specs.Latched.{number_of};
 ghost use Rattle.latch_table.specs.Several.{taken_of};
-ghost use Rattle.rule_model.specs.Sight.{cells_of};
+ghost use Rattle.store_rule.specs.RuleModel.Sight.{cells_of};
 ghost use Rattle.store_rule.specs.Slots.{FitsPlace};
 ghost use Rattle.store_rule.specs.declared.slot.StoreSlot.TheVariants as slots;
 ghost use Rattle.pass_cells.specs.Holding.{AreFit, IsLatchOf};

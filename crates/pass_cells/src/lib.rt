@@ -8,6 +8,7 @@
 #![tactic(auto)]
 
 mod ahead;
+pub mod below;
 mod change;
 mod hints;
 mod latch;

@@ -8,7 +8,7 @@ ghost use Rattle.graph_model.specs.Graph.{Graph};
 ghost use Rattle.graph_model.specs.Rows.{is_between, rows};
 ghost use Rattle.store_model.specs.Stamped.{read_stamped};
 ghost use Rattle.undo_chain.specs.States.{Grows};
-ghost use Rattle.version_segment.specs.Checks.{AreNamedRows, IsNamed};
+ghost use Rattle.row_writes.specs.VersionSegment.Checks.{AreNamedRows, IsNamed};
 ghost use Rattle.row_writes.specs.Checks.{ShowsHeld};
 ghost use Rattle.pass_cells.specs.Reading.{lesser};
 ghost use Rattle.pass_cells.specs.Taken.{AreRising, cell_at, rows_in};
@@ -16,8 +16,8 @@ ghost use Rattle.pass_cells.specs.Taken.{AreRising, cell_at, rows_in};
 use crate::taken::TakenCells;
 use graph_model::{Key, Row};
 use row_writes::HeldCells;
+use row_writes::below::{NOWHERE, Rows32};
 use undo_chain::{Snapshot, States};
-use version_segment::{NOWHERE, Rows32};
 
 /// Rows that are lent, and the key before which they end.
 #[derive(Clone, Copy)]

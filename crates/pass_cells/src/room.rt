@@ -5,15 +5,15 @@
 ghost use Rattle.std.specs.Prelude.{◌≡◌, ◌+◌, ◌&&◌, not, cond, true, None, IfSome};
 ghost use Rattle.row_writes.specs.Held.{AreHeld, HaveRoom};
 ghost use Rattle.row_writes.specs.Written.{with_back, written_keys};
-ghost use Rattle.version_segment.specs.Rows.{has_row};
-ghost use Rattle.cells_model.specs.Indexed.{covers};
+ghost use Rattle.row_writes.specs.VersionSegment.Rows.{has_row};
+ghost use Rattle.store_rule.specs.CellsModel.Indexed.{covers};
 ghost use Rattle.pass_cells.specs.Room.{HasRoomFor, IsShort, also_missing, key_of, need_of};
 ghost use Rattle.pass_cells.specs.Taken.{AreRising, rows_in};
 
 use crate::taken::TakenCells;
 use graph_model::Key;
 use row_writes::WrittenRows;
-use version_segment::VersionSegment;
+use row_writes::below::VersionSegment;
 
 /// A key without a row, for which and for the other keys of the write that are missing in its cell there is no room:
 /// they need so many places. It is made of cells in hand and can't be copied, so whoever has one has it from

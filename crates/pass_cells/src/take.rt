@@ -9,7 +9,7 @@
 
 ghost use Rattle.std.specs.Prelude.{◌≡◌, ◌<◌, ◌≤◌, ◌+◌, [], ◌∷◌, length, true, false};
 ghost use Rattle.row_writes.specs.Held.{AreHeld};
-ghost use Rattle.rule_model.specs.Sight.{cells_of};
+ghost use Rattle.store_rule.specs.RuleModel.Sight.{cells_of};
 ghost use Rattle.store_rule.specs.Slots.{IsCellSlot};
 ghost use Rattle.pass_cells.specs.Holding.{HasTaken, Holds, HoldsNone, IsGathered, KeepsPass};
 ghost use Rattle.pass_cells.specs.Taken.{held_rows};
@@ -19,9 +19,9 @@ use crate::own::PassCells;
 use crate::taken::TakenCell;
 use graph_model::Key;
 use latch_table::Held;
+use row_writes::below::VersionSegment;
 use std::sync::Wait;
 use store_rule::{Pass, Store, StoreSlot};
-use version_segment::VersionSegment;
 
 impl PassCells {
     /// Takes the cells of these keys, four at most, each once. They are gathered and unpacked then. Takes no memory. It

@@ -6,14 +6,14 @@
 ghost use Rattle.std.specs.Prelude.{◌≡◌, ◌<◌, ◌≤◌, ◌++◌, true, false, [], ◌∷◌, length};
 ghost use Rattle.std.specs.Vec.{vec_capacity};
 ghost use Rattle.graph_model.specs.Rows.{is_below};
-ghost use Rattle.cells_model.specs.Indexed.{covers};
+ghost use Rattle.store_rule.specs.CellsModel.Indexed.{covers};
 ghost use Rattle.pass_cells.specs.Changes.{StampsRows};
 ghost use Rattle.pass_cells.specs.Taken.{IsMissing, IsPlace, KeepsTaken, counted, end_of, has_cell, is_taken, keeps_itself, keeps_on, rows_come, rows_in};
 
 use graph_model::{Key, NoMemory, TxnName};
 use latch_table::Held;
 use row_writes::HeldCells;
-use version_segment::{RowChange, RowView, VersionSegment};
+use row_writes::below::{RowChange, RowView, VersionSegment};
 
 /// A cell in hand.
 pub struct TakenCell {

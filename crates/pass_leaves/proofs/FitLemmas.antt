@@ -1,11 +1,11 @@
 -- The rule of the account table has the index fit all cells.
 use Rattle.std.proofs.Common.{refl, sym, ◌∙◌, ap, subst}
 use Rattle.atomic_table.specs.Table.{keeps}
-use Rattle.cells_model.specs.Indexed.{IsIndexed}
-use Rattle.cells_model.specs.InPlace.{segment_of}
-use Rattle.rule_model.specs.Sight.{IndexState}
-use Rattle.rule_model.specs.Steps.{OfEachSeat}
-use Rattle.rule_model.proofs.FrameLemmas.{by_nothing, cells_agree, index_is, own_read}
+use Rattle.pass_cells.specs.CellsModel.Indexed.{IsIndexed}
+use Rattle.pass_cells.specs.CellsModel.InPlace.{segment_of}
+use Rattle.pass_cells.specs.RuleModel.Sight.{IndexState}
+use Rattle.pass_cells.specs.RuleModel.Steps.{OfEachSeat}
+use Rattle.pass_cells.proofs.RuleModel.FrameLemmas.{by_nothing, cells_agree, index_is, own_read}
 use Rattle.pass_leaves.specs.Fit.{IndexFits}
 
 pub index_fits : OfEachSeat IndexFits

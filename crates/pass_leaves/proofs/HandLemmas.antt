@@ -9,14 +9,14 @@ use Rattle.latch_table.specs.declared.sight.LatchSight.{LatchSight}
 use Rattle.latch_table.specs.Several.{taken_of}
 use Rattle.leaf_index.specs.declared.index.LeafIndex.{LeafIndex}
 use Rattle.seat_views.specs.Keeping.{kept_at}
-use Rattle.rule_model.specs.Sight.{HasCell, Sight}
-use Rattle.store_words.specs.Notes.{without_index}
-use Rattle.store_rule.specs.Passes.{OnlyAccount}
-use Rattle.store_rule.specs.declared.slot.Room.{Room}
-use Rattle.store_rule.specs.declared.slot.StoreSlot.{StoreSlot}
-use Rattle.store_rule.specs.declared.slot.StoreSlot.TheVariants as slots
-use Rattle.store_rule.specs.declared.store.Pass.{Pass}
-use Rattle.store_rule.specs.declared.store.Store.{Store}
+use Rattle.pass_cells.specs.RuleModel.Sight.{HasCell, Sight}
+use Rattle.pass_cells.specs.StoreWords.Notes.{without_index}
+use Rattle.pass_cells.specs.StoreRule.Passes.{OnlyAccount}
+use Rattle.pass_cells.specs.StoreRuleDeclared.slot.Room.{Room}
+use Rattle.pass_cells.specs.StoreRuleDeclared.slot.StoreSlot.{StoreSlot}
+use Rattle.pass_cells.specs.StoreRuleDeclared.slot.StoreSlot.TheVariants as slots
+use Rattle.pass_cells.specs.StoreRuleDeclared.store.Pass.{Pass}
+use Rattle.pass_cells.specs.StoreRuleDeclared.store.Store.{Store}
 use Rattle.pass_cells.specs.declared.taken.TakenCell.{TakenCell}
 use Rattle.pass_cells.specs.Holding.{AreKnown, IsKnown, IsLatchOf, IsPutting, numbers_of, slots_out}
 use Rattle.pass_cells.proofs.DoneLemmas.{none_behind}

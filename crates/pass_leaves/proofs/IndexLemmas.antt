@@ -8,7 +8,7 @@ use Rattle.latch_table.specs.declared.cells.Held.{Held}
 use Rattle.leaf_index.specs.declared.index.LeafIndex.{LeafIndex}
 use Rattle.seat_views.specs.Keeping.{kept_at, without}
 use Rattle.seat_views.proofs.NumberLemmas.{eq_of, without_kept}
-use Rattle.rule_model.specs.Sight.{IndexState, Sight, cells_of, with_index}
+use Rattle.pass_cells.specs.RuleModel.Sight.{IndexState, Sight, cells_of, with_index}
 use Rattle.pass_cells.proofs.TakeLemmas.{no_entries}
 use Rattle.pass_leaves.specs.Hand.{HasIndexHeld}
 

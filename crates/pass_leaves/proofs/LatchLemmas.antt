@@ -6,12 +6,12 @@ use Rattle.latch_table.specs.declared.cells.Held.{Held}
 use Rattle.latch_table.specs.declared.sight.LatchSight.{LatchSight}
 use Rattle.latch_table.specs.Latched.{is_once, out_of}
 use Rattle.latch_table.specs.Several.{taken_of}
-use Rattle.rule_model.specs.Sight.{cells_of}
-use Rattle.store_rule.specs.Slots.{FitsPlace, IsCellSlot}
-use Rattle.store_rule.specs.declared.slot.Room.{Room}
-use Rattle.store_rule.specs.declared.slot.StoreSlot.{StoreSlot}
-use Rattle.store_rule.specs.declared.slot.StoreSlot.TheVariants as slots
-use Rattle.store_rule.specs.declared.store.Store.{Store}
+use Rattle.pass_cells.specs.RuleModel.Sight.{cells_of}
+use Rattle.pass_cells.specs.StoreRule.Slots.{FitsPlace, IsCellSlot}
+use Rattle.pass_cells.specs.StoreRuleDeclared.slot.Room.{Room}
+use Rattle.pass_cells.specs.StoreRuleDeclared.slot.StoreSlot.{StoreSlot}
+use Rattle.pass_cells.specs.StoreRuleDeclared.slot.StoreSlot.TheVariants as slots
+use Rattle.pass_cells.specs.StoreRuleDeclared.store.Store.{Store}
 use Rattle.pass_cells.specs.Holding.{AreFit, IsLatchOf}
 use Rattle.pass_cells.proofs.PutLemmas.{fits_cell}
 use Rattle.pass_leaves.specs.Hand.{AreCellsHeld, HasLatched, IsCellHeld, numbers_held}

@@ -4,3 +4,8 @@ pub mod UnpackLemmas
 pub mod FitLemmas
 pub mod IndexLemmas
 pub mod HandLemmas
+pub mod CellsModel
+pub mod LeafArray
+pub mod LeafStore
+pub mod PassCells
+pub mod RuleModel

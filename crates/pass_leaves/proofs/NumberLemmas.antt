@@ -5,8 +5,8 @@ use Rattle.graph_model.proofs.TestLemmas.{eq_symm}
 use Rattle.latch_table.specs.declared.cells.Held.{Held}
 use Rattle.latch_table.specs.Latched.{is_held, is_once, out_of}
 use Rattle.latch_table.specs.Several.{taken_of}
-use Rattle.store_rule.specs.declared.slot.StoreSlot.{StoreSlot}
-use Rattle.store_rule.specs.declared.slot.StoreSlot.TheVariants as slots
+use Rattle.pass_cells.specs.StoreRuleDeclared.slot.StoreSlot.{StoreSlot}
+use Rattle.pass_cells.specs.StoreRuleDeclared.slot.StoreSlot.TheVariants as slots
 use Rattle.pass_cells.specs.declared.taken.TakenCell.{TakenCell}
 use Rattle.pass_cells.specs.Holding.{numbers_of}
 use Rattle.pass_cells.specs.Taken.{is_taken}

@@ -6,14 +6,14 @@ use Rattle.latch_table.specs.declared.cells.Held.{Held}
 use Rattle.latch_table.specs.declared.sight.LatchSight.{LatchSight}
 use Rattle.latch_table.specs.Latched.{is_once, number_of}
 use Rattle.atomic_table.specs.declared.shared.Seat.{Seat}
-use Rattle.version_segment.specs.Rows.{IsSegment}
-use Rattle.cells_model.specs.Cells.{CellState}
-use Rattle.rule_model.specs.Sight.{HasCell, Sight, cells_of}
-use Rattle.store_rule.specs.declared.buffers.TheConstants.{MOST_UNPACKED}
-use Rattle.store_rule.specs.declared.slot.Room.{Room}
-use Rattle.store_rule.specs.declared.slot.StoreSlot.{StoreSlot}
-use Rattle.store_rule.specs.declared.store.Pass.{Pass}
-use Rattle.store_rule.specs.declared.store.Store.{Store}
+use Rattle.pass_cells.specs.VersionSegment.Rows.{IsSegment}
+use Rattle.pass_cells.specs.CellsModel.Cells.{CellState}
+use Rattle.pass_cells.specs.RuleModel.Sight.{HasCell, Sight, cells_of}
+use Rattle.pass_cells.specs.StoreRuleDeclared.buffers.TheConstants.{MOST_UNPACKED}
+use Rattle.pass_cells.specs.StoreRuleDeclared.slot.Room.{Room}
+use Rattle.pass_cells.specs.StoreRuleDeclared.slot.StoreSlot.{StoreSlot}
+use Rattle.pass_cells.specs.StoreRuleDeclared.store.Pass.{Pass}
+use Rattle.pass_cells.specs.StoreRuleDeclared.store.Store.{Store}
 use Rattle.pass_cells.specs.declared.taken.TakenCell.{TakenCell}
 use Rattle.pass_cells.specs.Holding.{AreKnown, IsGathered, KeepsPass, numbers_of}
 use Rattle.pass_cells.specs.Taken.{is_taken}

@@ -3,12 +3,12 @@ use Rattle.std.specs.Prelude.{◌≡◌, ℕ}
 use Rattle.std.specs.declared.alloc.Global.{Global}
 use Rattle.atomic_table.specs.Table.{Me}
 use Rattle.txn_manager.specs.declared.config.Config.{Config}
-use Rattle.cells_model.specs.Cells.{CellState}
-use Rattle.cells_model.specs.Indexed.{IsIndexed}
-use Rattle.cells_model.specs.InPlace.{segment_of}
-use Rattle.rule_model.specs.Places.{Layout}
-use Rattle.rule_model.specs.Sight.{Agrees, HasIndex, IndexState, Sight}
-use Rattle.rule_model.specs.Steps.{AllowsLoad}
+use Rattle.pass_cells.specs.CellsModel.Cells.{CellState}
+use Rattle.pass_cells.specs.CellsModel.Indexed.{IsIndexed}
+use Rattle.pass_cells.specs.CellsModel.InPlace.{segment_of}
+use Rattle.pass_cells.specs.RuleModel.Places.{Layout}
+use Rattle.pass_cells.specs.RuleModel.Sight.{Agrees, HasIndex, IndexState, Sight}
+use Rattle.pass_cells.specs.RuleModel.Steps.{AllowsLoad}
 
 -- there are contents of all cells, those that the view has among them, against which the index is sound
 pub record FitTogether (z : Config) (v : Sight) (y : IndexState) : Type 0 where

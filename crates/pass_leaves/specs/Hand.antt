@@ -14,15 +14,15 @@ use Rattle.latch_table.specs.declared.cells.Held.{Held}
 use Rattle.latch_table.specs.declared.sight.LatchSight.{LatchSight}
 use Rattle.latch_table.specs.Several.{taken_of}
 use Rattle.seat_views.specs.Keeping.{kept_at}
-use Rattle.cells_model.specs.Cells.{CellState}
-use Rattle.rule_model.specs.Sight.{HasCell, HasIndex, IndexState, Sight, cells_of}
-use Rattle.store_rule.specs.Slots.{IsCellSlot}
-use Rattle.store_rule.specs.declared.buffers.TheConstants.{MOST_UNPACKED}
-use Rattle.store_rule.specs.declared.slot.Room.{Room}
-use Rattle.store_rule.specs.declared.slot.StoreSlot.{StoreSlot}
-use Rattle.store_rule.specs.declared.slot.StoreSlot.TheVariants as slots
-use Rattle.store_rule.specs.declared.store.Pass.{Pass}
-use Rattle.store_rule.specs.declared.store.Store.{Store}
+use Rattle.pass_cells.specs.CellsModel.Cells.{CellState}
+use Rattle.pass_cells.specs.RuleModel.Sight.{HasCell, HasIndex, IndexState, Sight, cells_of}
+use Rattle.pass_cells.specs.StoreRule.Slots.{IsCellSlot}
+use Rattle.pass_cells.specs.StoreRuleDeclared.buffers.TheConstants.{MOST_UNPACKED}
+use Rattle.pass_cells.specs.StoreRuleDeclared.slot.Room.{Room}
+use Rattle.pass_cells.specs.StoreRuleDeclared.slot.StoreSlot.{StoreSlot}
+use Rattle.pass_cells.specs.StoreRuleDeclared.slot.StoreSlot.TheVariants as slots
+use Rattle.pass_cells.specs.StoreRuleDeclared.store.Pass.{Pass}
+use Rattle.pass_cells.specs.StoreRuleDeclared.store.Store.{Store}
 use Rattle.pass_cells.specs.declared.taken.TakenCell.{TakenCell}
 use Rattle.pass_cells.specs.Holding.{AreKnown, IsLatchOf, KeepsPass, numbers_of, slots_out}
 use Rattle.pass_cells.specs.Taken.{AreApart, is_taken}

@@ -1,2 +1,14 @@
 pub mod Hand
 pub mod Fit
+pub mod CellsModel
+pub mod LeafArray
+pub mod LeafStore
+pub mod LeafStoreDeclared
+pub mod LeafTableDeclared
+pub mod PassCells
+pub mod PassCellsDeclared
+pub mod RuleModel
+pub mod StoreRule
+pub mod StoreRuleDeclared
+pub mod StoreWords
+pub mod VersionSegment

@@ -2,9 +2,9 @@
 
 ghost use Rattle.std.specs.Prelude.{◌≡◌};
 ghost use Rattle.pass_leaves.specs.Fit.{TellsFit};
-ghost use Rattle.store_rule.specs.Passes.{OnlyAccount};
+ghost use Rattle.pass_cells.specs.StoreRule.Passes.{OnlyAccount};
 
-use store_rule::{Change, Pass, Store};
+use pass_cells::below::{Change, Pass, Store};
 use txn_manager::Config;
 
 /// Loads the clock, and learns that the index and the cells in hand fit each other.

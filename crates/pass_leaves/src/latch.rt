@@ -4,17 +4,17 @@ ghost use Rattle.std.specs.Prelude.{◌≡◌, ◌<◌, ◌≤◌, ◌+◌, ◌*
 ghost use Rattle.std.specs.Vec.{vec_capacity};
 ghost use Rattle.latch_table.specs.Latched.{number_of};
 ghost use Rattle.latch_table.specs.Several.{taken_of};
-ghost use Rattle.rule_model.specs.Sight.{cells_of};
-ghost use Rattle.store_rule.specs.Slots.{FitsPlace};
-ghost use Rattle.store_rule.specs.declared.slot.StoreSlot.TheVariants as slots;
+ghost use Rattle.pass_cells.specs.RuleModel.Sight.{cells_of};
+ghost use Rattle.pass_cells.specs.StoreRule.Slots.{FitsPlace};
+ghost use Rattle.pass_cells.specs.StoreRuleDeclared.slot.StoreSlot.TheVariants as slots;
 ghost use Rattle.pass_cells.specs.Holding.{AreFit, IsLatchOf};
 ghost use Rattle.pass_leaves.specs.Hand.{HasLatched, cells_of_leaves, numbers_from, numbers_held};
 
 use graph_model::LEAF_SEGMENTS;
 use latch_table::{Held, Laid};
+use pass_cells::below::{LatchPass, Store, StoreSlot};
 use pass_cells::{give_places, take_next_place};
 use std::sync::Wait;
-use store_rule::{LatchPass, Store, StoreSlot};
 
 /// Takes all cells of these leaves. Where one stays busy, or a leaf doesn't exist, some are taken.
 pub fn latch_leaves(

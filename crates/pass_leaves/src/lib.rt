@@ -8,6 +8,7 @@
 //! 3. What is in hand is what the pass's view knows of these cells and of the index.
 #![tactic(auto)]
 
+pub mod below;
 mod fit;
 mod latch;
 mod own;

@@ -6,8 +6,8 @@ ghost use Rattle.std.specs.Vec.{vec_capacity};
 use graph_model::NoMemory;
 use latch_table::{Held, Laid};
 use pass_cells::TakenCell;
+use pass_cells::below::StoreSlot;
 use std::alloc::Global;
-use store_rule::StoreSlot;
 
 /// A pass holds the cells of at most two leaves: those of a leaf that is split and of the free one, or of two that
 /// become one.

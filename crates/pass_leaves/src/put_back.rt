@@ -3,8 +3,8 @@
 ghost use Rattle.std.specs.Prelude.{◌≡◌, ◌≤◌, ◌<◌, [], ◌∷◌, length, List, ℕ};
 ghost use Rattle.std.specs.Vec.{vec_capacity};
 ghost use Rattle.latch_table.specs.Several.{taken_of};
-ghost use Rattle.store_rule.specs.declared.buffers.TheConstants.{MOST_UNPACKED};
-ghost use Rattle.store_rule.specs.declared.slot.StoreSlot.TheVariants as slots;
+ghost use Rattle.pass_cells.specs.StoreRuleDeclared.buffers.TheConstants.{MOST_UNPACKED};
+ghost use Rattle.pass_cells.specs.StoreRuleDeclared.slot.StoreSlot.TheVariants as slots;
 ghost use Rattle.pass_cells.specs.Holding.{AreFit, HoldsNone, IsLatchOf, KeepsPass};
 ghost use Rattle.pass_leaves.specs.Hand.{HasIndexHeld, HoldsLeaves};
 
@@ -13,7 +13,7 @@ use crate::own::PassLeaves;
 use crate::take::HeldIndex;
 use crate::unpack::pack_all;
 use latch_table::{Held, Laid};
-use store_rule::{Pass, Store, StoreSlot};
+use pass_cells::below::{Pass, Store, StoreSlot};
 
 impl PassLeaves {
     /// Packs all cells in hand and puts them and the index back, and then releases each. What wasn't changed keeps its

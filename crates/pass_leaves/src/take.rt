@@ -1,7 +1,7 @@
 //! How a pass comes by leaves and the index.
 
 ghost use Rattle.std.specs.Prelude.{◌≡◌, ◌<◌, ◌≤◌, [], ◌∷◌, length, IfOk, IfSome, OnErr, OnOk, None, slice_index};
-ghost use Rattle.store_rule.specs.declared.slot.StoreSlot.TheVariants as slots;
+ghost use Rattle.pass_cells.specs.StoreRuleDeclared.slot.StoreSlot.TheVariants as slots;
 ghost use Rattle.pass_cells.specs.Holding.{HoldsNone, IsLatchOf, KeepsPass};
 ghost use Rattle.pass_leaves.specs.Fit.{TellsFit};
 ghost use Rattle.pass_leaves.specs.Hand.{HasIndexHeld, HoldsLeaves, IsLeafOfKey, KeepsHand};
@@ -14,9 +14,9 @@ use crate::unpack::unpack_all;
 use graph_model::Key;
 use latch_table::Held;
 use leaf_index::LeafIndex;
+use pass_cells::below::{Pass, Store};
 use pass_cells::{CellHints, give_places, try_place};
 use std::sync::Wait;
-use store_rule::{Pass, Store};
 
 /// The index in hand.
 pub type HeldIndex = Held<Box<LeafIndex>>;

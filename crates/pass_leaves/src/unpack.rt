@@ -3,13 +3,13 @@
 ghost use Rattle.std.specs.Prelude.{◌≡◌, ◌≤◌, [], true, length};
 ghost use Rattle.std.specs.Vec.{vec_capacity};
 ghost use Rattle.latch_table.specs.Latched.{is_once};
-ghost use Rattle.store_rule.specs.declared.buffers.TheConstants.{MOST_UNPACKED};
+ghost use Rattle.pass_cells.specs.StoreRuleDeclared.buffers.TheConstants.{MOST_UNPACKED};
 ghost use Rattle.pass_cells.specs.Holding.{IsPutting};
 ghost use Rattle.pass_leaves.specs.Hand.{AreCellsHeld, IsUnpacking, numbers_held};
 
 use latch_table::Held;
+use pass_cells::below::{Pass, Store, StoreSlot};
 use pass_cells::{TakenCell, gather};
-use store_rule::{Pass, Store, StoreSlot};
 
 /// Takes in the notes of all cells, and unpacks them.
 pub fn unpack_all(

@@ -7,16 +7,16 @@ use Rattle.items.specs.declared.memory.NoMemory.{NoMemory}
 use Rattle.graph_model.specs.declared.row.Key.{Key}
 use Rattle.graph_model.proofs.KeyLemmas.{below_self}
 use Rattle.density_tree.specs.Division.{evenly}
-use Rattle.version_segment.specs.Rows.{VersionedRows, IsSegment}
-use Rattle.leaf_array.specs.Leaves.{IsEmpty, IsLeaf, Merges}
-use Rattle.leaf_array.specs.Segments.{AreSame, rows_of}
-use Rattle.leaf_array.proofs.CountLemmas.{same-rows, same-length, same-low, same-high}
-use Rattle.leaf_array.proofs.PairLemmas.{rows-append}
-use Rattle.cells_model.specs.Indexed.{IsIdle}
-use Rattle.cells_model.specs.Words.{HasSmallWeights}
-use Rattle.leaf_store.proofs.MoveLemmas.{same_append}
+use Rattle.pass_moves.specs.VersionSegment.Rows.{VersionedRows, IsSegment}
+use Rattle.pass_moves.specs.LeafArray.Leaves.{IsEmpty, IsLeaf, Merges}
+use Rattle.pass_moves.specs.LeafArray.Segments.{AreSame, rows_of}
+use Rattle.pass_moves.proofs.LeafArray.CountLemmas.{same-rows, same-length, same-low, same-high}
+use Rattle.pass_moves.proofs.LeafArray.PairLemmas.{rows-append}
+use Rattle.pass_moves.specs.CellsModel.Indexed.{IsIdle}
+use Rattle.pass_moves.specs.CellsModel.Words.{HasSmallWeights}
+use Rattle.pass_moves.proofs.LeafStore.MoveLemmas.{same_append}
 use Rattle.gap_segment.proofs.FencedLemmas.{all_append}
-use Rattle.pass_cells.specs.declared.taken.TakenCell.{TakenCell}
+use Rattle.pass_moves.specs.PassCellsDeclared.taken.TakenCell.{TakenCell}
 use Rattle.pass_moves.specs.Moving.{AreMarked, HavePut, MoveCells, values_of}
 use Rattle.pass_moves.specs.Spreading.{KeepsContents}
 use Rattle.pass_moves.proofs.KeyLemmas.{take_front}

@@ -9,8 +9,8 @@ use Rattle.leaf_index.proofs.CountLemmas.{count_append, count_cons, worth}
 use Rattle.leaf_index.specs.Calls.{CanCut, CanDrop, with_cuts, without_leaf}
 use Rattle.leaf_index.specs.Index.{AreCuts, Entry, Index, IsIndex, IsTaken, end_of, uses}
 use Rattle.leaf_index.specs.declared.route.Retired.{Retired}
-use Rattle.leaf_store.specs.declared.pair.TheConstants.{STAMPS_END}
-use Rattle.leaf_store.proofs.RangeLemmas.{moved_over}
+use Rattle.pass_moves.specs.LeafStoreDeclared.pair.TheConstants.{STAMPS_END}
+use Rattle.pass_moves.proofs.LeafStore.RangeLemmas.{moved_over}
 use Rattle.pass_merges.specs.Merging.{retired_at}
 use Rattle.pass_merges.specs.Pairs.{MayJoin, in_one}
 use Rattle.pass_merges.specs.declared.pair.LeafPair.{LeafPair}

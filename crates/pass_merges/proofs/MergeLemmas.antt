@@ -7,41 +7,41 @@ use Rattle.std.specs.declared.alloc.Global.{Global}
 use Rattle.std.specs.declared.boxed.Box.{Box}
 use Rattle.graph_model.specs.declared.row.Key.{Key}
 use Rattle.txn_manager.specs.declared.config.Config.{Config}
-use Rattle.version_segment.specs.Rows.{VersionedRows, IsSegment}
-use Rattle.leaf_array.specs.Leaves.{Merges}
-use Rattle.leaf_array.specs.Segments.{AreSame, high_or, low_or, lows_of, rows_of}
-use Rattle.leaf_array.proofs.CountLemmas.{same-rows}
-use Rattle.leaf_array.proofs.LeafLemmas.{follow-low, follow-of}
-use Rattle.leaf_array.proofs.PairLemmas.{rows-append}
+use Rattle.pass_moves.specs.VersionSegment.Rows.{VersionedRows, IsSegment}
+use Rattle.pass_moves.specs.LeafArray.Leaves.{Merges}
+use Rattle.pass_moves.specs.LeafArray.Segments.{AreSame, high_or, low_or, lows_of, rows_of}
+use Rattle.pass_moves.proofs.LeafArray.CountLemmas.{same-rows}
+use Rattle.pass_moves.proofs.LeafArray.LeafLemmas.{follow-low, follow-of}
+use Rattle.pass_moves.proofs.LeafArray.PairLemmas.{rows-append}
 use Rattle.latch_table.specs.declared.cells.Held.{Held}
 use Rattle.leaf_index.specs.Index.{AreCuts, Entry, Index, IsIndex, IsTaken, end_of}
 use Rattle.leaf_index.specs.declared.index.LeafIndex.{LeafIndex}
-use Rattle.leaf_store.specs.Table.{IsTied}
-use Rattle.leaf_store.specs.declared.pair.TheConstants.{MERGE_ROWS, STAMPS_END}
-use Rattle.leaf_store.proofs.HalfLemmas.{any_high}
-use Rattle.leaf_store.proofs.ListLemmas.{all_back, all_front}
-use Rattle.leaf_store.proofs.PairLemmas.{first_begin}
-use Rattle.leaf_store.proofs.SplitLemmas.{are_cuts}
-use Rattle.leaf_store.proofs.RangeLemmas.{moved_over}
-use Rattle.leaf_store.proofs.TableLemmas.{tied_follow}
-use Rattle.cells_model.specs.Cells.{CellState}
-use Rattle.cells_model.specs.Indexed.{IsIdle, IsIndexed, leaf_cells}
-use Rattle.cells_model.specs.InPlace.{segment_of}
-use Rattle.cells_model.specs.Moved.{MergesInOne}
+use Rattle.pass_moves.specs.LeafStore.Table.{IsTied}
+use Rattle.pass_moves.specs.LeafStoreDeclared.pair.TheConstants.{MERGE_ROWS, STAMPS_END}
+use Rattle.pass_moves.proofs.LeafStore.HalfLemmas.{any_high}
+use Rattle.pass_moves.proofs.LeafStore.ListLemmas.{all_back, all_front}
+use Rattle.pass_moves.proofs.LeafStore.PairLemmas.{first_begin}
+use Rattle.pass_moves.proofs.LeafStore.SplitLemmas.{are_cuts}
+use Rattle.pass_moves.proofs.LeafStore.RangeLemmas.{moved_over}
+use Rattle.pass_moves.proofs.LeafStore.TableLemmas.{tied_follow}
+use Rattle.pass_moves.specs.CellsModel.Cells.{CellState}
+use Rattle.pass_moves.specs.CellsModel.Indexed.{IsIdle, IsIndexed, leaf_cells}
+use Rattle.pass_moves.specs.CellsModel.InPlace.{segment_of}
+use Rattle.pass_moves.specs.CellsModel.Moved.{MergesInOne}
 use Rattle.seat_views.specs.Keeping.{kept_at, revised}
-use Rattle.rule_model.specs.MoveSteps.{CanMove, IsMove}
-use Rattle.rule_model.specs.Places.{lines}
-use Rattle.rule_model.specs.Sight.{Agrees, IndexState, Sight, no_news, with_news}
-use Rattle.rule_model.specs.Steps.{AllowsLoad, Nothing}
-use Rattle.rule_model.proofs.MoveStepLemmas.{merge_is_move, rows_are_moved}
-use Rattle.store_rule.specs.declared.store.Pass.{Pass}
-use Rattle.store_rule.specs.declared.store.Store.{Store}
-use Rattle.store_words.specs.Steps.{MayLoad}
-use Rattle.pass_cells.specs.declared.taken.TakenCell.{TakenCell}
-use Rattle.pass_cells.specs.Changes.{news_of, state_of}
-use Rattle.pass_cells.specs.Holding.{numbers_of}
-use Rattle.pass_leaves.specs.Fit.{FitTogether, TellsFit}
-use Rattle.pass_leaves.specs.Hand.{HoldsLeaves, cells_of_leaves, numbers_from}
+use Rattle.pass_moves.specs.RuleModel.MoveSteps.{CanMove, IsMove}
+use Rattle.pass_moves.specs.RuleModel.Places.{lines}
+use Rattle.pass_moves.specs.RuleModel.Sight.{Agrees, IndexState, Sight, no_news, with_news}
+use Rattle.pass_moves.specs.RuleModel.Steps.{AllowsLoad, Nothing}
+use Rattle.pass_moves.proofs.RuleModel.MoveStepLemmas.{merge_is_move, rows_are_moved}
+use Rattle.pass_moves.specs.StoreRuleDeclared.store.Pass.{Pass}
+use Rattle.pass_moves.specs.StoreRuleDeclared.store.Store.{Store}
+use Rattle.pass_moves.specs.StoreWords.Steps.{MayLoad}
+use Rattle.pass_moves.specs.PassCellsDeclared.taken.TakenCell.{TakenCell}
+use Rattle.pass_moves.specs.PassCells.Changes.{news_of, state_of}
+use Rattle.pass_moves.specs.PassCells.Holding.{numbers_of}
+use Rattle.pass_moves.specs.PassLeaves.Fit.{FitTogether, TellsFit}
+use Rattle.pass_moves.specs.PassLeaves.Hand.{HoldsLeaves, cells_of_leaves, numbers_from}
 use Rattle.pass_moves.specs.Moving.{MoveCells, values_of}
 use Rattle.pass_moves.specs.Room.{KnowsLeaf}
 use Rattle.pass_moves.specs.Spreading.{moved}
@@ -49,7 +49,7 @@ use Rattle.pass_moves.proofs.HandLemmas.{index_is}
 use Rattle.pass_moves.proofs.MovedCells.{are_held, have_news, is_after, same_before}
 use Rattle.pass_moves.proofs.SpreadLemmas.{apart_moved, entry_cuts, known_small, numbers_moved, stands_inside, values_tied}
 use Rattle.pass_moves.proofs.TwoLeaves.{knows_first, knows_second, moves_append, others_same_two, values_append}
-use Rattle.pass_cells.proofs.DoneLemmas.{none_behind}
+use Rattle.pass_moves.proofs.PassCells.DoneLemmas.{none_behind}
 use Rattle.pass_merges.specs.Merging.{MayMerge, MergesCells, MergesInHand, retired_at}
 use Rattle.pass_merges.specs.Pairs.{MayJoin, StandTogether, in_one}
 use Rattle.pass_merges.specs.declared.pair.LeafPair.{LeafPair}

@@ -10,27 +10,27 @@ use Rattle.graph_model.specs.Rows.{end_key, is_below}
 use Rattle.graph_model.proofs.KeyLemmas.{below_self}
 use Rattle.density_tree.specs.declared.window.Window.{Window}
 use Rattle.latch_table.specs.declared.cells.Held.{Held}
-use Rattle.leaf_array.specs.Leaves.{window_of}
-use Rattle.leaf_array.specs.Segments.{counts_of, rows_of}
+use Rattle.pass_moves.specs.LeafArray.Leaves.{window_of}
+use Rattle.pass_moves.specs.LeafArray.Segments.{counts_of, rows_of}
 use Rattle.leaf_index.specs.Calls.{IsLeafRange}
 use Rattle.leaf_index.specs.Index.{Entry, Index, IsIndex, end_of}
 use Rattle.leaf_index.specs.declared.index.LeafIndex.{LeafIndex}
 use Rattle.leaf_index.specs.declared.route.LeafRange.{LeafRange}
-use Rattle.leaf_store.specs.Merging.{IsLeftmostWindow}
-use Rattle.leaf_store.specs.Pairs.{Stands}
-use Rattle.leaf_store.proofs.RangeLemmas.{moved_over}
-use Rattle.leaf_store.proofs.SparseLemmas.{sparse_few}
-use Rattle.leaf_store.proofs.WalkLemmas.{floor_here}
-use Rattle.store_rule.specs.declared.store.Pass.{Pass}
-use Rattle.store_rule.specs.declared.store.Store.{Store}
-use Rattle.pass_cells.specs.Holding as cells
-use Rattle.pass_cells.specs.Holding.{KeepsPass}
-use Rattle.pass_cells.specs.declared.taken.TakenCell.{TakenCell}
-use Rattle.pass_leaves.specs.Hand.{HoldsLeaves, IsLeafOfKey}
+use Rattle.pass_moves.specs.LeafStore.Merging.{IsLeftmostWindow}
+use Rattle.pass_moves.specs.LeafStore.Pairs.{Stands}
+use Rattle.pass_moves.proofs.LeafStore.RangeLemmas.{moved_over}
+use Rattle.pass_moves.proofs.LeafStore.SparseLemmas.{sparse_few}
+use Rattle.pass_moves.proofs.LeafStore.WalkLemmas.{floor_here}
+use Rattle.pass_moves.specs.StoreRuleDeclared.store.Pass.{Pass}
+use Rattle.pass_moves.specs.StoreRuleDeclared.store.Store.{Store}
+use Rattle.pass_moves.specs.PassCells.Holding as cells
+use Rattle.pass_moves.specs.PassCells.Holding.{KeepsPass}
+use Rattle.pass_moves.specs.PassCellsDeclared.taken.TakenCell.{TakenCell}
+use Rattle.pass_moves.specs.PassLeaves.Hand.{HoldsLeaves, IsLeafOfKey}
 use Rattle.pass_moves.specs.Moving.{values_of}
 use Rattle.pass_moves.proofs.KeyLemmas.{eight_cells, known_sound, one_leaf}
-use Rattle.pass_steps.specs.Passes.{HoldsNone, IsPassOf}
-use Rattle.pass_sweeps.specs.Stepping.{ChoosesLeaf, key_after}
+use Rattle.pass_writes.specs.PassSteps.Passes.{HoldsNone, IsPassOf}
+use Rattle.pass_writes.specs.PassSweeps.Stepping.{ChoosesLeaf, key_after}
 use Rattle.pass_writes.proofs.HandLemmas.{pass_kept}
 use Rattle.pass_merges.specs.Pairs.{StandTogether}
 use Rattle.pass_merges.specs.Turns.{IsPairTurn, IsTurnOf}

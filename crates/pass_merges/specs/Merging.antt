@@ -2,12 +2,12 @@
 use Rattle.std.specs.Prelude.{◌≡◌, ℕ, ◌+◌, ◌≤◌, List, [], ◌∷◌, ◌++◌, length, take, drop}
 use Rattle.std.specs.List.{AllByRecursion}
 use Rattle.graph_model.specs.declared.row.Key.{Key}
-use Rattle.version_segment.specs.Rows.{VersionedRows, IsSegment}
-use Rattle.leaf_array.specs.Leaves.{IsLeaf, Merges}
-use Rattle.leaf_array.specs.Segments.{high_or, low_or, lows_of, rows_of}
-use Rattle.leaf_store.specs.declared.pair.TheConstants.{MERGE_ROWS}
+use Rattle.pass_moves.specs.VersionSegment.Rows.{VersionedRows, IsSegment}
+use Rattle.pass_moves.specs.LeafArray.Leaves.{IsLeaf, Merges}
+use Rattle.pass_moves.specs.LeafArray.Segments.{high_or, low_or, lows_of, rows_of}
+use Rattle.pass_moves.specs.LeafStoreDeclared.pair.TheConstants.{MERGE_ROWS}
 use Rattle.leaf_index.specs.Index.{Index}
-use Rattle.pass_cells.specs.declared.taken.TakenCell.{TakenCell}
+use Rattle.pass_moves.specs.PassCellsDeclared.taken.TakenCell.{TakenCell}
 use Rattle.pass_moves.specs.Moving.{AreMarked, HavePut, values_of}
 use Rattle.pass_merges.specs.declared.pair.LeafPair.{LeafPair}
 use Rattle.pass_merges.specs.Pairs.{StandTogether, in_one}

@@ -1,11 +1,11 @@
 -- Turns of merging.
 use Rattle.std.specs.Prelude.{◌≡◌, ℕ, Bool, true, false, List}
 use Rattle.density_tree.specs.declared.window.Window.{Window}
-use Rattle.version_segment.specs.Rows.{VersionedRows}
-use Rattle.leaf_array.specs.Leaves.{SpreadsWindow}
-use Rattle.leaf_array.specs.Segments.{counts_of}
+use Rattle.pass_moves.specs.VersionSegment.Rows.{VersionedRows}
+use Rattle.pass_moves.specs.LeafArray.Leaves.{SpreadsWindow}
+use Rattle.pass_moves.specs.LeafArray.Segments.{counts_of}
 use Rattle.leaf_index.specs.Index.{Index}
-use Rattle.leaf_store.specs.Merging.{IsLeftmostWindow}
+use Rattle.pass_moves.specs.LeafStore.Merging.{IsLeftmostWindow}
 use Rattle.pass_merges.specs.Merging.{MergesInHand}
 use Rattle.pass_merges.specs.declared.pair.LeafPair.{LeafPair}
 use Rattle.pass_merges.specs.declared.turn.LeavesMerged.{LeavesMerged}

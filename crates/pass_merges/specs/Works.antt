@@ -1,8 +1,8 @@
 -- What there is to do with a leaf.
 use Rattle.std.specs.Prelude.{List}
-use Rattle.version_segment.specs.Rows.{VersionedRows}
-use Rattle.leaf_array.specs.Segments.{counts_of}
-use Rattle.leaf_store.specs.Merging.{IsLeftmostWindow, IsLevel}
+use Rattle.pass_moves.specs.VersionSegment.Rows.{VersionedRows}
+use Rattle.pass_moves.specs.LeafArray.Segments.{counts_of}
+use Rattle.pass_moves.specs.LeafStore.Merging.{IsLeftmostWindow, IsLevel}
 use Rattle.pass_merges.specs.declared.work.Work.{Work}
 use Rattle.pass_merges.specs.declared.work.Work.TheVariants.{Spread, Look, Nothing}
 

@@ -2,12 +2,12 @@
 
 ghost use Rattle.std.specs.Prelude.{◌≡◌, ◌≤◌, [], ◌∷◌, IfOk};
 ghost use Rattle.std.specs.Vec.{vec_capacity};
-ghost use Rattle.leaf_array.specs.Segments.{counts_of};
-ghost use Rattle.leaf_store.specs.Merging.{IsLeftmostWindow};
-ghost use Rattle.leaf_store.specs.Pairs.{Stands};
-ghost use Rattle.pass_cells.specs.Holding.{HoldsNone, KeepsPass};
-ghost use Rattle.pass_leaves.specs.Fit.{TellsFit};
-ghost use Rattle.pass_leaves.specs.Hand.{HoldsLeaves};
+ghost use Rattle.pass_moves.specs.LeafArray.Segments.{counts_of};
+ghost use Rattle.pass_moves.specs.LeafStore.Merging.{IsLeftmostWindow};
+ghost use Rattle.pass_moves.specs.LeafStore.Pairs.{Stands};
+ghost use Rattle.pass_moves.specs.PassCells.Holding.{HoldsNone, KeepsPass};
+ghost use Rattle.pass_moves.specs.PassLeaves.Fit.{TellsFit};
+ghost use Rattle.pass_moves.specs.PassLeaves.Hand.{HoldsLeaves};
 ghost use Rattle.pass_moves.specs.Moving.{values_of};
 ghost use Rattle.pass_merges.specs.Turns.{IsPairTurn, IsTurnOf};
 
@@ -17,14 +17,12 @@ use crate::turn::{LeavesMerged, MergeTurn, WindowSpread};
 use crate::work::stand_together;
 use density_tree::Window;
 use graph_model::{Key, NoMemory};
-use leaf_array::Leaf;
-use leaf_store::MERGE_ROWS;
-use pass_cells::{CellHints, TakenCell};
-use pass_leaves::{HeldIndex, PassLeaves};
+use pass_moves::below::{
+    CellHints, HeldIndex, Leaf, MERGE_ROWS, Pass, PassLeaves, Store, TakenCell,
+};
 use pass_moves::spread_window;
 use std::alloc::Global;
 use std::sync::Wait;
-use store_rule::{Pass, Store};
 
 /// Spreads the first sparse window of a leaf in hand.
 pub(crate) fn spread_in_hand(

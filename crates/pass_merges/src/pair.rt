@@ -1,12 +1,12 @@
 //! Two leaves in hand that become one.
 
 ghost use Rattle.std.specs.Prelude.{◌≡◌, ◌≤◌, ◌<◌, ◌*◌, [], ◌∷◌, take, drop, length, IfOk, OnErr, OnOk};
-ghost use Rattle.leaf_array.specs.Segments.{AreSame, rows_of};
+ghost use Rattle.pass_moves.specs.LeafArray.Segments.{AreSame, rows_of};
 ghost use Rattle.leaf_index.specs.Index.{IsIndex, IsTaken};
-ghost use Rattle.leaf_store.specs.declared.pair.TheConstants.{MERGE_ROWS, STAMPS_END};
-ghost use Rattle.pass_cells.specs.Holding.{KeepsPass};
-ghost use Rattle.pass_leaves.specs.Fit.{TellsFit};
-ghost use Rattle.pass_leaves.specs.Hand.{HoldsLeaves};
+ghost use Rattle.pass_moves.specs.LeafStoreDeclared.pair.TheConstants.{MERGE_ROWS, STAMPS_END};
+ghost use Rattle.pass_moves.specs.PassCells.Holding.{KeepsPass};
+ghost use Rattle.pass_moves.specs.PassLeaves.Fit.{TellsFit};
+ghost use Rattle.pass_moves.specs.PassLeaves.Hand.{HoldsLeaves};
 ghost use Rattle.pass_moves.specs.Moving.{values_of};
 ghost use Rattle.pass_moves.specs.Spreading.{KeepsContents};
 ghost use Rattle.pass_merges.specs.Merging.{MayMerge, MergesCells, MergesInHand};
@@ -14,14 +14,10 @@ ghost use Rattle.pass_merges.specs.Pairs.{MayJoin, StandTogether, in_one};
 
 use crate::retiring::Retiring;
 use graph_model::{Key, LEAF_SEGMENTS, NoMemory};
-use leaf_array::{Leaf, merge_leaves};
 use leaf_index::LeafIndex;
-use leaf_table::cuts_of;
-use pass_cells::TakenCell;
-use pass_leaves::HeldIndex;
+use pass_moves::below::{HeldIndex, Leaf, Pass, Store, TakenCell, cuts_of, merge_leaves};
 use pass_moves::{count_rows, exchange, mark};
 use std::alloc::Global;
-use store_rule::{Pass, Store};
 
 /// Two neighbours by their numbers.
 #[derive(Clone, Copy, Debug, PartialEq, Eq)]

@@ -1,8 +1,7 @@
 //! The load of the clock by which a pass knows that two leaves have become one.
 
 use leaf_index::LeafIndex;
-use pass_cells::TakenCell;
-use store_rule::Change;
+use pass_moves::below::{Change, TakenCell};
 
 /// Rows have moved among the cells in hand, and the index has one entry for them. The leaf that has none any more is
 /// retired with the number that is loaded: whoever has noted it began no later.
@@ -14,7 +13,7 @@ pub(crate) struct Retiring<'a> {
 }
 
 impl Change for Retiring<'_> {
-    ghost use Rattle.rule_model.specs.Steps.{Nothing};
+    ghost use Rattle.pass_moves.specs.RuleModel.Steps.{Nothing};
     ghost use Rattle.pass_moves.specs.Spreading.{moved};
     ghost use Rattle.pass_merges.specs.Merging.{retired_at};
 

@@ -1,13 +1,13 @@
 //! Windows of a leaf in hand that have a cell with too few rows.
 
 ghost use Rattle.std.specs.Prelude.{◌≡◌, ◌*◌, ◌<◌, ◌≤◌, ℕ, None, IfSome, length};
-ghost use Rattle.leaf_array.specs.Segments.{counts_of, rows_of};
-ghost use Rattle.leaf_store.specs.Merging.{HasNoWindow, IsLeftmostWindow};
+ghost use Rattle.pass_moves.specs.LeafArray.Segments.{counts_of, rows_of};
+ghost use Rattle.pass_moves.specs.LeafStore.Merging.{HasNoWindow, IsLeftmostWindow};
 ghost use Rattle.pass_moves.specs.Moving.{values_of};
 
 use density_tree::{LOWER_LIMITS, Window, window_for_sparse};
 use graph_model::LEAF_SEGMENTS;
-use pass_cells::TakenCell;
+use pass_moves::below::TakenCell;
 
 /// The smallest window with enough rows, round the first cell with too few that has one.
 pub(crate) fn sparse_window(counts: [u8; LEAF_SEGMENTS]) -> Option<Window>

@@ -2,10 +2,10 @@
 
 ghost use Rattle.std.specs.Prelude.{◌≡◌, ℕ, [], IfOk};
 ghost use Rattle.graph_model.specs.Rows.{first_key};
-ghost use Rattle.pass_cells.specs.Holding.{KeepsPass};
-ghost use Rattle.pass_cells.specs.Holding as holding;
-ghost use Rattle.pass_steps.specs.Passes.{HoldsNone, IsPassOf};
-ghost use Rattle.pass_sweeps.specs.Stepping.{ChoosesLeaf};
+ghost use Rattle.pass_moves.specs.PassCells.Holding.{KeepsPass};
+ghost use Rattle.pass_moves.specs.PassCells.Holding as holding;
+ghost use Rattle.pass_writes.specs.PassSteps.Passes.{HoldsNone, IsPassOf};
+ghost use Rattle.pass_writes.specs.PassSweeps.Stepping.{ChoosesLeaf};
 ghost use Rattle.pass_merges.specs.Turns.{IsTurnOf};
 
 use crate::hand::{merge_with, spread_in_hand};
@@ -13,13 +13,10 @@ use crate::pair::LeafPair;
 use crate::turn::MergeTurn;
 use crate::work::{Work, find_work};
 use graph_model::{Key, NoMemory};
-use leaf_array::Leaf;
-use pass_cells::CellHints;
-use pass_leaves::{LeafInHand, PassLeaves};
-use pass_sweeps::key_after;
+use pass_moves::below::{CellHints, Leaf, LeafInHand, Pass, PassLeaves, Store};
+use pass_writes::below::key_after;
 use std::alloc::Global;
 use std::sync::Wait;
-use store_rule::{Pass, Store};
 
 /// Where a pass's next turn of merging begins. Between two turns leaves may come and go: the leaf whose range holds the
 /// key is the next one then.

@@ -3,15 +3,13 @@
 //! That a turn has changed something is told by values that are made here alone, of leaves in hand.
 
 ghost use Rattle.std.specs.Prelude.{◌≡◌, ◌∷◌, []};
-ghost use Rattle.pass_leaves.specs.Hand.{HoldsLeaves};
+ghost use Rattle.pass_moves.specs.PassLeaves.Hand.{HoldsLeaves};
 ghost use Rattle.pass_moves.specs.Moving.{values_of};
 ghost use Rattle.pass_merges.specs.Turns.{WasMerged, WasSpread, changes, leaf_of, pair_of};
 
 use crate::pair::LeafPair;
 use density_tree::Window;
-use pass_cells::TakenCell;
-use pass_leaves::HeldIndex;
-use store_rule::{Pass, Store};
+use pass_moves::below::{HeldIndex, Pass, Store, TakenCell};
 
 /// A window of a leaf that was spread.
 #[derive(Debug, Drop, PartialEq, Eq)]

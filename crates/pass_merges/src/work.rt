@@ -10,8 +10,7 @@ use crate::sparse::{counts_in, rows_in, sparse_window};
 use density_tree::Window;
 use graph_model::Key;
 use leaf_index::{LeafIndex, LeafRange};
-use leaf_store::MERGE_ROWS;
-use pass_cells::TakenCell;
+use pass_moves::below::{MERGE_ROWS, TakenCell};
 
 /// What it is.
 #[derive(Clone, Copy, Debug, PartialEq, Eq)]

@@ -14,24 +14,24 @@ use Rattle.leaf_index.specs.Calls.{new_index}
 use Rattle.leaf_index.specs.declared.index.LeafIndex.{LeafIndex}
 use Rattle.seat_views.specs.Keeping.{kept_at, revised}
 use Rattle.seat_views.proofs.NumberLemmas.{eq_of, kept-append, none_or_some, revised-none, revised-some, some_is}
-use Rattle.cells_model.specs.Cells.{CellState}
-use Rattle.cells_model.specs.InPlace.{segment_of}
-use Rattle.cells_model.specs.Words.{HasSmallWeights}
-use Rattle.version_segment.specs.Rows.{VersionedRows, IsSameSegment, IsSegment}
-use Rattle.leaf_array.specs.Segments.{AreSame}
-use Rattle.rule_model.specs.MoveSteps.{IsMove}
-use Rattle.rule_model.specs.Sight.{Agrees, HasCell, HasIndex, IndexState, Sight, cells_of}
-use Rattle.store_rule.specs.Passes.{OnlyAccount}
-use Rattle.store_rule.specs.declared.slot.Room.{Room}
-use Rattle.store_rule.specs.declared.slot.StoreSlot.{StoreSlot}
-use Rattle.store_rule.specs.declared.slot.StoreSlot.TheVariants as slots
-use Rattle.store_rule.specs.declared.store.Pass.{Pass}
-use Rattle.store_rule.specs.declared.store.Store.{Store}
-use Rattle.pass_cells.specs.declared.taken.TakenCell.{TakenCell}
-use Rattle.pass_cells.specs.Changes.{news_of}
-use Rattle.pass_cells.specs.Holding.{AreKnown, IsLatchOf, KeepsPass, numbers_of, slots_out}
-use Rattle.pass_cells.specs.Taken.{AreApart, counted, is_taken}
-use Rattle.pass_cells.proofs.StepLemmas.{news_taken}
+use Rattle.pass_leaves.specs.CellsModel.Cells.{CellState}
+use Rattle.pass_leaves.specs.CellsModel.InPlace.{segment_of}
+use Rattle.pass_leaves.specs.CellsModel.Words.{HasSmallWeights}
+use Rattle.pass_leaves.specs.VersionSegment.Rows.{VersionedRows, IsSameSegment, IsSegment}
+use Rattle.pass_leaves.specs.LeafArray.Segments.{AreSame}
+use Rattle.pass_leaves.specs.RuleModel.MoveSteps.{IsMove}
+use Rattle.pass_leaves.specs.RuleModel.Sight.{Agrees, HasCell, HasIndex, IndexState, Sight, cells_of}
+use Rattle.pass_leaves.specs.StoreRule.Passes.{OnlyAccount}
+use Rattle.pass_leaves.specs.StoreRuleDeclared.slot.Room.{Room}
+use Rattle.pass_leaves.specs.StoreRuleDeclared.slot.StoreSlot.{StoreSlot}
+use Rattle.pass_leaves.specs.StoreRuleDeclared.slot.StoreSlot.TheVariants as slots
+use Rattle.pass_leaves.specs.StoreRuleDeclared.store.Pass.{Pass}
+use Rattle.pass_leaves.specs.StoreRuleDeclared.store.Store.{Store}
+use Rattle.pass_leaves.specs.PassCellsDeclared.taken.TakenCell.{TakenCell}
+use Rattle.pass_leaves.specs.PassCells.Changes.{news_of}
+use Rattle.pass_leaves.specs.PassCells.Holding.{AreKnown, IsLatchOf, KeepsPass, numbers_of, slots_out}
+use Rattle.pass_leaves.specs.PassCells.Taken.{AreApart, counted, is_taken}
+use Rattle.pass_leaves.proofs.PassCells.StepLemmas.{news_taken}
 use Rattle.pass_leaves.specs.Fit.{FitTogether, TellsFit}
 use Rattle.pass_leaves.specs.Hand.{HasIndexHeld, HoldsLeaves}
 use Rattle.pass_moves.specs.Moving.{HavePut, MoveCells, values_of}

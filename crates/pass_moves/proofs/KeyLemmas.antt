@@ -8,38 +8,38 @@ use Rattle.std.specs.declared.boxed.Box.{Box}
 use Rattle.graph_model.specs.declared.row.Key.{Key}
 use Rattle.graph_model.specs.Rows.{is_below, end_key, is_between}
 use Rattle.txn_manager.specs.declared.config.Config.{Config}
-use Rattle.version_segment.specs.Rows.{VersionedRows, IsSegment}
-use Rattle.leaf_array.specs.Segments.{AreSame, counts_of, HoldsKey, rows_of}
-use Rattle.leaf_array.proofs.LeafLemmas.{Follow}
+use Rattle.pass_leaves.specs.VersionSegment.Rows.{VersionedRows, IsSegment}
+use Rattle.pass_leaves.specs.LeafArray.Segments.{AreSame, counts_of, HoldsKey, rows_of}
+use Rattle.pass_leaves.proofs.LeafArray.LeafLemmas.{Follow}
 use Rattle.latch_table.specs.declared.cells.Held.{Held}
 use Rattle.leaf_index.specs.Index.{Entry, Index, IsFloor, IsRoute, NotAbove, end_of}
 use Rattle.leaf_index.specs.Index as leaf_index
 use Rattle.leaf_index.specs.declared.index.LeafIndex.{LeafIndex}
 use Rattle.leaf_index.specs.declared.route.Route.{Route}
-use Rattle.leaf_table.specs.declared.place.Place.{Place}
-use Rattle.leaf_store.specs.Leaves.{cell_in}
-use Rattle.leaf_store.specs.Pairs.{Stands}
-use Rattle.leaf_store.specs.Table.{IsPlace, IsTied, segments_at}
-use Rattle.leaf_store.proofs.CellLemmas.{AreSound, cell_here, holds}
-use Rattle.leaf_store.proofs.MoveLemmas.{room_in_spread}
-use Rattle.leaf_store.proofs.RoomLemmas.{few_in_window}
+use Rattle.pass_leaves.specs.LeafTableDeclared.place.Place.{Place}
+use Rattle.pass_leaves.specs.LeafStore.Leaves.{cell_in}
+use Rattle.pass_leaves.specs.LeafStore.Pairs.{Stands}
+use Rattle.pass_leaves.specs.LeafStore.Table.{IsPlace, IsTied, segments_at}
+use Rattle.pass_leaves.proofs.LeafStore.CellLemmas.{AreSound, cell_here, holds}
+use Rattle.pass_leaves.proofs.LeafStore.MoveLemmas.{room_in_spread}
+use Rattle.pass_leaves.proofs.LeafStore.RoomLemmas.{few_in_window}
 use Rattle.density_tree.specs.declared.window.Window.{Window}
 use Rattle.density_tree.specs.Windows.{Fits, IsSmallest}
 use Rattle.graph_model.specs.declared.limits.TheConstants.{SEGMENT_ROWS}
-use Rattle.leaf_array.specs.Leaves.{SpreadsWindow, window_of}
+use Rattle.pass_leaves.specs.LeafArray.Leaves.{SpreadsWindow, window_of}
 use Rattle.room_choice.specs.Choice.{IsCrowded, IsSpread}
 use Rattle.pass_moves.specs.Room.{HasRoom, IsCrowdedAt, KnowsLeaf}
-use Rattle.leaf_store.proofs.ListLemmas.{all_back}
-use Rattle.leaf_store.proofs.TableLemmas.{located, tied_follow}
-use Rattle.cells_model.specs.Indexed.{covers, leaf_cells, table_of}
-use Rattle.cells_model.specs.InPlace.{segment_of}
-use Rattle.cells_model.proofs.RunLemmas.{segments_table}
-use Rattle.rule_model.specs.Sight.{IndexState, Sight}
-use Rattle.store_rule.specs.declared.store.Pass.{Pass}
-use Rattle.store_rule.specs.declared.store.Store.{Store}
-use Rattle.pass_cells.specs.declared.taken.TakenCell.{TakenCell}
-use Rattle.pass_cells.specs.Holding.{AreKnown, numbers_of}
-use Rattle.pass_cells.proofs.DoneLemmas.{none_behind}
+use Rattle.pass_leaves.proofs.LeafStore.ListLemmas.{all_back}
+use Rattle.pass_leaves.proofs.LeafStore.TableLemmas.{located, tied_follow}
+use Rattle.pass_leaves.specs.CellsModel.Indexed.{covers, leaf_cells, table_of}
+use Rattle.pass_leaves.specs.CellsModel.InPlace.{segment_of}
+use Rattle.pass_leaves.proofs.CellsModel.RunLemmas.{segments_table}
+use Rattle.pass_leaves.specs.RuleModel.Sight.{IndexState, Sight}
+use Rattle.pass_leaves.specs.StoreRuleDeclared.store.Pass.{Pass}
+use Rattle.pass_leaves.specs.StoreRuleDeclared.store.Store.{Store}
+use Rattle.pass_leaves.specs.PassCellsDeclared.taken.TakenCell.{TakenCell}
+use Rattle.pass_leaves.specs.PassCells.Holding.{AreKnown, numbers_of}
+use Rattle.pass_leaves.proofs.PassCells.DoneLemmas.{none_behind}
 use Rattle.pass_leaves.specs.Fit.{FitTogether, TellsFit}
 use Rattle.pass_leaves.specs.Hand.{HoldsLeaves, IsLeafOfKey, numbers_from}
 use Rattle.pass_moves.specs.Moving.{values_of}

@@ -4,3 +4,7 @@ pub mod HandLemmas
 pub mod StepLemmas
 pub mod KeyLemmas
 pub mod TwoLeaves
+pub mod LeafArray
+pub mod LeafStore
+pub mod PassCells
+pub mod RuleModel

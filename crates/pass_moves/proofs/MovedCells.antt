@@ -6,21 +6,21 @@ use Rattle.graph_model.proofs.TestLemmas.{eq_of, never, self_eq}
 use Rattle.txn_manager.specs.declared.config.Config.{Config}
 use Rattle.seat_views.specs.Keeping.{kept_at, revised}
 use Rattle.seat_views.proofs.NumberLemmas.{revised-none, revised-some}
-use Rattle.version_segment.specs.Rows.{IsSameSegment}
-use Rattle.leaf_array.specs.Segments.{AreSame}
+use Rattle.pass_leaves.specs.VersionSegment.Rows.{IsSameSegment}
+use Rattle.pass_leaves.specs.LeafArray.Segments.{AreSame}
 use Rattle.latch_table.specs.Latched.{is_held}
-use Rattle.cells_model.specs.Cells.{CellState}
-use Rattle.cells_model.specs.Indexed.{cells_from}
-use Rattle.cells_model.specs.InPlace.{segment_of}
-use Rattle.cells_model.specs.Moved.{KeepsOtherLeaves}
-use Rattle.store_words.specs.Spelling.{IsUntouched}
-use Rattle.rule_model.specs.RowSteps.{AreHeld}
-use Rattle.rule_model.specs.Sight.{Agrees, HasCell, Sight, cells_of}
-use Rattle.pass_cells.specs.declared.taken.TakenCell.{TakenCell}
-use Rattle.pass_cells.specs.Changes.{news_of, state_of}
-use Rattle.pass_cells.specs.Holding.{AreKnown, numbers_of}
-use Rattle.pass_cells.specs.Taken.{AreApart, counted, is_taken}
-use Rattle.pass_cells.proofs.StepLemmas.{none_taken, same_spells, state_is}
+use Rattle.pass_leaves.specs.CellsModel.Cells.{CellState}
+use Rattle.pass_leaves.specs.CellsModel.Indexed.{cells_from}
+use Rattle.pass_leaves.specs.CellsModel.InPlace.{segment_of}
+use Rattle.pass_leaves.specs.CellsModel.Moved.{KeepsOtherLeaves}
+use Rattle.pass_leaves.specs.StoreWords.Spelling.{IsUntouched}
+use Rattle.pass_leaves.specs.RuleModel.RowSteps.{AreHeld}
+use Rattle.pass_leaves.specs.RuleModel.Sight.{Agrees, HasCell, Sight, cells_of}
+use Rattle.pass_leaves.specs.PassCellsDeclared.taken.TakenCell.{TakenCell}
+use Rattle.pass_leaves.specs.PassCells.Changes.{news_of, state_of}
+use Rattle.pass_leaves.specs.PassCells.Holding.{AreKnown, numbers_of}
+use Rattle.pass_leaves.specs.PassCells.Taken.{AreApart, counted, is_taken}
+use Rattle.pass_leaves.proofs.PassCells.StepLemmas.{none_taken, same_spells, state_is}
 use Rattle.pass_leaves.specs.Hand.{numbers_from}
 use Rattle.pass_leaves.proofs.NumberLemmas.{taken_held}
 use Rattle.pass_moves.specs.Moving.{MoveCells, values_of}

@@ -3,35 +3,35 @@ use Rattle.std.proofs.Common.{◌≡◌, ◌⊎◌, inl, inr, ℕ, zero, suc, �
 use Rattle.std.specs.Prelude.{true, false, ◌==◌, ◌||◌, Result, Ok, Err, OnOk, OnErr}
 use Rattle.items.specs.declared.memory.NoMemory.{NoMemory}
 use Rattle.density_tree.specs.declared.window.Window.{Window}
-use Rattle.leaf_array.specs.Leaves.{SpreadsWindow}
+use Rattle.pass_leaves.specs.LeafArray.Leaves.{SpreadsWindow}
 use Rattle.std.specs.List.{AllByRecursion}
 use Rattle.std.specs.declared.alloc.Global.{Global}
 use Rattle.graph_model.specs.declared.row.Key.{Key}
 use Rattle.store_model.specs.Stamped.{StampedVersions}
 use Rattle.txn_manager.specs.declared.config.Config.{Config}
-use Rattle.version_segment.specs.Rows.{VersionedRows, IsSameSegment, IsSegment}
-use Rattle.leaf_array.specs.Segments.{AreSame, lows_of, rows_of}
-use Rattle.leaf_array.proofs.CountLemmas.{same-rows, same-length, same-low, same-high}
+use Rattle.pass_leaves.specs.VersionSegment.Rows.{VersionedRows, IsSameSegment, IsSegment}
+use Rattle.pass_leaves.specs.LeafArray.Segments.{AreSame, lows_of, rows_of}
+use Rattle.pass_leaves.proofs.LeafArray.CountLemmas.{same-rows, same-length, same-low, same-high}
 use Rattle.leaf_index.specs.Index.{AreCuts, Entry, HaveCuts, Index, IsIndex, end_of}
-use Rattle.leaf_store.specs.Leaves.{cell_in}
-use Rattle.leaf_store.specs.Table.{AreTied, IsTied}
-use Rattle.leaf_store.proofs.MoveLemmas.{Respreads, room_of, same_keep_room, same_lows, same_respreads}
-use Rattle.leaf_store.proofs.RoomLemmas.{memory_within}
-use Rattle.leaf_store.proofs.TableLemmas.{cuts_at, tied_at}
-use Rattle.cells_model.specs.Cells.{CellState}
-use Rattle.cells_model.specs.Indexed.{IsIndexed, leaf_cells, table_of}
-use Rattle.cells_model.specs.InPlace.{segment_of}
-use Rattle.cells_model.specs.Moved.{with_entry}
-use Rattle.cells_model.specs.Words.{HasSmallValues, HasSmallWeights}
-use Rattle.cells_model.proofs.RunLemmas.{length_from, segments_table}
+use Rattle.pass_leaves.specs.LeafStore.Leaves.{cell_in}
+use Rattle.pass_leaves.specs.LeafStore.Table.{AreTied, IsTied}
+use Rattle.pass_leaves.proofs.LeafStore.MoveLemmas.{Respreads, room_of, same_keep_room, same_lows, same_respreads}
+use Rattle.pass_leaves.proofs.LeafStore.RoomLemmas.{memory_within}
+use Rattle.pass_leaves.proofs.LeafStore.TableLemmas.{cuts_at, tied_at}
+use Rattle.pass_leaves.specs.CellsModel.Cells.{CellState}
+use Rattle.pass_leaves.specs.CellsModel.Indexed.{IsIndexed, leaf_cells, table_of}
+use Rattle.pass_leaves.specs.CellsModel.InPlace.{segment_of}
+use Rattle.pass_leaves.specs.CellsModel.Moved.{with_entry}
+use Rattle.pass_leaves.specs.CellsModel.Words.{HasSmallValues, HasSmallWeights}
+use Rattle.pass_leaves.proofs.CellsModel.RunLemmas.{length_from, segments_table}
 use Rattle.seat_views.specs.Keeping.{revised}
-use Rattle.rule_model.specs.MoveSteps.{IsMove}
-use Rattle.rule_model.specs.Sight.{Agrees, IndexState, Sight}
-use Rattle.rule_model.proofs.MoveStepLemmas.{spread_is_move}
-use Rattle.pass_cells.specs.declared.taken.TakenCell.{TakenCell}
-use Rattle.pass_cells.specs.Changes.{news_of}
-use Rattle.pass_cells.specs.Holding.{AreKnown, numbers_of}
-use Rattle.pass_cells.specs.Taken.{AreApart, is_taken}
+use Rattle.pass_leaves.specs.RuleModel.MoveSteps.{IsMove}
+use Rattle.pass_leaves.specs.RuleModel.Sight.{Agrees, IndexState, Sight}
+use Rattle.pass_leaves.proofs.RuleModel.MoveStepLemmas.{spread_is_move}
+use Rattle.pass_leaves.specs.PassCellsDeclared.taken.TakenCell.{TakenCell}
+use Rattle.pass_leaves.specs.PassCells.Changes.{news_of}
+use Rattle.pass_leaves.specs.PassCells.Holding.{AreKnown, numbers_of}
+use Rattle.pass_leaves.specs.PassCells.Taken.{AreApart, is_taken}
 use Rattle.pass_leaves.specs.Fit.{FitTogether}
 use Rattle.pass_leaves.specs.Hand.{numbers_from}
 use Rattle.pass_moves.specs.Moving.{AreMarked, HasPut, HavePut, IsMarked, MoveCells, MovesCell, values_of}

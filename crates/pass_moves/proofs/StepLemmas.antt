@@ -6,35 +6,35 @@ use Rattle.std.specs.declared.boxed.Box.{Box}
 use Rattle.std.proofs.lemmas.List.{length-map}
 use Rattle.graph_model.specs.declared.row.Key.{Key}
 use Rattle.txn_manager.specs.declared.config.Config.{Config}
-use Rattle.version_segment.specs.Rows.{VersionedRows}
+use Rattle.pass_leaves.specs.VersionSegment.Rows.{VersionedRows}
 use Rattle.density_tree.specs.declared.window.Window.{Window}
-use Rattle.leaf_array.specs.Leaves.{IsWindow, window_of}
-use Rattle.leaf_array.specs.Segments.{lows_of, rows_of}
-use Rattle.leaf_array.proofs.LeafLemmas.{Follow, follow-low, follow-of}
+use Rattle.pass_leaves.specs.LeafArray.Leaves.{IsWindow, window_of}
+use Rattle.pass_leaves.specs.LeafArray.Segments.{lows_of, rows_of}
+use Rattle.pass_leaves.proofs.LeafArray.LeafLemmas.{Follow, follow-low, follow-of}
 use Rattle.latch_table.specs.declared.cells.Held.{Held}
 use Rattle.leaf_index.specs.Index.{AreCuts, AreSorted, Entry, Index, IsIndex, end_of}
 use Rattle.leaf_index.specs.Calls.{CanCut, with_cuts}
 use Rattle.leaf_index.specs.declared.index.LeafIndex.{LeafIndex}
-use Rattle.leaf_store.specs.Pairs.{Stands}
-use Rattle.leaf_store.specs.Table.{IsTied}
-use Rattle.leaf_store.proofs.MoveLemmas.{Respreads, sorted_lows, spread_respreads}
-use Rattle.leaf_store.proofs.TableLemmas.{tied_follow}
-use Rattle.cells_model.specs.InPlace.{segment_of}
-use Rattle.cells_model.specs.Moved.{with_entry}
+use Rattle.pass_leaves.specs.LeafStore.Pairs.{Stands}
+use Rattle.pass_leaves.specs.LeafStore.Table.{IsTied}
+use Rattle.pass_leaves.proofs.LeafStore.MoveLemmas.{Respreads, sorted_lows, spread_respreads}
+use Rattle.pass_leaves.proofs.LeafStore.TableLemmas.{tied_follow}
+use Rattle.pass_leaves.specs.CellsModel.InPlace.{segment_of}
+use Rattle.pass_leaves.specs.CellsModel.Moved.{with_entry}
 use Rattle.seat_views.specs.Keeping.{revised}
-use Rattle.rule_model.specs.MoveSteps.{CanMove, IsMove}
-use Rattle.rule_model.specs.Places.{lines}
-use Rattle.rule_model.specs.Sight.{IndexState, Sight, no_news, with_news}
-use Rattle.rule_model.specs.Steps.{AllowsLoad, Nothing}
-use Rattle.rule_model.proofs.MoveStepLemmas.{rows_are_moved}
-use Rattle.store_rule.specs.declared.store.Pass.{Pass}
-use Rattle.store_rule.specs.declared.store.Store.{Store}
-use Rattle.store_words.specs.Steps.{MayLoad}
-use Rattle.pass_cells.specs.declared.taken.TakenCell.{TakenCell}
-use Rattle.pass_cells.specs.Changes.{news_of}
-use Rattle.pass_cells.specs.Holding.{numbers_of}
-use Rattle.pass_cells.specs.Taken.{counted}
-use Rattle.pass_cells.proofs.DoneLemmas.{none_behind}
+use Rattle.pass_leaves.specs.RuleModel.MoveSteps.{CanMove, IsMove}
+use Rattle.pass_leaves.specs.RuleModel.Places.{lines}
+use Rattle.pass_leaves.specs.RuleModel.Sight.{IndexState, Sight, no_news, with_news}
+use Rattle.pass_leaves.specs.RuleModel.Steps.{AllowsLoad, Nothing}
+use Rattle.pass_leaves.proofs.RuleModel.MoveStepLemmas.{rows_are_moved}
+use Rattle.pass_leaves.specs.StoreRuleDeclared.store.Pass.{Pass}
+use Rattle.pass_leaves.specs.StoreRuleDeclared.store.Store.{Store}
+use Rattle.pass_leaves.specs.StoreWords.Steps.{MayLoad}
+use Rattle.pass_leaves.specs.PassCellsDeclared.taken.TakenCell.{TakenCell}
+use Rattle.pass_leaves.specs.PassCells.Changes.{news_of}
+use Rattle.pass_leaves.specs.PassCells.Holding.{numbers_of}
+use Rattle.pass_leaves.specs.PassCells.Taken.{counted}
+use Rattle.pass_leaves.proofs.PassCells.DoneLemmas.{none_behind}
 use Rattle.pass_leaves.specs.Fit.{FitTogether, TellsFit}
 use Rattle.pass_leaves.specs.Hand.{HoldsLeaves, numbers_from}
 use Rattle.pass_moves.specs.Moving.{MoveCells, values_of}

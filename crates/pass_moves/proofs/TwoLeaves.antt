@@ -8,19 +8,19 @@ use Rattle.txn_manager.specs.declared.config.Config.{Config}
 use Rattle.latch_table.specs.Latched.{is_held}
 use Rattle.latch_table.specs.declared.cells.Held.{Held}
 use Rattle.leaf_index.specs.declared.index.LeafIndex.{LeafIndex}
-use Rattle.leaf_store.proofs.ListLemmas.{all_front, all_back}
-use Rattle.cells_model.specs.Cells.{CellState}
-use Rattle.cells_model.specs.InPlace.{segment_of}
-use Rattle.cells_model.specs.Moved.{KeepsOtherLeaves}
+use Rattle.pass_leaves.proofs.LeafStore.ListLemmas.{all_front, all_back}
+use Rattle.pass_leaves.specs.CellsModel.Cells.{CellState}
+use Rattle.pass_leaves.specs.CellsModel.InPlace.{segment_of}
+use Rattle.pass_leaves.specs.CellsModel.Moved.{KeepsOtherLeaves}
 use Rattle.seat_views.specs.Keeping.{revised}
-use Rattle.rule_model.specs.Sight.{Sight}
-use Rattle.store_rule.specs.declared.store.Pass.{Pass}
-use Rattle.store_rule.specs.declared.store.Store.{Store}
-use Rattle.pass_cells.specs.declared.taken.TakenCell.{TakenCell}
-use Rattle.pass_cells.specs.Changes.{news_of}
-use Rattle.pass_cells.specs.Holding.{AreKnown, IsKnown, numbers_of}
-use Rattle.pass_cells.specs.Taken.{is_taken}
-use Rattle.pass_cells.proofs.DoneLemmas.{none_behind}
+use Rattle.pass_leaves.specs.RuleModel.Sight.{Sight}
+use Rattle.pass_leaves.specs.StoreRuleDeclared.store.Pass.{Pass}
+use Rattle.pass_leaves.specs.StoreRuleDeclared.store.Store.{Store}
+use Rattle.pass_leaves.specs.PassCellsDeclared.taken.TakenCell.{TakenCell}
+use Rattle.pass_leaves.specs.PassCells.Changes.{news_of}
+use Rattle.pass_leaves.specs.PassCells.Holding.{AreKnown, IsKnown, numbers_of}
+use Rattle.pass_leaves.specs.PassCells.Taken.{is_taken}
+use Rattle.pass_leaves.proofs.PassCells.DoneLemmas.{none_behind}
 use Rattle.pass_leaves.specs.Hand.{HoldsLeaves, cells_of_leaves, numbers_from}
 use Rattle.pass_leaves.proofs.NumberLemmas.{held_append, taken_held}
 use Rattle.pass_moves.specs.Moving.{MoveCells, values_of}

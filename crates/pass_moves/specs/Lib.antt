@@ -1,3 +1,15 @@
 pub mod Moving
 pub mod Spreading
 pub mod Room
+pub mod CellsModel
+pub mod LeafArray
+pub mod LeafStore
+pub mod LeafStoreDeclared
+pub mod PassCells
+pub mod PassCellsDeclared
+pub mod PassLeaves
+pub mod PassLeavesContracts
+pub mod RuleModel
+pub mod StoreRuleDeclared
+pub mod StoreWords
+pub mod VersionSegment

@@ -1,8 +1,8 @@
 -- Rows that move between cells in hand.
 use Rattle.std.specs.Prelude.{◌≡◌, ℕ, zero, suc, true, false, List, [], ◌∷◌, map}
-use Rattle.version_segment.specs.Rows.{VersionedRows, IsSameSegment, IsSegment}
-use Rattle.cells_model.specs.Words.{HasSmallWeights}
-use Rattle.pass_cells.specs.declared.taken.TakenCell.{TakenCell}
+use Rattle.pass_leaves.specs.VersionSegment.Rows.{VersionedRows, IsSameSegment, IsSegment}
+use Rattle.pass_leaves.specs.CellsModel.Words.{HasSmallWeights}
+use Rattle.pass_leaves.specs.PassCellsDeclared.taken.TakenCell.{TakenCell}
 
 -- ---- contents
 

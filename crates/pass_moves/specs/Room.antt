@@ -5,18 +5,18 @@ use Rattle.std.specs.declared.boxed.Box.{Box}
 use Rattle.graph_model.specs.declared.limits.TheConstants.{SEGMENT_ROWS}
 use Rattle.graph_model.specs.declared.row.Key.{Key}
 use Rattle.txn_manager.specs.declared.config.Config.{Config}
-use Rattle.version_segment.specs.Rows.{VersionedRows}
+use Rattle.pass_leaves.specs.VersionSegment.Rows.{VersionedRows}
 use Rattle.latch_table.specs.declared.cells.Held.{Held}
 use Rattle.leaf_index.specs.Index.{Index}
 use Rattle.leaf_index.specs.declared.index.LeafIndex.{LeafIndex}
-use Rattle.leaf_array.specs.Segments.{HoldsKey, counts_of}
-use Rattle.leaf_store.specs.Leaves.{cell_in}
-use Rattle.cells_model.specs.Indexed.{covers}
-use Rattle.cells_model.specs.Moved.{IsRoutedTo}
-use Rattle.rule_model.specs.Sight.{Sight}
+use Rattle.pass_leaves.specs.LeafArray.Segments.{HoldsKey, counts_of}
+use Rattle.pass_leaves.specs.LeafStore.Leaves.{cell_in}
+use Rattle.pass_leaves.specs.CellsModel.Indexed.{covers}
+use Rattle.pass_leaves.specs.CellsModel.Moved.{IsRoutedTo}
+use Rattle.pass_leaves.specs.RuleModel.Sight.{Sight}
 use Rattle.room_choice.specs.Choice.{IsCrowded}
-use Rattle.pass_cells.specs.declared.taken.TakenCell.{TakenCell}
-use Rattle.pass_cells.specs.Holding.{AreKnown, numbers_of}
+use Rattle.pass_leaves.specs.PassCellsDeclared.taken.TakenCell.{TakenCell}
+use Rattle.pass_leaves.specs.PassCells.Holding.{AreKnown, numbers_of}
 use Rattle.pass_leaves.specs.Hand.{HasIndexHeld, numbers_from}
 use Rattle.pass_moves.specs.declared.room.Room.{Room}
 use Rattle.pass_moves.specs.declared.room.Room.TheVariants as rooms

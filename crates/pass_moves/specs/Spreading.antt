@@ -3,15 +3,15 @@ use Rattle.std.specs.Prelude.{◌≡◌, List, [], ◌∷◌, None, unwrap_or}
 use Rattle.std.specs.List.{AllByRecursion}
 use Rattle.graph_model.specs.declared.row.Key.{Key}
 use Rattle.density_tree.specs.declared.window.Window.{Window}
-use Rattle.version_segment.specs.Rows.{VersionedRows, IsSegment}
-use Rattle.leaf_array.specs.Leaves.{SpreadsWindow}
-use Rattle.leaf_array.specs.Segments.{AreSame, lows_of}
+use Rattle.pass_leaves.specs.VersionSegment.Rows.{VersionedRows, IsSegment}
+use Rattle.pass_leaves.specs.LeafArray.Leaves.{SpreadsWindow}
+use Rattle.pass_leaves.specs.LeafArray.Segments.{AreSame, lows_of}
 use Rattle.leaf_index.specs.Index.{Index}
 use Rattle.leaf_index.specs.Calls.{new_index}
 use Rattle.seat_views.specs.Keeping.{kept_at}
-use Rattle.rule_model.specs.Sight.{IndexState, Sight, no_news, with_news}
-use Rattle.pass_cells.specs.declared.taken.TakenCell.{TakenCell}
-use Rattle.pass_cells.specs.Changes.{news_of}
+use Rattle.pass_leaves.specs.RuleModel.Sight.{IndexState, Sight, no_news, with_news}
+use Rattle.pass_leaves.specs.PassCellsDeclared.taken.TakenCell.{TakenCell}
+use Rattle.pass_leaves.specs.PassCells.Changes.{news_of}
 use Rattle.pass_moves.specs.Moving.{AreMarked, HavePut, values_of}
 
 -- ---- cells

@@ -1,12 +1,11 @@
 //! Contents of cells in hand that are exchanged with the segments of a leaf, where rows move.
 
 ghost use Rattle.std.specs.Prelude.{◌≡◌, length};
-ghost use Rattle.pass_cells.specs.Taken.{counted};
+ghost use Rattle.pass_leaves.specs.PassCells.Taken.{counted};
 ghost use Rattle.pass_moves.specs.Moving.{AreMarked, HavePut, values_of};
 
-use pass_cells::TakenCell;
+use pass_leaves::below::{TakenCell, VersionSegment};
 use std::mem::swap;
-use version_segment::VersionSegment;
 
 /// Exchanges the contents of cells with segments, one after the other.
 pub fn exchange(cells: &mut [TakenCell], segments: &mut [VersionSegment])

@@ -6,6 +6,7 @@
 //! 3. Memory is taken before anything moves. After want of memory only room for records has changed.
 #![tactic(auto)]
 
+pub mod below;
 mod contents;
 mod room;
 mod spread;

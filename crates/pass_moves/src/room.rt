@@ -2,8 +2,8 @@
 
 ghost use Rattle.std.specs.Prelude.{◌≡◌, ◌≤◌, ℕ, true, [], ◌∷◌, length, IfOk, OnErr};
 ghost use Rattle.graph_model.specs.Rows.{is_below, end_key};
-ghost use Rattle.leaf_array.specs.Segments.{AreSame, counts_of};
-ghost use Rattle.pass_cells.specs.Holding.{KeepsPass};
+ghost use Rattle.pass_leaves.specs.LeafArray.Segments.{AreSame, counts_of};
+ghost use Rattle.pass_leaves.specs.PassCells.Holding.{KeepsPass};
 ghost use Rattle.pass_leaves.specs.Fit.{TellsFit};
 ghost use Rattle.pass_leaves.specs.Hand.{HoldsLeaves, IsLeafOfKey};
 ghost use Rattle.pass_moves.specs.Moving.{values_of};
@@ -11,12 +11,10 @@ ghost use Rattle.pass_moves.specs.Room.{IsCrowdedAt, IsRoom, KnowsLeaf};
 
 use crate::spread::spread_window;
 use graph_model::{Key, LEAF_SEGMENTS, NoMemory};
-use leaf_array::Leaf;
-use pass_cells::TakenCell;
 use pass_leaves::HeldIndex;
+use pass_leaves::below::{Leaf, Pass, Store, TakenCell};
 use room_choice::{RoomChoice, choose_room};
 use std::alloc::Global;
-use store_rule::{Pass, Store};
 
 /// Whether a key's cell has the free places that were asked for.
 #[derive(Clone, Copy, Debug, PartialEq, Eq)]

@@ -1,10 +1,10 @@
 //! A window of the leaf in hand that is spread.
 
 ghost use Rattle.std.specs.Prelude.{◌≡◌, ◌≤◌, ◌*◌, ℕ, [], ◌∷◌, length, IfOk, OnErr, OnOk};
-ghost use Rattle.leaf_array.specs.Leaves.{IsLeaf, IsWindow, SpreadsWindow, window_of};
-ghost use Rattle.leaf_array.specs.Segments.{AreSame, rows_of};
-ghost use Rattle.leaf_store.specs.Pairs.{Stands};
-ghost use Rattle.pass_cells.specs.Holding.{KeepsPass};
+ghost use Rattle.pass_leaves.specs.LeafArray.Leaves.{IsLeaf, IsWindow, SpreadsWindow, window_of};
+ghost use Rattle.pass_leaves.specs.LeafArray.Segments.{AreSame, rows_of};
+ghost use Rattle.pass_leaves.specs.LeafStore.Pairs.{Stands};
+ghost use Rattle.pass_leaves.specs.PassCells.Holding.{KeepsPass};
 ghost use Rattle.pass_leaves.specs.Fit.{TellsFit};
 ghost use Rattle.pass_leaves.specs.Hand.{HoldsLeaves};
 ghost use Rattle.pass_moves.specs.Moving.{values_of};
@@ -14,12 +14,9 @@ use crate::contents::{count_rows, exchange, mark};
 use crate::step::Moving;
 use density_tree::Window;
 use graph_model::{Key, LEAF_SEGMENTS, NoMemory};
-use leaf_array::{Leaf, spread};
-use leaf_table::cuts_of;
-use pass_cells::TakenCell;
 use pass_leaves::HeldIndex;
+use pass_leaves::below::{Leaf, Pass, Store, TakenCell, cuts_of, spread};
 use std::alloc::Global;
-use store_rule::{Pass, Store};
 
 /// Spreads a window of the leaf in hand, gives the index the cuts that the leaf has then, and has the pass's view know
 /// both. The rows move in the space that is lent, which has none before and after. Where memory is refused only room

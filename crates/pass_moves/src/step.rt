@@ -1,8 +1,7 @@
 //! The load of the clock by which a pass knows that rows have moved.
 
 use leaf_index::LeafIndex;
-use pass_cells::TakenCell;
-use store_rule::Change;
+use pass_leaves::below::{Change, TakenCell};
 
 /// Rows have moved among the cells in hand, and the index has the cuts that they have now.
 #[derive(Drop)]
@@ -12,7 +11,7 @@ pub struct Moving<'a> {
 }
 
 impl Change for Moving<'_> {
-    ghost use Rattle.rule_model.specs.Steps.{Nothing};
+    ghost use Rattle.pass_leaves.specs.RuleModel.Steps.{Nothing};
     ghost use Rattle.pass_moves.specs.Spreading.{moved};
 
     ghost next = { λ c _ v. moved v c.index.now c.cells.now };

@@ -1,1 +1,13 @@
 pub mod PrunedLemmas
+pub mod CellsModel
+pub mod PassCells
+pub mod PassCellsMade
+pub mod PassSteps
+pub mod PassSweeps
+pub mod RowWrites
+pub mod RuleModel
+pub mod StoreRelation
+pub mod StoreRule
+pub mod StoreRuleMade
+pub mod StoreWordsMade
+pub mod VersionSegment

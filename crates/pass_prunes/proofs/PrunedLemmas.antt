@@ -7,15 +7,15 @@ use Rattle.graph_model.specs.declared.journal.TxnName.{TxnName}
 use Rattle.graph_model.specs.Rows.{first_key}
 use Rattle.txn_manager.specs.declared.config.Config.{Config}
 use Rattle.store_model.specs.Stamped.{prune_stamped}
-use Rattle.version_segment.specs.Rows.{VersionedRows, versions_at}
-use Rattle.version_segment.proofs.LawLemmas.{keys_pruned}
-use Rattle.store_relation.specs.Passes.{PassState}
-use Rattle.cells_model.specs.Indexed.{covers}
-use Rattle.cells_model.specs.Words.{HasSmallWeights}
-use Rattle.rule_model.specs.Sight.{HasPass, HasPin, PinState, Sight}
+use Rattle.pass_cells.specs.VersionSegment.Rows.{VersionedRows, versions_at}
+use Rattle.pass_cells.proofs.VersionSegment.LawLemmas.{keys_pruned}
+use Rattle.pass_cells.specs.StoreRelation.Passes.{PassState}
+use Rattle.pass_cells.specs.CellsModel.Indexed.{covers}
+use Rattle.pass_cells.specs.CellsModel.Words.{HasSmallWeights}
+use Rattle.pass_cells.specs.RuleModel.Sight.{HasPass, HasPin, PinState, Sight}
 use Rattle.seat_views.specs.Keeping.{kept_at}
-use Rattle.store_rule.specs.declared.store.Pass.{Pass}
-use Rattle.store_rule.specs.declared.store.Store.{Store}
+use Rattle.pass_cells.specs.StoreRuleDeclared.store.Pass.{Pass}
+use Rattle.pass_cells.specs.StoreRuleDeclared.store.Store.{Store}
 use Rattle.pass_cells.specs.declared.taken.TakenCell.{TakenCell}
 use Rattle.pass_cells.specs.Changes.{news_of}
 use Rattle.pass_cells.specs.Holding.{AreKnown, Holds, IsLatchOf}

@@ -3,8 +3,8 @@ use Rattle.std.specs.Prelude.{◌≡◌, ℕ, true, List, [], ◌∷◌, Option}
 use Rattle.graph_model.specs.declared.journal.TxnName.{TxnName}
 use Rattle.graph_model.specs.declared.row.Key.{Key}
 use Rattle.store_model.specs.Stamped.{prune_stamped}
-use Rattle.version_segment.specs.Rows.{IsSegment, PrunesRows}
-use Rattle.store_rule.specs.declared.store.Pass.{Pass}
+use Rattle.pass_cells.specs.VersionSegment.Rows.{IsSegment, PrunesRows}
+use Rattle.pass_cells.specs.StoreRuleDeclared.store.Pass.{Pass}
 use Rattle.pass_cells.specs.declared.taken.TakenCell.{TakenCell}
 use Rattle.pass_cells.specs.Taken.{held_rows}
 

@@ -4,6 +4,7 @@
 //! by, and each write of the cell would carry them along.
 #![tactic(auto)]
 
+pub mod below;
 mod taken;
 
 pub use taken::prune_taken;

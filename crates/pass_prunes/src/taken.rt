@@ -8,14 +8,14 @@ ghost use Rattle.std.specs.Prelude.{◌≡◌, ◌≤◌, length};
 ghost use Rattle.epoch_reclaim.specs.Pinned.{horizon_of};
 ghost use Rattle.pass_cells.specs.Holding.{AreKnown, Holds, IsKnown};
 ghost use Rattle.pass_prunes.specs.Pruned.{ArePruned, IsPrunedCell, KeepsHand, PrunesVersions};
-ghost use Rattle.pass_steps.specs.Passes.{IsPassOf, state_of};
+ghost use Rattle.pass_sweeps.specs.PassSteps.Passes.{IsPassOf, state_of};
 ghost use Rattle.pass_sweeps.specs.Pruning.{FindsWords, stamps_seen};
 ghost use Rattle.pass_sweeps.specs.Sweeping.{HasSwept};
 
 use epoch_reclaim::Sweep;
+use pass_cells::below::{Change, Pass, Store};
 use pass_cells::{PassCells, TakenCell, TakenCells};
 use pass_sweeps::{learn_writers, prune_rows};
-use store_rule::{Change, Pass, Store};
 
 /// The pass has pruned the rows in hand.
 #[derive(Drop)]
@@ -24,8 +24,8 @@ struct KnowsPruned<'a> {
 }
 
 impl Change for KnowsPruned<'_> {
-    ghost use Rattle.rule_model.specs.Sight.{with_cells};
-    ghost use Rattle.rule_model.specs.Steps.{Nothing};
+    ghost use Rattle.pass_cells.specs.RuleModel.Sight.{with_cells};
+    ghost use Rattle.pass_cells.specs.RuleModel.Steps.{Nothing};
     ghost use Rattle.pass_cells.specs.Changes.{news_of};
 
     ghost next = { λ c _ v. with_cells v (news_of v c.taken.now.list.items) };

@@ -8,33 +8,33 @@ use Rattle.graph_model.specs.declared.row.Key.{Key}
 use Rattle.graph_model.specs.Rows.{is_below, end_key}
 use Rattle.txn_manager.specs.declared.config.Config.{Config}
 use Rattle.latch_table.specs.declared.cells.Held.{Held}
-use Rattle.version_segment.specs.Rows.{VersionedRows}
-use Rattle.leaf_array.specs.Segments.{AreSame, counts_of}
+use Rattle.pass_writes.specs.VersionSegment.Rows.{VersionedRows}
+use Rattle.pass_writes.specs.LeafArray.Segments.{AreSame, counts_of}
 use Rattle.leaf_index.specs.Index.{Index}
 use Rattle.leaf_index.specs.declared.index.LeafIndex.{LeafIndex}
 use Rattle.seat_views.specs.Keeping.{kept_at}
-use Rattle.store_relation.specs.Passes.{PassState}
-use Rattle.store_relation.specs.Steps.{filled_up}
-use Rattle.cells_model.specs.Indexed.{leaf_cells}
-use Rattle.cells_model.specs.InPlace.{segment_of}
-use Rattle.cells_model.specs.Moved.{IsRoutedTo}
-use Rattle.rule_model.specs.Places.{lines}
-use Rattle.rule_model.specs.Sight.{IndexState, Sight, with_pass}
-use Rattle.rule_model.specs.Steps.{Nothing}
-use Rattle.rule_model.proofs.TxnLemmas.{write_is_full}
-use Rattle.store_words.specs.Steps.{MayLoad}
-use Rattle.store_rule.specs.Passes.{OnlyAccount}
-use Rattle.store_rule.specs.declared.store.Pass.{Pass}
-use Rattle.store_rule.specs.declared.store.Store.{Store}
-use Rattle.pass_cells.specs.declared.taken.TakenCell.{TakenCell}
-use Rattle.pass_leaves.specs.Fit.{FitTogether, TellsFit}
-use Rattle.pass_moves.specs.Moving.{values_of}
-use Rattle.pass_moves.specs.Room.{IsCrowdedAt, KnowsLeaf}
-use Rattle.pass_moves.proofs.KeyLemmas.{knows_one}
-use Rattle.pass_moves.proofs.MovedCells.{same_before}
-use Rattle.pass_moves.proofs.SpreadLemmas.{stands_inside}
-use Rattle.pass_steps.specs.Passes.{state_in, state_of}
-use Rattle.pass_steps.proofs.PassLemmas.{pass_is_stepped, same_after, sight_is}
+use Rattle.pass_writes.specs.StoreRelation.Passes.{PassState}
+use Rattle.pass_writes.specs.StoreRelation.Steps.{filled_up}
+use Rattle.pass_writes.specs.CellsModel.Indexed.{leaf_cells}
+use Rattle.pass_writes.specs.CellsModel.InPlace.{segment_of}
+use Rattle.pass_writes.specs.CellsModel.Moved.{IsRoutedTo}
+use Rattle.pass_writes.specs.RuleModel.Places.{lines}
+use Rattle.pass_writes.specs.RuleModel.Sight.{IndexState, Sight, with_pass}
+use Rattle.pass_writes.specs.RuleModel.Steps.{Nothing}
+use Rattle.pass_writes.proofs.RuleModel.TxnLemmas.{write_is_full}
+use Rattle.pass_writes.specs.StoreWords.Steps.{MayLoad}
+use Rattle.pass_writes.specs.StoreRule.Passes.{OnlyAccount}
+use Rattle.pass_writes.specs.StoreRuleDeclared.store.Pass.{Pass}
+use Rattle.pass_writes.specs.StoreRuleDeclared.store.Store.{Store}
+use Rattle.pass_writes.specs.PassCellsDeclared.taken.TakenCell.{TakenCell}
+use Rattle.pass_splits.specs.PassLeaves.Fit.{FitTogether, TellsFit}
+use Rattle.pass_splits.specs.PassMoves.Moving.{values_of}
+use Rattle.pass_splits.specs.PassMoves.Room.{IsCrowdedAt, KnowsLeaf}
+use Rattle.pass_splits.proofs.PassMoves.KeyLemmas.{knows_one}
+use Rattle.pass_splits.proofs.PassMoves.MovedCells.{same_before}
+use Rattle.pass_splits.proofs.PassMoves.SpreadLemmas.{stands_inside}
+use Rattle.pass_writes.specs.PassSteps.Passes.{state_in, state_of}
+use Rattle.pass_writes.proofs.PassSteps.PassLemmas.{pass_is_stepped, same_after, sight_is}
 use Rattle.pass_writes.proofs.HandLemmas.{known_same}
 use Rattle.pass_room.specs.Making.{HasLeavesInHand, KeepsPassAs}
 

@@ -6,17 +6,17 @@ use Rattle.std.specs.declared.alloc.Global.{Global}
 use Rattle.std.specs.declared.boxed.Box.{Box}
 use Rattle.latch_table.specs.declared.cells.Held.{Held}
 use Rattle.leaf_index.specs.declared.index.LeafIndex.{LeafIndex}
-use Rattle.store_relation.specs.Passes.{PassState}
-use Rattle.store_rule.specs.declared.store.Pass.{Pass}
-use Rattle.store_rule.specs.declared.store.Store.{Store}
-use Rattle.pass_cells.specs.declared.taken.TakenCell.{TakenCell}
-use Rattle.pass_cells.specs.Holding as cells
-use Rattle.pass_cells.specs.Holding.{KeepsPass}
-use Rattle.pass_leaves.specs.Hand.{HoldsLeaves}
-use Rattle.pass_moves.proofs.KeyLemmas.{take_front}
+use Rattle.pass_writes.specs.StoreRelation.Passes.{PassState}
+use Rattle.pass_writes.specs.StoreRuleDeclared.store.Pass.{Pass}
+use Rattle.pass_writes.specs.StoreRuleDeclared.store.Store.{Store}
+use Rattle.pass_writes.specs.PassCellsDeclared.taken.TakenCell.{TakenCell}
+use Rattle.pass_writes.specs.PassCells.Holding as cells
+use Rattle.pass_writes.specs.PassCells.Holding.{KeepsPass}
+use Rattle.pass_splits.specs.PassLeaves.Hand.{HoldsLeaves}
+use Rattle.pass_splits.proofs.PassMoves.KeyLemmas.{take_front}
 use Rattle.pass_splits.specs.Splitting.{KeepsIndex}
 use Rattle.pass_splits.proofs.SplitLemmas.{holds_index}
-use Rattle.pass_steps.specs.Passes.{HoldsNone, IsPassOf, state_of}
+use Rattle.pass_writes.specs.PassSteps.Passes.{HoldsNone, IsPassOf, state_of}
 use Rattle.pass_writes.specs.Hand.{HasNothing, KeepsState}
 use Rattle.pass_writes.proofs.HandLemmas.{pass_kept}
 use Rattle.pass_room.specs.declared.made.NoRoom.{NoRoom}

@@ -1,9 +1,9 @@
 -- A pass goes on after a call for room.
 use Rattle.std.proofs.Common.{◌≡◌, refl, sym, ◌∙◌, subst}
 use Rattle.std.specs.Prelude.{Result, Ok, Err}
-use Rattle.store_relation.specs.Passes.{PassState, account_of}
-use Rattle.rule_model.specs.Sight.{PinState}
-use Rattle.pass_steps.specs.Passes.{HasNoTxn, HasOpenTxn, account_of_pass, pin_of, state_of}
+use Rattle.pass_writes.specs.StoreRelation.Passes.{PassState, account_of}
+use Rattle.pass_writes.specs.RuleModel.Sight.{PinState}
+use Rattle.pass_writes.specs.PassSteps.Passes.{HasNoTxn, HasOpenTxn, account_of_pass, pin_of, state_of}
 use Rattle.pass_room.specs.declared.made.NoRoom.{NoRoom}
 use Rattle.pass_room.specs.declared.made.NoRoom.TheVariants as refusals
 use Rattle.pass_room.specs.declared.made.RoomMade.{RoomMade}

@@ -6,13 +6,13 @@ use Rattle.graph_model.specs.declared.row.Key.{Key}
 use Rattle.graph_model.specs.Account.{Account}
 use Rattle.latch_table.specs.declared.cells.Held.{Held}
 use Rattle.leaf_index.specs.declared.index.LeafIndex.{LeafIndex}
-use Rattle.store_relation.specs.Passes.{PassState}
-use Rattle.store_relation.specs.Steps.{filled_up}
-use Rattle.store_rule.specs.declared.store.Pass.{Pass}
-use Rattle.store_rule.specs.declared.store.Store.{Store}
-use Rattle.pass_cells.specs.declared.taken.TakenCell.{TakenCell}
-use Rattle.pass_leaves.specs.Hand.{HoldsLeaves}
-use Rattle.pass_steps.specs.Passes.{HoldsNone, IsIdlePass, IsOpenPass, IsPassOf, IsSamePass, account_of_pass, pin_of, state_of}
+use Rattle.pass_writes.specs.StoreRelation.Passes.{PassState}
+use Rattle.pass_writes.specs.StoreRelation.Steps.{filled_up}
+use Rattle.pass_writes.specs.StoreRuleDeclared.store.Pass.{Pass}
+use Rattle.pass_writes.specs.StoreRuleDeclared.store.Store.{Store}
+use Rattle.pass_writes.specs.PassCellsDeclared.taken.TakenCell.{TakenCell}
+use Rattle.pass_splits.specs.PassLeaves.Hand.{HoldsLeaves}
+use Rattle.pass_writes.specs.PassSteps.Passes.{HoldsNone, IsIdlePass, IsOpenPass, IsPassOf, IsSamePass, account_of_pass, pin_of, state_of}
 use Rattle.pass_room.specs.declared.made.NoRoom.{NoRoom}
 use Rattle.pass_room.specs.declared.made.NoRoom.TheVariants as refusals
 use Rattle.pass_room.specs.declared.made.RoomMade.{RoomMade}

@@ -2,17 +2,16 @@
 
 ghost use Rattle.std.specs.Prelude.{◌≡◌, ◌≤◌, true, [], ◌∷◌};
 ghost use Rattle.graph_model.specs.Rows.{is_below, end_key};
-ghost use Rattle.store_relation.specs.Steps.{filled_up};
-ghost use Rattle.pass_leaves.specs.Fit.{TellsFit};
-ghost use Rattle.pass_moves.specs.Moving.{values_of};
-ghost use Rattle.pass_moves.specs.Room.{IsCrowdedAt};
-ghost use Rattle.pass_steps.specs.Passes.{state_of};
+ghost use Rattle.pass_writes.specs.StoreRelation.Steps.{filled_up};
+ghost use Rattle.pass_splits.specs.PassLeaves.Fit.{TellsFit};
+ghost use Rattle.pass_splits.specs.PassMoves.Moving.{values_of};
+ghost use Rattle.pass_splits.specs.PassMoves.Room.{IsCrowdedAt};
+ghost use Rattle.pass_writes.specs.PassSteps.Passes.{state_of};
 ghost use Rattle.pass_room.specs.Making.{HasLeavesInHand, KeepsPassAs};
 
 use graph_model::Key;
-use pass_cells::TakenCell;
-use pass_leaves::HeldIndex;
-use store_rule::{Change, Pass, Store};
+use pass_splits::below::HeldIndex;
+use pass_writes::below::{Change, Pass, Store, TakenCell};
 
 /// Notes that a write is answered `Full`: no window of the key's leaf fits, and no leaf is free.
 pub(crate) fn note_full(
@@ -46,10 +45,10 @@ struct NotesFull {
 }
 
 impl Change for NotesFull {
-    ghost use Rattle.rule_model.specs.Sight.{with_pass};
-    ghost use Rattle.rule_model.specs.Steps.{Nothing};
-    ghost use Rattle.store_relation.specs.Steps.{filled_up};
-    ghost use Rattle.pass_steps.specs.Passes.{state_in};
+    ghost use Rattle.pass_writes.specs.RuleModel.Sight.{with_pass};
+    ghost use Rattle.pass_writes.specs.RuleModel.Steps.{Nothing};
+    ghost use Rattle.pass_writes.specs.StoreRelation.Steps.{filled_up};
+    ghost use Rattle.pass_writes.specs.PassSteps.Passes.{state_in};
 
     ghost next = { λ planned n v. with_pass v planned.number (filled_up (state_in v planned.number)) };
 

@@ -1,16 +1,15 @@
 //! Leaves are taken for a call, and put back before it ends.
 
 ghost use Rattle.std.specs.Prelude.{◌≡◌, ◌≤◌, ℕ, [], ◌∷◌, List, length, IfNone, IfSome, slice_index};
-ghost use Rattle.pass_leaves.specs.Fit.{TellsFit};
-ghost use Rattle.pass_leaves.specs.Hand.{IsLeafOfKey};
+ghost use Rattle.pass_splits.specs.PassLeaves.Fit.{TellsFit};
+ghost use Rattle.pass_splits.specs.PassLeaves.Hand.{IsLeafOfKey};
 ghost use Rattle.pass_writes.specs.Hand.{HasNothing, KeepsState};
 ghost use Rattle.pass_room.specs.Making.{HasLeavesInHand};
 
 use graph_model::Key;
-use pass_cells::CellHints;
-use pass_leaves::{HeldIndex, LeafInHand, PassLeaves};
+use pass_splits::below::{HeldIndex, LeafInHand, PassLeaves};
+use pass_writes::below::{CellHints, Pass, Store};
 use std::sync::Wait;
-use store_rule::{Pass, Store};
 
 /// Takes the leaf of a key, and the index.
 pub(crate) fn take_leaf(

@@ -9,6 +9,7 @@
 //! 4. While a pass holds a place it waits for no other without end.
 #![tactic(auto)]
 
+pub mod below;
 mod full;
 mod hand;
 mod laws;

@@ -1,15 +1,14 @@
 //! What a call for room has found of the cells in hand.
 
 ghost use Rattle.std.specs.Prelude.{◌≡◌, ℕ, [], ◌∷◌, List};
-ghost use Rattle.pass_leaves.specs.Hand.{HoldsLeaves};
-ghost use Rattle.pass_moves.specs.Moving.{values_of};
-ghost use Rattle.pass_moves.specs.Room.{HasRoom, IsCrowdedAt};
+ghost use Rattle.pass_splits.specs.PassLeaves.Hand.{HoldsLeaves};
+ghost use Rattle.pass_splits.specs.PassMoves.Moving.{values_of};
+ghost use Rattle.pass_splits.specs.PassMoves.Room.{HasRoom, IsCrowdedAt};
 ghost use Rattle.pass_room.specs.Making.{full_key, full_leaves, full_need, made_key, made_need};
 
 use graph_model::Key;
-use pass_cells::TakenCell;
-use pass_leaves::HeldIndex;
-use store_rule::{Pass, Store};
+use pass_splits::below::HeldIndex;
+use pass_writes::below::{Pass, Store, TakenCell};
 
 /// The cell of a key had so many free places while a pass held it. It is made of cells in hand and can't be copied, so
 /// whoever has one has it from a call for room.

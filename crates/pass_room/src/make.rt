@@ -2,7 +2,7 @@
 
 ghost use Rattle.std.specs.Prelude.{◌≡◌, ◌≤◌, true, [], IfErr, IfOk, IfSome};
 ghost use Rattle.graph_model.specs.Rows.{is_below, end_key};
-ghost use Rattle.pass_steps.specs.Passes.{HoldsNone, IsPassOf, state_of};
+ghost use Rattle.pass_writes.specs.PassSteps.Passes.{HoldsNone, IsPassOf, state_of};
 ghost use Rattle.pass_writes.specs.Hand.{HasNothing};
 ghost use Rattle.pass_room.specs.Making.{IsMadeFor, IsNoRoom, KeepsPassAs, state_after};
 
@@ -11,10 +11,9 @@ use crate::own::PassRoom;
 use crate::split::try_split;
 use crate::spread::{Spread, try_spread};
 use graph_model::{Key, NoMemory};
-use pass_cells::CellHints;
+use pass_writes::below::{CellHints, Pass, Store};
 use std::alloc::Global;
 use std::sync::Wait;
-use store_rule::{Pass, Store};
 
 /// Has so many places be free in the cell of the key while the pass holds it: as it is, or once the smallest window that
 /// fits was spread, or the leaf was split. Others may have used the places up by the time that this returns. Takes all

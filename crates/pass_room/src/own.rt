@@ -3,8 +3,8 @@
 ghost use Rattle.std.specs.Prelude.{◌≡◌, []};
 
 use graph_model::{Key, NoMemory};
-use leaf_array::Leaf;
-use pass_leaves::PassLeaves;
+use pass_splits::below::PassLeaves;
+use pass_writes::below::Leaf;
 use std::alloc::Global;
 
 /// Leaves in hand, none between two calls, and a leaf in which rows move.

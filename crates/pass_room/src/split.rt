@@ -2,8 +2,8 @@
 
 ghost use Rattle.std.specs.Prelude.{◌≡◌, ◌≤◌, true, [], ◌∷◌, IfOk, IfSome};
 ghost use Rattle.graph_model.specs.Rows.{is_below, end_key};
-ghost use Rattle.pass_leaves.specs.Fit.{TellsFit};
-ghost use Rattle.pass_leaves.specs.Hand.{IsLeafOfKey};
+ghost use Rattle.pass_splits.specs.PassLeaves.Fit.{TellsFit};
+ghost use Rattle.pass_splits.specs.PassLeaves.Hand.{IsLeafOfKey};
 ghost use Rattle.pass_writes.specs.Hand.{HasNothing, KeepsState};
 ghost use Rattle.pass_room.specs.Making.{HasLeavesInHand, IsMadeFor};
 
@@ -11,13 +11,11 @@ use crate::hand::{put_back, take_both};
 use crate::made::RoomMade;
 use crate::own::PassRoom;
 use graph_model::{Key, NoMemory};
-use leaf_array::Leaf;
-use pass_cells::{CellHints, TakenCell};
-use pass_leaves::HeldIndex;
+use pass_splits::below::HeldIndex;
 use pass_splits::{Split, split_free};
+use pass_writes::below::{CellHints, Leaf, Pass, Store, TakenCell};
 use std::alloc::Global;
 use std::sync::Wait;
-use store_rule::{Pass, Store};
 
 /// Takes the key's leaf and a free one, and splits the first into the second if that is still to be done. It isn't done
 /// where a place stays busy or others came first: whoever asks looks again.

@@ -2,11 +2,11 @@
 
 ghost use Rattle.std.specs.Prelude.{◌≡◌, ◌≤◌, true, [], ◌∷◌, IfErr, IfOk};
 ghost use Rattle.graph_model.specs.Rows.{is_below, end_key};
-ghost use Rattle.pass_leaves.specs.Fit.{TellsFit};
-ghost use Rattle.pass_leaves.specs.Hand.{IsLeafOfKey};
-ghost use Rattle.pass_moves.specs.Moving.{values_of};
-ghost use Rattle.pass_moves.specs.Room.{IsCrowdedAt};
-ghost use Rattle.pass_steps.specs.Passes.{state_of};
+ghost use Rattle.pass_splits.specs.PassLeaves.Fit.{TellsFit};
+ghost use Rattle.pass_splits.specs.PassLeaves.Hand.{IsLeafOfKey};
+ghost use Rattle.pass_splits.specs.PassMoves.Moving.{values_of};
+ghost use Rattle.pass_splits.specs.PassMoves.Room.{IsCrowdedAt};
+ghost use Rattle.pass_writes.specs.PassSteps.Passes.{state_of};
 ghost use Rattle.pass_writes.specs.Hand.{HasNothing};
 ghost use Rattle.pass_room.specs.Making.{HasLeavesInHand, IsNoRoom, IsSpread, KeepsPassAs, state_after};
 
@@ -15,14 +15,11 @@ use crate::hand::{put_back, take_leaf};
 use crate::made::{NoRoom, RoomMade, StoreFull};
 use crate::own::PassRoom;
 use graph_model::{Key, NoMemory};
-use leaf_array::Leaf;
-use pass_cells::{CellHints, TakenCell};
-use pass_leaves::{HeldIndex, LeafInHand};
-use pass_moves::{Room, free_places};
+use pass_splits::below::{HeldIndex, LeafInHand, Room, free_places};
 use pass_splits::next_free;
+use pass_writes::below::{CellHints, Leaf, Pass, Store, TakenCell};
 use std::alloc::Global;
 use std::sync::Wait;
-use store_rule::{Pass, Store};
 
 /// What came of it.
 #[derive(Debug, Drop, PartialEq, Eq)]

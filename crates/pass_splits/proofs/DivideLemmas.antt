@@ -6,19 +6,19 @@ use Rattle.density_tree.specs.Division.{evenly}
 use Rattle.gap_segment.proofs.FencedLemmas.{all_append}
 use Rattle.graph_model.specs.declared.row.Key.{Key}
 use Rattle.graph_model.specs.Rows.{is_below}
-use Rattle.version_segment.specs.Rows.{VersionedRows, IsSegment}
+use Rattle.pass_moves.specs.VersionSegment.Rows.{VersionedRows, IsSegment}
 use Rattle.store_model.specs.Stamped.{StampedVersions}
-use Rattle.leaf_array.specs.Leaves.{Splits}
-use Rattle.leaf_array.specs.Segments.{AreSame, counts_of, high_or, low_or, rows_of}
-use Rattle.leaf_array.proofs.CountLemmas.{same-rows, same-low, same-high}
-use Rattle.leaf_array.proofs.LeafLemmas.{Follow, follow-of, follow-low, follow-both}
-use Rattle.leaf_array.proofs.PairLemmas.{high-append}
-use Rattle.leaf_store.specs.Leaves.{cell_in}
-use Rattle.leaf_store.proofs.CellLemmas.{AreSound, covered, few_in}
-use Rattle.leaf_store.proofs.HalfLemmas.{few_rows}
-use Rattle.leaf_store.proofs.MoveLemmas.{few_each, same_append}
-use Rattle.leaf_store.proofs.SameLemmas.{same_self}
-use Rattle.pass_cells.specs.declared.taken.TakenCell.{TakenCell}
+use Rattle.pass_moves.specs.LeafArray.Leaves.{Splits}
+use Rattle.pass_moves.specs.LeafArray.Segments.{AreSame, counts_of, high_or, low_or, rows_of}
+use Rattle.pass_moves.proofs.LeafArray.CountLemmas.{same-rows, same-low, same-high}
+use Rattle.pass_moves.proofs.LeafArray.LeafLemmas.{Follow, follow-of, follow-low, follow-both}
+use Rattle.pass_moves.proofs.LeafArray.PairLemmas.{high-append}
+use Rattle.pass_moves.specs.LeafStore.Leaves.{cell_in}
+use Rattle.pass_moves.proofs.LeafStore.CellLemmas.{AreSound, covered, few_in}
+use Rattle.pass_moves.proofs.LeafStore.HalfLemmas.{few_rows}
+use Rattle.pass_moves.proofs.LeafStore.MoveLemmas.{few_each, same_append}
+use Rattle.pass_moves.proofs.LeafStore.SameLemmas.{same_self}
+use Rattle.pass_moves.specs.PassCellsDeclared.taken.TakenCell.{TakenCell}
 use Rattle.pass_moves.specs.Moving.{HavePut, values_of}
 use Rattle.pass_moves.specs.Room.{HasRoom}
 use Rattle.pass_moves.specs.Spreading.{KeepsContents}

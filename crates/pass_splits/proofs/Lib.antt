@@ -1,3 +1,4 @@
 pub mod FreeLemmas
 pub mod DivideLemmas
 pub mod SplitLemmas
+pub mod PassMoves

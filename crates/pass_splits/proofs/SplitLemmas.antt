@@ -9,42 +9,42 @@ use Rattle.gap_segment.proofs.FencedLemmas.{all_append}
 use Rattle.graph_model.specs.declared.row.Key.{Key}
 use Rattle.graph_model.specs.Rows.{is_below, end_key}
 use Rattle.txn_manager.specs.declared.config.Config.{Config}
-use Rattle.version_segment.specs.Rows.{VersionedRows, IsSegment}
-use Rattle.leaf_array.specs.Leaves.{Splits}
-use Rattle.leaf_array.specs.Segments.{AreSame, high_or, lows_of, rows_of}
-use Rattle.leaf_array.proofs.CountLemmas.{same-rows}
-use Rattle.leaf_array.proofs.LeafLemmas.{Follow}
-use Rattle.leaf_array.proofs.PairLemmas.{rows-append}
+use Rattle.pass_moves.specs.VersionSegment.Rows.{VersionedRows, IsSegment}
+use Rattle.pass_moves.specs.LeafArray.Leaves.{Splits}
+use Rattle.pass_moves.specs.LeafArray.Segments.{AreSame, high_or, lows_of, rows_of}
+use Rattle.pass_moves.proofs.LeafArray.CountLemmas.{same-rows}
+use Rattle.pass_moves.proofs.LeafArray.LeafLemmas.{Follow}
+use Rattle.pass_moves.proofs.LeafArray.PairLemmas.{rows-append}
 use Rattle.latch_table.specs.declared.cells.Held.{Held}
 use Rattle.leaf_index.specs.Index.{AreCuts, AreRising, BeginAbove, Entry, Index, IsIndex, IsTaken, end_of}
 use Rattle.leaf_index.specs.declared.index.LeafIndex.{LeafIndex}
-use Rattle.leaf_store.specs.Ranges.{IsLive, in_two}
-use Rattle.leaf_store.specs.Table.{IsTied}
-use Rattle.leaf_store.proofs.CellLemmas.{AreSound}
-use Rattle.leaf_store.proofs.ListLemmas.{all_back, all_front}
-use Rattle.leaf_store.proofs.RoomLemmas.{count_rows}
-use Rattle.leaf_store.proofs.SplitLemmas.{above_from, rising_at}
-use Rattle.leaf_store.proofs.TableLemmas.{end_above, tied_follow}
-use Rattle.cells_model.specs.Cells.{CellState}
-use Rattle.cells_model.specs.Indexed.{IsIndexed, leaf_cells}
-use Rattle.cells_model.specs.InPlace.{segment_of}
-use Rattle.cells_model.specs.Moved.{IsRoutedTo, SplitsInTwo}
-use Rattle.cells_model.specs.Words.{HasSmallWeights}
+use Rattle.pass_moves.specs.LeafStore.Ranges.{IsLive, in_two}
+use Rattle.pass_moves.specs.LeafStore.Table.{IsTied}
+use Rattle.pass_moves.proofs.LeafStore.CellLemmas.{AreSound}
+use Rattle.pass_moves.proofs.LeafStore.ListLemmas.{all_back, all_front}
+use Rattle.pass_moves.proofs.LeafStore.RoomLemmas.{count_rows}
+use Rattle.pass_moves.proofs.LeafStore.SplitLemmas.{above_from, rising_at}
+use Rattle.pass_moves.proofs.LeafStore.TableLemmas.{end_above, tied_follow}
+use Rattle.pass_moves.specs.CellsModel.Cells.{CellState}
+use Rattle.pass_moves.specs.CellsModel.Indexed.{IsIndexed, leaf_cells}
+use Rattle.pass_moves.specs.CellsModel.InPlace.{segment_of}
+use Rattle.pass_moves.specs.CellsModel.Moved.{IsRoutedTo, SplitsInTwo}
+use Rattle.pass_moves.specs.CellsModel.Words.{HasSmallWeights}
 use Rattle.seat_views.specs.Keeping.{kept_at, revised}
-use Rattle.rule_model.specs.MoveSteps.{CanMove, IsMove}
-use Rattle.rule_model.specs.Places.{lines}
-use Rattle.rule_model.specs.Sight.{Agrees, IndexState, Sight, no_news, with_news}
-use Rattle.rule_model.specs.Steps.{AllowsLoad, Nothing}
-use Rattle.rule_model.proofs.MoveStepLemmas.{rows_are_moved, split_is_move}
-use Rattle.store_rule.specs.declared.store.Pass.{Pass}
-use Rattle.store_rule.specs.declared.store.Store.{Store}
-use Rattle.store_words.specs.Steps.{MayLoad}
-use Rattle.pass_cells.specs.declared.taken.TakenCell.{TakenCell}
-use Rattle.pass_cells.specs.Changes.{news_of, state_of}
-use Rattle.pass_cells.specs.Holding.{numbers_of, slots_out}
-use Rattle.store_rule.specs.declared.slot.StoreSlot.TheVariants as slots
-use Rattle.pass_leaves.specs.Fit.{FitTogether, TellsFit}
-use Rattle.pass_leaves.specs.Hand.{HoldsLeaves, cells_of_leaves, numbers_from}
+use Rattle.pass_moves.specs.RuleModel.MoveSteps.{CanMove, IsMove}
+use Rattle.pass_moves.specs.RuleModel.Places.{lines}
+use Rattle.pass_moves.specs.RuleModel.Sight.{Agrees, IndexState, Sight, no_news, with_news}
+use Rattle.pass_moves.specs.RuleModel.Steps.{AllowsLoad, Nothing}
+use Rattle.pass_moves.proofs.RuleModel.MoveStepLemmas.{rows_are_moved, split_is_move}
+use Rattle.pass_moves.specs.StoreRuleDeclared.store.Pass.{Pass}
+use Rattle.pass_moves.specs.StoreRuleDeclared.store.Store.{Store}
+use Rattle.pass_moves.specs.StoreWords.Steps.{MayLoad}
+use Rattle.pass_moves.specs.PassCellsDeclared.taken.TakenCell.{TakenCell}
+use Rattle.pass_moves.specs.PassCells.Changes.{news_of, state_of}
+use Rattle.pass_moves.specs.PassCells.Holding.{numbers_of, slots_out}
+use Rattle.pass_moves.specs.StoreRuleDeclared.slot.StoreSlot.TheVariants as slots
+use Rattle.pass_moves.specs.PassLeaves.Fit.{FitTogether, TellsFit}
+use Rattle.pass_moves.specs.PassLeaves.Hand.{HoldsLeaves, cells_of_leaves, numbers_from}
 use Rattle.pass_moves.specs.Moving.{MoveCells, values_of}
 use Rattle.pass_moves.specs.Room.{HasRoom, IsCrowdedAt, KnowsLeaf}
 use Rattle.pass_moves.specs.Spreading.{moved}

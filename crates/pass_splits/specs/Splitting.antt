@@ -5,11 +5,11 @@ use Rattle.std.specs.declared.alloc.Global.{Global}
 use Rattle.std.specs.declared.boxed.Box.{Box}
 use Rattle.latch_table.specs.declared.cells.Held.{Held}
 use Rattle.leaf_index.specs.declared.index.LeafIndex.{LeafIndex}
-use Rattle.version_segment.specs.Rows.{VersionedRows, IsSegment}
+use Rattle.pass_moves.specs.VersionSegment.Rows.{VersionedRows, IsSegment}
 use Rattle.leaf_index.specs.Index.{Entry, Index, IsTaken}
-use Rattle.leaf_store.specs.Ranges.{IsLive, SplitsEntry}
+use Rattle.pass_moves.specs.LeafStore.Ranges.{IsLive, SplitsEntry}
 use Rattle.graph_model.specs.declared.row.Key.{Key}
-use Rattle.pass_cells.specs.declared.taken.TakenCell.{TakenCell}
+use Rattle.pass_moves.specs.PassCellsDeclared.taken.TakenCell.{TakenCell}
 use Rattle.pass_moves.specs.Moving.{AreMarked, HavePut, values_of}
 use Rattle.pass_moves.specs.Room.{HasRoom}
 use Rattle.pass_splits.specs.declared.split.Split.{Split}

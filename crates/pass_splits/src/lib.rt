@@ -8,6 +8,7 @@
 //!    know both.
 #![tactic(auto)]
 
+pub mod below;
 mod free;
 mod rows;
 mod split;

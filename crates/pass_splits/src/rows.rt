@@ -1,18 +1,16 @@
 //! Rows of cells in hand that are divided between two leaves.
 
 ghost use Rattle.std.specs.Prelude.{◌≡◌, ◌≤◌, length, Some, OnErr, OnOk};
-ghost use Rattle.leaf_array.specs.Segments.{rows_of};
+ghost use Rattle.pass_moves.specs.LeafArray.Segments.{rows_of};
 ghost use Rattle.leaf_index.specs.Index.{IsTaken};
-ghost use Rattle.leaf_store.specs.Ranges.{IsLive};
+ghost use Rattle.pass_moves.specs.LeafStore.Ranges.{IsLive};
 ghost use Rattle.pass_moves.specs.Moving.{values_of};
 ghost use Rattle.pass_moves.specs.Spreading.{KeepsContents};
 ghost use Rattle.pass_splits.specs.Splitting.{DividesCells, IsNextFree, TakesLeaf};
 
 use graph_model::{Key, LEAF_SEGMENTS, NoMemory};
-use leaf_array::Leaf;
 use leaf_index::LeafIndex;
-use leaf_store::split_entry;
-use pass_cells::TakenCell;
+use pass_moves::below::{Leaf, TakenCell, split_entry};
 use pass_moves::{exchange, mark};
 use std::alloc::Global;
 

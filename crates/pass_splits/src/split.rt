@@ -2,10 +2,10 @@
 
 ghost use Rattle.std.specs.Prelude.{◌≡◌, ◌≤◌, ℕ, true, [], ◌∷◌, take, List, Some, IfOk, OnErr, OnOk};
 ghost use Rattle.graph_model.specs.Rows.{is_below, end_key};
-ghost use Rattle.leaf_array.specs.Segments.{AreSame};
-ghost use Rattle.pass_cells.specs.Holding.{KeepsPass};
-ghost use Rattle.pass_leaves.specs.Fit.{TellsFit};
-ghost use Rattle.pass_leaves.specs.Hand.{HoldsLeaves, IsLeafOfKey};
+ghost use Rattle.pass_moves.specs.LeafArray.Segments.{AreSame};
+ghost use Rattle.pass_moves.specs.PassCells.Holding.{KeepsPass};
+ghost use Rattle.pass_moves.specs.PassLeaves.Fit.{TellsFit};
+ghost use Rattle.pass_moves.specs.PassLeaves.Hand.{HoldsLeaves, IsLeafOfKey};
 ghost use Rattle.pass_moves.specs.Moving.{values_of};
 ghost use Rattle.pass_moves.specs.Room.{HasRoom, IsCrowdedAt};
 ghost use Rattle.pass_splits.specs.Splitting.{IsNextFree, IsSplit, KeepsIndex};
@@ -13,12 +13,9 @@ ghost use Rattle.pass_splits.specs.Splitting.{IsNextFree, IsSplit, KeepsIndex};
 use crate::free::is_next_free;
 use crate::rows::split_next;
 use graph_model::{Key, LEAF_SEGMENTS, NoMemory};
-use leaf_array::Leaf;
-use pass_cells::TakenCell;
-use pass_leaves::HeldIndex;
+use pass_moves::below::{HeldIndex, Leaf, Pass, Store, TakenCell};
 use pass_moves::{Moving, count_rows, is_crowded};
 use std::alloc::Global;
-use store_rule::{Pass, Store};
 
 /// Whether the leaf was split.
 #[derive(Clone, Copy, Debug, PartialEq, Eq)]

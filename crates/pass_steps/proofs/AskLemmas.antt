@@ -13,14 +13,14 @@ use Rattle.graph_model.proofs.TestLemmas.{self_eq, name_self}
 use Rattle.txn_manager.specs.declared.config.Config.{Config}
 use Rattle.undo_chain.specs.States.{Grows, IsAnswer}
 use Rattle.seat_views.specs.Keeping.{kept_at}
-use Rattle.store_relation.specs.Passes.{PassState, fresh_pass}
-use Rattle.store_relation.specs.ReadLaws.{Answers}
-use Rattle.store_relation.specs.Steps.{look_at, with_look}
-use Rattle.store_relation.specs.Words.{Look, state_of_word}
-use Rattle.store_relation.specs.Shared.{longer_of}
-use Rattle.rule_model.specs.Sight.{HasPass, Sight}
-use Rattle.rule_model.specs.ViewSteps.{joined}
-use Rattle.store_words.proofs.NoteLemmas.{longer_none}
+use Rattle.store_rule.specs.StoreRelation.Passes.{PassState, fresh_pass}
+use Rattle.store_rule.specs.StoreRelation.ReadLaws.{Answers}
+use Rattle.store_rule.specs.StoreRelation.Steps.{look_at, with_look}
+use Rattle.store_rule.specs.StoreRelation.Words.{Look, state_of_word}
+use Rattle.store_rule.specs.StoreRelation.Shared.{longer_of}
+use Rattle.store_rule.specs.RuleModel.Sight.{HasPass, Sight}
+use Rattle.store_rule.specs.RuleModel.ViewSteps.{joined}
+use Rattle.store_rule.proofs.StoreWords.NoteLemmas.{longer_none}
 use Rattle.pass_steps.specs.Asking.{HasLooked, is_vouched, kept_part, knowledge_at, lent_part, state_at, word_kept}
 use Rattle.pass_steps.specs.Passes.{state_in}
 use Rattle.pass_steps.proofs.SightLemmas.{kept_else, kept_here, state_here}

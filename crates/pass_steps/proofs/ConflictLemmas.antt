@@ -11,11 +11,11 @@ use Rattle.txn_manager.specs.declared.config.Config.{Config}
 use Rattle.store_model.specs.Stamped.{Stamped}
 use Rattle.undo_chain.specs.declared.states.Snapshot.{Snapshot}
 use Rattle.seat_views.specs.Keeping.{kept_at}
-use Rattle.store_relation.specs.Passes.{PassState, fresh_pass}
-use Rattle.store_relation.specs.Words.{has_word}
-use Rattle.store_relation.proofs.CheckLemmas.{checked_cause, holder_cause, later_cause}
-use Rattle.rule_model.specs.NoteSteps.{LooksAtRecord}
-use Rattle.rule_model.specs.Sight.{Sight}
+use Rattle.store_rule.specs.StoreRelation.Passes.{PassState, fresh_pass}
+use Rattle.store_rule.specs.StoreRelation.Words.{has_word}
+use Rattle.store_rule.proofs.StoreRelation.CheckLemmas.{checked_cause, holder_cause, later_cause}
+use Rattle.store_rule.specs.RuleModel.NoteSteps.{LooksAtRecord}
+use Rattle.store_rule.specs.RuleModel.Sight.{Sight}
 use Rattle.store_rule.specs.declared.store.Pass.{Pass}
 use Rattle.store_rule.specs.declared.store.Store.{Store}
 use Rattle.pass_steps.specs.Laws.{HolderIsMet, IsAsked, LaterIsMet, knowledge_of}

@@ -2,11 +2,11 @@
 use Rattle.std.proofs.Common.{◌≡◌, inr, ℕ, List, [], refl, sym, ◌∙◌, ap}
 use Rattle.std.specs.Prelude.{Some, None}
 use Rattle.seat_views.specs.Keeping.{kept_at}
-use Rattle.store_relation.specs.Passes.{PassState}
-use Rattle.store_relation.proofs.ListLemmas.{prefix_all}
-use Rattle.rule_model.specs.Sight.{HasPass, Sight, no_sight}
-use Rattle.rule_model.specs.ViewSteps.{IsCut, IsSplit}
-use Rattle.store_words.proofs.NoteLemmas.{all_left, cut}
+use Rattle.store_rule.specs.StoreRelation.Passes.{PassState}
+use Rattle.store_rule.proofs.StoreRelation.ListLemmas.{prefix_all}
+use Rattle.store_rule.specs.RuleModel.Sight.{HasPass, Sight, no_sight}
+use Rattle.store_rule.specs.RuleModel.ViewSteps.{IsCut, IsSplit}
+use Rattle.store_rule.proofs.StoreWords.NoteLemmas.{all_left, cut}
 use Rattle.pass_steps.specs.Asking.{kept_part, lent_part}
 
 -- all goes to the right

@@ -6,13 +6,13 @@ use Rattle.graph_model.specs.Legal.{IsLegal}
 use Rattle.graph_model.proofs.HistoryLemmas.{each_item}
 use Rattle.items.specs.Room.{WithRoom}
 use Rattle.txn_manager.specs.declared.config.Config.{Config}
-use Rattle.store_relation.specs.Keys.{changed_keys}
-use Rattle.store_relation.specs.Passes.{PassState}
-use Rattle.store_relation.specs.Shared.{IsMet, JournalState, entries, entry_of}
-use Rattle.store_relation.proofs.MeetLemmas.{later_found}
-use Rattle.store_relation.specs.Steps.{begun, committed, committing, published_now, refreshed, with_entry}
-use Rattle.rule_model.specs.Sight.{PinState, with_commit, with_pass, with_pin}
-use Rattle.rule_model.specs.TxnSteps.{TellsClock, TellsJournal}
+use Rattle.store_rule.specs.StoreRelation.Keys.{changed_keys}
+use Rattle.store_rule.specs.StoreRelation.Passes.{PassState}
+use Rattle.store_rule.specs.StoreRelation.Shared.{IsMet, JournalState, entries, entry_of}
+use Rattle.store_rule.proofs.StoreRelation.MeetLemmas.{later_found}
+use Rattle.store_rule.specs.StoreRelation.Steps.{begun, committed, committing, published_now, refreshed, with_entry}
+use Rattle.store_rule.specs.RuleModel.Sight.{PinState, with_commit, with_pass, with_pin}
+use Rattle.store_rule.specs.RuleModel.TxnSteps.{TellsClock, TellsJournal}
 use Rattle.store_rule.specs.Passes.{OnlyAccount}
 use Rattle.store_rule.specs.Slots.{IsListOf}
 use Rattle.store_rule.specs.declared.store.Pass.{Pass}

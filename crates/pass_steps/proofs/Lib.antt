@@ -12,3 +12,9 @@ pub mod ConflictLemmas
 pub mod SeeLemmas
 pub mod PinLemmas
 pub mod MeetLemmas
+pub mod CellsModel
+pub mod HeadMap
+pub mod RuleModel
+pub mod StoreRelation
+pub mod StoreWords
+pub mod VersionSegment

@@ -4,11 +4,11 @@ use Rattle.std.specs.declared.alloc.Global.{Global}
 use Rattle.atomic_table.specs.Table.{Me}
 use Rattle.graph_model.specs.declared.journal.TxnName.{TxnName}
 use Rattle.txn_manager.specs.declared.config.Config.{Config}
-use Rattle.store_relation.specs.ReadLaws.{Answers}
-use Rattle.rule_model.specs.Places.{lines}
-use Rattle.rule_model.specs.Sight.{HasPass, Sight}
-use Rattle.rule_model.specs.Steps.{AllowsLoad}
-use Rattle.rule_model.proofs.NoteStepLemmas.{look_is_kept}
+use Rattle.store_rule.specs.StoreRelation.ReadLaws.{Answers}
+use Rattle.store_rule.specs.RuleModel.Places.{lines}
+use Rattle.store_rule.specs.RuleModel.Sight.{HasPass, Sight}
+use Rattle.store_rule.specs.RuleModel.Steps.{AllowsLoad}
+use Rattle.store_rule.proofs.RuleModel.NoteStepLemmas.{look_is_kept}
 use Rattle.pass_steps.specs.Asking.{HasWriter, word_kept}
 use Rattle.pass_steps.specs.Passes.{state_in}
 

@@ -4,12 +4,12 @@ use Rattle.std.specs.Prelude.{Bool, true, false, nat_le, Some}
 use Rattle.graph_model.specs.declared.write.Kind.{Kind}
 use Rattle.graph_model.specs.declared.journal.Commit.{Commit}
 use Rattle.graph_model.specs.Legal.{IsLegal}
-use Rattle.store_relation.specs.Passes.{PassState}
-use Rattle.store_relation.specs.Shared.{longer_of}
-use Rattle.store_relation.specs.Steps.{refreshed}
-use Rattle.store_relation.proofs.EndLemmas.{new_shared}
-use Rattle.rule_model.specs.Sight.{PinState, Sight, no_sight}
-use Rattle.rule_model.specs.ViewSteps.{joined}
+use Rattle.store_rule.specs.StoreRelation.Passes.{PassState}
+use Rattle.store_rule.specs.StoreRelation.Shared.{longer_of}
+use Rattle.store_rule.specs.StoreRelation.Steps.{refreshed}
+use Rattle.store_rule.proofs.StoreRelation.EndLemmas.{new_shared}
+use Rattle.store_rule.specs.RuleModel.Sight.{PinState, Sight, no_sight}
+use Rattle.store_rule.specs.RuleModel.ViewSteps.{joined}
 use Rattle.store_rule.specs.Passes.{OnlyAccount}
 use Rattle.store_rule.specs.declared.store.Pass.{Pass}
 use Rattle.store_rule.specs.declared.store.Store.{Store}

@@ -11,13 +11,13 @@ use Rattle.graph_model.specs.Conflict.{same_name}
 use Rattle.graph_model.proofs.TestLemmas.{both_of, either_of, eq_of, name_eq}
 use Rattle.graph_model.specs.Transactions.{reached, stamp_in}
 use Rattle.txn_manager.specs.declared.config.Config.{Config}
-use Rattle.store_relation.specs.Passes.{PassState}
-use Rattle.store_relation.specs.Steps.{meeting, sighting, with_holder, with_meeting}
-use Rattle.store_relation.specs.Words.{Look, has_word}
-use Rattle.rule_model.specs.Places.{Layout}
-use Rattle.rule_model.specs.Sight.{HasPass, Sight, with_pass}
-use Rattle.rule_model.specs.Steps.{AllowsLoad, Nothing}
-use Rattle.rule_model.proofs.NoteStepLemmas.{holder_is_answered, holder_is_found, look_is_met, stamp_is_met}
+use Rattle.store_rule.specs.StoreRelation.Passes.{PassState}
+use Rattle.store_rule.specs.StoreRelation.Steps.{meeting, sighting, with_holder, with_meeting}
+use Rattle.store_rule.specs.StoreRelation.Words.{Look, has_word}
+use Rattle.store_rule.specs.RuleModel.Places.{Layout}
+use Rattle.store_rule.specs.RuleModel.Sight.{HasPass, Sight, with_pass}
+use Rattle.store_rule.specs.RuleModel.Steps.{AllowsLoad, Nothing}
+use Rattle.store_rule.proofs.RuleModel.NoteStepLemmas.{holder_is_answered, holder_is_found, look_is_met, stamp_is_met}
 use Rattle.pass_steps.specs.Notes.{MeetsHolder, MeetsLater, named_in}
 
 -- one of a list that passes a test

@@ -9,17 +9,17 @@ use Rattle.latch_table.specs.Latched.{number_of}
 use Rattle.latch_table.specs.Latched.{IsPassOf as IsLatchPass}
 use Rattle.seat_views.specs.Keeping.{kept_at, without}
 use Rattle.txn_manager.specs.declared.config.Config.{Config}
-use Rattle.store_relation.specs.Passes.{PassState, account_of, fresh_pass}
-use Rattle.store_relation.specs.Shared.{JournalState}
-use Rattle.store_relation.proofs.EndLemmas.{new_shared}
-use Rattle.rule_model.specs.Sight.{HasJournal, PinState, Sight, cells_of, fresh_pin, with_commit, with_journal, with_pass, with_pin, with_rows}
+use Rattle.store_rule.specs.StoreRelation.Passes.{PassState, account_of, fresh_pass}
+use Rattle.store_rule.specs.StoreRelation.Shared.{JournalState}
+use Rattle.store_rule.proofs.StoreRelation.EndLemmas.{new_shared}
+use Rattle.store_rule.specs.RuleModel.Sight.{HasJournal, PinState, Sight, cells_of, fresh_pin, with_commit, with_journal, with_pass, with_pin, with_rows}
 use Rattle.store_rule.specs.Passes.{OnlyAccount}
 use Rattle.store_rule.specs.Slots.{FitsPlace, IsJournalSlot}
 use Rattle.store_rule.specs.declared.slot.StoreSlot.{StoreSlot}
 use Rattle.store_rule.specs.declared.slot.StoreSlot.TheVariants as slots
 use Rattle.store_rule.specs.declared.store.Pass.{Pass}
 use Rattle.store_rule.specs.declared.store.Store.{Store}
-use Rattle.store_words.specs.Notes.{pass_note}
+use Rattle.store_rule.specs.StoreWords.Notes.{pass_note}
 use Rattle.pass_steps.specs.Journal.{HasTaken}
 use Rattle.pass_steps.specs.Asking.{HasLooked}
 use Rattle.pass_steps.specs.Laws.{IdlePassIsBack, NewPassIsIdle, PassHasLooked, PassIsStepped}

@@ -3,12 +3,12 @@ use Rattle.std.proofs.Common.{◌≡◌, ℕ, ◌+◌, ◌*◌, ◌<◌, ap, sub
 use Rattle.atomic_table.specs.Seated.{TableId}
 use Rattle.atomic_table.specs.Table.{Allows}
 use Rattle.epoch_reclaim.specs.Steps as pins
-use Rattle.rule_model.specs.Places.{lines}
-use Rattle.rule_model.specs.Sight.{Sight}
+use Rattle.store_rule.specs.RuleModel.Places.{lines}
+use Rattle.store_rule.specs.RuleModel.Sight.{Sight}
 use Rattle.store_rule.specs.declared.store.Pass.{Pass}
 use Rattle.store_rule.specs.declared.store.Store.{Store}
-use Rattle.store_words.specs.Steps.{IsAccountTable, MayStore}
-use Rattle.store_words.proofs.StepLemmas.{on_table}
+use Rattle.store_rule.specs.StoreWords.Steps.{IsAccountTable, MayStore}
+use Rattle.store_rule.proofs.StoreWords.StepLemmas.{on_table}
 
 pub pin_may : (store : Store) (pass : Pass) (word : ℕ) (next : ℕ → Sight → Sight) (told : ℕ → Sight → Type 0)
     → pass.account.table_id ≡ store.accounts.table.shared.table_id

@@ -6,10 +6,10 @@ use Rattle.graph_model.specs.declared.journal.Commit.{Commit}
 use Rattle.graph_model.specs.declared.write.Write.{Write}
 use Rattle.graph_model.specs.Conflict.{later}
 use Rattle.txn_manager.specs.declared.config.Config.{Config}
-use Rattle.store_relation.specs.Passes.{PassState}
-use Rattle.store_relation.specs.Steps.{meeting, refreshed}
-use Rattle.store_relation.proofs.ListLemmas.{prefix_all, prefix_length, prefix_trans}
-use Rattle.rule_model.specs.Sight.{PinState}
+use Rattle.store_rule.specs.StoreRelation.Passes.{PassState}
+use Rattle.store_rule.specs.StoreRelation.Steps.{meeting, refreshed}
+use Rattle.store_rule.proofs.StoreRelation.ListLemmas.{prefix_all, prefix_length, prefix_trans}
+use Rattle.store_rule.specs.RuleModel.Sight.{PinState}
 use Rattle.pass_steps.specs.Passes.{HasOpenTxn}
 use Rattle.pass_steps.specs.Txns.{Refreshes}
 

@@ -3,11 +3,11 @@ use Rattle.std.proofs.Common.{◌≡◌, ◌≢◌, ℕ, List, [], ◌∷◌, sy
 use Rattle.std.specs.Prelude.{Some, unwrap_or}
 use Rattle.seat_views.specs.Keeping.{kept_at, without}
 use Rattle.seat_views.proofs.NumberLemmas.{other_number, same_number}
-use Rattle.store_relation.specs.Passes.{PassState, fresh_pass}
-use Rattle.store_relation.specs.Shared.{JournalState, no_journal}
-use Rattle.cells_model.specs.Cells.{CellState}
-use Rattle.rule_model.specs.Sight.{HasJournal, PinState, Sight, fresh_pin, with_commit, with_journal, with_pin, with_rows}
-use Rattle.store_words.specs.Notes.{without_journal}
+use Rattle.store_rule.specs.StoreRelation.Passes.{PassState, fresh_pass}
+use Rattle.store_rule.specs.StoreRelation.Shared.{JournalState, no_journal}
+use Rattle.store_rule.specs.CellsModel.Cells.{CellState}
+use Rattle.store_rule.specs.RuleModel.Sight.{HasJournal, PinState, Sight, fresh_pin, with_commit, with_journal, with_pin, with_rows}
+use Rattle.store_rule.specs.StoreWords.Notes.{without_journal}
 use Rattle.pass_steps.specs.Passes.{IsOwnSight, journal_in, pin_in, state_in}
 
 -- ---- entries by number

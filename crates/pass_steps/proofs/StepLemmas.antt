@@ -2,11 +2,11 @@
 use Rattle.std.proofs.Common.{◌≡◌, ℕ, subst}
 use Rattle.std.specs.declared.alloc.Global.{Global}
 use Rattle.txn_manager.specs.declared.config.Config.{Config}
-use Rattle.rule_model.specs.Places.{lines}
-use Rattle.rule_model.specs.Sight.{Sight}
-use Rattle.rule_model.specs.Steps.{AllowsStore, AllowsStoreTelling}
-use Rattle.rule_model.proofs.FrameLemmas.{M}
-use Rattle.store_words.proofs.CellLemmas.{tells_nothing}
+use Rattle.store_rule.specs.RuleModel.Places.{lines}
+use Rattle.store_rule.specs.RuleModel.Sight.{Sight}
+use Rattle.store_rule.specs.RuleModel.Steps.{AllowsStore, AllowsStoreTelling}
+use Rattle.store_rule.proofs.RuleModel.FrameLemmas.{M}
+use Rattle.store_rule.proofs.StoreWords.CellLemmas.{tells_nothing}
 
 -- the place and the number may be said otherwise
 pub stores_at : (z : Config) (heap : Global) (slots id : ℕ) (me : M) (i k w x : ℕ) → i ≡ k → w ≡ x

@@ -10,16 +10,16 @@ use Rattle.graph_model.specs.AccountSteps.{BeginsBy, CommitsBy}
 use Rattle.graph_model.proofs.PlaceLemmas.{get_end}
 use Rattle.seat_views.proofs.NumberLemmas.{eq_of}
 use Rattle.txn_manager.specs.declared.config.Config.{Config}
-use Rattle.store_relation.specs.AccountLaws.{EndsWith}
-use Rattle.store_relation.specs.declared.stage.Stage.TheVariants.{Open}
-use Rattle.store_relation.specs.Keys.{changed_keys}
-use Rattle.store_relation.specs.Passes.{PassState, account_of, is_active, made_of, name_at, number_of}
-use Rattle.store_relation.specs.Shared.{entry_of}
-use Rattle.store_relation.specs.Steps.{begun, committed, committing, ended, with_entry}
-use Rattle.store_relation.proofs.AccountLemmas.{account_begins, account_commits, account_commits_none}
-use Rattle.store_relation.proofs.ListLemmas.{prefix_all, prefix_trans}
-use Rattle.store_relation.proofs.MadeLemmas.{made_active, made_ended}
-use Rattle.rule_model.specs.Sight.{PinState}
+use Rattle.store_rule.specs.StoreRelation.AccountLaws.{EndsWith}
+use Rattle.store_rule.specs.StoreRelationDeclared.stage.Stage.TheVariants.{Open}
+use Rattle.store_rule.specs.StoreRelation.Keys.{changed_keys}
+use Rattle.store_rule.specs.StoreRelation.Passes.{PassState, account_of, is_active, made_of, name_at, number_of}
+use Rattle.store_rule.specs.StoreRelation.Shared.{entry_of}
+use Rattle.store_rule.specs.StoreRelation.Steps.{begun, committed, committing, ended, with_entry}
+use Rattle.store_rule.proofs.StoreRelation.AccountLemmas.{account_begins, account_commits, account_commits_none}
+use Rattle.store_rule.proofs.StoreRelation.ListLemmas.{prefix_all, prefix_trans}
+use Rattle.store_rule.proofs.StoreRelation.MadeLemmas.{made_active, made_ended}
+use Rattle.store_rule.specs.RuleModel.Sight.{PinState}
 use Rattle.pass_steps.specs.Passes.{HasEnded, HasNoTxn, HasOpenTxn}
 use Rattle.pass_steps.specs.Txns.{Commits, HasCommitted, Opens}
 

@@ -16,15 +16,15 @@ use Rattle.graph_model.proofs.PlaceLemmas.{some_eq}
 use Rattle.graph_model.proofs.TestLemmas.{either_of, both_of, name_self, name_eq}
 use Rattle.txn_manager.specs.declared.config.Config.{Config}
 use Rattle.store_model.specs.Stamped.{Stamped, StampedVersions}
-use Rattle.version_segment.specs.Checks.{AreNamedIn, IsNamed}
-use Rattle.version_segment.specs.Rows.{or_nothing, versions_at}
-use Rattle.version_segment.proofs.KeyedLemmas.{tied_same}
+use Rattle.store_rule.specs.VersionSegment.Checks.{AreNamedIn, IsNamed}
+use Rattle.store_rule.specs.VersionSegment.Rows.{or_nothing, versions_at}
+use Rattle.store_rule.proofs.VersionSegment.KeyedLemmas.{tied_same}
 use Rattle.seat_views.specs.Keeping.{kept_at}
-use Rattle.store_relation.specs.Rows.{HasRecord}
-use Rattle.cells_model.specs.Cells.{CellState}
-use Rattle.cells_model.specs.Indexed.{covers}
-use Rattle.rule_model.specs.NoteSteps.{HasRecordIn, HasRow}
-use Rattle.rule_model.specs.Sight.{Sight, cells_of}
+use Rattle.store_rule.specs.StoreRelation.Rows.{HasRecord}
+use Rattle.store_rule.specs.CellsModel.Cells.{CellState}
+use Rattle.store_rule.specs.CellsModel.Indexed.{covers}
+use Rattle.store_rule.specs.RuleModel.NoteSteps.{HasRecordIn, HasRow}
+use Rattle.store_rule.specs.RuleModel.Sight.{Sight, cells_of}
 use Rattle.pass_steps.specs.Asking.{HasWriter, any_below, bare_in_cell, bare_in_row, is_bare, is_writer}
 use Rattle.pass_steps.proofs.NoteLemmas.{any_at}
 

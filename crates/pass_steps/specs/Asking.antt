@@ -14,14 +14,14 @@ use Rattle.txn_manager.specs.declared.config.Config.{Config}
 use Rattle.store_model.specs.Stamped.{Stamped, StampedVersions}
 use Rattle.undo_chain.specs.declared.states.Snapshot.{Snapshot}
 use Rattle.undo_chain.specs.States.{Knowledge}
-use Rattle.version_segment.specs.Rows.{versions_at}
+use Rattle.store_rule.specs.VersionSegment.Rows.{versions_at}
 use Rattle.seat_views.specs.Keeping.{kept_at}
-use Rattle.store_relation.specs.Steps.{look_at, with_look}
-use Rattle.store_relation.specs.Words.{Look, has_word}
-use Rattle.cells_model.specs.Cells.{CellState}
-use Rattle.cells_model.specs.Indexed.{covers}
-use Rattle.rule_model.specs.NoteSteps.{HasRecordIn}
-use Rattle.rule_model.specs.Sight.{HasPass, Sight, cells_of, no_reads, no_sight, with_pass}
+use Rattle.store_rule.specs.StoreRelation.Steps.{look_at, with_look}
+use Rattle.store_rule.specs.StoreRelation.Words.{Look, has_word}
+use Rattle.store_rule.specs.CellsModel.Cells.{CellState}
+use Rattle.store_rule.specs.CellsModel.Indexed.{covers}
+use Rattle.store_rule.specs.RuleModel.NoteSteps.{HasRecordIn}
+use Rattle.store_rule.specs.RuleModel.Sight.{HasPass, Sight, cells_of, no_reads, no_sight, with_pass}
 use Rattle.store_rule.specs.declared.store.Pass.{Pass}
 use Rattle.store_rule.specs.declared.store.Store.{Store}
 use Rattle.pass_steps.specs.Passes.{name_of_pass, state_in, state_of}

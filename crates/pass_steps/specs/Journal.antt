@@ -1,9 +1,9 @@
 -- A pass that has taken the journal.
 use Rattle.std.specs.Prelude.{◌≡◌, ◌+◌, [], ◌∷◌}
 use Rattle.seat_views.specs.Keeping.{without}
-use Rattle.store_relation.specs.Passes.{PassState}
-use Rattle.store_relation.specs.Shared.{JournalState}
-use Rattle.rule_model.specs.Sight.{HasJournal, PinState, cells_of}
+use Rattle.store_rule.specs.StoreRelation.Passes.{PassState}
+use Rattle.store_rule.specs.StoreRelation.Shared.{JournalState}
+use Rattle.store_rule.specs.RuleModel.Sight.{HasJournal, PinState, cells_of}
 use Rattle.store_rule.specs.declared.buffers.TheConstants.{MOST_UNPACKED}
 use Rattle.store_rule.specs.declared.slot.StoreSlot.TheVariants as slots
 use Rattle.store_rule.specs.declared.store.Pass.{Pass}

@@ -8,11 +8,11 @@ use Rattle.graph_model.specs.Legal.{IsLegal}
 use Rattle.store_model.specs.Stamped.{Stamped}
 use Rattle.undo_chain.specs.declared.states.Snapshot.{Snapshot}
 use Rattle.undo_chain.specs.States.{Knowledge}
-use Rattle.version_segment.specs.Checks.{IsChecked}
-use Rattle.store_relation.specs.Passes.{PassState}
-use Rattle.cells_model.specs.Cells.{CellState}
-use Rattle.rule_model.specs.Sight.{with_rows}
-use Rattle.rule_model.specs.NoteSteps.{LearnsRows, LooksAtRecord}
+use Rattle.store_rule.specs.VersionSegment.Checks.{IsChecked}
+use Rattle.store_rule.specs.StoreRelation.Passes.{PassState}
+use Rattle.store_rule.specs.CellsModel.Cells.{CellState}
+use Rattle.store_rule.specs.RuleModel.Sight.{with_rows}
+use Rattle.store_rule.specs.RuleModel.NoteSteps.{LearnsRows, LooksAtRecord}
 use Rattle.store_rule.specs.Closing.{IsBackPass}
 use Rattle.store_rule.specs.Making.{IsNewPass}
 use Rattle.store_rule.specs.Passes.{OnlyAccount}

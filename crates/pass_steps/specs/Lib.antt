@@ -4,3 +4,15 @@ pub mod Txns
 pub mod Notes
 pub mod Asking
 pub mod Laws
+pub mod CellsModel
+pub mod LeafStore
+pub mod LeafStoreDeclared
+pub mod RuleModel
+pub mod StoreRelation
+pub mod StoreRelationContracts
+pub mod StoreRelationDeclared
+pub mod StoreRule
+pub mod StoreRuleContracts
+pub mod StoreRuleDeclared
+pub mod StoreWords
+pub mod VersionSegment

@@ -6,11 +6,11 @@ use Rattle.graph_model.specs.Account.{Sighting}
 use Rattle.graph_model.specs.Transactions.{reached, stamp_in}
 use Rattle.txn_manager.specs.declared.config.Config.{Config}
 use Rattle.store_model.specs.Stamped.{Stamped}
-use Rattle.store_relation.specs.Passes.{PassState}
-use Rattle.store_relation.specs.Steps.{meeting, sighting, with_holder, with_meeting, with_sighting}
-use Rattle.store_relation.specs.Words.{has_word}
-use Rattle.rule_model.specs.NoteSteps.{LooksAtRecord}
-use Rattle.rule_model.specs.Sight.{Sight, with_pass}
+use Rattle.store_rule.specs.StoreRelation.Passes.{PassState}
+use Rattle.store_rule.specs.StoreRelation.Steps.{meeting, sighting, with_holder, with_meeting, with_sighting}
+use Rattle.store_rule.specs.StoreRelation.Words.{has_word}
+use Rattle.store_rule.specs.RuleModel.NoteSteps.{LooksAtRecord}
+use Rattle.store_rule.specs.RuleModel.Sight.{Sight, with_pass}
 use Rattle.pass_steps.specs.Passes.{state_in}
 
 -- ---- whom a write meets

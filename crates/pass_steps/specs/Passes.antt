@@ -6,11 +6,11 @@ use Rattle.graph_model.specs.Legal.{IsLegal}
 use Rattle.latch_table.specs.Latched.{number_of}
 use Rattle.latch_table.specs.Latched.{IsPassOf as IsLatchPass}
 use Rattle.seat_views.specs.Keeping.{kept_at}
-use Rattle.store_relation.specs.declared.stage.Stage.TheVariants.{Idle, Open}
-use Rattle.store_relation.specs.Passes.{PassState, account_of, fresh_pass, name_at}
-use Rattle.store_relation.specs.Readers.{ReaderState, reader_of}
-use Rattle.store_relation.specs.Shared.{JournalState, no_journal}
-use Rattle.rule_model.specs.Sight.{HasPass, HasPin, PinState, Sight, fresh_pin}
+use Rattle.store_rule.specs.StoreRelationDeclared.stage.Stage.TheVariants.{Idle, Open}
+use Rattle.store_rule.specs.StoreRelation.Passes.{PassState, account_of, fresh_pass, name_at}
+use Rattle.store_rule.specs.StoreRelation.Readers.{ReaderState, reader_of}
+use Rattle.store_rule.specs.StoreRelation.Shared.{JournalState, no_journal}
+use Rattle.store_rule.specs.RuleModel.Sight.{HasPass, HasPin, PinState, Sight, fresh_pin}
 use Rattle.store_rule.specs.declared.buffers.TheConstants.{MOST_UNPACKED}
 use Rattle.store_rule.specs.declared.store.Pass.{Pass}
 use Rattle.store_rule.specs.declared.store.Store.{Store}

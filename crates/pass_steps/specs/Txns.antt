@@ -5,11 +5,11 @@ use Rattle.graph_model.specs.declared.journal.Begun.{Begun}
 use Rattle.graph_model.specs.declared.journal.Commit.{Commit}
 use Rattle.graph_model.specs.Conflict.{later}
 use Rattle.txn_manager.specs.declared.config.Config.{Config}
-use Rattle.store_relation.specs.Keys.{changed_keys}
-use Rattle.store_relation.specs.Passes.{Meeting, PassState, name_at}
-use Rattle.store_relation.specs.Shared.{JournalState, longer_of}
-use Rattle.store_relation.specs.Steps.{begun, committed, committing, ended, refreshed, with_entry}
-use Rattle.rule_model.specs.Sight.{Sight, with_pass}
+use Rattle.store_rule.specs.StoreRelation.Keys.{changed_keys}
+use Rattle.store_rule.specs.StoreRelation.Passes.{Meeting, PassState, name_at}
+use Rattle.store_rule.specs.StoreRelation.Shared.{JournalState, longer_of}
+use Rattle.store_rule.specs.StoreRelation.Steps.{begun, committed, committing, ended, refreshed, with_entry}
+use Rattle.store_rule.specs.RuleModel.Sight.{Sight, with_pass}
 use Rattle.pass_steps.specs.Passes.{state_in}
 
 -- ---- begin

@@ -8,12 +8,12 @@
 ghost use Rattle.std.specs.Prelude.{◌≡◌, ◌↔◌, ◌<◌, ◌≤◌, ◌^◌, Err, Ok, IfOk, OnErr, OnOk, [], true, false, length};
 ghost use Rattle.graph_model.specs.AccountSteps.{BeginsBy};
 ghost use Rattle.graph_model.specs.declared.refusal.BeginRefusal.TheVariants.{TxnsUsed};
-ghost use Rattle.rule_model.specs.Sight.{PinState, with_journal, with_pass};
-ghost use Rattle.rule_model.specs.TxnSteps.{TellsClock};
-ghost use Rattle.store_relation.specs.declared.stage.Stage.TheVariants.{Idle};
-ghost use Rattle.store_relation.specs.Passes.{PassState, number_of};
-ghost use Rattle.store_relation.specs.Shared.{JournalState};
-ghost use Rattle.store_relation.specs.Steps.{begun};
+ghost use Rattle.store_rule.specs.RuleModel.Sight.{PinState, with_journal, with_pass};
+ghost use Rattle.store_rule.specs.RuleModel.TxnSteps.{TellsClock};
+ghost use Rattle.store_rule.specs.StoreRelationDeclared.stage.Stage.TheVariants.{Idle};
+ghost use Rattle.store_rule.specs.StoreRelation.Passes.{PassState, number_of};
+ghost use Rattle.store_rule.specs.StoreRelation.Shared.{JournalState};
+ghost use Rattle.store_rule.specs.StoreRelation.Steps.{begun};
 ghost use Rattle.store_rule.specs.Passes.{OnlyAccount};
 ghost use Rattle.store_rule.specs.Slots.{IsListOf};
 ghost use Rattle.pass_steps.specs.Journal.{HasTaken};
@@ -127,7 +127,7 @@ struct CountsRoom<'a> {
 
 impl Change for CountsRoom<'_> {
     ghost use Rattle.pass_steps.specs.Passes.{journal_in};
-    ghost use Rattle.rule_model.specs.Sight.{with_journal};
+    ghost use Rattle.store_rule.specs.RuleModel.Sight.{with_journal};
 
     ghost next = { λ planned n v. with_journal v (record (journal_in v) { room = planned.journal.now.spare }) };
 
@@ -156,7 +156,7 @@ struct LoadsClock {
 
 impl Change for LoadsClock {
     ghost use Rattle.pass_steps.specs.Passes.{journal_in, state_in};
-    ghost use Rattle.rule_model.specs.TxnSteps.{TellsClock};
+    ghost use Rattle.store_rule.specs.RuleModel.TxnSteps.{TellsClock};
 
     ghost next = { λ planned n v. v };
 

@@ -9,12 +9,12 @@
 ghost use Rattle.std.specs.Prelude.{◌≡◌, ◌+◌, ◌<◌, ◌≤◌, ◌^◌, IfOk, IfSome, [], length};
 ghost use Rattle.graph_model.specs.AccountSteps.{CommitsBy};
 ghost use Rattle.graph_model.specs.Legal.{IsLegal};
-ghost use Rattle.rule_model.specs.Sight.{with_commit};
-ghost use Rattle.store_relation.specs.Keys.{changed_keys};
-ghost use Rattle.store_relation.specs.Passes.{PassState};
-ghost use Rattle.store_relation.specs.Shared.{JournalState, entries, entry_of};
-ghost use Rattle.store_relation.specs.Steps.{committed, committing, published_now, with_entry};
-ghost use Rattle.store_relation.specs.declared.stage.Stage.TheVariants.{Committing, Open};
+ghost use Rattle.store_rule.specs.RuleModel.Sight.{with_commit};
+ghost use Rattle.store_rule.specs.StoreRelation.Keys.{changed_keys};
+ghost use Rattle.store_rule.specs.StoreRelation.Passes.{PassState};
+ghost use Rattle.store_rule.specs.StoreRelation.Shared.{JournalState, entries, entry_of};
+ghost use Rattle.store_rule.specs.StoreRelation.Steps.{committed, committing, published_now, with_entry};
+ghost use Rattle.store_rule.specs.StoreRelationDeclared.stage.Stage.TheVariants.{Committing, Open};
 ghost use Rattle.store_rule.specs.Passes.{OnlyAccount};
 ghost use Rattle.pass_steps.specs.Journal.{HasTaken};
 ghost use Rattle.pass_steps.specs.Passes.{IsEndedPass, IsOpenPass, IsSamePass, account_of_pass, journal_in, name_of_pass, pin_of, state_of};

@@ -1,9 +1,9 @@
 //! The end of a transaction that isn't committed: it stops, its writes are taken back, and it has ended.
 
 ghost use Rattle.std.specs.Prelude.{◌≡◌, [], None};
-ghost use Rattle.rule_model.specs.Sight.{with_pass};
-ghost use Rattle.store_relation.specs.declared.stage.Stage.TheVariants.{Aborting, Open};
-ghost use Rattle.store_relation.specs.Steps.{ended, stopped};
+ghost use Rattle.store_rule.specs.RuleModel.Sight.{with_pass};
+ghost use Rattle.store_rule.specs.StoreRelationDeclared.stage.Stage.TheVariants.{Aborting, Open};
+ghost use Rattle.store_rule.specs.StoreRelation.Steps.{ended, stopped};
 ghost use Rattle.store_rule.specs.Passes.{OnlyAccount};
 ghost use Rattle.pass_steps.specs.Passes.{IsPassOf, state_of};
 
@@ -35,8 +35,8 @@ struct Stops {
 
 impl Change for Stops {
     ghost use Rattle.pass_steps.specs.Passes.{state_in};
-    ghost use Rattle.rule_model.specs.Sight.{with_pass};
-    ghost use Rattle.store_relation.specs.Steps.{stopped};
+    ghost use Rattle.store_rule.specs.RuleModel.Sight.{with_pass};
+    ghost use Rattle.store_rule.specs.StoreRelation.Steps.{stopped};
 
     ghost next = { λ planned n v. with_pass v planned.number (stopped (state_in v planned.number)) };
 

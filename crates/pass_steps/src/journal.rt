@@ -3,10 +3,10 @@
 //! While a pass has it nobody else begins or commits, so the clock stays as it is.
 
 ghost use Rattle.std.specs.Prelude.{◌≡◌, ◌+◌};
-ghost use Rattle.rule_model.specs.Sight.{cells_of};
-ghost use Rattle.store_relation.specs.Passes.{PassState};
-ghost use Rattle.store_relation.specs.Shared.{JournalState};
-ghost use Rattle.rule_model.specs.Sight.{PinState};
+ghost use Rattle.store_rule.specs.RuleModel.Sight.{cells_of};
+ghost use Rattle.store_rule.specs.StoreRelation.Passes.{PassState};
+ghost use Rattle.store_rule.specs.StoreRelation.Shared.{JournalState};
+ghost use Rattle.store_rule.specs.RuleModel.Sight.{PinState};
 ghost use Rattle.store_rule.specs.Slots.{IsListOf};
 ghost use Rattle.pass_steps.specs.Journal.{HasTaken};
 ghost use Rattle.pass_steps.specs.Passes.{HoldsNone, IsPassOf, IsSamePass, pin_of, state_of};

@@ -2,8 +2,8 @@
 //! known who wrote them.
 
 ghost use Rattle.std.specs.Prelude.{◌≡◌};
-ghost use Rattle.rule_model.specs.NoteSteps.{LearnsRows};
-ghost use Rattle.store_relation.specs.declared.stage.Stage.TheVariants.{Open};
+ghost use Rattle.store_rule.specs.RuleModel.NoteSteps.{LearnsRows};
+ghost use Rattle.store_rule.specs.StoreRelationDeclared.stage.Stage.TheVariants.{Open};
 ghost use Rattle.store_rule.specs.Passes.{OnlyAccount};
 ghost use Rattle.pass_steps.specs.Passes.{IsPassOf, reader_of_pass, state_of};
 
@@ -33,8 +33,8 @@ struct Learns {
 
 impl Change for Learns {
     ghost use Rattle.pass_steps.specs.Passes.{state_in};
-    ghost use Rattle.rule_model.specs.NoteSteps.{LearnsRows};
-    ghost use Rattle.store_relation.specs.Readers.{reader_of};
+    ghost use Rattle.store_rule.specs.RuleModel.NoteSteps.{LearnsRows};
+    ghost use Rattle.store_rule.specs.StoreRelation.Readers.{reader_of};
 
     ghost next = { λ planned n v. v };
 

@@ -8,6 +8,7 @@
 #![tactic(auto)]
 
 mod beginning;
+pub mod below;
 mod committing;
 mod ending;
 mod journal;

@@ -3,7 +3,7 @@
 
 ghost use Rattle.std.specs.Prelude.{◌≡◌, ◌+◌, ◌-◌, ◌<◌, Contains, Some, length, slice_get};
 ghost use Rattle.graph_model.specs.Conflict.{later};
-ghost use Rattle.store_relation.specs.Steps.{meeting};
+ghost use Rattle.store_rule.specs.StoreRelation.Steps.{meeting};
 ghost use Rattle.store_rule.specs.Passes.{OnlyAccount};
 ghost use Rattle.pass_steps.specs.Notes.{MeetsHolder, MeetsLater, holder_named, later_noted};
 ghost use Rattle.pass_steps.specs.Passes.{IsOpenPass, IsPassOf, IsSamePass, pin_of, state_of};

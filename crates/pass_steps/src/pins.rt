@@ -3,16 +3,16 @@
 
 ghost use Rattle.std.specs.Prelude.{◌≡◌, ◌<◌, ◌^◌, true, false, []};
 ghost use Rattle.epoch_reclaim.specs.Pinned.{announced_word, pinned_word, unpinned};
-ghost use Rattle.rule_model.specs.Places.{lines};
-ghost use Rattle.rule_model.specs.Sight.{with_pin};
-ghost use Rattle.store_relation.specs.declared.stage.Stage.TheVariants.{Idle, Open};
+ghost use Rattle.store_rule.specs.RuleModel.Places.{lines};
+ghost use Rattle.store_rule.specs.RuleModel.Sight.{with_pin};
+ghost use Rattle.store_rule.specs.StoreRelationDeclared.stage.Stage.TheVariants.{Idle, Open};
 ghost use Rattle.store_rule.specs.Passes.{OnlyAccount};
-ghost use Rattle.store_words.specs.Steps.{MayStore};
+ghost use Rattle.store_rule.specs.StoreWords.Steps.{MayStore};
 ghost use Rattle.pass_steps.specs.Passes.{IsPassOf, pin_of, state_of};
 
 use std::marker::Brand;
+use store_rule::below::{Turn, Turns};
 use store_rule::{Pass, Store};
-use store_words::{Turn, Turns};
 
 /// Holds everything back, from before the clock is loaded.
 pub(crate) fn announce(store: &Store, pass: &mut Pass)

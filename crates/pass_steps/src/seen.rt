@@ -2,15 +2,15 @@
 
 ghost use Rattle.std.specs.Prelude.{◌≡◌, ◌+◌, [], length};
 ghost use Rattle.graph_model.specs.Legal.{IsLegal};
-ghost use Rattle.rule_model.specs.Sight.{HasPass, no_sight, with_pass};
+ghost use Rattle.store_rule.specs.RuleModel.Sight.{HasPass, no_sight, with_pass};
 ghost use mathlib.Core.List.{IsPrefix};
-ghost use Rattle.rule_model.specs.TxnSteps.{TellsJournal};
-ghost use Rattle.store_relation.specs.Passes.{PassState};
-ghost use Rattle.store_relation.specs.Shared.{JournalState};
-ghost use Rattle.store_relation.specs.Steps.{refreshed};
-ghost use Rattle.rule_model.specs.Sight.{PinState};
+ghost use Rattle.store_rule.specs.RuleModel.TxnSteps.{TellsJournal};
+ghost use Rattle.store_rule.specs.StoreRelation.Passes.{PassState};
+ghost use Rattle.store_rule.specs.StoreRelation.Shared.{JournalState};
+ghost use Rattle.store_rule.specs.StoreRelation.Steps.{refreshed};
+ghost use Rattle.store_rule.specs.RuleModel.Sight.{PinState};
 ghost use Rattle.store_rule.specs.Passes.{OnlyAccount};
-ghost use Rattle.store_words.specs.Notes.{IsNote};
+ghost use Rattle.store_rule.specs.StoreWords.Notes.{IsNote};
 ghost use Rattle.pass_steps.specs.Asking.{lent_part};
 ghost use Rattle.pass_steps.specs.Journal.{HasTaken};
 ghost use Rattle.pass_steps.specs.Passes.{HoldsNone, IsIdlePass, IsPassOf, IsSamePass, journal_in, pin_of, state_of};
@@ -19,8 +19,8 @@ ghost use Rattle.pass_steps.specs.Txns.{Meets, Refreshes, told_seen, told_with};
 use crate::journal::{give_journal, take_journal};
 use std::marker::Brand;
 use std::sync::Wait;
+use store_rule::below::Account;
 use store_rule::{Change, Pass, Store};
-use store_words::Account;
 use txn_manager::Config;
 
 /// Has the pass see all that is published, and answers the clock.
@@ -63,9 +63,9 @@ struct SeesJournal {
 
 impl Change for SeesJournal {
     ghost use Rattle.pass_steps.specs.Passes.{journal_in, state_in};
-    ghost use Rattle.rule_model.specs.Sight.{with_pass};
-    ghost use Rattle.rule_model.specs.TxnSteps.{TellsJournal};
-    ghost use Rattle.store_relation.specs.Steps.{refreshed};
+    ghost use Rattle.store_rule.specs.RuleModel.Sight.{with_pass};
+    ghost use Rattle.store_rule.specs.RuleModel.TxnSteps.{TellsJournal};
+    ghost use Rattle.store_rule.specs.StoreRelation.Steps.{refreshed};
 
     ghost next = { λ planned n v. with_pass v planned.number
         (refreshed (state_in v planned.number) (journal_in v).commits) };

@@ -9,23 +9,22 @@
 ghost use Rattle.std.specs.Prelude.{◌≡◌, ◌⊎◌, ℕ, ◌<◌, ◌≤◌, ◌+◌, true, [], length};
 ghost use Rattle.graph_model.specs.History.{view};
 ghost use Rattle.graph_model.specs.Rows.{value_at};
-ghost use Rattle.rule_model.specs.NoteSteps.{HasRow, LearnsRows};
-ghost use Rattle.rule_model.specs.Sight.{HasPass};
-ghost use Rattle.store_relation.specs.ReadLaws.{Answers};
+ghost use Rattle.store_rule.specs.RuleModel.NoteSteps.{HasRow, LearnsRows};
+ghost use Rattle.store_rule.specs.RuleModel.Sight.{HasPass};
+ghost use Rattle.store_rule.specs.StoreRelation.ReadLaws.{Answers};
 ghost use Rattle.store_rule.specs.Passes.{OnlyAccount};
-ghost use Rattle.store_words.specs.Steps.{Knows};
-ghost use Rattle.version_segment.specs.Rows.{IsSameSegment};
-ghost use Rattle.cells_model.specs.Cells.{CellState};
-ghost use Rattle.store_words.specs.Notes.{IsNote};
+ghost use Rattle.store_rule.specs.StoreWords.Steps.{Knows};
+ghost use Rattle.store_rule.specs.VersionSegment.Rows.{IsSameSegment};
+ghost use Rattle.store_rule.specs.CellsModel.Cells.{CellState};
+ghost use Rattle.store_rule.specs.StoreWords.Notes.{IsNote};
 ghost use Rattle.pass_steps.specs.Asking.{asking_of, is_writer, kept_part, lent_part, state_at, word_kept, IsSnapshotOf, KnowsLooks};
 ghost use Rattle.pass_steps.specs.Passes.{IsPassOf, reader_of_pass, state_in, state_of};
 
 use graph_model::{Key, State, TxnName};
 use std::marker::{Brand, Model, PhantomData};
+use store_rule::below::{Account, Accounts, VersionSegment};
 use store_rule::{Pass, Store};
-use store_words::{Account, Accounts};
 use undo_chain::{Snapshot, States};
-use version_segment::VersionSegment;
 
 /// Whoever asks, as it was when it began to. A function that asks is generic in it, and its caller says by a pick who
 /// that is: so what is known before is known after the questions as well.
@@ -51,7 +50,7 @@ pub struct PassStates<'a, B: Asker> {
 }
 
 impl<'a, B: Asker> Model for PassStates<'a, B> {
-    ghost use Rattle.rule_model.specs.Sight.{Sight};
+    ghost use Rattle.store_rule.specs.RuleModel.Sight.{Sight};
     ghost use Rattle.pass_steps.specs.Asking.{IsLentBy};
 
     ghost Value = { Sight };

@@ -12,22 +12,22 @@ use Rattle.seat_views.specs.Keeping.{kept_at}
 use Rattle.seat_views.proofs.NumberLemmas.{eq_of, some_is}
 use Rattle.epoch_reclaim.specs.declared.sweep.Sweep.{Sweep}
 use Rattle.epoch_reclaim.specs.Pinned.{horizon_of}
-use Rattle.version_segment.specs.Resting.{RestingRows}
-use Rattle.version_segment.specs.Rows.{VersionedRows, IsSameSegment, IsSegment, PrunesRows, all_records, or_nothing, pruned_rows, versions_at}
-use Rattle.version_segment.specs.Checks.{AreNamedRows, IsNamed}
-use Rattle.version_segment.specs.Keyed.{entries_by}
-use Rattle.version_segment.proofs.KeyedLemmas.{find_there}
-use Rattle.version_segment.proofs.LawLemmas.{keys_pruned}
-use Rattle.store_relation.specs.Passes.{PassState}
-use Rattle.cells_model.specs.Cells.{CellState, unpacked}
-use Rattle.cells_model.specs.Words.{HasSmallWeights}
-use Rattle.rule_model.specs.EndSteps.{new_state}
-use Rattle.rule_model.specs.Sight.{HasCell, HasPass, HasPin, PinState, Sight, cells_of, with_cell, with_cells}
-use Rattle.store_words.specs.Spelling.{IsUntouched}
-use Rattle.store_rule.specs.Packing.{IsPackedCell, LendsBuffer}
-use Rattle.store_rule.specs.Passes.{OnlyAccount}
-use Rattle.store_rule.specs.declared.store.Pass.{Pass}
-use Rattle.store_rule.specs.declared.store.Store.{Store}
+use Rattle.pass_steps.specs.VersionSegment.Resting.{RestingRows}
+use Rattle.pass_steps.specs.VersionSegment.Rows.{VersionedRows, IsSameSegment, IsSegment, PrunesRows, all_records, or_nothing, pruned_rows, versions_at}
+use Rattle.pass_steps.specs.VersionSegment.Checks.{AreNamedRows, IsNamed}
+use Rattle.pass_steps.specs.VersionSegment.Keyed.{entries_by}
+use Rattle.pass_steps.proofs.VersionSegment.KeyedLemmas.{find_there}
+use Rattle.pass_steps.proofs.VersionSegment.LawLemmas.{keys_pruned}
+use Rattle.pass_steps.specs.StoreRelation.Passes.{PassState}
+use Rattle.pass_steps.specs.CellsModel.Cells.{CellState, unpacked}
+use Rattle.pass_steps.specs.CellsModel.Words.{HasSmallWeights}
+use Rattle.pass_steps.specs.RuleModel.EndSteps.{new_state}
+use Rattle.pass_steps.specs.RuleModel.Sight.{HasCell, HasPass, HasPin, PinState, Sight, cells_of, with_cell, with_cells}
+use Rattle.pass_steps.specs.StoreWords.Spelling.{IsUntouched}
+use Rattle.pass_steps.specs.StoreRule.Packing.{IsPackedCell, LendsBuffer}
+use Rattle.pass_steps.specs.StoreRule.Passes.{OnlyAccount}
+use Rattle.pass_steps.specs.StoreRuleDeclared.store.Pass.{Pass}
+use Rattle.pass_steps.specs.StoreRuleDeclared.store.Store.{Store}
 use Rattle.pass_steps.specs.Asking.{KnowsLooks, is_writer}
 use Rattle.pass_steps.specs.Passes.{IsPassOf, pin_of, state_of}
 use Rattle.pass_steps.proofs.PassLemmas.{pass_has_looked}

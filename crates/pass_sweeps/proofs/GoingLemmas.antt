@@ -1,8 +1,8 @@
 -- A pass that a sweep leaves goes on.
 use Rattle.std.proofs.Common.{◌≡◌, ◌≤◌, length, sym, subst, arith}
-use Rattle.store_relation.specs.Passes.{PassState, account_of}
-use Rattle.store_relation.proofs.ListLemmas.{prefix_length}
-use Rattle.rule_model.specs.Sight.{PinState}
+use Rattle.pass_steps.specs.StoreRelation.Passes.{PassState, account_of}
+use Rattle.pass_steps.proofs.StoreRelation.ListLemmas.{prefix_length}
+use Rattle.pass_steps.specs.RuleModel.Sight.{PinState}
 use Rattle.pass_steps.specs.Passes.{HasNoTxn, HasOpenTxn, pin_of, state_of}
 use Rattle.pass_sweeps.specs.GoingOn.{AccountGoesOn, IdleGoesOn, OpenGoesOn}
 

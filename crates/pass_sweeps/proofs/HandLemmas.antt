@@ -10,15 +10,15 @@ use Rattle.seat_views.specs.Keeping.{kept_at, without}
 use Rattle.seat_views.proofs.NumberLemmas.{eq_of, same_number}
 use Rattle.epoch_reclaim.specs.declared.sweep.Sweep.{Sweep}
 use Rattle.epoch_reclaim.specs.Pinned.{least_with}
-use Rattle.store_relation.specs.Passes.{PassState, fresh_pass}
-use Rattle.store_relation.specs.Steps.{refreshed}
-use Rattle.store_relation.proofs.ListLemmas.{prefix_all, prefix_trans}
-use Rattle.cells_model.specs.Cells.{CellState}
-use Rattle.rule_model.specs.Sight.{HasCell, HasIndex, IndexState, PinState, Sight, fresh_pin, with_pin}
-use Rattle.store_rule.specs.Passes.{OnlyAccount}
-use Rattle.store_rule.specs.declared.buffers.TheConstants.{MOST_UNPACKED}
-use Rattle.store_rule.specs.declared.store.Pass.{Pass}
-use Rattle.store_rule.specs.declared.store.Store.{Store}
+use Rattle.pass_steps.specs.StoreRelation.Passes.{PassState, fresh_pass}
+use Rattle.pass_steps.specs.StoreRelation.Steps.{refreshed}
+use Rattle.pass_steps.proofs.StoreRelation.ListLemmas.{prefix_all, prefix_trans}
+use Rattle.pass_steps.specs.CellsModel.Cells.{CellState}
+use Rattle.pass_steps.specs.RuleModel.Sight.{HasCell, HasIndex, IndexState, PinState, Sight, fresh_pin, with_pin}
+use Rattle.pass_steps.specs.StoreRule.Passes.{OnlyAccount}
+use Rattle.pass_steps.specs.StoreRuleDeclared.buffers.TheConstants.{MOST_UNPACKED}
+use Rattle.pass_steps.specs.StoreRuleDeclared.store.Pass.{Pass}
+use Rattle.pass_steps.specs.StoreRuleDeclared.store.Store.{Store}
 use Rattle.pass_steps.specs.Passes.{HoldsNone, IsOwnSight, IsPassOf, pin_of, state_in, state_of}
 use Rattle.pass_steps.specs.Laws.{IsSteppedTo}
 use Rattle.pass_steps.proofs.PassLemmas.{pass_is_stepped}

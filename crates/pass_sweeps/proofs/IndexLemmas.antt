@@ -8,12 +8,12 @@ use Rattle.leaf_index.specs.Index.{Entry, Index, IsIndex}
 use Rattle.leaf_index.specs.declared.route.LeafRange.{LeafRange}
 use Rattle.leaf_index.proofs.CountLemmas.{count_append, count_cons, existing}
 use Rattle.seat_views.specs.Keeping.{kept_at, without}
-use Rattle.store_relation.specs.Passes.{PassState}
-use Rattle.rule_model.specs.PinSteps.{with_sweeper}
-use Rattle.rule_model.specs.Sight.{IndexState, PinState, with_index}
-use Rattle.store_rule.specs.Passes.{OnlyAccount}
-use Rattle.store_rule.specs.declared.store.Pass.{Pass}
-use Rattle.store_rule.specs.declared.store.Store.{Store}
+use Rattle.pass_steps.specs.StoreRelation.Passes.{PassState}
+use Rattle.pass_steps.specs.RuleModel.PinSteps.{with_sweeper}
+use Rattle.pass_steps.specs.RuleModel.Sight.{IndexState, PinState, with_index}
+use Rattle.pass_steps.specs.StoreRule.Passes.{OnlyAccount}
+use Rattle.pass_steps.specs.StoreRuleDeclared.store.Pass.{Pass}
+use Rattle.pass_steps.specs.StoreRuleDeclared.store.Store.{Store}
 use Rattle.pass_steps.proofs.PassLemmas.{pass_after, pin_is, state_is}
 use Rattle.pass_steps.proofs.SightLemmas.{kept_here, own_pin, pin_here, without_here}
 use Rattle.pass_sweeps.specs.Sweeping.{HasIndexOnly}

@@ -16,39 +16,39 @@ use Rattle.graph_model.specs.Transactions.{stamp_in}
 use Rattle.txn_manager.specs.declared.config.Config.{Config}
 use Rattle.store_model.specs.Stamped.{AreTold, StampedVersions, prune_stamped}
 use Rattle.store_model.proofs.ToldLemmas.{told_all}
-use Rattle.version_segment.specs.Rows.{versions_at}
-use Rattle.leaf_store.specs.Leaves.{versions_of, weight}
+use Rattle.pass_steps.specs.VersionSegment.Rows.{versions_at}
+use Rattle.pass_steps.specs.LeafStore.Leaves.{versions_of, weight}
 use Rattle.seat_views.specs.Keeping.{kept_at, revised}
 use Rattle.seat_views.proofs.NumberLemmas.{none_kept}
-use Rattle.store_relation.specs.declared.stage.Stage.{Stage}
-use Rattle.store_relation.specs.declared.stage.Stage.TheVariants.{Idle, Open, Aborting, Committing}
-use Rattle.store_relation.specs.Passes.{PassState, is_active, may_commit, name_of, now_of}
-use Rattle.store_relation.specs.Shared.{IsShared, inserted_by_all}
-use Rattle.store_relation.specs.Steps.{refreshed}
-use Rattle.store_relation.proofs.LearnLemmas.{tells}
-use Rattle.store_relation.proofs.ListLemmas.{prefix_all, prefix_length}
-use Rattle.store_relation.proofs.ReadLemmas.{seen_reached}
-use Rattle.store_relation.proofs.RowStepLemmas.{prunes}
-use Rattle.store_relation.proofs.SharedLemmas.{inside, runs}
-use Rattle.store_relation.proofs.StepLemmas.{refreshes}
-use Rattle.cells_model.specs.Cells.{CellState}
-use Rattle.cells_model.specs.Indexed.{covers, store_of}
-use Rattle.cells_model.specs.InPlace.{AreInPlace, ChangesInPlace, segment_of}
-use Rattle.cells_model.specs.Noted.{AreNoted}
-use Rattle.cells_model.proofs.InPlaceLemmas.{NoneCovers, cells_change_in_place, rows_changed}
-use Rattle.rule_model.specs.Places.{Layout}
-use Rattle.rule_model.specs.Rule.{IsStoreRule, active_of, announced_of, noted_of, rows_now, start_of, sweep_of, words_of}
-use Rattle.rule_model.specs.RowSteps.{AreChanges, GrowsBy, IsChange}
-use Rattle.rule_model.specs.Sight.{HasCell, HasPass, IndexState, PinState, with_cells, with_pass}
-use Rattle.rule_model.specs.Steps.{OfEachSeat}
-use Rattle.rule_model.specs.PinSteps.{with_sweeper}
-use Rattle.rule_model.proofs.FrameLemmas.{S, M, by_nothing, cell_is, cells_agree, index_is, loaded, own_read, pin_is, put_same}
-use Rattle.rule_model.proofs.NoteStepLemmas.{record_is, seen_front}
-use Rattle.rule_model.proofs.PassFrame.{by_quiet}
-use Rattle.rule_model.proofs.PinFrame.{by_sweeper}
-use Rattle.rule_model.proofs.PinStepLemmas.{other_sweep_begins_step, sweeper_begins_step}
-use Rattle.rule_model.proofs.RowFrame.{all_held, all_in_place, by_change, each_kept}
-use Rattle.rule_model.proofs.TxnLemmas.{knows_more}
+use Rattle.pass_steps.specs.StoreRelationDeclared.stage.Stage.{Stage}
+use Rattle.pass_steps.specs.StoreRelationDeclared.stage.Stage.TheVariants.{Idle, Open, Aborting, Committing}
+use Rattle.pass_steps.specs.StoreRelation.Passes.{PassState, is_active, may_commit, name_of, now_of}
+use Rattle.pass_steps.specs.StoreRelation.Shared.{IsShared, inserted_by_all}
+use Rattle.pass_steps.specs.StoreRelation.Steps.{refreshed}
+use Rattle.pass_steps.proofs.StoreRelation.LearnLemmas.{tells}
+use Rattle.pass_steps.proofs.StoreRelation.ListLemmas.{prefix_all, prefix_length}
+use Rattle.pass_steps.proofs.StoreRelation.ReadLemmas.{seen_reached}
+use Rattle.pass_steps.proofs.StoreRelation.RowStepLemmas.{prunes}
+use Rattle.pass_steps.proofs.StoreRelation.SharedLemmas.{inside, runs}
+use Rattle.pass_steps.proofs.StoreRelation.StepLemmas.{refreshes}
+use Rattle.pass_steps.specs.CellsModel.Cells.{CellState}
+use Rattle.pass_steps.specs.CellsModel.Indexed.{covers, store_of}
+use Rattle.pass_steps.specs.CellsModel.InPlace.{AreInPlace, ChangesInPlace, segment_of}
+use Rattle.pass_steps.specs.CellsModel.Noted.{AreNoted}
+use Rattle.pass_steps.proofs.CellsModel.InPlaceLemmas.{NoneCovers, cells_change_in_place, rows_changed}
+use Rattle.pass_steps.specs.RuleModel.Places.{Layout}
+use Rattle.pass_steps.specs.RuleModel.Rule.{IsStoreRule, active_of, announced_of, noted_of, rows_now, start_of, sweep_of, words_of}
+use Rattle.pass_steps.specs.RuleModel.RowSteps.{AreChanges, GrowsBy, IsChange}
+use Rattle.pass_steps.specs.RuleModel.Sight.{HasCell, HasPass, IndexState, PinState, with_cells, with_pass}
+use Rattle.pass_steps.specs.RuleModel.Steps.{OfEachSeat}
+use Rattle.pass_steps.specs.RuleModel.PinSteps.{with_sweeper}
+use Rattle.pass_steps.proofs.RuleModel.FrameLemmas.{S, M, by_nothing, cell_is, cells_agree, index_is, loaded, own_read, pin_is, put_same}
+use Rattle.pass_steps.proofs.RuleModel.NoteStepLemmas.{record_is, seen_front}
+use Rattle.pass_steps.proofs.RuleModel.PassFrame.{by_quiet}
+use Rattle.pass_steps.proofs.RuleModel.PinFrame.{by_sweeper}
+use Rattle.pass_steps.proofs.RuleModel.PinStepLemmas.{other_sweep_begins_step, sweeper_begins_step}
+use Rattle.pass_steps.proofs.RuleModel.RowFrame.{all_held, all_in_place, by_change, each_kept}
+use Rattle.pass_steps.proofs.RuleModel.TxnLemmas.{knows_more}
 use Rattle.pass_sweeps.specs.SweepLaws.{LeavesAreKnown, OtherSweepIsBehind, PublishedIsSeen, RowsArePrunedAsSeen, SweeperIsBehind, SweeperYields, WritersAreKnown}
 
 -- ---- the clock

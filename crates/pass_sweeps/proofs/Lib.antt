@@ -7,3 +7,4 @@ pub mod IndexLemmas
 pub mod TakeLemmas
 pub mod GoingLemmas
 pub mod SweptLemmas
+pub mod PassSteps

@@ -3,11 +3,11 @@ use Rattle.std.proofs.Common.{◌≡◌, ℕ, ◌<◌, sym, ap, subst}
 use Rattle.atomic_table.specs.Seated.{TableId}
 use Rattle.atomic_table.specs.Table.{Allows}
 use Rattle.epoch_reclaim.specs.Steps as pins
-use Rattle.rule_model.specs.Sight.{Sight}
-use Rattle.store_rule.specs.declared.store.Pass.{Pass}
-use Rattle.store_rule.specs.declared.store.Store.{Store}
-use Rattle.store_words.specs.Steps.{IsAccountTable, MayLoad, word_count}
-use Rattle.store_words.proofs.StepLemmas.{on_table}
+use Rattle.pass_steps.specs.RuleModel.Sight.{Sight}
+use Rattle.pass_steps.specs.StoreRuleDeclared.store.Pass.{Pass}
+use Rattle.pass_steps.specs.StoreRuleDeclared.store.Store.{Store}
+use Rattle.pass_steps.specs.StoreWords.Steps.{IsAccountTable, MayLoad, word_count}
+use Rattle.pass_steps.proofs.StoreWords.StepLemmas.{on_table}
 
 pub load_may : (store : Store) (pass : Pass) (place : ℕ) (next : ℕ → Sight → Sight) (told : ℕ → Sight → Type 0)
     → pass.account.table_id ≡ store.accounts.table.shared.table_id

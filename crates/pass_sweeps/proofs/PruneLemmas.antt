@@ -9,10 +9,10 @@ use Rattle.graph_model.specs.Rows.{is_between}
 use Rattle.graph_model.specs.Transactions.{reached}
 use Rattle.store_model.specs.Stamped.{Stamped, StampedVersions, first_stamped, known, prune_stamped, stamped_front}
 use Rattle.seat_views.proofs.NumberLemmas.{some_is}
-use Rattle.version_segment.specs.Resting.{RestingRow, front_with, resting_row, settled_rest}
-use Rattle.version_segment.specs.Rows.{VersionedRows, IsSameSegment, IsSegment, PrunesRows, all_records, is_nothing, pruned_rows, records_in}
-use Rattle.cells_model.specs.Indexed.{covers}
-use Rattle.cells_model.specs.Words.{HasSmallValues, HasSmallWeights, IsSmall}
+use Rattle.pass_steps.specs.VersionSegment.Resting.{RestingRow, front_with, resting_row, settled_rest}
+use Rattle.pass_steps.specs.VersionSegment.Rows.{VersionedRows, IsSameSegment, IsSegment, PrunesRows, all_records, is_nothing, pruned_rows, records_in}
+use Rattle.pass_steps.specs.CellsModel.Indexed.{covers}
+use Rattle.pass_steps.specs.CellsModel.Words.{HasSmallValues, HasSmallWeights, IsSmall}
 use Rattle.pass_sweeps.specs.Pruning.{is_prunable}
 
 -- ---- records of one row

@@ -6,13 +6,13 @@ use Rattle.graph_model.specs.declared.row.Key.{Key}
 use Rattle.graph_model.specs.Transactions.{stamp_in}
 use Rattle.epoch_reclaim.specs.declared.sweep.Sweep.{Sweep}
 use Rattle.epoch_reclaim.specs.Pinned.{horizon_of}
-use Rattle.version_segment.specs.Resting.{RestingRows, settled_rest}
-use Rattle.cells_model.specs.Cells.{CellState}
-use Rattle.rule_model.specs.Sight.{IndexState, PinState}
-use Rattle.store_relation.specs.Passes.{PassState}
-use Rattle.store_rule.specs.Slots.{RestsAs}
-use Rattle.store_rule.specs.declared.store.Pass.{Pass}
-use Rattle.store_rule.specs.declared.store.Store.{Store}
+use Rattle.pass_steps.specs.VersionSegment.Resting.{RestingRows, settled_rest}
+use Rattle.pass_steps.specs.CellsModel.Cells.{CellState}
+use Rattle.pass_steps.specs.RuleModel.Sight.{IndexState, PinState}
+use Rattle.pass_steps.specs.StoreRelation.Passes.{PassState}
+use Rattle.pass_steps.specs.StoreRule.Slots.{RestsAs}
+use Rattle.pass_steps.specs.StoreRuleDeclared.store.Pass.{Pass}
+use Rattle.pass_steps.specs.StoreRuleDeclared.store.Store.{Store}
 use Rattle.pass_steps.specs.Passes.{IsSamePass, pin_of, state_of}
 use Rattle.pass_sweeps.specs.Freed.{HasFreed}
 use Rattle.pass_sweeps.specs.Pruning.{FindsWords, HasCellOnly, IsPruned, IsPrunedInHand, TakesAwayOf, stamps_seen}

@@ -1,9 +1,9 @@
 -- Retired leaves that were freed.
 use Rattle.std.specs.Prelude.{◌≡◌, ℕ}
 use Rattle.epoch_reclaim.specs.declared.sweep.Sweep.{Sweep}
-use Rattle.rule_model.specs.Sight.{IndexState}
-use Rattle.store_rule.specs.declared.store.Pass.{Pass}
-use Rattle.store_rule.specs.declared.store.Store.{Store}
+use Rattle.pass_steps.specs.RuleModel.Sight.{IndexState}
+use Rattle.pass_steps.specs.StoreRuleDeclared.store.Pass.{Pass}
+use Rattle.pass_steps.specs.StoreRuleDeclared.store.Store.{Store}
 use Rattle.pass_steps.specs.Passes.{pin_of, state_of}
 use Rattle.pass_sweeps.specs.Sweeping.{HasIndexOnly, leaves_freed}
 use Rattle.pass_sweeps.specs.declared.index.LeavesFreed.{LeavesFreed}

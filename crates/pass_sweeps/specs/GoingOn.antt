@@ -1,7 +1,7 @@
 -- What a sweep leaves of a pass between calls.
 use Rattle.graph_model.specs.AccountSteps.{ReadsBy}
-use Rattle.store_rule.specs.declared.store.Pass.{Pass}
-use Rattle.store_rule.specs.declared.store.Store.{Store}
+use Rattle.pass_steps.specs.StoreRuleDeclared.store.Pass.{Pass}
+use Rattle.pass_steps.specs.StoreRuleDeclared.store.Store.{Store}
 use Rattle.pass_steps.specs.Passes.{HoldsNone, IsIdlePass, IsOpenPass, IsPassOf, account_of_pass}
 use Rattle.pass_sweeps.specs.Sweeping.{GoesOn}
 

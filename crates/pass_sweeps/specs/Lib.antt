@@ -5,3 +5,4 @@ pub mod Stepping
 pub mod GoingOn
 pub mod Swept
 pub mod Freed
+pub mod PassSteps

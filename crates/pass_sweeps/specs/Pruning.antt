@@ -5,20 +5,20 @@ use Rattle.graph_model.specs.declared.journal.TxnName.{TxnName}
 use Rattle.graph_model.specs.declared.row.Key.{Key}
 use Rattle.graph_model.specs.Transactions.{stamp_in}
 use Rattle.store_model.specs.Stamped.{StampedVersions}
-use Rattle.version_segment.specs.Rows.{VersionedRows, IsSameSegment, IsSegment, PrunesRows, all_records, pruned_rows}
+use Rattle.pass_steps.specs.VersionSegment.Rows.{VersionedRows, IsSameSegment, IsSegment, PrunesRows, all_records, pruned_rows}
 use Rattle.seat_views.specs.Keeping.{kept_at}
 use Rattle.epoch_reclaim.specs.declared.sweep.Sweep.{Sweep}
 use Rattle.epoch_reclaim.specs.Pinned.{horizon_of}
-use Rattle.store_relation.specs.Passes.{PassState}
-use Rattle.cells_model.specs.Cells.{CellState}
-use Rattle.cells_model.specs.Words.{HasSmallWeights, block_words}
-use Rattle.rule_model.specs.EndSteps.{new_state}
-use Rattle.rule_model.specs.Sight.{HasCell, PinState, Sight, cells_of}
-use Rattle.store_words.specs.Spelling.{IsUntouched}
-use Rattle.store_rule.specs.declared.buffers.TheConstants.{MOST_UNPACKED}
-use Rattle.store_rule.specs.declared.slot.StoreSlot.TheVariants as slots
-use Rattle.store_rule.specs.declared.store.Pass.{Pass}
-use Rattle.store_rule.specs.declared.store.Store.{Store}
+use Rattle.pass_steps.specs.StoreRelation.Passes.{PassState}
+use Rattle.pass_steps.specs.CellsModel.Cells.{CellState}
+use Rattle.pass_steps.specs.CellsModel.Words.{HasSmallWeights, block_words}
+use Rattle.pass_steps.specs.RuleModel.EndSteps.{new_state}
+use Rattle.pass_steps.specs.RuleModel.Sight.{HasCell, PinState, Sight, cells_of}
+use Rattle.pass_steps.specs.StoreWords.Spelling.{IsUntouched}
+use Rattle.pass_steps.specs.StoreRuleDeclared.buffers.TheConstants.{MOST_UNPACKED}
+use Rattle.pass_steps.specs.StoreRuleDeclared.slot.StoreSlot.TheVariants as slots
+use Rattle.pass_steps.specs.StoreRuleDeclared.store.Pass.{Pass}
+use Rattle.pass_steps.specs.StoreRuleDeclared.store.Store.{Store}
 use Rattle.pass_steps.specs.Passes.{IsPassOf, pin_of, state_of}
 use Rattle.pass_sweeps.specs.Sweeping.{HasSwept}
 

@@ -7,8 +7,8 @@ use Rattle.leaf_index.specs.Index.{Index}
 use Rattle.leaf_index.specs.declared.route.LeafRange.{LeafRange}
 use Rattle.epoch_reclaim.specs.declared.sweep.Sweep.{Sweep}
 use Rattle.epoch_reclaim.specs.Pinned.{horizon_of}
-use Rattle.store_rule.specs.declared.store.Pass.{Pass}
-use Rattle.store_rule.specs.declared.store.Store.{Store}
+use Rattle.pass_steps.specs.StoreRuleDeclared.store.Pass.{Pass}
+use Rattle.pass_steps.specs.StoreRuleDeclared.store.Store.{Store}
 use Rattle.pass_steps.specs.Passes.{state_of}
 use Rattle.pass_sweeps.specs.Pruning.{TakesAwayOf, stamps_seen}
 use Rattle.pass_sweeps.specs.Swept.{IsWhole, took_of}

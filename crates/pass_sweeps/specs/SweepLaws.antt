@@ -9,21 +9,21 @@ use Rattle.graph_model.specs.Legal.{IsLegal}
 use Rattle.graph_model.specs.Transactions.{stamp_in}
 use Rattle.txn_manager.specs.declared.config.Config.{Config}
 use Rattle.store_model.specs.Stamped.{Stamped, prune_stamped}
-use Rattle.version_segment.specs.Rows.{versions_at}
+use Rattle.pass_steps.specs.VersionSegment.Rows.{versions_at}
 use Rattle.seat_views.specs.Keeping.{kept_at}
 use Rattle.epoch_reclaim.specs.declared.sweep.Sweep.{Sweep}
 use Rattle.epoch_reclaim.specs.Pinned.{begun, horizon_of}
-use Rattle.store_relation.specs.Passes.{PassState}
-use Rattle.store_relation.specs.Steps.{refreshed}
-use Rattle.cells_model.specs.Cells.{CellState}
-use Rattle.cells_model.specs.Indexed.{covers}
-use Rattle.rule_model.specs.NoteSteps.{HasRecordIn}
-use Rattle.rule_model.specs.PinSteps.{with_sweeper}
-use Rattle.rule_model.specs.Places.{Layout}
-use Rattle.rule_model.specs.RowSteps.{AreChanges, GrowsBy}
-use Rattle.rule_model.specs.Rule.{IsStoreRule}
-use Rattle.rule_model.specs.Sight.{HasCell, HasIndex, HasPass, HasPin, IndexState, PinState, Sight, with_cells, with_pass, with_pin}
-use Rattle.rule_model.specs.Steps.{AllowsLoad, Nothing}
+use Rattle.pass_steps.specs.StoreRelation.Passes.{PassState}
+use Rattle.pass_steps.specs.StoreRelation.Steps.{refreshed}
+use Rattle.pass_steps.specs.CellsModel.Cells.{CellState}
+use Rattle.pass_steps.specs.CellsModel.Indexed.{covers}
+use Rattle.pass_steps.specs.RuleModel.NoteSteps.{HasRecordIn}
+use Rattle.pass_steps.specs.RuleModel.PinSteps.{with_sweeper}
+use Rattle.pass_steps.specs.RuleModel.Places.{Layout}
+use Rattle.pass_steps.specs.RuleModel.RowSteps.{AreChanges, GrowsBy}
+use Rattle.pass_steps.specs.RuleModel.Rule.{IsStoreRule}
+use Rattle.pass_steps.specs.RuleModel.Sight.{HasCell, HasIndex, HasPass, HasPin, IndexState, PinState, Sight, with_cells, with_pass, with_pin}
+use Rattle.pass_steps.specs.RuleModel.Steps.{AllowsLoad, Nothing}
 
 -- ---- what a load of the clock tells
 

@@ -8,20 +8,20 @@ use Rattle.graph_model.specs.declared.journal.Commit.{Commit}
 use Rattle.graph_model.specs.Legal.{IsLegal}
 use Rattle.txn_manager.specs.declared.config.Config.{Config}
 use Rattle.leaf_index.specs.Calls.{freed, new_index}
-use Rattle.leaf_store.specs.declared.pair.TheConstants.{STAMPS_END}
+use Rattle.pass_steps.specs.LeafStoreDeclared.pair.TheConstants.{STAMPS_END}
 use Rattle.seat_views.specs.Keeping.{kept_at, without}
 use Rattle.epoch_reclaim.specs.declared.sweep.Sweep.{Sweep}
 use Rattle.epoch_reclaim.specs.Pinned.{horizon_of}
-use Rattle.store_relation.specs.Passes.{PassState}
-use Rattle.store_relation.specs.Steps.{refreshed}
-use Rattle.rule_model.specs.Places.{lines}
-use Rattle.rule_model.specs.Rule.{IsStoreRule}
-use Rattle.rule_model.specs.Sight.{HasIndex, IndexState, PinState, Sight, cells_of, with_pass}
-use Rattle.store_rule.specs.Passes.{OnlyAccount}
-use Rattle.store_rule.specs.declared.buffers.TheConstants.{MOST_UNPACKED}
-use Rattle.store_rule.specs.declared.slot.StoreSlot.TheVariants as slots
-use Rattle.store_rule.specs.declared.store.Pass.{Pass}
-use Rattle.store_rule.specs.declared.store.Store.{Store}
+use Rattle.pass_steps.specs.StoreRelation.Passes.{PassState}
+use Rattle.pass_steps.specs.StoreRelation.Steps.{refreshed}
+use Rattle.pass_steps.specs.RuleModel.Places.{lines}
+use Rattle.pass_steps.specs.RuleModel.Rule.{IsStoreRule}
+use Rattle.pass_steps.specs.RuleModel.Sight.{HasIndex, IndexState, PinState, Sight, cells_of, with_pass}
+use Rattle.pass_steps.specs.StoreRule.Passes.{OnlyAccount}
+use Rattle.pass_steps.specs.StoreRuleDeclared.buffers.TheConstants.{MOST_UNPACKED}
+use Rattle.pass_steps.specs.StoreRuleDeclared.slot.StoreSlot.TheVariants as slots
+use Rattle.pass_steps.specs.StoreRuleDeclared.store.Pass.{Pass}
+use Rattle.pass_steps.specs.StoreRuleDeclared.store.Store.{Store}
 use Rattle.pass_steps.specs.Passes.{IsPassOf, pin_of, state_of}
 
 -- ---- what a view has

@@ -1,16 +1,16 @@
 //! One cell in hand.
 
 ghost use Rattle.std.specs.Prelude.{◌≡◌, ◌<◌, false};
-ghost use Rattle.cells_model.specs.Cells.{CellState};
-ghost use Rattle.rule_model.specs.Sight.{PinState, cells_of};
-ghost use Rattle.store_relation.specs.Passes.{PassState};
-ghost use Rattle.store_rule.specs.Slots.{RestsAs};
+ghost use Rattle.pass_steps.specs.CellsModel.Cells.{CellState};
+ghost use Rattle.pass_steps.specs.RuleModel.Sight.{PinState, cells_of};
+ghost use Rattle.pass_steps.specs.StoreRelation.Passes.{PassState};
+ghost use Rattle.pass_steps.specs.StoreRule.Slots.{RestsAs};
 ghost use Rattle.pass_steps.specs.Passes.{HoldsNone, IsPassOf, IsSamePass, pin_of, state_of};
 ghost use Rattle.pass_sweeps.specs.Pruning.{HasCellOnly};
 
 use latch_table::Held;
+use pass_steps::below::{Pass, Resting, Store};
 use std::sync::Wait;
-use store_rule::{Pass, Resting, Store};
 
 /// Takes a cell as soon as no other pass has it.
 pub(crate) fn take_cell(rt: &impl Wait, store: &Store, pass: &mut Pass, cell: u32) -> Held<Resting>

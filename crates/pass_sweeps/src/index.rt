@@ -3,10 +3,10 @@
 ghost use Rattle.std.specs.Prelude.{◌≡◌, ◌≤◌, Some, None, length};
 ghost use Rattle.leaf_index.specs.Calls.{freed};
 ghost use Rattle.leaf_index.specs.Index.{IsIndex};
-ghost use Rattle.rule_model.specs.PinSteps.{with_sweeper};
-ghost use Rattle.rule_model.specs.Sight.{IndexState, PinState, cells_of, with_index};
-ghost use Rattle.store_relation.specs.Passes.{PassState};
-ghost use Rattle.store_rule.specs.Passes.{OnlyAccount};
+ghost use Rattle.pass_steps.specs.RuleModel.PinSteps.{with_sweeper};
+ghost use Rattle.pass_steps.specs.RuleModel.Sight.{IndexState, PinState, cells_of, with_index};
+ghost use Rattle.pass_steps.specs.StoreRelation.Passes.{PassState};
+ghost use Rattle.pass_steps.specs.StoreRule.Passes.{OnlyAccount};
 ghost use Rattle.pass_steps.specs.Passes.{HoldsNone, IsPassOf, IsSamePass, pin_of, state_of};
 ghost use Rattle.pass_sweeps.specs.Freed.{HasFreed, until_of};
 ghost use Rattle.pass_sweeps.specs.Sweeping.{HasIndexOnly, bound_of, free_bound, index_in, leaves_freed, with_sweep};
@@ -15,9 +15,8 @@ use crate::pins::{begin_with_index, look_at_all};
 use epoch_reclaim::Sweep;
 use latch_table::Held;
 use leaf_index::LeafIndex;
-use leaf_store::STAMPS_END;
+use pass_steps::below::{Change, Pass, STAMPS_END, Store};
 use std::sync::Wait;
-use store_rule::{Change, Pass, Store};
 
 /// Takes the index as soon as no other pass has it.
 pub(crate) fn take_index(rt: &impl Wait, store: &Store, pass: &mut Pass) -> Held<Box<LeafIndex>>
@@ -175,8 +174,8 @@ struct FreesLeaves {
 
 impl Change for FreesLeaves {
     ghost use Rattle.leaf_index.specs.Calls.{freed};
-    ghost use Rattle.rule_model.specs.Sight.{with_index};
-    ghost use Rattle.rule_model.specs.Steps.{Nothing};
+    ghost use Rattle.pass_steps.specs.RuleModel.Sight.{with_index};
+    ghost use Rattle.pass_steps.specs.RuleModel.Steps.{Nothing};
     ghost use Rattle.pass_sweeps.specs.Sweeping.{index_in};
 
     ghost next = { λ planned n v. with_index v
@@ -205,8 +204,8 @@ struct YieldsIndex {
 
 impl Change for YieldsIndex {
     ghost use Rattle.std.specs.Prelude.{None};
-    ghost use Rattle.rule_model.specs.PinSteps.{with_sweeper};
-    ghost use Rattle.rule_model.specs.Steps.{Nothing};
+    ghost use Rattle.pass_steps.specs.RuleModel.PinSteps.{with_sweeper};
+    ghost use Rattle.pass_steps.specs.RuleModel.Steps.{Nothing};
     ghost use Rattle.pass_steps.specs.Passes.{pin_in};
     ghost use Rattle.pass_sweeps.specs.Sweeping.{index_in};
 

@@ -1,7 +1,7 @@
 //! Steps of a sweep that the rule of the account table allows, beside those that it has for pins. Each law is the
 //! contract of a function.
 
-ghost use Rattle.rule_model.specs.Steps.{OfEachSeat};
+ghost use Rattle.pass_steps.specs.RuleModel.Steps.{OfEachSeat};
 ghost use Rattle.pass_sweeps.specs.GoingOn.{AccountGoesOn, IdleGoesOn, OpenGoesOn};
 ghost use Rattle.pass_sweeps.specs.SweepLaws.{LeavesAreKnown, OtherSweepIsBehind, PublishedIsSeen, RowsArePrunedAsSeen, SweeperIsBehind, SweeperYields, WritersAreKnown};
 

@@ -10,8 +10,8 @@ ghost use Rattle.pass_sweeps.specs.Sweeping.{HasSwept};
 use crate::cells::{give_cell, take_cell};
 use crate::prune::prune_cell;
 use epoch_reclaim::Sweep;
+use pass_steps::below::{Pass, Store};
 use std::sync::Wait;
-use store_rule::{Pass, Store};
 
 /// A leaf has so many cells.
 const CELLS: u32 = 8;

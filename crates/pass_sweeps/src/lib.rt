@@ -9,6 +9,7 @@
 //!    index.
 #![tactic(auto)]
 
+pub mod below;
 mod cells;
 mod index;
 mod laws;

@@ -6,21 +6,20 @@
 
 ghost use Rattle.std.specs.Prelude.{◌≡◌, ℕ, ◌<◌, ◌≤◌, Some, None, length};
 ghost use Rattle.epoch_reclaim.specs.Pinned.{begun, looked_at};
-ghost use Rattle.rule_model.specs.PinSteps.{with_sweeper};
-ghost use Rattle.rule_model.specs.Places.{lines};
-ghost use Rattle.rule_model.specs.Sight.{IndexState, with_pin};
-ghost use Rattle.store_relation.specs.Passes.{PassState};
-ghost use Rattle.rule_model.specs.Sight.{PinState};
-ghost use Rattle.store_rule.specs.Passes.{OnlyAccount};
-ghost use Rattle.store_words.specs.Steps.{MayLoad};
+ghost use Rattle.pass_steps.specs.RuleModel.PinSteps.{with_sweeper};
+ghost use Rattle.pass_steps.specs.RuleModel.Places.{lines};
+ghost use Rattle.pass_steps.specs.RuleModel.Sight.{IndexState, with_pin};
+ghost use Rattle.pass_steps.specs.StoreRelation.Passes.{PassState};
+ghost use Rattle.pass_steps.specs.RuleModel.Sight.{PinState};
+ghost use Rattle.pass_steps.specs.StoreRule.Passes.{OnlyAccount};
+ghost use Rattle.pass_steps.specs.StoreWords.Steps.{MayLoad};
 ghost use Rattle.pass_steps.specs.Passes.{HoldsNone, IsPassOf, pin_of, state_of};
 ghost use Rattle.pass_sweeps.specs.Sweeping.{GoesOn, HasIndexOnly, HasSwept, OnlySweep, index_in, with_sweep};
 
 use crate::seen::see_published;
 use epoch_reclaim::Sweep;
+use pass_steps::below::{Change, Pass, Store, Turn, Turns};
 use std::marker::Brand;
-use store_rule::{Change, Pass, Store};
-use store_words::{Turn, Turns};
 
 /// Sweeps over the pins of all passes, with nothing in hand. The pass sees what is published then. Takes no memory, and
 /// waits for nobody.
@@ -59,8 +58,8 @@ struct EndsSweep {
 
 impl Change for EndsSweep {
     ghost use Rattle.std.specs.Prelude.{None};
-    ghost use Rattle.rule_model.specs.Sight.{with_pin};
-    ghost use Rattle.rule_model.specs.Steps.{Nothing};
+    ghost use Rattle.pass_steps.specs.RuleModel.Sight.{with_pin};
+    ghost use Rattle.pass_steps.specs.RuleModel.Steps.{Nothing};
     ghost use Rattle.pass_steps.specs.Passes.{pin_in};
     ghost use Rattle.pass_sweeps.specs.Sweeping.{with_sweep};
 

@@ -7,12 +7,12 @@
 
 ghost use Rattle.std.specs.Prelude.{◌≡◌, ℕ, ◌+◌, ◌<◌, ◌≤◌, false, length};
 ghost use Rattle.epoch_reclaim.specs.declared.sweep.Sweep.{Sweep};
-ghost use Rattle.cells_model.specs.Cells.{CellState};
+ghost use Rattle.pass_steps.specs.CellsModel.Cells.{CellState};
 ghost use Rattle.epoch_reclaim.specs.Pinned.{horizon_of};
-ghost use Rattle.rule_model.specs.Sight.{HasCell, cells_of, with_cells};
-ghost use Rattle.store_rule.specs.Passes.{OnlyAccount};
-ghost use Rattle.store_rule.specs.Slots.{RestsAs};
-ghost use Rattle.version_segment.specs.Rows.{IsSameSegment, IsSegment, PrunesRows, all_records};
+ghost use Rattle.pass_steps.specs.RuleModel.Sight.{HasCell, cells_of, with_cells};
+ghost use Rattle.pass_steps.specs.StoreRule.Passes.{OnlyAccount};
+ghost use Rattle.pass_steps.specs.StoreRule.Slots.{RestsAs};
+ghost use Rattle.pass_steps.specs.VersionSegment.Rows.{IsSameSegment, IsSegment, PrunesRows, all_records};
 ghost use Rattle.pass_steps.specs.Asking.{KnowsLooks, asking_of};
 ghost use Rattle.pass_steps.specs.Passes.{IsPassOf, pin_of, state_of};
 ghost use Rattle.pass_sweeps.specs.Pruning.{FindsWords, HasCellOnly, IsPruned, IsUnpackedAs, news_of, stamps_seen};
@@ -22,10 +22,9 @@ ghost use Rattle.pass_sweeps.specs.Sweeping.{HasSwept};
 use crate::seen::learn_writers;
 use epoch_reclaim::Sweep;
 use latch_table::Held;
+use pass_steps::below::{Change, Pass, Resting, Store, VersionSegment};
 use pass_steps::{Asker, PassStates};
 use std::marker::Brand;
-use store_rule::{Change, Pass, Resting, Store};
-use version_segment::VersionSegment;
 
 /// Prunes a packed cell in hand, and answers whether a record went. Takes no memory.
 pub(crate) fn prune_cell(
@@ -101,8 +100,8 @@ struct KnowsPruned<'a> {
 }
 
 impl Change for KnowsPruned<'_> {
-    ghost use Rattle.rule_model.specs.Sight.{with_cells};
-    ghost use Rattle.rule_model.specs.Steps.{Nothing};
+    ghost use Rattle.pass_steps.specs.RuleModel.Sight.{with_cells};
+    ghost use Rattle.pass_steps.specs.RuleModel.Steps.{Nothing};
     ghost use Rattle.pass_sweeps.specs.Pruning.{news_of};
 
     ghost next = { λ planned n v. with_cells v (news_of v planned.cell planned.segment.now) };

@@ -5,22 +5,21 @@
 
 ghost use Rattle.std.specs.Prelude.{◌≡◌, ℕ, List};
 ghost use Rattle.graph_model.specs.declared.journal.Commit.{Commit};
-ghost use Rattle.store_rule.specs.Passes.{OnlyAccount};
+ghost use Rattle.pass_steps.specs.StoreRule.Passes.{OnlyAccount};
 ghost use Rattle.pass_steps.specs.Passes.{IsPassOf, state_of};
 ghost use Rattle.pass_sweeps.specs.SweepLaws.{TellsWriters};
 ghost use Rattle.pass_sweeps.specs.Sweeping.{MaySee, SeesPublished};
 
 use atomic_table::Play;
+use pass_steps::below::{AccountSight, Change, Pass, Store};
 use std::marker::{Brand, PhantomData};
-use store_rule::{Change, Pass, Store};
-use store_words::AccountSight;
 use txn_manager::Config;
 
 /// What a load of the clock makes of what its seat knows, by the commits that are published then, and what it tells.
 pub trait Publishing {
     ghost use Rattle.std.specs.Prelude.{ℕ, List};
     ghost use Rattle.graph_model.specs.declared.journal.Commit.{Commit};
-    ghost use Rattle.rule_model.specs.Sight.{Sight};
+    ghost use Rattle.pass_steps.specs.RuleModel.Sight.{Sight};
 
     ghost next: { List Commit → Sight → Sight };
 

@@ -14,8 +14,8 @@ use crate::seen::see_published;
 use epoch_reclaim::Sweep;
 use graph_model::Key;
 use leaf_index::{LeafIndex, LeafRange};
+use pass_steps::below::{Pass, Store};
 use std::sync::Wait;
-use store_rule::{Pass, Store};
 
 /// Where a pass's next sweep begins. Between two turns leaves may come and go: the leaf whose range holds the key is
 /// the next one then.

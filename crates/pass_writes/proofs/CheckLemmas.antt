@@ -20,28 +20,28 @@ use Rattle.store_model.specs.Stamped.{Stamped, forget_row, read_stamped}
 use Rattle.store_model.specs.Versions.{sees}
 use Rattle.undo_chain.specs.declared.states.Snapshot.{Snapshot}
 use Rattle.undo_chain.specs.States.{Knowledge}
-use Rattle.version_segment.specs.Checks.{IsChecked, IsNamed}
-use Rattle.row_writes.specs.Checks.{AreNamedHeld, Answers, IsAnswer, ShowsHeld, TellsEdges, answer_of, looked_at, looked_keys}
-use Rattle.row_writes.specs.Held.{AreHeld, HeldRows}
+use Rattle.pass_prunes.specs.VersionSegment.Checks.{IsChecked, IsNamed}
+use Rattle.pass_prunes.specs.RowWrites.Checks.{AreNamedHeld, Answers, IsAnswer, ShowsHeld, TellsEdges, answer_of, looked_at, looked_keys}
+use Rattle.pass_prunes.specs.RowWrites.Held.{AreHeld, HeldRows}
 use Rattle.seat_views.specs.Keeping.{kept_at}
-use Rattle.store_relation.specs.CheckLaws.{AreSeen, IsRightFor}
-use Rattle.store_relation.specs.Passes.{PassState, name_at}
-use Rattle.store_relation.specs.Readers.{reader_of}
-use Rattle.store_relation.specs.Rows.{HasRecord}
-use Rattle.store_relation.specs.Words.{Look, has_word}
-use Rattle.store_relation.proofs.CheckLemmas.{checked_cause, checked_free, holder_cause, later_cause}
-use Rattle.cells_model.specs.Cells.{CellState}
-use Rattle.rule_model.specs.NoteSteps.{HasRecordIn, HasRow, LearnsRows, LooksAtRecord}
-use Rattle.rule_model.specs.Sight.{Sight}
-use Rattle.store_rule.specs.declared.store.Pass.{Pass}
-use Rattle.store_rule.specs.declared.store.Store.{Store}
-use Rattle.pass_cells.specs.declared.taken.TakenCell.{TakenCell}
-use Rattle.pass_cells.specs.Holding.{AreSameRows, RowsAreKnown}
-use Rattle.pass_cells.specs.Taken.{held_rows}
-use Rattle.pass_steps.specs.Asking.{Asking, IsSnapshotOf, KnowsLooks, asking_of, is_writer, knowledge_at, lent_part}
-use Rattle.pass_steps.specs.Passes.{reader_of_pass, state_in, state_of}
-use Rattle.pass_steps.proofs.PassLemmas.{pass_has_looked}
-use Rattle.pass_steps.proofs.WriterLemmas.{writers_named}
+use Rattle.pass_prunes.specs.StoreRelation.CheckLaws.{AreSeen, IsRightFor}
+use Rattle.pass_prunes.specs.StoreRelation.Passes.{PassState, name_at}
+use Rattle.pass_prunes.specs.StoreRelation.Readers.{reader_of}
+use Rattle.pass_prunes.specs.StoreRelation.Rows.{HasRecord}
+use Rattle.pass_prunes.specs.StoreRelation.Words.{Look, has_word}
+use Rattle.pass_prunes.proofs.StoreRelation.CheckLemmas.{checked_cause, checked_free, holder_cause, later_cause}
+use Rattle.pass_prunes.specs.CellsModel.Cells.{CellState}
+use Rattle.pass_prunes.specs.RuleModel.NoteSteps.{HasRecordIn, HasRow, LearnsRows, LooksAtRecord}
+use Rattle.pass_prunes.specs.RuleModel.Sight.{Sight}
+use Rattle.pass_prunes.specs.StoreRuleDeclared.store.Pass.{Pass}
+use Rattle.pass_prunes.specs.StoreRuleDeclared.store.Store.{Store}
+use Rattle.pass_prunes.specs.PassCellsDeclared.taken.TakenCell.{TakenCell}
+use Rattle.pass_prunes.specs.PassCells.Holding.{AreSameRows, RowsAreKnown}
+use Rattle.pass_prunes.specs.PassCells.Taken.{held_rows}
+use Rattle.pass_prunes.specs.PassSteps.Asking.{Asking, IsSnapshotOf, KnowsLooks, asking_of, is_writer, knowledge_at, lent_part}
+use Rattle.pass_prunes.specs.PassSteps.Passes.{reader_of_pass, state_in, state_of}
+use Rattle.pass_prunes.proofs.PassSteps.PassLemmas.{pass_has_looked}
+use Rattle.pass_prunes.proofs.PassSteps.WriterLemmas.{writers_named}
 use Rattle.pass_writes.specs.Hand.{HasInHand}
 use Rattle.pass_writes.specs.Found.{Finds, MayBeMade, MeetsCommit, MeetsOpen, view_of}
 use Rattle.pass_writes.proofs.LookedLemmas.{IsLooked, all_at, all_looked, rows_may}

@@ -4,15 +4,15 @@ use Rattle.std.specs.Prelude.{false, true, Some, unwrap_or}
 use Rattle.txn_manager.specs.declared.config.Config.{Config}
 use Rattle.graph_model.specs.Legal.{IsLegal}
 use Rattle.seat_views.specs.Keeping.{kept_at}
-use Rattle.store_relation.specs.Passes.{PassState, fresh_pass}
-use Rattle.cells_model.specs.Cells.{CellState}
-use Rattle.rule_model.specs.Sight.{PinState, Sight, fresh_pin}
-use Rattle.store_rule.specs.declared.store.Pass.{Pass}
-use Rattle.store_rule.specs.declared.store.Store.{Store}
-use Rattle.pass_cells.specs.declared.taken.TakenCell.{TakenCell}
-use Rattle.pass_cells.specs.Holding.{AreKnown, HasTaken, Holds, IsKnown, IsLatchOf, KeepsPass}
-use Rattle.pass_steps.specs.Passes.{HoldsNone, IsOwnSight, IsPassOf, pin_of, state_of}
-use Rattle.pass_steps.proofs.SightLemmas.{kept_here}
+use Rattle.pass_prunes.specs.StoreRelation.Passes.{PassState, fresh_pass}
+use Rattle.pass_prunes.specs.CellsModel.Cells.{CellState}
+use Rattle.pass_prunes.specs.RuleModel.Sight.{PinState, Sight, fresh_pin}
+use Rattle.pass_prunes.specs.StoreRuleDeclared.store.Pass.{Pass}
+use Rattle.pass_prunes.specs.StoreRuleDeclared.store.Store.{Store}
+use Rattle.pass_prunes.specs.PassCellsDeclared.taken.TakenCell.{TakenCell}
+use Rattle.pass_prunes.specs.PassCells.Holding.{AreKnown, HasTaken, Holds, IsKnown, IsLatchOf, KeepsPass}
+use Rattle.pass_prunes.specs.PassSteps.Passes.{HoldsNone, IsOwnSight, IsPassOf, pin_of, state_of}
+use Rattle.pass_prunes.proofs.PassSteps.SightLemmas.{kept_here}
 use Rattle.pass_writes.specs.Hand.{HasInHand, HasNothing, KeepsState}
 
 -- ---- taken, and put back

@@ -6,3 +6,12 @@ pub mod StateLemmas
 pub mod MakeLemmas
 pub mod ShortLemmas
 pub mod ScanLemmas
+pub mod CellsModel
+pub mod PassCellsMade
+pub mod PassSteps
+pub mod PassSweeps
+pub mod RuleModel
+pub mod StoreRelation
+pub mod StoreRule
+pub mod StoreRuleMade
+pub mod StoreWordsMade

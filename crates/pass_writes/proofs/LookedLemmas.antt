@@ -20,13 +20,13 @@ use Rattle.store_model.specs.Check.{MayWrite, drops_at, droppers, looks_at, newe
 use Rattle.store_model.specs.Layers.{row_key}
 use Rattle.store_model.specs.Stamped.{Stamped, StampedVersions, forget, forget_row}
 use Rattle.store_model.proofs.LookedLemmas.{same_key_eq}
-use Rattle.version_segment.specs.Checks.{drops_in, drops_of, newest_of}
-use Rattle.row_writes.specs.Checks.{looked_at, looked_keys}
-use Rattle.row_writes.specs.Held.{AreHeld, HeldRows}
-use Rattle.store_relation.specs.CheckLaws.{AreSeen}
-use Rattle.store_relation.specs.Rows.{HasRecord}
-use Rattle.store_relation.proofs.CheckLemmas.{may_write}
-use Rattle.rule_model.specs.RowSteps.{looks_in}
+use Rattle.pass_prunes.specs.VersionSegment.Checks.{drops_in, drops_of, newest_of}
+use Rattle.pass_prunes.specs.RowWrites.Checks.{looked_at, looked_keys}
+use Rattle.pass_prunes.specs.RowWrites.Held.{AreHeld, HeldRows}
+use Rattle.pass_prunes.specs.StoreRelation.CheckLaws.{AreSeen}
+use Rattle.pass_prunes.specs.StoreRelation.Rows.{HasRecord}
+use Rattle.pass_prunes.proofs.StoreRelation.CheckLemmas.{may_write}
+use Rattle.pass_prunes.specs.RuleModel.RowSteps.{looks_in}
 
 -- ---- keys
 

@@ -5,22 +5,22 @@ use Rattle.graph_model.specs.declared.write.Write.{Write}
 use Rattle.graph_model.specs.Refused.{refused}
 use Rattle.graph_model.specs.Transactions.{stamp_in}
 use Rattle.undo_chain.specs.declared.states.Snapshot.{Snapshot}
-use Rattle.row_writes.specs.Checks.{ShowsHeld}
-use Rattle.row_writes.specs.Held.{AreHeld}
-use Rattle.row_writes.specs.Laying.{MayLay}
-use Rattle.row_writes.specs.Written.{all_keys, rows_of}
-use Rattle.row_writes.specs.declared.written.WrittenRows.{WrittenRows}
-use Rattle.store_relation.specs.Passes.{PassState, name_at}
-use Rattle.rule_model.specs.NoteSteps.{LearnsRows}
-use Rattle.store_rule.specs.Passes.{OnlyAccount}
-use Rattle.store_rule.specs.declared.store.Pass.{Pass}
-use Rattle.store_rule.specs.declared.store.Store.{Store}
-use Rattle.pass_cells.specs.Changes.{MissesFew}
-use Rattle.pass_cells.specs.declared.taken.TakenCell.{TakenCell}
-use Rattle.pass_cells.specs.Holding.{RowsAreKnown}
-use Rattle.pass_cells.specs.Taken.{held_rows}
-use Rattle.pass_steps.specs.Asking.{KnowsLooks}
-use Rattle.pass_steps.specs.Passes.{IsSamePass, pin_of, reader_of_pass, state_of}
+use Rattle.pass_prunes.specs.RowWrites.Checks.{ShowsHeld}
+use Rattle.pass_prunes.specs.RowWrites.Held.{AreHeld}
+use Rattle.pass_prunes.specs.RowWrites.Laying.{MayLay}
+use Rattle.pass_prunes.specs.RowWrites.Written.{all_keys, rows_of}
+use Rattle.pass_prunes.specs.RowWritesDeclared.written.WrittenRows.{WrittenRows}
+use Rattle.pass_prunes.specs.StoreRelation.Passes.{PassState, name_at}
+use Rattle.pass_prunes.specs.RuleModel.NoteSteps.{LearnsRows}
+use Rattle.pass_prunes.specs.StoreRule.Passes.{OnlyAccount}
+use Rattle.pass_prunes.specs.StoreRuleDeclared.store.Pass.{Pass}
+use Rattle.pass_prunes.specs.StoreRuleDeclared.store.Store.{Store}
+use Rattle.pass_prunes.specs.PassCells.Changes.{MissesFew}
+use Rattle.pass_prunes.specs.PassCellsDeclared.taken.TakenCell.{TakenCell}
+use Rattle.pass_prunes.specs.PassCells.Holding.{RowsAreKnown}
+use Rattle.pass_prunes.specs.PassCells.Taken.{held_rows}
+use Rattle.pass_prunes.specs.PassSteps.Asking.{KnowsLooks}
+use Rattle.pass_prunes.specs.PassSteps.Passes.{IsSamePass, pin_of, reader_of_pass, state_of}
 use Rattle.pass_writes.specs.Found.{view_of}
 use Rattle.pass_writes.specs.Hand.{HasInHand}
 use Rattle.pass_writes.proofs.CheckLemmas.{shows}

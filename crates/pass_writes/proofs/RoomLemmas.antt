@@ -17,15 +17,15 @@ use Rattle.graph_model.proofs.ViewLemmas.{view_symmetric}
 use Rattle.graph_model.proofs.WriteLemmas.{allowed_ends}
 use Rattle.store_model.specs.Stamped.{StampedVersions, read_stamped}
 use Rattle.undo_chain.specs.declared.states.Snapshot.{Snapshot}
-use Rattle.version_segment.specs.Rows.{or_nothing}
-use Rattle.row_writes.specs.Checks.{ShowsHeld}
-use Rattle.row_writes.specs.Held.{AreHeld, HeldRows}
-use Rattle.row_writes.specs.Laying.{MayLay}
-use Rattle.row_writes.specs.Written.{all_keys, rows_of}
-use Rattle.store_relation.specs.Passes.{PassState}
-use Rattle.pass_cells.specs.Changes.{MissesFew}
-use Rattle.pass_cells.specs.declared.taken.TakenCell.{TakenCell}
-use Rattle.pass_cells.specs.Taken.{cell_at, held_rows}
+use Rattle.pass_prunes.specs.VersionSegment.Rows.{or_nothing}
+use Rattle.pass_prunes.specs.RowWrites.Checks.{ShowsHeld}
+use Rattle.pass_prunes.specs.RowWrites.Held.{AreHeld, HeldRows}
+use Rattle.pass_prunes.specs.RowWrites.Laying.{MayLay}
+use Rattle.pass_prunes.specs.RowWrites.Written.{all_keys, rows_of}
+use Rattle.pass_prunes.specs.StoreRelation.Passes.{PassState}
+use Rattle.pass_prunes.specs.PassCells.Changes.{MissesFew}
+use Rattle.pass_prunes.specs.PassCellsDeclared.taken.TakenCell.{TakenCell}
+use Rattle.pass_prunes.specs.PassCells.Taken.{cell_at, held_rows}
 use Rattle.pass_writes.specs.Found.{view_of}
 
 -- ---- values at keys

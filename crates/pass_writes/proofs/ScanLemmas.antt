@@ -15,23 +15,23 @@ use Rattle.graph_model.proofs.KeyLemmas.{below_self, between_parts, upto_chain}
 use Rattle.graph_model.proofs.RowLemmas.{rows_of_values}
 use Rattle.store_model.specs.Stamped.{StampedVersions}
 use Rattle.txn_manager.specs.declared.config.Config.{Config}
-use Rattle.version_segment.specs.Checks.{AreNamedRows, IsNamed}
-use Rattle.version_segment.specs.Keyed.{entries_by}
-use Rattle.version_segment.proofs.KeyedLemmas.{find_there}
-use Rattle.version_segment.specs.Rows.{IsSegment, VersionedRows, or_nothing, versions_at}
+use Rattle.pass_prunes.specs.VersionSegment.Checks.{AreNamedRows, IsNamed}
+use Rattle.pass_prunes.specs.VersionSegment.Keyed.{entries_by}
+use Rattle.pass_prunes.proofs.VersionSegment.KeyedLemmas.{find_there}
+use Rattle.pass_prunes.specs.VersionSegment.Rows.{IsSegment, VersionedRows, or_nothing, versions_at}
 use Rattle.edge_scan.specs.Steps.{IsUnderWay, end_of}
-use Rattle.row_writes.specs.Checks.{AreNamedHeld}
-use Rattle.store_relation.specs.Passes.{PassState, name_at}
-use Rattle.cells_model.specs.Indexed.{covers}
-use Rattle.rule_model.specs.Sight.{PinState, Sight}
-use Rattle.store_rule.specs.declared.store.Pass.{Pass}
-use Rattle.pass_cells.specs.declared.taken.TakenCell.{TakenCell}
-use Rattle.pass_cells.specs.Holding.{AreKnown, IsKnown}
-use Rattle.pass_cells.specs.Reading.{lesser}
-use Rattle.pass_cells.specs.Taken.{AreRising, cell_at, has_cell, held_rows}
-use Rattle.pass_cells.proofs.CellLemmas.{IsAmong}
-use Rattle.pass_cells.proofs.StepLemmas.{unique_cell}
-use Rattle.pass_steps.specs.Passes.{HasOpenTxn, IsSamePass, pin_of, state_of}
+use Rattle.pass_prunes.specs.RowWrites.Checks.{AreNamedHeld}
+use Rattle.pass_prunes.specs.StoreRelation.Passes.{PassState, name_at}
+use Rattle.pass_prunes.specs.CellsModel.Indexed.{covers}
+use Rattle.pass_prunes.specs.RuleModel.Sight.{PinState, Sight}
+use Rattle.pass_prunes.specs.StoreRuleDeclared.store.Pass.{Pass}
+use Rattle.pass_prunes.specs.PassCellsDeclared.taken.TakenCell.{TakenCell}
+use Rattle.pass_prunes.specs.PassCells.Holding.{AreKnown, IsKnown}
+use Rattle.pass_prunes.specs.PassCells.Reading.{lesser}
+use Rattle.pass_prunes.specs.PassCells.Taken.{AreRising, cell_at, has_cell, held_rows}
+use Rattle.pass_prunes.proofs.PassCells.CellLemmas.{IsAmong}
+use Rattle.pass_prunes.proofs.PassCells.StepLemmas.{unique_cell}
+use Rattle.pass_prunes.specs.PassSteps.Passes.{HasOpenTxn, IsSamePass, pin_of, state_of}
 use Rattle.pass_writes.specs.Found.{view_of}
 use Rattle.pass_writes.specs.Making.{IsOpenIn, NotesOnly}
 use Rattle.pass_writes.specs.Scanning.{EndsWithKeys, IsPortion}

@@ -6,10 +6,10 @@ use Rattle.graph_model.specs.declared.row.Key.{Key}
 use Rattle.graph_model.specs.declared.refusal.Refusal.{Refusal}
 use Rattle.graph_model.specs.declared.write.Kind.{Kind}
 use Rattle.graph_model.specs.declared.write.Write.{Write}
-use Rattle.row_writes.specs.declared.written.WrittenRows.{WrittenRows}
-use Rattle.row_writes.specs.Held.{HeldRows}
-use Rattle.row_writes.specs.Written.{rows_of, with_back, written_keys}
-use Rattle.pass_cells.specs.Room.{key_of, need_of}
+use Rattle.pass_prunes.specs.RowWritesDeclared.written.WrittenRows.{WrittenRows}
+use Rattle.pass_prunes.specs.RowWrites.Held.{HeldRows}
+use Rattle.pass_prunes.specs.RowWrites.Written.{rows_of, with_back, written_keys}
+use Rattle.pass_prunes.specs.PassCells.Room.{key_of, need_of}
 use Rattle.pass_writes.specs.declared.making.Written.{Written}
 use Rattle.pass_writes.specs.declared.making.Written.TheVariants.{Done, NeedRoom}
 use Rattle.pass_writes.specs.Making.{IsForInsert, IsShortOf, NeedsRoom}

@@ -16,26 +16,26 @@ use Rattle.graph_model.specs.Legal.{IsLegal}
 use Rattle.graph_model.proofs.TestLemmas.{either_of, self_eq}
 use Rattle.store_model.proofs.LookedLemmas.{same_key_eq}
 use Rattle.txn_manager.specs.declared.config.Config.{Config}
-use Rattle.row_writes.specs.Written.{rows_of, touched_keys}
-use Rattle.row_writes.proofs.WrittenLemmas.{keys_are}
-use Rattle.store_relation.specs.Keys.{changed_keys, ends_of, has_key}
-use Rattle.store_relation.specs.Passes.{PassState, name_at}
-use Rattle.store_relation.specs.Readers.{reader_of}
-use Rattle.store_relation.specs.Steps.{meeting, sighting, with_holder, with_meeting, with_sighting}
-use Rattle.store_relation.specs.Words.{Look}
-use Rattle.cells_model.specs.Cells.{CellState}
-use Rattle.rule_model.specs.NoteSteps.{LearnsRows}
-use Rattle.rule_model.specs.Sight.{Sight, with_pass, with_rows}
-use Rattle.store_rule.specs.Passes.{OnlyAccount}
-use Rattle.store_rule.specs.declared.store.Pass.{Pass}
-use Rattle.store_rule.specs.declared.store.Store.{Store}
-use Rattle.pass_cells.specs.Changes.{keys_beside}
-use Rattle.pass_cells.specs.declared.taken.TakenCell.{TakenCell}
-use Rattle.pass_cells.specs.Holding.{Holds}
-use Rattle.pass_steps.specs.Asking.{HasLooked, IsSnapshotOf, KnowsLooks}
-use Rattle.pass_steps.specs.Passes.{IsSamePass, pin_of, reader_of_pass, state_in, state_of}
-use Rattle.pass_steps.proofs.PassLemmas.{pass_after, pass_has_looked, pass_is_stepped, pin_is, sight_is, state_is}
-use Rattle.pass_steps.proofs.SightLemmas.{own_rows, state_here}
+use Rattle.pass_prunes.specs.RowWrites.Written.{rows_of, touched_keys}
+use Rattle.pass_prunes.proofs.RowWrites.WrittenLemmas.{keys_are}
+use Rattle.pass_prunes.specs.StoreRelation.Keys.{changed_keys, ends_of, has_key}
+use Rattle.pass_prunes.specs.StoreRelation.Passes.{PassState, name_at}
+use Rattle.pass_prunes.specs.StoreRelation.Readers.{reader_of}
+use Rattle.pass_prunes.specs.StoreRelation.Steps.{meeting, sighting, with_holder, with_meeting, with_sighting}
+use Rattle.pass_prunes.specs.StoreRelation.Words.{Look}
+use Rattle.pass_prunes.specs.CellsModel.Cells.{CellState}
+use Rattle.pass_prunes.specs.RuleModel.NoteSteps.{LearnsRows}
+use Rattle.pass_prunes.specs.RuleModel.Sight.{Sight, with_pass, with_rows}
+use Rattle.pass_prunes.specs.StoreRule.Passes.{OnlyAccount}
+use Rattle.pass_prunes.specs.StoreRuleDeclared.store.Pass.{Pass}
+use Rattle.pass_prunes.specs.StoreRuleDeclared.store.Store.{Store}
+use Rattle.pass_prunes.specs.PassCells.Changes.{keys_beside}
+use Rattle.pass_prunes.specs.PassCellsDeclared.taken.TakenCell.{TakenCell}
+use Rattle.pass_prunes.specs.PassCells.Holding.{Holds}
+use Rattle.pass_prunes.specs.PassSteps.Asking.{HasLooked, IsSnapshotOf, KnowsLooks}
+use Rattle.pass_prunes.specs.PassSteps.Passes.{IsSamePass, pin_of, reader_of_pass, state_in, state_of}
+use Rattle.pass_prunes.proofs.PassSteps.PassLemmas.{pass_after, pass_has_looked, pass_is_stepped, pin_is, sight_is, state_is}
+use Rattle.pass_prunes.proofs.PassSteps.SightLemmas.{own_rows, state_here}
 use Rattle.pass_writes.specs.Ending.{AreLeft, AreStampedTo, LeavesRows, keys_changed}
 use Rattle.pass_writes.specs.Found.{Finds}
 use Rattle.pass_writes.specs.Hand.{HasInHand}

@@ -3,11 +3,11 @@ use Rattle.std.specs.Prelude.{◌≡◌, ◌++◌, true, List}
 use Rattle.graph_model.specs.declared.row.Key.{Key}
 use Rattle.graph_model.specs.declared.write.Kind.{Kind}
 use Rattle.graph_model.specs.declared.write.Write.{Write}
-use Rattle.store_relation.specs.Keys.{changed_keys, has_key}
-use Rattle.store_relation.specs.Passes.{PassState}
-use Rattle.store_relation.specs.Steps.{with_unstamped}
-use Rattle.row_writes.specs.Written.{rows_of, touched_keys, written_keys}
-use Rattle.pass_cells.specs.Changes.{keys_beside}
+use Rattle.pass_prunes.specs.StoreRelation.Keys.{changed_keys, has_key}
+use Rattle.pass_prunes.specs.StoreRelation.Passes.{PassState}
+use Rattle.pass_prunes.specs.StoreRelation.Steps.{with_unstamped}
+use Rattle.pass_prunes.specs.RowWrites.Written.{rows_of, touched_keys, written_keys}
+use Rattle.pass_prunes.specs.PassCells.Changes.{keys_beside}
 
 -- only rows that these writes change
 abbrev pub AreLeft : Kind → List Write → List Key → Type 0

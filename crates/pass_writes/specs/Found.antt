@@ -13,13 +13,13 @@ use Rattle.graph_model.specs.Refused.{refused}
 use Rattle.txn_manager.specs.declared.config.Config.{Config}
 use Rattle.store_model.specs.Check.{MayWrite}
 use Rattle.store_model.specs.Stamped.{forget_row}
-use Rattle.version_segment.specs.Rows.{versions_at}
-use Rattle.store_relation.specs.Passes.{PassState, sees_by}
-use Rattle.cells_model.specs.Cells.{CellState}
-use Rattle.rule_model.specs.NoteSteps.{HasRow}
-use Rattle.rule_model.specs.RowSteps.{looks_in}
-use Rattle.rule_model.specs.Sight.{Sight}
-use Rattle.pass_steps.specs.Notes.{MeetsHolder, MeetsLater}
+use Rattle.pass_prunes.specs.VersionSegment.Rows.{versions_at}
+use Rattle.pass_prunes.specs.StoreRelation.Passes.{PassState, sees_by}
+use Rattle.pass_prunes.specs.CellsModel.Cells.{CellState}
+use Rattle.pass_prunes.specs.RuleModel.NoteSteps.{HasRow}
+use Rattle.pass_prunes.specs.RuleModel.RowSteps.{looks_in}
+use Rattle.pass_prunes.specs.RuleModel.Sight.{Sight}
+use Rattle.pass_prunes.specs.PassSteps.Notes.{MeetsHolder, MeetsLater}
 
 -- what an open transaction sees
 abbrev pub view_of : Kind → PassState → Graph

@@ -1,10 +1,10 @@
 -- A pass with cells in hand, and with none.
 use Rattle.std.specs.Prelude.{◌≡◌, List, []}
-use Rattle.store_rule.specs.declared.store.Pass.{Pass}
-use Rattle.store_rule.specs.declared.store.Store.{Store}
-use Rattle.pass_cells.specs.declared.taken.TakenCell.{TakenCell}
-use Rattle.pass_cells.specs.Holding.{Holds}
-use Rattle.pass_steps.specs.Passes.{HoldsNone, IsPassOf, IsSamePass, pin_of, state_of}
+use Rattle.pass_prunes.specs.StoreRuleDeclared.store.Pass.{Pass}
+use Rattle.pass_prunes.specs.StoreRuleDeclared.store.Store.{Store}
+use Rattle.pass_prunes.specs.PassCellsDeclared.taken.TakenCell.{TakenCell}
+use Rattle.pass_prunes.specs.PassCells.Holding.{Holds}
+use Rattle.pass_prunes.specs.PassSteps.Passes.{HoldsNone, IsPassOf, IsSamePass, pin_of, state_of}
 
 -- a pass of the store that has these cells in hand, and nothing else
 pub record HasInHand (store : Store) (pass : Pass) (ts : List TakenCell) : Type 0 where

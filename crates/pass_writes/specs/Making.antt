@@ -10,17 +10,17 @@ use Rattle.graph_model.specs.declared.write.Write.{Write}
 use Rattle.graph_model.specs.Inserted.{inserts}
 use Rattle.graph_model.specs.Refused.{refused}
 use Rattle.txn_manager.specs.declared.config.Config.{Config}
-use Rattle.store_relation.specs.Keys.{has_key}
-use Rattle.store_relation.specs.Passes.{PassState}
-use Rattle.store_relation.specs.Steps.{meeting, sighting, with_holder, with_meeting, with_sighting, written_by}
-use Rattle.rule_model.specs.Sight.{Sight}
+use Rattle.pass_prunes.specs.StoreRelation.Keys.{has_key}
+use Rattle.pass_prunes.specs.StoreRelation.Passes.{PassState}
+use Rattle.pass_prunes.specs.StoreRelation.Steps.{meeting, sighting, with_holder, with_meeting, with_sighting, written_by}
+use Rattle.pass_prunes.specs.RuleModel.Sight.{Sight}
 use Rattle.graph_model.specs.declared.write.Kind.{Kind}
-use Rattle.row_writes.specs.Held.{HeldRows}
-use Rattle.row_writes.specs.Written.{rows_of, written_keys}
-use Rattle.store_rule.specs.declared.store.Pass.{Pass}
-use Rattle.pass_cells.specs.Room.{IsShort, key_of, need_of}
-use Rattle.pass_steps.specs.Notes.{holder_named, later_noted}
-use Rattle.pass_steps.specs.Passes.{HasOpenTxn, name_of_pass, pin_of, state_of}
+use Rattle.pass_prunes.specs.RowWrites.Held.{HeldRows}
+use Rattle.pass_prunes.specs.RowWrites.Written.{rows_of, written_keys}
+use Rattle.pass_prunes.specs.StoreRuleDeclared.store.Pass.{Pass}
+use Rattle.pass_prunes.specs.PassCells.Room.{IsShort, key_of, need_of}
+use Rattle.pass_prunes.specs.PassSteps.Notes.{holder_named, later_noted}
+use Rattle.pass_prunes.specs.PassSteps.Passes.{HasOpenTxn, name_of_pass, pin_of, state_of}
 use Rattle.pass_writes.specs.declared.making.Written.{Written}
 use Rattle.pass_writes.specs.declared.making.Written.TheVariants.{Done, NeedRoom}
 use Rattle.pass_writes.specs.Found.{view_of}

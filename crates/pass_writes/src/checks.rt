@@ -2,23 +2,21 @@
 
 ghost use Rattle.std.specs.Prelude.{◌≡◌, Bool};
 ghost use Rattle.graph_model.specs.Refused.{IsWithinLimits};
-ghost use Rattle.rule_model.specs.NoteSteps.{LearnsRows};
-ghost use Rattle.row_writes.specs.Checks.{TellsEdges, looked_keys};
-ghost use Rattle.row_writes.specs.Held.{AreHeld};
-ghost use Rattle.pass_cells.specs.Taken.{rows_in};
-ghost use Rattle.pass_steps.specs.Asking.{IsSnapshotOf, KnowsLooks, asking_of};
-ghost use Rattle.pass_steps.specs.Passes.{reader_of_pass, state_of};
+ghost use Rattle.pass_prunes.specs.RuleModel.NoteSteps.{LearnsRows};
+ghost use Rattle.pass_prunes.specs.RowWrites.Checks.{TellsEdges, looked_keys};
+ghost use Rattle.pass_prunes.specs.RowWrites.Held.{AreHeld};
+ghost use Rattle.pass_prunes.specs.PassCells.Taken.{rows_in};
+ghost use Rattle.pass_prunes.specs.PassSteps.Asking.{IsSnapshotOf, KnowsLooks, asking_of};
+ghost use Rattle.pass_prunes.specs.PassSteps.Passes.{reader_of_pass, state_of};
 ghost use Rattle.pass_writes.specs.Found.{Finds, view_of};
 ghost use Rattle.pass_writes.specs.Hand.{HasInHand};
 
 use graph_model::{Refusal, Write};
-use pass_cells::{TakenCells, rows_in_hand_are_known};
-use pass_steps::{Asker, PassStates};
-use row_writes::Fingers;
+use pass_prunes::below::{
+    Asker, Fingers, NOWHERE, Pass, PassStates, Store, TakenCells, rows_in_hand_are_known,
+};
 use std::marker::Brand;
-use store_rule::{Pass, Store};
 use undo_chain::Snapshot;
-use version_segment::NOWHERE;
 
 /// Whether a write of the open transaction may be made, of whose rows the pass has learnt at this clock. Whether the
 /// vertex that it removes has edges was looked for before.
@@ -72,7 +70,7 @@ fn check_as<B: Asker>(
     let seen_before = |_v: u64| -> bool
         ensures { result ≡ has_edges }
     { has_edges };
-    let checked = row_writes::check(
+    let checked = pass_prunes::below::check(
         taken,
         snapshot,
         &mut states,

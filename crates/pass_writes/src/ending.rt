@@ -3,12 +3,12 @@
 ghost use Rattle.std.specs.Prelude.{◌≡◌, [], ◌∷◌, ◌++◌};
 ghost use Rattle.std.specs.List.{AllByRecursion};
 ghost use Rattle.graph_model.specs.Refused.{IsWithinLimits};
-ghost use Rattle.store_relation.specs.declared.stage.Stage.TheVariants.{Aborting, Idle};
-ghost use Rattle.store_relation.specs.Steps.{taken_back};
-ghost use Rattle.pass_cells.specs.Changes.{but_newest};
-ghost use Rattle.pass_steps.specs.Passes.{IsSamePass, name_of_pass, pin_of, state_of};
-ghost use Rattle.pass_steps.specs.Txns.{HasCommitted};
-ghost use Rattle.pass_sweeps.specs.Sweeping.{HasSwept};
+ghost use Rattle.pass_prunes.specs.StoreRelationDeclared.stage.Stage.TheVariants.{Aborting, Idle};
+ghost use Rattle.pass_prunes.specs.StoreRelation.Steps.{taken_back};
+ghost use Rattle.pass_prunes.specs.PassCells.Changes.{but_newest};
+ghost use Rattle.pass_prunes.specs.PassSteps.Passes.{IsSamePass, name_of_pass, pin_of, state_of};
+ghost use Rattle.pass_prunes.specs.PassSteps.Txns.{HasCommitted};
+ghost use Rattle.pass_prunes.specs.PassSweeps.Sweeping.{HasSwept};
 ghost use Rattle.pass_writes.specs.Ending.{AreLeft, AreStampedTo, LeavesRows};
 ghost use Rattle.pass_writes.specs.Hand.{HasNothing};
 
@@ -16,11 +16,9 @@ use crate::hand::{put_cells_back, take_cells};
 use crate::keys::FewKeys;
 use epoch_reclaim::Sweep;
 use graph_model::{TxnName, Write};
-use pass_cells::PassCells;
+use pass_prunes::below::{Pass, PassCells, Store, WrittenRows};
 use pass_prunes::prune_taken;
-use row_writes::WrittenRows;
 use std::sync::Wait;
-use store_rule::{Pass, Store};
 
 /// Takes all writes of a transaction that is being aborted back, the newest first. Takes no memory.
 pub fn undo_all(

@@ -1,14 +1,13 @@
 //! Cells are taken for a call, and put back before it ends.
 
 ghost use Rattle.std.specs.Prelude.{◌≤◌, length};
-ghost use Rattle.row_writes.specs.Held.{AreHeld};
-ghost use Rattle.pass_cells.specs.Taken.{held_rows};
+ghost use Rattle.pass_prunes.specs.RowWrites.Held.{AreHeld};
+ghost use Rattle.pass_prunes.specs.PassCells.Taken.{held_rows};
 ghost use Rattle.pass_writes.specs.Hand.{HasInHand, HasNothing, KeepsState};
 
 use graph_model::Key;
-use pass_cells::PassCells;
+use pass_prunes::below::{Pass, PassCells, Store};
 use std::sync::Wait;
-use store_rule::{Pass, Store};
 
 /// Takes the cells of these keys.
 pub(crate) fn take_cells(

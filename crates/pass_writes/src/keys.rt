@@ -1,10 +1,10 @@
 //! The keys whose cells a write needs.
 
 ghost use Rattle.std.specs.Prelude.{◌≡◌, ◌≤◌, ◌++◌, length};
-ghost use Rattle.row_writes.specs.Written.{all_keys, ends_in, touched_keys, with_back, written_keys};
+ghost use Rattle.pass_prunes.specs.RowWrites.Written.{all_keys, ends_in, touched_keys, with_back, written_keys};
 
 use graph_model::Key;
-use row_writes::{EndKeys, WrittenRows};
+use pass_prunes::below::{EndKeys, WrittenRows};
 use std::marker::Model;
 
 /// Four keys at most.

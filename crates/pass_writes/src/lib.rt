@@ -6,6 +6,7 @@
 //! 3. What a write is answered is noted by the pass, so that it holds when the store is closed.
 #![tactic(auto)]
 
+pub mod below;
 mod checks;
 mod ending;
 mod hand;

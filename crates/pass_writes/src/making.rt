@@ -2,15 +2,15 @@
 
 ghost use Rattle.std.specs.Prelude.{◌≡◌, Err, IfOk, OnErr};
 ghost use Rattle.graph_model.specs.Refused.{IsWithinLimits};
-ghost use Rattle.rule_model.specs.NoteSteps.{LearnsRows};
-ghost use Rattle.row_writes.specs.Checks.{TellsEdges};
-ghost use Rattle.row_writes.specs.Held.{AreHeld};
-ghost use Rattle.row_writes.specs.Laying.{MayLay};
-ghost use Rattle.row_writes.specs.Written.{all_keys, rows_of, written_keys};
-ghost use Rattle.store_rule.specs.Passes.{OnlyAccount};
-ghost use Rattle.pass_cells.specs.Changes.{MissesFew};
-ghost use Rattle.pass_cells.specs.Taken.{rows_in};
-ghost use Rattle.pass_steps.specs.Passes.{IsPassOf, IsSamePass, name_of_pass, pin_of, state_of};
+ghost use Rattle.pass_prunes.specs.RuleModel.NoteSteps.{LearnsRows};
+ghost use Rattle.pass_prunes.specs.RowWrites.Checks.{TellsEdges};
+ghost use Rattle.pass_prunes.specs.RowWrites.Held.{AreHeld};
+ghost use Rattle.pass_prunes.specs.RowWrites.Laying.{MayLay};
+ghost use Rattle.pass_prunes.specs.RowWrites.Written.{all_keys, rows_of, written_keys};
+ghost use Rattle.pass_prunes.specs.StoreRule.Passes.{OnlyAccount};
+ghost use Rattle.pass_prunes.specs.PassCells.Changes.{MissesFew};
+ghost use Rattle.pass_prunes.specs.PassCells.Taken.{rows_in};
+ghost use Rattle.pass_prunes.specs.PassSteps.Passes.{IsPassOf, IsSamePass, name_of_pass, pin_of, state_of};
 ghost use Rattle.pass_writes.specs.Found.{Finds, MayBeMade, view_of};
 ghost use Rattle.pass_writes.specs.Hand.{HasInHand, HasNothing};
 ghost use Rattle.pass_writes.specs.Making.{IsForInsert, IsOpenIn, IsShortOf, Lays, Makes, NeedsRoom, after_refusal, noted};
@@ -20,13 +20,12 @@ use crate::checks::check;
 use crate::hand::{put_cells_back, take_cells};
 use crate::keys::FewKeys;
 use graph_model::{Begun, Cause, NoMemory, Refusal, TxnName, Write};
-use pass_cells::{PassCells, RoomNeed, TakenCells, rows_in_hand_are_known};
-use pass_steps::{learn, name_holder, note_later};
-use row_writes::{Fingers, FoundRows, WrittenRows};
+use pass_prunes::below::{
+    Fingers, FoundRows, NOWHERE, Pass, PassCells, RoomNeed, Store, TakenCells, WrittenRows, learn,
+    name_holder, note_later, rows_in_hand_are_known,
+};
 use std::sync::Wait;
-use store_rule::{Pass, Store};
 use undo_chain::{Snapshot, Touched};
-use version_segment::NOWHERE;
 
 /// What a write that its view allows is answered, and that nobody stands against.
 #[derive(Debug, Drop, PartialEq, Eq)]

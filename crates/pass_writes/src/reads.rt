@@ -2,21 +2,21 @@
 
 ghost use Rattle.std.specs.Prelude.{◌≡◌, true};
 ghost use Rattle.graph_model.specs.Rows.{value_at};
-ghost use Rattle.rule_model.specs.NoteSteps.{LearnsRows};
-ghost use Rattle.pass_cells.specs.Taken.{rows_in};
-ghost use Rattle.pass_steps.specs.Asking.{IsSnapshotOf, KnowsLooks, asking_of};
-ghost use Rattle.pass_steps.specs.Passes.{IsSamePass, name_of_pass, pin_of, reader_of_pass, state_of};
+ghost use Rattle.pass_prunes.specs.RuleModel.NoteSteps.{LearnsRows};
+ghost use Rattle.pass_prunes.specs.PassCells.Taken.{rows_in};
+ghost use Rattle.pass_prunes.specs.PassSteps.Asking.{IsSnapshotOf, KnowsLooks, asking_of};
+ghost use Rattle.pass_prunes.specs.PassSteps.Passes.{IsSamePass, name_of_pass, pin_of, reader_of_pass, state_of};
 ghost use Rattle.pass_writes.specs.Found.{view_of};
 ghost use Rattle.pass_writes.specs.Hand.{HasInHand, HasNothing};
 ghost use Rattle.pass_writes.specs.Making.{IsOpenIn, NotesOnly};
 
 use crate::hand::{put_cells_back, take_cells};
 use graph_model::{Begun, Key};
-use pass_cells::{PassCells, TakenCells, rows_in_hand_are_known};
-use pass_steps::{Asker, PassStates, learn};
+use pass_prunes::below::{
+    Asker, Pass, PassCells, PassStates, Store, TakenCells, learn, rows_in_hand_are_known,
+};
 use std::marker::Brand;
 use std::sync::Wait;
-use store_rule::{Pass, Store};
 use undo_chain::Snapshot;
 
 /// The value of a key in the view of the open transaction, given what its begin answered. Takes no memory.

@@ -9,10 +9,10 @@ ghost use Rattle.graph_model.specs.Graph.{Graph};
 ghost use Rattle.graph_model.specs.Rows.{is_below, rows};
 ghost use Rattle.graph_model.specs.Scans.{ScansBy, rows_left};
 ghost use Rattle.edge_scan.specs.Steps.{IsUnderWay, end_of};
-ghost use Rattle.rule_model.specs.NoteSteps.{LearnsRows};
-ghost use Rattle.pass_cells.specs.Taken.{rows_in};
-ghost use Rattle.pass_steps.specs.Asking.{IsSnapshotOf, KnowsLooks, asking_of};
-ghost use Rattle.pass_steps.specs.Passes.{IsSamePass, pin_of, reader_of_pass, state_of};
+ghost use Rattle.pass_prunes.specs.RuleModel.NoteSteps.{LearnsRows};
+ghost use Rattle.pass_prunes.specs.PassCells.Taken.{rows_in};
+ghost use Rattle.pass_prunes.specs.PassSteps.Asking.{IsSnapshotOf, KnowsLooks, asking_of};
+ghost use Rattle.pass_prunes.specs.PassSteps.Passes.{IsSamePass, pin_of, reader_of_pass, state_of};
 ghost use Rattle.pass_writes.specs.Found.{view_of};
 ghost use Rattle.pass_writes.specs.Hand.{HasInHand, HasNothing};
 ghost use Rattle.pass_writes.specs.Making.{IsOpenIn, NotesOnly};
@@ -21,13 +21,12 @@ ghost use Rattle.pass_writes.specs.Scanning.{EndsWithKeys, IsPortion};
 use crate::hand::{put_cells_back, take_cells};
 use edge_scan::step;
 use graph_model::{Begun, Cursor, Key, Row, Rows64};
-use pass_cells::{PassCells, TakenCells, rows_in_hand_are_known};
-use pass_steps::{Asker, PassStates, learn};
+use pass_prunes::below::{
+    Asker, Pass, PassCells, PassStates, Rows32, Store, TakenCells, learn, rows_in_hand_are_known,
+};
 use std::marker::Brand;
 use std::sync::Wait;
-use store_rule::{Pass, Store};
 use undo_chain::Snapshot;
-use version_segment::Rows32;
 
 /// Gives the next rows that the open transaction sees, 64 at most, given what its begin answered. Takes no memory.
 pub fn scan(

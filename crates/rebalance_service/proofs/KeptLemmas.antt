@@ -5,19 +5,19 @@ use Rattle.std.specs.Prelude.{true, Option, Some, None, IfSome, Result, Ok, Err}
 use Rattle.graph_model.specs.Account.{Account, IsOpenTxn, IsValid}
 use Rattle.graph_model.specs.AccountSteps.{ReadsBy}
 use Rattle.graph_model.proofs.AccountLemmas.{read_keeps}
-use Rattle.rule_model.specs.Sight.{PinState}
-use Rattle.store_relation.specs.Passes.{PassState, number_of}
-use Rattle.store_relation.specs.Passes.{account_of as state_account}
-use Rattle.store_relation.specs.Steps.{filled_up}
-use Rattle.store_rule.specs.declared.store.Pass.{Pass as Seats}
-use Rattle.store_rule.specs.declared.store.Store.{Store}
-use Rattle.pass_steps.specs.Passes.{HasOpenTxn, HoldsNone, IsPassOf, pin_of, state_of}
-use Rattle.pass_sweeps.specs.Sweeping.{GoesOn}
-use Rattle.pass_cells.specs.Holding.{KeepsPass}
-use Rattle.pass_cells.specs.declared.own.PassCells.{PassCells}
-use Rattle.pass_sweeps.proofs.GoingLemmas.{account_goes_on, idle_goes_on, open_goes_on}
-use Rattle.pass_writes.proofs.HandLemmas.{keeps_state}
-use Rattle.store_relation.proofs.ListLemmas.{prefix_all}
+use Rattle.optimistic_read.specs.RuleModel.Sight.{PinState}
+use Rattle.optimistic_read.specs.StoreRelation.Passes.{PassState, number_of}
+use Rattle.optimistic_read.specs.StoreRelation.Passes.{account_of as state_account}
+use Rattle.optimistic_read.specs.StoreRelation.Steps.{filled_up}
+use Rattle.optimistic_read.specs.StoreRuleDeclared.store.Pass.{Pass as Seats}
+use Rattle.optimistic_read.specs.StoreRuleDeclared.store.Store.{Store}
+use Rattle.optimistic_read.specs.PassSteps.Passes.{HasOpenTxn, HoldsNone, IsPassOf, pin_of, state_of}
+use Rattle.pass_room.specs.PassSweeps.Sweeping.{GoesOn}
+use Rattle.pass_room.specs.PassCells.Holding.{KeepsPass}
+use Rattle.pass_room.specs.PassCellsDeclared.own.PassCells.{PassCells}
+use Rattle.pass_room.proofs.PassSweeps.GoingLemmas.{account_goes_on, idle_goes_on, open_goes_on}
+use Rattle.pass_room.proofs.PassWrites.HandLemmas.{keeps_state}
+use Rattle.optimistic_read.proofs.StoreRelation.ListLemmas.{prefix_all}
 use Rattle.pass_room.specs.Making.{state_after}
 use Rattle.pass_room.specs.declared.made.NoRoom.{NoRoom}
 use Rattle.pass_room.specs.declared.made.NoRoom.TheVariants.{Full, NoMemory}

@@ -26,17 +26,17 @@ use Rattle.graph_model.specs.Legal.{IsLegal}
 use Rattle.graph_model.specs.Refused.{AllAllowed, IsWithinLimits}
 use Rattle.epoch_reclaim.specs.declared.sweep.Sweep.{Sweep}
 use Rattle.epoch_reclaim.specs.contracts.sweep.Sweep as sweep
-use Rattle.store_relation.specs.declared.stage.Stage.{Stage}
-use Rattle.store_relation.specs.contracts.stage.Stage as stage
-use Rattle.store_relation.specs.Passes.{PassState}
-use Rattle.store_relation.specs.Readers.{ReaderState}
-use Rattle.rule_model.specs.Sight.{PinState}
-use Rattle.store_rule.specs.declared.slot.Room.{Room}
-use Rattle.store_rule.specs.contracts.slot.Room as room
-use Rattle.store_rule.specs.declared.store.Pass.{Pass as Seats}
-use Rattle.store_rule.specs.declared.store.Store.{Store}
-use Rattle.store_rule.specs.contracts.store.Store as stores
-use Rattle.pass_steps.specs.Passes.{IsIdlePass, IsOpenPass, IsPassOf}
+use Rattle.optimistic_read.specs.StoreRelationDeclared.stage.Stage.{Stage}
+use Rattle.optimistic_read.specs.StoreRelationContracts.stage.Stage as stage
+use Rattle.optimistic_read.specs.StoreRelation.Passes.{PassState}
+use Rattle.optimistic_read.specs.StoreRelation.Readers.{ReaderState}
+use Rattle.optimistic_read.specs.RuleModel.Sight.{PinState}
+use Rattle.optimistic_read.specs.StoreRuleDeclared.slot.Room.{Room}
+use Rattle.optimistic_read.specs.StoreRuleContracts.slot.Room as room
+use Rattle.optimistic_read.specs.StoreRuleDeclared.store.Pass.{Pass as Seats}
+use Rattle.optimistic_read.specs.StoreRuleDeclared.store.Store.{Store}
+use Rattle.optimistic_read.specs.StoreRuleContracts.store.Store as stores
+use Rattle.optimistic_read.specs.PassSteps.Passes.{IsIdlePass, IsOpenPass, IsPassOf}
 use Rattle.shared_store.specs.declared.pass.Pass.{Pass}
 use Rattle.shared_store.specs.Passes.{IsIdle, IsOpen}
 use Rattle.rebalance_service.specs.Ready.{IsReady}

@@ -1,10 +1,10 @@
 -- A pass between two calls of its worker: its account tells whether it has a transaction.
 use Rattle.std.proofs.Common.{◌≡◌, inl, inr, ℕ, sym, ◌∙◌, ap, subst, cond}
 use Rattle.std.specs.Prelude.{Option, Some, None, IsSome}
-use Rattle.store_relation.specs.declared.stage.Stage.{Stage}
-use Rattle.store_relation.specs.Passes.{is_active}
-use Rattle.store_rule.specs.declared.store.Store.{Store}
-use Rattle.pass_steps.specs.Passes.{state_of}
+use Rattle.optimistic_read.specs.StoreRelationDeclared.stage.Stage.{Stage}
+use Rattle.optimistic_read.specs.StoreRelation.Passes.{is_active}
+use Rattle.optimistic_read.specs.StoreRuleDeclared.store.Store.{Store}
+use Rattle.optimistic_read.specs.PassSteps.Passes.{state_of}
 use Rattle.shared_store.specs.declared.pass.Pass.{Pass}
 use Rattle.shared_store.specs.Passes.{IsIdle, IsOpen, account_of}
 use Rattle.rebalance_service.specs.Ready.{IsReady}

@@ -8,9 +8,9 @@ use Rattle.graph_model.specs.declared.write.Kind.TheVariants.{Directed, Undirect
 use Rattle.graph_model.specs.Effects.{same_key}
 use Rattle.graph_model.specs.Refused.{IsWithinLimits}
 use Rattle.graph_model.specs.Rows.{arc_key, end_key, is_below, vertex_key}
-use Rattle.store_relation.specs.Keys.{has_key}
-use Rattle.row_writes.specs.Written.{of_edge, rows_of, written_keys}
-use Rattle.row_writes.proofs.KeyLemmas.{below_end, key_eq}
+use Rattle.optimistic_read.specs.StoreRelation.Keys.{has_key}
+use Rattle.shared_store.specs.RowWrites.Written.{of_edge, rows_of, written_keys}
+use Rattle.shared_store.proofs.RowWrites.KeyLemmas.{below_end, key_eq}
 use Rattle.graph_model.specs.Account.{Account}
 use Rattle.graph_model.specs.AccountSteps.{GoesOn, WritesBy}
 use Rattle.graph_model.specs.Inserted.{inserts}

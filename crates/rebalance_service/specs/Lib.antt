@@ -1,3 +1,9 @@
 pub mod Ready
 pub mod Room
 pub mod Turns
+pub mod PassSteps
+pub mod RuleModel
+pub mod SharedStore
+pub mod SharedStoreDeclared
+pub mod StoreRelation
+pub mod StoreRuleDeclared

@@ -2,7 +2,7 @@
 use Rattle.std.specs.Prelude.{◌≡◌, ◌⊎◌}
 use Rattle.graph_model.specs.Account.{Account}
 use Rattle.graph_model.specs.Legal.{IsLegal}
-use Rattle.store_rule.specs.declared.store.Store.{Store}
+use Rattle.optimistic_read.specs.StoreRuleDeclared.store.Store.{Store}
 use Rattle.shared_store.specs.declared.pass.Pass.{Pass}
 use Rattle.shared_store.specs.Passes.{IsIdle, IsOpen}
 

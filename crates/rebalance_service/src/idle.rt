@@ -5,14 +5,14 @@
 //! loads, where taking the leaf costs nine latches and the rows of eight cells.
 
 ghost use Rattle.std.specs.Prelude.{◌<◌};
-ghost use Rattle.cells_model.specs.Words.{block_words};
+ghost use Rattle.optimistic_read.specs.CellsModel.Words.{block_words};
 
 use density_tree::LOWER_LIMITS;
 use graph_model::{Key, LEAF_SEGMENTS};
-use leaf_store::MERGE_ROWS;
-use pass_cells::CellHints;
+use optimistic_read::below::Store;
+use pass_room::below::CellHints;
+use shared_store::below::MERGE_ROWS;
 use std::ops::Range;
-use store_rule::Store;
 
 /// The word of a block that has the number of its rows.
 const COUNT: u32 = 1;

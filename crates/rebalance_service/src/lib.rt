@@ -7,6 +7,7 @@
 //!    records when it was last swept, and hasn't changed since.
 #![tactic(auto)]
 
+pub mod below;
 mod calls;
 mod engine;
 mod idle;

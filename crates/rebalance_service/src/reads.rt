@@ -9,13 +9,13 @@ ghost use Rattle.std.specs.Prelude.{◌≡◌, ◌≤◌, ◌<◌, IfSome};
 ghost use Rattle.graph_model.specs.declared.limits.TheConstants.{MAX_ID};
 ghost use Rattle.graph_model.specs.Graph.{has_vertex, weight_of};
 ghost use Rattle.graph_model.specs.Rows.{value_at};
-ghost use Rattle.rule_model.specs.Sight.{cells_of};
+ghost use Rattle.optimistic_read.specs.RuleModel.Sight.{cells_of};
 ghost use Rattle.shared_store.specs.Passes.{IsOpen, KeepsOpen, view_in};
 ghost use Rattle.optimistic_read.specs.Tried.{IsValueOf};
 
 use graph_model::Key;
 use optimistic_read::{Route, Tried, try_key};
-use pass_cells::CellHints;
+use pass_room::below::CellHints;
 use shared_store::{Pass, Store};
 use std::hint::spin_loop;
 use std::sync::Wait;

@@ -12,7 +12,7 @@ use crate::settled::{FreeLeaf, SettledLeaves};
 use graph_model::NoMemory;
 use pass_merges::{MergeKey, MergeTurn, merge_step};
 use pass_room::PassRoom;
-use pass_sweeps::{LeafSwept, SweepKey, SweepTurn, sweep_step};
+use pass_room::below::{LeafSwept, SweepKey, SweepTurn, sweep_step};
 use shared_store::{Pass, Store};
 use std::alloc::Global;
 use std::sync::Wait;

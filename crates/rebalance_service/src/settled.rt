@@ -5,10 +5,9 @@
 
 use crate::idle::{LikelyLeaf, cells_of, likely_leaf};
 use graph_model::{Key, NoMemory};
-use pass_cells::CellHints;
-use pass_sweeps::LeafSwept;
+use optimistic_read::below::Store;
+use pass_room::below::{CellHints, LeafSwept};
 use std::alloc::Global;
-use store_rule::Store;
 
 /// Stands for a leaf of which nothing is noted. The sum of even words is even.
 const UNKNOWN: u64 = u64::MAX;

@@ -1,7 +1,7 @@
 //! A pass of a store, with what its calls keep from one to the next.
 
 ghost use Rattle.std.specs.Prelude.{◌≡◌, Some};
-ghost use Rattle.store_rule.specs.declared.store.Store.{Store};
+ghost use Rattle.optimistic_read.specs.StoreRuleDeclared.store.Store.{Store};
 ghost use Rattle.shared_store.specs.Passes.{IsIdle};
 ghost use Rattle.rebalance_service.specs.Ready.{IsReady};
 
@@ -16,7 +16,7 @@ use std::sync::Wait;
 /// one of that store.
 pub trait Home {
     ghost use Rattle.std.specs.Prelude.{Option};
-    ghost use Rattle.store_rule.specs.declared.store.Store.{Store};
+    ghost use Rattle.optimistic_read.specs.StoreRuleDeclared.store.Store.{Store};
 
     ghost home: { Option Store };
 }

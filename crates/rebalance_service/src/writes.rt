@@ -3,8 +3,8 @@
 ghost use Rattle.std.specs.Prelude.{◌≡◌, IsSome, OnOk, IfErr, Err};
 ghost use Rattle.graph_model.specs.AccountSteps.{WritesBy};
 ghost use Rattle.graph_model.specs.Refused.{IsWithinLimits};
-ghost use Rattle.pass_writes.specs.Making.{NeedsRoom};
-ghost use Rattle.pass_writes.specs.declared.making.Written.TheVariants.{NeedRoom};
+ghost use Rattle.pass_room.specs.PassWrites.Making.{NeedsRoom};
+ghost use Rattle.pass_room.specs.PassWritesDeclared.making.Written.TheVariants.{NeedRoom};
 ghost use Rattle.shared_store.specs.Passes.{IsOpen, account_of};
 ghost use Rattle.shared_store.specs.Writes.{IsAllowedBy};
 ghost use Rattle.rebalance_service.specs.Ready.{HasSeenLegal, IsReady};

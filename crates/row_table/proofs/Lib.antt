@@ -8,3 +8,4 @@ pub mod PruneLemmas
 pub mod MoveLemmas
 pub mod HandLemmas
 pub mod ShareLemmas
+pub mod HeadMap

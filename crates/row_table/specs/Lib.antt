@@ -7,3 +7,5 @@ pub mod Walks
 pub use Rattle.head_map.specs.Keyed
 pub use Rattle.head_map.specs.Heads
 pub use Rattle.gap_segment.specs.Fenced
+pub mod HeadMap
+pub mod HeadMapDeclared

@@ -5,6 +5,7 @@
 //! 3. Rows that go to a neighbour take their records along.
 #![tactic(auto)]
 
+pub mod below;
 mod checks;
 mod found;
 mod hand;

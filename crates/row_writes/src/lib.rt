@@ -5,6 +5,7 @@
 //! 3. Memory for all rows of a write is taken before the first of them changes.
 #![tactic(auto)]
 
+pub mod below;
 mod cells;
 mod checks;
 mod laying;

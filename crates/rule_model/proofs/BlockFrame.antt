@@ -5,8 +5,8 @@ use mathlib.Core.Option.{some}
 use lib.ListN.{get_elem?}
 use Rattle.atomic_table.specs.Table.{keeps, stepped}
 use Rattle.txn_manager.specs.declared.config.Config.{Config}
-use Rattle.version_segment.specs.Rows.{VersionedRows}
-use Rattle.leaf_store.specs.Leaves.{versions_of, weight}
+use Rattle.store_relation.specs.VersionSegment.Rows.{VersionedRows}
+use Rattle.cells_model.specs.LeafStore.Leaves.{versions_of, weight}
 use Rattle.seat_views.specs.Keeping.{put, revised}
 use Rattle.seat_views.proofs.NumberLemmas.{none_kept, one_kept}
 use Rattle.store_relation.specs.Shared.{IsShared, inserted_by_all}

@@ -11,7 +11,7 @@ use Rattle.graph_model.specs.declared.row.Key.{Key}
 use Rattle.graph_model.specs.Transactions.{stamp_in}
 use Rattle.store_model.specs.Stamped.{read_stamped}
 use Rattle.txn_manager.specs.declared.config.Config.{Config}
-use Rattle.version_segment.specs.Rows.{VersionedRows, versions_at}
+use Rattle.store_relation.specs.VersionSegment.Rows.{VersionedRows, versions_at}
 use Rattle.seat_views.specs.Keeping.{revised}
 use Rattle.seat_views.proofs.NumberLemmas.{some_is}
 use Rattle.store_relation.specs.Passes.{PassState, name_at}

@@ -14,13 +14,13 @@ use Rattle.graph_model.specs.declared.row.Key.{Key}
 use Rattle.graph_model.specs.Rows.{key_cmp, first_key, end_key, is_below}
 use Rattle.txn_manager.specs.declared.config.Config.{Config}
 use Rattle.store_model.specs.Stamped.{StampedVersions}
-use Rattle.version_segment.specs.Rows.{IsSegment, nothing, or_nothing, versions_at}
-use Rattle.leaf_array.specs.Segments.{rows_of}
+use Rattle.store_relation.specs.VersionSegment.Rows.{IsSegment, nothing, or_nothing, versions_at}
+use Rattle.cells_model.specs.LeafArray.Segments.{rows_of}
 use Rattle.leaf_index.specs.Calls.{new_index}
-use Rattle.leaf_store.specs.Leaves.{Part, versions_of, weight}
-use Rattle.leaf_store.specs.Table.{segments_at}
-use Rattle.leaf_store.proofs.StoreLemmas.{versions_in_rows, weight_one}
-use Rattle.leaf_store.proofs.TableLemmas.{kept_leaves}
+use Rattle.cells_model.specs.LeafStore.Leaves.{Part, versions_of, weight}
+use Rattle.cells_model.specs.LeafStore.Table.{segments_at}
+use Rattle.cells_model.proofs.LeafStore.StoreLemmas.{versions_in_rows, weight_one}
+use Rattle.cells_model.proofs.LeafStore.TableLemmas.{kept_leaves}
 use Rattle.seat_views.specs.Keeping.{kept_at, Keeps}
 use Rattle.seat_views.proofs.NumberLemmas.{eq_of, some_is}
 use Rattle.store_relation.specs.Ends.{IsClosed}
@@ -30,7 +30,7 @@ use Rattle.store_relation.proofs.EndLemmas.{closes, new_shared}
 use Rattle.cells_model.specs.Cells.{CellState}
 use Rattle.cells_model.specs.Indexed.{covers, leaf_cells, new_cell, store_of, table_of, IsIndexed}
 use Rattle.cells_model.specs.InPlace.{segment_of}
-use Rattle.version_segment.specs.Resting.{word_rows}
+use Rattle.store_relation.specs.VersionSegment.Resting.{word_rows}
 use Rattle.cells_model.specs.Words.{Spells, block_words, spelled}
 use Rattle.cells_model.proofs.IndexedLemmas.{cells_show, new_indexed}
 use Rattle.cells_model.proofs.RunLemmas.{segments_table}

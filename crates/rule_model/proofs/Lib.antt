@@ -16,3 +16,9 @@ pub mod ViewLemmas
 pub mod EndLemmas
 pub mod LoadedLemmas
 pub mod ExampleLemmas
+pub mod CellsModel
+pub mod HeadMap
+pub mod LeafArray
+pub mod LeafStore
+pub mod StoreRelation
+pub mod VersionSegment

@@ -5,12 +5,12 @@ use Rattle.std.specs.List.{list_any}
 use Rattle.atomic_table.specs.Table.{keeps}
 use Rattle.graph_model.specs.declared.row.Key.{Key}
 use Rattle.store_model.specs.Stamped.{StampedVersions}
-use Rattle.leaf_array.specs.Segments.{lows_of}
+use Rattle.cells_model.specs.LeafArray.Segments.{lows_of}
 use Rattle.leaf_index.specs.declared.route.Retired.{Retired}
 use Rattle.leaf_index.specs.Index.{Index, Entry}
-use Rattle.leaf_store.specs.Leaves.{Leaves, versions_of, weight}
-use Rattle.leaf_store.specs.Changes.{MovesRows}
-use Rattle.leaf_store.specs.Merging.{KeepsVersions}
+use Rattle.cells_model.specs.LeafStore.Leaves.{Leaves, versions_of, weight}
+use Rattle.cells_model.specs.LeafStore.Changes.{MovesRows}
+use Rattle.cells_model.specs.LeafStore.Merging.{KeepsVersions}
 use Rattle.seat_views.specs.Keeping.{revised}
 use Rattle.seat_views.proofs.NumberLemmas.{eq_of, none_kept, one_kept}
 use Rattle.store_relation.specs.Shared.{IsShared, inserted_by_all}

@@ -18,7 +18,7 @@ use Rattle.txn_manager.specs.declared.config.Config.{Config}
 use Rattle.store_model.specs.Check.{looked, looks_at}
 use Rattle.store_model.specs.Stamped.{Stamped, forget_row, read_stamped}
 use Rattle.store_model.proofs.LookedLemmas.{looked_in_row}
-use Rattle.version_segment.specs.Rows.{versions_at}
+use Rattle.store_relation.specs.VersionSegment.Rows.{versions_at}
 use Rattle.store_relation.specs.Passes.{Meeting, PassState, name_at}
 use Rattle.store_relation.specs.ReadLaws.{Answers}
 use Rattle.store_relation.specs.Readers.{IsReader, ReaderState, reader_of}

@@ -10,7 +10,7 @@ use lib.ListN.{get_elem?}
 use Rattle.atomic_table.specs.Table.{keeps, stepped}
 use Rattle.txn_manager.specs.declared.config.Config.{Config}
 use Rattle.leaf_index.specs.Index.{Index}
-use Rattle.leaf_store.specs.Leaves.{versions_of, weight}
+use Rattle.cells_model.specs.LeafStore.Leaves.{versions_of, weight}
 use Rattle.seat_views.specs.Keeping.{put, revised}
 use Rattle.seat_views.proofs.NumberLemmas.{none_kept, one_kept, put_here, put_else}
 use Rattle.epoch_reclaim.specs.declared.sweep.Sweep.{Sweep}

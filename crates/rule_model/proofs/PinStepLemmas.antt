@@ -12,7 +12,7 @@ use Rattle.graph_model.specs.declared.row.Key.{Key}
 use Rattle.store_model.specs.Stamped.{StampedVersions}
 use Rattle.leaf_index.specs.Index.{Index}
 use Rattle.leaf_index.specs.Calls.{freed, kept_of}
-use Rattle.leaf_store.specs.Leaves.{versions_of, weight}
+use Rattle.cells_model.specs.LeafStore.Leaves.{versions_of, weight}
 use Rattle.seat_views.specs.Keeping.{put}
 use Rattle.seat_views.proofs.NumberLemmas.{none_kept, one_kept, put_here, put_else}
 use Rattle.epoch_reclaim.specs.declared.sweep.Sweep.{Sweep}

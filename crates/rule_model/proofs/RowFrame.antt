@@ -8,7 +8,7 @@ use mathlib.Core.Option.{some}
 use lib.ListN.{get_elem?}
 use Rattle.atomic_table.specs.Table.{keeps, stepped}
 use Rattle.txn_manager.specs.declared.config.Config.{Config}
-use Rattle.leaf_store.specs.Leaves.{weight}
+use Rattle.cells_model.specs.LeafStore.Leaves.{weight}
 use Rattle.seat_views.specs.Keeping.{kept_at, revised, AreKept}
 use Rattle.seat_views.proofs.NumberLemmas.{eq_of, none_kept, none_or_some, revised-none, revised-some, some_is}
 use Rattle.epoch_reclaim.specs.Pinned.{IsPinned}

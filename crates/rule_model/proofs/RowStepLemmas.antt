@@ -23,8 +23,8 @@ use Rattle.txn_manager.specs.declared.config.Config.{Config}
 use Rattle.store_model.specs.Check.{MayWrite}
 use Rattle.store_model.specs.Stamped.{AreTold, StampedVersions, forget_row, prune_stamped, stamp}
 use Rattle.store_model.specs.Versions.{sees}
-use Rattle.version_segment.specs.Rows.{versions_at}
-use Rattle.leaf_store.specs.Leaves.{versions_of, weight}
+use Rattle.store_relation.specs.VersionSegment.Rows.{versions_at}
+use Rattle.cells_model.specs.LeafStore.Leaves.{versions_of, weight}
 use Rattle.seat_views.specs.Keeping.{kept_at, put, revised}
 use Rattle.seat_views.proofs.NumberLemmas.{none_kept, one_kept}
 use Rattle.store_relation.specs.declared.stage.Stage.{Stage}

@@ -10,7 +10,7 @@ use lib.ListN.{get_elem?}
 use Rattle.atomic_table.specs.Table.{Allows}
 use Rattle.graph_model.specs.declared.journal.Commit.{Commit}
 use Rattle.txn_manager.specs.declared.config.Config.{Config}
-use Rattle.leaf_store.specs.Leaves.{weight}
+use Rattle.cells_model.specs.LeafStore.Leaves.{weight}
 use Rattle.seat_views.specs.Keeping.{kept_at, moved, put, Keeps}
 use Rattle.seat_views.proofs.KeepLemmas.{kept_join, kept_news, kept_same, kept_split}
 use Rattle.seat_views.proofs.NumberLemmas.{at_end, at_set, one_kept}

@@ -9,7 +9,7 @@ use Rattle.graph_model.specs.declared.row.Key.{Key}
 use Rattle.graph_model.specs.declared.write.Write.{Write}
 use Rattle.graph_model.specs.Transactions.{stamp_in}
 use Rattle.txn_manager.specs.declared.config.Config.{Config}
-use Rattle.version_segment.specs.Rows.{VersionedRows, versions_at}
+use Rattle.store_relation.specs.VersionSegment.Rows.{VersionedRows, versions_at}
 use Rattle.store_relation.specs.declared.stage.Stage.TheVariants.{Open}
 use Rattle.store_relation.specs.Passes.{PassState, name_at}
 use Rattle.store_relation.specs.ReadLaws.{SeesValue}

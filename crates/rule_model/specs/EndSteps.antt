@@ -13,10 +13,10 @@ use Rattle.graph_model.specs.Refused.{AllAllowed, IsWithinLimits}
 use Rattle.graph_model.specs.Rows.{value_at}
 use Rattle.txn_manager.specs.declared.config.Config.{Config}
 use Rattle.store_model.specs.Stamped.{StampedVersions}
-use Rattle.version_segment.specs.Rows.{versions_at}
+use Rattle.store_relation.specs.VersionSegment.Rows.{versions_at}
 use Rattle.leaf_index.specs.Calls.{new_index}
 use Rattle.leaf_index.specs.Index.{Index}
-use Rattle.leaf_store.specs.Leaves.{versions_of, weight}
+use Rattle.cells_model.specs.LeafStore.Leaves.{versions_of, weight}
 use Rattle.store_relation.specs.declared.stage.Stage.TheVariants.{Idle}
 use Rattle.store_relation.specs.Ends.{IsClosed, only_value}
 use Rattle.store_relation.specs.Loads.{loaded_journal, loaded_pass, loaded_word}

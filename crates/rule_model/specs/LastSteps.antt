@@ -8,7 +8,7 @@ use Rattle.graph_model.specs.declared.row.Key.{Key}
 use Rattle.txn_manager.specs.declared.config.Config.{Config}
 use Rattle.store_model.specs.Stamped.{StampedVersions}
 use Rattle.leaf_index.specs.Index.{Index}
-use Rattle.leaf_store.specs.Leaves.{versions_of}
+use Rattle.cells_model.specs.LeafStore.Leaves.{versions_of}
 use Rattle.store_relation.specs.Shared.{JournalState}
 use Rattle.cells_model.specs.Cells.{CellState}
 use Rattle.cells_model.specs.InPlace.{segment_of}

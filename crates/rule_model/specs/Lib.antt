@@ -12,3 +12,13 @@ pub mod ViewSteps
 pub mod EndSteps
 pub mod LastSteps
 pub mod Examples
+pub mod CellsModel
+pub mod LeafArray
+pub mod LeafArrayDeclared
+pub mod LeafStore
+pub mod LeafStoreDeclared
+pub mod LeafTableDeclared
+pub mod StoreRelation
+pub mod StoreRelationContracts
+pub mod StoreRelationDeclared
+pub mod VersionSegment

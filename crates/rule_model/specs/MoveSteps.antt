@@ -5,13 +5,13 @@ use Rattle.atomic_table.specs.Table.{Me}
 use Rattle.graph_model.specs.declared.row.Key.{Key}
 use Rattle.graph_model.specs.Rows.{is_below, end_key}
 use Rattle.txn_manager.specs.declared.config.Config.{Config}
-use Rattle.version_segment.specs.Rows.{VersionedRows}
-use Rattle.leaf_array.specs.Segments.{lows_of, rows_of}
+use Rattle.store_relation.specs.VersionSegment.Rows.{VersionedRows}
+use Rattle.cells_model.specs.LeafArray.Segments.{lows_of, rows_of}
 use Rattle.leaf_index.specs.declared.route.Retired.{Retired}
 use Rattle.leaf_index.specs.Index.{Index, Entry, IsIndex}
-use Rattle.leaf_store.specs.declared.pair.TheConstants.{STAMPS_END}
-use Rattle.leaf_store.specs.Merging.{KeepsVersions}
-use Rattle.leaf_store.proofs.MoveLemmas.{Respreads}
+use Rattle.cells_model.specs.LeafStoreDeclared.pair.TheConstants.{STAMPS_END}
+use Rattle.cells_model.specs.LeafStore.Merging.{KeepsVersions}
+use Rattle.cells_model.proofs.LeafStore.MoveLemmas.{Respreads}
 use Rattle.seat_views.specs.Keeping.{revised}
 use Rattle.cells_model.specs.Cells.{CellState}
 use Rattle.cells_model.specs.Indexed.{is_live, leaf_cells, store_of, IsIndexed}

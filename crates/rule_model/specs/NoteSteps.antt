@@ -12,7 +12,7 @@ use Rattle.graph_model.specs.Transactions.{reached, stamp_in}
 use Rattle.txn_manager.specs.declared.config.Config.{Config}
 use Rattle.store_model.specs.Check.{looks_at}
 use Rattle.store_model.specs.Stamped.{Stamped, forget_row}
-use Rattle.version_segment.specs.Rows.{versions_at}
+use Rattle.store_relation.specs.VersionSegment.Rows.{versions_at}
 use Rattle.store_relation.specs.declared.stage.Stage.TheVariants.{Open}
 use Rattle.store_relation.specs.Passes.{PassState}
 use Rattle.store_relation.specs.ReadLaws.{Answers, SeesValue}

@@ -19,7 +19,7 @@ use Rattle.store_model.specs.Check.{MayWrite}
 use Rattle.store_model.specs.Layers.{row_key}
 use Rattle.store_model.specs.Stamped.{forget_row, prune_stamped, stamp}
 use Rattle.store_model.specs.Versions.{sees}
-use Rattle.version_segment.specs.Rows.{IsSegment, versions_at}
+use Rattle.store_relation.specs.VersionSegment.Rows.{IsSegment, versions_at}
 use Rattle.seat_views.specs.Keeping.{kept_at}
 use Rattle.store_relation.specs.declared.stage.Stage.TheVariants.{Idle, Open, Aborting}
 use Rattle.store_relation.specs.Keys.{has_key}

@@ -10,7 +10,7 @@ use Rattle.atomic_table.specs.Table.{State}
 use Rattle.graph_model.specs.declared.row.Key.{Key}
 use Rattle.txn_manager.specs.declared.config.Config.{Config}
 use Rattle.store_model.specs.Stamped.{StampedVersions}
-use Rattle.leaf_store.specs.Leaves.{Leaves, versions_of, weight}
+use Rattle.cells_model.specs.LeafStore.Leaves.{Leaves, versions_of, weight}
 use Rattle.seat_views.specs.Keeping.{Keeps}
 use Rattle.epoch_reclaim.specs.declared.sweep.Sweep.{Sweep}
 use Rattle.epoch_reclaim.specs.Pinned.{IsPinned}

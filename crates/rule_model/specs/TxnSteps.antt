@@ -11,7 +11,7 @@ use Rattle.graph_model.specs.Effects.{any_writes, any_touches}
 use Rattle.graph_model.specs.Legal.{IsLegal}
 use Rattle.graph_model.specs.Rows.{is_below, end_key}
 use Rattle.txn_manager.specs.declared.config.Config.{Config}
-use Rattle.leaf_array.specs.Segments.{counts_of}
+use Rattle.cells_model.specs.LeafArray.Segments.{counts_of}
 use Rattle.std.specs.Prelude.{None}
 use Rattle.store_relation.specs.Keys.{has_key}
 use Rattle.store_relation.specs.declared.stage.Stage.TheVariants.{Idle, Open, Aborting, Committing}

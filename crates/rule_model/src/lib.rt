@@ -7,6 +7,7 @@
 //! 3. A step of a seat loads or stores one word, and is of a kind. Each kind has a law; there is nothing to run.
 #![tactic(auto)]
 
+pub mod below;
 mod laws;
 
 pub use laws::{

@@ -15,10 +15,10 @@ use Rattle.run_model.specs.Run.{HasFiles}
 use Rattle.run_model.specs.Jobs.{JobState, RunState, with_job}
 use Rattle.run_model.specs.UnderWay.{script_of, IsUnderWay}
 use Rattle.run_model.proofs.SetLemmas.{set_cases}
-use Rattle.line_runner.specs.declared.reading.Reading.{Reading}
-use Rattle.line_runner.specs.declared.reading.Reading.TheVariants as readings
-use Rattle.line_runner.specs.Scanning.{IsReading}
-use Rattle.line_runner.specs.Phases.{file_of}
+use Rattle.job_runner.specs.LineRunnerDeclared.reading.Reading.{Reading}
+use Rattle.job_runner.specs.LineRunnerDeclared.reading.Reading.TheVariants as readings
+use Rattle.job_runner.specs.LineRunner.Scanning.{IsReading}
+use Rattle.job_runner.specs.LineRunner.Phases.{file_of}
 use Rattle.job_runner.specs.Progress.{Progress, left_of, job_at, seats, state_of}
 use Rattle.job_runner.specs.Runs.{files_context, view_of_pass, AreTied, AreUnderWay}
 use Rattle.job_runner.proofs.SeatLemmas.{rest_get, pass_there}

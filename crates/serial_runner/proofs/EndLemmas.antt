@@ -24,7 +24,7 @@ use Rattle.run_model.specs.Stepped.{context_in}
 use Rattle.run_model.specs.UnderWay.{AreNumbered, script_of}
 use Rattle.run_model.proofs.SetLemmas.{get_map, map_get}
 use Rattle.run_model.proofs.LineLemmas.{numbered_lines, begun_behind}
-use Rattle.line_runner.specs.Phases.{file_of}
+use Rattle.job_runner.specs.LineRunner.Phases.{file_of}
 use Rattle.job_runner.specs.Progress.{Progress, job_at, seats, state_of}
 use Rattle.job_runner.specs.Runs.{AreNew, under_way, files_context, HasDone, HaveDone}
 use Rattle.job_runner.proofs.RunLemmas.{first_state_is, new_under_way, ended_is, answers_of_lines, closed_at_end}

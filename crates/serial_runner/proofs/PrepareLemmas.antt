@@ -14,9 +14,9 @@ use Rattle.run_model.specs.Jobs.{is_empty}
 use Rattle.run_model.specs.Stepped.{turn_at}
 use Rattle.run_model.proofs.SetLemmas.{get_set}
 use Rattle.run_model.proofs.AnswerLemmas.{asks_commit}
-use Rattle.line_runner.specs.Scanning.{too_many_turns, taken_of}
+use Rattle.job_runner.specs.LineRunner.Scanning.{too_many_turns, taken_of}
 use Rattle.job_runner.specs.Progress.{Progress, left_of, has_given_up, is_over}
-use Rattle.line_runner.specs.Phases.{is_skipping}
+use Rattle.job_runner.specs.LineRunner.Phases.{is_skipping}
 use Rattle.job_runner.specs.Runs.{AreUnderWay, under_way, turns_left, Turns, Goes, AreHeld, IsStuck}
 use Rattle.job_runner.proofs.KeepLemmas.{sum_changed, length_set}
 use Rattle.job_runner.proofs.TookLemmas.{set_same, are_held}

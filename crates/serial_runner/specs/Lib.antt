@@ -1,1 +1,3 @@
 pub mod SerialRuns
+pub mod JobRunner
+pub mod TeseoCore

@@ -5,6 +5,7 @@
 //! 2. All else is a turn as in a run that refuses none.
 #![tactic(auto)]
 
+pub mod below;
 mod engine;
 mod run;
 

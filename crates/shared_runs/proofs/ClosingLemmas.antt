@@ -16,13 +16,13 @@ use Rattle.side_runs.specs.ByAccount.{HasRunBy}
 use Rattle.side_runs.specs.SideBySide as sides
 use Rattle.side_runs.specs.SideBySide.{HaveRunBy, made_by_load}
 use Rattle.side_runs.proofs.ClosingLemmas.{is_run, are_made}
-use Rattle.line_runner.specs.Phases.{file_of}
+use Rattle.job_runner.specs.LineRunner.Phases.{file_of}
 use Rattle.job_runner.specs.Progress.{Progress}
 use Rattle.txn_manager.specs.declared.config.Config.{Config}
-use Rattle.store_relation.specs.Passes.{PassState, account_of, made_of}
-use Rattle.store_relation.specs.Shared as shared
-use Rattle.store_relation.specs.Ends.{IsMatched}
-use Rattle.pass_steps.specs.Passes.{state_of}
+use Rattle.shared_store.specs.StoreRelation.Passes.{PassState, account_of, made_of}
+use Rattle.shared_store.specs.StoreRelation.Shared as shared
+use Rattle.shared_store.specs.StoreRelation.Ends.{IsMatched}
+use Rattle.shared_store.specs.PassSteps.Passes.{state_of}
 use Rattle.shared_store.specs.declared.pass.Pass.{Pass}
 use Rattle.shared_store.specs.Ends.{HasClosed}
 use Rattle.shared_runs.specs.Closing.{HaveRunOn, outputs_with, ClosedStoresLeaveRuns}

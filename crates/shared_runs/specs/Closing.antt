@@ -9,11 +9,11 @@ use Rattle.run_model.specs.Inputs.{Inputs, AreInputs, Outputs}
 use Rattle.run_model.specs.Run.{load_stamp, IsRun}
 use Rattle.side_runs.specs.ByAccount.{HasRunBy}
 use Rattle.side_runs.specs.SideBySide.{made_by_load, HaveRunBy, HasMade}
-use Rattle.line_runner.specs.Phases.{file_of}
+use Rattle.job_runner.specs.LineRunner.Phases.{file_of}
 use Rattle.job_runner.specs.Progress.{Progress}
 use Rattle.txn_manager.specs.declared.config.Config.{Config}
-use Rattle.store_relation.specs.Passes.{account_of}
-use Rattle.pass_steps.specs.Passes.{state_of}
+use Rattle.shared_store.specs.StoreRelation.Passes.{account_of}
+use Rattle.shared_store.specs.PassSteps.Passes.{state_of}
 use Rattle.shared_store.specs.declared.pass.Pass.{Pass}
 use Rattle.shared_store.specs.Ends.{HasClosed}
 

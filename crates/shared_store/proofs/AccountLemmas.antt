@@ -13,12 +13,12 @@ use Rattle.graph_model.specs.Legal.{IsLegal}
 use Rattle.graph_model.specs.Refused.{IsWithinLimits, refused}
 use Rattle.graph_model.proofs.AccountLemmas.{read_keeps, write_keeps}
 use Rattle.txn_manager.specs.declared.config.Config.{Config}
-use Rattle.store_relation.specs.declared.stage.Stage.TheVariants.{Open}
-use Rattle.store_relation.specs.Passes.{PassState, account_of, is_active, start_of}
-use Rattle.store_relation.specs.Steps.{refreshed}
-use Rattle.store_relation.proofs.AccountLemmas.{account_sees, account_sights, account_writes}
-use Rattle.store_relation.proofs.ListLemmas.{prefix_all}
-use Rattle.pass_steps.specs.Txns.{Refreshes}
+use Rattle.pass_writes.specs.StoreRelationDeclared.stage.Stage.TheVariants.{Open}
+use Rattle.pass_writes.specs.StoreRelation.Passes.{PassState, account_of, is_active, start_of}
+use Rattle.pass_writes.specs.StoreRelation.Steps.{refreshed}
+use Rattle.pass_writes.proofs.StoreRelation.AccountLemmas.{account_sees, account_sights, account_writes}
+use Rattle.pass_writes.proofs.StoreRelation.ListLemmas.{prefix_all}
+use Rattle.pass_writes.specs.PassSteps.Txns.{Refreshes}
 use Rattle.pass_writes.specs.declared.making.Written.{Written}
 use Rattle.pass_writes.specs.declared.making.Written.TheVariants.{Done, NeedRoom}
 use Rattle.pass_writes.specs.Making.{Makes, NotesOnly}

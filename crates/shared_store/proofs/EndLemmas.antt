@@ -11,22 +11,22 @@ use Rattle.graph_model.specs.Legal.{IsLegal}
 use Rattle.graph_model.specs.Refused.{IsWithinLimits}
 use Rattle.graph_model.proofs.AccountLemmas.{commit_keeps}
 use Rattle.txn_manager.specs.declared.config.Config.{Config}
-use Rattle.store_relation.specs.declared.stage.Stage.TheVariants.{Open}
-use Rattle.store_relation.specs.Keys.{has_key}
-use Rattle.store_relation.specs.Passes.{PassState, is_active, number_of}
-use Rattle.store_relation.specs.Passes.{account_of as state_account}
-use Rattle.store_relation.specs.Steps.{committed, ended, stopped, taken_back, with_entry, with_unstamped}
-use Rattle.store_relation.proofs.AccountLemmas.{account_aborts}
-use Rattle.store_relation.proofs.ListLemmas.{prefix_all, prefix_get}
-use Rattle.store_relation.proofs.MadeLemmas.{made_active, made_ended}
-use Rattle.rule_model.specs.Sight.{PinState, with_pass, with_pin, with_rows}
-use Rattle.store_rule.specs.Passes.{OnlyAccount}
-use Rattle.store_rule.specs.declared.store.Pass.{Pass as Seats}
-use Rattle.store_rule.specs.declared.store.Store.{Store}
-use Rattle.pass_steps.specs.Passes.{HasEnded, HasNoTxn, HoldsNone, IsEndedPass, IsIdlePass, IsPassOf, account_of_pass, pin_of, state_of}
-use Rattle.pass_steps.specs.Txns.{CommitsAs, HasCommitted}
-use Rattle.pass_steps.proofs.PassLemmas.{none_after, pass_after, pass_is_stepped, pin_is, state_is}
-use Rattle.pass_steps.proofs.SightLemmas.{own_pin, pin_here, state_here}
+use Rattle.pass_writes.specs.StoreRelationDeclared.stage.Stage.TheVariants.{Open}
+use Rattle.pass_writes.specs.StoreRelation.Keys.{has_key}
+use Rattle.pass_writes.specs.StoreRelation.Passes.{PassState, is_active, number_of}
+use Rattle.pass_writes.specs.StoreRelation.Passes.{account_of as state_account}
+use Rattle.pass_writes.specs.StoreRelation.Steps.{committed, ended, stopped, taken_back, with_entry, with_unstamped}
+use Rattle.pass_writes.proofs.StoreRelation.AccountLemmas.{account_aborts}
+use Rattle.pass_writes.proofs.StoreRelation.ListLemmas.{prefix_all, prefix_get}
+use Rattle.pass_writes.proofs.StoreRelation.MadeLemmas.{made_active, made_ended}
+use Rattle.pass_writes.specs.RuleModel.Sight.{PinState, with_pass, with_pin, with_rows}
+use Rattle.pass_writes.specs.StoreRule.Passes.{OnlyAccount}
+use Rattle.pass_writes.specs.StoreRuleDeclared.store.Pass.{Pass as Seats}
+use Rattle.pass_writes.specs.StoreRuleDeclared.store.Store.{Store}
+use Rattle.pass_writes.specs.PassSteps.Passes.{HasEnded, HasNoTxn, HoldsNone, IsEndedPass, IsIdlePass, IsPassOf, account_of_pass, pin_of, state_of}
+use Rattle.pass_writes.specs.PassSteps.Txns.{CommitsAs, HasCommitted}
+use Rattle.pass_writes.proofs.PassSteps.PassLemmas.{none_after, pass_after, pass_is_stepped, pin_is, state_is}
+use Rattle.pass_writes.proofs.PassSteps.SightLemmas.{own_pin, pin_here, state_here}
 use Rattle.pass_writes.specs.Ending.{AreLeft}
 use Rattle.shared_store.specs.declared.pass.Pass.{Pass}
 use Rattle.shared_store.specs.Passes.{IsIdle, IsOpen, MayStamp, account_of}

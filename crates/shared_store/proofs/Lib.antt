@@ -6,3 +6,5 @@ pub mod SeatLemmas
 pub mod LoadLemmas
 pub mod TotalsLemmas
 pub mod SendLemmas
+pub mod LeafArrayMade
+pub mod RowWrites

@@ -19,14 +19,14 @@ use Rattle.load_order.specs.LoadRows.{load_rows, write_rows}
 use Rattle.load_order.specs.Placings.{AreSortedRows}
 use Rattle.load_order.proofs.PlacingLemmas.{same_length}
 use Rattle.leaf_rows.proofs.FillLemmas.{bare, load_rises, rows_counted, value_settled}
-use Rattle.store_relation.specs.Ends.{only_value}
-use Rattle.store_relation.specs.Loads.{load_commit, loaded_pass}
-use Rattle.store_relation.specs.Passes.{fresh_pass, number_of}
-use Rattle.store_relation.proofs.LoadLemmas.{loaded_shared}
-use Rattle.loaded_cells.specs.Numbered.{AreRowsOf}
-use Rattle.store_rule.specs.Making.{AreLoadedPasses}
-use Rattle.store_rule.specs.declared.store.Pass.{Pass as Seats}
-use Rattle.store_rule.specs.declared.store.Store.{Store}
+use Rattle.pass_writes.specs.StoreRelation.Ends.{only_value}
+use Rattle.pass_writes.specs.StoreRelation.Loads.{load_commit, loaded_pass}
+use Rattle.pass_writes.specs.StoreRelation.Passes.{fresh_pass, number_of}
+use Rattle.pass_writes.proofs.StoreRelation.LoadLemmas.{loaded_shared}
+use Rattle.pass_writes.specs.LoadedCells.Numbered.{AreRowsOf}
+use Rattle.pass_writes.specs.StoreRule.Making.{AreLoadedPasses}
+use Rattle.pass_writes.specs.StoreRuleDeclared.store.Pass.{Pass as Seats}
+use Rattle.pass_writes.specs.StoreRuleDeclared.store.Store.{Store}
 use Rattle.shared_store.specs.declared.pass.Pass.{Pass}
 use Rattle.shared_store.specs.Ends.{AreNew, HasBegun, HasBegunNothing, HaveBegunNothing, HaveNoCells, seats_of}
 use Rattle.shared_store.specs.Loading.{AreLoaded, HaveBegunLoad, first_state}

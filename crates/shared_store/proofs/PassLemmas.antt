@@ -15,18 +15,18 @@ use Rattle.graph_model.specs.Refused.{IsWithinLimits}
 use Rattle.graph_model.proofs.AccountLemmas.{begin_keeps}
 use Rattle.graph_model.proofs.ViewLemmas.{view_bounded, view_ends, view_symmetric}
 use Rattle.txn_manager.specs.declared.config.Config.{Config}
-use Rattle.store_relation.specs.declared.stage.Stage.TheVariants.{Open}
-use Rattle.store_relation.specs.Passes.{PassState, is_active, number_of, start_of}
-use Rattle.store_relation.specs.Passes.{account_of as state_account}
-use Rattle.store_relation.specs.Steps.{begun}
-use Rattle.store_relation.proofs.ListLemmas.{prefix_all, prefix_length, prefix_trans}
-use Rattle.store_relation.proofs.MadeLemmas.{number_active}
-use Rattle.rule_model.specs.Sight.{PinState}
-use Rattle.store_rule.specs.declared.store.Pass.{Pass as Seats}
-use Rattle.store_rule.specs.declared.store.Store.{Store}
-use Rattle.pass_cells.specs.declared.taken.TakenCell.{TakenCell}
-use Rattle.pass_steps.specs.Passes.{HasOpenTxn, IsOpenPass, IsSamePass, account_of_pass, pin_of, state_of}
-use Rattle.pass_steps.specs.Txns.{Begins, Refreshes}
+use Rattle.pass_writes.specs.StoreRelationDeclared.stage.Stage.TheVariants.{Open}
+use Rattle.pass_writes.specs.StoreRelation.Passes.{PassState, is_active, number_of, start_of}
+use Rattle.pass_writes.specs.StoreRelation.Passes.{account_of as state_account}
+use Rattle.pass_writes.specs.StoreRelation.Steps.{begun}
+use Rattle.pass_writes.proofs.StoreRelation.ListLemmas.{prefix_all, prefix_length, prefix_trans}
+use Rattle.pass_writes.proofs.StoreRelation.MadeLemmas.{number_active}
+use Rattle.pass_writes.specs.RuleModel.Sight.{PinState}
+use Rattle.pass_writes.specs.StoreRuleDeclared.store.Pass.{Pass as Seats}
+use Rattle.pass_writes.specs.StoreRuleDeclared.store.Store.{Store}
+use Rattle.pass_writes.specs.PassCellsDeclared.taken.TakenCell.{TakenCell}
+use Rattle.pass_writes.specs.PassSteps.Passes.{HasOpenTxn, IsOpenPass, IsSamePass, account_of_pass, pin_of, state_of}
+use Rattle.pass_writes.specs.PassSteps.Txns.{Begins, Refreshes}
 use Rattle.pass_writes.specs.declared.making.Written.{Written}
 use Rattle.pass_writes.specs.declared.making.Written.TheVariants.{Done, NeedRoom}
 use Rattle.pass_writes.specs.Found.{view_of as state_view}

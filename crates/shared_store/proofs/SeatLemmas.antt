@@ -8,20 +8,20 @@ use Rattle.graph_model.specs.Account.{IsValid}
 use Rattle.graph_model.specs.Legal.{IsLegal}
 use Rattle.seat_views.specs.Keeping.{kept_at}
 use Rattle.txn_manager.specs.declared.config.Config.{Config}
-use Rattle.store_relation.specs.Ends.{IsClosed}
-use Rattle.store_relation.specs.Passes.{PassState, fresh_pass, number_of}
-use Rattle.store_relation.specs.Passes.{account_of as state_account}
-use Rattle.store_relation.proofs.EndLemmas.{new_shared}
-use Rattle.rule_model.specs.Sight.{PinState, Sight, fresh_pin}
-use Rattle.store_rule.specs.Closing.{AreBack, IsBackPass, IsContent}
-use Rattle.store_rule.specs.declared.close.Content.{Content}
-use Rattle.store_rule.specs.Making.{AreNewPasses, IsFirstPass}
-use Rattle.store_rule.specs.declared.store.Pass.{Pass as Seats}
-use Rattle.store_rule.specs.declared.store.Store.{Store}
-use Rattle.store_words.specs.Notes.{pass_note}
-use Rattle.pass_steps.specs.Passes.{HasEnded, HasNoContents, HasNoTxn, IsIdlePass, IsOwnSight, pin_in, pin_of, state_in, state_of}
-use Rattle.pass_steps.proofs.PassLemmas.{idle_pass_is_back}
-use Rattle.pass_steps.proofs.SightLemmas.{kept_else, kept_here}
+use Rattle.pass_writes.specs.StoreRelation.Ends.{IsClosed}
+use Rattle.pass_writes.specs.StoreRelation.Passes.{PassState, fresh_pass, number_of}
+use Rattle.pass_writes.specs.StoreRelation.Passes.{account_of as state_account}
+use Rattle.pass_writes.proofs.StoreRelation.EndLemmas.{new_shared}
+use Rattle.pass_writes.specs.RuleModel.Sight.{PinState, Sight, fresh_pin}
+use Rattle.pass_writes.specs.StoreRule.Closing.{AreBack, IsBackPass, IsContent}
+use Rattle.pass_writes.specs.StoreRuleDeclared.close.Content.{Content}
+use Rattle.pass_writes.specs.StoreRule.Making.{AreNewPasses, IsFirstPass}
+use Rattle.pass_writes.specs.StoreRuleDeclared.store.Pass.{Pass as Seats}
+use Rattle.pass_writes.specs.StoreRuleDeclared.store.Store.{Store}
+use Rattle.pass_writes.specs.StoreWords.Notes.{pass_note}
+use Rattle.pass_writes.specs.PassSteps.Passes.{HasEnded, HasNoContents, HasNoTxn, IsIdlePass, IsOwnSight, pin_in, pin_of, state_in, state_of}
+use Rattle.pass_writes.proofs.PassSteps.PassLemmas.{idle_pass_is_back}
+use Rattle.pass_writes.proofs.PassSteps.SightLemmas.{kept_else, kept_here}
 use Rattle.shared_store.specs.declared.pass.Pass.{Pass}
 use Rattle.shared_store.specs.Ends.{AreIdle, AreNew, HasBegun, HasBegunNothing, HasClosed, HaveBegunNothing, HaveNoCells, seats_of}
 use Rattle.shared_store.specs.Passes.{IsIdle}

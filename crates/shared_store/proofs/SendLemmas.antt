@@ -9,17 +9,17 @@ use Rattle.latch_table.proofs.cells.Held.TheSendSync as held
 use Rattle.latch_table.proofs.cells.Laid.TheSendSync as laid
 use Rattle.latch_table.proofs.table.LatchTable.TheSendSync as latches
 use Rattle.leaf_trie.proofs.branch.Branch.TheLaws.TheKnot as trie
-use Rattle.pass_cells.proofs.hints.CellHints.TheSendSync as hints
-use Rattle.pass_cells.proofs.taken.TakenCells.TheSendSync as taken
-use Rattle.store_rule.proofs.buffers.Buffers.TheSendSync as buffers
-use Rattle.store_words.proofs.accounts.Accounts.TheSendSync as accounts
-use Rattle.version_segment.proofs.resting.Resting.TheSendSync as resting
-use Rattle.pass_cells.specs.contracts.own.PassCells as Cells
-use Rattle.store_rule.specs.contracts.slot.Room as Room
-use Rattle.store_rule.specs.contracts.slot.StoreSlot as Slot
-use Rattle.store_rule.specs.contracts.slot.StoreSlotSlotRoom.TheImpl as slots
-use Rattle.store_rule.specs.contracts.store.Pass as Seats
-use Rattle.store_rule.specs.contracts.store.Store as Store
+use Rattle.pass_writes.proofs.PassCellsMade.CellHints.TheSendSync as hints
+use Rattle.pass_writes.proofs.PassCellsMade.TakenCells.TheSendSync as taken
+use Rattle.pass_writes.proofs.StoreRuleMade.Buffers.TheSendSync as buffers
+use Rattle.pass_writes.proofs.StoreWordsMade.Accounts.TheSendSync as accounts
+use Rattle.leaf_rows.proofs.VersionSegmentMade.Resting.TheSendSync as resting
+use Rattle.pass_writes.specs.PassCellsContracts.own.PassCells as Cells
+use Rattle.pass_writes.specs.StoreRuleContracts.slot.Room as Room
+use Rattle.pass_writes.specs.StoreRuleContracts.slot.StoreSlot as Slot
+use Rattle.pass_writes.specs.StoreRuleContracts.slot.StoreSlotSlotRoom.TheImpl as slots
+use Rattle.pass_writes.specs.StoreRuleContracts.store.Pass as Seats
+use Rattle.pass_writes.specs.StoreRuleContracts.store.Store as Store
 use Rattle.shared_store.specs.contracts.pass.Pass as Pass
 
 -- what lies in a slot may go to another thread, though the index in it is a tree

@@ -20,32 +20,32 @@ use Rattle.txn_manager.specs.declared.config.Config.{Config}
 use Rattle.store_model.specs.Stamped.{Stamped, StampedVersions, first_stamped, forget, known, prune_stamped, stamped_front}
 use Rattle.store_model.specs.Versions.{first_seen, sees}
 use Rattle.undo_chain.specs.declared.states.Snapshot.{Snapshot}
-use Rattle.version_segment.specs.Resting.{value_in_word, mark, newest_in, newest_value, no_value, word_of, word_row, word_rows}
-use Rattle.version_segment.specs.Rows.{VersionedRows, IsSameSegment, IsSegment, is_empty, range_of, rows_read, versions_at, with_row}
-use Rattle.leaf_array.specs.Segments.{AreChained, high_or, low_or}
+use Rattle.leaf_rows.specs.VersionSegment.Resting.{value_in_word, mark, newest_in, newest_value, no_value, word_of, word_row, word_rows}
+use Rattle.leaf_rows.specs.VersionSegment.Rows.{VersionedRows, IsSameSegment, IsSegment, is_empty, range_of, rows_read, versions_at, with_row}
+use Rattle.leaf_rows.specs.LeafArray.Segments.{AreChained, high_or, low_or}
 use Rattle.leaf_index.specs.declared.route.Route.{Route}
 use Rattle.leaf_index.specs.Index.{Index, IsRoute}
-use Rattle.leaf_table.specs.declared.place.Place.{Place}
-use Rattle.leaf_store.specs.Leaves.{Leaves, AreLeaves, cell_in, cells_of, versions_of}
-use Rattle.leaf_store.specs.Table.{segments_at, segments_or_none}
-use Rattle.leaf_store.proofs.TableLemmas.{Located, kept_leaves, located}
+use Rattle.leaf_rows.specs.LeafTableDeclared.place.Place.{Place}
+use Rattle.leaf_rows.specs.LeafStore.Leaves.{Leaves, AreLeaves, cell_in, cells_of, versions_of}
+use Rattle.leaf_rows.specs.LeafStore.Table.{segments_at, segments_or_none}
+use Rattle.leaf_rows.proofs.LeafStore.TableLemmas.{Located, kept_leaves, located}
 use Rattle.leaf_rows.specs.Counted.{is_vertex_row}
 use Rattle.leaf_rows.specs.Runs.{ShowsBy, cells_behind}
 use Rattle.leaf_rows.proofs.CountLemmas.{others_counted, vertices_counted}
 use Rattle.leaf_rows.proofs.RunLemmas.{range_read}
-use Rattle.store_relation.specs.Ends.{only_value}
-use Rattle.cells_model.specs.Cells.{CellState}
-use Rattle.cells_model.specs.InPlace.{segment_of}
-use Rattle.cells_model.specs.Indexed.{IsIndexed, cells_from, covers, store_of, table_of}
-use Rattle.cells_model.specs.Words.{HasSmallValues, IsSmall}
-use Rattle.cells_model.proofs.IndexedLemmas.{cells_show, fences_tell}
-use Rattle.cells_model.proofs.RunLemmas.{segments_table}
-use Rattle.cells_model.proofs.WordLemmas.{newest_small}
-use Rattle.store_words.specs.Spelling.{CanSpell}
-use Rattle.store_rule.specs.Whole.{IsWholeContent}
-use Rattle.store_rule.specs.declared.close.Content.{Content}
-use Rattle.store_rule.specs.declared.store.Pass.{Pass as Seats}
-use Rattle.store_rule.proofs.CloseLemmas.{get_there}
+use Rattle.pass_writes.specs.StoreRelation.Ends.{only_value}
+use Rattle.pass_writes.specs.CellsModel.Cells.{CellState}
+use Rattle.pass_writes.specs.CellsModel.InPlace.{segment_of}
+use Rattle.pass_writes.specs.CellsModel.Indexed.{IsIndexed, cells_from, covers, store_of, table_of}
+use Rattle.pass_writes.specs.CellsModel.Words.{HasSmallValues, IsSmall}
+use Rattle.pass_writes.proofs.CellsModel.IndexedLemmas.{cells_show, fences_tell}
+use Rattle.pass_writes.proofs.CellsModel.RunLemmas.{segments_table}
+use Rattle.pass_writes.proofs.CellsModel.WordLemmas.{newest_small}
+use Rattle.pass_writes.specs.StoreWords.Spelling.{CanSpell}
+use Rattle.pass_writes.specs.StoreRule.Whole.{IsWholeContent}
+use Rattle.pass_writes.specs.StoreRuleDeclared.close.Content.{Content}
+use Rattle.pass_writes.specs.StoreRuleDeclared.store.Pass.{Pass as Seats}
+use Rattle.pass_writes.proofs.StoreRule.CloseLemmas.{get_there}
 use Rattle.shared_store.specs.Totals.{HoldsGraph, is_seen, is_seen_vertex}
 
 -- ---- the graph of a closed store

@@ -5,13 +5,13 @@ use Rattle.graph_model.specs.declared.journal.Commit.{Commit}
 use Rattle.graph_model.specs.declared.row.Key.{Key}
 use Rattle.txn_manager.specs.declared.config.Config.{Config}
 use Rattle.store_model.specs.Stamped.{StampedVersions}
-use Rattle.store_relation.specs.Ends.{IsClosed}
-use Rattle.store_relation.specs.Passes.{PassState, fresh_pass}
-use Rattle.store_rule.specs.declared.store.Pass.{Pass as Seats}
-use Rattle.store_rule.specs.declared.store.Passes.{Passes as Ends}
-use Rattle.store_rule.specs.declared.store.Store.{Store}
-use Rattle.store_rule.specs.Passes.{AreIn}
-use Rattle.pass_steps.specs.Passes.{state_of}
+use Rattle.pass_writes.specs.StoreRelation.Ends.{IsClosed}
+use Rattle.pass_writes.specs.StoreRelation.Passes.{PassState, fresh_pass}
+use Rattle.pass_writes.specs.StoreRuleDeclared.store.Pass.{Pass as Seats}
+use Rattle.pass_writes.specs.StoreRuleDeclared.store.Passes.{Passes as Ends}
+use Rattle.pass_writes.specs.StoreRuleDeclared.store.Store.{Store}
+use Rattle.pass_writes.specs.StoreRule.Passes.{AreIn}
+use Rattle.pass_writes.specs.PassSteps.Passes.{state_of}
 use Rattle.shared_store.specs.declared.pass.Pass.{Pass}
 use Rattle.shared_store.specs.Passes.{IsIdle}
 

@@ -3,3 +3,7 @@ pub mod Writes
 pub mod Ends
 pub mod Loading
 pub mod Totals
+pub mod PassSteps
+pub mod RowWrites
+pub mod StoreRelation
+pub mod StoreRuleDeclared

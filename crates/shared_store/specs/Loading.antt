@@ -9,10 +9,10 @@ use Rattle.txn_manager.specs.declared.config.RoomRefusal.{RoomRefusal}
 use Rattle.txn_manager.specs.declared.config.RoomRefusal.TheVariants as rooms
 use Rattle.txn_manager.specs.declared.config.StoreRefusal.{StoreRefusal}
 use Rattle.txn_manager.specs.declared.config.StoreRefusal.TheVariants as stores
-use Rattle.store_relation.specs.Loads.{loaded_pass}
-use Rattle.store_relation.specs.Passes.{PassState, fresh_pass}
-use Rattle.store_rule.specs.declared.store.Store.{Store}
-use Rattle.pass_steps.specs.Passes.{state_of}
+use Rattle.pass_writes.specs.StoreRelation.Loads.{loaded_pass}
+use Rattle.pass_writes.specs.StoreRelation.Passes.{PassState, fresh_pass}
+use Rattle.pass_writes.specs.StoreRuleDeclared.store.Store.{Store}
+use Rattle.pass_writes.specs.PassSteps.Passes.{state_of}
 use Rattle.shared_store.specs.declared.load.LoadedRefusal.{LoadedRefusal}
 use Rattle.shared_store.specs.declared.load.LoadedRefusal.TheVariants as refusals
 use Rattle.shared_store.specs.declared.pass.Pass.{Pass}

@@ -8,10 +8,10 @@ use Rattle.graph_model.specs.Account.{Account, IsValid}
 use Rattle.graph_model.specs.AccountSteps.{view_of}
 use Rattle.graph_model.specs.Graph.{Graph}
 use Rattle.graph_model.specs.Refused.{IsWithinLimits}
-use Rattle.store_relation.specs.Passes.{PassState, number_of}
-use Rattle.store_rule.specs.declared.store.Store.{Store}
-use Rattle.pass_steps.specs.Passes.{IsEndedPass, IsIdlePass, IsOpenPass, account_of_pass, name_of_pass, state_of}
-use Rattle.pass_steps.specs.Txns.{HasCommitted}
+use Rattle.pass_writes.specs.StoreRelation.Passes.{PassState, number_of}
+use Rattle.pass_writes.specs.StoreRuleDeclared.store.Store.{Store}
+use Rattle.pass_writes.specs.PassSteps.Passes.{IsEndedPass, IsIdlePass, IsOpenPass, account_of_pass, name_of_pass, state_of}
+use Rattle.pass_writes.specs.PassSteps.Txns.{HasCommitted}
 use Rattle.pass_writes.specs.Ending.{AreLeft}
 use Rattle.shared_store.specs.declared.pass.Pass.{Pass}
 

@@ -9,11 +9,11 @@ use Rattle.graph_model.specs.declared.write.Kind.TheVariants.{Directed, Undirect
 use Rattle.graph_model.specs.Graph.{Graph, vertices_of}
 use Rattle.graph_model.specs.Rows.{is_below, value_at}
 use Rattle.txn_manager.specs.declared.config.Totals.{Totals}
-use Rattle.version_segment.specs.Rows.{VersionedRows, IsSameSegment}
-use Rattle.version_segment.specs.Resting.{value_in_word, newest_value}
+use Rattle.leaf_rows.specs.VersionSegment.Rows.{VersionedRows, IsSameSegment}
+use Rattle.leaf_rows.specs.VersionSegment.Resting.{value_in_word, newest_value}
 use Rattle.leaf_index.specs.Index.{Index}
-use Rattle.leaf_store.specs.Leaves.{versions_of}
-use Rattle.cells_model.specs.Indexed.{IsIndexed, store_of}
+use Rattle.leaf_rows.specs.LeafStore.Leaves.{versions_of}
+use Rattle.pass_writes.specs.CellsModel.Indexed.{IsIndexed, store_of}
 
 -- ---- what a graph has
 

@@ -9,9 +9,9 @@ use Rattle.graph_model.specs.AccountSteps.{WritesBy, view_of}
 use Rattle.graph_model.specs.Conflict.{later}
 use Rattle.graph_model.specs.Refused.{refused}
 use Rattle.txn_manager.specs.declared.config.Config.{Config}
-use Rattle.store_relation.specs.Passes.{PassState}
-use Rattle.store_relation.specs.Steps.{meeting}
-use Rattle.pass_steps.specs.Txns.{Refreshes}
+use Rattle.pass_writes.specs.StoreRelation.Passes.{PassState}
+use Rattle.pass_writes.specs.StoreRelation.Steps.{meeting}
+use Rattle.pass_writes.specs.PassSteps.Txns.{Refreshes}
 use Rattle.pass_writes.specs.declared.making.Written.{Written}
 use Rattle.pass_writes.specs.declared.making.Written.TheVariants.{Done, NeedRoom}
 use Rattle.shared_store.specs.declared.pass.Pass.{Pass}

@@ -12,8 +12,8 @@ use crate::pass::Pass;
 use crate::reads::scan_step;
 use graph_model::{Cursor, Key, Kind, Rows64};
 use leaf_rows::any_with;
+use pass_writes::below::Store;
 use std::sync::Wait;
-use store_rule::Store;
 
 /// Whether a vertex is an end of an arc. Where arcs have a direction, those that lead to the vertex are looked for in
 /// all rows.

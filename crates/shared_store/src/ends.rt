@@ -7,7 +7,7 @@ ghost use Rattle.std.specs.Prelude.{◌≡◌, ◌+◌, ◌≤◌, ◌↔◌, �
 ghost use Rattle.std.specs.Vec.{vec_capacity};
 ghost use Rattle.txn_manager.specs.Config.{too_large};
 ghost use Rattle.txn_manager.specs.declared.config.StoreRefusal.TheVariants.{TooLarge};
-ghost use Rattle.store_rule.specs.Passes.{AreIn};
+ghost use Rattle.pass_writes.specs.StoreRule.Passes.{AreIn};
 ghost use Rattle.graph_model.specs.History.{graph_at};
 ghost use Rattle.shared_store.specs.Totals.{AreTotals};
 ghost use Rattle.shared_store.specs.Ends.{AreEnds, AreIdle, AreNew, HasClosed, HaveBegunNothing, HaveNoCells, seats_of};
@@ -15,9 +15,8 @@ ghost use Rattle.shared_store.specs.Ends.{AreEnds, AreIdle, AreNew, HasClosed, H
 use crate::pass::Pass;
 use crate::totals::totals_of;
 use graph_model::{Journal, NoMemory};
-use pass_cells::PassCells;
+use pass_writes::below::{Content, Pass as Seats, PassCells, Passes as Ends, Store};
 use std::alloc::Global;
-use store_rule::{Content, Pass as Seats, Passes as Ends, Store};
 use txn_manager::{Config, StoreRefusal, Totals};
 
 /// The passes of a store, in the order of their numbers, with what its end needs.

@@ -5,6 +5,7 @@
 //! 3. A write that another transaction stands against is refused, and the cause is named.
 #![tactic(auto)]
 
+pub mod below;
 mod edges;
 mod ends;
 mod load;
@@ -17,9 +18,8 @@ mod writes;
 pub use ends::{Closed, Passes, close, new};
 pub use load::{LoadedRefusal, loaded};
 pub use pass::Pass;
-pub use pass_cells::RoomNeed;
 pub use pass_writes::Written;
+pub use pass_writes::below::{RoomNeed, Store};
 pub use reads::{has_vertex, scan_step, weight};
-pub use store_rule::Store;
 pub use transactions::{abort, begin, commit, meet};
 pub use writes::write;

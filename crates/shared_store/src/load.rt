@@ -8,7 +8,7 @@ ghost use Rattle.std.specs.List.{AllByRecursion};
 ghost use Rattle.graph_model.specs.Graph.{empty_graph};
 ghost use Rattle.graph_model.specs.Loading.{IsAdd};
 ghost use Rattle.graph_model.specs.Refused.{AllAllowed, IsWithinLimits};
-ghost use Rattle.loaded_cells.specs.Numbered.{AreRowsOf};
+ghost use Rattle.pass_writes.specs.LoadedCells.Numbered.{AreRowsOf};
 ghost use Rattle.txn_manager.specs.Config.{too_large};
 ghost use Rattle.shared_store.specs.Ends.{AreEnds, HaveBegunNothing, HaveNoCells, seats_of};
 ghost use Rattle.shared_store.specs.Loading.{AreLoaded, HaveBegunLoad, IsLoadedRefusal};
@@ -18,8 +18,8 @@ use crate::ends::{Passes, new, seated};
 use crate::pass::Pass;
 use graph_model::{NoMemory, Row, Writes};
 use load_order::sorted_rows;
+use pass_writes::below::Store;
 use std::alloc::Global;
-use store_rule::Store;
 use thiserror::Error;
 use txn_manager::{Config, RoomRefusal, StoreRefusal};
 

@@ -1,16 +1,15 @@
 //! Whoever runs transactions on a store, one after the other.
 
 ghost use Rattle.std.specs.Prelude.{◌≡◌, [], IfOk};
-ghost use Rattle.pass_steps.specs.Passes.{IsIdlePass};
-ghost use Rattle.store_relation.specs.Passes.{number_of};
-ghost use Rattle.pass_steps.specs.Passes.{state_of};
+ghost use Rattle.pass_writes.specs.PassSteps.Passes.{IsIdlePass};
+ghost use Rattle.pass_writes.specs.StoreRelation.Passes.{number_of};
+ghost use Rattle.pass_writes.specs.PassSteps.Passes.{state_of};
 ghost use Rattle.shared_store.specs.Passes.{IsOpen};
 
 use graph_model::{Begun, NoMemory, RoomyWrites, TxnName};
 use items::RoomyItems;
-use pass_cells::PassCells;
+use pass_writes::below::{Pass as Seats, PassCells};
 use std::alloc::Global;
-use store_rule::Pass as Seats;
 
 /// A pass of a store. It is in no transaction, or in an open one, of which it has the writes twice: one list goes into
 /// the journal with the commit, and by the other its rows are stamped then. Its seats and cells are lent to calls that

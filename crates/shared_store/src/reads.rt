@@ -8,9 +8,9 @@ ghost use Rattle.shared_store.specs.Passes.{IsOpen, KeepsOpen, view_in};
 
 use crate::pass::Pass;
 use graph_model::{Cursor, Key, Rows64};
+use pass_writes::below::Store;
 use pass_writes::{scan, value};
 use std::sync::Wait;
-use store_rule::Store;
 
 /// Whether the open transaction sees a vertex. May wait, and takes no memory.
 pub fn has_vertex(rt: &impl Wait, store: &Store, pass: &mut Pass, v: u64) -> bool

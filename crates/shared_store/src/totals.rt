@@ -11,9 +11,9 @@ ghost use Rattle.shared_store.specs.Totals.{AreTotals, HoldsGraph, edges_of, is_
 
 use graph_model::{Key, Kind, Row};
 use leaf_index::LeafIndex;
-use store_rule::ClosedCells;
+use leaf_rows::below::{Rows32, value_in_word};
+use pass_writes::below::ClosedCells;
 use txn_manager::Totals;
-use version_segment::{Rows32, value_in_word};
 
 /// How many rows have a value, and how many of these are vertices'.
 #[derive(Clone, Copy, Debug)]

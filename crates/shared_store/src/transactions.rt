@@ -10,19 +10,17 @@ ghost use Rattle.std.specs.Prelude.{◌≡◌, ◌⊎◌, ◌≤◌, ◌↔◌, 
 ghost use mathlib.Core.List.{IsPrefix};
 ghost use Rattle.graph_model.specs.AccountSteps.{AbortsBy, BeginsBy, CommitsBy, ReadsBy};
 ghost use Rattle.graph_model.specs.declared.refusal.BeginRefusal.TheVariants.{TxnsUsed};
-ghost use Rattle.pass_steps.specs.Passes.{IsEndedPass, IsIdlePass, pin_of, state_of};
-ghost use Rattle.pass_sweeps.specs.Sweeping.{with_sweep};
+ghost use Rattle.pass_writes.specs.PassSteps.Passes.{IsEndedPass, IsIdlePass, pin_of, state_of};
+ghost use Rattle.pass_writes.specs.PassSweeps.Sweeping.{with_sweep};
 ghost use Rattle.shared_store.specs.Passes.{IsIdle, IsOpen, KeepsLists, MayStamp, Settles, account_of};
 
 use crate::pass::Pass;
 use graph_model::{BeginRefusal, Begun, RoomyWrites, TxnName};
 use items::RoomyItems;
-use pass_steps::{end, stop, unpin};
-use pass_sweeps::{end_sweep, sweep_pins};
+use pass_writes::below::{Store, end, end_sweep, stop, sweep_pins, unpin};
 use pass_writes::{stamp_all, undo_all};
 use std::mem::replace;
 use std::sync::Wait;
-use store_rule::Store;
 
 /// Begins the next transaction of a pass that has none. It sees all that was committed before. May wait.
 pub fn begin(rt: &impl Wait, store: &Store, pass: &mut Pass) -> Result<Begun, BeginRefusal>
@@ -34,7 +32,7 @@ pub fn begin(rt: &impl Wait, store: &Store, pass: &mut Pass) -> Result<Begun, Be
         ↔ (store.now.accounts.config.txns_per_pass ≤ (account_of store.now pass.old).begun) }
     ensures number { pass.new.seats.number ≡ pass.old.seats.number }
 {
-    let begun = match pass_steps::begin(rt, store, &mut pass.seats, pass.begun) {
+    let begun = match pass_writes::below::begin(rt, store, &mut pass.seats, pass.begun) {
         Ok(begun) => begun,
         Err(refused) => return Err(refused),
     };
@@ -53,7 +51,7 @@ pub fn commit(rt: &impl Wait, store: &Store, pass: &mut Pass) -> Option<u64>
 {
     let begun = pass.latest();
     let writes = replace(&mut pass.own, RoomyItems::new(pass.alloc)).into_items();
-    let stamp = pass_steps::commit(rt, store, &mut pass.seats, begun, writes);
+    let stamp = pass_writes::below::commit(rt, store, &mut pass.seats, begun, writes);
     finish(rt, store, pass, begun.by, stamp);
     stamp
 }
@@ -132,7 +130,7 @@ pub fn meet(store: &Store, from: &mut Pass, to: &mut Pass)
     ensures reads { ReadsBy (account_of store.now to.old) (account_of store.now to.new) }
     ensures met { IsPrefix (account_of store.now from.old).seen (account_of store.now to.new).seen }
 {
-    pass_steps::meet(store, &mut from.seats, &mut to.seats);
+    pass_writes::below::meet(store, &mut from.seats, &mut to.seats);
 }
 
 /// Takes all writes out of a list, whose room stays.

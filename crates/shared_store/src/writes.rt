@@ -7,8 +7,8 @@
 
 ghost use Rattle.std.specs.Prelude.{◌≡◌, Err, IfOk, OnOk};
 ghost use Rattle.graph_model.specs.Refused.{IsWithinLimits};
-ghost use Rattle.row_writes.specs.Checks.{TellsEdges};
-ghost use Rattle.pass_steps.specs.Passes.{state_of};
+ghost use Rattle.leaf_rows.specs.RowWrites.Checks.{TellsEdges};
+ghost use Rattle.pass_writes.specs.PassSteps.Passes.{state_of};
 ghost use Rattle.pass_writes.specs.Making.{Makes, NeedsRoom};
 ghost use Rattle.shared_store.specs.Passes.{IsOpen, KeepsAll, KeepsOpen, account_of, view_in};
 ghost use Rattle.shared_store.specs.Writes.{HasRoom, IsNoted, Keeps, SeesLater, WritesOver, later_of, own_after};
@@ -16,10 +16,9 @@ ghost use Rattle.shared_store.specs.Writes.{HasRoom, IsNoted, Keeps, SeesLater, 
 use crate::edges::has_edges;
 use crate::pass::Pass;
 use graph_model::{Cause, NoMemory, Refusal, Write};
-use pass_steps::see_later;
 use pass_writes::Written;
+use pass_writes::below::{Store, see_later};
 use std::sync::Wait;
-use store_rule::Store;
 
 /// Makes a write of the open transaction, or says why it isn't made. Takes all memory that it needs before anything
 /// changes. May wait.

@@ -3,3 +3,4 @@ pub mod InputLemmas
 pub mod RunLemmas
 pub mod LeavesLemmas
 pub mod ThreadLemmas
+pub mod SerialRunner

@@ -31,10 +31,10 @@ use Rattle.serial_model.specs.Laws.{SerialSteppedRunsAreSerialRuns}
 use Rattle.run_model.specs.Jobs.{load_journal}
 use Rattle.run_model.proofs.SetLemmas.{sum_cons}
 use Rattle.txn_manager.specs.declared.config.Config.{Config}
-use Rattle.teseo_core.specs.Passes.{new_pass}
-use Rattle.teseo_core.specs.Keeping.{LeftStore, new_core, newest_graph, edges_of}
-use Rattle.job_runner.specs.Progress.{Progress}
-use Rattle.job_runner.specs.Runs.{new_jobs, IsUnused, AreNew, outputs_of}
+use Rattle.serial_runner.specs.TeseoCore.Passes.{new_pass}
+use Rattle.serial_runner.specs.TeseoCore.Keeping.{LeftStore, new_core, newest_graph, edges_of}
+use Rattle.serial_runner.specs.JobRunner.Progress.{Progress}
+use Rattle.serial_runner.specs.JobRunner.Runs.{new_jobs, IsUnused, AreNew, outputs_of}
 use Rattle.command_words.specs.Words.{RunRequest}
 use Rattle.source_run.specs.Requests.{kind_of, rules_of}
 use Rattle.source_run.specs.declared.run.SteppedRun.{SteppedRun}

@@ -18,7 +18,7 @@ use Rattle.run_model.specs.Answering.{edges_in}
 use Rattle.run_model.specs.Inputs.{Inputs, AreInputs}
 use Rattle.txn_manager.specs.declared.config.Config.{Config}
 use Rattle.txn_manager.specs.declared.config.Totals.{Totals}
-use Rattle.shared_store.specs.Totals.{AreTotals, edges_of}
+use Rattle.threaded_run.specs.SharedStore.Totals.{AreTotals, edges_of}
 use Rattle.threaded_run.specs.declared.run.ThreadedRun.{ThreadedRun}
 use Rattle.threaded_run.specs.Running.{CanRun, IsStopped, inputs_on}
 use Rattle.source_run.specs.Running.{HasCounts, IsConfig, IsRefusedLoad}

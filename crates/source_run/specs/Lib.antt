@@ -3,3 +3,8 @@ pub mod Input
 pub mod Parsing
 pub mod Leaves
 pub mod Running
+pub mod GraphFiles
+pub mod GraphFilesDeclared
+pub mod JobRunner
+pub mod ScriptLang
+pub mod ScriptLangDeclared

@@ -23,10 +23,10 @@ use Rattle.txn_manager.specs.declared.config.Config.{Config}
 use Rattle.txn_manager.specs.declared.config.Totals.{Totals}
 use Rattle.graph_model.specs.declared.load.LoadRefusal.{LoadRefusal}
 use Rattle.graph_model.specs.declared.load.LoadRefusal.TheVariants as refusals
-use Rattle.teseo_core.specs.Keeping.{LeftStore, new_core}
-use Rattle.shared_runs.specs.Closing.{LeavesRun, outputs_with}
-use Rattle.job_runner.specs.Progress.{Progress}
-use Rattle.job_runner.specs.Runs.{HaveDone, Ends}
+use Rattle.serial_runner.specs.TeseoCore.Keeping.{LeftStore, new_core}
+use Rattle.threaded_run.specs.SharedRuns.Closing.{LeavesRun, outputs_with}
+use Rattle.serial_runner.specs.JobRunner.Progress.{Progress}
+use Rattle.serial_runner.specs.JobRunner.Runs.{HaveDone, Ends}
 use Rattle.serial_runner.specs.SerialRuns.{SerialEnds}
 use Rattle.source_run.specs.declared.input.Input.{Input}
 use Rattle.source_run.specs.declared.run.SteppedRun.{SteppedRun}

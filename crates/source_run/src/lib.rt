@@ -5,6 +5,7 @@
 //! 3. A store without stated leaves has as many as the rows of the graph and of the scripts' lines can fill.
 #![tactic(auto)]
 
+pub mod below;
 mod fault;
 mod input;
 mod leaves;

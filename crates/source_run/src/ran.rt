@@ -12,12 +12,11 @@ use crate::run::run_by_turns;
 use crate::threads::run_by_threads;
 use desk_io::Gate;
 use graph_model::{Journal, Kind, LoadRefusal};
-use job_runner::Jobs;
-use shared_store::Closed;
+use serial_runner::below::{CoreJournal, Jobs};
 use std::alloc::Global;
 use std::sync::Wait;
 use std::thread::Threads;
-use teseo_core::CoreJournal;
+use threaded_run::below::Closed;
 use txn_manager::Totals;
 
 /// What the store that ran has left.

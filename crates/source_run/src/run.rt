@@ -14,8 +14,8 @@ ghost use Rattle.graph_model.specs.Refused.{AllAllowed, IsWithinLimits};
 ghost use Rattle.run_model.specs.Inputs.{Inputs, AreInputs};
 ghost use Rattle.run_model.specs.Requests.{request, next_txn, begun_by};
 ghost use Rattle.txn_manager.specs.Config.{too_large};
-ghost use Rattle.teseo_core.specs.Keeping.{new_core};
-ghost use Rattle.job_runner.specs.Runs.{new_jobs, AreNew, GivesUp};
+ghost use Rattle.serial_runner.specs.TeseoCore.Keeping.{new_core};
+ghost use Rattle.serial_runner.specs.JobRunner.Runs.{new_jobs, AreNew, GivesUp};
 ghost use Rattle.source_run.specs.Input.{inputs_of};
 ghost use Rattle.source_run.specs.Parsing.{meaning_of};
 ghost use Rattle.source_run.specs.Running.{stepped_outputs, IsRunAs, EndsAs, HasCounts, IsSteppedRun, IsRefusedLoad, MayBegin, IsConfig};
@@ -24,13 +24,12 @@ use crate::input::Input;
 use graph_model::{Ids, Kind, LoadRefusal, NoMemory};
 use graphalytics_io::{Edges, writes_of};
 use items::Items;
-use job_runner::{Job, Jobs, run_stepped};
 use run_model::{Command, Script, stepped_runs_are_runs};
 use serial_model::serial_stepped_runs_are_serial_runs;
+use serial_runner::below::{Core, CoreJournal, Job, Jobs, run_stepped};
 use serial_runner::run_serial;
 use std::alloc::Global;
 use std::thread::Threads;
-use teseo_core::{Core, CoreJournal};
 use txn_manager::{Config, StoreRefusal, Totals};
 
 /// What a run by turns leaves: the engine's journal, the scripts with their answers and tables, and what the settled

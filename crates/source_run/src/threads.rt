@@ -4,7 +4,7 @@ ghost use Rattle.std.specs.Prelude.{◌≡◌, ◌≤◌, IfErr, IfOk, length};
 ghost use Rattle.graph_model.specs.declared.limits.TheConstants.{MAX_LEAVES, MAX_THREADS};
 ghost use Rattle.run_model.specs.Inputs.{AreInputs};
 ghost use Rattle.run_model.specs.Run.{IsRun};
-ghost use Rattle.shared_runs.specs.Closing.{LeavesRun, outputs_with};
+ghost use Rattle.threaded_run.specs.SharedRuns.Closing.{LeavesRun, outputs_with};
 ghost use Rattle.source_run.specs.Input.{inputs_of};
 ghost use Rattle.source_run.specs.Parsing.{meaning_of};
 ghost use Rattle.source_run.specs.Running.{HasCounts, IsRefusedLoad};

@@ -20,3 +20,5 @@ pub mod KeyLemmas
 pub mod GrowLemmas
 pub mod LearnLemmas
 pub mod ExampleLemmas
+pub mod HeadMap
+pub mod VersionSegment

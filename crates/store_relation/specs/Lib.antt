@@ -13,3 +13,4 @@ pub mod AccountLaws
 pub mod CheckLaws
 pub mod RowLaws
 pub mod Examples
+pub mod VersionSegment

@@ -4,6 +4,7 @@
 //! 2. There is no store and nothing to run: a store shows that each of its steps is one of these.
 #![tactic(auto)]
 
+pub mod below;
 mod laws;
 mod stage;
 

@@ -6,15 +6,15 @@ use Rattle.atomic_table.specs.Seated.{TableId}
 use Rattle.seat_views.specs.Keeping.{kept_at}
 use Rattle.seat_views.proofs.NumberLemmas.{kept-append, other_number, same_number, some_is}
 use Rattle.txn_manager.specs.declared.config.Config.{Config}
-use Rattle.store_relation.specs.Shared.{JournalState}
-use Rattle.rule_model.specs.EndSteps.{HasAll}
-use Rattle.rule_model.specs.LastSteps.{IsLastStore}
-use Rattle.version_segment.specs.Resting.{RestingRows}
-use Rattle.version_segment.specs.Rows.{VersionedRows, IsSameSegment}
-use Rattle.cells_model.specs.Cells.{CellState}
-use Rattle.cells_model.specs.Words.{Spells}
-use Rattle.rule_model.specs.Sight.{HasCell, HasJournal, Sight, cells_of, with_cell}
-use Rattle.rule_model.specs.ViewSteps.{joined}
+use Rattle.loaded_cells.specs.StoreRelation.Shared.{JournalState}
+use Rattle.loaded_cells.specs.RuleModel.EndSteps.{HasAll}
+use Rattle.loaded_cells.specs.RuleModel.LastSteps.{IsLastStore}
+use Rattle.loaded_cells.specs.VersionSegment.Resting.{RestingRows}
+use Rattle.loaded_cells.specs.VersionSegment.Rows.{VersionedRows, IsSameSegment}
+use Rattle.loaded_cells.specs.CellsModel.Cells.{CellState}
+use Rattle.loaded_cells.specs.CellsModel.Words.{Spells}
+use Rattle.loaded_cells.specs.RuleModel.Sight.{HasCell, HasJournal, Sight, cells_of, with_cell}
+use Rattle.loaded_cells.specs.RuleModel.ViewSteps.{joined}
 use Rattle.store_rule.specs.Closed.{AreAtRest, AreAtRestFrom, AreSpelled, IsAtRest, IsPopped, known_in, known_segments}
 use Rattle.store_rule.specs.Closing.{AreBackPasses, AreCells, AreSlotsBelow, HasJoined, IsBackPass}
 use Rattle.store_rule.specs.Slots.{FitsPlace, RestsAs}

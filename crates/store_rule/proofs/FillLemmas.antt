@@ -8,12 +8,12 @@ use Rattle.graph_model.specs.declared.limits.TheConstants.{MAX_WEIGHT}
 use Rattle.graph_model.specs.declared.row.Row.{Row}
 use Rattle.graph_model.specs.declared.write.Write.{Write}
 use Rattle.txn_manager.specs.declared.config.Config.{Config}
-use Rattle.version_segment.specs.Resting.{RestingRows}
-use Rattle.version_segment.specs.Rows.{VersionedRows}
+use Rattle.loaded_cells.specs.VersionSegment.Resting.{RestingRows}
+use Rattle.loaded_cells.specs.VersionSegment.Rows.{VersionedRows}
 use Rattle.leaf_index.specs.Index.{Index}
-use Rattle.store_relation.specs.Loads.{load_commit, loaded_journal}
-use Rattle.rule_model.specs.EndSteps.{loaded_known}
-use Rattle.rule_model.specs.Sight.{HasIndex, Known, Sight, cells_of}
+use Rattle.loaded_cells.specs.StoreRelation.Loads.{load_commit, loaded_journal}
+use Rattle.loaded_cells.specs.RuleModel.EndSteps.{loaded_known}
+use Rattle.loaded_cells.specs.RuleModel.Sight.{HasIndex, Known, Sight, cells_of}
 use Rattle.store_words.specs.Steps.{word_count}
 use Rattle.loaded_cells.specs.Laid.{AreLaid}
 use Rattle.loaded_cells.specs.Numbered.{AreRestOf, blocks_of, cell_of, loaded_head, loaded_sight, loaded_words, rest_rows}

@@ -3,3 +3,12 @@ pub mod MakeLemmas
 pub mod FillLemmas
 pub mod CloseLemmas
 pub mod PackLemmas
+pub mod CellsModel
+pub mod HeadMap
+pub mod LeafArray
+pub mod LeafStore
+pub mod RuleModel
+pub mod StoreRelation
+pub mod StoreWords
+pub mod StoreWordsMade
+pub mod VersionSegment

@@ -7,17 +7,17 @@ use Rattle.atomic_table.specs.declared.shared.Seat.{Seat}
 use Rattle.seat_views.specs.Keeping.{kept_at}
 use Rattle.seat_views.proofs.NumberLemmas.{eq_of, some_is}
 use Rattle.txn_manager.specs.declared.config.Config.{Config}
-use Rattle.version_segment.specs.Resting.{RestingRows}
+use Rattle.loaded_cells.specs.VersionSegment.Resting.{RestingRows}
 use Rattle.leaf_index.specs.Calls.{new_index}
 use Rattle.leaf_index.specs.Index.{Index}
-use Rattle.cells_model.specs.Cells.{CellState}
-use Rattle.rule_model.specs.EndSteps.{new_known, new_state, numbered, first_sight, sight_of}
-use Rattle.rule_model.specs.Sight.{HasCell, HasIndex, HasJournal, HasPass, Known, PinState, Sight, cells_of, fresh_pin}
+use Rattle.loaded_cells.specs.CellsModel.Cells.{CellState}
+use Rattle.loaded_cells.specs.RuleModel.EndSteps.{new_known, new_state, numbered, first_sight, sight_of}
+use Rattle.loaded_cells.specs.RuleModel.Sight.{HasCell, HasIndex, HasJournal, HasPass, Known, PinState, Sight, cells_of, fresh_pin}
 use Rattle.store_words.specs.Notes.{IsNote, cell_note, without_cell, without_pass}
 use Rattle.store_words.specs.Steps.{Knows}
 use Rattle.store_words.proofs.NoteLemmas.{without_else}
-use Rattle.store_relation.specs.Passes.{PassState}
-use Rattle.store_relation.specs.Shared.{no_journal}
+use Rattle.loaded_cells.specs.StoreRelation.Passes.{PassState}
+use Rattle.loaded_cells.specs.StoreRelation.Shared.{no_journal}
 use Rattle.loaded_cells.proofs.WordLemmas.{popped}
 use Rattle.store_rule.specs.Filling.{AreNoRows}
 use Rattle.store_rule.specs.Making.{AreCells, AreDealt, AreDealtFrom, AreSlots, IsDealing, IsFirstPass, IsLaying, KnowsAllResting, KnowsParts, KnowsResting}

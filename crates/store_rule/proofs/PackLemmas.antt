@@ -6,13 +6,13 @@ use Rattle.graph_model.specs.declared.row.Row.{Row}
 use Rattle.store_model.specs.Stamped.{StampedVersions}
 use Rattle.graph_model.specs.Rows.{is_below}
 use Rattle.gap_segment.specs.Fenced.{AreSorted, AreWithin}
-use Rattle.version_segment.specs.Resting.{AgreeWith, CanWake, RestingRow, RestingRows, resting_of, resting_row, woken, woken_rows, word_row, word_rows}
-use Rattle.version_segment.specs.Rows.{IsSameSegment, IsSegment, VersionedRows}
-use Rattle.version_segment.proofs.WordLemmas.{can_wake, wakes_rested}
-use Rattle.cells_model.specs.Cells.{CellState, last_word, raised_word, unpacked, version_word}
-use Rattle.cells_model.specs.Words.{HasSmallWeights, Spells}
-use Rattle.cells_model.proofs.BlockLemmas.{still_spells}
-use Rattle.cells_model.proofs.WordLemmas.{newest_weights}
+use Rattle.loaded_cells.specs.VersionSegment.Resting.{AgreeWith, CanWake, RestingRow, RestingRows, resting_of, resting_row, woken, woken_rows, word_row, word_rows}
+use Rattle.loaded_cells.specs.VersionSegment.Rows.{IsSameSegment, IsSegment, VersionedRows}
+use Rattle.loaded_cells.proofs.VersionSegment.WordLemmas.{can_wake, wakes_rested}
+use Rattle.loaded_cells.specs.CellsModel.Cells.{CellState, last_word, raised_word, unpacked, version_word}
+use Rattle.loaded_cells.specs.CellsModel.Words.{HasSmallWeights, Spells}
+use Rattle.loaded_cells.proofs.CellsModel.BlockLemmas.{still_spells}
+use Rattle.loaded_cells.proofs.CellsModel.WordLemmas.{newest_weights}
 use Rattle.std.specs.Prelude.{map}
 use Rattle.store_words.specs.Spelling.{CanSpell, IsUntouched}
 use Rattle.store_rule.specs.Slots.{RestsAs}

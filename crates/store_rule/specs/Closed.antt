@@ -1,12 +1,12 @@
 -- The cells of a closed store, whose contents a seat knows.
 use Rattle.std.specs.Prelude.{◌≡◌, ℕ, zero, suc, ◌+◌, ◌<◌, false, List, [], ◌∷◌, ◌++◌, slice_get, Option, Some, None}
 use Rattle.seat_views.specs.Keeping.{kept_at}
-use Rattle.version_segment.specs.Resting.{RestingRows}
-use Rattle.version_segment.specs.Rows.{VersionedRows, IsSameSegment}
-use Rattle.cells_model.specs.Cells.{CellState}
-use Rattle.cells_model.specs.Indexed.{new_cell}
-use Rattle.cells_model.specs.Words.{Spells}
-use Rattle.rule_model.specs.Sight.{HasCell, Sight}
+use Rattle.loaded_cells.specs.VersionSegment.Resting.{RestingRows}
+use Rattle.loaded_cells.specs.VersionSegment.Rows.{VersionedRows, IsSameSegment}
+use Rattle.loaded_cells.specs.CellsModel.Cells.{CellState}
+use Rattle.loaded_cells.specs.CellsModel.Indexed.{new_cell}
+use Rattle.loaded_cells.specs.CellsModel.Words.{Spells}
+use Rattle.loaded_cells.specs.RuleModel.Sight.{HasCell, Sight}
 use Rattle.store_rule.specs.Slots.{RestsAs}
 
 -- the contents that are known of a cell

@@ -5,13 +5,13 @@ use Rattle.atomic_table.specs.declared.shared.Seat.{Seat}
 use Rattle.seat_views.specs.Keeping.{kept_at}
 use Rattle.txn_manager.specs.declared.config.Config.{Config}
 use Rattle.latch_table.specs.Latched.{IsIdle, number_of}
-use Rattle.version_segment.specs.Rows.{VersionedRows, IsSameSegment}
-use Rattle.store_relation.specs.declared.stage.Stage.TheVariants.{Idle}
-use Rattle.store_relation.specs.Passes.{PassState}
-use Rattle.store_relation.specs.Shared.{JournalState}
-use Rattle.cells_model.specs.Cells.{CellState}
-use Rattle.rule_model.specs.EndSteps.{IsLast}
-use Rattle.rule_model.specs.Sight.{HasCell, HasIndex, HasPass, IndexState, Sight, cells_of}
+use Rattle.loaded_cells.specs.VersionSegment.Rows.{VersionedRows, IsSameSegment}
+use Rattle.loaded_cells.specs.StoreRelationDeclared.stage.Stage.TheVariants.{Idle}
+use Rattle.loaded_cells.specs.StoreRelation.Passes.{PassState}
+use Rattle.loaded_cells.specs.StoreRelation.Shared.{JournalState}
+use Rattle.loaded_cells.specs.CellsModel.Cells.{CellState}
+use Rattle.loaded_cells.specs.RuleModel.EndSteps.{IsLast}
+use Rattle.loaded_cells.specs.RuleModel.Sight.{HasCell, HasIndex, HasPass, IndexState, Sight, cells_of}
 use Rattle.store_rule.specs.declared.close.Content.{Content}
 use Rattle.store_rule.specs.declared.slot.Room.{Room}
 use Rattle.store_rule.specs.declared.slot.StoreSlot.{StoreSlot}

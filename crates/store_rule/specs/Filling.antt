@@ -1,6 +1,6 @@
 -- What is kept of cells at first. Only the crate itself speaks of it.
 use Rattle.std.specs.Prelude.{◌≡◌, ℕ, List, [], length, slice_get, Some}
-use Rattle.version_segment.specs.Resting.{RestingRows}
+use Rattle.loaded_cells.specs.VersionSegment.Resting.{RestingRows}
 
 -- so many cells have no rows
 pub record AreNoRows (count : ℕ) (list : List RestingRows) : Type 0 where

@@ -7,3 +7,15 @@ pub mod Closed
 pub mod Closing
 pub mod Whole
 pub mod Packing
+pub mod CellsModel
+pub mod LeafArray
+pub mod LeafStore
+pub mod LeafStoreDeclared
+pub mod LeafTableDeclared
+pub mod LoadedCells
+pub mod RuleModel
+pub mod StoreRelation
+pub mod StoreRelationContracts
+pub mod StoreRelationDeclared
+pub mod StoreWords
+pub mod VersionSegment

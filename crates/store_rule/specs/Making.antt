@@ -7,14 +7,14 @@ use Rattle.graph_model.specs.declared.write.Write.{Write}
 use Rattle.items.specs.Room.{WithRoom}
 use Rattle.leaf_index.specs.Index.{Index}
 use Rattle.seat_views.specs.Keeping.{kept_at}
-use Rattle.version_segment.specs.Resting.{RestingRows}
+use Rattle.loaded_cells.specs.VersionSegment.Resting.{RestingRows}
 use Rattle.txn_manager.specs.declared.config.Config.{Config}
 use Rattle.latch_table.specs.Latched.{IsIdle, number_of}
-use Rattle.store_relation.specs.Loads.{loaded_pass}
-use Rattle.store_relation.specs.Passes.{PassState, fresh_pass}
-use Rattle.store_relation.specs.Shared.{JournalState}
-use Rattle.cells_model.specs.Cells.{CellState}
-use Rattle.rule_model.specs.Sight.{HasCell, HasIndex, HasJournal, HasPass, HasPin, Sight, cells_of, fresh_pin}
+use Rattle.loaded_cells.specs.StoreRelation.Loads.{loaded_pass}
+use Rattle.loaded_cells.specs.StoreRelation.Passes.{PassState, fresh_pass}
+use Rattle.loaded_cells.specs.StoreRelation.Shared.{JournalState}
+use Rattle.loaded_cells.specs.CellsModel.Cells.{CellState}
+use Rattle.loaded_cells.specs.RuleModel.Sight.{HasCell, HasIndex, HasJournal, HasPass, HasPin, Sight, cells_of, fresh_pin}
 use Rattle.store_words.specs.Notes.{IsNote, pass_note}
 use Rattle.store_rule.specs.declared.buffers.TheConstants.{MOST_UNPACKED}
 use Rattle.store_rule.specs.declared.slot.Room.{Room}

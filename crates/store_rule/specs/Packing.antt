@@ -1,8 +1,8 @@
 -- A cell that a pass has unpacked, and one that it has packed.
 use Rattle.std.specs.Prelude.{◌≡◌, ℕ, ◌+◌}
-use Rattle.version_segment.specs.Resting.{RestingRows}
-use Rattle.cells_model.specs.Cells.{CellState}
-use Rattle.rule_model.specs.Sight.{Sight}
+use Rattle.loaded_cells.specs.VersionSegment.Resting.{RestingRows}
+use Rattle.loaded_cells.specs.CellsModel.Cells.{CellState}
+use Rattle.loaded_cells.specs.RuleModel.Sight.{Sight}
 use Rattle.store_words.specs.Spelling.{IsPackedAgain, Stays}
 use Rattle.store_words.specs.Steps.{Knows}
 use Rattle.store_rule.specs.declared.store.Pass.{Pass}

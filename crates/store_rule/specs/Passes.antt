@@ -1,8 +1,8 @@
 -- What a pass knows, and what a call leaves of it.
 use Rattle.std.specs.Prelude.{◌≡◌, ◌≢◌, ℕ, ◌+◌, ◌≤◌, [], None, vec_capacity}
 use Rattle.seat_views.specs.Keeping.{kept_at}
-use Rattle.store_relation.specs.Passes.{PassState}
-use Rattle.rule_model.specs.Sight.{HasPass, HasPin, PinState, Sight, cells_of}
+use Rattle.loaded_cells.specs.StoreRelation.Passes.{PassState}
+use Rattle.loaded_cells.specs.RuleModel.Sight.{HasPass, HasPin, PinState, Sight, cells_of}
 use Rattle.store_words.specs.Steps.{Knows}
 use Rattle.store_rule.specs.declared.store.Pass.{Pass}
 use Rattle.store_rule.specs.declared.store.Passes.{Passes}

@@ -7,12 +7,12 @@ use Rattle.atomic_table.specs.declared.shared.Seat.{Seat}
 use Rattle.graph_model.specs.declared.journal.Commit.{Commit}
 use Rattle.items.specs.Room.{WithRoom}
 use Rattle.txn_manager.specs.declared.config.Config.{Config}
-use Rattle.version_segment.specs.Resting.{RestingRows, resting_of}
-use Rattle.version_segment.specs.Rows.{VersionedRows}
+use Rattle.loaded_cells.specs.VersionSegment.Resting.{RestingRows, resting_of}
+use Rattle.loaded_cells.specs.VersionSegment.Rows.{VersionedRows}
 use Rattle.leaf_index.specs.declared.index.LeafIndex.{LeafIndex}
-use Rattle.store_relation.specs.Shared.{JournalState}
-use Rattle.cells_model.specs.Cells.{CellState}
-use Rattle.rule_model.specs.Sight.{IndexState, Sight, cells_of}
+use Rattle.loaded_cells.specs.StoreRelation.Shared.{JournalState}
+use Rattle.loaded_cells.specs.CellsModel.Cells.{CellState}
+use Rattle.loaded_cells.specs.RuleModel.Sight.{IndexState, Sight, cells_of}
 use Rattle.store_words.specs.Notes.{IsNote, cell_note, index_note, journal_note}
 use Rattle.store_rule.specs.declared.slot.StoreSlot.{StoreSlot}
 use Rattle.store_rule.specs.declared.slot.StoreSlot.TheVariants as slots

@@ -1,7 +1,7 @@
 -- What comes out of a store, with the rows of its cells.
 use Rattle.std.specs.Prelude.{List}
 use Rattle.txn_manager.specs.declared.config.Config.{Config}
-use Rattle.rule_model.specs.LastSteps.{IsLastStore}
+use Rattle.loaded_cells.specs.RuleModel.LastSteps.{IsLastStore}
 use Rattle.store_rule.specs.Closing.{IsContent}
 use Rattle.store_rule.specs.declared.close.Content.{Content}
 use Rattle.store_rule.specs.declared.store.Pass.{Pass}

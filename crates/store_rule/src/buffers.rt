@@ -4,21 +4,21 @@
 //! 2. A pass has it for so many cells, and lends it to a cell that it unpacks. So no cell takes memory to be unpacked.
 
 ghost use Rattle.std.specs.Prelude.{◌≡◌, ◌<◌, ◌≤◌, ◌+◌, [], false, length, vec_capacity, IfOk};
-ghost use Rattle.cells_model.specs.Cells.{CellState, unpacked};
-ghost use Rattle.rule_model.specs.Sight.{HasCell, cells_of, with_cell};
+ghost use Rattle.loaded_cells.specs.CellsModel.Cells.{CellState, unpacked};
+ghost use Rattle.loaded_cells.specs.RuleModel.Sight.{HasCell, cells_of, with_cell};
 ghost use Rattle.store_rule.specs.Buffers.{AreVacant};
 ghost use Rattle.store_rule.specs.Slots.{RestsAs};
 ghost use Rattle.store_rule.specs.declared.buffers.TheConstants.{MOST_UNPACKED};
 ghost use Rattle.store_words.specs.Spelling.{IsUntouched};
 ghost use Rattle.store_words.specs.Steps.{Knows};
-ghost use Rattle.version_segment.specs.Rows.{IsSameSegment};
+ghost use Rattle.loaded_cells.specs.VersionSegment.Rows.{IsSameSegment};
 
 use gap_segment::Segment;
 use graph_model::{Key, NoMemory};
+use loaded_cells::below::{Resting, Rows32, VersionSegment};
 use std::alloc::Global;
 use std::marker::Model;
 use store_words::{Account, Accounts};
-use version_segment::{Resting, Rows32, VersionSegment};
 
 /// A pass has at most so many cells unpacked: a merge moves the rows of two leaves.
 pub const MOST_UNPACKED: usize = 16;

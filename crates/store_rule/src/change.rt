@@ -1,7 +1,7 @@
 //! The load of the clock by which a pass knows other contents.
 
 ghost use Rattle.std.specs.Prelude.{◌≡◌};
-ghost use Rattle.rule_model.specs.Places.{lines};
+ghost use Rattle.loaded_cells.specs.RuleModel.Places.{lines};
 ghost use Rattle.store_rule.specs.Passes.{OnlyAccount};
 ghost use Rattle.store_words.specs.Steps.{MayLoad};
 
@@ -12,7 +12,7 @@ use std::marker::Brand;
 /// calls: a plan of a write, an undo, a move or another kind of step says what the pass knows after it.
 pub trait Change {
     ghost use Rattle.std.specs.Prelude.{ℕ};
-    ghost use Rattle.rule_model.specs.Sight.{Sight};
+    ghost use Rattle.loaded_cells.specs.RuleModel.Sight.{Sight};
 
     ghost next: { Self → ℕ → Sight → Sight };
 

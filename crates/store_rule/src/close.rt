@@ -7,7 +7,7 @@
 ghost use Rattle.std.specs.Prelude.{◌≡◌, ◌<◌, ◌≤◌, ◌+◌, ℕ, [], length, vec_capacity};
 ghost use Rattle.atomic_table.specs.Seated.{TableId};
 ghost use Rattle.latch_table.specs.Opening.{IsWhole};
-ghost use Rattle.rule_model.specs.Sight.{cells_of};
+ghost use Rattle.loaded_cells.specs.RuleModel.Sight.{cells_of};
 ghost use Rattle.store_rule.specs.Closed.{AreAtRestFrom};
 ghost use Rattle.store_rule.specs.Closing.{AreBack, AreBackPasses, AreSlotsBelow, HasJoined, IsEnding, KeepsOthers};
 ghost use Rattle.store_rule.specs.Passes.{AreIn};
@@ -22,8 +22,8 @@ use crate::store::{LatchPass, Pass, Passes, Store};
 use graph_model::RoomyJournal;
 use latch_table::LatchTable;
 use leaf_index::LeafIndex;
+use loaded_cells::below::Resting;
 use store_words::{Account, Accounts};
-use version_segment::Resting;
 
 /// What was in a store: its cells in the order of their numbers, its index and its journal.
 #[derive(Drop)]

@@ -4,18 +4,18 @@
 //! 2. Each wakes as it is taken out, in room that is taken for it then.
 
 ghost use Rattle.std.specs.Prelude.{◌≡◌, ◌<◌, ◌==◌, ◌∷◌, ◌++◌, [], length, slice_get, IfOk, OnErr, Some};
-ghost use Rattle.rule_model.specs.Sight.{cells_of};
+ghost use Rattle.loaded_cells.specs.RuleModel.Sight.{cells_of};
 ghost use Rattle.store_rule.specs.Closed.{AreAtRest, AreSpelled, IsPopped, known_segments};
 ghost use Rattle.store_words.specs.Spelling.{CanSpell};
-ghost use Rattle.version_segment.specs.Rows.{VersionedRows};
+ghost use Rattle.loaded_cells.specs.VersionSegment.Rows.{VersionedRows};
 
 use crate::buffers::wake_cell;
 use gap_segment::Segment;
 use graph_model::{Key, NoMemory};
+use loaded_cells::below::{Resting, Rows32, VersionSegment};
 use std::alloc::Global;
 use std::marker::Model;
 use store_words::{Account, Accounts};
-use version_segment::{Resting, Rows32, VersionSegment};
 
 /// The cells of a closed store, in the order of their numbers.
 #[derive(Drop)]
@@ -29,8 +29,8 @@ pub struct ClosedCells {
 
 impl Model for ClosedCells {
     ghost use Rattle.std.specs.Prelude.{◌≡◌, ◌≤◌, List, length};
-    ghost use Rattle.rule_model.specs.Sight.{cells_of};
-    ghost use Rattle.version_segment.specs.Rows.{VersionedRows};
+    ghost use Rattle.loaded_cells.specs.RuleModel.Sight.{cells_of};
+    ghost use Rattle.loaded_cells.specs.VersionSegment.Rows.{VersionedRows};
     ghost use Rattle.store_rule.specs.Closed.{AreAtRest, AreSpelled, known_segments};
 
     ghost Value = { List VersionedRows };

@@ -6,10 +6,10 @@
 //!    is made, and no word is stored by a step.
 
 ghost use Rattle.std.specs.Prelude.{◌≡◌, [], ◌∷◌, false, IfErr, IfOk};
-ghost use Rattle.leaf_store.specs.Changes.{IsFillRefusal};
+ghost use Rattle.loaded_cells.specs.LeafStore.Changes.{IsFillRefusal};
 ghost use Rattle.loaded_cells.specs.Laid.{AreLaid};
 ghost use Rattle.loaded_cells.specs.Numbered.{AreRowsOf};
-ghost use Rattle.store_relation.specs.Loads.{load_commit};
+ghost use Rattle.loaded_cells.specs.StoreRelation.Loads.{load_commit};
 ghost use Rattle.store_rule.specs.Making.{AreLoadedPasses};
 ghost use Rattle.store_rule.specs.Passes.{AreIn};
 ghost use Rattle.txn_manager.specs.Config.{too_large};

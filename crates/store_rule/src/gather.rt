@@ -1,9 +1,9 @@
 //! Values that a pass has taken, and whose notes it takes in.
 
 ghost use Rattle.std.specs.Prelude.{◌≡◌, ℕ, false, None};
-ghost use Rattle.cells_model.specs.Cells.{CellState};
-ghost use Rattle.rule_model.specs.Sight.{IndexState, with_cell, with_index, with_journal};
-ghost use Rattle.store_relation.specs.Shared.{JournalState};
+ghost use Rattle.loaded_cells.specs.CellsModel.Cells.{CellState};
+ghost use Rattle.loaded_cells.specs.RuleModel.Sight.{IndexState, with_cell, with_index, with_journal};
+ghost use Rattle.loaded_cells.specs.StoreRelation.Shared.{JournalState};
 ghost use Rattle.store_rule.specs.Passes.{OnlyAccount};
 ghost use Rattle.store_rule.specs.Slots.{IsCellSlot, IsIndexSlot, IsJournalSlot, IsListOf, RestsAs};
 ghost use Rattle.store_words.specs.Steps.{Knows};
@@ -13,8 +13,8 @@ use crate::store::{Pass, Store};
 use graph_model::RoomyJournal;
 use latch_table::Held;
 use leaf_index::LeafIndex;
+use loaded_cells::below::Resting;
 use store_words::{Account, Accounts};
-use version_segment::Resting;
 
 impl Store {
     /// Takes in the note of a cell that the pass holds.

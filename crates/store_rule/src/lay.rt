@@ -1,9 +1,9 @@
 //! Notes that a pass cuts off, of values that it puts back.
 
 ghost use Rattle.std.specs.Prelude.{◌≡◌, false, None};
-ghost use Rattle.cells_model.specs.Cells.{CellState};
-ghost use Rattle.rule_model.specs.Sight.{HasCell, HasIndex, HasJournal, IndexState};
-ghost use Rattle.store_relation.specs.Shared.{JournalState};
+ghost use Rattle.loaded_cells.specs.CellsModel.Cells.{CellState};
+ghost use Rattle.loaded_cells.specs.RuleModel.Sight.{HasCell, HasIndex, HasJournal, IndexState};
+ghost use Rattle.loaded_cells.specs.StoreRelation.Shared.{JournalState};
 ghost use Rattle.store_rule.specs.Passes.{OnlyAccount};
 ghost use Rattle.store_rule.specs.Slots.{IsCellSlot, IsIndexSlot, IsJournalSlot, IsListOf, RestsAs};
 ghost use Rattle.store_words.specs.Notes.{without_cell, without_index, without_journal};
@@ -13,7 +13,7 @@ use crate::store::{Pass, Store};
 use graph_model::RoomyJournal;
 use latch_table::Held;
 use leaf_index::LeafIndex;
-use version_segment::Resting;
+use loaded_cells::below::Resting;
 
 impl Store {
     /// Lays a new note for a packed cell. It may be put back then.

@@ -8,6 +8,7 @@
 //!    note be laid.
 #![tactic(auto)]
 
+pub mod below;
 mod buffers;
 mod change;
 mod close;
@@ -24,6 +25,6 @@ pub use buffers::{Buffers, MOST_UNPACKED};
 pub use change::Change;
 pub use close::Content;
 pub use closed::ClosedCells;
+pub use loaded_cells::below::Resting;
 pub use slot::{Room, StoreSlot};
 pub use store::{LatchPass, Pass, Passes, Store};
-pub use version_segment::Resting;

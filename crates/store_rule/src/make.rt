@@ -6,7 +6,7 @@
 
 ghost use Rattle.std.specs.Prelude.{◌≡◌, ◌<◌, ◌↔◌, [], ◌∷◌, ◌++◌, Err, IfOk, OnOk, true, false, length};
 ghost use Rattle.latch_table.specs.Opening.{HasPasses};
-ghost use Rattle.rule_model.specs.Sight.{Sight, cells_of};
+ghost use Rattle.loaded_cells.specs.RuleModel.Sight.{Sight, cells_of};
 ghost use Rattle.store_rule.specs.Filling.{AreNoRows};
 ghost use Rattle.store_rule.specs.Making.{AreCells, AreDealt, AreNewPasses, AreSlots, IsDealing, IsLaying, KnowsAllResting, KnowsIndex, KnowsJournal, KnowsParts};
 ghost use Rattle.store_rule.specs.Passes.{AreIn};
@@ -24,10 +24,10 @@ use crate::store::{LatchPass, Pass, Passes, Store};
 use graph_model::{NoMemory, RoomyJournal};
 use latch_table::LatchTable;
 use leaf_index::LeafIndex;
+use loaded_cells::below::Resting;
 use std::alloc::Global;
 use store_words::{Account, Accounts};
 use txn_manager::{Config, StoreRefusal};
-use version_segment::Resting;
 
 impl Store {
     /// A store without rows, whose passes have begun nothing.

@@ -4,18 +4,18 @@
 //! 2. Whoever packs a cell stores the words that differ.
 
 ghost use Rattle.std.specs.Prelude.{◌≡◌, ◌<◌, ◌+◌, true, false, length};
-ghost use Rattle.cells_model.specs.Cells.{CellState, unpacked};
-ghost use Rattle.cells_model.specs.Words.{HasSmallWeights, block_words};
-ghost use Rattle.rule_model.specs.Sight.{HasCell, cells_of, with_cell};
+ghost use Rattle.loaded_cells.specs.CellsModel.Cells.{CellState, unpacked};
+ghost use Rattle.loaded_cells.specs.CellsModel.Words.{HasSmallWeights, block_words};
+ghost use Rattle.loaded_cells.specs.RuleModel.Sight.{HasCell, cells_of, with_cell};
 ghost use Rattle.store_rule.specs.Packing.{IsPackedCell, LendsBuffer};
 ghost use Rattle.store_rule.specs.Slots.{RestsAs};
 ghost use Rattle.store_rule.specs.declared.buffers.TheConstants.{MOST_UNPACKED};
 ghost use Rattle.store_words.specs.Spelling.{IsUntouched};
-ghost use Rattle.version_segment.specs.Rows.{IsSameSegment};
+ghost use Rattle.loaded_cells.specs.VersionSegment.Rows.{IsSameSegment};
 
 use crate::store::{Pass, Store};
 use latch_table::Held;
-use version_segment::{Resting, VersionSegment};
+use loaded_cells::below::{Resting, VersionSegment};
 
 impl Store {
     /// Unpacks a gathered cell. Its contents may change until it is packed, and nobody reads them without its latch. The

@@ -5,9 +5,9 @@ ghost use Rattle.std.specs.Prelude.{◌≡◌};
 use graph_model::RoomyJournal;
 use latch_table::Slot;
 use leaf_index::LeafIndex;
+use loaded_cells::below::Resting;
 use store_words::Account;
 use txn_manager::Config;
-use version_segment::Resting;
 
 /// A value with the note of its contents, or nothing where a pass has it. A slot takes 24 bytes, and no box where it has
 /// a cell whose rows are all settled. Notes take none.

@@ -1,15 +1,15 @@
 //! A store, and the passes on it.
 
 ghost use Rattle.std.specs.Prelude.{◌≡◌, ◌+◌};
-ghost use Rattle.rule_model.specs.Sight.{cells_of};
+ghost use Rattle.loaded_cells.specs.RuleModel.Sight.{cells_of};
 
 use crate::buffers::Buffers;
 use crate::slot::{Room, StoreSlot};
 use epoch_reclaim::{PinPlaces, Pins};
 use latch_table::{Cells, LatchTable};
+use loaded_cells::below::Resting;
 use store_words::{Account, AccountRule, AccountSight, Accounts, Beginning};
 use txn_manager::Config;
-use version_segment::Resting;
 
 /// The seat of a pass on the latch table.
 pub type LatchPass = latch_table::Pass<StoreSlot, Room>;

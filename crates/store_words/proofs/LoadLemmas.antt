@@ -6,11 +6,11 @@ use Rattle.atomic_table.specs.Table.{keeps}
 use Rattle.graph_model.specs.declared.row.Row.{Row}
 use Rattle.seat_views.proofs.NumberLemmas.{some_is}
 use Rattle.txn_manager.specs.declared.config.Config.{Config}
-use Rattle.store_relation.specs.Shared.{JournalState}
-use Rattle.version_segment.specs.Rows.{VersionedRows}
-use Rattle.version_segment.specs.Resting.{word_rows}
-use Rattle.cells_model.specs.Words.{IsRowAt, Spells}
-use Rattle.cells_model.proofs.WordLemmas.{row_is_told}
+use Rattle.rule_model.specs.StoreRelation.Shared.{JournalState}
+use Rattle.rule_model.specs.VersionSegment.Rows.{VersionedRows}
+use Rattle.rule_model.specs.VersionSegment.Resting.{word_rows}
+use Rattle.rule_model.specs.CellsModel.Words.{IsRowAt, Spells}
+use Rattle.rule_model.proofs.CellsModel.WordLemmas.{row_is_told}
 use Rattle.rule_model.specs.EndSteps.{HasAll}
 use Rattle.rule_model.specs.LastSteps.{IsLastStore}
 use Rattle.rule_model.specs.Places.{lines}

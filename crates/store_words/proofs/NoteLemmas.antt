@@ -5,7 +5,7 @@ use Rattle.std.specs.Prelude.{Bool, true, false, ◌==◌, Some, None, nat_le}
 use Rattle.graph_model.specs.declared.journal.Commit.{Commit}
 use Rattle.seat_views.specs.Keeping.{kept_at, without, only}
 use Rattle.seat_views.proofs.NumberLemmas.{eq_of, none_or_some, only_kept, some_is, without_kept}
-use Rattle.store_relation.specs.Shared.{longer_of}
+use Rattle.rule_model.specs.StoreRelation.Shared.{longer_of}
 use Rattle.rule_model.specs.Sight.{Sight, no_sight}
 use Rattle.rule_model.specs.ViewSteps.{IsCut, IsSplit}
 

@@ -4,7 +4,7 @@ use Rattle.std.specs.Prelude.{false, ◌≤◌}
 use Rattle.std.proofs.lemmas.Bool.Decides.{nat_tests}
 use Rattle.txn_manager.specs.Config.{too_large}
 use Rattle.txn_manager.specs.declared.config.Config.{Config}
-use Rattle.cells_model.specs.Words.{block_words}
+use Rattle.rule_model.specs.CellsModel.Words.{block_words}
 use Rattle.rule_model.specs.EndSteps.{new_block, new_blocks, new_words, zeros}
 use Rattle.rule_model.specs.Sight.{cells_of}
 use Rattle.store_words.specs.Steps.{word_count}

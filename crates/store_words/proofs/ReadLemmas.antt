@@ -3,11 +3,11 @@ use Rattle.std.proofs.Common.{◌≡◌, ℕ, ◌<◌, ◌≤◌, sym, ◌∙◌
 use Rattle.std.specs.Prelude.{slice_index}
 use Rattle.seat_views.proofs.NumberLemmas.{some_is}
 use Rattle.rule_model.specs.BlockSteps.{GiveView}
-use Rattle.store_relation.specs.Passes.{name_at}
+use Rattle.rule_model.specs.StoreRelation.Passes.{name_at}
 use Rattle.std.specs.declared.alloc.Global.{Global}
 use Rattle.txn_manager.specs.declared.config.Config.{Config}
-use Rattle.cells_model.specs.Reads.{Reading, IsValidated}
-use Rattle.cells_model.specs.Words.{block_words}
+use Rattle.rule_model.specs.CellsModel.Reads.{Reading, IsValidated}
+use Rattle.rule_model.specs.CellsModel.Words.{block_words}
 use Rattle.rule_model.specs.Places.{block_place, lines}
 use Rattle.rule_model.specs.Steps.{AllowsLoad, Nothing}
 use Rattle.rule_model.proofs.BlockStepLemmas.{read_ends, reader_read_ends, word_is_read}

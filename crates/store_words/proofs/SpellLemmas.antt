@@ -7,9 +7,9 @@ use Rattle.graph_model.specs.declared.row.Key.{Key}
 use Rattle.graph_model.specs.declared.row.Row.{Row}
 use Rattle.seat_views.specs.Keeping.{kept_at}
 use Rattle.seat_views.proofs.NumberLemmas.{other_number, same_number, some_is}
-use Rattle.cells_model.specs.Cells.{CellState, packed, stored}
-use Rattle.cells_model.specs.Words.{Spells, block_words, flat, spelled}
-use Rattle.cells_model.proofs.WordLemmas.{flat_at}
+use Rattle.rule_model.specs.CellsModel.Cells.{CellState, packed, stored}
+use Rattle.rule_model.specs.CellsModel.Words.{Spells, block_words, flat, spelled}
+use Rattle.rule_model.proofs.CellsModel.WordLemmas.{flat_at}
 use Rattle.rule_model.specs.Sight.{HasCell, Sight, with_cell}
 use Rattle.store_words.specs.Spelling.{CanSpell, IsPackedAgain, IsSpelling, KeepsOtherCells}
 

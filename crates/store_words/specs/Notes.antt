@@ -3,9 +3,9 @@ use Rattle.std.specs.Prelude.{◌≡◌, ℕ, [], ◌∷◌}
 use Rattle.atomic_table.specs.Seated.{TableId}
 use Rattle.atomic_table.specs.declared.shared.Seat.{Seat}
 use Rattle.seat_views.specs.Keeping.{without}
-use Rattle.store_relation.specs.Passes.{PassState}
-use Rattle.store_relation.specs.Shared.{JournalState}
-use Rattle.cells_model.specs.Cells.{CellState}
+use Rattle.rule_model.specs.StoreRelation.Passes.{PassState}
+use Rattle.rule_model.specs.StoreRelation.Shared.{JournalState}
+use Rattle.rule_model.specs.CellsModel.Cells.{CellState}
 use Rattle.rule_model.specs.Sight.{IndexState, PinState, Sight, no_sight}
 
 -- ---- what a note keeps

@@ -1,10 +1,10 @@
 -- What the loads of a read leave of a seat's view, and what they tell.
 use Rattle.std.specs.Prelude.{◌≡◌, ℕ, [], ◌∷◌, Option, Some, None}
 use Rattle.txn_manager.specs.declared.config.Config.{Config}
-use Rattle.store_relation.specs.declared.stage.Stage.TheVariants.{Open}
-use Rattle.store_relation.specs.Passes.{PassState, name_at}
-use Rattle.store_relation.specs.Readers.{ReaderState}
-use Rattle.cells_model.specs.Reads.{Reading, IsValidated, second_loaded, word_loaded}
+use Rattle.rule_model.specs.StoreRelationDeclared.stage.Stage.TheVariants.{Open}
+use Rattle.rule_model.specs.StoreRelation.Passes.{PassState, name_at}
+use Rattle.rule_model.specs.StoreRelation.Readers.{ReaderState}
+use Rattle.rule_model.specs.CellsModel.Reads.{Reading, IsValidated, second_loaded, word_loaded}
 use Rattle.rule_model.specs.BlockSteps.{GiveView}
 use Rattle.rule_model.specs.Sight.{Sight, HasPass, with_found, with_reading}
 

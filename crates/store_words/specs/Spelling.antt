@@ -4,10 +4,10 @@ use Rattle.atomic_table.specs.declared.shared.Seat.{Seat}
 use Rattle.seat_views.specs.Keeping.{kept_at}
 use Rattle.graph_model.specs.declared.row.Key.{Key}
 use Rattle.graph_model.specs.declared.row.Row.{Row}
-use Rattle.version_segment.specs.Rows.{VersionedRows, IsSegment}
-use Rattle.cells_model.specs.Cells.{CellState, last_word, version_word}
-use Rattle.version_segment.specs.Resting.{word_rows}
-use Rattle.cells_model.specs.Words.{HasSmallWeights, Spells, block_words, spelled}
+use Rattle.rule_model.specs.VersionSegment.Rows.{VersionedRows, IsSegment}
+use Rattle.rule_model.specs.CellsModel.Cells.{CellState, last_word, version_word}
+use Rattle.rule_model.specs.VersionSegment.Resting.{word_rows}
+use Rattle.rule_model.specs.CellsModel.Words.{HasSmallWeights, Spells, block_words, spelled}
 use Rattle.rule_model.specs.Sight.{HasCell, Sight}
 
 -- the view knows of one cell what it may not have known, and all else is as it was

@@ -4,7 +4,7 @@ use Rattle.std.specs.declared.alloc.Global.{Global}
 use Rattle.atomic_table.specs.Table.{State}
 use Rattle.atomic_table.specs.declared.shared.Seat.{Seat}
 use Rattle.txn_manager.specs.declared.config.Config.{Config}
-use Rattle.cells_model.specs.Words.{block_words}
+use Rattle.rule_model.specs.CellsModel.Words.{block_words}
 use Rattle.rule_model.specs.Places.{lines}
 use Rattle.rule_model.specs.Rule.{IsStoreTable}
 use Rattle.rule_model.specs.Sight.{Sight, cells_of}

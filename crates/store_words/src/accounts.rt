@@ -1,10 +1,10 @@
 //! A new account table, with the words of a store without rows, and its end.
 
 ghost use Rattle.std.specs.Prelude.{◌≡◌, ◌<◌, ◌++◌, [], false, length, IfOk, OnOk};
-ghost use Rattle.cells_model.specs.Indexed.{new_cell};
+ghost use Rattle.rule_model.specs.CellsModel.Indexed.{new_cell};
 ghost use Rattle.rule_model.specs.EndSteps.{HasAll, first_sight, new_words, zeros};
 ghost use Rattle.rule_model.specs.LastSteps.{IsLastStore};
-ghost use Rattle.store_relation.specs.Shared.{JournalState};
+ghost use Rattle.rule_model.specs.StoreRelation.Shared.{JournalState};
 ghost use Rattle.store_words.specs.Opening.{Begin, empty_block};
 ghost use Rattle.store_words.specs.Steps.{Knows, word_count};
 ghost use Rattle.txn_manager.specs.Config.{too_large};

@@ -3,8 +3,8 @@
 //! Nobody else stores a word of the block meanwhile, so the words that the pass loads are those that it knows.
 
 ghost use Rattle.std.specs.Prelude.{◌≡◌, ◌<◌, ◌≤◌, true, false, slice_index};
-ghost use Rattle.cells_model.specs.Cells.{CellState, lowered_word, packed, raised_word, stored, unpacked, version_word};
-ghost use Rattle.cells_model.specs.Words.{Spells, block_words};
+ghost use Rattle.rule_model.specs.CellsModel.Cells.{CellState, lowered_word, packed, raised_word, stored, unpacked, version_word};
+ghost use Rattle.rule_model.specs.CellsModel.Words.{Spells, block_words};
 ghost use Rattle.rule_model.specs.Sight.{HasCell, cells_of, with_cell};
 ghost use Rattle.store_words.specs.Steps.{Knows};
 

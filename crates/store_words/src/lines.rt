@@ -1,7 +1,7 @@
 //! Where the words of a store lie.
 
 ghost use Rattle.std.specs.Prelude.{◌≡◌, ◌<◌, ◌+◌};
-ghost use Rattle.cells_model.specs.Words.{block_words};
+ghost use Rattle.rule_model.specs.CellsModel.Words.{block_words};
 ghost use Rattle.rule_model.specs.Places.{lines, block_place};
 ghost use Rattle.rule_model.specs.Sight.{cells_of};
 ghost use Rattle.store_words.specs.Steps.{word_count};

@@ -4,9 +4,9 @@
 //! 2. Only the words of rows that are there are loaded.
 
 ghost use Rattle.std.specs.Prelude.{◌≡◌, ◌<◌, ◌≤◌, ◌+◌, length, slice_index};
-ghost use Rattle.cells_model.specs.Cells.{CellState};
-ghost use Rattle.version_segment.specs.Resting.{word_rows};
-ghost use Rattle.cells_model.specs.Words.{IsRowAt, Spells, block_words};
+ghost use Rattle.rule_model.specs.CellsModel.Cells.{CellState};
+ghost use Rattle.rule_model.specs.VersionSegment.Resting.{word_rows};
+ghost use Rattle.rule_model.specs.CellsModel.Words.{IsRowAt, Spells, block_words};
 ghost use Rattle.rule_model.specs.Sight.{HasCell, cells_of};
 ghost use Rattle.store_words.specs.Spelling.{CanSpell};
 ghost use Rattle.store_words.specs.Steps.{Knows};
@@ -14,7 +14,7 @@ ghost use Rattle.store_words.specs.Steps.{Knows};
 use crate::accounts::Accounts;
 use crate::rule::Account;
 use graph_model::{Key, Row};
-use version_segment::Rows32;
+use rule_model::below::Rows32;
 
 impl Accounts {
     /// Loads the rows of a held cell whose block spells its contents, each with its value word in place of a weight, and

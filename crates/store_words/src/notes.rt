@@ -2,11 +2,11 @@
 //! of which it knows, and what it keeps is the owner's again once it is joined.
 
 ghost use Rattle.std.specs.Prelude.{◌≡◌, ◌<◌, ℕ, [], ◌∷◌};
-ghost use Rattle.cells_model.specs.Cells.{CellState};
+ghost use Rattle.rule_model.specs.CellsModel.Cells.{CellState};
 ghost use Rattle.rule_model.specs.Sight.{HasCell, HasIndex, HasJournal, HasPass, HasPin, IndexState, PinState};
 ghost use Rattle.rule_model.specs.ViewSteps.{IsSplit, joined};
-ghost use Rattle.store_relation.specs.Passes.{PassState};
-ghost use Rattle.store_relation.specs.Shared.{JournalState};
+ghost use Rattle.rule_model.specs.StoreRelation.Passes.{PassState};
+ghost use Rattle.rule_model.specs.StoreRelation.Shared.{JournalState};
 ghost use Rattle.store_words.specs.Notes.{IsNote, cell_note, index_note, journal_note, pass_note, without_cell, without_index, without_journal, without_pass};
 ghost use Rattle.store_words.specs.Steps.{Knows};
 

@@ -1,8 +1,8 @@
 //! Blocks that are made to spell a cell's contents again.
 
 ghost use Rattle.std.specs.Prelude.{◌≡◌, ◌<◌, ◌≤◌, true, false, length};
-ghost use Rattle.cells_model.specs.Cells.{CellState};
-ghost use Rattle.cells_model.specs.Words.{block_words};
+ghost use Rattle.rule_model.specs.CellsModel.Cells.{CellState};
+ghost use Rattle.rule_model.specs.CellsModel.Words.{block_words};
 ghost use Rattle.rule_model.specs.Sight.{HasCell, cells_of};
 ghost use Rattle.store_words.specs.Spelling.{CanSpell, IsPackedAgain, IsUntouched, Stays};
 

@@ -6,8 +6,8 @@
 //! 3. What it loads may be past by then or half written: no call says anything of it before the second load.
 
 ghost use Rattle.std.specs.Prelude.{◌≡◌, ◌<◌, ◌≤◌, ℕ, Some};
-ghost use Rattle.cells_model.specs.Reads.{Reading, first_loaded};
-ghost use Rattle.cells_model.specs.Words.{block_words};
+ghost use Rattle.rule_model.specs.CellsModel.Reads.{Reading, first_loaded};
+ghost use Rattle.rule_model.specs.CellsModel.Words.{block_words};
 ghost use Rattle.rule_model.specs.Sight.{cells_of, with_found};
 ghost use Rattle.store_words.specs.Reads.{HasOpenPass, HasReader, IsReadOf, PassIsTold, ReaderIsTold, read_ended, word_read};
 ghost use Rattle.store_words.specs.Steps.{Knows};

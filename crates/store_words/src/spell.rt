@@ -5,8 +5,8 @@
 //! 2. Words behind the last row are left as they are, since nobody reads them.
 
 ghost use Rattle.std.specs.Prelude.{◌≡◌, ◌<◌, ◌≤◌, ◌+◌, ◌*◌, List, Some, true, length, slice_get};
-ghost use Rattle.cells_model.specs.Cells.{CellState};
-ghost use Rattle.cells_model.specs.Words.{block_words, spelled};
+ghost use Rattle.rule_model.specs.CellsModel.Cells.{CellState};
+ghost use Rattle.rule_model.specs.CellsModel.Words.{block_words, spelled};
 ghost use Rattle.graph_model.specs.declared.row.Key.{Key};
 ghost use Rattle.graph_model.specs.declared.row.Row.{Row};
 ghost use Rattle.rule_model.specs.Sight.{HasCell, Sight, cells_of};

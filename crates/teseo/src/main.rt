@@ -6,6 +6,7 @@
 
 use desk_io::{OpenGate, StdDesk};
 use journal_disk::StdDisk;
+use kept_program::below::{Left, Outcome, end_with};
 use kept_program::teseo_kept;
 use std::alloc::Global;
 use std::env::Env;
@@ -14,7 +15,6 @@ use std::os::fd::AsRawFd;
 use std::process::ExitCode;
 use std::rt::Files;
 use std::{env, io};
-use teseo_program::{Left, Outcome, end_with};
 
 /// The last descriptor of the three that a program begins with.
 const STANDARD_ERROR: i32 = 2;

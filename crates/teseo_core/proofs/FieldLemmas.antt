@@ -11,7 +11,7 @@ use Rattle.graph_model.specs.OwnerCalls.{PassState, Core, no_pass, current, with
 use Rattle.graph_model.specs.Transactions.{commit_of}
 use Rattle.graph_model.proofs.TestLemmas.{eq_of, self_eq}
 use Rattle.txn_manager.specs.Manager.{Manager, PassTxns, txns_of, open_start, committed}
-use Rattle.leaf_store.specs.Leaves.{Leaves}
+use Rattle.leaf_rows.specs.LeafStore.Leaves.{Leaves}
 use Rattle.teseo_core.specs.Passes.{RoomyPass}
 use Rattle.teseo_core.specs.Keeping.{states_of, core_of, IsKept}
 

@@ -5,12 +5,12 @@ use Rattle.std.specs.List.{cons_option, reduce}
 use Rattle.graph_model.specs.OwnerCalls.{Core, pass_at}
 use Rattle.txn_manager.specs.Manager.{Manager, PassTxns, IsManaged, least_pin_of, no_txns, starts_of}
 use Rattle.txn_manager.proofs.ViewLemmas.{state_in-get}
-use Rattle.leaf_store.specs.declared.pair.TheConstants.{STAMPS_END}
+use Rattle.leaf_rows.specs.LeafStoreDeclared.pair.TheConstants.{STAMPS_END}
 use Rattle.graph_model.specs.declared.row.Key.{Key}
 use Rattle.txn_manager.specs.declared.config.RoomRefusal.{RoomRefusal}
-use Rattle.leaf_store.specs.Changes.{IsRoomRefusal}
-use Rattle.leaf_store.specs.Leaves.{Leaves}
-use Rattle.leaf_store.specs.Merging.{AreApart, AreLevel, IsCompact}
+use Rattle.leaf_rows.specs.LeafStore.Changes.{IsRoomRefusal}
+use Rattle.leaf_rows.specs.LeafStore.Leaves.{Leaves}
+use Rattle.leaf_rows.specs.LeafStore.Merging.{AreApart, AreLevel, IsCompact}
 use Rattle.leaf_rows.specs.Laying.{IsSpent}
 use Rattle.teseo_core.specs.Freeing.{IsFreeBound, RefusesRoom, free_bound}
 use Rattle.teseo_core.specs.Horizons.{IsHorizon}

@@ -28,7 +28,7 @@ use Rattle.store_model.specs.Versions.{prune}
 use Rattle.graph_model.specs.Effects.{any_touches}
 use Rattle.leaf_rows.specs.declared.reader.Reader.{Reader}
 use Rattle.leaf_rows.specs.Readers.{Shows, cause_for}
-use Rattle.leaf_store.specs.Leaves.{Leaves, contents_of, weight}
+use Rattle.leaf_rows.specs.LeafStore.Leaves.{Leaves, contents_of, weight}
 use Rattle.teseo_core.specs.Keeping.{running_in, txns_in, AreTied, IsKept, NoneOpen, newest_graph}
 use Rattle.leaf_rows.specs.Laying.{HasTouchedNone, KeepsContents}
 use Rattle.leaf_rows.specs.Loaded.{AreSettled}

@@ -28,7 +28,7 @@ use Rattle.graph_model.specs.declared.load.LoadRefusal.{LoadRefusal}
 use Rattle.graph_model.specs.declared.load.LoadRefusal.TheVariants as refusals
 use Rattle.txn_manager.specs.Manager.{Manager, PassTxns, txns_of, open_start, ended}
 use Rattle.leaf_rows.specs.Loaded.{AreLoaded, settled_in}
-use Rattle.leaf_store.specs.Leaves.{Leaves, contents_of}
+use Rattle.leaf_rows.specs.LeafStore.Leaves.{Leaves, contents_of}
 use Rattle.teseo_core.specs.Passes.{with_load, with_end}
 use Rattle.teseo_core.specs.Keeping.{AreTied, IsKept, NoneOpen}
 use Rattle.teseo_core.specs.Loads.{loading, journal_behind, IsTooMuch}

@@ -13,7 +13,7 @@ use Rattle.txn_manager.specs.Manager.{Manager, no_txns, new_manager}
 use Rattle.txn_manager.proofs.ViewLemmas.{state_in-get}
 use Rattle.store_model.specs.Versions.{no_versions}
 use Rattle.store_model.proofs.OwnerLemmas.{owner_moved}
-use Rattle.leaf_store.specs.Leaves.{Leaves, contents_of}
+use Rattle.leaf_rows.specs.LeafStore.Leaves.{Leaves, contents_of}
 use Rattle.leaf_rows.specs.Loaded.{AreNone}
 use Rattle.teseo_core.specs.Passes.{RoomyPass, new_pass}
 use Rattle.teseo_core.specs.Keeping.{new_core, core_of, states_of, running_in, txns_in, IsKept}

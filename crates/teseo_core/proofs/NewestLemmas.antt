@@ -23,7 +23,7 @@ use Rattle.store_model.specs.Store.{IsRow, IsStore, touching_of}
 use Rattle.store_model.proofs.LayerLemmas.{unseen_layer}
 use Rattle.store_model.proofs.ValueLemmas.{committed_value, no_stamp}
 use Rattle.txn_manager.specs.Manager.{Manager}
-use Rattle.leaf_store.specs.Leaves.{Leaves, contents_of}
+use Rattle.leaf_rows.specs.LeafStore.Leaves.{Leaves, contents_of}
 use Rattle.teseo_core.specs.Keeping.{IsKept, newest_graph, running_in}
 
 -- whoever has laid nothing sees the whole journal's graph at the clock

@@ -15,11 +15,11 @@ use Rattle.graph_model.specs.Refused.{refused}
 use Rattle.graph_model.specs.Rows.{key_cmp, vertex_key, arc_key}
 use Rattle.graph_model.proofs.WriteLemmas.{allowed_ends}
 use Rattle.store_model.specs.Stamped.{StampedVersions, forget_row}
-use Rattle.version_segment.specs.Rows.{or_nothing}
+use Rattle.leaf_rows.specs.VersionSegment.Rows.{or_nothing}
 use Rattle.leaf_rows.specs.declared.reader.Reader.{Reader}
 use Rattle.leaf_rows.specs.Checks.{FitsKind}
 use Rattle.leaf_rows.specs.Readers.{Shows, value_for}
-use Rattle.leaf_store.specs.Leaves.{Leaves, contents_of, has_row, cell_at}
+use Rattle.leaf_rows.specs.LeafStore.Leaves.{Leaves, contents_of, has_row, cell_at}
 use Rattle.leaf_rows.specs.Laying.{missing}
 use Rattle.teseo_core.proofs.ValueLemmas.{weight_is_value}
 

@@ -9,7 +9,7 @@ use Rattle.graph_model.specs.Rows.{is_below, is_between, first_key, end_key}
 use Rattle.store_model.specs.Versions.{prune}
 use Rattle.txn_manager.specs.Manager.{Manager, horizon_of, IsManaged}
 use Rattle.txn_manager.proofs.HorizonLemmas.{horizon_is_below, horizon_is_within, horizon_is_greatest}
-use Rattle.leaf_store.specs.Leaves.{Leaves, contents_of, record_count}
+use Rattle.leaf_rows.specs.LeafStore.Leaves.{Leaves, contents_of, record_count}
 use Rattle.leaf_rows.specs.Laying.{AreGone, PrunesRange}
 use Rattle.teseo_core.specs.Keeping.{AreTied, running_in}
 use Rattle.teseo_core.specs.Sweeping.{from_first}

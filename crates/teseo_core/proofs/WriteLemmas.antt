@@ -19,15 +19,15 @@ use Rattle.graph_model.proofs.ViewLemmas.{view_symmetric}
 use Rattle.graph_model.proofs.WriteLemmas.{allowed_ends}
 use Rattle.txn_manager.specs.Manager.{Manager}
 use Rattle.leaf_rows.specs.declared.reader.Reader.{Reader}
-use Rattle.row_writes.specs.Checks.{answer_of, refusal_in}
+use Rattle.leaf_rows.specs.RowWrites.Checks.{answer_of, refusal_in}
 use Rattle.leaf_rows.specs.Checks.{IsChecked, FitsKind}
-use Rattle.row_writes.specs.declared.written.WrittenRows.{WrittenRows}
+use Rattle.leaf_rows.specs.RowWritesDeclared.written.WrittenRows.{WrittenRows}
 use Rattle.leaf_rows.specs.Laying.{MayLay, missing}
-use Rattle.row_writes.specs.Written.{rows_after, rows_of, written_keys}
-use Rattle.row_writes.proofs.WrittenLemmas.{after_is, keys_are}
+use Rattle.leaf_rows.specs.RowWrites.Written.{rows_after, rows_of, written_keys}
+use Rattle.leaf_rows.proofs.RowWrites.WrittenLemmas.{after_is, keys_are}
 use Rattle.store_model.specs.Layers.{after_write}
 use Rattle.leaf_rows.specs.Readers.{Shows}
-use Rattle.leaf_store.specs.Leaves.{Leaves, contents_of, has_row, weight}
+use Rattle.leaf_rows.specs.LeafStore.Leaves.{Leaves, contents_of, has_row, weight}
 use Rattle.teseo_core.specs.Placed.{PlacesWrite}
 use Rattle.teseo_core.specs.Passes.{RoomyPass, FindsFull, Notes, Puts, noted, sighted_by, with_one_write}
 use Rattle.teseo_core.specs.Keeping.{states_of, core_of, IsKept}

@@ -6,10 +6,10 @@ use Rattle.graph_model.specs.OwnerCalls.{Core}
 use Rattle.graph_model.specs.Rows.{is_below, end_key}
 use Rattle.txn_manager.specs.declared.config.RoomRefusal.{RoomRefusal}
 use Rattle.txn_manager.specs.Manager.{Manager, least_pin_of}
-use Rattle.leaf_store.specs.declared.pair.TheConstants.{STAMPS_END}
-use Rattle.leaf_store.specs.Changes.{IsRoomRefusal}
-use Rattle.leaf_store.specs.Leaves.{Leaves}
-use Rattle.leaf_store.specs.Merging.{FreesRetired, IsMergeStep}
+use Rattle.leaf_rows.specs.LeafStoreDeclared.pair.TheConstants.{STAMPS_END}
+use Rattle.leaf_rows.specs.LeafStore.Changes.{IsRoomRefusal}
+use Rattle.leaf_rows.specs.LeafStore.Leaves.{Leaves}
+use Rattle.leaf_rows.specs.LeafStore.Merging.{FreesRetired, IsMergeStep}
 use Rattle.leaf_rows.specs.Laying.{IsSpent, KeepsContents}
 use Rattle.teseo_core.specs.Horizons.{IsHorizon}
 use Rattle.teseo_core.specs.Keeping.{Store, NoneOpen}

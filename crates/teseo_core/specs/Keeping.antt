@@ -16,8 +16,8 @@ use Rattle.graph_model.specs.Transactions.{Running}
 use Rattle.txn_manager.specs.declared.config.Config.{Config}
 use Rattle.txn_manager.specs.Manager.{Manager, PassTxns, txns_of}
 use Rattle.store_model.specs.Store.{IsPlainStore}
-use Rattle.leaf_store.specs.Leaves.{Leaves, contents_of, record_count, weight}
-use Rattle.leaf_store.specs.Merging.{IsCompact}
+use Rattle.leaf_rows.specs.LeafStore.Leaves.{Leaves, contents_of, record_count, weight}
+use Rattle.leaf_rows.specs.LeafStore.Merging.{IsCompact}
 use Rattle.leaf_rows.specs.Loaded.{AreNone, AreSettled}
 use Rattle.teseo_core.specs.declared.serve.ServiceTurn.{ServiceTurn}
 use Rattle.teseo_core.specs.declared.serve.ServiceTurn.TheVariants.{Sweep}

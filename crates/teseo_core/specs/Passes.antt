@@ -10,10 +10,10 @@ use Rattle.graph_model.specs.declared.refusal.Cause.{Cause}
 use Rattle.graph_model.specs.declared.refusal.Cause.TheVariants.{Later, Holder}
 use Rattle.graph_model.specs.AccountSteps.{last_with}
 use Rattle.graph_model.specs.OwnerCalls.{PassState, no_pass}
-use Rattle.leaf_store.specs.Leaves.{Leaves, contents_of, has_row, weight}
-use Rattle.row_writes.specs.declared.written.WrittenRows.{WrittenRows}
+use Rattle.leaf_rows.specs.LeafStore.Leaves.{Leaves, contents_of, has_row, weight}
+use Rattle.leaf_rows.specs.RowWritesDeclared.written.WrittenRows.{WrittenRows}
 use Rattle.leaf_rows.specs.Laying.{IsNoPlace, IsSpent, KeepsContents}
-use Rattle.row_writes.specs.Written.{rows_after, written_keys}
+use Rattle.leaf_rows.specs.RowWrites.Written.{rows_after, written_keys}
 use Rattle.txn_manager.specs.declared.config.RoomRefusal.TheVariants as room_refusals
 
 pub record RoomyPass : Type 0 where

@@ -6,11 +6,11 @@ use Rattle.graph_model.specs.declared.refusal.Refusal.{Refusal}
 use Rattle.graph_model.specs.declared.refusal.Refusal.TheVariants as refusals
 use Rattle.graph_model.specs.declared.write.Write.{Write}
 use Rattle.txn_manager.specs.declared.config.RoomRefusal.TheVariants as room_refusals
-use Rattle.leaf_store.specs.Leaves.{Leaves, contents_of, has_row, weight}
-use Rattle.row_writes.specs.declared.written.WrittenRows.{WrittenRows}
+use Rattle.leaf_rows.specs.LeafStore.Leaves.{Leaves, contents_of, has_row, weight}
+use Rattle.leaf_rows.specs.RowWritesDeclared.written.WrittenRows.{WrittenRows}
 use Rattle.leaf_rows.specs.Laying.{HaveRoom, IsNoPlace, IsSpent}
 use Rattle.leaf_rows.specs.Placing.{FindsPlaces}
-use Rattle.row_writes.specs.Written.{rows_of, written_keys}
+use Rattle.leaf_rows.specs.RowWrites.Written.{rows_of, written_keys}
 use Rattle.teseo_core.specs.Freeing.{IsFreeBound}
 use Rattle.teseo_core.specs.Keeping.{Store}
 

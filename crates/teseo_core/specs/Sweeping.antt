@@ -3,7 +3,7 @@ use Rattle.std.specs.Prelude.{◌≡◌, ℕ, Bool, true, cond, nat_lt}
 use Rattle.graph_model.specs.declared.row.Key.{Key}
 use Rattle.graph_model.specs.Rows.{is_below, is_between, first_key, end_key}
 use Rattle.graph_model.specs.Transactions.{stamp_in}
-use Rattle.leaf_store.specs.Leaves.{Leaves, IsLeafOf, record_count}
+use Rattle.leaf_rows.specs.LeafStore.Leaves.{Leaves, IsLeafOf, record_count}
 use Rattle.leaf_rows.specs.Laying.{PrunesRange}
 use Rattle.teseo_core.specs.Freeing.{FreesBehind}
 use Rattle.teseo_core.specs.Horizons.{IsHorizon}

@@ -2,7 +2,7 @@
 
 ghost use Rattle.std.specs.Prelude.{◌≡◌, true, false};
 ghost use Rattle.graph_model.specs.Rows.{is_below, end_key};
-ghost use Rattle.leaf_store.specs.Merging.{FreesRetired};
+ghost use Rattle.leaf_rows.specs.LeafStore.Merging.{FreesRetired};
 ghost use Rattle.leaf_rows.specs.Laying.{KeepsContents};
 ghost use Rattle.teseo_core.specs.Freeing.{free_bound};
 

@@ -3,7 +3,7 @@
 //! Each key keeps what it has, so no transaction sees anything of it.
 
 ghost use Rattle.std.specs.Prelude.{◌≡◌, ◌<◌};
-ghost use Rattle.leaf_store.specs.declared.pair.TheConstants.{STAMPS_END};
+ghost use Rattle.leaf_rows.specs.LeafStoreDeclared.pair.TheConstants.{STAMPS_END};
 ghost use Rattle.teseo_core.specs.Freeing.{Merges, retire_stamp};
 
 use crate::store::Core;

@@ -1,7 +1,7 @@
 //! The end of a run: rows without records, and the journal.
 
 ghost use Rattle.std.specs.Prelude.{◌≡◌, [], true};
-ghost use Rattle.leaf_store.specs.Leaves.{record_count};
+ghost use Rattle.leaf_rows.specs.LeafStore.Leaves.{record_count};
 ghost use Rattle.teseo_core.specs.Keeping.{IsSettled, KeepsService, NoneOpen};
 
 use crate::pass::Pass;

@@ -3,7 +3,7 @@
 ghost use Rattle.std.specs.Prelude.{◌≡◌, ◌≤◌, ◌-◌, ◌^◌, None, length, min};
 ghost use Rattle.std.specs.FinMap as fin_map;
 ghost use Rattle.graph_model.specs.Graph.{Graph, vertices_of};
-ghost use Rattle.leaf_store.specs.Leaves.{record_count};
+ghost use Rattle.leaf_rows.specs.LeafStore.Leaves.{record_count};
 ghost use Rattle.leaf_rows.specs.Readers.{Shows};
 ghost use Rattle.teseo_core.specs.Keeping.{edges_of, newest_graph, running_in};
 

@@ -5,9 +5,9 @@ use Rattle.std.specs.List.{list_any}
 use Rattle.graph_model.specs.declared.limits.TheConstants.{MAX_LEAVES, MAX_LOAD_ROWS, SPLIT_ROWS}
 use Rattle.graph_model.specs.Inserted.{inserted}
 use Rattle.graphalytics_io.specs.declared.edges.Edge.{Edge}
-use Rattle.graph_files.specs.declared.refusal.Fault.{Fault}
-use Rattle.graph_files.specs.VertexFiles.{vertices_of}
-use Rattle.graph_files.specs.EdgeFiles.{edges_of}
+use Rattle.source_run.specs.GraphFilesDeclared.refusal.Fault.{Fault}
+use Rattle.source_run.specs.GraphFiles.VertexFiles.{vertices_of}
+use Rattle.source_run.specs.GraphFiles.EdgeFiles.{edges_of}
 use Rattle.run_model.specs.declared.command.Command.{Command}
 use Rattle.run_model.specs.declared.answer.Answer.{Answer}
 use Rattle.run_model.specs.declared.answer.Answer.TheVariants as answers
@@ -16,8 +16,8 @@ use Rattle.run_model.specs.AnsweredLines.{AnsweredLine, answered_from, answered_
 use Rattle.run_model.specs.Inputs.{Inputs, Outputs}
 use Rattle.run_model.specs.Run.{answered_scripts, IsRun}
 use Rattle.serial_model.specs.SerialRun.{inputs_read, outputs_read}
-use Rattle.script_lang.specs.Scripts.{script_of, files_of}
-use Rattle.script_lang.specs.declared.refusal.ScriptRefusal.{ScriptRefusal}
+use Rattle.source_run.specs.ScriptLang.Scripts.{script_of, files_of}
+use Rattle.source_run.specs.ScriptLangDeclared.refusal.ScriptRefusal.{ScriptRefusal}
 use Rattle.command_words.specs.Words.{RunRequest, taken_names}
 use Rattle.desk_io.specs.Files.{Files}
 use Rattle.desk_io.specs.declared.sources.ReadStop.{ReadStop}

@@ -9,8 +9,8 @@ use Rattle.run_model.specs.Requests.{Request, ToBegin, ToCommit, ToAbort, ToWrit
 use Rattle.run_model.specs.AnsweredLines.{AnsweredLine, answered_from, answered_lines, effect}
 use Rattle.run_model.specs.Inputs.{Inputs, File, Outputs}
 use Rattle.run_model.specs.Run.{Context, filing_of, IsFiled, HasFiles, IsRun, answered_scripts, context_at}
-use Rattle.script_lang.specs.Scripts.{file_of, files_of}
-use Rattle.script_lang.specs.Runnable.{IsRunnable}
+use Rattle.source_run.specs.ScriptLang.Scripts.{file_of, files_of}
+use Rattle.source_run.specs.ScriptLang.Runnable.{IsRunnable}
 use Rattle.source_run.specs.Parsing.{AreRunnable}
 use Rattle.teseo_program.proofs.SublistLemmas.{IsSublist, sub_behind, sub_append, apart_append}
 

@@ -8,14 +8,14 @@ use Rattle.desk_io.specs.Sources.{IsRead, AreRead, IsReadStop}
 use Rattle.desk_io.specs.declared.sources.ReadStop.{ReadStop}
 use Rattle.desk_io.specs.declared.sources.ReadStop.TheVariants as reads
 use Rattle.run_model.specs.declared.command.Command.{Command}
-use Rattle.graph_files.specs.declared.refusal.Fault.{Fault}
-use Rattle.graph_files.specs.VertexFiles.{vertices_of}
-use Rattle.graph_files.specs.EdgeFiles.{edges_of}
-use Rattle.script_lang.specs.declared.refusal.ScriptRefusal.{ScriptRefusal}
-use Rattle.script_lang.specs.declared.refusal.ScriptRefusal.TheVariants as script_refusals
-use Rattle.script_lang.specs.declared.refusal.ScheduleRefusal.{ScheduleRefusal}
-use Rattle.script_lang.specs.declared.refusal.ScheduleRefusal.TheVariants as schedule_refusals
-use Rattle.script_lang.specs.Scripts.{files_of}
+use Rattle.source_run.specs.GraphFilesDeclared.refusal.Fault.{Fault}
+use Rattle.source_run.specs.GraphFiles.VertexFiles.{vertices_of}
+use Rattle.source_run.specs.GraphFiles.EdgeFiles.{edges_of}
+use Rattle.source_run.specs.ScriptLangDeclared.refusal.ScriptRefusal.{ScriptRefusal}
+use Rattle.source_run.specs.ScriptLangDeclared.refusal.ScriptRefusal.TheVariants as script_refusals
+use Rattle.source_run.specs.ScriptLangDeclared.refusal.ScheduleRefusal.{ScheduleRefusal}
+use Rattle.source_run.specs.ScriptLangDeclared.refusal.ScheduleRefusal.TheVariants as schedule_refusals
+use Rattle.source_run.specs.ScriptLang.Scripts.{files_of}
 use Rattle.command_words.specs.Words.{RunRequest, MakeRequest, taken_names}
 use Rattle.source_run.specs.Requests.{source_names, rules_of}
 use Rattle.source_run.specs.declared.fault.SourceFault.{SourceFault}

@@ -11,13 +11,13 @@ use Rattle.graph_model.specs.declared.load.LoadRefusal.{LoadRefusal}
 use Rattle.graph_model.specs.declared.load.LoadRefusal.TheVariants as refusals
 use Rattle.graph_model.specs.Inserted.{inserted}
 use Rattle.graphalytics_io.specs.Load.{load_of}
-use Rattle.graph_files.specs.Load.{IsLoadable}
-use Rattle.graph_files.specs.Laws.{LoadIsAllowed, LoadIsWithinLimits, FilesAreLoadable}
+use Rattle.source_run.specs.GraphFiles.Load.{IsLoadable}
+use Rattle.source_run.specs.GraphFiles.Laws.{LoadIsAllowed, LoadIsWithinLimits, FilesAreLoadable}
 use Rattle.run_model.specs.declared.command.Command.{Command}
 use Rattle.run_model.specs.Requests.{begun_by, IsScript}
 use Rattle.run_model.specs.Inputs.{AreInputs}
-use Rattle.script_lang.specs.FieldFaults.{IsNameByte}
-use Rattle.script_lang.specs.Scripts.{files_of}
+use Rattle.source_run.specs.ScriptLang.FieldFaults.{IsNameByte}
+use Rattle.source_run.specs.ScriptLang.Scripts.{files_of}
 use Rattle.desk_io.specs.Files.{Files}
 use Rattle.desk_io.specs.Sources.{AreRead}
 use Rattle.desk_io.specs.Outputs.{NamedText, names_of}

@@ -16,10 +16,10 @@ use Rattle.run_model.specs.Inputs.{Inputs, Outputs}
 use Rattle.run_model.specs.Run.{answered_scripts}
 use Rattle.run_model.proofs.SetLemmas.{sum_cons}
 use Rattle.serial_model.specs.SerialRun.{is_commit, is_refused, command_read, answer_read, script_read, report_read, scripts_read, reports_read, inputs_read, outputs_read, EachLine, IsSerialLine, IsSerialRun}
-use Rattle.script_lang.specs.Scripts.{file_of, files_of}
+use Rattle.source_run.specs.ScriptLang.Scripts.{file_of, files_of}
 use Rattle.source_run.specs.Leaves.{asked_by, asked_in, most_rows}
 use Rattle.source_run.specs.Running.{IsRunAs}
-use Rattle.serial_runner.proofs.EndLemmas.{refusal_shape}
+use Rattle.source_run.proofs.SerialRunner.EndLemmas.{refusal_shape}
 use Rattle.teseo_program.specs.Outcomes.{is_full, shows_full}
 use Rattle.teseo_program.proofs.SublistLemmas.{IsSublist}
 use Rattle.teseo_program.proofs.FileLemmas.{names_in, files_of_run}

@@ -8,10 +8,10 @@ use Rattle.run_model.specs.declared.answer.Answer.{Answer}
 use Rattle.run_model.specs.Inputs.{File, Outputs}
 use Rattle.run_model.specs.Texts.{report_text}
 use Rattle.desk_io.specs.Outputs.{NamedText, names_of}
-use Rattle.script_lang.specs.FieldFaults.{IsNameByte}
-use Rattle.job_runner.specs.NamedTable.{NamedTable}
-use Rattle.job_runner.specs.Phases.{file_of}
-use Rattle.job_runner.specs.Progress.{Progress}
+use Rattle.source_run.specs.ScriptLang.FieldFaults.{IsNameByte}
+use Rattle.source_run.specs.JobRunner.NamedTable.{NamedTable}
+use Rattle.source_run.specs.JobRunner.Phases.{file_of}
+use Rattle.source_run.specs.JobRunner.Progress.{Progress}
 use Rattle.teseo_program.specs.Sinks.{file_output, report_outputs, sinks_of}
 use Rattle.source_run.specs.Running.{HavePrintableNames}
 use Rattle.teseo_program.proofs.SublistLemmas.{IsSublist, sub_append, sub_pairs}

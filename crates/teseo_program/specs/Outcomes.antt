@@ -14,8 +14,8 @@ use Rattle.desk_io.specs.Sources.{AreRead, IsReadStop}
 use Rattle.desk_io.specs.Outputs.{NamedText, names_of, WritesAll, FailsAtPlace}
 use Rattle.desk_io.specs.declared.sources.ReadStop.{ReadStop}
 use Rattle.desk_io.specs.declared.sources.ReadStop.TheVariants as reads
-use Rattle.graph_files.specs.Faults as graph_faults
-use Rattle.script_lang.specs.Faults.{what_text, schedule_what_text}
+use Rattle.source_run.specs.GraphFiles.Faults as graph_faults
+use Rattle.source_run.specs.ScriptLang.Faults.{what_text, schedule_what_text}
 use Rattle.command_words.specs.declared.refusal.WordsRefusal.{WordsRefusal}
 use Rattle.command_words.specs.declared.refusal.WordsRefusal.TheVariants as word_refusals
 use Rattle.command_words.specs.Words.{RunRequest, MakeRequest}

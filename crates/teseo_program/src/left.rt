@@ -1,8 +1,7 @@
 //! What a call leaves of the store that ran.
 
-use shared_store::Closed;
 use source_run::Ran;
-use teseo_core::CoreJournal;
+use source_run::below::{Closed, CoreJournal};
 
 /// What is left of the store that ran.
 #[derive(Drop)]

@@ -19,15 +19,15 @@ use Rattle.run_model.specs.Run.{Filing, filing_of}
 use Rattle.run_model.specs.Jobs.{is_end, skips}
 use Rattle.run_model.proofs.AnswerLemmas.{query_plain, kernel_plain}
 use Rattle.side_runs.specs.ByAccount.{write_answer, WriteLeaves, LiveLineBy, TableBy}
-use Rattle.line_runner.specs.declared.answering.LineAnswer.{LineAnswer}
-use Rattle.line_runner.specs.declared.phase.Phase.{Phase}
-use Rattle.line_runner.specs.declared.phase.Phase.TheVariants.{Between, Open, Skipping, GivenUp}
-use Rattle.line_runner.specs.declared.table.NamedTable.{NamedTable}
-use Rattle.line_runner.specs.Phases.{is_skipping, is_inside, IsPhase, phase_at, plain, file_of, IsFileOn, sees_same}
-use Rattle.line_runner.specs.Turns.{view_now, Calls, ReadsTimes, ReadsOn, FinishesRefusedOn, FinishesOn, AnswersLive, SeesLegal, AreByAccount}
-use Rattle.line_runner.proofs.CoreLemmas.{some_of}
-use Rattle.line_runner.proofs.AccountLemmas.{reads_none, reads_more, write_stays}
-use Rattle.line_runner.proofs.ViewLemmas.{sees_still}
+use Rattle.job_runner.specs.LineRunnerDeclared.answering.LineAnswer.{LineAnswer}
+use Rattle.job_runner.specs.LineRunnerDeclared.phase.Phase.{Phase}
+use Rattle.job_runner.specs.LineRunnerDeclared.phase.Phase.TheVariants.{Between, Open, Skipping, GivenUp}
+use Rattle.job_runner.specs.LineRunnerDeclared.table.NamedTable.{NamedTable}
+use Rattle.job_runner.specs.LineRunner.Phases.{is_skipping, is_inside, IsPhase, phase_at, plain, file_of, IsFileOn, sees_same}
+use Rattle.job_runner.specs.LineRunner.Turns.{view_now, Calls, ReadsTimes, ReadsOn, FinishesRefusedOn, FinishesOn, AnswersLive, SeesLegal, AreByAccount}
+use Rattle.job_runner.proofs.LineRunner.CoreLemmas.{some_of}
+use Rattle.job_runner.proofs.LineRunner.AccountLemmas.{reads_none, reads_more, write_stays}
+use Rattle.job_runner.proofs.LineRunner.ViewLemmas.{sees_still}
 use Rattle.job_runner.specs.Progress.{listed_table}
 use Rattle.thread_runner.specs.ByAccount.{phase_left}
 

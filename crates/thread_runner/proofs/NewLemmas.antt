@@ -8,11 +8,11 @@ use Rattle.run_model.specs.declared.command.Command.{Command}
 use Rattle.run_model.specs.Inputs.{File}
 use Rattle.run_model.specs.Requests.{begun_by}
 use Rattle.side_runs.specs.ByAccount.{IsUnbegun, HasRunBy}
-use Rattle.line_runner.specs.declared.answering.LineTurn.{LineTurn}
-use Rattle.line_runner.specs.declared.answering.LineTurn.TheVariants.{Scanning, Answering}
-use Rattle.line_runner.specs.declared.kept.KeptImage.{KeptImage}
-use Rattle.line_runner.specs.Phases.{file_of}
-use Rattle.line_runner.proofs.AccountLemmas.{reads_none}
+use Rattle.job_runner.specs.LineRunnerDeclared.answering.LineTurn.{LineTurn}
+use Rattle.job_runner.specs.LineRunnerDeclared.answering.LineTurn.TheVariants.{Scanning, Answering}
+use Rattle.job_runner.specs.LineRunnerDeclared.kept.KeptImage.{KeptImage}
+use Rattle.job_runner.specs.LineRunner.Phases.{file_of}
+use Rattle.job_runner.proofs.LineRunner.AccountLemmas.{reads_none}
 use Rattle.job_runner.specs.declared.turn.Turn.{Turn}
 use Rattle.job_runner.specs.declared.turn.Turn.TheVariants as turns
 use Rattle.job_runner.specs.Progress.{Progress, new_progress, left_of, behind, is_over}

@@ -10,10 +10,10 @@ use Rattle.run_model.specs.Requests.{request}
 use Rattle.run_model.specs.Jobs.{is_empty}
 use Rattle.side_runs.specs.ByAccount.{skips_behind, LinesBy, HasRunBy}
 use Rattle.side_runs.proofs.SeriesLemmas.{lines_on, lines_wait}
-use Rattle.line_runner.specs.declared.answering.LineTurn.{LineTurn}
-use Rattle.line_runner.specs.declared.answering.LineTurn.TheVariants.{Scanning, Answering}
-use Rattle.line_runner.specs.declared.kept.KeptImage.{KeptImage}
-use Rattle.line_runner.specs.Phases.{is_skipping, phase_at, file_of}
+use Rattle.job_runner.specs.LineRunnerDeclared.answering.LineTurn.{LineTurn}
+use Rattle.job_runner.specs.LineRunnerDeclared.answering.LineTurn.TheVariants.{Scanning, Answering}
+use Rattle.job_runner.specs.LineRunnerDeclared.kept.KeptImage.{KeptImage}
+use Rattle.job_runner.specs.LineRunner.Phases.{is_skipping, phase_at, file_of}
 use Rattle.job_runner.specs.declared.turn.Turn.{Turn}
 use Rattle.job_runner.specs.declared.turn.Turn.TheVariants as turns
 use Rattle.job_runner.specs.Progress.{Progress, left_of, listed_table, has_given_up, is_over, behind}

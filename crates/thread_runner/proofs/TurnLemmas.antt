@@ -15,20 +15,20 @@ use Rattle.run_model.specs.Requests.{Request, ToBegin, ToCommit, ToAbort, ToWrit
 use Rattle.run_model.specs.Jobs.{is_end, skips, is_empty}
 use Rattle.run_model.proofs.AnswerLemmas.{must_begin, within_txn}
 use Rattle.side_runs.specs.ByAccount.{skips_behind, LiveLineBy, TableBy}
-use Rattle.line_runner.specs.declared.answering.LineAnswer.{LineAnswer}
-use Rattle.line_runner.specs.declared.answering.LineTurn.{LineTurn}
-use Rattle.line_runner.specs.declared.answering.LineTurn.TheVariants.{Scanning, Answering}
-use Rattle.line_runner.specs.declared.kept.KeptImage.{KeptImage}
-use Rattle.line_runner.specs.declared.phase.Phase.{Phase}
-use Rattle.line_runner.specs.declared.phase.Phase.TheVariants.{Between, Open, Skipping, GivenUp}
-use Rattle.line_runner.specs.declared.reading.Reading.{Reading}
-use Rattle.line_runner.specs.Kernels.{IsKeptImage}
-use Rattle.line_runner.specs.Scanning.{IsReading, taken_of}
-use Rattle.line_runner.specs.Phases.{is_skipping, is_inside, IsPhase, phase_at, phase_behind, plain, file_of, sees_same, image_behind}
-use Rattle.line_runner.specs.Turns.{view_now, MayTakeNow, Calls, AnswersSkipped, AnswersLive, AnswersOn, TakesOn, WantsOn, AreByAccount, SeesLegal}
-use Rattle.line_runner.proofs.CoreLemmas.{some_of}
-use Rattle.line_runner.proofs.AccountLemmas.{reads_none, reads_aborts}
-use Rattle.line_runner.proofs.ViewLemmas.{sees_still}
+use Rattle.job_runner.specs.LineRunnerDeclared.answering.LineAnswer.{LineAnswer}
+use Rattle.job_runner.specs.LineRunnerDeclared.answering.LineTurn.{LineTurn}
+use Rattle.job_runner.specs.LineRunnerDeclared.answering.LineTurn.TheVariants.{Scanning, Answering}
+use Rattle.job_runner.specs.LineRunnerDeclared.kept.KeptImage.{KeptImage}
+use Rattle.job_runner.specs.LineRunnerDeclared.phase.Phase.{Phase}
+use Rattle.job_runner.specs.LineRunnerDeclared.phase.Phase.TheVariants.{Between, Open, Skipping, GivenUp}
+use Rattle.job_runner.specs.LineRunnerDeclared.reading.Reading.{Reading}
+use Rattle.job_runner.specs.LineRunner.Kernels.{IsKeptImage}
+use Rattle.job_runner.specs.LineRunner.Scanning.{IsReading, taken_of}
+use Rattle.job_runner.specs.LineRunner.Phases.{is_skipping, is_inside, IsPhase, phase_at, phase_behind, plain, file_of, sees_same, image_behind}
+use Rattle.job_runner.specs.LineRunner.Turns.{view_now, MayTakeNow, Calls, AnswersSkipped, AnswersLive, AnswersOn, TakesOn, WantsOn, AreByAccount, SeesLegal}
+use Rattle.job_runner.proofs.LineRunner.CoreLemmas.{some_of}
+use Rattle.job_runner.proofs.LineRunner.AccountLemmas.{reads_none, reads_aborts}
+use Rattle.job_runner.proofs.LineRunner.ViewLemmas.{sees_still}
 use Rattle.job_runner.specs.declared.turn.Turn.{Turn}
 use Rattle.job_runner.specs.declared.turn.Turn.TheVariants as turns
 use Rattle.job_runner.specs.Progress.{Progress, left_of, listed_table, has_given_up, is_over, behind, gone, GivesUpOn, IsReadyBy, TakesTurnOn, TookTurnOn}

@@ -7,17 +7,17 @@ use Rattle.graph_model.specs.AccountSteps.{ReadsBy, AbortsBy}
 use Rattle.run_model.specs.declared.command.Command.{Command}
 use Rattle.run_model.specs.Requests.{Request, request, begun_by, IsScript}
 use Rattle.side_runs.specs.ByAccount.{LineBy, skips_behind, LinesBy, IsUnbegun, HasRunBy}
-use Rattle.line_runner.specs.declared.answering.LineAnswer.{LineAnswer}
-use Rattle.line_runner.specs.declared.answering.LineTurn.{LineTurn}
-use Rattle.line_runner.specs.declared.answering.LineTurn.TheVariants.{Scanning, Answering}
-use Rattle.line_runner.specs.declared.kept.KeptImage.{KeptImage}
-use Rattle.line_runner.specs.declared.phase.Phase.{Phase}
-use Rattle.line_runner.specs.declared.phase.Phase.TheVariants.{Between, Open, Skipping, GivenUp}
-use Rattle.line_runner.specs.declared.reading.Reading.{Reading}
-use Rattle.line_runner.specs.Kernels.{IsKeptImage}
-use Rattle.line_runner.specs.Scanning.{taken_of}
-use Rattle.line_runner.specs.Phases.{is_skipping, phase_at, file_of}
-use Rattle.line_runner.specs.Turns.{view_now, goes_on_at, ReadsFurther}
+use Rattle.job_runner.specs.LineRunnerDeclared.answering.LineAnswer.{LineAnswer}
+use Rattle.job_runner.specs.LineRunnerDeclared.answering.LineTurn.{LineTurn}
+use Rattle.job_runner.specs.LineRunnerDeclared.answering.LineTurn.TheVariants.{Scanning, Answering}
+use Rattle.job_runner.specs.LineRunnerDeclared.kept.KeptImage.{KeptImage}
+use Rattle.job_runner.specs.LineRunnerDeclared.phase.Phase.{Phase}
+use Rattle.job_runner.specs.LineRunnerDeclared.phase.Phase.TheVariants.{Between, Open, Skipping, GivenUp}
+use Rattle.job_runner.specs.LineRunnerDeclared.reading.Reading.{Reading}
+use Rattle.job_runner.specs.LineRunner.Kernels.{IsKeptImage}
+use Rattle.job_runner.specs.LineRunner.Scanning.{taken_of}
+use Rattle.job_runner.specs.LineRunner.Phases.{is_skipping, phase_at, file_of}
+use Rattle.job_runner.specs.LineRunner.Turns.{view_now, goes_on_at, ReadsFurther}
 use Rattle.job_runner.specs.declared.turn.Turn.{Turn}
 use Rattle.job_runner.specs.declared.turn.Turn.TheVariants as turns
 use Rattle.job_runner.specs.Progress.{Progress, new_progress, left_of, listed_table, has_given_up, is_over, behind, gone, IsReadyBy}

@@ -1,2 +1,4 @@
 pub mod ByAccount
 pub mod Driving
+pub mod JobRunner
+pub mod LineRunner

@@ -6,6 +6,7 @@
 //! 3. Where a script wants memory its transaction is taken back, and the others go on.
 #![tactic(auto)]
 
+pub mod below;
 mod driver;
 mod laws;
 mod over;

@@ -11,18 +11,18 @@ use Rattle.run_model.specs.declared.command.Command.{Command}
 use Rattle.run_model.specs.Inputs.{Inputs}
 use Rattle.run_model.specs.Run.{load_stamp}
 use Rattle.side_runs.specs.ByAccount.{HasRunBy}
-use Rattle.line_runner.specs.Phases.{file_of}
-use Rattle.job_runner.specs.Progress.{Progress, has_given_up, is_over}
+use Rattle.thread_runner.specs.LineRunner.Phases.{file_of}
+use Rattle.thread_runner.specs.JobRunner.Progress.{Progress, has_given_up, is_over}
 use Rattle.thread_runner.specs.ByAccount.{TurnsBy, RanBy}
 use Rattle.thread_runner.specs.Driving.{HasRun, gave_up, some_gave_up}
 use Rattle.thread_runner.proofs.NewLemmas.{new_runs}
 use Rattle.shared_runs.specs.Closing.{HasLoaded, HasRunOn, HaveRunOn, account_in}
-use Rattle.store_relation.specs.Passes.{account_of as state_account}
-use Rattle.store_rule.specs.declared.store.Store.{Store}
-use Rattle.pass_steps.specs.Passes.{state_of}
-use Rattle.shared_store.specs.declared.pass.Pass.{Pass}
-use Rattle.shared_store.specs.Ends.{AreIdle}
-use Rattle.shared_store.specs.Passes.{IsIdle, account_of}
+use Rattle.rebalance_service.specs.StoreRelation.Passes.{account_of as state_account}
+use Rattle.rebalance_service.specs.StoreRuleDeclared.store.Store.{Store}
+use Rattle.rebalance_service.specs.PassSteps.Passes.{state_of}
+use Rattle.rebalance_service.specs.SharedStoreDeclared.pass.Pass.{Pass}
+use Rattle.rebalance_service.specs.SharedStore.Ends.{AreIdle}
+use Rattle.rebalance_service.specs.SharedStore.Passes.{IsIdle, account_of}
 use Rattle.rebalance_service.specs.Ready.{IsReady}
 use Rattle.rebalance_service.proofs.ReadyLemmas.{idle_here}
 use Rattle.threaded_run.specs.Running.{CanRun}

@@ -13,15 +13,15 @@ use Rattle.side_runs.specs.ByAccount.{IsUnbegun}
 use Rattle.side_runs.specs.SideBySide.{made_by_load}
 use Rattle.shared_runs.specs.Closing.{HasLoaded}
 use Rattle.txn_manager.specs.declared.config.Config.{Config}
-use Rattle.store_relation.specs.Loads.{load_commit}
-use Rattle.store_relation.specs.Passes.{PassState, fresh_pass}
-use Rattle.store_relation.specs.Passes.{account_of as state_account}
-use Rattle.store_rule.specs.declared.store.Store.{Store}
-use Rattle.pass_steps.specs.Passes.{state_of}
-use Rattle.shared_store.specs.declared.pass.Pass.{Pass}
-use Rattle.shared_store.specs.Ends.{AreIdle}
-use Rattle.shared_store.specs.Loading.{AreLoaded, first_state}
-use Rattle.shared_store.specs.Passes.{IsIdle, account_of}
+use Rattle.rebalance_service.specs.StoreRelation.Loads.{load_commit}
+use Rattle.rebalance_service.specs.StoreRelation.Passes.{PassState, fresh_pass}
+use Rattle.rebalance_service.specs.StoreRelation.Passes.{account_of as state_account}
+use Rattle.rebalance_service.specs.StoreRuleDeclared.store.Store.{Store}
+use Rattle.rebalance_service.specs.PassSteps.Passes.{state_of}
+use Rattle.rebalance_service.specs.SharedStoreDeclared.pass.Pass.{Pass}
+use Rattle.rebalance_service.specs.SharedStore.Ends.{AreIdle}
+use Rattle.rebalance_service.specs.SharedStore.Loading.{AreLoaded, first_state}
+use Rattle.rebalance_service.specs.SharedStore.Passes.{IsIdle, account_of}
 use Rattle.threaded_run.specs.Running.{CanRun}
 use Rattle.threaded_run.specs.Seats.{HasMet}
 

@@ -9,14 +9,14 @@ use Rattle.graph_model.specs.AccountSteps.{ReadsBy}
 use Rattle.run_model.specs.declared.command.Command.{Command}
 use Rattle.run_model.specs.Inputs.{Inputs}
 use Rattle.run_model.proofs.ListLemmas.{all_from_places}
-use Rattle.job_runner.specs.Progress.{Progress, has_given_up, is_over, IsReadyBy}
+use Rattle.thread_runner.specs.JobRunner.Progress.{Progress, has_given_up, is_over, IsReadyBy}
 use Rattle.thread_runner.specs.Driving.{HasRun, IsSeat, some_gave_up}
 use Rattle.shared_runs.specs.Closing.{HaveRunOn}
-use Rattle.store_rule.specs.declared.store.Store.{Store}
-use Rattle.shared_store.specs.declared.pass.Pass.{Pass}
-use Rattle.shared_store.specs.Ends.{AreIdle}
-use Rattle.shared_store.specs.Loading.{AreLoaded}
-use Rattle.shared_store.specs.Passes.{IsIdle, account_of}
+use Rattle.rebalance_service.specs.StoreRuleDeclared.store.Store.{Store}
+use Rattle.rebalance_service.specs.SharedStoreDeclared.pass.Pass.{Pass}
+use Rattle.rebalance_service.specs.SharedStore.Ends.{AreIdle}
+use Rattle.rebalance_service.specs.SharedStore.Loading.{AreLoaded}
+use Rattle.rebalance_service.specs.SharedStore.Passes.{IsIdle, account_of}
 use Rattle.rebalance_service.specs.Ready.{IsReady}
 use Rattle.rebalance_service.proofs.ReadyLemmas.{idle_here, start_none}
 use Rattle.threaded_run.specs.Running.{CanRun}

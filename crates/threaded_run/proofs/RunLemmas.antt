@@ -4,12 +4,12 @@ use Rattle.graph_model.specs.declared.journal.Commit.{Commit}
 use Rattle.run_model.specs.declared.command.Command.{Command}
 use Rattle.run_model.specs.Inputs.{Inputs}
 use Rattle.run_model.specs.Run.{IsRun}
-use Rattle.job_runner.specs.Progress.{Progress}
+use Rattle.thread_runner.specs.JobRunner.Progress.{Progress}
 use Rattle.txn_manager.specs.declared.config.Config.{Config}
-use Rattle.store_rule.specs.declared.store.Store.{Store}
-use Rattle.shared_store.specs.declared.pass.Pass.{Pass}
-use Rattle.shared_store.specs.Ends.{HasClosed}
-use Rattle.shared_store.specs.Loading.{AreLoaded}
+use Rattle.rebalance_service.specs.StoreRuleDeclared.store.Store.{Store}
+use Rattle.rebalance_service.specs.SharedStoreDeclared.pass.Pass.{Pass}
+use Rattle.rebalance_service.specs.SharedStore.Ends.{HasClosed}
+use Rattle.rebalance_service.specs.SharedStore.Loading.{AreLoaded}
 use Rattle.shared_runs.specs.Closing.{ClosedStoresLeaveRuns, HaveRunOn, LeavesRun, outputs_with}
 use Rattle.threaded_run.specs.Running.{CanRun}
 use Rattle.threaded_run.specs.Seats.{CanRunOn}

@@ -10,12 +10,12 @@ use Rattle.run_model.specs.Inputs.{Inputs}
 use Rattle.run_model.specs.Requests.{begun_by, IsScript}
 use Rattle.run_model.specs.Run.{load_stamp}
 use Rattle.run_model.proofs.ListLemmas.{all_from_places}
-use Rattle.job_runner.specs.Progress.{Progress, new_progress, is_over, IsReadyBy}
+use Rattle.thread_runner.specs.JobRunner.Progress.{Progress, new_progress, is_over, IsReadyBy}
 use Rattle.thread_runner.specs.Driving.{IsSeat}
 use Rattle.thread_runner.proofs.NewLemmas.{new_ready}
-use Rattle.store_rule.specs.declared.store.Store.{Store}
-use Rattle.shared_store.specs.declared.pass.Pass.{Pass}
-use Rattle.shared_store.specs.Passes.{IsIdle, account_of}
+use Rattle.rebalance_service.specs.StoreRuleDeclared.store.Store.{Store}
+use Rattle.rebalance_service.specs.SharedStoreDeclared.pass.Pass.{Pass}
+use Rattle.rebalance_service.specs.SharedStore.Passes.{IsIdle, account_of}
 use Rattle.threaded_run.specs.Running.{CanRun}
 use Rattle.threaded_run.specs.Seats.{AreSeated, IsSeated}
 use Rattle.threaded_run.proofs.FreshLemmas.{AreUnused, unbegun_met}

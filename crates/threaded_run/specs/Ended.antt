@@ -3,11 +3,11 @@ use Rattle.std.specs.Prelude.{◌≡◌, ℕ, ◌+◌, false, List, [], ◌∷�
 use Rattle.run_model.specs.declared.command.Command.{Command}
 use Rattle.run_model.specs.Inputs.{Inputs}
 use Rattle.side_runs.specs.ByAccount.{HasRunBy}
-use Rattle.line_runner.specs.Phases.{file_of}
-use Rattle.job_runner.specs.Progress.{Progress, has_given_up}
-use Rattle.store_rule.specs.declared.store.Store.{Store}
-use Rattle.shared_store.specs.declared.pass.Pass.{Pass}
-use Rattle.shared_store.specs.Passes.{IsIdle, account_of}
+use Rattle.thread_runner.specs.LineRunner.Phases.{file_of}
+use Rattle.thread_runner.specs.JobRunner.Progress.{Progress, has_given_up}
+use Rattle.rebalance_service.specs.StoreRuleDeclared.store.Store.{Store}
+use Rattle.rebalance_service.specs.SharedStoreDeclared.pass.Pass.{Pass}
+use Rattle.rebalance_service.specs.SharedStore.Passes.{IsIdle, account_of}
 
 -- the job with its pass, which has no transaction; where memory was never wanted the script has run
 pub record HasEnded (inputs : Inputs) (store : Store) (number : ℕ) (script : List Command) (job : Progress)

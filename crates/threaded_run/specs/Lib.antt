@@ -1,3 +1,5 @@
 pub mod Running
 pub mod Seats
 pub mod Ended
+pub mod SharedRuns
+pub mod SharedStore

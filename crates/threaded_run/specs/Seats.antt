@@ -5,12 +5,12 @@ use Rattle.graph_model.specs.declared.journal.Commit.{Commit}
 use Rattle.graph_model.specs.Account.{Account}
 use Rattle.graph_model.specs.AccountSteps.{ReadsBy}
 use Rattle.run_model.specs.declared.command.Command.{Command}
-use Rattle.job_runner.specs.Progress.{Progress, new_progress}
-use Rattle.store_rule.specs.declared.store.Store.{Store}
-use Rattle.shared_store.specs.declared.pass.Pass.{Pass}
-use Rattle.shared_store.specs.Passes.{IsIdle, account_of}
+use Rattle.thread_runner.specs.JobRunner.Progress.{Progress, new_progress}
+use Rattle.rebalance_service.specs.StoreRuleDeclared.store.Store.{Store}
+use Rattle.rebalance_service.specs.SharedStoreDeclared.pass.Pass.{Pass}
+use Rattle.rebalance_service.specs.SharedStore.Passes.{IsIdle, account_of}
 use Rattle.run_model.specs.Inputs.{Inputs}
-use Rattle.shared_store.specs.Loading.{AreLoaded}
+use Rattle.rebalance_service.specs.SharedStore.Loading.{AreLoaded}
 use Rattle.threaded_run.specs.Running.{CanRun}
 
 -- what `run_passes` is given: scripts that can run, on the passes of a store that has the load

@@ -6,6 +6,7 @@
 //! 2. However the scripts end, all passes come back, and the store is closed with them.
 #![tactic(auto)]
 
+pub mod below;
 mod run;
 mod seats;
 mod workers;

@@ -4,9 +4,9 @@ ghost use Rattle.std.specs.Prelude.{◌≡◌, ◌<◌, ◌≤◌, IfErr, IfOk, 
 ghost use Rattle.graph_model.specs.History.{graph_at};
 ghost use Rattle.run_model.specs.Run.{IsRun};
 ghost use Rattle.shared_runs.specs.Closing.{LeavesRun, outputs_with};
-ghost use Rattle.shared_store.specs.Ends.{AreEnds};
-ghost use Rattle.shared_store.specs.Loading.{AreLoaded};
-ghost use Rattle.shared_store.specs.Totals.{AreTotals};
+ghost use Rattle.rebalance_service.specs.SharedStore.Ends.{AreEnds};
+ghost use Rattle.rebalance_service.specs.SharedStore.Loading.{AreLoaded};
+ghost use Rattle.rebalance_service.specs.SharedStore.Totals.{AreTotals};
 ghost use Rattle.txn_manager.specs.Config.{too_large};
 ghost use Rattle.threaded_run.specs.Running.{CanRun, IsLoadable, IsStopped, inputs_on};
 
@@ -14,13 +14,13 @@ use crate::workers::run_passes;
 use desk_io::Gate;
 use graph_model::{LoadRefusal, NoMemory, Writes};
 use items::Items;
-use job_runner::Jobs;
+use rebalance_service::below::{Closed, LoadedRefusal, Passes, Store, close, loaded};
 use run_model::Script;
 use shared_runs::closed_stores_leave_runs;
-use shared_store::{Closed, LoadedRefusal, Passes, Store, close, loaded};
 use std::alloc::Global;
 use std::sync::Wait;
 use std::thread::Threads;
+use thread_runner::below::Jobs;
 use txn_manager::Config;
 
 /// What a run by threads leaves: the closed store, and the scripts with their answers and tables.

@@ -3,16 +3,16 @@
 ghost use Rattle.std.specs.Prelude.{◌≡◌, ◌<◌, ◌≤◌, ◌+◌, ◌-◌, ◌++◌, ◌^◌, [], ◌∷◌, Some, length, map};
 ghost use Rattle.std.specs.List.{AllByRecursion};
 ghost use Rattle.std.specs.Vec.{vec_capacity};
-ghost use Rattle.shared_store.specs.Passes.{IsIdle, account_of};
+ghost use Rattle.rebalance_service.specs.SharedStore.Passes.{IsIdle, account_of};
 ghost use Rattle.rebalance_service.specs.Ready.{IsReady};
 ghost use Rattle.threaded_run.specs.Seats.{AreSeated, IsSeated};
 
-use job_runner::Job;
+use rebalance_service::below::{Pass, Store, meet};
 use rebalance_service::{Home, Worker};
 use run_model::Script;
-use shared_store::{Pass, Store, meet};
 use std::alloc::Global;
 use std::sync::Wait;
+use thread_runner::below::Job;
 
 /// Takes a pass for each script, which meets pass 0. The jobs are numbered from 1 in the order of the scripts. Takes no
 /// memory.

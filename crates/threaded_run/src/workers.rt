@@ -6,8 +6,8 @@ ghost use Rattle.std.specs.Vec.{vec_capacity};
 ghost use Rattle.graph_model.specs.AccountSteps.{ReadsBy};
 ghost use Rattle.run_model.specs.Inputs.{Inputs};
 ghost use Rattle.shared_runs.specs.Closing.{HaveRunOn};
-ghost use Rattle.shared_store.specs.Ends.{AreIdle};
-ghost use Rattle.shared_store.specs.Passes.{account_of};
+ghost use Rattle.rebalance_service.specs.SharedStore.Ends.{AreIdle};
+ghost use Rattle.rebalance_service.specs.SharedStore.Passes.{account_of};
 ghost use Rattle.rebalance_service.specs.Ready.{IsReady};
 ghost use Rattle.thread_runner.specs.Driving.{HasRun, some_gave_up};
 ghost use Rattle.threaded_run.specs.Seats.{CanRunOn};
@@ -16,14 +16,14 @@ use crate::seats::{leave_all, seat_all, take_pass};
 use desk_io::Gate;
 use graph_model::NoMemory;
 use items::Items;
-use job_runner::{Job, Jobs};
+use rebalance_service::below::{Pass, Store};
 use rebalance_service::{Home, Worker};
 use run_model::Script;
-use shared_store::{Pass, Store};
 use std::alloc::Global;
 use std::marker::Brand;
 use std::sync::Wait;
 use std::thread::Threads;
+use thread_runner::below::{Job, Jobs};
 use thread_runner::{JobsOver, run_threads};
 
 /// Runs the scripts, and has all passes in the list again, none of which has a transaction.

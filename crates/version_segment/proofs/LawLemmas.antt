@@ -24,9 +24,9 @@ use Rattle.row_table.specs.Checks.{blocked}
 use Rattle.store_model.specs.Stamped.{Stamped, StampedVersions, AreStamped, forget, forget_row, prune_stamped}
 use Rattle.store_model.specs.Cells.{contents_in, or_none}
 use Rattle.row_table.specs.Rows.{nothing, or_nothing, is_empty, is_nothing, versions_at, unless_nothing, pruned_rows, new_record, has_record}
-use Rattle.head_map.specs.Keyed.{RisesBy}
+use Rattle.row_table.specs.HeadMap.Keyed.{RisesBy}
 use Rattle.version_segment.specs.Laws.{WrittenIsWrite, UndoneIsUndo, TouchedIsTouch, UntouchedIsUntouch, StampsStayRight, KeyChanged, KeysPruned, RowsShared, ContentsOfSegment, IsFit, BlockedIsCheck}
-use Rattle.head_map.proofs.KeyedLemmas.{tied_same, tied_flip, below_untied}
+use Rattle.row_table.proofs.HeadMap.KeyedLemmas.{tied_same, tied_flip, below_untied}
 
 -- ---- one row
 

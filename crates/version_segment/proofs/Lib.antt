@@ -4,6 +4,7 @@ pub mod LawLemmas
 pub mod LookupLemmas
 pub mod WordLemmas
 pub mod RestLemmas
-pub use Rattle.head_map.proofs.KeyedLemmas
+pub use Rattle.row_table.proofs.HeadMap.KeyedLemmas
 pub use Rattle.row_table.proofs.WalkLemmas
 pub mod ReweighLemmas
+pub mod HeadMap

@@ -11,9 +11,9 @@ use Rattle.graph_model.specs.Rows.{key_cmp, is_below}
 use Rattle.graph_model.proofs.KeyLemmas.{below_chain}
 use Rattle.store_model.specs.Stamped.{Stamped, StampedVersions}
 use Rattle.undo_chain.specs.Records.{UndoRecord, newest_of, pairs_of}
-use Rattle.head_map.specs.Keyed.{RisesBy}
+use Rattle.row_table.specs.HeadMap.Keyed.{RisesBy}
 use Rattle.row_table.specs.Rows.{VersionedRows, IsSegment, ChangesKey, nothing, or_nothing, is_nothing, versions_at, has_row, with_versions, undone, untouched, newest_writer}
-use Rattle.head_map.proofs.KeyedLemmas.{below_untied}
+use Rattle.row_table.proofs.HeadMap.KeyedLemmas.{below_untied}
 
 -- a key below all rows has none
 none_above : (key : Key) (rows : List (Key × StampedVersions)) → AllByRecursion (λ row. is_below key row.0 ≡ true) rows → find key_cmp key rows ≡ None

@@ -14,17 +14,17 @@ use Rattle.gap_segment.specs.Fenced.{FencedRows, AreFenced, AreSorted, AreAbove,
 use Rattle.store_model.specs.Stamped.{StampedVersions}
 use Rattle.undo_chain.specs.Chains.{ChainMap, list_at}
 use Rattle.undo_chain.specs.Records.{UndoRecord, pairs_of}
-use Rattle.head_map.specs.declared.heads.Heads.{Heads}
-use Rattle.head_map.specs.Heads.{ChangedRow, PlacedRow, PlaceTable, settled_heads, heads_at, heads_placed, keyed, keyed_table}
+use Rattle.row_table.specs.HeadMapDeclared.heads.Heads.{Heads}
+use Rattle.row_table.specs.HeadMap.Heads.{ChangedRow, PlacedRow, PlaceTable, settled_heads, heads_at, heads_placed, keyed, keyed_table}
 use Rattle.row_table.specs.Lists.{AreHeads, AreOthers, HasRest}
 use Rattle.row_table.specs.Parts.{of_lists, value_in, versions_in, versioned, view_of, AreParts}
 use Rattle.row_table.specs.Rows.{is_empty}
 use Rattle.version_segment.specs.Resting.{newest_value, with_newest, mark, no_value, word_of, value_in_word, RestingRow, RestingRows, resting_row, resting_of, word_row, word_rows, HasSmallWeights, woken_rows, woken, AgreeWith, AreErased, weight_in_word, settled_rest}
 use Rattle.version_segment.specs.RestingParts.{resting_at, resting_places, resting_view, AreRestingParts, words_from, placed_words, plain_rows, reweighed, AreSmallAt}
-use Rattle.head_map.proofs.KeyedLemmas.{tied_self, below_untied, above_untied}
+use Rattle.row_table.proofs.HeadMap.KeyedLemmas.{tied_self, below_untied, above_untied}
 use Rattle.row_table.proofs.TableLemmas.{table_there, table_cases}
 use Rattle.row_table.proofs.PartLemmas.{list_there}
-use Rattle.head_map.proofs.HeadLemmas.{there_at, index_of}
+use Rattle.row_table.proofs.HeadMap.HeadLemmas.{there_at, index_of}
 
 -- ---- lists of records
 

@@ -4,8 +4,8 @@ use Rattle.std.specs.Prelude.{slice_get, Some}
 use Rattle.graph_model.specs.declared.row.Row.{Row}
 use Rattle.graph_model.proofs.PlaceLemmas.{some_eq}
 use Rattle.gap_segment.specs.Fenced.{with_weight}
-use Rattle.head_map.specs.declared.heads.Heads.{Heads}
-use Rattle.head_map.specs.Heads.{settled_heads}
+use Rattle.row_table.specs.HeadMapDeclared.heads.Heads.{Heads}
+use Rattle.row_table.specs.HeadMap.Heads.{settled_heads}
 use Rattle.version_segment.specs.RestingParts.{head_word, reweighed_from, words_from}
 
 -- at the end none has

@@ -14,10 +14,10 @@ use Rattle.undo_chain.specs.Records.{value_of}
 use Rattle.undo_chain.specs.Chains.{ChainMap, list_at}
 use Rattle.undo_chain.specs.States.{Knowledge, Grows, AreNamed}
 use Rattle.undo_chain.proofs.ListLemmas.{grows_start, grows_chain}
-use Rattle.head_map.specs.Heads.{ChangedRow}
+use Rattle.row_table.specs.HeadMap.Heads.{ChangedRow}
 use Rattle.row_table.specs.Rows.{with_row, rows_read, range_of, rows_at}
 use Rattle.row_table.specs.Checks.{IsNamed, AreNamedRows}
-use Rattle.head_map.specs.Heads.{HeadTable, heads_at, settled_heads}
+use Rattle.row_table.specs.HeadMap.Heads.{HeadTable, heads_at, settled_heads}
 use Rattle.row_table.specs.Parts.{versioned, versions_in, value_in, view_of}
 use Rattle.row_table.specs.Walks.{IsFilled}
 use Rattle.row_table.proofs.WalkLemmas.{named_pairs}

@@ -7,9 +7,9 @@ use Rattle.graph_model.specs.declared.limits.TheConstants.{SEGMENT_ROWS}
 use Rattle.graph_model.specs.Rows.{is_between}
 use Rattle.gap_segment.specs.Fenced.{FencedRows, AreWithin}
 use Rattle.undo_chain.specs.Chains.{ChainMap, list_at}
-use Rattle.head_map.specs.declared.heads.Heads.{Heads}
+use Rattle.row_table.specs.HeadMapDeclared.heads.Heads.{Heads}
 use Rattle.row_table.specs.Rows.{IsSegment, is_nothing}
-use Rattle.head_map.specs.Heads.{HeadTable, heads_at}
+use Rattle.row_table.specs.HeadMap.Heads.{HeadTable, heads_at}
 use Rattle.row_table.specs.Lists.{AreHeads, HasRest}
 use Rattle.row_table.specs.Parts.{versioned, versions_in, value_in, view_of, AreParts}
 use Rattle.row_table.proofs.PartLemmas.{rows_rise, list_there, nothing_of}

@@ -10,7 +10,7 @@ use Rattle.graph_model.specs.Rows.{is_below, is_between}
 use Rattle.gap_segment.specs.Fenced.{AreSorted, AreAbove, AreWithin}
 use Rattle.store_model.specs.Stamped.{Stamped, StampedVersions}
 use Rattle.row_table.specs.Rows.{is_empty}
-use Rattle.head_map.specs.Keyed.{RisesBy}
+use Rattle.row_table.specs.HeadMap.Keyed.{RisesBy}
 use Rattle.version_segment.specs.Resting.{newest_in, newest_value, front_with, oldest_with, with_newest, mark, no_value, word_of, value_word, value_in_word, is_marked, RestingRow, resting_row, word_row, woken_rows, AgreesWith, AgreeWith, RestedCanWake, WakesRested, RestsWoken, AreErased, ValueWordsAre, WordsTell}
 
 -- ---- words

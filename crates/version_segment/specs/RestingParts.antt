@@ -3,8 +3,8 @@ use Rattle.std.specs.Prelude.{◌≡◌, ℕ, zero, suc, ◌≤◌, not, is_some
 use Rattle.graph_model.specs.declared.row.Row.{Row}
 use Rattle.graph_model.specs.declared.limits.TheConstants.{MAX_WEIGHT}
 use Rattle.undo_chain.specs.Chains.{ChainMap, list_at}
-use Rattle.head_map.specs.declared.heads.Heads.{Heads}
-use Rattle.head_map.specs.Heads.{PlacedRow, PlaceTable, heads_placed, settled_heads}
+use Rattle.row_table.specs.HeadMapDeclared.heads.Heads.{Heads}
+use Rattle.row_table.specs.HeadMap.Heads.{PlacedRow, PlaceTable, heads_placed, settled_heads}
 use Rattle.row_table.specs.Lists.{AreHeads, AreOthers, HasRest}
 use Rattle.row_table.specs.Parts.{of_lists, value_in}
 use Rattle.version_segment.specs.Resting.{RestingRow, RestingRows, word_of, weight_in_word}

@@ -8,7 +8,7 @@
 
 ghost use Rattle.std.specs.Prelude.{◌≡◌, ◌≤◌, ◌==◌, true, [], length};
 ghost use Rattle.graph_model.specs.declared.limits.TheConstants.{SEGMENT_ROWS};
-ghost use Rattle.head_map.specs.Heads.{heads_placed};
+ghost use Rattle.row_table.specs.HeadMap.Heads.{heads_placed};
 ghost use Rattle.version_segment.specs.Resting.{resting_of, settled_rest, word_rows, HasSmallWeights, CanWake, woken, AreErased};
 ghost use Rattle.version_segment.specs.RestingParts.{AreSmallAt, plain_rows, placed_words};
 
@@ -16,8 +16,8 @@ use crate::segment::VersionSegment;
 use crate::value_word::{value_word, weight_in_word};
 use gap_segment::Segment;
 use graph_model::{Key, Row};
-use head_map::{HeadMap, RestingHeads};
 use row_table::RowTable;
+use row_table::below::{HeadMap, RestingHeads};
 use std::alloc::Global;
 use std::marker::Model;
 
@@ -32,7 +32,7 @@ const _: () = prove!(size_of::<Resting>() == 16);
 
 impl Model for Resting {
     ghost use Rattle.std.specs.Prelude.{◌≤◌};
-    ghost use Rattle.head_map.specs.Heads.{heads_placed};
+    ghost use Rattle.row_table.specs.HeadMap.Heads.{heads_placed};
     ghost use Rattle.version_segment.specs.Resting.{RestingRows};
     ghost use Rattle.version_segment.specs.RestingParts.{resting_view, AreRestingParts};
 

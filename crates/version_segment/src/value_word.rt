@@ -12,7 +12,7 @@ ghost use Rattle.row_table.specs.Parts.{value_in};
 ghost use Rattle.version_segment.specs.Resting.{is_marked, value_in_word, weight_in_word};
 ghost use Rattle.version_segment.specs.RestingParts.{head_word};
 
-use head_map::Heads;
+use row_table::below::Heads;
 
 /// Is added to the newest weight of a row that has undo records: weights are far below it.
 const MARK: u64 = 9223372036854775808;

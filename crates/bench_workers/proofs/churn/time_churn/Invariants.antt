@@ -1,5 +1,5 @@
 use Rattle.std.proofs.Common.{◌≡◌}
-use Rattle.shared_store.specs.Passes.{IsIdle}
+use Rattle.cases_workers.specs.SharedStore.Passes.{IsIdle}
 use Rattle.bench_workers.specs.Engines.{AreClosed, jobs_of}
 use Rattle.bench_workers.proofs.churn.time_churn.Given as goal
 

@@ -1,5 +1,5 @@
 use Rattle.std.proofs.Common.{◌≡◌}
-use Rattle.shared_store.specs.Passes.{IsIdle}
+use Rattle.cases_workers.specs.SharedStore.Passes.{IsIdle}
 use Rattle.bench_workers.proofs.held.records_now.Given as goal
 
 abbrev pub invariant-cells : goal.invariant-cells

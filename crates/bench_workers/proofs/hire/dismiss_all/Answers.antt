@@ -1,6 +1,6 @@
 use Rattle.std.proofs.Common.{◌≡◌, ◌∙◌, rules, subst, sym}
 use Rattle.std.specs.List.{AllByRecursion}
-use Rattle.rebalance_service.specs.Ready.{IsReady}
+use Rattle.cases_workers.specs.RebalanceService.Ready.{IsReady}
 use Rattle.bench_workers.proofs.HireLemmas.{dismissed_next, first_out}
 use Rattle.bench_workers.proofs.hire.dismiss_all.Goals as goal
 

@@ -1,7 +1,7 @@
 use Rattle.std.proofs.Common.{◌≡◌, rules, subst, sym}
 use Rattle.std.specs.List.{AllByRecursion}
 use Rattle.graph_model.proofs.HistoryLemmas.{all_more}
-use Rattle.shared_store.specs.Passes.{IsIdle}
+use Rattle.cases_workers.specs.SharedStore.Passes.{IsIdle}
 use Rattle.bench_workers.proofs.HireLemmas.{first_out, hired_next}
 use Rattle.bench_workers.proofs.hire.hire_all.Goals as goal
 

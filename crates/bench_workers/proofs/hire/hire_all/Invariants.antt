@@ -1,7 +1,7 @@
 use Rattle.std.proofs.Common.{◌≡◌, ◌+◌, ◌≤◌, ◌++◌, length, map}
 use Rattle.std.specs.List.{AllByRecursion}
 use Rattle.std.specs.Vec.{vec_capacity}
-use Rattle.shared_store.specs.Passes.{IsIdle}
+use Rattle.cases_workers.specs.SharedStore.Passes.{IsIdle}
 use Rattle.bench_workers.proofs.hire.hire_all.Given as goal
 
 -- the passes of those that were hired come before those that are left

@@ -1,8 +1,8 @@
 use denote.Param.Send.{sendable}
 use Rattle.std.proofs.Common.{◌∙◌, ◌++◌, [], ◌∷◌, ap, map, subst, sym}
 use Rattle.std.specs.List.{AllByRecursion}
-use Rattle.shared_store.specs.Passes.{IsIdle}
-use Rattle.rebalance_service.proofs.SendLemmas.{worker_send}
+use Rattle.cases_workers.specs.SharedStore.Passes.{IsIdle}
+use Rattle.cases_workers.proofs.RebalanceService.SendLemmas.{worker_send}
 use Rattle.cases_workers.proofs.PassLemmas.{has_left, in_order}
 use Rattle.bench_workers.proofs.HireLemmas.{dismissed, each_idle, hired_closed}
 use Rattle.bench_workers.proofs.store.time_on_passes.Goals as goal

@@ -1,5 +1,5 @@
 use Rattle.std.proofs.Common.{◌≡◌}
-use Rattle.shared_store.specs.Passes.{IsIdle}
+use Rattle.cases_workers.specs.SharedStore.Passes.{IsIdle}
 use Rattle.bench_workers.proofs.turns.sweep_often.Given as goal
 
 abbrev pub invariant-times : goal.invariant-times

@@ -1,5 +1,5 @@
 use Rattle.std.proofs.Common.{◌≡◌}
-use Rattle.shared_store.specs.Passes.{IsOpen}
+use Rattle.cases_shared.specs.SharedStore.Passes.{IsOpen}
 use Rattle.cases_reads.proofs.rows.add_all.Given as goal
 
 abbrev pub invariant-vertices : goal.invariant-vertices

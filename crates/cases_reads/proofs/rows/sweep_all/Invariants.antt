@@ -1,5 +1,5 @@
 use Rattle.std.proofs.Common.{◌≡◌}
-use Rattle.shared_store.specs.Passes.{IsIdle}
+use Rattle.cases_shared.specs.SharedStore.Passes.{IsIdle}
 use Rattle.cases_reads.proofs.rows.sweep_all.Given as goal
 
 abbrev pub invariant-leaves : goal.invariant-leaves

@@ -1,7 +1,7 @@
 use Rattle.std.proofs.Common.{◌≡◌, ◌<◌, ◌∙◌, ap, arith, refl, subst, sym}
-use Rattle.rule_model.specs.Sight.{cells_of, with_cell}
-use Rattle.cells_model.specs.Cells.{CellState}
-use Rattle.store_words.specs.Notes.{without_cell}
+use Rattle.store_rule.specs.RuleModel.Sight.{cells_of, with_cell}
+use Rattle.store_rule.specs.CellsModel.Cells.{CellState}
+use Rattle.store_rule.specs.StoreWords.Notes.{without_cell}
 use Rattle.store_rule.specs.Slots.{IsCellSlot}
 use Rattle.cases_store.proofs.VisitLemmas.{keeps_both, known_now, only_account}
 use Rattle.cases_store.proofs.cell.change_cell.Goals as goal

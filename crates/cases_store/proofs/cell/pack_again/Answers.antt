@@ -1,8 +1,8 @@
 use Rattle.std.proofs.Common.{◌≡◌, ◌<◌, ◌∙◌, ap, arith, refl, subst, sym}
 use Rattle.std.proofs.lemmas.Bool.{true≢false}
-use Rattle.rule_model.specs.Sight.{HasCell, cells_of}
-use Rattle.version_segment.specs.Rows.{VersionedRows}
-use Rattle.cells_model.specs.Cells.{CellState, unpacked}
+use Rattle.store_rule.specs.RuleModel.Sight.{HasCell, cells_of}
+use Rattle.store_rule.specs.VersionSegment.Rows.{VersionedRows}
+use Rattle.store_rule.specs.CellsModel.Cells.{CellState, unpacked}
 use Rattle.store_rule.specs.Slots.{RestsAs}
 use Rattle.cases_store.proofs.VisitLemmas.{known_now, small_same}
 use Rattle.cases_store.proofs.cell.pack_again.Goals as goal

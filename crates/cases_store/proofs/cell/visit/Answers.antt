@@ -2,7 +2,7 @@ use Rattle.std.proofs.Common.{◌≡◌, ◌<◌, ◌+◌, ◌∙◌, ◌∷◌,
 use Rattle.atomic_table.specs.Seated.{TableId}
 use Rattle.txn_manager.specs.declared.config.Config.{Config}
 use Rattle.latch_table.specs.Latched.{IsPassOf, number_of}
-use Rattle.rule_model.specs.Sight.{cells_of}
+use Rattle.store_rule.specs.RuleModel.Sight.{cells_of}
 use Rattle.store_rule.specs.Slots.{FitsPlace, IsCellSlot}
 use Rattle.store_rule.specs.declared.slot.StoreSlot.TheVariants as slots
 use Rattle.cases_store.proofs.VisitLemmas.{fits_cell, still_at_ease}

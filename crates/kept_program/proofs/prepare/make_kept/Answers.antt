@@ -1,11 +1,11 @@
 use Rattle.std.proofs.Common.{rules, sym, ap, ◌∙◌, subst, length, false, []}
 use Rattle.command_words.specs.Views.{run_request}
-use Rattle.source_run.specs.Parsing.{meaning_of}
-use Rattle.source_run.specs.Requests.{kind_of}
-use Rattle.source_run.proofs.RequestLemmas.{stated_leaves}
-use Rattle.source_run.proofs.RunLemmas.{files_fit, handed_on}
-use Rattle.run_keeper.specs.Keeping.{IsKept, acknowledged_on}
-use Rattle.run_keeper.proofs.KeptLemmas.{on_err}
+use Rattle.kept_run.specs.SourceRun.Parsing.{meaning_of}
+use Rattle.kept_run.specs.SourceRun.Requests.{kind_of}
+use Rattle.kept_run.proofs.SourceRun.RequestLemmas.{stated_leaves}
+use Rattle.kept_run.proofs.SourceRun.RunLemmas.{files_fit, handed_on}
+use Rattle.kept_run.specs.RunKeeper.Keeping.{IsKept, acknowledged_on}
+use Rattle.kept_run.proofs.RunKeeper.KeptLemmas.{on_err}
 use Rattle.teseo_program.proofs.PreparedLemmas.{are_inputs, job_count, are_printable, are_apart}
 use Rattle.kept_program.specs.Prepared.{IsKeptStop}
 use Rattle.kept_program.proofs.RunLemmas.{kept_made, kept_stop, kept_some, kept_whole}

@@ -1,6 +1,6 @@
 use Rattle.command_words.specs.Views.{run_request}
-use Rattle.source_run.specs.Parsing.{meaning_of}
-use Rattle.run_keeper.specs.Keeping.{acknowledged_on}
+use Rattle.kept_run.specs.SourceRun.Parsing.{meaning_of}
+use Rattle.kept_run.specs.RunKeeper.Keeping.{acknowledged_on}
 use Rattle.kept_program.proofs.RunLemmas.{kept_prepared}
 use Rattle.kept_program.proofs.prepare.prepare_kept.Goals as goal
 

@@ -1,5 +1,5 @@
 use Rattle.command_words.specs.Views.{run_request}
-use Rattle.run_keeper.specs.Keeping.{acknowledged_on}
+use Rattle.kept_run.specs.RunKeeper.Keeping.{acknowledged_on}
 use Rattle.kept_program.proofs.RunLemmas.{kept_ends, unkept_ends}
 use Rattle.kept_program.proofs.program.run_and_keep.Goals as goal
 

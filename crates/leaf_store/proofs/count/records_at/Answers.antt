@@ -1,6 +1,6 @@
 use Rattle.std.proofs.Common.{◌-◌, sym, ◌∙◌, ap}
 use Rattle.std.specs.Prelude.{min, ◌^◌}
-use Rattle.leaf_array.specs.Segments.{records_of}
+use Rattle.leaf_table.specs.LeafArray.Segments.{records_of}
 use Rattle.leaf_store.proofs.RoomLemmas.{memory_segments}
 use Rattle.leaf_store.proofs.count.records_at.Goals as goal
 

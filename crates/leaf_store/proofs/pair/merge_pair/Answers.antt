@@ -1,6 +1,6 @@
 use Rattle.std.proofs.Common.{Some, sym, ◌∙◌, ap, subst, arith}
 use Rattle.std.specs.Box.{with_value}
-use Rattle.leaf_array.specs.Segments.{AreSame, records_of}
+use Rattle.leaf_table.specs.LeafArray.Segments.{AreSame, records_of}
 use Rattle.leaf_store.specs.Merging.{Compacts, KeepsParts}
 use Rattle.leaf_store.specs.Pairs.{AreNeighbours, MergesEntries}
 use Rattle.leaf_store.specs.Table.{IsKept, leaves_of, segments_at}

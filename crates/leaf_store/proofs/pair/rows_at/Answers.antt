@@ -1,6 +1,6 @@
 use Rattle.std.proofs.Common.{sym, ◌∙◌, ap, length}
 use Rattle.std.specs.Prelude.{sum}
-use Rattle.leaf_array.specs.Segments.{rows_of}
+use Rattle.leaf_table.specs.LeafArray.Segments.{rows_of}
 use Rattle.leaf_store.proofs.RoomLemmas.{count_rows, memory_segments}
 use Rattle.leaf_store.proofs.pair.rows_at.Goals as goal
 

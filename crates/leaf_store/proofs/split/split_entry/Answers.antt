@@ -1,4 +1,4 @@
-use Rattle.leaf_array.proofs.CountLemmas.{same-again}
+use Rattle.leaf_table.proofs.LeafArray.CountLemmas.{same-again}
 use Rattle.leaf_store.proofs.SplitLemmas.{always_err, back_again, can_halve, can_join, cut_first, cut_second, first_is, halved_is, joined_again, others_kept_on, split_is}
 use Rattle.leaf_store.proofs.split.split_entry.Goals as goal
 

@@ -1,5 +1,5 @@
 use Rattle.std.proofs.Common.{◌≤◌, length, subst, arith}
-use Rattle.leaf_array.specs.Segments.{rows_of}
+use Rattle.leaf_table.specs.LeafArray.Segments.{rows_of}
 use Rattle.leaf_store.specs.Ranges.{IsLive}
 use Rattle.leaf_store.proofs.SplitLemmas.{always_err, full_memory, full_segments, full_within, keeps_leaves, live_apart, nothing_kept, splits_leaf}
 use Rattle.leaf_store.proofs.split.split_with.Goals as goal

@@ -1,8 +1,8 @@
 use Rattle.std.proofs.Common.{◌*◌, ◌≤◌, length, refl, sym, subst, arith}
 use Rattle.std.specs.Prelude.{false}
 use Rattle.graph_model.specs.Rows.{first_key}
-use Rattle.leaf_array.specs.Segments.{rows_of}
-use Rattle.leaf_array.specs.Leaves.{window_of}
+use Rattle.leaf_table.specs.LeafArray.Segments.{rows_of}
+use Rattle.leaf_table.specs.LeafArray.Leaves.{window_of}
 use Rattle.leaf_store.specs.Table.{segments_at}
 use Rattle.leaf_store.proofs.CellLemmas.{clash}
 use Rattle.leaf_store.proofs.RoomLemmas.{LeafAt, can_cut, cut_moved, cut_spread, room_in_leaf, same_moved, same_stays, spread_here, spread_leaf, spread_settled, stands_at, stands_memory, stands_within}

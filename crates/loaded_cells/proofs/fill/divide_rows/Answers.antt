@@ -1,6 +1,6 @@
 use Rattle.std.proofs.Common.{◌∙◌, ap}
 use Rattle.leaf_index.specs.Index.{Index}
-use Rattle.leaf_store.proofs.FillEndLemmas.{is_filled, rising_sorted, rising_within}
+use Rattle.rule_model.proofs.LeafStore.FillEndLemmas.{is_filled, rising_sorted, rising_within}
 use Rattle.loaded_cells.proofs.fill.divide_rows.Goals as goal
 
 pub fill_first-first-requires-clause-sorted : goal.fill_first-first-requires-clause-sorted

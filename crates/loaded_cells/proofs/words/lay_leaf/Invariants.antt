@@ -1,5 +1,5 @@
 use Rattle.std.proofs.Common.{◌≡◌, ◌++◌, ◌-◌, List}
-use Rattle.version_segment.specs.Rows.{VersionedRows}
+use Rattle.rule_model.specs.VersionSegment.Rows.{VersionedRows}
 use Rattle.loaded_cells.specs.Numbered.{blocks_of}
 use Rattle.loaded_cells.specs.Ranges.{leaf_segments, segments_from}
 use Rattle.loaded_cells.proofs.words.lay_leaf.Given as goal

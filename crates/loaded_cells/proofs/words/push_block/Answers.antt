@@ -1,5 +1,5 @@
 use Rattle.std.proofs.Common.{◌∙◌, ◌++◌, ◌∷◌, ◌-◌, ◌*◌, ℕ, List, [], ap, append_assoc, length}
-use Rattle.cells_model.specs.Words.{flat}
+use Rattle.rule_model.specs.CellsModel.Words.{flat}
 use Rattle.rule_model.specs.EndSteps.{zeros}
 use Rattle.loaded_cells.proofs.words.push_block.Goals as goal
 

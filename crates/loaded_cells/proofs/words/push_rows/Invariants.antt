@@ -1,5 +1,5 @@
 use Rattle.std.proofs.Common.{◌≡◌, ◌++◌, take}
-use Rattle.cells_model.specs.Words.{flat}
+use Rattle.rule_model.specs.CellsModel.Words.{flat}
 use Rattle.loaded_cells.proofs.words.push_rows.Given as goal
 
 abbrev pub invariant-rows : goal.invariant-rows

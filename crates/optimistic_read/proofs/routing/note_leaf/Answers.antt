@@ -1,4 +1,4 @@
-use Rattle.rule_model.specs.Places.{lines}
+use Rattle.pass_steps.specs.RuleModel.Places.{lines}
 use Rattle.pass_steps.specs.Passes.{pin_of}
 use Rattle.optimistic_read.proofs.RouteLemmas.{notes_leaf}
 use Rattle.optimistic_read.proofs.routing.note_leaf.Goals as goal

@@ -1,8 +1,8 @@
 use Rattle.std.proofs.Common.{◌≡◌, ◌∙◌, ◌/◌, ap, refl, subst}
 use Rattle.std.specs.Prelude.{true}
 use Rattle.leaf_index.specs.Index.{Index, IsIndex, IsRoute}
-use Rattle.cells_model.specs.Indexed.{is_live}
-use Rattle.store_rule.specs.declared.store.Pass.{Pass}
+use Rattle.pass_steps.specs.CellsModel.Indexed.{is_live}
+use Rattle.pass_steps.specs.StoreRuleDeclared.store.Pass.{Pass}
 use Rattle.optimistic_read.proofs.RouteLemmas.{cell_inside, index_before, leaf_live, may_note}
 use Rattle.optimistic_read.proofs.routing.route.Goals as goal
 

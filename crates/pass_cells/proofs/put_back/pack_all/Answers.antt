@@ -1,10 +1,10 @@
 use Rattle.std.proofs.Common.{◌∙◌, List, ◌∷◌, ◌<◌, [], ap, arith, length, length-append, subst, sym}
 use Rattle.std.specs.Vec.{vec_len}
-use Rattle.version_segment.specs.Rows.{VersionedRows}
-use Rattle.rule_model.specs.Sight.{HasCell}
+use Rattle.row_writes.specs.VersionSegment.Rows.{VersionedRows}
+use Rattle.store_rule.specs.RuleModel.Sight.{HasCell}
 use Rattle.store_rule.specs.Passes.{OnlyAccount}
 use Rattle.store_rule.specs.Slots.{IsCellSlot, RestsAs}
-use Rattle.store_words.specs.Notes.{without_cell}
+use Rattle.store_rule.specs.StoreWords.Notes.{without_cell}
 use Rattle.pass_cells.specs.Holding.{IsPutting}
 use Rattle.latch_table.specs.declared.cells.Held.{Held}
 use Rattle.store_rule.specs.declared.slot.StoreSlot.{StoreSlot}

@@ -1,4 +1,4 @@
-use Rattle.rule_model.specs.Places.{lines}
+use Rattle.pass_cells.specs.RuleModel.Places.{lines}
 use Rattle.pass_leaves.proofs.FitLemmas.{index_fits}
 use Rattle.pass_leaves.proofs.fit.learn_fit.Goals as goal
 

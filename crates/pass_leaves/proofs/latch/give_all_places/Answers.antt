@@ -1,6 +1,6 @@
 use Rattle.std.proofs.Common.{sym, ◌∙◌, ap}
 use Rattle.latch_table.specs.Several.{taken_of}
-use Rattle.store_rule.specs.declared.slot.StoreSlot.TheVariants as slots
+use Rattle.pass_cells.specs.StoreRuleDeclared.slot.StoreSlot.TheVariants as slots
 use Rattle.pass_leaves.proofs.LatchLemmas.{out_first}
 use Rattle.pass_leaves.proofs.latch.give_all_places.Goals as goal
 

@@ -1,5 +1,5 @@
 use Rattle.std.proofs.Common.{◌∙◌, ap}
-use Rattle.rule_model.specs.Sight.{Sight}
+use Rattle.pass_cells.specs.RuleModel.Sight.{Sight}
 use Rattle.pass_leaves.proofs.IndexLemmas.{index_gone}
 use Rattle.pass_leaves.proofs.put_back.give_index.Goals as goal
 

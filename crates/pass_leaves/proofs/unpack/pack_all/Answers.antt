@@ -1,13 +1,13 @@
 use Rattle.std.proofs.Common.{◌∙◌, List, ◌∷◌, ◌<◌, [], ap, arith, length, length-append, subst, sym}
 use Rattle.std.specs.Vec.{vec_len}
-use Rattle.version_segment.specs.Rows.{VersionedRows}
-use Rattle.rule_model.specs.Sight.{HasCell}
-use Rattle.store_rule.specs.Passes.{OnlyAccount}
-use Rattle.store_rule.specs.Slots.{IsCellSlot, RestsAs}
-use Rattle.store_words.specs.Notes.{without_cell}
+use Rattle.pass_cells.specs.VersionSegment.Rows.{VersionedRows}
+use Rattle.pass_cells.specs.RuleModel.Sight.{HasCell}
+use Rattle.pass_cells.specs.StoreRule.Passes.{OnlyAccount}
+use Rattle.pass_cells.specs.StoreRule.Slots.{IsCellSlot, RestsAs}
+use Rattle.pass_cells.specs.StoreWords.Notes.{without_cell}
 use Rattle.pass_cells.specs.Holding.{IsPutting}
 use Rattle.latch_table.specs.declared.cells.Held.{Held}
-use Rattle.store_rule.specs.declared.slot.StoreSlot.{StoreSlot}
+use Rattle.pass_cells.specs.StoreRuleDeclared.slot.StoreSlot.{StoreSlot}
 use Rattle.pass_cells.specs.declared.taken.TakenCell.{TakenCell}
 use Rattle.pass_cells.proofs.DoneLemmas.{head_is, not_none, rest_is}
 use Rattle.pass_cells.proofs.PutLemmas.{putting_more}

@@ -1,7 +1,7 @@
 use Rattle.std.proofs.Common.{◌∙◌, List, ◌∷◌, ◌<◌, [], ap, arith, length, length-append, subst, sym}
 use Rattle.std.specs.Vec.{vec_len}
 use Rattle.latch_table.specs.declared.cells.Held.{Held}
-use Rattle.store_rule.specs.declared.slot.StoreSlot.{StoreSlot}
+use Rattle.pass_cells.specs.StoreRuleDeclared.slot.StoreSlot.{StoreSlot}
 use Rattle.pass_cells.specs.declared.taken.TakenCell.{TakenCell}
 use Rattle.pass_cells.proofs.DoneLemmas.{head_is, not_none, rest_is}
 use Rattle.pass_leaves.specs.Hand.{IsUnpacking}

@@ -1,6 +1,6 @@
 use Rattle.std.proofs.Common.{◌≡◌, ◌∷◌, [], List, drop, length, sym, subst, arith}
-use Rattle.pass_cells.specs.declared.taken.TakenCell.{TakenCell}
-use Rattle.pass_leaves.specs.Hand.{HoldsLeaves}
+use Rattle.pass_moves.specs.PassCellsDeclared.taken.TakenCell.{TakenCell}
+use Rattle.pass_moves.specs.PassLeaves.Hand.{HoldsLeaves}
 use Rattle.pass_moves.proofs.KeyLemmas.{take_front}
 use Rattle.pass_merges.proofs.hand.merge_in_hand.Goals as goal
 

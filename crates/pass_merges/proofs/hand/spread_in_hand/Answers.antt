@@ -1,8 +1,8 @@
 use Rattle.std.proofs.Common.{◌≡◌, ◌∷◌, [], List, drop, length, sym, subst, arith}
-use Rattle.leaf_array.specs.Segments.{counts_of}
-use Rattle.leaf_store.specs.Merging.{IsLeftmostWindow}
-use Rattle.pass_cells.specs.declared.taken.TakenCell.{TakenCell}
-use Rattle.pass_leaves.specs.Hand.{HoldsLeaves}
+use Rattle.pass_moves.specs.LeafArray.Segments.{counts_of}
+use Rattle.pass_moves.specs.LeafStore.Merging.{IsLeftmostWindow}
+use Rattle.pass_moves.specs.PassCellsDeclared.taken.TakenCell.{TakenCell}
+use Rattle.pass_moves.specs.PassLeaves.Hand.{HoldsLeaves}
 use Rattle.pass_moves.specs.Moving.{values_of}
 use Rattle.pass_moves.proofs.KeyLemmas.{take_front}
 use Rattle.pass_merges.proofs.hand.spread_in_hand.Goals as goal

@@ -1,5 +1,5 @@
-use Rattle.leaf_array.specs.Segments.{counts_of}
-use Rattle.leaf_store.proofs.SparseLemmas.{sparse_wide}
+use Rattle.pass_moves.specs.LeafArray.Segments.{counts_of}
+use Rattle.pass_moves.proofs.LeafStore.SparseLemmas.{sparse_wide}
 use Rattle.pass_moves.specs.Moving.{values_of}
 use Rattle.pass_merges.proofs.TurnLemmas.{few_rows}
 use Rattle.pass_merges.proofs.hand.spread_leaf.Goals as goal

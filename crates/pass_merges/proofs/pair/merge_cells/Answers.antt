@@ -1,7 +1,7 @@
 use Rattle.std.proofs.Common.{◌++◌, List, refl, subst}
-use Rattle.pass_cells.specs.declared.taken.TakenCell.{TakenCell}
+use Rattle.pass_moves.specs.PassCellsDeclared.taken.TakenCell.{TakenCell}
 use Rattle.pass_moves.specs.Moving.{values_of}
-use Rattle.leaf_store.proofs.SplitLemmas.{always_err}
+use Rattle.pass_moves.proofs.LeafStore.SplitLemmas.{always_err}
 use Rattle.pass_merges.specs.Merging.{MayMerge}
 use Rattle.pass_merges.proofs.CellLemmas.{back_is, front_is, keeps_parts, keeps_self, merges_parts}
 use Rattle.pass_merges.proofs.pair.merge_cells.Goals as goal

@@ -1,9 +1,9 @@
 use Rattle.std.proofs.Common.{◌+◌, ◌≤◌, List, length, sym, ◌∙◌, ap, subst}
-use Rattle.version_segment.specs.Rows.{VersionedRows}
-use Rattle.leaf_array.specs.Leaves.{IsLeaf, Merges}
-use Rattle.leaf_array.specs.Segments.{AreSame, high_or, low_or, rows_of}
-use Rattle.leaf_store.proofs.MoveLemmas.{same_respreads}
-use Rattle.leaf_store.proofs.SplitLemmas.{always_err}
+use Rattle.pass_moves.specs.VersionSegment.Rows.{VersionedRows}
+use Rattle.pass_moves.specs.LeafArray.Leaves.{IsLeaf, Merges}
+use Rattle.pass_moves.specs.LeafArray.Segments.{AreSame, high_or, low_or, rows_of}
+use Rattle.pass_moves.proofs.LeafStore.MoveLemmas.{same_respreads}
+use Rattle.pass_moves.proofs.LeafStore.SplitLemmas.{always_err}
 use Rattle.pass_moves.specs.Moving.{values_of}
 use Rattle.pass_moves.proofs.SpreadLemmas.{put_twice}
 use Rattle.pass_merges.proofs.CellLemmas.{left_length}

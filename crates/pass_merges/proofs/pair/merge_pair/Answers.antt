@@ -1,10 +1,10 @@
 use Rattle.std.proofs.Common.{◌≡◌, ◌∷◌, [], refl, sym, ◌∙◌, ap, subst, arith}
-use Rattle.leaf_array.specs.Segments.{AreSame}
+use Rattle.pass_moves.specs.LeafArray.Segments.{AreSame}
 use Rattle.leaf_index.specs.Index.{Index, IsTaken}
-use Rattle.leaf_store.proofs.SplitLemmas.{always_err}
-use Rattle.rule_model.specs.Places.{lines}
-use Rattle.rule_model.specs.Steps.{Nothing}
-use Rattle.store_words.specs.Steps.{MayLoad}
+use Rattle.pass_moves.proofs.LeafStore.SplitLemmas.{always_err}
+use Rattle.pass_moves.specs.RuleModel.Places.{lines}
+use Rattle.pass_moves.specs.RuleModel.Steps.{Nothing}
+use Rattle.pass_moves.specs.StoreWords.Steps.{MayLoad}
 use Rattle.pass_moves.specs.Moving.{values_of}
 use Rattle.pass_moves.specs.Spreading.{moved}
 use Rattle.pass_moves.proofs.HandLemmas.{holds_kept, holds_moved_as}

@@ -1,5 +1,5 @@
 use Rattle.std.proofs.Common.{[], ◌∷◌, ◌∙◌, ap}
-use Rattle.leaf_array.proofs.EightLemmas.{eight}
+use Rattle.pass_moves.proofs.LeafArray.EightLemmas.{eight}
 use Rattle.pass_moves.proofs.KeyLemmas.{counts_values, rows_of_cell}
 use Rattle.pass_merges.proofs.sparse.counts_in.Goals as goal
 

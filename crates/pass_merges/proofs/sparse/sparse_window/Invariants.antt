@@ -1,5 +1,5 @@
 use Rattle.std.proofs.Common.{ℕ, ◌<◌}
-use Rattle.leaf_store.specs.Merging.{HasNoWindow}
+use Rattle.pass_moves.specs.LeafStore.Merging.{HasNoWindow}
 use Rattle.pass_merges.proofs.sparse.sparse_window.Given as goal
 
 -- round none of the first cells is such a window

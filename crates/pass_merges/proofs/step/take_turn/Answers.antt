@@ -1,7 +1,7 @@
 use Rattle.std.proofs.Common.{◌≡◌, List, length, sym, subst}
 use Rattle.leaf_index.specs.Calls.{IsLeafRange}
 use Rattle.leaf_index.specs.Index.{Index}
-use Rattle.pass_cells.specs.declared.taken.TakenCell.{TakenCell}
+use Rattle.pass_moves.specs.PassCellsDeclared.taken.TakenCell.{TakenCell}
 use Rattle.pass_moves.proofs.KeyLemmas.{eight_cells}
 use Rattle.pass_merges.proofs.TurnLemmas.{chooses, key_stands, pair_turn}
 use Rattle.pass_merges.proofs.step.take_turn.Goals as goal

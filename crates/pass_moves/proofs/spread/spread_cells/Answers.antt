@@ -1,7 +1,7 @@
 use Rattle.std.proofs.Common.{subst}
-use Rattle.leaf_array.specs.Leaves.{SpreadsWindow}
-use Rattle.leaf_array.specs.Segments.{AreSame}
-use Rattle.leaf_store.proofs.SplitLemmas.{always_err}
+use Rattle.pass_leaves.specs.LeafArray.Leaves.{SpreadsWindow}
+use Rattle.pass_leaves.specs.LeafArray.Segments.{AreSame}
+use Rattle.pass_leaves.proofs.LeafStore.SplitLemmas.{always_err}
 use Rattle.pass_moves.proofs.SpreadLemmas.{either_length, put_twice}
 use Rattle.pass_moves.proofs.spread.spread_cells.Goals as goal
 

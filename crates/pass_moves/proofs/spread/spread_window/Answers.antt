@@ -1,15 +1,15 @@
 use Rattle.std.proofs.Common.{◌≡◌, ◌∷◌, [], refl, sym, ◌∙◌, ap, subst}
 use Rattle.std.specs.Prelude.{slice_index_or}
 use Rattle.graph_model.specs.Rows.{first_key}
-use Rattle.leaf_array.specs.Leaves.{SpreadsWindow}
-use Rattle.leaf_array.specs.Segments.{AreSame}
+use Rattle.pass_leaves.specs.LeafArray.Leaves.{SpreadsWindow}
+use Rattle.pass_leaves.specs.LeafArray.Segments.{AreSame}
 use Rattle.leaf_index.specs.Calls.{CanCut, with_cuts}
 use Rattle.leaf_index.specs.Index.{Index, IsIndex}
-use Rattle.leaf_store.proofs.SplitLemmas.{always_err}
-use Rattle.rule_model.specs.Places.{lines}
-use Rattle.rule_model.specs.Steps.{Nothing}
-use Rattle.store_words.specs.Steps.{MayLoad}
-use Rattle.store_rule.specs.Passes.{OnlyAccount}
+use Rattle.pass_leaves.proofs.LeafStore.SplitLemmas.{always_err}
+use Rattle.pass_leaves.specs.RuleModel.Places.{lines}
+use Rattle.pass_leaves.specs.RuleModel.Steps.{Nothing}
+use Rattle.pass_leaves.specs.StoreWords.Steps.{MayLoad}
+use Rattle.pass_leaves.specs.StoreRule.Passes.{OnlyAccount}
 use Rattle.pass_moves.specs.Moving.{values_of}
 use Rattle.pass_moves.specs.Spreading.{moved}
 use Rattle.pass_moves.proofs.HandLemmas.{fits_moved, holds_kept, holds_moved_as}

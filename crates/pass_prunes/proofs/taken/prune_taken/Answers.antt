@@ -1,14 +1,14 @@
 use Rattle.std.proofs.Common.{◌≡◌, ◌++◌, ◌∙◌, List, ℕ, ap, arith, drop, length, refl, subst, sym, take}
 use Rattle.std.proofs.Math.Seq.{take-append_seam}
 use Rattle.epoch_reclaim.specs.Pinned.{horizon_of}
-use Rattle.store_relation.specs.Passes.{PassState}
-use Rattle.rule_model.specs.Places.{lines}
-use Rattle.rule_model.specs.Sight.{with_cells}
+use Rattle.pass_cells.specs.StoreRelation.Passes.{PassState}
+use Rattle.pass_cells.specs.RuleModel.Places.{lines}
+use Rattle.pass_cells.specs.RuleModel.Sight.{with_cells}
 use Rattle.pass_cells.specs.declared.taken.TakenCell.{TakenCell}
 use Rattle.pass_cells.specs.Changes.{news_of}
 use Rattle.pass_cells.specs.Holding.{Holds}
 use Rattle.pass_cells.proofs.AfterLemmas.{holds_told, known_in}
-use Rattle.pass_steps.specs.Passes.{pin_of, state_of}
+use Rattle.pass_sweeps.specs.PassSteps.Passes.{pin_of, state_of}
 use Rattle.pass_sweeps.specs.Pruning.{stamps_seen}
 use Rattle.pass_sweeps.proofs.HandLemmas.{swept_still}
 use Rattle.pass_sweeps.proofs.LawLemmas.{rows_are_pruned_as_seen}

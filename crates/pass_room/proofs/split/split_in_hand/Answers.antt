@@ -1,5 +1,5 @@
 use Rattle.std.proofs.Common.{◌∷◌, [], subst}
-use Rattle.pass_moves.specs.Moving.{values_of}
+use Rattle.pass_splits.specs.PassMoves.Moving.{values_of}
 use Rattle.pass_splits.specs.Splitting.{IsSplit}
 use Rattle.pass_room.proofs.HandLemmas.{goes_on}
 use Rattle.pass_writes.proofs.HandLemmas.{keeps_state}

@@ -1,5 +1,5 @@
 use Rattle.std.proofs.Common.{◌≡◌, ◌++◌, ◌∷◌, [], List, length, take, drop, sym, subst, arith}
-use Rattle.pass_cells.specs.declared.taken.TakenCell.{TakenCell}
+use Rattle.pass_writes.specs.PassCellsDeclared.taken.TakenCell.{TakenCell}
 use Rattle.pass_room.specs.Making.{HasLeavesInHand}
 use Rattle.pass_room.proofs.HandLemmas.{all_given, as_many, states_then}
 use Rattle.pass_room.proofs.split.try_split.Goals as goal

@@ -1,7 +1,7 @@
 use Rattle.std.proofs.Common.{◌≡◌, ◌∷◌, [], refl, sym, ◌∙◌, ap, subst}
 use Rattle.leaf_index.specs.Index.{Index}
-use Rattle.pass_moves.specs.Moving.{values_of}
-use Rattle.pass_moves.specs.Room.{IsCrowdedAt}
+use Rattle.pass_splits.specs.PassMoves.Moving.{values_of}
+use Rattle.pass_splits.specs.PassMoves.Room.{IsCrowdedAt}
 use Rattle.pass_splits.proofs.SplitLemmas.{holds_index}
 use Rattle.pass_room.proofs.HandLemmas.{same_hand}
 use Rattle.pass_room.proofs.spread.look_for_free.Goals as goal

@@ -1,7 +1,7 @@
 use Rattle.std.proofs.Common.{◌≡◌, ◌++◌, ◌∷◌, [], List, length, take, drop, sym, subst, arith}
-use Rattle.pass_cells.specs.declared.taken.TakenCell.{TakenCell}
+use Rattle.pass_writes.specs.PassCellsDeclared.taken.TakenCell.{TakenCell}
 use Rattle.pass_room.specs.Making.{HasLeavesInHand, state_after}
-use Rattle.pass_steps.specs.Passes.{state_of}
+use Rattle.pass_writes.specs.PassSteps.Passes.{state_of}
 use Rattle.pass_room.proofs.HandLemmas.{all_given, as_many, as_then, first_then}
 use Rattle.pass_room.proofs.spread.try_spread.Goals as goal
 

@@ -1,6 +1,6 @@
 use Rattle.std.proofs.Common.{◌≡◌, ◌++◌, ◌∷◌, [], ℕ, List, sym, ◌∙◌, ap, subst}
 use Rattle.leaf_index.specs.Index.{Entry, Index}
-use Rattle.leaf_store.specs.Ranges.{IsLive}
+use Rattle.pass_moves.specs.LeafStore.Ranges.{IsLive}
 use Rattle.pass_moves.specs.Moving.{values_of}
 use Rattle.pass_splits.specs.Splitting.{DividesCells, TakesLeaf}
 use Rattle.pass_splits.proofs.FreeLemmas.{never_none, one_last, takes_leaf}

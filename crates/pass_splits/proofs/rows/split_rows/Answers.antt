@@ -1,8 +1,8 @@
 use Rattle.std.proofs.Common.{◌≡◌, ◌≤◌, length, refl, sym, subst}
-use Rattle.leaf_array.specs.Segments.{AreSame, rows_of}
-use Rattle.leaf_store.specs.Ranges.{IsLive, SplitsEntry}
-use Rattle.leaf_store.proofs.MoveLemmas.{same_respreads}
-use Rattle.leaf_store.proofs.SplitLemmas.{always_err}
+use Rattle.pass_moves.specs.LeafArray.Segments.{AreSame, rows_of}
+use Rattle.pass_moves.specs.LeafStore.Ranges.{IsLive, SplitsEntry}
+use Rattle.pass_moves.proofs.LeafStore.MoveLemmas.{same_respreads}
+use Rattle.pass_moves.proofs.LeafStore.SplitLemmas.{always_err}
 use Rattle.pass_moves.specs.Moving.{values_of}
 use Rattle.pass_moves.proofs.SpreadLemmas.{put_twice}
 use Rattle.pass_splits.proofs.DivideLemmas.{keeps_self}

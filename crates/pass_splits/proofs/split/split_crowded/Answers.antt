@@ -1,14 +1,14 @@
 use Rattle.std.proofs.Common.{◌≡◌, ◌≤◌, ◌++◌, ◌∷◌, [], ℕ, List, length, refl, sym, ◌∙◌, ap, subst, arith}
 use Rattle.std.specs.Prelude.{Some}
-use Rattle.leaf_array.specs.Segments.{AreSame}
+use Rattle.pass_moves.specs.LeafArray.Segments.{AreSame}
 use Rattle.leaf_index.specs.Index.{Index, IsIndex}
-use Rattle.leaf_store.specs.Ranges.{IsLive}
-use Rattle.leaf_store.proofs.SplitLemmas.{always_err}
-use Rattle.rule_model.specs.Places.{lines}
-use Rattle.rule_model.specs.Steps.{Nothing}
-use Rattle.store_words.specs.Steps.{MayLoad}
-use Rattle.pass_cells.specs.declared.taken.TakenCell.{TakenCell}
-use Rattle.pass_leaves.specs.Hand.{HoldsLeaves}
+use Rattle.pass_moves.specs.LeafStore.Ranges.{IsLive}
+use Rattle.pass_moves.proofs.LeafStore.SplitLemmas.{always_err}
+use Rattle.pass_moves.specs.RuleModel.Places.{lines}
+use Rattle.pass_moves.specs.RuleModel.Steps.{Nothing}
+use Rattle.pass_moves.specs.StoreWords.Steps.{MayLoad}
+use Rattle.pass_moves.specs.PassCellsDeclared.taken.TakenCell.{TakenCell}
+use Rattle.pass_moves.specs.PassLeaves.Hand.{HoldsLeaves}
 use Rattle.pass_moves.specs.Moving.{values_of}
 use Rattle.pass_moves.specs.Room.{HasRoom}
 use Rattle.pass_moves.specs.Spreading.{KeepsContents, moved}

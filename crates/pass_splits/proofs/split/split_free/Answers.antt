@@ -1,8 +1,8 @@
 use Rattle.std.proofs.Common.{◌≡◌, ◌≤◌, ◌∷◌, [], ℕ, List, length, take, refl, rules, sym, ◌∙◌, subst, arith}
 use Rattle.std.specs.Prelude.{true}
 use Rattle.leaf_index.specs.Index.{Index}
-use Rattle.leaf_store.proofs.SplitLemmas.{always_err}
-use Rattle.pass_cells.specs.declared.taken.TakenCell.{TakenCell}
+use Rattle.pass_moves.proofs.LeafStore.SplitLemmas.{always_err}
+use Rattle.pass_moves.specs.PassCellsDeclared.taken.TakenCell.{TakenCell}
 use Rattle.pass_moves.specs.Moving.{values_of}
 use Rattle.pass_moves.specs.Room.{IsCrowdedAt, KnowsLeaf}
 use Rattle.pass_splits.proofs.SplitLemmas.{holds_index, knows_front, sixteen_cells}

@@ -1,5 +1,5 @@
 use Rattle.std.proofs.Common.{◌∙◌, ap, sym}
-use Rattle.store_relation.specs.Passes.{PassState}
+use Rattle.store_rule.specs.StoreRelation.Passes.{PassState}
 use Rattle.pass_steps.proofs.beginning.begin.Goals as goal
 
 pub pin-requires-clause-start : goal.pin-requires-clause-start

@@ -1,5 +1,5 @@
-use Rattle.rule_model.specs.Places.{lines}
-use Rattle.rule_model.proofs.TxnLemmas.{clock_is_loaded}
+use Rattle.store_rule.specs.RuleModel.Places.{lines}
+use Rattle.store_rule.proofs.RuleModel.TxnLemmas.{clock_is_loaded}
 use Rattle.pass_steps.specs.Passes.{journal_in, state_in}
 use Rattle.pass_steps.proofs.SightLemmas.{journal_there}
 use Rattle.pass_steps.proofs.beginning.load_clock.Goals as goal

@@ -1,8 +1,8 @@
 use Rattle.std.proofs.Common.{◌≤◌, ◌∙◌, arith, refl, subst, sym}
-use Rattle.store_relation.specs.Shared.{JournalState}
-use Rattle.rule_model.specs.Places.{lines}
-use Rattle.rule_model.specs.Sight.{with_journal}
-use Rattle.rule_model.proofs.TxnLemmas.{room_is_made}
+use Rattle.store_rule.specs.StoreRelation.Shared.{JournalState}
+use Rattle.store_rule.specs.RuleModel.Places.{lines}
+use Rattle.store_rule.specs.RuleModel.Sight.{with_journal}
+use Rattle.store_rule.proofs.RuleModel.TxnLemmas.{room_is_made}
 use Rattle.store_rule.specs.Passes.{OnlyAccount}
 use Rattle.pass_steps.specs.Passes.{journal_in}
 use Rattle.pass_steps.proofs.PassLemmas.{taken_journal}

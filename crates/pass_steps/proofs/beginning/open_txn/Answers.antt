@@ -1,7 +1,7 @@
 use Rattle.std.proofs.Common.{◌≡◌, ◌<◌, ◌^◌, subst, sym}
 use Rattle.std.specs.Prelude.{IfOk, OnErr, true}
-use Rattle.store_relation.specs.Passes.{PassState, number_of}
-use Rattle.rule_model.specs.Sight.{PinState}
+use Rattle.store_rule.specs.StoreRelation.Passes.{PassState, number_of}
+use Rattle.store_rule.specs.RuleModel.Sight.{PinState}
 use Rattle.store_rule.specs.Slots.{IsListOf}
 use Rattle.pass_steps.specs.Journal.{HasTaken}
 use Rattle.pass_steps.specs.Passes.{HasNoTxn}

@@ -1,8 +1,8 @@
 use Rattle.std.proofs.Common.{◌∙◌, ◌<◌, ap, arith, length, subst, sym}
 use Rattle.std.specs.Prelude.{true}
-use Rattle.store_relation.specs.Passes.{PassState, number_of}
-use Rattle.store_relation.specs.Steps.{begun}
-use Rattle.rule_model.specs.Sight.{PinState}
+use Rattle.store_rule.specs.StoreRelation.Passes.{PassState, number_of}
+use Rattle.store_rule.specs.StoreRelation.Steps.{begun}
+use Rattle.store_rule.specs.RuleModel.Sight.{PinState}
 use Rattle.pass_steps.specs.Passes.{pin_of, state_of}
 use Rattle.pass_steps.proofs.HandLemmas.{clock_told, hand_announced, hand_begun, opens_by}
 use Rattle.pass_steps.proofs.PassLemmas.{taken_own, taken_same}

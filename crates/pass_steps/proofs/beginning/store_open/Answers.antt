@@ -1,10 +1,10 @@
 use Rattle.std.proofs.Common.{refl, subst, sym}
 use Rattle.std.specs.Prelude.{◌≤◌}
-use Rattle.store_relation.specs.Shared.{JournalState}
-use Rattle.store_relation.specs.Steps.{begun}
-use Rattle.rule_model.specs.Places.{lines}
-use Rattle.rule_model.specs.Sight.{with_pass}
-use Rattle.rule_model.proofs.TxnLemmas.{transaction_begins}
+use Rattle.store_rule.specs.StoreRelation.Shared.{JournalState}
+use Rattle.store_rule.specs.StoreRelation.Steps.{begun}
+use Rattle.store_rule.specs.RuleModel.Places.{lines}
+use Rattle.store_rule.specs.RuleModel.Sight.{with_pass}
+use Rattle.store_rule.proofs.RuleModel.TxnLemmas.{transaction_begins}
 use Rattle.pass_steps.specs.Passes.{journal_in, pin_in, state_in}
 use Rattle.pass_steps.proofs.SightLemmas.{journal_is, journal_there}
 use Rattle.pass_steps.proofs.StepLemmas.{stores_quietly}

@@ -1,5 +1,5 @@
-use Rattle.rule_model.specs.Sight.{with_pass}
-use Rattle.store_relation.specs.Steps.{begun}
+use Rattle.store_rule.specs.RuleModel.Sight.{with_pass}
+use Rattle.store_rule.specs.StoreRelation.Steps.{begun}
 use Rattle.pass_steps.specs.Passes.{journal_in, state_in}
 use Rattle.pass_steps.proofs.beginning.store_open.Given as given
 

@@ -1,8 +1,8 @@
 use Rattle.std.proofs.Common.{◌≡◌, ◌∙◌, ◌<◌, [], ap, length, subst, sym}
 use Rattle.std.specs.Prelude.{Some, None, true, false, ◌==◌}
 use Rattle.graph_model.specs.AccountSteps.{CommitsBy}
-use Rattle.store_relation.specs.Passes.{account_of}
-use Rattle.store_relation.specs.Steps.{ended, stopped}
+use Rattle.store_rule.specs.StoreRelation.Passes.{account_of}
+use Rattle.store_rule.specs.StoreRelation.Steps.{ended, stopped}
 use Rattle.pass_steps.specs.Passes.{state_of}
 use Rattle.pass_steps.specs.Txns.{HasCommitted}
 use Rattle.pass_steps.proofs.PassLemmas.{state_is}

@@ -1,7 +1,7 @@
 use Rattle.std.proofs.Common.{◌≡◌, ◌∙◌, ◌+◌, sym, ap, subst}
-use Rattle.store_relation.specs.Passes.{name_at}
-use Rattle.store_relation.specs.Shared.{entry_of}
-use Rattle.store_relation.specs.Steps.{committing, with_entry}
+use Rattle.store_rule.specs.StoreRelation.Passes.{name_at}
+use Rattle.store_rule.specs.StoreRelation.Shared.{entry_of}
+use Rattle.store_rule.specs.StoreRelation.Steps.{committing, with_entry}
 use Rattle.store_rule.specs.Slots.{IsListOf}
 use Rattle.pass_steps.specs.Passes.{pin_of, state_of}
 use Rattle.pass_steps.proofs.HandLemmas.{clock_told, hand_published, hand_stamped, list_published}

@@ -1,12 +1,12 @@
 use Rattle.std.proofs.Common.{◌≡◌, ◌+◌, ◌∙◌, ap, length, sym}
 use Rattle.graph_model.specs.Legal.{IsLegal}
-use Rattle.store_relation.specs.Keys.{changed_keys}
-use Rattle.store_relation.specs.Shared.{JournalState, entries}
-use Rattle.store_relation.specs.Steps.{committed, published_now}
-use Rattle.store_relation.proofs.KeyLemmas.{changed_covers}
-use Rattle.rule_model.specs.Places.{lines}
-use Rattle.rule_model.specs.Sight.{with_commit}
-use Rattle.rule_model.proofs.TxnLemmas.{commit_is_published}
+use Rattle.store_rule.specs.StoreRelation.Keys.{changed_keys}
+use Rattle.store_rule.specs.StoreRelation.Shared.{JournalState, entries}
+use Rattle.store_rule.specs.StoreRelation.Steps.{committed, published_now}
+use Rattle.store_rule.proofs.StoreRelation.KeyLemmas.{changed_covers}
+use Rattle.store_rule.specs.RuleModel.Places.{lines}
+use Rattle.store_rule.specs.RuleModel.Sight.{with_commit}
+use Rattle.store_rule.proofs.RuleModel.TxnLemmas.{commit_is_published}
 use Rattle.pass_steps.specs.Passes.{journal_in, state_in}
 use Rattle.pass_steps.proofs.SightLemmas.{journal_is, journal_there}
 use Rattle.pass_steps.proofs.StepLemmas.{stores_at}

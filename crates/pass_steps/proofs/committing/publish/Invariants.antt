@@ -1,8 +1,8 @@
 use Rattle.graph_model.specs.Legal.{IsLegal}
-use Rattle.rule_model.specs.Sight.{with_commit}
-use Rattle.store_relation.specs.Keys.{changed_keys}
-use Rattle.store_relation.specs.Shared.{entries}
-use Rattle.store_relation.specs.Steps.{committed, published_now}
+use Rattle.store_rule.specs.RuleModel.Sight.{with_commit}
+use Rattle.store_rule.specs.StoreRelation.Keys.{changed_keys}
+use Rattle.store_rule.specs.StoreRelation.Shared.{entries}
+use Rattle.store_rule.specs.StoreRelation.Steps.{committed, published_now}
 use Rattle.pass_steps.specs.Passes.{journal_in, state_in}
 use Rattle.pass_steps.proofs.committing.publish.Given as given
 

@@ -1,10 +1,10 @@
 use Rattle.std.proofs.Common.{◌≡◌, ◌+◌, ◌∙◌, [], ap, length, sym}
-use Rattle.store_relation.specs.Shared.{JournalState}
-use Rattle.store_relation.specs.Steps.{committing, with_entry}
-use Rattle.store_relation.specs.Words.{commit_word}
-use Rattle.rule_model.specs.Places.{lines}
-use Rattle.rule_model.specs.Sight.{with_commit}
-use Rattle.rule_model.proofs.TxnLemmas.{stamp_is_stored}
+use Rattle.store_rule.specs.StoreRelation.Shared.{JournalState}
+use Rattle.store_rule.specs.StoreRelation.Steps.{committing, with_entry}
+use Rattle.store_rule.specs.StoreRelation.Words.{commit_word}
+use Rattle.store_rule.specs.RuleModel.Places.{lines}
+use Rattle.store_rule.specs.RuleModel.Sight.{with_commit}
+use Rattle.store_rule.proofs.RuleModel.TxnLemmas.{stamp_is_stored}
 use Rattle.pass_steps.specs.Passes.{journal_in, state_in}
 use Rattle.pass_steps.proofs.SightLemmas.{journal_is, journal_there}
 use Rattle.pass_steps.proofs.StepLemmas.{stores_quietly}

@@ -1,5 +1,5 @@
-use Rattle.rule_model.specs.Sight.{with_commit}
-use Rattle.store_relation.specs.Steps.{committing, with_entry}
+use Rattle.store_rule.specs.RuleModel.Sight.{with_commit}
+use Rattle.store_rule.specs.StoreRelation.Steps.{committing, with_entry}
 use Rattle.pass_steps.specs.Passes.{journal_in, state_in}
 use Rattle.pass_steps.proofs.committing.store_stamp.Given as given
 

@@ -1,9 +1,9 @@
 use Rattle.std.proofs.Common.{refl, sym}
 use Rattle.std.specs.Prelude.{None}
-use Rattle.store_relation.specs.Steps.{ended}
-use Rattle.rule_model.specs.Places.{lines}
-use Rattle.rule_model.specs.Sight.{with_pass}
-use Rattle.rule_model.proofs.TxnLemmas.{transaction_ends}
+use Rattle.store_rule.specs.StoreRelation.Steps.{ended}
+use Rattle.store_rule.specs.RuleModel.Places.{lines}
+use Rattle.store_rule.specs.RuleModel.Sight.{with_pass}
+use Rattle.store_rule.proofs.RuleModel.TxnLemmas.{transaction_ends}
 use Rattle.pass_steps.specs.Passes.{state_in}
 use Rattle.pass_steps.proofs.StepLemmas.{stores_quietly}
 use Rattle.pass_steps.proofs.ending.end.Goals as goal

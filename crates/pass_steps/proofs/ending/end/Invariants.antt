@@ -1,6 +1,6 @@
 use Rattle.std.specs.Prelude.{None}
-use Rattle.rule_model.specs.Sight.{with_pass}
-use Rattle.store_relation.specs.Steps.{ended}
+use Rattle.store_rule.specs.RuleModel.Sight.{with_pass}
+use Rattle.store_rule.specs.StoreRelation.Steps.{ended}
 use Rattle.pass_steps.specs.Passes.{state_in}
 use Rattle.pass_steps.proofs.ending.end.Given as given
 

@@ -1,5 +1,5 @@
-use Rattle.rule_model.specs.Places.{lines}
-use Rattle.rule_model.proofs.TxnLemmas.{abort_begins}
+use Rattle.store_rule.specs.RuleModel.Places.{lines}
+use Rattle.store_rule.proofs.RuleModel.TxnLemmas.{abort_begins}
 use Rattle.pass_steps.specs.Passes.{state_in}
 use Rattle.pass_steps.proofs.ending.stop.Goals as goal
 

@@ -1,5 +1,5 @@
-use Rattle.rule_model.specs.Places.{lines}
-use Rattle.rule_model.proofs.NoteStepLemmas.{pass_learns}
+use Rattle.store_rule.specs.RuleModel.Places.{lines}
+use Rattle.store_rule.proofs.RuleModel.NoteStepLemmas.{pass_learns}
 use Rattle.pass_steps.specs.Passes.{state_in}
 use Rattle.pass_steps.proofs.learning.learn.Goals as goal
 

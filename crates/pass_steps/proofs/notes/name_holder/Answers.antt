@@ -1,8 +1,8 @@
 use Rattle.std.proofs.Common.{◌≡◌, ◌∙◌, [], ap, subst, sym}
-use Rattle.store_relation.specs.Passes.{PassState}
-use Rattle.store_relation.specs.Steps.{sighting, with_holder}
-use Rattle.rule_model.specs.Places.{lines}
-use Rattle.rule_model.specs.Sight.{HasPass, Sight, with_pass}
+use Rattle.store_rule.specs.StoreRelation.Passes.{PassState}
+use Rattle.store_rule.specs.StoreRelation.Steps.{sighting, with_holder}
+use Rattle.store_rule.specs.RuleModel.Places.{lines}
+use Rattle.store_rule.specs.RuleModel.Sight.{HasPass, Sight, with_pass}
 use Rattle.pass_steps.specs.Passes.{state_in}
 use Rattle.pass_steps.proofs.NoteLemmas.{holder_may_be_found, holder_may_be_named}
 use Rattle.pass_steps.proofs.SightLemmas.{own_rows, state_here}

@@ -1,4 +1,4 @@
-use Rattle.rule_model.specs.Places.{lines}
+use Rattle.store_rule.specs.RuleModel.Places.{lines}
 use Rattle.pass_steps.specs.Passes.{state_in}
 use Rattle.pass_steps.proofs.NoteLemmas.{later_may_be_noted}
 use Rattle.pass_steps.proofs.notes.note_later.Goals as goal

@@ -1,8 +1,8 @@
 use Rattle.std.specs.Prelude.{true}
-use Rattle.rule_model.specs.Places.{lines}
-use Rattle.rule_model.specs.Sight.{with_pin}
-use Rattle.rule_model.proofs.PinStepLemmas.{pass_announces}
-use Rattle.store_words.proofs.CellLemmas.{tells_nothing}
+use Rattle.store_rule.specs.RuleModel.Places.{lines}
+use Rattle.store_rule.specs.RuleModel.Sight.{with_pin}
+use Rattle.store_rule.proofs.RuleModel.PinStepLemmas.{pass_announces}
+use Rattle.store_rule.proofs.StoreWords.CellLemmas.{tells_nothing}
 use Rattle.pass_steps.specs.Passes.{pin_in, state_in}
 use Rattle.pass_steps.proofs.pins.announce.Goals as goal
 

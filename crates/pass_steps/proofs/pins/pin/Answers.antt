@@ -1,9 +1,9 @@
 use Rattle.std.proofs.Common.{ap, refl, sym}
 use Rattle.std.specs.Prelude.{false}
 use Rattle.epoch_reclaim.specs.Pinned.{pinned_word}
-use Rattle.rule_model.specs.Places.{lines}
-use Rattle.rule_model.specs.Sight.{with_pin}
-use Rattle.rule_model.proofs.PinStepLemmas.{pass_pins}
+use Rattle.store_rule.specs.RuleModel.Places.{lines}
+use Rattle.store_rule.specs.RuleModel.Sight.{with_pin}
+use Rattle.store_rule.proofs.RuleModel.PinStepLemmas.{pass_pins}
 use Rattle.pass_steps.specs.Passes.{pin_in, state_in}
 use Rattle.pass_steps.proofs.StepLemmas.{stores_quietly}
 use Rattle.pass_steps.proofs.pins.pin.Goals as goal

@@ -1,5 +1,5 @@
 use Rattle.std.specs.Prelude.{false}
-use Rattle.rule_model.specs.Sight.{with_pin}
+use Rattle.store_rule.specs.RuleModel.Sight.{with_pin}
 use Rattle.pass_steps.specs.Passes.{pin_in}
 use Rattle.pass_steps.proofs.pins.pin.Given as given
 

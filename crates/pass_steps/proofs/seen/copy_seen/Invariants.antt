@@ -1,4 +1,4 @@
-use Rattle.rule_model.specs.Sight.{no_sight}
+use Rattle.store_rule.specs.RuleModel.Sight.{no_sight}
 use Rattle.pass_steps.specs.Passes.{state_in}
 use Rattle.pass_steps.proofs.seen.copy_seen.Given as given
 

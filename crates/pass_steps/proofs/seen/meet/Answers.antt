@@ -1,6 +1,6 @@
 use Rattle.std.proofs.Common.{◌≡◌, ◌∙◌, ap}
-use Rattle.rule_model.specs.Sight.{no_sight}
-use Rattle.rule_model.specs.ViewSteps.{joined}
+use Rattle.store_rule.specs.RuleModel.Sight.{no_sight}
+use Rattle.store_rule.specs.RuleModel.ViewSteps.{joined}
 use Rattle.pass_steps.specs.Asking.{lent_part}
 use Rattle.pass_steps.specs.Passes.{state_of}
 use Rattle.pass_steps.specs.Txns.{told_seen}

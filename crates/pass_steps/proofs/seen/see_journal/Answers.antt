@@ -1,5 +1,5 @@
-use Rattle.rule_model.specs.Places.{lines}
-use Rattle.rule_model.proofs.TxnLemmas.{journal_is_seen}
+use Rattle.store_rule.specs.RuleModel.Places.{lines}
+use Rattle.store_rule.proofs.RuleModel.TxnLemmas.{journal_is_seen}
 use Rattle.pass_steps.specs.Passes.{journal_in, state_in}
 use Rattle.pass_steps.proofs.SightLemmas.{journal_there}
 use Rattle.pass_steps.proofs.seen.see_journal.Goals as goal

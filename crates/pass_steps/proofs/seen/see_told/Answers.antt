@@ -1,5 +1,5 @@
-use Rattle.rule_model.specs.Places.{lines}
-use Rattle.rule_model.proofs.TxnLemmas.{passes_meet}
+use Rattle.store_rule.specs.RuleModel.Places.{lines}
+use Rattle.store_rule.proofs.RuleModel.TxnLemmas.{passes_meet}
 use Rattle.pass_steps.specs.Passes.{state_in}
 use Rattle.pass_steps.proofs.seen.see_told.Goals as goal
 

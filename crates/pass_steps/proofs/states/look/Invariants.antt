@@ -1,5 +1,5 @@
 use Rattle.std.specs.Prelude.{◌≡◌, ◌⊎◌, ◌<◌}
-use Rattle.store_relation.specs.ReadLaws.{Answers}
+use Rattle.store_rule.specs.StoreRelation.ReadLaws.{Answers}
 use Rattle.pass_steps.specs.Asking.{word_kept}
 use Rattle.pass_steps.specs.Passes.{state_in}
 use Rattle.pass_steps.proofs.states.look.Given as given

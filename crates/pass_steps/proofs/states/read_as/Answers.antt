@@ -4,9 +4,9 @@ use Rattle.graph_model.specs.declared.row.Key.{Key}
 use Rattle.graph_model.specs.Rows.{key_cmp}
 use Rattle.txn_manager.specs.declared.config.Config.{Config}
 use Rattle.store_model.specs.Stamped.{StampedVersions}
-use Rattle.version_segment.specs.Checks.{IsNamed}
-use Rattle.version_segment.specs.Rows.{or_nothing}
-use Rattle.rule_model.specs.Sight.{Sight}
+use Rattle.store_rule.specs.VersionSegment.Checks.{IsNamed}
+use Rattle.store_rule.specs.VersionSegment.Rows.{or_nothing}
+use Rattle.store_rule.specs.RuleModel.Sight.{Sight}
 use Rattle.pass_steps.specs.Asking.{Asking, is_writer}
 use Rattle.pass_steps.proofs.WriterLemmas.{writers_named}
 use Rattle.pass_steps.proofs.states.read_as.Goals as goal

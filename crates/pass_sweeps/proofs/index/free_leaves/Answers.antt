@@ -1,9 +1,9 @@
 use Rattle.std.proofs.Common.{◌≡◌, ◌∙◌, ap, arith, subst, sym}
 use Rattle.leaf_index.specs.Calls.{freed}
 use Rattle.leaf_index.specs.Index.{Index, IsIndex}
-use Rattle.rule_model.specs.Places.{lines}
-use Rattle.rule_model.specs.Sight.{IndexState}
-use Rattle.rule_model.proofs.PinStepLemmas.{leaves_are_freed}
+use Rattle.pass_steps.specs.RuleModel.Places.{lines}
+use Rattle.pass_steps.specs.RuleModel.Sight.{IndexState}
+use Rattle.pass_steps.proofs.RuleModel.PinStepLemmas.{leaves_are_freed}
 use Rattle.pass_steps.specs.Passes.{pin_in}
 use Rattle.pass_sweeps.specs.Sweeping.{bound_of, index_in}
 use Rattle.pass_sweeps.proofs.HandLemmas.{index_is, index_there}

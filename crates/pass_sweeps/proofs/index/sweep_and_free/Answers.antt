@@ -1,5 +1,5 @@
 use Rattle.std.proofs.Common.{◌≡◌, ◌∙◌, ap, refl, sym, Some, None}
-use Rattle.rule_model.specs.Sight.{IndexState}
+use Rattle.pass_steps.specs.RuleModel.Sight.{IndexState}
 use Rattle.pass_steps.specs.Passes.{pin_of}
 use Rattle.pass_sweeps.specs.Sweeping.{index_in, leaves_freed, with_sweep}
 use Rattle.pass_sweeps.proofs.HandLemmas.{index_is, sweep_index}

@@ -1,4 +1,4 @@
-use Rattle.rule_model.specs.Places.{lines}
+use Rattle.pass_steps.specs.RuleModel.Places.{lines}
 use Rattle.pass_steps.specs.Passes.{pin_in}
 use Rattle.pass_sweeps.specs.Sweeping.{index_in}
 use Rattle.pass_sweeps.proofs.HandLemmas.{index_there}

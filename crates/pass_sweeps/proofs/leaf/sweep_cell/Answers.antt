@@ -1,5 +1,5 @@
 use Rattle.std.proofs.Common.{◌∙◌, subst, sym}
-use Rattle.rule_model.specs.Sight.{HasCell}
+use Rattle.pass_steps.specs.RuleModel.Sight.{HasCell}
 use Rattle.pass_steps.specs.Passes.{pin_of, state_of}
 use Rattle.pass_sweeps.specs.Pruning.{HasCellOnly}
 use Rattle.pass_sweeps.proofs.HandLemmas.{swept_still}

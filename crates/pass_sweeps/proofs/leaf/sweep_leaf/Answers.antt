@@ -1,6 +1,6 @@
 use Rattle.std.proofs.Common.{◌≡◌, ◌+◌, ◌∙◌, ◌<◌, ap, refl, subst, sym, arith}
 use Rattle.epoch_reclaim.specs.Pinned.{horizon_of}
-use Rattle.store_relation.specs.Passes.{PassState}
+use Rattle.pass_steps.specs.StoreRelation.Passes.{PassState}
 use Rattle.pass_steps.specs.Passes.{state_of}
 use Rattle.pass_sweeps.specs.Pruning.{TakesAway, TakesAwayOf, stamps_seen}
 use Rattle.pass_sweeps.specs.declared.leaf.LeafSwept.{LeafSwept}

@@ -1,4 +1,4 @@
-use Rattle.rule_model.specs.Places.{lines}
+use Rattle.pass_steps.specs.RuleModel.Places.{lines}
 use Rattle.pass_steps.specs.Passes.{pin_in, state_in}
 use Rattle.pass_sweeps.proofs.LawLemmas.{other_sweep_is_behind}
 use Rattle.pass_sweeps.proofs.pins.begin_sweep.Goals as goal

@@ -1,6 +1,6 @@
 use Rattle.std.specs.Prelude.{◌≤◌, length, Some}
 use Rattle.epoch_reclaim.specs.Pinned.{begun}
-use Rattle.rule_model.specs.Sight.{with_pin}
+use Rattle.pass_steps.specs.RuleModel.Sight.{with_pin}
 use Rattle.pass_steps.specs.Passes.{pin_in, state_in}
 use Rattle.pass_sweeps.specs.Sweeping.{with_sweep}
 use Rattle.pass_sweeps.proofs.pins.begin_sweep.Given as given

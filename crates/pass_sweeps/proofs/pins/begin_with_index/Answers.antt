@@ -1,6 +1,6 @@
 use Rattle.std.proofs.Common.{◌∙◌, ap}
-use Rattle.rule_model.specs.Places.{lines}
-use Rattle.rule_model.specs.Sight.{IndexState}
+use Rattle.pass_steps.specs.RuleModel.Places.{lines}
+use Rattle.pass_steps.specs.RuleModel.Sight.{IndexState}
 use Rattle.pass_steps.specs.Passes.{pin_in, state_in}
 use Rattle.pass_sweeps.specs.Sweeping.{index_in}
 use Rattle.pass_sweeps.proofs.HandLemmas.{index_is, index_there}

@@ -1,6 +1,6 @@
 use Rattle.std.specs.Prelude.{◌≤◌, length, Some}
 use Rattle.epoch_reclaim.specs.Pinned.{begun}
-use Rattle.rule_model.specs.PinSteps.{with_sweeper}
+use Rattle.pass_steps.specs.RuleModel.PinSteps.{with_sweeper}
 use Rattle.pass_steps.specs.Passes.{pin_in, state_in}
 use Rattle.pass_sweeps.specs.Sweeping.{index_in, with_sweep}
 use Rattle.pass_sweeps.proofs.pins.begin_with_index.Given as given

@@ -1,5 +1,5 @@
-use Rattle.rule_model.specs.Places.{lines}
-use Rattle.rule_model.proofs.PinStepLemmas.{other_sweep_ends_step}
+use Rattle.pass_steps.specs.RuleModel.Places.{lines}
+use Rattle.pass_steps.proofs.RuleModel.PinStepLemmas.{other_sweep_ends_step}
 use Rattle.pass_steps.specs.Passes.{pin_in}
 use Rattle.pass_sweeps.proofs.pins.end_sweep.Goals as goal
 

@@ -1,6 +1,6 @@
 use Rattle.std.proofs.Common.{◌∙◌, ap, arith, refl, subst, sym, Some}
 use Rattle.epoch_reclaim.specs.declared.sweep.Sweep.{Sweep}
-use Rattle.rule_model.specs.Sight.{PinState}
+use Rattle.pass_steps.specs.RuleModel.Sight.{PinState}
 use Rattle.pass_sweeps.specs.Sweeping.{OnlySweep}
 use Rattle.pass_sweeps.proofs.HandLemmas.{only_first, only_of, only_then, sweep_of, sweep_pin}
 use Rattle.pass_sweeps.proofs.pins.look_at_all.Goals as goal

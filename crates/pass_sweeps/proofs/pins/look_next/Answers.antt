@@ -1,5 +1,5 @@
-use Rattle.rule_model.specs.Places.{lines}
-use Rattle.rule_model.proofs.PinStepLemmas.{sweep_looks_step}
+use Rattle.pass_steps.specs.RuleModel.Places.{lines}
+use Rattle.pass_steps.proofs.RuleModel.PinStepLemmas.{sweep_looks_step}
 use Rattle.pass_steps.specs.Passes.{pin_in}
 use Rattle.pass_sweeps.proofs.pins.look_next.Goals as goal
 

@@ -1,6 +1,6 @@
 use Rattle.std.specs.Prelude.{Some}
 use Rattle.epoch_reclaim.specs.Pinned.{looked_at}
-use Rattle.rule_model.specs.Sight.{with_pin}
+use Rattle.pass_steps.specs.RuleModel.Sight.{with_pin}
 use Rattle.pass_steps.specs.Passes.{pin_in}
 use Rattle.pass_sweeps.specs.Sweeping.{with_sweep}
 use Rattle.pass_sweeps.proofs.pins.look_next.Given as given

@@ -1,4 +1,4 @@
-use Rattle.rule_model.specs.Places.{lines}
+use Rattle.pass_steps.specs.RuleModel.Places.{lines}
 use Rattle.pass_steps.specs.Passes.{pin_of, state_of}
 use Rattle.pass_sweeps.specs.Pruning.{news_of}
 use Rattle.pass_sweeps.proofs.LawLemmas.{rows_are_pruned_as_seen}

@@ -2,8 +2,8 @@ use Rattle.std.proofs.Common.{List, ap, subst, sym}
 use Rattle.graph_model.specs.declared.row.Key.{Key}
 use Rattle.txn_manager.specs.declared.config.Config.{Config}
 use Rattle.store_model.specs.Stamped.{StampedVersions}
-use Rattle.version_segment.specs.Checks.{AreNamedRows}
-use Rattle.rule_model.specs.Sight.{Sight}
+use Rattle.pass_steps.specs.VersionSegment.Checks.{AreNamedRows}
+use Rattle.pass_steps.specs.RuleModel.Sight.{Sight}
 use Rattle.pass_steps.specs.Asking.{Asking, is_writer}
 use Rattle.pass_steps.specs.Passes.{state_of}
 use Rattle.pass_sweeps.proofs.CellLemmas.{rows_named, same_back}

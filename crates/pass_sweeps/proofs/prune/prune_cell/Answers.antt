@@ -1,11 +1,11 @@
 use Rattle.std.proofs.Common.{◌≡◌, ◌∙◌, arith, subst, sym}
 use Rattle.seat_views.proofs.NumberLemmas.{some_is}
-use Rattle.cells_model.specs.Cells.{unpacked}
-use Rattle.rule_model.specs.Sight.{HasCell, PinState}
+use Rattle.pass_steps.specs.CellsModel.Cells.{unpacked}
+use Rattle.pass_steps.specs.RuleModel.Sight.{HasCell, PinState}
 use Rattle.epoch_reclaim.specs.Pinned.{horizon_of}
-use Rattle.store_relation.specs.Passes.{PassState}
-use Rattle.store_rule.specs.Slots.{RestsAs}
-use Rattle.version_segment.specs.Rows.{VersionedRows}
+use Rattle.pass_steps.specs.StoreRelation.Passes.{PassState}
+use Rattle.pass_steps.specs.StoreRule.Slots.{RestsAs}
+use Rattle.pass_steps.specs.VersionSegment.Rows.{VersionedRows}
 use Rattle.pass_steps.specs.Passes.{pin_of, state_of}
 use Rattle.pass_sweeps.specs.Pruning.{HasCellOnly, IsPruned, IsUnpackedAs, stamps_seen}
 use Rattle.pass_sweeps.proofs.CellLemmas.{cell_packed, cell_unpacked, own_self, own_state, pack_keeps, pruned_moves, self_found, unpack_keeps, unpacked_as}

@@ -1,7 +1,7 @@
 use Rattle.std.proofs.Common.{arith, refl, subst, sym}
 use Rattle.epoch_reclaim.specs.Pinned.{horizon_of}
-use Rattle.version_segment.specs.Rows.{PrunesRows}
-use Rattle.store_relation.specs.Passes.{PassState}
+use Rattle.pass_steps.specs.VersionSegment.Rows.{PrunesRows}
+use Rattle.pass_steps.specs.StoreRelation.Passes.{PassState}
 use Rattle.pass_steps.specs.Passes.{pin_of, state_of}
 use Rattle.pass_sweeps.specs.Pruning.{stamps_seen}
 use Rattle.pass_sweeps.proofs.CellLemmas.{account_found, after_learning, after_looks, after_prune, can_prune, looks_found, own_state, pruned_as, same_as}

@@ -1,4 +1,4 @@
-use Rattle.rule_model.specs.Places.{lines}
+use Rattle.pass_steps.specs.RuleModel.Places.{lines}
 use Rattle.pass_steps.specs.Passes.{state_in}
 use Rattle.pass_sweeps.proofs.LawLemmas.{writers_are_known}
 use Rattle.pass_sweeps.proofs.seen.learn_writers.Goals as goal

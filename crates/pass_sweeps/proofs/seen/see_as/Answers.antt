@@ -1,7 +1,7 @@
 use Rattle.std.proofs.Common.{◌≡◌, ◌∙◌, ◌<◌, List, ap, sym, subst}
 use Rattle.atomic_table.specs.Seated.{TableId}
 use Rattle.graph_model.specs.declared.journal.Commit.{Commit}
-use Rattle.store_words.proofs.StepLemmas.{on_table}
+use Rattle.pass_steps.proofs.StoreWords.StepLemmas.{on_table}
 use Rattle.pass_sweeps.proofs.seen.see_as.Goals as goal
 
 pub load-requires : goal.load-requires

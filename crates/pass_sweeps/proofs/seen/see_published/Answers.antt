@@ -1,5 +1,5 @@
 use Rattle.std.proofs.Common.{◌≤◌, subst}
-use Rattle.rule_model.specs.Places.{lines}
+use Rattle.pass_steps.specs.RuleModel.Places.{lines}
 use Rattle.pass_steps.specs.Passes.{pin_in, state_in}
 use Rattle.pass_sweeps.proofs.LawLemmas.{published_is_seen}
 use Rattle.pass_sweeps.proofs.seen.see_published.Goals as goal

@@ -1,5 +1,5 @@
-use Rattle.rule_model.specs.Sight.{with_pass}
-use Rattle.store_relation.specs.Steps.{refreshed}
+use Rattle.pass_steps.specs.RuleModel.Sight.{with_pass}
+use Rattle.pass_steps.specs.StoreRelation.Steps.{refreshed}
 use Rattle.pass_steps.specs.Passes.{pin_in, state_in}
 use Rattle.pass_sweeps.specs.SweepLaws.{TellsPublished}
 use Rattle.pass_sweeps.proofs.seen.see_published.Given as given

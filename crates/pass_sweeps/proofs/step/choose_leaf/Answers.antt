@@ -1,6 +1,6 @@
 use Rattle.std.proofs.Common.{◌∙◌, ◌<◌, ap, refl, subst, sym}
 use Rattle.leaf_index.specs.Index.{Index}
-use Rattle.rule_model.specs.Sight.{IndexState}
+use Rattle.pass_steps.specs.RuleModel.Sight.{IndexState}
 use Rattle.pass_sweeps.proofs.HandLemmas.{index_is}
 use Rattle.pass_sweeps.proofs.step.choose_leaf.Goals as goal
 

@@ -1,4 +1,4 @@
-use Rattle.pass_steps.specs.Asking.{asking_of}
+use Rattle.pass_prunes.specs.PassSteps.Asking.{asking_of}
 use Rattle.pass_writes.proofs.checks.check.Given as given
 
 abbrev pub ghosts-check_as : given.ghosts-check_as

@@ -1,6 +1,6 @@
 use Rattle.pass_writes.proofs.CheckLemmas.{found_asking, named_asked, shown, tells_edges}
 use Rattle.pass_writes.proofs.StateLemmas.{looked_through}
-use Rattle.pass_steps.specs.Passes.{state_of}
+use Rattle.pass_prunes.specs.PassSteps.Passes.{state_of}
 use Rattle.pass_writes.specs.Found.{view_of}
 use Rattle.pass_writes.proofs.checks.check_as.Goals as goal
 

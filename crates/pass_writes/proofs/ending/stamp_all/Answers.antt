@@ -2,7 +2,7 @@ use Rattle.std.proofs.Common.{◌≡◌, ℕ, suc, ◌+◌, ◌<◌, ◌≤◌, 
 use Rattle.std.proofs.lemmas.Option.{slice_get-get_or}
 use Rattle.graph_model.specs.declared.write.Write.{Write}
 use Rattle.graph_model.specs.declared.write.Write.TheVariants.{AddVertex}
-use Rattle.pass_steps.specs.Passes.{state_of}
+use Rattle.pass_prunes.specs.PassSteps.Passes.{state_of}
 use Rattle.pass_writes.specs.Ending.{AreLeft}
 use Rattle.pass_writes.proofs.StateLemmas.{drop_at, drop_end, none_left, same_again, stamps_on}
 use Rattle.pass_writes.proofs.ending.stamp_all.Goals as goal

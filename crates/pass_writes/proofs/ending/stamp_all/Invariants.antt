@@ -1,5 +1,5 @@
 use Rattle.std.proofs.Common.{◌≡◌, drop}
-use Rattle.pass_steps.specs.Passes.{IsSamePass, pin_of, state_of}
+use Rattle.pass_prunes.specs.PassSteps.Passes.{IsSamePass, pin_of, state_of}
 use Rattle.pass_writes.specs.Ending.{AreLeft, LeavesRows}
 use Rattle.pass_writes.specs.Hand.{HasNothing}
 use Rattle.pass_writes.proofs.ending.stamp_all.Given as goal

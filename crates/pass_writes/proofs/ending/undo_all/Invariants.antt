@@ -1,6 +1,6 @@
 use Rattle.std.proofs.Common.{◌≡◌, ◌≤◌, length, take}
-use Rattle.store_relation.specs.Steps.{taken_back}
-use Rattle.pass_steps.specs.Passes.{IsSamePass, pin_of, state_of}
+use Rattle.pass_prunes.specs.StoreRelation.Steps.{taken_back}
+use Rattle.pass_prunes.specs.PassSteps.Passes.{IsSamePass, pin_of, state_of}
 use Rattle.pass_writes.specs.Hand.{HasNothing}
 use Rattle.pass_writes.proofs.ending.undo_all.Given as goal
 

@@ -1,6 +1,6 @@
 use Rattle.std.proofs.Common.{◌∙◌}
-use Rattle.row_writes.specs.Written.{rows_of}
-use Rattle.pass_cells.specs.Taken.{rows_in}
+use Rattle.pass_prunes.specs.RowWrites.Written.{rows_of}
+use Rattle.pass_prunes.specs.PassCells.Taken.{rows_in}
 use Rattle.pass_writes.proofs.ShortLemmas.{short_room}
 use Rattle.pass_writes.proofs.making.write.Goals as goal
 

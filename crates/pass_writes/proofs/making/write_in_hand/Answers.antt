@@ -1,7 +1,7 @@
 use Rattle.std.proofs.Common.{ℕ, ◌∙◌, ap, subst}
 use Rattle.std.specs.Prelude.{Err}
-use Rattle.store_relation.specs.Passes.{PassState}
-use Rattle.pass_steps.specs.Passes.{state_of}
+use Rattle.pass_prunes.specs.StoreRelation.Passes.{PassState}
+use Rattle.pass_prunes.specs.PassSteps.Passes.{state_of}
 use Rattle.pass_writes.specs.Found.{Finds}
 use Rattle.pass_writes.specs.Making.{after_refusal}
 use Rattle.pass_writes.proofs.MakeLemmas.{few, lays, new_hand, new_state}

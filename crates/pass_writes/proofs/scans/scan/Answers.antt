@@ -1,7 +1,7 @@
 use Rattle.std.proofs.Common.{◌≡◌, refl, inl}
 use Rattle.std.specs.Prelude.{false}
 use Rattle.edge_scan.proofs.StepLemmas.{steps_are_a_scan}
-use Rattle.pass_steps.specs.Passes.{state_of}
+use Rattle.pass_prunes.specs.PassSteps.Passes.{state_of}
 use Rattle.pass_writes.specs.Found.{view_of}
 use Rattle.pass_writes.proofs.ScanLemmas.{notes_on, same_on, scan_is_done, scan_starts, scanning_on, still_open, under_way_on}
 use Rattle.pass_writes.proofs.scans.scan.Goals as goal

@@ -1,7 +1,7 @@
 use Rattle.std.proofs.Common.{◌∙◌, sym, ap}
 use Rattle.graph_model.specs.Rows.{rows}
-use Rattle.pass_cells.specs.Taken.{cell_at}
-use Rattle.pass_steps.specs.Passes.{state_of}
+use Rattle.pass_prunes.specs.PassCells.Taken.{cell_at}
+use Rattle.pass_prunes.specs.PassSteps.Passes.{state_of}
 use Rattle.pass_writes.specs.Found.{view_of}
 use Rattle.pass_writes.proofs.CheckLemmas.{named_asked, shown}
 use Rattle.pass_writes.proofs.ScanLemmas.{cell_named, run_end_stays, run_is_ahead}

@@ -1,4 +1,4 @@
-use Rattle.pass_steps.specs.Asking.{asking_of}
+use Rattle.pass_prunes.specs.PassSteps.Asking.{asking_of}
 use Rattle.pass_writes.proofs.scans.scan_in_hand.Given as given
 
 abbrev pub ghosts-scan_as : given.ghosts-scan_as

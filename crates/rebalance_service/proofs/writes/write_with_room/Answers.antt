@@ -2,7 +2,7 @@ use Rattle.std.proofs.Common.{subst}
 use Rattle.std.specs.Prelude.{Ok}
 use Rattle.graph_model.specs.Account.{Account}
 use Rattle.graph_model.specs.AccountSteps.{WritesBy}
-use Rattle.pass_writes.specs.declared.making.Written.{Written}
+use Rattle.pass_room.specs.PassWritesDeclared.making.Written.{Written}
 use Rattle.shared_store.specs.Passes.{account_of}
 use Rattle.shared_store.specs.Writes.{WritesOver}
 use Rattle.rebalance_service.proofs.RoomLemmas.{writes_after}

@@ -3,8 +3,8 @@ use Rattle.graph_model.specs.Graph.{Graph}
 use Rattle.graph_model.specs.History.{graph_at}
 use Rattle.txn_manager.specs.declared.config.Config.{Config}
 use Rattle.leaf_index.specs.Index.{Index}
-use Rattle.store_rule.specs.Closing.{AreBack}
-use Rattle.store_rule.specs.Whole.{IsWholeContent}
+use Rattle.pass_writes.specs.StoreRule.Closing.{AreBack}
+use Rattle.pass_writes.specs.StoreRule.Whole.{IsWholeContent}
 use Rattle.shared_store.specs.Totals.{AreTotals, HoldsGraph}
 use Rattle.shared_store.proofs.SeatLemmas.{all_back, at_number, has_closed, no_cells}
 use Rattle.shared_store.proofs.TotalsLemmas.{holds_graph}

@@ -1,6 +1,6 @@
 use Rattle.std.proofs.Common.{◌∙◌, ap, subst, sym}
 use Rattle.txn_manager.specs.Config.{too_large}
-use Rattle.loaded_cells.specs.Numbered.{AreRowsOf}
+use Rattle.pass_writes.specs.LoadedCells.Numbered.{AreRowsOf}
 use Rattle.shared_store.proofs.LoadLemmas.{all_loaded}
 use Rattle.shared_store.proofs.load.filled.Goals as goal
 

@@ -2,7 +2,7 @@ use Rattle.std.proofs.Common.{◌∙◌, subst, sym}
 use Rattle.graph_model.specs.declared.write.Write.{Write}
 use Rattle.std.proofs.Common.{List}
 use Rattle.load_order.specs.Placings.{AreSortedRows}
-use Rattle.loaded_cells.specs.Numbered.{AreRowsOf}
+use Rattle.pass_writes.specs.LoadedCells.Numbered.{AreRowsOf}
 use Rattle.shared_store.proofs.LoadLemmas.{rows_of_load, some_of}
 use Rattle.shared_store.proofs.load.loaded.Goals as goal
 

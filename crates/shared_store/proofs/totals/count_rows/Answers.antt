@@ -2,8 +2,8 @@ use Rattle.std.proofs.Common.{◌≡◌, ◌∙◌, ◌<◌, Some, ap, arith, le
 use Rattle.std.specs.Prelude.{count_by, slice_get}
 use Rattle.graph_model.specs.Rows.{end_key, first_key, rows, vertex_key}
 use Rattle.graph_model.proofs.KeyLemmas.{below_flip, below_self, tied_keys, upto_chain}
-use Rattle.version_segment.specs.Rows.{VersionedRows}
-use Rattle.store_words.specs.Spelling.{CanSpell}
+use Rattle.leaf_rows.specs.VersionSegment.Rows.{VersionedRows}
+use Rattle.pass_writes.specs.StoreWords.Spelling.{CanSpell}
 use Rattle.leaf_rows.specs.Counted.{is_vertex_row}
 use Rattle.leaf_rows.proofs.CountLemmas.{count_on, length_on}
 use Rattle.leaf_rows.proofs.RunLemmas.{none_between}

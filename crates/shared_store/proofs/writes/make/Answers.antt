@@ -1,7 +1,7 @@
 use Rattle.std.proofs.Common.{◌≡◌, ◌∙◌, refl, sym, subst}
-use Rattle.row_writes.specs.Checks.{TellsEdges}
-use Rattle.pass_steps.specs.Passes.{state_of}
-use Rattle.store_rule.specs.declared.store.Pass.{Pass as Seats}
+use Rattle.leaf_rows.specs.RowWrites.Checks.{TellsEdges}
+use Rattle.pass_writes.specs.PassSteps.Passes.{state_of}
+use Rattle.pass_writes.specs.StoreRuleDeclared.store.Pass.{Pass as Seats}
 use Rattle.pass_writes.specs.Making.{Makes}
 use Rattle.shared_store.proofs.PassLemmas.{makes_kept, open_in, view_is}
 use Rattle.shared_store.proofs.writes.make.Goals as goal

@@ -1,5 +1,5 @@
 use Rattle.std.proofs.Common.{◌∙◌, sym, subst}
-use Rattle.pass_steps.specs.Passes.{state_of}
+use Rattle.pass_writes.specs.PassSteps.Passes.{state_of}
 use Rattle.shared_store.specs.Writes.{IsNoted}
 use Rattle.shared_store.proofs.writes.see_cause.Goals as goal
 

@@ -1,6 +1,6 @@
 use Rattle.std.proofs.Common.{◌≡◌, ◌∙◌, sym, subst}
-use Rattle.row_writes.specs.Checks.{TellsEdges}
-use Rattle.pass_steps.specs.Passes.{account_of_pass, state_of}
+use Rattle.leaf_rows.specs.RowWrites.Checks.{TellsEdges}
+use Rattle.pass_writes.specs.PassSteps.Passes.{account_of_pass, state_of}
 use Rattle.shared_store.specs.Passes.{account_of}
 use Rattle.shared_store.proofs.AccountLemmas.{cause_noted}
 use Rattle.shared_store.proofs.PassLemmas.{all_kept, keeps_twice, memory_refused, reserved_keeps, same_view, wrote_over}

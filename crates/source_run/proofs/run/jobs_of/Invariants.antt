@@ -1,7 +1,7 @@
 -- the jobs so far, and then those of the scripts that are left
 use Rattle.std.proofs.Common.{◌≡◌, ◌+◌, ◌++◌, length}
 use Rattle.std.specs.Vec.Iter.{into_iter_items, into_iter_len}
-use Rattle.job_runner.specs.Runs.{new_jobs}
+use Rattle.serial_runner.specs.JobRunner.Runs.{new_jobs}
 use Rattle.source_run.proofs.run.jobs_of.Given as goal
 
 abbrev pub invariant-scripts : goal.invariant-scripts

@@ -1,7 +1,7 @@
 use Rattle.std.proofs.Common.{subst}
 use Rattle.std.specs.Prelude.{IfOk}
 use Rattle.run_model.specs.Run.{IsRun}
-use Rattle.shared_runs.specs.Closing.{LeavesRun, outputs_with}
+use Rattle.threaded_run.specs.SharedRuns.Closing.{LeavesRun, outputs_with}
 use Rattle.source_run.specs.Running.{IsConfig}
 use Rattle.source_run.proofs.ThreadLemmas.{can_run, of_sources, all_refused, all_counted}
 use Rattle.source_run.proofs.threads.run_by_threads.Goals as goal

@@ -1,7 +1,7 @@
 use Rattle.std.proofs.Common.{◌∙◌, ap, subst, sym}
 use Rattle.seat_views.proofs.NumberLemmas.{some_is}
-use Rattle.version_segment.specs.Resting.{CanWake, woken}
-use Rattle.cells_model.specs.Cells.{CellState, unpacked}
+use Rattle.loaded_cells.specs.VersionSegment.Resting.{CanWake, woken}
+use Rattle.loaded_cells.specs.CellsModel.Cells.{CellState, unpacked}
 use Rattle.store_words.proofs.SpellLemmas.{has_now}
 use Rattle.store_rule.specs.Slots.{RestsAs}
 use Rattle.store_rule.proofs.PackLemmas.{untouched_now, wakes_same, wakes_with}

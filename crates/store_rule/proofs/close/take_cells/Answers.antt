@@ -1,5 +1,5 @@
 use Rattle.std.proofs.Common.{◌∙◌, ◌+◌, ◌<◌, ap, arith, length, length-append, refl, reverse, subst, sym}
-use Rattle.rule_model.specs.Sight.{cells_of}
+use Rattle.loaded_cells.specs.RuleModel.Sight.{cells_of}
 use Rattle.store_rule.specs.Closed.{AreAtRestFrom}
 use Rattle.store_rule.proofs.CloseLemmas.{next_cell, one_cell}
 use Rattle.store_rule.proofs.close.take_cells.Goals as goal

@@ -1,6 +1,6 @@
 use Rattle.std.proofs.Common.{◌≡◌, ◌+◌, ◌≤◌, length}
 use Rattle.std.specs.Prelude.{reverse, vec_capacity}
-use Rattle.rule_model.specs.Sight.{cells_of}
+use Rattle.loaded_cells.specs.RuleModel.Sight.{cells_of}
 use Rattle.store_rule.specs.Closed.{AreAtRestFrom}
 use Rattle.store_rule.specs.Closing.{AreSlotsBelow, IsEnding, KeepsOthers}
 use Rattle.store_rule.proofs.close.take_cells.Given as goal

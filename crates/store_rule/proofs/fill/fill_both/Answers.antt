@@ -1,7 +1,7 @@
 use Rattle.std.proofs.Common.{◌≡◌, ◌∙◌, ℕ, List, [], ap, length, refl, subst, sym}
 use Rattle.txn_manager.specs.declared.config.Config.{Config}
-use Rattle.rule_model.specs.EndSteps.{loaded_known}
-use Rattle.rule_model.specs.Sight.{Sight}
+use Rattle.loaded_cells.specs.RuleModel.EndSteps.{loaded_known}
+use Rattle.loaded_cells.specs.RuleModel.Sight.{Sight}
 use Rattle.store_words.specs.Opening.{Begin}
 use Rattle.loaded_cells.specs.Numbered.{AreRestOf, cell_of, loaded_sight, loaded_words}
 use Rattle.loaded_cells.specs.Ranges.{loaded_segments}

@@ -1,6 +1,6 @@
 use Rattle.std.proofs.Common.{◌≡◌, ◌∙◌, ◌+◌, ◌-◌, ℕ, ap, arith, length, refl, subst, sym}
 use Rattle.txn_manager.specs.declared.config.Config.{Config}
-use Rattle.rule_model.specs.Sight.{fresh_pin}
+use Rattle.loaded_cells.specs.RuleModel.Sight.{fresh_pin}
 use Rattle.store_rule.specs.Making.{AreDealtFrom, IsDealing, IsFirstPass}
 use Rattle.store_rule.specs.declared.store.Pass.{Pass}
 use Rattle.store_rule.proofs.MakeLemmas.{dealt_one, passes_more}

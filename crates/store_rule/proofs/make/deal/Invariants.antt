@@ -1,6 +1,6 @@
 use Rattle.std.proofs.Common.{◌≡◌, ◌+◌, ◌≤◌, length}
 use Rattle.latch_table.specs.Opening.{HasPasses}
-use Rattle.rule_model.specs.Sight.{Sight}
+use Rattle.loaded_cells.specs.RuleModel.Sight.{Sight}
 use Rattle.store_rule.specs.Making.{AreDealtFrom, IsDealing}
 use Rattle.store_rule.proofs.make.deal.Given as goal
 

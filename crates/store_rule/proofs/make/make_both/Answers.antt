@@ -1,8 +1,8 @@
 use Rattle.std.proofs.Common.{◌≡◌, ◌∙◌, ◌+◌, ap, arith, refl, subst, sym}
 use Rattle.std.specs.Prelude.{[]}
 use Rattle.txn_manager.specs.declared.config.Config.{Config}
-use Rattle.store_relation.specs.Passes.{fresh_pass}
-use Rattle.rule_model.specs.EndSteps.{first_sight, new_known}
+use Rattle.loaded_cells.specs.StoreRelation.Passes.{fresh_pass}
+use Rattle.loaded_cells.specs.RuleModel.EndSteps.{first_sight, new_known}
 use Rattle.store_rule.specs.Making.{IsFirstPass, KnowsParts}
 use Rattle.store_rule.specs.declared.make.Parts.{Parts}
 use Rattle.store_rule.proofs.MakeLemmas.{dealt_is, first_lays, new_parts}

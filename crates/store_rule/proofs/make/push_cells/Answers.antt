@@ -1,7 +1,7 @@
 use Rattle.std.proofs.Common.{◌∙◌, ◌∷◌, ◌++◌, ◌+◌, ◌<◌, [], ap, arith, length, length-append, refl, subst, sym}
 use Rattle.std.specs.Prelude.{reverse}
 use Rattle.std.proofs.lemmas.List.{length-reverse, reverse-reverse}
-use Rattle.rule_model.specs.Sight.{cells_of}
+use Rattle.loaded_cells.specs.RuleModel.Sight.{cells_of}
 use Rattle.loaded_cells.proofs.WordLemmas.{popped}
 use Rattle.store_rule.specs.Making.{AreCells}
 use Rattle.store_rule.specs.declared.slot.StoreSlot.TheVariants as slots

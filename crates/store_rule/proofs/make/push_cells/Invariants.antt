@@ -1,6 +1,6 @@
 use Rattle.std.proofs.Common.{◌≡◌, ◌++◌, List, length}
 use Rattle.std.specs.Prelude.{reverse}
-use Rattle.version_segment.specs.Resting.{RestingRows}
+use Rattle.loaded_cells.specs.VersionSegment.Resting.{RestingRows}
 use Rattle.store_rule.specs.Making.{AreCells, IsLaying}
 use Rattle.store_rule.proofs.make.push_cells.Given as goal
 

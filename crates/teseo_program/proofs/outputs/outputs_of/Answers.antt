@@ -3,7 +3,7 @@ use Rattle.std.specs.List.{flat_map}
 use Rattle.run_model.specs.Texts.{journal_text, report_text}
 use Rattle.command_words.specs.Words.{report_name}
 use Rattle.command_words.specs.Views.{run_request}
-use Rattle.job_runner.specs.Phases.{file_of}
+use Rattle.source_run.specs.JobRunner.Phases.{file_of}
 use Rattle.source_run.specs.Running.{journal_of}
 use Rattle.teseo_program.specs.Sinks.{report_outputs, file_output}
 use Rattle.teseo_program.proofs.SinkLemmas.{report_pushed, all_results}

@@ -2,7 +2,7 @@
 use Rattle.std.proofs.Common.{◌≡◌, ◌∷◌, ◌++◌, map, take}
 use Rattle.std.specs.List.{flat_map}
 use Rattle.run_model.specs.Texts.{journal_text}
-use Rattle.job_runner.specs.Phases.{file_of}
+use Rattle.source_run.specs.JobRunner.Phases.{file_of}
 use Rattle.command_words.specs.Words.{report_name}
 use Rattle.command_words.specs.Views.{run_request}
 use Rattle.source_run.specs.Running.{journal_of}

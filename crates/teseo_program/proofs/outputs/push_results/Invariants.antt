@@ -1,6 +1,6 @@
 -- the results so far
 use Rattle.std.proofs.Common.{◌≡◌, ◌++◌, map, take}
-use Rattle.job_runner.specs.Phases.{file_of}
+use Rattle.source_run.specs.JobRunner.Phases.{file_of}
 use Rattle.teseo_program.specs.Sinks.{file_output}
 use Rattle.teseo_program.proofs.outputs.push_results.Given as goal
 

@@ -1,5 +1,5 @@
 use Rattle.std.proofs.Common.{suc, sym, ◌∙◌}
-use Rattle.line_runner.specs.Turns.{Calls, calls, AreByAccount}
+use Rattle.job_runner.specs.LineRunner.Turns.{Calls, calls, AreByAccount}
 use Rattle.thread_runner.proofs.TurnLemmas.{turns_more, took_by, stays_ready, turn_pass, turn_closed, left_fewer}
 use Rattle.thread_runner.proofs.driver.run_job.Goals as goal
 

@@ -1,7 +1,7 @@
 use Rattle.std.proofs.Common.{◌≡◌, ◌+◌, rules, arith, ap, ◌∙◌, sym, subst, length, refl, [], ◌∷◌}
 use Rattle.std.specs.List.{AllByRecursion}
 use Rattle.run_model.proofs.ListLemmas.{all_on}
-use Rattle.shared_store.specs.Passes.{IsIdle}
+use Rattle.rebalance_service.specs.SharedStore.Passes.{IsIdle}
 use Rattle.threaded_run.proofs.SeatLemmas.{first_out, seated_next, seated_all}
 use Rattle.threaded_run.proofs.seats.seat_all.Goals as goal
 

@@ -2,7 +2,7 @@ use denote.Param.Send.{sendable}
 use Rattle.std.proofs.Common.{◌≡◌, ◌≤◌, ◌+◌, ◌++◌, [], ◌∷◌, arith, ap, ◌∙◌, sym, subst, length, map, rules, length-append}
 use Rattle.graph_model.specs.AccountSteps.{ReadsBy}
 use Rattle.graph_model.specs.Account.{Account}
-use Rattle.shared_store.specs.Passes.{account_of}
+use Rattle.rebalance_service.specs.SharedStore.Passes.{account_of}
 use Rattle.rebalance_service.proofs.SendLemmas.{worker_send}
 use Rattle.threaded_run.specs.Seats.{AreSeated}
 use Rattle.threaded_run.proofs.SeatLemmas.{first_out}

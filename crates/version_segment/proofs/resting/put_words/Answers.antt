@@ -1,8 +1,8 @@
 use Rattle.std.proofs.Common.{◌≡◌, ◌∙◌, ◌<◌, ℕ, ap, sym, arith, length, slice_index_or}
 use Rattle.std.specs.Prelude.{slice_get, Some}
 use Rattle.gap_segment.specs.Fenced.{FencedRows, with_weight}
-use Rattle.head_map.specs.declared.heads.Heads.{Heads}
-use Rattle.head_map.specs.Heads.{heads_placed}
+use Rattle.row_table.specs.HeadMapDeclared.heads.Heads.{Heads}
+use Rattle.row_table.specs.HeadMap.Heads.{heads_placed}
 use Rattle.row_table.specs.Parts.{value_in}
 use Rattle.version_segment.specs.RestingParts.{head_word, reweighed_from}
 use Rattle.version_segment.proofs.RestLemmas.{at_index, small_at}

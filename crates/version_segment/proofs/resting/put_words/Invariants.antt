@@ -1,5 +1,5 @@
 use Rattle.std.proofs.Common.{◌≡◌, ◌≤◌, length}
-use Rattle.head_map.specs.Heads.{heads_placed}
+use Rattle.row_table.specs.HeadMap.Heads.{heads_placed}
 use Rattle.version_segment.specs.RestingParts.{head_word, reweighed_from}
 use Rattle.version_segment.proofs.resting.put_words.Given as goal
 

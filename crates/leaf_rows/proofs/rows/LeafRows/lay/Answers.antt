@@ -2,7 +2,7 @@ use Rattle.std.proofs.Common.{◌∙◌, ap}
 use Rattle.std.proofs.lemmas.Result.{on_ok_weaker}
 use Rattle.store_model.specs.Stamped.{forget_row}
 use Rattle.leaf_store.specs.Leaves.{versions_of}
-use Rattle.version_segment.proofs.LawLemmas.{same_record}
+use Rattle.row_writes.proofs.VersionSegment.LawLemmas.{same_record}
 use Rattle.row_writes.proofs.WrittenLemmas.{after_forgets}
 use Rattle.leaf_rows.proofs.rows.LeafRows.lay.Goals as goal
 

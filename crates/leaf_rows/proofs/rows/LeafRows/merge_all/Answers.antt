@@ -1,5 +1,5 @@
 use Rattle.std.proofs.Common.{◌∙◌, ap}
-use Rattle.version_segment.specs.Rows.{all_records}
+use Rattle.row_writes.specs.VersionSegment.Rows.{all_records}
 use Rattle.leaf_rows.proofs.MergeLemmas.{step_lowers, step_rows}
 use Rattle.leaf_rows.proofs.RoomLemmas.{keeps_chain}
 use Rattle.leaf_rows.proofs.rows.LeafRows.merge_all.Goals as goal

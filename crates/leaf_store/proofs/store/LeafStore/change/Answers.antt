@@ -1,5 +1,5 @@
 use Rattle.std.proofs.Common.{subst, arith}
-use Rattle.version_segment.specs.Changes.{MayChange, changed as changed_by, records_for}
+use Rattle.leaf_table.specs.VersionSegment.Changes.{MayChange, changed as changed_by, records_for}
 use Rattle.leaf_store.proofs.ChangeLemmas.{is_within, has_memory, read_cell, changed_cell, only_versions, only_spare}
 use Rattle.leaf_store.proofs.RoomLemmas.{place_stands, stands_leaf}
 use Rattle.leaf_store.proofs.TendLemmas.{tended_change}

@@ -1,6 +1,6 @@
 use Rattle.std.proofs.Common.{◌+◌, ◌∙◌, ap, subst, arith}
-use Rattle.version_segment.specs.Checks.{AreNamedRows}
-use Rattle.version_segment.specs.Rows.{all_records}
+use Rattle.leaf_table.specs.VersionSegment.Checks.{AreNamedRows}
+use Rattle.leaf_table.specs.VersionSegment.Rows.{all_records}
 use Rattle.leaf_store.proofs.ChangeLemmas.{is_within, has_memory, read_cell, changed_cell, only_pruned}
 use Rattle.leaf_store.proofs.RoomLemmas.{place_stands, stands_leaf}
 use Rattle.leaf_store.proofs.TendLemmas.{tended_change}

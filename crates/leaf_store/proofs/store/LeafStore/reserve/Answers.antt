@@ -1,5 +1,5 @@
 use Rattle.std.proofs.Common.{◌≤◌, length, refl, sym, ap, subst, arith, inl}
-use Rattle.leaf_array.proofs.LeafLemmas.{on_ok}
+use Rattle.leaf_table.proofs.LeafArray.LeafLemmas.{on_ok}
 use Rattle.leaf_store.proofs.ChangeLemmas.{is_within, has_memory, changed_cell, cell_now, no_spare_used, only_room, same_sound}
 use Rattle.leaf_store.proofs.TendLemmas.{tended_change}
 use Rattle.leaf_store.proofs.store.LeafStore.reserve.Goals as goal

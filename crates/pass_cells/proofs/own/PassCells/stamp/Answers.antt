@@ -1,13 +1,13 @@
 use Rattle.std.proofs.Common.{◌∙◌, List, ℕ, ap, arith, sym, subst}
-use Rattle.version_segment.specs.Rows.{VersionedRows, versions_at}
-use Rattle.cells_model.specs.Cells.{CellState}
-use Rattle.rule_model.specs.Places.{lines}
-use Rattle.rule_model.specs.Sight.{with_rows}
+use Rattle.row_writes.specs.VersionSegment.Rows.{VersionedRows, versions_at}
+use Rattle.store_rule.specs.CellsModel.Cells.{CellState}
+use Rattle.store_rule.specs.RuleModel.Places.{lines}
+use Rattle.store_rule.specs.RuleModel.Sight.{with_rows}
 use Rattle.store_rule.specs.Passes.{OnlyAccount}
 use Rattle.pass_cells.specs.Holding.{Holds}
 use Rattle.pass_cells.proofs.AfterLemmas.{cell_counted, holds_after}
-use Rattle.store_relation.specs.Steps.{with_unstamped}
-use Rattle.rule_model.proofs.RowStepLemmas.{rows_are_stamped}
+use Rattle.store_rule.specs.StoreRelation.Steps.{with_unstamped}
+use Rattle.store_rule.proofs.RuleModel.RowStepLemmas.{rows_are_stamped}
 use Rattle.pass_cells.specs.Changes.{AreStamped, StampsRows, keys_beside, news_of, pass_of}
 use Rattle.pass_cells.proofs.ChangeLemmas.{can_stamp, none_come}
 use Rattle.pass_cells.proofs.DoneLemmas.{news_counted, stamps_small}

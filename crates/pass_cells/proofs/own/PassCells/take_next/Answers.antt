@@ -1,7 +1,7 @@
 use Rattle.std.proofs.Common.{◌≡◌, ◌∙◌, ◌∷◌, ◌<◌, ap, arith, refl, sym, subst}
 use Rattle.std.specs.Prelude.{false}
 use Rattle.graph_model.specs.Rows.{first_key, is_below}
-use Rattle.rule_model.specs.Sight.{cells_of}
+use Rattle.store_rule.specs.RuleModel.Sight.{cells_of}
 use Rattle.store_rule.specs.declared.slot.StoreSlot.TheVariants as slots
 use Rattle.store_rule.specs.declared.store.Pass.{Pass}
 use Rattle.pass_cells.specs.declared.taken.TakenCell.{TakenCell}

@@ -1,9 +1,9 @@
 use Rattle.std.proofs.Common.{◌∙◌, List, ℕ, ap, arith, sym, subst}
 use Rattle.graph_model.specs.declared.journal.TxnName.{TxnName}
-use Rattle.version_segment.specs.Rows.{VersionedRows, versions_at}
-use Rattle.cells_model.specs.Cells.{CellState}
-use Rattle.rule_model.specs.Places.{lines}
-use Rattle.rule_model.specs.Sight.{with_rows}
+use Rattle.row_writes.specs.VersionSegment.Rows.{VersionedRows, versions_at}
+use Rattle.store_rule.specs.CellsModel.Cells.{CellState}
+use Rattle.store_rule.specs.RuleModel.Places.{lines}
+use Rattle.store_rule.specs.RuleModel.Sight.{with_rows}
 use Rattle.store_rule.specs.Passes.{OnlyAccount}
 use Rattle.pass_cells.specs.Holding.{Holds}
 use Rattle.pass_cells.specs.Taken.{held_rows}
@@ -11,9 +11,9 @@ use Rattle.pass_cells.proofs.AfterLemmas.{cell_counted, holds_after}
 use Rattle.row_writes.specs.Laying.{TakesBack}
 use Rattle.row_writes.specs.Written.{rows_of}
 use Rattle.row_writes.specs.declared.written.WrittenRows.{WrittenRows}
-use Rattle.store_relation.specs.Steps.{taken_back}
+use Rattle.store_rule.specs.StoreRelation.Steps.{taken_back}
 use Rattle.txn_manager.specs.declared.config.Config.{Config}
-use Rattle.rule_model.proofs.RowStepLemmas.{write_is_undone}
+use Rattle.store_rule.proofs.RuleModel.RowStepLemmas.{write_is_undone}
 use Rattle.pass_cells.specs.Changes.{IsUndone, but_newest, news_of, pass_of}
 use Rattle.pass_cells.proofs.ChangeLemmas.{can_undo, none_come, unstamped_is}
 use Rattle.pass_cells.proofs.DoneLemmas.{news_counted, undo_small}

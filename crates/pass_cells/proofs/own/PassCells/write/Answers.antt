@@ -1,15 +1,15 @@
 use Rattle.std.proofs.Common.{◌∙◌, List, ℕ, ap, arith, sym, subst}
 use Rattle.graph_model.specs.declared.journal.TxnName.{TxnName}
-use Rattle.version_segment.specs.Rows.{VersionedRows, versions_at}
+use Rattle.row_writes.specs.VersionSegment.Rows.{VersionedRows, versions_at}
 use Rattle.row_writes.specs.Held.{AreHeld}
 use Rattle.row_writes.specs.Laying.{Lays}
 use Rattle.row_writes.specs.Written.{all_keys}
 use Rattle.row_writes.specs.declared.written.WrittenRows.{WrittenRows}
-use Rattle.store_relation.specs.Steps.{written_by}
-use Rattle.cells_model.specs.Cells.{CellState}
-use Rattle.rule_model.specs.Places.{lines}
-use Rattle.rule_model.specs.Sight.{with_rows}
-use Rattle.rule_model.proofs.RowStepLemmas.{write_is_made}
+use Rattle.store_rule.specs.StoreRelation.Steps.{written_by}
+use Rattle.store_rule.specs.CellsModel.Cells.{CellState}
+use Rattle.store_rule.specs.RuleModel.Places.{lines}
+use Rattle.store_rule.specs.RuleModel.Sight.{with_rows}
+use Rattle.store_rule.proofs.RuleModel.RowStepLemmas.{write_is_made}
 use Rattle.store_rule.specs.Passes.{OnlyAccount}
 use Rattle.pass_cells.specs.Changes.{IsWritten, news_of, pass_of}
 use Rattle.pass_cells.specs.Holding.{Holds}

@@ -4,7 +4,7 @@ use Rattle.graph_model.specs.declared.limits.TheConstants.{SEGMENT_ROWS}
 use Rattle.graph_model.specs.declared.row.Key.{Key}
 use Rattle.graph_model.proofs.TestLemmas.{never}
 use Rattle.row_writes.specs.Written.{with_back}
-use Rattle.version_segment.specs.Rows.{VersionedRows, has_row}
+use Rattle.row_writes.specs.VersionSegment.Rows.{VersionedRows, has_row}
 use Rattle.pass_cells.specs.Room.{IsShort, also_missing}
 use Rattle.pass_cells.specs.Taken.{cell_at, held_rows}
 use Rattle.pass_cells.proofs.CellLemmas.{at_place}

@@ -4,8 +4,8 @@ use Rattle.graph_model.specs.declared.limits.TheConstants.{SEGMENT_ROWS}
 use Rattle.graph_model.specs.declared.row.Row.{Row}
 use Rattle.graph_model.specs.Rows.{rows}
 use Rattle.store_model.specs.Stamped.{read_stamped}
-use Rattle.version_segment.specs.Checks.{AreNamedRows}
-use Rattle.version_segment.specs.Rows.{VersionedRows, rows_at}
+use Rattle.row_writes.specs.VersionSegment.Checks.{AreNamedRows}
+use Rattle.row_writes.specs.VersionSegment.Rows.{VersionedRows, rows_at}
 use Rattle.pass_cells.specs.Reading.{lesser}
 use Rattle.pass_cells.proofs.CellLemmas.{among_place, at_place, covers_own}
 use Rattle.pass_cells.proofs.RunLemmas.{few_read, run_is}

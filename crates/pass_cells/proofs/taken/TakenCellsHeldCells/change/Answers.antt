@@ -1,7 +1,7 @@
 use Rattle.std.proofs.Common.{length, refl, subst, sym}
 use Rattle.std.proofs.lemmas.Option.{slice_get_read}
-use Rattle.version_segment.specs.Changes.{MayChange}
-use Rattle.version_segment.specs.Rows.{VersionedRows}
+use Rattle.row_writes.specs.VersionSegment.Changes.{MayChange}
+use Rattle.row_writes.specs.VersionSegment.Rows.{VersionedRows}
 use Rattle.pass_cells.proofs.CellLemmas.{at_place}
 use Rattle.pass_cells.proofs.DoneLemmas.{change_done, change_keeps}
 use Rattle.pass_cells.proofs.TakenLemmas.{may_change}

@@ -1,6 +1,6 @@
 use Rattle.std.proofs.Common.{◌∙◌, ap, length, refl}
 use Rattle.std.proofs.lemmas.Option.{slice_get_read}
-use Rattle.version_segment.specs.Rows.{VersionedRows, or_nothing, versions_at}
+use Rattle.row_writes.specs.VersionSegment.Rows.{VersionedRows, or_nothing, versions_at}
 use Rattle.pass_cells.proofs.CellLemmas.{at_place}
 use Rattle.pass_cells.proofs.taken.TakenCellsHeldCells.row.Goals as goal
 

@@ -2,9 +2,9 @@ use Rattle.std.proofs.Common.{◌≡◌, ◌∷◌, ◌∙◌, ap, arith, sym}
 use Rattle.std.specs.Prelude.{false, true}
 use Rattle.atomic_table.specs.declared.shared.Seat.{Seat}
 use Rattle.latch_table.specs.declared.sight.LatchSight.{LatchSight}
-use Rattle.store_rule.specs.declared.slot.Room.{Room}
-use Rattle.store_rule.specs.declared.slot.StoreSlot.{StoreSlot}
-use Rattle.store_rule.specs.declared.slot.StoreSlot.TheVariants as slots
+use Rattle.pass_cells.specs.StoreRuleDeclared.slot.Room.{Room}
+use Rattle.pass_cells.specs.StoreRuleDeclared.slot.StoreSlot.{StoreSlot}
+use Rattle.pass_cells.specs.StoreRuleDeclared.slot.StoreSlot.TheVariants as slots
 use Rattle.pass_cells.specs.Holding.{slots_out}
 use Rattle.pass_cells.proofs.DoneLemmas.{none_behind}
 use Rattle.pass_cells.proofs.PutLemmas.{out_of_packed}

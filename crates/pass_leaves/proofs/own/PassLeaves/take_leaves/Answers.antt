@@ -1,6 +1,6 @@
 use Rattle.std.proofs.Common.{◌≡◌, ◌∷◌, ◌∙◌, ap, rules}
 use Rattle.std.specs.Prelude.{slice_index, true}
-use Rattle.store_rule.specs.declared.slot.StoreSlot.TheVariants as slots
+use Rattle.pass_cells.specs.StoreRuleDeclared.slot.StoreSlot.TheVariants as slots
 use Rattle.pass_leaves.proofs.HandLemmas.{holds_taken}
 use Rattle.pass_leaves.proofs.LatchLemmas.{latched_once}
 use Rattle.pass_leaves.proofs.own.PassLeaves.take_leaves.Goals as goal

@@ -1,8 +1,8 @@
 use Rattle.std.proofs.Common.{◌≡◌, ◌≤◌, ◌∙◌, ap, length, subst, sym}
 use Rattle.graph_model.specs.declared.state.State.{State}
-use Rattle.store_relation.specs.ReadLaws.{Answers}
+use Rattle.store_rule.specs.StoreRelation.ReadLaws.{Answers}
 use Rattle.undo_chain.specs.States.{Grows, IsAnswer}
-use Rattle.rule_model.specs.Sight.{Sight}
+use Rattle.store_rule.specs.RuleModel.Sight.{Sight}
 use Rattle.pass_steps.specs.Asking.{is_writer, is_vouched, knowledge_at, state_at, word_kept}
 use Rattle.pass_steps.specs.Passes.{state_in}
 use Rattle.pass_steps.proofs.AskLemmas.{looked_seen, word_answers, word_grows}

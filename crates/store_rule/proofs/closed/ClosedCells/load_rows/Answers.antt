@@ -1,9 +1,9 @@
 use Rattle.std.proofs.Common.{◌≡◌, ◌∙◌, ap, arith, length, subst, sym, Some}
 use Rattle.std.specs.Prelude.{slice_get}
-use Rattle.rule_model.specs.Sight.{Sight}
+use Rattle.loaded_cells.specs.RuleModel.Sight.{Sight}
 use Rattle.store_rule.specs.Closed.{AreAtRest, AreSpelled, known_segments}
 use Rattle.store_words.specs.Spelling.{CanSpell}
-use Rattle.version_segment.specs.Rows.{VersionedRows}
+use Rattle.loaded_cells.specs.VersionSegment.Rows.{VersionedRows}
 use Rattle.store_rule.proofs.CloseLemmas.{known_at, known_length, known_there}
 use Rattle.store_rule.proofs.closed.ClosedCells.load_rows.Goals as goal
 

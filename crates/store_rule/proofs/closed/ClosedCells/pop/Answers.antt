@@ -1,7 +1,7 @@
 use Rattle.std.proofs.Common.{◌≡◌, ◌∙◌, ◌∷◌, ◌-◌, ◌+◌, ℕ, [], ap, arith, length, length-append, subst, sym}
 use Rattle.std.specs.Prelude.{Some}
 use Rattle.gap_segment.specs.Fenced.{FencedRows}
-use Rattle.cells_model.specs.Cells.{CellState, unpacked}
+use Rattle.loaded_cells.specs.CellsModel.Cells.{CellState, unpacked}
 use Rattle.store_rule.specs.Closed.{IsPopped, known_segments}
 use Rattle.store_rule.proofs.CloseLemmas.{front_at_rest, front_spelled, known_last, last_at_rest}
 use Rattle.store_rule.proofs.closed.ClosedCells.pop.Goals as goal

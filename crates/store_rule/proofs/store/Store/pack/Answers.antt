@@ -2,9 +2,9 @@ use Rattle.std.proofs.Common.{◌≤◌, ◌∙◌, List, ap, length, refl, subs
 use Rattle.graph_model.specs.declared.row.Row.{Row}
 use Rattle.gap_segment.specs.Fenced.{FencedRows}
 use Rattle.seat_views.proofs.NumberLemmas.{some_is}
-use Rattle.version_segment.specs.Rows.{IsSameSegment}
-use Rattle.cells_model.specs.Cells.{CellState}
-use Rattle.cells_model.proofs.WordLemmas.{few_words, newest_weights}
+use Rattle.loaded_cells.specs.VersionSegment.Rows.{IsSameSegment}
+use Rattle.loaded_cells.specs.CellsModel.Cells.{CellState}
+use Rattle.loaded_cells.proofs.CellsModel.WordLemmas.{few_words, newest_weights}
 use Rattle.store_rule.proofs.PackLemmas.{can_spell, rests_as}
 use Rattle.store_rule.proofs.store.Store.pack.Goals as goal
 

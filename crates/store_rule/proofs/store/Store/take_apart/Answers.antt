@@ -1,6 +1,6 @@
 use Rattle.std.proofs.Common.{◌≡◌, ◌∙◌, ap, arith, length, refl, subst, sym}
 use Rattle.seat_views.specs.Keeping.{kept_at}
-use Rattle.rule_model.specs.Sight.{HasJournal, Sight, cells_of}
+use Rattle.loaded_cells.specs.RuleModel.Sight.{HasJournal, Sight, cells_of}
 use Rattle.store_rule.specs.Closed.{AreAtRest, AreSpelled, known_segments}
 use Rattle.store_rule.specs.Closing.{AreCells, HasJoined, IsContent}
 use Rattle.store_rule.specs.Slots.{IsListOf}

@@ -1,5 +1,5 @@
 use Rattle.std.proofs.Common.{sym}
-use Rattle.cells_model.specs.Reads.{first_loaded}
+use Rattle.rule_model.specs.CellsModel.Reads.{first_loaded}
 use Rattle.rule_model.specs.Places.{lines}
 use Rattle.rule_model.specs.Sight.{with_found}
 use Rattle.rule_model.specs.Steps.{Nothing}

@@ -1,4 +1,4 @@
-use Rattle.cells_model.specs.Reads.{first_loaded}
+use Rattle.rule_model.specs.CellsModel.Reads.{first_loaded}
 use Rattle.rule_model.specs.Sight.{with_found}
 use Rattle.store_words.proofs.accounts.Accounts.first_load.Given as given
 

@@ -1,6 +1,6 @@
 use Rattle.std.proofs.Common.{◌≡◌, sym}
 use Rattle.std.specs.Prelude.{slice_index}
-use Rattle.cells_model.specs.Cells.{CellState}
+use Rattle.rule_model.specs.CellsModel.Cells.{CellState}
 use Rattle.rule_model.specs.Places.{lines}
 use Rattle.rule_model.specs.Sight.{HasCell}
 use Rattle.rule_model.proofs.BlockStepLemmas.{holder_loads}

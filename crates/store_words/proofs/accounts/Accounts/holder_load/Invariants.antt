@@ -1,5 +1,5 @@
 use Rattle.std.specs.Prelude.{◌≡◌, slice_index}
-use Rattle.cells_model.specs.Cells.{CellState}
+use Rattle.rule_model.specs.CellsModel.Cells.{CellState}
 use Rattle.rule_model.specs.Sight.{HasCell}
 use Rattle.store_words.proofs.accounts.Accounts.holder_load.Given as given
 

@@ -1,10 +1,10 @@
 use Rattle.std.proofs.Common.{◌≡◌, ◌≤◌, arith, length, refl, subst, sym, ◌∙◌}
 use Rattle.std.specs.Prelude.{slice_index}
 use Rattle.seat_views.proofs.NumberLemmas.{some_is}
-use Rattle.cells_model.specs.Cells.{CellState}
-use Rattle.version_segment.specs.Resting.{word_rows}
-use Rattle.cells_model.specs.Words.{Spells}
-use Rattle.cells_model.proofs.WordLemmas.{few_words}
+use Rattle.rule_model.specs.CellsModel.Cells.{CellState}
+use Rattle.rule_model.specs.VersionSegment.Resting.{word_rows}
+use Rattle.rule_model.specs.CellsModel.Words.{Spells}
+use Rattle.rule_model.proofs.CellsModel.WordLemmas.{few_words}
 use Rattle.store_words.proofs.accounts.Accounts.load_count.Goals as goal
 
 pub returns-clause-told : goal.returns-clause-told

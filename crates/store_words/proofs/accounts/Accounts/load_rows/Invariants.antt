@@ -1,6 +1,6 @@
 use Rattle.std.proofs.Common.{◌≡◌, ◌≤◌, length, take}
-use Rattle.cells_model.specs.Cells.{CellState}
-use Rattle.version_segment.specs.Resting.{word_rows}
+use Rattle.rule_model.specs.CellsModel.Cells.{CellState}
+use Rattle.rule_model.specs.VersionSegment.Resting.{word_rows}
 use Rattle.rule_model.specs.Sight.{HasCell}
 use Rattle.store_words.specs.Steps.{Knows}
 use Rattle.store_words.proofs.accounts.Accounts.load_rows.Given as goal

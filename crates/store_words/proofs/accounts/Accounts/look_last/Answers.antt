@@ -1,5 +1,5 @@
 use Rattle.std.proofs.Common.{sym}
-use Rattle.store_relation.specs.Shared.{JournalState}
+use Rattle.rule_model.specs.StoreRelation.Shared.{JournalState}
 use Rattle.rule_model.specs.EndSteps.{HasAll}
 use Rattle.rule_model.specs.LastSteps.{IsLastStore}
 use Rattle.store_words.proofs.LoadLemmas.{looks_last}

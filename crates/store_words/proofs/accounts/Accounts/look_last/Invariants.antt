@@ -1,4 +1,4 @@
-use Rattle.store_relation.specs.Shared.{JournalState}
+use Rattle.rule_model.specs.StoreRelation.Shared.{JournalState}
 use Rattle.rule_model.specs.EndSteps.{HasAll}
 use Rattle.rule_model.specs.LastSteps.{IsLastStore}
 use Rattle.store_words.proofs.accounts.Accounts.look_last.Given as given

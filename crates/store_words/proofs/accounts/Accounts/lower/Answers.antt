@@ -1,6 +1,6 @@
 use Rattle.std.proofs.Common.{◌∙◌, sym, subst, ap}
 use Rattle.seat_views.specs.Keeping.{kept_at}
-use Rattle.cells_model.specs.Cells.{lowered_word, packed}
+use Rattle.rule_model.specs.CellsModel.Cells.{lowered_word, packed}
 use Rattle.rule_model.specs.Places.{lines}
 use Rattle.rule_model.specs.Sight.{HasCell, Sight}
 use Rattle.rule_model.proofs.BlockStepLemmas.{cell_is_packed}

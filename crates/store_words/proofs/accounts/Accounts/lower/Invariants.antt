@@ -1,5 +1,5 @@
 use Rattle.seat_views.specs.Keeping.{kept_at}
-use Rattle.cells_model.specs.Cells.{CellState, packed}
+use Rattle.rule_model.specs.CellsModel.Cells.{CellState, packed}
 use Rattle.rule_model.specs.Sight.{HasCell}
 use Rattle.store_words.proofs.CellLemmas.{cell_stepped}
 use Rattle.store_words.proofs.accounts.Accounts.lower.Given as given

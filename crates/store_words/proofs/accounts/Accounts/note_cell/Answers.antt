@@ -1,5 +1,5 @@
 use Rattle.std.proofs.Common.{ℕ, List, subst}
-use Rattle.cells_model.specs.Cells.{CellState}
+use Rattle.rule_model.specs.CellsModel.Cells.{CellState}
 use Rattle.rule_model.specs.Sight.{no_sight}
 use Rattle.store_words.specs.Notes.{IsNote}
 use Rattle.store_words.proofs.NoteLemmas.{cuts_cell, only_is}

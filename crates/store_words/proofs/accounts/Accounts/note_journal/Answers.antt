@@ -1,5 +1,5 @@
 use Rattle.std.proofs.Common.{ℕ, List, subst}
-use Rattle.store_relation.specs.Shared.{JournalState}
+use Rattle.rule_model.specs.StoreRelation.Shared.{JournalState}
 use Rattle.rule_model.specs.Sight.{no_sight}
 use Rattle.store_words.specs.Notes.{IsNote}
 use Rattle.store_words.proofs.NoteLemmas.{cuts_journal, only_is}

@@ -1,5 +1,5 @@
 use Rattle.std.proofs.Common.{ℕ, List, subst}
-use Rattle.store_relation.specs.Passes.{PassState}
+use Rattle.rule_model.specs.StoreRelation.Passes.{PassState}
 use Rattle.rule_model.specs.Sight.{PinState, no_sight}
 use Rattle.store_words.specs.Notes.{IsNote}
 use Rattle.store_words.proofs.NoteLemmas.{cuts_pass, only_is}

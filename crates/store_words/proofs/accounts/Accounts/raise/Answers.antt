@@ -1,7 +1,7 @@
 use Rattle.std.proofs.Common.{◌∙◌, sym, subst, ap}
 use Rattle.seat_views.specs.Keeping.{kept_at}
-use Rattle.cells_model.specs.Cells.{raised_word, unpacked}
-use Rattle.cells_model.specs.Words.{Spells}
+use Rattle.rule_model.specs.CellsModel.Cells.{raised_word, unpacked}
+use Rattle.rule_model.specs.CellsModel.Words.{Spells}
 use Rattle.rule_model.specs.Places.{lines}
 use Rattle.rule_model.specs.Sight.{HasCell, Sight}
 use Rattle.rule_model.proofs.BlockStepLemmas.{cell_is_unpacked}

@@ -1,6 +1,6 @@
 use Rattle.seat_views.specs.Keeping.{kept_at}
-use Rattle.cells_model.specs.Cells.{CellState, unpacked}
-use Rattle.cells_model.specs.Words.{Spells}
+use Rattle.rule_model.specs.CellsModel.Cells.{CellState, unpacked}
+use Rattle.rule_model.specs.CellsModel.Words.{Spells}
 use Rattle.rule_model.specs.Sight.{HasCell}
 use Rattle.store_words.proofs.CellLemmas.{cell_stepped}
 use Rattle.store_words.proofs.accounts.Accounts.raise.Given as given

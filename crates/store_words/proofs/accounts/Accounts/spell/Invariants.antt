@@ -1,5 +1,5 @@
 use Rattle.std.proofs.Common.{◌≡◌, ◌+◌, ◌*◌, true}
-use Rattle.cells_model.specs.Cells.{CellState}
+use Rattle.rule_model.specs.CellsModel.Cells.{CellState}
 use Rattle.rule_model.specs.Sight.{HasCell}
 use Rattle.store_words.specs.Spelling.{IsSpelling, Stays}
 use Rattle.store_words.proofs.accounts.Accounts.spell.Given as goal

@@ -1,5 +1,5 @@
 use Rattle.std.proofs.Common.{◌+◌, ap}
-use Rattle.cells_model.specs.Cells.{stored}
+use Rattle.rule_model.specs.CellsModel.Cells.{stored}
 use Rattle.store_words.proofs.SpellLemmas.{has_now, spells_next}
 use Rattle.store_words.proofs.accounts.Accounts.spell_word.Goals as goal
 

@@ -1,5 +1,5 @@
 use Rattle.std.proofs.Common.{refl, sym}
-use Rattle.cells_model.specs.Cells.{stored}
+use Rattle.rule_model.specs.CellsModel.Cells.{stored}
 use Rattle.rule_model.specs.Places.{lines}
 use Rattle.rule_model.proofs.BlockStepLemmas.{word_is_stored}
 use Rattle.store_words.proofs.CellLemmas.{knows_cell, store_cell, tells_nothing}

@@ -4,7 +4,7 @@ use Rattle.graph_model.specs.declared.journal.TxnName.{TxnName}
 use Rattle.graph_model.specs.OwnerCalls.{current}
 use Rattle.store_model.specs.Layers.{undone}
 use Rattle.txn_manager.specs.Manager.{ended, open_start}
-use Rattle.leaf_store.specs.Leaves.{contents_of}
+use Rattle.leaf_rows.specs.LeafStore.Leaves.{contents_of}
 use Rattle.teseo_core.specs.Passes.{with_end}
 use Rattle.teseo_core.specs.Keeping.{core_of}
 use Rattle.teseo_core.proofs.FieldLemmas.{lent_state, put_core, is_open_here, start_of}

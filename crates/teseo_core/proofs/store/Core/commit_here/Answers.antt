@@ -6,7 +6,7 @@ use Rattle.graph_model.specs.Transactions.{commit_of}
 use Rattle.graph_model.specs.Legal.{IsLegal}
 use Rattle.store_model.specs.Layers.{undone}
 use Rattle.txn_manager.specs.Manager.{ended, committed, open_start}
-use Rattle.leaf_store.specs.Leaves.{contents_of}
+use Rattle.leaf_rows.specs.LeafStore.Leaves.{contents_of}
 use Rattle.teseo_core.specs.Passes.{with_end}
 use Rattle.teseo_core.specs.Keeping.{core_of}
 use Rattle.teseo_core.proofs.FieldLemmas.{lent_state, put_core, commit_core, is_open_here, start_of, empty_of, full_of, commits_none, commits_some}

@@ -3,7 +3,7 @@ use Rattle.graph_model.specs.AccountSteps.{view_of}
 use Rattle.graph_model.specs.OwnerCalls.{current, account_here}
 use Rattle.graph_model.specs.Rows.{vertex_key}
 use Rattle.leaf_rows.specs.Readers.{value_for}
-use Rattle.leaf_store.specs.Leaves.{contents_of}
+use Rattle.leaf_rows.specs.LeafStore.Leaves.{contents_of}
 use Rattle.teseo_core.proofs.ValueLemmas.{seen_is_vertex}
 use Rattle.teseo_core.proofs.FieldLemmas.{lent_state, some_nat, start_of}
 use Rattle.teseo_core.proofs.KeepLemmas.{reader_shows, reader_started}

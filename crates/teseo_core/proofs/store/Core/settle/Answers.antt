@@ -2,7 +2,7 @@ use Rattle.std.proofs.Common.{ℕ, ◌∙◌, ap, refl}
 use Rattle.graph_model.specs.declared.row.Key.{Key}
 use Rattle.graph_model.specs.Transactions.{stamp_in}
 use Rattle.store_model.specs.Versions.{prune}
-use Rattle.leaf_store.specs.Leaves.{contents_of}
+use Rattle.leaf_rows.specs.LeafStore.Leaves.{contents_of}
 use Rattle.teseo_core.specs.Keeping.{core_of}
 use Rattle.teseo_core.proofs.FreeLemmas.{same_parts_compact}
 use Rattle.teseo_core.proofs.KeepLemmas.{all_settled, kept_moved, kept_settled}

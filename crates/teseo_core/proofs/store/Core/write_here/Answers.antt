@@ -1,10 +1,10 @@
 use Rattle.std.proofs.Common.{ℕ, sym, ◌∙◌, ap, subst}
 use Rattle.graph_model.specs.OwnerCalls.{current}
-use Rattle.row_writes.specs.declared.written.WrittenRows.{WrittenRows}
+use Rattle.leaf_rows.specs.RowWritesDeclared.written.WrittenRows.{WrittenRows}
 use Rattle.leaf_rows.specs.Held.{rows_in}
 use Rattle.leaf_rows.specs.Laying.{HaveRows}
-use Rattle.row_writes.specs.Written.{AreRows, touched_keys}
-use Rattle.row_writes.proofs.WrittenLemmas.{are_rows, have_rows}
+use Rattle.leaf_rows.specs.RowWrites.Written.{AreRows, touched_keys}
+use Rattle.leaf_rows.proofs.RowWrites.WrittenLemmas.{are_rows, have_rows}
 use Rattle.teseo_core.specs.Freeing.{free_bound}
 use Rattle.teseo_core.specs.Passes.{Notes}
 use Rattle.teseo_core.specs.Keeping.{core_of}

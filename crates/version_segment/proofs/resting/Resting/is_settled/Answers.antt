@@ -1,5 +1,5 @@
 use Rattle.std.proofs.Common.{◌≡◌, ◌∙◌, ap, sym, subst, length}
-use Rattle.head_map.specs.Heads.{heads_placed}
+use Rattle.row_table.specs.HeadMap.Heads.{heads_placed}
 use Rattle.version_segment.specs.Resting.{RestingRows, settled_rest}
 use Rattle.version_segment.proofs.RestLemmas.{count_places, no_heads, settled_left}
 use Rattle.version_segment.proofs.resting.Resting.is_settled.Goals as goal

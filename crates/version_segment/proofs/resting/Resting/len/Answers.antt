@@ -1,5 +1,5 @@
 use Rattle.std.proofs.Common.{◌∙◌, ap, sym, length}
-use Rattle.head_map.specs.Heads.{heads_placed}
+use Rattle.row_table.specs.HeadMap.Heads.{heads_placed}
 use Rattle.version_segment.specs.Resting.{RestingRows}
 use Rattle.version_segment.proofs.RestLemmas.{count_places}
 use Rattle.version_segment.proofs.resting.Resting.len.Goals as goal

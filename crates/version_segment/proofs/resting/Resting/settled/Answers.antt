@@ -1,5 +1,5 @@
 use Rattle.std.proofs.Common.{◌∙◌, ap, length, arith}
-use Rattle.head_map.specs.Heads.{heads_placed}
+use Rattle.row_table.specs.HeadMap.Heads.{heads_placed}
 use Rattle.version_segment.specs.Resting.{settled_rest}
 use Rattle.version_segment.proofs.RestLemmas.{no_heads, settled_left, settled_parts}
 use Rattle.version_segment.proofs.resting.Resting.settled.Goals as goal

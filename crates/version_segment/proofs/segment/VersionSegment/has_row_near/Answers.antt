@@ -2,10 +2,10 @@ use Rattle.std.proofs.Common.{◌≡◌, sym, ◌∙◌, ap, refl, subst}
 use Rattle.std.specs.Prelude.{is_some, IsSomeAnd, Option}
 use Rattle.graph_model.specs.declared.row.Row.{Row}
 use Rattle.row_table.specs.declared.found.FoundRow.{FoundRow}
-use Rattle.head_map.specs.Heads.{heads_at}
+use Rattle.row_table.specs.HeadMap.Heads.{heads_at}
 use Rattle.row_table.specs.Parts.{IsRow, value_in}
 use Rattle.row_table.specs.Rows.{VersionedRows, has_row}
-use Rattle.head_map.proofs.HeadLemmas.{found_at}
+use Rattle.row_table.proofs.HeadMap.HeadLemmas.{found_at}
 use Rattle.row_table.proofs.ChangeLemmas.{no_row}
 use Rattle.row_table.proofs.PartLemmas.{versions_there}
 use Rattle.version_segment.proofs.segment.VersionSegment.has_row_near.Goals as goal

@@ -5,7 +5,7 @@ use Rattle.graph_model.specs.declared.row.Row.{Row}
 use Rattle.gap_segment.specs.Fenced.{FencedRows}
 use Rattle.store_model.specs.Stamped.{StampedVersions}
 use Rattle.undo_chain.specs.Chains.{list_at}
-use Rattle.head_map.specs.declared.heads.Heads.{Heads}
+use Rattle.row_table.specs.HeadMapDeclared.heads.Heads.{Heads}
 use Rattle.row_table.specs.Parts.{versions_in}
 use Rattle.row_table.specs.Rows.{records_in}
 use Rattle.row_table.proofs.VersionLemmas.{records_of_lists}

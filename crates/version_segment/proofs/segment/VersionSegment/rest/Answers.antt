@@ -1,6 +1,6 @@
 use Rattle.std.proofs.Common.{◌≡◌, ◌∙◌, ap, sym, subst, length, arith}
 use Rattle.gap_segment.specs.Fenced.{FencedRows}
-use Rattle.head_map.specs.Heads.{HeadTable, heads_placed, keyed, keyed_table}
+use Rattle.row_table.specs.HeadMap.Heads.{HeadTable, heads_placed, keyed, keyed_table}
 use Rattle.row_table.specs.Parts.{AreParts, view_of}
 use Rattle.version_segment.specs.Resting.{RestingRows, resting_of, word_rows, HasSmallWeights}
 use Rattle.version_segment.proofs.RestLemmas.{kept_parts, kept_rows, rest_parts, rest_view, rest_words, rest_small, words_length}

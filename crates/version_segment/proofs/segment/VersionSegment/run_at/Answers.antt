@@ -5,7 +5,7 @@ use Rattle.undo_chain.specs.States.{AreNamed}
 use Rattle.undo_chain.specs.Records.{value_of}
 use Rattle.undo_chain.specs.Chains.{list_at}
 use Rattle.undo_chain.proofs.ListLemmas.{still_known}
-use Rattle.head_map.specs.declared.heads.Heads.{Heads}
+use Rattle.row_table.specs.HeadMapDeclared.heads.Heads.{Heads}
 use Rattle.row_table.specs.Parts.{value_in}
 use Rattle.version_segment.proofs.RunLemmas.{run_found, fewer_between, settled_run, filled_start, filled_end, filled_room, filled_named, filled_next}
 use Rattle.version_segment.proofs.segment.VersionSegment.run_at.Goals as goal

@@ -1,0 +1,3 @@
+-- Modules of shared_store that crates above name.
+pub use Rattle.rebalance_service.specs.SharedStore.Ends
+pub use Rattle.rebalance_service.specs.SharedStore.Passes

@@ -1,0 +1,3 @@
+-- Modules of row_writes that crates above name.
+pub use Rattle.row_writes.proofs.KeyLemmas
+pub use Rattle.row_writes.proofs.WrittenLemmas

@@ -1,0 +1,5 @@
+-- Modules of leaf_store that crates above name.
+pub use Rattle.leaf_store.specs.Changes
+pub use Rattle.leaf_store.specs.Leaves
+pub use Rattle.leaf_store.specs.Merging
+pub use Rattle.leaf_store.specs.Table

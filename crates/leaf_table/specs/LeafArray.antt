@@ -1,0 +1,3 @@
+-- Modules of leaf_array that crates above name.
+pub use Rattle.leaf_array.specs.Leaves
+pub use Rattle.leaf_array.specs.Segments

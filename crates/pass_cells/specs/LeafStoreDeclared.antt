@@ -1,0 +1,2 @@
+-- Modules of leaf_store that crates above name.
+pub use Rattle.store_rule.specs.LeafStoreDeclared.pair

@@ -1,0 +1,7 @@
+-- Modules of rule_model that crates above name.
+pub use Rattle.store_rule.specs.RuleModel.MoveSteps
+pub use Rattle.store_rule.specs.RuleModel.NoteSteps
+pub use Rattle.store_rule.specs.RuleModel.Places
+pub use Rattle.store_rule.specs.RuleModel.RowSteps
+pub use Rattle.store_rule.specs.RuleModel.Sight
+pub use Rattle.store_rule.specs.RuleModel.Steps

@@ -1,0 +1,6 @@
+-- Modules of store_rule that crates above name.
+pub use Rattle.store_rule.specs.Closing
+pub use Rattle.store_rule.specs.Making
+pub use Rattle.store_rule.specs.Passes
+pub use Rattle.store_rule.specs.Slots
+pub use Rattle.store_rule.specs.Whole

@@ -1,0 +1,4 @@
+-- Modules of pass_cells that crates above name.
+pub use Rattle.pass_cells.specs.Changes
+pub use Rattle.pass_cells.specs.Holding
+pub use Rattle.pass_cells.specs.Taken

@@ -1,0 +1,2 @@
+-- Modules of pass_leaves that crates above name.
+pub use Rattle.pass_leaves.specs.contracts.own

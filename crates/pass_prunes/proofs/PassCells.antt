@@ -1,0 +1,3 @@
+-- Modules of pass_cells that crates above name.
+pub use Rattle.pass_cells.proofs.CellLemmas
+pub use Rattle.pass_cells.proofs.StepLemmas

@@ -1,0 +1,2 @@
+-- Modules of version_segment that crates above name.
+pub use Rattle.pass_cells.proofs.VersionSegment.KeyedLemmas

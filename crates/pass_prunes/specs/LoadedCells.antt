@@ -1,0 +1,2 @@
+-- Modules of loaded_cells that crates above name.
+pub use Rattle.pass_cells.specs.LoadedCells.Numbered

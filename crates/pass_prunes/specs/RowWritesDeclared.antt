@@ -1,0 +1,2 @@
+-- Modules of row_writes that crates above name.
+pub use Rattle.pass_cells.specs.RowWritesDeclared.written

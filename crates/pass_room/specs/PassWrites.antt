@@ -1,0 +1,2 @@
+-- Modules of pass_writes that crates above name.
+pub use Rattle.pass_writes.specs.Making

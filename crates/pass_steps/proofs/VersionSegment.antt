@@ -1,0 +1,3 @@
+-- Modules of version_segment that crates above name.
+pub use Rattle.store_rule.proofs.VersionSegment.KeyedLemmas
+pub use Rattle.store_rule.proofs.VersionSegment.LawLemmas

@@ -1,0 +1,3 @@
+-- Modules of store_relation that crates above name.
+pub use Rattle.optimistic_read.specs.StoreRelation.Loads
+pub use Rattle.optimistic_read.specs.StoreRelation.Passes

@@ -1,0 +1,5 @@
+-- Modules of job_runner that crates above name.
+pub use Rattle.job_runner.specs.NamedTable
+pub use Rattle.job_runner.specs.Phases
+pub use Rattle.job_runner.specs.Progress
+pub use Rattle.job_runner.specs.Runs

@@ -1,0 +1,4 @@
+//! What crates above name of crates that they don't list.
+
+pub use job_runner::{Job, Jobs, NamedTable, run_stepped};
+pub use teseo_core::{Core, CoreJournal};

@@ -1,0 +1,2 @@
+-- Modules of leaf_array that crates above name.
+pub use Rattle.leaf_rows.proofs.LeafArrayMade.Leaf

@@ -1,0 +1,2 @@
+-- Modules of script_lang that crates above name.
+pub use Rattle.script_lang.specs.declared.refusal

@@ -1,0 +1,3 @@
+-- Modules of version_segment that crates above name.
+pub use Rattle.loaded_cells.proofs.VersionSegment.KeyedLemmas
+pub use Rattle.loaded_cells.proofs.VersionSegment.LawLemmas

@@ -1,0 +1,2 @@
+-- Modules of leaf_store that crates above name.
+pub use Rattle.loaded_cells.specs.LeafStoreDeclared.pair

@@ -1,0 +1,2 @@
+-- Modules of job_runner that crates above name.
+pub use Rattle.job_runner.specs.Progress
