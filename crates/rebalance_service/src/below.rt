@@ -3,4 +3,6 @@
 pub use optimistic_read::{Route, Tried, route, try_has_vertex};
 pub use pass_room::below::{SweepKey, sweep_step};
 pub use shared_store::below::VersionSegment;
-pub use shared_store::{Closed, LoadedRefusal, Pass, Passes, Store, close, loaded, meet, new};
+pub use shared_store::{
+    Closed, LoadedRefusal, Pass, Passes, Store, close, loaded, loaded_by_threads, meet, new,
+};

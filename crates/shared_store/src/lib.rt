@@ -16,7 +16,7 @@ mod transactions;
 mod writes;
 
 pub use ends::{Closed, Passes, close, new};
-pub use load::{LoadedRefusal, loaded};
+pub use load::{LoadedRefusal, loaded, loaded_by_threads};
 pub use pass::Pass;
 pub use pass_writes::Written;
 pub use pass_writes::below::{RoomNeed, Store};

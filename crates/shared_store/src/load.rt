@@ -1,7 +1,8 @@
 //! A store that begins with a load.
 //!
 //! 1. It is as if pass 0 had begun on a new store, made the writes of a load and committed them.
-//! 2. The rows of the load are sorted, and divided among leaves from left to right.
+//! 2. The rows of the load are sorted, by several threads where the caller may start them, and divided among leaves from
+//!    left to right.
 
 ghost use Rattle.std.specs.Prelude.{◌≡◌, ◌<◌, ◌↔◌, Err, IfErr, IfOk, false, true, length};
 ghost use Rattle.std.specs.List.{AllByRecursion};
@@ -17,9 +18,10 @@ ghost use Rattle.shared_store.specs.declared.load.LoadedRefusal.TheVariants.{Too
 use crate::ends::{Passes, new, seated};
 use crate::pass::Pass;
 use graph_model::{NoMemory, Row, Writes};
-use load_order::sorted_rows;
+use load_order::{sorted_by_threads, sorted_rows};
 use pass_writes::below::Store;
 use std::alloc::Global;
+use std::thread::Threads;
 use thiserror::Error;
 use txn_manager::{Config, RoomRefusal, StoreRefusal};
 
@@ -92,6 +94,33 @@ pub fn loaded(alloc: Global, config: Config, load: Writes) -> Result<(Store, Pas
         return Ok(made);
     }
     let rows = sorted_rows(alloc, config.kind, load.as_slice())?;
+    filled(alloc, config, rows.as_slice(), load)
+}
+
+/// The same, where the rows are sorted by several threads.
+pub fn loaded_by_threads<R: Threads + Sync>(
+    rt: &R,
+    alloc: Global,
+    config: Config,
+    load: Writes,
+) -> Result<(Store, Passes), LoadedRefusal>
+    requires adds { AllByRecursion IsAdd load }
+    requires allowed { AllAllowed config.kind empty_graph load }
+    requires within { AllByRecursion IsWithinLimits load }
+    ensures too_large { (result ≡ Err TooLarge) ↔ (too_large config ≡ true) }
+    ensures refused { IfErr result (λ refusal. IsLoadedRefusal config load refusal) }
+    ensures config { IfOk result (λ made. made.0.accounts.config ≡ config) }
+    ensures passes { IfOk result (λ made. AreLoaded load made.0 made.1.list.items) }
+    ensures ends { IfOk result (λ made. AreEnds made.0 made.1.ends) }
+{
+    if config.is_too_large() {
+        return Err(LoadedRefusal::TooLarge);
+    }
+    if load.is_empty() {
+        let made = new(alloc, config)?;
+        return Ok(made);
+    }
+    let rows = sorted_by_threads(rt, alloc, config.kind, load.as_slice())?;
     filled(alloc, config, rows.as_slice(), load)
 }
 

@@ -14,7 +14,7 @@ use crate::workers::run_passes;
 use desk_io::Gate;
 use graph_model::{LoadRefusal, NoMemory, Writes};
 use items::Items;
-use rebalance_service::below::{Closed, LoadedRefusal, Passes, Store, close, loaded};
+use rebalance_service::below::{Closed, LoadedRefusal, Passes, Store, close, loaded_by_threads};
 use run_model::Script;
 use shared_runs::closed_stores_leave_runs;
 use std::alloc::Global;
@@ -53,7 +53,7 @@ pub fn run_on_threads<R: Threads + Wait + Sync, G: Gate>(
     ensures refused { IfErr result (IsStopped config load) }
 {
     closed_stores_leave_runs();
-    let (store, mut passes) = load_store(alloc, config, load)?;
+    let (store, mut passes) = load_store(rt, alloc, config, load)?;
     let ran = run_passes(rt, alloc, &store, &mut passes.list, scripts, workers, gate);
     let closed = close(store, passes);
     match ran {
@@ -63,7 +63,12 @@ pub fn run_on_threads<R: Threads + Wait + Sync, G: Gate>(
 }
 
 /// A store that begins with the load, and its passes.
-fn load_store(alloc: Global, config: Config, load: Writes) -> Result<(Store, Passes), LoadRefusal>
+fn load_store<R: Threads + Sync>(
+    rt: &R,
+    alloc: Global,
+    config: Config,
+    load: Writes,
+) -> Result<(Store, Passes), LoadRefusal>
     requires can { IsLoadable config.kind load }
     requires fits { too_large config ≡ false }
     ensures config { IfOk result (λ made. made.0.accounts.config ≡ config) }
@@ -71,7 +76,7 @@ fn load_store(alloc: Global, config: Config, load: Writes) -> Result<(Store, Pas
     ensures ends { IfOk result (λ made. AreEnds made.0 made.1.ends) }
     ensures refused { IfErr result (IsStopped config load) }
 {
-    match loaded(alloc, config, load) {
+    match loaded_by_threads(rt, alloc, config, load) {
         Ok(made) => Ok(made),
         Err(LoadedRefusal::TooLarge) => unreachable!(),
         Err(LoadedRefusal::Full { leaves }) => Err(LoadRefusal::Full { leaves }),
