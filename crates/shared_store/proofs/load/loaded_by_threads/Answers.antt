@@ -7,7 +7,7 @@ use Rattle.shared_store.proofs.LoadLemmas.{rows_of_load, some_of}
 use Rattle.shared_store.proofs.load.loaded_by_threads.Goals as goal
 
 pub filled-requires-clause-rows : goal.filled-requires-clause-rows
-filled-requires-clause-rows c =
+filled-requires-clause-rows _ c =
     let z = c.args.config in
     let load = c.args.load in
     let rows = c.in_ok-rows.rows.items in
