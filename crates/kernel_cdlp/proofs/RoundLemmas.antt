@@ -7,7 +7,6 @@ use Rattle.std.proofs.lemmas.List.{map-append, map-id}
 use Rattle.std.proofs.lemmas.Option.{slice_get_within, get_or_from_slice_get}
 use Rattle.graph_model.specs.declared.write.Kind.TheVariants.{Directed, Undirected}
 use Rattle.graph_model.specs.declared.table.Entry.{Entry}
-use Rattle.graph_model.specs.declared.table.Value.{Value}
 use Rattle.graph_model.specs.declared.table.Value.TheVariants.{Number}
 use Rattle.graph_model.specs.Graph.{Graph, IsSymmetric}
 use Rattle.graph_model.specs.Tables.{IsCdlp, IsCdlpValue}

@@ -1,4 +1,4 @@
-use Rattle.std.proofs.Common.{◌≡◌, ◌+◌, length, get_or, sym, ap, ◌∙◌, subst, arith}
+use Rattle.std.proofs.Common.{◌≡◌, ◌+◌, length, get_or, sym, subst, arith}
 use Rattle.std.proofs.lemmas.Option.{slice_get-get_or}
 use Rattle.kernel_cdlp.proofs.FrequencyLemmas.{IsBestOf, best_none, best_takes, best_keeps, best_all}
 use Rattle.kernel_cdlp.proofs.frequency.best_counted.Goals as goal
