@@ -1,14 +1,16 @@
 -- Labels join the ends of arcs, and where all are joined they lead to the least places.
-use Rattle.std.proofs.Common.{◌≡◌, ℕ, zero, suc, ◌+◌, ◌<◌, ◌≤◌, ◌⊎◌, inl, inr, ⊎_elim, List, [], ◌∷◌, ◌++◌, length, get_or, slice_get, slice_set, Some, refl, sym, ap, ◌∙◌, subst, arith, get_or-set_other, get_or-set_same, length-set}
+use Rattle.std.proofs.Common.{◌≡◌, ℕ, zero, suc, ◌+◌, ◌<◌, ◌≤◌, ◌⊎◌, inl, inr, ⊎_elim, List, [], ◌∷◌, ◌++◌, length, take, slice_get, slice_set, Some, refl, sym, ap, ◌∙◌, subst, arith, get_or-set_other, get_or-set_same, length-set, length-append}
 use Rattle.std.specs.Prelude.{slice_index}
 use Rattle.std.proofs.lemmas.Bool.{cases_lt, cases_eq}
-use Rattle.std.proofs.lemmas.Option.{same_Some, slice_get_within, slice_get-get_or, get_or_from_slice_get}
+use Rattle.std.proofs.lemmas.List.{length-take, take_all}
+use Rattle.std.proofs.lemmas.Option.{same_Some, none-some, slice_get_within, slice_get-get_or, get_or_from_slice_get}
 use Rattle.graph_model.specs.Graph.{Graph}
+use Rattle.graph_model.proofs.PlaceLemmas.{get_take}
 use Rattle.graph_image.specs.declared.edge.Arc.{Arc}
-use Rattle.graph_image.specs.Images.{Places, arcs_at, Leads, IsImageOf}
+use Rattle.graph_image.specs.Images.{Places, arcs_at, Leads, IsImageOf, AreWithin}
 use Rattle.graph_image.specs.Paths.{HasTrail}
-use Rattle.graph_image.proofs.Lists.{below_cases}
-use Rattle.kernel_wcc.specs.Labels.{AreLow, IsFirst, Joins, AreReached, Follows, IsLabelOr, IsJoined, AreMerged, IsSettled, AreComponents}
+use Rattle.graph_image.proofs.Lists.{below_cases, get_push_cases}
+use Rattle.kernel_wcc.specs.Labels.{AreLow, IsFirstLabel, Joins, AreReached, Follows, IsLabelOr, IsLabelOrEnd, IsJoined, HasEqualEnds, AreJoined, AreSound, IsDone, AreMerged, IsSettled, AreComponents}
 
 -- ---- trails
 
@@ -175,54 +177,147 @@ module _ (old : List ℕ) (a b u v : ℕ) (labels : List ℕ) (is : IsJoining ol
         lower,
       )
 
--- ---- all arcs are joined
+-- ---- a place is joined with the ends of its arcs
 
-pub merged_none : (image : Places) (labels : List ℕ) → IsFirst (length image.vertices) labels → AreMerged image 0 0 labels
-merged_none image labels first = record {
-  count = first.count;
-  low = λ p label at. (let within = slice_get_within labels p label at in let count = first.count in let same = same_Some label p (sym at ∙ first.each p (omega arith)) in omega arith);
-  kept = λ f follows q k a before at. absurd (⊎_elim (λ less. (omega arith)) (λ here. (let less = here.1 in omega arith)) before);
-  reached = λ g is p label at. ([], (let within = slice_get_within labels p label at in let count = first.count in sym (same_Some label p (sym at ∙ first.each p (omega arith)))));
+get_in_take : {X : Type 0} (n : ℕ) (xs : List X) (i : ℕ) (x : X) → i < n → slice_get xs i ≡ Some x → slice_get (take n xs) i ≡ Some x
+get_in_take zero xs i x less at = absurd (omega arith)
+get_in_take (suc n) [] i x less at = cc
+get_in_take (suc n) (y ∷ xs) zero x less at = at
+get_in_take (suc n) (y ∷ xs) (suc i) x less at = get_in_take n xs i x (omega arith) at
+
+pub joined_none : (old : List ℕ) (p : ℕ) (arcs : List Arc) → AreLow old → AreJoined old p arcs 0 old
+joined_none old p arcs low = record {
+  count = refl;
+  low = low;
+  kept = λ f follows. (follows, λ k a at. absurd (let within = slice_get_within (take 0 arcs) k a at in let none = length-take 0 arcs in omega arith));
+  reached = λ q label at. joins_link (IsLabelOrEnd old p arcs) q label (inl (inl at));
 }
 
-module _ (image : Places) (p j : ℕ) (labels : List ℕ) (merged : AreMerged image p j labels) where
-  -- one arc more
-  pub merged_more : (a : Arc) → p < length image.vertices → slice_get (arcs_at image.out p) j ≡ Some a → (new : List ℕ) → IsJoined labels p a.other new → AreMerged image p (j + 1) new
-  merged_more a below at new joined = record {
-    count = joined.count ∙ merged.count;
+-- the place and the other end of the next arc are places
+pub ends_within : (old : List ℕ) (p : ℕ) (arcs : List Arc) (n : ℕ) (labels : List ℕ) → AreJoined old p arcs n labels → p < length old → AreWithin (length old) arcs
+    → (a : Arc) → slice_get arcs n ≡ Some a → (p < length labels) × (a.other < length labels)
+ends_within old p arcs n labels joined place within a at = let count = joined.count in let other = within n a at in (omega arith, omega arith)
+
+-- one arc more
+pub joined_more : (old : List ℕ) (p : ℕ) (arcs : List Arc) (n : ℕ) (labels : List ℕ) → AreJoined old p arcs n labels → (a : Arc) → slice_get arcs n ≡ Some a
+    → (new : List ℕ) → IsJoined labels p a.other new → AreJoined old p arcs (n + 1) new
+joined_more old p arcs n labels before a at new joined = record {
+  count = joined.count ∙ before.count;
+  low = joined.low;
+  kept = λ f follows.
+      let back = joined.kept f follows in
+      let rest = before.kept f back.0 in (
+        rest.0,
+        λ k b b_at.
+            let there = get_take (n + 1) arcs k b b_at in
+            ⊎_elim
+            (λ less. rest.1 k b (get_in_take n arcs k b less there.1))
+            (λ same. back.1 ∙ ap (λ (x : Arc). f x.other) (same_Some a b (sym at ∙ ap (slice_get arcs) (sym same) ∙ there.1)))
+            (below_cases k n there.0),
+      );
+  reached = λ q label q_at.
+      let there = joined.reached q label q_at in
+      trail_of_trails (IsLabelOrEnd old p arcs) (IsLabelOr labels p a.other)
+      (λ r s. ⊎_elim
+      (λ label_is. before.reached r s label_is)
+      (λ ends. joins_link (IsLabelOrEnd old p arcs) r s (inl (inr (ends.0, n, a, at, ends.1)))))
+      q label there.0 there.1;
+}
+
+-- what the labels join, links join, where they join the ends of the arcs
+reached_joined : (Link : ℕ → ℕ → Type 0) (old : List ℕ) (p : ℕ) (arcs : List Arc) (n : ℕ) (new : List ℕ) → AreJoined old p arcs n new → AreReached Link old
+    → ((k : ℕ) (a : Arc) → slice_get arcs k ≡ Some a → Joins Link p a.other) → AreReached Link new
+reached_joined Link old p arcs n new joined reached linked q label q_at =
+    let there = joined.reached q label q_at in
+    trail_of_trails Link (IsLabelOrEnd old p arcs)
+    (λ r s. ⊎_elim
+    (λ label_is. reached r s label_is)
+    (λ ends. subst (λ x. Joins Link x s) (sym ends.0) (subst (Joins Link p) (sym ends.4) (linked ends.1 ends.2 ends.3))))
+    q label there.0 there.1
+
+-- ---- first labels, and arcs out of the places that keep their own
+
+pub sound_none : (image : Places) → AreSound image 0 []
+sound_none image = record {
+  count = refl;
+  low = λ p label at. absurd (none-some label at);
+  reached = λ g is p label at. absurd (none-some label at);
+}
+
+-- a place more has its first label
+pub sound_more : (image : Places) (labels : List ℕ) (p label : ℕ) → AreSound image p labels → p < length image.vertices → IsFirstLabel (arcs_at image.out p) p labels label → AreSound image (p + 1) (labels ++ label ∷ [])
+sound_more image labels p label sound below first = record {
+  count = let count = sound.count in length-append labels (label ∷ []) ∙ omega arith;
+  low = λ q other at. ⊎_elim
+      (λ before. sound.low q other before)
+      (λ here. let count = sound.count in ⊎_elim
+      (λ own. (let place = here.0 in let same = here.1 in omega arith))
+      (λ lower. (let within = slice_get_within labels lower.0.other label lower.2 in let low = sound.low lower.0.other label lower.2 in let place = here.0 in let same = here.1 in omega arith))
+      first)
+      (get_push_cases labels label q other at);
+  reached = λ g is q other at. ⊎_elim
+      (λ before. sound.reached g is q other before)
+      (λ here.
+      let place : p ≡ q = sym sound.count ∙ sym here.0 in
+      subst (λ x. Joins (Leads g image.vertices) x other) place (subst (Joins (Leads g image.vertices) p) here.1 (⊎_elim
+      (λ own. ([], sym own))
+      (λ lower. joins_on (Leads g image.vertices) p lower.0.other label
+      (joins_link (Leads g image.vertices) p lower.0.other (inl (lower.0.weight, (is.out p below).sound 0 lower.0 lower.1)))
+      (sound.reached g is lower.0.other label lower.2))
+      first)))
+      (get_push_cases labels label q other at);
+}
+
+module _ (image : Places) (labels : List ℕ) (sound : AreSound image (length image.vertices) labels) (p : ℕ) (below : p < length image.vertices) where
+  -- a place is joined with the ends of the arcs out of it
+  pub sound_out : (n : ℕ) (new : List ℕ) → AreJoined labels p (arcs_at image.out p) n new → AreSound image (length image.vertices) new
+  sound_out n new joined = record {
+    count = joined.count ∙ sound.count;
     low = joined.low;
-    kept = λ f follows q k b before b_at.
-        let back = joined.kept f follows in
-        ⊎_elim
-        (λ less. merged.kept f back.0 q k b (inl less) b_at)
-        (λ here. ⊎_elim
-        (λ lower. merged.kept f back.0 q k b (inr (here.0, lower)) b_at)
-        (λ same. ap f here.0 ∙ back.1 ∙ ap (λ (x : Arc). f x.other) (same_Some a b (sym at ∙ (λ i. slice_get (arcs_at image.out (sym here.0 i)) (sym same i)) ∙ b_at)))
-        (below_cases k j here.1))
-        before;
-    reached = λ g is q label q_at.
-        let there = joined.reached q label q_at in
-        let link : Joins (Leads g image.vertices) p a.other = joins_link (Leads g image.vertices) p a.other (inl (a.weight, (is.out p below).sound j a at)) in
-        trail_of_trails (Leads g image.vertices) (IsLabelOr labels p a.other)
-        (λ r s. ⊎_elim
-        (λ label_is. merged.reached g is r s label_is)
-        (λ ends. subst (λ x. Joins (Leads g image.vertices) x s) (sym ends.0) (subst (Joins (Leads g image.vertices) p) (sym ends.1) link)))
-        q label there.0 there.1;
+    reached = λ g is. reached_joined (Leads g image.vertices) labels p (arcs_at image.out p) n new joined (sound.reached g is)
+        (λ k a at. joins_link (Leads g image.vertices) p a.other (inl (a.weight, (is.out p below).sound k a at)));
   }
 
-  -- the next place
-  pub merged_next : length (arcs_at image.out p) ≤ j → AreMerged image (p + 1) 0 labels
-  merged_next end = record {
-    count = merged.count;
-    low = merged.low;
-    kept = λ f follows q k b before at. ⊎_elim
-        (λ less. ⊎_elim
-        (λ lower. merged.kept f follows q k b (inl lower) at)
-        (λ same. merged.kept f follows q k b (inr (same, (let within = slice_get_within (arcs_at image.out q) k b at in let wide = ap (λ x. length (arcs_at image.out x)) same in omega arith))) at)
-        (below_cases q p less))
-        (λ here. absurd (let less = here.1 in omega arith))
-        before;
-    reached = merged.reached;
+  -- a place is joined with the ends of the arcs into it
+  pub sound_into : (n : ℕ) (new : List ℕ) → AreJoined labels p (arcs_at image.into p) n new → AreSound image (length image.vertices) new
+  sound_into n new joined = record {
+    count = joined.count ∙ sound.count;
+    low = joined.low;
+    reached = λ g is. reached_joined (Leads g image.vertices) labels p (arcs_at image.into p) n new joined (sound.reached g is)
+        (λ k a at. joins_link (Leads g image.vertices) p a.other (inr (a.weight, (is.into p below).sound k a at)));
+  }
+
+-- ---- the other arcs, but of places that have the large label
+
+pub merged_none : (image : Places) (large : ℕ) (labels : List ℕ) → AreSound image (length image.vertices) labels → AreMerged image large 0 labels
+merged_none image large labels sound = record { sound = sound; kept = λ f follows q less. absurd (omega arith) }
+
+module _ (image : Places) (large p : ℕ) (labels : List ℕ) (merged : AreMerged image large p labels) (below : p < length image.vertices) where
+  -- the place has the large label
+  pub merged_large : slice_index labels p ≡ large → AreMerged image large (p + 1) labels
+  merged_large same = record {
+    sound = merged.sound;
+    kept = λ f follows q less. ⊎_elim
+        (λ lower. merged.kept f follows q lower)
+        (λ here. inl (ap f here ∙ follows p (let count = merged.sound.count in omega arith) ∙ ap f same))
+        (below_cases q p less);
+  }
+
+  -- its arcs are joined
+  pub merged_more : (middle new : List ℕ) → AreJoined labels p (arcs_at image.out p) (length (arcs_at image.out p)) middle
+      → AreJoined middle p (arcs_at image.into p) (length (arcs_at image.into p)) new → AreMerged image large (p + 1) new
+  merged_more middle new out into = record {
+    sound = sound_into image middle (sound_out image labels merged.sound p below (length (arcs_at image.out p)) middle out) p below (length (arcs_at image.into p)) new into;
+    kept = λ f follows q less.
+        let back = into.kept f follows in
+        let first = out.kept f back.0 in
+        ⊎_elim
+        (λ lower. merged.kept f first.0 q lower)
+        (λ here. subst (IsDone image large f) (sym here) (inr (
+          subst (HasEqualEnds f p) (take_all (length (arcs_at image.out p)) (arcs_at image.out p) (omega arith)) first.1,
+          subst (HasEqualEnds f p) (take_all (length (arcs_at image.into p)) (arcs_at image.into p) (omega arith)) back.1,
+        )))
+        (below_cases q p less);
   }
 
 -- ---- labels settle
@@ -300,13 +395,30 @@ module _ (old new : List ℕ) (low : AreLow old) (settled : IsSettled old new) w
       subst (Joins Link p) (get_or_from_slice_get new p label 0 at)
       (settles (Joins Link) (λ q below own. ([], refl)) (λ q r below rest. joins_on Link q (slice_index old q) r (reached q (slice_index old q) (label_at old q below)) rest) (p + 1) p (omega arith) (omega arith))
 
-  module _ (image : Places) (p : ℕ) (merged : AreMerged image p 0 old) (all : length image.vertices ≤ p) (g : Graph) (is : IsImageOf image g) where
+  -- settled labels join nothing more
+  pub sound_settled : (image : Places) (n : ℕ) → AreSound image n old → AreSound image n new
+  sound_settled image n sound = record {
+    count = settled.count ∙ sound.count;
+    low = low_settled;
+    reached = λ g is. reached_settled (Leads g image.vertices) (sound.reached g is);
+  }
+
+  module _ (image : Places) (large p : ℕ) (merged : AreMerged image large p old) (all : length image.vertices ≤ p) (g : Graph) (is : IsImageOf image g) where
     -- the two ends of an arc have one label
     link_equal : (q r : ℕ) → Leads g image.vertices q r → slice_index new q ≡ slice_index new r
     link_equal q r leads =
-        let within = slice_get_within image.vertices q leads.1.from leads.1.from_at in
-        let arc = (is.out q within).complete r leads.0 leads.1 in
-        merged.kept (slice_index new) (λ s below. settled.each s below) q arc.0 (record { other = r; weight = leads.0 }) (inl (omega arith)) arc.1
+        let q_within = slice_get_within image.vertices q leads.1.from leads.1.from_at in
+        let r_within = slice_get_within image.vertices r leads.1.to leads.1.to_at in
+        let done = merged.kept (slice_index new) (λ s below. settled.each s below) in
+        let out = (is.out q q_within).complete r leads.0 leads.1 in
+        let into = (is.into r r_within).complete q leads.0 leads.1 in
+        ⊎_elim
+        (λ q_large. ⊎_elim
+        (λ r_large. q_large ∙ sym r_large)
+        (λ r_ends. sym (r_ends.1 into.0 (record { other = q; weight = leads.0 }) into.1))
+        (done r (omega arith)))
+        (λ q_ends. q_ends.0 out.0 (record { other = r; weight = leads.0 }) out.1)
+        (done q (omega arith))
 
     trail_equal : (q r : ℕ) (cs : List ℕ) → HasTrail (Leads g image.vertices) q cs r → slice_index new q ≡ slice_index new r
     trail_equal q r [] trail = ap (slice_index new) trail
@@ -319,11 +431,11 @@ module _ (old new : List ℕ) (low : AreLow old) (settled : IsSettled old new) w
     -- the labels are the least places
     pub are_components : AreComponents (Leads g image.vertices) new
     are_components = record {
-      reached = reached_settled (Leads g image.vertices) (merged.reached g is);
+      reached = reached_settled (Leads g image.vertices) (merged.sound.reached g is);
       least = λ q r label cs at trail.
           let within = slice_get_within new q label at in
           let count = settled.count in
-          let wide = merged.count in
+          let wide = merged.sound.count in
           let there = trail_within q r cs (omega arith) trail in
           let read : slice_index new q ≡ label = get_or_from_slice_get new q label 0 at in
           let equal = trail_equal q r cs trail in

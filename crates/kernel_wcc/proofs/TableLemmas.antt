@@ -4,7 +4,6 @@ use Rattle.std.specs.Prelude.{IsTrue, slice_index}
 use Rattle.std.proofs.lemmas.Bool.{cases_lt}
 use Rattle.std.proofs.lemmas.Option.{same_Some, slice_get_within}
 use Rattle.graph_model.specs.declared.table.Entry.{Entry}
-use Rattle.graph_model.specs.declared.table.Value.{Value}
 use Rattle.graph_model.specs.Graph.{Graph, has_vertex}
 use Rattle.graph_model.specs.Components.{IsTrail}
 use Rattle.graph_model.specs.Tables.{IsWccValue, IsWcc}
@@ -39,9 +38,8 @@ module _ (image : Places) (g : Graph) (is : IsImageOf image g) (labels : List �
             (cases_lt label place.0);
       }
 
-  pub components_table : (seen vertices : List ℕ) → seen ≡ labels → vertices ≡ image.vertices → (values seen_values : List Value) → values ≡ map (value_of vertices) seen → seen_values ≡ values → (entries : List Entry)
-      → AreEntries image.vertices seen_values entries → IsWcc g entries
-  components_table seen vertices seen_is vertices_are values seen_values values_are seen_are entries listed =
-      table_right image g is (IsWccValue g) seen_values entries listed (λ p v x at_v at_x.
-      let there = get_map (value_of image.vertices) labels p x (ap (λ xs. slice_get xs p) ((λ i. map (value_of (sym vertices_are i)) (sym seen_is i)) ∙ sym values_are ∙ sym seen_are) ∙ at_x) in
+  pub components_table : (seen : List ℕ) → seen ≡ labels → (entries : List Entry) → AreEntries image.vertices (map (value_of image.vertices) seen) entries → IsWcc g entries
+  components_table seen seen_is entries listed =
+      table_right image g is (IsWccValue g) (map (value_of image.vertices) seen) entries listed (λ p v x at_v at_x.
+      let there = get_map (value_of image.vertices) labels p x (ap (λ xs. slice_get (map (value_of image.vertices) xs) p) (sym seen_is) ∙ at_x) in
       subst (IsWccValue g v) there.2 (value_right p v there.0 at_v there.1))

@@ -1,5 +1,5 @@
 -- Labels by place, and what joining two places makes of them.
-use Rattle.std.specs.Prelude.{◌≡◌, ℕ, ◌<◌, ◌≤◌, ◌⊎◌, List, length, slice_get, slice_index, Some}
+use Rattle.std.specs.Prelude.{◌≡◌, ℕ, ◌<◌, ◌≤◌, ◌⊎◌, List, length, take, slice_get, slice_index, Some}
 use Rattle.graph_model.specs.declared.table.Value.{Value}
 use Rattle.graph_model.specs.declared.table.Value.TheVariants.{Number}
 use Rattle.graph_model.specs.Graph.{Graph}
@@ -15,10 +15,10 @@ value_of vertices label = Number (slice_index vertices label)
 abbrev pub AreLow : List ℕ → Type 0
 AreLow labels = (p label : ℕ) → slice_get labels p ≡ Some label → label ≤ p
 
--- each of the first n places has itself as its label
-pub record IsFirst (n : ℕ) (labels : List ℕ) : Type 0 where
-  pub count : length labels ≡ n
-  pub each : (p : ℕ) → p < n → slice_get labels p ≡ Some p
+-- the label of p is that of a lower place to which an arc of the list leads, or p itself
+abbrev pub IsFirstLabel : List Arc → ℕ → List ℕ → ℕ → Type 0
+IsFirstLabel arcs p labels label = (label ≡ p)
+    ⊎ ((a : Arc) × (slice_get arcs 0 ≡ Some a) × (slice_get labels a.other ≡ Some label))
 
 -- ---- what labels join
 
@@ -45,14 +45,38 @@ pub record IsJoined (old : List ℕ) (a b : ℕ) (new : List ℕ) : Type 0 where
   pub kept : (f : ℕ → ℕ) → Follows f new → Follows f old × (f a ≡ f b)
   pub reached : AreReached (IsLabelOr old a b) new
 
--- The labels join the ends of the arcs out of the places before p, and of the first j out of p; and nothing that
--- no trail joins.
-pub record AreMerged (image : Places) (p j : ℕ) (labels : List ℕ) : Type 0 where
-  pub count : length labels ≡ length image.vertices
+-- f is equal at p and at the other ends of the arcs
+abbrev pub HasEqualEnds : (ℕ → ℕ) → ℕ → List Arc → Type 0
+HasEqualEnds f p arcs = (k : ℕ) (a : Arc) → slice_get arcs k ≡ Some a → f p ≡ f a.other
+
+-- p has the label q, or it is a, and an arc of the list leads from it to q
+abbrev pub IsLabelOrEnd : List ℕ → ℕ → List Arc → ℕ → ℕ → Type 0
+IsLabelOrEnd labels a arcs p q = (slice_get labels p ≡ Some q)
+    ⊎ ((p ≡ a) × (k : ℕ) × (arc : Arc) × (slice_get arcs k ≡ Some arc) × (q ≡ arc.other))
+
+-- the labels join what the labels before joined, and p with the other ends of the first n arcs; and nothing else
+pub record AreJoined (old : List ℕ) (p : ℕ) (arcs : List Arc) (n : ℕ) (new : List ℕ) : Type 0 where
+  pub count : length new ≡ length old
+  pub low : AreLow new
+  pub kept : (f : ℕ → ℕ) → Follows f new → Follows f old × HasEqualEnds f p (take n arcs)
+  pub reached : AreReached (IsLabelOrEnd old p arcs) new
+
+-- the first n places have labels, which join nothing that no trail joins
+pub record AreSound (image : Places) (n : ℕ) (labels : List ℕ) : Type 0 where
+  pub count : length labels ≡ n
   pub low : AreLow labels
-  pub kept : (f : ℕ → ℕ) → Follows f labels → (q k : ℕ) (a : Arc) → ((q < p) ⊎ ((q ≡ p) × (k < j)))
-      → slice_get (arcs_at image.out q) k ≡ Some a → f q ≡ f a.other
   pub reached : (g : Graph) → IsImageOf image g → AreReached (Leads g image.vertices) labels
+
+-- f is equal at the place and at the large one, or at the place and at the other ends of all its arcs
+abbrev pub IsDone : Places → ℕ → (ℕ → ℕ) → ℕ → Type 0
+IsDone image large f p = (f p ≡ f large)
+    ⊎ (HasEqualEnds f p (arcs_at image.out p) × HasEqualEnds f p (arcs_at image.into p))
+
+-- The labels join each of the first p places with the large one, or with the other ends of all its arcs; and
+-- nothing that no trail joins.
+pub record AreMerged (image : Places) (large p : ℕ) (labels : List ℕ) : Type 0 where
+  pub sound : AreSound image (length image.vertices) labels
+  pub kept : (f : ℕ → ℕ) → Follows f labels → (q : ℕ) → q < p → IsDone image large f q
 
 -- each place has the label of its label before, and keeps its own if that was itself
 pub record IsSettled (old new : List ℕ) : Type 0 where

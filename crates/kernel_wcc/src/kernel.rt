@@ -3,11 +3,12 @@
 ghost use Rattle.std.specs.Prelude.{◌≡◌, length, map, IfOk};
 ghost use Rattle.graph_model.specs.Graph.{Graph};
 ghost use Rattle.graph_model.specs.Tables.{IsWcc};
+ghost use Rattle.graph_image.specs.Entries.{AreEntries};
 ghost use Rattle.graph_image.specs.Images.{IsImageOf};
 ghost use Rattle.kernel_wcc.specs.Labels.{value_of, AreLow};
 
 use crate::labels::components;
-use graph_image::{Image, NoMemory, Table, Value, table_of};
+use graph_image::{Entry, Image, NoMemory, Table, Value};
 use std::alloc::Global;
 use std::thread::Threads;
 
@@ -18,22 +19,25 @@ pub fn run<R: Threads + Sync>(_rt: &R, alloc: Global, image: &Image) -> Result<T
     ensures { IfOk result (λ table. (g : Graph) → IsImageOf image.now g → IsWcc g table) }
 {
     let labels = components(alloc, image)?;
-    let values = values_of(alloc, image.vertices(), labels.as_slice())?;
-    let table = table_of(alloc, image, values.as_slice())?;
+    let table = table_by(alloc, image, labels.as_slice())?;
     Ok(table)
 }
 
-/// The ids of the labels.
-fn values_of(alloc: Global, vertices: &[u64], labels: &[u32]) -> Result<Vec<Value>, NoMemory>
+/// A line for each vertex, with the id of the label of its place.
+fn table_by(alloc: Global, image: &Image, labels: &[u32]) -> Result<Table, NoMemory>
     requires low { AreLow labels.now }
-    requires count { length labels.now ≡ length vertices.now }
-    ensures { IfOk result (λ values. values.items ≡ map (value_of vertices.now) labels.now) }
+    requires count { length labels.now ≡ length image.now.vertices }
+    ensures { IfOk result (AreEntries image.now.vertices (map (value_of image.now.vertices) labels.now)) }
 {
-    let mut values = Vec::with_capacity(alloc, labels.len())?;
-    'places: for i in 0..labels.len() {
-        values.push(Value::Number {
-            n: vertices[labels[i] as usize],
+    let vertices = image.vertices();
+    let mut entries = Vec::with_capacity(alloc, vertices.len())?;
+    'places: for i in 0..vertices.len() {
+        entries.push(Entry {
+            vertex: vertices[i],
+            value: Value::Number {
+                n: vertices[labels[i] as usize],
+            },
         })?;
     }
-    Ok(values)
+    Ok(Table::from_vec(entries))
 }

@@ -2,10 +2,10 @@
 
 ghost use Rattle.std.specs.Prelude.{◌≡◌, ℕ, ◌+◌, ◌<◌, ◌^◌, length, IfOk};
 ghost use Rattle.graph_model.specs.Graph.{Graph};
-ghost use Rattle.graph_image.specs.Images.{IsImageOf, Leads};
-ghost use Rattle.kernel_wcc.specs.Labels.{AreLow, IsFirst, IsJoined, AreMerged, IsSettled, AreComponents};
+ghost use Rattle.graph_image.specs.Images.{IsImageOf, Leads, AreWithin};
+ghost use Rattle.kernel_wcc.specs.Labels.{AreLow, IsFirstLabel, IsJoined, AreJoined, AreSound, AreMerged, IsSettled, AreComponents};
 
-use graph_image::{Image, NoMemory};
+use graph_image::{Arc, Image, NoMemory};
 use std::alloc::Global;
 
 /// The label of each place: the least place of its component.
@@ -15,36 +15,107 @@ pub fn components(alloc: Global, image: &Image) -> Result<Vec<u32>, NoMemory>
     ensures components { IfOk result (λ labels. (g : Graph) → IsImageOf image.now g
         → AreComponents (Leads g image.now.vertices) labels.items) }
 {
-    let count = image.len();
-    let mut labels = first_labels(alloc, count)?;
-    'places: for place in 0..count {
-        merge(image, place, &mut labels);
+    let mut labels = first_labels(alloc, image)?;
+    join_roots(image, &mut labels);
+    settle(&mut labels);
+    let large = label_of(&labels, heaviest(image));
+    'places: for place in 0..image.len() {
+        merge(image, place, large, &mut labels);
     }
     settle(&mut labels);
     Ok(labels)
 }
 
-/// Each place as its own label.
-fn first_labels(alloc: Global, count: usize) -> Result<Vec<u32>, NoMemory>
-    requires { count < 4294967296 }
-    ensures { IfOk result (λ labels. IsFirst count labels.items) }
+/// The label of the lowest place that an arc leads to, where that is lower, else the place itself. In rising
+/// order a lower place has its label already, so the labels are settled.
+fn first_labels(alloc: Global, image: &Image) -> Result<Vec<u32>, NoMemory>
+    ensures { IfOk result (λ labels. AreSound image.now (length image.now.vertices) labels.items) }
 {
-    let mut labels = Vec::with_capacity(alloc, count)?;
-    'places: for place in 0..count {
-        labels.push(place as u32)?;
+    let mut labels = Vec::with_capacity(alloc, image.len())?;
+    'places: for place in 0..image.len() {
+        let label = first_label(image.out(place), place, labels.as_slice());
+        labels.push(label)?;
     }
     Ok(labels)
 }
 
-/// Joins a place with the other ends of the arcs out of it.
-fn merge(image: &Image, place: usize, labels: &mut Vec<u32>)
-    requires place { (place < length image.now.vertices) × (place < 2 ^ 32) }
-    requires merged { AreMerged image.now place 0 labels.old.items }
-    ensures { AreMerged image.now (place + 1) 0 labels.new.items }
+/// The first label of a place, where all lower places have theirs.
+fn first_label(arcs: &[Arc], place: usize, labels: &[u32]) -> u32
+    requires { (length labels.now ≡ place) × (place < 2 ^ 32) }
+    ensures { IsFirstLabel arcs.now place labels.now result }
 {
-    let arcs = image.out(place);
+    match arcs.first() {
+        Some(arc) if (arc.other as usize) < place => labels[arc.other as usize],
+        _ => place as u32,
+    }
+}
+
+/// Joins each place that is its own label with the other ends of the arcs out of it.
+fn join_roots(image: &Image, labels: &mut Vec<u32>)
+    requires { AreSound image.now (length image.now.vertices) labels.old.items }
+    ensures { AreSound image.now (length image.now.vertices) labels.new.items }
+{
+    'places: for place in 0..image.len() {
+        join_root(image, place, labels);
+    }
+}
+
+/// Joins a place with the other ends of the arcs out of it, if it is its own label.
+fn join_root(image: &Image, place: usize, labels: &mut Vec<u32>)
+    requires place { (place < length image.now.vertices) × (place < 2 ^ 32) }
+    requires labels { AreSound image.now (length image.now.vertices) labels.old.items }
+    ensures { AreSound image.now (length image.now.vertices) labels.new.items }
+{
+    if labels[place] as usize != place {
+        return;
+    }
+    join_ends(place as u32, image.out(place), labels);
+}
+
+/// A place with the most arcs out of it.
+fn heaviest(image: &Image) -> usize {
+    let mut heavy = 0;
+    let mut most = 0;
+    'places: for place in 0..image.len() {
+        let count = image.out(place).len();
+        if most < count {
+            most = count;
+            heavy = place;
+        }
+    }
+    heavy
+}
+
+/// The label of a place; 0 where there is no such place.
+fn label_of(labels: &Vec<u32>, place: usize) -> u32 {
+    match labels.as_slice().get(place) {
+        Some(label) => *label,
+        None => 0,
+    }
+}
+
+/// Joins a place with the other ends of the arcs out of it and into it, unless its label is the large one.
+fn merge(image: &Image, place: usize, large: u32, labels: &mut Vec<u32>)
+    requires place { (place < length image.now.vertices) × (place < 2 ^ 32) }
+    requires merged { AreMerged image.now large place labels.old.items }
+    ensures { AreMerged image.now large (place + 1) labels.new.items }
+{
+    if labels[place] == large {
+        return;
+    }
+    join_ends(place as u32, image.out(place), labels);
+    join_ends(place as u32, image.into(place), labels);
+}
+
+/// Joins a place with the other end of each arc.
+fn join_ends(place: u32, arcs: &[Arc], labels: &mut Vec<u32>)
+    requires low { AreLow labels.old.items }
+    requires place { place < length labels.old.items }
+    requires within { AreWithin (length labels.old.items) arcs.now }
+    ensures { AreJoined labels.old.items place arcs.now (length arcs.now) labels.new.items }
+{
     'arcs: for i in 0..arcs.len() {
-        join(place as u32, arcs[i].other, labels);
+        join(place, arcs[i].other, labels);
     }
 }
 

@@ -4,5 +4,4 @@ use Rattle.kernel_wcc.proofs.kernel.run.Goals as goal
 pub returns : goal.returns
 returns g c = λ graph is.
     components_table c.args.image.now graph is c.in_ok-labels.labels.items c.in_ok-labels.ensures.low (c.in_ok-labels.ensures.components graph is)
-    c.as_slice.result.now c.vertices.result.now c.as_slice.ensures.value c.vertices.ensures.ids c.in_ok-values.values.items c.as_slice-2.result.now c.in_ok-values.ensures c.as_slice-2.ensures.value
-    _ c.in_ok-table.ensures
+    c.as_slice.result.now c.as_slice.ensures.value _ c.in_ok-table.ensures

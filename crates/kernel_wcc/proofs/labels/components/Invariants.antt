@@ -1,6 +1,6 @@
 use Rattle.kernel_wcc.specs.Labels.{AreMerged}
 use Rattle.kernel_wcc.proofs.labels.components.Given as goal
 
--- the arcs out of the places so far are joined
+-- the places so far are joined with the large one, or with the ends of their arcs
 abbrev pub invariant-places : goal.invariant-places
-invariant-places l = AreMerged l.image l.place 0 l.labels.items
+invariant-places l = AreMerged l.image l.large l.place l.labels.items

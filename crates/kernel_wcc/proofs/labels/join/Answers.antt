@@ -1,6 +1,6 @@
-use Rattle.std.proofs.Common.{◌≡◌, ◌+◌, ◌<◌, slice_set, refl, sym, ap, ◌∙◌, arith}
+use Rattle.std.proofs.Common.{refl, arith}
 use Rattle.std.proofs.lemmas.List.{get_or_read}
-use Rattle.kernel_wcc.proofs.LabelLemmas.{below_other, joining_none, joining_back, joined_already, joined_root, joining_more}
+use Rattle.kernel_wcc.proofs.LabelLemmas.{below_other, joining_none, joining_back, joined_root, joining_more}
 use Rattle.kernel_wcc.proofs.labels.join.Goals as goal
 
 pub steps-init : goal.steps-init

@@ -1,14 +1,19 @@
-use Rattle.std.proofs.Common.{◌≡◌, ◌≤◌, length, slice_get, sym, ap, ◌∙◌, arith}
-use Rattle.std.proofs.lemmas.Option.{slice_get-get_or}
-use Rattle.kernel_wcc.proofs.LabelLemmas.{merged_more, merged_next}
+use Rattle.std.proofs.Common.{length, subst, sym, ◌∙◌, arith}
+use Rattle.std.proofs.lemmas.List.{get_or_read}
+use Rattle.kernel_wcc.specs.Labels.{AreJoined}
+use Rattle.kernel_wcc.proofs.LabelLemmas.{merged_large, merged_more}
 use Rattle.kernel_wcc.proofs.labels.merge.Goals as goal
 
-pub arcs-preserved : goal.arcs-preserved
-arcs-preserved c =
-    let at = slice_get-get_or c.out-arcs.result.now c.arcs.i (record { other = 0; weight = 0 }) c.arcs-test.true in
-    merged_more c.args.image.now c.args.place c.arcs.i c.arcs.labels.items c.arcs.invariant _ c.requires.place.0 (ap (λ xs. slice_get xs c.arcs.i) (sym c.out-arcs.ensures.arcs) ∙ at) c.join.new.labels.items c.join.ensures
+pub returns-then-index-large : goal.returns-then-index-large
+returns-then-index-large c =
+    let merged = c.requires.merged in
+    let count = merged.sound.count in
+    let below = c.requires.place.0 in
+    merged_large c.args.image.now c.args.large c.args.place c.args.labels.now.items merged below
+    (sym (get_or_read c.args.labels.now.items c.args.place c.index.result.now (omega (arith, count, below)) c.index.ensures 0) ∙ c.if-index-large.true)
 
 pub returns : goal.returns
 returns c =
-    let wide = ap length c.out-arcs.ensures.arcs in
-    merged_next c.args.image.now c.args.place c.arcs.i c.arcs.labels.items c.arcs.invariant (omega (arith, wide, c.arcs-test.false))
+    merged_more c.args.image.now c.args.large c.args.place c.args.labels.now.items c.requires.merged c.requires.place.0 c.join_ends.new.labels.items c.join_ends-2.new.labels.items
+    (subst (λ arcs. AreJoined c.args.labels.now.items c.args.place arcs (length arcs) c.join_ends.new.labels.items) c.out.ensures.arcs c.join_ends.ensures)
+    (subst (λ arcs. AreJoined c.join_ends.new.labels.items c.args.place arcs (length arcs) c.join_ends-2.new.labels.items) c.into.ensures.arcs c.join_ends-2.ensures)
