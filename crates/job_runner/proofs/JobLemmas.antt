@@ -17,13 +17,13 @@ use Rattle.line_runner.specs.declared.phase.Phase.TheVariants.{Between, Open, Sk
 use Rattle.line_runner.specs.declared.kept.KeptImage.{KeptImage}
 use Rattle.line_runner.specs.declared.reading.Reading.{Reading}
 use Rattle.line_runner.specs.Kernels.{IsKeptImage}
-use Rattle.line_runner.specs.Phases.{is_inside}
+use Rattle.line_runner.specs.Phases.{is_inside, IsPhase}
 use Rattle.line_runner.specs.Turns.{view_now, MayTakeNow, Calls, ReadsTimes, TakesOn, WantsOn, AreByAccount, AreExact}
 use Rattle.line_runner.specs.Lines.{given_up}
 use Rattle.line_runner.proofs.ExactLemmas.{takes_here, wants_same}
 use Rattle.job_runner.specs.declared.turn.Turn.{Turn}
 use Rattle.job_runner.specs.declared.turn.Turn.TheVariants as turns
-use Rattle.job_runner.specs.Progress.{Progress, left_of, has_given_up, is_over, behind, GivesUpOn, IsReady, IsReadyBy, TakesTurn, TookTurn, TakesTurnOn, TookTurnOn}
+use Rattle.job_runner.specs.Progress.{Progress, left_of, has_given_up, is_over, behind, gone, GivesUpOn, IsReady, IsReadyBy, IsRolledBack, TakesTurn, TookTurn, TakesTurnOn, TookTurnOn}
 
 -- ---- what is left of a script
 
@@ -170,3 +170,22 @@ wants_open {S = S} e by old new is = elim is [
     reads_start : (n : ℕ) (s t : S) → ReadsTimes e.reads n s t → (e.account t).start ≡ (e.account s).start
     reads_start zero s t same = ap (λ x. (e.account x).start) same
     reads_start (suc n) s t more = reads_start n more.0 t more.2 ∙ ap (λ (a : Account). a.start) (by.reads_by s more.0 more.1).0.others
+
+-- and a job that gives up then has no transaction open
+pub rolled_back : {S : Type 0} (e : Calls S) → AreByAccount e → (old mid new : S) (job next : Progress) → IsPhase job.phase (e.account old).start → WantsOn e old mid → GivesUpOn e.aborts job.phase mid new → next ≡ gone job
+    → IsRolledBack job next (e.account new)
+rolled_back {S} e by old mid new job next phase wants gives is = record {
+  answers = ap (λ (x : Progress). x.answers) is;
+  tables = ap (λ (x : Progress). x.tables) is;
+  over = ap is_over is;
+  closed = by_phase job.phase phase gives;
+}
+  where
+    still : (e.account mid).start ≡ (e.account old).start
+    still = wants_open e by old mid wants
+
+    by_phase : (p : Phase) → IsPhase p (e.account old).start → GivesUpOn e.aborts p mid new → (e.account new).start ≡ None
+    by_phase Between none same = ap (λ s. (e.account s).start) same ∙ still ∙ none
+    by_phase Open some aborts = ap (λ (a : Account). a.start) (by.aborts_by mid new aborts).0.others
+    by_phase Skipping none same = ap (λ s. (e.account s).start) same ∙ still ∙ none
+    by_phase GivenUp never same = absurd never

@@ -119,6 +119,14 @@ GivesUpOn aborts GivenUp old new = new ≡ old
 abbrev pub gone : Progress → Progress
 gone job = record job { phase = GivenUp; reading = None; image = None }
 
+-- Memory ran out in a turn: the job keeps its answers and its tables, takes no line any more, and its pass has no open
+-- transaction.
+pub record IsRolledBack (job next : Progress) (account : Account) : Type 0 where
+  pub answers : next.answers ≡ job.answers
+  pub tables : next.tables ≡ job.tables
+  pub over : is_over next ≡ true
+  pub closed : account.start ≡ None
+
 -- what a turn comes to: the line at hand takes it, or memory was wanted, and the transaction is taken back
 abbrev pub TookTurnOn : {S : Type 0} → Calls S → S → Progress → Turn → Progress → S → Type 0
 TookTurnOn e old job turns.More next new = (is_over next ≡ false)

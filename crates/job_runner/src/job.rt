@@ -9,7 +9,9 @@ ghost use Rattle.std.specs.Prelude.{◌≡◌, ◌<◌, List, ◌∷◌, ◌++�
 ghost use Rattle.run_model.specs.declared.command.Command.{Command};
 ghost use Rattle.run_model.specs.declared.command.Command.TheVariants.{Abort};
 ghost use Rattle.line_runner.specs.Turns.{calls, WantsOn};
-ghost use Rattle.job_runner.specs.Progress.{new_progress, left_of, is_over, listed_table, gone, has_given_up, GivesUpOn, IsReady, IsReadyBy, TakesTurnOn, TookTurn, TookTurnOn};
+ghost use Rattle.graph_model.specs.OwnerCalls.{account_here};
+ghost use Rattle.job_runner.specs.declared.turn.Turn.TheVariants as turns;
+ghost use Rattle.job_runner.specs.Progress.{new_progress, left_of, is_over, listed_table, gone, has_given_up, GivesUpOn, IsReady, IsReadyBy, IsRolledBack, TakesTurnOn, TookTurn, TookTurnOn};
 
 use crate::turn::Turn;
 use graph_model::{Engine, NoMemory, StepEngine, VertexEngine};
@@ -151,8 +153,9 @@ impl Job {
     pub fn turn<R: Threads + Sync, E: VertexEngine>(&mut self, rt: &R, engine: &mut E) -> Turn
         requires going { is_over self.old ≡ false }
         requires ready { IsReadyBy (E.account engine.old) self.old }
-        ensures { let e = calls E.account E.did_begin E.did_write E.did_read E.did_commit E.did_abort in
+        ensures took { let e = calls E.account E.did_begin E.did_write E.did_read E.did_commit E.did_abort in
             TookTurnOn e engine.old self.old result self.new engine.new }
+        ensures rolled_back { result ≡ turns.NoMemory → IsRolledBack self.old self.new (E.account engine.new) }
     {
         match self.take_turn(rt, engine) {
             Ok(()) if self.has_ended() => Turn::Ended,
@@ -168,7 +171,9 @@ impl Job {
     pub fn turn_alone<R: Threads + Sync, E: StepEngine>(&mut self, rt: &R, engine: &mut E) -> Turn
         requires going { is_over self.old ≡ false }
         requires ready { IsReady (E.core engine.old) self.old }
-        ensures { TookTurn (E.core engine.old) self.old result self.new (E.core engine.new) }
+        ensures took { TookTurn (E.core engine.old) self.old result self.new (E.core engine.new) }
+        ensures rolled_back { result ≡ turns.NoMemory
+            → IsRolledBack self.old self.new (account_here (E.core engine.new)) }
     {
         self.turn(rt, engine)
     }

@@ -1,9 +1,11 @@
 -- Lists of jobs and their engines.
-use Rattle.std.proofs.Common.{◌≡◌, ℕ, ◌+◌, ◌<◌, ◌≤◌, List, [], ◌∷◌, ◌++◌, length, zero, suc, refl, sym, ◌∙◌, ap, subst, arith, slice_index_or}
-use Rattle.std.specs.Prelude.{⊤, slice_set, Bool, true, false, ◌||◌}
+use Rattle.std.proofs.Common.{◌≡◌, ℕ, ◌+◌, ◌<◌, ◌≤◌, List, [], ◌∷◌, ◌++◌, length, take, drop, zero, suc, refl, sym, ◌∙◌, ap, subst, arith, slice_index_or}
+use Rattle.std.proofs.lemmas.List.{append-nil}
+use Rattle.std.specs.Prelude.{⊤, slice_set, Bool, true, false, ◌||◌, None}
 use Rattle.std.specs.List.{AllZip, AllByRecursion}
 use Rattle.graph_model.specs.Account.{Account}
-use Rattle.job_runner.specs.Progress.{Progress}
+use Rattle.job_runner.specs.Progress.{Progress, is_over}
+use Rattle.thread_runner.specs.ByAccount.{TurnsBy}
 use Rattle.thread_runner.specs.Driving.{IsSeat, HasRun, gave_up, some_gave_up}
 
 pub zip_append : {X Y : Type 0} (R : X → Y → Type 0) (xs : List X) (ys : List Y) (vs : List X) (ws : List Y) → AllZip R xs ys → AllZip R vs ws → AllZip R (xs ++ vs) (ys ++ ws)
@@ -103,3 +105,58 @@ or_true false = refl
 pub or_false : (b : Bool) → (b || false) ≡ b
 or_false true = refl
 or_false false = refl
+
+-- ---- no transaction stays open
+
+-- whoever is over takes no turn, and its pass stays as it is
+stays_there : (n : ℕ) (old new : Account) (job next : Progress) → is_over job ≡ true → TurnsBy n old job next new → new ≡ old
+stays_there zero old new job next over is = is.1
+stays_there (suc n) old new job next over is = absurd (let no : true ≡ false = sym over ∙ is.3 in cc)
+
+-- a pass without a transaction has none behind its script
+closed_behind : {E : Type 0} (account : E → Account) (x y : Progress × E) → HasRun account x y → (account x.1).start ≡ None → (account y.1).start ≡ None
+closed_behind {E} account x y run none = by_test (is_over x.0) refl
+  where
+    by_test : (b : Bool) → is_over x.0 ≡ b → (account y.1).start ≡ None
+    by_test false going = run.closed going
+    by_test true over = ap (λ (a : Account). a.start) (stays_there run.ran.0 (account x.1) (account y.1) x.0 y.0 over run.ran.1) ∙ none
+
+all_closed : {E : Type 0} (account : E → Account) (xs ys : List (Progress × E)) → AllZip (HasRun account) xs ys → AllByRecursion (λ x. (account x.1).start ≡ None) xs → AllByRecursion (λ x. (account x.1).start ≡ None) ys
+all_closed account [] [] ran closed = tt
+all_closed account [] (y ∷ ys) ran closed = absurd ran
+all_closed account (x ∷ xs) [] ran closed = absurd ran
+all_closed account (x ∷ xs) (y ∷ ys) ran closed = (closed_behind account x y ran.0 closed.0, all_closed account xs ys ran.1 closed.1)
+
+-- ---- a vector that lends all of its items
+
+none_behind : {X : Type 0} (n : ℕ) (xs : List X) → length xs ≤ n → drop n xs ≡ []
+none_behind zero [] le = refl
+none_behind zero (x ∷ xs) le = absurd (omega (arith, le))
+none_behind (suc n) [] le = refl
+none_behind (suc n) (x ∷ xs) le = none_behind n xs (omega (arith, le))
+
+all_taken : {X : Type 0} (n : ℕ) (xs : List X) → length xs ≤ n → take n xs ≡ xs
+all_taken zero [] le = refl
+all_taken zero (x ∷ xs) le = absurd (omega (arith, le))
+all_taken (suc n) [] le = refl
+all_taken (suc n) (x ∷ xs) le = ap (λ ys. x ∷ ys) (all_taken n xs (omega (arith, le)))
+
+as_many : {X Y : Type 0} (R : X → Y → Type 0) (xs : List X) (ys : List Y) → AllZip R xs ys → length xs ≡ length ys
+as_many R [] [] all = refl
+as_many R [] (y ∷ ys) all = absurd all
+as_many R (x ∷ xs) [] all = absurd all
+as_many R (x ∷ xs) (y ∷ ys) all = ap suc (as_many R xs ys all.1)
+
+-- jobs that have run are put back as they are
+put_back : {X : Type 0} (len : ℕ) (items seats : List X) → length items ≡ length seats → length items ≡ len → take len (seats ++ drop (length seats) items) ≡ seats
+put_back len items seats count whole =
+    ap (λ zs. take len (seats ++ zs)) (none_behind (length seats) items (omega (arith, count)))
+    ∙ ap (take len) (append-nil seats)
+    ∙ all_taken len seats (omega (arith, count, whole))
+
+-- and no transaction is open in them
+pub lent_closed : {E : Type 0} (account : E → Account) (len : ℕ) (items xs seats : List (Progress × E)) → xs ≡ items → length items ≡ len → AllZip (HasRun account) xs seats
+    → AllByRecursion (λ x. (account x.1).start ≡ None) items → AllByRecursion (λ x. (account x.1).start ≡ None) (take len (seats ++ drop (length seats) items))
+lent_closed account len items xs seats same whole ran closed =
+    let now = subst (λ zs. AllZip (HasRun account) zs seats) same ran in
+    subst (λ zs. AllByRecursion (λ x. (account x.1).start ≡ None) zs) (sym (put_back len items seats (as_many (HasRun account) items seats now) whole)) (all_closed account items seats now closed)

@@ -1,5 +1,6 @@
 -- What a run on several threads leaves of its jobs and their engines.
 use Rattle.std.specs.Prelude.{◌≡◌, ℕ, ◌+◌, ◌-◌, ◌*◌, ◌/◌, ◌%◌, ◌<◌, ◌≤◌, min, Bool, true, false, ◌||◌, ◌&&◌, not, List, [], ◌∷◌, length, None}
+use Rattle.std.specs.List.{AllByRecursion}
 use Rattle.graph_model.specs.Account.{Account}
 use Rattle.job_runner.specs.Progress.{Progress, has_given_up, is_over, IsReadyBy}
 use Rattle.thread_runner.specs.ByAccount.{RanBy}
@@ -20,6 +21,11 @@ pub record HasRun {E : Type 0} (account : E → Account) (x y : Progress × E) :
   pub pass : (account y.1).job ≡ (account x.1).job
   -- a job that had lines left has no transaction open then; where memory was wanted it is taken back
   pub closed : is_over x.0 ≡ false → (account y.1).start ≡ None
+
+-- no engine has an open transaction, neither one of the scripts' nor the service's
+pub record AreClosed {E : Type 0} (account : E → Account) (seats : List (Progress × E)) (service : E) : Type 0 where
+  pub scripts : AllByRecursion (λ x. (account x.1).start ≡ None) seats
+  pub service_is : (account service).start ≡ None
 
 -- it was in a turn of some job
 abbrev pub some_gave_up : {E : Type 0} → List (Progress × E) → List (Progress × E) → Bool

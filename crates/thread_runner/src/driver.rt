@@ -11,7 +11,7 @@ ghost use Rattle.std.specs.Thread.{IsSync, IsSend};
 ghost use Rattle.graph_model.specs.AccountSteps.{ReadsBy};
 ghost use Rattle.job_runner.specs.Progress.{is_over, IsReadyBy};
 ghost use Rattle.thread_runner.specs.ByAccount.{RanBy};
-ghost use Rattle.thread_runner.specs.Driving.{IsSeat, HasRun, gave_up, some_gave_up, lines_of, in_first};
+ghost use Rattle.thread_runner.specs.Driving.{IsSeat, HasRun, AreClosed, gave_up, some_gave_up, lines_of, in_first};
 
 use crate::over::JobsOver;
 use desk_io::Gate;
@@ -31,6 +31,8 @@ pub fn run_threads<R: Threads + Sync, E: VertexEngine + Send, G: Gate>(
     ensures ran { AllZip (HasRun E.account) jobs.old.jobs.items jobs.new.jobs.items }
     ensures ok { OnOk result (some_gave_up jobs.old.jobs.items jobs.new.jobs.items ≡ false) }
     ensures err { OnErr result (some_gave_up jobs.old.jobs.items jobs.new.jobs.items ≡ true) }
+    ensures closed { AreClosed E.account jobs.old.jobs.items jobs.old.service
+        → AreClosed E.account jobs.new.jobs.items jobs.new.service }
     ensures served { E.served jobs.old.service < 2 ^ 64
         → E.served jobs.new.service ≡ min (E.served jobs.old.service + lines_of jobs.old.jobs.items) (2 ^ 64 - 1) }
     ensures service { ReadsBy (E.account jobs.old.service) (E.account jobs.new.service) }

@@ -21,11 +21,11 @@ turns-preserved g c =
       ran = (
         suc c.turns.invariant.ran.0,
         turns_more c.turns.invariant.ran.0 (g.E.Engine.account c.args.engine.now) c.args.job.now c.turns.job took.new.self now (g.E.Engine.account took.new.engine) c.turns.invariant.ran.1 going took.result
-            (took_by e by c.turns.engine c.turns.job ready took.result took.new.self took.new.engine took.ensures),
+            (took_by e by c.turns.engine c.turns.job ready took.result took.new.self took.new.engine took.ensures.took),
       );
-      pass = turn_pass e by c.turns.engine c.turns.job ready going took.new.self took.new.engine took.result took.ensures ∙ c.turns.invariant.pass;
-      closed = λ was. turn_closed e by c.turns.engine c.turns.job ready going took.new.self took.new.engine took.result took.ensures;
-      ready = stays_ready e by c.turns.engine c.turns.job ready going took.new.self took.new.engine took.result took.ensures;
+      pass = turn_pass e by c.turns.engine c.turns.job ready going took.new.self took.new.engine took.result took.ensures.took ∙ c.turns.invariant.pass;
+      closed = λ was. turn_closed e by c.turns.engine c.turns.job ready going took.new.self took.new.engine took.result took.ensures.took;
+      ready = stays_ready e by c.turns.engine c.turns.job ready going took.new.self took.new.engine took.result took.ensures.took;
     }
 
 pub turns-smaller : goal.turns-smaller
@@ -39,4 +39,4 @@ turns-smaller g c =
       aborts_by = λ s t d. (let m = g.met.E.Engine.aborts s t d in (m.0, m.1.legal));
     } in
     let going = sym c.has_ended.ensures ∙ c.turns-test.true in
-    left_fewer e by c.turns.engine c.turns.job (c.turns.invariant.ready going) going c.turn-in-turns.new.self c.turn-in-turns.new.engine c.turn-in-turns.result c.turn-in-turns.ensures
+    left_fewer e by c.turns.engine c.turns.job (c.turns.invariant.ready going) going c.turn-in-turns.new.self c.turn-in-turns.new.engine c.turn-in-turns.result c.turn-in-turns.ensures.took

@@ -67,7 +67,7 @@ returns-clause-turns g c =
       | in-Ended w ↦ subst (λ t. SaysHere t c.match-turn_alone.result) (sym w.in-Ended.is) w.result-is
       | in-NoMemory w ↦ subst (λ t. SaysHere t c.match-turn_alone.result) (sym w.in-NoMemory.is) (subst (λ r. OnOk r ⊥) (sym w.result-is) tt)
     ] in
-    subst (λ xs. IfOk c.match-turn_alone.result (λ ended. Turns core jobs c.args.number ended new (slice_set xs k next))) (sym fields) (took_turns core jobs k job there c.args.number number inputs u selected c.select.ensures going new next c.turn_alone.result c.turn_alone.ensures c.match-turn_alone.result says)
+    subst (λ xs. IfOk c.match-turn_alone.result (λ ended. Turns core jobs c.args.number ended new (slice_set xs k next))) (sym fields) (took_turns core jobs k job there c.args.number number inputs u selected c.select.ensures going new next c.turn_alone.result c.turn_alone.ensures.took c.match-turn_alone.result says)
 
 pub returns-clause-goes : goal.returns-clause-goes
 returns-clause-goes g c =
@@ -91,7 +91,7 @@ returns-clause-goes g c =
       | in-Ended w ↦ subst (λ t. SaysHere t c.match-turn_alone.result) (sym w.in-Ended.is) w.result-is
       | in-NoMemory w ↦ subst (λ t. SaysHere t c.match-turn_alone.result) (sym w.in-NoMemory.is) (subst (λ r. OnOk r ⊥) (sym w.result-is) tt)
     ] in
-    subst (λ xs. OnOk c.match-turn_alone.result (Goes jobs c.args.number (slice_set xs k next))) (sym fields) (took_goes core jobs k job there c.args.number number inputs u selected c.select.ensures going new next c.turn_alone.result c.turn_alone.ensures c.match-turn_alone.result says)
+    subst (λ xs. OnOk c.match-turn_alone.result (Goes jobs c.args.number (slice_set xs k next))) (sym fields) (took_goes core jobs k job there c.args.number number inputs u selected c.select.ensures going new next c.turn_alone.result c.turn_alone.ensures.took c.match-turn_alone.result says)
 
 pub returns-clause-err : goal.returns-clause-err
 returns-clause-err g c =
@@ -115,4 +115,4 @@ returns-clause-err g c =
       | in-Ended w ↦ subst (λ t. SaysHere t c.match-turn_alone.result) (sym w.in-Ended.is) w.result-is
       | in-NoMemory w ↦ subst (λ t. SaysHere t c.match-turn_alone.result) (sym w.in-NoMemory.is) (subst (λ r. OnOk r ⊥) (sym w.result-is) tt)
     ] in
-    subst (λ xs. OnErr c.match-turn_alone.result (IsStuck core new (slice_set xs k next))) (sym fields) (took_stuck core jobs k job there c.args.number number inputs u selected c.select.ensures going new next c.turn_alone.result c.turn_alone.ensures c.match-turn_alone.result says)
+    subst (λ xs. OnErr c.match-turn_alone.result (IsStuck core new (slice_set xs k next))) (sym fields) (took_stuck core jobs k job there c.args.number number inputs u selected c.select.ensures going new next c.turn_alone.result c.turn_alone.ensures.took c.match-turn_alone.result says)
