@@ -1,5 +1,6 @@
 pub mod LoadLemmas
 pub mod DecodeLemmas
 pub mod TryLemmas
+pub mod RunLemmas
 pub mod RouteLemmas
 pub mod StoreRelation

@@ -246,32 +246,36 @@ module _ (cell first : ℕ) where
               (omega arith) (ap (λ k. is_below k key) same ∙ below) half (omega arith) (omega arith),
         ))
 
-  -- ---- the row that was found
+  -- ---- the row at a place
 
-  -- so many rows are below the key, and this is the key of the next one
-  abbrev Keyed : Head → Key → ℕ → Key → VersionedRows → Type 0
-  Keyed h key place found s = IsSearched h key place s
-      × ((row : Row) → slice_get (word_rows s) place ≡ Some row → row.key ≡ found)
+  -- this is the key of the row at the place
+  abbrev Keyed : (VersionedRows → Type 0) → ℕ → Key → VersionedRows → Type 0
+  Keyed P place key s = P s × ((row : Row) → slice_get (word_rows s) place ≡ Some row → row.key ≡ key)
+
+  -- and this is the row
+  abbrev pub WithRow : (VersionedRows → Type 0) → ℕ → Row → VersionedRows → Type 0
+  WithRow P place row s = P s × (slice_get (word_rows s) place ≡ Some row)
+
+  pub row_known : (P : VersionedRows → Type 0) (place : ℕ) (row : Row) (v w : Sight)
+      → ((s : VersionedRows) → P s → place < length (word_rows s)) → w ≡ row_read v place row
+      → IsReadingOn cell first v P → IsReadingOn cell first w (WithRow P place row)
+  row_known P place row v w inside is x =
+      let keyed = after_key (6 + 3 * place) row.key v (key_read v (6 + 3 * place) row.key) P (Keyed P place row.key) refl x
+      (λ block s spells t at. (t, λ r there. key_at block s place row.key r spells at there)) in
+      after (8 + 3 * place) row.weight (key_read v (6 + 3 * place) row.key) w (Keyed P place row.key)
+      (WithRow P place row) is keyed (λ block s spells t e.
+      let here = get_or (word_rows s) place no_row in
+      let there = row_there (word_rows s) place (inside s t.0) in
+      let value : here.weight ≡ row.weight = sym (row_is_told block s spells place here there).value ∙ e in
+      (t.0, there ∙ ap (λ (r : Row). Some r) (λ i. record { key = t.1 here there i; weight = value i })))
 
   pub row_looked_up : (h : Head) (key : Key) (place : ℕ) (row : Row) (v w : Sight) → place < h.count
       → w ≡ row_read v place row → IsReadingOn cell first v (IsSearched h key place)
       → IsReadingOn cell first w (IsLookedUp (record { head = h; row = Some row }) key)
   row_looked_up h key place row v w less is x =
-      let keyed = after_key (6 + 3 * place) row.key v (key_read v (6 + 3 * place) row.key) (IsSearched h key place)
-      (Keyed h key place row.key) refl x (λ block s spells t at.
-      (t, λ r there. key_at block s place row.key r spells at there)) in
-      after (8 + 3 * place) row.weight (key_read v (6 + 3 * place) row.key) w (Keyed h key place row.key)
-      (IsLookedUp (record { head = h; row = Some row }) key) is keyed (λ block s spells t e.
-      let count = t.0.head.count in
-      let here = get_or (word_rows s) place no_row in
-      let there = row_there (word_rows s) place (omega (arith, less, count)) in
-      let value : here.weight ≡ row.weight = sym (row_is_told block s spells place here there).value ∙ e in
-      record {
-        head = t.0.head;
-        place = place;
-        place_is = t.0.place_is;
-        row = there ∙ ap (λ (r : Row). Some r) (λ i. record { key = t.1 here there i; weight = value i });
-      })
+      weaken w (WithRow (IsSearched h key place) place row) (IsLookedUp (record { head = h; row = Some row }) key)
+      (row_known (IsSearched h key place) place row v w (λ s t. let count = t.head.count in omega (arith, less, count)) is x)
+      (λ block s spells t. record { head = t.0.head; place = place; place_is = t.0.place_is; row = t.1 })
 
   pub none_looked_up : (h : Head) (key : Key) (place : ℕ) (v : Sight) → h.count ≤ place
       → IsReadingOn cell first v (IsSearched h key place)

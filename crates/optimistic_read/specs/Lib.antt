@@ -1,5 +1,6 @@
 pub mod Reads
 pub mod Tried
+pub mod Runs
 pub mod Routes
 pub mod CellsModel
 pub mod PassSteps

@@ -43,7 +43,7 @@ pub fn look_up(accounts: &Accounts, seat: &mut Account, read: BlockRead, key: Ke
 }
 
 /// Loads the number of rows and the fence keys.
-fn load_head(accounts: &Accounts, seat: &mut Account, read: BlockRead) -> Head
+pub(crate) fn load_head(accounts: &Accounts, seat: &mut Account, read: BlockRead) -> Head
     requires table { seat.old.table_id ≡ accounts.now.table.shared.table_id }
     requires cell { read.cell < cells_of accounts.now.config }
     requires begun { seat.old.me.0.reads.reading ≡ begun_read read.cell read.first }
@@ -64,7 +64,13 @@ fn load_head(accounts: &Accounts, seat: &mut Account, read: BlockRead) -> Head
 }
 
 /// How many rows are below the key, found by halves.
-fn search(accounts: &Accounts, seat: &mut Account, read: BlockRead, head: Head, key: Key) -> u32
+pub(crate) fn search(
+    accounts: &Accounts,
+    seat: &mut Account,
+    read: BlockRead,
+    head: Head,
+    key: Key,
+) -> u32
     requires table { seat.old.table_id ≡ accounts.now.table.shared.table_id }
     requires cell { read.cell < cells_of accounts.now.config }
     requires few { head.count ≤ 32 }
@@ -90,7 +96,7 @@ fn search(accounts: &Accounts, seat: &mut Account, read: BlockRead, head: Head, 
 }
 
 /// Loads the row at a place.
-fn load_row(accounts: &Accounts, seat: &mut Account, read: BlockRead, place: u32) -> Row
+pub(crate) fn load_row(accounts: &Accounts, seat: &mut Account, read: BlockRead, place: u32) -> Row
     requires table { seat.old.table_id ≡ accounts.now.table.shared.table_id }
     requires cell { read.cell < cells_of accounts.now.config }
     requires place { place < 32 }

@@ -5,10 +5,11 @@ ghost use Rattle.graph_model.specs.Rows.{is_between};
 ghost use Rattle.pass_steps.specs.VersionSegment.Rows.{VersionedRows};
 ghost use Rattle.pass_steps.specs.CellsModel.Words.{Spells};
 ghost use Rattle.optimistic_read.specs.Reads.{IsLookedUp, IsValid};
+ghost use Rattle.optimistic_read.specs.Runs.{IsRunLoaded, decoded_run, lesser, marked_in};
 ghost use Rattle.optimistic_read.specs.Tried.{decoded};
 
-use crate::tried::Tried;
-use graph_model::{Key, Row};
+use crate::tried::{Tried, TriedRun};
+use graph_model::{Key, Row, Rows64};
 use pass_steps::below::{Account, is_marked, value_in_word};
 
 /// The first words of a block: how many rows it has, 32 at most, and its fence keys.
@@ -38,12 +39,11 @@ pub struct LookedUp {
 
 /// Decodes what was looked up, once the seat's view shows the block as validated. Nothing else in this crate says what a
 /// word means.
-pub fn decode(seat: &Account, cell: u32, looked: LookedUp, key: Key) -> Tried
-    requires valid { IsValid seat.now.me.0 cell }
+pub fn decode(_seat: &Account, cell: u32, looked: LookedUp, key: Key) -> Tried
+    requires valid { IsValid _seat.now.me.0 cell }
     ensures decoded { (block : List ℕ) (s : VersionedRows) → Spells block s → IsLookedUp looked key s
         → result ≡ decoded s cell key }
 {
-    let _ = seat;
     let LookedUp { head, row } = looked;
     if !head.holds(key) {
         return Tried::Moved {
@@ -63,4 +63,50 @@ pub fn decode(seat: &Account, cell: u32, looked: LookedUp, key: Key) -> Tried
     Tried::Value {
         weight: value_in_word(row.weight),
     }
+}
+
+/// Decodes a run that was loaded, under the same condition. Where no word of it is marked its rows are what the
+/// transaction sees, as they stand in the buffer.
+pub fn decode_run(
+    _seat: &Account,
+    _cell: u32,
+    head: Head,
+    rows: &Rows64,
+    from: Key,
+    until: Key,
+) -> TriedRun
+    requires valid { IsValid _seat.now.me.0 _cell }
+    ensures decoded { (block : List ℕ) (s : VersionedRows) → Spells block s
+        → IsRunLoaded head from until rows.now s → result ≡ decoded_run s from until }
+{
+    if !head.holds(from) {
+        return TriedRun::Moved {
+            low: head.low,
+            high: head.high,
+        };
+    }
+    let end = lesser(head.high, until);
+    match first_marked(rows) {
+        Some(key) => TriedRun::Chained { key, end },
+        None => TriedRun::Rows { end },
+    }
+}
+
+/// The key of the first row with a marked word.
+fn first_marked(rows: &Rows64) -> Option<Key>
+    ensures { result ≡ marked_in rows.now }
+{
+    'rows: for row in rows.as_slice() {
+        if is_marked(row.weight) {
+            return Some(row.key);
+        }
+    }
+    None
+}
+
+/// Of two keys the one whose row stands first.
+fn lesser(one: Key, other: Key) -> Key
+    ensures { result ≡ lesser one other }
+{
+    if one.is_below(other) { one } else { other }
 }

@@ -5,7 +5,8 @@
 //!    spells contents in which the transaction sees its view. Only then is anything decoded.
 //! 2. What is loaded before may be half of a change: it decides how many words are loaded and which ones, and nothing
 //!    else.
-//! 3. A cell's fence keys tell whether it is the key's. So any cell may be read for any key, by the index or by a hint.
+//! 3. A run of rows is read in the same way: the rows that were loaded are the view's where no word of them is marked.
+//! 4. A cell's fence keys tell whether it is the key's. So any cell may be read for any key, by the index or by a hint.
 #![tactic(auto)]
 
 pub mod below;
@@ -13,8 +14,11 @@ mod block;
 mod decode;
 mod read;
 mod routing;
+mod run;
+mod scan;
 mod tried;
 
 pub use read::{try_has_vertex, try_key, try_weight};
 pub use routing::route;
-pub use tried::{Route, Tried};
+pub use scan::try_run;
+pub use tried::{Route, Tried, TriedRun};

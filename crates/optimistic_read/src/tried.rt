@@ -21,3 +21,19 @@ pub enum Tried {
     /// The cell has other keys, between these fence keys.
     Moved { low: Key, high: Key },
 }
+
+/// What one try to read a run of rows without a latch has found.
+#[derive(Clone, Copy, Debug, PartialEq, Eq)]
+pub enum TriedRun {
+    /// All rows of the transaction's view from the first key on and before this one. It is the last key that was asked
+    /// for, or the cell's high fence key.
+    Rows { end: Key },
+    /// Somebody changes the cell, or has changed it meanwhile: the two version words that this call found, or the odd
+    /// one twice.
+    Busy { cell: u32, first: u64, second: u64 },
+    /// A row of the run has undo records, which only whoever holds the cell may read: the key of the first such row, and
+    /// the end that the run has.
+    Chained { key: Key, end: Key },
+    /// The cell has other keys than the first one, between these fence keys.
+    Moved { low: Key, high: Key },
+}
