@@ -1,0 +1,3 @@
+pub mod PropLemmas
+pub mod StepLemmas
+pub mod ScanLemmas

@@ -1,0 +1,23 @@
+use Rattle.std.proofs.Common.{◌≡◌}
+use Rattle.graph_model.specs.AccountSteps.{view_of}
+use Rattle.graph_model.specs.Graph.{has_vertex}
+use Rattle.sessions.proofs.PropLemmas.{has_open}
+use Rattle.sessions.proofs.StepLemmas.{at_start, read_open}
+use Rattle.sessions.proofs.transaction.Transaction.has_vertex.Goals as goal
+
+pub invariant_of-self : goal.invariant_of-self
+invariant_of-self g c =
+    let account = g.E.Engine.account in
+    let old = c.args.self.now in
+    let new = c.has_vertex.new.self in
+    let did = g.met.E.Engine.reads old.engine new c.has_vertex.ensures.did in
+    record {
+      is = ∣ read_open g.P.Place.number old.begun.start _ _ (account old.engine) (account new) did.1
+          (has_open g.P.Place.number old.begun.start (account old.engine) old.is) did.0 ∣₁;
+    }
+
+pub returns-clause-answer : goal.returns-clause-answer
+returns-clause-answer g c =
+    let account = g.E.Engine.account in
+    let old = c.args.self.now in
+    at_start g.P.Place.number old.begun.start (account old.engine) old.is (λ s. c.has_vertex.result ≡ has_vertex (view_of (account old.engine) s) c.args.v) c.has_vertex.ensures.answer

@@ -1,0 +1,15 @@
+//! Which session of its store a session is.
+
+use std::marker::Brand;
+
+/// Which session of its store a session is. Whoever lends sessions says so by a pick, and knows when one comes back that
+/// it is the one that was lent.
+pub trait Place {
+    ghost use Rattle.std.specs.Prelude.{ℕ};
+
+    ghost number: { ℕ };
+}
+
+impl Place for Brand {
+    ghost number = { 0 };
+}
