@@ -54,7 +54,7 @@ built_none = record {
 
 module _ (sources : List ℕ) (rows : List PlacedRow) (built : IsBuilt sources rows) (row : Row) (storable : AreStorable (map (shown sources) rows ++ row ∷ [])) where
   -- no source is above the row's
-  source_low : (p v : ℕ) → slice_get sources p ≡ Some v → v ≤ row.key.src
+  pub source_low : (p v : ℕ) → slice_get sources p ≡ Some v → v ≤ row.key.src
   source_low p v at =
       let owner = built.used p (slice_get_within sources p v at) in
       let before = get_pushed (map (shown sources) rows) row owner.0 (shown sources owner.1) (map_get (shown sources) rows owner.0 owner.1 owner.2) in

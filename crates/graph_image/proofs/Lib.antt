@@ -3,6 +3,9 @@ pub mod PlaceLemmas
 pub mod GroupLemmas
 pub mod BuildLemmas
 pub mod LayLemmas
+pub mod PartLemmas
+pub mod OrderLemmas
+pub mod PartedLemmas
 pub mod MirrorLemmas
 pub mod EntryLemmas
 pub mod ImageLemmas

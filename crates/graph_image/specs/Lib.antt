@@ -4,3 +4,4 @@ pub mod Building
 pub mod Fields
 pub mod Paths
 pub mod Entries
+pub mod Parts

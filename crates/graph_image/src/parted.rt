@@ -1,0 +1,115 @@
+//! An image of rows in lists, made by several threads.
+
+ghost use Rattle.std.specs.Prelude.{◌≡◌, ◌+◌, ◌<◌, ◌^◌, [], ◌∷◌, ◌++◌, length, IfOk};
+ghost use Rattle.std.specs.List.{AllZip};
+ghost use Rattle.graph_model.specs.Graph.{Graph};
+ghost use Rattle.graph_model.specs.Rows.{AreRowsOf};
+ghost use Rattle.part_scan.specs.Parts.{rows_in};
+ghost use Rattle.graph_image.specs.Images.{IsImageOf};
+ghost use Rattle.graph_image.specs.Building.{AreStorable, AreEnded};
+ghost use Rattle.graph_image.specs.Parts.{vertices_in, arcs_in, ids_of, starts_from, arc_rows, IsArcOf, IsShareOf};
+
+use crate::adjacency::Adjacency;
+use crate::builder::Builder;
+use crate::edge::Arc;
+use crate::image::{Image, image_of};
+use crate::part::Share;
+use crate::parts::{lay_arcs, lay_vertices, shares_of, total_of};
+use graph_model::NoMemory;
+use part_scan::{RowList, RowLists};
+use std::alloc::Global;
+use std::thread::Threads;
+
+impl Image {
+    /// The image of the graph whose rows these lists are, one behind the other, by a thread for each list.
+    pub fn from_parts<R: Threads + Sync>(
+        rt: &R,
+        alloc: Global,
+        parts: &RowLists,
+    ) -> Result<Image, NoMemory>
+        requires storable { AreStorable (rows_in parts.now) }
+        requires ended { AreEnded (rows_in parts.now) }
+        ensures { IfOk result (λ image. (g : Graph) → AreRowsOf (rows_in parts.now) g → IsImageOf image g) }
+    {
+        let lists = parts.as_slice();
+        let (vertices, out) = out_of(rt, alloc, lists)?;
+        if out.is_mirrored(alloc, vertices.len())? {
+            return Ok(image_of(vertices, out, None));
+        }
+        built_of(alloc, lists)
+    }
+}
+
+/// The image by a builder, one list after the other.
+fn built_of(alloc: Global, lists: &[RowList]) -> Result<Image, NoMemory>
+    requires storable { AreStorable (rows_in lists.now) }
+    requires ended { AreEnded (rows_in lists.now) }
+    ensures { IfOk result (λ image. (g : Graph) → AreRowsOf (rows_in lists.now) g → IsImageOf image g) }
+{
+    let mut builder = Builder::new(alloc);
+    'lists: for i in 0..lists.len() {
+        builder.push(lists[i].as_slice())?;
+    }
+    builder.finish()
+}
+
+/// The vertices of the rows, and the arcs out of each.
+fn out_of<R: Threads + Sync>(
+    rt: &R,
+    alloc: Global,
+    lists: &[RowList],
+) -> Result<(Vec<u64>, Adjacency), NoMemory>
+    requires storable { AreStorable (rows_in lists.now) }
+    requires ended { AreEnded (rows_in lists.now) }
+    ensures vertices { IfOk result (λ made. made.0.items ≡ ids_of (rows_in lists.now)) }
+    ensures starts { IfOk result (λ made. made.1.starts ≡ starts_from 0 (rows_in lists.now) ++ arcs_in (rows_in lists.now) ∷ []) }
+    ensures arcs { IfOk result (λ made. AllZip (IsArcOf (ids_of (rows_in lists.now))) (arc_rows (rows_in lists.now)) made.1.arcs) }
+{
+    let shares = shares_of(rt, alloc, lists)?;
+    let total = total_of(lists, shares.as_slice());
+    let mut vertices = vec![in alloc; 0u64; total.vertices]?;
+    let mut starts = vec![in alloc; 0u32; total.vertices + 1]?;
+    lay_starts(
+        rt,
+        lists,
+        shares.as_slice(),
+        total,
+        vertices.as_mut_slice(),
+        starts.as_mut_slice(),
+    );
+    let blank = Arc {
+        other: 0,
+        weight: 0,
+    };
+    let mut arcs = vec![in alloc; blank; total.arcs]?;
+    lay_arcs(
+        rt,
+        lists,
+        shares.as_slice(),
+        vertices.as_slice(),
+        arcs.as_mut_slice(),
+    );
+    Ok((vertices, Adjacency::of_arrays(starts, arcs)))
+}
+
+/// Writes the vertices of the rows, where the arcs of each begin, and behind these how many there are.
+fn lay_starts<R: Threads + Sync>(
+    rt: &R,
+    lists: &[RowList],
+    shares: &[Share],
+    total: Share,
+    vertices: &mut [u64],
+    starts: &mut [u32],
+)
+    requires shares { AllZip IsShareOf lists.now shares.now }
+    requires total { IsShareOf (rows_in lists.now) total }
+    requires few { length (rows_in lists.now) < 2 ^ 32 }
+    requires vertices { length vertices.old ≡ vertices_in (rows_in lists.now) }
+    requires starts { length starts.old ≡ vertices_in (rows_in lists.now) + 1 }
+    ensures vertices { vertices.new ≡ ids_of (rows_in lists.now) }
+    ensures starts { starts.new ≡ starts_from 0 (rows_in lists.now) ++ arcs_in (rows_in lists.now) ∷ [] }
+{
+    let (each, end) = starts.split_at_mut(total.vertices);
+    end[0] = total.arcs as u32;
+    lay_vertices(rt, lists, shares, 0, vertices, each);
+}
