@@ -51,7 +51,7 @@ fn least_weights<R: Threads + Sync>(
         IsSearched (LinkOut image.now) root (length image.now.vertices) distances.items) }
 {
     let mut search = Search::new(alloc, image.len(), root, width)?;
-    let mut shares = shares_for(alloc, image.len())?;
+    let mut shares = shares_for(rt, alloc, image.len())?;
     'buckets: loop {
         search.settle(rt, image, shares.as_mut_slice())?;
         if !search.advance() {

@@ -15,6 +15,7 @@ ghost use Rattle.delta_sssp.specs.Sifting.{HavePlaces, kept_of, IsSifted};
 use crate::buckets::Visit;
 use graph_image::{Arc, Image, NoMemory};
 use kernel_sssp::UNREACHED;
+use rayon::current_num_threads;
 use rayon::prelude::*;
 use std::alloc::Global;
 use std::thread::Threads;
@@ -38,10 +39,15 @@ pub struct Share {
     pub lacks: bool,
 }
 
-/// As many shares as are sifted at a time, of nothing; none for an image of few places, which isn't worth a thread.
-pub fn shares_for(alloc: Global, places: usize) -> Result<Vec<Share>, NoMemory> {
+/// As many shares as are sifted at a time, of nothing. None where there is one processor, or where the image has so few
+/// places that it isn't worth a thread.
+pub fn shares_for<R: Threads>(
+    rt: &R,
+    alloc: Global,
+    places: usize,
+) -> Result<Vec<Share>, NoMemory> {
     let mut shares = Vec::new(alloc);
-    if places >= SMALL {
+    if places >= SMALL && current_num_threads(rt) > 1 {
         'shares: for _share in 0..MOST_SHARES {
             shares.push(Share {
                 starts: Vec::new(alloc),
