@@ -2,5 +2,6 @@ pub mod ReadyLemmas
 pub mod RoomLemmas
 pub mod PropLemmas
 pub mod CallLemmas
+pub mod ScanLemmas
 pub mod KeptLemmas
 pub mod SendLemmas

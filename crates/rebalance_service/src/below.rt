@@ -1,6 +1,6 @@
 //! What crates above name of crates that they don't list.
 
-pub use optimistic_read::{Route, Tried, route, try_has_vertex};
+pub use optimistic_read::{Route, Tried, TriedRun, route, try_has_vertex, try_run};
 pub use pass_room::below::{SweepKey, sweep_step};
 pub use shared_store::below::VersionSegment;
 pub use shared_store::{

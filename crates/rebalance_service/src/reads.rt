@@ -22,7 +22,7 @@ use std::sync::Wait;
 
 /// How often a cell that somebody changes is read before its latch is taken. A change of a cell takes about as long as
 /// a few reads.
-const TRIES: u32 = 4;
+pub(crate) const TRIES: u32 = 4;
 
 /// Whether the open transaction sees a vertex. May wait, and takes no memory.
 pub fn has_vertex(rt: &impl Wait, store: &Store, pass: &mut Pass, v: u64) -> bool
@@ -83,8 +83,12 @@ fn try_once(store: &Store, pass: &mut Pass, route: &Route, key: Key) -> Tried
 fn likely_route(store: &Store, hints: &mut CellHints, key: Key) -> Option<Route>
     ensures { IfSome result (λ route. route.cell < cells_of store.now.accounts.config) }
 {
-    hints.survey_once(store);
-    let cells = hints.of_all(store, &[key]);
-    let cell = cells[0];
+    let cell = likely_cell(store, hints, key);
     (cell < store.index_place()).then_some(Route { cell })
+}
+
+/// The number that a hint has for it, which may be of no cell.
+pub(crate) fn likely_cell(store: &Store, hints: &mut CellHints, key: Key) -> u32 {
+    hints.survey_once(store);
+    hints.of_all(store, &[key])[0]
 }

@@ -1,0 +1,19 @@
+use Rattle.std.proofs.Common.{◌∙◌, ap, sym}
+use Rattle.graph_model.specs.Rows.{is_below, rows}
+use Rattle.rebalance_service.proofs.ScanLemmas.{step_end}
+use Rattle.rebalance_service.proofs.scans.take_run.Goals as goal
+
+pub step-requires-clause-ahead : goal.step-requires-clause-ahead
+step-requires-clause-ahead c =
+    ap (is_below c.args.cursor.now.next) (step_end c.args.end c.args.cursor.now c.requires.ends.inside)
+    ∙ c.requires.ends.ahead
+
+pub returns-then-cursor-clause-under_way : goal.returns-then-cursor-clause-under_way
+returns-then-cursor-clause-under_way c = λ g first is.
+    c.step.ensures.under_way g first (c.as_slice.ensures ∙ is
+    ∙ ap (rows g c.args.cursor.now.next) (sym (step_end c.args.end c.args.cursor.now c.requires.ends.inside)))
+
+pub returns-else-cursor-clause-under_way : goal.returns-else-cursor-clause-under_way
+returns-else-cursor-clause-under_way c = λ g first is.
+    c.step.ensures.under_way g first (c.as_slice.ensures ∙ is
+    ∙ ap (rows g c.args.cursor.now.next) (sym (step_end c.args.end c.args.cursor.now c.requires.ends.inside)))
