@@ -49,6 +49,7 @@ fn stand_by<E: Engine>(round: &Round, place: u64, engine: &mut E) -> u64
         Beside::Rest => 0,
         Beside::Set => set_beside(engine, round, part_of(round, place)),
         Beside::Serve => serve_beside(engine, round),
+        Beside::Read => read_beside(engine, round, part_of(round, place)),
     }
 }
 
@@ -238,4 +239,35 @@ fn serve_beside<E: Engine>(engine: &mut E, round: &Round) -> u64
         let _ = engine.service_step();
     }
     0
+}
+
+/// Keeps a transaction open until those that work are through, and reads edges in it. It sets no edge.
+fn read_beside<E: Engine>(engine: &mut E, round: &Round, edges: &[Edit]) -> u64
+    requires closed { (E.account engine.old).start ≡ None }
+    ensures { StaysClosed (E.account engine.old) (E.account engine.new) }
+{
+    match engine.begin() {
+        Ok(_) => {}
+        Err(_) => return 0,
+    }
+    read_on(engine, round, edges);
+    engine.commit();
+    0
+}
+
+/// Reads edges one after the other, and from the first one again, until those that work are through.
+fn read_on<E: Engine>(engine: &mut E, round: &Round, edges: &[Edit])
+    requires current { IsSome (E.account engine.old).start }
+    ensures current { IsSome (E.account engine.new).start }
+    ensures job { (E.account engine.new).job ≡ (E.account engine.old).job }
+{
+    let count = edges.len().max(1) as u64;
+    'reads: for number in 0..u64::MAX {
+        if round.counts.through() >= round.workers {
+            return;
+        }
+        if let Some(edge) = edges.get((number % count) as usize) {
+            is_seen(engine, *edge);
+        }
+    }
 }

@@ -34,6 +34,8 @@ pub enum Beside {
     Set,
     /// Each takes turns of the service.
     Serve,
+    /// Each keeps one transaction open, and reads its part of the edges in it again and again.
+    Read,
 }
 
 /// What engines do at once.

@@ -11,6 +11,7 @@ ghost use Rattle.cases_workers.specs.SharedStore.Passes.{IsIdle};
 use crate::churn::time_churn;
 use crate::counts::Counts;
 use crate::edges::drawn_edges;
+use crate::held_back::time_held;
 use crate::hire::{dismiss_all, hire_all};
 use crate::reads::time_beside_writer;
 use crate::round::{Beside, Round, Work};
@@ -86,11 +87,12 @@ fn round_of(alloc: Global, graph: &Graph, words: &Words) -> Result<Round, NoMemo
         ),
         Part::Turns => (Work::Serve, words.count, 0),
         Part::Churn => (Work::Set, words.count / ROUNDS / workers, AGAIN),
+        Part::Held => (Work::Set, words.count / workers, words.count),
     };
-    let beside = if words.part == Part::Churn {
-        Beside::Serve
-    } else {
-        Beside::Rest
+    let beside = match words.part {
+        Part::Reads | Part::Scans | Part::Turns => Beside::Rest,
+        Part::Churn => Beside::Serve,
+        Part::Held => Beside::Read,
     };
     Ok(Round {
         work,
@@ -161,5 +163,6 @@ fn time<R: Threads + Wait + Clock + Print + Sync, E: Engine + Send>(
         Part::Scans => time_beside_writer(rt, engines, round, "scans"),
         Part::Turns => time_turns(rt, store, watcher, engines, round),
         Part::Churn => time_churn(rt, store, watcher, engines, round),
+        Part::Held => time_held(rt, store, watcher, engines, round),
     }
 }

@@ -39,8 +39,8 @@ pub fn time_turns<R: Threads + Wait + Clock + Print + Sync, E: Engine + Send>(
     say(rt, "sweep", round.amount, begun.elapsed(rt)?)
 }
 
-/// Takes so many sweeps.
-fn sweep_often(rt: &impl Wait, store: &Store, pass: &mut Pass, times: u64)
+/// Takes so many sweeps, from the first leaf on.
+pub fn sweep_often(rt: &impl Wait, store: &Store, pass: &mut Pass, times: u64)
     requires idle { IsIdle store.now pass.old }
     ensures idle { IsIdle store.now pass.new }
     ensures number { pass.new.seats.number ≡ pass.old.seats.number }
@@ -61,7 +61,7 @@ fn sweep(rt: &impl Wait, store: &Store, pass: &mut Pass, key: &mut SweepKey)
 }
 
 /// Prints a name, how many there were, and the nanoseconds of one.
-fn say(rt: &impl Print, name: &str, count: u64, took: Duration) -> Result<()> {
+pub fn say(rt: &impl Print, name: &str, count: u64, took: Duration) -> Result<()> {
     let each = took.as_nanos() / u128::from(count.max(1));
     println!(rt; "{name} {count} {each}")?;
     Ok(())

@@ -15,6 +15,8 @@ pub enum Part {
     Turns,
     /// The same edges set again and again, beside the service.
     Churn,
+    /// Edges set while a transaction stays open, and sweeps of what it held back.
+    Held,
 }
 
 /// What is timed, and how much of it.
@@ -68,5 +70,8 @@ fn part_named(name: &str) -> Option<Part> {
     if name == "turns" {
         return Some(Part::Turns);
     }
-    (name == "churn").then_some(Part::Churn)
+    if name == "churn" {
+        return Some(Part::Churn);
+    }
+    (name == "held").then_some(Part::Held)
 }
