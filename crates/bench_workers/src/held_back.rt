@@ -34,7 +34,11 @@ pub fn time_held<R: Threads + Wait + Clock + Print + Sync, E: Engine + Send>(
     let took = round.run(rt, engines)?;
     let done = round.counts.done();
     let records = records_now(rt, store, watcher);
-    println!(rt; "held {} {done} {} undo {records}", round.workers, rate_of(done, took))?;
+    println!(rt;
+        "held {} {done} {} undo {records}",
+        round.workers,
+        rate_of(done, took)
+    )?;
     let leaves = u64::from(leaves_now(rt, store, watcher).in_use);
     let begun = Instant::now(rt)?;
     sweep_often(rt, store, watcher, leaves);
