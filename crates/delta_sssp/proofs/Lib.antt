@@ -1,3 +1,2 @@
 pub mod WeightLemmas
 pub mod SearchLemmas
-pub mod SiftLemmas

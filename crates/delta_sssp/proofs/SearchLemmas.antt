@@ -1,5 +1,5 @@
 -- What a search keeps when an arc is followed, when a visit is made, and when a bucket is settled.
-use Rattle.std.proofs.Common.{◌≡◌, ℕ, ◌+◌, ◌/◌, ◌<◌, ◌≤◌, ◌^◌, ⊎_elim, inl, inr, List, [], ◌∷◌, ◌++◌, Option, None, Some, length, set, replicate, slice_get, refl, sym, ap, ◌∙◌, subst, arith}
+use Rattle.std.proofs.Common.{◌≡◌, ℕ, ◌+◌, ◌/◌, ◌<◌, ◌≤◌, ◌^◌, ⊎_elim, List, [], ◌∷◌, ◌++◌, Option, None, Some, length, set, replicate, slice_get, refl, sym, ap, ◌∙◌, subst, arith}
 use Rattle.std.specs.Prelude.{slice_index, sum_by, unwrap_or}
 use Rattle.std.specs.Ordering.{nat_cmp}
 use Rattle.std.specs.BTreeMap.{get}
@@ -11,7 +11,7 @@ use Rattle.std.proofs.lemmas.List.Sums.{sum_by-set}
 use Rattle.std.proofs.lemmas.Option.{same_Some, none-some, slice_get_within}
 use Rattle.graph_model.specs.declared.limits.TheConstants.{MAX_WEIGHT}
 use Rattle.graph_image.specs.declared.edge.Arc.{Arc}
-use Rattle.graph_image.specs.Images.{Places, arcs_at, AreWithin}
+use Rattle.graph_image.specs.Images.{Places, arcs_at}
 use Rattle.graph_image.proofs.Lists.{get_pushed, get_last, get_push_cases, below_cases, only_one}
 use Rattle.kernel_sssp.specs.declared.search.TheConstants.{UNREACHED}
 use Rattle.kernel_sssp.specs.Search.{LinkOut, IsSearched, IsRelaxed}
@@ -20,8 +20,8 @@ use Rattle.delta_sssp.specs.declared.buckets.Buckets.{Buckets}
 use Rattle.delta_sssp.specs.declared.search.Stage.{Stage}
 use Rattle.delta_sssp.specs.declared.search.Search.{Search}
 use Rattle.delta_sssp.specs.Buckets.{visits_in, HasNone, Puts, TakesFirst}
-use Rattle.delta_sssp.specs.Search.{AreRelaxedTo, AreRelaxed, IsVisit, IsVisited, IsSearch, IsSearchOf, spread, IsStart, IsPut, IsLowered, Follows, Makes, AreSifted, Advances}
-use Rattle.delta_sssp.proofs.WeightLemmas.{zero_reached, at_root, at_other, weights_start, no_greater, sum_fits, sum_reached, kept_relaxed, lowered, here, there, p_other, keeps_relaxed, now_relaxed, lowered_weights, weights_done}
+use Rattle.delta_sssp.specs.Search.{AreRelaxedTo, AreRelaxed, IsVisit, IsVisited, IsSearch, IsSearchOf, spread, IsStart, IsPut, IsLowered, Follows, Steps, Advances}
+use Rattle.delta_sssp.proofs.WeightLemmas.{zero_reached, at_root, at_other, weights_start, sum_fits, sum_reached, kept_relaxed, lowered, here, there, p_other, keeps_relaxed, now_relaxed, lowered_weights, weights_done}
 
 -- a greater distance is in no lower bucket
 pub bucket_rises : (x y width : ℕ) → 0 < width → x ≤ y → x / width ≤ y / width
@@ -178,28 +178,26 @@ module _ (image : Places) (stage : Stage) (ds : List ℕ) (visits : List Visit) 
 
 -- ---- the arcs of a visit so far
 
-pub record IsFollowing (image : Places) (visit : Visit) (arcs : List Arc) (i : ℕ) (old s : Search) : Type 0 where
+pub record IsFollowing (image : Places) (visit : Visit) (i : ℕ) (old s : Search) : Type 0 where
   pub search : IsSearchOf image s
   pub stage_is : s.stage ≡ old.stage
   pub here_is : slice_index s.distances.items visit.place ≡ visit.distance
-  pub relaxed : AreRelaxedTo i arcs s.distances.items visit.place
+  pub relaxed : AreRelaxedTo i image s.distances.items visit.place
   pub visits_stay : (k : ℕ) (v : Visit) → slice_get old.visits.items k ≡ Some v → slice_get s.visits.items k ≡ Some v
-  pub no_greater : (p : ℕ) → slice_index s.distances.items p ≤ slice_index old.distances.items p
   pub no_more : spread s ≤ spread old
 
-pub following_start : (image : Places) (visit : Visit) (arcs : List Arc) (old : Search) → IsSearchOf image old → slice_index old.distances.items visit.place ≡ visit.distance → IsFollowing image visit arcs 0 old old
-following_start image visit arcs old is here_is = record {
+pub following_start : (image : Places) (visit : Visit) (old : Search) → IsSearchOf image old → slice_index old.distances.items visit.place ≡ visit.distance → IsFollowing image visit 0 old old
+following_start image visit old is here_is = record {
   search = is;
   stage_is = refl;
   here_is = here_is;
   relaxed = λ k a below at. absurd (omega arith);
   visits_stay = λ k v at. at;
-  no_greater = λ p. omega arith;
   no_more = omega arith;
 }
 
-module _ (image : Places) (visit : Visit) (arcs : List Arc) (i : ℕ) (old s : Search) (so_far : IsFollowing image visit arcs i old s) (right : IsVisit (length image.vertices) old.stage.width old.stage.bucket visit)
-    (a : Arc) (at_arcs : slice_get arcs i ≡ Some a) (n : ℕ) (at : slice_get (arcs_at image.out visit.place) n ≡ Some a) (a_within : a.other < length image.vertices) (light : a.weight ≤ MAX_WEIGHT) where
+module _ (image : Places) (visit : Visit) (i : ℕ) (old s : Search) (so_far : IsFollowing image visit i old s) (right : IsVisit (length image.vertices) old.stage.width old.stage.bucket visit)
+    (a : Arc) (at : slice_get (arcs_at image.out visit.place) i ≡ Some a) (a_within : a.other < length image.vertices) (light : a.weight ≤ MAX_WEIGHT) where
   place_reached : slice_index s.distances.items visit.place ≡ UNREACHED → ⊥
   place_reached none = right.reached_is (sym so_far.here_is ∙ none)
 
@@ -207,13 +205,13 @@ module _ (image : Places) (visit : Visit) (arcs : List Arc) (i : ℕ) (old s : S
   place_bucket = (λ j. so_far.here_is j / (so_far.stage_is j).width) ∙ right.bucket_is ∙ ap (λ (t : Stage). t.bucket) (sym so_far.stage_is)
 
   pub following_fits : visit.distance + a.weight < UNREACHED
-  following_fits = (let f = sum_fits image s.stage.root s.distances.items so_far.search.weights visit.place n a right.place_is place_reached at a_within light in let h = so_far.here_is in omega arith)
+  following_fits = (let f = sum_fits image s.stage.root s.distances.items so_far.search.weights visit.place i a right.place_is place_reached at a_within light in let h = so_far.here_is in omega arith)
 
-  same_arc : (k : ℕ) (b : Arc) → slice_get arcs k ≡ Some b → k ≡ i → a ≡ b
-  same_arc k b at_k now = same_Some a b (sym at_arcs ∙ ap (slice_get arcs) (sym now) ∙ at_k)
+  same_arc : (k : ℕ) (b : Arc) → slice_get (arcs_at image.out visit.place) k ≡ Some b → k ≡ i → a ≡ b
+  same_arc k b at_k now = same_Some a b (sym at ∙ ap (λ j. slice_get (arcs_at image.out visit.place) j) (sym now) ∙ at_k)
 
   -- past an arc that is relaxed
-  following_same : IsRelaxed s.distances.items visit.place a → IsFollowing image visit arcs (i + 1) old s
+  following_same : IsRelaxed s.distances.items visit.place a → IsFollowing image visit (i + 1) old s
   following_same is = record {
     search = so_far.search;
     stage_is = so_far.stage_is;
@@ -223,12 +221,11 @@ module _ (image : Places) (visit : Visit) (arcs : List Arc) (i : ℕ) (old s : S
         (λ now. subst (IsRelaxed s.distances.items visit.place) (same_arc k b at_k now) is)
         (below_cases k i below);
     visits_stay = so_far.visits_stay;
-    no_greater = so_far.no_greater;
     no_more = so_far.no_more;
   }
 
-  pub following_kept : slice_index s.distances.items a.other ≤ visit.distance + a.weight → IsFollowing image visit arcs (i + 1) old s
-  following_kept le = following_same (kept_relaxed image s.stage.root s.distances.items so_far.search.weights visit.place n a right.place_is place_reached at a_within light
+  pub following_kept : slice_index s.distances.items a.other ≤ visit.distance + a.weight → IsFollowing image visit (i + 1) old s
+  following_kept le = following_same (kept_relaxed image s.stage.root s.distances.items so_far.search.weights visit.place i a right.place_is place_reached at a_within light
       (subst (λ d. slice_index s.distances.items a.other ≤ d + a.weight) (sym so_far.here_is) le))
 
   module _ (new : Search) (less : visit.distance + a.weight < slice_index s.distances.items a.other) (lowers : IsLowered a.other (visit.distance + a.weight) s new) where
@@ -241,46 +238,38 @@ module _ (image : Places) (visit : Visit) (arcs : List Arc) (i : ℕ) (old s : S
     distances_here : new.distances.items ≡ set s.distances.items a.other (slice_index s.distances.items visit.place + a.weight)
     distances_here = lowers.distances_are ∙ ap (λ d. set s.distances.items a.other (d + a.weight)) (sym so_far.here_is)
 
-    relaxed_now : AreRelaxedTo (i + 1) arcs (set s.distances.items a.other (slice_index s.distances.items visit.place + a.weight)) visit.place
+    relaxed_now : AreRelaxedTo (i + 1) image (set s.distances.items a.other (slice_index s.distances.items visit.place + a.weight)) visit.place
     relaxed_now k b below at_k = ⊎_elim
-        (λ earlier. keeps_relaxed image s.stage.root s.distances.items so_far.search.weights visit.place n a right.place_is place_reached at a_within light less_here visit.place b
-        (p_other image s.stage.root s.distances.items so_far.search.weights visit.place n a right.place_is place_reached at a_within light less_here) (so_far.relaxed k b earlier at_k))
+        (λ earlier. keeps_relaxed image s.stage.root s.distances.items so_far.search.weights visit.place i a right.place_is place_reached at a_within light less_here visit.place b
+        (p_other image s.stage.root s.distances.items so_far.search.weights visit.place i a right.place_is place_reached at a_within light less_here) (so_far.relaxed k b earlier at_k))
         (λ now. subst (IsRelaxed (set s.distances.items a.other (slice_index s.distances.items visit.place + a.weight)) visit.place) (same_arc k b at_k now)
-        (now_relaxed image s.stage.root s.distances.items so_far.search.weights visit.place n a right.place_is place_reached at a_within light less_here))
+        (now_relaxed image s.stage.root s.distances.items so_far.search.weights visit.place i a right.place_is place_reached at a_within light less_here))
         (below_cases k i below)
 
-    pub following_lowered : IsFollowing image visit arcs (i + 1) old new
+    pub following_lowered : IsFollowing image visit (i + 1) old new
     following_lowered = record {
       search = subst (λ (t : Stage). IsSearch image t new.distances.items new.visits.items new.later) (sym lowers.stage_is)
           (subst (λ ds. IsSearch image s.stage ds new.visits.items new.later) (sym distances_here)
-          (lowered_search image s.stage s.distances.items s.visits.items s.later so_far.search visit.place n a right.place_is place_reached place_bucket at a_within light less_here new.visits.items new.later put_here));
+          (lowered_search image s.stage s.distances.items s.visits.items s.later so_far.search visit.place i a right.place_is place_reached place_bucket at a_within light less_here new.visits.items new.later put_here));
       stage_is = lowers.stage_is ∙ so_far.stage_is;
       here_is = ap (λ ds. slice_index ds visit.place) distances_here
-          ∙ there image s.stage.root s.distances.items so_far.search.weights visit.place n a right.place_is place_reached at a_within light less_here visit.place
-          (p_other image s.stage.root s.distances.items so_far.search.weights visit.place n a right.place_is place_reached at a_within light less_here)
+          ∙ there image s.stage.root s.distances.items so_far.search.weights visit.place i a right.place_is place_reached at a_within light less_here visit.place
+          (p_other image s.stage.root s.distances.items so_far.search.weights visit.place i a right.place_is place_reached at a_within light less_here)
           ∙ so_far.here_is;
-      relaxed = subst (λ ds. AreRelaxedTo (i + 1) arcs ds visit.place) (sym distances_here) relaxed_now;
+      relaxed = subst (λ ds. AreRelaxedTo (i + 1) image ds visit.place) (sym distances_here) relaxed_now;
       visits_stay = λ k v at_k. put_stays s.stage.bucket _ _ s.visits.items new.visits.items s.later new.later put_here k v (so_far.visits_stay k v at_k);
-      no_greater = λ p. (let d = ap (λ ds. slice_index ds p) distances_here in
-          let l = no_greater image s.stage.root s.distances.items so_far.search.weights visit.place n a right.place_is place_reached at a_within light less_here p in
-          let m = so_far.no_greater p in omega arith);
       no_more = (let d = ap (sum_by (λ x. x)) distances_here in
-          let l = lowered_spread image s.stage s.distances.items s.visits.items s.later so_far.search visit.place n a right.place_is place_reached place_bucket at a_within light less_here new.visits.items new.later put_here in
+          let l = lowered_spread image s.stage s.distances.items s.visits.items s.later so_far.search visit.place i a right.place_is place_reached place_bucket at a_within light less_here new.visits.items new.later put_here in
           let m = so_far.no_more in omega arith);
     }
 
--- past all arcs that were kept
-pub followed : (image : Places) (visit : Visit) (arcs : List Arc) (i : ℕ) (old s : Search) → IsFollowing image visit arcs i old s → AreSifted image old.distances.items visit arcs → slice_index old.distances.items visit.place ≡ visit.distance → length arcs ≤ i
-    → Follows image visit old s
-followed image visit arcs i old s so_far sifted here_was all = record {
+-- past all arcs
+pub followed : (image : Places) (visit : Visit) (i : ℕ) (old s : Search) → IsFollowing image visit i old s → length (arcs_at image.out visit.place) ≤ i → Follows image visit old s
+followed image visit i old s so_far all = record {
   search = so_far.search;
   stage_is = so_far.stage_is;
-  relaxed = λ same k a at is_reached. ⊎_elim
-      (λ kept. so_far.relaxed kept.0 a (let below = slice_get_within arcs kept.0 a kept.1 in omega arith) kept.1 is_reached)
-      (λ near. (let low = so_far.no_greater a.other in let less = near.0 in let le = near.1 in ((λ none. absurd (omega arith)), omega arith)))
-      (sifted.rest (omega arith) k a at);
+  relaxed = λ same k a at. so_far.relaxed k a (let below = slice_get_within (arcs_at image.out visit.place) k a at in omega arith) at;
   visits_stay = so_far.visits_stay;
-  no_greater = so_far.no_greater;
   no_more = so_far.no_more;
 }
 
@@ -291,27 +280,7 @@ not_followed image visit old is other = record {
   stage_is = refl;
   relaxed = λ same. absurd (other same);
   visits_stay = λ k v at. at;
-  no_greater = λ p. omega arith;
   no_more = omega arith;
-}
-
--- all arcs out of the place, which leave out none
-pub sifted_whole : (image : Places) (distances : List ℕ) (visit : Visit) (arcs : List Arc) → arcs ≡ arcs_at image.out visit.place → AreWithin (length image.vertices) arcs → AreSifted image distances visit arcs
-sifted_whole image distances visit arcs are within = record {
-  within = within;
-  among = λ j a at. (j, ap (λ l. slice_get l j) (sym are) ∙ at);
-  rest = λ counts k a at. inl (k, ap (λ l. slice_get l k) are ∙ at);
-}
-
--- what leads near still does where no distance has risen
-pub sifted_lower : (image : Places) (ds later : List ℕ) (visit : Visit) (arcs : List Arc) → ((p : ℕ) → slice_index later p ≤ slice_index ds p) → AreSifted image ds visit arcs → AreSifted image later visit arcs
-sifted_lower image ds later visit arcs lower sifted = record {
-  within = sifted.within;
-  among = sifted.among;
-  rest = λ counts k a at. ⊎_elim
-      (λ kept. inl kept)
-      (λ near. inr (let low = lower a.other in let less = near.0 in let le = near.1 in (omega arith, omega arith)))
-      (sifted.rest (let low = lower visit.place in omega arith) k a at);
 }
 
 -- ---- one visit more
@@ -325,7 +294,7 @@ module _ (image : Places) (visit : Visit) (old mid : Search) (follows : Follows 
       let distance : visit.distance ≡ slice_index mid.distances.items p = ap (λ (v : Visit). v.distance) same in
       subst (AreRelaxed image mid.distances.items) place (follows.relaxed (ap (slice_index mid.distances.items) place ∙ sym distance))
 
-pub stepped : (image : Places) (visit : Visit) (old mid : Search) → slice_get old.visits.items old.stage.made ≡ Some visit → Follows image visit old mid → Makes image 1 old (record mid { stage = record mid.stage { made = mid.stage.made + 1 } })
+pub stepped : (image : Places) (visit : Visit) (old mid : Search) → slice_get old.visits.items old.stage.made ≡ Some visit → Follows image visit old mid → Steps image old (record mid { stage = record mid.stage { made = mid.stage.made + 1 } })
 stepped image visit old mid at follows =
     let is = follows.search in
     let stage = follows.stage_is in
@@ -352,26 +321,8 @@ stepped image visit old mid at follows =
       };
       root_is = ap (λ (t : Stage). t.root) stage;
       bucket_is = ap (λ (t : Stage). t.bucket) stage;
-      made_is = omega arith;
-      visits_stay = follows.visits_stay;
-      no_greater = follows.no_greater;
-      no_more = follows.no_more;
+      nearer = (let m = follows.no_more in omega arith);
     }
-
--- visits are made, and then further ones
-pub makes_none : (image : Places) (s : Search) → IsSearchOf image s → Makes image 0 s s
-makes_none image s is = record { search = is; root_is = refl; bucket_is = refl; made_is = omega arith; visits_stay = λ k v at. at; no_greater = λ p. omega arith; no_more = omega arith }
-
-pub makes_more : (image : Places) (n m : ℕ) (old mid new : Search) → Makes image n old mid → Makes image m mid new → Makes image (n + m) old new
-makes_more image n m old mid new first second = record {
-  search = second.search;
-  root_is = second.root_is ∙ first.root_is;
-  bucket_is = second.bucket_is ∙ first.bucket_is;
-  made_is = let a = first.made_is in let b = second.made_is in omega arith;
-  visits_stay = λ k v at. second.visits_stay k v (first.visits_stay k v at);
-  no_greater = λ p. (let a = first.no_greater p in let b = second.no_greater p in omega arith);
-  no_more = let a = first.no_more in let b = second.no_more in omega arith;
-}
 
 -- ---- a bucket that is settled
 

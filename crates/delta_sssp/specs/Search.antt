@@ -4,7 +4,7 @@ use Rattle.std.specs.Ordering.{nat_cmp}
 use Rattle.std.specs.BTreeMap.{get}
 use Rattle.graph_model.specs.declared.limits.TheConstants.{MAX_WEIGHT}
 use Rattle.graph_image.specs.declared.edge.Arc.{Arc}
-use Rattle.graph_image.specs.Images.{Places, arcs_at, AreWithin}
+use Rattle.graph_image.specs.Images.{Places, arcs_at}
 use Rattle.graph_image.specs.Paths.{HasPathBy}
 use Rattle.kernel_sssp.specs.declared.search.TheConstants.{UNREACHED}
 use Rattle.kernel_sssp.specs.Search.{LinkOut, IsRelaxed, reached}
@@ -24,11 +24,12 @@ pub record AreWeights (image : Places) (root : ℕ) (distances : List ℕ) : Typ
   pub bound : (p : ℕ) → p < length image.vertices → (slice_index distances p ≡ UNREACHED → ⊥)
       → slice_index distances p + MAX_WEIGHT ≤ reached distances * MAX_WEIGHT
 
--- the first n of these arcs out of the place lead nowhere at a lesser distance than what is known
-abbrev pub AreRelaxedTo : ℕ → List Arc → List ℕ → ℕ → Type 0
-AreRelaxedTo n arcs distances p = (k : ℕ) (a : Arc) → k < n → slice_get arcs k ≡ Some a → IsRelaxed distances p a
+-- the arcs out of the place, up to the n-th, lead nowhere at a lesser distance than what is known
+abbrev pub AreRelaxedTo : ℕ → Places → List ℕ → ℕ → Type 0
+AreRelaxedTo n image distances p = (k : ℕ) (a : Arc) → k < n → slice_get (arcs_at image.out p) k ≡ Some a
+    → IsRelaxed distances p a
 
--- all arcs out of it do
+-- all of them
 abbrev pub AreRelaxed : Places → List ℕ → ℕ → Type 0
 AreRelaxed image distances p = (k : ℕ) (a : Arc) → slice_get (arcs_at image.out p) k ≡ Some a → IsRelaxed distances p a
 
@@ -37,20 +38,6 @@ pub record IsVisit (n width bucket : ℕ) (visit : Visit) : Type 0 where
   pub place_is : visit.place < n
   pub bucket_is : visit.distance / width ≡ bucket
   pub reached_is : visit.distance ≡ UNREACHED → ⊥
-
--- the arc leads to a reached place, at no lesser distance than what is known, from a place at this one
-abbrev pub LeadsNear : List ℕ → ℕ → Arc → Type 0
-LeadsNear distances distance a = (slice_index distances a.other < UNREACHED)
-    × (slice_index distances a.other ≤ distance + a.weight)
-
--- These are arcs out of the visit's place; if the visit may still count, each other one leads near.
-pub record AreSifted (image : Places) (distances : List ℕ) (visit : Visit) (arcs : List Arc) : Type 0 where
-  pub within : AreWithin (length image.vertices) arcs
-  pub among : (j : ℕ) (a : Arc) → slice_get arcs j ≡ Some a
-      → (k : ℕ) × (slice_get (arcs_at image.out visit.place) k ≡ Some a)
-  pub rest : visit.distance ≤ slice_index distances visit.place
-      → (k : ℕ) (a : Arc) → slice_get (arcs_at image.out visit.place) k ≡ Some a
-      → ((j : ℕ) × (slice_get arcs j ≡ Some a)) ⊎ LeadsNear distances visit.distance a
 
 -- the place is among the visits, with its distance; its arcs are relaxed if that visit was made
 pub record IsVisited (image : Places) (stage : Stage) (distances : List ℕ) (visits : List Visit) (p : ℕ) : Type 0 where
@@ -115,18 +102,14 @@ pub record Follows (image : Places) (visit : Visit) (old new : Search) : Type 0 
   pub relaxed : slice_index new.distances.items visit.place ≡ visit.distance
       → AreRelaxed image new.distances.items visit.place
   pub visits_stay : (k : ℕ) (v : Visit) → slice_get old.visits.items k ≡ Some v → slice_get new.visits.items k ≡ Some v
-  pub no_greater : (p : ℕ) → slice_index new.distances.items p ≤ slice_index old.distances.items p
   pub no_more : spread new ≤ spread old
 
--- so many visits more are made; visits come behind those that were there, and no distance rises
-pub record Makes (image : Places) (n : ℕ) (old new : Search) : Type 0 where
+-- one visit more is made
+pub record Steps (image : Places) (old new : Search) : Type 0 where
   pub search : IsSearchOf image new
   pub root_is : new.stage.root ≡ old.stage.root
   pub bucket_is : new.stage.bucket ≡ old.stage.bucket
-  pub made_is : new.stage.made ≡ old.stage.made + n
-  pub visits_stay : (k : ℕ) (v : Visit) → slice_get old.visits.items k ≡ Some v → slice_get new.visits.items k ≡ Some v
-  pub no_greater : (p : ℕ) → slice_index new.distances.items p ≤ slice_index old.distances.items p
-  pub no_more : spread new ≤ spread old
+  pub nearer : spread new + old.stage.made < spread old + new.stage.made
 
 -- all visits of the bucket are made
 pub record Settles (image : Places) (old new : Search) : Type 0 where

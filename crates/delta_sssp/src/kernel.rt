@@ -8,7 +8,6 @@ ghost use Rattle.graph_image.specs.Images.{IsImageOf};
 ghost use Rattle.kernel_sssp.specs.Search.{LinkOut, IsSearched};
 
 use crate::search::Search;
-use crate::sift::shares_for;
 use graph_image::{Image, KernelRefusal, NoMemory, Table};
 use kernel_sssp::table_by;
 use std::alloc::Global;
@@ -17,7 +16,7 @@ use std::thread::Threads;
 /// The least weight of a walk from the root to each vertex, by buckets of this width, with the answers of
 /// `kernel_sssp`. No clause speaks of want of memory.
 pub fn run<R: Threads + Sync>(
-    rt: &R,
+    _rt: &R,
     alloc: Global,
     image: &Image,
     root: u64,
@@ -32,14 +31,13 @@ pub fn run<R: Threads + Sync>(
     let Some(place) = image.position(root) else {
         return Err(KernelRefusal::NoRoot);
     };
-    let distances = least_weights(rt, alloc, image, place, width)?;
+    let distances = least_weights(alloc, image, place, width)?;
     let table = table_by(alloc, image, distances.as_slice())?;
     Ok(table)
 }
 
 /// The least weight of a path from the root to each place.
-fn least_weights<R: Threads + Sync>(
-    rt: &R,
+fn least_weights(
     alloc: Global,
     image: &Image,
     root: usize,
@@ -51,9 +49,8 @@ fn least_weights<R: Threads + Sync>(
         IsSearched (LinkOut image.now) root (length image.now.vertices) distances.items) }
 {
     let mut search = Search::new(alloc, image.len(), root, width)?;
-    let mut shares = shares_for(rt, alloc, image.len())?;
     'buckets: loop {
-        search.settle(rt, image, shares.as_mut_slice())?;
+        search.settle(image)?;
         if !search.advance() {
             let Search {
                 stage: _,

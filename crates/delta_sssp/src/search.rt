@@ -1,21 +1,15 @@
 //! The search, bucket by bucket.
 
-ghost use Rattle.std.specs.Prelude.{◌≡◌, ℕ, ◌+◌, ◌*◌, ◌<◌, ◌≤◌, ◌^◌, false, length, slice_get, Some, IsTrue, IfOk, OnOk};
+ghost use Rattle.std.specs.Prelude.{◌≡◌, ◌<◌, ◌^◌, false, length, slice_get, Some, IsTrue, IfOk, OnOk};
 ghost use Rattle.delta_sssp.specs.Search.{IsSearchOf, IsVisit, IsStart, IsLowered};
-ghost use Rattle.delta_sssp.specs.Search.{AreSifted, Follows, Makes, Settles, Advances, spread};
-ghost use Rattle.delta_sssp.specs.Sifting.{IsReady};
+ghost use Rattle.delta_sssp.specs.Search.{Follows, Steps, Settles, Advances, spread};
 ghost use Rattle.delta_sssp.specs.Buckets.{HasNone};
 
 use crate::ahead::{AHEAD, Ahead, FEW, sum_ahead};
 use crate::buckets::{Buckets, Visit};
-use crate::sift::{SHARE_VISITS, Share, sift_shares};
 use graph_image::{Arc, Image, NoMemory};
 use kernel_sssp::UNREACHED;
 use std::alloc::Global;
-use std::thread::Threads;
-
-/// For fewer shares it isn't worth to start threads.
-const LEAST_SHARES: usize = 8;
 
 /// How far the search has come.
 #[derive(Clone, Copy)]
@@ -74,82 +68,13 @@ impl Search {
     }
 
     /// Settles the bucket: all arcs out of its places are followed.
-    pub fn settle<R: Threads + Sync>(
-        &mut self,
-        rt: &R,
-        image: &Image,
-        shares: &mut [Share],
-    ) -> Result<(), NoMemory>
+    pub fn settle(&mut self, image: &Image) -> Result<(), NoMemory>
         requires { IsSearchOf image.now self.old }
         ensures { OnOk result (Settles image.now self.old self.new) }
     {
         'visits: while self.stage.made < self.visits.len() {
-            self.make_some(rt, image, shares)?;
-        }
-        Ok(())
-    }
-
-    /// Makes many visits if many are left, else the next one.
-    fn make_some<R: Threads + Sync>(
-        &mut self,
-        rt: &R,
-        image: &Image,
-        shares: &mut [Share],
-    ) -> Result<(), NoMemory>
-        requires search { IsSearchOf image.now self.old }
-        requires left { self.old.stage.made < length self.old.visits.items }
-        ensures { OnOk result ((n : ℕ) × (0 < n) × Makes image.now n self.old self.new) }
-    {
-        let left = self.visits.len() - self.stage.made;
-        let count = shares.len().min(left / SHARE_VISITS);
-        if count >= LEAST_SHARES {
-            return self.make_many(rt, image, &mut shares[..count]);
-        }
-        self.read_ahead(image);
-        self.step(image)
-    }
-
-    /// Makes as many visits as the shares have, whose arcs are sifted by several threads.
-    fn make_many<R: Threads + Sync>(
-        &mut self,
-        rt: &R,
-        image: &Image,
-        shares: &mut [Share],
-    ) -> Result<(), NoMemory>
-        requires search { IsSearchOf image.now self.old }
-        requires enough { self.old.stage.made + length shares.old * 512 ≤ length self.old.visits.items }
-        ensures { OnOk result (Makes image.now (length shares.old * 512) self.old self.new) }
-    {
-        let visits = &self.visits.as_slice()[self.stage.made..];
-        sift_shares(rt, image, self.distances.as_slice(), visits, shares);
-        'shares: for i in 0..shares.len() {
-            self.make_share(image, &shares[i])?;
-        }
-        Ok(())
-    }
-
-    /// Makes the visits of a share, unless it ran out of memory.
-    fn make_share(&mut self, image: &Image, share: &Share) -> Result<(), NoMemory>
-        requires search { IsSearchOf image.now self.old }
-        requires ready { share.now.lacks ≡ false
-            → IsReady image.now self.old.distances.items self.old.visits.items self.old.stage.made share.now }
-        ensures { OnOk result (Makes image.now 512 self.old self.new) }
-    {
-        if share.lacks {
-            return Err(NoMemory);
-        }
-        self.make_sifted(image, share)
-    }
-
-    /// Makes the visits of a share, along the arcs that it has kept.
-    fn make_sifted(&mut self, image: &Image, share: &Share) -> Result<(), NoMemory>
-        requires search { IsSearchOf image.now self.old }
-        requires ready { IsReady image.now self.old.distances.items self.old.visits.items self.old.stage.made share.now }
-        ensures { OnOk result (Makes image.now 512 self.old self.new) }
-    {
-        'visits: for j in 0..SHARE_VISITS {
-            let visit = self.visits[self.stage.made];
-            self.make(image, visit, share.kept(j))?;
+            self.read_ahead(image);
+            self.step(image)?;
         }
         Ok(())
     }
@@ -189,49 +114,38 @@ impl Search {
         }
     }
 
-    /// Makes the next visit, along all its arcs.
+    /// Makes the next visit.
     fn step(&mut self, image: &Image) -> Result<(), NoMemory>
         requires search { IsSearchOf image.now self.old }
         requires left { self.old.stage.made < length self.old.visits.items }
-        ensures { OnOk result (Makes image.now 1 self.old self.new) }
+        ensures { OnOk result (Steps image.now self.old self.new) }
     {
         let visit = self.visits[self.stage.made];
-        self.make(image, visit, image.out(visit.place as usize))
-    }
-
-    /// Makes the next visit, along these of its arcs.
-    fn make(&mut self, image: &Image, visit: Visit, arcs: &[Arc]) -> Result<(), NoMemory>
-        requires search { IsSearchOf image.now self.old }
-        requires next { slice_get self.old.visits.items self.old.stage.made ≡ Some visit }
-        requires sifted { AreSifted image.now self.old.distances.items visit arcs.now }
-        ensures { OnOk result (Makes image.now 1 self.old self.new) }
-    {
-        self.visit(image, visit, arcs)?;
+        self.visit(image, visit)?;
         self.stage.made += 1;
         Ok(())
     }
 
-    /// Follows these arcs of a visit, if it still counts.
-    fn visit(&mut self, image: &Image, visit: Visit, arcs: &[Arc]) -> Result<(), NoMemory>
+    /// Follows the arcs of a visit, if it still counts.
+    fn visit(&mut self, image: &Image, visit: Visit) -> Result<(), NoMemory>
         requires search { IsSearchOf image.now self.old }
         requires visit { IsVisit (length image.now.vertices) self.old.stage.width self.old.stage.bucket visit }
-        requires sifted { AreSifted image.now self.old.distances.items visit arcs.now }
         ensures { OnOk result (Follows image.now visit self.old self.new) }
     {
         if self.distances[visit.place as usize] == visit.distance {
-            self.follow(image, visit, arcs)?;
+            self.follow(image, visit)?;
         }
         Ok(())
     }
 
-    /// Follows arcs out of a place.
-    fn follow(&mut self, image: &Image, visit: Visit, arcs: &[Arc]) -> Result<(), NoMemory>
+    /// Follows the arcs out of a place.
+    fn follow(&mut self, image: &Image, visit: Visit) -> Result<(), NoMemory>
         requires search { IsSearchOf image.now self.old }
         requires visit { IsVisit (length image.now.vertices) self.old.stage.width self.old.stage.bucket visit }
         requires here { slice_get self.old.distances.items visit.place ≡ Some visit.distance }
-        requires sifted { AreSifted image.now self.old.distances.items visit arcs.now }
         ensures { OnOk result (Follows image.now visit self.old self.new) }
     {
+        let arcs = image.out(visit.place as usize);
         'arcs: for i in 0..arcs.len() {
             let Arc { other, weight } = arcs[i];
             let distance = visit.distance + weight as u64;

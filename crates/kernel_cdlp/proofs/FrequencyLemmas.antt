@@ -4,11 +4,11 @@ use Rattle.std.specs.Prelude.{IsPermutation, ◌&&◌, ◌⊎◌, nat_le, min}
 use Rattle.std.specs.List.{filter, list_all}
 use Rattle.std.proofs.lemmas.Bool.{cases_lt, cases_eq, cases_order, eq-eqb, ne_eqb, le-leb, leb-true, and_parts}
 use Rattle.std.proofs.lemmas.List.{take_all, length-take}
-use Rattle.std.proofs.lemmas.Option.{same_Some, none-some, slice_get_within}
+use Rattle.std.proofs.lemmas.Option.{same_Some, none-some}
 use Rattle.std.proofs.lemmas.List.Sums.{sum_by-cons, sum_by-append, sum_by_more, count_by-le-length}
 use Rattle.std.proofs.lemmas.List.Sorted.{sum_by-IsPermutation}
 use Rattle.graph_model.specs.Labels.{times, is_most_frequent, least_of, least_or, most_frequent}
-use Rattle.graph_image.proofs.Lists.{below_cases, get_map, get_filter, filter_get}
+use Rattle.graph_image.proofs.Lists.{get_map, get_filter, filter_get}
 use Rattle.kernel_cdlp.specs.Frequency.{IsMostFrequentOr}
 
 -- ---- how often a value stands
@@ -226,88 +226,6 @@ risen f n rise default x (z ∷ zs) below is =
           let low : x ≤ of.0 = is.least of.0 (omega arith) in
           let to : f of.0 ≡ w = of.2 in
           ⊎_elim (λ less. let r = rise x of.0 less of_below in omega arith) (λ le. let even : x ≡ of.0 = omega arith in let e = ap f even in omega arith) (cases_lt x of.0);
-    }
-
--- ---- each value is counted
-
--- of the first i values the least of those that stand most often in the list, and how often that is
-pub record IsBestOf (default : ℕ) (xs : List ℕ) (i best most : ℕ) : Type 0 where
-  pub none : i ≡ 0 → (best ≡ default) × (most ≡ 0)
-  pub stands : 0 < i → (most ≡ times xs best) × (0 < most)
-  pub highest : (j y : ℕ) → j < i → slice_get xs j ≡ Some y → times xs y ≤ most
-  pub least : (j y : ℕ) → j < i → slice_get xs j ≡ Some y → times xs y ≡ most → best ≤ y
-
-pub best_none : (default : ℕ) (xs : List ℕ) → IsBestOf default xs 0 default 0
-best_none default xs = record {
-  none = λ none. (refl, refl);
-  stands = λ some. absurd (omega arith);
-  highest = λ j y less. absurd (omega arith);
-  least = λ j y less. absurd (omega arith);
-}
-
--- a value that is in the list stands there
-pub at_stands : (xs : List ℕ) (i y : ℕ) → slice_get xs i ≡ Some y → 0 < times xs y
-at_stands [] i y at = absurd (none-some y at)
-at_stands (x ∷ xs) zero y at = let same = same_Some x y at in let here = times_here x xs in let to = ap (times (x ∷ xs)) same in omega arith
-at_stands (x ∷ xs) (suc i) y at = let rest = at_stands xs i y at in ⊎_elim
-    (λ same. let here = times_here x xs in let to = ap (times (x ∷ xs)) same in omega arith)
-    (λ other. let n = times_there x xs y other in omega arith)
-    (cases_eq x y)
-
-module _ (default : ℕ) (xs : List ℕ) (i best most : ℕ) (is : IsBestOf default xs i best most) (x : ℕ) (at : slice_get xs i ≡ Some x) (count : ℕ) (count_is : count ≡ times xs x) where
-  -- the next value is better
-  pub best_takes : (most < count) ⊎ ((most ≡ count) × (x < best)) → IsBestOf default xs (i + 1) x count
-  best_takes better =
-      let no_less : most ≤ count = ⊎_elim (λ more. omega arith) (λ even. let same = even.0 in omega arith) better in
-      let some = at_stands xs i x at in
-      record {
-        none = λ none. absurd (omega arith);
-        stands = λ _. (count_is, omega arith);
-        highest = λ j y less there. ⊎_elim
-            (λ before. let high = is.highest j y before there in omega arith)
-            (λ here. let same = same_Some x y (sym at ∙ ap (slice_get xs) (sym here) ∙ there) in let e = ap (times xs) same in omega arith)
-            (below_cases j i less);
-        least = λ j y less there even. ⊎_elim
-            (λ before. ⊎_elim
-            (λ more. absurd (let high = is.highest j y before there in omega arith))
-            (λ same. let low = is.least j y before there (let m = same.0 in omega arith) in let lower = same.1 in omega arith)
-            better)
-            (λ here. let same = same_Some x y (sym at ∙ ap (slice_get xs) (sym here) ∙ there) in omega arith)
-            (below_cases j i less);
-      }
-
-  -- else the best stays it
-  pub best_keeps : count ≤ most → (most ≡ count → best ≤ x) → IsBestOf default xs (i + 1) best most
-  best_keeps no_more low = record {
-    none = λ none. absurd (omega arith);
-    stands = λ _. ⊎_elim
-        (λ some. is.stands some)
-        (λ le. absurd (let none = (is.none (omega arith)).1 in let here = at_stands xs i x at in omega arith))
-        (cases_lt 0 i);
-    highest = λ j y less there. ⊎_elim
-        (λ before. is.highest j y before there)
-        (λ here. let same = same_Some x y (sym at ∙ ap (slice_get xs) (sym here) ∙ there) in let e = ap (times xs) same in omega arith)
-        (below_cases j i less);
-    least = λ j y less there even. ⊎_elim
-        (λ before. is.least j y before there even)
-        (λ here. let same = same_Some x y (sym at ∙ ap (slice_get xs) (sym here) ∙ there) in let e = ap (times xs) same in let l = low (omega arith) in omega arith)
-        (below_cases j i less);
-  }
-
--- after all values the best is the one that stands most often
-pub best_all : (default : ℕ) (xs : List ℕ) (best most : ℕ) → IsBestOf default xs (length xs) best most → IsMostFrequentOr default xs best
-best_all default [] best most is = (is.none refl).0
-best_all default (z ∷ zs) best most is =
-    let some = is.stands (omega arith) in
-    let count = some.0 in
-    let positive = some.1 in
-    record {
-      stands = omega arith;
-      most = λ y. ⊎_elim
-          (λ stands. let there = stands_at (z ∷ zs) y stands in let high = is.highest there.0 y (slice_get_within (z ∷ zs) there.0 y there.1) there.1 in omega arith)
-          (λ none. omega arith)
-          (cases_lt 0 (times (z ∷ zs) y));
-      least = λ y even. let there = stands_at (z ∷ zs) y (omega arith) in is.least there.0 y (slice_get_within (z ∷ zs) there.0 y there.1) there.1 (even ∙ sym count);
     }
 
 -- ---- the definition

@@ -7,6 +7,7 @@ use Rattle.std.proofs.lemmas.List.{map-append, map-id}
 use Rattle.std.proofs.lemmas.Option.{slice_get_within, get_or_from_slice_get}
 use Rattle.graph_model.specs.declared.write.Kind.TheVariants.{Directed, Undirected}
 use Rattle.graph_model.specs.declared.table.Entry.{Entry}
+use Rattle.graph_model.specs.declared.table.Value.{Value}
 use Rattle.graph_model.specs.declared.table.Value.TheVariants.{Number}
 use Rattle.graph_model.specs.Graph.{Graph, IsSymmetric}
 use Rattle.graph_model.specs.Tables.{IsCdlp, IsCdlpValue}
@@ -19,7 +20,7 @@ use Rattle.graph_image.specs.Images.{Places, AreWithin, IsImageOf, arcs_at}
 use Rattle.graph_image.proofs.Lists.{get_map}
 use Rattle.graph_image.proofs.ImageLemmas.{vertex_at}
 use Rattle.kernel_cdlp.specs.Frequency.{IsMostFrequentOr}
-use Rattle.kernel_cdlp.specs.Rounds.{labels_met, IsNextLabel, IsRound, AreBelow, AreLabels, value_of}
+use Rattle.kernel_cdlp.specs.Rounds.{labels_met, IsNextLabel, IsRound, AreBelow, AreLabels, AreValues}
 use Rattle.kernel_cdlp.proofs.FrequencyLemmas.{stands_at, doubled, risen, is_most_frequent_of}
 use Rattle.kernel_cdlp.proofs.RisingLemmas.{ids_met, others_are_targets, others_are_sources}
 
@@ -129,13 +130,10 @@ module _ (image : Places) (g : Graph) (is : IsImageOf image g) (rounds : ℕ) (o
 -- ---- the table
 
 -- the ids of the labels make the table, of the graph with its directions
-pub directed_table : (image : Places) (g : Graph) → IsImageOf image g → (rounds : ℕ) (labels : List ℕ) (table : List Entry)
-    → AreLabels g image.vertices rounds labels → AreEntries image.vertices (map (value_of image.vertices) labels) table → IsCdlp Directed g rounds table
-directed_table image g is rounds labels table are entries = table_right image g is (IsCdlpValue Directed g rounds) (map (value_of image.vertices) labels) table entries
-    (λ p v x at value.
-    let there = get_map (value_of image.vertices) labels p x value in
-    let placed = ap (slice_get image.vertices) (sym (get_or_from_slice_get labels p there.0 0 there.1)) ∙ are p v at in
-    sym there.2 ∙ ap Number (get_or_from_slice_get image.vertices there.0 (label Directed g rounds v) 0 placed))
+pub directed_table : (image : Places) (g : Graph) → IsImageOf image g → (rounds : ℕ) (labels : List ℕ) (values : List Value) (table : List Entry)
+    → AreLabels g image.vertices rounds labels → AreValues image.vertices labels values → AreEntries image.vertices values table → IsCdlp Directed g rounds table
+directed_table image g is rounds labels values table are shown entries = table_right image g is (IsCdlpValue Directed g rounds) values table entries
+    (λ p v x at value. shown.each p x value ∙ ap Number (get_or_from_slice_get image.vertices (slice_index labels p) (label Directed g rounds v) 0 (are p v at)))
 
 -- and where it is symmetric, of the graph without
 pub undirected_table : (g : Graph) (rounds : ℕ) (table : List Entry) → IsSymmetric g → IsCdlp Directed g rounds table → IsCdlp Undirected g rounds table

@@ -58,6 +58,8 @@ abbrev pub AreLabels : Graph → List ℕ → ℕ → List ℕ → Type 0
 AreLabels g vertices rounds labels = (p v : ℕ) → slice_get vertices p ≡ Some v
     → slice_get vertices (slice_index labels p) ≡ Some (label Directed g rounds v)
 
--- a label as the table has it: the id at that place
-abbrev pub value_of : List ℕ → ℕ → Value
-value_of vertices label = Number (slice_index vertices label)
+-- each value is the id of the label
+pub record AreValues (vertices labels : List ℕ) (values : List Value) : Type 0 where
+  pub count : length values ≡ length labels
+  pub each : (p : ℕ) (x : Value) → slice_get values p ≡ Some x
+      → x ≡ Number (slice_index vertices (slice_index labels p))

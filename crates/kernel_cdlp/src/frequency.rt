@@ -1,62 +1,19 @@
 //! The value that stands most often.
 
-ghost use Rattle.std.specs.Prelude.{◌≡◌, ℕ, ◌+◌, ◌<◌, ◌≤◌, ◌++◌, ◌⊎◌, IsTrue, false, length, take, slice_index};
+ghost use Rattle.std.specs.Prelude.{◌≡◌, ℕ, ◌+◌, ◌<◌, ◌≤◌, ◌++◌, length, take, slice_index};
 ghost use Rattle.graph_image.specs.Images.{AreWithin};
-ghost use Rattle.graph_model.specs.Labels.{times};
 ghost use Rattle.kernel_cdlp.specs.Frequency.{IsMostFrequentOr};
 ghost use Rattle.kernel_cdlp.specs.Rounds.{labels_met};
 
 use graph_image::Arc;
 
-/// So few values are counted one by one: that takes less than to sort them.
-const FEW: usize = 24;
-
-/// The least of the values that stand most often, or the default where there is none. It may put the
-/// values in another order.
+/// The least of the values that stand most often, or the default where there is none. It leaves the
+/// values in rising order.
 pub fn most_frequent(values: &mut [u32], default: u32) -> u32
     ensures { IsMostFrequentOr default values.old result }
 {
-    if values.len() <= FEW {
-        return best_counted(values, default);
-    }
     values.sort_unstable();
     longest_run(values, default)
-}
-
-/// The same by counting for each value how often it stands.
-fn best_counted(values: &[u32], default: u32) -> u32
-    ensures { IsMostFrequentOr default values.now result }
-{
-    let mut best = default;
-    let mut most = 0usize;
-    'values: for i in 0..values.len() {
-        let value = values[i];
-        let count = count_of(values, value);
-        if is_better(value, count, best, most) {
-            best = value;
-            most = count;
-        }
-    }
-    best
-}
-
-/// Whether a value that stands so often is to be taken for the best one.
-fn is_better(value: u32, count: usize, best: u32, most: usize) -> bool
-    ensures better { IsTrue result → (most < count) ⊎ ((most ≡ count) × (value < best)) }
-    ensures no_better { result ≡ false → (count ≤ most) × (most ≡ count → best ≤ value) }
-{
-    if most == count {
-        value < best
-    } else {
-        most < count
-    }
-}
-
-/// How often a value stands.
-fn count_of(values: &[u32], value: u32) -> usize
-    ensures { result ≡ times values.now value }
-{
-    values.iter().filter(|other| **other == value).count()
 }
 
 /// The same of values in rising order: the first of the longest runs.

@@ -3,10 +3,8 @@
 //! 1. Inside, a label is the place of a vertex; since ids rise with places, the least label has the
 //!    least place.
 //! 2. A round reads the labels of the round before alone, so its parts may run side by side.
-//! 3. Of few labels that a place meets each is counted, since that takes less than to sort them; more are sorted, and
-//!    the first of the longest runs is the place's label (Raghavan, Albert and Kumara, Physical Review E 76, 2007).
-//! 4. A place whose met labels didn't change in the round before keeps its label.
-//! 5. The parts of the places lie behind each other and hold the same places in each round, with room for
+//! 3. A place whose met labels didn't change in the round before keeps its label.
+//! 4. The parts of the places lie behind each other and hold the same places in each round, with room for
 //!    the labels that one place meets: a round takes no memory.
 #![tactic(auto)]
 
