@@ -20,6 +20,11 @@ use pass_prunes::below::{Pass, PassCells, Store, WrittenRows};
 use pass_prunes::prune_taken;
 use std::sync::Wait;
 
+/// A commit leaves the prune to the sweeps where its horizon is more commits behind. A transaction is open that long:
+/// what it sees stays, and a row that was written often has a record for each commit since, through all of which a prune
+/// would go.
+const MOST_COMMITS_BEHIND: u64 = 64;
+
 /// Takes all writes of a transaction that is being aborted back, the newest first. Takes no memory.
 pub fn undo_all(
     rt: &impl Wait,
@@ -73,7 +78,7 @@ fn undo_one(
 }
 
 /// Gives the records in all rows of the last commit its stamp, given its writes, and prunes the cells of these rows at
-/// the horizon of the pass's sweep. Takes no memory. The journal is free meanwhile: whoever meets a record without a
+/// the horizon of the pass's sweep, where that is near. Takes no memory. The journal is free meanwhile: whoever meets a record without a
 /// stamp is told by the pass's word.
 pub fn stamp_all(
     rt: &impl Wait,
@@ -102,7 +107,7 @@ pub fn stamp_all(
     }
 }
 
-/// Stamps the rows of one write, and prunes their cells.
+/// Stamps the rows of one write, and prunes their cells where the horizon is near.
 fn stamp_one(
     rt: &impl Wait,
     store: &Store,
@@ -128,6 +133,15 @@ fn stamp_one(
     let keys = FewKeys::of_changes(&rows);
     take_cells(rt, store, pass, cells, keys.as_slice());
     cells.stamp(store, pass, by, stamp, keys.as_slice());
-    prune_taken(store, pass, cells, sweep);
+    if is_worth_a_prune(store, sweep, stamp) {
+        prune_taken(store, pass, cells, sweep);
+    }
     put_cells_back(store, pass, cells);
+}
+
+/// Whether a commit prunes: the horizon lies so few commits back that it looks at few records for what can go.
+fn is_worth_a_prune(store: &Store, sweep: &Sweep, stamp: u64) -> bool
+    requires whole { sweep.now.looked ≡ store.now.accounts.config.passes }
+{
+    stamp.saturating_sub(store.pins().horizon(sweep)) <= MOST_COMMITS_BEHIND
 }
