@@ -2,3 +2,4 @@ pub mod WordLemmas
 pub mod RunLemmas
 pub mod RecoveryLemmas
 pub mod LawLemmas
+pub mod FaultLemmas
