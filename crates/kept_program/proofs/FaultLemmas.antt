@@ -263,11 +263,15 @@ module _ (acknowledged : Kind → List Commit → ℕ → Type 0) (old new : Fil
   untaken_tells text word_refusals.NoMemory says stands = disk_still 3 old new disk disk' (said_only 3 _ old new apart_3_4 apart_3_5 says) stands
 
   -- a call's status tells what failed
-  pub end_tells : (outcome : KeptOutcome) (words : List (List ℕ)) → IsEnd acknowledged outcome words old new left left' disk disk' → Tells (kept_status outcome) old new disk disk'
+  end_tells : (outcome : KeptOutcome) (words : List (List ℕ)) → IsEnd acknowledged outcome words old new left left' disk disk' → Tells (kept_status outcome) old new disk disk'
   end_tells outcome words is = ⊎_elim
       (λ untaken. subst (λ o. Tells (kept_status o) old new disk disk') (sym untaken.outcome_is) (untaken_tells _ untaken.refusal untaken.says (same_faults disk disk' untaken.same_disk)))
       (λ taken. asked_tells outcome taken.0 taken.2)
       is
+
+  -- so does the number that is answered for it
+  pub status_tells : (status : ℕ) (outcome : KeptOutcome) (words : List (List ℕ)) → status ≡ kept_status outcome → IsEnd acknowledged outcome words old new left left' disk disk' → Tells status old new disk disk'
+  status_tells status outcome words same is = subst (λ s. Tells s old new disk disk') (sym same) (end_tells outcome words is)
 
   -- ---- bad words
 

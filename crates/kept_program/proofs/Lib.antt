@@ -3,3 +3,4 @@ pub mod RunLemmas
 pub mod RecoveryLemmas
 pub mod LawLemmas
 pub mod FaultLemmas
+pub mod StatusLemmas

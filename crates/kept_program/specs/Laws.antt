@@ -100,6 +100,30 @@ FilesAreRecovered moment may_leave left_since =
     → IsFaultlessEnd moment may_leave left_since (recover request) outcome old new
     → (kept_status outcome ≡ 0) ⊎ ((kept_status outcome ≡ 1) ⊎ (kept_status outcome ≡ 3))
 
+-- The status of a call is the one that its words and sources ask for, or 3. Of a run of accepted sources it is 0, or 6
+-- where a row finds no place; 0 where no leaves are stated and the rows of the load and of all lines together fill fewer
+-- leaves than there may be. Of a run of which a source isn't accepted or is too long it is 1, of a graph that is made 0,
+-- of a journal file that is to be read back 0, or 1 where it is none, and 2 of words that ask for nothing, and of no
+-- others.
+pub record IsExactStatus (words : List (List ℕ)) (status : ℕ) (old : Files) : Type 0 where
+  pub accepted : (request : RunRequest) (sources : List (List ℕ)) (m : Meaning) → IsTaken words (run request)
+      → AreTold request old sources → IsAccepted request (texts_of request sources) m
+      → (status ≡ 0) ⊎ ((status ≡ 6) ⊎ (status ≡ 3))
+  pub roomy : (request : RunRequest) (sources : List (List ℕ)) (m : Meaning) → IsTaken words (run request)
+      → request.leaves ≡ None → AreTold request old sources → IsAccepted request (texts_of request sources) m
+      → most_rows (inputs_of (kind_of request) m) < SPLIT_ROWS * MAX_LEAVES → (status ≡ 0) ⊎ (status ≡ 3)
+  pub faulty : (request : RunRequest) (sources : List (List ℕ)) (place : ℕ) (fault : SourceFault)
+      → IsTaken words (run request) → AreTold request old sources
+      → IsNotAccepted request (texts_of request sources) place fault → (status ≡ 1) ⊎ (status ≡ 3)
+  pub long : (request : RunRequest) (place : ℕ) (before : List (List ℕ)) (name bytes : List ℕ)
+      → IsTaken words (run request) → AllZip (IsTold old) (take place (source_names request)) before
+      → slice_get (source_names request) place ≡ Some name → IsLong old name bytes → (status ≡ 1) ⊎ (status ≡ 3)
+  pub made : (request : MakeRequest) → IsTaken words (make request) → (status ≡ 0) ⊎ (status ≡ 3)
+  pub recovered : (request : RecoverRequest) → IsTaken words (recover request)
+      → (status ≡ 0) ⊎ ((status ≡ 1) ⊎ (status ≡ 3))
+  pub untaken : (((request : Request) × IsTaken words request) → ⊥) → (status ≡ 2) ⊎ (status ≡ 3)
+  pub bad : status ≡ 2 → ((request : Request) × IsTaken words request) → ⊥
+
 -- Behind a stop: where the disk reads as what a crash has left, a front of a run's journal with so many commits at
 -- least, the text that is read back is that front's.
 abbrev pub StopsAreReadBack : Type 0

@@ -6,6 +6,8 @@ ghost use Rattle.command_words.specs.Views.{run_request};
 ghost use Rattle.kept_run.specs.SourceRun.Requests.{IsAsked, source_names};
 ghost use Rattle.kept_run.specs.RunKeeper.Keeping.{acknowledged_on};
 ghost use Rattle.kept_program.specs.declared.outcome.KeptOutcome.{KeptOutcome};
+ghost use Rattle.teseo_program.specs.Laws.{HasNoFault, Stands};
+ghost use Rattle.kept_program.specs.Laws.{IsExactStatus};
 ghost use Rattle.kept_program.specs.Outcomes.{kept_status, blamed_by, KeptRunEnds, RunEnds, IsEnd, TellsFaults, CreatesNothing};
 
 use crate::outcome::KeptOutcome;
@@ -37,6 +39,9 @@ pub fn teseo_kept<R: Threads + Wait + Sync, D: Desk, G: Gate, K: Disk>(
         (D.files desk.old) (D.files desk.new) left.old left.new (K.state disk.old) (K.state disk.new) }
     ensures faults { TellsFaults result (D.files desk.old) (D.files desk.new) (K.state disk.old) (K.state disk.new) }
     ensures nothing_created { 1 ≤ result → result ≤ 4 → CreatesNothing (D.files desk.old) (D.files desk.new) }
+    ensures exact { HasNoFault (D.files desk.old) (D.files desk.new)
+        → Stands (K.state disk.old).faults (K.state disk.new).faults
+        → IsExactStatus (map string_bytes words.now) result (D.files desk.old) }
 {
     outcome_of(rt, alloc, words, desk, gate, left, disk).status()
 }
