@@ -72,8 +72,8 @@ CASES = [
 
 
 class Failure(typing.NamedTuple):
-    """What fails: a kind of call, how, whether all later ones fail too, and which statuses may come of it beside that of
-    a run of which nothing fails."""
+    """What fails: a kind of call, how, whether all later ones fail too, and which statuses may come of it beside that
+    of a run of which nothing fails."""
 
     kind: str
     by: str
