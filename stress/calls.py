@@ -27,6 +27,11 @@ SOURCES = {
     "search": "begin\nbfs 1 hops\ncommit\n",
     "north": "begin\nset 1 2 9\ncommit\nbegin\nvertex 5\nedge 5 4 7\ncommit\n",
     "south": "begin\nset 1 2 8\ncommit\n",
+    "none.v": "",
+    "none.e": "",
+    "fill": "".join(["begin\n", *(f"vertex {vertex}\n" for vertex in range(1, 221)), "commit\n"]),
+    # no turn of the service, which may make room or not where memory is refused
+    "turns": "1\n" * 222,
 }
 KERNELS = {
     "one": "begin\nbfs 1 one.bfs\nwcc one.wcc\ncommit\n",
@@ -36,17 +41,20 @@ KERNELS = {
 }
 GRAPH = ["run", "--vertices", "v", "--edges", "e", "--journal", "j"]
 LARGE = ["run", "--vertices", "lv", "--edges", "le", "--journal", "j"]
+SMALL = ["run", "--vertices", "none.v", "--edges", "none.e", "--journal", "j", "--leaves", "1", "--schedule", "turns"]
 TABLES = ["one.bfs", "one.wcc", "two.cdlp", "two.fastbfs", "three.sssp", "four.fastsssp"]
 REPORTS = [f"{name}.report" for name in KERNELS]
 
 
 class Case(typing.NamedTuple):
-    """A call: its words, its outputs in the order in which they are written, and its journal file, if it has one."""
+    """A call: its words, its outputs in the order in which they are written, its journal file, if it has one, and its
+    status where nothing fails."""
 
     name: str
     words: list
     outputs: list
     keep: str = ""
+    status: int = 0
 
 
 MAKE = ["make", "--seed", "1", "--vertices", "9", "--edges", "9", "--out", "mv", "--edges-out", "me"]
@@ -55,6 +63,7 @@ CASES = [
     Case("one search on threads", [*GRAPH, "--threads", "2", "search"], ["j", "search.report", "hops"]),
     Case("two scripts", [*GRAPH, "north", "south"], ["j", "north.report", "south.report"]),
     Case("two scripts, kept", [*GRAPH, "--keep", "k", "north", "south"], ["j", "north.report", "south.report"], "k"),
+    Case("a store that is full", [*SMALL, "fill"], ["j", "fill.report"], status=6),
     Case("kernels", [*LARGE, *KERNELS], ["j", *REPORTS, *TABLES]),
     Case("kernels on threads", [*LARGE, "--threads", "4", *KERNELS], ["j", *REPORTS, *TABLES]),
     Case("make", MAKE, ["mv", "me"]),
@@ -63,7 +72,8 @@ CASES = [
 
 
 class Failure(typing.NamedTuple):
-    """What fails: a kind of call, how, whether all later ones fail too, and which statuses may come of it beside 0."""
+    """What fails: a kind of call, how, whether all later ones fail too, and which statuses may come of it beside that
+    of a run of which nothing fails."""
 
     kind: str
     by: str
@@ -99,7 +109,7 @@ class Whole(typing.NamedTuple):
 def whole_of(case):
     """A run of which no call fails."""
     status, said = run_program(case.words)
-    if status != 0:
+    if status != case.status:
         raise SystemExit(f"calls.py: {case.name} ends with status {status}")
     return Whole(said, {name: bytes_of(name) for name in case.outputs})
 
@@ -127,9 +137,9 @@ def fault_of_kept(case, whole):
 def fault_of_end(case, whole, failure, ended):
     """What is wrong with how a call ended of which something failed, or None."""
     status, said = ended
-    if status == 0:
+    if status == case.status:
         right = said == whole.said and all(bytes_of(name) == text for name, text in whole.texts.items())
-        return None if right else f"status 0, said {said!r}, and another end than the whole one"
+        return None if right else f"status {status}, said {said!r}, and another end than the whole one"
     if status not in failure.statuses:
         return f"status {status}, said {said!r}"
     if status == 3:

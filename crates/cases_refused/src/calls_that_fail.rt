@@ -6,10 +6,17 @@
 use cases_setting::{E, End, File, JOURNAL, PATH, REPORT, Run, SEARCH, V, WHOLE, run_difference};
 use std::test::Fail;
 
-/// The search on the path, by turns and on threads.
-const SEARCHES: &[Run] = &[PATH, (&[V, E, SEARCH], "--threads 2 s1")];
+/// A run, and how it ends where a call fails.
+type Failing = (Run<'static>, &'static [(u64, End<'static>)]);
 
-/// Each call of them in turn, and one beyond the last. The second write is call 10, the third read call 3.
+/// A search on a path, by turns and on threads, and two scripts that meet.
+const RUNS: &[Failing] = &[
+    (PATH, CALLS),
+    ((&[V, E, SEARCH], "--threads 2 s1"), CALLS),
+    (MEETING, CALLS_OF_TWO),
+];
+
+/// Each call of the search in turn, and one beyond the last. The second write is call 10, the third read call 3.
 const CALLS: &[(u64, End)] = &[
     (1, (4, "read failed v\n", 3, &[])),
     (2, (4, "read failed v\n", 3, &[])),
@@ -116,8 +123,8 @@ const CALLS_OF_TWO: &[(u64, End)] = &[
 #[test]
 fn each_call_of_the_desk_fails_once(rt: HostRuntime) -> Result<(), Fail> {
     let alloc = rt.alloc();
-    for &run in SEARCHES {
-        for &(call, end) in CALLS {
+    for &(run, calls) in RUNS {
+        for &(call, end) in calls {
             let difference = run_difference(&rt, alloc, run, &[call], end)?;
             assert!(rt;
                 difference.is_empty(),
@@ -125,16 +132,6 @@ fn each_call_of_the_desk_fails_once(rt: HostRuntime) -> Result<(), Fail> {
                 run.1
             );
         }
-    }
-    Ok(())
-}
-
-#[test]
-fn each_call_of_a_run_of_two_scripts_fails_once(rt: HostRuntime) -> Result<(), Fail> {
-    let alloc = rt.alloc();
-    for &(call, end) in CALLS_OF_TWO {
-        let difference = run_difference(&rt, alloc, MEETING, &[call], end)?;
-        assert!(rt; difference.is_empty(), "at call {call}: {difference}");
     }
     Ok(())
 }

@@ -23,6 +23,41 @@ const REFUSED: &[(Run, &str)] = &[
         (&[V, E, SEARCH, ("t", "1\n2\n")], "--schedule t s1"),
         "t line 2: no such job\n",
     ),
+    // a word that is none, a line without its file, a transaction without an end
+    (
+        (&[V, E, ("s1", "begin\nbfs 1 o\ncomm\n")], "s1"),
+        "s1 line 3: not a command\n",
+    ),
+    (
+        (&[V, E, ("s1", "begin\nbfs 1\n")], "s1"),
+        "s1 line 2: missing field\n",
+    ),
+    (
+        (&[V, E, ("s1", "begin\nbfs 1 o\n")], "s1"),
+        "s1 line 1: not ended\n",
+    ),
+    // signs, and the first id that is too large
+    (
+        (&[("v", "+1"), ("e", ""), SEARCH], "s1"),
+        "v line 1: not a number\n",
+    ),
+    (
+        (&[("v", "-1"), ("e", ""), SEARCH], "s1"),
+        "v line 1: not a number\n",
+    ),
+    (
+        (&[("v", "9223372036854775807"), ("e", ""), SEARCH], "s1"),
+        "v line 1: id too large\n",
+    ),
+    // a weight without a digit, and the first that is too large
+    (
+        (&[V, ("e", "1 2 ."), SEARCH], "--weights 1 s1"),
+        "e line 1: not a number\n",
+    ),
+    (
+        (&[V, ("e", "1 2 4.294967296"), SEARCH], "--weights 9 s1"),
+        "e line 1: weight too large\n",
+    ),
     // buckets without a width
     (
         (&[V, E, ("s1", "begin\nfastsssp 1 0 o\ncommit\n")], "s1"),

@@ -13,6 +13,8 @@ mod inputs_that_are_refused;
 #[cfg(test)]
 mod made_graphs;
 #[cfg(test)]
+mod numbers_of_all_lengths;
+#[cfg(test)]
 mod outputs_that_are_there;
 #[cfg(test)]
 mod scripts_and_schedules;

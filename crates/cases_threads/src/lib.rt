@@ -3,6 +3,10 @@
 //! The expected texts were worked out by hand, and never taken from a run.
 #![tactic(auto)]
 
+#[cfg(test)]
+mod four_scripts;
+#[cfg(test)]
+mod full_script;
 mod second_first;
 #[cfg(test)]
 mod side_by_side;

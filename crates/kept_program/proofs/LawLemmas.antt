@@ -21,11 +21,13 @@ use Rattle.teseo_program.specs.Outcomes.{status_of, outcome_of_words, IsRunOutco
 use Rattle.teseo_program.specs.Laws.{AreTold, Stands, HasNoFault}
 use Rattle.teseo_program.proofs.LawLemmas.{end_well, graphs_made, stands_still}
 use Rattle.teseo_program.proofs.EndLemmas.{room_ends_well}
+use Rattle.teseo_program.proofs.NamedLemmas.{faulty_named, long_named}
+use Rattle.desk_io.specs.declared.sources.ReadStop.TheVariants as stops
 use Rattle.kept_run.specs.RunKeeper.Keeping.{acknowledged_on}
 use Rattle.kept_program.specs.declared.outcome.KeptOutcome.{KeptOutcome}
 use Rattle.kept_program.specs.declared.outcome.KeptOutcome.TheVariants.{Of, NotMade, NotKept, NotAJournal, NotRecovered}
 use Rattle.kept_program.specs.Outcomes.{kept_status, RunEnds, RecoverEnds, IsRecovery, Ends, IsEnd, IsUntaken}
-use Rattle.kept_program.specs.Laws.{IsFaultlessEnd, AcceptedCallsEndWell, CallsWithRoomEndWell, CallsMakeGraphs, FilesAreRecovered}
+use Rattle.kept_program.specs.Laws.{IsFaultlessEnd, AcceptedCallsEndWell, CallsWithRoomEndWell, CallsMakeGraphs, FaultySourcesAreTold, LongSourcesAreTold, FilesAreRecovered}
 
 -- ---- words that are taken
 
@@ -77,6 +79,26 @@ module _ {D : Type 0} (moment : D → ℕ) (may_leave : D → List ℕ → Type 
       (let (plain, same, ends) = plain_end (acknowledged_on moment may_leave left_since is.now) request old new is.left is.left' is.disk is.disk' is.stands request.keep outcome asked in
       subst (λ o. (kept_status o ≡ 0) ⊎ (kept_status o ≡ 3)) (sym same)
       (room_ends_well plain request sources m old new unstated told accepted few is.no_fault is.left is.left' ends)))
+      (asked_ends moment may_leave left_since (run request) outcome old new is)
+
+  -- ---- sources that are refused
+
+  pub faulty_told : FaultySourcesAreTold moment may_leave left_since
+  faulty_told outcome request sources place fault old new told refused is = ⊎_elim
+      (λ three. inr three)
+      (λ asked.
+      (let (plain, same, ended) = plain_end (acknowledged_on moment may_leave left_since is.now) request old new is.left is.left' is.disk is.disk' is.stands request.keep outcome asked in
+      subst (λ o. (o ≡ Of (ends.NotAccepted place fault)) ⊎ (kept_status o ≡ 3)) (sym same)
+      (⊎_elim (λ named. inl (ap Of named)) (λ three. inr three) (faulty_named plain request sources place fault old new told refused is.no_fault.reads is.left is.left' ended))))
+      (asked_ends moment may_leave left_since (run request) outcome old new is)
+
+  pub long_told : LongSourcesAreTold moment may_leave left_since
+  long_told outcome request place before name bytes old new told there is_long is = ⊎_elim
+      (λ three. inr three)
+      (λ asked.
+      (let (plain, same, ended) = plain_end (acknowledged_on moment may_leave left_since is.now) request old new is.left is.left' is.disk is.disk' is.stands request.keep outcome asked in
+      subst (λ o. (o ≡ Of (ends.NotRead (stops.TooLong place))) ⊎ (kept_status o ≡ 3)) (sym same)
+      (⊎_elim (λ named. inl (ap Of named)) (λ three. inr three) (long_named plain request place before name bytes old new told there is_long is.no_fault.reads is.left is.left' ended))))
       (asked_ends moment may_leave left_since (run request) outcome old new is)
 
   -- ---- graphs

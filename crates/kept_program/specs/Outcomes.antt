@@ -1,9 +1,9 @@
 -- How a call may end that keeps the commits of a run, or reads them back: for each outcome its cause, what it leaves,
 -- and what is said.
-use Rattle.std.specs.Prelude.{◌≡◌, ◌⊎◌, ℕ, false, List, [], ◌∷◌, length, codes, Option, None, Some}
+use Rattle.std.specs.Prelude.{◌≡◌, ◌≢◌, ◌⊎◌, ℕ, false, List, [], ◌∷◌, length, codes, Option, None, Some}
 use Rattle.graph_model.specs.declared.write.Kind.{Kind}
 use Rattle.graph_model.specs.declared.journal.Commit.{Commit}
-use Rattle.desk_io.specs.Files.{Files}
+use Rattle.desk_io.specs.Files.{Files, Rose}
 use Rattle.journal_disk.specs.Disk.{DiskState, FaultsStand, FaultsRise}
 use Rattle.journal_file.specs.declared.refusal.RecoverRefusal.{RecoverRefusal}
 use Rattle.journal_file.specs.declared.refusal.RecoverRefusal.TheVariants as recoveries
@@ -203,3 +203,19 @@ abbrev pub IsEnd : (Kind → List Commit → ℕ → Type 0) → KeptOutcome →
 IsEnd acknowledged outcome words old new left left' disk disk' =
     IsUntaken outcome words old new left left' disk disk'
     ⊎ TakenEnds acknowledged outcome words old new left left' disk disk'
+
+-- ---- what a status tells
+
+-- A status tells what failed in the call: with 4 a read did, of the desk or of the disk; with 5 a create or a write did,
+-- or a call of the disk; and with each other status nothing did.
+pub record TellsFaults (status : ℕ) (old new : Files) (disk disk' : DiskState) : Type 0 where
+  pub read_failed : status ≡ 4 → Rose old.read_faults new.read_faults ⊎ FaultsRise disk disk'
+  pub write_failed : status ≡ 5 → Rose old.write_faults new.write_faults ⊎ FaultsRise disk disk'
+  pub reads_stand : status ≢ 4 → new.read_faults ≡ old.read_faults
+  pub writes_stand : status ≢ 5 → new.write_faults ≡ old.write_faults
+  pub disk_stands : status ≢ 4 → status ≢ 5 → FaultsStand disk disk'
+
+-- what is known of all files is as it was
+pub record CreatesNothing (old new : Files) : Type 0 where
+  pub holds : new.holds ≡ old.holds
+  pub written : new.written ≡ old.written

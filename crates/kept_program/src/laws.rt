@@ -1,6 +1,6 @@
 //! Laws of how calls end, each the contract of a function.
 
-ghost use Rattle.kept_program.specs.Laws.{AcceptedCallsEndWell, CallsWithRoomEndWell, CallsMakeGraphs, FilesAreRecovered, StopsAreReadBack};
+ghost use Rattle.kept_program.specs.Laws.{AcceptedCallsEndWell, CallsWithRoomEndWell, CallsMakeGraphs, FaultySourcesAreTold, LongSourcesAreTold, BadWordsAreTold, FilesAreRecovered, StopsAreReadBack};
 
 use journal_disk::Disk;
 
@@ -12,6 +12,15 @@ pub fn accepted_calls_end_well<K: Disk>()
     ensures ends { AcceptedCallsEndWell K.moment K.may_leave K.left_since }
     ensures room { CallsWithRoomEndWell K.moment K.may_leave K.left_since }
     ensures graphs { CallsMakeGraphs K.moment K.may_leave K.left_since }
+{}
+
+/// A run whose words are taken, and whose calls of the desk and of the disk all succeed, names the first source that isn't
+/// accepted, with its first fault, or the first that is too long. Words that aren't taken are bad words, and no others
+/// are. Each may end with status 3, for want of memory.
+pub fn refused_calls_are_told<K: Disk>()
+    ensures faulty { FaultySourcesAreTold K.moment K.may_leave K.left_since }
+    ensures long { LongSourcesAreTold K.moment K.may_leave K.left_since }
+    ensures words { BadWordsAreTold K.moment K.may_leave K.left_since }
 {}
 
 /// Reading a journal file back ends with status 0, with 1 where it is none, or with 3 for want of memory, if all calls

@@ -13,6 +13,8 @@ mod program;
 mod recovery;
 mod say;
 
-pub use laws::{accepted_calls_end_well, files_are_recovered, stops_are_read_back};
+pub use laws::{
+    accepted_calls_end_well, files_are_recovered, refused_calls_are_told, stops_are_read_back,
+};
 pub use outcome::KeptOutcome;
 pub use program::teseo_kept;

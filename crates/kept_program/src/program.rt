@@ -1,12 +1,14 @@
 //! The top call.
 
-ghost use Rattle.std.specs.Prelude.{◌≡◌, Some, map};
+ghost use Rattle.std.specs.Prelude.{◌≡◌, ◌≤◌, Some, map};
 ghost use Rattle.std.specs.String.{string_bytes};
 ghost use Rattle.command_words.specs.Views.{run_request};
 ghost use Rattle.kept_run.specs.SourceRun.Requests.{IsAsked, source_names};
 ghost use Rattle.kept_run.specs.RunKeeper.Keeping.{acknowledged_on};
 ghost use Rattle.kept_program.specs.declared.outcome.KeptOutcome.{KeptOutcome};
-ghost use Rattle.kept_program.specs.Outcomes.{kept_status, blamed_by, KeptRunEnds, RunEnds, IsEnd};
+ghost use Rattle.teseo_program.specs.Laws.{HasNoFault, Stands};
+ghost use Rattle.kept_program.specs.Laws.{IsExactStatus};
+ghost use Rattle.kept_program.specs.Outcomes.{kept_status, blamed_by, KeptRunEnds, RunEnds, IsEnd, TellsFaults, CreatesNothing};
 
 use crate::outcome::KeptOutcome;
 use crate::prepare::prepare_kept;
@@ -32,9 +34,14 @@ pub fn teseo_kept<R: Threads + Wait + Sync, D: Desk, G: Gate, K: Disk>(
     left: &mut Left,
     disk: &mut K,
 ) -> u8
-    ensures { (outcome : KeptOutcome) × (result ≡ kept_status outcome)
+    ensures ends { (outcome : KeptOutcome) × (result ≡ kept_status outcome)
         × IsEnd (acknowledged_on K.moment K.may_leave K.left_since disk.new) outcome (map string_bytes words.now)
         (D.files desk.old) (D.files desk.new) left.old left.new (K.state disk.old) (K.state disk.new) }
+    ensures faults { TellsFaults result (D.files desk.old) (D.files desk.new) (K.state disk.old) (K.state disk.new) }
+    ensures nothing_created { 1 ≤ result → result ≤ 4 → CreatesNothing (D.files desk.old) (D.files desk.new) }
+    ensures exact { HasNoFault (D.files desk.old) (D.files desk.new)
+        → Stands (K.state disk.old).faults (K.state disk.new).faults
+        → IsExactStatus (map string_bytes words.now) result (D.files desk.old) }
 {
     outcome_of(rt, alloc, words, desk, gate, left, disk).status()
 }

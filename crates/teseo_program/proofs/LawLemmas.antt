@@ -35,7 +35,7 @@ stands_still before now stands (inr last) = let at : before ≡ 2 ^ 64 - 1 = las
 read_is_told : (files : Files) (name bytes told : List ℕ) → IsTold files name told → IsRead MAX_SOURCE_BYTES files name bytes → bytes ≡ told
 read_is_told files name bytes told is read = subst (λ t. IfSome t (λ source. bytes ≡ source)) is.told read.source.whole
 
-not_too_long : (files : Files) (name told : List ℕ) → IsTold files name told → IsTooLong files name MAX_SOURCE_BYTES → ⊥
+pub not_too_long : (files : Files) (name told : List ℕ) → IsTold files name told → IsTooLong files name MAX_SOURCE_BYTES → ⊥
 not_too_long files name told is long =
     let longer : MAX_SOURCE_BYTES < length told = subst (λ t. IfSome t (λ source. MAX_SOURCE_BYTES < length source)) is.told long.longer in
     let short : length told ≤ MAX_SOURCE_BYTES = is.short in
@@ -43,7 +43,7 @@ not_too_long files name told is long =
 
 -- ---- what is read is what is told
 
-told_at : (files : Files) (names texts : List (List ℕ)) → AllZip (IsTold files) names texts → (place : ℕ) (name : List ℕ) → slice_get names place ≡ Some name
+pub told_at : (files : Files) (names texts : List (List ℕ)) → AllZip (IsTold files) names texts → (place : ℕ) (name : List ℕ) → slice_get names place ≡ Some name
     → (text : List ℕ) × IsTold files name text
 told_at files [] texts told place name at = cc
 told_at files (n ∷ names) [] told place name at = absurd told
@@ -83,7 +83,7 @@ no_fault_behind jobs taken (text ∷ texts) schedule (s ∷ scripts) entries are
     (subst (λ script. IsFaultBehind jobs (taken ++ files_of script) texts schedule place fault) (sym same) has)
 
 -- a file that stands for something has no fault
-no_graph_fault : {X : Type 0} (meaning : Result X Fault) (x : X) → meaning ≡ Ok x → (fault : SourceFault) → HasGraphFault meaning fault → ⊥
+pub no_graph_fault : {X : Type 0} (meaning : Result X Fault) (x : X) → meaning ≡ Ok x → (fault : SourceFault) → HasGraphFault meaning fault → ⊥
 no_graph_fault {X} meaning x is (faults.Graph fault) has = let no : ◌≡◌ {A = Result X Fault} (Ok x) (Err fault) = sym is ∙ has in cc
 no_graph_fault meaning x is (faults.Script line what) has = has
 no_graph_fault meaning x is (faults.Schedule line what) has = has
@@ -92,7 +92,7 @@ module _ (request : RunRequest) (texts : Texts) (m : Meaning) (accepted : IsAcce
   same_ids : (ids : List ℕ) → vertices_of MAX_LOAD_ROWS texts.vertices ≡ Ok ids → m.ids ≡ ids
   same_ids ids is = let one : ◌≡◌ {A = Result (List ℕ) Fault} (Ok m.ids) (Ok ids) = sym accepted.vertices ∙ is in cc
 
-  none_refused : (place : ℕ) (fault : SourceFault) → IsNotAccepted request texts place fault → ⊥
+  pub none_refused : (place : ℕ) (fault : SourceFault) → IsNotAccepted request texts place fault → ⊥
   none_refused zero fault has = no_graph_fault (vertices_of MAX_LOAD_ROWS texts.vertices) m.ids accepted.vertices fault has
   none_refused (suc zero) fault (ids, is, has) =
       no_graph_fault (edges_of (rules_of request m.ids) texts.edges) m.edges accepted.edges fault

@@ -8,4 +8,5 @@ pub mod PreparedLemmas
 pub mod LawLemmas
 pub mod OutcomeLemmas
 pub mod RoomLawLemmas
+pub mod NamedLemmas
 pub mod EndLemmas

@@ -1,5 +1,5 @@
 -- Laws of how runs end. Each is the contract of a function in `laws`.
-use Rattle.std.specs.Prelude.{◌≡◌, ℕ, ◌^◌, ◌-◌, ◌*◌, ◌<◌, ◌≤◌, ◌⊎◌, List, length, slice_get, Some, None}
+use Rattle.std.specs.Prelude.{◌≡◌, ℕ, ◌^◌, ◌-◌, ◌*◌, ◌<◌, ◌≤◌, ◌⊎◌, List, length, take, slice_get, Some, None}
 use Rattle.std.specs.List.{AllZip}
 use Rattle.graph_model.specs.declared.limits.TheConstants.{MAX_LEAVES, MAX_SOURCE_BYTES, SPLIT_ROWS}
 use Rattle.graph_model.specs.Inserted.{inserted}
@@ -9,11 +9,13 @@ use Rattle.run_model.specs.Inputs.{Inputs, Outputs}
 use Rattle.run_model.specs.Run.{IsRun, run_lines}
 use Rattle.desk_io.specs.Files.{Files}
 use Rattle.teseo_program.specs.declared.outcome.Outcome.{Outcome}
-use Rattle.teseo_program.specs.declared.outcome.Outcome.TheVariants.{Done}
+use Rattle.teseo_program.specs.declared.outcome.Outcome.TheVariants.{Done, NotRead, NotAccepted}
+use Rattle.desk_io.specs.declared.sources.ReadStop.TheVariants.{TooLong}
+use Rattle.source_run.specs.declared.fault.SourceFault.{SourceFault}
 use Rattle.command_words.specs.Words.{RunRequest, MakeRequest}
 use Rattle.teseo_program.specs.declared.left.Left.{Left}
 use Rattle.source_run.specs.Requests.{source_names, kind_of}
-use Rattle.source_run.specs.Input.{Meaning, texts_of, IsAccepted, inputs_of}
+use Rattle.source_run.specs.Input.{Meaning, texts_of, IsAccepted, IsNotAccepted, inputs_of}
 use Rattle.source_run.specs.declared.leaves.TheConstants.{MOST_ROWS}
 use Rattle.source_run.specs.Leaves.{leaves_for, most_rows}
 use Rattle.teseo_program.specs.Outcomes.{status_of, IsRunOutcome, IsMakeOutcome}
@@ -61,6 +63,33 @@ abbrev pub GraphsAreMade : Type 0
 GraphsAreMade =
     (outcome : Outcome) (request : MakeRequest) (old new : Files) → HasNoFault old new
     → IsMakeOutcome outcome request old new → (outcome ≡ Done) ⊎ (status_of outcome ≡ 3)
+
+-- ---- sources that are refused
+
+-- a run of which a source isn't accepted names the first such source and its first fault, if no read fails, or wants
+-- memory
+abbrev pub FaultySourcesAreNamed : Type 0
+FaultySourcesAreNamed =
+    (outcome : Outcome) (request : RunRequest) (sources : List (List ℕ)) (place : ℕ) (fault : SourceFault)
+    (old new : Files) → AreTold request old sources → IsNotAccepted request (texts_of request sources) place fault
+    → Stands old.read_faults new.read_faults
+    → (left left' : Left) → IsRunOutcome outcome request old new left left'
+    → (outcome ≡ NotAccepted place fault) ⊎ (status_of outcome ≡ 3)
+
+-- a source that the desk holds, with more bytes than a source may have
+pub record IsLong (files : Files) (name bytes : List ℕ) : Type 0 where
+  pub told : files.holds name ≡ Some bytes
+  pub long : MAX_SOURCE_BYTES < length bytes
+
+-- a run of which a source is too long, and those before it aren't, names that source, if no read fails, or wants memory
+abbrev pub LongSourcesAreNamed : Type 0
+LongSourcesAreNamed =
+    (outcome : Outcome) (request : RunRequest) (place : ℕ) (before : List (List ℕ)) (name bytes : List ℕ)
+    (old new : Files) → AllZip (IsTold old) (take place (source_names request)) before
+    → slice_get (source_names request) place ≡ Some name → IsLong old name bytes
+    → Stands old.read_faults new.read_faults
+    → (left left' : Left) → IsRunOutcome outcome request old new left left'
+    → (outcome ≡ NotRead (TooLong place)) ⊎ (status_of outcome ≡ 3)
 
 -- ---- limits
 

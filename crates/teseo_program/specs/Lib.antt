@@ -8,3 +8,4 @@ pub use Rattle.source_run.specs.Input
 pub use Rattle.source_run.specs.Parsing
 pub use Rattle.source_run.specs.Leaves
 pub use Rattle.source_run.specs.Running
+pub mod SourceRunDeclared

@@ -1,6 +1,6 @@
 //! Laws of how calls end, each the contract of a function.
 
-ghost use Rattle.teseo_program.specs.Laws.{AcceptedRunsEndWell, RunsWithRoomEndWell, GraphsAreMade, LoadsFindRoom, RunsFindRoom, LimitsAre};
+ghost use Rattle.teseo_program.specs.Laws.{AcceptedRunsEndWell, RunsWithRoomEndWell, GraphsAreMade, FaultySourcesAreNamed, LongSourcesAreNamed, LoadsFindRoom, RunsFindRoom, LimitsAre};
 
 /// A run whose words and sources are accepted, and whose calls of the desk all succeed, ends with status 0, with 6
 /// where a write found no place, or with 3 for want of memory. With 0 or 3 alone where no leaves are stated, and the
@@ -9,6 +9,13 @@ ghost use Rattle.teseo_program.specs.Laws.{AcceptedRunsEndWell, RunsWithRoomEndW
 pub fn accepted_runs_end_well()
     ensures ends { AcceptedRunsEndWell }
     ensures room { RunsWithRoomEndWell }
+{}
+
+/// A run names the first source that isn't accepted, with its first fault, or the first that is too long where those
+/// before it are read whole, if no read fails; or it ends with 3 for want of memory.
+pub fn refused_sources_are_named()
+    ensures faulty { FaultySourcesAreNamed }
+    ensures long { LongSourcesAreNamed }
 {}
 
 /// A graph that is asked for is made and written with status 0, or ends with 3 for want of memory, if all calls of the

@@ -15,7 +15,7 @@ mod program;
 mod say;
 
 pub use laws::{
-    accepted_runs_end_well, graphs_are_made, limits_are_as_written,
+    accepted_runs_end_well, graphs_are_made, limits_are_as_written, refused_sources_are_named,
     stores_without_stated_leaves_have_room,
 };
 pub use left::Left;

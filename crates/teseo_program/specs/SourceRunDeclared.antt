@@ -1,0 +1,2 @@
+-- Modules of source_run that crates above name.
+pub use Rattle.source_run.specs.declared.fault
