@@ -19,33 +19,13 @@ ghost use Rattle.shared_store.specs.Passes.{IsOpen, KeepsOpen, view_in};
 ghost use Rattle.rebalance_service.specs.Scanned.{ReadsNone};
 
 use crate::reads::{TRIES, likely_cell};
+use crate::scan_place::ScanPlace;
 use edge_scan::step;
 use graph_model::{Cursor, Key, Rows64};
 use optimistic_read::{Route, TriedRun, try_run};
 use shared_store::{Pass, Store};
 use std::hint::spin_loop;
 use std::sync::Wait;
-
-/// Where a worker's last scan has come to. Kept: the cell in which its last step ended, which is likely to have the next
-/// key. It may be wrong, since rows move, and the next scan may begin elsewhere. That is harmless: a cell's fence keys
-/// tell whether it is the key's, and a hint is asked where it isn't. It costs 4 bytes, and a look at another cell's fence
-/// keys where a scan begins elsewhere. It spares each step of a scan the search among the hints.
-#[derive(Clone, Copy, Debug, PartialEq, Eq)]
-pub struct ScanPlace {
-    cell: u32,
-}
-
-impl ScanPlace {
-    /// No cell has this number.
-    pub(crate) fn nowhere() -> ScanPlace {
-        ScanPlace { cell: u32::MAX }
-    }
-
-    /// The cell with the next number.
-    fn go_on(&mut self) {
-        self.cell = self.cell.saturating_add(1);
-    }
-}
 
 /// Takes one turn of a scan: the next rows that the open transaction sees, 64 at most, take the place of those in the
 /// buffer. May wait, and takes no memory.
@@ -139,6 +119,7 @@ fn read_on(
         }
         TriedRun::Chained { key, end } => {
             cursor.next = key;
+            place.has_met_records = true;
             read_held(rt, store, pass, cursor, end, rows)
         }
         _ => false,

@@ -5,7 +5,7 @@ ghost use Rattle.optimistic_read.specs.StoreRuleDeclared.store.Store.{Store};
 ghost use Rattle.shared_store.specs.Passes.{IsIdle};
 ghost use Rattle.rebalance_service.specs.Ready.{IsReady};
 
-use crate::scans::ScanPlace;
+use crate::scan_place::ScanPlace;
 use crate::serve::ServiceKeys;
 use crate::settled::SettledLeaves;
 use pass_room::PassRoom;
