@@ -10,5 +10,5 @@ mod txns;
 
 pub use busy::ReadHeldCell;
 pub use routes::{OldRoute, run_with_route};
-pub use rows::{ReadOwnWrite, ReadSettled};
-pub use txns::{route_of, tried_in};
+pub use rows::{ReadOwnWrite, ReadRuns, ReadSettled};
+pub use txns::{FoundRun, route_of, run_in, tried_in};

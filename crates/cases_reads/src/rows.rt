@@ -3,7 +3,7 @@
 ghost use Rattle.std.specs.Prelude.{◌≡◌};
 ghost use Rattle.cases_shared.specs.SharedStore.Passes.{IsIdle};
 
-use crate::txns::{route_of, tried_in};
+use crate::txns::{FoundRun, route_of, run_in, tried_in};
 use cases_shared::below::{Pass, Store, SweepKey, abort, begin, commit, sweep_step};
 use cases_shared::{Case, makes};
 use cases_workers::below::{Route, Tried};
@@ -55,6 +55,44 @@ impl<R: Wait> Case<R> for ReadSettled {
         if next.cell < store.index_place() {
             self.elsewhere = Some(tried_in(store, one, &next, 7));
         }
+        abort(rt, store, one);
+    }
+}
+
+/// The same, and the first pass reads the rows from vertex 7 on: before vertex 10, all in the cell, and all in the next
+/// cell; and once it has added vertex 31 itself, before vertex 10 and all again.
+#[derive(Clone, Copy, Debug, PartialEq, Eq)]
+pub struct ReadRuns {
+    pub few: Option<FoundRun>,
+    pub all: Option<FoundRun>,
+    pub elsewhere: Option<FoundRun>,
+    pub few_again: Option<FoundRun>,
+    pub all_again: Option<FoundRun>,
+}
+
+/// The vertex that stands at the end of all keys.
+const LAST: u64 = 9223372036854775807;
+
+impl<R: Wait> Case<R> for ReadRuns {
+    fn run(&mut self, rt: &R, store: &Store, one: &mut Pass, two: &mut Pass) {
+        add_all(rt, store, two);
+        sweep_all(rt, store, two);
+        match begin(rt, store, one) {
+            Ok(_) => {}
+            Err(_) => return,
+        }
+        let route = route_of(rt, store, one, 7);
+        self.few = Some(run_in(store, one, &route, 7, 10));
+        self.all = Some(run_in(store, one, &route, 7, LAST));
+        let next = Route {
+            cell: route.cell + 1,
+        };
+        if next.cell < store.index_place() {
+            self.elsewhere = Some(run_in(store, one, &next, 7, LAST));
+        }
+        makes(rt, store, one, Write::AddVertex { v: 31 });
+        self.few_again = Some(run_in(store, one, &route, 7, 10));
+        self.all_again = Some(run_in(store, one, &route, 7, LAST));
         abort(rt, store, one);
     }
 }

@@ -2,9 +2,10 @@
 
 use crate::busy::ReadHeldCell;
 use crate::routes::{OldRoute, run_with_route};
-use crate::rows::{ReadOwnWrite, ReadSettled};
+use crate::rows::{ReadOwnWrite, ReadRuns, ReadSettled};
+use crate::txns::FoundRun;
 use cases_shared::run_case;
-use cases_workers::below::Tried;
+use cases_workers::below::{Tried, TriedRun};
 use cases_workers::{AddVertices, CutBack, ServeOften};
 use graph_model::{Key, Kind};
 use std::test::Fail;
@@ -18,11 +19,17 @@ const CONFIG: Config = Config {
     txns_per_pass: 2,
 };
 
+fn found(tried: TriedRun, loaded: usize) -> Option<FoundRun> {
+    Some(FoundRun { tried, loaded })
+}
+
 #[test]
 fn a_cell_that_another_pass_holds_is_busy(rt: HostRuntime) -> Result<(), Fail> {
     let mut read = ReadHeldCell {
         held: None,
+        held_run: None,
         free: None,
+        free_run: None,
     };
     run_case(&rt, rt.alloc(), CONFIG, &mut read)?;
     let want = ReadHeldCell {
@@ -31,7 +38,21 @@ fn a_cell_that_another_pass_holds_is_busy(rt: HostRuntime) -> Result<(), Fail> {
             first: 1,
             second: 1,
         }),
+        held_run: found(
+            TriedRun::Busy {
+                cell: 0,
+                first: 1,
+                second: 1,
+            },
+            0,
+        ),
         free: Some(Tried::Value { weight: None }),
+        free_run: found(
+            TriedRun::Rows {
+                end: Key::of_vertex(9),
+            },
+            0,
+        ),
     };
     assert_eq!(rt; read, want);
     Ok(())
@@ -66,6 +87,40 @@ fn a_settled_row_is_read_in_its_cell_alone(rt: HostRuntime) -> Result<(), Fail> 
             low: Key::END,
             high: Key::END,
         }),
+    };
+    assert_eq!(rt; read, want);
+    Ok(())
+}
+
+/// Of 30 settled rows three are from vertex 7 to 9, and 24 from 7 on. A row of one's own write is chained: a run stops
+/// before it.
+#[test]
+fn a_run_ends_with_its_range_or_its_cell(rt: HostRuntime) -> Result<(), Fail> {
+    let mut read = ReadRuns {
+        few: None,
+        all: None,
+        elsewhere: None,
+        few_again: None,
+        all_again: None,
+    };
+    run_case(&rt, rt.alloc(), CONFIG, &mut read)?;
+    let few = TriedRun::Rows {
+        end: Key::of_vertex(10),
+    };
+    let moved = TriedRun::Moved {
+        low: Key::END,
+        high: Key::END,
+    };
+    let chained = TriedRun::Chained {
+        key: Key::of_vertex(31),
+        end: Key::END,
+    };
+    let want = ReadRuns {
+        few: found(few, 3),
+        all: found(TriedRun::Rows { end: Key::END }, 24),
+        elsewhere: found(moved, 0),
+        few_again: found(few, 3),
+        all_again: found(chained, 24),
     };
     assert_eq!(rt; read, want);
     Ok(())

@@ -1,5 +1,5 @@
 -- Runs of rows: what their loads tell, and how they are decoded.
-use Rattle.std.proofs.Common.{◌≡◌, ℕ, zero, suc, ◌+◌, ◌<◌, ◌≤◌, ◌%◌, List, [], ◌∷◌, ◌++◌, length, map, take, drop, refl, sym, ◌∙◌, ap, subst, cond, arith, Option, Some, None}
+use Rattle.std.proofs.Common.{◌≡◌, ℕ, zero, suc, ◌+◌, ◌-◌, ◌<◌, ◌≤◌, ◌%◌, List, [], ◌∷◌, ◌++◌, length, map, take, drop, refl, sym, ◌∙◌, ap, subst, cond, arith, Option, Some, None}
 use Rattle.std.specs.Prelude.{Bool, true, false, ◌&&◌, not, slice_get}
 use Rattle.std.specs.List.{AllByRecursion}
 use Rattle.std.specs.Ordering.{eq_by_cmp}
@@ -12,7 +12,7 @@ use Rattle.graph_model.specs.declared.row.Key.{Key}
 use Rattle.graph_model.specs.declared.row.Row.{Row}
 use Rattle.graph_model.specs.Graph.{Graph}
 use Rattle.graph_model.specs.History.{view}
-use Rattle.graph_model.specs.Rows.{first_key, is_below, is_between, key_cmp, row_of, rows, value_at}
+use Rattle.graph_model.specs.Rows.{is_below, is_between, key_cmp, row_of, rows, value_at}
 use Rattle.graph_model.proofs.KeyLemmas.{below_chain, below_flip, below_self, below_up, between_of, between_parts, not_below_chain, upto_chain}
 use Rattle.graph_model.proofs.OrderLemmas.{keys_exact}
 use Rattle.graph_model.proofs.PlaceLemmas.{some_eq}
@@ -35,10 +35,13 @@ use Rattle.pass_steps.specs.RuleModel.Sight.{HasPass, Sight, with_found}
 use Rattle.pass_steps.specs.StoreWords.Reads.{PassIsTold, read_ended}
 use Rattle.pass_steps.specs.StoreWords.Steps.{Knows}
 use Rattle.optimistic_read.specs.declared.decode.Head.{Head}
+use Rattle.optimistic_read.specs.declared.decode.LoadedRun.{LoadedRun}
+use Rattle.optimistic_read.specs.declared.decode.Stop.{Stop}
+use Rattle.optimistic_read.specs.declared.decode.Stop.TheVariants.{Ended, Full, Marked}
 use Rattle.optimistic_read.specs.declared.tried.TriedRun.{TriedRun}
 use Rattle.optimistic_read.specs.declared.tried.TriedRun.TheVariants.{Rows, Busy, Chained, Moved}
 use Rattle.optimistic_read.specs.Reads.{IsHead, IsReadingOn, IsSearched, StillReads, row_read}
-use Rattle.optimistic_read.specs.Runs.{EndsRun, IsRun, IsRunLoaded, IsRunRead, IsRunUpTo, IsTriedRun, chained_in, decoded_run, lesser, marked_in, read_unless, run_of}
+use Rattle.optimistic_read.specs.Runs.{EndsRun, IsRun, IsRunLoaded, IsRunRead, IsRunUpTo, IsTriedRun, decoded_rows, decoded_run, front_in, front_of, lesser, looked_at, read_up_to, room_behind, run_of, stop_in, stop_of}
 use Rattle.optimistic_read.specs.Tried.{is_chained}
 use Rattle.optimistic_read.proofs.LoadLemmas.{WithRow, row_known, weaken}
 use Rattle.optimistic_read.proofs.TryLemmas.{found_both, pass_there}
@@ -50,12 +53,14 @@ and_false true = refl
 and_false false = refl
 
 module _ (from until : Key) where
-  none_below : (ws : List Row) → AllByRecursion (λ row. is_below (row_key row) from ≡ true) ws
-      → run_of from until ws ≡ []
-  none_below [] all = refl
-  none_below (w ∷ ws) all =
-      ap (λ t. cond (not t && is_below w.key until) (w ∷ run_of from until ws) (run_of from until ws)) all.0
-      ∙ none_below ws all.1
+  -- rows below the range may be left out
+  skip_below : (ws : List Row) (p : ℕ) → AllByRecursion (λ row. is_below (row_key row) from ≡ true) (take p ws)
+      → run_of from until (drop p ws) ≡ run_of from until ws
+  skip_below ws zero all = refl
+  skip_below [] (suc p) all = refl
+  skip_below (w ∷ ws) (suc p) all =
+      skip_below ws p all.1
+      ∙ sym (ap (λ t. cond (not t && is_below w.key until) (w ∷ run_of from until ws) (run_of from until ws)) all.0)
 
   none_above : (ws : List Row) → AllByRecursion (λ row. is_below (row_key row) until ≡ false) ws
       → run_of from until ws ≡ []
@@ -65,39 +70,17 @@ module _ (from until : Key) where
       ∙ ap (λ t. cond t (w ∷ run_of from until ws) (run_of from until ws)) (and_false (not (is_below w.key from)))
       ∙ none_above ws all.1
 
-  -- the rows from a place on may be left out where they are not below the end
-  cut_off : (ws : List Row) (p : ℕ) → AllByRecursion (λ row. is_below (row_key row) until ≡ false) (drop p ws)
-      → run_of from until (take p ws) ≡ run_of from until ws
-  cut_off ws zero all = sym (none_above ws all)
-  cut_off [] (suc p) all = refl
-  cut_off (w ∷ ws) (suc p) all =
-      ap (λ rs. cond (is_between from until w.key) (w ∷ rs) rs) (cut_off ws p all)
+-- from a place on, the row that stands there comes first
+from_place : (ws : List Row) (p : ℕ) (row : Row) → slice_get ws p ≡ Some row → drop p ws ≡ row ∷ drop (suc p) ws
+from_place [] p row at = cc
+from_place (w ∷ ws) zero row at = ap (λ r. r ∷ ws) (some_eq w row at)
+from_place (w ∷ ws) (suc p) row at = from_place ws p row at
 
-  -- a row of the range is one more
-  one_more : (ws : List Row) (p : ℕ) (row : Row) → slice_get ws p ≡ Some row → is_between from until row.key ≡ true
-      → run_of from until (take (suc p) ws) ≡ run_of from until (take p ws) ++ row ∷ []
-  one_more [] p row at between = cc
-  one_more (w ∷ ws) zero row at between =
-      let same = some_eq w row at in
-      (λ i. cond (is_between from until (same i).key) (same i ∷ []) [])
-      ∙ ap (λ t. cond t (row ∷ []) []) between
-  one_more (w ∷ ws) (suc p) row at between = go (is_between from until w.key) (one_more ws p row at between)
-    where
-      go : (t : Bool) → run_of from until (take (suc p) ws) ≡ run_of from until (take p ws) ++ row ∷ []
-          → cond t (w ∷ run_of from until (take (suc p) ws)) (run_of from until (take (suc p) ws))
-          ≡ cond t (w ∷ run_of from until (take p ws)) (run_of from until (take p ws)) ++ row ∷ []
-      go true e = ap (λ rs. w ∷ rs) e
-      go false e = e
-
-pub length_more : (ws : List Row) (row : Row) → length (ws ++ row ∷ []) ≡ length ws + 1
-length_more [] row = refl
-length_more (w ∷ ws) row = let more = length_more ws row in omega (arith, more)
-
-all_taken : (ws : List Row) (p : ℕ) → length ws ≤ p → take p ws ≡ ws
-all_taken [] zero le = refl
-all_taken [] (suc p) le = refl
-all_taken (w ∷ ws) zero le = absurd (omega (arith, le))
-all_taken (w ∷ ws) (suc p) le = ap (λ rs. w ∷ rs) (all_taken ws p (omega (arith, le)))
+none_left : (ws : List Row) (p : ℕ) → length ws ≤ p → drop p ws ≡ []
+none_left [] zero le = refl
+none_left [] (suc p) le = refl
+none_left (w ∷ ws) zero le = absurd (omega (arith, le))
+none_left (w ∷ ws) (suc p) le = none_left ws p (omega (arith, le))
 
 module _ (P : Row → Type 0) where
   one_less : (ws : List Row) (p : ℕ) → AllByRecursion P (drop p ws) → AllByRecursion P (drop (suc p) ws)
@@ -125,64 +108,236 @@ none_below_on key (w ∷ ws) zero row rises at not_below =
     above (r ∷ rs) all h = (not_below_chain w.key r.key key h all.0, above rs all.1 h)
 none_below_on key (w ∷ ws) (suc p) row rises at not_below = none_below_on key ws p row rises.1 at not_below
 
+-- rows between the fence keys, as their words have them
+fenced : (low high : Key) (rs : List (Key × StampedVersions))
+    → AllByRecursion (λ row. is_between low high row.0 ≡ true) rs
+    → AllByRecursion (λ row. is_between low high (row_key row) ≡ true) (map word_row rs)
+fenced low high [] all = tt
+fenced low high (r ∷ rs) all = (all.0, fenced low high rs all.1)
+
+-- no row stands before a key that isn't above the low fence key
+none_before : (low high from : Key) (ws : List Row) → is_below low from ≡ false
+    → AllByRecursion (λ row. is_between low high (row_key row) ≡ true) ws
+    → AllByRecursion (λ row. is_below (row_key row) from ≡ false) ws
+none_before low high from [] not_below all = tt
+none_before low high from (w ∷ ws) not_below all = (
+  upto_chain from low w.key not_below (between_parts low high w.key all.0).0,
+  none_before low high from ws not_below all.1,
+)
+
+-- each stands before a key that isn't below the high one
+all_before : (low high until : Key) (ws : List Row) (p : ℕ) (row : Row) → is_below until high ≡ false
+    → AllByRecursion (λ w. is_between low high (row_key w) ≡ true) ws → slice_get ws p ≡ Some row
+    → is_below row.key until ≡ true
+all_before low high until [] p row beyond all at = cc
+all_before low high until (w ∷ ws) zero row beyond all at =
+    subst (λ (r : Row). is_below r.key until ≡ true) (some_eq w row at)
+    (below_up w.key high until (between_parts low high w.key all.0).1 beyond)
+all_before low high until (w ∷ ws) (suc p) row beyond all at =
+    all_before low high until ws p row beyond all.1 at
+
 -- ---- the loads
 
--- The rows up to a place have these of the range, and none behind it stands before the range.
-pub record IsRunning (h : Head) (from until : Key) (place : ℕ) (run : List Row) (s : VersionedRows) : Type 0 where
-  pub head : IsHead h s
+pub length_more : (ws : List Row) (row : Row) → length (ws ++ row ∷ []) ≡ length ws + 1
+length_more [] row = refl
+length_more (w ∷ ws) row = let more = length_more ws row in omega (arith, more)
+
+with_none : (ws : List Row) → ws ++ [] ≡ ws
+with_none [] = refl
+with_none (w ∷ ws) = ap (λ rs. w ∷ rs) (with_none ws)
+
+one_on : (ws : List Row) (row : Row) (rest : List Row) → ws ++ row ∷ rest ≡ (ws ++ row ∷ []) ++ rest
+one_on [] row rest = refl
+one_on (w ∷ ws) row rest = ap (λ rs. w ∷ rs) (one_on ws row rest)
+
+-- The rows from a place on are loaded as all rows of the range are, with the room that is left.
+pub record IsRunning (h : Head) (from until : Key) (before : List Row) (place room : ℕ) (run : List Row)
+    (s : VersionedRows) : Type 0 where
+  pub head_is : IsHead h s
   pub behind : AllByRecursion (λ row. is_below (row_key row) from ≡ false) (drop place (word_rows s))
-  pub run_is : run ≡ run_of from until (take place (word_rows s))
+  pub stop_is : stop_in (room_behind before) (run_of from until (word_rows s))
+      ≡ stop_in room (run_of from until (drop place (word_rows s)))
+  pub rows_are : before ++ front_in (room_behind before) (run_of from until (word_rows s))
+      ≡ run ++ front_in room (run_of from until (drop place (word_rows s)))
 
-module _ (cell first : ℕ) (h : Head) (from until : Key) where
-  pub run_begins : (place : ℕ) (run : List Row) (v : Sight) → run ≡ []
+module _ (cell first : ℕ) (h : Head) (from : Key) where
+  -- at the low fence key the first row comes first
+  pub at_low : (v : Sight) → is_below h.low from ≡ false → IsReadingOn cell first v (IsHead h)
+      → IsReadingOn cell first v (IsSearched h from 0)
+  at_low v not_above x =
+      weaken cell first v (IsHead h) (IsSearched h from 0) x (λ block s spells t. record {
+        head = t;
+        place_is = record {
+          within = omega arith;
+          before = tt;
+          behind = none_before s.low s.high from (word_rows s) (ap (λ k. is_below k from) (sym t.low) ∙ not_above)
+              (fenced s.low s.high s.rows spells.sound.within);
+        };
+      })
+
+module _ (cell first : ℕ) (h : Head) (from until : Key) (before : List Row) where
+  -- nothing is looked at where the fence keys don't hold the first key
+  pub none_loaded : (v : Sight) → is_between h.low h.high from ≡ false → IsReadingOn cell first v (IsHead h)
+      → IsReadingOn cell first v (IsRunLoaded (record { head = h; stop = Ended }) from until before before)
+  none_loaded v out x =
+      weaken cell first v (IsHead h) (IsRunLoaded (record { head = h; stop = Ended }) from until before before) x
+      (λ block s spells t.
+      let none : looked_at h from until s ≡ [] = ap (λ b. cond b (run_of from until (word_rows s)) []) out in record {
+        head_is = t;
+        stop_is = ap (stop_in (room_behind before)) (sym none);
+        rows_are = sym (with_none before) ∙ ap (λ ws. before ++ front_in (room_behind before) ws) (sym none);
+      })
+
+  pub run_begins : (place room : ℕ) (v : Sight) → room ≡ room_behind before
       → IsReadingOn cell first v (IsSearched h from place)
-      → IsReadingOn cell first v (IsRunning h from until place run)
-  run_begins place run v none x =
-      weaken cell first v (IsSearched h from place) (IsRunning h from until place run) x (λ block s spells t. record {
-        head = t.head;
+      → IsReadingOn cell first v (IsRunning h from until before place room before)
+  run_begins place room v is x =
+      weaken cell first v (IsSearched h from place) (IsRunning h from until before place room before) x (λ block s spells t.
+      let skipped = skip_below from until (word_rows s) place t.place_is.before in record {
+        head_is = t.head;
         behind = t.place_is.behind;
-        run_is = none ∙ sym (none_below from until (take place (word_rows s)) t.place_is.before);
+        stop_is = λ i. stop_in (sym is i) (sym skipped i);
+        rows_are = λ i. before ++ front_in (sym is i) (sym skipped i);
       })
 
-  pub run_ends : (place : ℕ) (run : List Row) (v : Sight) → h.count ≤ place
-      → IsReadingOn cell first v (IsRunning h from until place run)
-      → IsReadingOn cell first v (IsRunLoaded h from until run)
-  run_ends place run v most x =
-      weaken cell first v (IsRunning h from until place run) (IsRunLoaded h from until run) x (λ block s spells t. record {
-        head = t.head;
-        run_is = t.run_is ∙ ap (run_of from until)
-            (all_taken (word_rows s) place (let count = t.head.count in omega (arith, most, count)));
-      })
+  module _ (holds : is_between h.low h.high from ≡ true) where
+    -- where this is what is left of the rows, the loads have stopped
+    stops : (s : VersionedRows) (place room : ℕ) (run rest : List Row) (stop : Stop)
+        → IsRunning h from until before place room run s → run_of from until (drop place (word_rows s)) ≡ rest
+        → stop ≡ stop_in room rest → front_in room rest ≡ []
+        → IsRunLoaded (record { head = h; stop = stop }) from until before run s
+    stops s place room run rest stop t left is none =
+        let looked : looked_at h from until s ≡ run_of from until (word_rows s) =
+        ap (λ b. cond b (run_of from until (word_rows s)) []) holds in record {
+          head_is = t.head_is;
+          stop_is = is ∙ ap (stop_in room) (sym left) ∙ sym t.stop_is
+              ∙ ap (stop_in (room_behind before)) (sym looked);
+          rows_are = sym (with_none run) ∙ ap (λ ws. run ++ ws) (sym none)
+              ∙ ap (λ ws. run ++ front_in room ws) (sym left) ∙ sym t.rows_are
+              ∙ ap (λ ws. before ++ front_in (room_behind before) ws) (sym looked);
+        }
 
-  module _ (place : ℕ) (run : List Row) (row : Row) (v w : Sight) (less : place < h.count)
-      (is : w ≡ row_read v place row) (x : IsReadingOn cell first v (IsRunning h from until place run)) where
-    with_row : IsReadingOn cell first w (WithRow cell first (IsRunning h from until place run) place row)
-    with_row = row_known cell first (IsRunning h from until place run) place row v w
-        (λ s t. let count = t.head.count in omega (arith, less, count)) is x
+    none_ends : (room : ℕ) → Ended ≡ stop_in room []
+    none_ends zero = refl
+    none_ends (suc n) = refl
 
-    pub run_goes_on : is_below row.key until ≡ true → (n : ℕ) (more : List Row) → n ≡ place + 1 → more ≡ run ++ row ∷ []
-        → IsReadingOn cell first w (IsRunning h from until n more)
-    run_goes_on below n more next is_more =
-        weaken cell first w (WithRow cell first (IsRunning h from until place run) place row)
-        (IsRunning h from until n more) with_row (λ block s spells t.
-        let ws = word_rows s in
-        let later : n ≡ suc place = omega (arith, next) in
-        let low = at_place (λ r. is_below (row_key r) from ≡ false) ws place row t.0.behind t.1 in
-        subst (λ m. IsRunning h from until m more s) (sym later) (record {
-          head = t.0.head;
-          behind = one_less (λ r. is_below (row_key r) from ≡ false) ws place t.0.behind;
-          run_is = is_more ∙ ap (λ rs. rs ++ row ∷ []) t.0.run_is
-              ∙ sym (one_more from until ws place row t.1 (between_of from until row.key low below));
-        }))
+    none_there : (room : ℕ) → front_in room [] ≡ []
+    none_there zero = refl
+    none_there (suc n) = refl
 
-    pub run_ends_at : is_below row.key until ≡ false → IsReadingOn cell first w (IsRunLoaded h from until run)
-    run_ends_at beyond =
-        weaken cell first w (WithRow cell first (IsRunning h from until place run) place row)
-        (IsRunLoaded h from until run) with_row (λ block s spells t. record {
-          head = t.0.head;
-          run_is = t.0.run_is ∙ cut_off from until (word_rows s) place
-              (none_below_on until (word_rows s) place row (words_rise s spells.sound) t.1 beyond);
-        })
+    pub run_ends : (place room : ℕ) (run : List Row) (v : Sight) → h.count ≤ place
+        → IsReadingOn cell first v (IsRunning h from until before place room run)
+        → IsReadingOn cell first v (IsRunLoaded (record { head = h; stop = Ended }) from until before run)
+    run_ends place room run v most x =
+        weaken cell first v (IsRunning h from until before place room run)
+        (IsRunLoaded (record { head = h; stop = Ended }) from until before run) x (λ block s spells t.
+        stops s place room run [] Ended t
+        (ap (run_of from until)
+        (none_left (word_rows s) place (let count = t.head_is.count in omega (arith, most, count))))
+        (none_ends room) (none_there room))
+
+    module _ (place room : ℕ) (run : List Row) (row : Row) (v w : Sight) (less : place < h.count)
+        (is : w ≡ row_read v place row) (x : IsReadingOn cell first v (IsRunning h from until before place room run)) where
+      with_row : IsReadingOn cell first w (WithRow cell first (IsRunning h from until before place room run) place row)
+      with_row = row_known cell first (IsRunning h from until before place room run) place row v w
+          (λ s t. let count = t.head_is.count in omega (arith, less, count)) is x
+
+      -- the row stands before the end, since all do or this one does
+      is_inside : (s : VersionedRows) → IsSegment s → IsHead h s → slice_get (word_rows s) place ≡ Some row
+          → (inside : Bool) → inside ≡ not (is_below until h.high) → (not inside && not (is_below row.key until)) ≡ false
+          → is_below row.key until ≡ true
+      is_inside s sound head at inside all near =
+          by_tests (is_below until h.high) (is_below row.key until) inside refl refl all near
+        where
+          by_tests : (b t i : Bool) → is_below until h.high ≡ b → is_below row.key until ≡ t → i ≡ not b
+              → (not i && not t) ≡ false → is_below row.key until ≡ true
+          by_tests b true i high below e n = below
+          by_tests false false i high below e n =
+              all_before s.low s.high until (word_rows s) place row (ap (is_below until) (sym head.high) ∙ high)
+              (fenced s.low s.high s.rows sound.within) at
+          by_tests true false i high below e n =
+              let off : true ≡ false = ap (λ j. not j && true) (sym e) ∙ n in cc
+
+      -- what is left begins with the row
+      row_first : (s : VersionedRows) → slice_get (word_rows s) place ≡ Some row → is_below row.key until ≡ true
+          → IsRunning h from until before place room run s
+          → run_of from until (drop place (word_rows s)) ≡ row ∷ run_of from until (drop (suc place) (word_rows s))
+      row_first s at below t =
+          let low = at_place (λ r. is_below (row_key r) from ≡ false) (word_rows s) place row t.behind at in
+          ap (run_of from until) (from_place (word_rows s) place row at)
+          ∙ ap (λ b. cond b (row ∷ run_of from until (drop (suc place) (word_rows s)))
+          (run_of from until (drop (suc place) (word_rows s)))) (between_of from until row.key low below)
+
+      module _ (inside : Bool) (all : inside ≡ not (is_below until h.high))
+          (near : (not inside && not (is_below row.key until)) ≡ false) where
+        pub run_is_full : room ≡ 0
+            → IsReadingOn cell first w (IsRunLoaded (record { head = h; stop = Full row.key }) from until before run)
+        run_is_full none =
+            weaken cell first w (WithRow cell first (IsRunning h from until before place room run) place row)
+            (IsRunLoaded (record { head = h; stop = Full row.key }) from until before run) with_row (λ block s spells t.
+            let below = is_inside s spells.sound t.0.head_is t.1 inside all near in
+            let rest = run_of from until (drop (suc place) (word_rows s)) in
+            stops s place room run (row ∷ rest) (Full row.key) t.0 (row_first s t.1 below t.0)
+            (ap (λ n. stop_in n (row ∷ rest)) (sym none)) (ap (λ n. front_in n (row ∷ rest)) none))
+
+        module _ (some : (room ≡ 0) → ⊥) where
+          one_in : (n : ℕ) → (n ≡ 0 → ⊥) → n ≡ suc (n - 1)
+          one_in zero more = absurd (more refl)
+          one_in (suc n) more = omega arith
+
+          room_is : room ≡ suc (room - 1)
+          room_is = one_in room some
+
+          pub run_is_marked : is_marked row.weight ≡ true
+              → IsReadingOn cell first w (IsRunLoaded (record { head = h; stop = Marked row.key }) from until before run)
+          run_is_marked marked =
+              weaken cell first w (WithRow cell first (IsRunning h from until before place room run) place row)
+              (IsRunLoaded (record { head = h; stop = Marked row.key }) from until before run) with_row (λ block s spells t.
+              let below = is_inside s spells.sound t.0.head_is t.1 inside all near in
+              let rest = run_of from until (drop (suc place) (word_rows s)) in
+              stops s place room run (row ∷ rest) (Marked row.key) t.0 (row_first s t.1 below t.0)
+              (sym (ap (λ n. stop_in n (row ∷ rest)) room_is
+              ∙ ap (λ b. cond b (Marked row.key) (stop_in (room - 1) rest)) marked))
+              (ap (λ n. front_in n (row ∷ rest)) room_is
+              ∙ ap (λ b. cond b [] (row ∷ front_in (room - 1) rest)) marked))
+
+          pub run_goes_on : is_marked row.weight ≡ false → (n m : ℕ) (more : List Row) → n ≡ place + 1 → m ≡ room - 1
+              → more ≡ run ++ row ∷ [] → IsReadingOn cell first w (IsRunning h from until before n m more)
+          run_goes_on free n m more next less_room is_more =
+              weaken cell first w (WithRow cell first (IsRunning h from until before place room run) place row)
+              (IsRunning h from until before n m more) with_row (λ block s spells t.
+              let below = is_inside s spells.sound t.0.head_is t.1 inside all near in
+              let rest = run_of from until (drop (suc place) (word_rows s)) in
+              let left = row_first s t.1 below t.0 in
+              let later : n ≡ suc place = omega (arith, next) in
+              subst (λ k. IsRunning h from until before k m more s) (sym later) (record {
+                head_is = t.0.head_is;
+                behind = one_less (λ r. is_below (row_key r) from ≡ false) (word_rows s) place t.0.behind;
+                stop_is = t.0.stop_is ∙ ap (stop_in room) left ∙ ap (λ k. stop_in k (row ∷ rest)) room_is
+                    ∙ ap (λ b. cond b (Marked row.key) (stop_in (room - 1) rest)) free
+                    ∙ ap (λ k. stop_in k rest) (sym less_room);
+                rows_are = t.0.rows_are ∙ ap (λ ws. run ++ front_in room ws) left
+                    ∙ ap (λ k. run ++ front_in k (row ∷ rest)) room_is
+                    ∙ ap (λ b. run ++ cond b [] (row ∷ front_in (room - 1) rest)) free
+                    ∙ one_on run row (front_in (room - 1) rest)
+                    ∙ (λ i. sym is_more i ++ front_in (sym less_room i) rest);
+              }))
+
+      pub run_ends_at : (inside : Bool) → (not inside && not (is_below row.key until)) ≡ true
+          → IsReadingOn cell first w (IsRunLoaded (record { head = h; stop = Ended }) from until before run)
+      run_ends_at inside beyond =
+          weaken cell first w (WithRow cell first (IsRunning h from until before place room run) place row)
+          (IsRunLoaded (record { head = h; stop = Ended }) from until before run) with_row (λ block s spells t.
+          stops s place room run [] Ended t.0
+          (none_above from until (drop place (word_rows s))
+          (none_below_on until (word_rows s) place row (words_rise s spells.sound) t.1
+          (not_below inside (is_below row.key until) beyond)))
+          (none_ends room) (none_there room))
+        where
+          not_below : (i b : Bool) → (not i && not b) ≡ true → b ≡ false
+          not_below i false e = refl
+          not_below true true e = cc
+          not_below false true e = cc
 
 -- ---- marked words
 
@@ -205,41 +360,232 @@ marked_is : (vs : StampedVersions) → is_nothing vs ≡ false → HasSmallValue
     → is_marked (value_word vs) ≡ is_chained vs
 marked_is vs some small = marked_by_parts vs.pairs vs.touches vs.oldest some small
 
-marks_are : (from until : Key) (rs : List (Key × StampedVersions))
+-- so the loads stop, and the rows are those, by what is chained
+stop_is_of : (from until : Key) (rs : List (Key × StampedVersions)) (room : ℕ)
     → AllByRecursion (λ row. is_nothing row.1 ≡ false) rs → AllByRecursion (λ row. HasSmallValues row.1) rs
-    → marked_in (run_of from until (map word_row rs)) ≡ chained_in (range_of from until rs)
-marks_are from until [] some small = refl
-marks_are from until (r ∷ rs) some small =
-    go (is_between from until r.0) (marks_are from until rs some.1 small.1)
+    → stop_in room (run_of from until (map word_row rs)) ≡ stop_of room (range_of from until rs)
+stop_is_of from until [] zero some small = refl
+stop_is_of from until [] (suc n) some small = refl
+stop_is_of from until (r ∷ rs) room some small =
+    go (is_between from until r.0) room (λ n. stop_is_of from until rs n some.1 small.1)
   where
-    go : (t : Bool) → marked_in (run_of from until (map word_row rs)) ≡ chained_in (range_of from until rs)
-        → marked_in (cond t (word_row r ∷ run_of from until (map word_row rs)) (run_of from until (map word_row rs)))
-        ≡ chained_in (cond t (r ∷ range_of from until rs) (range_of from until rs))
-    go true e = λ i. cond (marked_is r.1 some.0 small.0 i) (Some r.0) (e i)
-    go false e = e
+    go : (t : Bool) (room : ℕ)
+        → ((n : ℕ) → stop_in n (run_of from until (map word_row rs)) ≡ stop_of n (range_of from until rs))
+        → stop_in room (cond t (word_row r ∷ run_of from until (map word_row rs)) (run_of from until (map word_row rs)))
+        ≡ stop_of room (cond t (r ∷ range_of from until rs) (range_of from until rs))
+    go true zero e = refl
+    go true (suc n) e = λ i. cond (marked_is r.1 some.0 small.0 i) (Marked r.0) (e n i)
+    go false room e = e room
 
-module _ (block : List ℕ) (s : VersionedRows) (spells : Spells block s) (h : Head) (from until : Key) (run : List Row)
-    (x : IsRunLoaded h from until run s) where
-  abbrev first_chained : Option Key
-  first_chained = chained_in (range_of from until s.rows)
+front_is_of : (from until : Key) (rs : List (Key × StampedVersions)) (room : ℕ)
+    → AllByRecursion (λ row. is_nothing row.1 ≡ false) rs → AllByRecursion (λ row. HasSmallValues row.1) rs
+    → front_in room (run_of from until (map word_row rs)) ≡ front_of room (range_of from until rs)
+front_is_of from until [] zero some small = refl
+front_is_of from until [] (suc n) some small = refl
+front_is_of from until (r ∷ rs) room some small =
+    go (is_between from until r.0) room (λ n. front_is_of from until rs n some.1 small.1)
+  where
+    go : (t : Bool) (room : ℕ)
+        → ((n : ℕ) → front_in n (run_of from until (map word_row rs)) ≡ front_of n (range_of from until rs))
+        → front_in room (cond t (word_row r ∷ run_of from until (map word_row rs)) (run_of from until (map word_row rs)))
+        ≡ front_of room (cond t (r ∷ range_of from until rs) (range_of from until rs))
+    go true zero e = refl
+    go true (suc n) e = λ i. cond (marked_is r.1 some.0 small.0 i) [] (word_row r ∷ e n i)
+    go false room e = e room
 
-  covered : is_between h.low h.high from ≡ covers s from
-  covered i = is_between (x.head.low i) (x.head.high i) from
+module _ (block : List ℕ) (s : VersionedRows) (spells : Spells block s) (l : LoadedRun) (from until : Key)
+    (before after : List Row) (x : IsRunLoaded l from until before after s) where
+  covered : is_between l.head.low l.head.high from ≡ covers s from
+  covered i = is_between (x.head_is.low i) (x.head_is.high i) from
 
-  pub moved_run : is_between h.low h.high from ≡ false → Moved h.low h.high ≡ decoded_run s from until
+  abbrev the_stop : Stop
+  the_stop = stop_of (room_behind before) (range_of from until s.rows)
+
+  pub moved_run : is_between l.head.low l.head.high from ≡ false
+      → Moved l.head.low l.head.high ≡ decoded_run s from until (room_behind before)
   moved_run out =
-      (λ i. Moved (x.head.low i) (x.head.high i))
-      ∙ ap (λ b. cond b (read_unless first_chained (lesser s.high until)) (Moved s.low s.high)) (sym out ∙ covered)
+      (λ i. Moved (x.head_is.low i) (x.head_is.high i))
+      ∙ ap (λ b. cond b (read_up_to the_stop (lesser s.high until)) (Moved s.low s.high)) (sym out ∙ covered)
 
-  pub read_run : (marked : Option Key) (end : Key) → is_between h.low h.high from ≡ true → marked ≡ marked_in run
-      → end ≡ lesser h.high until → read_unless marked end ≡ decoded_run s from until
-  read_run marked end within is ends =
-      let chained : marked ≡ first_chained = is ∙ ap marked_in x.run_is
-      ∙ marks_are from until s.rows spells.sound.something spells.small in
-      let high : end ≡ lesser s.high until = ends ∙ ap (λ k. lesser k until) x.head.high in
-      (λ i. read_unless (chained i) (high i))
-      ∙ ap (λ b. cond b (read_unless first_chained (lesser s.high until)) (Moved s.low s.high))
+  pub read_run : (stop : Stop) (end : Key) → is_between l.head.low l.head.high from ≡ true → stop ≡ l.stop
+      → end ≡ lesser l.head.high until → read_up_to stop end ≡ decoded_run s from until (room_behind before)
+  read_run stop end within is ends =
+      let here : stop ≡ the_stop = is ∙ x.stop_is
+      ∙ ap (λ b. stop_in (room_behind before) (cond b (run_of from until (word_rows s)) [])) within
+      ∙ stop_is_of from until s.rows (room_behind before) spells.sound.something spells.small in
+      let high : end ≡ lesser s.high until = ends ∙ ap (λ k. lesser k until) x.head_is.high in
+      (λ i. read_up_to (here i) (high i))
+      ∙ ap (λ b. cond b (read_up_to the_stop (lesser s.high until)) (Moved s.low s.high))
       (sym within ∙ covered)
+
+  pub rows_of_run : after ≡ before ++ decoded_rows s from until (room_behind before)
+  rows_of_run = x.rows_are ∙ ap (λ ws. before ++ ws) (by_test (is_between l.head.low l.head.high from) covered)
+    where
+      by_test : (b : Bool) → b ≡ covers s from
+          → front_in (room_behind before) (cond b (run_of from until (word_rows s)) [])
+          ≡ decoded_rows s from until (room_behind before)
+      by_test true e =
+          front_is_of from until s.rows (room_behind before) spells.sound.something spells.small
+          ∙ ap (λ c. cond c (front_of (room_behind before) (range_of from until s.rows)) []) e
+      by_test false e =
+          none (room_behind before)
+          ∙ ap (λ c. cond c (front_of (room_behind before) (range_of from until s.rows)) []) e
+        where
+          none : (n : ℕ) → front_in n [] ≡ []
+          none zero = refl
+          none (suc n) = refl
+
+-- ---- where a run is cut
+
+-- the key of the first row that is chained
+abbrev chained_in : List (Key × StampedVersions) → Option Key
+chained_in [] = None
+chained_in (row ∷ rest) = cond (is_chained row.1) (Some row.0) (chained_in rest)
+
+-- In front of the cut are the rows before its key, none of which is chained; and its key is that of a row of the range.
+record IsCut (from until : Key) (rs : List (Key × StampedVersions)) (run : List Row) (key : Key) : Type 0 where
+  run_is : run ≡ run_of from key (map word_row rs)
+  free : chained_in (range_of from key rs) ≡ None
+  between : is_between from until key ≡ true
+  above : (low : Key) → AllByRecursion (λ row. is_below low row.0 ≡ true) rs → is_below low key ≡ true
+  within : (low high : Key) → AllByRecursion (λ row. is_between low high row.0 ≡ true) rs
+      → is_between low high key ≡ true
+
+-- where it isn't cut all rows of the range are there, and none is chained
+record IsUncut (from until : Key) (rs : List (Key × StampedVersions)) (run : List Row) : Type 0 where
+  run_is : run ≡ run_of from until (map word_row rs)
+  free : chained_in (range_of from until rs) ≡ None
+
+abbrev CutBy : Stop → Key → Key → List (Key × StampedVersions) → List Row → Type 0
+CutBy Ended from until rs run = IsUncut from until rs run
+CutBy (Full key) from until rs run = IsCut from until rs run key
+CutBy (Marked key) from until rs run = IsCut from until rs run key
+
+-- no row is in a range before the first one
+none_yet : (from : Key) (low : Key) (rs : List (Key × StampedVersions))
+    → AllByRecursion (λ row. is_below low row.0 ≡ true) rs
+    → (run_of from low (map word_row rs) ≡ []) × (range_of from low rs ≡ [])
+none_yet from low [] all = (refl, refl)
+none_yet from low (r ∷ rs) all =
+    let later = none_yet from low rs all.1 in
+    let out : is_between from low r.0 ≡ false =
+    ap (λ t. not (is_below r.0 from) && t) (below_flip low r.0 all.0) ∙ and_false (not (is_below r.0 from)) in (
+      ap (λ t. cond t (word_row r ∷ run_of from low (map word_row rs)) (run_of from low (map word_row rs))) out ∙ later.0,
+      ap (λ t. cond t (r ∷ range_of from low rs) (range_of from low rs)) out ∙ later.1,
+    )
+
+module _ (from until : Key) (r : Key × StampedVersions) (rs : List (Key × StampedVersions))
+    (rises : AllByRecursion (λ row. is_below r.0 row.0 ≡ true) rs) where
+  -- before its own key no row is in the range
+  before_own : is_between from r.0 r.0 ≡ false
+  before_own = ap (λ t. not (is_below r.0 from) && t) (below_self r.0) ∙ and_false (not (is_below r.0 from))
+
+  cut_here : is_between from until r.0 ≡ true → IsCut from until (r ∷ rs) [] r.0
+  cut_here inside =
+      let none = none_yet from r.0 rs rises in record {
+        run_is = sym (ap (λ t. cond t (word_row r ∷ run_of from r.0 (map word_row rs)) (run_of from r.0 (map word_row rs)))
+            before_own ∙ none.0);
+        free = ap (λ t. chained_in (cond t (r ∷ range_of from r.0 rs) (range_of from r.0 rs))) before_own
+            ∙ ap chained_in none.1;
+        between = inside;
+        above = λ low all. all.0;
+        within = λ low high all. all.0;
+      }
+
+  -- a row that isn't in the range is before none of its keys
+  cut_outside : (key : Key) (run : List Row) → is_between from until r.0 ≡ false → IsCut from until rs run key
+      → IsCut from until (r ∷ rs) run key
+  cut_outside key run outside cut =
+      let out : is_between from key r.0 ≡ false = by_tests (is_below r.0 from) (is_below r.0 until) refl refl outside in
+      record {
+        run_is = cut.run_is
+            ∙ sym (ap (λ t. cond t (word_row r ∷ run_of from key (map word_row rs)) (run_of from key (map word_row rs))) out);
+        free = ap (λ t. chained_in (cond t (r ∷ range_of from key rs) (range_of from key rs))) out ∙ cut.free;
+        between = cut.between;
+        above = λ low all. cut.above low all.1;
+        within = λ low high all. cut.within low high all.1;
+      }
+    where
+      by_tests : (a b : Bool) → is_below r.0 from ≡ a → is_below r.0 until ≡ b → (not a && b) ≡ false
+          → is_between from key r.0 ≡ false
+      by_tests true b e f out = ap (λ t. not t && is_below r.0 key) e
+      by_tests false true e f out = cc
+      by_tests false false e f out =
+          let off : true ≡ false = sym (below_chain r.0 key until (cut.above r.0 rises)
+          (between_parts from until key cut.between).1) ∙ f in cc
+
+  cut_later : (key : Key) (run : List Row) → is_between from until r.0 ≡ true → is_chained r.1 ≡ false
+      → IsCut from until rs run key → IsCut from until (r ∷ rs) (word_row r ∷ run) key
+  cut_later key run inside settled cut =
+      let here : is_between from key r.0 ≡ true =
+      between_of from key r.0 (between_parts from until r.0 inside).0 (cut.above r.0 rises) in
+      record {
+        run_is = ap (λ ws. word_row r ∷ ws) cut.run_is
+            ∙ sym (ap (λ t. cond t (word_row r ∷ run_of from key (map word_row rs)) (run_of from key (map word_row rs))) here);
+        free = ap (λ t. chained_in (cond t (r ∷ range_of from key rs) (range_of from key rs))) here
+            ∙ ap (λ t. cond t (Some r.0) (chained_in (range_of from key rs))) settled ∙ cut.free;
+        between = cut.between;
+        above = λ low all. cut.above low all.1;
+        within = λ low high all. cut.within low high all.1;
+      }
+
+  uncut_outside : (run : List Row) → is_between from until r.0 ≡ false → IsUncut from until rs run
+      → IsUncut from until (r ∷ rs) run
+  uncut_outside run outside uncut = record {
+    run_is = uncut.run_is
+        ∙ sym (ap (λ t. cond t (word_row r ∷ run_of from until (map word_row rs)) (run_of from until (map word_row rs)))
+        outside);
+    free = ap (λ t. chained_in (cond t (r ∷ range_of from until rs) (range_of from until rs))) outside ∙ uncut.free;
+  }
+
+  uncut_later : (run : List Row) → is_between from until r.0 ≡ true → is_chained r.1 ≡ false
+      → IsUncut from until rs run → IsUncut from until (r ∷ rs) (word_row r ∷ run)
+  uncut_later run inside settled uncut = record {
+    run_is = ap (λ ws. word_row r ∷ ws) uncut.run_is
+        ∙ sym (ap (λ t. cond t (word_row r ∷ run_of from until (map word_row rs)) (run_of from until (map word_row rs)))
+        inside);
+    free = ap (λ t. chained_in (cond t (r ∷ range_of from until rs) (range_of from until rs))) inside
+        ∙ ap (λ t. cond t (Some r.0) (chained_in (range_of from until rs))) settled ∙ uncut.free;
+  }
+
+  outside_on : (stop : Stop) (run : List Row) → is_between from until r.0 ≡ false → CutBy stop from until rs run
+      → CutBy stop from until (r ∷ rs) run
+  outside_on Ended run outside cut = uncut_outside run outside cut
+  outside_on (Full key) run outside cut = cut_outside key run outside cut
+  outside_on (Marked key) run outside cut = cut_outside key run outside cut
+
+  inside_on : (stop : Stop) (run : List Row) → is_between from until r.0 ≡ true → is_chained r.1 ≡ false
+      → CutBy stop from until rs run → CutBy stop from until (r ∷ rs) (word_row r ∷ run)
+  inside_on Ended run inside settled cut = uncut_later run inside settled cut
+  inside_on (Full key) run inside settled cut = cut_later key run inside settled cut
+  inside_on (Marked key) run inside settled cut = cut_later key run inside settled cut
+
+-- so is each run, where it stops
+cut_of : (from until : Key) (rs : List (Key × StampedVersions)) (room : ℕ) → RisesBy (λ row. row.0) rs
+    → CutBy (stop_of room (range_of from until rs)) from until rs (front_of room (range_of from until rs))
+cut_of from until [] zero rises = record { run_is = refl; free = refl }
+cut_of from until [] (suc n) rises = record { run_is = refl; free = refl }
+cut_of from until (r ∷ rs) room rises =
+    by_test (is_between from until r.0) refl room (λ n. cut_of from until rs n rises.1)
+  where
+    by_chain : (c : Bool) (n : ℕ) → is_chained r.1 ≡ c → is_between from until r.0 ≡ true
+        → CutBy (stop_of n (range_of from until rs)) from until rs (front_of n (range_of from until rs))
+        → CutBy (cond c (Marked r.0) (stop_of n (range_of from until rs))) from until (r ∷ rs)
+        (cond c [] (word_row r ∷ front_of n (range_of from until rs)))
+    by_chain true n chain inside rest = cut_here from until r rs rises.0 inside
+    by_chain false n chain inside rest =
+        inside_on from until r rs rises.0 (stop_of n (range_of from until rs)) (front_of n (range_of from until rs)) inside
+        chain rest
+
+    by_test : (t : Bool) → is_between from until r.0 ≡ t → (room : ℕ)
+        → ((n : ℕ) → CutBy (stop_of n (range_of from until rs)) from until rs (front_of n (range_of from until rs)))
+        → CutBy (stop_of room (cond t (r ∷ range_of from until rs) (range_of from until rs))) from until (r ∷ rs)
+        (front_of room (cond t (r ∷ range_of from until rs) (range_of from until rs)))
+    by_test true inside zero rest = cut_here from until r rs rises.0 inside
+    by_test true inside (suc n) rest = by_chain (is_chained r.1) n refl inside (rest n)
+    by_test false outside n rest =
+        outside_on from until r rs rises.0 (stop_of n (range_of from until rs)) (front_of n (range_of from until rs)) outside
+        (rest n)
 
 -- ---- the values of a range
 
@@ -384,98 +730,137 @@ run_ends_there low high from until holds ahead = go (is_below high until) refl
     go true e = record { ahead = (between_parts low high from holds).1; inside = below_flip high until e }
     go false e = record { ahead = ahead; inside = below_self until }
 
-abbrev end_in : TriedRun → Key
-end_in (Rows end) = end
-end_in (Busy c m n) = first_key
-end_in (Chained k end) = end
-end_in (Moved low high) = first_key
+module _ (z : Config) (p : ℕ) (st : PassState) (old new : Sight) (cell : ℕ) (from until : Key) (before after : List Row)
+  where
+    abbrev seen_graph : Graph
+    seen_graph = view z.kind st.seen st.start st.own
 
-module _ (z : Config) (p : ℕ) (st : PassState) (old new : Sight) (cell : ℕ) (from until : Key) (run : List Row) where
-  abbrev seen_graph : Graph
-  seen_graph = view z.kind st.seen st.start st.own
-
-  module _ (ahead : is_below from until ≡ true) where
-    read_up_to : (end : Key) → IsRunRead z p st old new cell from until run (Rows end)
-        → IsRunUpTo end seen_graph from until run
-    read_up_to end r =
-        by_tests (covers r.contents from) (chained_in (range_of from until r.contents.rows)) refl refl r.answer_is
+    module _ (ahead : is_below from until ≡ true) (t : TriedRun) (r : IsRunRead z p st old new cell from until before after t)
       where
-        by_tests : (b : Bool) (chained : Option Key) → covers r.contents from ≡ b
-            → chained_in (range_of from until r.contents.rows) ≡ chained
-            → Rows end ≡ cond b (read_unless chained (lesser r.contents.high until))
-            (Moved r.contents.low r.contents.high)
-            → IsRunUpTo end seen_graph from until run
-        by_tests true (Some key) holds none e = cc
-        by_tests false chained holds none e = cc
-        by_tests true None holds none e =
-            let is : end ≡ lesser r.contents.high until = ap end_in e in record {
-              ends = subst (λ k. EndsRun k from until) (sym is)
-                  (run_ends_there r.contents.low r.contents.high from until holds ahead);
-              run_is = r.run_is
-                  ∙ run_of_graph _ st.start (name_at p st) seen_graph r.contents r.sound from until holds none r.gives
-                  ∙ ap (rows seen_graph from) (sym is);
+        abbrev room : ℕ
+        room = room_behind before
+
+        abbrev front : List Row
+        front = front_of room (range_of from until r.contents.rows)
+
+        abbrev high_end : Key
+        high_end = lesser r.contents.high until
+
+        graph_rows : (key : Key) → covers r.contents from ≡ true → chained_in (range_of from key r.contents.rows) ≡ None
+            → run_of from key (word_rows r.contents) ≡ rows seen_graph from (lesser r.contents.high key)
+        graph_rows key holds none =
+            run_of_graph _ st.start (name_at p st) seen_graph r.contents r.sound from key holds none r.gives
+
+        -- a key of a row of the cell is before its high fence key
+        high_beyond : (key : Key) → IsCut from until r.contents.rows front key → lesser r.contents.high key ≡ key
+        high_beyond key cut =
+            let below = (between_parts r.contents.low r.contents.high key
+            (cut.within r.contents.low r.contents.high r.sound.within)).1 in
+            ap (λ b. cond b r.contents.high key) (below_flip key r.contents.high below)
+
+        up_to_cut : (key : Key) → covers r.contents from ≡ true → after ≡ before ++ front
+            → IsCut from until r.contents.rows front key → IsRunUpTo key seen_graph from until before after
+        up_to_cut key holds given cut = record {
+          onward = (between_parts from until key cut.between).0;
+          inside = below_flip key until (between_parts from until key cut.between).1;
+          rows_are = given ∙ ap (λ ws. before ++ ws)
+              (cut.run_is ∙ graph_rows key holds cut.free ∙ ap (rows seen_graph from) (high_beyond key cut));
+        }
+
+        up_to_end : covers r.contents from ≡ true → after ≡ before ++ front → IsUncut from until r.contents.rows front
+            → IsRunUpTo high_end seen_graph from until before after
+        up_to_end holds given uncut =
+            let ends = run_ends_there r.contents.low r.contents.high from until holds ahead in record {
+              onward = below_flip from high_end ends.ahead;
+              inside = ends.inside;
+              rows_are = given ∙ ap (λ ws. before ++ ws) (uncut.run_is ∙ graph_rows until holds uncut.free);
             }
 
-    chained_up_to : (key end : Key) → IsRunRead z p st old new cell from until run (Chained key end)
-        → EndsRun end from until
-    chained_up_to key end r =
-        by_tests (covers r.contents from) (chained_in (range_of from until r.contents.rows)) refl r.answer_is
-      where
-        by_tests : (b : Bool) (chained : Option Key) → covers r.contents from ≡ b
-            → Chained key end ≡ cond b (read_unless chained (lesser r.contents.high until))
-            (Moved r.contents.low r.contents.high)
-            → EndsRun end from until
-        by_tests true None holds e = cc
-        by_tests false chained holds e = cc
-        by_tests true (Some first) holds e =
-            subst (λ k. EndsRun k from until) (sym (ap end_in e))
-            (run_ends_there r.contents.low r.contents.high from until holds ahead)
+        -- behind a cut the range has an end
+        ends_behind : (key : Key) → covers r.contents from ≡ true → IsCut from until r.contents.rows front key
+            → EndsRun high_end key until
+        ends_behind key holds cut =
+            let below = (between_parts r.contents.low r.contents.high key
+            (cut.within r.contents.low r.contents.high r.sound.within)).1 in
+            let before_end = (between_parts from until key cut.between).1 in record {
+              ahead = either (is_below r.contents.high until) below before_end;
+              inside = (run_ends_there r.contents.low r.contents.high from until holds ahead).inside;
+            }
+          where
+            either : (b : Bool) → is_below key r.contents.high ≡ true → is_below key until ≡ true
+                → is_below key (cond b r.contents.high until) ≡ true
+            either true high end = high
+            either false high end = end
 
-    pub run_is : (t : TriedRun) → IsTriedRun z p st old new cell from until run t → IsRun t seen_graph from until run
-    run_is (Rows end) r = read_up_to end r
-    run_is (Busy c m n) r = tt
-    run_is (Chained k end) r = chained_up_to k end r
-    run_is (Moved low high) r = tt
+        answers : (stop : Stop) → covers r.contents from ≡ true → after ≡ before ++ front
+            → CutBy stop from until r.contents.rows front
+            → IsRun (read_up_to stop high_end) seen_graph from until before after
+        answers Ended holds given cut = up_to_end holds given cut
+        answers (Full key) holds given cut = up_to_cut key holds given cut
+        answers (Marked key) holds given cut = (up_to_cut key holds given cut, ends_behind key holds cut)
 
-  -- contents make no range busy
-  never_busy : (b : Bool) (chained : Option Key) (end low high : Key) (k m n : ℕ)
-      → Busy k m n ≡ cond b (read_unless chained end) (Moved low high) → ⊥
-  never_busy true None end low high k m n e = cc
-  never_busy true (Some key) end low high k m n e = cc
-  never_busy false chained end low high k m n e = cc
+        -- whatever the answer is, it is one of the graph
+        run_by : IsRun t seen_graph from until before after
+        run_by = subst (λ a. IsRun a seen_graph from until before after) (sym r.answer_is)
+            (by_test (covers r.contents from) refl)
+          where
+            by_test : (b : Bool) → covers r.contents from ≡ b
+                → IsRun (cond b (read_up_to (stop_of room (range_of from until r.contents.rows)) high_end)
+                (Moved r.contents.low r.contents.high)) seen_graph from until before after
+            by_test true holds = answers (stop_of room (range_of from until r.contents.rows)) holds
+                (r.rows_are ∙ ap (λ b. before ++ cond b front []) holds)
+                (cut_of from until r.contents.rows room r.sound.rising)
+            by_test false holds = r.rows_are ∙ ap (λ b. before ++ cond b front []) holds ∙ with_none before
 
-  tried_of : (t : TriedRun) → IsRunRead z p st old new cell from until run t
-      → IsTriedRun z p st old new cell from until run t
-  tried_of (Rows end) r = r
-  tried_of (Chained k end) r = r
-  tried_of (Moved low high) r = r
-  tried_of (Busy c m n) r =
-      absurd (never_busy (covers r.contents from) (chained_in (range_of from until r.contents.rows))
-      (lesser r.contents.high until) r.contents.low r.contents.high c m n r.answer_is)
+    pub run_is : is_below from until ≡ true → (t : TriedRun)
+        → IsTriedRun z p st old new cell from until before after t → IsRun t seen_graph from until before after
+    run_is ahead (Rows end) r = run_by ahead (Rows end) r
+    run_is ahead (Busy c m n) r = tt
+    run_is ahead (Chained k end) r = run_by ahead (Chained k end) r
+    run_is ahead (Moved low high) r = run_by ahead (Moved low high) r
+
+    -- contents make no range busy
+    never_busy : (b : Bool) (stop : Stop) (end low high : Key) (k m n : ℕ)
+        → Busy k m n ≡ cond b (read_up_to stop end) (Moved low high) → ⊥
+    never_busy true Ended end low high k m n e = cc
+    never_busy true (Full key) end low high k m n e = cc
+    never_busy true (Marked key) end low high k m n e = cc
+    never_busy false stop end low high k m n e = cc
+
+    tried_of : (t : TriedRun) → IsRunRead z p st old new cell from until before after t
+        → IsTriedRun z p st old new cell from until before after t
+    tried_of (Rows end) r = r
+    tried_of (Chained k end) r = r
+    tried_of (Moved low high) r = r
+    tried_of (Busy c m n) r =
+        absurd (never_busy (covers r.contents from) (stop_of (room_behind before) (range_of from until r.contents.rows))
+        (lesser r.contents.high until) r.contents.low r.contents.high c m n r.answer_is)
 
 pub run_answered : (z : Config) (cell first second : ℕ) (from until : Key) (s0 s1 s2 s3 : Seat (Unit {0}) Sight)
-    (h : Head) (run : List Row) (t : TriedRun) (p : ℕ) (st : PassState)
+    (l : LoadedRun) (before after : List Row) (t : TriedRun) (p : ℕ) (st : PassState)
     → Knows s0 s1 (with_found s0.me.0 (first_loaded cell first) cell first) → StillReads s1 s2
-    → Knows s2 s3 (read_ended s2.me.0 second) → IsReadingOn cell first s2.me.0 (IsRunLoaded h from until run)
+    → Knows s2 s3 (read_ended s2.me.0 second)
+    → IsReadingOn cell first s2.me.0 (IsRunLoaded l from until before after)
     → PassIsTold z s2.me.0 second → first % 2 ≡ 0 → second ≡ first
-    → ((block : List ℕ) (s : VersionedRows) → Spells block s → IsRunLoaded h from until run s
-    → t ≡ decoded_run s from until)
-    → HasPass s0.me.0 p st → st.stage ≡ Open → IsTriedRun z p st s0.me.0 s3.me.0 cell from until run t
-run_answered z cell first second from until s0 s1 s2 s3 h run t p st begun still ended x told even same decodes has stage =
+    → ((block : List ℕ) (s : VersionedRows) (x y : List Row) → Spells block s → IsRunLoaded l from until x y s
+    → t ≡ decoded_run s from until (room_behind x))
+    → HasPass s0.me.0 p st → st.stage ≡ Open → IsTriedRun z p st s0.me.0 s3.me.0 cell from until before after t
+run_answered z cell first second from until s0 s1 s2 s3 l before after t p st begun still ended x told even same decodes
+    has stage =
     let there = pass_there cell first second s0 s1 s2 s3 begun still ended p st has in
     let valid = told p st x.reading there stage x.is (same ∙ sym x.first_is) in
     let loaded = x.fact valid.block valid.segment valid.loaded valid.spells in
-    tried_of z p st s0.me.0 s3.me.0 cell from until run t (record {
+    tried_of z p st s0.me.0 s3.me.0 cell from until before after t (record {
       again = record {
         word = first;
         even = even;
-        twice = found_both cell first second s0 s1 s2 s3 begun still ended (IsRunLoaded h from until run) x
+        twice = found_both cell first second s0 s1 s2 s3 begun still ended (IsRunLoaded l from until before after) x
             ∙ (λ i. record { cell = cell; word = same i } ∷ record { cell = cell; word = first }
             ∷ s0.me.0.reads.found);
       };
       contents = valid.segment;
       sound = valid.spells.sound;
       gives = valid.fact;
-      run_is = loaded.run_is;
-      answer_is = decodes valid.block valid.segment valid.spells loaded;
+      rows_are = rows_of_run valid.block valid.segment valid.spells l from until before after loaded;
+      answer_is = decodes valid.block valid.segment before after valid.spells loaded;
     })

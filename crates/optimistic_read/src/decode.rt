@@ -1,15 +1,16 @@
 //! What a validated read answers.
 
 ghost use Rattle.std.specs.Prelude.{◌≡◌, ℕ, List};
+ghost use Rattle.graph_model.specs.declared.row.Row.{Row};
 ghost use Rattle.graph_model.specs.Rows.{is_between};
 ghost use Rattle.pass_steps.specs.VersionSegment.Rows.{VersionedRows};
 ghost use Rattle.pass_steps.specs.CellsModel.Words.{Spells};
 ghost use Rattle.optimistic_read.specs.Reads.{IsLookedUp, IsValid};
-ghost use Rattle.optimistic_read.specs.Runs.{IsRunLoaded, decoded_run, lesser, marked_in};
+ghost use Rattle.optimistic_read.specs.Runs.{IsRunLoaded, decoded_run, lesser, room_behind};
 ghost use Rattle.optimistic_read.specs.Tried.{decoded};
 
 use crate::tried::{Tried, TriedRun};
-use graph_model::{Key, Row, Rows64};
+use graph_model::{Key, Row};
 use pass_steps::below::{Account, is_marked, value_in_word};
 
 /// The first words of a block: how many rows it has, 32 at most, and its fence keys.
@@ -22,7 +23,7 @@ pub struct Head {
 
 impl Head {
     /// Whether a key lies between the fence keys.
-    fn holds(&self, key: Key) -> bool
+    pub(crate) fn holds(&self, key: Key) -> bool
         ensures { result ≡ is_between self.now.low self.now.high key }
     {
         !key.is_below(self.low) && key.is_below(self.high)
@@ -65,20 +66,32 @@ pub fn decode(_seat: &Account, cell: u32, looked: LookedUp, key: Key) -> Tried
     }
 }
 
-/// Decodes a run that was loaded, under the same condition. Where no word of it is marked its rows are what the
-/// transaction sees, as they stand in the buffer.
-pub fn decode_run(
-    _seat: &Account,
-    _cell: u32,
-    head: Head,
-    rows: &Rows64,
-    from: Key,
-    until: Key,
-) -> TriedRun
+/// Where the loads of a run have stopped.
+#[derive(Clone, Copy)]
+pub enum Stop {
+    /// Behind its last row in the block.
+    Ended,
+    /// Before a row for which there is no room.
+    Full { key: Key },
+    /// Before a row with a marked word.
+    Marked { key: Key },
+}
+
+/// What was loaded of a run, beside its rows: the head, and where the loads have stopped.
+#[derive(Clone, Copy)]
+pub struct LoadedRun {
+    pub head: Head,
+    pub stop: Stop,
+}
+
+/// Decodes a run that was loaded, under the same condition. Its rows are what the transaction sees, as they stand in
+/// the buffer.
+pub fn decode_run(_seat: &Account, _cell: u32, loaded: LoadedRun, from: Key, until: Key) -> TriedRun
     requires valid { IsValid _seat.now.me.0 _cell }
-    ensures decoded { (block : List ℕ) (s : VersionedRows) → Spells block s
-        → IsRunLoaded head from until rows.now s → result ≡ decoded_run s from until }
+    ensures decoded { (block : List ℕ) (s : VersionedRows) (before after : List Row) → Spells block s
+        → IsRunLoaded loaded from until before after s → result ≡ decoded_run s from until (room_behind before) }
 {
+    let LoadedRun { head, stop } = loaded;
     if !head.holds(from) {
         return TriedRun::Moved {
             low: head.low,
@@ -86,22 +99,11 @@ pub fn decode_run(
         };
     }
     let end = lesser(head.high, until);
-    match first_marked(rows) {
-        Some(key) => TriedRun::Chained { key, end },
-        None => TriedRun::Rows { end },
+    match stop {
+        Stop::Ended => TriedRun::Rows { end },
+        Stop::Full { key } => TriedRun::Rows { end: key },
+        Stop::Marked { key } => TriedRun::Chained { key, end },
     }
-}
-
-/// The key of the first row with a marked word.
-fn first_marked(rows: &Rows64) -> Option<Key>
-    ensures { result ≡ marked_in rows.now }
-{
-    'rows: for row in rows.as_slice() {
-        if is_marked(row.weight) {
-            return Some(row.key);
-        }
-    }
-    None
 }
 
 /// Of two keys the one whose row stands first.

@@ -17,8 +17,10 @@ use crate::tried::{Route, TriedRun};
 use graph_model::{Key, Rows64};
 use pass_steps::below::{Account, Accounts, Pass, Store};
 
-/// Tries to read the rows that the open transaction sees from one key on and before another, as far as the cell goes.
-/// They take the place of those in the buffer. It makes loads alone, takes no latch and no memory, and waits for nobody.
+/// Tries to read the rows that the open transaction sees from one key on and before another, as far as the cell goes, up
+/// to the first row that has undo records, and as many as the buffer has room for. They are put behind those that stand
+/// there. Where the answer is busy the buffer has anything behind them, or instead of them. It makes loads alone, takes
+/// no latch and no memory, and waits for nobody.
 pub fn try_run(
     store: &Store,
     pass: &mut Pass,
@@ -33,8 +35,8 @@ pub fn try_run(
     requires ahead { is_below from until ≡ true }
     ensures reads { OnlyReads pass.old pass.new }
     ensures tried { IsTriedRun store.now.accounts.config pass.old.number (state_of pass.old)
-        pass.old.account.me.0 pass.new.account.me.0 route.now.cell from until rows.new result }
-    ensures run { IsRun result (view_in store.now pass.old) from until rows.new }
+        pass.old.account.me.0 pass.new.account.me.0 route.now.cell from until rows.old rows.new result }
+    ensures run { IsRun result (view_in store.now pass.old) from until rows.old rows.new }
 {
     try_block_run(
         &store.accounts,
@@ -60,7 +62,8 @@ fn try_block_run(
     requires pass { HasOpenPass seat.old.me.0 }
     ensures reads { SeatReads seat.old seat.new }
     ensures tried { (p : ℕ) (st : PassState) → HasPass seat.old.me.0 p st → st.stage ≡ Open
-        → IsTriedRun accounts.now.config p st seat.old.me.0 seat.new.me.0 cell from until rows.new result }
+        → IsTriedRun accounts.now.config p st seat.old.me.0 seat.new.me.0 cell from until rows.old
+        rows.new result }
 {
     let first = accounts.first_load(seat, cell);
     if first % 2 == 1 {
@@ -70,7 +73,7 @@ fn try_block_run(
             second: first,
         };
     }
-    let head = load_run(accounts, seat, BlockRead { cell, first }, from, until, rows);
+    let loaded = load_run(accounts, seat, BlockRead { cell, first }, from, until, rows);
     let second = accounts.second_load(seat, cell);
     if second != first {
         return TriedRun::Busy {
@@ -79,5 +82,5 @@ fn try_block_run(
             second,
         };
     }
-    decode_run(seat, cell, head, rows, from, until)
+    decode_run(seat, cell, loaded, from, until)
 }

@@ -26,13 +26,13 @@ pub enum Tried {
 #[derive(Clone, Copy, Debug, PartialEq, Eq)]
 pub enum TriedRun {
     /// All rows of the transaction's view from the first key on and before this one. It is the last key that was asked
-    /// for, or the cell's high fence key.
+    /// for, or the cell's high fence key, or where the buffer is full the next row's.
     Rows { end: Key },
     /// Somebody changes the cell, or has changed it meanwhile: the two version words that this call found, or the odd
     /// one twice.
     Busy { cell: u32, first: u64, second: u64 },
-    /// A row of the run has undo records, which only whoever holds the cell may read: the key of the first such row, and
-    /// the end that the run has.
+    /// All rows of the view from the first key on and before this one, whose row has undo records, which only whoever
+    /// holds the cell may read; and the end that the run has.
     Chained { key: Key, end: Key },
     /// The cell has other keys than the first one, between these fence keys.
     Moved { low: Key, high: Key },

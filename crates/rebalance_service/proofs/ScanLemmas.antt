@@ -1,6 +1,6 @@
 -- Scans of an open transaction, cell after cell.
-use Rattle.std.proofs.Common.{◌≡◌, ℕ, zero, suc, ◌<◌, ◌≤◌, List, [], ◌∷◌, length, take, refl, sym, ◌∙◌, ap, subst, cond, arith}
-use Rattle.std.specs.Prelude.{Bool, true, false, Option, Some, IfSome}
+use Rattle.std.proofs.Common.{◌≡◌, inl, ℕ, zero, suc, ◌<◌, List, [], ◌∷◌, ◌++◌, length, take, refl, sym, ◌∙◌, ap, subst, cond, arith}
+use Rattle.std.specs.Prelude.{Bool, true, false}
 use Rattle.graph_model.specs.declared.row.Cursor.{Cursor}
 use Rattle.graph_model.specs.declared.row.Key.{Key}
 use Rattle.graph_model.specs.declared.row.Row.{Row}
@@ -9,8 +9,12 @@ use Rattle.graph_model.specs.Graph.{Graph}
 use Rattle.graph_model.specs.Rows.{is_below, rows}
 use Rattle.graph_model.specs.Scans.{ScansBy}
 use Rattle.graph_model.proofs.KeyLemmas.{tied_keys}
+use Rattle.graph_model.proofs.RowLemmas.{ranges_adjoin}
 use Rattle.edge_scan.specs.Steps.{IsUnderWay, end_of}
-use Rattle.optimistic_read.specs.Runs.{IsRunUpTo}
+use Rattle.edge_scan.proofs.StepLemmas.{no_key_is_left, steps_are_a_scan}
+use Rattle.optimistic_read.specs.declared.tried.TriedRun.{TriedRun}
+use Rattle.optimistic_read.specs.declared.tried.TriedRun.TheVariants.{Rows, Chained}
+use Rattle.optimistic_read.specs.Runs.{EndsRun, IsRun, IsRunUpTo}
 use Rattle.optimistic_read.specs.StoreRuleDeclared.store.Store.{Store}
 use Rattle.shared_store.specs.declared.pass.Pass.{Pass}
 use Rattle.shared_store.specs.Passes.{KeepsOpen, view_in}
@@ -34,13 +38,9 @@ pub all_given : (g : Graph) (old new : Cursor) (given : List Row) → ScansBy g 
 all_given g old new given scans done =
     scans.gave ∙ all_of 64 (rows g old.next old.until) (subst (λ (rs : List Row). length rs < 64) scans.gave (scans.ended done))
 
--- what was read where there is an end
-pub run_there : (answer : Option Key) (end : Key) (P : Key → Type 0) → IfSome answer P → answer ≡ Some end → P end
-run_there answer end P has is = subst (λ (o : Option Key). IfSome o P) is has
-
 -- ---- the same transaction
 
-same_view : (store : Store) (old new : Pass) → KeepsOpen store old new → view_in store new ≡ view_in store old
+pub same_view : (store : Store) (old new : Pass) → KeepsOpen store old new → view_in store new ≡ view_in store old
 same_view store old new kept i = view_of (kept.account i) (kept.start i)
 
 pub kept_twice : (store : Store) (old mid new : Pass) → KeepsOpen store old mid → KeepsOpen store mid new
@@ -52,12 +52,62 @@ kept_twice store old mid new first then = record {
   number = then.number ∙ first.number;
 }
 
+-- the buffer is as it was, and so is what is seen
+pub again_run : (store : Store) (old mid : Pass) → KeepsOpen store old mid → (t : TriedRun) (from until : Key)
+    (before now after : List Row) → now ≡ before → IsRun t (view_in store mid) from until now after
+    → IsRun t (view_in store old) from until before after
+again_run store old mid kept t from until before now after same run =
+    subst (λ ws. IsRun t (view_in store old) from until ws after) same
+    (subst (λ g. IsRun t g from until now after) (same_view store old mid kept) run)
+
+-- ---- a run is taken
+
+on_top : (xs ys zs : List Row) → (xs ++ ys) ++ zs ≡ xs ++ (ys ++ zs)
+on_top [] ys zs = refl
+on_top (x ∷ xs) ys zs = ap (λ ws. x ∷ ws) (on_top xs ys zs)
+
+abbrev going_from : Key → Key → Cursor
+going_from from until = record { next = from; until = until; done = false }
+
+going_on : (g : Graph) (from until : Key) → IsUnderWay g (going_from from until) (going_from from until) []
+going_on g from until = record { until = refl; kept = refl; ended = λ done. let off : false ≡ true = done in cc }
+
+-- behind the last key there is no row
+none_behind : (g : Graph) (from until : Key) → is_below from until ≡ false → rows g from until ≡ []
+none_behind g from until apart =
+    ((no_key_is_left g (going_from from until) (going_from from until) [] apart (omega arith)
+    (going_on g from until)).ended refl).0
+
+pub run_taken : (g : Graph) (first old new : Cursor) (before after : List Row) (end : Key) → new.next ≡ end
+    → new.until ≡ old.until → (new.done ≡ true → (is_below end old.until ≡ false) × (length after < 64))
+    → IsRunUpTo end g old.next old.until before after → IsUnderWay g first old before → IsUnderWay g first new after
+run_taken g first old new before after end next until ended run under_way = record {
+  until = until ∙ under_way.until;
+  kept = (λ i. after ++ rows g (next i) (until i)) ∙ ap (λ ws. ws ++ rows g end old.until) run.rows_are
+      ∙ on_top before (rows g old.next end) (rows g end old.until)
+      ∙ ap (λ ws. before ++ ws) (ranges_adjoin g old.next end old.until run.onward run.inside) ∙ under_way.kept;
+  ended = λ done.
+      let there = ended done in
+      ((λ i. rows g (next i) (until i)) ∙ none_behind g end old.until there.0, there.1);
+}
+
+-- what was read, where rows were, and where one is chained
+pub rows_there : (t : TriedRun) (end : Key) (g : Graph) (from until : Key) (before after : List Row)
+    → IsRun t g from until before after → t ≡ Rows end → IsRunUpTo end g from until before after
+rows_there t end g from until before after run is = subst (λ a. IsRun a g from until before after) is run
+
+pub chained_there : (t : TriedRun) (key end : Key) (g : Graph) (from until : Key) (before after : List Row)
+    → IsRun t g from until before after → t ≡ Chained key end
+    → IsRunUpTo key g from until before after × EndsRun end key until
+chained_there t key end g from until before after run is = subst (λ a. IsRun a g from until before after) is run
+
 -- ---- a scan
 
 -- how far it is
 pub record IsScanning (store : Store) (old now : Pass) (first cursor : Cursor) (given : List Row) : Type 0 where
   pub kept : KeepsOpen store old now
   pub going : cursor.done ≡ false
+  pub few : length given < 64
   pub under_way : IsUnderWay (view_in store old) first cursor given
 
 pub scan_starts : (store : Store) (pass : Pass) (first : Cursor) (given : List Row) → KeepsOpen store pass pass
@@ -66,6 +116,7 @@ scan_starts store pass first given kept going none =
     subst (IsScanning store pass pass first first) (sym none) (record {
       kept = kept;
       going = going;
+      few = omega arith;
       under_way = record {
         until = refl;
         kept = refl;
@@ -73,23 +124,34 @@ scan_starts store pass first given kept going none =
       };
     })
 
-module _ (store : Store) (old mid new : Pass) (first cursor next : Cursor) (given more run : List Row) (end : Key)
-    (scanning : IsScanning store old mid first cursor given) (kept : KeepsOpen store mid new)
-    (read : IsRunUpTo end (view_in store mid) cursor.next cursor.until run)
-    (step : (g : Graph) (start : Cursor) → run ≡ rows g cursor.next end → IsUnderWay g start cursor given
-    → IsUnderWay g start next more) where
+module _ (store : Store) (old mid new : Pass) (first cursor next : Cursor) (given more : List Row)
+    (scanning : IsScanning store old mid first cursor given)
+    (step : (start : Cursor) → IsUnderWay (view_in store mid) start cursor given
+    → IsUnderWay (view_in store mid) start next more) where
   pub under_way_on : IsUnderWay (view_in store old) first next more
-  under_way_on = step (view_in store old) first
-      (read.run_is ∙ (λ i. rows (same_view store old mid scanning.kept i) cursor.next end)) scanning.under_way
+  under_way_on =
+      let same = same_view store old mid scanning.kept in
+      subst (λ g. IsUnderWay g first next more) same
+      (step first (subst (λ g. IsUnderWay g first cursor given) (sym same) scanning.under_way))
 
-  pub scanning_on : next.done ≡ false → IsScanning store old new first next more
-  scanning_on going = record {
+  pub scanning_on : KeepsOpen store mid new → (next.done ≡ false) × (length more < 64)
+      → IsScanning store old new first next more
+  scanning_on kept onward = record {
     kept = kept_twice store old mid new scanning.kept kept;
-    going = going;
+    going = onward.0;
+    few = onward.1;
     under_way = under_way_on;
   }
 
--- it begins anew by latches
+-- where no key is left it is done
+pub scan_ends : (store : Store) (old now : Pass) (first cursor : Cursor) (given : List Row)
+    → IsScanning store old now first cursor given → is_below cursor.next cursor.until ≡ false
+    → ScansBy (view_in store old) first (record cursor { done = true }) given
+scan_ends store old now first cursor given scanning apart =
+    steps_are_a_scan (view_in store old) first (record cursor { done = true }) given
+    (no_key_is_left (view_in store old) first cursor given apart scanning.few scanning.under_way) (inl refl)
+
+-- it begins anew, by latches or without
 pub scans_anew : (store : Store) (old mid : Pass) (first last : Cursor) (given : List Row) → KeepsOpen store old mid
     → ScansBy (view_in store mid) first last given → ScansBy (view_in store old) first last given
 scans_anew store old mid first last given kept scans =

@@ -11,6 +11,7 @@ use Rattle.latch_table.proofs.cells.Held.TheSendSync as held
 use Rattle.latch_table.proofs.cells.Laid.TheSendSync as laid
 use Rattle.shared_store.proofs.LeafArrayMade.Leaf.TheSendSync as leaf
 use Rattle.pass_room.proofs.PassCellsMade.TakenCell.TheSendSync as cell
+use Rattle.rebalance_service.proofs.scan_place.ScanPlace.TheSendSync as place
 use Rattle.rebalance_service.proofs.serve.ServiceKeys.TheSendSync as keys
 use Rattle.rebalance_service.proofs.settled.SettledLeaves.TheSendSync as settled
 use Rattle.shared_store.proofs.SendLemmas.{pass_send, slot_send, store_sync}
@@ -44,12 +45,15 @@ worker_send a R H h shared =
             (
               settled.the_send,
               (
-                search sendable,
+                place.the_send,
                 (
-                  keys.the_send,
+                  search sendable,
                   (
-                    phantom.the_send H,
-                    tt,
+                    keys.the_send,
+                    (
+                      phantom.the_send H,
+                      tt,
+                    ),
                   ),
                 ),
               ),

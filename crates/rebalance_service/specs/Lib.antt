@@ -1,6 +1,7 @@
 pub mod Ready
 pub mod Room
 pub mod Turns
+pub mod Scanned
 pub mod PassSteps
 pub mod RuleModel
 pub mod SharedStore

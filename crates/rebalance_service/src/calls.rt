@@ -8,6 +8,7 @@ ghost use Rattle.graph_model.specs.Scans.{ScansBy};
 ghost use Rattle.shared_store.specs.Passes.{account_of};
 ghost use Rattle.rebalance_service.specs.Ready.{HasSeenLegal, IsReady};
 
+use crate::scan_place::{ScanPlace, prune_ahead};
 use crate::{reads, scans};
 use graph_model::{BeginRefusal, Begun, Cursor, Rows64};
 use shared_store::{Pass, Store};
@@ -53,11 +54,12 @@ pub(crate) fn weight(rt: &impl Wait, store: &Store, pass: &mut Pass, u: u64, v: 
     reads::weight(rt, store, pass, u, v)
 }
 
-/// Takes one turn of a scan.
+/// Takes one turn of a scan. Where it has met records, the leaf in which the scan goes on is pruned.
 pub(crate) fn scan_step(
     rt: &impl Wait,
     store: &Store,
     pass: &mut Pass,
+    place: &mut ScanPlace,
     cursor: &mut Cursor,
     rows: &mut Rows64,
 )
@@ -70,7 +72,8 @@ pub(crate) fn scan_step(
     ensures answer { (start : ℕ) → (account_of store.now pass.old).start ≡ Some start
         → ScansBy (view_of (account_of store.now pass.old) start) cursor.old cursor.new rows.new }
 {
-    scans::scan_step(rt, store, pass, cursor, rows);
+    scans::scan_step(rt, store, pass, place, cursor, rows);
+    prune_ahead(rt, store, pass, place, cursor);
 }
 
 /// Commits the open transaction, and answers the stamp, or none where nothing was written.

@@ -70,7 +70,14 @@ impl<'a, R: Wait, H: Home> Engine for Worker<'a, R, H> {
     }
 
     fn scan_step(&mut self, cursor: &mut Cursor, rows: &mut Rows64) {
-        calls::scan_step(self.rt, self.store, &mut self.pass, cursor, rows);
+        calls::scan_step(
+            self.rt,
+            self.store,
+            &mut self.pass,
+            &mut self.place,
+            cursor,
+            rows,
+        );
     }
 
     fn commit(&mut self) -> Option<u64> {

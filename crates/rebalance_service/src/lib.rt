@@ -13,6 +13,7 @@ mod engine;
 mod idle;
 mod reads;
 mod room;
+mod scan_place;
 mod scans;
 mod serve;
 mod settled;

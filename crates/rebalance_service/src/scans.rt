@@ -1,23 +1,25 @@
 //! Scans of an open transaction, cell after cell.
 //!
-//! 1. The rows of a cell are read without its latch, and again where somebody changes it meanwhile.
-//! 2. Where a row of them has undo records, the latches are taken for the keys of this cell alone. Where the cell stays
-//!    busy, or no hint has it, the whole portion is read anew by latches.
+//! 1. The rows of a cell are read without its latch, straight into the caller's buffer. Where somebody changes a cell
+//!    meanwhile the portion is read again.
+//! 2. Where a row has undo records, latches are taken for the keys from its own on to the end of its cell. Where a cell
+//!    stays busy, or no hint has it, the whole portion is read anew by latches.
 //! 3. The rows of a cell end with its high fence key, from which the scan goes on. So nothing is left out, whichever
-//!    cells are looked at: after a cell first the one with the next number, since the cells of a leaf stand in the
-//!    order of their keys, and then the one that a hint names.
+//!    cells are looked at: first the one in which the last step ended, after a cell the one with the next number, since
+//!    the cells of a leaf stand in the order of their keys, and then the one that a hint names.
 
-ghost use Rattle.std.specs.Prelude.{◌≡◌, ◌⊎◌, ◌<◌, IfSome, true, false, length};
+ghost use Rattle.std.specs.Prelude.{◌≡◌, ◌⊎◌, ◌<◌, [], true, false, length};
 ghost use Rattle.graph_model.specs.declared.row.Cursor.{Cursor};
 ghost use Rattle.graph_model.specs.Graph.{Graph};
 ghost use Rattle.graph_model.specs.Rows.{is_below, rows};
 ghost use Rattle.graph_model.specs.Scans.{ScansBy};
 ghost use Rattle.edge_scan.specs.Steps.{IsUnderWay};
-ghost use Rattle.optimistic_read.specs.RuleModel.Sight.{cells_of};
-ghost use Rattle.optimistic_read.specs.Runs.{EndsRun, IsRun, IsRunUpTo};
+ghost use Rattle.optimistic_read.specs.Runs.{EndsRun, IsRun};
 ghost use Rattle.shared_store.specs.Passes.{IsOpen, KeepsOpen, view_in};
+ghost use Rattle.rebalance_service.specs.Scanned.{ReadsNone};
 
 use crate::reads::{TRIES, likely_cell};
+use crate::scan_place::ScanPlace;
 use edge_scan::step;
 use graph_model::{Cursor, Key, Rows64};
 use optimistic_read::{Route, TriedRun, try_run};
@@ -25,15 +27,13 @@ use shared_store::{Pass, Store};
 use std::hint::spin_loop;
 use std::sync::Wait;
 
-/// Stands for no cell.
-const NO_CELL: u32 = u32::MAX;
-
 /// Takes one turn of a scan: the next rows that the open transaction sees, 64 at most, take the place of those in the
 /// buffer. May wait, and takes no memory.
 pub fn scan_step(
     rt: &impl Wait,
     store: &Store,
     pass: &mut Pass,
+    place: &mut ScanPlace,
     cursor: &mut Cursor,
     rows: &mut Rows64,
 )
@@ -43,111 +43,221 @@ pub fn scan_step(
     ensures answer { ScansBy (view_in store.now pass.old) cursor.old cursor.new rows.new }
 {
     let first = *cursor;
-    let mut run = Rows64::new();
-    let mut cell = NO_CELL;
-    rows.clear();
-    'cells: for _cell in rt.forever() {
-        match read_run(rt, store, pass, cursor, &mut cell, &mut run) {
-            Some(end) => {
-                if take_run(cursor, end, &run, rows) {
-                    return;
-                }
-            }
-            None => {
-                *cursor = first;
-                shared_store::scan_step(rt, store, pass, cursor, rows);
-                return;
-            }
+    'tries: for _ in 0..TRIES {
+        *cursor = first;
+        rows.clear();
+        if read_portion(rt, store, pass, place, cursor, rows) {
+            return;
         }
+        spin_loop();
+    }
+    *cursor = first;
+    shared_store::scan_step(rt, store, pass, cursor, rows);
+}
+
+/// Reads the next portion into an empty buffer. Answers false where a try in a cell comes to nothing.
+fn read_portion(
+    rt: &impl Wait,
+    store: &Store,
+    pass: &mut Pass,
+    place: &mut ScanPlace,
+    cursor: &mut Cursor,
+    rows: &mut Rows64,
+) -> bool
+    requires opened { IsOpen store.now pass.old }
+    requires going { cursor.old.done ≡ false }
+    requires empty { rows.old ≡ [] }
+    ensures kept { KeepsOpen store.now pass.old pass.new }
+    ensures answer { result ≡ true → ScansBy (view_in store.now pass.old) cursor.old cursor.new rows.new }
+{
+    'cells: for _cell in rt.forever() {
+        if !cursor.next.is_below(cursor.until) {
+            cursor.done = true;
+            return true;
+        }
+        if !read_on(rt, store, pass, place, cursor, rows) {
+            return false;
+        }
+        if is_whole(cursor, rows) {
+            return true;
+        }
+        place.go_on();
     }
     unreachable!()
 }
 
-/// Reads the rows of the next key's cell, which is likely to have this number, and answers where they end. None where
-/// tries in it come to nothing.
-fn read_run(
+/// Whether the portion is whole: the scan is done then, or there is no room left.
+fn is_whole(cursor: &Cursor, rows: &Rows64) -> bool
+    ensures whole { result ≡ true → (cursor.now.done ≡ true)
+        ⊎ ((cursor.now.done ≡ false) × (length rows.now ≡ 64)) }
+    ensures onward { result ≡ false → (cursor.now.done ≡ false) × (length rows.now < 64) }
+{
+    cursor.done || rows.len() == 64
+}
+
+/// Reads the rows of the next key's cell, and those with records by latches.
+fn read_on(
     rt: &impl Wait,
     store: &Store,
     pass: &mut Pass,
-    cursor: &Cursor,
-    cell: &mut u32,
-    run: &mut Rows64,
-) -> Option<Key>
+    place: &mut ScanPlace,
+    cursor: &mut Cursor,
+    rows: &mut Rows64,
+) -> bool
     requires opened { IsOpen store.now pass.old }
+    requires going { cursor.old.done ≡ false }
+    requires ahead { is_below cursor.old.next cursor.old.until ≡ true }
     ensures kept { KeepsOpen store.now pass.old pass.new }
-    ensures run { IfSome result (λ end. IsRunUpTo end (view_in store.now pass.old) cursor.now.next cursor.now.until
-        run.new) }
+    ensures on { result ≡ true → (first : Cursor)
+        → IsUnderWay (view_in store.now pass.old) first cursor.old rows.old
+        → IsUnderWay (view_in store.now pass.old) first cursor.new rows.new }
 {
-    if !cursor.next.is_below(cursor.until) {
-        return None;
-    }
-    match try_likely(store, pass, cursor, cell, run) {
-        TriedRun::Rows { end } => Some(end),
-        TriedRun::Chained { end, .. } => read_held(rt, store, pass, cursor, end, run),
-        _ => None,
+    match try_likely(store, pass, place, cursor, rows) {
+        TriedRun::Rows { end } => {
+            go_to(cursor, end, rows);
+            true
+        }
+        TriedRun::Chained { key, end } => {
+            cursor.next = key;
+            place.has_met_records = true;
+            read_held(rt, store, pass, cursor, end, rows)
+        }
+        _ => false,
     }
 }
 
-/// Reads the rows before this end by latches.
+/// The scan goes on at this key, and is done where it is the last one and there is room left.
+fn go_to(cursor: &mut Cursor, end: Key, rows: &Rows64)
+    ensures next { cursor.new.next ≡ end }
+    ensures until { cursor.new.until ≡ cursor.old.until }
+    ensures ended { cursor.new.done ≡ true → (is_below end cursor.old.until ≡ false) × (length rows.now < 64) }
+{
+    cursor.next = end;
+    cursor.done = is_last(end, cursor.until, rows);
+}
+
+/// Whether a key is the end of the scan, and there is room left.
+fn is_last(end: Key, until: Key, rows: &Rows64) -> bool
+    ensures { result ≡ true → (is_below end until ≡ false) × (length rows.now < 64) }
+{
+    !end.is_below(until) && rows.len() < 64
+}
+
+/// Reads the rows before this end by latches, as many as there is room for. Answers false where they are too many for
+/// one cell.
 fn read_held(
     rt: &impl Wait,
     store: &Store,
     pass: &mut Pass,
-    cursor: &Cursor,
+    cursor: &mut Cursor,
     end: Key,
-    run: &mut Rows64,
-) -> Option<Key>
+    rows: &mut Rows64,
+) -> bool
     requires opened { IsOpen store.now pass.old }
-    requires ends { EndsRun end cursor.now.next cursor.now.until }
+    requires going { cursor.old.done ≡ false }
+    requires ends { EndsRun end cursor.old.next cursor.old.until }
     ensures kept { KeepsOpen store.now pass.old pass.new }
-    ensures run { IfSome result (λ end. IsRunUpTo end (view_in store.now pass.old) cursor.now.next cursor.now.until
-        run.new) }
+    ensures on { result ≡ true → (first : Cursor)
+        → IsUnderWay (view_in store.now pass.old) first cursor.old rows.old
+        → IsUnderWay (view_in store.now pass.old) first cursor.new rows.new }
 {
+    let mut run = Rows64::new();
     let mut part = Cursor {
         next: cursor.next,
         until: end,
         done: false,
     };
-    shared_store::scan_step(rt, store, pass, &mut part, run);
-    if part.done { Some(end) } else { None }
+    shared_store::scan_step(rt, store, pass, &mut part, &mut run);
+    if !part.done {
+        return false;
+    }
+    take_run(cursor, end, &run, rows);
+    true
 }
 
-/// What tries in the cell with this number have found last, or where it has other keys, in the one that a hint names.
+/// Takes the rows that were read before this end.
+fn take_run(cursor: &mut Cursor, end: Key, run: &Rows64, given: &mut Rows64)
+    requires going { cursor.old.done ≡ false }
+    requires ends { EndsRun end cursor.old.next cursor.old.until }
+    ensures under_way { (g : Graph) (first : Cursor) → run.now ≡ rows g cursor.old.next end
+        → IsUnderWay g first cursor.old given.old → IsUnderWay g first cursor.new given.new }
+{
+    step(cursor, end, run.as_slice(), given);
+}
+
+/// What tries near the place of the scan have found last, or where no cell there has the key, in the one that a hint
+/// names.
 fn try_likely(
     store: &Store,
     pass: &mut Pass,
+    place: &mut ScanPlace,
     cursor: &Cursor,
-    cell: &mut u32,
-    run: &mut Rows64,
+    rows: &mut Rows64,
 ) -> TriedRun
     requires opened { IsOpen store.now pass.old }
     requires ahead { is_below cursor.now.next cursor.now.until ≡ true }
     ensures kept { KeepsOpen store.now pass.old pass.new }
-    ensures run { IsRun result (view_in store.now pass.old) cursor.now.next cursor.now.until run.new }
+    ensures run { IsRun result (view_in store.now pass.old) cursor.now.next cursor.now.until rows.old rows.new }
 {
-    let near = *cell;
-    *cell = near.saturating_add(1);
-    let tried = try_cell(store, pass, near, cursor, run);
-    if !matches!(tried, TriedRun::Moved { .. }) {
+    let tried = try_near(store, pass, place, cursor, rows);
+    if !has_moved(&tried) {
         return tried;
     }
-    let named = likely_cell(store, &mut pass.cells.hints, cursor.next);
-    *cell = named.saturating_add(1);
-    try_cell(store, pass, named, cursor, run)
+    place.cell = likely_cell(store, &mut pass.cells.hints, cursor.next);
+    try_cell(store, pass, place.cell, cursor, rows)
 }
 
-/// What tries to read the next rows in a cell have found last. No key is in a cell that isn't one of the store.
+/// What tries in the scan's cell, or where its keys end before the next one, in the cell with the next number, have found
+/// last.
+fn try_near(
+    store: &Store,
+    pass: &mut Pass,
+    place: &mut ScanPlace,
+    cursor: &Cursor,
+    rows: &mut Rows64,
+) -> TriedRun
+    requires opened { IsOpen store.now pass.old }
+    requires ahead { is_below cursor.now.next cursor.now.until ≡ true }
+    ensures kept { KeepsOpen store.now pass.old pass.new }
+    ensures run { IsRun result (view_in store.now pass.old) cursor.now.next cursor.now.until rows.old rows.new }
+{
+    let tried = try_cell(store, pass, place.cell, cursor, rows);
+    if !is_behind(&tried, cursor.next) {
+        return tried;
+    }
+    place.go_on();
+    try_cell(store, pass, place.cell, cursor, rows)
+}
+
+/// Whether the cell that was tried has keys before this one alone.
+fn is_behind(tried: &TriedRun, key: Key) -> bool
+    ensures { result ≡ true → ReadsNone tried.now }
+{
+    match tried {
+        TriedRun::Moved { high, .. } => !key.is_below(*high),
+        _ => false,
+    }
+}
+
+/// Whether the cell that was tried has other keys.
+fn has_moved(tried: &TriedRun) -> bool
+    ensures { result ≡ true → ReadsNone tried.now }
+{
+    matches!(tried, TriedRun::Moved { .. })
+}
+
+/// What a try to read the next rows in a cell has found. No key is in a cell that isn't one of the store.
 fn try_cell(
     store: &Store,
     pass: &mut Pass,
     cell: u32,
     cursor: &Cursor,
-    run: &mut Rows64,
+    rows: &mut Rows64,
 ) -> TriedRun
     requires opened { IsOpen store.now pass.old }
     requires ahead { is_below cursor.now.next cursor.now.until ≡ true }
     ensures kept { KeepsOpen store.now pass.old pass.new }
-    ensures run { IsRun result (view_in store.now pass.old) cursor.now.next cursor.now.until run.new }
+    ensures run { IsRun result (view_in store.now pass.old) cursor.now.next cursor.now.until rows.old rows.new }
 {
     if cell >= store.index_place() {
         return TriedRun::Moved {
@@ -155,53 +265,12 @@ fn try_cell(
             high: Key::END,
         };
     }
-    let route = Route { cell };
-    let mut tried = try_once(store, pass, &route, cursor, run);
-    'tries: for _ in 1..TRIES {
-        if !matches!(tried, TriedRun::Busy { .. }) {
-            return tried;
-        }
-        spin_loop();
-        tried = try_once(store, pass, &route, cursor, run);
-    }
-    tried
-}
-
-/// One try.
-fn try_once(
-    store: &Store,
-    pass: &mut Pass,
-    route: &Route,
-    cursor: &Cursor,
-    run: &mut Rows64,
-) -> TriedRun
-    requires opened { IsOpen store.now pass.old }
-    requires cell { route.now.cell < cells_of store.now.accounts.config }
-    requires ahead { is_below cursor.now.next cursor.now.until ≡ true }
-    ensures kept { KeepsOpen store.now pass.old pass.new }
-    ensures run { IsRun result (view_in store.now pass.old) cursor.now.next cursor.now.until run.new }
-{
     try_run(
         store,
         &mut pass.seats,
-        route,
+        &Route { cell },
         cursor.next,
         cursor.until,
-        run,
+        rows,
     )
-}
-
-/// Takes the rows that were read before this end, and answers whether the portion is whole: the scan is done then, or
-/// there is no room left.
-fn take_run(cursor: &mut Cursor, end: Key, run: &Rows64, given: &mut Rows64) -> bool
-    requires going { cursor.old.done ≡ false }
-    requires ends { EndsRun end cursor.old.next cursor.old.until }
-    ensures under_way { (g : Graph) (first : Cursor) → run.now ≡ rows g cursor.old.next end
-        → IsUnderWay g first cursor.old given.old → IsUnderWay g first cursor.new given.new }
-    ensures whole { result ≡ true → (cursor.new.done ≡ true)
-        ⊎ ((cursor.new.done ≡ false) × (length given.new ≡ 64)) }
-    ensures onward { result ≡ false → cursor.new.done ≡ false }
-{
-    step(cursor, end, run.as_slice(), given);
-    cursor.done || given.len() == 64
 }

@@ -5,6 +5,7 @@ ghost use Rattle.optimistic_read.specs.StoreRuleDeclared.store.Store.{Store};
 ghost use Rattle.shared_store.specs.Passes.{IsIdle};
 ghost use Rattle.rebalance_service.specs.Ready.{IsReady};
 
+use crate::scan_place::ScanPlace;
 use crate::serve::ServiceKeys;
 use crate::settled::SettledLeaves;
 use pass_room::PassRoom;
@@ -35,6 +36,7 @@ pub struct Worker<'a, R: Wait, H: Home> {
     /// Made by the first call that moves rows.
     pub(crate) room: Option<PassRoom>,
     pub(crate) settled: SettledLeaves,
+    pub(crate) place: ScanPlace,
     /// How many turns of the service it has taken, up to the last number.
     pub(crate) served: u64,
     pub(crate) keys: ServiceKeys,
@@ -59,6 +61,7 @@ impl<'a, R: Wait, H: Home> Worker<'a, R, H> {
             pass,
             room: None,
             settled,
+            place: ScanPlace::nowhere(),
             served: 0,
             keys: ServiceKeys::first(),
             of: PhantomData,
@@ -77,6 +80,7 @@ impl<'a, R: Wait, H: Home> Worker<'a, R, H> {
             pass,
             room,
             settled: _,
+            place: _,
             served: _,
             keys: _,
             of: _,

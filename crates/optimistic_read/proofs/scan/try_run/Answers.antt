@@ -6,6 +6,7 @@ pub returns-clause-run : goal.returns-clause-run
 returns-clause-run c =
     let pass = c.args.pass.now in
     run_is c.args.store.now.accounts.config pass.number (state_of pass) pass.account.me.0
-    c.try_block_run.new.seat.me.0 c.args.route.now.cell c.args.from c.args.until c.try_block_run.new.rows
+    c.try_block_run.new.seat.me.0 c.args.route.now.cell c.args.from c.args.until c.args.rows.now
+    c.try_block_run.new.rows
     c.requires.ahead c.try_block_run.result
     (c.try_block_run.ensures.tried pass.number (state_of pass) c.requires.pass.sight.has c.requires.opened)

@@ -1,18 +1,22 @@
+use Rattle.std.proofs.Common.{subst}
+use Rattle.graph_model.specs.AccountSteps.{ReadsBy}
 use Rattle.graph_model.specs.Scans.{ScansBy}
-use Rattle.rebalance_service.proofs.CallLemmas.{at_start, legal_open, open_kept, reads_on, ready_open}
+use Rattle.shared_store.specs.Passes.{account_of}
+use Rattle.rebalance_service.proofs.CallLemmas.{at_start, open_kept, ready_open}
 use Rattle.rebalance_service.proofs.calls.scan_step.Goals as goal
 
 pub scan_step-requires-clause-opened : goal.scan_step-requires-clause-opened
 scan_step-requires-clause-opened g c = open_kept c.args.store.now c.args.pass.now c.requires.ready c.requires.current
 
-pub returns-clause-ready : goal.returns-clause-ready
-returns-clause-ready g c = ready_open c.args.store.now c.scan_step.new.pass c.scan_step.ensures.kept.opened
-
-pub returns-clause-legal : goal.returns-clause-legal
-returns-clause-legal g c = legal_open c.args.store.now c.scan_step.new.pass c.scan_step.ensures.kept.opened
+pub prune_ahead-requires : goal.prune_ahead-requires
+prune_ahead-requires g c = record {
+  ready = ready_open c.args.store.now c.scan_step.new.pass c.scan_step.ensures.kept.opened;
+}
 
 pub returns-clause-reads : goal.returns-clause-reads
-returns-clause-reads g c = reads_on c.args.store.now c.args.pass.now c.scan_step.new.pass c.scan_step.ensures.kept
+returns-clause-reads g c =
+    subst (λ a. ReadsBy a (account_of c.args.store.now c.prune_ahead.new.pass)) c.scan_step.ensures.kept.account
+    c.prune_ahead.ensures.reads
 
 pub returns-clause-answer : goal.returns-clause-answer
 returns-clause-answer g c =

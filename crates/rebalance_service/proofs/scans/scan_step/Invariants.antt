@@ -1,5 +1,5 @@
-use Rattle.rebalance_service.proofs.ScanLemmas.{IsScanning}
+use Rattle.shared_store.specs.Passes.{KeepsOpen}
 use Rattle.rebalance_service.proofs.scans.scan_step.Given as goal
 
-abbrev pub invariant-cells : goal.invariant-cells
-invariant-cells g l = IsScanning l.store l.fn.pass l.pass l.fn.cursor l.cursor l.rows
+abbrev pub invariant-tries : goal.invariant-tries
+invariant-tries g l = KeepsOpen l.store l.fn.pass l.pass

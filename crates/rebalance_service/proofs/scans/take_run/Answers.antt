@@ -8,12 +8,9 @@ step-requires-clause-ahead c =
     ap (is_below c.args.cursor.now.next) (step_end c.args.end c.args.cursor.now c.requires.ends.inside)
     ∙ c.requires.ends.ahead
 
-pub returns-then-cursor-clause-under_way : goal.returns-then-cursor-clause-under_way
-returns-then-cursor-clause-under_way c = λ g first is.
-    c.step.ensures.under_way g first (c.as_slice.ensures ∙ is
-    ∙ ap (rows g c.args.cursor.now.next) (sym (step_end c.args.end c.args.cursor.now c.requires.ends.inside)))
-
-pub returns-else-cursor-clause-under_way : goal.returns-else-cursor-clause-under_way
-returns-else-cursor-clause-under_way c = λ g first is.
-    c.step.ensures.under_way g first (c.as_slice.ensures ∙ is
-    ∙ ap (rows g c.args.cursor.now.next) (sym (step_end c.args.end c.args.cursor.now c.requires.ends.inside)))
+pub returns : goal.returns
+returns c = record {
+  under_way = λ g first is.
+      c.step.ensures.under_way g first (c.as_slice.ensures ∙ is
+      ∙ ap (rows g c.args.cursor.now.next) (sym (step_end c.args.end c.args.cursor.now c.requires.ends.inside)));
+}
