@@ -1,5 +1,5 @@
 -- Scans of an open transaction, cell after cell.
-use Rattle.std.proofs.Common.{◌≡◌, inl, ℕ, zero, suc, ◌<◌, List, [], ◌∷◌, ◌++◌, length, take, refl, sym, ◌∙◌, ap, subst, cond, arith}
+use Rattle.std.proofs.Common.{◌≡◌, inl, ℕ, zero, suc, ◌<◌, ◌≤◌, List, [], ◌∷◌, ◌++◌, length, take, refl, sym, ◌∙◌, ap, subst, cond, arith}
 use Rattle.std.specs.Prelude.{Bool, true, false}
 use Rattle.graph_model.specs.declared.row.Cursor.{Cursor}
 use Rattle.graph_model.specs.declared.row.Key.{Key}

@@ -1,4 +1,5 @@
-use Rattle.rebalance_service.proofs.ScanLemmas.{scans_anew}
+use Rattle.std.proofs.Common.{refl}
+use Rattle.rebalance_service.proofs.ScanLemmas.{kept_twice, scans_anew}
 use Rattle.rebalance_service.proofs.scans.scan_step.Goals as goal
 
 pub returns-then-read_portion-clause-answer : goal.returns-then-read_portion-clause-answer
