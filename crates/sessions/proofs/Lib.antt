@@ -1,3 +1,4 @@
 pub mod PropLemmas
 pub mod StepLemmas
 pub mod ScanLemmas
+pub mod RetryLemmas

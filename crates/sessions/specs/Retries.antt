@@ -1,6 +1,8 @@
--- What is left of a change that was made in a transaction of its own.
-use Rattle.std.specs.Prelude.{ℕ, Option, Result, Ok, Err}
+-- A change that is tried again where it meets a conflict, each time in a transaction of its own.
+use Rattle.std.specs.Prelude.{◌≡◌, ℕ, zero, suc, ◌<◌, Bool, true, false, Option, Result, Ok, Err}
+use Rattle.graph_model.specs.declared.refusal.Cause.{Cause}
 use Rattle.graph_model.specs.declared.refusal.Refusal.{Refusal}
+use Rattle.graph_model.specs.declared.refusal.Refusal.TheVariants as refusals
 use Rattle.graph_model.specs.Account.{Account}
 use Rattle.graph_model.specs.AccountSteps.{AbortsBy, BeginsBy, CommitsBy}
 use Rattle.sessions.specs.Sessions.{HasNone, HasOpen}
@@ -11,31 +13,74 @@ use Rattle.sessions.specs.declared.retry.RetryError.TheVariants.{NotBegun, Refus
 abbrev pub Making : Type 0 → Type 1
 Making C = C → Account → Result (Unit {0}) Refusal → C → Account → Type 0
 
+-- ---- one try
+
 -- the change was made in a transaction that was open, and answered so
-pub record Makes {C : Type 0} (did : Making C) (number : ℕ) (change : C) (answer : Result (Unit {0}) Refusal)
+pub record Makes {C : Type 0} (did : Making C) (number : ℕ) (old new : C) (answer : Result (Unit {0}) Refusal)
     (made : Account) : Type 0 where
-  pub before : C
   pub start : ℕ
   pub opened : Account
   pub is_open : HasOpen number start opened
-  pub did_so : did before opened answer change made
+  pub did_so : did old opened answer new made
 
 -- it was made, and its transaction was committed with this stamp, if it wrote anything
-pub record IsCommitted {C : Type 0} (did : Making C) (number : ℕ) (change : C) (stamp : Option ℕ) (new : Account)
+pub record IsCommitted {C : Type 0} (did : Making C) (number : ℕ) (old new : C) (stamp : Option ℕ) (after : Account)
     : Type 0 where
   pub made : Account
-  pub makes : Makes did number change (Ok tt) made
-  pub commits : CommitsBy made stamp new
+  pub makes : Makes did number old new (Ok tt) made
+  pub commits : CommitsBy made stamp after
 
 -- it was refused, and its transaction was taken back
-pub record IsTakenBack {C : Type 0} (did : Making C) (number : ℕ) (change : C) (why : Refusal) (new : Account)
+pub record IsTakenBack {C : Type 0} (did : Making C) (number : ℕ) (old new : C) (why : Refusal) (after : Account)
     : Type 0 where
   pub made : Account
-  pub makes : Makes did number change (Err why) made
-  pub aborts : AbortsBy made new
+  pub makes : Makes did number old new (Err why) made
+  pub aborts : AbortsBy made after
 
--- why nothing was committed
-abbrev pub IsStopped : {C : Type 0} → Making C → ℕ → C → RetryError → Account → Type 0
-IsStopped did number change (NotBegun why) new = (old : Account) × HasNone number old × BeginsBy old (Err why) new
-IsStopped did number change (Refused why) new = IsTakenBack did number change why new
-IsStopped did number change (Conflicts tries) new = Unit {0}
+-- why one try has committed nothing
+abbrev pub FailsOnce : {C : Type 0} → Making C → ℕ → C → C → RetryError → Account → Type 0
+FailsOnce did number old new (NotBegun why) after =
+    (new ≡ old) × (before : Account) × HasNone number before × BeginsBy before (Err why) after
+FailsOnce did number old new (Refused why) after = IsTakenBack did number old new why after
+FailsOnce did number old new (Conflicts tries) after = ⊥
+
+-- the answer of a try that has met a conflict
+abbrev pub conflict : Cause → Result (Option ℕ) RetryError
+conflict cause = Err (Refused (refusals.Conflict cause))
+
+-- whether a try was answered so
+abbrev pub TellsConflict : Result (Option ℕ) RetryError → Bool → Type 0
+TellsConflict ended true = (cause : Cause) × (ended ≡ conflict cause)
+TellsConflict ended false = (cause : Cause) → ended ≡ conflict cause → ⊥
+
+-- ---- several tries
+
+-- a try that has met a conflict, after those of which `Before` speaks
+pub record MeetsAfter {C : Type 0} (did : Making C) (number : ℕ) (Before : C → Type 0) (new : C) : Type 0 where
+  pub between : C
+  pub before : Before between
+  pub cause : Cause
+  pub after : Account
+  pub taken_back : IsTakenBack did number between new (refusals.Conflict cause) after
+
+-- so many tries have met conflicts, one after the other, and each was taken back
+abbrev pub HaveMet : {C : Type 0} → Making C → ℕ → ℕ → C → C → Type 0
+HaveMet did number zero old new = new ≡ old
+HaveMet did number (suc n) old new = MeetsAfter did number (HaveMet did number n old) new
+
+-- fewer tries than may be made have met conflicts, and then came the last one
+pub record EndsAfter {C : Type 0} (did : Making C) (number tries : ℕ) (old : C) (Last : C → Type 0) : Type 0 where
+  pub met : ℕ
+  pub few : met < tries
+  pub between : C
+  pub conflicts : HaveMet did number met old between
+  pub last : Last between
+
+-- why nothing was committed: the last try has failed, and not by a conflict, or each that may be made has met a conflict
+abbrev pub IsStopped : {C : Type 0} → Making C → ℕ → ℕ → C → C → RetryError → Account → Type 0
+IsStopped did number tries old new (NotBegun why) after =
+    EndsAfter did number tries old (λ between. FailsOnce did number between new (NotBegun why) after)
+IsStopped did number tries old new (Refused why) after =
+    EndsAfter did number tries old (λ between. FailsOnce did number between new (Refused why) after)
+    × ((cause : Cause) → why ≡ refusals.Conflict cause → ⊥)
+IsStopped did number tries old new (Conflicts met) after = (met ≡ tries) × HaveMet did number tries old new

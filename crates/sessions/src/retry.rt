@@ -1,7 +1,7 @@
 //! Transactions that are tried again where another one stands against them.
 
 ghost use Rattle.std.specs.Prelude.{IfErr, IfOk};
-ghost use Rattle.sessions.specs.Retries.{IsCommitted, IsStopped};
+ghost use Rattle.sessions.specs.Retries.{EndsAfter, FailsOnce, IsCommitted, IsStopped, TellsConflict};
 
 use crate::place::Place;
 use crate::session::{NotBegun, Session};
@@ -49,18 +49,17 @@ impl<E: VertexEngine, P: Place> Session<E, P> {
         tries: u32,
         change: &mut C,
     ) -> (Session<E, P>, Result<Option<u64>, RetryError>)
-        ensures committed { IfOk result.1 (λ stamp.
-            IsCommitted C.did P.number change.new stamp (E.account result.0.engine)) }
+        ensures committed { IfOk result.1 (λ stamp. EndsAfter C.did P.number tries change.old (λ between.
+            IsCommitted C.did P.number between change.new stamp (E.account result.0.engine))) }
         ensures stopped { IfErr result.1 (λ why.
-            IsStopped C.did P.number change.new why (E.account result.0.engine)) }
+            IsStopped C.did P.number tries change.old change.new why (E.account result.0.engine)) }
     {
         let mut session = self;
         'tries: for _try in 0..tries {
             let (next, ended) = session.try_once(change);
             session = next;
-            match ended {
-                Err(RetryError::Refused(Refusal::Conflict { cause: _ })) => {}
-                ended => return (session, ended),
+            if !met_conflict(&ended) {
+                return (session, ended);
             }
         }
         (session, Err(RetryError::Conflicts { tries }))
@@ -69,9 +68,9 @@ impl<E: VertexEngine, P: Place> Session<E, P> {
     /// Makes a change in a transaction, and commits it or takes it back.
     fn try_once<C: Change>(self, change: &mut C) -> (Session<E, P>, Result<Option<u64>, RetryError>)
         ensures committed { IfOk result.1 (λ stamp.
-            IsCommitted C.did P.number change.new stamp (E.account result.0.engine)) }
+            IsCommitted C.did P.number change.old change.new stamp (E.account result.0.engine)) }
         ensures stopped { IfErr result.1 (λ why.
-            IsStopped C.did P.number change.new why (E.account result.0.engine)) }
+            FailsOnce C.did P.number change.old change.new why (E.account result.0.engine)) }
     {
         let mut txn = match self.begin() {
             Ok(txn) => txn,
@@ -85,4 +84,14 @@ impl<E: VertexEngine, P: Place> Session<E, P> {
             Err(why) => (txn.abort(), Err(RetryError::Refused(why))),
         }
     }
+}
+
+/// Whether a try has met a conflict.
+fn met_conflict(ended: &Result<Option<u64>, RetryError>) -> bool
+    ensures { TellsConflict ended.now result }
+{
+    matches!(
+        ended,
+        Err(RetryError::Refused(Refusal::Conflict { cause: _ }))
+    )
 }

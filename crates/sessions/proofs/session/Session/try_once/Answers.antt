@@ -1,10 +1,11 @@
-use Rattle.std.proofs.Common.{subst}
+use Rattle.std.proofs.Common.{refl, subst}
 use Rattle.sessions.proofs.PropLemmas.{has_none, has_open}
 use Rattle.sessions.proofs.session.Session.try_once.Goals as goal
 
 pub returns-in-Err-clause-stopped : goal.returns-in-Err-clause-stopped
 returns-in-Err-clause-stopped g c =
     let account = g.E.Engine.account in (
+      refl {a = c.args.change.now},
       account c.args.self.engine,
       has_none g.P.Place.number (account c.args.self.engine) c.args.self.is,
       c.in-Err.ensures.refused,
@@ -18,7 +19,6 @@ returns-in-Ok-make-clause-committed g c =
     record {
       made = made;
       makes = record {
-        before = c.args.change.now;
         start = txn.begun.start;
         opened = account txn.engine;
         is_open = has_open g.P.Place.number txn.begun.start (account txn.engine) txn.is;
@@ -36,7 +36,6 @@ returns-in-Err-make-clause-stopped g c =
     record {
       made = made;
       makes = record {
-        before = c.args.change.now;
         start = txn.begun.start;
         opened = account txn.engine;
         is_open = has_open g.P.Place.number txn.begun.start (account txn.engine) txn.is;

@@ -1,0 +1,2 @@
+pub mod PropLemmas
+pub mod LendLemmas

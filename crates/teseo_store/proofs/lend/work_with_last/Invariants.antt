@@ -1,0 +1,8 @@
+use Rattle.std.specs.Prelude.{Some}
+use Rattle.teseo_store.proofs.lend.work_with_last.Given as given
+
+abbrev pub ghosts-lend-H-Home : given.ghosts-lend-H-Home
+ghosts-lend-H-Home g a = record { home = Some a.store.now }
+
+abbrev pub ghosts-lend-P-Place : given.ghosts-lend-P-Place
+ghosts-lend-P-Place g a = record { number = a.pass.seats.number }
