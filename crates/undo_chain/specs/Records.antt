@@ -1,5 +1,5 @@
 -- Undo records of one row, newest first, and the versions that they stand for.
-use Rattle.std.specs.Prelude.{◌≡◌, ℕ, Bool, ◌&&◌, not, is_some, cond, List, [], ◌∷◌, Option, Some, None}
+use Rattle.std.specs.Prelude.{◌≡◌, ℕ, Bool, ◌&&◌, ◌||◌, not, is_some, cond, List, [], ◌∷◌, Option, Some, None}
 use Rattle.std.specs.List.{list_any, filter}
 use Rattle.graph_model.specs.declared.journal.TxnName.{TxnName}
 use Rattle.graph_model.specs.Conflict.{same_name}
@@ -67,6 +67,11 @@ lacks_stamp u = not (is_some u.stamp)
 abbrev pub stamped_by : TxnName → ℕ → UndoRecord → UndoRecord
 stamped_by by stamp u =
     cond (same_name u.by by && lacks_stamp u) (record { by = u.by; stamp = Some stamp; older = u.older }) u
+
+-- the record has neither a stamp up to the horizon, nor none though it is this writer's: once this writer's records have
+-- such a stamp, a prune leaves it
+abbrev pub outlasts : TxnName → ℕ → UndoRecord → Bool
+outlasts by horizon u = not (reached u.stamp horizon || (same_name u.by by && lacks_stamp u))
 
 -- ---- lists
 

@@ -5,7 +5,7 @@
 
 ghost use Rattle.std.specs.Prelude.{◌≡◌, ◌+◌, ◌≤◌, ◌<◌, ◌==◌, true, false, [], ◌∷◌, length, map, Some, None, OnOk, OnErr, IfOk, IsOk, IsSome};
 ghost use Rattle.std.specs.List.{list_any};
-ghost use Rattle.undo_chain.specs.Records.{new_record, newest_of, value_of, TakesNewest, is_settled, has_writer, with_touch, without_touch, open_touches, unsettled_front, lacks_stamp, stamped_by, upside_down};
+ghost use Rattle.undo_chain.specs.Records.{new_record, newest_of, value_of, TakesNewest, is_settled, has_writer, with_touch, without_touch, open_touches, unsettled_front, lacks_stamp, outlasts, stamped_by, upside_down};
 ghost use Rattle.undo_chain.specs.States.{Grows, AreNamed};
 ghost use Rattle.undo_chain.specs.Walks.{is_to_stamp, KeepsLists, Restamps};
 ghost use Rattle.undo_chain.specs.declared.touched.Touched.TheVariants.{Never};
@@ -473,6 +473,23 @@ impl Chains {
         false
     }
 
+    /// Whether a list has a record that a prune at the horizon leaves, once this writer's records have a stamp up to it.
+    /// Nobody is asked for the writers of records without a stamp.
+    pub fn has_outlasting(&self, head: Option<usize>, by: TxnName, horizon: u64) -> bool
+        requires { IsHeadOf self.now head }
+        ensures { result ≡ list_any (outlasts by horizon) (list_at self.now head) }
+    {
+        let mut link = head;
+        'find: while let Some(key) = link {
+            let undo = self.record(key);
+            if outlasts(&undo, by, horizon) {
+                return true;
+            }
+            link = undo.next;
+        }
+        false
+    }
+
     /// Moves the first record of a list in front of another one. Answers the heads of both.
     fn hand_over(&mut self, from: usize, onto: Option<usize>) -> (Option<usize>, Option<usize>)
         requires from { IsHeadOf self.old (Some from) }
@@ -520,6 +537,16 @@ fn is_to_stamp(undo: &Undo, by: TxnName) -> bool
     ensures { result ≡ is_to_stamp by undo.now }
 {
     undo.by == by && undo.stamp.is_none()
+}
+
+/// Whether a record has neither a stamp up to the horizon, nor none though it is this writer's.
+fn outlasts(undo: &Undo, by: TxnName, horizon: u64) -> bool
+    ensures { result ≡ outlasts by horizon (unlinked undo.now) }
+{
+    match undo.stamp {
+        Some(stamp) => stamp > horizon,
+        None => undo.by != by,
+    }
 }
 
 /// Whether a record's writer had committed by then.
