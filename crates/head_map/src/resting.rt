@@ -1,8 +1,13 @@
 //! Heads and records of a segment at rest, in one box.
 
-ghost use Rattle.std.specs.Prelude.{◌≡◌, ◌⊎◌, true, []};
+ghost use Rattle.std.specs.Prelude.{◌≡◌, ◌⊎◌, ◌<◌, ◌≤◌, ℕ, true, [], IfSome};
+ghost use Rattle.std.specs.List.{list_any};
+ghost use Rattle.undo_chain.specs.Chains.{list_at, IsHeadOf};
+ghost use Rattle.undo_chain.specs.Records.{outlasts};
+ghost use Rattle.head_map.specs.Heads.{heads_placed, place_behind, settled_heads};
 
-use crate::heads::{HeadMap, Inside};
+use crate::heads::{HeadMap, Heads, Inside};
+use graph_model::TxnName;
 use std::alloc::Global;
 use std::marker::Model;
 use std::mem::replace;
@@ -62,6 +67,53 @@ impl RestingHeads {
                 alloc: _,
                 inside: _,
             } => false,
+        }
+    }
+
+    /// The heads of the row at a place.
+    pub fn get(&self, place: usize) -> Heads
+        ensures { result ≡ heads_placed self.now.heads.entries place }
+    {
+        match &self.kept {
+            Kept::Settled { alloc: _, count: _ } => Heads::settled(),
+            Kept::Changed { alloc: _, inside } => inside.list.get(place),
+        }
+    }
+
+    /// The last place before this one whose row is changed.
+    pub fn last_before(&self, place: usize) -> Option<usize>
+        ensures below { IfSome result (λ p. p < place) }
+        ensures between { (p : ℕ) → place_behind result ≤ p → p < place
+            → heads_placed self.now.heads.entries p ≡ settled_heads }
+    {
+        match &self.kept {
+            Kept::Settled { alloc: _, count: _ } => None,
+            Kept::Changed { alloc: _, inside } => inside.list.last_before(place),
+        }
+    }
+
+    /// Whether a list of records has one that a prune at the horizon leaves, once this writer's have a stamp up to it.
+    pub fn has_outlasting(&self, head: Option<usize>, by: TxnName, horizon: u64) -> bool
+        requires { IsHeadOf self.now.chains head }
+        ensures { result ≡ list_any (outlasts by horizon) (list_at self.now.chains head) }
+    {
+        match &self.kept {
+            Kept::Settled { alloc: _, count: _ } => false,
+            Kept::Changed { alloc: _, inside } => inside.chains.has_outlasting(head, by, horizon),
+        }
+    }
+
+    /// What is kept of as many settled rows. The memory of their records is given back.
+    pub fn settle(self) -> RestingHeads
+        ensures entries { result.heads.entries ≡ [] }
+        ensures count { result.count ≡ self.count }
+    {
+        match self.kept {
+            Kept::Settled { alloc, count } => RestingHeads::settled(alloc, count),
+            Kept::Changed { alloc, inside } => {
+                let count = inside.count;
+                RestingHeads::settled(alloc, count)
+            }
         }
     }
 
