@@ -4,6 +4,8 @@ pub mod LawLemmas
 pub mod LookupLemmas
 pub mod WordLemmas
 pub mod RestLemmas
+pub mod SettleLemmas
+pub mod SettledLemmas
 pub use Rattle.row_table.proofs.HeadMap.KeyedLemmas
 pub use Rattle.row_table.proofs.WalkLemmas
 pub mod ReweighLemmas

@@ -2,6 +2,7 @@ pub mod Changes
 pub mod Laws
 pub mod Resting
 pub mod RestingParts
+pub mod Settling
 pub use Rattle.row_table.specs.Rows
 pub use Rattle.row_table.specs.Checks
 pub use Rattle.row_table.specs.Parts

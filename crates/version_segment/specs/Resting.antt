@@ -1,12 +1,15 @@
 -- A segment at rest: its rows lie elsewhere, each with one word that tells its newest value.
-use Rattle.std.specs.Prelude.{◌≡◌, ℕ, zero, suc, ◌+◌, ◌-◌, ◌≤◌, ◌==◌, ◌^◌, nat_le, Bool, true, false, ◌||◌, not, cond, is_some, List, [], ◌∷◌, map, Option, Some, None, IfSome}
-use Rattle.std.specs.List.{AllByRecursion}
+use Rattle.std.specs.Prelude.{◌≡◌, ℕ, zero, suc, ◌+◌, ◌-◌, ◌≤◌, ◌==◌, ◌^◌, nat_le, Bool, true, false, ◌&&◌, ◌||◌, not, cond, is_some, List, [], ◌∷◌, map, Option, Some, None, IfSome}
+use Rattle.std.specs.List.{AllByRecursion, list_any}
+use Rattle.graph_model.specs.Conflict.{same_name}
+use Rattle.graph_model.specs.Transactions.{reached}
+use Rattle.graph_model.specs.declared.journal.TxnName.{TxnName}
 use Rattle.graph_model.specs.declared.row.Key.{Key}
 use Rattle.graph_model.specs.declared.row.Row.{Row}
 use Rattle.graph_model.specs.declared.limits.TheConstants.{MAX_WEIGHT}
 use Rattle.graph_model.specs.Rows.{is_below}
 use Rattle.gap_segment.specs.Fenced.{AreSorted, AreWithin}
-use Rattle.store_model.specs.Stamped.{Stamped, StampedVersions}
+use Rattle.store_model.specs.Stamped.{Stamped, StampedVersions, lacks_stamp}
 use Rattle.row_table.specs.Rows.{VersionedRows, IsSegment, is_empty}
 
 -- ---- the newest value of a row, and the rest of its versions
@@ -135,6 +138,23 @@ pub record CanWake (resting : RestingRows) (low high : Key) (rows : List Row) : 
   pub sorted : AreSorted rows
   pub within : AreWithin low high rows
   pub agree : AgreeWith resting.rows rows
+
+-- ---- rows that settle
+
+-- the record has neither a stamp up to the horizon, nor none though it is this writer's: once this writer's records have
+-- such a stamp, a prune leaves it
+abbrev pub outlasts : TxnName → ℕ → Stamped → Bool
+outlasts by horizon p = not (reached p.stamp horizon || (same_name p.by by && lacks_stamp p))
+
+-- the row has a value, and no record of it outlasts this writer's stamp
+pub record Settles (by : TxnName) (horizon : ℕ) (h : RestingRow) : Type 0 where
+  pub value : h.has_value ≡ true
+  pub pairs : list_any (outlasts by horizon) h.versions.pairs ≡ false
+  pub touches : list_any (outlasts by horizon) h.versions.touches ≡ false
+
+-- all rows settle once this writer's records have a stamp up to the horizon, and are pruned there
+abbrev pub CanSettle : TxnName → ℕ → List RestingRow → Type 0
+CanSettle by horizon rows = AllByRecursion (Settles by horizon) rows
 
 -- ---- laws
 

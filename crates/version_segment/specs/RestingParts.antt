@@ -1,8 +1,11 @@
 -- The parts of a segment at rest. Only the crate itself speaks of them.
-use Rattle.std.specs.Prelude.{◌≡◌, ℕ, zero, suc, ◌≤◌, not, is_some, min, List, [], ◌∷◌, map, Some, None}
+use Rattle.std.specs.Prelude.{◌≡◌, ℕ, zero, suc, ◌≤◌, true, false, not, is_some, min, List, [], ◌∷◌, map, Some, None}
+use Rattle.std.specs.List.{list_any}
+use Rattle.graph_model.specs.declared.journal.TxnName.{TxnName}
 use Rattle.graph_model.specs.declared.row.Row.{Row}
 use Rattle.graph_model.specs.declared.limits.TheConstants.{MAX_WEIGHT}
 use Rattle.undo_chain.specs.Chains.{ChainMap, list_at}
+use Rattle.undo_chain.specs.Records.{outlasts}
 use Rattle.row_table.specs.HeadMapDeclared.heads.Heads.{Heads}
 use Rattle.row_table.specs.HeadMap.Heads.{PlacedRow, PlaceTable, heads_placed, settled_heads}
 use Rattle.row_table.specs.Lists.{AreHeads, AreOthers, HasRest}
@@ -30,6 +33,12 @@ pub record AreRestingParts (c : ChainMap) (f : ℕ → Heads) (count : ℕ) : Ty
   pub apart : (p q : ℕ) → (p ≡ q → ⊥) → AreOthers (f q) (f p).undos (f p).touches
   pub rest : (p : ℕ) → HasRest (f p)
   pub behind : (p : ℕ) → count ≤ p → f p ≡ settled_heads
+
+-- the row with these heads has a value, and none of its records outlasts this writer's stamp
+pub record PlaceSettles (by : TxnName) (horizon : ℕ) (c : ChainMap) (h : Heads) : Type 0 where
+  pub value : h.has_value ≡ true
+  pub undos : list_any (outlasts by horizon) (list_at c h.undos) ≡ false
+  pub touches : list_any (outlasts by horizon) (list_at c h.touches) ≡ false
 
 -- ---- rows with words, and with weights
 

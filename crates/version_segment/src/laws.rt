@@ -1,6 +1,7 @@
 //! What a segment's calls do is what the definitions of a store say.
 
 ghost use Rattle.version_segment.specs.Laws.{WrittenIsWrite, UndoneIsUndo, TouchedIsTouch, UntouchedIsUntouch, StampsStayRight, KeyChanged, KeysPruned, RowsShared, ContentsOfSegment, BlockedIsCheck};
+ghost use Rattle.version_segment.specs.Settling.{SegmentIsStamped, SegmentSettles};
 ghost use Rattle.version_segment.specs.Resting.{RestedCanWake, RestsWoken, ValueWordsAre, WakesRested, WordsTell};
 
 /// What the calls make of a key's versions, apart from the stamps.
@@ -35,6 +36,12 @@ pub fn segments_rest_and_wake()
     ensures wakes { WakesRested }
     ensures can { RestedCanWake }
     ensures rests { RestsWoken }
+{}
+
+/// Where all rows settle, a stamp and a prune leave the newest value of each.
+pub fn segments_settle()
+    ensures stamped { SegmentIsStamped }
+    ensures settled { SegmentSettles }
 {}
 
 /// The value words of settled rows, of changed ones and of no value, each written out once more; and what they tell.

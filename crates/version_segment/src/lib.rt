@@ -21,7 +21,7 @@ pub use buffer::Rows32;
 pub use change::RowChange;
 pub use laws::{
     changes_are_by_key, changes_are_of_versions, checks_are_by_names, segments_are_cells,
-    segments_rest_and_wake, value_words_tell_values,
+    segments_rest_and_wake, segments_settle, value_words_tell_values,
 };
 pub use resting::Resting;
 pub use row_table::{NOWHERE, RowView};

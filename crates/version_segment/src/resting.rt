@@ -6,16 +6,17 @@
 //!    any room for rows.
 //! 3. No call takes memory.
 
-ghost use Rattle.std.specs.Prelude.{◌≡◌, ◌≤◌, ◌==◌, true, [], length};
+ghost use Rattle.std.specs.Prelude.{◌≡◌, ◌≤◌, ◌<◌, ◌==◌, ℕ, true, [], length, slice_get, Some, IfSome};
 ghost use Rattle.graph_model.specs.declared.limits.TheConstants.{SEGMENT_ROWS};
 ghost use Rattle.row_table.specs.HeadMap.Heads.{heads_placed};
-ghost use Rattle.version_segment.specs.Resting.{resting_of, settled_rest, word_rows, HasSmallWeights, CanWake, woken, AreErased};
-ghost use Rattle.version_segment.specs.RestingParts.{AreSmallAt, plain_rows, placed_words};
+ghost use Rattle.version_segment.specs.Resting.{RestingRow, resting_of, settled_rest, word_rows, HasSmallWeights, CanSettle, CanWake, woken, AreErased};
+ghost use Rattle.version_segment.specs.RestingParts.{AreSmallAt, PlaceSettles, plain_rows, placed_words};
+ghost use Rattle.row_table.specs.Lists.{AreHeads};
 
 use crate::segment::VersionSegment;
 use crate::value_word::{value_word, weight_in_word};
 use gap_segment::Segment;
-use graph_model::{Key, Row};
+use graph_model::{Key, Row, TxnName};
 use row_table::RowTable;
 use row_table::below::{HeadMap, RestingHeads};
 use std::alloc::Global;
@@ -75,6 +76,32 @@ impl Resting {
         self.heads.is_settled()
     }
 
+    /// Whether each row has a value, and no record would be left by a prune at the horizon once this writer's have a stamp
+    /// up to it. Only what is kept here is looked at, and nobody is asked for a writer.
+    pub fn can_settle(&self, by: TxnName, horizon: u64) -> bool
+        ensures { result ≡ true → CanSettle by horizon self.now.rows }
+    {
+        settle_all(&self.heads, by, horizon)
+    }
+
+    /// What is left of as many rows once they are settled. The memory of their records is given back.
+    pub fn settle(self) -> Resting
+        ensures { result.rows ≡ settled_rest (length self.rows) }
+    {
+        Resting {
+            heads: self.heads.settle(),
+        }
+    }
+
+    /// The last place before this one whose row is changed. Between both no row has undo records.
+    pub fn changed_before(&self, place: usize) -> Option<usize>
+        ensures below { IfSome result (λ p. p < place) }
+        ensures between { (p : ℕ) (h : RestingRow) → p < place → IfSome result (λ last. last < p)
+            → slice_get self.now.rows p ≡ Some h → h.versions.pairs ≡ [] }
+    {
+        self.heads.last_before(place)
+    }
+
     /// What holds of each segment at rest.
     pub fn is_at_rest(&self)
         ensures small { length self.now.rows ≤ SEGMENT_ROWS }
@@ -126,6 +153,34 @@ impl VersionSegment {
             chains,
         }
     }
+}
+
+/// Whether all rows settle.
+fn settle_all(heads: &RestingHeads, by: TxnName, horizon: u64) -> bool
+    requires { (p : ℕ) → AreHeads heads.now.chains (heads_placed heads.now.heads.entries p) }
+    ensures { result ≡ true → (p : ℕ) → p < heads.now.count
+        → PlaceSettles by horizon heads.now.chains (heads_placed heads.now.heads.entries p) }
+{
+    let mut end = heads.count();
+    'rows: while let Some(place) = heads.last_before(end) {
+        if !settles_at(heads, place, by, horizon) {
+            return false;
+        }
+        end = place;
+    }
+    true
+}
+
+/// Whether the row at a place settles.
+fn settles_at(heads: &RestingHeads, place: usize, by: TxnName, horizon: u64) -> bool
+    requires { AreHeads heads.now.chains (heads_placed heads.now.heads.entries place) }
+    ensures { result ≡ true → PlaceSettles by horizon heads.now.chains (heads_placed heads.now.heads.entries place) }
+{
+    let row = heads.get(place);
+    if !row.has_value || heads.has_outlasting(row.undos, by, horizon) {
+        return false;
+    }
+    !heads.has_outlasting(row.touches, by, horizon)
 }
 
 /// Gives each row the word of its value. Settled rows have it: it is their weight. So changed rows alone are looked at.
