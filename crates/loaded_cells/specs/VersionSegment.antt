@@ -3,3 +3,4 @@ pub use Rattle.rule_model.specs.VersionSegment.Checks
 pub use Rattle.rule_model.specs.VersionSegment.Keyed
 pub use Rattle.rule_model.specs.VersionSegment.Resting
 pub use Rattle.rule_model.specs.VersionSegment.Rows
+pub use Rattle.rule_model.specs.VersionSegment.Settling

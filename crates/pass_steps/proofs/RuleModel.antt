@@ -5,4 +5,5 @@ pub use Rattle.store_rule.proofs.RuleModel.PassFrame
 pub use Rattle.store_rule.proofs.RuleModel.PinFrame
 pub use Rattle.store_rule.proofs.RuleModel.PinStepLemmas
 pub use Rattle.store_rule.proofs.RuleModel.RowFrame
+pub use Rattle.store_rule.proofs.RuleModel.RowStepLemmas
 pub use Rattle.store_rule.proofs.RuleModel.TxnLemmas

@@ -8,3 +8,7 @@ pub mod TakeLemmas
 pub mod GoingLemmas
 pub mod SweptLemmas
 pub mod PassSteps
+pub mod CellsModel
+pub mod RuleModel
+pub mod StoreWords
+pub mod VersionSegment

@@ -6,3 +6,11 @@ pub mod GoingOn
 pub mod Swept
 pub mod Freed
 pub mod PassSteps
+pub mod CellsModel
+pub mod RuleModel
+pub mod StoreRelation
+pub mod StoreRelationDeclared
+pub mod StoreRule
+pub mod StoreRuleDeclared
+pub mod StoreWords
+pub mod VersionSegment

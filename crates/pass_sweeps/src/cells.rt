@@ -13,7 +13,7 @@ use pass_steps::below::{Pass, Resting, Store};
 use std::sync::Wait;
 
 /// Takes a cell as soon as no other pass has it.
-pub(crate) fn take_cell(rt: &impl Wait, store: &Store, pass: &mut Pass, cell: u32) -> Held<Resting>
+pub fn take_cell(rt: &impl Wait, store: &Store, pass: &mut Pass, cell: u32) -> Held<Resting>
     requires pass { IsPassOf store.now pass.old }
     requires none { HoldsNone pass.old }
     requires inside { cell < cells_of store.now.accounts.config }
@@ -28,7 +28,7 @@ pub(crate) fn take_cell(rt: &impl Wait, store: &Store, pass: &mut Pass, cell: u3
 }
 
 /// Gives a packed cell back.
-pub(crate) fn give_cell(store: &Store, pass: &mut Pass, held: Held<Resting>)
+pub fn give_cell(store: &Store, pass: &mut Pass, held: Held<Resting>)
     requires taken { (st : PassState) × (x : PinState) × (c : CellState)
         × HasCellOnly store.now pass.old st x held.cell c 0 × (c.unpacked ≡ false) × RestsAs c.segment held.value }
     ensures pass { IsPassOf store.now pass.new }

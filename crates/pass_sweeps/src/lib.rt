@@ -19,6 +19,7 @@ mod prune;
 mod seen;
 mod step;
 
+pub use cells::{give_cell, take_cell};
 pub use index::LeavesFreed;
 pub use laws::{sweeps_keep_the_rule, swept_passes_go_on};
 pub use leaf::{LeafSwept, sweep_leaf};

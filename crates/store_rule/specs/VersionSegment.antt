@@ -3,3 +3,4 @@ pub use Rattle.loaded_cells.specs.VersionSegment.Checks
 pub use Rattle.loaded_cells.specs.VersionSegment.Keyed
 pub use Rattle.loaded_cells.specs.VersionSegment.Resting
 pub use Rattle.loaded_cells.specs.VersionSegment.Rows
+pub use Rattle.loaded_cells.specs.VersionSegment.Settling

@@ -1,0 +1,2 @@
+-- Modules of store_relation that crates above name.
+pub use Rattle.pass_steps.specs.StoreRelationDeclared.stage

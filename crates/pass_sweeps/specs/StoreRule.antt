@@ -1,0 +1,3 @@
+-- Modules of store_rule that crates above name.
+pub use Rattle.pass_steps.specs.StoreRule.Passes
+pub use Rattle.pass_steps.specs.StoreRule.Slots

@@ -1,0 +1,2 @@
+-- Modules of store_words that crates above name.
+pub use Rattle.pass_steps.specs.StoreWords.Spelling
