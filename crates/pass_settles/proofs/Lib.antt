@@ -1,0 +1,4 @@
+pub mod MarkLemmas
+pub mod StepLemmas
+pub mod ChainLemmas
+pub mod KeyLemmas
