@@ -1,5 +1,5 @@
 -- What the steps of a read, a write, an undo and a stamping leave of the state of their pass.
-use Rattle.std.proofs.Common.{◌≡◌, inl, inr, ℕ, zero, suc, ◌+◌, ◌-◌, ◌≤◌, List, [], ◌∷◌, ◌++◌, take, drop, length, length-append, refl, sym, ◌∙◌, ap, subst, cond, arith}
+use Rattle.std.proofs.Common.{◌≡◌, inl, inr, ℕ, zero, suc, ◌+◌, ◌-◌, ◌≤◌, List, [], ◌∷◌, ◌++◌, take, drop, length, length-append, take_all, refl, sym, ◌∙◌, ap, subst, cond, arith}
 use Rattle.std.specs.Prelude.{Bool, true, false, ◌&&◌, ◌||◌, not, Option, Some, Err, slice_get}
 use Rattle.std.proofs.lemmas.Bool.{or_left, or_right, true≢false}
 use Rattle.graph_model.specs.declared.journal.Begun.{Begun}
@@ -36,6 +36,7 @@ use Rattle.pass_prunes.specs.PassSteps.Asking.{HasLooked, IsSnapshotOf, KnowsLoo
 use Rattle.pass_prunes.specs.PassSteps.Passes.{IsSamePass, pin_of, reader_of_pass, state_in, state_of}
 use Rattle.pass_prunes.proofs.PassSteps.PassLemmas.{pass_after, pass_has_looked, pass_is_stepped, pin_is, sight_is, state_is}
 use Rattle.pass_prunes.proofs.PassSteps.SightLemmas.{own_rows, state_here}
+use Rattle.pass_settles.specs.Settled.{StampsKeys}
 use Rattle.pass_writes.specs.Ending.{AreLeft, AreStampedTo, LeavesRows, keys_changed}
 use Rattle.pass_writes.specs.Found.{Finds}
 use Rattle.pass_writes.specs.Hand.{HasInHand}
@@ -269,6 +270,19 @@ beside others (k ∷ keys) q h = by_other (has_key others k) refl h (beside othe
           | inr f ↦ let r = rest f in (or_right (same_key q k) _ r.0, r.1)
         ]
 
+-- one that is none of these stays
+pub stays_beside : (ks us : List Key) (q : Key) → has_key ks q ≡ false → has_key us q ≡ true → has_key (keys_beside ks us) q ≡ true
+stays_beside ks [] q off has = has
+stays_beside ks (u ∷ us) q off has = go (same_key q u) (has_key ks u) refl refl has (stays_beside ks us q off)
+  where
+    go : (t b : Bool) → same_key q u ≡ t → has_key ks u ≡ b → (t || has_key us q) ≡ true
+        → (has_key us q ≡ true → has_key (keys_beside ks us) q ≡ true)
+        → has_key (cond (not b) (u ∷ keys_beside ks us) (keys_beside ks us)) q ≡ true
+    go true true e f h rest = let clash : true ≡ false = sym f ∙ ap (has_key ks) (sym (same_key_eq q u e)) ∙ off in cc
+    go true false e f h rest = ap (λ t. t || has_key (keys_beside ks us) q) e
+    go false true e f h rest = rest h
+    go false false e f h rest = ap (λ t. t || has_key (keys_beside ks us) q) e ∙ rest h
+
 -- LEFT: once those of one write are stamped the others are left
 pub fewer_left : (kind : Kind) (w : Write) (ws : List Write) (keys : List Key) → AreLeft kind (w ∷ ws) keys
     → AreLeft kind ws (keys_beside (keys_changed kind w) keys)
@@ -291,14 +305,69 @@ drop_at [] n x at = cc
 drop_at (y ∷ xs) zero x at = ap (λ b. b ∷ xs) (sym (some_same y x at))
 drop_at (y ∷ xs) (suc n) x at = drop_at xs n x at
 
+-- a slice to the end is what the front leaves
+drop_short : {X : Type 0} (xs : List X) (n : ℕ) → length (drop n xs) ≤ length xs - n
+drop_short xs zero = omega arith
+drop_short [] (suc n) = omega arith
+drop_short (x ∷ xs) (suc n) = let rest = drop_short xs n in omega (arith, rest)
+
+pub slice_end : {X : Type 0} (xs : List X) (n : ℕ) → take (length xs - n) (drop n xs) ≡ drop n xs
+slice_end xs n = take_all (length xs - n) (drop n xs) (drop_short xs n)
+
 -- STAMPED: the rows of one write more
 pub stamps_on : (kind : Kind) (first old new : PassState) (w : Write) (ws : List Write)
     → LeavesRows old.unstamped first old → AreLeft kind (w ∷ ws) old.unstamped
     → AreStampedTo kind w old new → LeavesRows new.unstamped first new × AreLeft kind ws new.unstamped
 stamps_on kind first old new w ws was left is = (
-  is ∙ (λ i. record (was i) { unstamped = (sym is i).unstamped; looks = new.looks }),
-  subst (λ (st : PassState). AreLeft kind ws st.unstamped) (sym is) (fewer_left kind w ws old.unstamped left),
+  is.is ∙ (λ i. record (was i) { unstamped = new.unstamped; looks = new.looks }),
+  λ q h. fewer_left kind w ws old.unstamped left q
+      (stays_beside (keys_changed kind w) old.unstamped q (not_gone q (has_key (keys_changed kind w) q) refl h) (is.left q h)),
 )
+  where
+    not_gone : (q : Key) (b : Bool) → has_key (keys_changed kind w) q ≡ b → has_key new.unstamped q ≡ true → has_key (keys_changed kind w) q ≡ false
+    not_gone q true e h = let clash : true ≡ false = sym h ∙ is.gone q e in cc
+    not_gone q false e h = e
+
+-- ---- keys whose rows are stamped in part by settling their cells
+
+-- those of the first keys are stamped, and then those of the others
+pub stamps_both : (kind : Kind) (w : Write) (keys : List Key) (n : ℕ) (old mid new : PassState) → keys ≡ keys_changed kind w
+    → StampsKeys (take n keys) old mid → LeavesRows (keys_beside (drop n keys) mid.unstamped) mid new
+    → AreStampedTo kind w old new
+stamps_both kind w keys n old mid new are first then =
+    let same : new.unstamped ≡ keys_beside (drop n keys) mid.unstamped = ap (λ (u : PassState). u.unstamped) then in
+    record {
+      is = then ∙ (λ i. record (first.is i) { unstamped = (sym same) i; looks = new.looks });
+      left = λ q h. first.left q (beside (drop n keys) mid.unstamped q (ap (λ l. has_key l q) (sym same) ∙ h)).0;
+      gone = λ q h. go q (has_key new.unstamped q) refl (has_key (take n keys) q) refl (ap (λ l. has_key l q) are ∙ h);
+    }
+  where
+    in_front : (ks : List Key) (m : ℕ) (q : Key) → has_key ks q ≡ true → has_key (drop m ks) q ≡ false → has_key (take m ks) q ≡ true
+    in_front ks zero q h none = let clash : true ≡ false = sym h ∙ none in cc
+    in_front [] (suc m) q h none = h
+    in_front (k ∷ ks) (suc m) q h none = by_first (same_key q k) (λ rest. in_front ks m q rest none) h
+      where
+        by_first : (b : Bool) → (has_key ks q ≡ true → has_key (take m ks) q ≡ true) → (b || has_key ks q) ≡ true
+            → (b || has_key (take m ks) q) ≡ true
+        by_first true go e = refl
+        by_first false go e = go e
+
+    go : (q : Key) (b : Bool) → has_key new.unstamped q ≡ b → (s : Bool) → has_key (take n keys) q ≡ s → has_key keys q ≡ true
+        → has_key new.unstamped q ≡ false
+    go q false e s f h = e
+    go q true e s f h =
+        let still = beside (drop n keys) mid.unstamped q (sym (ap (λ (u : PassState). has_key u.unstamped q) then) ∙ e) in
+        let front : has_key (take n keys) q ≡ true = in_front keys n q h still.1 in
+        let clash : true ≡ false = sym still.0 ∙ first.gone q front in cc
+
+-- those of all keys are
+pub stamps_all : (kind : Kind) (w : Write) (keys : List Key) (n : ℕ) (old mid : PassState) → keys ≡ keys_changed kind w
+    → length keys ≤ n → StampsKeys (take n keys) old mid → AreStampedTo kind w old mid
+stamps_all kind w keys n old mid are all is = record {
+  is = is.is ∙ (λ i. record old { unstamped = mid.unstamped; looks = (sym is.is i).looks });
+  left = is.left;
+  gone = λ q h. is.gone q (ap (λ l. has_key l q) (take_all n keys all) ∙ ap (λ l. has_key l q) are ∙ h);
+}
 
 -- ---- what is lent and given back
 

@@ -1,5 +1,5 @@
 -- Which rows of a commit are still to be stamped.
-use Rattle.std.specs.Prelude.{◌≡◌, ◌++◌, true, List}
+use Rattle.std.specs.Prelude.{◌≡◌, ◌++◌, true, false, List}
 use Rattle.graph_model.specs.declared.row.Key.{Key}
 use Rattle.graph_model.specs.declared.write.Kind.{Kind}
 use Rattle.graph_model.specs.declared.write.Write.{Write}
@@ -7,7 +7,6 @@ use Rattle.pass_prunes.specs.StoreRelation.Keys.{changed_keys, has_key}
 use Rattle.pass_prunes.specs.StoreRelation.Passes.{PassState}
 use Rattle.pass_prunes.specs.StoreRelation.Steps.{with_unstamped}
 use Rattle.pass_prunes.specs.RowWrites.Written.{rows_of, touched_keys, written_keys}
-use Rattle.pass_prunes.specs.PassCells.Changes.{keys_beside}
 
 -- only rows that these writes change
 abbrev pub AreLeft : Kind → List Write → List Key → Type 0
@@ -21,6 +20,8 @@ keys_changed kind w = written_keys (rows_of kind w) ++ touched_keys (rows_of kin
 abbrev pub LeavesRows : List Key → PassState → PassState → Type 0
 LeavesRows keys old new = new ≡ record (with_unstamped old keys) { looks = new.looks }
 
--- those of one write are stamped
-abbrev pub AreStampedTo : Kind → Write → PassState → PassState → Type 0
-AreStampedTo kind w old new = LeavesRows (keys_beside (keys_changed kind w) old.unstamped) old new
+-- those of one write are stamped, and maybe others, more words may have been found, and nothing else has changed
+pub record AreStampedTo (kind : Kind) (w : Write) (old new : PassState) : Type 0 where
+  pub is : LeavesRows new.unstamped old new
+  pub left : (q : Key) → has_key new.unstamped q ≡ true → has_key old.unstamped q ≡ true
+  pub gone : (q : Key) → has_key (keys_changed kind w) q ≡ true → has_key new.unstamped q ≡ false

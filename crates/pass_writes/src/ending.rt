@@ -1,23 +1,25 @@
 //! The rows of a transaction that ends: those of an abort are as they were, those of a commit get its stamp.
 
-ghost use Rattle.std.specs.Prelude.{◌≡◌, [], ◌∷◌, ◌++◌};
+ghost use Rattle.std.specs.Prelude.{◌≡◌, ◌≤◌, [], ◌∷◌, ◌++◌, length, take};
 ghost use Rattle.std.specs.List.{AllByRecursion};
 ghost use Rattle.graph_model.specs.Refused.{IsWithinLimits};
 ghost use Rattle.pass_prunes.specs.StoreRelationDeclared.stage.Stage.TheVariants.{Aborting, Idle};
 ghost use Rattle.pass_prunes.specs.StoreRelation.Steps.{taken_back};
-ghost use Rattle.pass_prunes.specs.PassCells.Changes.{but_newest};
+ghost use Rattle.pass_prunes.specs.PassCells.Changes.{but_newest, keys_beside};
 ghost use Rattle.pass_prunes.specs.PassSteps.Passes.{IsSamePass, name_of_pass, pin_of, state_of};
 ghost use Rattle.pass_prunes.specs.PassSteps.Txns.{HasCommitted};
 ghost use Rattle.pass_prunes.specs.PassSweeps.Sweeping.{HasSwept};
+ghost use Rattle.pass_settles.specs.Settled.{StampsKeys};
 ghost use Rattle.pass_writes.specs.Ending.{AreLeft, AreStampedTo, LeavesRows};
 ghost use Rattle.pass_writes.specs.Hand.{HasNothing};
 
 use crate::hand::{put_cells_back, take_cells};
 use crate::keys::FewKeys;
 use epoch_reclaim::Sweep;
-use graph_model::{TxnName, Write};
+use graph_model::{Key, TxnName, Write};
 use pass_prunes::below::{Pass, PassCells, Store, WrittenRows};
 use pass_prunes::prune_taken;
+use pass_settles::settle_keys;
 use std::sync::Wait;
 
 /// A commit leaves the prune to the sweeps where its horizon is more commits behind. A transaction is open that long:
@@ -77,8 +79,8 @@ fn undo_one(
     put_cells_back(store, pass, cells);
 }
 
-/// Gives the records in all rows of the last commit its stamp, given its writes, and prunes the cells of these rows at
-/// the horizon of the pass's sweep, where that is near. Takes no memory. The journal is free meanwhile: whoever meets a record without a
+/// Gives the records in all rows of the last commit its stamp, given its writes, and settles or prunes the cells of these
+/// rows at the horizon of the pass's sweep, where that is near. Takes no memory. The journal is free meanwhile: whoever meets a record without a
 /// stamp is told by the pass's word.
 pub fn stamp_all(
     rt: &impl Wait,
@@ -107,7 +109,7 @@ pub fn stamp_all(
     }
 }
 
-/// Stamps the rows of one write, and prunes their cells where the horizon is near.
+/// Stamps the rows of one write. Their cells are settled as far as nothing would be left of them.
 fn stamp_one(
     rt: &impl Wait,
     store: &Store,
@@ -130,9 +132,70 @@ fn stamp_one(
     ensures same { IsSamePass pass.old pass.new }
 {
     let rows = WrittenRows::of(store.config().kind, write);
-    let keys = FewKeys::of_changes(&rows);
-    take_cells(rt, store, pass, cells, keys.as_slice());
-    cells.stamp(store, pass, by, stamp, keys.as_slice());
+    let few = FewKeys::of_changes(&rows);
+    let keys = few.as_slice();
+    let settled = settle_cells(rt, store, pass, cells, sweep, by, stamp, keys);
+    if settled < keys.len() {
+        stamp_in_hand(rt, store, pass, cells, sweep, by, stamp, &keys[settled..]);
+    }
+}
+
+/// Settles the cells of these keys, where the horizon has reached the stamp, until one can't be. Answers of how many
+/// keys the rows are stamped then.
+fn settle_cells(
+    rt: &impl Wait,
+    store: &Store,
+    pass: &mut Pass,
+    cells: &mut PassCells,
+    sweep: &Sweep,
+    by: TxnName,
+    stamp: u64,
+    keys: &[Key],
+) -> usize
+    requires none { HasNothing store.now pass.old cells.old.taken.list.items }
+    requires stage { (state_of pass.old).stage ≡ Idle }
+    requires committed { HasCommitted pass.old.number (state_of pass.old) stamp }
+    requires name { by ≡ name_of_pass pass.old }
+    requires swept { HasSwept store.now pass.old sweep.now }
+    requires few { length keys.now ≤ 4 }
+    ensures count { result ≤ length keys.now }
+    ensures none { HasNothing store.now pass.new cells.new.taken.list.items }
+    ensures stamped { StampsKeys (take result keys.now) (state_of pass.old) (state_of pass.new) }
+    ensures pin { pin_of pass.new ≡ pin_of pass.old }
+    ensures same { IsSamePass pass.old pass.new }
+{
+    if store.pins().horizon(sweep) < stamp {
+        return 0;
+    }
+    let guesses = cells.hints.of_all(store, keys);
+    settle_keys(rt, store, pass, sweep, by, stamp, keys, &guesses)
+}
+
+/// Stamps the rows of these keys in cells that are taken for it, and prunes the cells where the horizon is near.
+fn stamp_in_hand(
+    rt: &impl Wait,
+    store: &Store,
+    pass: &mut Pass,
+    cells: &mut PassCells,
+    sweep: &Sweep,
+    by: TxnName,
+    stamp: u64,
+    keys: &[Key],
+)
+    requires none { HasNothing store.now pass.old cells.old.taken.list.items }
+    requires stage { (state_of pass.old).stage ≡ Idle }
+    requires committed { HasCommitted pass.old.number (state_of pass.old) stamp }
+    requires name { by ≡ name_of_pass pass.old }
+    requires swept { HasSwept store.now pass.old sweep.now }
+    requires few { length keys.now ≤ 4 }
+    ensures none { HasNothing store.now pass.new cells.new.taken.list.items }
+    ensures stamped { LeavesRows (keys_beside keys.now (state_of pass.old).unstamped) (state_of pass.old)
+        (state_of pass.new) }
+    ensures pin { pin_of pass.new ≡ pin_of pass.old }
+    ensures same { IsSamePass pass.old pass.new }
+{
+    take_cells(rt, store, pass, cells, keys);
+    cells.stamp(store, pass, by, stamp, keys);
     if is_worth_a_prune(store, sweep, stamp) {
         prune_taken(store, pass, cells, sweep);
     }
