@@ -5,7 +5,7 @@
 //!    spells contents in which the transaction sees its view. Only then is anything decoded.
 //! 2. What is loaded before may be half of a change: it decides how many words are loaded and which ones, and nothing
 //!    else.
-//! 3. A run of rows is read in the same way: the rows that were loaded are the view's where no word of them is marked.
+//! 3. A run of rows is read in the same way, up to the first row whose word is marked: those before it are the view's.
 //! 4. A cell's fence keys tell whether it is the key's. So any cell may be read for any key, by the index or by a hint.
 #![tactic(auto)]
 
