@@ -1,7 +1,7 @@
 //! A store is made with its passes, and closed with all of them.
 //!
 //! 1. Room for whatever comes back at the end is made with the store, so the end takes no memory.
-//! 2. A pass can't be let go: whoever has all passes of a store can close it.
+//! 2. A pass can't be let go alone: whoever has all passes of a store can close it, or let all of it go.
 
 ghost use Rattle.std.specs.Prelude.{◌≡◌, ◌+◌, ◌≤◌, ◌↔◌, ◌++◌, Err, IfOk, [], ◌∷◌, true, length};
 ghost use Rattle.std.specs.Vec.{vec_capacity};
@@ -146,6 +146,16 @@ pub fn close(store: Store, passes: Passes) -> Closed
         totals,
         closed: (),
     }
+}
+
+/// Lets a store go with all its passes, none of which has a transaction. Nothing comes out of it, and no row is looked at.
+pub fn let_go(store: Store, passes: Passes)
+    requires { AreIdle store passes.list.items }
+{
+    let Passes { list, ends } = passes;
+    give_up(list);
+    drop(ends);
+    drop(store);
 }
 
 /// Takes the seats of all passes back, in the order of their numbers.

@@ -15,7 +15,7 @@ mod totals;
 mod transactions;
 mod writes;
 
-pub use ends::{Closed, Passes, close, new};
+pub use ends::{Closed, Passes, close, let_go, new};
 pub use load::{LoadedRefusal, loaded, loaded_by_threads};
 pub use pass::Pass;
 pub use pass_writes::Written;

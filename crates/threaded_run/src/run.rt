@@ -14,7 +14,7 @@ use crate::workers::run_passes;
 use desk_io::Gate;
 use graph_model::{LoadRefusal, NoMemory, Writes};
 use items::Items;
-use rebalance_service::below::{Closed, LoadedRefusal, Passes, Store, close, loaded_by_threads};
+use rebalance_service::below::{Closed, LoadedRefusal, Passes, Store, close, let_go, loaded_by_threads};
 use run_model::Script;
 use shared_runs::closed_stores_leave_runs;
 use std::alloc::Global;
@@ -54,11 +54,15 @@ pub fn run_on_threads<R: Threads + Wait + Sync, G: Gate>(
 {
     closed_stores_leave_runs();
     let (store, mut passes) = load_store(rt, alloc, config, load)?;
-    let ran = run_passes(rt, alloc, &store, &mut passes.list, scripts, workers, gate);
-    let closed = close(store, passes);
-    match ran {
-        Ok(jobs) => Ok(ThreadedRun { closed, jobs }),
-        Err(NoMemory) => Err(LoadRefusal::NoMemory),
+    match run_passes(rt, alloc, &store, &mut passes.list, scripts, workers, gate) {
+        Ok(jobs) => {
+            let closed = close(store, passes);
+            Ok(ThreadedRun { closed, jobs })
+        }
+        Err(NoMemory) => {
+            let_go(store, passes);
+            Err(LoadRefusal::NoMemory)
+        }
     }
 }
 
