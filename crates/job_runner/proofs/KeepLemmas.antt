@@ -29,7 +29,6 @@ use Rattle.job_runner.specs.Runs.{IsUnused, writes_of_pass, files_context, AreTi
 use Rattle.job_runner.proofs.FileLemmas.{view_grows, files_to}
 use Rattle.job_runner.proofs.SeatLemmas.{rest_get}
 use Rattle.job_runner.proofs.TieLemmas as ties
-use Rattle.side_runs.proofs.MadeLemmas.{line_of, flat, made_more, made_count}
 use Rattle.job_runner.proofs.TieLemmas.{phase_fits, stop_closes, writes_open, last_behind, between_begins}
 
 -- ---- rows that were inserted

@@ -3,7 +3,6 @@ use Rattle.std.proofs.Common.{◌≡◌, ℕ, zero, suc, ◌+◌, ◌<◌, ◌�
 use Rattle.std.specs.Prelude.{◌⊎◌, Bool, true, false, ◌==◌, nat_lt, Option, Some, None, unwrap_or, slice_get, slice_set, Result, Ok, Err, IfOk, OnOk, OnErr}
 use Rattle.std.proofs.lemmas.Bool.{ne_eqb, cases_eq}
 use Rattle.std.proofs.lemmas.Bool.Decides.{nat_tests}
-use Rattle.std.proofs.lemmas.List.{append-nil}
 use Rattle.std.proofs.lemmas.Option.{slice_get_within}
 use Rattle.items.specs.declared.memory.NoMemory.{NoMemory}
 use Rattle.graph_model.specs.OwnerCalls.{PassState, Core, no_pass, pass_at, with_current, ended_pass}
@@ -153,7 +152,7 @@ module _ (core : Core) (jobs : List Progress) (k : ℕ) (job : Progress) (there 
       took_stuck turns.NoMemory took (Err e) says =
           let up : new ≡ given_up (record core { selected = suc k }) job.phase = took.0 ∙ ap (λ x. given_up x job.phase) now_is in
           let one = gives_up_one core jobs k job there (are_held inputs core jobs u) (ties.inside inputs core jobs u k job there) next took.1 in
-          subst (λ x. IsStuck core x (slice_set jobs k next)) (sym up) (record { held = one.0; journal = ([], one.1 ∙ sym (append-nil core.journal)) })
+          subst (λ x. IsStuck core x (slice_set jobs k next)) (sym up) (record { held = one.0; journal = one.1 })
 
 -- the passes of the jobs so far are closed, and that of one more
 pub closed_more : (core new : Core) (i : ℕ) → ((k : ℕ) → k < i → (pass_at core (suc k)).start ≡ None) → (pass_at new (suc i)).start ≡ None → ((p : ℕ) → (p ≡ suc i → ⊥) → pass_at new p ≡ pass_at core p)

@@ -152,10 +152,15 @@ pub record AreHeld (core : Core) (jobs : List Progress) : Type 0 where
   pub each : (k : ℕ) (job : Progress) → slice_get jobs k ≡ Some job
       → (job.number ≡ suc k) × HoldsPhase job.phase (pass_at core (suc k)).start
 
--- memory was wanted in a turn: one job has given up, and what the journal had is kept
+-- memory ran out in a turn: no pass has an open transaction but those of jobs that say so, and nothing was committed
 pub record IsStuck (old new : Core) (jobs : List Progress) : Type 0 where
   pub held : AreHeld new jobs
-  pub journal : (rest : List Commit) × (new.journal ≡ old.journal ++ rest)
+  pub journal : new.journal ≡ old.journal
+
+-- memory ran out in some turn of a run, before which others may have committed
+pub record RunIsStuck (first new : Core) (jobs : List Progress) : Type 0 where
+  pub held : AreHeld new jobs
+  pub journal : (rest : List Commit) × (new.journal ≡ first.journal ++ rest)
 
 -- memory was wanted: nothing is open, and what the journal had is kept
 pub record GivesUp (old new : Core) : Type 0 where

@@ -7,7 +7,7 @@
 
 ghost use Rattle.std.specs.Prelude.{◌≡◌, ℕ, List, suc, ◌+◌, ◌<◌, ◌≤◌, false, length, slice_get, slice_set, Some, OnOk, OnErr, IfOk};
 ghost use Rattle.run_model.specs.Inputs.{Inputs};
-ghost use Rattle.job_runner.specs.Runs.{AreNew, AreUnderWay, IsStuck, Turns, Goes, GivesUp, Ends};
+ghost use Rattle.job_runner.specs.Runs.{AreNew, AreUnderWay, IsStuck, RunIsStuck, Turns, Goes, GivesUp, Ends};
 
 use crate::jobs::Jobs;
 use graph_model::{NoMemory, StepEngine};
@@ -46,7 +46,7 @@ fn take_turns<R: Threads + Sync, E: StepEngine>(
     requires listed { (i job : ℕ) → slice_get schedule.now i ≡ Some job → job ≤ length jobs.old }
     ensures ends { OnOk result ((inputs : Inputs) → AreNew inputs (E.core engine.old) jobs.old
         → Ends inputs schedule.now (E.core engine.old) (E.core engine.new) jobs.new) }
-    ensures err { OnErr result (IsStuck (E.core engine.old) (E.core engine.new) jobs.new) }
+    ensures err { OnErr result (RunIsStuck (E.core engine.old) (E.core engine.new) jobs.new) }
 {
     let count = jobs.len();
     let mut left = jobs.under_way();

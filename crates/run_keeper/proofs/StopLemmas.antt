@@ -1,5 +1,5 @@
 -- What is kept of a run that stops: of its journal so far, all but one commit at most.
-use Rattle.std.proofs.Common.{◌≡◌, inl, inr, ℕ, zero, suc, ◌+◌, ◌<◌, ◌≤◌, List, [], ◌∷◌, ◌++◌, length, refl, sym, subst, arith}
+use Rattle.std.proofs.Common.{◌≡◌, inl, inr, ℕ, zero, suc, ◌+◌, ◌<◌, ◌≤◌, List, [], ◌∷◌, ◌++◌, length, refl, sym, ◌∙◌, subst, arith}
 use Rattle.std.specs.Prelude.{Bool, true, false, cond, nat_lt, Option, Some, None, slice_get}
 use Rattle.std.proofs.lemmas.List.{length-append, append-nil}
 use Rattle.graph_model.specs.declared.write.Kind.{Kind}
@@ -143,8 +143,8 @@ module _ {D : Type 0} (moment : D → ℕ) (may_leave : D → List ℕ → Type 
   -- memory was wanted in it
   pub stuck : IsStuck old new next → IsKept moment may_leave left_since state old.kind old.journal file now → TurnStops (acknowledged_on moment may_leave left_since now old.kind) old jobs number new next file.count
   stuck is kept = inr (
-    (is.journal).0,
-    (is.journal).1,
+    [],
+    is.journal ∙ sym (append-nil old.journal),
     kept.settled.count,
     subst (λ n. AreAcknowledged moment may_leave left_since old.kind old.journal n now) (sym kept.settled.count) kept.acknowledged,
   )

@@ -1,5 +1,5 @@
 -- A job that was prepared for its turn: what that leaves of the jobs, and the turn behind it.
-use Rattle.std.proofs.Common.{◌≡◌, ℕ, suc, ◌-◌, ◌*◌, ◌<◌, List, [], ◌∷◌, ◌++◌, length, refl, sym, ◌∙◌, ap, subst, arith, cond, inl, inr, append_assoc}
+use Rattle.std.proofs.Common.{◌≡◌, ℕ, suc, ◌-◌, ◌*◌, ◌<◌, List, [], ◌∷◌, ◌++◌, length, refl, sym, ◌∙◌, ap, subst, arith, cond, inl, inr}
 use Rattle.std.specs.Prelude.{◌⊎◌, Bool, true, false, ◌||◌, not, sum_by, slice_get, slice_set, Option, Some, None, Result, Ok, Err, IfOk, OnOk, OnErr, is_some}
 use Rattle.std.proofs.lemmas.Bool.{true≢false}
 use Rattle.std.proofs.lemmas.List.{append-nil}
@@ -17,7 +17,7 @@ use Rattle.run_model.proofs.AnswerLemmas.{asks_commit}
 use Rattle.job_runner.specs.LineRunner.Scanning.{too_many_turns, taken_of}
 use Rattle.job_runner.specs.Progress.{Progress, left_of, has_given_up, is_over}
 use Rattle.job_runner.specs.LineRunner.Phases.{is_skipping}
-use Rattle.job_runner.specs.Runs.{AreUnderWay, under_way, turns_left, Turns, Goes, AreHeld, IsStuck}
+use Rattle.job_runner.specs.Runs.{AreUnderWay, under_way, turns_left, Turns, Goes, AreHeld, IsStuck, RunIsStuck}
 use Rattle.job_runner.proofs.KeepLemmas.{sum_changed, length_set}
 use Rattle.job_runner.proofs.TookLemmas.{set_same, are_held}
 use Rattle.job_runner.proofs.TieLemmas as ties
@@ -137,19 +137,17 @@ on_err (Err e) p = p
 pub stuck_here : (inputs : Inputs) (core : Core) (jobs mid : List Progress) → AreUnderWay inputs core jobs → mid ≡ jobs → IsStuck core core mid
 stuck_here inputs core jobs mid u same = record {
   held = subst (AreHeld core) (sym same) (are_held inputs core jobs u);
-  journal = ([], sym (append-nil core.journal));
+  journal = refl;
 }
+
+-- before any turn of the run
+pub stuck_at_first : (core new : Core) (next : List Progress) → IsStuck core new next → RunIsStuck core new next
+stuck_at_first core new next stuck = record { held = stuck.held; journal = ([], stuck.journal ∙ sym (append-nil core.journal)) }
 
 -- behind some turns
 pub stuck_on : (inputs : Inputs) (schedule : List ℕ) (first : Core) (n : ℕ) (core : Core) (jobs : List Progress) (checks : List Check) → IsUnderCheck inputs schedule first n core jobs checks → (new : Core) (next : List Progress)
-    → IsStuck core new next → IsStuck first new next
-stuck_on inputs schedule first n core jobs checks u new next stuck = record {
-  held = stuck.held;
-  journal = (
-    (u.journal).0 ++ (stuck.journal).0,
-    (stuck.journal).1 ∙ ap (λ xs. xs ++ (stuck.journal).0) (u.journal).1 ∙ append_assoc first.journal (u.journal).0 (stuck.journal).0,
-  );
-}
+    → IsStuck core new next → RunIsStuck first new next
+stuck_on inputs schedule first n core jobs checks u new next stuck = record { held = stuck.held; journal = ((u.journal).0, stuck.journal ∙ (u.journal).1) }
 
 -- ---- turns
 

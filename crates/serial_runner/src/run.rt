@@ -9,7 +9,7 @@ ghost use Rattle.graph_model.specs.Legal.{IsLegal};
 ghost use Rattle.graph_model.specs.OwnerCalls.{Core, pass_at};
 ghost use Rattle.run_model.specs.Inputs.{Inputs};
 ghost use Rattle.job_runner.specs.Progress.{Progress, is_over};
-ghost use Rattle.job_runner.specs.Runs.{AreNew, AreUnderWay, IsStuck, Goes, GivesUp, under_way};
+ghost use Rattle.job_runner.specs.Runs.{AreNew, AreUnderWay, IsStuck, RunIsStuck, Goes, GivesUp, under_way};
 ghost use Rattle.run_model.specs.Requests.{ToCommit, request};
 ghost use Rattle.serial_model.specs.SerialRun.{is_commit};
 ghost use Rattle.serial_runner.specs.SerialRuns.{is_begin, AreFresh, IsUnderCheck, TakesCheckedTurn, PreparesLine, Prepares, refusal_since, refusal_by, job_anew, jobs_anew, SerialEnds};
@@ -76,7 +76,7 @@ fn run_checked<R: Threads + Sync, E: JournalEngine>(
     requires listed { (i job : ℕ) → slice_get schedule.now i ≡ Some job → job ≤ length jobs.old }
     ensures ends { OnOk result ((inputs : Inputs) → AreNew inputs (E.core engine.old) jobs.old
         → SerialEnds inputs schedule.now (E.core engine.old) (E.core engine.new) jobs.new) }
-    ensures err { OnErr result (IsStuck (E.core engine.old) (E.core engine.new) jobs.new) }
+    ensures err { OnErr result (RunIsStuck (E.core engine.old) (E.core engine.new) jobs.new) }
 {
     let mut checks = new_checks(alloc, jobs.len())?;
     run_with(rt, engine, jobs, checks.as_mut_slice(), schedule)
@@ -96,7 +96,7 @@ fn run_with<R: Threads + Sync, E: JournalEngine>(
     requires count { length checks.old ≡ length jobs.old }
     ensures ends { OnOk result ((inputs : Inputs) → AreNew inputs (E.core engine.old) jobs.old
         → SerialEnds inputs schedule.now (E.core engine.old) (E.core engine.new) jobs.new) }
-    ensures err { OnErr result (IsStuck (E.core engine.old) (E.core engine.new) jobs.new) }
+    ensures err { OnErr result (RunIsStuck (E.core engine.old) (E.core engine.new) jobs.new) }
 {
     take_turns(rt, engine, jobs, checks, schedule)?;
     answer_refused(jobs, checks);
@@ -135,7 +135,7 @@ fn take_turns<R: Threads + Sync, E: JournalEngine>(
         → (turns : ℕ)
         × IsUnderCheck inputs schedule.now (E.core engine.old) turns (E.core engine.new) jobs.new checks.new
         × (under_way jobs.new ≡ 0)) }
-    ensures err { OnErr result (IsStuck (E.core engine.old) (E.core engine.new) jobs.new) }
+    ensures err { OnErr result (RunIsStuck (E.core engine.old) (E.core engine.new) jobs.new) }
 {
     let count = jobs.len();
     let mut left = jobs.under_way();
