@@ -20,6 +20,7 @@ use bench_kernel::{BenchKernel, table_of};
 use checks::{are_ended, are_storable};
 use graph_image::{Builder, Image};
 use graph_model::Row;
+use part_scan::cut_rows;
 use std::alloc::Global;
 use std::env;
 use std::env::Env;
@@ -78,6 +79,7 @@ fn time<R: Threads + Sync + Clock + Print>(rt: &R, alloc: Global, rows: &[Row]) 
     builder.push(rows)?;
     let image = builder.finish()?;
     say(rt, "image", begun)?;
+    time_parts(rt, alloc, rows)?;
     'kernels: for (name, kernel) in KERNELS {
         time_kernel(rt, alloc, &image, name, kernel)?;
     }
@@ -87,6 +89,17 @@ fn time<R: Threads + Sync + Clock + Print>(rt: &R, alloc: Global, rows: &[Row]) 
         time_kernel(rt, alloc, &image, name.as_str(), kernel)?;
     }
     Ok(())
+}
+
+/// Makes the image of the rows in 4 parts, and prints a line for it.
+fn time_parts<R: Threads + Sync + Clock + Print>(rt: &R, alloc: Global, rows: &[Row]) -> Result<()>
+    requires storable { AreStorable rows.now }
+    requires ended { AreEnded rows.now }
+{
+    let lists = cut_rows(alloc, rows, 4)?;
+    let begun = Instant::now(rt)?;
+    let _image = Image::from_parts(rt, alloc, &lists)?;
+    say(rt, "image/4", begun)
 }
 
 /// Runs a kernel, and prints its name and the microseconds that it took.

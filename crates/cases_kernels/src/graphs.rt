@@ -96,7 +96,7 @@ pub fn arrows(alloc: Global) -> Result<Image, NoMemory> {
 }
 
 /// The rows of these numbers: two of the key, and the weight.
-fn rows_of(alloc: Global, numbers: &[(u64, u64, u64)]) -> Result<Vec<Row>, AllocError>
+pub fn rows_of(alloc: Global, numbers: &[(u64, u64, u64)]) -> Result<Vec<Row>, AllocError>
     ensures { IfOk result (λ rows. rows.items
         ≡ map (λ k. record { key = record { src = k.0; second = k.1 }; weight = k.2 }) numbers.now) }
 {
@@ -113,7 +113,7 @@ fn rows_of(alloc: Global, numbers: &[(u64, u64, u64)]) -> Result<Vec<Row>, Alloc
 }
 
 /// The image of the rows.
-fn image_of(alloc: Global, rows: &[Row]) -> Result<Image, NoMemory>
+pub fn image_of(alloc: Global, rows: &[Row]) -> Result<Image, NoMemory>
     requires storable { AreStorable rows.now }
     requires ended { AreEnded rows.now }
 {

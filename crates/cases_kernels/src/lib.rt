@@ -7,6 +7,8 @@
 #[cfg(test)]
 mod graphs;
 #[cfg(test)]
+mod images;
+#[cfg(test)]
 mod labels;
 #[cfg(test)]
 mod paths;

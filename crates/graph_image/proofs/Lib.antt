@@ -1,6 +1,7 @@
 pub mod Lists
 pub mod PlaceLemmas
 pub mod GroupLemmas
+pub mod TurnLemmas
 pub mod BuildLemmas
 pub mod LayLemmas
 pub mod PartLemmas

@@ -374,3 +374,11 @@ shared_by_place [] [] count each = tt
 shared_by_place [] (y ∷ ys) count each = absurd (omega arith)
 shared_by_place (x ∷ xs) [] count each = absurd (omega arith)
 shared_by_place (x ∷ xs) (y ∷ ys) count each = (each 0 y (omega arith), shared_by_place xs ys (omega arith) (λ i e below. each (suc i) e (omega arith)))
+
+-- a list that ends, and the next one that begins
+pub rows_in_push : (full : List (List Row)) (last begun : List Row) → begun ≡ [] → rows_in (full ++ last ∷ []) ++ begun ≡ rows_in full ++ last
+rows_in_push full last begun none = ap (λ rs. rows_in (full ++ last ∷ []) ++ rs) none ∙ append-nil (rows_in (full ++ last ∷ [])) ∙ rows_in_append full (last ∷ []) ∙ ap (λ rs. rows_in full ++ rs) (append-nil last)
+
+-- the same without a next one
+pub rows_in_last : (full : List (List Row)) (last : List Row) → rows_in (full ++ last ∷ []) ≡ rows_in full ++ last
+rows_in_last full last = rows_in_append full (last ∷ []) ∙ ap (λ rs. rows_in full ++ rs) (append-nil last)

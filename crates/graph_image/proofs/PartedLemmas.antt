@@ -1,20 +1,22 @@
 -- The image of rows in parts.
-use Rattle.std.proofs.Common.{◌≡◌, ℕ, ◌+◌, ◌<◌, ◌^◌, List, [], ◌∷◌, ◌++◌, Bool, true, false, cond, length, take, drop, get_or, slice_set, None, refl, sym, ap, ◌∙◌, subst, arith}
+use Rattle.std.proofs.Common.{◌≡◌, ℕ, ◌+◌, ◌<◌, ◌^◌, List, [], ◌∷◌, ◌++◌, Bool, true, false, cond, map, length, take, drop, get_or, slice_set, None, Some, refl, sym, ap, ◌∙◌, subst, arith}
 use Rattle.std.specs.Prelude.{unwrap_or}
 use Rattle.std.specs.List.{All, AllZip}
-use Rattle.std.proofs.lemmas.List.{append-nil, take_all, take_more, take-append-drop, take-append-le}
+use Rattle.std.proofs.lemmas.List.{take_all, take-append-le}
 use Rattle.std.proofs.lemmas.Option.{slice_get-get_or}
 use Rattle.graph_model.specs.declared.row.Row.{Row}
-use Rattle.graph_model.specs.Graph.{Graph}
+use Rattle.graph_model.specs.Graph.{Graph, IsSymmetric}
 use Rattle.graph_model.specs.Rows.{AreRowsOf}
-use Rattle.graph_image.specs.Images.{Listed, Places, IdsRise, IsImageOf}
-use Rattle.graph_image.specs.Edges.{IsListed, IsMirrored}
-use Rattle.graph_image.specs.Building.{AreStorable, AreEnded}
-use Rattle.graph_image.specs.Parts.{is_vertex, vertices_in, arcs_in, ids_of, starts_from, arc_rows, IsArcOf, IsPlaceable}
-use Rattle.graph_image.proofs.ImageLemmas.{finished}
+use Rattle.graph_image.specs.Images.{Listed, Places, IdsRise, IsImageOf, LeadsBy}
+use Rattle.graph_image.specs.declared.edge.Edge.{Edge}
+use Rattle.graph_image.specs.declared.edge.Side.TheVariants.{Into}
+use Rattle.graph_image.specs.Edges.{AreListedOut, IsGrouped, IsListed, IsMirrored}
+use Rattle.graph_image.specs.Building.{AreStorable, AreEnded, shown}
+use Rattle.graph_image.specs.Parts.{is_vertex, vertices_in, arcs_in, ids_of, starts_from, arc_rows, AreLaidOut, IsArcOf, IsPlaceable}
+use Rattle.graph_image.proofs.ImageLemmas.{finished, outs_right}
 use Rattle.part_scan.specs.Parts.{rows_in}
-use Rattle.graph_image.proofs.BuildLemmas.{storable_front}
-use Rattle.graph_image.proofs.PartLemmas.{vertices_and_arcs, length_ids, zip_length, rows_in_append}
+use Rattle.graph_image.proofs.BuildLemmas.{edges_within}
+use Rattle.graph_image.proofs.PartLemmas.{vertices_and_arcs, length_ids, zip_length}
 use Rattle.graph_image.proofs.OrderLemmas.{AreOutOf, out_of_rows, rows_placeable, ids_rise}
 
 length_left : (b : Bool) (r : Row) (rs : List Row) (n : ℕ) → length rs ≡ n → length (cond b rs (r ∷ rs)) ≡ cond b 0 1 + n
@@ -40,37 +42,63 @@ module _ (rows : List Row) (storable : AreStorable rows) (ended : AreEnded rows)
   pub all_rise : (vertices : List ℕ) → vertices ≡ ids_of rows → IdsRise vertices
   all_rise vertices is = subst IdsRise (sym is) (ids_rise rows storable ended)
 
-  module _ (vertices : List ℕ) (out : Listed) (vertices_are : vertices ≡ ids_of rows) (starts_are : out.starts ≡ starts_from 0 rows ++ arcs_in rows ∷ []) (arcs_are : AllZip (IsArcOf (ids_of rows)) (arc_rows rows) out.arcs) where
-    laid : AreOutOf rows out.starts out.arcs
-    laid = out_of_rows rows storable ended out.starts out.arcs starts_are arcs_are
+  module _ (vertices : List ℕ) (out : Listed) (is : AreLaidOut rows vertices out) where
+    abbrev laid : AreOutOf rows out.starts out.arcs
+    laid = out_of_rows rows storable ended out.starts out.arcs is.starts is.arcs
 
-    pub parted_listed : IsListed (length vertices) out
-    parted_listed = subst (λ vs. IsListed (length vs) out) (sym vertices_are) laid.listed
+    pub laid_listed : IsListed (length vertices) out
+    laid_listed = subst (λ vs. IsListed (length vs) out) (sym is.vertices) laid.listed
 
-    pub parted_few : (length vertices < 2 ^ 32) × (length out.arcs < 2 ^ 32)
-    parted_few =
-        let n = ap length vertices_are ∙ length_ids rows in
-        let m = sym (zip_length (IsArcOf (ids_of rows)) (arc_rows rows) out.arcs arcs_are) ∙ length_arc_rows rows in
+    pub laid_few : (length vertices < 2 ^ 32) × (length out.arcs < 2 ^ 32)
+    laid_few =
+        let n = ap length is.vertices ∙ length_ids rows in
+        let m = sym (zip_length (IsArcOf (ids_of rows)) (arc_rows rows) out.arcs is.arcs) ∙ length_arc_rows rows in
         let low = few_vertices in
         let few = few_arcs in
         (omega (arith, n, low), omega (arith, m, few))
 
-    -- where each arc is listed at its other end as well, they make the image
-    pub parted_image : IsMirrored (length vertices) out → (image : Places) → image ≡ record { vertices = vertices; out = out; into = unwrap_or None out } → (g : Graph) → AreRowsOf rows g → IsImageOf image g
-    parted_image mirrored image image_is g are = finished (ids_of rows) laid.placed laid.built (ids_of rows) laid.placed refl refl out None laid.has tt (subst (λ vs. IsMirrored (length vs) out) vertices_are mirrored)
-        vertices vertices_are image image_is rows laid.are g are
+    -- the edges of the rows are listed at the places that they lead from
+    abbrev edges : List Edge
+    edges = laid.has.0
 
--- ---- one list after the other
+    edges_are : AreListedOut (length (ids_of rows)) edges out
+    edges_are = record {
+      are = edges_within (ids_of rows) laid.placed (length laid.placed) edges laid.built (omega arith) laid.has.1;
+      rise = laid.has.1.froms;
+      grouped = laid.has.2;
+    }
 
--- one list more is pushed
-pub pushed_rows : (lists : List (List Row)) (i : ℕ) → i < length lists → (builder part d : List Row) → builder ≡ rows_in (take i lists) → part ≡ get_or lists i d → builder ++ part ≡ rows_in (take (i + 1) lists)
-pushed_rows lists i below builder part d builder_is part_is = (λ j. builder_is j ++ part_is j) ∙ ap (λ rs. rows_in (take i lists) ++ rs) (sym (append-nil (get_or lists i d)))
-    ∙ sym (rows_in_append (take i lists) (get_or lists i d ∷ [])) ∙ ap rows_in (sym (take_more lists i d below))
+    edges_here : AreListedOut (length vertices) edges out
+    edges_here = subst (λ vs. AreListedOut (length vs) edges out) (sym is.vertices) edges_are
 
-pub pushed_storable : (lists : List (List Row)) (i : ℕ) → i < length lists → (builder part d : List Row) → builder ≡ rows_in (take i lists) → part ≡ get_or lists i d → AreStorable (rows_in lists) → AreStorable (builder ++ part)
-pushed_storable lists i below builder part d builder_is part_is storable =
-    let whole = sym (rows_in_append (take (i + 1) lists) (drop (i + 1) lists)) ∙ ap rows_in (take-append-drop (i + 1) lists) in
-    subst AreStorable (sym (pushed_rows lists i below builder part d builder_is part_is)) (storable_front (rows_in (take (i + 1) lists)) (rows_in (drop (i + 1) lists)) (subst AreStorable (sym whole) storable))
+    pub laid_edges : (es : List Edge) × AreListedOut (length vertices) es out
+    laid_edges = (edges, edges_here)
+
+    -- where each arc is listed at its other end as well, the arcs out serve
+    pub mirrored_image : IsMirrored (length vertices) out → (image : Places) → image ≡ record { vertices = vertices; out = out; into = unwrap_or None out } → (g : Graph) → AreRowsOf rows g → IsImageOf image g
+    mirrored_image mirrored image image_is g are = finished (ids_of rows) laid.placed laid.built (ids_of rows) laid.placed refl refl out None laid.has tt (subst (λ vs. IsMirrored (length vs) out) is.vertices mirrored)
+        vertices is.vertices image image_is rows laid.are g are
+
+    -- of a symmetric graph each arc is
+    pub symmetric_mirrored : (g : Graph) → AreRowsOf rows g → IsSymmetric g → IsMirrored (length vertices) out
+    symmetric_mirrored g are symmetric =
+        let ids = ids_of rows in
+        let shown_are : AreRowsOf (map (shown ids) laid.placed) g = subst (λ rs. AreRowsOf rs g) (sym laid.are) are in
+        let outs = outs_right ids laid.placed laid.built g shown_are out laid.has in
+        subst (λ vs. IsMirrored (length vs) out) (sym is.vertices) (record {
+          each = λ p k a below at.
+              let leads = (outs p below).sound k a at in
+              let back : LeadsBy g ids a.other p a.weight = record { from = leads.to; to = leads.from; from_at = leads.to_at; to_at = leads.from_at; weighs = symmetric leads.to leads.from ∙ leads.weighs } in
+              (outs a.other (laid.listed.within p below k a at)).complete p a.weight back;
+        })
+
+    -- else those in are the same edges, listed at their other ends
+    pub turned_image : (into : Listed) → ((es : List Edge) → AreListedOut (length vertices) es out → IsGrouped Into (length vertices) es into)
+        → (image : Places) → image ≡ record { vertices = vertices; out = out; into = unwrap_or (Some into) out } → (g : Graph) → AreRowsOf rows g → IsImageOf image g
+    turned_image into grouped image image_is g are =
+        let here : IsGrouped Into (length (ids_of rows)) edges into = subst (λ vs. IsGrouped Into (length vs) edges into) is.vertices (grouped edges edges_here) in
+        finished (ids_of rows) laid.placed laid.built (ids_of rows) laid.placed refl refl out (Some into) laid.has (edges, laid.has.1, here) tt
+        vertices is.vertices image image_is rows laid.are g are
 
 -- what is written over a whole list
 pub written_all : (n : ℕ) (xs ys zs : List ℕ) → xs ≡ zs → length xs ≡ n → take n (xs ++ ys) ≡ zs

@@ -1,7 +1,9 @@
 -- Rows in parts, and what each part lays of an image.
-use Rattle.std.specs.Prelude.{◌≡◌, ℕ, ◌+◌, ◌-◌, ◌<◌, ◌≤◌, ◌==◌, Bool, cond, List, [], ◌∷◌, slice_get, Some}
+use Rattle.std.specs.Prelude.{◌≡◌, ℕ, ◌+◌, ◌-◌, ◌<◌, ◌≤◌, ◌++◌, ◌==◌, Bool, cond, List, [], ◌∷◌, slice_get, Some}
+use Rattle.std.specs.List.{AllZip}
 use Rattle.graph_model.specs.declared.limits.TheConstants.{MAX_WEIGHT}
 use Rattle.graph_model.specs.declared.row.Row.{Row}
+use Rattle.graph_image.specs.Images.{Listed}
 use Rattle.graph_image.specs.declared.edge.Arc.{Arc}
 use Rattle.graph_image.specs.declared.part.Share.{Share}
 
@@ -48,3 +50,9 @@ pub record IsPlaceable (vertices : List ℕ) (r : Row) : Type 0 where
 pub record IsShareOf (rows : List Row) (share : Share) : Type 0 where
   pub vertices : share.vertices ≡ vertices_in rows
   pub arcs : share.arcs ≡ arcs_in rows
+
+-- the vertices of the rows, where the arcs out of each begin and at last where they all end, and these arcs
+pub record AreLaidOut (rows : List Row) (ids : List ℕ) (out : Listed) : Type 0 where
+  pub vertices : ids ≡ ids_of rows
+  pub starts : out.starts ≡ starts_from 0 rows ++ arcs_in rows ∷ []
+  pub arcs : AllZip (IsArcOf (ids_of rows)) (arc_rows rows) out.arcs

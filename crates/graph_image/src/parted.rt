@@ -1,21 +1,22 @@
 //! An image of rows in lists, made by several threads.
 
-ghost use Rattle.std.specs.Prelude.{◌≡◌, ◌+◌, ◌<◌, ◌^◌, [], ◌∷◌, ◌++◌, length, IfOk};
+ghost use Rattle.std.specs.Prelude.{◌≡◌, List, ◌+◌, ◌<◌, ◌^◌, [], ◌∷◌, ◌++◌, length, IfOk};
 ghost use Rattle.std.specs.List.{AllZip};
-ghost use Rattle.graph_model.specs.Graph.{Graph};
+ghost use Rattle.graph_model.specs.declared.row.Row.{Row};
+ghost use Rattle.graph_model.specs.declared.write.Kind.TheVariants.{Undirected};
+ghost use Rattle.graph_model.specs.Graph.{Graph, IsSymmetric};
 ghost use Rattle.graph_model.specs.Rows.{AreRowsOf};
 ghost use Rattle.part_scan.specs.Parts.{rows_in};
 ghost use Rattle.graph_image.specs.Images.{IsImageOf};
 ghost use Rattle.graph_image.specs.Building.{AreStorable, AreEnded};
-ghost use Rattle.graph_image.specs.Parts.{vertices_in, arcs_in, ids_of, starts_from, arc_rows, IsArcOf, IsShareOf};
+ghost use Rattle.graph_image.specs.Parts.{vertices_in, arcs_in, ids_of, starts_from, AreLaidOut, IsShareOf};
 
 use crate::adjacency::Adjacency;
-use crate::builder::Builder;
 use crate::edge::Arc;
 use crate::image::{Image, image_of};
 use crate::part::Share;
 use crate::parts::{lay_arcs, lay_vertices, shares_of, total_of};
-use graph_model::NoMemory;
+use graph_model::{Kind, NoMemory};
 use part_scan::{RowList, RowLists};
 use std::alloc::Global;
 use std::thread::Threads;
@@ -31,39 +32,41 @@ impl Image {
         requires ended { AreEnded (rows_in parts.now) }
         ensures { IfOk result (λ image. (g : Graph) → AreRowsOf (rows_in parts.now) g → IsImageOf image g) }
     {
-        let lists = parts.as_slice();
-        let (vertices, out) = out_of(rt, alloc, lists)?;
-        if out.is_mirrored(alloc, vertices.len())? {
-            return Ok(image_of(vertices, out, None));
-        }
-        built_of(alloc, lists)
+        let (vertices, out) = out_of(rt, alloc, parts.as_slice())?;
+        with_arcs_in(alloc, Kind::Directed, vertices, out)
     }
 }
 
-/// The image by a builder, one list after the other.
-fn built_of(alloc: Global, lists: &[RowList]) -> Result<Image, NoMemory>
-    requires storable { AreStorable (rows_in lists.now) }
-    requires ended { AreEnded (rows_in lists.now) }
-    ensures { IfOk result (λ image. (g : Graph) → AreRowsOf (rows_in lists.now) g → IsImageOf image g) }
+/// The image of rows whose arcs out are laid. The arcs in are made where those out don't serve, which of an undirected
+/// graph is known and of another is looked at.
+pub fn with_arcs_in(
+    alloc: Global,
+    kind: Kind,
+    vertices: Vec<u64>,
+    out: Adjacency,
+) -> Result<Image, NoMemory>
+    requires laid { (rows : List Row) × AreStorable rows × AreEnded rows × AreLaidOut rows vertices.items out
+        × (kind ≡ Undirected → (g : Graph) × AreRowsOf rows g × IsSymmetric g) }
+    ensures { IfOk result (λ image. (rows : List Row) (g : Graph) → AreStorable rows → AreEnded rows
+        → AreLaidOut rows vertices.items out → AreRowsOf rows g → IsImageOf image g) }
 {
-    let mut builder = Builder::new(alloc);
-    'lists: for i in 0..lists.len() {
-        builder.push(lists[i].as_slice())?;
+    let count = vertices.len();
+    if kind == Kind::Undirected || out.is_mirrored(alloc, count)? {
+        return Ok(image_of(vertices, out, None));
     }
-    builder.finish()
+    let into = out.turned(alloc, count)?;
+    Ok(image_of(vertices, out, Some(into)))
 }
 
 /// The vertices of the rows, and the arcs out of each.
-fn out_of<R: Threads + Sync>(
+pub fn out_of<R: Threads + Sync>(
     rt: &R,
     alloc: Global,
     lists: &[RowList],
 ) -> Result<(Vec<u64>, Adjacency), NoMemory>
     requires storable { AreStorable (rows_in lists.now) }
     requires ended { AreEnded (rows_in lists.now) }
-    ensures vertices { IfOk result (λ made. made.0.items ≡ ids_of (rows_in lists.now)) }
-    ensures starts { IfOk result (λ made. made.1.starts ≡ starts_from 0 (rows_in lists.now) ++ arcs_in (rows_in lists.now) ∷ []) }
-    ensures arcs { IfOk result (λ made. AllZip (IsArcOf (ids_of (rows_in lists.now))) (arc_rows (rows_in lists.now)) made.1.arcs) }
+    ensures { IfOk result (λ made. AreLaidOut (rows_in lists.now) made.0.items made.1) }
 {
     let shares = shares_of(rt, alloc, lists)?;
     let total = total_of(lists, shares.as_slice());

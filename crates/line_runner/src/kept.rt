@@ -1,13 +1,15 @@
 //! The image of what a transaction sees, which is kept for its next kernels.
 
 ghost use Rattle.std.specs.Prelude.{◌≡◌, IfOk};
-ghost use Rattle.graph_model.specs.Graph.{Graph};
+ghost use Rattle.graph_model.specs.declared.write.Kind.TheVariants.{Undirected};
+ghost use Rattle.graph_model.specs.Graph.{Graph, IsSymmetric};
 ghost use Rattle.line_runner.specs.Kernels.{IsKeptImage};
 ghost use Rattle.line_runner.specs.Scanning.{HasAllRows};
 
 use crate::scan::Scan;
 use graph_image::Image;
-use graph_model::NoMemory;
+use graph_model::{Kind, NoMemory};
+use std::thread::Threads;
 
 /// The image of a graph, and how many rows it was made of.
 #[derive(Drop)]
@@ -17,13 +19,13 @@ pub struct KeptImage {
 }
 
 impl KeptImage {
-    /// The image of the graph whose rows the scan has kept. The rows go as it is made.
-    pub fn of_scan(scan: Scan) -> Result<KeptImage, NoMemory>
-        requires { (g : Graph) × HasAllRows g scan }
+    /// The image of the graph whose rows the scan has kept, made by several threads. The rows go as it is made.
+    pub fn of_scan<R: Threads + Sync>(rt: &R, kind: Kind, scan: Scan) -> Result<KeptImage, NoMemory>
+        requires { (g : Graph) × HasAllRows g scan × (kind ≡ Undirected → IsSymmetric g) }
         ensures { IfOk result (λ kept. (g : Graph) → HasAllRows g scan → IsKeptImage g kept) }
     {
         let rows = scan.rows;
-        let image = scan.into_rows().finish()?;
+        let image = scan.into_rows().finish(rt, kind)?;
         Ok(KeptImage { image, rows })
     }
 }

@@ -53,7 +53,7 @@ pub fn run_kernel<R: Threads + Sync, E: Engine>(
     ensures kept { OnOk result (IfSome image.new (IsKeptImage (view_now (E.account engine.old)))) }
     ensures err { OnErr result (ReadsOn E.did_read engine.old engine.new) }
 {
-    match read_image(alloc, engine, before, image.take())? {
+    match read_image(rt, alloc, engine, before, image.take())? {
         ImageTurn::Further { reading } => Ok(LineTurn::Scanning { reading }),
         ImageTurn::Whole { kept } => {
             let given = answer_kernel(rt, alloc, engine.kind(), kernel, file, &kept.image)?;
@@ -64,7 +64,8 @@ pub fn run_kernel<R: Threads + Sync, E: Engine>(
 }
 
 /// Takes one turn of what the line has begun to read, else of the image that is kept, else of all rows.
-fn read_image<E: Engine>(
+fn read_image<R: Threads + Sync, E: Engine>(
+    rt: &R,
     alloc: Global,
     engine: &mut E,
     before: Option<Reading>,
@@ -81,13 +82,17 @@ fn read_image<E: Engine>(
     ensures did { ReadsOn E.did_read engine.old engine.new }
 {
     match before.unwrap_or(Reading::of_image(alloc, image)) {
-        Reading::Scan { scan } => read_rows(engine, scan),
+        Reading::Scan { scan } => read_rows(rt, engine, scan),
         Reading::Replay { kept, turns } => Ok(replay(kept, turns)),
     }
 }
 
 /// Takes one turn of a scan of all rows, and makes their image with the last.
-fn read_rows<E: Engine>(engine: &mut E, scan: Scan) -> Result<ImageTurn, NoMemory>
+fn read_rows<R: Threads + Sync, E: Engine>(
+    rt: &R,
+    engine: &mut E,
+    scan: Scan,
+) -> Result<ImageTurn, NoMemory>
     requires valid { IsValid (E.account engine.old) }
     requires current { IsSome (E.account engine.old).start }
     requires scans { (kernel : requests.Kernel) × (file : List ℕ)
@@ -98,13 +103,14 @@ fn read_rows<E: Engine>(engine: &mut E, scan: Scan) -> Result<ImageTurn, NoMemor
         → ReadsImage (view_now (E.account engine.old)) before (ToRun kernel file) turn) }
     ensures did { E.did_read engine.old engine.new }
 {
+    let kind = engine.kind();
     let mut scan = scan;
     scan.step(engine)?;
     if !scan.cursor.done {
         let reading = Reading::Scan { scan };
         return Ok(ImageTurn::Further { reading });
     }
-    let kept = KeptImage::of_scan(scan)?;
+    let kept = KeptImage::of_scan(rt, kind, scan)?;
     Ok(ImageTurn::Whole { kept })
 }
 

@@ -1,7 +1,7 @@
 //! Scans under way.
 //!
 //! 1. Each turn but the last gives a full portion of rows, so the number of rows tells the turns.
-//! 2. `neighbours` keeps targets, `count` a number, and a kernel the rows, in the builder of its image: no list
+//! 2. `neighbours` keeps targets, `count` a number, and a kernel the rows, in the parts of its image: no list
 //!    is made that the line doesn't answer with.
 //! 3. More rows than a number counts can't be held in memory, and are answered as want of it. So are more rows
 //!    for a kernel than an image has places for.
@@ -15,7 +15,7 @@ ghost use Rattle.run_model.specs.Requests.{Kernel, Request, NeighboursOf, Counts
 ghost use Rattle.line_runner.specs.Scanning.{is_vertex, target_of, with_rows, vertices_in, counted, fresh_scan, FitIn, IsScan, ScansOn};
 ghost use Rattle.line_runner.specs.Turns.{view_now};
 
-use graph_image::Builder;
+use graph_image::PartBuilder;
 use graph_model::{Cursor, Engine, Ids, Key, Kind, NoMemory, Row, Rows64};
 use run_model::Answer;
 use std::alloc::Global;
@@ -28,7 +28,7 @@ pub enum ScanResult {
     /// The number of vertices.
     Vertices { count: u64 },
     /// The rows, on their way into an image.
-    Rows { rows: Builder },
+    Rows { rows: PartBuilder },
 }
 
 impl ScanResult {
@@ -109,7 +109,7 @@ impl Scan {
         ensures empty { result.rows ≡ 0 }
         ensures scan { (g : Graph) (kernel : Kernel) (file : List ℕ) → IsScan g (ToRun kernel file) result }
     {
-        let rows = Builder::new(alloc);
+        let rows = PartBuilder::new(alloc);
         Scan::begin(Key::of_vertex(0), Key::end(), ScanResult::Rows { rows })
     }
 
@@ -160,7 +160,7 @@ impl Scan {
     }
 
     /// The rows that it has kept.
-    pub fn into_rows(self) -> Builder
+    pub fn into_rows(self) -> PartBuilder
         requires { (rows : List Row) × (self.result ≡ ScanResult.Rows rows) }
         ensures { self.result ≡ ScanResult.Rows result }
     {

@@ -1,10 +1,10 @@
-use Rattle.std.proofs.Common.{refl, sym}
+use Rattle.std.proofs.Common.{refl, sym, ◌∙◌}
 use Rattle.std.specs.Prelude.{Some}
 use Rattle.run_model.specs.Requests.{ToRun}
 use Rattle.line_runner.specs.declared.reading.Reading.TheVariants as readings
 use Rattle.line_runner.specs.Turns.{view_now}
 use Rattle.line_runner.proofs.TurnLemmas.{advances}
-use Rattle.line_runner.proofs.ViewLemmas.{has_all}
+use Rattle.line_runner.proofs.ViewLemmas.{has_all, seen_now}
 use Rattle.line_runner.proofs.kernel_line.read_rows.Goals as goal
 
 pub returns-then-not-scan-clause-reads : goal.returns-then-not-scan-clause-reads
@@ -19,7 +19,11 @@ of_scan-requires g c =
     let file = c.requires.scans.1 in
     let is = c.requires.scans.2 in
     let ends = (advances (view_now account) (Some (readings.Scan c.args.scan)) (ToRun kernel file) c.args.scan c.step.new.self is refl (c.in_ok-step.ensures.ok (ToRun kernel file) is)).rest c.if-not-scan.false in
-    (view_now account, has_all account c.requires.valid c.requires.current kernel file c.step.new.self ends.0)
+    (
+      view_now account,
+      has_all account c.requires.valid c.requires.current kernel file c.step.new.self ends.0,
+      λ undirected. (seen_now account c.requires.valid c.requires.current).symmetric (sym c.kind-kind.ensures ∙ undirected),
+    )
 
 pub returns-clause-reads : goal.returns-clause-reads
 returns-clause-reads g c = λ before kernel file taken is.

@@ -1,0 +1,107 @@
+//! Rows in, and an image out that several threads make.
+//!
+//! 1. Rows are kept in parts. A part that is full stays where it is, and each is read by a thread of its own.
+//! 2. The rows are let go as soon as the arcs out of each vertex are laid.
+
+ghost use Rattle.std.specs.Prelude.{◌≡◌, [], ◌++◌, IfOk, OnErr, OnOk};
+ghost use Rattle.graph_model.specs.declared.write.Kind.TheVariants.{Undirected};
+ghost use Rattle.graph_model.specs.Graph.{Graph, IsSymmetric};
+ghost use Rattle.graph_model.specs.Rows.{AreRowsOf};
+ghost use Rattle.graph_image.specs.Images.{IsImageOf};
+ghost use Rattle.graph_image.specs.Building.{AreStorable, AreEnded};
+
+use crate::image::Image;
+use crate::parted::{out_of, with_arcs_in};
+use graph_model::{Kind, NoMemory, Row};
+use items::RoomyItems;
+use part_scan::RowList;
+use std::alloc::Global;
+use std::marker::Model;
+use std::mem::replace;
+use std::thread::Threads;
+
+/// How many rows a part has at least before the next one begins: 1.5 MiB of them.
+const PART_ROWS: usize = 65_536;
+
+/// The rows that were pushed so far.
+#[derive(Drop)]
+pub struct PartBuilder {
+    alloc: Global,
+    full: RoomyItems<RowList>,
+    last: RoomyItems<Row>,
+}
+
+impl Model for PartBuilder {
+    ghost use Rattle.std.specs.Prelude.{List, ◌++◌};
+    ghost use Rattle.graph_model.specs.declared.row.Row.{Row};
+    ghost use Rattle.part_scan.specs.Parts.{rows_in};
+    ghost use Rattle.graph_image.specs.Building.{AreStorable};
+
+    ghost Value = { List Row };
+
+    ghost view = { λ b. rows_in b.full.items ++ b.last.items };
+
+    ghost invariant = { λ b. AreStorable (rows_in b.full.items ++ b.last.items) };
+}
+
+impl PartBuilder {
+    /// No rows. Takes no memory.
+    pub fn new(alloc: Global) -> PartBuilder
+        ensures { result ≡ [] }
+    {
+        PartBuilder {
+            alloc,
+            full: RoomyItems::new(alloc),
+            last: RoomyItems::new(alloc),
+        }
+    }
+
+    /// Appends rows.
+    pub fn push(&mut self, rows: &[Row]) -> Result<(), NoMemory>
+        requires { AreStorable (self.old ++ rows.now) }
+        ensures ok { OnOk result (self.new ≡ self.old ++ rows.now) }
+        ensures err { OnErr result (self.new ≡ self.old) }
+    {
+        if self.last.len() >= PART_ROWS {
+            self.begin_part()?;
+        }
+        self.last.reserve(rows.len())?;
+        'rows: for row in rows {
+            self.last.push_within(*row);
+        }
+        Ok(())
+    }
+
+    /// The rows to come begin a part of their own.
+    fn begin_part(&mut self) -> Result<(), NoMemory>
+        ensures { self.new ≡ self.old }
+    {
+        self.full.reserve(1)?;
+        let mut next = RoomyItems::new(self.alloc);
+        next.reserve(PART_ROWS)?;
+        let last = replace(&mut self.last, next);
+        self.full.push_within(last.into_items());
+        Ok(())
+    }
+
+    /// The image of the graph whose rows these are. Of an undirected graph the arcs out of a vertex are those into it
+    /// as well.
+    pub fn finish<R: Threads + Sync>(self, rt: &R, kind: Kind) -> Result<Image, NoMemory>
+        requires ended { AreEnded self }
+        requires symmetric { kind ≡ Undirected → (g : Graph) × AreRowsOf self g × IsSymmetric g }
+        ensures { IfOk result (λ image. (g : Graph) → AreRowsOf self g → IsImageOf image g) }
+    {
+        let PartBuilder {
+            alloc,
+            mut full,
+            last,
+        } = self;
+        full.reserve(1)?;
+        full.push_within(last.into_items());
+        let parts = full.into_items();
+        let (vertices, out) = out_of(rt, alloc, parts.as_slice())?;
+        drop(parts);
+        let image = with_arcs_in(alloc, kind, vertices, out)?;
+        Ok(image)
+    }
+}
