@@ -1,6 +1,6 @@
 //! The image.
 
-ghost use Rattle.std.specs.Prelude.{◌≡◌, ℕ, ◌<◌, ◌^◌, ◌==◌, length, slice_get, unwrap_or, Some, IfSome, IfNone};
+ghost use Rattle.std.specs.Prelude.{◌≡◌, ℕ, ◌<◌, ◌^◌, ◌==◌, length, slice_get, unwrap_or, Some, IfSome, IfNone, IsTrue};
 ghost use Rattle.graph_image.specs.Images.{IdsRise, AreWithin, arcs_at, Listed};
 ghost use Rattle.graph_image.specs.Edges.{IsListed};
 ghost use Rattle.graph_image.specs.Fields.{IsImage};
@@ -84,6 +84,14 @@ impl Image {
             Some(into) => into.at(place),
             None => self.out.at(place),
         }
+    }
+
+    /// Whether the arcs that lead to each vertex are known to be those that lead from it, so whoever wants both may read
+    /// one of them.
+    pub fn into_is_out(&self) -> bool
+        ensures { IsTrue result → self.now.into ≡ self.now.out }
+    {
+        self.into.is_none()
     }
 }
 

@@ -56,7 +56,7 @@ impl PartBuilder {
         }
     }
 
-    /// Appends rows.
+    /// Appends rows, which stay in one part.
     pub fn push(&mut self, rows: &[Row]) -> Result<(), NoMemory>
         requires { AreStorable (self.old ++ rows.now) }
         ensures ok { OnOk result (self.new ≡ self.old ++ rows.now) }

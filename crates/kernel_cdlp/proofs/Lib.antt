@@ -1,4 +1,3 @@
-mod ArcLemmas
 pub mod FrequencyLemmas
 pub mod KeptLemmas
 pub mod PartLemmas

@@ -82,7 +82,8 @@ fn is_quiet(image: &Image, changed: &[bool], place: usize) -> bool
     requires count { length changed.now ≡ length image.now.vertices }
     ensures { IsTrue result → IsQuiet image.now changed.now place }
 {
-    have_not_changed(image.out(place), changed) && have_not_changed(image.into(place), changed)
+    have_not_changed(image.out(place), changed)
+        && (image.into_is_out() || have_not_changed(image.into(place), changed))
 }
 
 /// Whether none of the labels at the other ends of the arcs has changed.
@@ -111,11 +112,11 @@ fn next_label(image: &Image, labels: &[u32], changed: &[bool], place: usize, met
         return labels[place];
     }
     let out = image.out(place);
-    let into = image.into(place);
     meet(out, labels, met, 0);
-    if out == into {
+    if image.into_is_out() {
         return most_frequent(&mut met[..out.len()], labels[place]);
     }
+    let into = image.into(place);
     meet(into, labels, met, out.len());
     most_frequent(&mut met[..out.len() + into.len()], labels[place])
 }

@@ -1,16 +1,17 @@
-use Rattle.std.proofs.Common.{sym, ◌∙◌}
-use Rattle.kernel_cdlp.proofs.ArcLemmas.{same_items, same_arc}
+use Rattle.std.proofs.Common.{◌≡◌, length, refl, sym, ap, ◌∙◌, subst}
+use Rattle.graph_image.specs.Images.{arcs_at, AreWithin}
 use Rattle.kernel_cdlp.proofs.RoundLemmas.{next_once, next_both}
 use Rattle.kernel_cdlp.proofs.part.next_label.Goals as goal
 
 pub returns-then-is_quiet : goal.returns-then-is_quiet
 returns-then-is_quiet c = c.requires.kept.each c.args.place c.requires.place (c.is_quiet.ensures c.if-is_quiet.true)
 
-pub returns-then-eq : goal.returns-then-eq
-returns-then-eq c =
-    let same = same_items _ same_arc c.out-out.result.now c.into-into.result.now (sym c.eq.ensures ∙ c.if-eq.true) in
-    next_once c.args.image.now c.args.labels.now c.args.place c.most_frequent.result c.requires.labels c.requires.place c.out-out.result.now c.into-into.result.now
-    c.out-out.ensures.arcs c.into-into.ensures.arcs c.out-out.ensures.within c.into-into.ensures.within c.args.met.now c.meet.new.met c.meet.ensures same c.most_frequent.ensures
+pub returns-then-into_is_out : goal.returns-then-into_is_out
+returns-then-into_is_out c =
+    let sides : c.args.image.now.into ≡ c.args.image.now.out = c.into_is_out.ensures c.if-into_is_out.true in
+    let same : c.out-out.result.now ≡ arcs_at c.args.image.now.into c.args.place = c.out-out.ensures.arcs ∙ ap (λ l. arcs_at l c.args.place) (sym sides) in
+    next_once c.args.image.now c.args.labels.now c.args.place c.most_frequent.result c.requires.labels c.requires.place c.out-out.result.now (arcs_at c.args.image.now.into c.args.place)
+    c.out-out.ensures.arcs refl c.out-out.ensures.within (subst (AreWithin (length c.args.image.now.vertices)) same c.out-out.ensures.within) c.args.met.now c.meet.new.met c.meet.ensures same c.most_frequent.ensures
 
 pub returns : goal.returns
 returns c =

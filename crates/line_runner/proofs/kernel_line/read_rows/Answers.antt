@@ -18,8 +18,7 @@ of_scan-requires g c =
     let kernel = c.requires.scans.0 in
     let file = c.requires.scans.1 in
     let is = c.requires.scans.2 in
-    let ends = (advances (view_now account) (Some (readings.Scan c.args.scan)) (ToRun kernel file) c.args.scan c.step.new.self is refl (c.in_ok-step.ensures.ok (ToRun kernel file) is)).rest c.if-not-scan.false in
-    (
+    let ends = (advances (view_now account) (Some (readings.Scan c.args.scan)) (ToRun kernel file) c.args.scan c.step.new.self is refl (c.in_ok-step.ensures.ok (ToRun kernel file) is)).rest c.if-not-scan.false in (
       view_now account,
       has_all account c.requires.valid c.requires.current kernel file c.step.new.self ends.0,
       λ undirected. (seen_now account c.requires.valid c.requires.current).symmetric (sym c.kind-kind.ensures ∙ undirected),
