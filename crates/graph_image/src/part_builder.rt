@@ -20,8 +20,8 @@ use std::marker::Model;
 use std::mem::replace;
 use std::thread::Threads;
 
-/// How many rows a part has at least before the next one begins: 1.5 MiB of them.
-const PART_ROWS: usize = 65_536;
+/// How many rows a part has at least before the next one begins: 12 MiB of them, enough to be worth a thread.
+const PART_ROWS: usize = 524_288;
 
 /// The rows that were pushed so far.
 #[derive(Drop)]
