@@ -71,8 +71,16 @@ fn assert_same_in_parts<R: Threads + Sync + Abort>(
 fn assert_same<R: Abort>(rt: &R, image: &Image, whole: &Image, parts: u32) -> Result<(), Fail> {
     assert_eq!(rt; image.vertices(), whole.vertices(), "{parts} parts");
     for place in 0..image.len().min(whole.len()) {
-        assert_eq!(rt; image.out(place), whole.out(place), "{parts} parts, out of {place}");
-        assert_eq!(rt; image.into(place), whole.into(place), "{parts} parts, into {place}");
+        assert_eq!(rt;
+            image.out(place),
+            whole.out(place),
+            "{parts} parts, out of {place}"
+        );
+        assert_eq!(rt;
+            image.into(place),
+            whole.into(place),
+            "{parts} parts, into {place}"
+        );
     }
     Ok(())
 }

@@ -14,7 +14,9 @@ use crate::workers::run_passes;
 use desk_io::Gate;
 use graph_model::{LoadRefusal, NoMemory, Writes};
 use items::Items;
-use rebalance_service::below::{Closed, LoadedRefusal, Passes, Store, close, let_go, loaded_by_threads};
+use rebalance_service::below::{
+    Closed, LoadedRefusal, Passes, Store, close, let_go, loaded_by_threads,
+};
 use run_model::Script;
 use shared_runs::closed_stores_leave_runs;
 use std::alloc::Global;
