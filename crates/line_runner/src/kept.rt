@@ -21,7 +21,7 @@ pub struct KeptImage {
 impl KeptImage {
     /// The image of the graph whose rows the scan has kept, made by several threads. The rows go as it is made.
     pub fn of_scan<R: Threads + Sync>(rt: &R, kind: Kind, scan: Scan) -> Result<KeptImage, NoMemory>
-        requires { (g : Graph) × HasAllRows g scan × (kind ≡ Undirected → IsSymmetric g) }
+        requires graph { (g : Graph) × HasAllRows g scan × (kind ≡ Undirected → IsSymmetric g) }
         ensures { IfOk result (λ kept. (g : Graph) → HasAllRows g scan → IsKeptImage g kept) }
     {
         let rows = scan.rows;

@@ -7,7 +7,7 @@ use Rattle.line_runner.proofs.TurnLemmas.{reading_or}
 use Rattle.line_runner.proofs.kernel_line.read_image.Goals as goal
 
 pub read_rows-requires-clause-scans : goal.read_rows-requires-clause-scans
-read_rows-requires-clause-scans g c =
+read_rows-requires-clause-scans g c κs within =
     let view = view_now (g.E.Engine.account c.args.engine.now) in
     let kernel = c.requires.reads.0 in
     let file = c.requires.reads.1 in

@@ -12,8 +12,8 @@ returns-then-not-scan-clause-reads g c = λ before kernel file taken is.
     let account = g.E.Engine.account c.args.engine.now in
     (advances (view_now account) before (ToRun kernel file) c.args.scan c.step.new.self is (sym taken) (c.in_ok-step.ensures.ok (ToRun kernel file) is)).portion c.if-not-scan.true
 
-pub of_scan-requires : goal.of_scan-requires
-of_scan-requires g c =
+pub of_scan-requires-clause-graph : goal.of_scan-requires-clause-graph
+of_scan-requires-clause-graph g c κs within =
     let account = g.E.Engine.account c.args.engine.now in
     let kernel = c.requires.scans.0 in
     let file = c.requires.scans.1 in
