@@ -14,11 +14,11 @@ ghost use Rattle.graph_files.specs.Kept.{IsCheckedBy, AreListed, IsFront, AreNew
 
 use crate::checks::Checks;
 use crate::ends::{EveryId, read_edge};
-use crate::halves::{cuts_for, read_halves};
+use crate::halves::read_halves;
 use crate::listings::Reading;
 use crate::seconds::{Parts, parts_of};
 use crate::weights::Weights;
-use graphalytics_io::{Edge, Edges, field_lines};
+use graphalytics_io::{Edge, Edges, cuts_for, field_lines};
 use id_places::{are_distinct, numbers_of};
 use items::NoMemory;
 use std::alloc::Global;

@@ -14,21 +14,11 @@ use crate::weights::Weights;
 use graphalytics_io::Edges;
 use items::NoMemory;
 use memchr::memchr;
-use rayon::current_num_threads;
 use std::alloc::Global;
 use std::thread::{Threads, join};
 
 /// A shorter text isn't worth a thread.
 const LEAST_BYTES: usize = 65536;
-
-/// More threads than these are not started.
-const MOST_THREADS: usize = 32;
-
-/// How often a text is cut: so that there are two parts for each processor, since they may differ in length.
-pub(crate) fn cuts_for<R: Threads>(rt: &R) -> u32 {
-    let threads = current_num_threads(rt).min(MOST_THREADS);
-    threads.saturating_mul(2).ilog2()
-}
 
 /// The edges of a text, by themselves, if no line has a fault by itself.
 #[cycle(halves)]

@@ -17,7 +17,7 @@ pub fn write_table(table: &Table, text: &mut Text) -> Result<(), NoMemory>
 }
 
 /// The line of an entry: the vertex, a blank, the value, a line feed.
-struct EntryLine;
+pub(crate) struct EntryLine;
 
 impl Spelling<Entry> for EntryLine {
     ghost text_of = { entry_line };

@@ -94,7 +94,7 @@ fn make_kept<R: Threads + Sync, K: Disk>(
     let run = run_scripts_kept(rt, alloc, kind, leaves, input, disk, keeper)?;
     let commits = run.ran.journal().len() as u64;
     let summary = summary_of(alloc, commits, run.totals)?;
-    let outputs = outputs_of(alloc, words, &run)?;
+    let outputs = outputs_of(rt, alloc, words, &run)?;
     let is_full = is_full(&run);
     Ok(Prepared {
         outputs,

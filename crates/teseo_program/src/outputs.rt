@@ -16,17 +16,19 @@ ghost use Rattle.source_run.specs.Running.{run_outputs, HavePrintableNames};
 use command_words::RunWords;
 use desk_io::Output;
 use graph_model::{NoMemory, Table};
-use graphalytics_io::{Text, write_table};
+use graphalytics_io::{Text, text_of_table};
 use items::Items;
 use report_lang::{write_journal, write_report};
 use run_model::{Answer, Name};
 use source_run::below::NamedTable;
 use source_run::{RunResult, script_at};
 use std::alloc::Global;
+use std::thread::Threads;
 use txn_manager::Totals;
 
 /// The journal, the reports and the kernel files, in the order in which they are written.
-pub fn outputs_of(
+pub fn outputs_of<R: Threads + Sync>(
+    rt: &R,
     alloc: Global,
     words: &RunWords<'_>,
     run: &RunResult,
@@ -46,7 +48,7 @@ pub fn outputs_of(
         outputs.push(report_output(alloc, script, jobs[k].answers())?)?;
     }
     'jobs: for job in jobs {
-        push_results(alloc, job.tables(), &mut outputs)?;
+        push_results(rt, alloc, job.tables(), &mut outputs)?;
     }
     Ok(outputs)
 }
@@ -74,7 +76,8 @@ fn report_output(alloc: Global, script: &str, answers: &[Answer]) -> Result<Outp
 }
 
 /// Puts the results of a script behind the outputs.
-fn push_results(
+fn push_results<R: Threads + Sync>(
+    rt: &R,
     alloc: Global,
     tables: &[NamedTable],
     outputs: &mut Items<Output>,
@@ -83,18 +86,22 @@ fn push_results(
     ensures { OnOk result (outputs.new ≡ outputs.old ++ map (λ t. file_output (file_of t)) tables.now) }
 {
     'tables: for named in tables {
-        outputs.push(result_output(alloc, &named.name, &named.table)?)?;
+        outputs.push(result_output(rt, alloc, &named.name, &named.table)?)?;
     }
     Ok(())
 }
 
 /// A result under the name that its script gives it.
-fn result_output(alloc: Global, file: &Name, table: &Table) -> Result<Output, NoMemory>
+fn result_output<R: Threads + Sync>(
+    rt: &R,
+    alloc: Global,
+    file: &Name,
+    table: &Table,
+) -> Result<Output, NoMemory>
     requires { All IsNameByte file.now }
     ensures { IfOk result (λ output. output ≡ record { name = file.now; text = table_text table.now }) }
 {
-    let mut text = Text::new(alloc);
-    write_table(table, &mut text)?;
+    let text = text_of_table(rt, alloc, table)?;
     output_of(alloc, name_text(file), text)
 }
 

@@ -106,7 +106,7 @@ fn make<R: Threads + Wait + Sync, G: Gate>(
     let run = run_scripts(rt, alloc, kind, leaves, manner, input, gate)?;
     let commits = run.ran.journal().len() as u64;
     let summary = summary_of(alloc, commits, run.totals)?;
-    let outputs = outputs_of(alloc, words, &run)?;
+    let outputs = outputs_of(rt, alloc, words, &run)?;
     let is_full = is_full(&run);
     Ok(Prepared {
         outputs,

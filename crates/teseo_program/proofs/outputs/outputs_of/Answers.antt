@@ -10,7 +10,7 @@ use Rattle.teseo_program.proofs.SinkLemmas.{report_pushed, all_results}
 use Rattle.teseo_program.proofs.outputs.outputs_of.Goals as goal
 
 pub reports-preserved : goal.reports-preserved
-reports-preserved c =
+reports-preserved g c =
     let count = ap length c.as_slice-jobs.ensures ∙ c.requires.count in
     report_pushed report_name (λ job. job.answers) (run_request c.args.words.now).scripts c.as_slice-jobs.result.now c.reports.k [] c.index-jobs-k.result
     _ c.reports.outputs _ _ (omega (arith, c.reports-test.true, count)) count c.reports.invariant
@@ -19,7 +19,7 @@ reports-preserved c =
     c.in_ok-push-2.ensures.ok
 
 pub returns : goal.returns
-returns c =
+returns g c =
     c.jobs.invariant
     ∙ ap (λ rest. record { name = c.args.words.now.journal.now; text = journal_text (journal_of c.args.run.now.ran) }
     ∷ (report_outputs (map report_name (run_request c.args.words.now).scripts) (map (λ job. job.answers) c.args.run.now.jobs) ++ rest))

@@ -5,4 +5,4 @@ use Rattle.teseo_program.specs.Sinks.{file_output}
 use Rattle.teseo_program.proofs.outputs.push_results.Given as goal
 
 abbrev pub invariant-tables : goal.invariant-tables
-invariant-tables l = l.outputs ≡ l.fn.outputs ++ map (λ t. file_output (file_of t)) (take l.named-index l.tables)
+invariant-tables g l = l.outputs ≡ l.fn.outputs ++ map (λ t. file_output (file_of t)) (take l.named-index l.tables)
