@@ -16,12 +16,12 @@ pub leaves_of-leaves-requires-clause-fits : goal.leaves_of-leaves-requires-claus
 leaves_of-leaves-requires-clause-fits g c = files_fit c.files_are_loadable.ensures.within (run_request c.args.words.now) c.requires.accepted.0 (meaning_of c.args.input) c.requires.accepted.1 c.kind_of-kind.result c.kind_of-kind.ensures
 
 pub outputs_of-requires-clause-count : goal.outputs_of-requires-clause-count
-outputs_of-requires-clause-count g c =
+outputs_of-requires-clause-count g c κs within =
     job_count c.load_is_legal.ensures.allowed c.load_is_legal.ensures.within c.files_are_loadable.ensures.loadable (run_request c.args.words.now) c.requires.asked c.requires.accepted.0 (meaning_of c.args.input)
     c.requires.accepted.1 c.requires.runnable c.requires.count c.kind_of-kind.result c.kind_of-kind.ensures c.args.words.now.is_serial c.leaves_of-leaves.result c.in_ok-run.run' c.in_ok-run.ensures.run
 
 pub outputs_of-requires-clause-names : goal.outputs_of-requires-clause-names
-outputs_of-requires-clause-names g c =
+outputs_of-requires-clause-names g c κs within =
     are_printable c.load_is_legal.ensures.allowed c.load_is_legal.ensures.within c.files_are_loadable.ensures.loadable (run_request c.args.words.now) c.requires.asked c.requires.accepted.0 (meaning_of c.args.input)
     c.requires.accepted.1 c.requires.runnable c.requires.count c.kind_of-kind.result c.kind_of-kind.ensures c.args.words.now.is_serial c.leaves_of-leaves.result c.in_ok-run.run' c.in_ok-run.ensures.run
 
