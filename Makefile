@@ -12,7 +12,7 @@ ARCHIVE = teseo-$(shell git rev-parse --short HEAD).tar.gz
 
 help:
 	@echo 'make demo       runs an example, checked and not proved, in a minute: EXAMPLE=first'
-	@echo '                or tour, transfers, fraud, routes, network, conflict, kernels'
+	@echo '                or tour, transfers, fraud, routes, network, conflict, kernels, desk'
 	@echo 'make quick      runs all tests, the examples and the guide, checked and not proved, in 3 minutes'
 	@echo 'make build      proves and builds the program: half an hour or so the first time on four cores'
 	@echo 'make install    builds, and puts teseo, its manual page, its completion and the tools below PREFIX ($(PREFIX))'

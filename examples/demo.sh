@@ -17,14 +17,16 @@ mkdir "$work/outputs"
     echo "There is no example $example. There are: $(cd "$examples" && echo */expected | sed 's|/expected||g')"
     exit 1
 }
-command=("$(cd "$examples/../crates/teseo" && pwd)/out/teseo")
+crate=teseo
+[ "$example" != desk ] || crate=desk
+command=("$(cd "$examples/../crates/$crate" && pwd)/out/$crate")
 if [ -x "${command[0]}" ]; then
     echo "This runs the program that 'make build' has proved and built."
 else
     echo "This runs the checked build and not the proved one (that is 'make build'). Compiling takes a minute."
     command=(rt try --)
 fi
-cd "$examples/../crates/teseo"
+cd "$examples/../crates/$crate"
 "$examples/$example/run.sh" "$work/outputs" "${command[@]}" 2>"$work/told" || {
     cat "$work/outputs/"*said "$work/told"
     exit 1

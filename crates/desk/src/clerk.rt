@@ -1,0 +1,88 @@
+//! Clerks, who book transfers.
+
+use crate::transfer::Transfer;
+use std::rt::Clock;
+use std::sync::atomic::{AtomicU64, Ordering};
+use std::thread;
+use std::time::Duration;
+use teseo_store::{Change, MAX_WEIGHT, Place, Refusal, Session, Transaction, VertexEngine, Work};
+
+/// How often a transfer is tried. Each try that meets a conflict has met somebody else's write, which is booked.
+const TRIES: u32 = 1_000_000;
+
+/// Books transfers, one after the other, each in a transaction of its own.
+#[derive(Drop)]
+pub struct Clerk<'a, R: Clock> {
+    pub clock: &'a R,
+    /// How long it waits for the next one.
+    pub pause: Duration,
+    pub transfers: &'a [Transfer],
+    /// How many clerks have transfers yet.
+    pub busy: &'a AtomicU64,
+    pub booked: u64,
+    pub refused: u64,
+}
+
+impl<'a, R: Clock> Work for Clerk<'a, R> {
+    fn work<E: VertexEngine, P: Place>(&mut self, session: Session<E, P>) -> Session<E, P> {
+        let mut session = session;
+        'transfers: for transfer in self.transfers {
+            let mut booking = Booking {
+                transfer: *transfer,
+                is_over: false,
+            };
+            let (next, ended) = session.with_retry(TRIES, &mut booking);
+            session = next;
+            if ended.is_ok() && !booking.is_over {
+                self.booked = self.booked.saturating_add(1);
+            } else {
+                self.refused = self.refused.saturating_add(1);
+            }
+            thread::sleep(self.clock, self.pause);
+        }
+        self.busy.fetch_sub(1, Ordering::SeqCst);
+        session
+    }
+}
+
+/// A transfer as a change of the graph: its accounts are opened where they aren't there, and what the one has paid the
+/// other grows by the amount.
+#[derive(Drop)]
+struct Booking {
+    transfer: Transfer,
+    /// All that the one has paid the other would be above the greatest weight.
+    is_over: bool,
+}
+
+impl Change for Booking {
+    fn make<E: VertexEngine, P: Place>(
+        &mut self,
+        txn: &mut Transaction<E, P>,
+    ) -> Result<(), Refusal> {
+        let Transfer { from, to, amount } = self.transfer;
+        open_account(txn, from)?;
+        open_account(txn, to)?;
+        let Some(paid) = txn.weight(from, to) else {
+            return txn.add_edge(from, to, amount);
+        };
+        let paid = paid.saturating_add(amount);
+        self.is_over = paid > MAX_WEIGHT;
+        if self.is_over {
+            return Ok(());
+        }
+        txn.set_edge(from, to, paid)
+    }
+}
+
+/// Opens an account that isn't there.
+fn open_account<E: VertexEngine, P: Place>(
+    txn: &mut Transaction<E, P>,
+    account: u64,
+) -> Result<(), Refusal>
+    requires { account ≤ MAX_ID }
+{
+    if txn.has_vertex(account) {
+        return Ok(());
+    }
+    txn.add_vertex(account)
+}

@@ -1,0 +1,100 @@
+//! A look at a snapshot.
+
+ghost use Rattle.std.specs.Prelude.{◌≡◌, IfOk};
+ghost use Rattle.std.specs.List.{AllByRecursion};
+ghost use Rattle.graph_model.specs.Graph.{Graph};
+ghost use Rattle.graph_image.specs.Images.{IsImageOf};
+ghost use Rattle.desk.specs.Rings.{IsRing, graph_after};
+
+use crate::known::Known;
+use crate::refusal::LookRefusal;
+use crate::ring::Ring;
+use graph_image::{Image, Table, Value};
+use std::alloc::Global;
+use std::thread::Threads;
+use teseo_store::{NotBegun, Place, Session, VertexEngine};
+
+/// So many rounds labels go from account to account.
+const ROUNDS: u32 = 10;
+
+/// What a look has found out.
+#[derive(Drop)]
+pub struct Look {
+    /// How many commits it has seen.
+    pub commits: u64,
+    pub accounts: usize,
+    /// How many sets of accounts there are between which nobody has paid anybody.
+    pub components: usize,
+    /// The rings that weren't known.
+    pub rings: Vec<Ring>,
+}
+
+/// Looks at what the store has now. The transaction ends as soon as there is an image of it, so it holds nobody up. What it
+/// finds are rings of the graph of so many commits as it has seen.
+pub fn take_look<R: Threads + Sync, E: VertexEngine, P: Place>(
+    rt: &R,
+    alloc: Global,
+    session: Session<E, P>,
+    known: &mut Known,
+) -> (Session<E, P>, Result<Look, LookRefusal>)
+    ensures rings { IfOk result.1 (λ look. AllByRecursion (λ ring. IsRing (graph_after (E.account result.0.engine)
+        look.commits) ring.accounts.items) look.rings.items) }
+{
+    let mut txn = match session.begin() {
+        Ok(txn) => txn,
+        Err(NotBegun { session, why }) => return (session, Err(LookRefusal::NotBegun(why))),
+    };
+    let commits = txn.start();
+    let image = txn.image(alloc);
+    let session = txn.abort();
+    let look = match image {
+        Ok(image) => analysed(rt, alloc, &image, commits, known),
+        Err(why) => Err(LookRefusal::from(why)),
+    };
+    (session, look)
+}
+
+/// How many commits there are now.
+pub fn count_commits<E: VertexEngine, P: Place>(
+    session: Session<E, P>,
+) -> (Session<E, P>, Result<u64, LookRefusal>) {
+    match session.begin() {
+        Ok(txn) => {
+            let commits = txn.start();
+            (txn.abort(), Ok(commits))
+        }
+        Err(NotBegun { session, why }) => (session, Err(LookRefusal::NotBegun(why))),
+    }
+}
+
+/// What the kernels say of an image.
+fn analysed<R: Threads + Sync>(
+    rt: &R,
+    alloc: Global,
+    image: &Image,
+    commits: u64,
+    known: &mut Known,
+) -> Result<Look, LookRefusal>
+    ensures commits { IfOk result (λ look. look.commits ≡ commits) }
+    ensures rings { IfOk result (λ look. (g : Graph) → IsImageOf image.now g
+        → AllByRecursion (λ ring. IsRing g ring.accounts.items) look.rings.items) }
+{
+    let components = kernel_wcc::run(rt, alloc, image)?;
+    let labels = kernel_cdlp::run(rt, alloc, image, ROUNDS)?;
+    let rings = known.new_rings(rt, alloc, image, &labels)?;
+    Ok(Look {
+        commits,
+        accounts: image.len(),
+        components: count_leaders(&components),
+        rings,
+    })
+}
+
+/// How many vertices have their own id.
+fn count_leaders(table: &Table) -> usize {
+    table
+        .as_slice()
+        .iter()
+        .filter(|entry| entry.value == Value::Number { n: entry.vertex })
+        .count()
+}

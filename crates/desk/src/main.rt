@@ -1,0 +1,135 @@
+//! A desk that takes transfers while it looks for rings of money.
+//!
+//! 1. Two clerks, each in a thread of its own, book the transfers of a file as if these came in: the one has the first half
+//!    of them, the other one the rest.
+//! 2. A watcher in a third thread looks for rings again and again, each time on a snapshot. What it sees depends on the
+//!    threads, so it says that on the standard error.
+//! 3. Once all transfers are booked, all accounts are looked at once more. What is said of that on the standard output is
+//!    the same in each run.
+#![tactic(auto)]
+
+mod clerk;
+mod duty;
+mod known;
+mod look;
+mod refusal;
+mod ring;
+mod rings;
+mod transfer;
+mod watcher;
+mod words;
+
+use anyhow::Result;
+use clerk::Clerk;
+use duty::{Duty, LastLook};
+use known::Known;
+use std::alloc::Global;
+use std::rt::Clock;
+use std::sync::Wait;
+use std::sync::atomic::AtomicU64;
+use std::thread::Threads;
+use teseo_store::{Config, Kind, MAX_TXNS_PER_PASS, Store};
+use transfer::{Transfer, read_transfers};
+use watcher::Watcher;
+use words::{Words, read_words};
+
+/// How many clerks there are.
+const CLERKS: u64 = 2;
+
+/// So many sessions the store has: one for each clerk, and one for the watcher.
+const SESSIONS: u32 = 3;
+
+fn main(rt: HostRuntime) -> Result<()> {
+    let words = read_words(&rt)?;
+    let transfers = read_transfers(&rt, words.transfers.as_str())?;
+    run(&rt, rt.alloc(), &words, transfers.as_slice())
+}
+
+/// Books the transfers while the watcher looks, and says what there is at the end.
+fn run<R: Threads + Wait + Clock + Print + Eprint + Sync>(
+    rt: &R,
+    alloc: Global,
+    words: &Words,
+    transfers: &[Transfer],
+) -> Result<()> {
+    let config = Config {
+        kind: Kind::Directed,
+        leaves: 4096,
+        passes: SESSIONS,
+        txns_per_pass: MAX_TXNS_PER_PASS,
+    };
+    let mut store = Store::open(alloc, config)?;
+    let busy = AtomicU64::new(CLERKS);
+    let (first, rest) = transfers.split_at(transfers.len() / 2);
+    let mut duties = [
+        Duty::Book(new_clerk(rt, words, first, &busy)),
+        Duty::Book(new_clerk(rt, words, rest, &busy)),
+        Duty::Watch(Watcher {
+            rt,
+            alloc,
+            pause: words.between_looks,
+            busy: &busy,
+            known: Known::nothing(alloc),
+            looks: 0,
+            refused: None,
+        }),
+    ];
+    store.run(rt, &mut duties);
+    let mut last = LastLook {
+        rt,
+        alloc,
+        seen: None,
+    };
+    store.run_one(rt, &mut last);
+    let closed = store.close();
+    say_end(rt, &duties, last, closed.journal.len())
+}
+
+/// A clerk who has booked nothing yet.
+fn new_clerk<'a, R: Clock>(
+    clock: &'a R,
+    words: &Words,
+    transfers: &'a [Transfer],
+    busy: &'a AtomicU64,
+) -> Clerk<'a, R> {
+    Clerk {
+        clock,
+        pause: words.between_transfers,
+        transfers,
+        busy,
+        booked: 0,
+        refused: 0,
+    }
+}
+
+/// Says what was booked, and what the last look has found out.
+fn say_end<R: Threads + Clock + Print + Eprint + Sync>(
+    rt: &R,
+    duties: &[Duty<'_, R>],
+    last: LastLook<'_, R>,
+    commits: usize,
+) -> Result<()> {
+    let mut booked: u64 = 0;
+    let mut refused: u64 = 0;
+    'duties: for duty in duties {
+        if let Duty::Book(clerk) = duty {
+            booked = booked.saturating_add(clerk.booked);
+            refused = refused.saturating_add(clerk.refused);
+        }
+    }
+    println!(rt; "{booked} transfers booked, {refused} refused, {commits} commits")?;
+    let Some(seen) = last.seen else {
+        return Ok(());
+    };
+    let seen = seen?;
+    println!(rt;
+        "{} accounts, {} components, {} rings",
+        seen.accounts,
+        seen.components,
+        seen.rings.len()
+    )?;
+    'rings: for ring in seen.rings.iter() {
+        println!(rt; "{ring}")?;
+    }
+    Ok(())
+}

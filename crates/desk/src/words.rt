@@ -1,0 +1,41 @@
+//! The words after the program's name.
+
+use anyhow::{Context, Result, bail};
+use std::alloc::Global;
+use std::env;
+use std::env::Env;
+use std::time::Duration;
+
+/// Which transfers come in, and how fast.
+#[derive(Drop)]
+pub struct Words {
+    /// The file of the transfers.
+    pub transfers: String,
+    /// How long a clerk waits after each of its transfers.
+    pub between_transfers: Duration,
+    /// How long the watcher waits after each look.
+    pub between_looks: Duration,
+}
+
+/// The words: a file, and two numbers of milliseconds, which are 0 where they aren't there.
+pub fn read_words<R: Env + Alloc<A = Global>>(rt: &R) -> Result<Words> {
+    let mut words = env::args(rt)?.skip(1);
+    let Some(transfers) = words.next() else {
+        bail!("call it as desk FILE [MILLISECONDS [MILLISECONDS]]");
+    };
+    let between_transfers = milliseconds(words.next())?;
+    let between_looks = milliseconds(words.next())?;
+    Ok(Words {
+        transfers,
+        between_transfers,
+        between_looks,
+    })
+}
+
+/// So many milliseconds, or none.
+fn milliseconds(word: Option<String>) -> Result<Duration> {
+    match word {
+        Some(word) => Ok(Duration::from_millis(word.parse().context("not a number")?)),
+        None => Ok(Duration::ZERO),
+    }
+}
