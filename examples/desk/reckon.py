@@ -77,7 +77,8 @@ def main():
             rings.setdefault(tuple(sorted(ring)), ring)
     components = count_components(accounts, paid, payers)
     print(f"{len(transfers)} transfers booked, 0 refused, {len(transfers)} commits")
-    print(f"{len(accounts)} accounts, {components} components, {len(rings)} rings")
+    amount = sum(amount for _, _, amount in transfers)
+    print(f"{len(accounts)} accounts, {components} components, {len(rings)} rings, {amount} paid in all")
     for ring in rings.values():
         text = " pays ".join(map(str, [ring[0]] + ring[::-1]))
         print(text + (", in one group" if len({labels[a] for a in ring}) == 1 else ""))

@@ -15,13 +15,14 @@ pub own_after : (old new : Account) (start : ℕ) (w : Write) → WritesAt old s
     → new.own ≡ old.own ++ w ∷ []
 own_after old new start w writes = ap (λ (a : Account). a.own) writes.1.others
 
-pub own_payment : (a b c d : Account) (start : ℕ) → WritesAt a start (AddVertex 1) (Ok tt) b
-    → WritesAt b start (AddVertex 2) (Ok tt) c → WritesAt c start (AddEdge 1 2 250) (Ok tt) d
+-- the three writes, one after the other
+pub own_payment : (a b c d : Account) (first second third : ℕ) → WritesAt a first (AddVertex 1) (Ok tt) b
+    → WritesAt b second (AddVertex 2) (Ok tt) c → WritesAt c third (AddEdge 1 2 250) (Ok tt) d
     → d.own ≡ a.own ++ first_payment
-own_payment a b c d start one two three =
-    own_after c d start (AddEdge 1 2 250) three
-    ∙ ap (λ (ws : List Write). ws ++ AddEdge 1 2 250 ∷ []) (own_after b c start (AddVertex 2) two
-    ∙ ap (λ (ws : List Write). ws ++ AddVertex 2 ∷ []) (own_after a b start (AddVertex 1) one))
+own_payment a b c d first second third one two three =
+    own_after c d third (AddEdge 1 2 250) three
+    ∙ ap (λ (ws : List Write). ws ++ AddEdge 1 2 250 ∷ []) (own_after b c second (AddVertex 2) two
+    ∙ ap (λ (ws : List Write). ws ++ AddVertex 2 ∷ []) (own_after a b first (AddVertex 1) one))
     ∙ three_more a.own
   where
     three_more : (ws : List Write)
@@ -30,12 +31,12 @@ own_payment a b c d start one two three =
     three_more (w ∷ ws) = ap (λ (rest : List Write). w ∷ rest) (three_more ws)
 
 -- a transaction that has made it, and was committed, has it in the journal
-pub committed_payment : (old begun made after : Account) (start : ℕ) (stamp : Option ℕ)
-    → GoesOn old (begun_at old start) begun → made.own ≡ begun.own ++ first_payment → made.start ≡ Some start
+pub committed_payment : (old begun made after : Account) (start now : ℕ) (stamp : Option ℕ)
+    → GoesOn old (begun_at old start) begun → made.own ≡ begun.own ++ first_payment → made.start ≡ Some now
     → CommitsBy made stamp after → IfSome stamp (HasPaid after.seen)
-committed_payment old begun made after start None opened own is_open commits = tt
-committed_payment old begun made after start (Some stamp) opened own is_open commits =
-    let has = commits.0 start is_open in
+committed_payment old begun made after start now None opened own is_open commits = tt
+committed_payment old begun made after start now (Some stamp) opened own is_open commits =
+    let has = commits.0 now is_open in
     record {
       place = has.place;
       commit = has.commit;

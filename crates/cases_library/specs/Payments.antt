@@ -15,3 +15,7 @@ pub record HasPaid (journal : List Commit) (stamp : ℕ) : Type 0 where
   pub stamped : stamp ≡ place + 1
   pub at : slice_get journal place ≡ Some commit
   pub writes : commit.writes ≡ first_payment
+
+-- three accounts, the first of which has paid both others
+abbrev pub three_accounts : List Write
+three_accounts = AddVertex 1 ∷ AddVertex 2 ∷ AddVertex 3 ∷ AddEdge 1 2 250 ∷ AddEdge 1 3 100 ∷ []

@@ -25,13 +25,12 @@ impl Change for Pay {
         &mut self,
         txn: &mut Transaction<E, P>,
     ) -> Result<(), Refusal> {
-        match txn.weight(1, 2) {
+        let paid = txn.weight(1, 2);
+        self.is_over = paid.unwrap_or(0) >= LIMIT;
+        match paid {
             None => txn.add_edge(1, 2, 1),
             Some(paid) if paid < LIMIT => txn.set_edge(1, 2, paid + 1),
-            Some(_) => {
-                self.is_over = true;
-                Ok(())
-            }
+            Some(_) => Ok(()),
         }
     }
 }
@@ -63,8 +62,8 @@ impl Work for Clerk {
 
 /// Opens accounts 1 and 2.
 #[derive(Drop)]
-struct OpenAccounts {
-    is_refused: bool,
+pub struct OpenAccounts {
+    pub is_refused: bool,
 }
 
 impl Change for OpenAccounts {

@@ -1,10 +1,14 @@
 //! Clerks, who book transfers.
 
+ghost use Rattle.std.specs.Prelude.{◌≤◌};
+ghost use Rattle.graph_model.specs.declared.limits.TheConstants.{MAX_ID};
+
+use crate::times::since;
 use crate::transfer::Transfer;
 use std::rt::Clock;
 use std::sync::atomic::{AtomicU64, Ordering};
 use std::thread;
-use std::time::Duration;
+use std::time::{Duration, Instant};
 use teseo_store::{Change, MAX_WEIGHT, Place, Refusal, Session, Transaction, VertexEngine, Work};
 
 /// How often a transfer is tried. Each try that meets a conflict has met somebody else's write, which is booked.
@@ -12,8 +16,8 @@ const TRIES: u32 = 1_000_000;
 
 /// Books transfers, one after the other, each in a transaction of its own.
 #[derive(Drop)]
-pub struct Clerk<'a, R: Clock> {
-    pub clock: &'a R,
+pub struct Clerk<'a, R: Clock + Eprint> {
+    pub rt: &'a R,
     /// How long it waits for the next one.
     pub pause: Duration,
     pub transfers: &'a [Transfer],
@@ -21,10 +25,13 @@ pub struct Clerk<'a, R: Clock> {
     pub busy: &'a AtomicU64,
     pub booked: u64,
     pub refused: u64,
+    /// How long it took, if the clock has said.
+    pub taken: Option<Duration>,
 }
 
-impl<'a, R: Clock> Work for Clerk<'a, R> {
+impl<'a, R: Clock + Eprint> Work for Clerk<'a, R> {
     fn work<E: VertexEngine, P: Place>(&mut self, session: Session<E, P>) -> Session<E, P> {
+        let begun = Instant::now(self.rt);
         let mut session = session;
         'transfers: for transfer in self.transfers {
             let mut booking = Booking {
@@ -38,10 +45,25 @@ impl<'a, R: Clock> Work for Clerk<'a, R> {
             } else {
                 self.refused = self.refused.saturating_add(1);
             }
-            thread::sleep(self.clock, self.pause);
+            thread::sleep(self.rt, self.pause);
         }
+        self.taken = since(self.rt, begun);
         self.busy.fetch_sub(1, Ordering::SeqCst);
         session
+    }
+}
+
+impl<'a, R: Clock + Eprint> Clerk<'a, R> {
+    /// Says how many it has booked, and how long that took.
+    pub fn says(&self) {
+        if let Some(taken) = self.taken {
+            // nobody may be listening
+            let _ = eprintln!(self.rt;
+                "a clerk: {} booked in {} ms",
+                self.booked,
+                taken.as_millis()
+            );
+        }
     }
 }
 

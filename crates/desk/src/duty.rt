@@ -26,6 +26,16 @@ impl<'a, R: Threads + Clock + Eprint + Sync> Work for Duty<'a, R> {
     }
 }
 
+impl<'a, R: Threads + Clock + Eprint + Sync> Duty<'a, R> {
+    /// Says how long a clerk was busy, and why a watcher looks no more where it was refused.
+    pub fn says(&self) {
+        match self {
+            Duty::Book(clerk) => clerk.says(),
+            Duty::Watch(watcher) => watcher.says_end(),
+        }
+    }
+}
+
 /// A look at all accounts, once nobody books any more.
 #[derive(Drop)]
 pub struct LastLook<'a, R: Threads + Sync> {

@@ -23,6 +23,8 @@ pub struct Look {
     /// How many commits it has seen.
     pub commits: u64,
     pub accounts: usize,
+    /// What all accounts have paid.
+    pub amount: u64,
     /// How many sets of accounts there are between which nobody has paid anybody.
     pub components: usize,
     /// The rings that weren't known.
@@ -47,11 +49,10 @@ pub fn take_look<R: Threads + Sync, E: VertexEngine, P: Place>(
     let commits = txn.start();
     let image = txn.image(alloc);
     let session = txn.abort();
-    let look = match image {
-        Ok(image) => analysed(rt, alloc, &image, commits, known),
-        Err(why) => Err(LookRefusal::from(why)),
-    };
-    (session, look)
+    match image {
+        Ok(image) => (session, analysed(rt, alloc, &image, commits, known)),
+        Err(why) => (session, Err(LookRefusal::from(why))),
+    }
 }
 
 /// How many commits there are now.
@@ -85,6 +86,7 @@ fn analysed<R: Threads + Sync>(
     Ok(Look {
         commits,
         accounts: image.len(),
+        amount: amount_of(image),
         components: count_leaders(&components),
         rings,
     })
@@ -97,4 +99,15 @@ fn count_leaders(table: &Table) -> usize {
         .iter()
         .filter(|entry| entry.value == Value::Number { n: entry.vertex })
         .count()
+}
+
+/// What all accounts have paid.
+fn amount_of(image: &Image) -> u64 {
+    let mut amount: u64 = 0;
+    'places: for place in 0..image.len() {
+        'arcs: for arc in image.out(place) {
+            amount = amount.saturating_add(arc.weight);
+        }
+    }
+    amount
 }

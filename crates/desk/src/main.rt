@@ -15,6 +15,7 @@ mod look;
 mod refusal;
 mod ring;
 mod rings;
+mod times;
 mod transfer;
 mod watcher;
 mod words;
@@ -28,6 +29,7 @@ use std::rt::Clock;
 use std::sync::Wait;
 use std::sync::atomic::AtomicU64;
 use std::thread::Threads;
+use std::time::Duration;
 use teseo_store::{Config, Kind, MAX_TXNS_PER_PASS, Store};
 use transfer::{Transfer, read_transfers};
 use watcher::Watcher;
@@ -86,19 +88,20 @@ fn run<R: Threads + Wait + Clock + Print + Eprint + Sync>(
 }
 
 /// A clerk who has booked nothing yet.
-fn new_clerk<'a, R: Clock>(
-    clock: &'a R,
+fn new_clerk<'a, R: Clock + Eprint>(
+    rt: &'a R,
     words: &Words,
     transfers: &'a [Transfer],
     busy: &'a AtomicU64,
 ) -> Clerk<'a, R> {
     Clerk {
-        clock,
-        pause: words.between_transfers,
+        rt,
+        pause: Duration::from_millis(words.between_transfers),
         transfers,
         busy,
         booked: 0,
         refused: 0,
+        taken: None,
     }
 }
 
@@ -112,6 +115,7 @@ fn say_end<R: Threads + Clock + Print + Eprint + Sync>(
     let mut booked: u64 = 0;
     let mut refused: u64 = 0;
     'duties: for duty in duties {
+        duty.says();
         if let Duty::Book(clerk) = duty {
             booked = booked.saturating_add(clerk.booked);
             refused = refused.saturating_add(clerk.refused);
@@ -123,10 +127,11 @@ fn say_end<R: Threads + Clock + Print + Eprint + Sync>(
     };
     let seen = seen?;
     println!(rt;
-        "{} accounts, {} components, {} rings",
+        "{} accounts, {} components, {} rings, {} paid in all",
         seen.accounts,
         seen.components,
-        seen.rings.len()
+        seen.rings.len(),
+        seen.amount
     )?;
     'rings: for ring in seen.rings.iter() {
         println!(rt; "{ring}")?;

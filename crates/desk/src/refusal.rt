@@ -2,6 +2,7 @@
 
 use graph_image::{KernelRefusal, NoMemory};
 use std::alloc::{AllocError, AllocFailed};
+use std::io;
 use teseo_store::BeginRefusal;
 use thiserror::Error;
 
@@ -14,6 +15,9 @@ pub enum LookRefusal {
     /// A kernel gave no table.
     #[error("{0}")]
     NoTable(KernelRefusal),
+    /// The clock hasn't said how long it took.
+    #[error("no clock")]
+    NoClock,
     #[error("no memory")]
     NoMemory,
 }
@@ -21,6 +25,12 @@ pub enum LookRefusal {
 impl From<KernelRefusal> for LookRefusal {
     fn from(why: KernelRefusal) -> LookRefusal {
         LookRefusal::NoTable(why)
+    }
+}
+
+impl From<io::Error> for LookRefusal {
+    fn from(_why: io::Error) -> LookRefusal {
+        LookRefusal::NoClock
     }
 }
 

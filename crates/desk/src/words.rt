@@ -4,17 +4,16 @@ use anyhow::{Context, Result, bail};
 use std::alloc::Global;
 use std::env;
 use std::env::Env;
-use std::time::Duration;
 
 /// Which transfers come in, and how fast.
 #[derive(Drop)]
 pub struct Words {
     /// The file of the transfers.
     pub transfers: String,
-    /// How long a clerk waits after each of its transfers.
-    pub between_transfers: Duration,
-    /// How long the watcher waits after each look.
-    pub between_looks: Duration,
+    /// How long a clerk waits after each of its transfers, in milliseconds.
+    pub between_transfers: u64,
+    /// How long the watcher waits after each look, in milliseconds.
+    pub between_looks: u64,
 }
 
 /// The words: a file, and two numbers of milliseconds, which are 0 where they aren't there.
@@ -33,9 +32,9 @@ pub fn read_words<R: Env + Alloc<A = Global>>(rt: &R) -> Result<Words> {
 }
 
 /// So many milliseconds, or none.
-fn milliseconds(word: Option<String>) -> Result<Duration> {
+fn milliseconds(word: Option<String>) -> Result<u64> {
     match word {
-        Some(word) => Ok(Duration::from_millis(word.parse().context("not a number")?)),
-        None => Ok(Duration::ZERO),
+        Some(word) => Ok(word.parse().context("not a number")?),
+        None => Ok(0),
     }
 }
