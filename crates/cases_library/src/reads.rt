@@ -3,7 +3,6 @@
 ghost use Rattle.std.specs.Prelude.{◌≡◌, IfOk};
 ghost use Rattle.cases_library.specs.Payments.{three_accounts};
 
-use graph_image::Image;
 use std::alloc::Global;
 use std::sync::Wait;
 use teseo_store::{
@@ -66,7 +65,7 @@ fn look<E: VertexEngine, P: Place>(
     'payees: for payee in payees.as_slice() {
         paid = paid.saturating_add(payee.weight);
     }
-    let image: Image = txn.image(alloc)?;
+    let image = txn.image(alloc)?;
     Ok(Seen {
         commits: txn.start(),
         is_there: txn.has_vertex(1),
