@@ -16,7 +16,7 @@ const TRIES: u32 = 1_000_000;
 
 /// Books transfers, one after the other, each in a transaction of its own.
 #[derive(Drop)]
-pub struct Clerk<'a, R: Clock + Eprint> {
+pub struct Clerk<'a, R: Clock> {
     pub rt: &'a R,
     /// How long it waits for the next one.
     pub pause: Duration,
@@ -29,7 +29,7 @@ pub struct Clerk<'a, R: Clock + Eprint> {
     pub taken: Option<Duration>,
 }
 
-impl<'a, R: Clock + Eprint> Work for Clerk<'a, R> {
+impl<'a, R: Clock> Work for Clerk<'a, R> {
     fn work<E: VertexEngine, P: Place>(&mut self, session: Session<E, P>) -> Session<E, P> {
         let begun = Instant::now(self.rt);
         let mut session = session;
@@ -50,20 +50,6 @@ impl<'a, R: Clock + Eprint> Work for Clerk<'a, R> {
         self.taken = since(self.rt, begun);
         self.busy.fetch_sub(1, Ordering::SeqCst);
         session
-    }
-}
-
-impl<'a, R: Clock + Eprint> Clerk<'a, R> {
-    /// Says how many it has booked, and how long that took.
-    pub fn says(&self) {
-        if let Some(taken) = self.taken {
-            // nobody may be listening
-            let _ = eprintln!(self.rt;
-                "a clerk: {} booked in {} ms",
-                self.booked,
-                taken.as_millis()
-            );
-        }
     }
 }
 

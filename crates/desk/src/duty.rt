@@ -2,6 +2,7 @@
 
 use crate::clerk::Clerk;
 use crate::known::Known;
+use crate::leave::Leave;
 use crate::look::{Look, take_look};
 use crate::refusal::LookRefusal;
 use crate::watcher::Watcher;
@@ -26,16 +27,6 @@ impl<'a, R: Threads + Clock + Eprint + Sync> Work for Duty<'a, R> {
     }
 }
 
-impl<'a, R: Threads + Clock + Eprint + Sync> Duty<'a, R> {
-    /// Says how long a clerk was busy, and why a watcher looks no more where it was refused.
-    pub fn says(&self) {
-        match self {
-            Duty::Book(clerk) => clerk.says(),
-            Duty::Watch(watcher) => watcher.says_end(),
-        }
-    }
-}
-
 /// A look at all accounts, once nobody books any more.
 #[derive(Drop)]
 pub struct LastLook<'a, R: Threads + Sync> {
@@ -47,7 +38,7 @@ pub struct LastLook<'a, R: Threads + Sync> {
 impl<'a, R: Threads + Sync> Work for LastLook<'a, R> {
     fn work<E: VertexEngine, P: Place>(&mut self, session: Session<E, P>) -> Session<E, P> {
         let mut known = Known::nothing(self.alloc);
-        let (session, seen) = take_look(self.rt, self.alloc, session, &mut known);
+        let (session, seen) = take_look(&Leave::of(self.rt), self.alloc, session, &mut known);
         self.seen = Some(seen);
         session
     }

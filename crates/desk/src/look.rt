@@ -106,7 +106,7 @@ fn amount_of(image: &Image) -> u64 {
     let mut amount: u64 = 0;
     'places: for place in 0..image.len() {
         'arcs: for arc in image.out(place) {
-            amount = amount.saturating_add(arc.weight);
+            amount = amount.saturating_add(u64::from(arc.weight));
         }
     }
     amount

@@ -11,6 +11,7 @@
 mod clerk;
 mod duty;
 mod known;
+mod leave;
 mod look;
 mod refusal;
 mod ring;
@@ -24,6 +25,8 @@ use anyhow::Result;
 use clerk::Clerk;
 use duty::{Duty, LastLook};
 use known::Known;
+use look::Look;
+use refusal::LookRefusal;
 use std::alloc::Global;
 use std::rt::Clock;
 use std::sync::Wait;
@@ -48,11 +51,11 @@ fn main(rt: HostRuntime) -> Result<()> {
 }
 
 /// Books the transfers while the watcher looks, and says what there is at the end.
-fn run<R: Threads + Wait + Clock + Print + Eprint + Sync>(
-    rt: &R,
+fn run<'a, R: Threads + Wait + Clock + Print + Eprint + Sync>(
+    rt: &'a R,
     alloc: Global,
     words: &Words,
-    transfers: &[Transfer],
+    transfers: &'a [Transfer],
 ) -> Result<()> {
     let config = Config {
         kind: Kind::Directed,
@@ -83,12 +86,17 @@ fn run<R: Threads + Wait + Clock + Print + Eprint + Sync>(
         seen: None,
     };
     store.run_one(rt, &mut last);
+    let LastLook {
+        rt: _,
+        alloc: _,
+        seen,
+    } = last;
     let closed = store.close();
-    say_end(rt, &duties, last, closed.journal.len())
+    say_end(rt, &duties, seen, closed.journal.len())
 }
 
 /// A clerk who has booked nothing yet.
-fn new_clerk<'a, R: Clock + Eprint>(
+fn new_clerk<'a, R: Clock>(
     rt: &'a R,
     words: &Words,
     transfers: &'a [Transfer],
@@ -109,20 +117,23 @@ fn new_clerk<'a, R: Clock + Eprint>(
 fn say_end<R: Threads + Clock + Print + Eprint + Sync>(
     rt: &R,
     duties: &[Duty<'_, R>],
-    last: LastLook<'_, R>,
+    seen: Option<Result<Look, LookRefusal>>,
     commits: usize,
 ) -> Result<()> {
     let mut booked: u64 = 0;
     let mut refused: u64 = 0;
     'duties: for duty in duties {
-        duty.says();
-        if let Duty::Book(clerk) = duty {
-            booked = booked.saturating_add(clerk.booked);
-            refused = refused.saturating_add(clerk.refused);
+        match duty {
+            Duty::Book(clerk) => {
+                booked = booked.saturating_add(clerk.booked);
+                refused = refused.saturating_add(clerk.refused);
+                say_taken(rt, clerk.booked, clerk.taken);
+            }
+            Duty::Watch(watcher) => say_refused(rt, watcher.refused),
         }
     }
     println!(rt; "{booked} transfers booked, {refused} refused, {commits} commits")?;
-    let Some(seen) = last.seen else {
+    let Some(seen) = seen else {
         return Ok(());
     };
     let seen = seen?;
@@ -137,4 +148,19 @@ fn say_end<R: Threads + Clock + Print + Eprint + Sync>(
         println!(rt; "{ring}")?;
     }
     Ok(())
+}
+
+/// Says how long a clerk took for what it has booked.
+fn say_taken<R: Eprint>(rt: &R, booked: u64, taken: Option<Duration>) {
+    if let Some(taken) = taken {
+        // nobody may be listening
+        let _ = eprintln!(rt; "a clerk: {booked} booked in {} ms", taken.as_millis());
+    }
+}
+
+/// Says why the watcher looked no more, where it was refused.
+fn say_refused<R: Eprint>(rt: &R, refused: Option<LookRefusal>) {
+    if let Some(why) = refused {
+        let _ = eprintln!(rt; "the watcher was refused: {why}");
+    }
 }

@@ -1,6 +1,7 @@
 //! The watcher, who looks for rings while clerks book.
 
 use crate::known::Known;
+use crate::leave::Leave;
 use crate::look::{Look, count_commits, take_look};
 use crate::refusal::LookRefusal;
 use std::alloc::Global;
@@ -13,9 +14,6 @@ use teseo_store::{Place, Session, VertexEngine, Work};
 
 /// So often a watcher looks at most.
 const MOST_LOOKS: u32 = 1_000_000;
-
-/// How long it waits until it asks again whether a clerk is busy.
-const MILLISECOND: Duration = Duration::from_millis(1);
 
 /// Looks again and again until no clerk is busy, and says what it finds.
 #[derive(Drop)]
@@ -36,68 +34,65 @@ impl<'a, R: Threads + Clock + Eprint + Sync> Work for Watcher<'a, R> {
     fn work<E: VertexEngine, P: Place>(&mut self, session: Session<E, P>) -> Session<E, P> {
         let mut session = session;
         'looks: for _look in 0..MOST_LOOKS {
-            let is_last = self.is_over();
+            let is_last = is_over(self.busy);
             let begun = Instant::now(self.rt);
-            let (next, seen) = take_look(self.rt, self.alloc, session, &mut self.known);
+            let (next, seen) = take_look(&Leave::of(self.rt), self.alloc, session, &mut self.known);
             let (next, commits) = count_commits(next);
             session = next;
-            if let Err(why) = self.says(begun, seen, commits) {
+            self.looks = self.looks.saturating_add(1);
+            if let Err(why) = says(self.rt, self.looks, begun, seen, commits) {
                 self.refused = Some(why);
                 return session;
             }
             if is_last {
                 return session;
             }
-            self.rests(&mut session);
+            rests(self.rt, self.busy, self.pause, &mut session);
         }
         session
     }
 }
 
-impl<'a, R: Threads + Clock + Eprint + Sync> Watcher<'a, R> {
-    /// Whether no clerk is busy any more.
-    fn is_over(&self) -> bool {
-        self.busy.load(Ordering::SeqCst) == 0
-    }
+/// Whether no clerk is busy any more.
+fn is_over(busy: &AtomicU64) -> bool {
+    busy.load(Ordering::SeqCst) == 0
+}
 
-    /// Waits for the next look, but no longer than a clerk is busy, and keeps the store small meanwhile.
-    fn rests<E: VertexEngine, P: Place>(&self, session: &mut Session<E, P>) {
-        'steps: for step in 0..=self.pause {
-            // where it is refused memory it has changed nothing
-            let _ = session.serve();
-            if step == self.pause || self.is_over() {
-                return;
-            }
-            thread::sleep(self.rt, MILLISECOND);
+/// Waits for the next look, but no longer than a clerk is busy, and keeps the store small meanwhile.
+fn rests<R: Clock, E: VertexEngine, P: Place>(
+    clock: &R,
+    busy: &AtomicU64,
+    pause: u64,
+    session: &mut Session<E, P>,
+) {
+    'steps: for step in 0..=pause {
+        // where it is refused memory it has changed nothing
+        let _ = session.serve();
+        if step == pause || is_over(busy) {
+            return;
         }
+        thread::sleep(clock, Duration::from_millis(1));
     }
+}
 
-    /// Says why it looks no more, where it was refused.
-    pub fn says_end(&self) {
-        if let Some(why) = self.refused {
-            let _ = eprintln!(self.rt; "the watcher was refused: {why}");
-        }
+/// Says what a look that began then has found out, and how many commits there are at its end.
+fn says<R: Clock + Eprint>(
+    rt: &R,
+    look: u32,
+    begun: io::Result<Instant>,
+    seen: Result<Look, LookRefusal>,
+    commits: Result<u64, LookRefusal>,
+) -> Result<(), LookRefusal> {
+    let age = begun?.elapsed(rt)?.as_millis();
+    let seen = seen?;
+    let newer = commits?.saturating_sub(seen.commits);
+    // nobody may be listening
+    let _ = eprintln!(rt;
+        "look {look}: {} transfers, {newer} more in {age} ms since; {} accounts, {} components",
+        seen.commits, seen.accounts, seen.components
+    );
+    'rings: for ring in seen.rings.iter() {
+        let _ = eprintln!(rt; "look {look}: {ring}");
     }
-
-    /// Says what a look that began then has found out, and how many commits there are at its end.
-    fn says(
-        &mut self,
-        begun: io::Result<Instant>,
-        seen: Result<Look, LookRefusal>,
-        commits: Result<u64, LookRefusal>,
-    ) -> Result<(), LookRefusal> {
-        let age = begun?.elapsed(self.rt)?.as_millis();
-        let seen = seen?;
-        let newer = commits?.saturating_sub(seen.commits);
-        self.looks = self.looks.saturating_add(1);
-        // nobody may be listening
-        let _ = eprintln!(self.rt;
-            "look {}: {} transfers, {newer} more in {age} ms since; {} accounts, {} components",
-            self.looks, seen.commits, seen.accounts, seen.components
-        );
-        'rings: for ring in seen.rings.iter() {
-            let _ = eprintln!(self.rt; "look {}: {ring}", self.looks);
-        }
-        Ok(())
-    }
+    Ok(())
 }
