@@ -1,12 +1,12 @@
 -- A way back from an account, payer by payer, until it is there again.
-use Rattle.std.proofs.Common.{◌≡◌, ℕ, ◌+◌, List, [], ◌∷◌, ◌++◌, length, inl, inr, ◌⊎◌, refl, sym, ◌∙◌, ap, subst, arith}
+use Rattle.std.proofs.Common.{◌≡◌, ℕ, ◌+◌, List, [], ◌∷◌, ◌++◌, length, inl, inr, ◌⊎◌, sym, ◌∙◌, ap, subst, arith}
 use Rattle.std.specs.Prelude.{◌<◌, Some, Option, slice_get, IsTrue}
 use Rattle.std.proofs.lemmas.List.{length-append}
 use Rattle.std.proofs.lemmas.Option.{slice_get-get_or}
 use Rattle.std.proofs.Math.ListN.{get_or}
 use Rattle.graph_model.specs.Graph.{Graph, has_arc}
-use Rattle.graph_model.proofs.LegalLemmas.{below_length, get_front}
-use Rattle.graph_model.proofs.PlaceLemmas.{get_end, get_snoc}
+use Rattle.graph_model.proofs.LegalLemmas.{below_length}
+use Rattle.graph_model.proofs.PlaceLemmas.{get_snoc}
 use Rattle.graph_image.specs.Images.{AreWithin, IsImageOf, LeadsBy, Places, arcs_at}
 use Rattle.graph_image.proofs.ImageLemmas.{leads_arc}
 use Rattle.desk.specs.Rings.{IsEndOf, IsRing}

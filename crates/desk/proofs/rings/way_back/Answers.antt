@@ -1,8 +1,6 @@
-use Rattle.std.proofs.Common.{rules, ◌≡◌, ◌<◌, length, ℕ, sym, subst, arith}
-use Rattle.std.specs.Prelude.{Some, slice_get}
-use Rattle.graph_model.specs.Graph.{Graph}
-use Rattle.graph_image.specs.Images.{AreWithin, IsImageOf, arcs_at}
-use Rattle.desk.specs.Rings.{IsEndOf, IsRing}
+use Rattle.std.proofs.Common.{rules, ◌≡◌, length, sym, subst}
+use Rattle.graph_image.specs.Images.{AreWithin, arcs_at}
+use Rattle.desk.specs.Rings.{IsEndOf}
 use Rattle.desk.proofs.RingLemmas.{GoesBack, closes, has_some, is_inside, read_at, steps}
 use Rattle.desk.proofs.rings.way_back.Goals as goal
 
