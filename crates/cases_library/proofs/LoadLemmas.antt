@@ -15,6 +15,13 @@ pub three_allowed : AllAllowed Directed empty_graph three_accounts
 three_allowed = all_allowed Directed empty_graph [] [] empty_entries three_accounts refl
 
 pub three_within : AllByRecursion IsWithinLimits three_accounts
-three_within =
-    (omega arith, (omega arith, (omega arith,
-    ((omega arith, omega arith, omega arith), ((omega arith, omega arith, omega arith), tt)))))
+three_within = (
+  omega arith,
+  (
+    omega arith,
+    (
+      omega arith,
+      ((omega arith, omega arith, omega arith), ((omega arith, omega arith, omega arith), tt)),
+    ),
+  ),
+)

@@ -8,12 +8,12 @@ use Rattle.cases_library.proofs.LoadLemmas.{three_add, three_allowed, three_with
 use Rattle.cases_library.proofs.reads.survey_three.Goals as goal
 
 pub load-requires-clause-adds : goal.load-requires-clause-adds
-load-requires-clause-adds g c κs within = subst (AllByRecursion IsAdd) (sym c.in_ok-three.ensures) three_add
+load-requires-clause-adds g c = subst (AllByRecursion IsAdd) (sym c.in_ok-graph.ensures) three_add
 
 pub load-requires-clause-allowed : goal.load-requires-clause-allowed
-load-requires-clause-allowed g c κs within =
-    subst (AllAllowed Directed empty_graph) (sym c.in_ok-three.ensures) three_allowed
+load-requires-clause-allowed g c =
+    subst (AllAllowed Directed empty_graph) (sym c.in_ok-graph.ensures) three_allowed
 
 pub load-requires-clause-within : goal.load-requires-clause-within
-load-requires-clause-within g c κs within =
-    subst (AllByRecursion IsWithinLimits) (sym c.in_ok-three.ensures) three_within
+load-requires-clause-within g c =
+    subst (AllByRecursion IsWithinLimits) (sym c.in_ok-graph.ensures) three_within
