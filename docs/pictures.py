@@ -1,11 +1,9 @@
 #!/usr/bin/env python3
-"""Draws the pictures of ARCHITECTURE.md: store.svg, versions.svg, rebalance.svg and passes.svg, beside this file; and
-reads.svg, from the first table of BENCHMARKS.md under "Reads beside writers", where each of its cells of reads has a figure.
+"""Draws the pictures of ARCHITECTURE.md: store.svg, versions.svg, rebalance.svg and passes.svg, beside this file.
 
 Needs Python 3.9 or later with its standard library alone, and is run by hand: docs/pictures.py"""
 
 import pathlib
-import re
 from xml.sax.saxutils import escape
 
 HERE = pathlib.Path(__file__).resolve().parent
@@ -239,47 +237,8 @@ def draw_passes():
     picture.save()
 
 
-def read_rates():
-    """Millions of reads a second by readers and by whether there is a writer: here, and of the ordered map. The best of each."""
-    text = (HERE / "BENCHMARKS.md").read_text(encoding="utf-8").partition("## Reads beside writers\n")[2]
-    rates = {}
-    for line in text.partition("\n\nMillions of rows")[0].splitlines():
-        cells = [cell.strip() for cell in line.strip("|").split("|")]
-        if cells[0].isdecimal():
-            figures = [re.findall(r"[\d.]+", cells[column].replace(",", "")) for column in (2, 6)]
-            if not all(figures):
-                return {}
-            rates[int(cells[0]), cells[1] != "nobody"] = tuple(max(map(float, found)) for found in figures)
-    return rates
-
-
-def draw_reads():
-    """Reads a second by the number of readers, alone and beside a writer, here and of an ordered map behind a lock."""
-    rates = read_rates()
-    if not rates:
-        print("reads.svg isn't drawn: the table has no figures yet")
-        return
-    picture = Picture("reads", "Millions of reads a second by one to three readers, alone and beside a writer", 330)
-    most = max(max(pair) for pair in rates.values())
-    kinds = [(0, False, ROW, "alone"), (0, True, TOUCH, "beside a writer"), (1, False, RECORD, "ordered map, alone"),
-             (1, True, GREY, "ordered map, beside a writer")]
-    for place, (column, is_written, fill, name) in enumerate(kinds):
-        picture.box(20 + place * 180, 14, 12, 12, fill)
-        picture.word(38 + place * 180, 24, name)
-        for readers in (1, 2, 3):
-            rate = rates[readers, is_written][column]
-            x, tall = 60 + (readers - 1) * 230 + place * 48, rate / most * 210
-            picture.box(x, 275 - tall, 40, tall, fill)
-            picture.word(x + 20, 270 - tall, f"{rate:.2f}", "middle")
-    for readers in (1, 2, 3):
-        picture.word(152 + (readers - 1) * 230, 295, f"{readers} reader{'s' if readers > 1 else ''}", "middle")
-    picture.word(20, 320, "millions of reads a second, the best runs", colour=GREY)
-    picture.save()
-
-
 if __name__ == "__main__":
     draw_store()
     draw_versions()
     draw_rebalance()
     draw_passes()
-    draw_reads()
