@@ -1,5 +1,5 @@
 -- Three accounts are a graph that a store may begin with.
-use Rattle.std.proofs.Common.{◌≡◌, ℕ, ◌≤◌, List, [], ◌∷◌, refl, arith}
+use Rattle.std.proofs.Common.{[], refl, arith}
 use Rattle.std.specs.List.{AllByRecursion}
 use Rattle.graph_model.specs.declared.write.Kind.TheVariants.{Directed}
 use Rattle.graph_model.specs.Graph.{empty_graph}

@@ -1,12 +1,12 @@
 -- A first payment, from the transaction to the journal of the closed store.
-use Rattle.std.proofs.Common.{◌≡◌, ℕ, List, [], ◌∷◌, ◌++◌, length, refl, sym, ◌∙◌, ap, subst}
+use Rattle.std.proofs.Common.{◌≡◌, ℕ, List, [], ◌∷◌, ◌++◌, refl, sym, ◌∙◌, ap}
 use Rattle.std.specs.Prelude.{IfSome, None, Ok, Option, Some, slice_get}
 use mathlib.Core.List.{IsPrefix}
 use Rattle.graph_model.specs.declared.journal.Commit.{Commit}
 use Rattle.graph_model.specs.declared.write.Write.{Write}
 use Rattle.graph_model.specs.declared.write.Write.TheVariants.{AddEdge, AddVertex}
 use Rattle.graph_model.specs.Account.{Account}
-use Rattle.graph_model.specs.AccountSteps.{CommitsBy, GoesOn, WritesAt, begun_at, with_write}
+use Rattle.graph_model.specs.AccountSteps.{CommitsBy, GoesOn, WritesAt, begun_at}
 use Rattle.graph_model.proofs.LegalLemmas.{get_front}
 use Rattle.cases_library.specs.Payments.{HasPaid, first_payment}
 

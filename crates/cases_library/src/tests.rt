@@ -30,8 +30,8 @@ fn two_clerks_pay_no_more_than_the_limit(rt: HostRuntime) -> Result<(), Fail> {
     });
     let closed = pay_by_two(&rt, rt.alloc(), &mut clerks)?;
     let [one, two] = clerks;
-    assert_eq!(rt; one.given_up + two.given_up, 0);
-    assert_eq!(rt; one.paid + two.paid, 150);
+    assert_eq!(rt; (one.given_up, two.given_up), (0, 0));
+    assert_eq!(rt; one.paid.saturating_add(two.paid), 150);
     assert_eq!(rt; counts_of(&closed), (151, 2, 1));
     Ok(())
 }
@@ -56,15 +56,19 @@ fn a_change_meets_a_conflict_each_time_that_an_open_transaction_has_its_edge(
         }),
     ];
     let closed = pay_while_held(&rt, rt.alloc(), &mut parties)?;
-    let [Party::Holder(holder), Party::Rival(rival)] = parties else {
-        return Err(Fail::new("a party has become another one"));
-    };
-    assert_eq!(rt; (holder.wrote, holder.stamp), (Some(Ok(())), Some(2)));
-    assert_eq!(rt;
-        rival.while_held,
-        Some(Err(RetryError::Conflicts { tries: 3 }))
-    );
-    assert_eq!(rt; rival.afterwards, Some(Ok(Some(3))));
+    'parties: for party in parties.iter() {
+        match party {
+            Party::Holder(holder) => {
+                assert_eq!(rt; holder.wrote, Some(Ok(())));
+                assert_eq!(rt; holder.stamp, Some(2));
+            }
+            Party::Rival(rival) => {
+                let conflicts = RetryError::Conflicts { tries: 3 };
+                assert_eq!(rt; rival.while_held, Some(Err(conflicts)));
+                assert_eq!(rt; rival.afterwards, Some(Ok(Some(3))));
+            }
+        }
+    }
     assert_eq!(rt; counts_of(&closed), (3, 2, 1));
     Ok(())
 }
