@@ -9,7 +9,7 @@ abbrev arcs : List ((ℕ × ℕ) × ℕ)
 arcs = ((1, 2), 1) ∷ ((2, 1), 1) ∷ ((2, 3), 1) ∷ ((3, 2), 1) ∷ []
 
 pub assert_same_in_parts-requires-clause-storable : goal.assert_same_in_parts-requires-clause-storable
-assert_same_in_parts-requires-clause-storable g c = (literal_fits c.as_slice.result.now vertices arcs (c.as_slice.ensures.value ∙ c.in_ok-rows.ensures) refl refl refl refl).0
+assert_same_in_parts-requires-clause-storable g c κs = (literal_fits c.as_slice.result.now vertices arcs (c.as_slice.ensures.value ∙ c.in_ok-rows.ensures) refl refl refl refl).0
 
 pub assert_same_in_parts-requires-clause-ended : goal.assert_same_in_parts-requires-clause-ended
-assert_same_in_parts-requires-clause-ended g c = (literal_fits c.as_slice.result.now vertices arcs (c.as_slice.ensures.value ∙ c.in_ok-rows.ensures) refl refl refl refl).1
+assert_same_in_parts-requires-clause-ended g c κs = (literal_fits c.as_slice.result.now vertices arcs (c.as_slice.ensures.value ∙ c.in_ok-rows.ensures) refl refl refl refl).1
