@@ -19,8 +19,8 @@ pub struct Workload {
     pub edits: Vec<Edit>,
 }
 
-/// A graph of so many vertices and edges, and so many edits of it. Edges are drawn with the same chance for each pair of
-/// vertices, or by R-MAT.
+/// A graph of so many vertices and edges, and so many edits of it. Edges are drawn with the same chance for each pair
+/// of vertices, or by R-MAT.
 pub fn make_workload(
     alloc: Global,
     counts: [u64; 3],
