@@ -1,9 +1,9 @@
 //! Times how a store of many threads is made of sorted rows, and how one of its cells is unpacked and packed again.
 //!
 //! 1. Called with four numbers, of vertices, edges, rounds and trips, it makes a random graph and sorts its rows. It
-//!    makes a store of them in each round, and then a pass visits a cell of such a store so often in each of some rounds.
-//!    It prints a line for each part: its name, how many rows or trips there were, and how many rows a second or
-//!    nanoseconds a trip in the best round. Called with no words it does nothing.
+//!    makes a store of them in each round, and then a pass visits a cell of such a store so often in each of some
+//!    rounds. It prints a line for each part: its name, how many rows or trips there were, and how many rows a second
+//!    or nanoseconds a trip in the best round. Called with no words it does nothing.
 //! 2. Nothing is read, parsed or written while a part is timed.
 #![tactic(auto)]
 
@@ -33,7 +33,7 @@ fn main(rt: HostRuntime) -> Result<()> {
     Ok(())
 }
 
-/// The numbers behind the program's name, up to four; 0 for each that isn't there.
+/// The numbers after the program's name, up to four; 0 for each that isn't there.
 fn numbers(rt: &(impl Env + Alloc<A = Global>), alloc: Global) -> Result<[u64; 4]> {
     let mut numbers = [0; 4];
     let mut count = 0;

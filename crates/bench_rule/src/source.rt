@@ -20,7 +20,8 @@ const LEAF_ROWS: usize = 208;
 /// The graph is made from this.
 const SEED: u64 = 1;
 
-/// The writes that add a graph, the rows that they leave, in rising order of their keys, and how a store of them is made.
+/// The writes that add a graph, the rows that they leave, in rising order of their keys, and how a store of them is
+/// made.
 #[derive(Drop)]
 pub struct Source {
     config: Config,
