@@ -2,8 +2,8 @@
 
 use std::sync::atomic::{AtomicU64, Ordering};
 
-/// How many changes were made, how many found no place for a row in its cell, and how many were refused. Threads add what
-/// they have counted once they are through.
+/// How many changes were made, how many found no place for a row in its cell, and how many were refused. Threads add
+/// what they have counted once they are through.
 #[derive(Drop)]
 pub struct Counts {
     made: AtomicU64,

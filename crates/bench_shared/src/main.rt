@@ -1,9 +1,9 @@
 //! Times transactions of one edge that threads make on one store, by calls of the store.
 //!
-//! 1. Called with five numbers, of vertices, edges, transactions, a seed and threads, it draws a graph and changes of its
-//!    edges by R-MAT from the seed, makes a store with the graph, and has each thread make its part of the changes, one in
-//!    each transaction. It prints a line for the load, one for the transactions, and one for what became of the changes.
-//!    Called with no words it does nothing.
+//! 1. Called with five numbers, of vertices, edges, transactions, a seed and threads, it draws a graph and changes of
+//!    its edges by R-MAT from the seed, makes a store with the graph, and has each thread make its part of the changes,
+//!    one in each transaction. It prints a line for the load, one for the transactions, and one for what became of the
+//!    changes. Called with no words it does nothing.
 //! 2. Nothing is read, parsed or written while a part is timed.
 #![tactic(auto)]
 
@@ -29,7 +29,7 @@ fn main(rt: HostRuntime) -> Result<()> {
     times.say(&rt)
 }
 
-/// The numbers behind the program's name, up to five; 0 for each that isn't there.
+/// The numbers after the program's name, up to five; 0 for each that isn't there.
 fn numbers(rt: &(impl Env + Alloc<A = Global>), alloc: Global) -> Result<[u64; 5]> {
     let mut numbers = [0; 5];
     let mut count = 0;

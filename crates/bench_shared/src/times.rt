@@ -15,7 +15,7 @@ use std::thread::Threads;
 use std::time::{Duration, Instant};
 use txn_manager::Config;
 
-/// How many rows a leaf has behind a load.
+/// How many rows a leaf has after a load.
 const LEAF_ROWS: u64 = 208;
 
 /// What was timed, and what became of the changes.
