@@ -15,8 +15,8 @@ use std::sync::Wait;
 use std::thread::Threads;
 use std::time::Instant;
 
-/// Times a round beside an engine whose transaction stays open, and then a sweep of each leaf once. Prints how many edges
-/// were set, how many a second, how many records that left, and how many are left by the sweeps.
+/// Times a round beside an engine whose transaction stays open, and then a sweep of each leaf once. Prints how many
+/// edges were set, how many a second, how many records that left, and how many are left by the sweeps.
 pub fn time_held<R: Threads + Wait + Clock + Print + Sync, E: Engine + Send>(
     rt: &R,
     store: &Store,

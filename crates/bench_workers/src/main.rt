@@ -2,8 +2,8 @@
 //!
 //! 1. Called with a word and five numbers, of vertices, edges, a seed, threads and a count, it draws a graph by R-MAT
 //!    from the seed, makes a store with it, and times what the word says: `reads` of edges, `scans` of all rows,
-//!    `turns` of the service with nothing to do, `churn`, the same edges set again and again, or `held`, edges set while
-//!    a transaction stays open. Called with no words it does nothing.
+//!    `turns` of the service with nothing to do, `churn`, the same edges set again and again, or `held`, edges set
+//!    while a transaction stays open. Called with no words it does nothing.
 //! 2. Each pass of the store but the last has a worker. With the last one the store is looked at between two rounds.
 //! 3. Nothing is read, parsed or written while a round runs.
 #![tactic(auto)]

@@ -1,4 +1,4 @@
-//! The words behind the program's name.
+//! The words after the program's name.
 
 use anyhow::Result;
 use std::env;
