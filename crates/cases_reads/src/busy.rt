@@ -11,8 +11,8 @@ use cases_workers::below::{Route, Tried};
 use graph_model::Key;
 use std::sync::Wait;
 
-/// The first pass looks for vertex 5 in its cell, and for the rows before vertex 9, while the second one holds the cell,
-/// and once it has given it back.
+/// The first pass looks for vertex 5 in its cell, and for the rows before vertex 9, while the second one holds the
+/// cell, and once it has given it back.
 #[derive(Clone, Copy, Debug, PartialEq, Eq)]
 pub struct ReadHeldCell {
     pub held: Option<Tried>,
