@@ -5,8 +5,8 @@ use graph_model::{BeginRefusal, Begun};
 use shared_store::{Pass, Store, abort, begin, commit};
 use std::sync::Wait;
 
-/// The second pass commits a transaction, takes one back, and begins another, all of them without a write. It keeps what
-/// it is answered.
+/// The second pass commits a transaction, takes one back, and begins another, all of them without a write. It keeps
+/// what it is answered.
 #[derive(Clone, Copy, Debug, PartialEq, Eq)]
 pub struct EndTwice {
     /// The first transaction, and the stamp of its commit.
