@@ -1,4 +1,9 @@
 //! The command, built with clap.
+//!
+//! 1. Which words there are is said here and nowhere else: a subcommand for each of `run`, `make` and `recover`, with
+//!    its options, its flags and, for `run`, the scripts.
+//! 2. All values are texts. What a number or a name may be is checked after clap has taken the words.
+//! 3. Help is turned off and no version is set, so clap prints nothing: such words aren't taken.
 
 ghost use Rattle.std.specs.Prelude.{◌≡◌, true, false, IfOk};
 ghost use Rattle.clap.specs.Words.{app_of, rule_of};

@@ -1,4 +1,8 @@
 //! What the words ask for.
+//!
+//! 1. Texts are lent by the words and not copied, so to read words takes no memory but clap's own.
+//! 2. Names that are taken before any script line is read have places, in a fixed order: a caller that blames or
+//!    compares one needs no list of them.
 
 ghost use Rattle.std.specs.Prelude.{◌≡◌, ◌≢◌, ◌↔◌, ◌+◌, ◌<◌, [], ◌++◌, map, length, get_or, AllPairs, IsTrue, option_map, option_to_list};
 ghost use Rattle.command_words.specs.Words.{taken_names, report_name, goes_together};
@@ -9,22 +13,30 @@ use crate::names::TakenName;
 /// What the words ask for.
 #[derive(Debug, Drop)]
 pub enum Command<'a> {
+    /// To run scripts on a graph.
     Run(RunWords<'a>),
+    /// To make the files of a graph.
     Make(MakeWords<'a>),
+    /// To read a journal file back.
     Recover(RecoverWords<'a>),
 }
 
 /// The words of `run`.
 #[derive(Debug, Drop)]
 pub struct RunWords<'a> {
+    /// The vertex file.
     pub vertices: &'a str,
+    /// The edge file.
     pub edges: &'a str,
+    /// The file that the journal is written to.
     pub journal: &'a str,
+    /// Whether an edge is one arc, from its first end to its second.
     pub is_directed: bool,
-    /// How many digits of a weight stand behind the point, 0 to 9, where the edges have weights.
+    /// How many digits of a weight stand after the point, 0 to 9, where the edges have weights.
     pub weights: Option<u8>,
     /// Whether further digits of a weight are dropped.
     pub is_cut: bool,
+    /// The file that says which script is in turn, if one is given. Without it they take turns in rotation.
     pub schedule: Option<&'a str>,
     /// How many leaves the store has, 1 to 131,072, where that is stated.
     pub leaves: Option<u32>,
@@ -41,8 +53,11 @@ pub struct RunWords<'a> {
 /// The words of `make`.
 #[derive(Clone, Copy, Debug)]
 pub struct MakeWords<'a> {
+    /// What the pairs are drawn from.
     pub seed: u64,
+    /// How many vertices, at least two where there are edges.
     pub vertices: u32,
+    /// How many edges at the most.
     pub edges: u32,
     /// The name of the vertex file.
     pub out: &'a str,
@@ -55,6 +70,7 @@ pub struct MakeWords<'a> {
 pub struct RecoverWords<'a> {
     /// The journal file that is read.
     pub keep: &'a str,
+    /// The file that the text of the journal is written to.
     pub journal: &'a str,
 }
 
@@ -134,6 +150,7 @@ impl<'a> RunWords<'a> {
     {
         let count = self.taken_len();
         'firsts: for i in 0..count {
+            // Each with each, which is fewer than 8,000 comparisons: no set of names is made, so no memory is taken.
             'seconds: for j in i + 1..count {
                 if self.taken(i).is(self.taken(j)) {
                     return false;

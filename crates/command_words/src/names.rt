@@ -1,4 +1,7 @@
 //! Names that are compared byte by byte, with no memory taken.
+//!
+//! 1. A report's name is that of its script with `.report` after it. It is compared in two parts and never put
+//!    together.
 
 ghost use Rattle.std.specs.Prelude.{◌≡◌, ◌↔◌, IsTrue};
 ghost use Rattle.command_words.specs.Words.{report_name};
@@ -7,6 +10,7 @@ ghost use Rattle.command_words.specs.Views.{taken_name};
 /// A name that is taken from the start: one that the words give, or that of a script's report.
 #[derive(Clone, Copy)]
 pub enum TakenName<'a> {
+    /// One that the words give.
     Given(&'a str),
     /// The name of this script's report.
     ReportOf(&'a str),

@@ -1,4 +1,7 @@
 //! Words that are numbers.
+//!
+//! 1. Digits alone are taken: no sign, no blank, no digit of another script.
+//! 2. At most 20 of them, leading zeros counted, so a number is read with no memory and never overflows unseen.
 
 ghost use Rattle.std.specs.Prelude.{◌≡◌, ℕ, IfSome, IfNone, IsTrue, ◌↔◌, Some, slice_get};
 ghost use Rattle.command_words.specs.Numbers.{IsNumber};
@@ -11,9 +14,11 @@ pub(crate) fn read_number(text: &str, least: u64, most: u64) -> Option<u64>
     ensures number { IfSome result (IsNumber least most text.now) }
     ensures none { IfNone result ((number : ℕ) → IsNumber least most text.now number → ⊥) }
 {
+    // Before it is parsed: so many leading zeros would be taken else, however long the word is.
     if text.len() > MAX_DIGITS {
         return None;
     }
+    // The library's parser takes a plus, and a number here has digits alone.
     if has_plus(text) {
         return None;
     }

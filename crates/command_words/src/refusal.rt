@@ -1,4 +1,7 @@
 //! Why words aren't taken.
+//!
+//! 1. All that is wrong with words is one cause: what clap refuses, and what is checked after it. Only running out of
+//!    memory is told apart.
 
 use items::NoMemory;
 use std::alloc::AllocError;
@@ -10,6 +13,7 @@ pub enum WordsRefusal {
     /// The words are none of the command's, or a value fails a check.
     #[error("bad words")]
     BadWords,
+    /// Memory for the words was refused.
     #[error("no memory")]
     NoMemory,
 }

@@ -21,7 +21,7 @@ use clap::ArgMatches;
 use graph_model::{MAX_LEAVES, MAX_SCRIPTS, MAX_THREADS};
 use std::alloc::Global;
 
-/// How many digits of a weight may stand behind the point.
+/// How many digits of a weight may stand after the point.
 const MAX_WEIGHT_DIGITS: u64 = 9;
 
 /// How few vertices may be made.
@@ -33,7 +33,7 @@ const MAX_MADE_VERTICES: u64 = 1000000;
 /// How many edges may be made.
 const MAX_MADE_EDGES: u64 = 3000000;
 
-/// What the words ask for, the words behind the program's name.
+/// What the words ask for, the words after the program's name.
 pub fn read_words<'a>(alloc: Global, words: &'a [String]) -> Result<Command<'a>, WordsRefusal>
     ensures taken { IfOk result (λ command. IsTaken (map string_bytes words.entry.now) (request_of command)) }
     ensures refused { IfErr result (RefusesWords (map string_bytes words.entry.now)) }
@@ -82,6 +82,7 @@ fn run_words<'a>(alloc: Global, found: &ArgMatches<'a>) -> Result<RunWords<'a>, 
     if !words.goes_together() {
         return Err(WordsRefusal::BadWords);
     }
+    // Two outputs of one name would be one file, with what the later one wrote.
     if !words.has_distinct_names() {
         return Err(WordsRefusal::BadWords);
     }
@@ -210,7 +211,7 @@ fn number_in(found: &ArgMatches<'_>, name: &str, least: u64, most: u64) -> Resul
     }
 }
 
-/// How many digits of a weight stand behind the point, where the edges have weights.
+/// How many digits of a weight stand after the point, where the edges have weights.
 fn weights_in(found: &ArgMatches<'_>) -> Result<Option<u8>, WordsRefusal>
     ensures given { IfOk result (IsOptionalNumber 0 9 (first_of (codes "weights") (rows_in found.now))) }
     ensures refused { IfErr result (λ _. (digits : Option ℕ)
