@@ -4,7 +4,9 @@
 //!    its arcs begin, then for the arcs, and then for the distances where they lead.
 //! 2. Here each of these is read for many visits before the next one is, with no choice that hangs on it. So
 //!    the processor asks the memory for many of them at once, and finds them near by when the visits are made.
-//! 3. It changes nothing: no clause speaks of it.
+//! 3. Kept are a sum of what was read, so that no compiler leaves the reads out, and up to which visit that was. The
+//!    sum can't be wrong, since nobody asks for it; the other may be, where visits have come or gone, and then some
+//!    reads are made twice or not at all, which costs time alone. No clause speaks of either.
 
 use crate::buckets::Visit;
 use graph_image::Image;
@@ -30,6 +32,7 @@ pub fn sum_ahead(image: &Image, distances: &[u64], visits: &[Visit]) -> u64 {
     let mut places = [0u32; AHEAD];
     let mut count = 0;
     'visits: for i in 0..visits.len() {
+        // A visit whose place has a lesser distance by now won't be made.
         if i < AHEAD && count < AHEAD && known[i] == visits[i].distance {
             places[count] = visits[i].place;
             count += 1;

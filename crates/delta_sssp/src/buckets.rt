@@ -1,4 +1,9 @@
 //! The buckets in use.
+//!
+//! 1. Buckets stand in an ordered map by their numbers: with narrow buckets and great weights most numbers have none,
+//!    so a list by number would be far longer than the visits.
+//! 2. A visit is never taken out of a bucket when its place gets a lesser distance. It is passed over when its bucket's
+//!    turn comes, since its distance is no longer that of its place.
 
 ghost use Rattle.std.specs.Prelude.{◌≡◌, ℕ, IfSome, IfNone, OnOk};
 ghost use Rattle.delta_sssp.specs.Buckets.{Puts, TakesFirst, HasNone};
@@ -12,7 +17,9 @@ use std::collections::BTreeMap;
 /// a lesser distance.
 #[derive(Clone, Copy)]
 pub struct Visit {
+    /// The number of the place.
     pub place: u32,
+    /// Its distance when the visit was put into a bucket.
     pub distance: u64,
 }
 
@@ -20,6 +27,7 @@ pub struct Visit {
 #[derive(Drop)]
 pub struct Buckets {
     pub alloc: Global,
+    /// By bucket, the visits in the order in which they came.
     pub lists: BTreeMap<u64, Items<Visit>>,
 }
 

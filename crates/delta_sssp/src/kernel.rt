@@ -1,4 +1,7 @@
 //! The table of the least weights.
+//!
+//! 1. Buckets are settled one after the other, the least first, until none is in use.
+//! 2. The width of buckets matters for time alone: the contract is that of `kernel_sssp`, and names no width.
 
 ghost use Rattle.std.specs.Prelude.{◌≡◌, ◌<◌, false, length, Err, IfOk, IsTrue};
 ghost use Rattle.graph_model.specs.Graph.{Graph, has_vertex};
@@ -14,7 +17,7 @@ use std::alloc::Global;
 use std::thread::Threads;
 
 /// The least weight of a walk from the root to each vertex, by buckets of this width, with the answers of
-/// `kernel_sssp`. No clause speaks of want of memory.
+/// `kernel_sssp`. No clause speaks of running out of memory.
 pub fn run<R: Threads + Sync>(
     _rt: &R,
     alloc: Global,
@@ -50,6 +53,7 @@ fn least_weights(
 {
     let mut search = Search::new(alloc, image.len(), root, width)?;
     'buckets: loop {
+        // All visits of the bucket at hand, those that come while it is made among them.
         search.settle(image)?;
         if !search.advance() {
             let Search {

@@ -1,4 +1,10 @@
 //! The search, bucket by bucket.
+//!
+//! 1. All distances below the bucket at hand are final: arcs have no weight below 0, so whatever is still to come is no
+//!    nearer.
+//! 2. A visit may put others into the bucket at hand, so a bucket is at its end when its list is, and not after one
+//!    round.
+//! 3. What a visit reads of memory is read ahead for those that come next, which changes nothing.
 
 ghost use Rattle.std.specs.Prelude.{◌≡◌, ◌<◌, ◌^◌, false, length, slice_get, Some, IsTrue, IfOk, OnOk};
 ghost use Rattle.delta_sssp.specs.Search.{IsSearchOf, IsVisit, IsStart, IsLowered};
@@ -27,12 +33,13 @@ pub struct Stage {
 /// What is known of the weights.
 #[derive(Drop)]
 pub struct Search {
+    /// How far it has come.
     pub stage: Stage,
     /// The least weight of a path to each place, of the paths that were found.
     pub distances: Vec<u64>,
     /// The visits of the bucket at hand.
     pub visits: Vec<Visit>,
-    /// The buckets behind it.
+    /// The buckets after it.
     pub later: Buckets,
     /// For which visits of the bucket at hand it was read ahead.
     pub ahead: Ahead,
@@ -93,6 +100,7 @@ impl Search {
             ..self.stage
         };
         self.visits = visits;
+        // What was read ahead was of the bucket before.
         self.ahead.until = 0;
         true
     }
@@ -102,6 +110,7 @@ impl Search {
         ensures { self.new ≡ record self.old { ahead = self.new.ahead } }
     {
         let made = self.stage.made;
+        // Some visits at a time: to read ahead for one would be no gain.
         if made < self.ahead.until {
             return;
         }
@@ -165,6 +174,7 @@ impl Search {
         self.distances[place as usize] = distance;
         let visit = Visit { place, distance };
         let bucket = distance / self.stage.width as u64;
+        // An arc that is short leads into the bucket at hand. None leads to an earlier one: weights are at least 0.
         if bucket == self.stage.bucket {
             self.visits.push(visit)?;
         } else {
