@@ -1,4 +1,7 @@
 //! The even division of rows among segments.
+//!
+//! 1. Any two counts differ by one at most, and greater ones stand first, so the division of so many rows is one list
+//!    and code can't choose.
 
 ghost use Rattle.std.specs.Prelude.{◌≡◌, ◌≤◌, sum};
 ghost use Rattle.density_tree.specs.Division.{evenly};
@@ -8,7 +11,9 @@ use std::marker::Model;
 /// At most eight numbers, one for each segment.
 #[derive(Drop)]
 pub struct Counts {
+    /// Those from `len` on mean nothing.
     counts: [u32; 8],
+    /// How many of them count, at most eight.
     len: usize,
 }
 

@@ -1,4 +1,9 @@
 //! Windows of segments, and the limits of their rows.
+//!
+//! 1. Windows of two, four and eight segments lie like the nodes of a tree over the leaf, so a segment has one window
+//!    of each height.
+//! 2. The wider a window is, the fewer rows a segment of it may have: else the next row that comes would need a wider
+//!    window once more.
 
 ghost use Rattle.std.specs.Prelude.{◌≡◌, ◌+◌, ◌*◌, ◌<◌, ◌≤◌, length, slice_index, sum, IfSome};
 ghost use Rattle.density_tree.specs.Windows.{Fits, IsDense, IsRound, IsSmallestWindow, rows_in, window_round};
@@ -12,7 +17,9 @@ pub const LOWER_LIMITS: [u32; 4] = [4, 12, 32, 80];
 /// Segments in a row.
 #[derive(Clone, Copy, Debug, PartialEq, Eq)]
 pub struct Window {
+    /// The number of its first segment in the leaf.
     pub first: usize,
+    /// How many segments it has: two, four or eight.
     pub len: usize,
 }
 
