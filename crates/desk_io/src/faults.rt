@@ -1,4 +1,6 @@
 //! The failures of one kind: how many, and the name that the last of them was of.
+//!
+//! 1. The name takes memory. Where that is refused it isn't told, and the count goes on.
 ghost use Rattle.std.specs.Prelude.{◌≡◌, None};
 ghost use Rattle.desk_io.specs.Files.{Rose, IsOfName};
 ghost use Rattle.desk_io.specs.Faults.{last_name};
@@ -8,9 +10,9 @@ use std::alloc::Global;
 #[derive(Drop)]
 pub(crate) struct Faults {
     pub(crate) alloc: Global,
-    // stands still at its last value
+    /// Stands still at its last value.
     pub(crate) count: u64,
-    // None: none failed, or memory for the name was refused
+    /// None: none failed, or memory for the name was refused.
     pub(crate) last: Option<String>,
 }
 
@@ -26,7 +28,7 @@ impl Faults {
         }
     }
 
-    // Counts a failure of this name.
+    /// Counts a failure of this name.
     pub(crate) fn add(&mut self, name: &str)
         ensures rose { Rose self.old.count self.new.count }
         ensures named { IsOfName (last_name self.new) name.now }

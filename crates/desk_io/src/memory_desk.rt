@@ -1,4 +1,7 @@
 //! A desk in memory, for tests.
+//!
+//! 1. All that it holds is told, so a test says what each file has before and after a call.
+//! 2. A call fails where its number stands in a list, so a test reaches each way out without a broken device.
 ghost use Rattle.std.specs.Prelude.{◌≡◌, ◌≢◌, ◌⊎◌, ◌++◌, ◌+◌, ◌-◌, ◌<◌, ◌≤◌, [], length, min, take, false, option_copied, option_map, IsTrue, IsSome, IsNone, IsOk, IsErr, IfSome, IfNone, IfOk, OnOk, OnErr, Contains, Some, None};
 ghost use Rattle.desk_io.specs.Files.{Gives, IsThere, ReadFails, WriteFails, NoWriteFails, ChangesOnly, IsWritten, with_piece};
 ghost use Rattle.desk_io.specs.MemoryDesk.{files_of, texts_of, failing_calls, next_call, fails_now, file_count, Counts, IsNew};
@@ -16,14 +19,17 @@ use std::collections::BTreeMap;
 #[derive(Drop)]
 pub struct MemoryDesk {
     alloc: Global,
+    /// By name.
     files: BTreeMap<String, Vec<u8>>,
+    /// The numbers of the calls that are to fail.
     failing: Vec<u64>,
-    // how many calls were made, up to the last number
+    /// How many calls were made, up to the last number.
     calls: u64,
-    // None: memory for a text was refused
+    /// None: memory for a text was refused.
     said: Option<Vec<u8>>,
-    // the reads that failed, and the creates and writes
+    /// The reads that failed, and the creates and writes.
     reads: Faults,
+    /// What is known of creates and writes that failed.
     writes: Faults,
 }
 
@@ -93,7 +99,7 @@ impl MemoryDesk {
         self.files.len()
     }
 
-    // Counts a call, and answers whether it is to fail.
+    /// Counts a call, and answers whether it is to fail.
     fn next_fails(&mut self) -> bool
         ensures planned { result ≡ fails_now self.old }
         ensures counted { self.new.calls ≡ next_call self.old }
@@ -192,7 +198,7 @@ impl Desk for MemoryDesk {
     }
 }
 
-// Copies the text from the byte `at` on into the buffer, and answers how many bytes it copied.
+/// Copies the text from the byte `at` on into the buffer, and answers how many bytes it copied.
 fn copy_part(text: &Vec<u8>, at: u64, buffer: &mut [u8]) -> usize
     ensures count { result ≡ min (length buffer.old) (length text.now.items - at) }
     ensures gives { Gives text.now.items at buffer.new result }
@@ -207,7 +213,7 @@ fn copy_part(text: &Vec<u8>, at: u64, buffer: &mut [u8]) -> usize
     count
 }
 
-// Puts the text under the name, in place of the one that was there.
+/// Puts the text under the name, in place of the one that was there.
 fn put_text(
     alloc: Global,
     files: &mut BTreeMap<String, Vec<u8>>,
@@ -224,7 +230,7 @@ fn put_text(
     Ok(())
 }
 
-// Puts the bytes behind the text under the name, which fails where there is none.
+/// Puts the bytes after the text under the name, which fails where there is none.
 fn append(
     alloc: Global,
     files: &mut BTreeMap<String, Vec<u8>>,
@@ -246,7 +252,7 @@ fn append(
     Ok(())
 }
 
-// The text with the bytes behind it.
+/// The text with the bytes after it.
 fn joined(alloc: Global, text: &Vec<u8>, bytes: &[u8]) -> Result<Vec<u8>, AllocError>
     ensures { IfOk result (λ longer. longer.items ≡ text.now.items ++ bytes.now) }
 {

@@ -20,17 +20,20 @@ use std::{fs, io};
 pub(crate) struct OpenFiles<R: Files<File = File>> {
     alloc: Global,
     pub(crate) rt: R,
+    /// The source that was read last, which is mostly read on.
     source: Option<OpenFile>,
-    // the place in the source that was reached
+    /// The place in the source that was reached.
     reached: u64,
+    /// The output that was written last.
     sink: Option<OpenFile>,
 }
 
-// A file that is kept open, for the calls on its name.
+/// A file that is kept open, for the calls on its name.
 #[derive(Drop)]
 struct OpenFile {
-    // None: memory for the name was refused, so no call finds the file by it
+    /// None: memory for the name was refused, so no call finds the file by it.
     name: Option<String>,
+    /// The open file.
     file: File,
 }
 
@@ -79,14 +82,15 @@ impl<R: Files<File = File>> OpenFiles<R> {
         Ok(())
     }
 
-    // Writes all of the bytes, and closes the file. Where no byte is taken, that is a failure.
+    /// Writes all of the bytes, and closes the file. Where no byte is taken, that is a failure.
     pub(crate) fn write(&mut self, name: &str, bytes: &[u8]) -> io::Result<()> {
         self.take_sink(name)?.file.write_all(bytes)
     }
 
-    // The source at this place, as it was kept or opened anew.
+    /// The source at this place, as it was kept or opened anew.
     fn take_source(&mut self, name: &str, at: u64) -> io::Result<OpenFile> {
         if let Some(source) = self.source.take() {
+            // Pieces of one source follow each other, so mostly nothing is opened and nothing sought.
             if self.reached == at && source.is_named(name) {
                 return Ok(source);
             }
@@ -98,7 +102,7 @@ impl<R: Files<File = File>> OpenFiles<R> {
         Ok(OpenFile::new(self.alloc, name, file))
     }
 
-    // The sink at its end, as it was kept or opened anew.
+    /// The sink at its end, as it was kept or opened anew.
     fn take_sink(&mut self, name: &str) -> io::Result<OpenFile> {
         if let Some(sink) = self.sink.take() {
             if sink.is_named(name) {
@@ -110,7 +114,7 @@ impl<R: Files<File = File>> OpenFiles<R> {
     }
 }
 
-// Reads once, and again where a signal interrupts it.
+/// Reads once, and again where a signal interrupts it.
 fn read_again(file: &mut File, buffer: &mut [u8]) -> io::Result<usize>
     ensures bound { IfOk result (λ count. count ≤ length buffer.old) }
     ensures again { IfErr result (λ error. error_kind error ≢ ErrorKind.Interrupted) }

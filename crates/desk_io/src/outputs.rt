@@ -1,4 +1,7 @@
 //! Texts that are written whole, one after another.
+//!
+//! 1. All texts are made before the first is written, so no output is created for a run that fails before.
+//! 2. The first write that fails ends it: what was written stays, and later names aren't touched.
 ghost use Rattle.std.specs.Prelude.{◌≡◌, ◌≢◌, AllPairs, IfErr, OnOk};
 ghost use Rattle.std.specs.String.{string_bytes};
 ghost use Rattle.desk_io.specs.Outputs.{NamedText, WritesAll, FailsAtPlace, names_of};
@@ -12,7 +15,9 @@ use thiserror::Error;
 /// A text and the name that it is written under.
 #[derive(Drop)]
 pub struct Output {
+    /// What the file is called.
     name: String,
+    /// What is written to it, whole.
     text: Items<u8>,
 }
 
@@ -46,6 +51,7 @@ impl Output {
 #[derive(Clone, Copy, Debug, PartialEq, Eq, Error)]
 #[error("output {place} cannot be written")]
 pub struct WriteStop {
+    /// Among the outputs, from 0.
     pub place: usize,
 }
 

@@ -1,4 +1,7 @@
 //! A text that is written whole, in pieces.
+//!
+//! 1. A call of the desk may write fewer bytes than it was given. What is left is given again, until all are written or
+//!    none was.
 ghost use Rattle.std.specs.Prelude.{◌≡◌, OnOk, OnErr};
 ghost use Rattle.desk_io.specs.Files.{NoWriteFails, ChangesOnly, IsWritten, SinkFails};
 

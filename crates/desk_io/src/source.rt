@@ -1,4 +1,7 @@
 //! A source that is read whole, in pieces, up to a limit.
+//!
+//! 1. A source that grows while it is read ends all the same: no more than one byte beyond the limit is asked for.
+//! 2. The buffer of a piece serves all of them.
 ghost use Rattle.std.specs.Prelude.{◌≡◌, ◌+◌, ◌<◌, ◌≤◌, length, min, vec_len, IfOk, IfErr, OnOk};
 ghost use Rattle.desk_io.specs.Files.{IsSource, IsFront};
 ghost use Rattle.desk_io.specs.Refusals.{IsRefused, Reads};
@@ -18,10 +21,13 @@ pub const PIECE: usize = 65_536;
 /// Why a source was not read.
 #[derive(Clone, Copy, Debug, PartialEq, Eq, Error)]
 pub enum SourceRefusal {
+    /// A call of the desk failed.
     #[error("the file cannot be read")]
     ReadFault,
+    /// It has more bytes than a source may have.
     #[error("the file is too long")]
     TooLong,
+    /// Memory for its bytes was refused.
     #[error("out of memory")]
     NoMemory,
 }
@@ -46,9 +52,11 @@ impl From<AllocError> for SourceRefusal {
     }
 }
 
-// What one turn of the reading found.
+/// What one turn of the reading found.
 enum Piece {
+    /// Some bytes came.
     Taken,
+    /// There are no more.
     End,
 }
 
@@ -76,14 +84,14 @@ pub fn read_source<D: Desk>(
     }
 }
 
-// A buffer of this many bytes.
+/// A buffer of this many bytes.
 fn buffer_of(alloc: Global, len: usize) -> Result<Vec<u8>, AllocError>
     ensures { IfOk result (λ buffer. vec_len buffer ≡ len) }
 {
     vec![in alloc; 0u8; len]
 }
 
-// Reads the next piece and puts it behind the bytes.
+/// Reads the next piece and puts it after the bytes.
 fn read_piece<D: Desk>(
     desk: &mut D,
     name: &str,
@@ -114,7 +122,7 @@ fn read_piece<D: Desk>(
     Ok(Piece::Taken)
 }
 
-// How many bytes the next call asks for: one beyond the limit shows that a source is too long.
+/// How many bytes the next call asks for: one beyond the limit shows that a source is too long.
 fn piece_len(most: usize, room: u64) -> usize
     ensures { result ≡ min most (room + 1) }
 {

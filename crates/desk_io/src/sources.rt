@@ -1,4 +1,6 @@
 //! Sources that are read whole, one after another.
+//!
+//! 1. The first that can't be read ends it, and is named by its place: a place takes no memory.
 ghost use Rattle.std.specs.Prelude.{◌≡◌, map, IfOk, IfErr, OnOk};
 ghost use Rattle.desk_io.specs.Sources.{AreRead, IsReadStop, stop_at};
 
@@ -14,10 +16,13 @@ pub type Sources = Items<Bytes>;
 /// Why the sources were not all read: at which place among the names, from 0, and the cause.
 #[derive(Clone, Copy, Debug, PartialEq, Eq, Error)]
 pub enum ReadStop {
+    /// A read failed.
     #[error("source {place} cannot be read")]
     Fault { place: usize },
+    /// A source has too many bytes.
     #[error("source {place} is too long")]
     TooLong { place: usize },
+    /// Memory was refused, whichever source it was for.
     #[error("no memory")]
     NoMemory,
 }
@@ -57,7 +62,7 @@ pub fn read_all<D: Desk>(
     Ok(sources)
 }
 
-// The stop at a place whose source is refused.
+/// The stop at a place whose source is refused.
 fn stop_at(place: usize, refusal: SourceRefusal) -> ReadStop
     ensures { result ≡ stop_at place refusal }
 {

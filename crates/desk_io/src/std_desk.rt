@@ -1,4 +1,7 @@
 //! The desk over real files and standard output.
+//!
+//! 1. It tells nothing of what files hold: others may write them too.
+//! 2. What fails is counted, with the name that the last failure was of.
 ghost use Rattle.std.specs.Prelude.{◌≡◌, None};
 ghost use Rattle.desk_io.specs.Faults.{last_name};
 ghost use Rattle.desk_io.specs.Files.{nothing_told};
@@ -17,7 +20,9 @@ use std::rt::Files;
 #[derive(Drop)]
 pub struct StdDesk<R: Files<File = File>> {
     files: OpenFiles<R>,
+    /// What is known of reads that failed.
     reads: Faults,
+    /// What is known of creates and writes that failed.
     writes: Faults,
 }
 
