@@ -1,4 +1,8 @@
 //! One step of a scan.
+//!
+//! 1. A step moves the cursor after the last row that it gave, and to the end of the run where all of it was given. So
+//!    a scan gives each row once, however rows move between two of its steps.
+//! 2. The run is lent and the buffer is the caller's: a step takes no memory.
 
 ghost use Rattle.std.specs.Prelude.{◌≡◌, ◌⊎◌, true, false, ◌++◌, ◌≤◌, length};
 ghost use Rattle.graph_model.specs.declared.row.Cursor.{Cursor};
@@ -8,7 +12,7 @@ ghost use Rattle.edge_scan.specs.Steps.{IsUnderWay, end_of};
 
 use graph_model::{Cursor, Key, Row, Rows64};
 
-/// Takes the rows of a run into the buffer, as many as there is room for, and moves the cursor behind them.
+/// Takes the rows of a run into the buffer, as many as there is room for, and moves the cursor after them.
 /// The run has the rows from the cursor's key on and below `high`, or below the end of the scan where that
 /// comes first. The scan is done where its end is reached and the buffer has room left.
 pub fn step(cursor: &mut Cursor, high: Key, run: &[Row], buffer: &mut Rows64)
