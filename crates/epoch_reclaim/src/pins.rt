@@ -25,7 +25,9 @@ pub type Pass<V> = Seat<(), V>;
 /// The pins of a table, and its clock.
 #[derive(Drop)]
 pub struct Pins<'a, V, K, P: TableRule<(), V, K>> {
+    /// The table whose words they are.
     pub table: &'a Shared<(), V, K, P>,
+    /// Which of its words are the pins, and which is the clock.
     pub places: PinPlaces,
 }
 

@@ -1,4 +1,6 @@
 //! Where the clock and the pins of passes lie.
+//!
+//! 1. Each pin has a line of the cache for itself, since its pass stores it in each transaction.
 
 ghost use Rattle.std.specs.Prelude.{◌≡◌, ◌<◌, ◌+◌, ◌*◌, ◌^◌};
 
@@ -7,11 +9,13 @@ ghost use Rattle.std.specs.Prelude.{◌≡◌, ◌<◌, ◌+◌, ◌*◌, ◌^�
 /// and join of a seat loads it.
 #[derive(Clone, Copy, Debug, Drop)]
 pub struct PinPlaces {
+    /// The place of the clock.
     pub clock: u32,
     /// The pin word of pass 0.
     pub first: u32,
     /// How many words lie from one pass's pin word to the next one's.
     pub stride: u32,
+    /// How many passes there are.
     pub passes: u32,
     pub ghost few: { passes < 2 ^ 32 },
     pub ghost small: { first + stride * passes < 2 ^ 32 },
