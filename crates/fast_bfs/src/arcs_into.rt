@@ -1,4 +1,8 @@
 //! A round along the arcs into each place that isn't reached, on several threads.
+//!
+//! 1. Each thread writes the distances of places of its own, and reads the set of the frontier, which nobody writes
+//!    meanwhile. So threads need nothing of each other.
+//! 2. A place stops at the first arc that comes from the frontier.
 
 ghost use Rattle.std.specs.Prelude.{◌≡◌, ℕ, ◌+◌, ◌<◌, [], length, OnOk};
 ghost use Rattle.graph_image.specs.Images.{AreWithin};
@@ -97,6 +101,8 @@ fn sweep_together<R: Threads + Sync>(
                 × HasPlaces (length image.now.vertices) frontier.now }
             ensures { distance.new ≡ distance_after image.entry.now frontier.entry.now level place distance.old }
         {
+            // Each call writes its own place's distance and reads the set, which nobody writes: so it can't see what
+            // another one has found in this round.
             if *distance == UNREACHED && meets(image.into(place), image.len(), frontier) {
                 *distance = level + 1;
             }

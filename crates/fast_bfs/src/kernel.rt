@@ -1,4 +1,6 @@
 //! The table of a search.
+//!
+//! 1. The contract is that of `kernel_bfs`, clause by clause, so a caller may take either.
 
 ghost use Rattle.std.specs.Prelude.{◌≡◌, false, IfOk, IsTrue};
 ghost use Rattle.graph_model.specs.Graph.{Graph, has_vertex};
@@ -11,7 +13,7 @@ use kernel_bfs::table_by;
 use std::alloc::Global;
 use std::thread::Threads;
 
-/// Breadth-first search from a root, with the answers of `kernel_bfs`. No clause speaks of want of memory.
+/// Breadth-first search from a root, with the answers of `kernel_bfs`. No clause speaks of running out of memory.
 pub fn run<R: Threads + Sync>(
     rt: &R,
     alloc: Global,

@@ -1,4 +1,10 @@
 //! The search from level to level.
+//!
+//! 1. A round gives each place that has no distance, and to which an arc leads from the frontier, the next distance.
+//! 2. Top-down it follows the arcs out of the frontier, which is cheap while few places are in it. Bottom-up each place
+//!    without a distance looks for one arc that comes from the frontier, and stops at the first: where the frontier is
+//!    large that looks at far fewer arcs.
+//! 3. Both ways have one contract, so when to change is a matter of time alone.
 
 ghost use Rattle.std.specs.Prelude.{◌≡◌, ℕ, ◌+◌, ◌<◌, [], length, slice_get, Some, IfOk, OnOk};
 ghost use Rattle.graph_model.specs.Graph.{Graph};
@@ -34,6 +40,7 @@ pub fn search<R: Threads + Sync>(
     let mut distances = vec![in alloc; UNREACHED; count]?;
     let mut frontier = Vec::with_capacity(alloc, count)?;
     let mut next = Vec::with_capacity(alloc, count)?;
+    // Made once: a round along the arcs into places fills it with its frontier.
     let mut set = PlaceSet::new(alloc, count)?;
     distances[root] = 0;
     frontier.push(root as u32)?;
@@ -51,6 +58,7 @@ pub fn search<R: Threads + Sync>(
         if next.is_empty() {
             return Ok(distances);
         }
+        // Both lists have room for all places from the start, so no round takes memory for them.
         mem::swap(&mut frontier, &mut next);
     }
     Ok(distances)

@@ -1,4 +1,8 @@
 //! Sets of places, as bits.
+//!
+//! 1. A set of a million places has 125 kB, which stay in a core's cache while all arcs are looked at; a list of
+//!    numbers would not, and would have to be searched.
+//! 2. It is made once for a search and set anew for each round that needs it.
 
 ghost use Rattle.std.specs.Prelude.{◌≡◌, ℕ, ◌+◌, ◌<◌, ◌^◌, length, slice_get, slice_index, Some, IfOk};
 ghost use Rattle.fast_bfs.specs.PlaceSets.{has_bit, HasPlaces, HasJust, Adds};
@@ -13,6 +17,7 @@ const WORD: usize = 64;
 /// A set of places: bit p mod 64 of word p div 64 is set where p is in the set.
 #[derive(Drop)]
 pub struct PlaceSet {
+    /// So many that each place has a bit.
     words: Vec<u64>,
 }
 
