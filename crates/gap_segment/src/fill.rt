@@ -1,4 +1,6 @@
 //! Rows laid all at once, and taken away all at once.
+//!
+//! 1. They are copied as one block, with no search.
 
 ghost use Rattle.std.specs.Prelude.{◌≡◌, ◌≤◌, false, [], length};
 ghost use Rattle.graph_model.specs.Rows.{is_below};

@@ -16,8 +16,11 @@ use std::marker::Model;
 /// At most 32 rows between a low fence key, which a row may have, and a high one, which none has.
 #[derive(Drop)]
 pub struct Segment {
+    /// No row has a key below it.
     pub(crate) low: Key,
+    /// All rows have keys below it.
     pub(crate) high: Key,
+    /// In rising order of their keys.
     pub(crate) rows: Vec<Row>,
 }
 
@@ -120,7 +123,7 @@ impl Segment {
             .wrapping_add(rows[3 * quarter - 1].key.src)
     }
 
-    /// The sum of what a look-up of the key reads behind that: of the rows in the key's quarter, and where a row comes
+    /// The sum of what a look-up of the key reads after that: of the rows in the key's quarter, and where a row comes
     /// of all that would have to move.
     pub fn sum_near(&self, key: Key, row_comes: bool) -> u64 {
         let rows = self.rows.as_slice();
@@ -184,7 +187,7 @@ impl Segment {
     }
 
     /// Moves the rows from the place on into an empty segment. The fence key between both is that of
-    /// the first moved row, or the high one where none is moved.
+    /// the first moved row, or the high one where none is moved. Leaves divide their rows by `share`, and don't call it.
     pub fn split_off(&mut self, place: usize, right: &mut Segment)
         requires place { place ≤ length self.old.rows }
         requires empty { right.old.rows ≡ [] }
@@ -201,7 +204,7 @@ impl Segment {
     }
 
     /// Moves all rows of the next segment to the end of this one, which gets its range too. The other is
-    /// left empty at its high fence key.
+    /// left empty at its high fence key. Leaves bring rows together by `share`, and don't call it.
     pub fn append(&mut self, right: &mut Segment)
         requires neighbours { self.old.high ≡ right.old.low }
         requires room { length self.old.rows + length right.old.rows ≤ SEGMENT_ROWS }
@@ -322,6 +325,7 @@ fn sum_of_some(rows: &[Row], start: usize, count: usize) -> u64 {
     let mut place = start;
     'rows: while place < end {
         sum = sum.wrapping_add(rows[place].key.src);
+        // A line of the cache is longer than two rows, so a look at each other row reads them all.
         place += 2;
     }
     sum
@@ -371,6 +375,7 @@ fn place_in(rows: &[Row], key: Key) -> usize
     let mut count = rows.len();
     'quarters: while count >= 4 {
         let quarter = count / 4;
+        // A number is added and no branch is taken: every other branch on a key would be foretold wrongly.
         let first = one_if_below(rows[place + quarter - 1].key, key);
         let second = one_if_below(rows[place + 2 * quarter - 1].key, key);
         let third = one_if_below(rows[place + 3 * quarter - 1].key, key);
