@@ -1,4 +1,10 @@
 //! Edge files.
+//!
+//! 1. A file is read as if none of its lines had a fault and no edge stood twice, and is then checked whole by sorting:
+//!    almost all files are so.
+//! 2. Only where that fails it is gone over again, line by line from the first doubtful one on, and the first fault is
+//!    told. Both ways have the same contract.
+//! 3. Threads share the first reading alone: which fault is the first is a question of order.
 
 ghost use Rattle.std.specs.Prelude.{◌≡◌, Ok, IfOk, IfErr};
 ghost use Rattle.graphalytics_io.specs.FieldLines.{field_lines};
@@ -85,7 +91,7 @@ fn read_checked(
     check(alloc, text, front, &checks)
 }
 
-/// Checks the front of an edge file, and reads what is behind it.
+/// Checks the front of an edge file, and reads what is after it.
 fn check(alloc: Global, text: &[u8], front: Front, checks: &Checks) -> Result<Edges, ReadRefusal>
     requires readable { AreReadable checks.now.weights }
     requires front { IsFront (edge_of every_id checks.now.weights) (field_lines text.now) front }

@@ -1,4 +1,8 @@
 //! A line of an edge file by itself: its fields, its ends and its weight.
+//!
+//! 1. Faults are looked for in a fixed order over the whole line, and the first one is told.
+//! 2. Which ids are known is a type: a first reading takes all ids as known, and looks the ends up afterwards, all at
+//!    once.
 
 ghost use Rattle.std.specs.Prelude.{◌≡◌, ℕ, Bool};
 ghost use Rattle.std.specs.Option.{option_copied};
@@ -58,6 +62,7 @@ pub(crate) fn read_edge<K: KnownIds>(
         return Err(What::MissingField)
     };
     let third = fields.next();
+    // Looked for before any field is read: how many fields there are is checked first.
     if fields.next().is_some() {
         return Err(What::ExtraField);
     }
@@ -95,6 +100,7 @@ fn read_ends<K: KnownIds>(known: &K, source: &[u8], target: &[u8]) -> Result<(u6
 {
     let u = read_id(source)?;
     let v = read_id(target)?;
+    // Before it is looked whether the ends are there.
     if u == v {
         return Err(What::SelfLoop);
     }

@@ -27,6 +27,7 @@ use std::thread::Threads;
 /// The edges of the lines before the first that has a fault by itself, with all ids taken as known.
 #[derive(Drop)]
 pub struct Front {
+    /// In the order of the file.
     pub edges: Edges,
     /// No line has a fault.
     pub is_whole: bool,
@@ -105,12 +106,14 @@ pub(crate) fn faultless_front(
         kept_numbers,
         second_numbers,
     } = parts;
+    // No edge is listed for the first time twice, and none for the second time twice: so no line is one too many.
     if are_distinct(kept_numbers) && are_distinct(second_numbers) {
         Ok(Reading {
             listings,
             edges: kept,
         })
     } else {
+        // Where one is, all lines are gone over again from the first on, and the line is found.
         Ok(Reading::new(alloc))
     }
 }

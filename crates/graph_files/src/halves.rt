@@ -1,6 +1,6 @@
 //! The edges of a text, read by several threads.
 //!
-//! 1. A text is cut in two behind a line feed, so that no line is cut, and each half again.
+//! 1. A text is cut in two after a line feed, so that no line is cut, and each half again.
 //! 2. Where a line has a fault by itself, nothing is said of the text. It is then read from its begin by one thread, so
 //!    the first fault is the first.
 
@@ -73,7 +73,7 @@ fn read_both<R: Threads + Sync>(
     }
 }
 
-/// Edges, and others behind them.
+/// Edges, and others after them.
 fn joined(first: Edges, second: &Edges) -> Result<Edges, NoMemory>
     ensures { IfOk result (λ edges. edges ≡ first ++ second.now) }
 {
@@ -95,7 +95,7 @@ fn read_alone(alloc: Global, text: &[u8], weights: Weights) -> Result<Option<Edg
     }
 }
 
-/// Cuts a text behind the first line feed of its second half, if it has one.
+/// Cuts a text after the first line feed of its second half, if it has one.
 fn cut(text: &[u8]) -> Option<(&[u8], &[u8])>
     ensures { IfSome result (λ parts. IsCut text.now parts.0.now parts.1.now) }
 {

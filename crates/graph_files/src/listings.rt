@@ -35,7 +35,7 @@ pub struct Reading {
     pub edges: Edges,
 }
 
-/// Reads the edges of an edge file behind the lines so far, line by line, up to the first fault.
+/// Reads the edges of an edge file after the lines so far, line by line, up to the first fault.
 pub(crate) fn read_rest(
     text: &[u8],
     checks: &Checks,
@@ -64,7 +64,7 @@ pub(crate) fn read_rest(
     Ok(edges)
 }
 
-/// The lines of a text behind the first, so many.
+/// The lines of a text after the first, so many.
 fn lines_behind(text: &[u8], count: usize) -> FieldLines<'_>
     ensures { result ≡ drop count (field_lines text.now) }
 {
@@ -111,7 +111,7 @@ impl Reading {
         Ok(Listing::First)
     }
 
-    /// The same behind a line that lists an edge.
+    /// The same after a line that lists an edge.
     fn with(self, edge: Edge, listing: Listing) -> Result<Reading, NoMemory>
         ensures listings { IfOk result (λ reading. reading.listings ≡ self.listings ++ edge ∷ []) }
         ensures edges { IfOk result (λ reading. reading.edges

@@ -1,4 +1,7 @@
 //! Why a file was not read.
+//!
+//! 1. A refusal has the first line with a fault, and of several faults of that line the one that is checked first.
+//!    Lines are counted from 1, and those that say nothing count too.
 
 ghost use Rattle.std.specs.Prelude.{◌≡◌};
 ghost use Rattle.graph_files.specs.declared.refusal.ReadRefusal.TheVariants as refusals;
@@ -24,9 +27,11 @@ pub enum What {
     UnknownVertex,
     /// An edge has the same source and target.
     SelfLoop,
+    /// A line ends before all fields that it has to have.
     MissingField,
+    /// A line goes on after all fields that it may have.
     ExtraField,
-    /// A weight has more digits behind its point than are read, and not all of them are zeros.
+    /// A weight has more digits after its point than are read, and not all of them are zeros.
     WeightTooFine,
     /// A weight is above `MAX_WEIGHT` units.
     WeightTooLarge,
@@ -59,15 +64,19 @@ impl What {
 #[derive(Clone, Copy, Debug, PartialEq, Eq, Error)]
 #[error("line {line}: {what}")]
 pub struct Fault {
+    /// The number of the line, from 1.
     pub line: u64,
+    /// What is wrong with it.
     pub what: What,
 }
 
 /// Why nothing was read of a file.
 #[derive(Clone, Copy, Debug, PartialEq, Eq, Error)]
 pub enum ReadRefusal {
+    /// A line has a fault.
     #[error("{0}")]
     Fault(Fault),
+    /// Memory was refused.
     #[error("no memory")]
     NoMemory,
 }

@@ -21,8 +21,11 @@ use std::alloc::Global;
 /// The edges of the listings so far, with their numbers, and the numbers of second listings.
 #[derive(Drop)]
 pub struct Parts {
+    /// Those that are listed for the first time, in the order of the file.
     pub kept: Edges,
+    /// The numbers of their ends.
     pub kept_numbers: Vec<u64>,
+    /// Of each edge that is listed once more the number of its ends.
     pub second_numbers: Vec<u64>,
 }
 
@@ -69,7 +72,7 @@ pub(crate) fn parts_of(
     Ok((parts, edges.len()))
 }
 
-/// The place among the kept edges of the first listing of an edge, for a second one. Behind a listing its place has
+/// The place among the kept edges of the first listing of an edge, for a second one. After a listing its place has
 /// taken the place of what was told of it.
 fn first_place(places: &[usize], at: usize) -> Option<usize> {
     let first = *places.get(at)?;

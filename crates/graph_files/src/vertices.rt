@@ -1,4 +1,9 @@
 //! Vertex files.
+//!
+//! 1. Ids are gathered in the order of the file and looked through for repeats by sorting a copy, which takes a
+//!    fraction of what an ordered map takes.
+//! 2. Where one stands twice, or a line has a fault, the file is gone over again with a set of the ids so far, and the
+//!    first fault is told.
 
 ghost use Rattle.std.specs.Prelude.{◌≡◌, [], ◌∷◌, ◌++◌, Ok, IfOk, IfErr, IfSome};
 ghost use Rattle.graph_files.specs.Faults.{IsRefused};
@@ -47,7 +52,7 @@ fn read_unrepeated(alloc: Global, text: &[u8], limit: u64) -> Result<Option<Ids>
     }
 }
 
-/// Reads the ids of a vertex file, each behind those before it, up to its first fault.
+/// Reads the ids of a vertex file, each after those before it, up to its first fault.
 fn read_each(alloc: Global, text: &[u8], limit: u64) -> Result<Ids, ReadRefusal>
     ensures ok { IfOk result (λ ids. vertices_of limit text.now ≡ Ok ids) }
     ensures fault { IfErr result (λ refusal. IsRefused (vertices_of limit text.now) refusal) }
@@ -68,7 +73,9 @@ fn read_each(alloc: Global, text: &[u8], limit: u64) -> Result<Ids, ReadRefusal>
 /// The ids of the lines so far.
 #[derive(Drop)]
 struct Reading {
+    /// In the order of the file.
     ids: Ids,
+    /// The same as a set, to find repeats.
     sorted: BTreeSet<u64>,
     ghost same: { IsSetOf sorted ids },
 }
@@ -99,7 +106,7 @@ impl Reading {
         Ok(id)
     }
 
-    /// The same with an id behind the others.
+    /// The same with an id after the others.
     fn with(self, id: u64) -> Result<Reading, NoMemory>
         ensures { IfOk result (λ reading. reading.ids ≡ self.ids ++ id ∷ []) }
     {

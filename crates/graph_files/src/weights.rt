@@ -1,4 +1,7 @@
 //! Weights: decimals with at most one point, in units of a power of ten.
+//!
+//! 1. No weight is a float: digits are counted in whole units, and what would be rounded is refused, or cut where that
+//!    is asked for.
 
 ghost use Rattle.std.specs.Prelude.{◌≡◌, ◌≤◌, ◌<◌, ◌+◌, ◌*◌, ◌^◌, ◌++◌, true, MatchOption};
 ghost use Rattle.std.specs.List.{list_all, position};
@@ -15,7 +18,7 @@ use graphalytics_io::{NumberFault, read_number};
 pub enum Weights {
     /// Every weight is 1. A third field may stand on a line, and isn't read.
     Ones,
-    /// Each line has a decimal, in units of `10 ^ -digits`. What stands behind its last digit that is read has to be
+    /// Each line has a decimal, in units of `10 ^ -digits`. What stands after its last digit that is read has to be
     /// zeros; with `cut` it may be any digits, and is dropped.
     Units { digits: u8, cut: bool },
 }
@@ -40,7 +43,7 @@ pub(crate) fn read_decimal(field: &[u8], digits: u8, cut: bool) -> Result<u64, W
     }
 }
 
-/// The sum of two numbers, each with so many zeros behind its digits, up to the greatest weight.
+/// The sum of two numbers, each with so many zeros after its digits, up to the greatest weight.
 fn units_of(whole: &[u8], zeros: u8, fraction: &[u8], missing: u8) -> Option<u64>
     requires whole { list_all is_digit whole.now ≡ true }
     requires fraction { list_all is_digit fraction.now ≡ true }
@@ -58,7 +61,7 @@ fn units_of(whole: &[u8], zeros: u8, fraction: &[u8], missing: u8) -> Option<u64
     }
 }
 
-/// What stands before the first point of a field, and what stands behind it.
+/// What stands before the first point of a field, and what stands after it.
 fn parts_of(field: &[u8]) -> (&[u8], &[u8])
     ensures whole { result.0.now ≡ whole_part field.now }
     ensures fraction { result.1.now ≡ fraction_part field.now }
@@ -97,7 +100,7 @@ fn are_zeros(part: &[u8]) -> bool
     part.iter().all(|byte| *byte == b'0')
 }
 
-/// The number of some digits with so many zeros behind them, up to the greatest weight.
+/// The number of some digits with so many zeros after them, up to the greatest weight.
 fn scaled(digits: &[u8], zeros: u8) -> Option<u64>
     requires digits { list_all is_digit digits.now ≡ true }
     requires zeros { zeros ≤ 9 }
