@@ -1,4 +1,8 @@
 //! Graphs from their seeds.
+//!
+//! 1. The same seed and sizes give the same graph: pairs are drawn by one generator, in one order, on one thread.
+//! 2. At most two pairs are drawn for each edge, so it ends; where many are repeats fewer edges come out, and the
+//!    answer says how many.
 
 ghost use Rattle.std.specs.Prelude.{◌≡◌, ◌<◌, ℕ, length, IfOk};
 ghost use Rattle.graph_maker.specs.Draws.{draw, pairs_of};
@@ -26,7 +30,7 @@ pub struct MadeGraph {
 }
 
 /// Makes the files of a graph with so many vertices and at most so many edges: at most two pairs are drawn for each
-/// edge that is wanted, and those are kept whose ends differ and that didn't stand before in either order.
+/// edge that is asked for, and those are kept whose ends differ and that didn't stand before in either order.
 pub fn make_graph(
     alloc: Global,
     seed: u64,
@@ -46,7 +50,7 @@ pub fn make_graph(
     })
 }
 
-/// Draws pairs until as many are kept as are wanted, or two for each of them were drawn.
+/// Draws pairs until as many are kept as are asked for, or two for each of them were drawn.
 fn draw_pairs(alloc: Global, seed: u64, vertices: u32, edges: u32) -> Result<Kept, NoMemory>
     requires { 0 < vertices }
     ensures { IfOk result (λ pairs. pairs ≡ pairs_of seed vertices edges) }

@@ -1,4 +1,7 @@
 //! The pairs that are kept, and whether one stood before.
+//!
+//! 1. A set of the ends, lesser first, tells a repeat in either direction; the list keeps the order in which they were
+//!    drawn.
 
 ghost use Rattle.std.specs.Prelude.{◌≡◌, [], length, OnOk, OnErr};
 ghost use Rattle.graph_maker.specs.Draws.{kept_behind};
@@ -12,6 +15,7 @@ use std::marker::Model;
 /// Pairs in the order in which they were drawn, with the set of their ends.
 #[derive(Drop)]
 pub struct Kept {
+    /// In the order in which they were drawn.
     pairs: Vec<Pair>,
     /// The lesser end first.
     ends: HashSet<Pair>,

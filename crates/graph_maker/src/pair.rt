@@ -1,11 +1,15 @@
 //! Pairs of vertices.
+//!
+//! 1. A pair is written as it was drawn, and compared with its lesser end first: 1 2 and 2 1 are one edge.
 
 ghost use Rattle.std.specs.Prelude.{◌≡◌, ◌==◌, cond, nat_le};
 
 /// Two vertices in the order in which they were drawn: a line of the edge file.
 #[derive(Clone, Copy, Debug, PartialEq, Eq, Hash)]
 pub struct Pair {
+    /// The source, where the graph is directed.
     pub first: u64,
+    /// The target there.
     pub second: u64,
 }
 

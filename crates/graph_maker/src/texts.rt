@@ -1,4 +1,7 @@
 //! The texts of the two files.
+//!
+//! 1. They are texts that the readers of this program take, with one blank between two fields and a line feed after
+//!    each line.
 
 ghost use Rattle.std.specs.Prelude.{◌≡◌, IfOk};
 ghost use Rattle.std.specs.List.{flat_map};
