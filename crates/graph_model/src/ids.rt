@@ -2,5 +2,5 @@
 
 use items::Items;
 
-/// Vertex ids, one behind the other.
+/// Vertex ids, one after the other.
 pub type Ids = Items<u64>;

@@ -94,7 +94,7 @@ pub fn rows_are_of_the_graph()
 {}
 
 /// A scan that is done has given all rows that were left, and from its beginning each row once, in so many
-/// turns; one that goes on does so behind what it has given.
+/// turns; one that goes on does so after what it has given.
 pub fn scans_end_with_the_last_row()
     ensures done { DoneScanIsWhole }
     ensures portions { PortionsAreTheRows }

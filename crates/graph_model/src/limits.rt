@@ -1,4 +1,7 @@
 //! The limits of the store, each named once.
+//!
+//! 1. Each stands in a law with its number once more, `limits_are_as_written`: code and definitions cite the constant,
+//!    so a wrong one would be proved everywhere.
 
 /// The greatest vertex id. The arc to it has `MAX_ID + 1` as the second number of its key.
 pub const MAX_ID: u64 = 9223372036854775806;

@@ -1,4 +1,7 @@
 //! A whole graph at once, as the first transaction of an engine.
+//!
+//! 1. It is a transaction like any other in the journal; that it comes at once lets an engine put its rows in order
+//!    first.
 
 ghost use Rattle.std.specs.Prelude.{◌≡◌, OnOk, OnErr, IfErr};
 ghost use Rattle.graph_model.specs.Loading.{IsNew, IsLoad, IsLoadRefusal, loaded};
@@ -14,6 +17,7 @@ pub enum LoadRefusal {
     /// The store has no place for one of its rows.
     #[error("full at {leaves} leaves")]
     Full { leaves: u32 },
+    /// Memory was refused, and nothing is loaded.
     #[error("no memory")]
     NoMemory,
 }

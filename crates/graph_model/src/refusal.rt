@@ -13,7 +13,9 @@ use thiserror::Error;
 /// What a refused write met: a later commit, or another open transaction, with a clashing write.
 #[derive(Clone, Copy, Debug, PartialEq, Eq)]
 pub enum Cause {
+    /// A commit after the start, with this stamp.
     Later { stamp: u64 },
+    /// An open transaction, of this name.
     Holder { by: TxnName },
 }
 
@@ -58,6 +60,7 @@ pub enum Refusal {
     /// No place is left for a row.
     #[error("full at {leaves} leaves")]
     Full { leaves: u32 },
+    /// Memory was refused, and nothing has changed.
     #[error("no memory")]
     NoMemory,
 }
@@ -68,6 +71,7 @@ pub enum BeginRefusal {
     /// The pass has begun its configured number of transactions.
     #[error("all transactions of the pass are used")]
     TxnsUsed,
+    /// Memory was refused, and no transaction has begun.
     #[error("no memory")]
     NoMemory,
 }

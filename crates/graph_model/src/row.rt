@@ -14,7 +14,9 @@ use std::marker::Model;
 /// stands directly before the rows of its arcs.
 #[derive(Clone, Copy, Debug, PartialEq, Eq, PartialOrd, Ord)]
 pub struct Key {
+    /// The vertex, or the source of the arc.
     pub src: u64,
+    /// 0 for a vertex, and one more than the target for an arc.
     pub second: u64,
 }
 
@@ -69,22 +71,29 @@ impl Key {
 /// A vertex with weight 0, or an arc with its weight.
 #[derive(Clone, Copy, Debug, PartialEq, Eq)]
 pub struct Row {
+    /// What it is the row of.
     pub key: Key,
+    /// The weight of an arc; 0 for a vertex.
     pub weight: u64,
 }
 
 /// A scan: the rows from `next` on and below `until` are still to come, unless it is done.
 #[derive(Clone, Copy, Debug, PartialEq, Eq)]
 pub struct Cursor {
+    /// The key from which on rows are to come.
     pub next: Key,
+    /// The key before which it ends.
     pub until: Key,
+    /// Whether it has come to its end.
     pub done: bool,
 }
 
 /// A buffer of at most 64 rows, which takes no memory.
 #[derive(Drop)]
 pub struct Rows64 {
+    /// Those from `len` on mean nothing.
     rows: [Row; 64],
+    /// How many rows there are.
     len: usize,
 }
 
