@@ -3,7 +3,7 @@
 //!
 //! 1. A text is read once, from left to right, and is lent: nothing of it is copied but what it spells.
 //! 2. Each line is counted, also one that says nothing, so a fault can be told by its line.
-//! 3. Writers put text behind what stands there. One that is refused memory leaves the text as it was, or, where
+//! 3. Writers put text after what stands there. One that is refused memory leaves the text as it was, or, where
 //!    its name begins with `write_` and it writes a part alone, says that the text may have some of it.
 #![tactic(auto)]
 

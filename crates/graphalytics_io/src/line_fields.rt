@@ -11,6 +11,7 @@ use std::marker::Model;
 /// What is left of the fields of a line. Blanks are spaces and tabs, and a field is what stands between them.
 #[derive(Drop)]
 pub struct Fields<'a> {
+    /// The bytes from the next field on, blanks before it included.
     rest: &'a [u8],
 }
 

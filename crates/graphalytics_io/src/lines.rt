@@ -15,13 +15,16 @@ use std::marker::Model;
 /// A line that says something, with its number in the text, from 1.
 #[derive(Drop)]
 pub struct FieldLine<'a> {
+    /// Its number in the text, from 1; lines that say nothing are counted too.
     pub number: u64,
+    /// What it says.
     pub fields: Fields<'a>,
 }
 
 /// What is left of the lines of a text.
 #[derive(Drop)]
 pub struct FieldLines<'a> {
+    /// The bytes from the next line on.
     rest: &'a [u8],
     /// The number of the line that was read last.
     number: u64,

@@ -1,4 +1,6 @@
-//! Lists at the end of a text, an item behind the other.
+//! Lists at the end of a text, an item after the other.
+//!
+//! 1. A spelling is a type without values, so that one loop serves all lists, and is proved once.
 
 ghost use Rattle.std.specs.Prelude.{◌≡◌, ◌++◌, ℕ, List, OnOk, OnErr};
 ghost use Rattle.std.specs.List.{flat_map};

@@ -1,4 +1,8 @@
 //! Result files.
+//!
+//! 1. A line has a vertex and its value with a blank between, as Graphalytics compares them; lines stand in rising
+//!    order of vertices.
+//! 2. Where memory is refused the text is as it was: a half of a table is never handed on.
 
 ghost use Rattle.std.specs.Prelude.{◌≡◌, ◌++◌, OnOk, OnErr};
 ghost use Rattle.graph_model.specs.TableText.{table_text, entry_line};

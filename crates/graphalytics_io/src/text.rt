@@ -1,4 +1,7 @@
 //! Texts that grow at their ends.
+//!
+//! 1. A text is bytes: what is written there is ASCII, and nobody asks for characters.
+//! 2. A number is written into room on the stack and copied, so it takes no memory of its own.
 
 ghost use Rattle.std.specs.Prelude.{◌≡◌, ◌==◌, ℕ, List, [], ◌++◌, length, take, decimal, OnOk, OnErr};
 
@@ -10,6 +13,7 @@ use std::marker::Model;
 /// The bytes of a file.
 #[derive(Drop)]
 pub struct Text {
+    /// All bytes so far.
     bytes: Vec<u8>,
 }
 
