@@ -16,8 +16,11 @@ use undo_chain::Chains;
 /// Where the records of one row begin, and its touches. Where a row has no value its weight isn't read.
 #[derive(Clone, Copy)]
 pub struct Heads {
+    /// Whether the row has a value now, or only records of those that it had.
     pub has_value: bool,
+    /// The newest record of a value before, if there is one.
     pub undos: Option<usize>,
+    /// The newest record of a touch, if there is one.
     pub touches: Option<usize>,
 }
 
@@ -44,6 +47,7 @@ impl Heads {
 /// What a box of heads holds.
 #[derive(Drop)]
 pub(crate) struct Inside {
+    /// The entries of the changed rows.
     pub(crate) list: HeadList,
     /// The records, while the segment is at rest. Else there are none, and they have no memory.
     pub(crate) chains: Chains,
@@ -55,6 +59,7 @@ pub(crate) struct Inside {
 #[derive(Drop)]
 pub struct HeadMap {
     pub(crate) alloc: Global,
+    /// None where no row has changed.
     pub(crate) inside: Option<Box<Inside>>,
 }
 
@@ -161,7 +166,7 @@ impl HeadMap {
         }
     }
 
-    /// Takes the row at a place away: those behind it stand one place further down.
+    /// Takes the row at a place away: those after it stand one place further down.
     pub fn close(&mut self, place: usize)
         ensures heads { (p : ℕ) → heads_placed self.new.entries p ≡ closed place (heads_placed self.old.entries) p }
         ensures spare { self.old.spare ≤ self.new.spare }

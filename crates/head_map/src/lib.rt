@@ -1,7 +1,7 @@
 //! Where the records of changed rows begin, by the places of the rows.
 //!
 //! 1. Places strictly rise, and changed rows alone are named.
-//! 2. Rows that come, go or move take their heads along: the places of those behind them shift.
+//! 2. Rows that come, go or move take their heads along: the places of those after them shift.
 #![tactic(auto)]
 
 mod heads;

@@ -16,6 +16,7 @@ use std::marker::Model;
 /// Changed rows in the order of their places.
 #[derive(Drop)]
 pub(crate) struct HeadList {
+    /// Each with its place, in rising order.
     rows: Vec<PackedRow>,
 }
 
@@ -104,6 +105,7 @@ impl HeadList {
     {
         let settled = heads.heads().is_settled();
         match find_in(self.rows.as_slice(), place) {
+            // A row without records has no entry: that is how it is told to be settled.
             Ok(index) if settled => {
                 self.rows.remove(index);
             }
@@ -123,7 +125,7 @@ impl HeadList {
         raise_from(&mut self.rows, index, 1);
     }
 
-    /// Takes the row at a place away: those behind it stand one place further down.
+    /// Takes the row at a place away: those after it stand one place further down.
     pub(crate) fn close(&mut self, place: usize)
         ensures heads { (p : ℕ) → heads_placed self.new.entries p ≡ closed place (heads_placed self.old.entries) p }
         ensures spare { self.old.spare ≤ self.new.spare }

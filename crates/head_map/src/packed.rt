@@ -1,4 +1,8 @@
 //! Changed rows as they lie in memory.
+//!
+//! 1. Links have six bytes each, since no block has 2^48 records, and a place among 32 rows needs one: an entry has 16
+//!    bytes, and four lie in a line of the cache.
+//! 2. What is packed is told back exactly.
 
 ghost use Rattle.std.specs.Prelude.{◌≡◌, ◌+◌, ◌-◌, ◌<◌, ◌≤◌};
 
@@ -9,8 +13,11 @@ use undo_chain::Link;
 /// The heads of a row in 14 bytes.
 #[derive(Drop)]
 pub struct PackedHeads {
+    /// The newest record of a value before.
     undos: Link,
+    /// The newest record of a touch.
     touches: Link,
+    /// Whether the row has a value.
     has_value: bool,
 }
 
@@ -47,7 +54,9 @@ impl PackedHeads {
 /// A changed row in 16 bytes: its heads, and its place among the rows.
 #[derive(Drop)]
 pub struct PackedRow {
+    /// Where its records begin.
     heads: PackedHeads,
+    /// Its place among the rows of the segment, below 32.
     place: u8,
 }
 

@@ -1,4 +1,7 @@
 //! Heads and records of a segment at rest, in one box.
+//!
+//! 1. One pointer, so that a slot of the latch table stays small: most segments at rest have no record.
+//! 2. The box is made when a segment first gets a record, so laying it to rest takes no memory.
 
 ghost use Rattle.std.specs.Prelude.{◌≡◌, ◌⊎◌, ◌<◌, ◌≤◌, ℕ, true, [], IfSome};
 ghost use Rattle.std.specs.List.{list_any};
@@ -16,7 +19,9 @@ use undo_chain::Chains;
 /// What is kept of the rows: their number alone, or a box.
 #[derive(Drop)]
 enum Kept {
+    /// No row has a record.
     Settled { alloc: Global, count: usize },
+    /// Some rows have records.
     Changed { alloc: Global, inside: Box<Inside> },
 }
 
@@ -157,6 +162,7 @@ impl HeadMap {
         let Some(inside) = inside else {
             return RestingHeads::settled(alloc, count);
         };
+        // The memory goes, though the next write there takes it anew: most cells stay settled for long.
         if inside.list.is_empty() {
             return RestingHeads::settled(alloc, count);
         }
