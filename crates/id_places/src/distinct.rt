@@ -1,4 +1,7 @@
 //! Whether numbers differ, by sorting them.
+//!
+//! 1. Most files have their ids in order, so it is first looked whether the numbers rise as they stand, which needs no
+//!    sorting.
 
 ghost use Rattle.std.specs.Prelude.{◌==◌, ℕ};
 ghost use Rattle.std.specs.Bool.{OnTrue};

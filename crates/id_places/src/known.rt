@@ -1,4 +1,8 @@
 //! Which ids a graph has, and where each stands among them.
+//!
+//! 1. Where no id is missing between the least and some other, an id of these is found by its distance from the least.
+//! 2. All others are found in a table of slots or, where they have none, by a search: how an id is found is a matter of
+//!    time alone.
 
 ghost use Rattle.std.specs.Prelude.{◌≡◌, ◌<◌, ℕ, length, slice_index, true, false, All};
 ghost use Rattle.std.specs.Prelude.{IfOk, IfSome, MatchOption, Some};
@@ -13,6 +17,7 @@ use std::marker::Model;
 /// The ids of a graph in rising order.
 #[derive(Drop)]
 pub struct Known {
+    /// Without repeats.
     sorted: Vec<u64>,
     /// How many ids at the front have no gap between them. A look-up among these reads no memory, which is what files
     /// with the ids 1 to n need.
@@ -46,6 +51,7 @@ impl Known {
     {
         let mut sorted = Vec::from_slice(alloc, ids)?;
         sorted.sort_unstable();
+        // In most files all ids follow each other, and then no table is needed.
         let dense = dense_front(sorted.as_slice());
         let slots = Slots::of(alloc, sorted.as_slice(), dense)?;
         Ok(Known {

@@ -1,4 +1,4 @@
-//! Where ids stand in a list, by a table: an id and its place lie in one of a few slots behind the one that its bits
+//! Where ids stand in a list, by a table: an id and its place lie in one of a few slots after the one that its bits
 //! give, so that a look-up mostly reads one line of memory.
 //!
 //! Of ids that crowd at one slot some have none, so a look-up may miss an id that stands in the list.
@@ -24,13 +24,16 @@ const SPREAD: u64 = 11400714819323198485;
 /// An id, and the first place where it stands.
 #[derive(Clone, Copy, Debug)]
 pub struct Slot {
+    /// What stands in the file.
     pub id: u64,
+    /// Its place among the ids.
     pub place: usize,
 }
 
 /// The slots, at least twice as many as ids.
 #[derive(Drop)]
 pub(crate) struct Slots {
+    /// An id has one of the slots that are looked at for it, if one of these was empty when it came.
     slots: Vec<Slot>,
     /// How many bits of an id's multiple are dropped; the others give its first slot.
     shift: u32,
@@ -54,6 +57,7 @@ impl Slots {
     {
         let mut slots = Slots::empty(alloc, sorted.len().saturating_sub(from))?;
         'places: for place in from..sorted.len() {
+            // Of an id that stands several times the first place counts.
             if stands_first(sorted, place) {
                 slots.put(Slot {
                     id: sorted[place],
