@@ -2,7 +2,7 @@
 //!
 //! 1. A turn is one line of the script, or one further portion of the rows that the line at hand scans.
 //! 2. Room for a line's answer and its table is made before the engine is touched.
-//! 3. A job that wanted memory has taken its transaction back, and has ended.
+//! 3. A job that ran out of memory has taken its transaction back, and has ended.
 //! 4. The image that a kernel's line has made is kept until its transaction writes or is over.
 
 ghost use Rattle.std.specs.Prelude.{◌≡◌, ◌<◌, List, ◌∷◌, ◌++◌, true, false, length, slice_set, None, IsSome, IfSome, IfNone, OnOk, OnErr};
@@ -27,10 +27,15 @@ use std::thread::Threads;
 #[derive(Drop)]
 pub struct Job {
     alloc: Global,
+    /// The number of the script, from 1.
     number: u32,
+    /// Its lines.
     script: Script,
+    /// One for each line that was taken.
     answers: RoomyItems<Answer>,
+    /// Those of its kernel lines so far.
     tables: Tables,
+    /// Where it stands between its lines.
     phase: Phase,
     /// How far the line at hand has come, if it has taken a turn.
     reading: Option<Reading>,
@@ -99,14 +104,14 @@ impl Job {
         self.script.len()
     }
 
-    /// Whether memory was wanted.
+    /// Whether memory ran out.
     pub fn has_given_up(&self) -> bool
         ensures { result ≡ has_given_up self.now.phase }
     {
         self.phase == Phase::GivenUp
     }
 
-    /// Whether each line is answered, or memory was wanted.
+    /// Whether each line is answered, or memory ran out.
     pub fn has_ended(&self) -> bool
         ensures { result ≡ is_over self.now }
     {
@@ -161,6 +166,7 @@ impl Job {
             Ok(()) if self.has_ended() => Turn::Ended,
             Ok(()) => Turn::More,
             Err(NoMemory) => {
+                // Its transaction is taken back, which takes no memory: the run ends, and no pass is left with one.
                 self.give_up(engine);
                 Turn::NoMemory
             }
@@ -195,6 +201,8 @@ impl Job {
     {
         let reading = self.reading.take();
         let mut image = self.image.take();
+        // Room for the answer and the table comes before the line calls the engine: what the engine has done is never
+        // left without its answer.
         self.answers.reserve(1)?;
         self.tables.reserve(1)?;
         let command = &self.script.as_slice()[self.answers.len()];
@@ -205,6 +213,8 @@ impl Job {
                 Ok(())
             }
             LineTurn::Answering { given } => {
+                // The image of the rows stays for the transaction's next kernel, unless this line has written or ended
+                // it.
                 let image = given.kept_behind(phase, image);
                 self.answers.push_within(given.answer);
                 self.phase = given.phase;

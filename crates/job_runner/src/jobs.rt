@@ -1,4 +1,7 @@
 //! Jobs, one for each script.
+//!
+//! 1. Job n runs script n, counted from 1.
+//! 2. A job that has ended stays in the list, with its answers and tables, so numbers never shift.
 
 ghost use Rattle.std.specs.Prelude.{◌≡◌, ℕ, List, ◌∷◌, suc, ◌-◌, ◌<◌, ◌≤◌, true, false, ◌==◌, length, slice_get, slice_set, Some, None, IfSome, IfNone, IfOk, OnOk, OnErr};
 ghost use Rattle.graph_model.specs.OwnerCalls.{pass_at};
@@ -18,6 +21,7 @@ use std::thread::Threads;
 /// The jobs of a run, numbered from 1 in their order.
 #[derive(Drop)]
 pub struct Jobs {
+    /// Job n stands at place n - 1.
     jobs: Vec<Job>,
 }
 
@@ -132,6 +136,7 @@ impl Jobs {
         if job.has_ended() {
             return Ok(false);
         }
+        // The engine of one owner has all passes, so it is told whose turn this is.
         engine.select(number);
         match job.turn_alone(rt, engine) {
             Turn::More => Ok(false),

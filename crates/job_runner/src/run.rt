@@ -1,8 +1,8 @@
 //! The run on one thread.
 //!
-//! 1. Turns go by the schedule, and behind it by rotation. A script that has ended is passed over.
+//! 1. Turns go by the schedule, and after it by rotation. A script that has ended is passed over.
 //! 2. The run ends as soon as all scripts have ended, which is counted and not looked for.
-//! 3. Where memory is wanted in a job's turn, each open transaction is taken back. A service turn that is
+//! 3. Where memory runs out in a job's turn, each open transaction is taken back. A service turn that is
 //!    refused memory has changed nothing, and the run goes on.
 
 ghost use Rattle.std.specs.Prelude.{◌≡◌, ℕ, List, suc, ◌+◌, ◌<◌, ◌≤◌, false, length, slice_get, slice_set, Some, OnOk, OnErr, IfOk};
@@ -35,7 +35,7 @@ pub fn run_stepped<R: Threads + Sync, E: StepEngine>(
     }
 }
 
-/// Takes turns until all scripts have ended, or memory is wanted.
+/// Takes turns until all scripts have ended, or memory runs out.
 fn take_turns<R: Threads + Sync, E: StepEngine>(
     rt: &R,
     engine: &mut E,
@@ -49,15 +49,18 @@ fn take_turns<R: Threads + Sync, E: StepEngine>(
     ensures err { OnErr result (RunIsStuck (E.core engine.old) (E.core engine.new) jobs.new) }
 {
     let count = jobs.len();
+    // Counted down, so that no turn looks through all jobs.
     let mut left = jobs.under_way();
     'schedule: for job in schedule {
         if left == 0 {
             return Ok(());
         }
+        // A turn of a job that has ended does nothing, as the schedule may name it still.
         if take_turn(rt, engine, jobs, *job)? {
             left -= 1;
         }
     }
+    // After the last script comes 0, a turn of the service, and then the first again.
     let mut job = 1;
     'rotation: while left > 0 {
         if take_turn(rt, engine, jobs, job)? {
