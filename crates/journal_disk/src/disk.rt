@@ -10,7 +10,7 @@ ghost use Rattle.journal_disk.specs.Crashes.{Torn, Resized, overwritten, resized
 
 use desk_io::Failed;
 
-/// Files, one of which is chosen by its name for the calls behind.
+/// Files, one of which is chosen by its name for the calls to come.
 pub trait Disk {
     /// What is known of the files.
     ghost state: { Self → DiskState };

@@ -1,4 +1,8 @@
 //! A disk in memory, for tests.
+//!
+//! 1. Each change of the chosen file, and each sync, is a step that is kept, so that a test may ask what a crash after
+//!    any of them would leave.
+//! 2. A call fails where its number stands in a list.
 ghost use Rattle.std.specs.Prelude.{◌≡◌, ◌≢◌, ◌++◌, [], ◌∷◌, ◌≤◌, ℕ, List, length, option_copied, IsNone, IfOk, IfSome, OnOk, OnErr, Some, Vec};
 ghost use Rattle.desk_io.specs.Files.{Gives, Rose};
 ghost use Rattle.desk_io.specs.MemoryDesk.{texts_of};
@@ -23,22 +27,30 @@ use std::collections::BTreeMap;
 #[derive(Drop)]
 pub struct MemoryDisk {
     alloc: Global,
+    /// By name.
     files: BTreeMap<String, Vec<u8>>,
+    /// The name of the file that calls go to, once one was chosen.
     chosen: Option<String>,
+    /// What was done to the chosen file since the disk was made.
     steps: RoomyItems<Step>,
+    /// The numbers of the calls that are to fail.
     failing: Vec<u64>,
-    // how many calls were made, up to the last number
+    /// How many calls were made, up to the last number.
     calls: u64,
-    // how many failed, up to the last number
+    /// How many failed, up to the last number.
     faults: u64,
 }
 
-// What a call did to the images of the chosen file.
+/// What a call did to the images of the chosen file.
 #[derive(Drop)]
 enum Step {
+    /// Another file was chosen.
     Chosen,
+    /// So many bytes were written from this one on.
     Wrote { at: u64, count: usize },
+    /// The file was cut to this size.
     Sized { size: u64 },
+    /// All of the file was brought to the disk.
     Synced { file: Vec<u8> },
 }
 
@@ -81,7 +93,7 @@ impl MemoryDisk {
         }
     }
 
-    // The bytes of the chosen file.
+    /// The bytes of the chosen file.
     fn chosen_bytes(&self) -> Option<&[u8]>
         ensures { option_copied result ≡ content (state_of self.now) }
     {
@@ -91,7 +103,7 @@ impl MemoryDisk {
         }
     }
 
-    // Counts a call, and answers whether it is to fail.
+    /// Counts a call, and answers whether it is to fail.
     fn next_fails(&mut self) -> bool
         ensures planned { result ≡ fails_now self.old }
         ensures rest { self.new ≡ record self.old { calls = next_call self.old } }
@@ -100,7 +112,7 @@ impl MemoryDisk {
         self.failing.contains(&self.calls)
     }
 
-    // Counts a call that failed.
+    /// Counts a call that failed.
     fn fail(&mut self) -> Failed
         ensures rose { Rose self.old.faults self.new.faults }
         ensures rest { self.new ≡ record self.old { faults = self.new.faults } }
@@ -109,7 +121,7 @@ impl MemoryDisk {
         Failed
     }
 
-    // Keeps a step.
+    /// Keeps a step.
     fn keep(&mut self, step: Step) -> Result<(), Failed>
         ensures kept { OnOk result (steps_of self.new ≡ steps_of self.old ++ step ∷ []) }
         ensures err { OnErr result (steps_of self.new ≡ steps_of self.old) }
@@ -124,7 +136,7 @@ impl MemoryDisk {
         }
     }
 
-    // Puts the file in the place of the chosen one, and keeps the step that does so.
+    /// Puts the file in the place of the chosen one, and keeps the step that does so.
     fn replace(&mut self, file: Vec<u8>, step: Step) -> Result<(), Failed>
         ensures ok { OnOk result (Replaces file.items step self.old self.new) }
         ensures err { OnErr result (KeepsImages self.old self.new) }
@@ -141,7 +153,7 @@ impl MemoryDisk {
         Ok(())
     }
 
-    // Chooses the file of this name, and makes an empty one where there is none.
+    /// Chooses the file of this name, and makes an empty one where there is none.
     fn choose_file(&mut self, name: &str) -> Result<(), Failed>
         ensures chosen { OnOk result (Chooses name.now (state_of self.old) (state_of self.new)) }
         ensures step { OnOk result (steps_of self.new ≡ steps_of self.old ++ Step.Chosen ∷ []) }
@@ -161,7 +173,7 @@ impl MemoryDisk {
         Ok(())
     }
 
-    // Writes the bytes over the chosen file.
+    /// Writes the bytes over the chosen file.
     fn overwrite(&mut self, at: u64, bytes: &[u8]) -> Result<(), Failed>
         ensures ok { OnOk result ((file : List ℕ) × IsContent (state_of self.old) file
             × Replaces (overwritten file at bytes.now) (Step.Wrote at (length bytes.now)) self.old self.new) }
@@ -179,7 +191,7 @@ impl MemoryDisk {
         Ok(())
     }
 
-    // Gives the chosen file this many bytes.
+    /// Gives the chosen file this many bytes.
     fn resize(&mut self, size: u64) -> Result<(), Failed>
         ensures ok { OnOk result ((file : List ℕ) × IsContent (state_of self.old) file
             × Replaces (resized file size) (Step.Sized size) self.old self.new) }
@@ -197,7 +209,7 @@ impl MemoryDisk {
         Ok(())
     }
 
-    // Brings the chosen file to the disk.
+    /// Brings the chosen file to the disk.
     fn settle(&mut self) -> Result<(), Failed>
         ensures ok { OnOk result (Settles self.old self.new) }
         ensures state { state_of self.new ≡ state_of self.old }
@@ -277,7 +289,7 @@ impl Disk for MemoryDisk {
     }
 }
 
-// Copies the file from the byte `at` on into the buffer, and answers how many bytes it copied.
+/// Copies the file from the byte `at` on into the buffer, and answers how many bytes it copied.
 fn copy_part(file: &[u8], at: u64, buffer: &mut [u8]) -> usize
     ensures count { result ≤ length buffer.old }
     ensures gives { Gives file.now at buffer.new result }
@@ -291,7 +303,7 @@ fn copy_part(file: &[u8], at: u64, buffer: &mut [u8]) -> usize
     count
 }
 
-// The file with the bytes written over it.
+/// The file with the bytes written over it.
 fn with_bytes(alloc: Global, file: &[u8], at: usize, bytes: &[u8]) -> Result<Vec<u8>, AllocError>
     ensures { IfOk result (λ other. other.items ≡ overwritten file.now at bytes.now) }
 {
@@ -304,7 +316,7 @@ fn with_bytes(alloc: Global, file: &[u8], at: usize, bytes: &[u8]) -> Result<Vec
     Ok(other)
 }
 
-// Puts an empty file under the name where there is none.
+/// Puts an empty file under the name where there is none.
 fn make_missing(
     alloc: Global,
     files: &mut BTreeMap<String, Vec<u8>>,
@@ -322,7 +334,7 @@ fn make_missing(
     }
 }
 
-// Puts the file under the name, in place of the one that was there.
+/// Puts the file under the name, in place of the one that was there.
 fn put_file(
     alloc: Global,
     files: &mut BTreeMap<String, Vec<u8>>,

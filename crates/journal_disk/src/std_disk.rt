@@ -1,4 +1,7 @@
 //! The disk over real files.
+//!
+//! 1. The file that is chosen is opened once and kept, so a commit costs its write and its sync and no opening.
+//! 2. Where the file is made its folder is synced too: else a crash could leave bytes without a name.
 ghost use Rattle.std.specs.Prelude.{◌≡◌, ◌≤◌, length, IfOk};
 ghost use Rattle.desk_io.specs.Files.{Rose};
 ghost use Rattle.journal_disk.specs.Disk.{nothing_told};
@@ -19,8 +22,9 @@ use std::rt::Files;
 #[derive(Drop)]
 pub struct StdDisk<R: Files<File = File>> {
     rt: R,
+    /// The file that calls go to, once one was chosen.
     file: Option<File>,
-    // how many calls failed, up to the last number
+    /// How many calls failed, up to the last number.
     faults: u64,
 }
 
@@ -35,7 +39,7 @@ impl<R: Files<File = File>> StdDisk<R> {
         }
     }
 
-    // Counts a call that failed.
+    /// Counts a call that failed.
     fn fail(&mut self) -> Failed
         ensures rose { Rose self.old.faults self.new.faults }
     {
@@ -103,7 +107,7 @@ impl<R: Files<File = File>> Disk for StdDisk<R> {
     }
 }
 
-// The file of this name, which is made where there is none.
+/// The file of this name, which is made where there is none.
 fn open_or_make(rt: &impl Files<File = File>, name: &str) -> io::Result<File> {
     let made = OpenOptions::new()
         .read(true)
@@ -123,7 +127,7 @@ fn open_or_make(rt: &impl Files<File = File>, name: &str) -> io::Result<File> {
     }
 }
 
-// Brings the names of a file's folder to the disk.
+/// Brings the names of a file's folder to the disk.
 fn sync_folder(rt: &impl Files<File = File>, name: &str) -> io::Result<()> {
     let folder = match Path::new(name).parent() {
         Some(folder) if !folder.as_str().is_empty() => File::open(rt, folder)?,
@@ -132,7 +136,7 @@ fn sync_folder(rt: &impl Files<File = File>, name: &str) -> io::Result<()> {
     folder.sync_all()
 }
 
-// The file, where one is chosen.
+/// The file, where one is chosen.
 fn chosen(file: &Option<File>) -> io::Result<&File> {
     match file {
         Some(file) => Ok(file),
@@ -144,7 +148,7 @@ fn size_of(file: &Option<File>) -> io::Result<u64> {
     Ok(chosen(file)?.metadata()?.len())
 }
 
-// Reads once, and again where a signal interrupts it.
+/// Reads once, and again where a signal interrupts it.
 fn read_again(file: &Option<File>, at: u64, buffer: &mut [u8]) -> io::Result<usize>
     ensures { IfOk result (λ count. count ≤ length buffer.old) }
 {
@@ -162,7 +166,7 @@ fn cut_to(file: &Option<File>, size: u64) -> io::Result<()> {
     chosen(file)?.set_len(size)
 }
 
-// Writes all of the bytes.
+/// Writes all of the bytes.
 fn write_all(file: &Option<File>, at: u64, bytes: &[u8]) -> io::Result<()> {
     chosen(file)?.write_all_at(bytes, at)
 }
@@ -199,7 +203,7 @@ mod tests {
         Ok(())
     }
 
-    // A text over a longer one, with one of its bytes written last.
+    /// A text over a longer one, with one of its bytes written last.
     fn write_over(disk: &mut impl Disk, name: &str) -> Result<(), Failed> {
         disk.choose(name)?;
         disk.write_at(0, b"999999999999")?;
