@@ -1,4 +1,8 @@
 //! Numbers and writes as bytes, and back.
+//!
+//! 1. A number has its least byte first, and each write 25 bytes: a tag and three numbers, those that it doesn't have
+//!    as 0.
+//! 2. Only bytes that keep the rules are read as a write, so each write has one form.
 ghost use Rattle.std.specs.Prelude.{◌≡◌, ◌+◌, ◌≤◌, ◌++◌, length, OnOk};
 ghost use Rattle.journal_file.specs.Format.{word, half, tagged, write_bytes};
 ghost use Rattle.journal_file.specs.Reading.{word_at, half_at, on_vertex, on_edge, on_ends, of_tag, write_of};

@@ -26,6 +26,7 @@ const MOST_BYTES: u64 = 1 << 63;
 /// A journal file on the disk on which it is chosen.
 #[derive(Clone, Copy, Debug, PartialEq, Eq)]
 pub struct JournalFile {
+    /// Where the gate stands that the next commit opens.
     gate: u64,
     // up to the last number
     count: u64,
@@ -41,6 +42,7 @@ impl JournalFile {
         ensures err { OnErr result (FaultsRise (K.state disk.old) (K.state disk.new)) }
     {
         disk.choose(name)?;
+        // Whatever stood there is gone before the header is written: an old gate after a new header would be read.
         disk.cut(0)?;
         let bytes = new_file(kind);
         write_and_sync(disk, 0, &bytes)?;

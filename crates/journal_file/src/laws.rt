@@ -2,7 +2,7 @@
 
 ghost use Rattle.journal_file.specs.Laws.{FilesStandForTheirCommits};
 
-/// A file stands for its commits, whatever comes behind a gate that isn't open.
+/// A file stands for its commits, whatever comes after a gate that isn't open.
 pub fn files_stand_for_their_commits()
     ensures { FilesStandForTheirCommits }
 {}

@@ -1,4 +1,6 @@
 //! What the bytes of a body stand for.
+//!
+//! 1. A body whose stamp isn't the next one, or whose start isn't below it, is no commit, whatever its gate says.
 ghost use Rattle.std.specs.Prelude.{◌≡◌, ◌*◌, ◌≤◌, length, IfOk};
 ghost use Rattle.journal_file.specs.Reading.{head_of, is_next, writes_of};
 
@@ -10,9 +12,13 @@ use std::alloc::Global;
 /// What stands before the writes of a commit.
 #[derive(Clone, Copy, Debug, PartialEq, Eq)]
 pub struct Head {
+    /// The stamp of the commit.
     pub stamp: u64,
+    /// The start of its transaction.
     pub start: u64,
+    /// The number of its pass.
     pub job: u32,
+    /// Which of the pass's transactions it was.
     pub number: u32,
     /// How many writes there are.
     pub count: u64,
@@ -55,6 +61,7 @@ pub(crate) fn writes_of(
         let at = WRITE_LEN * place;
         match write_of(&bytes[at..at + WRITE_LEN]) {
             Some(write) => writes.push(write)?,
+            // One write that breaks a rule makes the whole body none: half a transaction is never read.
             None => return Ok(None),
         }
     }

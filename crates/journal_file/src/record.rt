@@ -1,4 +1,6 @@
 //! A commit as bytes, laid aside before they are written.
+//!
+//! 1. All memory is taken here: an append writes bytes that are there, and takes none.
 ghost use Rattle.std.specs.Prelude.{◌≡◌, ◌++◌, [], ◌∷◌, length, OnOk};
 ghost use Rattle.std.specs.List.{flat_map};
 ghost use Rattle.journal_file.specs.Format.{head_bytes, write_bytes, body, Fits};
@@ -13,6 +15,7 @@ use std::marker::Model;
 /// is taken once.
 #[derive(Drop)]
 pub struct Record {
+    /// As they stand in the file.
     bytes: Vec<u8>,
 }
 

@@ -1,6 +1,6 @@
 //! A journal file that is read.
 //!
-//! 1. One body is read at a time, and no byte behind the size that the file has at first. So memory is taken for the
+//! 1. One body is read at a time, and no byte after the size that the file has at first. So memory is taken for the
 //!    journal and for the longest of its bodies.
 ghost use Rattle.std.specs.Prelude.{◌≡◌, ◌+◌, ◌-◌, ◌*◌, ◌^◌, ◌<◌, ◌≤◌, ℕ, true, false, ◌==◌, get_or, List, length, drop, take, Option, Some, None, IfSome, IfOk, IfErr, OnOk, OnErr, IsTrue};
 ghost use Rattle.journal_disk.specs.Disk.{content, FaultsRise};
@@ -25,7 +25,9 @@ const WRITE_LEN: u64 = 25;
 /// What a journal file stands for.
 #[derive(Drop)]
 pub struct Recovered {
+    /// Which kind of graph it is of.
     pub kind: Kind,
+    /// The commits before the first gate that is closed.
     pub journal: Journal,
 }
 
@@ -49,6 +51,7 @@ fn read_chosen<K: Disk>(alloc: Global, disk: &mut K) -> Result<Recovered, Recove
     ensures ok { OnOk result (K.state disk.new ≡ K.state disk.old) }
     ensures refused { IfErr result (IsRefusedRead (K.state disk.old) (K.state disk.new)) }
 {
+    // Asked for once: no length that a damaged file claims is believed beyond it.
     let size = disk.size()?;
     match read_kind(disk, size)? {
         Some(kind) => {
@@ -90,7 +93,7 @@ fn kind_of(header: &[u8]) -> Option<Kind>
     None
 }
 
-/// The commits behind the header.
+/// The commits after the header.
 fn read_commits<K: Disk>(alloc: Global, disk: &mut K, size: u64) -> Result<Journal, RecoverRefusal>
     requires { 9 ≤ size }
     ensures commits { IfOk result (λ journal. (file : List ℕ) → content (K.state disk.old) ≡ Some file
@@ -104,6 +107,7 @@ fn read_commits<K: Disk>(alloc: Global, disk: &mut K, size: u64) -> Result<Journ
     'commits: loop {
         match read_commit(alloc, disk, size, at, journal.len() as u64 + 1, &mut body)? {
             Some(commit) => {
+                // The next gate stands where this body ends; the first that is closed ends the journal.
                 at += FRONT_LEN + WRITE_LEN * commit.writes.len() as u64;
                 journal.push(commit)?;
             }
@@ -112,7 +116,7 @@ fn read_commits<K: Disk>(alloc: Global, disk: &mut K, size: u64) -> Result<Journ
     }
 }
 
-/// The commit behind the gate at a place, if that is open and the body whole and right.
+/// The commit after the gate at a place, if that is open and the body whole and right.
 fn read_commit<K: Disk>(
     alloc: Global,
     disk: &mut K,
@@ -142,7 +146,7 @@ fn read_commit<K: Disk>(
     }
 }
 
-/// The head behind the gate at a place, if the gate is open, the head keeps the rules, and the file has the bytes of
+/// The head after the gate at a place, if the gate is open, the head keeps the rules, and the file has the bytes of
 /// all its writes.
 fn read_head<K: Disk>(disk: &mut K, size: u64, at: u64, stamp: u64) -> Result<Option<Head>, Failed>
     requires { at ≤ size }
@@ -162,7 +166,7 @@ fn read_head<K: Disk>(disk: &mut K, size: u64, at: u64, stamp: u64) -> Result<Op
     Ok(open_head(&front, size - at - FRONT_LEN, stamp))
 }
 
-/// The head behind a gate, if the gate is open and the head keeps the rules, where so many bytes come behind it.
+/// The head after a gate, if the gate is open and the head keeps the rules, where so many bytes come after it.
 fn open_head(front: &[u8], behind: u64, stamp: u64) -> Option<Head>
     requires { length front.now ≡ 33 }
     ensures head { result ≡ open_head front.now behind stamp }
@@ -175,6 +179,7 @@ fn open_head(front: &[u8], behind: u64, stamp: u64) -> Option<Head>
     if !head.is_next(stamp) {
         return None;
     }
+    // Before memory is asked for: a damaged count could be any number.
     if behind / WRITE_LEN < head.count {
         return None;
     }

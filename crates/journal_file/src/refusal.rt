@@ -1,4 +1,6 @@
 //! Why a journal file wasn't written or read.
+//!
+//! 1. Whether the disk failed or the file isn't a journal is told apart: the one may pass, the other stays.
 
 use desk_io::Failed;
 use items::NoMemory;
@@ -19,10 +21,13 @@ impl From<Failed> for DiskFault {
 /// Why no journal was read.
 #[derive(Clone, Copy, Debug, PartialEq, Eq, Error)]
 pub enum RecoverRefusal {
+    /// It doesn't begin as a journal file does.
     #[error("not a journal file")]
     NotAJournal,
+    /// A call of the disk failed.
     #[error("the disk failed")]
     DiskFault,
+    /// Memory was refused.
     #[error("no memory")]
     NoMemory,
 }
