@@ -1,4 +1,6 @@
 //! The texts of a journal file.
+//!
+//! 1. The text of its commits is that which the run would have written as its journal, had it ended there.
 
 ghost use Rattle.std.specs.Prelude.{◌≡◌, IfOk, IfErr, OnOk};
 ghost use Rattle.journal_disk.specs.Disk.{FaultsStand};
@@ -16,6 +18,7 @@ use std::alloc::Global;
 /// What a journal file says.
 #[derive(Drop)]
 pub struct RecoveredTexts {
+    /// The text of its commits.
     pub journal: Text,
     /// How many commits there are, and how large the graph is that they make.
     pub summary: Text,
