@@ -1,7 +1,8 @@
 //! The top call: from the words to the written files, with a journal file where one is asked for.
 //!
 //! 1. The words are read first. They ask for a run, for a graph that is made, or for a journal file to be read back.
-//! 2. A run whose commits are kept makes its journal file once its sources are accepted, and before the graph is loaded.
+//! 2. A run whose commits are kept makes its journal file once its sources are accepted, and before the graph is
+//!    loaded.
 //! 3. No output is created before all commits of the run are on the disk.
 #![tactic(auto)]
 

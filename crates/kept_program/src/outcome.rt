@@ -1,4 +1,6 @@
 //! How a call ends that keeps the commits of a run, or reads them back.
+//!
+//! 1. What may come without a disk too is an outcome of `teseo_program`, in `Of`; the others are of the journal file.
 
 ghost use Rattle.std.specs.Prelude.{◌≡◌};
 

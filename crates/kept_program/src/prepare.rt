@@ -49,6 +49,7 @@ pub fn prepare_kept<R: Threads + Sync, D: Desk, K: Disk>(
         Ok(input) => input,
         Err(outcome) => return Err(KeptOutcome::Of(outcome)),
     };
+    // After the sources, so that a run which isn't accepted creates no file.
     let mut keeper = match Keeper::create(alloc, disk, name, kind_of(words)) {
         Ok(keeper) => keeper,
         Err(DiskFault) => return Err(KeptOutcome::NotMade),

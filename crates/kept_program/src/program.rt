@@ -1,4 +1,7 @@
 //! The top call.
+//!
+//! 1. A run that names no journal file is the call of `teseo_program`, by the same clauses, and touches no disk.
+//! 2. Whatever the outcome is, what is said and which status it has comes last, from that outcome alone.
 
 ghost use Rattle.std.specs.Prelude.{◌≡◌, ◌≤◌, Some, map};
 ghost use Rattle.std.specs.String.{string_bytes};
@@ -22,7 +25,7 @@ use std::sync::Wait;
 use std::thread::Threads;
 use teseo_program::{Left, Outcome, blamed_source, hand_out, make_files, run, write_and_say};
 
-/// Runs `teseo` on the words behind its name, and answers the exit status. Behind a run whose outputs were all written,
+/// Runs `teseo` on the words after its name, and answers the exit status. After a run whose outputs were all written,
 /// `left` is what its store leaves; else it stays as it is. The disk is used where the words name a journal file.
 /// Where the scripts run on threads the gate is called before each of their turns, and the call may wait.
 pub fn teseo_kept<R: Threads + Wait + Sync, D: Desk, G: Gate, K: Disk>(
@@ -111,6 +114,7 @@ fn run_and_keep<R: Threads + Sync, D: Desk, K: Disk>(
     match prepare_kept(rt, alloc, desk, words, name, disk) {
         Ok(prepared) => {
             let outcome = write_and_say(desk, &prepared);
+            // Only where all outputs are written: what is handed out promises that.
             hand_out(left, prepared.left, outcome);
             KeptOutcome::Of(outcome)
         }

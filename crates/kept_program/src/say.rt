@@ -1,4 +1,6 @@
 //! What is said of a call that wrote no output.
+//!
+//! 1. Names are lent by the words, and texts said in pieces, so it takes no memory: it may have run out.
 
 ghost use Rattle.kept_program.specs.Outcomes.{stop_text};
 ghost use Rattle.teseo_program.specs.Outcomes.{OnlySays};
