@@ -1,4 +1,6 @@
 //! Why a run whose commits are kept came to no end.
+//!
+//! 1. A commit that couldn't be kept ends the run, though it was made: nobody was told of it yet.
 
 ghost use Rattle.std.specs.Prelude.{◌≡◌};
 
@@ -12,6 +14,7 @@ pub enum KeptRefusal {
     /// The leaves have no place for all rows of the graph.
     #[error("no place in {leaves} leaves")]
     Full { leaves: u32 },
+    /// Memory was refused.
     #[error("no memory")]
     NoMemory,
     /// A call of the disk failed.

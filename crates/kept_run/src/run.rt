@@ -1,4 +1,6 @@
 //! The run of the scripts, with its commits kept.
+//!
+//! 1. The load is kept as the first commit, before a script takes its first turn.
 
 ghost use Rattle.std.specs.Prelude.{◌≡◌, ◌≤◌, [], length, All, None, OnOk, OnErr, IfOk, IfErr, false};
 ghost use Rattle.graph_model.specs.declared.limits.TheConstants.{MAX_LEAVES};
@@ -54,6 +56,7 @@ pub fn run_scripts_kept<R: Threads + Sync, K: Disk>(
     serial_stepped_runs_are_serial_runs();
     let config = config_of(kind, leaves, input.scripts.as_slice());
     let mut engine = new_engine(alloc, config)?;
+    // Taken apart, so that what was read of the graph is let go of with the load, and not with the run.
     let Input {
         ids,
         edges,
