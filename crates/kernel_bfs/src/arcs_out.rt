@@ -1,4 +1,6 @@
 //! A round along the arcs out of the frontier, on one thread.
+//!
+//! 1. A small frontier has few arcs, which threads wouldn't share out in less time than one follows them.
 
 ghost use Rattle.std.specs.Prelude.{◌≡◌, ℕ, ◌+◌, ◌<◌, [], length, slice_get, Some, OnOk};
 ghost use Rattle.graph_image.specs.Images.{AreWithin, arcs_at};

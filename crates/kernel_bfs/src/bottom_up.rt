@@ -1,4 +1,7 @@
 //! A round along the arcs into each place that isn't reached, on several threads.
+//!
+//! 1. Each thread makes distances for places of its own, and reads those before the round, which nobody writes
+//!    meanwhile.
 
 ghost use Rattle.std.specs.Prelude.{◌≡◌, ℕ, ◌+◌, ◌<◌, [], length, slice_index, IfOk, OnOk};
 ghost use Rattle.graph_image.specs.Images.{AreWithin, arcs_at};
@@ -50,6 +53,7 @@ fn look_back<R: Threads + Sync>(
     requires count { length distances.now ≡ length image.now.vertices }
     ensures { IfOk result (λ later. IsRound image.now level distances.now later.items) }
 {
+    // A copy, so that threads write one list and read another.
     let mut later = Vec::from_slice(alloc, distances)?;
     par_for_each_mut(
         rt,

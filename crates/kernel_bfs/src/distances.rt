@@ -1,4 +1,9 @@
 //! Distances as the table has them.
+//!
+//! 1. Places are numbered in rising order of vertices, so the lines of a table are written from the first place to the
+//!    last and need no sorting.
+//! 2. The value is made while the line is written: a list of values beside the distances would be memory for each
+//!    vertex once more.
 
 ghost use Rattle.std.specs.Prelude.{◌≡◌, length, map, IfOk};
 ghost use Rattle.graph_image.specs.Entries.{AreEntries};

@@ -1,4 +1,6 @@
 //! The table of a search.
+//!
+//! 1. Distances are counted by places, and named by vertices only in the table.
 
 ghost use Rattle.std.specs.Prelude.{◌≡◌, false, IfOk, IsTrue};
 ghost use Rattle.graph_model.specs.Graph.{Graph, has_vertex};
@@ -13,7 +15,7 @@ use std::thread::Threads;
 
 /// Breadth-first search from a root: each vertex in rising order, with the least number of arcs of a
 /// walk that leads there from the root, or NO_WALK (LDBC Graphalytics, BFS). No clause speaks of
-/// want of memory.
+/// running out of memory.
 pub fn run<R: Threads + Sync>(
     rt: &R,
     alloc: Global,

@@ -1,4 +1,9 @@
 //! The search from level to level.
+//!
+//! 1. A round gives each place that has no distance, and to which an arc leads from the frontier, the next distance.
+//! 2. Bottom-up is taken where the frontier is at least a 24th of the places: then most places find an arc from it
+//!    soon.
+//! 3. The last round reaches no place, and the search is over.
 
 ghost use Rattle.std.specs.Prelude.{◌≡◌, ℕ, ◌+◌, ◌<◌, [], length, slice_get, Some, IfOk, OnOk};
 ghost use Rattle.graph_model.specs.Graph.{Graph};
@@ -53,6 +58,7 @@ pub fn search<R: Threads + Sync>(
         if next.is_empty() {
             return Ok(distances);
         }
+        // Both lists have room for all places from the start, so no round takes memory for them.
         mem::swap(&mut frontier, &mut next);
     }
     Ok(distances)
