@@ -1,4 +1,7 @@
 //! The value that stands most often.
+//!
+//! 1. Values are sorted and their longest run is looked for. Of several runs of one length the first counts, which is
+//!    the one of the least value, as Graphalytics asks.
 
 ghost use Rattle.std.specs.Prelude.{◌≡◌, ℕ, ◌+◌, ◌<◌, ◌≤◌, ◌++◌, length, take, slice_index};
 ghost use Rattle.graph_image.specs.Images.{AreWithin};
@@ -32,6 +35,7 @@ fn longest_run(values: &[u32], default: u32) -> u32
             run = 0;
         }
         run += 1;
+        // Not for an equal run: of two values that stand as often the lesser one came first.
         if most < run {
             best = value;
             most = run;
@@ -40,7 +44,7 @@ fn longest_run(values: &[u32], default: u32) -> u32
     best
 }
 
-/// Writes the labels at the other ends of the arcs behind what is met so far.
+/// Writes the labels at the other ends of the arcs after what is met so far.
 pub fn meet(arcs: &[Arc], labels: &[u32], met: &mut [u32], count: usize)
     requires within { AreWithin (length labels.now) arcs.now }
     requires room { count + length arcs.now ≤ length met.old }

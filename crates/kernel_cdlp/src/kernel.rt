@@ -1,4 +1,7 @@
 //! The table of the labels.
+//!
+//! 1. Inside, a label is a place, in 32 bits; the table has the vertex of that place. Places rise with their vertices,
+//!    so the least place is the least vertex.
 
 ghost use Rattle.std.specs.Prelude.{length, IfOk};
 ghost use Rattle.graph_model.specs.Graph.{Graph, IsSymmetric};
@@ -14,7 +17,7 @@ use std::thread::Threads;
 
 /// The label of each vertex after so many rounds, in rising order of vertex (LDBC Graphalytics, CDLP). A
 /// neighbour that is joined both ways counts twice; where each is, as in an undirected graph, it
-/// doesn't matter. No clause speaks of want of memory.
+/// doesn't matter. No clause speaks of running out of memory.
 pub fn run<R: Threads + Sync>(
     rt: &R,
     alloc: Global,

@@ -4,7 +4,7 @@
 //!    least place.
 //! 2. A round reads the labels of the round before alone, so its parts may run side by side.
 //! 3. A place whose met labels didn't change in the round before keeps its label.
-//! 4. The parts of the places lie behind each other and hold the same places in each round, with room for
+//! 4. The parts of the places follow each other and hold the same places in each round, with room for
 //!    the labels that one place meets: a round takes no memory.
 #![tactic(auto)]
 

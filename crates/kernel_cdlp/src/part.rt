@@ -1,4 +1,8 @@
 //! Parts of the places.
+//!
+//! 1. Parts have about as many arcs each, and not as many places: a few places have most of the arcs.
+//! 2. A part has room for the labels that its places meet, taken once, so a round takes no memory.
+//! 3. A place none of whose neighbours has changed keeps its label, without a look at it.
 
 ghost use Rattle.std.specs.Prelude.{◌≡◌, ◌+◌, ◌<◌, ◌≤◌, length, IfOk, IsTrue};
 ghost use Rattle.graph_image.specs.Images.{arcs_at, AreWithin};
@@ -12,7 +16,7 @@ use std::alloc::Global;
 /// A part has about so many arcs: enough to be worth a thread, and few enough to share out evenly.
 const PART_ARCS: usize = 65536;
 
-/// Places behind each other, with what a round needs for them.
+/// Places one after the other, with what a round needs for them.
 #[derive(Drop)]
 pub struct Part {
     /// The first of the places.
@@ -65,6 +69,7 @@ fn part_from(alloc: Global, image: &Image, first: usize) -> Result<Part, NoMemor
     let mut count = 0usize;
     let mut arcs = 0usize;
     let mut room = 0usize;
+    // By arcs, with one for each place, so that places without arcs fill a part too.
     'places: while first + count < places && arcs < PART_ARCS {
         let here = image.out(first + count).len() + image.into(first + count).len();
         arcs = arcs.saturating_add(here + 1);
@@ -113,6 +118,7 @@ fn next_label(image: &Image, labels: &[u32], changed: &[bool], place: usize, met
     }
     let out = image.out(place);
     meet(out, labels, met, 0);
+    // As in an undirected graph: each label would be met twice, which changes none.
     if image.into_is_out() {
         return most_frequent(&mut met[..out.len()], labels[place]);
     }

@@ -1,4 +1,9 @@
 //! Rounds over all places.
+//!
+//! 1. All places take their labels from those before the round, so parts may go side by side in any order, and each
+//!    reads one list and writes another.
+//! 2. Which labels have changed is marked after each round, so that the next one passes over places where nothing can
+//!    change.
 
 ghost use Rattle.std.specs.Prelude.{◌≡◌, ◌<◌, ◌^◌, length, IfOk, OnOk};
 ghost use Rattle.std.specs.List.{range_with_len};
@@ -30,6 +35,8 @@ pub fn labels_after<R: Threads + Sync>(
     let mut changed = vec![in alloc; true; count]?;
     let mut parts = parts_of(alloc, image)?;
     'rounds: for _round in 0..rounds {
+        // The labels before the round are copied once, and all parts read the copy: so a round sees none of its own
+        // labels.
         before.clear();
         before.extend_from_slice(labels.as_slice())?;
         round(rt, image, &mut parts, &mut labels, changed.as_slice())?;
@@ -61,7 +68,7 @@ fn mark(before: &[u32], after: &[u32], changed: &mut Vec<bool>)
     }
 }
 
-/// A round: the parts side by side, and then their labels behind each other.
+/// A round: the parts side by side, and then their labels one after the other.
 fn round<R: Threads + Sync>(
     rt: &R,
     image: &Image,
