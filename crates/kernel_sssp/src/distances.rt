@@ -1,4 +1,8 @@
 //! Least weights as the table has them.
+//!
+//! 1. Places are numbered in rising order of vertices, so the lines of a table are written from the first place to the
+//!    last.
+//! 2. A place that no walk reaches has the value infinity.
 
 ghost use Rattle.std.specs.Prelude.{◌≡◌, length, map, IfOk};
 ghost use Rattle.graph_image.specs.Entries.{AreEntries};

@@ -1,4 +1,6 @@
 //! The table of the least weights.
+//!
+//! 1. Weights are summed in 64 bits: a way has fewer arcs than there are ids, and no weight is above 32 bits.
 
 ghost use Rattle.std.specs.Prelude.{◌≡◌, ◌<◌, false, length, Err, IfOk, IsTrue};
 ghost use Rattle.graph_model.specs.Graph.{Graph, has_vertex};
@@ -14,7 +16,7 @@ use std::alloc::Global;
 use std::thread::Threads;
 
 /// The least weight of a walk from the root to each vertex, in rising order of vertex, or infinity where
-/// no walk leads (LDBC Graphalytics, SSSP). No clause speaks of want of memory.
+/// no walk leads (LDBC Graphalytics, SSSP). No clause speaks of running out of memory.
 pub fn run<R: Threads + Sync>(
     _rt: &R,
     alloc: Global,
@@ -68,5 +70,6 @@ fn step_of(image: &Image) -> u64 {
             count = count.saturating_add(1);
         }
     }
+    // At least 1, so that the limit rises with each step.
     total / count.max(1) / 2 + 1
 }

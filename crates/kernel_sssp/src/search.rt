@@ -1,4 +1,8 @@
 //! The search, by a queue of places whose arcs are to be followed.
+//!
+//! 1. Places near the root come before far ones, so most arcs are followed once. Which one comes first matters for time
+//!    alone: what is proved is that nothing waits at the end.
+//! 2. A place that waits stands in the queue once, however often its weight falls meanwhile.
 
 ghost use Rattle.std.specs.Prelude.{◌≡◌, ◌<◌, ◌≤◌, ◌^◌, length, slice_index, IfSome, IfNone, IfOk, OnOk};
 
@@ -76,6 +80,7 @@ impl Search {
         'places: for k in 0..self.far.len() {
             least = least.min(self.distances[self.far[k] as usize]);
         }
+        // Above the least weight of those that wait, so at least one place comes near.
         self.limit = least.saturating_add(self.step);
         let mut k = 0;
         'far: while k < self.far.len() {
@@ -123,6 +128,7 @@ impl Search {
         'arcs: for i in 0..arcs.len() {
             let Arc { other, weight } = arcs[i];
             let distance = from + weight as u64;
+            // Only a lesser weight lets a place wait anew; so the search ends, since weights can't fall for ever.
             if distance < self.distances[other as usize] {
                 self.lower(other, distance)?;
             }
@@ -137,6 +143,7 @@ impl Search {
         ensures { OnOk result (IsLowered place distance self.old self.new) }
     {
         self.distances[place as usize] = distance;
+        // It stands in the queue once: its weight is looked up when its turn comes.
         if !self.waiting[place as usize] {
             self.waiting[place as usize] = true;
             if distance < self.limit {
