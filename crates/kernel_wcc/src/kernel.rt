@@ -1,4 +1,7 @@
 //! The table of components.
+//!
+//! 1. A label is the least place of its component, and places rise with their vertices: so the vertex of a label is the
+//!    least vertex of the component.
 
 ghost use Rattle.std.specs.Prelude.{◌≡◌, length, map, IfOk};
 ghost use Rattle.graph_model.specs.Graph.{Graph};
@@ -14,7 +17,7 @@ use std::thread::Threads;
 
 /// Weakly connected components: each vertex in rising order, with the least id of a vertex of its
 /// component, where the direction of arcs doesn't count (LDBC Graphalytics, WCC). It runs on one thread.
-/// No clause speaks of want of memory.
+/// No clause speaks of running out of memory.
 pub fn run<R: Threads + Sync>(_rt: &R, alloc: Global, image: &Image) -> Result<Table, NoMemory>
     ensures { IfOk result (λ table. (g : Graph) → IsImageOf image.now g → IsWcc g table) }
 {

@@ -1,4 +1,8 @@
 //! Labels that sink until each names the least place of its component.
+//!
+//! 1. Each place begins with the label of its lowest neighbour, by which most of the largest component is joined at
+//!    once.
+//! 2. Places that have that component's label already are passed over from then on, so few arcs are looked at.
 
 ghost use Rattle.std.specs.Prelude.{◌≡◌, ℕ, ◌+◌, ◌<◌, ◌^◌, length, IfOk};
 ghost use Rattle.graph_model.specs.Graph.{Graph};
@@ -18,6 +22,8 @@ pub fn components(alloc: Global, image: &Image) -> Result<Vec<u32>, NoMemory>
     let mut labels = first_labels(alloc, image)?;
     join_roots(image, &mut labels);
     settle(&mut labels);
+    // The place with the most arcs is likely in the largest component, so most places have its label now and are passed
+    // over from here on.
     let large = label_of(&labels, heaviest(image));
     'places: for place in 0..image.len() {
         merge(image, place, large, &mut labels);
@@ -134,6 +140,7 @@ fn join(a: u32, b: u32, labels: &mut Vec<u32>)
         if of_left == of_right {
             return;
         }
+        // The lesser one stays, so labels only sink, and lead to the least place at the end.
         if of_left < of_right {
             labels[right as usize] = of_left;
             if right == of_right {
