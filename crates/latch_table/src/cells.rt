@@ -26,25 +26,31 @@ const LAST_WORD: u64 = u64::MAX - 1;
 /// The cells of a table.
 #[derive(Drop)]
 pub struct Cells<'a, V: Slot<K>, K> {
+    /// The table whose cells they are.
     pub table: &'a Shared<V, LatchSight<K>, K, LatchRule<V>>,
     pub ghost square: { table.now.table_id.words ≡ table.now.table_id.slots },
 }
 
 /// A cell that is held, with what lay in its slot. It must be put back.
 pub struct Held<V> {
+    /// The number of the cell.
     pub cell: u32,
     /// The even word that was found.
     pub found: u64,
     /// Whether the value may be another one. The holder sets it before it changes the value.
     pub changed: bool,
+    /// What lay in the slot.
     pub value: V,
     pub ghost even: { IsEven found × (found < last_word) },
 }
 
 /// A cell that is held, and whose value lies in its slot again. It must be released.
 pub struct Laid {
+    /// The number of the cell.
     pub cell: u32,
+    /// The even version word under which it was taken.
     pub found: u64,
+    /// Whether it gets another version: then whoever read it meanwhile reads it again.
     pub changed: bool,
     pub ghost even: { IsEven found × (found < last_word) },
 }
@@ -88,6 +94,7 @@ impl<'a, K, V: Slot<K>> Cells<'a, V, K> {
         if seen != found {
             return Err(Busy { found: seen });
         }
+        // The place is this pass's alone now, so the slot is exchanged with no look at what others do.
         let value = self.table.exchange(pass, place, V::new_vacant());
         Ok(Held {
             cell,
@@ -142,6 +149,7 @@ impl<'a, K, V: Slot<K>> Cells<'a, V, K> {
             value,
         } = held;
         let vacant = self.table.exchange(pass, cell as usize, value);
+        // Nothing lay there while the value was out.
         vacant.forget_vacant();
         pass.turn();
         Laid {

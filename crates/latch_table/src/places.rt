@@ -13,7 +13,9 @@ pub const LINE: u32 = 8;
 /// A layout of so many common cells, and of so many that many passes want.
 #[derive(Clone, Copy, Debug, Drop)]
 pub struct Places {
+    /// How many cells lie side by side.
     pub common: u32,
+    /// How many have a line of the cache each.
     pub wanted: u32,
     pub ghost small: { common + 8 * wanted < 2 ^ 31 },
 }

@@ -1,4 +1,6 @@
 //! The rule of the latch table, and the kinds of step on a version word.
+//!
+//! 1. There are three kinds of step: a look, a compare-exchange, and a store by the holder.
 
 ghost use Rattle.std.specs.Prelude.{◌≡◌};
 ghost use Rattle.atomic_table.specs.Table.{rest};

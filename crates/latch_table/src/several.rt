@@ -2,7 +2,7 @@
 //!
 //! 1. All values are put back before the first cell is released. So whoever takes one of the cells finds the values of
 //!    all as the pass left them.
-//! 2. What is put back goes behind what is still out. So once all are put back their slots stand in the old order, the
+//! 2. What is put back goes after what is still out. So once all are put back their slots stand in the old order, the
 //!    cell that was taken last first, and they are released in that order.
 
 ghost use Rattle.std.specs.Prelude.{◌≡◌, ◌≤◌, [], ◌++◌, length, map};
@@ -55,6 +55,7 @@ impl<'a, K, V: Slot<K>> Cells<'a, V, K> {
         ensures capacity { (vec_capacity held.old ≤ vec_capacity held.new)
             × (vec_capacity laid.old ≤ vec_capacity laid.new) }
     {
+        // All values first, and releases after them: a cell is free only once all have their values.
         'back: while let Some(one) = held.pop() {
             let done = self.put_back(pass, one);
             match laid.push(done) {

@@ -1,10 +1,14 @@
 //! What a seat of the latch table knows.
+//!
+//! 1. A seat knows which cells its pass holds, and what it has found of others' words, which may be past.
 
 use std::collections::LinkedList;
 
 /// The version word of a cell, as a step found or stored it.
 pub struct CellWord {
+    /// The number of the cell.
     pub cell: u32,
+    /// Odd while somebody holds it.
     pub word: u64,
 }
 

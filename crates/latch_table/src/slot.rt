@@ -1,4 +1,6 @@
 //! What may lie in the slots of a latch table.
+//!
+//! 1. A type brings a value of its own for 'nothing': an `Option` would take a word more in each slot.
 
 ghost use Rattle.std.specs.Prelude.{◌≡◌};
 

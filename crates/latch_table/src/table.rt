@@ -19,6 +19,7 @@ use std::alloc::{AllocError, Global};
 /// A latch table with its memory.
 #[derive(Drop)]
 pub struct LatchTable<V: Slot<K>, K> {
+    /// A word for the version of each cell, and a slot for its value.
     pub table: Table<V, LatchSight<K>, K, LatchRule<V>, Global>,
     pub ghost square: { table.shared.table_id.words ≡ table.shared.table_id.slots },
 }
