@@ -1,4 +1,6 @@
 //! Rows and records of segments, counted, and room for records.
+//!
+//! 1. Records may be more than a number says; then no room is made, as if memory ran out.
 
 ghost use Rattle.std.specs.Prelude.{◌≡◌, ◌*◌, ◌<◌, ◌≤◌, ◌^◌, length, IfSome, IsSome, OnOk, IsOk};
 ghost use Rattle.graph_model.specs.declared.limits.TheConstants.{SEGMENT_ROWS};

@@ -1,4 +1,8 @@
 //! Leaves.
+//!
+//! 1. The segments of a leaf follow each other without a gap: where one ends the next begins, and the last one ends
+//!    where the leaf does. So a key of the leaf lies in one segment.
+//! 2. A segment without rows may have no keys either, where it begins at its end.
 
 ghost use Rattle.std.specs.Prelude.{◌≡◌, ◌<◌, ◌++◌, ◌-◌, ◌^◌, true, false, length, min, IfOk};
 ghost use Rattle.graph_model.specs.Rows.{is_below, is_between};
@@ -14,6 +18,7 @@ use version_segment::VersionSegment;
 /// Eight segments, each of which ends where the next one begins.
 #[derive(Drop)]
 pub struct Leaf {
+    /// In the order of their keys.
     pub segments: [VersionSegment; LEAF_SEGMENTS],
 }
 
@@ -131,7 +136,7 @@ fn four_segments(alloc: Global, low: Key, high: Key) -> Result<[VersionSegment; 
     Ok([first, second, third, fourth])
 }
 
-/// Four segments, and four behind them.
+/// Four segments, and four after them.
 fn joined(front: [VersionSegment; 4], back: [VersionSegment; 4]) -> [VersionSegment; LEAF_SEGMENTS]
     ensures { result ≡ front ++ back }
 {

@@ -10,7 +10,7 @@ use graph_model::NoMemory;
 use std::alloc::Global;
 use version_segment::VersionSegment;
 
-/// Leaves each segment the memory that its records take, and no more. Where memory is wanted for that, a segment keeps
+/// Leaves each segment the memory that its records take, and no more. Where memory runs out for that, a segment keeps
 /// what it has.
 pub(crate) fn give_back(segments: &mut [VersionSegment], alloc: Global)
     ensures { AreSame segments.old segments.new }
@@ -33,6 +33,7 @@ fn tighten(segment: &mut VersionSegment, alloc: Global) -> Result<(), NoMemory>
     }
     let low = segment.low();
     let rows = segment.len();
+    // A copy to memory of the right size: the old one is let go with the segment that is replaced.
     let mut tight = VersionSegment::new(alloc, low, low)?;
     tight.reserve_records(records)?;
     tight.move_left(segment, rows);

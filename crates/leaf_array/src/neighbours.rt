@@ -1,4 +1,4 @@
-//! Moves along segments behind one another.
+//! Moves along segments one after the other.
 //!
 //! 1. Rows go from one segment to a neighbour, so they stay in order.
 //! 2. No call takes memory: each segment has room for the records that come.
@@ -11,7 +11,7 @@ ghost use Rattle.leaf_array.specs.Segments.{rows_of, records_of, AreChained, Kee
 use graph_model::SEGMENT_ROWS;
 use version_segment::VersionSegment;
 
-/// Moves the first rows of the segments behind one to its end.
+/// Moves the first rows of the segments after one to its end.
 fn fill(segment: &mut VersionSegment, rest: &mut [VersionSegment], rows: usize)
     requires chained { AreChained (segment.old ∷ rest.old) }
     requires rows { rows ≤ length (rows_of rest.old) }
@@ -27,11 +27,12 @@ fn fill(segment: &mut VersionSegment, rest: &mut [VersionSegment], rows: usize)
     let Some((next, rest)) = rest.split_first_mut() else {
         unreachable!()
     };
+    // From the far end on: a segment has its rows before it gives them on.
     fill(next, rest, rows.saturating_sub(next.len()));
     segment.move_left(next, rows);
 }
 
-/// Moves the last rows of a segment to the front of those behind it.
+/// Moves the last rows of a segment to the front of those after it.
 fn spill(segment: &mut VersionSegment, rest: &mut [VersionSegment], rows: usize)
     requires chained { AreChained (segment.old ∷ rest.old) }
     requires rows { rows ≤ length segment.old.rows }
@@ -49,11 +50,12 @@ fn spill(segment: &mut VersionSegment, rest: &mut [VersionSegment], rows: usize)
     let Some((next, rest)) = rest.split_first_mut() else {
         unreachable!()
     };
+    // Room first, at the far end.
     spill(next, rest, rows.saturating_sub(next.room()));
     segment.move_right(next, rows);
 }
 
-/// Brings a segment to so many rows, by moves between it and those behind it.
+/// Brings a segment to so many rows, by moves between it and those after it.
 fn level(segment: &mut VersionSegment, rest: &mut [VersionSegment], count: usize)
     requires chained { AreChained (segment.old ∷ rest.old) }
     requires few { count ≤ SEGMENT_ROWS }
@@ -72,7 +74,7 @@ fn level(segment: &mut VersionSegment, rest: &mut [VersionSegment], count: usize
     }
 }
 
-/// Lets the first of the segments behind one begin with its first row.
+/// Lets the first of the segments after one begin with its first row.
 fn cut(segment: &mut VersionSegment, rest: &mut [VersionSegment])
     requires chained { AreChained (segment.old ∷ rest.old) }
     requires few { length segment.old.rows ≤ SEGMENT_ROWS }

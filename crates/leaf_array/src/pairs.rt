@@ -31,11 +31,14 @@ pub fn split_leaf(left: &mut Leaf, right: &mut Leaf, alloc: Global) -> Result<Ke
     ensures right { OnErr result (AreSame right.old.segments right.new.segments) }
     ensures settled { records_of left.old.segments ≡ 0 → IsOk result }
 {
+    // All memory that rows with records may need on their way comes first, so that a split is whole or not begun.
     reserve_both(&mut left.segments, &mut right.segments)?;
     let rows = rows_in(&left.segments);
     let given = rows / 2;
+    // Four segments for each half, which then change places as they are.
     divide(&mut left.segments, &halves(rows - given, given));
     let key = give_half(&mut left.segments, &mut right.segments);
+    // Each half over eight segments, so that both leaves have room everywhere.
     divide_evenly(&mut left.segments, alloc);
     divide_evenly(&mut right.segments, alloc);
     Ok(key)

@@ -1,4 +1,6 @@
 //! Single rows of a leaf.
+//!
+//! 1. The key at which a right half will begin is told before a row moves, so the index can have its entry first.
 
 ghost use Rattle.std.specs.Prelude.{◌≡◌, ◌<◌, ◌≤◌, length, slice_get, IsSomeAnd};
 ghost use Rattle.leaf_array.specs.Leaves.{IsLeaf, IsSplitKey};

@@ -1,4 +1,6 @@
 //! The rows of a window, divided anew among its segments.
+//!
+//! 1. Memory for records comes first, and what is left over is given back last: so a spread is whole or not begun.
 
 ghost use Rattle.std.specs.Prelude.{◌≡◌, ◌+◌, ◌*◌, ◌≤◌, length, OnOk, OnErr, IsOk};
 ghost use Rattle.density_tree.specs.Division.{evenly};
