@@ -9,7 +9,9 @@ ghost use Rattle.leaf_index.specs.Idle.{AreApart, AreOnceBelow, PutsLast, leaves
 /// are none, `last` says nothing.
 #[derive(Clone, Copy)]
 pub struct Chain {
+    /// The leaf that stands last.
     pub last: u32,
+    /// How many leaves there are.
     pub count: u32,
 }
 
@@ -64,6 +66,7 @@ impl Chain {
         let mut turned = Chain::empty();
         'leaves: for _leaf in 0..self.count {
             let leaf = from.last;
+            // A list can be walked from its last leaf alone, so it is turned where the first one has to come first.
             from = from.without_last(links);
             turned = turned.with_last(links, leaf);
         }

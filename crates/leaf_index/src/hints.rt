@@ -2,7 +2,7 @@
 //!
 //! 1. No contract says that a hint is right, or even that there is such a leaf. Whoever takes one looks whether that
 //!    leaf's slot holds the key, which only the slot of the key's own leaf does.
-//! 2. The first hints are in the order of their keys, and are searched. Those that came since stand behind them, and
+//! 2. The first hints are in the order of their keys, and are searched. Those that came since stand after them, and
 //!    are found when all are put in order anew: when a sixteenth of them came or went, or there is no place for one
 //!    more.
 //! 3. Sources are divided into groups of the same width, and where the hints of a group begin is kept. So few hints
@@ -56,15 +56,18 @@ impl Hint {
     }
 }
 
-/// Hints one behind the other, the last of which that is not above a key is looked for.
+/// Hints one after the other, the last of which that is not above a key is looked for.
 #[derive(Clone, Copy)]
 pub struct Run {
+    /// The place of the first one.
     pub first: usize,
+    /// How many there are, at least one.
     pub count: usize,
 }
 
 impl Run {
-    /// The half in which the wanted hint is. There is no branch on it, since every other one would be foretold wrongly.
+    /// The half in which the hint that is looked for is. There is no branch on it, since every other one would be
+    /// foretold wrongly.
     fn half(self, hints: &[Hint], wanted: u64) -> Run
         requires { IsRun (length hints.now) self }
         ensures run { IsRun (length hints.now) result }
@@ -79,13 +82,20 @@ impl Run {
     }
 }
 
-/// The leaves by their least keys, as they stood a while ago. Contracts see nothing of it.
+/// The leaves by their least keys, as they stood a while ago. Kept: for each leaf its number and its least key, and
+/// what was read ahead. It may be wrong, since leaves come and go. That is harmless: whoever is given a leaf looks at
+/// its slot, which holds the key only where the leaf is the key's, and asks the trie where it isn't. It costs 13.5
+/// bytes a leaf with the groups, and a sort when a sixteenth of the leaves came or went. It spares nearly each search
+/// of the trie, which takes some 120 ns in a store of 131,072 leaves.
 #[derive(Drop)]
 pub struct Hints {
+    /// The first of them in the order of their keys, and those that came since after them.
     hints: Vec<Hint>,
+    /// How many are in order.
     sorted: usize,
+    /// How many leaves came or went since they were put in order.
     changes: usize,
-    /// How many hints are of sources before each group, and behind it the number of all.
+    /// How many hints are of sources before each group, and after it the number of all.
     starts: Vec<u32>,
     /// How many sources a group has.
     width: u32,
@@ -108,6 +118,7 @@ impl Hints {
     /// in order, and of the groups.
     pub fn new(alloc: Global, leaves: u32) -> Result<Hints, NoMemory> {
         let leaves = leaves as usize;
+        // All memory at once: a hint that finds no room is left out, which costs a search of the trie.
         let mut hints = Vec::with_capacity(alloc, leaves + leaves / HINTS_A_CHANGE + 2)?;
         hints.push(Hint::new(Key { src: 0, second: 0 }, 0))?;
         let starts = vec![in alloc; 1; GROUPS + 1]?;
@@ -151,6 +162,7 @@ impl Hints {
             .count
             .max(second.count)
             .max(third.count.max(fourth.count));
+        // All four go the same number of steps, as many as the longest run needs, so that no branch depends on a key.
         'halves: while longest > 1 {
             first = first.half(hints, wanted[0].number());
             second = second.half(hints, wanted[1].number());
@@ -204,6 +216,7 @@ fn run_of(hints: &[Hint], starts: &Vec<u32>, width: u32, src: u32) -> Run
     ensures { IsRun (length hints.now) result }
 {
     let group = ((src / width) as usize).min(GROUPS - 1);
+    // The leaf that has the key may begin in an earlier group, as the last leaf there.
     let before = start_of(starts, group).saturating_sub(1);
     let end = start_of(starts, group + 1).min(hints.len()).max(1);
     let first = before.min(end - 1);
@@ -233,6 +246,7 @@ fn leaf_of(hints: &[Hint], place: usize) -> u32 {
 fn divide(hints: &[Hint], starts: &mut Vec<u32>) -> u32
     ensures { 1 ≤ result }
 {
+    // So many sources to a group that the last hint falls into the last group or one before it.
     let width = match hints.last() {
         Some(last) => (last.src / GROUPS as u32).saturating_add(1),
         None => 1,

@@ -17,9 +17,13 @@ use std::marker::Model;
 /// The lists of leaves that are free and that are retired.
 #[derive(Drop)]
 pub struct IdleLeaves {
+    /// By the number of a leaf, the one before it in its list.
     links: Vec<u32>,
+    /// By the number of a leaf, the stamp under which it was retired.
     stamps: Vec<u64>,
+    /// Those that may be taken.
     free: Chain,
+    /// Those that some readers may still reach.
     retired: Chain,
 }
 
@@ -43,6 +47,7 @@ impl IdleLeaves {
     {
         let mut links = vec![in alloc; 0; leaves as usize]?;
         let stamps = vec![in alloc; 0; leaves as usize]?;
+        // The last one stands in front, so leaves are taken from the end of the table on.
         let mut free = Chain::empty();
         'fill: for leaf in 1..leaves {
             free = free.with_last(&mut links, leaf);

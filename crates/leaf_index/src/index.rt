@@ -25,9 +25,13 @@ use std::marker::Model;
 /// The leaves of a store. Those that are live have ranges of keys that follow each other.
 #[derive(Drop)]
 pub struct LeafIndex {
+    /// All live leaves.
     trie: LeafTrie,
+    /// By the number of a leaf.
     slots: Vec<Slot>,
+    /// All leaves that aren't live.
     idle: IdleLeaves,
+    /// A guess at the leaf of a key.
     hints: Hints,
 }
 
@@ -57,6 +61,7 @@ fn new_slots(alloc: Global, leaves: u32) -> Result<Vec<Slot>, NoMemory>
 {
     let low = Key { src: 0, second: 0 };
     let end = Key::END;
+    // A leaf that isn't live has no keys, so a hint that names it is found to be wrong by its slot.
     let empty = Slot {
         cuts: [end, end, end, end, end, end, end, end],
         high: end,
@@ -80,6 +85,7 @@ fn floor_of(trie: &LeafTrie, slots: &Vec<Slot>, key: Key) -> u32
 {
     let found = trie.search(key);
     match found.at {
+        // Of the two candidates the trie can't tell which; the least key of the first one does.
         Some(leaf) if !key.is_below(slots[leaf as usize].cuts[0]) => leaf,
         _ => match found.before {
             Some(leaf) => leaf,
@@ -220,6 +226,7 @@ impl LeafIndex {
         self.trie.remove(low);
         let Slot { cuts, high } = self.slots[dropped as usize];
         self.slots[before as usize].high = high;
+        // Its range is empty from here on, so that hints which still name it are found to be wrong.
         self.slots[dropped as usize] = Slot { cuts, high: low };
         self.hints.note_change(&self.slots);
     }
@@ -284,7 +291,8 @@ impl LeafIndex {
         self.idle.retired_count()
     }
 
-    /// Frees those among the first retired leaves whose stamps are below the given one, and answers how many.
+    /// Frees those among the first retired leaves, so many, whose stamps are below the given one, and answers how many.
+    /// Whoever frees all of them gives a number that is as great as that of the leaves.
     pub fn free_retired(&mut self, until: u64, upto: usize) -> u32
         ensures freed { self.new ≡ freed until upto self.old }
         ensures count { result ≡ length (freed_of until (take upto self.old.retired)) }
@@ -333,6 +341,7 @@ impl LeafIndex {
     fn find_route(&self, key: Key, hint: u32) -> Route
         ensures { IsRoute key self.now.entries result }
     {
+        // The slot of the leaf has to be read for its cuts anyway, and says by the way whether the hint was right.
         let leaf = leaf_of(&self.trie, &self.slots, hint, key);
         let slot = &self.slots[leaf as usize];
         let segment = segment_of(&slot.cuts, key);

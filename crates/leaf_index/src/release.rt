@@ -11,8 +11,11 @@ use crate::chain::Chain;
 /// The free leaves and the retired ones afterwards, and how many were freed.
 #[derive(Clone, Copy)]
 pub struct Released {
+    /// Those that were freed stand last.
     pub free: Chain,
+    /// In the order that they had.
     pub retired: Chain,
+    /// How many were freed.
     pub count: u32,
 }
 
@@ -32,6 +35,7 @@ pub fn release(
     ensures count { result.count
         ≡ length (freed_of until (take upto (stamped stamps.now.items (leaves_of links.old.items retired)))) }
 {
+    // The first that were retired come first, so that the order of those that are kept stays.
     let mut waiting = retired.turned(links);
     let mut freed = free;
     let mut kept = Chain::empty();

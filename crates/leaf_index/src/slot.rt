@@ -1,4 +1,7 @@
 //! What stands by the number of a leaf.
+//!
+//! 1. It is all that a route needs once the leaf is known, in 144 bytes.
+//! 2. A range that holds no key says that the leaf isn't live: so whoever has an old number sees it here.
 
 ghost use Rattle.std.specs.Prelude.{◌≡◌, ◌+◌, ◌<◌, false, Some, slice_get, unwrap_or};
 ghost use Rattle.graph_model.specs.Rows.{is_below};
@@ -10,7 +13,9 @@ use graph_model::{Key, LEAF_SEGMENTS};
 /// The least keys of a leaf's segments, and the end of its range. That of a leaf that isn't live holds no key.
 #[derive(Clone, Copy, Debug, PartialEq, Eq)]
 pub struct Slot {
+    /// In rising order; a segment without keys begins where the next one does.
     pub cuts: [Key; 8],
+    /// The first key beyond the leaf.
     pub high: Key,
 }
 
