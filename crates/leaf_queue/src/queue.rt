@@ -15,10 +15,12 @@ use std::alloc::Global;
 use std::marker::Model;
 
 /// By the numbers of leaves, which of them wait. The root is node 1, and the children of a node stand at twice its
-/// place and behind that.
+/// place and after that.
 #[derive(Drop)]
 pub struct LeafQueue {
+    /// In each node the first that waits below it.
     nodes: Vec<Option<Waiting>>,
+    /// How many leaves there are, each with one place.
     leaves: usize,
 }
 
@@ -58,7 +60,7 @@ impl LeafQueue {
         set_place(&mut self.nodes, self.leaves, waiting.leaf, Some(waiting));
     }
 
-    /// A leaf was looked at, and nothing is to be done. It waits for the next stage, or behind the last one not any
+    /// A leaf was looked at, and nothing is to be done. It waits for the next stage, or after the last one not any
     /// more.
     pub fn pass(&mut self, waiting: Waiting)
         requires { Waits self.old waiting }

@@ -1,4 +1,6 @@
 //! A leaf that waits, and which of two comes first.
+//!
+//! 1. Which comes first is an order by stage, then by key: the definition asks for the first window of all leaves.
 
 ghost use Rattle.std.specs.Prelude.{◌≡◌, true, IfSome};
 ghost use Rattle.leaf_queue.specs.Queue.{comes_before, first_of, next_of};
@@ -17,8 +19,11 @@ pub enum Stage {
 /// A leaf that waits: for what, and by its least key and its number.
 #[derive(Clone, Copy, Debug, PartialEq, Eq)]
 pub struct Waiting {
+    /// What it waits for: all windows come before all neighbours.
     pub stage: Stage,
+    /// Its least key when it was put into the queue, by which those of one stage are in order.
     pub low: Key,
+    /// Its number.
     pub leaf: usize,
 }
 
