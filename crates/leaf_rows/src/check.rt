@@ -1,4 +1,8 @@
 //! Whether a write may be made.
+//!
+//! 1. It changes nothing, and takes no memory: a write that is refused leaves no trace.
+//! 2. Where edges have to be looked for, which may go through all rows, that is done only where the write removes a
+//!    vertex that the view has.
 
 ghost use Rattle.std.specs.Prelude.{◌≡◌, ◌≤◌, length, IsSome};
 ghost use Rattle.graph_model.specs.declared.limits.TheConstants.{MAX_ID};

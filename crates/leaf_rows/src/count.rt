@@ -1,4 +1,6 @@
 //! How many vertices and arcs a reader sees, and what rows hold beside their values.
+//!
+//! 1. A walk over all cells in the order of their keys, which takes no memory.
 
 ghost use Rattle.std.specs.Prelude.{◌≡◌, ◌-◌, ◌^◌, ◌≤◌, length, min, count_by};
 ghost use Rattle.std.specs.FinMap as fin_map;
@@ -27,6 +29,7 @@ impl LeafRows {
         let mut buffer = Rows32::new();
         let mut next = Key::of_vertex(0);
         'cells: while next.is_below(Key::end()) {
+            // Cell by cell: settled rows are lent as they stand, and no row is copied to be counted.
             let run = self.run_for(reader, next, Key::end(), &mut buffer);
             let vertices = vertices_in(run.rows);
             counts.vertices += vertices;

@@ -1,4 +1,8 @@
 //! Whether a vertex has edges.
+//!
+//! 1. Arcs that lead from the vertex follow its own row, so they are one range. Undirected, each edge has such an arc.
+//! 2. Directed, an arc that leads to it may have any source, so all rows are looked through: no list of them is kept,
+//!    which each edge would have to pay for.
 
 ghost use Rattle.std.specs.Prelude.{◌≡◌, ◌≤◌, false, length};
 ghost use Rattle.std.specs.List.{list_any};
@@ -24,10 +28,12 @@ impl LeafRows {
     {
         self.store.is_sound();
         let first = Key { src: v, second: 1 };
+        // The arcs that lead from the vertex follow its row. In an undirected graph each edge has one of them.
         if self.sees_any(reader, first, Key::of_vertex(v + 1), None) {
             return true;
         }
         match kind {
+            // An arc that leads to the vertex may have any source, so all rows are looked through.
             Kind::Directed => self.sees_any(reader, Key::of_vertex(0), Key::end(), Some(v + 1)),
             Kind::Undirected => false,
         }

@@ -1,4 +1,7 @@
 //! Writes into the rows of a store, and back.
+//!
+//! 1. Room for rows and for records was made before, so a write that has begun is made whole.
+//! 2. Writes are taken back with the newest first: each record has what stood there before its own write.
 
 ghost use Rattle.std.specs.Prelude.{◌≡◌, ◌+◌, ◌≤◌, not, count_by, OnOk, OnErr};
 ghost use Rattle.std.specs.List.{AllByRecursion};

@@ -34,6 +34,7 @@ impl LeafRows {
     {
         let keys = [
             rows.row,
+            // Four keys in any case, so that all of them are looked for side by side by one call without a branch.
             rows.back.unwrap_or(rows.row),
             ends.source,
             ends.target,

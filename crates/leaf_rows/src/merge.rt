@@ -1,4 +1,4 @@
-//! Rows of leaves with few rows are brought together, and retired leaves are freed where leaves are wanted.
+//! Rows of leaves with few rows are brought together, and retired leaves are freed where leaves are needed.
 //!
 //! Each key keeps what it has, whatever a call answers.
 
@@ -34,7 +34,7 @@ impl LeafRows {
         did
     }
 
-    /// Makes such steps until nothing is left to do, or memory is wanted.
+    /// Makes such steps until nothing is left to do, or memory runs out.
     pub fn merge_all(&mut self, stamp: u64)
         requires { stamp < STAMPS_END }
         ensures contents { KeepsContents self.old self.new }
@@ -45,6 +45,8 @@ impl LeafRows {
             match self.merge_step(stamp) {
                 Ok(true) => {}
                 Ok(false) => return,
+                // Where memory is refused a store with more leaves than it needs is as right; only its size is a matter
+                // of this.
                 Err(_) => return,
             }
         }
@@ -74,6 +76,7 @@ impl LeafRows {
             Ok(()) => Ok(()),
             Err(RoomRefusal::NoMemory) => Err(RoomRefusal::NoMemory),
             Err(RoomRefusal::Full { leaves }) => {
+                // Only now, since to look for leaves that may be freed is a walk over all that are retired.
                 if self.free_retired(until) == 0 {
                     return Err(RoomRefusal::Full { leaves });
                 }

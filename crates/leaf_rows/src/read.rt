@@ -1,4 +1,6 @@
 //! What a transaction reads of one row.
+//!
+//! 1. A read changes nothing, so it may stop anywhere; it takes no memory.
 
 ghost use Rattle.std.specs.Prelude.{◌≡◌, ◌≤◌, true, length};
 ghost use Rattle.graph_model.specs.Rows.{is_below, end_key};

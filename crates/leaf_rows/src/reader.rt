@@ -1,4 +1,6 @@
 //! Who reads, and who stands against its writes.
+//!
+//! 1. What it sees is told by its start and its own name; of all others the manager is asked.
 
 ghost use Rattle.std.specs.Prelude.{◌≡◌};
 
@@ -9,8 +11,11 @@ use undo_chain::{Snapshot, States};
 /// An open transaction, with the manager that knows the others.
 #[derive(Clone, Copy)]
 pub struct Reader<'a> {
+    /// Who knows where other transactions stand.
     pub manager: &'a TxnManager,
+    /// How many commits it sees.
     pub start: u64,
+    /// Its own name.
     pub by: TxnName,
 }
 

@@ -2,7 +2,7 @@
 //!
 //! 1. The row with the lesser key is looked at first.
 //! 2. Where both rows of an edge are missing and share a cell, it gets room for two.
-//! 3. Rows may move when room is made for one of them, so the other is looked at anew behind that.
+//! 3. Rows may move when room is made for one of them, so the other is looked at anew after that.
 
 ghost use Rattle.std.specs.Prelude.{◌≡◌, ◌-◌, ◌<◌, ◌≤◌, ◌∷◌, [], true, false, cond, not, ◌&&◌, length};
 ghost use Rattle.std.specs.Prelude.{None, IfSome, OnOk, IfErr};
@@ -28,7 +28,9 @@ use txn_manager::RoomRefusal;
 /// A key, and where it was found.
 #[derive(Clone, Copy)]
 struct KeyAt {
+    /// Whose row it is.
     key: Key,
+    /// Where to look first.
     near: Finger,
 }
 
@@ -52,6 +54,8 @@ impl LeafRows {
                     key,
                     near: found.near.back,
                 };
+                // In the order of keys, so that which leaves are split doesn't depend on from which end an edge was
+                // written.
                 if back.key.is_below(row.key) {
                     self.make_both(back, row)
                 } else {
@@ -101,6 +105,7 @@ impl LeafRows {
         ensures full { IfErr result (λ refusal. IsNoPlace self.new (first.key ∷ second.key ∷ []) refusal) }
     {
         self.make_place(first, Some(second.key))?;
+        // Mostly both have room. Looked at with the first one's room made, which may have moved the second one's cell.
         if self.has_place(second, Some(first.key)) {
             self.store.is_sound();
             return Ok(());
@@ -155,6 +160,7 @@ fn need_at(cell: &VersionSegment, at: KeyAt, other: Option<Key>) -> Option<u8>
     ensures none { result ≡ None → segments.has_row cell.now at.key ≡ false
         → wanted_in cell.now (keys_with at.key other) ≤ SEGMENT_ROWS - length cell.now.rows }
 {
+    // A row that is there takes no place, whether it has a value or records alone.
     if cell.has_row_near(at.key, at.near.row) {
         return None;
     }

@@ -1,4 +1,7 @@
 //! Rows in leaves.
+//!
+//! 1. Contracts see each key with its versions, and not where they lie.
+//! 2. No record has a stamp here: the manager of one owner tells the stamp of any name.
 
 ghost use Rattle.std.specs.Prelude.{◌≡◌, ◌≤◌, ◌-◌, IfOk, length};
 ghost use Rattle.graph_model.specs.declared.limits.TheConstants.{MAX_LEAVES};
@@ -13,6 +16,7 @@ use std::marker::Model;
 /// The rows of a graph under transactions of one owner.
 #[derive(Drop)]
 pub struct LeafRows {
+    /// The leaves that they lie in.
     pub(crate) store: LeafStore,
 }
 
@@ -30,7 +34,9 @@ impl Model for LeafRows {
 /// How many vertices and arcs a graph has.
 #[derive(Clone, Copy, Debug, PartialEq, Eq)]
 pub struct Counts {
+    /// Rows of vertices that have a value.
     pub vertices: usize,
+    /// Rows of arcs that have one.
     pub arcs: usize,
 }
 

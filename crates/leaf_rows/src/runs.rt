@@ -21,7 +21,9 @@ use undo_chain::{Snapshot, States};
 /// Rows that are lent, and the key before which they end.
 #[derive(Clone, Copy)]
 pub(crate) struct Run<'a> {
+    /// In rising order of their keys.
     pub(crate) rows: &'a [Row],
+    /// Where the cell ends, or the range that was asked for.
     pub(crate) end: Key,
 }
 

@@ -27,6 +27,7 @@ impl LeafRows {
         rows.clear();
         let mut buffer = Rows32::new();
         'cells: while cursor.next.is_below(cursor.until) && cursor.next.is_below(Key::end()) {
+            // The cell of the next key is looked for anew: rows may have moved since the last step.
             let run = self.run_for(reader, cursor.next, cursor.until, &mut buffer);
             if has_portion(cursor, run.end, run.rows, rows) {
                 return;

@@ -72,6 +72,8 @@ impl LeafRows {
         let mut records: usize = 0;
         let mut next = range.low;
         'cells: while next.is_below(range.high) {
+            // It answers where the cell ends, by which the next one is found: no cell is named by a number that another
+            // one may have by then.
             let pruned = self.sweep(next, manager, horizon);
             records = records.saturating_add(pruned.records);
             next = pruned.high;
