@@ -1,7 +1,7 @@
 //! A store that begins with rows.
 //!
 //! 1. Rows are laid from left to right, as many in a segment as the density limits allow, and each is copied once.
-//! 2. A leaf ends where the first row behind it begins.
+//! 2. A leaf ends where the first row after it begins.
 
 ghost use Rattle.std.specs.Prelude.{◌≡◌, ◌*◌, ◌<◌, ◌≤◌, false, [], length, IfErr, IfOk, OnOk};
 ghost use Rattle.graph_model.specs.Rows.{is_below, first_key, end_key};

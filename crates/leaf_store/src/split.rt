@@ -1,6 +1,6 @@
 //! Leaves that are split.
 //!
-//! 1. The index has the new entry before rows move, so that want of memory leaves all as it was.
+//! 1. The index has the new entry before rows move, so that running out of memory leaves all as it was.
 //! 2. The key at which the right leaf begins is asked for before.
 
 ghost use Rattle.std.specs.Prelude.{◌≡◌, ◌≤◌, true, [], length, IfErr, IfOk, OnErr, OnOk};

@@ -1,4 +1,7 @@
 //! Leaves by their numbers, under an index.
+//!
+//! 1. Four cells are read ahead, so that they wait for memory side by side. Kept is the sum of what was read, in
+//!    `ahead` (`leaf_table::ahead` says why that is harmless).
 
 ghost use Rattle.std.specs.Prelude.{◌≡◌, ◌<◌, ◌≤◌, ◌*◌, ◌-◌, true, false, length, Some, IfOk, IfErr, OnOk, OnErr, IsOk};
 ghost use Rattle.graph_model.specs.declared.limits.TheConstants.{MAX_LEAVES, SEGMENT_ROWS};
@@ -28,7 +31,6 @@ pub struct LeafStore {
     pub(crate) index: LeafIndex,
     pub(crate) leaves: Vec<Option<Box<Leaf>>>,
     pub(crate) queue: LeafQueue,
-    /// What was read ahead, so that it is read.
     pub(crate) ahead: u64,
 }
 
