@@ -4,7 +4,9 @@
 //!    says of itself, and then for its rows.
 //! 2. Here each of these is read for four cells before the next one is. So the processor asks the memory for all four
 //!    at once, and finds them near by when the calls come. Where leaves lie is read beside their slots in the index.
-//! 3. It changes nothing that a clause speaks of.
+//! 3. Kept is one sum of what was read, in the store, so that no compiler leaves the reads out. It can't be wrong,
+//!    since nobody asks for it, and no clause sees it. It costs eight bytes, and some loads for a write whose rows lie
+//!    near by already.
 
 use crate::finger::Finger;
 use crate::place::Place;

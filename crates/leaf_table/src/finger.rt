@@ -4,14 +4,17 @@
 //! 2. Whoever is given one looks there first, and sees by the fence keys of the cell, and by two rows, whether the
 //!    key is there. Where it isn't, the index and the cell are searched. So no clause speaks of fingers, and a wrong
 //!    one costs time alone.
-//! 3. A write asks eight to fourteen times for its four keys. With fingers each is searched for once.
+//! 3. A write asks eight to fourteen times for its four keys. With fingers each is searched for once, and a look at a
+//!    slot and at two rows comes in the place of the other searches.
 
 use leaf_array::below::NOWHERE;
 
 /// Where a key was found.
 #[derive(Clone, Copy, Debug, PartialEq, Eq)]
 pub struct Finger {
+    /// The number of the cell.
     pub cell: u32,
+    /// Its place among the rows of the cell.
     pub row: usize,
 }
 

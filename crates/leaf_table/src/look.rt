@@ -1,4 +1,6 @@
 //! What the segments of a leaf say of themselves.
+//!
+//! 1. Eight numbers as a value, and no list: it takes no memory, and is compared and copied as it is.
 
 ghost use Rattle.std.specs.Prelude.{◌≡◌, length};
 ghost use Rattle.std.specs.List.{AllByRecursion};

@@ -1,4 +1,7 @@
 //! Where a cell stands.
+//!
+//! 1. Cells are numbered over all leaves, eight to a leaf, so a cell's number is enough wherever both numbers would be
+//!    carried.
 
 ghost use Rattle.std.specs.Prelude.{◌≡◌, ◌/◌, ◌%◌};
 
@@ -7,7 +10,9 @@ use graph_model::LEAF_SEGMENTS;
 /// The number of a leaf, and that of a segment in it.
 #[derive(Clone, Copy, Debug, PartialEq, Eq)]
 pub struct Place {
+    /// The number of the leaf.
     pub leaf: usize,
+    /// The number of the segment in it, below eight.
     pub segment: usize,
 }
 

@@ -1,4 +1,7 @@
 //! The memory of leaves, by their numbers.
+//!
+//! 1. A live leaf has memory, in a box of its own: the table has 8 bytes for each leaf, and one that stays is never
+//!    moved.
 
 ghost use Rattle.std.specs.Prelude.{◌≡◌, ◌<◌, length, replicate, slice_set, IfOk, None, Some};
 
