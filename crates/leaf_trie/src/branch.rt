@@ -22,10 +22,15 @@ use std::mem;
 #[cycle(trie)]
 #[derive(Drop)]
 pub struct Branch {
+    /// The byte that leads to it.
     byte: u8,
+    /// One more than the number of the byte by which its children differ.
     level: u8,
+    /// Whether it is a leaf and has no children.
     is_single: bool,
+    /// The leaf with the greatest key in it.
     last: u32,
+    /// Its children.
     node: Node,
 }
 
@@ -45,7 +50,9 @@ enum Node {
 #[cycle(trie)]
 #[derive(Drop)]
 struct Wide {
+    /// By the byte of a child.
     places: [u8; 256],
+    /// In rising order of their bytes.
     branches: Vec<Branch>,
 }
 
@@ -111,6 +118,7 @@ impl Branch {
             let byte = byte_of(key, branch.level - 1);
             let branches = branch.node.branches();
             let place = branch.node.rank(byte);
+            // The last leaf of the sibling before is the answer where all leaves on the way down begin above the key.
             before = last_before(branches, place, before);
             match branch_at(branches, place, byte) {
                 Some(child) => branch = child,
@@ -211,6 +219,7 @@ impl Node {
         ensures room { OnOk result (HasRoom place byte self.new) }
     {
         match self {
+            // The 17th child makes it a table: a search of so long a list would cost more than the place of the byte.
             Node::Few(branches) if branches.len() == 16 && !has_byte(branches, place, byte) => {
                 let places = ranks_of(branches);
                 let mut wide = Box::new(

@@ -1,4 +1,6 @@
 //! The bytes of a key, from the first of its source to the last of its second number.
+//!
+//! 1. In this order bytes compare as keys do.
 
 ghost use Rattle.std.specs.Prelude.{◌≡◌, ◌<◌};
 ghost use Rattle.leaf_trie.specs.Path.{digit};

@@ -1,4 +1,7 @@
 //! All leaves of a store.
+//!
+//! 1. A key has sixteen bytes, the most significant first, so that the order of bytes is that of keys.
+//! 2. There is always one leaf at least, so the trie has a root and a search has an answer.
 
 ghost use Rattle.std.specs.Prelude.{◌≡◌, ◌*◌, ◌-◌, ◌≤◌, [], ◌∷◌, IfOk, OnOk, OnErr, length};
 ghost use Rattle.leaf_trie.specs.Leaves.{AreKeys, Finds, Inserts, NoneBegins, OneBegins, Removes};
@@ -12,6 +15,7 @@ use std::marker::Model;
 /// Leaves by their least keys, of which no two are equal. There is always one leaf.
 #[derive(Drop)]
 pub struct LeafTrie {
+    /// The subtree of all keys.
     root: Branch,
 }
 
