@@ -1,7 +1,7 @@
 //! Rows of a load, divided among leaves.
 //!
 //! 1. Rows go from left to right, as many to a segment as the density limits allow. None is copied.
-//! 2. A leaf ends where the first row behind it begins, and so does each of its segments.
+//! 2. A leaf ends where the first row after it begins, and so does each of its segments.
 
 ghost use Rattle.std.specs.Prelude.{◌≡◌, ◌*◌, ◌<◌, ◌≤◌, length, take, drop, slice_set, IfErr, IfOk, OnOk};
 ghost use Rattle.graph_model.specs.Rows.{first_key, end_key};
@@ -22,15 +22,20 @@ use txn_manager::RoomRefusal;
 /// Rows of a load between two fence keys: those of a leaf, or of a segment.
 #[derive(Clone, Copy)]
 pub struct LoadedRange<'a> {
+    /// No row has a key below it.
     pub low: Key,
+    /// All rows have keys below it.
     pub high: Key,
+    /// In rising order of their keys.
     pub rows: &'a [Row],
 }
 
 /// The rows of each leaf by its number, and the index of the leaves. A leaf that isn't live has no rows.
 #[derive(Drop)]
 pub struct LoadedLeaves<'a> {
+    /// Which leaf has which keys.
     pub index: LeafIndex,
+    /// By the number of a leaf.
     pub ranges: Vec<LoadedRange<'a>>,
 }
 
@@ -41,7 +46,7 @@ pub(crate) const FULL_SEGMENT: usize = 26;
 const FULL_LEAF: usize = 208;
 
 impl<'a> LoadedRange<'a> {
-    /// The first so many rows, up to the first one behind them, and the others from there on.
+    /// The first so many rows, up to the first one after them, and the others from there on.
     pub fn split(self, count: usize) -> (LoadedRange<'a>, LoadedRange<'a>)
         ensures low { result.0.low ≡ self.entry.low }
         ensures front { result.0.rows.now ≡ take count self.entry.rows.now }
@@ -153,6 +158,7 @@ fn fill_next<'a>(
         high: Key::END,
         rows: rest,
     };
+    // As many rows as a spread may leave in a leaf, so a write that comes next finds places.
     let (here, behind) = rest.split(FULL_LEAF);
     index.add_leaf(alloc, here.low, leaf, cuts_of(here))?;
     index.is_index();

@@ -1,4 +1,6 @@
 //! What is kept of the cells of a load beside their words.
+//!
+//! 1. Rows of a load are settled, so it is their number alone.
 
 ghost use Rattle.std.specs.Prelude.{◌≡◌, ◌++◌, map, IfOk, OnOk};
 ghost use Rattle.loaded_cells.specs.Numbered.{AreRestOf, rest_rows, resting_rows};
@@ -20,7 +22,7 @@ pub fn rest_cells(alloc: Global, leaves: &[LoadedRange]) -> Result<Vec<Resting>,
     Ok(resting)
 }
 
-/// The same of one leaf, behind what is kept of others.
+/// The same of one leaf, after what is kept of others.
 fn rest_leaf(alloc: Global, leaf: LoadedRange, resting: &mut Vec<Resting>) -> Result<(), NoMemory>
     ensures { OnOk result (resting_rows resting.new.items
         ≡ resting_rows resting.old.items ++ map rest_rows (leaf_segments leaf.entry)) }

@@ -1,4 +1,7 @@
 //! The words of cells, as the rows of a load fill them.
+//!
+//! 1. They are made before the table that has them, by one owner, so no step on the table is needed.
+//! 2. All version words are even: no cell is unpacked.
 
 ghost use Rattle.std.specs.Prelude.{◌≡◌, ◌<◌, ◌≤◌, ◌*◌, ◌++◌, ◌∷◌, [], false, length, slice_set, IfOk, OnOk};
 ghost use Rattle.rule_model.specs.CellsModel.Words.{flat};
