@@ -17,7 +17,9 @@ use pass_steps::below::{Account, Accounts};
 /// A read that is under way: of which cell, and the even version word that it found first.
 #[derive(Clone, Copy)]
 pub struct BlockRead {
+    /// The number of the cell.
     pub cell: u32,
+    /// The read is valid where the second load finds this one.
     pub first: u64,
 }
 

@@ -1,4 +1,8 @@
 //! What a validated read answers.
+//!
+//! 1. Nothing that was loaded is decoded before the second load has found the first word again: till then it may be
+//!    half of a change, and a number in it may be anything.
+//! 2. All knowledge of what a word means stands here, once for keys and once for runs.
 
 ghost use Rattle.std.specs.Prelude.{◌≡◌, ℕ, List};
 ghost use Rattle.graph_model.specs.declared.row.Row.{Row};
@@ -16,8 +20,11 @@ use pass_steps::below::{Account, is_marked, value_in_word};
 /// The first words of a block: how many rows it has, 32 at most, and its fence keys.
 #[derive(Clone, Copy)]
 pub struct Head {
+    /// How many rows it has, at most 32.
     pub count: u32,
+    /// Its low fence key.
     pub low: Key,
+    /// Its high fence key.
     pub high: Key,
 }
 
@@ -34,30 +41,35 @@ impl Head {
 /// place of a weight.
 #[derive(Drop)]
 pub struct LookedUp {
+    /// What the first words say.
     pub head: Head,
+    /// None where all rows are below the key.
     pub row: Option<Row>,
 }
 
-/// Decodes what was looked up, once the seat's view shows the block as validated. Nothing else in this crate says what a
-/// word means.
+/// Decodes what was looked up, once the seat's view shows the block as validated. Nothing else in this crate says what
+/// a word means.
 pub fn decode(_seat: &Account, cell: u32, looked: LookedUp, key: Key) -> Tried
     requires valid { IsValid _seat.now.me.0 cell }
     ensures decoded { (block : List ℕ) (s : VersionedRows) → Spells block s → IsLookedUp looked key s
         → result ≡ decoded s cell key }
 {
     let LookedUp { head, row } = looked;
+    // The hint was of another cell; where it lies tells the caller whether to go left or right.
     if !head.holds(key) {
         return Tried::Moved {
             low: head.low,
             high: head.high,
         };
     }
+    // All rows of the cell are below the key, and its fence keys hold the key: so nobody has such a row.
     let Some(row) = row else {
         return Tried::Value { weight: None };
     };
     if row.key != key {
         return Tried::Value { weight: None };
     }
+    // There are older values, which no word has. In an unmarked word is what each open transaction sees.
     if is_marked(row.weight) {
         return Tried::Chained { cell, key };
     }
@@ -69,7 +81,7 @@ pub fn decode(_seat: &Account, cell: u32, looked: LookedUp, key: Key) -> Tried
 /// Where the loads of a run have stopped.
 #[derive(Clone, Copy)]
 pub enum Stop {
-    /// Behind its last row in the block.
+    /// After its last row in the block.
     Ended,
     /// Before a row for which there is no room.
     Full { key: Key },
@@ -80,7 +92,9 @@ pub enum Stop {
 /// What was loaded of a run, beside its rows: the head, and where the loads have stopped.
 #[derive(Clone, Copy)]
 pub struct LoadedRun {
+    /// What the first words say.
     pub head: Head,
+    /// Why no more rows were loaded.
     pub stop: Stop,
 }
 

@@ -1,4 +1,7 @@
 //! One try to read a key without a latch.
+//!
+//! 1. Between two loads of the version word lie the loads of the look-up. Only if both found one even number it is
+//!    decoded.
 
 ghost use Rattle.std.specs.Prelude.{◌≡◌, ◌≤◌, ◌<◌, ℕ};
 ghost use Rattle.graph_model.specs.declared.limits.TheConstants.{MAX_ID};
@@ -32,8 +35,8 @@ pub fn try_has_vertex(store: &Store, pass: &mut Pass, route: &Route, v: u64) -> 
     try_key(store, pass, route, Key::of_vertex(v))
 }
 
-/// Tries to read the weight of an arc that the open transaction sees. It makes loads alone, takes no latch and no memory,
-/// and waits for nobody.
+/// Tries to read the weight of an arc that the open transaction sees. It makes loads alone, takes no latch and no
+/// memory, and waits for nobody.
 pub fn try_weight(store: &Store, pass: &mut Pass, route: &Route, u: u64, v: u64) -> Tried
     requires pass { IsPassOf store.now pass.old }
     requires opened { (state_of pass.old).stage ≡ Open }
@@ -72,6 +75,7 @@ fn try_block(accounts: &Accounts, seat: &mut Account, cell: u32, key: Key) -> Tr
         → IsTried accounts.now.config p st seat.old.me.0 seat.new.me.0 cell key result }
 {
     let first = accounts.first_load(seat, cell);
+    // Somebody changes the cell now, so what is loaded would be of no use.
     if first % 2 == 1 {
         return Tried::Busy {
             cell,
@@ -81,6 +85,7 @@ fn try_block(accounts: &Accounts, seat: &mut Account, cell: u32, key: Key) -> Tr
     }
     let looked = look_up(accounts, seat, BlockRead { cell, first }, key);
     let second = accounts.second_load(seat, cell);
+    // Somebody has changed it between both loads. No number comes twice, so an equal one means that nobody did.
     if second != first {
         return Tried::Busy {
             cell,

@@ -1,4 +1,8 @@
 //! Where the index has a key.
+//!
+//! 1. The index is asked under its latch, by whoever has no hint.
+//! 2. The leaf is noted while the index is in hand. A merge that retires it comes after, and its number is not given
+//!    out again while a pass that noted it is pinned.
 
 ghost use Rattle.std.specs.Prelude.{◌≡◌, ◌/◌, ◌<◌};
 ghost use Rattle.pass_steps.specs.RuleModel.Sight.{HasIndex, IndexState, cells_of, with_pin};
@@ -51,8 +55,11 @@ fn note_leaf(store: &Store, pass: &mut Pass, leaf: u32)
 /// A pass notes a leaf.
 #[derive(Drop)]
 struct NotesLeaf {
+    /// The number of the pass.
     number: u32,
+    /// The number of the leaf.
     leaf: u32,
+    /// How many leaves the store has.
     leaves: u32,
 }
 

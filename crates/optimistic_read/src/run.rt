@@ -1,4 +1,8 @@
 //! The loads by which a run of rows is read in a block that nobody has to hold.
+//!
+//! 1. Rows go straight into the caller's buffer, and none is copied; where the read turns out to be torn the caller
+//!    lets them go.
+//! 2. It ends for sure, whatever is loaded: more than 32 rows are never taken.
 
 ghost use Rattle.std.specs.Prelude.{◌≡◌, ◌≤◌, ◌<◌, ◌&&◌, not, true};
 ghost use Rattle.graph_model.specs.Rows.{is_below, is_between};
@@ -12,8 +16,8 @@ use graph_model::{Key, Row, Rows64};
 use pass_steps::below::{Account, Accounts, is_marked};
 
 /// Loads the head of a block, and where its fence keys hold the first key, the rows from this key on and before another
-/// that have no marked word before them, behind those of the buffer and as far as it has room: 5 words, two for each row
-/// that the search looks at, and three for each row of the run and for the one behind it.
+/// that have no marked word before them, after those of the buffer and as far as it has room: 5 words, two for each
+/// row that the search looks at, and three for each row of the run and for the one after it.
 pub fn load_run(
     accounts: &Accounts,
     seat: &mut Account,
@@ -114,7 +118,7 @@ fn is_not_behind(high: Key, until: Key) -> bool
     !until.is_below(high)
 }
 
-/// Whether a row stands behind the range, where it isn't known that all rows of the block stand before its end.
+/// Whether a row stands after the range, where it isn't known that all rows of the block stand before its end.
 fn is_beyond(key: Key, inside: bool, until: Key) -> bool
     ensures { result ≡ (not inside && not (is_below key until)) }
 {

@@ -1,4 +1,6 @@
 //! One try to read a run of rows without a latch.
+//!
+//! 1. As for a key; the answer says where the run stopped, and why, by what the validated block spells.
 
 ghost use Rattle.std.specs.Prelude.{◌≡◌, ◌<◌, ℕ, true};
 ghost use Rattle.graph_model.specs.Rows.{is_below};
@@ -17,10 +19,10 @@ use crate::tried::{Route, TriedRun};
 use graph_model::{Key, Rows64};
 use pass_steps::below::{Account, Accounts, Pass, Store};
 
-/// Tries to read the rows that the open transaction sees from one key on and before another, as far as the cell goes, up
-/// to the first row that has undo records, and as many as the buffer has room for. They are put behind those that stand
-/// there. Where the answer is busy the buffer has anything behind them, or instead of them. It makes loads alone, takes
-/// no latch and no memory, and waits for nobody.
+/// Tries to read the rows that the open transaction sees from one key on and before another, as far as the cell goes,
+/// up to the first row that has undo records, and as many as the buffer has room for. They are put after those that
+/// stand there. Where the answer is busy the buffer has anything after them, or instead of them. It makes loads alone,
+/// takes no latch and no memory, and waits for nobody.
 pub fn try_run(
     store: &Store,
     pass: &mut Pass,
@@ -66,6 +68,7 @@ fn try_block_run(
         rows.new result }
 {
     let first = accounts.first_load(seat, cell);
+    // As for a key.
     if first % 2 == 1 {
         return TriedRun::Busy {
             cell,

@@ -1,10 +1,13 @@
 //! Where a read looks, and what it answers.
+//!
+//! 1. A try that came to nothing says which cell and which words it found, by which a test tells that it was busy.
 
 use graph_model::Key;
 
 /// The cell in which a key is read: the one that the index had for it, or that a hint names.
 #[derive(Clone, Copy, Debug, PartialEq, Eq)]
 pub struct Route {
+    /// The number of the cell.
     pub cell: u32,
 }
 
