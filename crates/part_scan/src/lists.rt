@@ -1,4 +1,6 @@
 //! Rows in lists.
+//!
+//! 1. One after the other the lists are the rows of the view in order; where one ends is no matter for the result.
 
 ghost use Rattle.std.specs.Prelude.{◌≡◌, ◌<◌, length, IfOk};
 ghost use Rattle.part_scan.specs.Parts.{rows_in};
@@ -13,7 +15,7 @@ pub type RowList = Items<Row>;
 /// The lists of all readers, in the order of their rows.
 pub type RowLists = Items<RowList>;
 
-/// Rows in so many lists, one behind the other and of about one length.
+/// Rows in so many lists, one after the other and of about one length.
 pub fn cut_rows(alloc: Global, rows: &[Row], parts: u32) -> Result<RowLists, NoMemory>
     requires { 0 < parts }
     ensures count { IfOk result (λ lists. length lists ≡ parts) }

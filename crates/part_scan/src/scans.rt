@@ -1,4 +1,7 @@
 //! Engines that several readers scan at once.
+//!
+//! 1. What readers give together is one view, that of the open transaction, as one scan gives it; so whoever makes an
+//!    image of it needs no word about threads.
 
 ghost use Rattle.std.specs.Prelude.{◌≡◌, ◌<◌, ◌≤◌, ℕ, Some, IsSome, IfOk, length};
 ghost use Rattle.graph_model.specs.AccountSteps.{view_of};
