@@ -20,8 +20,10 @@ pub fn sum_ahead(store: &Store, cell: u32) -> u64 {
     if cell >= store.index_place() {
         return 0;
     }
+    // The latch word has a line of its own; the lines of the block follow each other.
     let mut sum = store.cells().table.peek(cell as usize);
     'lines: for word in (0..BLOCK_WORDS).step_by(LINE) {
+        // Needs no order, and what is found may be past: only that it was read counts.
         sum = sum.wrapping_add(store.accounts.peek_word(cell, word));
     }
     sum
@@ -39,5 +41,6 @@ pub fn low_of(store: &Store, cell: u32) -> Option<Key>
         src: store.accounts.peek_word(cell, 4),
         second: store.accounts.peek_word(cell, 5),
     };
+    // A leaf that isn't live spells two equal fence keys, or an older pair: then no hint is made of it.
     low.is_below(high).then_some(low)
 }

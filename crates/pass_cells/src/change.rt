@@ -23,8 +23,11 @@ use undo_chain::Touched;
 /// The pass has made a write.
 #[derive(Drop)]
 struct Writing<'a> {
+    /// The number of the pass.
     pass: u32,
+    /// What it has made.
     write: Write,
+    /// The cells in hand, with their rows as they are now.
     taken: &'a TakenCells,
 }
 
@@ -43,7 +46,9 @@ impl Change for Writing<'_> {
 /// It has taken its newest write back.
 #[derive(Drop)]
 struct Undoing<'a> {
+    /// The number of the pass.
     pass: u32,
+    /// The cells in hand, with their rows as they are now.
     taken: &'a TakenCells,
 }
 
@@ -63,8 +68,11 @@ impl Change for Undoing<'_> {
 /// Rows of its last commit have their stamps.
 #[derive(Drop)]
 struct Stamping<'a> {
+    /// The number of the pass.
     pass: u32,
+    /// Whose rows have their stamps.
     keys: &'a [Key],
+    /// The cells in hand, with their rows as they are now.
     taken: &'a TakenCells,
 }
 
@@ -108,6 +116,8 @@ impl PassCells {
         ensures err { OnErr result ((pass.new ≡ pass.old)
             × Reserves (rows_in self.old.taken) (rows_in self.new.taken)) }
     {
+        // First the rows change in their cells, which nobody else sees while they are unpacked. Then one load of the
+        // clock has the pass's view know it, so between the two the view is behind by this one write.
         lay(&mut self.taken, by, found, earlier)?;
         let planned = Writing {
             pass: pass.number,
@@ -133,6 +143,7 @@ impl PassCells {
             rows: WrittenRows::of(store.config().kind, write),
             near: Fingers::alike(NOWHERE),
         };
+        // Nobody noted where the rows of an older write stand, and they may have moved since: so they are searched for.
         row_writes::undo(&mut self.taken, by, &found);
         let planned = Undoing {
             pass: pass.number,
@@ -152,6 +163,8 @@ impl PassCells {
         ensures stamped { AreStamped number keys.now pass.old pass.new
             self.old.taken.list.items self.new.taken.list.items }
     {
+        // A record that has its stamp already keeps it, so it does no harm that a key stands in two writes of the
+        // transaction.
         stamp_rows(&mut self.taken, by, number, keys);
         let planned = Stamping {
             pass: pass.number,

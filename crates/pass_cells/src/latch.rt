@@ -1,4 +1,9 @@
 //! Latches of a store's places.
+//!
+//! 1. Whoever holds nothing waits as long as it takes. Whoever holds a place looks at the next one a number of times
+//!    and then answers that it is busy, so no circle of passes waits for ever.
+//! 2. All values are put back before the first place is released: no cell of a write is free while another one still
+//!    lacks its value.
 
 ghost use Rattle.std.specs.Prelude.{◌≡◌, ◌<◌, ◌≤◌, ◌+◌, [], ◌∷◌, length, false, IfSome, None};
 ghost use Rattle.std.specs.Vec.{vec_capacity};
@@ -50,6 +55,7 @@ pub fn try_place(store: &Store, latch: &mut LatchPass, place: u32) -> Option<Hel
     'looks: for _look in 0..LOOKS {
         match cells.try_take(latch, place) {
             Ok(held) => return Some(held),
+            // Only a pause and no wait: whoever holds others must not leave its processor while they wait for it.
             Err(_) => spin_loop(),
         }
     }

@@ -1,4 +1,6 @@
 //! What a pass keeps for cells from one call to the next.
+//!
+//! 1. All room is taken when the pass is made, so no later call of a transaction fails for lack of it.
 
 ghost use Rattle.std.specs.Prelude.{◌≡◌, ◌≤◌, [], IfOk};
 ghost use Rattle.std.specs.Vec.{vec_capacity};
@@ -16,10 +18,13 @@ pub const MOST_CELLS: usize = 4;
 /// The cells that a pass has in hand, none between two calls, and its hints of all others. Its lists have their room
 /// from the start, so no call but `new` takes memory for them.
 pub struct PassCells {
+    /// Those in hand.
     pub taken: TakenCells,
+    /// A guess at the cell of a key.
     pub hints: CellHints,
     /// Cells that are packed and not yet put back, and those that aren't yet released: work space.
     pub(crate) packed: Vec<Held<StoreSlot>>,
+    /// Those whose values are back, and which are still to be released.
     pub(crate) laid: Vec<Laid>,
     ghost room: { (4 ≤ vec_capacity taken.list) × (4 ≤ vec_capacity packed) × (4 ≤ vec_capacity laid) },
     ghost spaces: { (packed.items ≡ []) × (laid.items ≡ []) },
@@ -76,6 +81,8 @@ fn work_space(alloc: Global) -> Result<(Vec<Held<StoreSlot>>, Vec<Laid>), NoMemo
     match Vec::with_capacity(alloc, MOST_CELLS) {
         Ok(laid) => Ok((packed, laid)),
         Err(_) => {
+            // Lists of cells can't be dropped, since a cell that is held has to be given back; an empty one is taken
+            // apart by name.
             packed.destroy_empty();
             Err(NoMemory)
         }

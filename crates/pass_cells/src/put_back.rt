@@ -1,4 +1,8 @@
 //! How a pass gives its cells back.
+//!
+//! 1. A cell is packed before it is given back, so that whoever reads its words finds its rows in them. It takes no
+//!    memory: room for heads and records was made before the write.
+//! 2. A cell in which nothing changed keeps its version, so reads that are under way there stay valid.
 
 ghost use Rattle.std.specs.Prelude.{◌≡◌, ◌≤◌, ◌++◌, ◌∷◌, [], length, ◌<◌};
 ghost use Rattle.std.specs.Vec.{vec_capacity};
@@ -39,6 +43,7 @@ fn pack_all(
 {
     'cells: while !taken.list.is_empty() {
         let TakenCell { held, rows: _ } = taken.list.remove(0);
+        // Words before the note: the note that is laid says what the block spells.
         let held = store.pack(pass, held);
         let held = store.lay_cell(pass, held);
         match packed.push(held) {

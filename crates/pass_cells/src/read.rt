@@ -22,7 +22,9 @@ use undo_chain::{Snapshot, States};
 /// Rows that are lent, and the key before which they end.
 #[derive(Clone, Copy)]
 pub struct CellRun<'a> {
+    /// In rising order of their keys.
     pub rows: &'a [Row],
+    /// Where the cell ends, or the range that was asked for.
     pub end: Key,
 }
 

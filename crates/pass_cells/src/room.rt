@@ -20,7 +20,9 @@ use row_writes::below::VersionSegment;
 /// `room_need`, and once for each time that cells in hand were short.
 #[derive(Debug, Drop, PartialEq, Eq)]
 pub struct RoomNeed {
+    /// Whose row has no place.
     key: Key,
+    /// How many places are needed: one, or two where both rows of an edge come there.
     need: u8,
 }
 
@@ -60,6 +62,8 @@ impl TakenCells {
     {
         match rows.back {
             None => self.need_at(rows.row, None),
+            // Where both rows of an edge would come into one cell, that cell needs two places, which is asked for at
+            // once: room for the first alone would be asked for again.
             Some(back) => match self.need_at(rows.row, Some(back)) {
                 None => self.need_at(back, Some(rows.row)),
                 short => short,
@@ -76,6 +80,7 @@ impl TakenCells {
             × IsShort (rows_in self.now) (with_back other key) (key_of short) (need_of short)) }
     {
         let cell = &self.list[self.place_of(key)].held.value;
+        // A row that was removed and still has records takes no new place.
         if cell.has_row(key) {
             return None;
         }

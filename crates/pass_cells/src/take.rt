@@ -34,7 +34,11 @@ impl PassCells {
         ensures kept { KeepsPass pass.old pass.new }
     {
         self.hints.survey_once(store);
+        // Hints first: the index is one latch for all passes, and asking it at each write would have them wait for each
+        // other.
         let mut guesses = self.hints.of_all(store, keys);
+        // All cells are read ahead before the first latch is taken: under it the others would wait for this pass to
+        // wait for memory.
         let (likely, _) = guesses.split_at(keys.len().min(4));
         self.hints.read_ahead(store, likely);
         'tries: for _ in rt.forever() {
@@ -63,9 +67,12 @@ impl PassCells {
         ensures kept { KeepsPass pass.old pass.new }
     {
         'keys: for _round in 0..keys.len() {
+            // One cell often covers several of the keys, so after each cell it is looked which keys are left.
             let Some(place) = self.taken.least_missing(keys) else {
                 return true;
             };
+            // All go back, and not this one alone: the next guess may be a cell before those in hand, and would break
+            // the order.
             if !self.take_next(rt, store, pass, keys[place], guesses[place]) {
                 self.put_back(store, pass);
                 return false;
@@ -78,7 +85,7 @@ impl PassCells {
         false
     }
 
-    /// Takes a cell, and answers whether it is the key's and stands behind those that were taken before.
+    /// Takes a cell, and answers whether it is the key's and stands after those that were taken before.
     fn take_next(
         &mut self,
         rt: &impl Wait,
@@ -94,9 +101,12 @@ impl PassCells {
         ensures more { length self.new.taken.list.items ≤ length self.old.taken.list.items + 1 }
         ensures kept { KeepsPass pass.old pass.new }
     {
+        // A guess may be anything. The places from there on are the index and the journal, and no cells.
         if cell >= store.index_place() {
             return false;
         }
+        // A cell in hand that doesn't cover the key was named again: the hint is wrong, and to wait for it would be to
+        // wait for oneself.
         if self.taken.is_taken(cell) {
             return false;
         }
@@ -105,10 +115,13 @@ impl PassCells {
         let Some(held) = take_next_place(rt, store, &mut pass.latch, cell, holds_none) else {
             return false;
         };
+        // Its fence keys tell whether it is the key's only once it is unpacked under its latch, when nobody can move
+        // its rows any more.
         let held = gather(store, pass, held);
         let rows = held.value.len();
         let taken = TakenCell { held, rows };
         let is_next = taken.follows(key, end);
+        // It is added even where it is the wrong one: then the caller gives it back with the others.
         self.taken.add(taken);
         is_next
     }
@@ -120,6 +133,7 @@ impl PassCells {
         ensures taken { self.new.taken.list.items ≡ self.old.taken.list.items }
         ensures kept { KeepsPass pass.old pass.new }
     {
+        // With no cell in hand, so the wait may be without end.
         let held = take_place(rt, store, &mut pass.latch, store.index_place());
         let held = store.gather_index(pass, held);
         let guesses = self.hints.learn(&held.value, keys);

@@ -17,6 +17,7 @@ use row_writes::below::{RowChange, RowView, VersionSegment};
 
 /// A cell in hand.
 pub struct TakenCell {
+    /// The value with its latch.
     pub held: Held<VersionSegment>,
     /// How many rows the pass's view has in it. What is more has come since, and is counted when the view is told.
     pub rows: usize,
@@ -24,6 +25,7 @@ pub struct TakenCell {
 
 /// The cells in hand, in the order in which they were taken.
 pub struct TakenCells {
+    /// None stands in it twice.
     pub list: Vec<TakenCell>,
 }
 
@@ -107,6 +109,8 @@ impl TakenCells {
             let key = keys[place];
             if !self.has(key) {
                 least = match least {
+                    // The least key first: cells are taken in rising order by all passes, so no circle of waiting
+                    // passes can form.
                     Some(before) if !key.is_below(keys[before]) => Some(before),
                     _ => Some(place),
                 };
