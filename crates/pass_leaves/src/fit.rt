@@ -1,4 +1,7 @@
 //! What one load of the clock tells whoever has the index in hand: it fits all cells, those in hand among them.
+//!
+//! 1. What is in hand isn't known to the rule, only to the pass; a step has to say that both fit before cuts may be
+//!    set.
 
 ghost use Rattle.std.specs.Prelude.{◌≡◌};
 ghost use Rattle.pass_leaves.specs.Fit.{TellsFit};
@@ -22,6 +25,7 @@ pub fn learn_fit(store: &Store, pass: &mut Pass)
 /// A pass learns that the index fits.
 #[derive(Drop)]
 struct Fitting {
+    /// How the store was made.
     config: Config,
 }
 

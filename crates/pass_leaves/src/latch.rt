@@ -1,4 +1,7 @@
 //! Latches of leaves and of the index.
+//!
+//! 1. The cells of a leaf are taken by rising keys, and the index after them: the order in which all passes take them.
+//! 2. Only the first place of all is waited for without end. Where a later one stays busy the caller gives all back.
 
 ghost use Rattle.std.specs.Prelude.{◌≡◌, ◌<◌, ◌≤◌, ◌+◌, ◌*◌, ◌++◌, [], ◌∷◌, length, true, false};
 ghost use Rattle.std.specs.Vec.{vec_capacity};
@@ -59,6 +62,7 @@ fn latch_leaf(
     ensures few { length packed.new.items ≤ length packed.old.items + 8 }
     ensures capacity { vec_capacity packed.old ≤ vec_capacity packed.new }
 {
+    // A hint may name a leaf that doesn't exist.
     if leaf >= store.config().leaves {
         return false;
     }
@@ -89,6 +93,7 @@ fn latch_cell(
     ensures none { result ≡ false → packed.new.items ≡ packed.old.items }
     ensures capacity { vec_capacity packed.old ≤ vec_capacity packed.new }
 {
+    // Only the first cell may be waited for without end.
     let holds_none = packed.is_empty();
     let Some(held) = take_next_place(rt, store, latch, cell, holds_none) else {
         return false;

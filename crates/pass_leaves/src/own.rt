@@ -1,4 +1,6 @@
 //! What a pass keeps for leaves from one call to the next.
+//!
+//! 1. It is made when a row first finds no place, and holds nothing between two calls.
 
 ghost use Rattle.std.specs.Prelude.{◌≡◌, ◌≤◌, [], IfOk};
 ghost use Rattle.std.specs.Vec.{vec_capacity};
@@ -19,11 +21,12 @@ const MOST_PLACES: usize = 17;
 /// The cells of leaves that a pass has in hand, none between two calls. The lists have their room from the start, so no
 /// call but `new` takes memory for them.
 pub struct PassLeaves {
-    /// One leaf behind the other, each in the order of its fence keys.
+    /// One leaf after the other, each in the order of its fence keys.
     pub cells: Vec<TakenCell>,
     /// Places that are taken and not yet unpacked, or packed and not yet put back, and those that aren't yet released:
     /// work space.
     pub(crate) packed: Vec<Held<StoreSlot>>,
+    /// Those whose values are back, and which are still to be released.
     pub(crate) laid: Vec<Laid>,
     ghost room: { (16 ≤ vec_capacity cells) × (17 ≤ vec_capacity packed) × (17 ≤ vec_capacity laid) },
     ghost spaces: { (packed.items ≡ []) × (laid.items ≡ []) },

@@ -1,4 +1,7 @@
 //! How a pass gives leaves and the index back.
+//!
+//! 1. All values are back before the first latch is released, so nobody finds rows that have moved in two cells, or in
+//!    none.
 
 ghost use Rattle.std.specs.Prelude.{◌≡◌, ◌≤◌, ◌<◌, [], ◌∷◌, length, List, ℕ};
 ghost use Rattle.std.specs.Vec.{vec_capacity};
@@ -24,6 +27,8 @@ impl PassLeaves {
         ensures none { HoldsNone store.now pass.new × (self.new.cells.items ≡ []) }
         ensures kept { KeepsPass pass.old pass.new }
     {
+        // The notes of all that is in hand are laid before the first latch is released: whoever takes one of them next
+        // finds the whole move.
         let index = store.lay_index(pass, index);
         pack_all(store, pass, &mut self.cells, &mut self.packed);
         give_all_places(

@@ -1,4 +1,7 @@
 //! How a pass comes by leaves and the index.
+//!
+//! 1. A hint names the leaf. Its latches are taken, then the index, and only then it is looked whether it is the key's.
+//! 2. Where it isn't, all goes back as it was taken, and what the index has told is noted for the next try.
 
 ghost use Rattle.std.specs.Prelude.{◌≡◌, ◌<◌, ◌≤◌, [], ◌∷◌, length, IfOk, IfSome, OnErr, OnOk, None, slice_index};
 ghost use Rattle.pass_cells.specs.StoreRuleDeclared.slot.StoreSlot.TheVariants as slots;
@@ -23,7 +26,9 @@ pub type HeldIndex = Held<Box<LeafIndex>>;
 
 /// A leaf whose cells are in hand, and the index.
 pub struct LeafInHand {
+    /// The number of the leaf.
     pub leaf: u32,
+    /// The value with its latch.
     pub index: HeldIndex,
 }
 
@@ -43,6 +48,7 @@ impl PassLeaves {
         ensures fit { TellsFit store.now.accounts.config pass.new.account.me.0 }
         ensures kept { KeepsPass pass.old pass.new }
     {
+        // A hint first, since the index is the last place in the order and can't be kept while cells are waited for.
         let mut leaf = hints.leaf_of(key);
         'tries: for _ in rt.forever() {
             match self.take_leaves(rt, store, pass, hints, key, &[leaf]) {
@@ -75,18 +81,22 @@ impl PassLeaves {
     {
         if !latch_leaves(rt, store, &mut pass.latch, leaves, &mut self.packed) {
             give_places(store, &mut pass.latch, &mut self.packed, &mut self.laid);
+            // The same leaf once more, if there is such a one: a busy place tells nothing against the hint.
             return Err(existing(store, leaves[0]));
         }
         let Some(index) = take_index(store, pass) else {
             give_places(store, &mut pass.latch, &mut self.packed, &mut self.laid);
             return Err(leaves[0]);
         };
+        // With the cells and the index in hand, and before anything is unpacked, it is certain whether this is the
+        // key's leaf.
         let leaf = index.value.leaf_at(key).leaf;
         if leaf != leaves[0] {
             hints.note_leaf(&index.value, key);
             give_index(store, pass, index, &mut self.packed, &mut self.laid);
             return Err(leaf);
         }
+        // Only now: a leaf that isn't the key's goes back without a word of it having been loaded.
         unpack_all(store, pass, &mut self.packed, &mut self.cells);
         learn_fit(store, pass);
         Ok(index)

@@ -1,4 +1,6 @@
 //! Cells that are taken in and unpacked, and packed again.
+//!
+//! 1. To unpack takes none of the cell's memory and none anew: a pass has room for the rows of two leaves.
 
 ghost use Rattle.std.specs.Prelude.{◌≡◌, ◌≤◌, [], true, length};
 ghost use Rattle.std.specs.Vec.{vec_capacity};
