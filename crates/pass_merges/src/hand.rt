@@ -1,4 +1,7 @@
 //! Rows that move in leaves in hand, and what is told of it.
+//!
+//! 1. What a turn has done is a value that is made while the leaves are in hand: afterwards others may change them at
+//!    once.
 
 ghost use Rattle.std.specs.Prelude.{◌≡◌, ◌≤◌, [], ◌∷◌, IfOk};
 ghost use Rattle.std.specs.Vec.{vec_capacity};
@@ -105,6 +108,7 @@ pub(crate) fn merge_with(
             leaves.put_back(store, pass, index);
             turn
         }
+        // One try alone: merging can wait for another turn, and nobody waits for it.
         Err(_next) => Ok(MergeTurn::Nothing),
     }
 }

@@ -1,4 +1,8 @@
 //! Two leaves in hand that become one.
+//!
+//! 1. Rows move in memory that is lent, so a merge takes none but for records; where that is refused nothing has moved.
+//! 2. The right leaf is retired with the clock that is loaded while its cells and the index are in hand: no pass that
+//!    might still look into it began later.
 
 ghost use Rattle.std.specs.Prelude.{◌≡◌, ◌≤◌, ◌<◌, ◌*◌, [], ◌∷◌, take, drop, length, IfOk, OnErr, OnOk};
 ghost use Rattle.pass_moves.specs.LeafArray.Segments.{AreSame, rows_of};
@@ -22,7 +26,9 @@ use std::alloc::Global;
 /// Two neighbours by their numbers.
 #[derive(Clone, Copy, Debug, PartialEq, Eq)]
 pub struct LeafPair {
+    /// The number of the one that gets all rows.
     pub left: u32,
+    /// The number of the one that is retired.
     pub right: u32,
 }
 
@@ -50,6 +56,7 @@ pub fn merge_pair(
         × AreSame (values_of cells.old) (values_of cells.new)) }
     ensures kept { KeepsPass pass.old pass.new }
 {
+    // Where the right leaf begins is read before its rows go: its entry is found by that key.
     let cut = low_of(&cells[LEAF_SEGMENTS]);
     let cuts = merge_cells(cells, space, alloc)?;
     index.changed = true;
@@ -60,6 +67,8 @@ pub fn merge_pair(
         cells,
         leaf: pair.right,
     };
+    // The number that is loaded is the stamp: loaded after the rows have left and before a latch is released, so no
+    // transaction that begins later can have noted the leaf.
     let stamp = store.change(pass, &planned);
     index.value.retire(pair.right, stamp);
     count_rows(cells);
@@ -124,6 +133,8 @@ fn merge_halves(
     ensures second_count { length second.new ≡ 8 }
     ensures err { OnErr result (KeepsContents first.old first.new × KeepsContents second.old second.new) }
 {
+    // The rows of both leaves move in memory that is lent, as those of one owner do; where memory is refused the
+    // contents go back as they were.
     exchange(first, &mut left.segments);
     exchange(second, &mut right.segments);
     let done = merge_leaves(left, right, alloc);

@@ -1,4 +1,6 @@
 //! The load of the clock by which a pass knows that two leaves have become one.
+//!
+//! 1. The same load gives the stamp: transactions that begin later can't have noted the leaf.
 
 use leaf_index::LeafIndex;
 use pass_moves::below::{Change, TakenCell};
@@ -7,8 +9,11 @@ use pass_moves::below::{Change, TakenCell};
 /// retired with the number that is loaded: whoever has noted it began no later.
 #[derive(Drop)]
 pub(crate) struct Retiring<'a> {
+    /// With the entry that stands for both leaves now.
     pub(crate) index: &'a LeafIndex,
+    /// The cells of both leaves.
     pub(crate) cells: &'a [TakenCell],
+    /// The number of the leaf that is retired.
     pub(crate) leaf: u32,
 }
 

@@ -1,4 +1,6 @@
 //! Windows of a leaf in hand that have a cell with too few rows.
+//!
+//! 1. They are those of `density_tree`, as for the owner of a store, by the counts of the cells.
 
 ghost use Rattle.std.specs.Prelude.{◌≡◌, ◌*◌, ◌<◌, ◌≤◌, ℕ, None, IfSome, length};
 ghost use Rattle.pass_moves.specs.LeafArray.Segments.{counts_of, rows_of};

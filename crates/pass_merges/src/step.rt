@@ -1,4 +1,7 @@
 //! A turn of merging: the next leaf in the order of keys.
+//!
+//! 1. One leaf a turn, so a turn is short.
+//! 2. It takes places as any call does, and gives all back where one stays busy: transactions come first.
 
 ghost use Rattle.std.specs.Prelude.{◌≡◌, ℕ, [], IfOk};
 ghost use Rattle.graph_model.specs.Rows.{first_key};
@@ -22,6 +25,7 @@ use std::sync::Wait;
 /// key is the next one then.
 #[derive(Clone, Copy, Debug, Drop, PartialEq, Eq)]
 pub struct MergeKey {
+    /// The leaf that has this key is the next one.
     pub next: Key,
 }
 
@@ -37,7 +41,7 @@ impl MergeKey {
 }
 
 /// Spreads the first window of the next leaf that has a cell with too few rows and enough rows in all. Where it has
-/// none, makes one leaf of it and the one behind it if both have few rows, unless that one stays busy. The leaf behind
+/// none, makes one leaf of it and the one after it if both have few rows, unless that one stays busy. The leaf after
 /// comes next. No leaf is in hand before and after, and rows move in the space that is lent. May wait, and takes memory
 /// before anything moves.
 pub fn merge_step(
@@ -81,6 +85,7 @@ fn take_turn(
     let LeafInHand { leaf, mut index } = leaves.take(rt, store, pass, hints, key.next);
     let range = index.value.leaf_at(key.next);
     let work = find_work(leaves.cells.as_slice(), &index.value, range);
+    // The key goes on whatever comes of this leaf, so one leaf that stays busy or full doesn't hold up the others.
     key.next = key_after(range.high);
     match work {
         Work::Spread(window) => {
@@ -97,6 +102,7 @@ fn take_turn(
             leaves.put_back(store, pass, index);
             turn
         }
+        // The right leaf's cells come before the index in the order, which is in hand: so all goes back first.
         Work::Look(right) => {
             leaves.put_back(store, pass, index);
             let pair = LeafPair { left: leaf, right };

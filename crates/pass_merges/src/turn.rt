@@ -14,7 +14,9 @@ use pass_moves::below::{HeldIndex, Pass, Store, TakenCell};
 /// A window of a leaf that was spread.
 #[derive(Debug, Drop, PartialEq, Eq)]
 pub struct WindowSpread {
+    /// The number of the leaf.
     leaf: u32,
+    /// Its segments, whose rows were divided evenly.
     window: Window,
 }
 
@@ -39,6 +41,7 @@ impl WindowSpread {
 /// Two leaves that have become one.
 #[derive(Debug, Drop, PartialEq, Eq)]
 pub struct LeavesMerged {
+    /// Which leaves they were.
     pair: LeafPair,
 }
 
@@ -62,9 +65,11 @@ impl LeavesMerged {
 /// What a turn has done.
 #[derive(Debug, Drop, PartialEq, Eq)]
 pub enum MergeTurn {
+    /// A window was spread.
     Spread(WindowSpread),
+    /// Two leaves became one.
     Merged(LeavesMerged),
-    /// Neither was to be done, or the leaf behind stayed busy.
+    /// Neither was to be done, or the next leaf stayed busy.
     Nothing,
 }
 

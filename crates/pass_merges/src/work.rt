@@ -1,4 +1,6 @@
 //! What there is to do with a leaf in hand.
+//!
+//! 1. It is found by counts alone, before a row moves.
 
 ghost use Rattle.std.specs.Prelude.{◌≡◌, true, length};
 ghost use Rattle.pass_moves.specs.Moving.{values_of};
@@ -17,8 +19,9 @@ use pass_moves::below::{MERGE_ROWS, TakenCell};
 pub(crate) enum Work {
     /// This window is to be spread.
     Spread(Window),
-    /// The leaf has few rows, and this one is behind it.
+    /// The leaf has few rows, and this one is after it.
     Look(u32),
+    /// There is nothing to do.
     Nothing,
 }
 
@@ -27,9 +30,12 @@ pub(crate) fn find_work(cells: &[TakenCell], index: &LeafIndex, range: LeafRange
     requires { length cells.now ≡ 8 }
     ensures { IsWork (values_of cells.now) result }
 {
+    // A window first: it needs this leaf alone.
     if let Some(window) = sparse_window(counts_in(cells)) {
         return Work::Spread(window);
     }
+    // Both leaves together may have so many at most, so a fuller one need not be looked at together with the next; and
+    // the last leaf has none after it.
     if rows_in(cells) > MERGE_ROWS || !range.high.is_below(Key::END) {
         return Work::Nothing;
     }
@@ -41,6 +47,7 @@ pub(crate) fn stand_together(index: &LeafIndex, key: Key, pair: LeafPair) -> boo
     ensures { result ≡ true → StandTogether pair index.now.entries }
 {
     index.is_index();
+    // While no latch was held either leaf may have been split, merged or taken anew.
     let range = index.leaf_at(key);
     if range.leaf != pair.left || !range.high.is_below(Key::END) {
         return false;
