@@ -1,4 +1,6 @@
 //! Contents of cells in hand that are exchanged with the segments of a leaf, where rows move.
+//!
+//! 1. The code that moves rows is that of `leaf_array`, and is proved there; cells lend it their contents.
 
 ghost use Rattle.std.specs.Prelude.{◌≡◌, length};
 ghost use Rattle.pass_leaves.specs.PassCells.Taken.{counted};
@@ -19,11 +21,12 @@ pub fn exchange(cells: &mut [TakenCell], segments: &mut [VersionSegment])
     let Some((segment, segments)) = segments.split_first_mut() else {
         unreachable!()
     };
+    // The segments change places as they are: no row is copied.
     swap(&mut cell.held.value, segment);
     exchange(cells, segments);
 }
 
-/// Marks so many cells behind the first ones as changed.
+/// Marks so many cells after the first ones as changed.
 pub fn mark(cells: &mut [TakenCell], first: usize, len: usize)
     ensures { AreMarked cells.old cells.new first len }
 {

@@ -3,7 +3,7 @@
 //! 1. Rows move in all cells first, and the index gets the new cuts. Then one load of the clock makes the pass's view
 //!    know both.
 //! 2. Only the cells of the window that is spread are marked as changed. All others go back as they were found.
-//! 3. Memory is taken before anything moves. After want of memory only room for records has changed.
+//! 3. Memory is taken before anything moves. Where memory runs out only room for records has changed.
 #![tactic(auto)]
 
 pub mod below;

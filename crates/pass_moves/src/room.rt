@@ -1,4 +1,6 @@
 //! Places for rows in the leaf in hand.
+//!
+//! 1. Counts are looked at under the latches, so what is found holds until they are released.
 
 ghost use Rattle.std.specs.Prelude.{◌≡◌, ◌≤◌, ℕ, true, [], ◌∷◌, length, IfOk, OnErr};
 ghost use Rattle.graph_model.specs.Rows.{is_below, end_key};
@@ -19,6 +21,7 @@ use std::alloc::Global;
 /// Whether a key's cell has the free places that were asked for.
 #[derive(Clone, Copy, Debug, PartialEq, Eq)]
 pub enum Room {
+    /// It has them.
     Free,
     /// No window of the leaf has room for the rows needed.
     Crowded,
@@ -61,6 +64,7 @@ pub fn free_places(
             spread_window(store, pass, cells, index, window, space, alloc)?;
             Ok(Room::Free)
         }
+        // A split needs a free leaf, whose cells may come before those in hand in the order.
         RoomChoice::Split => Ok(Room::Crowded),
         RoomChoice::Full => unreachable!(),
     }

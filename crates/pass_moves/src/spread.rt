@@ -1,4 +1,7 @@
 //! A window of the leaf in hand that is spread.
+//!
+//! 1. Rows, then cuts, then one load of the clock by which the pass's view has both: others see none of it before the
+//!    latches are released.
 
 ghost use Rattle.std.specs.Prelude.{◌≡◌, ◌≤◌, ◌*◌, ℕ, [], ◌∷◌, length, IfOk, OnErr, OnOk};
 ghost use Rattle.pass_leaves.specs.LeafArray.Leaves.{IsLeaf, IsWindow, SpreadsWindow, window_of};
@@ -43,6 +46,7 @@ pub fn spread_window(
         × AreSame (values_of cells.old) (values_of cells.new)) }
     ensures kept { KeepsPass pass.old pass.new }
 {
+    // Rows first: where memory is refused none has moved, and the index is as it was.
     let cuts = spread_cells(cells, space, window, alloc)?;
     index.changed = true;
     index.value.set_separators(cuts[0], cuts);
@@ -69,11 +73,15 @@ fn spread_cells(
     ensures ok { IfOk result (λ cuts. SpreadsCells window cuts cells.old cells.new) }
     ensures err { OnErr result (KeepsContents cells.old cells.new) }
 {
+    // The rows move in a leaf that is lent, by the code that moves those of one owner; afterwards the contents go back
+    // to the cells.
     exchange(cells, &mut space.segments);
+    // Whether it is done is asked after the contents are back, since the cells need theirs in either case.
     let done = spread(space, window, alloc);
     let cuts = cuts_of(space);
     exchange(cells, &mut space.segments);
     done?;
+    // Cells beside the window are as they were, so they keep their versions, and reads there stay valid.
     mark(cells, window.first, window.len);
     Ok(cuts)
 }
