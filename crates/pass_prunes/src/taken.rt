@@ -20,6 +20,7 @@ use pass_sweeps::{learn_writers, prune_rows};
 /// The pass has pruned the rows in hand.
 #[derive(Drop)]
 struct KnowsPruned<'a> {
+    /// The cells in hand, with their rows as they are now.
     taken: &'a TakenCells,
 }
 
@@ -45,6 +46,8 @@ pub fn prune_taken(store: &Store, pass: &mut Pass, cells: &mut PassCells, sweep:
     ensures pruned { PrunesVersions (stamps_seen (state_of pass.old)) (horizon_of sweep.now)
         cells.old.taken.list.items cells.new.taken.list.items }
 {
+    // The horizon was found before the cells were taken, and may be older than one that would be found now. Then more
+    // records stay than must.
     let horizon = store.pins().horizon(sweep);
     prune_each(store, pass, horizon, cells.taken.list.as_mut_slice());
     let planned = KnowsPruned {
