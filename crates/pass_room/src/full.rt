@@ -1,4 +1,6 @@
 //! A store that is full is noted while the index is in hand.
+//!
+//! 1. A moment later a leaf may be free; the note says of this moment that none was, which is all that `full` promises.
 
 ghost use Rattle.std.specs.Prelude.{◌≡◌, ◌≤◌, true, [], ◌∷◌};
 ghost use Rattle.graph_model.specs.Rows.{is_below, end_key};
@@ -41,6 +43,7 @@ pub(crate) fn note_full(
 /// A pass notes that a write of it was answered `Full`.
 #[derive(Drop)]
 struct NotesFull {
+    /// The number of the pass.
     number: u32,
 }
 

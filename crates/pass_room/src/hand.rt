@@ -1,4 +1,6 @@
 //! Leaves are taken for a call, and put back before it ends.
+//!
+//! 1. So a pass that makes room has nothing in hand when it goes on with its write.
 
 ghost use Rattle.std.specs.Prelude.{◌≡◌, ◌≤◌, ℕ, [], ◌∷◌, List, length, IfNone, IfSome, slice_index};
 ghost use Rattle.pass_splits.specs.PassLeaves.Fit.{TellsFit};

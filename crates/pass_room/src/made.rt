@@ -1,4 +1,7 @@
 //! What a call for room has found of the cells in hand.
+//!
+//! 1. A clause can't speak of cells that were given back; a value that only cells in hand make can, and nobody else
+//!    makes one.
 
 ghost use Rattle.std.specs.Prelude.{◌≡◌, ℕ, [], ◌∷◌, List};
 ghost use Rattle.pass_splits.specs.PassLeaves.Hand.{HoldsLeaves};
@@ -14,7 +17,9 @@ use pass_writes::below::{Pass, Store, TakenCell};
 /// whoever has one has it from a call for room.
 #[derive(Debug, Drop, PartialEq, Eq)]
 pub struct RoomMade {
+    /// Whose cell it was.
     key: Key,
+    /// How many places were asked for.
     need: u8,
 }
 
@@ -40,8 +45,11 @@ impl RoomMade {
 /// room for the rows, while a pass held the leaf and the index. It is made of them and can't be copied.
 #[derive(Debug, Drop, PartialEq, Eq)]
 pub struct StoreFull {
+    /// Whose cell it was.
     key: Key,
+    /// How many places were asked for.
     need: u8,
+    /// How many leaves the store has.
     leaves: u32,
 }
 
@@ -79,6 +87,8 @@ impl StoreFull {
 /// Why no room was made.
 #[derive(Debug, Drop, PartialEq, Eq)]
 pub enum NoRoom {
+    /// No leaf was free, and no window fitted.
     Full(StoreFull),
+    /// Memory was refused, and no row has moved.
     NoMemory,
 }

@@ -1,4 +1,9 @@
 //! Room for rows in a key's cell.
+//!
+//! 1. A window is tried first, since it needs one leaf; a split needs a free leaf besides, whose cells are taken
+//!    together with those of the first.
+//! 2. What was found before the places were taken is looked at again with them in hand, since others may have come
+//!    first.
 
 ghost use Rattle.std.specs.Prelude.{◌≡◌, ◌≤◌, true, [], IfErr, IfOk, IfSome};
 ghost use Rattle.graph_model.specs.Rows.{is_below, end_key};
@@ -15,9 +20,9 @@ use pass_writes::below::{CellHints, Pass, Store};
 use std::alloc::Global;
 use std::sync::Wait;
 
-/// Has so many places be free in the cell of the key while the pass holds it: as it is, or once the smallest window that
-/// fits was spread, or the leaf was split. Others may have used the places up by the time that this returns. Takes all
-/// memory that it needs before anything moves. May wait.
+/// Has so many places be free in the cell of the key while the pass holds it: as it is, or once the smallest window
+/// that fits was spread, or the leaf was split. Others may have used the places up by the time that this returns. Takes
+/// all memory that it needs before anything moves. May wait.
 pub fn make_room(
     rt: &impl Wait,
     store: &Store,
@@ -42,6 +47,7 @@ pub fn make_room(
     'tries: for _ in rt.forever() {
         match try_room(rt, store, pass, own, hints, key, need, alloc) {
             Ok(Some(made)) => return Ok(made),
+            // Somebody changed the leaf between two looks, so all is looked at again.
             Ok(None) => {}
             Err(refused) => return Err(refused),
         }
@@ -69,6 +75,7 @@ fn try_room(
     ensures made { IfOk result (λ made. IfSome made (IsMadeFor key need)) }
     ensures refused { IfErr result (IsNoRoom store.now key need) }
 {
+    // A window first: it needs one leaf, and most often it is enough.
     let (leaf, free) = match try_spread(rt, store, pass, own, hints, key, need, alloc) {
         Ok(Spread::Made(made)) => return Ok(Some(made)),
         Ok(Spread::Crowded { leaf, free }) => (leaf, free),

@@ -1,4 +1,6 @@
 //! What a pass keeps for room from one call to the next.
+//!
+//! 1. The leaf in which rows move is made once, so that a spread takes memory for records alone.
 
 ghost use Rattle.std.specs.Prelude.{◌≡◌, []};
 
@@ -9,7 +11,9 @@ use std::alloc::Global;
 
 /// Leaves in hand, none between two calls, and a leaf in which rows move.
 pub struct PassRoom {
+    /// Those in hand.
     pub leaves: PassLeaves,
+    /// Its segments take the rows of cells while they move, and have none between two calls.
     pub space: Leaf,
     ghost none: { leaves.cells.items ≡ [] },
 }

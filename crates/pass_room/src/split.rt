@@ -1,4 +1,7 @@
 //! Room in the leaf of a key, with a leaf that is free.
+//!
+//! 1. Both leaves are taken in one go by rising keys. Whether the split is still to be done is looked at with both in
+//!    hand.
 
 ghost use Rattle.std.specs.Prelude.{◌≡◌, ◌≤◌, true, [], ◌∷◌, IfOk, IfSome};
 ghost use Rattle.graph_model.specs.Rows.{is_below, end_key};
@@ -55,6 +58,7 @@ pub(crate) fn try_split(
         &mut own.space,
         alloc,
     );
+    // Whatever came of it: also where memory was refused all has to go back.
     put_back(store, pass, &mut own.leaves, index);
     made
 }

@@ -1,4 +1,6 @@
 //! Room in the leaf of a key, without another leaf.
+//!
+//! 1. Where no window fits it tells which leaf is free, or that none is, and gives all back.
 
 ghost use Rattle.std.specs.Prelude.{◌≡◌, ◌≤◌, true, [], ◌∷◌, IfErr, IfOk};
 ghost use Rattle.graph_model.specs.Rows.{is_below, end_key};
@@ -24,6 +26,7 @@ use std::sync::Wait;
 /// What came of it.
 #[derive(Debug, Drop, PartialEq, Eq)]
 pub enum Spread {
+    /// The cell has its places.
     Made(RoomMade),
     /// No window of the leaf fits, and this leaf was free then.
     Crowded { leaf: u32, free: u32 },
@@ -61,6 +64,7 @@ pub(crate) fn try_spread(
         &mut own.space,
         alloc,
     );
+    // Before a split all goes back, since the free leaf's cells may stand before those in hand.
     put_back(store, pass, &mut own.leaves, index);
     spread
 }
@@ -118,6 +122,8 @@ fn look_for_free(
     match next_free(&mut index.value) {
         Some(free) => Ok(Spread::Crowded { leaf, free }),
         None => {
+            // Made while leaf and index are in hand: a moment later a leaf may be free, and the answer is still right
+            // of this moment.
             let full = StoreFull::at(store, pass, cells, index, key, need);
             note_full(store, pass, cells, index, leaf, key, need);
             Err(NoRoom::Full(full))
