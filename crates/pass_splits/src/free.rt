@@ -1,4 +1,6 @@
 //! The leaf that is the next to be taken.
+//!
+//! 1. To look at it takes it and gives it back, which leaves the list as it was.
 
 ghost use Rattle.std.specs.Prelude.{◌≡◌, true, Some};
 ghost use Rattle.pass_splits.specs.Splitting.{IsNextFree};

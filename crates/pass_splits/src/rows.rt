@@ -1,4 +1,7 @@
 //! Rows of cells in hand that are divided between two leaves.
+//!
+//! 1. The right half comes in memory of its own, and the free leaf's cells get it when the rows have moved: so running
+//!    out of memory leaves them as they were.
 
 ghost use Rattle.std.specs.Prelude.{◌≡◌, ◌≤◌, length, Some, OnErr, OnOk};
 ghost use Rattle.pass_moves.specs.LeafArray.Segments.{rows_of};
@@ -39,6 +42,7 @@ pub(crate) fn split_next(
     match split_rows(left, right, index, space, leaf, alloc) {
         Ok(()) => Ok(()),
         Err(refused) => {
+            // The leaf was taken last, so it is the next to be free once more, as before the call.
             index.give_back(leaf);
             Err(refused)
         }
@@ -63,11 +67,14 @@ fn split_rows(
     ensures others { index.new ≡ record index.old { entries = index.new.entries } }
     ensures err { OnErr result ((index.new ≡ index.old) × (right.new ≡ right.old) × KeepsContents left.old left.new) }
 {
+    // Memory comes first, before a row moves. The cells of the free leaf need not be asked what they hold: they get
+    // these segments whole.
     let mut free = Leaf::new(alloc, Key::END, Key::END)?;
     exchange(left, &mut space.segments);
     let done = split_entry(index, alloc, space, &mut free, other);
     exchange(left, &mut space.segments);
     done?;
+    // Only where it is done: else what was in these cells stays there.
     exchange(right, &mut free.segments);
     mark(left, 0, LEAF_SEGMENTS);
     mark(right, 0, LEAF_SEGMENTS);

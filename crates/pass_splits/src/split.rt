@@ -20,6 +20,7 @@ use std::alloc::Global;
 /// Whether the leaf was split.
 #[derive(Clone, Copy, Debug, PartialEq, Eq)]
 pub enum Split {
+    /// It was.
     Done,
     /// The leaf isn't crowded for the key, or another leaf is the next free one: whoever asks looks again.
     Other,
@@ -53,6 +54,8 @@ pub fn split_free(
 {
     let (left, _) = cells.split_at(LEAF_SEGMENTS);
     if !is_crowded(store, pass, left, index, key, need) {
+        // Between the look by which the caller chose both leaves and this one all latches were released, so somebody
+        // may have made room meanwhile.
         return Ok(Split::Other);
     }
     if !is_next_free(&mut index.value, other) {
