@@ -31,9 +31,9 @@ use txn_manager::Config;
 /// The word of a pass whose transaction is open.
 const OPEN: u64 = 1;
 
-/// Begins the next transaction of a pass that has begun so many. Its start is the clock that this call loads. Makes room
-/// in the journal for the commits of all passes, so that none of them needs memory. After a refusal the pass is as it
-/// was, and holds nothing back.
+/// Begins the next transaction of a pass that has begun so many. Its start is the clock that this call loads. Makes
+/// room in the journal for the commits of all passes, so that none of them needs memory. After a refusal the pass is as
+/// it was, and holds nothing back.
 pub fn begin(
     rt: &impl Wait,
     store: &Store,
@@ -54,6 +54,8 @@ pub fn begin(
         return Err(BeginRefusal::TxnsUsed);
     }
     let start = open_txn(rt, store, pass)?;
+    // The announcement of the begin has held back all sweeps since before the clock was loaded, so none came in
+    // between.
     pin(store, pass, start);
     Ok(Begun {
         by: TxnName {
@@ -94,7 +96,10 @@ fn open_within(store: &Store, pass: &mut Pass, journal: &mut RoomyJournal) -> Re
         × IsListOf j journal.new }
     ensures same { IsSamePass pass.old pass.new }
 {
+    // Memory first, while nothing of the transaction exists: its commit then takes none, and can't fail.
     make_room(store, pass, journal)?;
+    // Before the clock is loaded: a sweep that looked between the two would otherwise find no pin, and prune what this
+    // transaction is about to see.
     announce(store, pass);
     let start = load_clock(store, pass);
     let commits = journal.len() as u64;
@@ -122,6 +127,7 @@ fn make_room(store: &Store, pass: &mut Pass, journal: &mut RoomyJournal) -> Resu
 /// The pass counts on all the room that a journal has.
 #[derive(Drop)]
 struct CountsRoom<'a> {
+    /// With room for the commits that may come.
     journal: &'a RoomyJournal,
 }
 
@@ -150,7 +156,9 @@ pub(crate) fn load_clock(store: &Store, pass: &mut Pass) -> u64
 /// A load of the clock by a pass that has the journal.
 #[derive(Drop)]
 struct LoadsClock {
+    /// How the store was made.
     config: Config,
+    /// The number of the pass.
     number: u32,
 }
 
@@ -175,7 +183,7 @@ fn store_open(store: &Store, pass: &mut Pass)
 {
     let number = pass.number;
     let place = store.accounts.pass_place(number);
-    // Sequentially consistent, and has to come behind the load of the clock for all. Whoever finds a record of this
+    // Sequentially consistent, and has to come after the load of the clock for all. Whoever finds a record of this
     // transaction has taken a cell that it has given back since, and so finds this word or a later one.
     store
         .accounts

@@ -29,8 +29,8 @@ use std::sync::Wait;
 use store_rule::{Pass, Store};
 use txn_manager::Config;
 
-/// Commits the open transaction, given what `begin` answered and its writes. Answers the stamp, or none where nothing was
-/// written. Takes no memory. The rows that it has changed are still to be stamped.
+/// Commits the open transaction, given what `begin` answered and its writes. Answers the stamp, or none where nothing
+/// was written. Takes no memory. The rows that it has changed are still to be stamped.
 pub fn commit(
     rt: &impl Wait,
     store: &Store,
@@ -68,6 +68,8 @@ fn enter(rt: &impl Wait, store: &Store, pass: &mut Pass, begun: Begun, writes: W
     ensures pin { pin_of pass.new ≡ pin_of pass.old }
     ensures same { IsSamePass pass.old pass.new }
 {
+    // With the journal in hand nobody else commits, so the stamp that is one more than the clock is this commit's
+    // alone.
     let mut held = take_journal(rt, store, pass);
     let journal = &mut *held.value;
     let clock = load_clock(store, pass);
@@ -81,6 +83,7 @@ fn enter(rt: &impl Wait, store: &Store, pass: &mut Pass, begun: Begun, writes: W
         writes,
     });
     publish(store, pass, clock);
+    // Before the rows get their stamps, so that others commit meanwhile.
     give_journal(store, pass, held);
     clock + 1
 }

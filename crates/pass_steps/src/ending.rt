@@ -30,6 +30,7 @@ pub fn stop(store: &Store, pass: &mut Pass)
 /// A transaction stops.
 #[derive(Drop)]
 struct Stops {
+    /// The number of the pass.
     number: u32,
 }
 

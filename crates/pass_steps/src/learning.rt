@@ -27,7 +27,9 @@ pub fn learn(store: &Store, pass: &mut Pass) -> u64
 /// A pass learns of the rows that it holds.
 #[derive(Drop)]
 struct Learns {
+    /// How the store was made.
     config: Config,
+    /// The number of the pass.
     number: u32,
 }
 

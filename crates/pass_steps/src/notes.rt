@@ -1,5 +1,5 @@
-//! Whom a write meets, as its pass notes it: so that what is answered as the cause of a conflict holds when the store is
-//! closed, and against the journal.
+//! Whom a write meets, as its pass notes it: so that what is answered as the cause of a conflict holds when the store
+//! is closed, and against the journal.
 
 ghost use Rattle.std.specs.Prelude.{◌≡◌, ◌+◌, ◌-◌, ◌<◌, Contains, Some, length, slice_get};
 ghost use Rattle.graph_model.specs.Conflict.{later};
@@ -28,8 +28,11 @@ pub fn name_holder(store: &Store, pass: &mut Pass, by: TxnName, write: Write)
 /// The holder of a clashing write is found.
 #[derive(Drop)]
 struct FindsHolder {
+    /// The number of the pass.
     number: u32,
+    /// The name of the holder.
     by: TxnName,
+    /// The write that clashes.
     write: Write,
 }
 
@@ -44,6 +47,7 @@ impl Change for FindsHolder {
 /// The holder that was found last is named.
 #[derive(Drop)]
 struct NamesHolder {
+    /// The number of the pass.
     number: u32,
 }
 
@@ -73,8 +77,11 @@ pub fn note_later(store: &Store, pass: &mut Pass, write: Write, stamp: u64)
 /// A clashing commit is noted.
 #[derive(Drop)]
 struct NotesLater {
+    /// The number of the pass.
     number: u32,
+    /// The write that clashes.
     write: Write,
+    /// The stamp of the commit that it clashes with.
     stamp: u64,
 }
 
@@ -86,7 +93,7 @@ impl Change for NotesLater {
     ghost told = { λ planned n v. Unit {0} };
 }
 
-/// Has the pass see the commit that it has noted last, which stands behind its start. It waits for the journal: the
+/// Has the pass see the commit that it has noted last, which stands after its start. It waits for the journal: the
 /// commit's pass has it until the commit is published.
 pub fn see_later(rt: &impl Wait, store: &Store, pass: &mut Pass, write: Write, stamp: u64)
     requires pass { IsOpenPass store.now pass.old }
@@ -101,6 +108,8 @@ pub fn see_later(rt: &impl Wait, store: &Store, pass: &mut Pass, write: Write, s
     ensures same { IsSamePass pass.old pass.new }
 {
     'looks: for _ in rt.forever() {
+        // A commit whose stamp stands in a record may not be published yet: its pass has the journal then, and
+        // publishes before it gives it back.
         let clock = refresh(rt, store, pass);
         if stamp <= clock {
             return;

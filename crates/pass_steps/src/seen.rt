@@ -57,7 +57,9 @@ fn see_journal(store: &Store, pass: &mut Pass) -> u64
 /// A load of the clock by which a pass that has the journal sees all of it.
 #[derive(Drop)]
 struct SeesJournal {
+    /// How the store was made.
     config: Config,
+    /// The number of the pass.
     number: u32,
 }
 
@@ -120,6 +122,7 @@ fn see_told(store: &Store, pass: &mut Pass)
 /// A load of the clock by which a pass sees what it was told.
 #[derive(Drop)]
 struct SeesTold {
+    /// The number of the pass.
     number: u32,
 }
 

@@ -42,9 +42,13 @@ impl Asker for Brand {
 
 /// A seat that a pass lends, with what the pass knows.
 pub struct PassStates<'a, B: Asker> {
+    /// The table of the words.
     accounts: &'a Accounts,
+    /// What the pass knows, while it is lent.
     seat: Account,
+    /// The number of the pass.
     number: u32,
+    /// Up to it commits are known to be published.
     clock: u64,
     of: PhantomData<B>,
 }
@@ -140,6 +144,8 @@ fn state_by(word: u64, clock: u64) -> State
 {
     if word > 2 {
         let stamp = word - 2;
+        // A stamp above the clock is stored and not yet published. To whoever found this clock the transaction is still
+        // open.
         if stamp <= clock {
             return State::Committed { stamp };
         }
