@@ -1,4 +1,6 @@
 //! One cell in hand.
+//!
+//! 1. A sweep holds one cell at a time, so it waits for it as long as it takes.
 
 ghost use Rattle.std.specs.Prelude.{◌≡◌, ◌<◌, false};
 ghost use Rattle.pass_steps.specs.CellsModel.Cells.{CellState};

@@ -63,6 +63,7 @@ pub(crate) fn learn_leaves(store: &Store, pass: &mut Pass)
 /// A pass learns of the index that it holds.
 #[derive(Drop)]
 struct LearnsLeaves {
+    /// How many leaves the store has.
     leaves: u32,
 }
 
@@ -79,6 +80,7 @@ impl Change for LearnsLeaves {
 /// copied.
 #[derive(Debug, Drop, PartialEq, Eq)]
 pub struct LeavesFreed {
+    /// Those with a lesser stamp are free.
     until: u64,
 }
 
@@ -137,8 +139,10 @@ fn free_leaves(
     ensures index { result.value.value ≡ (leaves_freed sweep.now (index_in pass.old.account.me.0)).index }
 {
     let until = bound(store.pins().least_pin(sweep));
+    // No more leaves can be retired than there are, so this many means all.
     let most = held.value.leaves() as usize;
     let mut held = held;
+    // Where none was freed the index keeps its version.
     held.changed = free_below(&mut held.value, until, most) > 0;
     let planned = FreesLeaves { until, most };
     store.change(pass, &planned);
@@ -168,7 +172,9 @@ fn bound(least: Option<u64>) -> u64
 /// A load of the clock by which the sweeper's view has the leaves as free.
 #[derive(Drop)]
 struct FreesLeaves {
+    /// Those with a lesser stamp become free.
     until: u64,
+    /// So many at the most, which is all.
     most: usize,
 }
 
@@ -199,6 +205,7 @@ fn yield_index(store: &Store, pass: &mut Pass)
 /// A load of the clock by which the sweeper goes on without the index.
 #[derive(Drop)]
 struct YieldsIndex {
+    /// The number of the pass.
     number: u32,
 }
 

@@ -21,9 +21,13 @@ const CELLS: u32 = 8;
 /// that was pruned.
 #[derive(Debug, Drop, PartialEq, Eq)]
 pub struct LeafSwept {
+    /// The number of the leaf.
     leaf: u32,
+    /// How many of its cells were pruned, of eight.
     cells: u32,
+    /// Whether a record went in one of them.
     took: bool,
+    /// Whether none of them has a record left.
     settled: bool,
 }
 
@@ -137,6 +141,8 @@ fn sweep_cell(rt: &impl Wait, store: &Store, pass: &mut Pass, sweep: &Sweep, swe
 {
     let cell = CELLS * swept.leaf + swept.cells;
     let held = take_cell(rt, store, pass, cell);
+    // What is kept of a packed cell tells that it has no record, so its words need not be loaded, and its version
+    // stays.
     if held.value.is_settled() {
         swept.count(store, pass, sweep, cell, false, true);
         give_cell(store, pass, held);

@@ -53,6 +53,7 @@ pub fn end_sweep(store: &Store, pass: &mut Pass)
 /// A load of the clock by which a pass forgets its sweep.
 #[derive(Drop)]
 struct EndsSweep {
+    /// The number of the pass.
     number: u32,
 }
 

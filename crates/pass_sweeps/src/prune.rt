@@ -70,11 +70,13 @@ fn prune_unpacked(
         held.new.value result }
     ensures same { FindsWords pass.old pass.new }
 {
+    // The pass has to know whose records these are before it may say which of them go.
     let clock = learn_writers(store, pass);
     let horizon = store.pins().horizon(sweep);
     if prune_rows(store, pass, clock, horizon, &mut held.value) == 0 {
         return false;
     }
+    // Only where a record went: else readers of the cell would be disturbed for nothing.
     held.changed = true;
     know_pruned(store, pass, held.cell, &held.value);
     true
@@ -95,7 +97,9 @@ fn know_pruned(store: &Store, pass: &mut Pass, cell: u32, segment: &VersionSegme
 /// A load of the clock by which a pass knows a cell's pruned rows.
 #[derive(Drop)]
 struct KnowsPruned<'a> {
+    /// The number of the cell.
     cell: u32,
+    /// Its rows as they are now.
     segment: &'a VersionSegment,
 }
 

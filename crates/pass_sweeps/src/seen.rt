@@ -87,7 +87,9 @@ pub fn learn_writers(store: &Store, pass: &mut Pass) -> u64
 /// A pass learns of the writers in the rows that it holds.
 #[derive(Drop)]
 struct LearnsWriters {
+    /// How the store was made.
     config: Config,
+    /// The number of the pass.
     number: u32,
 }
 

@@ -21,6 +21,7 @@ use std::sync::Wait;
 /// the next one then.
 #[derive(Clone, Copy, Debug, Drop, PartialEq, Eq)]
 pub struct SweepKey {
+    /// The leaf that has this key is the next one.
     pub next: Key,
 }
 
@@ -38,7 +39,9 @@ impl SweepKey {
 /// What a turn has done: it pruned the cells of a leaf, and if that was the last one, freed retired leaves.
 #[derive(Debug, Drop, PartialEq, Eq)]
 pub struct SweepTurn {
+    /// The leaf whose cells were pruned.
     pub swept: LeafSwept,
+    /// None before the last leaf.
     pub freed: Option<LeavesFreed>,
 }
 
@@ -78,10 +81,13 @@ fn choose_leaf(
     ensures chosen { (chosen : ChoosesLeaf key.old.next key.new.next result.0) × FreesAtEnd chosen result.1 result.2 }
 {
     let held = take_index(rt, store, pass);
+    // With the index in hand, the only moment at which it is certain which leaf has the key.
     learn_leaves(store, pass);
     let range = leaf_of(&held.value, key.next);
     key.next = key_after(range.high);
     if range.high.is_below(Key::END) {
+        // The index goes back before the pins are looked at and before a cell is taken: others need it, and a wait for
+        // a cell with it in hand could be for ever.
         give_index(store, pass, held);
         let sweep = sweep_pins(store, pass);
         return (range.leaf, sweep, None);
