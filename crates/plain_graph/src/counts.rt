@@ -11,7 +11,9 @@ use std::alloc::Global;
 /// How many vertices and edges a graph has. An edge without a direction, which is two arcs, counts once.
 #[derive(Clone, Copy, Debug, PartialEq, Eq)]
 pub struct GraphCounts {
+    /// How many vertices there are.
     pub vertices: u64,
+    /// How many edges there are.
     pub edges: u64,
 }
 

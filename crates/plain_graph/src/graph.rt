@@ -1,4 +1,8 @@
 //! A graph in ordered maps.
+//!
+//! 1. It has no transactions and no versions, and serves where a journal is read back: what its commits leave is
+//!    counted there.
+//! 2. A write is made whether or not the graph would allow it. Of a legal journal each one is allowed.
 
 ghost use Rattle.std.specs.Prelude.{◌≡◌, OnOk};
 ghost use Rattle.graph_model.specs.Graph.{Graph, empty_graph, apply_all, with_edge, without_edge, with_arc, without_arc};
@@ -13,8 +17,11 @@ use std::collections::BTreeMap;
 /// A graph of this kind: its vertices, and the weights of its arcs by their sources and targets.
 #[derive(Drop)]
 pub struct PlainGraph {
+    /// Whether an edge is one arc or two.
     pub kind: Kind,
+    /// In rising order.
     pub vertices: BTreeMap<u64, ()>,
+    /// By source and target.
     pub arcs: BTreeMap<(u64, u64), u64>,
 }
 
