@@ -1,4 +1,6 @@
 //! The worker as an engine.
+//!
+//! 1. Each call hands on to one of `calls`, so that its proof speaks of one call, and this file of traits alone.
 
 ghost use Rattle.std.specs.Prelude.{◌≡◌};
 ghost use Rattle.graph_model.specs.AccountSteps.{AbortsBy, BeginsBy, CommitsBy, ReadsBy, WritesBy};

@@ -25,6 +25,7 @@ const HIGH: u32 = 4;
 /// The leaf that a hint names for a key.
 #[derive(Clone, Copy, Debug, PartialEq, Eq)]
 pub(crate) struct LikelyLeaf {
+    /// The number of the leaf.
     pub leaf: u32,
     /// Where it ends.
     pub high: Key,
@@ -34,11 +35,13 @@ pub(crate) struct LikelyLeaf {
 /// a round ends. The first call looks at the first blocks of all leaves: a pass that hands out no hint of its own would
 /// else come to know one leaf a turn.
 pub(crate) fn likely_leaf(store: &Store, hints: &mut CellHints, key: Key) -> Option<LikelyLeaf> {
+    // Else a worker that has only served, and never written, would know no leaf.
     hints.survey_once(store);
     let leaf = hints.leaf_of(key);
     let cells = cells_of(leaf);
     let low = key_in(store, cells.start, LOW);
     let high = key_in(store, cells.end.saturating_sub(1), HIGH);
+    // At the last leaf a sweep frees retired leaves too, so it isn't passed over.
     let holds = !key.is_below(low) && key.is_below(high) && high.is_below(Key::END);
     holds.then_some(LikelyLeaf { leaf, high })
 }
@@ -61,6 +64,7 @@ fn are_full(store: &Store, cells: Range<u32>) -> bool {
     let mut rows: u64 = 0;
     'cells: for cell in cells {
         let count = word_in(store, cell, COUNT);
+        // One cell with few rows is enough for a window to be spread.
         if count < u64::from(LOWER_LIMITS[0]) {
             return false;
         }

@@ -60,6 +60,7 @@ fn try_value(store: &Store, pass: &mut Pass, key: Key) -> Option<Tried>
     let route = likely_route(store, &mut pass.cells.hints, key)?;
     let mut tried = try_once(store, pass, &route, key);
     'tries: for _ in 1..TRIES {
+        // A busy cell is tried again, since whoever changes it is soon done; all other answers stay what they are.
         if !matches!(tried, Tried::Busy { .. }) {
             return Some(tried);
         }

@@ -47,6 +47,7 @@ pub(crate) fn room_for(
         need,
         alloc,
     ) {
+        // That there was room holds of a moment that is past. The caller tries its write again, and may come back.
         Ok(_) => Ok(()),
         Err(NoRoom::Full(full)) => Err(RoomRefusal::Full {
             leaves: full.leaves(),

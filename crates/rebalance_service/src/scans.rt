@@ -42,6 +42,8 @@ pub fn scan_step(
     ensures kept { KeepsOpen store.now pass.old pass.new }
     ensures answer { ScansBy (view_in store.now pass.old) cursor.old cursor.new rows.new }
 {
+    // A portion is read whole or not at all: what a try has read of it is let go, and the next one begins at the same
+    // key.
     let first = *cursor;
     'tries: for _ in 0..TRIES {
         *cursor = first;
@@ -49,8 +51,10 @@ pub fn scan_step(
         if read_portion(rt, store, pass, place, cursor, rows) {
             return;
         }
+        // Whoever changes the cell is soon done.
         spin_loop();
     }
+    // Where it stays busy the latch is waited for: then the scan goes on for certain.
     *cursor = first;
     shared_store::scan_step(rt, store, pass, cursor, rows);
 }
@@ -78,9 +82,11 @@ fn read_portion(
         if !read_on(rt, store, pass, place, cursor, rows) {
             return false;
         }
+        // The buffer is full, or the scan is over.
         if is_whole(cursor, rows) {
             return true;
         }
+        // The next cell in key order often has the next number, so it is looked at first.
         place.go_on();
     }
     unreachable!()
@@ -118,6 +124,7 @@ fn read_on(
             true
         }
         TriedRun::Chained { key, end } => {
+            // The rows before this one are in the buffer and right; from it on records have to be read.
             cursor.next = key;
             place.has_met_records = true;
             read_held(rt, store, pass, cursor, end, rows)
@@ -168,6 +175,7 @@ fn read_held(
         done: false,
     };
     shared_store::scan_step(rt, store, pass, &mut part, &mut run);
+    // The rest of the cell and what is in the buffer are too much for one portion: then all of it is read by latches.
     if !part.done {
         return false;
     }
@@ -207,8 +215,8 @@ fn try_likely(
     try_cell(store, pass, place.cell, cursor, rows)
 }
 
-/// What tries in the scan's cell, or where its keys end before the next one, in the cell with the next number, have found
-/// last.
+/// What tries in the scan's cell, or where its keys end before the next one, in the cell with the next number, have
+/// found last.
 fn try_near(
     store: &Store,
     pass: &mut Pass,
@@ -259,6 +267,7 @@ fn try_cell(
     ensures kept { KeepsOpen store.now pass.old pass.new }
     ensures run { IsRun result (view_in store.now pass.old) cursor.now.next cursor.now.until rows.old rows.new }
 {
+    // The place of a scan may name no cell, as at its begin.
     if cell >= store.index_place() {
         return TriedRun::Moved {
             low: Key::END,

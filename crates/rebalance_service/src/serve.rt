@@ -20,15 +20,20 @@ use std::sync::Wait;
 /// What a turn of the service does.
 #[derive(Clone, Copy, Debug, PartialEq, Eq)]
 pub enum ServiceTurn {
+    /// Rows of a leaf are pruned.
     Sweep,
+    /// A window is spread, or two leaves become one.
     Merge,
 }
 
 /// Where a worker's service goes on.
 #[derive(Clone, Copy, Debug, PartialEq, Eq)]
 pub struct ServiceKeys {
+    /// Which comes next.
     pub turn: ServiceTurn,
+    /// Where sweeps go on.
     pub sweep: SweepKey,
+    /// Where merging goes on.
     pub merge: MergeKey,
 }
 
@@ -60,6 +65,7 @@ pub(crate) fn serve(
 {
     match keys.turn {
         ServiceTurn::Sweep => {
+            // The turn is passed on first, so that neither step can hold up the other.
             keys.turn = ServiceTurn::Merge;
             Ok(sweep(rt, store, pass, settled, &mut keys.sweep))
         }
@@ -84,6 +90,7 @@ fn sweep(
     ensures legal { HasSeenLegal (account_of store.now pass.new) }
     ensures reads { ReadsBy (account_of store.now pass.old) (account_of store.now pass.new) }
 {
+    // Before the sweep: a cell that changes while it goes on has another sum afterwards, and then the leaf isn't noted.
     let looked = FreeLeaf::of_key(store, &mut pass.cells.hints, key.next);
     if let Some(next) = settled.beyond(looked) {
         key.next = next;
@@ -111,7 +118,7 @@ pub(crate) fn sweep_here(
     swept
 }
 
-/// Spreads a window of the next leaf, or makes one leaf of it and the one behind it, if there is anything to do with
+/// Spreads a window of the next leaf, or makes one leaf of it and the one after it, if there is anything to do with
 /// it. Answers whether a cell has changed. A leaf that is likely to be full is passed over without a latch.
 fn merge(
     rt: &impl Wait,
@@ -126,6 +133,7 @@ fn merge(
     ensures legal { HasSeenLegal (account_of store.now pass.new) }
     ensures reads { ReadsBy (account_of store.now pass.old) (account_of store.now pass.new) }
 {
+    // A look at words with no latch. If it is wrong the leaf is looked at when the turn comes round again.
     if let Some(next) = beyond_full_leaf(store, &mut pass.cells.hints, key.next) {
         key.next = next;
         return Ok(false);

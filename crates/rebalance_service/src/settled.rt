@@ -15,8 +15,11 @@ const UNKNOWN: u64 = u64::MAX;
 /// A leaf all of whose cells a look found free, with the sum of their latch words.
 #[derive(Clone, Copy, Debug, PartialEq, Eq)]
 pub(crate) struct FreeLeaf {
+    /// The number of the leaf.
     leaf: u32,
+    /// Where it ends.
     high: Key,
+    /// The sum of its latch words, each of which was even.
     sum: u64,
 }
 
@@ -33,7 +36,7 @@ impl FreeLeaf {
 /// it stood both before and after a sweep that left no record in any of them. It may be wrong, since the words are
 /// loaded one after the other while others take cells, and a hint may name a leaf that is the key's no more. That is
 /// harmless: no clause speaks of which leaf a turn looks at, and a leaf that is passed over by mistake has its turn in
-/// the next round. It costs 8 bytes a leaf, and twelve loads before a sweep and eight behind it. It spares a turn at a
+/// the next round. It costs 8 bytes a leaf, and twelve loads before a sweep and eight after it. It spares a turn at a
 /// leaf without records the latches of the index and of eight cells, and the loads of all pins.
 #[derive(Drop)]
 pub(crate) struct SettledLeaves {
@@ -67,9 +70,11 @@ impl SettledLeaves {
     /// Notes a leaf that was swept, if no record is left in it and no cell has changed since the look before the sweep.
     pub(crate) fn note(&mut self, store: &Store, looked: Option<FreeLeaf>, swept: &LeafSwept) {
         let Some(before) = looked else { return };
+        // The hint may have named another leaf than the one that was swept.
         if !swept.settled() || swept.leaf() != before.leaf {
             return;
         }
+        // Version words never fall, so an equal sum means that none has changed.
         if free_sum(store, before.leaf) != Some(before.sum) {
             return;
         }
@@ -87,7 +92,7 @@ fn free_sum(store: &Store, leaf: u32) -> Option<u64> {
             return None;
         }
         // Sequentially consistent, where a relaxed load would do: a word is compared with what the same word was
-        // before, and never falls. Whoever takes the cell behind the load is found by the next look.
+        // before, and never falls. Whoever takes the cell after the load is found by the next look.
         let word = store.cells().table.peek(cell as usize);
         if word % 2 == 1 {
             return None;

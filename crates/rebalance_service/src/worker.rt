@@ -31,14 +31,19 @@ impl Home for Brand {
 /// Runs the transactions of one pass, and turns of the service between them.
 pub struct Worker<'a, R: Wait, H: Home> {
     pub(crate) rt: &'a R,
+    /// The store that its pass is of.
     pub(crate) store: &'a Store,
+    /// Whose transactions it runs.
     pub(crate) pass: Pass,
     /// Made by the first call that moves rows.
     pub(crate) room: Option<PassRoom>,
+    /// Leaves that a sweep may pass over.
     pub(crate) settled: SettledLeaves,
+    /// Where its scan has come to.
     pub(crate) place: ScanPlace,
     /// How many turns of the service it has taken, up to the last number.
     pub(crate) served: u64,
+    /// Where its service goes on.
     pub(crate) keys: ServiceKeys,
     of: PhantomData<H>,
     pub ghost ready: { ∥ IsReady store.now pass ∥₁ },
@@ -59,6 +64,7 @@ impl<'a, R: Wait, H: Home> Worker<'a, R, H> {
             rt,
             store,
             pass,
+            // A worker that only reads never needs it, and one that writes makes it when a row first finds no place.
             room: None,
             settled,
             place: ScanPlace::nowhere(),
@@ -86,6 +92,7 @@ impl<'a, R: Wait, H: Home> Worker<'a, R, H> {
             of: _,
         } = self;
         match room {
+            // Lists of cells can't be dropped; they are empty between two calls.
             Some(room) => room.close(),
             None => {}
         }

@@ -65,6 +65,7 @@ fn write_with_room(
     'tries: for _ in rt.forever() {
         match shared_store::write(rt, store, pass, write) {
             Ok(Written::Done) => return Ok(()),
+            // Nothing has changed, and no cell is in hand: so room may be made, which takes whole leaves.
             Ok(Written::NeedRoom(short)) => {
                 match make_way(rt, store, pass, room, write, short) {
                     Ok(()) => {}
