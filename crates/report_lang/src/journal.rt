@@ -1,4 +1,8 @@
 //! The journal's text.
+//!
+//! 1. A commit is a line with its stamp, start and name, and a line for each of its writes, in the order in which they
+//!    were made.
+//! 2. Where memory is refused the text is as it was.
 
 ghost use Rattle.std.specs.Prelude.{◌≡◌, ◌++◌, codes, OnOk, OnErr};
 ghost use Rattle.run_model.specs.Texts.{field, write_text, commit_text, journal_text};

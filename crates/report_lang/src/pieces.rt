@@ -7,7 +7,7 @@ ghost use Rattle.graphalytics_io.specs.Appends.{Extends};
 use graph_model::{NoMemory, TxnName};
 use graphalytics_io::{Spelling, Text};
 
-/// A number behind a blank.
+/// A number after a blank.
 pub(crate) struct Field;
 
 impl Spelling<u64> for Field {
@@ -19,7 +19,7 @@ impl Spelling<u64> for Field {
     }
 }
 
-/// Writes a word, and a number behind a blank. Without memory the text may have a part of it.
+/// Writes a word, and a number after a blank. Without memory the text may have a part of it.
 pub(crate) fn write_counted(word: &[u8], n: u64, text: &mut Text) -> Result<(), NoMemory>
     ensures ok { OnOk result (text.new ≡ text.old ++ (word.now ++ field n)) }
     ensures err { OnErr result (Extends text.old text.new) }

@@ -1,4 +1,7 @@
 //! Reports.
+//!
+//! 1. A line of the script has one line of the report, in the same order; lines that say nothing have none.
+//! 2. Where memory is refused the text is as it was.
 
 ghost use Rattle.std.specs.Prelude.{◌≡◌, ◌++◌, codes, OnOk, OnErr};
 ghost use Rattle.run_model.specs.Texts.{answer_text, report_text};
