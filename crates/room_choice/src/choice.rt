@@ -1,4 +1,7 @@
 //! The choice.
+//!
+//! 1. It looks at counts alone, so that the owner of a store and a pass with one leaf in hand choose alike.
+//! 2. The smallest window that fits is taken, so that the fewest rows move.
 
 ghost use Rattle.std.specs.Prelude.{◌≤◌, ◌<◌};
 ghost use Rattle.room_choice.specs.Choice.{IsRoomChoice};
