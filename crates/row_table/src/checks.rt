@@ -49,6 +49,7 @@ pub fn touch_cause<S: States>(
     let mut cause = None;
     'ask_all: while let Some(key) = link {
         let touch = chains.record(key);
+        // All of them: the cause that is named is the one that counts, and not the first that is found.
         cause = combined(cause_of(&touch, snapshot, states), cause);
         link = touch.next;
     }
@@ -74,6 +75,7 @@ pub fn drop_cause<S: States>(
     let mut cause = None;
     'ask: while let Some(key) = link {
         let undo = chains.record(key);
+        // Its writer removed the row. One that left a value stands against no edge here.
         if value.is_none() {
             cause = combined(cause, cause_of(&undo, snapshot, states));
         }
@@ -103,6 +105,7 @@ fn state_of<S: States>(undo: &Undo, own: TxnName, states: &mut S) -> State
         (same_name undo.now.by own) undo.now.stamp undo.now.by result }
     ensures grows { Grows (S.knowledge states.old) (S.knowledge states.new) }
 {
+    // Whoever asks is open, and its own word needn't be asked for that.
     if undo.by == own {
         return State::Live;
     }

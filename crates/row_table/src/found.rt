@@ -24,9 +24,13 @@ use undo_chain::{Chains, States};
 /// Where a row stands, its newest value, and where its records and its touches begin.
 #[derive(Clone, Copy)]
 pub struct FoundRow {
+    /// Its place among the rows of the segment.
     pub place: usize,
+    /// None where the row was removed, and has records still.
     pub value: Option<u64>,
+    /// The newest record of a value before.
     pub undos: Option<usize>,
+    /// The newest record of a touch.
     pub touches: Option<usize>,
 }
 
@@ -79,6 +83,7 @@ pub fn set_row(rows: &mut RowTable, chains: &Chains, key: Key, row: FoundRow)
         → rows.old.heads.spare ≤ rows.new.heads.spare }
 {
     let is_changed = row.undos.is_some() || row.touches.is_some();
+    // Nobody reads anything of it any more.
     if row.value.is_none() && !is_changed {
         rows.remove(key, row.place);
         return;
@@ -130,6 +135,7 @@ pub fn prune_row<S: States>(
 {
     let key = rows.segment().rows()[place].key;
     let row = row_at(rows, key, place);
+    // Most rows have none, and are passed over with one look.
     if row.undos.is_none() && row.touches.is_none() {
         return;
     }

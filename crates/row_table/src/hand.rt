@@ -61,6 +61,7 @@ fn hand_over(
     let heads = from_heads.get(place);
     let undos = from.move_to(heads.undos, to);
     let touches = from.move_to(heads.touches, to);
+    // The entry at the old place goes with the row.
     let settled = PackedHeads::new(true, Link::none(), Link::none());
     from_heads.put(place, settled);
     let moved = PackedHeads::new(heads.has_value, to.link(undos), to.link(touches));

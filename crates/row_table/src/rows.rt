@@ -1,7 +1,7 @@
 //! Rows with their heads.
 //!
 //! 1. The heads of a row are found by its place, so they move where it moves.
-//! 2. No heads are kept for places behind the rows.
+//! 2. No heads are kept for places after the rows.
 
 ghost use Rattle.std.specs.Prelude.{◌≡◌, ◌==◌, ◌⊎◌, ◌+◌, ◌-◌, ◌<◌, ◌≤◌, true, false, [], take, drop, length, insert, remove, min, cond, IfSome, OnOk, IfOk, IsOk, ◌++◌};
 ghost use Rattle.std.specs.Ordering.{eq_by_cmp};
@@ -26,7 +26,9 @@ use undo_chain::Chains;
 /// The rows of a segment, and where the records of those that are changed begin.
 #[derive(Drop)]
 pub struct RowTable {
+    /// Each with its newest value.
     rows: Segment,
+    /// Where the records of changed rows begin.
     heads: HeadMap,
 }
 
@@ -267,6 +269,7 @@ impl RowTable {
             return;
         }
         let len = self.rows.len();
+        // While rows move, places count through both tables, so that none stands twice.
         right.heads.raise(len);
         hand_each(
             &mut self.heads,

@@ -25,7 +25,9 @@ pub const NOWHERE: usize = 18446744073709551615;
 /// What a key has in a table.
 #[derive(Drop)]
 pub struct RowView<'a> {
+    /// The records of all rows.
     chains: &'a Chains,
+    /// None where the key has no row.
     row: Option<FoundRow>,
 }
 
@@ -49,6 +51,7 @@ pub fn look_up<'a>(rows: &RowTable, chains: &'a Chains, key: Key, near: usize) -
     requires { AreParts rows.now.fenced rows.now.heads.entries chains.now }
     ensures { result ≡ find key_cmp key (versioned chains.now rows.now.heads.entries rows.now.fenced.rows) }
 {
+    // All that is asked of a row afterwards goes from here, with no second search.
     match find_row(rows, key, near) {
         Ok(row) => RowView {
             chains,
@@ -96,6 +99,7 @@ impl RowView<'_> {
         match self.row {
             Some(row) => {
                 let newest = newest_cause(self.chains, row.undos, snapshot, states);
+                // Touches too: an edge that was added at the vertex stands against its removal.
                 let touches = touch_cause(self.chains, row.touches, snapshot, states);
                 combined(newest, touches)
             }
