@@ -24,7 +24,9 @@ use version_segment::RowView;
 /// The rows of an edge's ends.
 #[derive(Drop)]
 struct Ends<'a> {
+    /// What the first end has.
     source: RowView<'a>,
+    /// What the second end has.
     target: RowView<'a>,
 }
 
@@ -55,6 +57,7 @@ pub fn check<C: HeldCells, S: States, E: FnOnce(u64) -> bool>(
             check_old_vertex(cells, snapshot, states, v, near.row, has_edges)
         }
         Write::AddEdge { u, v, weight: _ } => check_new_edge(cells, snapshot, states, u, v, near),
+        // What stands against a change of a weight stands against a removal too, and no more.
         Write::SetEdge { u, v, weight: _ } => check_old_edge(cells, snapshot, states, u, v, near),
         Write::DropEdge { u, v } => check_old_edge(cells, snapshot, states, u, v, near),
     }
@@ -103,12 +106,15 @@ fn check_old_vertex<C: HeldCells, S: States, E: FnOnce(u64) -> bool>(
     ensures grows { Grows (S.knowledge states.old) (S.knowledge states.new) }
 {
     let row = cells.row(Key::of_vertex(v), near);
+    // The view comes first: what the transaction doesn't see is told before who stands against it.
     if row.value(snapshot, states).is_none() {
         return Err(Refusal::NoVertex { v });
     }
+    // Asked only of a vertex that is there, since an answer may cost a walk over all rows.
     if has_edges(v) {
         return Err(Refusal::HasEdges);
     }
+    // Whoever added an edge at it stands against its removal, though no value of the vertex has changed.
     unless_met(row.removal_cause(snapshot, states))
 }
 
@@ -130,6 +136,7 @@ fn check_ends<'a, C: HeldCells, S: States>(
     ensures target { IfOk result (λ ends. or_nothing ends.target ≡ (C.rows cells.now).versions (vertex_key v)) }
     ensures grows { Grows (S.knowledge states.old) (S.knowledge states.new) }
 {
+    // No row is looked up for it.
     if u == v {
         return Err(Refusal::SelfLoop);
     }
@@ -169,6 +176,7 @@ fn check_new_edge<C: HeldCells, S: States>(
         return Err(Refusal::EdgeExists);
     }
     let newest = arc.cause(snapshot, states);
+    // Of the ends only a removal stands against the edge: others may add edges there, or remove them.
     let source = ends.source.drop_cause(snapshot, states);
     let target = ends.target.drop_cause(snapshot, states);
     unless_met(combined(newest, combined(source, target)))

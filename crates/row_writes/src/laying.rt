@@ -1,6 +1,6 @@
 //! What a write puts into its rows.
 //!
-//! 1. Memory for the records of all its rows is taken first, so nothing that was put is taken back for want of it.
+//! 1. Memory for the records of all its rows is taken first, so nothing that was put is taken back for lack of it.
 //! 2. Each cell that a write changes then has room for four records, and a write uses one a row.
 
 ghost use Rattle.std.specs.Prelude.{◌≡◌, OnOk, OnErr};
@@ -43,6 +43,7 @@ fn reserve_touched<C: HeldCells>(
     ensures keeps { C.keeps cells.old cells.new }
 {
     match found.rows.ends {
+        // Only an added edge touches its ends: so that a removal of a vertex is told of it.
         Some(ends) if found.rows.touches => {
             cells.reserve(ends.source, found.near.source)?;
             cells.reserve(ends.target, found.near.target)

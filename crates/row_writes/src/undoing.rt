@@ -17,6 +17,7 @@ fn undo_written<C: HeldCells>(cells: &mut C, by: TxnName, found: &FoundRows<C::F
 {
     cells.change(found.rows.row, found.near.row, by, RowChange::Undo);
     match found.rows.back {
+        // Where both are one key its record went with the first undo.
         Some(back) if back != found.rows.row => {
             cells.change(back, found.near.back, by, RowChange::Undo);
         }

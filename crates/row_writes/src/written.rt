@@ -13,7 +13,9 @@ use graph_model::{Key, Kind, Write};
 /// The rows of an edge's ends.
 #[derive(Clone, Copy, Debug, PartialEq, Eq)]
 pub struct EndKeys {
+    /// Of the edge's first end.
     pub source: Key,
+    /// Of its second end.
     pub target: Key,
 }
 
@@ -35,16 +37,22 @@ pub struct WrittenRows {
 /// Where the rows of a write were found. An end that isn't looked for has a finger that points nowhere.
 #[derive(Clone, Copy, Debug, PartialEq, Eq)]
 pub struct Fingers<F> {
+    /// The row that is written.
     pub row: F,
+    /// That of the same edge the other way.
     pub back: F,
+    /// That of the first end.
     pub source: F,
+    /// That of the second end.
     pub target: F,
 }
 
 /// The rows of a write, and where they were found.
 #[derive(Clone, Copy, Debug, PartialEq, Eq)]
 pub struct FoundRows<F> {
+    /// Which rows these are.
     pub rows: WrittenRows,
+    /// Where to look for each first.
     pub near: Fingers<F>,
 }
 
@@ -102,6 +110,7 @@ impl WrittenRows {
         requires target_within { v ≤ MAX_ID }
         ensures { result ≡ of_edge kind u v value }
     {
+        // An undirected edge has a row at each end, so that each end's edges are one range of keys.
         let back = match kind {
             Kind::Directed => None,
             Kind::Undirected => Some(Key::of_arc(v, u)),
