@@ -1,4 +1,7 @@
 //! What a keeper asks of its engine.
+//!
+//! 1. A keeper is lent the journal after each turn, and keeps what it hasn't kept yet: so an engine has to tell it
+//!    nothing of files.
 
 ghost use Rattle.std.specs.Prelude.{◌≡◌};
 

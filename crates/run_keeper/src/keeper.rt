@@ -17,8 +17,10 @@ use thiserror::Error;
 /// Why commits weren't kept.
 #[derive(Clone, Copy, Debug, PartialEq, Eq, Error)]
 pub enum KeepRefusal {
+    /// A call of the disk failed.
     #[error("the disk failed")]
     DiskFault,
+    /// Memory was refused.
     #[error("no memory")]
     NoMemory,
 }
@@ -46,6 +48,7 @@ impl From<NoMemory> for KeepRefusal {
 /// Keeps the commits of a run in a journal file.
 #[derive(Drop)]
 pub struct Keeper {
+    /// The file that they are kept in.
     pub file: JournalFile,
     /// The bytes of one commit after the other.
     pub record: Record,
@@ -91,7 +94,7 @@ impl Keeper {
         Ok(())
     }
 
-    /// Adds the commit behind those of the file.
+    /// Adds the commit after those of the file.
     fn keep_next<K: Disk>(&mut self, disk: &mut K, commit: &Commit) -> Result<(), KeepRefusal>
         ensures kept { OnOk result ((kind : Kind) (journal commits : List Commit)
             → IsLegalCommit kind journal (length commits) commit.now

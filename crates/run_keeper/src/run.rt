@@ -18,7 +18,7 @@ use journal_disk::Disk;
 use std::thread::Threads;
 
 /// Runs the jobs of all scripts to their end, one turn after the other. Keeps the commits that the engine has before
-/// the first turn, and those of each turn behind it.
+/// the first turn, and those of each turn after it.
 pub fn run_kept<R: Threads + Sync, E: JournalEngine, K: Disk>(
     rt: &R,
     engine: &mut E,
@@ -48,7 +48,7 @@ pub fn run_kept<R: Threads + Sync, E: JournalEngine, K: Disk>(
     Ok(())
 }
 
-/// Takes turns until all scripts have ended, or a commit isn't kept, or memory is wanted.
+/// Takes turns until all scripts have ended, or a commit isn't kept, or memory runs out.
 fn take_turns<R: Threads + Sync, E: JournalEngine, K: Disk>(
     rt: &R,
     engine: &mut E,
