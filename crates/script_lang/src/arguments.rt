@@ -1,4 +1,4 @@
-//! The fields of a line behind its word.
+//! The fields of a line after its word.
 
 ghost use Rattle.std.specs.Prelude.{◌≡◌, ◌≤◌, None, Some, MatchResult};
 ghost use Rattle.std.specs.List.{list_all};
@@ -20,11 +20,17 @@ pub(crate) const MAX_WIDTH: u32 = 4294967295;
 /// What the fields of a line say: a value for each kind of field.
 #[derive(Drop)]
 pub(crate) struct Arguments<'a> {
+    /// The first id, 0 where there is none.
     pub vertex: u64,
+    /// The second one.
     pub target: u64,
+    /// 1 where there is none.
     pub weight: u64,
+    /// 0 where there are none.
     pub rounds: u32,
+    /// 1 where there is none.
     pub width: u32,
+    /// Without bytes where there is none.
     pub file: &'a [u8],
 }
 
@@ -59,6 +65,8 @@ pub(crate) fn read_arguments<'a>(
     let mut fault = None;
     'kinds: for kind in kinds {
         if let Some(field) = left.next() {
+            // All fields are read, whatever the first one says: which fault counts is told by the order of the checks,
+            // and not by that of the fields.
             fault = earlier(fault, arguments.read(*kind, field, taken));
         }
     }
@@ -173,6 +181,7 @@ fn new_name<'a>(field: &'a [u8], taken: &Names) -> Result<&'a [u8], ScriptWhat>
         (λ name. (file_fault taken.now field.now ≡ None) × (name.now ≡ field.now))
         (λ what. file_fault taken.now field.now ≡ Some what) }
 {
+    // Its form first: a name that is none can't be taken.
     if !is_file_name(field) {
         return Err(ScriptWhat::BadName);
     }

@@ -1,4 +1,7 @@
 //! The command of a line.
+//!
+//! 1. A match over all words: each has a line that says which fields it has, so it is read from top to bottom against
+//!    the table of FORMATS.
 
 ghost use Rattle.std.specs.Prelude.{◌≡◌, ◌++◌, IfOk, OnOk, OnErr};
 ghost use Rattle.run_model.specs.Requests.{request};

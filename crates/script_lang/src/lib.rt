@@ -1,7 +1,7 @@
 //! The texts that tell a run what to do: scripts and schedules are read.
 //!
 //! 1. What a text stands for, and what its first fault is, is defined apart from the loops that read it.
-//! 2. A call that is refused, for a fault or for want of memory, leaves the names as they were.
+//! 2. A call that is refused, for a fault or where memory runs out, leaves the names as they were.
 //!
 //! A command is added by one variant of `Word` and one row in each table: `WORDS`, `text`, `kinds`, `command_of`,
 //! the same three in `specs/`, and the laws by cases on a word.

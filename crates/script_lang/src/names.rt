@@ -19,7 +19,9 @@ use std::marker::Model;
 #[derive(Drop)]
 pub struct Names {
     alloc: Global,
+    /// In the order in which they were taken.
     names: RoomyItems<Name>,
+    /// The same names with their places, to find one.
     places: BTreeMap<Vec<u8>, usize>,
 }
 

@@ -23,6 +23,7 @@ use std::alloc::Global;
 /// The commands of the lines so far, and what the next line is checked against.
 #[derive(Drop)]
 pub(crate) struct Reading {
+    /// Those so far.
     pub script: Script,
     /// The line of the `begin` whose transaction is open.
     pub began: Option<u64>,
@@ -49,6 +50,7 @@ impl Reading {
             Err(what) => return Err(ScriptRefusal::Fault { line: number, what }),
         };
         let command = command_of(alloc, word, arguments)?;
+        // From this line on the name is taken, for the lines to come and for later scripts.
         take_file(alloc, &command, taken)?;
         self.follow(number, &command);
         self.script.push(command)?;
@@ -72,14 +74,16 @@ impl Reading {
         let Some(word) = word_of(field) else {
             return Err(ScriptWhat::NotACommand)
         };
+        // The order of these checks is that in which faults of a line count.
         check_count(word.kinds(), fields.count())?;
         check_place(word, self.began.is_some())?;
         let arguments = read_arguments(word.kinds(), fields, taken)?;
+        // Last, since it is the one fault that a shorter script wouldn't have.
         check_begins(word, self.begun)?;
         Ok((word, arguments))
     }
 
-    /// Notes what is known behind a line.
+    /// Notes what is known after a line.
     fn follow(&mut self, number: u64, command: &Command)
         requires { next_txn self.old.begun (request command.now) < 2 ^ 32 }
         ensures { self.new ≡ record self.old {
@@ -99,7 +103,7 @@ impl Reading {
     }
 }
 
-/// Checks how many fields stand behind a word.
+/// Checks how many fields stand after a word.
 fn check_count(kinds: &[FieldKind], count: usize) -> Result<(), ScriptWhat>
     ensures { MatchResult result (λ _. count_fault kinds.now count ≡ None)
         (λ what. count_fault kinds.now count ≡ Some what) }

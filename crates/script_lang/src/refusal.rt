@@ -1,4 +1,6 @@
 //! Why a script or a schedule was not read.
+//!
+//! 1. Variants stand in the order of the checks, and of several faults of a line the earliest is told.
 
 ghost use Rattle.std.specs.Prelude.{◌≡◌};
 ghost use Rattle.script_lang.specs.declared.refusal.ScriptRefusal.TheVariants as scripts;
@@ -14,7 +16,9 @@ use thiserror::Error;
 pub enum ScriptWhat {
     /// The first field is no word.
     NotACommand,
+    /// The line ends before all fields of its word.
     MissingField,
+    /// The line goes on after them.
     ExtraField,
     /// The line isn't `begin`, and no transaction is open.
     NotBegun,
@@ -77,6 +81,7 @@ pub enum ScriptRefusal {
     /// The text's first fault, with the number of its line.
     #[error("line {line}: {what}")]
     Fault { line: u64, what: ScriptWhat },
+    /// Memory was refused.
     #[error("no memory")]
     NoMemory,
 }
@@ -93,6 +98,7 @@ impl From<NoMemory> for ScriptRefusal {
 #[derive(Clone, Copy, Debug, PartialEq, Eq, Error)]
 #[error("{}", self.text())]
 pub enum ScheduleWhat {
+    /// The line goes on after the number of its script.
     ExtraField,
     /// The field isn't one or more ASCII digits.
     NotANumber,
@@ -119,6 +125,7 @@ pub enum ScheduleRefusal {
     /// The text's first fault, with the number of its line.
     #[error("line {line}: {what}")]
     Fault { line: u64, what: ScheduleWhat },
+    /// Memory was refused.
     #[error("no memory")]
     NoMemory,
 }

@@ -1,6 +1,6 @@
 //! Reads schedules: a job number a line, 0 for the service and 1 to the number of scripts for a script.
 //!
-//! Each line is looked at once, and nothing behind the first fault is read.
+//! Each line is looked at once, and nothing after the first fault is read.
 
 ghost use Rattle.std.specs.Prelude.{◌≡◌, ◌≤◌, Ok, All, IfOk, IfErr};
 ghost use Rattle.script_lang.specs.Schedules.{read_entry, schedule_of, IsRefusedSchedule};
@@ -43,6 +43,7 @@ fn read_entry(fields: Fields<'_>, jobs: u32) -> Result<u32, ScheduleWhat>
     if fields.next().is_some() {
         return Err(ScheduleWhat::ExtraField);
     }
+    // 0 is among them: it stands for a turn of the service.
     match read_number(field, jobs as u64) {
         Ok(job) => Ok(job as u32),
         Err(NumberFault::NotANumber) => Err(ScheduleWhat::NotANumber),

@@ -1,6 +1,6 @@
 //! Reads scripts.
 //!
-//! 1. Each line is looked at once, and nothing behind the first fault is read.
+//! 1. Each line is looked at once, and nothing after the first fault is read.
 //! 2. After a refusal the names are those of before the call.
 
 ghost use Rattle.std.specs.Prelude.{◌≡◌, ◌++◌, length, take, Ok, IfOk, IfErr, OnErr};
@@ -49,6 +49,7 @@ fn read_lines(alloc: Global, text: &[u8], taken: &mut Names) -> Result<Script, S
     let Reading { script, began, .. } = reading;
     match began {
         None => Ok(script),
+        // Named by the line of its `begin`: the end of the script has no line.
         Some(line) => Err(ScriptRefusal::Fault {
             line,
             what: ScriptWhat::NotEnded,

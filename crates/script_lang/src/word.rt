@@ -1,4 +1,6 @@
-//! The words that lines of a script begin with, and the fields behind each.
+//! The words that lines of a script begin with, and the fields after each.
+//!
+//! 1. One table of words and fields: what a line has to have is read from it, and nowhere said again.
 
 ghost use Rattle.std.specs.Prelude.{◌≡◌};
 ghost use Rattle.std.specs.Str.{bytes_eq};
@@ -26,19 +28,22 @@ pub(crate) enum Word {
     FastSssp,
 }
 
-/// What a field behind the word says.
+/// What a field after the word says.
 #[derive(Clone, Copy, Debug, PartialEq, Eq)]
 pub(crate) enum FieldKind {
     /// A vertex, the source of an edge, or the root of a search.
     Vertex,
     /// The target of an edge.
     Target,
+    /// What an edge weighs.
     Weight,
     /// A weight that may be missing, and then is 1. Only the last field of a line is of this kind.
     OptionalWeight,
+    /// How many rounds there are.
     Rounds,
     /// How wide the buckets of a search are.
     Width,
+    /// What the result is called.
     File,
 }
 
@@ -96,7 +101,7 @@ impl Word {
         }
     }
 
-    /// The fields behind the word, from left to right.
+    /// The fields after the word, from left to right.
     pub(crate) fn kinds(self) -> &'static [FieldKind]
         ensures { result.now ≡ kinds_of self }
     {
