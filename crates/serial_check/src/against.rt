@@ -1,6 +1,6 @@
 //! Whether a commit stands against a transaction.
 //!
-//! The commits behind the start of the transaction are looked at from the newest on, and each key that one of them
+//! The commits after the start of the transaction are looked at from the newest on, and each key that one of them
 //! wrote is one search of the footprint. So the cost is that of the writes that were committed since the start.
 
 ghost use Rattle.std.specs.Prelude.{◌≡◌, ◌≤◌};
@@ -25,6 +25,7 @@ pub fn check(kind: Kind, journal: &[Commit], start: u64, footprint: &Footprint) 
     'commits: while place as u64 > start {
         place -= 1;
         let commit = &journal[place];
+        // From the newest on, since the newest one that stands against it is what the answer names.
         if writes_in(kind, commit.writes.as_slice(), footprint) {
             return Some(commit.stamp);
         }

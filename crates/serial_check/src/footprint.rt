@@ -27,6 +27,7 @@ const LINE_RANGES: usize = 4;
 /// The keys of the rows on which the lines of a transaction depend.
 #[derive(Drop)]
 pub struct Footprint {
+    /// They may overlap.
     ranges: Vec<KeyRange>,
 }
 
@@ -76,6 +77,7 @@ impl Footprint {
             → covers self.new.items q ≡ (covers self.old.items q || depends kind (request command.now) q)) }
         ensures err { OnErr result (self.new ≡ self.old) }
     {
+        // Before anything is added, so that where memory is refused the footprint is as it was.
         self.reserve()?;
         match command {
             Command::Begin | Command::Commit | Command::Abort => {}
@@ -86,6 +88,7 @@ impl Footprint {
             Command::DropEdge { u, v } => self.put_edge(kind, *u, *v),
             Command::Weight { u, v } => self.put(KeyRange::of_arc(*u, *v)),
             Command::Neighbours { v } => self.put(KeyRange::from_source(*v)),
+            // `count` and the kernels depend on all rows.
             _ => self.put(KeyRange::all()),
         }
         Ok(())
@@ -126,6 +129,7 @@ impl Footprint {
         ensures covers { (q : Key) → covers self.new.items q ≡ (covers self.old.items q || holds range q) }
         ensures spare { self.old.spare ≤ self.new.spare + 1 }
     {
+        // Ranges are kept apart and in order, so a look for a key is a search by halves, however many lines there were.
         let end = count_up_to(self.ranges.as_slice(), range.until);
         let start = first_met(self.ranges.as_slice(), range.from);
         if start == end {

@@ -1,4 +1,7 @@
 //! Ranges of keys.
+//!
+//! 1. A footprint is kept as ranges, since a scan depends on keys that have no row too: an edge that comes there later
+//!    changes its answer.
 
 ghost use Rattle.std.specs.Prelude.{◌≡◌, ◌≤◌, true};
 ghost use Rattle.graph_model.specs.declared.limits.TheConstants.{MAX_ID};
@@ -13,7 +16,9 @@ use graph_model::Key;
 /// The keys from the one on and below the other.
 #[derive(Clone, Copy, Debug, PartialEq, Eq)]
 pub struct KeyRange {
+    /// The least key.
     pub from: Key,
+    /// The first key beyond it.
     pub until: Key,
 }
 
