@@ -14,8 +14,8 @@ pub fn serial_stepped_runs_are_serial_runs()
     ensures { SerialSteppedRunsAreSerialRuns }
 {}
 
-/// Two scripts each of which looks at the edge that the other one sets: which commits stand against the second, and that
-/// only a refused one leaves a serial order.
+/// Two scripts each of which looks at the edge that the other one sets: which commits stand against the second, and
+/// that only a refused one leaves a serial order.
 pub fn worked_refusals_hold()
     ensures refusals { RefusalExamples }
     ensures skew { SkewExamples }
