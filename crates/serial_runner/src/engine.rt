@@ -1,4 +1,7 @@
 //! What a check of a commit asks of its engine.
+//!
+//! 1. The journal since a transaction began, and whether it wrote something: no more is needed, so any engine of one
+//!    owner serves.
 
 ghost use Rattle.std.specs.Prelude.{◌≡◌};
 ghost use Rattle.graph_model.specs.OwnerCalls.{pass_at};

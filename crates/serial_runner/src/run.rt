@@ -29,14 +29,18 @@ use std::thread::Threads;
 /// A commit that was refused: the place of its line in the script, and the stamp of the commit that stands against it.
 #[derive(Clone, Copy, Debug, PartialEq, Eq)]
 pub struct RefusedCommit {
+    /// Its place in the script, from 0.
     pub line: usize,
+    /// Of the commit that stands against it.
     pub stamp: u64,
 }
 
 /// What is checked of a script: the footprint of its open transaction, and the commits that were refused so far.
 #[derive(Drop)]
 struct Check {
+    /// Of the open transaction; without keys where there is none.
     footprint: Footprint,
+    /// In the order of the script.
     refused: Items<RefusedCommit>,
 }
 
@@ -64,7 +68,7 @@ pub fn run_serial<R: Threads + Sync, E: JournalEngine>(
     }
 }
 
-/// Takes turns until all scripts have ended, or memory is wanted, with a check for each script.
+/// Takes turns until all scripts have ended, or memory runs out, with a check for each script.
 fn run_checked<R: Threads + Sync, E: JournalEngine>(
     rt: &R,
     alloc: Global,
@@ -82,7 +86,7 @@ fn run_checked<R: Threads + Sync, E: JournalEngine>(
     run_with(rt, engine, jobs, checks.as_mut_slice(), schedule)
 }
 
-/// Takes turns until all scripts have ended, or memory is wanted, and gives refused commits their answers.
+/// Takes turns until all scripts have ended, or memory runs out, and gives refused commits their answers.
 fn run_with<R: Threads + Sync, E: JournalEngine>(
     rt: &R,
     engine: &mut E,
@@ -118,7 +122,7 @@ fn new_checks(alloc: Global, count: usize) -> Result<Vec<Check>, NoMemory>
     Ok(checks)
 }
 
-/// Takes turns until all scripts have ended, or memory is wanted.
+/// Takes turns until all scripts have ended, or memory runs out.
 fn take_turns<R: Threads + Sync, E: JournalEngine>(
     rt: &R,
     engine: &mut E,
@@ -202,6 +206,7 @@ fn prepare<E: JournalEngine>(
     if is_commit(command) {
         return prepare_commit(engine, jobs, check, number);
     }
+    // A footprint is of one transaction.
     if is_begin(command) {
         check.footprint.clear();
         return Ok(());
@@ -246,6 +251,8 @@ fn prepare_commit<E: JournalEngine>(
         Some(stamp) => {
             let line = jobs.answered(number);
             check.refused.push(RefusedCommit { line, stamp })?;
+            // What the engine does is an abort, which needs no word of refusals; the report says `conflict` in its
+            // place.
             jobs.abort_instead(number);
             Ok(())
         }
