@@ -1,4 +1,7 @@
 //! Transactions that are tried again where another one stands against them.
+//!
+//! 1. How often is bounded: whether a conflict comes again is up to others.
+//! 2. What each try came to is told, so a caller can say why a change wasn't made.
 
 ghost use Rattle.std.specs.Prelude.{IfErr, IfOk};
 ghost use Rattle.sessions.specs.Retries.{EndsAfter, FailsOnce, IsCommitted, IsStopped, TellsConflict};
@@ -42,8 +45,8 @@ pub enum RetryError {
 }
 
 impl<E: VertexEngine, P: Place> Session<E, P> {
-    /// Makes a change in a transaction of its own and commits it. Where a write meets a conflict the transaction is taken
-    /// back, and the change is made again in a new one, which sees more: so many times at most.
+    /// Makes a change in a transaction of its own and commits it. Where a write meets a conflict the transaction is
+    /// taken back, and the change is made again in a new one, which sees more: so many times at most.
     pub fn with_retry<C: Change>(
         self,
         tries: u32,

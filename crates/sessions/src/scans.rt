@@ -1,7 +1,7 @@
 //! What a transaction sees of many rows at once.
 //!
-//! 1. A scan gives 64 rows at most at a time, in the order of their keys, so it needs no more memory than what is made of
-//!    them.
+//! 1. A scan gives 64 rows at most at a time, in the order of their keys, so it needs no more memory than what is made
+//!    of them.
 
 ghost use Rattle.std.specs.Prelude.{◌≡◌, ◌≤◌, ◌++◌, IfOk, OnOk, map};
 ghost use Rattle.graph_model.specs.declared.limits.TheConstants.{MAX_ID};
@@ -19,7 +19,9 @@ use std::alloc::Global;
 /// The end of an arc that leads from a vertex, with the weight of the arc.
 #[derive(Clone, Copy, Debug, PartialEq, Eq)]
 pub struct Neighbour {
+    /// Where the arc leads.
     pub id: u64,
+    /// What the arc weighs.
     pub weight: u64,
 }
 

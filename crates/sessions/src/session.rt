@@ -1,4 +1,7 @@
 //! Sessions between two transactions.
+//!
+//! 1. That no transaction is open is told by the type: what needs one can't be called.
+//! 2. A begin takes the session and gives a transaction, or gives the session back with why it didn't begin.
 
 ghost use Rattle.std.specs.Prelude.{◌≡◌, Ok, Err, IfOk, IfErr};
 ghost use Rattle.graph_model.specs.AccountSteps.{BeginsBy, ReadsBy};
@@ -11,6 +14,7 @@ use std::marker::PhantomData;
 
 /// Runs transactions, one after the other. It has none open.
 pub struct Session<E: VertexEngine, P: Place> {
+    /// It has no transaction.
     pub(crate) engine: E,
     pub(crate) of: PhantomData<P>,
     pub ghost is: { ∥ HasNone P.number (E.account engine) ∥₁ },
@@ -18,7 +22,9 @@ pub struct Session<E: VertexEngine, P: Place> {
 
 /// A session that couldn't begin a transaction, and why.
 pub struct NotBegun<E: VertexEngine, P: Place> {
+    /// As it was.
     pub session: Session<E, P>,
+    /// What stood against it.
     pub why: BeginRefusal,
 }
 
@@ -66,8 +72,8 @@ impl<E: VertexEngine, P: Place> Session<E, P> {
         }
     }
 
-    /// Takes a turn of the service, which keeps the store small and changes nothing that anybody sees. Answers whether it
-    /// changed a cell of the store.
+    /// Takes a turn of the service, which keeps the store small and changes nothing that anybody sees. Answers whether
+    /// it changed a cell of the store.
     pub fn serve(&mut self) -> Result<bool, NoMemory>
         ensures { ReadsBy (E.account self.old.engine) (E.account self.new.engine) }
     {

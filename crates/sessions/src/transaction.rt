@@ -1,4 +1,7 @@
 //! Open transactions.
+//!
+//! 1. That it is open is told by the type. Commit and abort take it and give the session back, so it can't be used
+//!    after its end, and can't be forgotten half way: a value of this type has to be given to one of both.
 
 ghost use Rattle.std.specs.Prelude.{◌≡◌, ◌≤◌, false};
 ghost use Rattle.graph_model.specs.declared.limits.TheConstants.{MAX_ID};
@@ -16,6 +19,7 @@ use std::marker::PhantomData;
 
 /// A transaction of a session. It sees the commits up to its start, with its own writes, whatever others do.
 pub struct Transaction<E: VertexEngine, P: Place> {
+    /// It has this transaction open.
     pub(crate) engine: E,
     /// Its name and its start.
     pub(crate) begun: Begun,
@@ -25,7 +29,9 @@ pub struct Transaction<E: VertexEngine, P: Place> {
 
 /// A session whose transaction was committed, and the stamp, if there was anything to commit.
 pub struct Committed<E: VertexEngine, P: Place> {
+    /// It has no transaction any more.
     pub session: Session<E, P>,
+    /// None where nothing was written.
     pub stamp: Option<u64>,
 }
 
@@ -135,8 +141,8 @@ impl<E: VertexEngine, P: Place> Transaction<E, P> {
         self.engine.scan_step(cursor, rows);
     }
 
-    /// Commits it. Others see its writes from then on, all of them or none. Without writes there is nothing to commit, and
-    /// no stamp. Takes no memory.
+    /// Commits it. Others see its writes from then on, all of them or none. Without writes there is nothing to commit,
+    /// and no stamp. Takes no memory.
     pub fn commit(self) -> Committed<E, P>
         ensures { CommitsBy (E.account self.engine) result.stamp (E.account result.session.engine) }
     {
