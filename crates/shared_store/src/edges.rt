@@ -1,4 +1,6 @@
 //! Whether a vertex has edges, as the open transaction sees.
+//!
+//! 1. Scans with one cell in hand at a time, and none between two: so they may wait as long as it takes.
 
 ghost use Rattle.std.specs.Prelude.{◌≡◌, ◌≤◌, false};
 ghost use Rattle.std.specs.List.{list_any};
@@ -24,10 +26,13 @@ pub(crate) fn has_edges(rt: &impl Wait, store: &Store, pass: &mut Pass, v: u64) 
     ensures answer { result ≡ has_edges (view_in store.now pass.old) v }
 {
     let first = Key { src: v, second: 1 };
+    // The arcs that lead from the vertex are one range, and in an undirected graph each edge has one of them.
     if sees_any(rt, store, pass, first, Key::of_vertex(v + 1), None) {
         return true;
     }
     match store.config().kind {
+        // An arc that leads to the vertex may have any source, so all rows are looked through; only a removal of a
+        // vertex pays for it.
         Kind::Directed => sees_any(rt, store, pass, Key::of_vertex(0), Key::end(), Some(v + 1)),
         Kind::Undirected => false,
     }

@@ -21,6 +21,7 @@ use txn_manager::{Config, StoreRefusal, Totals};
 
 /// The passes of a store, in the order of their numbers, with what its end needs.
 pub struct Passes {
+    /// By number.
     pub list: Vec<Pass>,
     /// The seats that take passes back, and room for all that comes out of the store.
     pub(crate) ends: Ends,
@@ -29,6 +30,7 @@ pub struct Passes {
 /// What a store leaves behind. Nothing but `close` makes one.
 #[derive(Drop)]
 pub struct Closed {
+    /// All commits.
     pub journal: Journal,
     /// Of the newest graph. No record is left, and no retired leaf.
     pub totals: Totals,
@@ -66,6 +68,7 @@ pub(crate) fn seated(alloc: Global, store: &Store, made: Ends) -> Result<Passes,
         slots,
         cells,
     } = made;
+    // The list in which the seats come back has its room from here on, so the end of a store takes no memory.
     let back = Vec::with_capacity(alloc, seats.len())?;
     let list = seat_all(alloc, store, seats)?;
     Ok(Passes {
@@ -92,6 +95,7 @@ fn seat_all(alloc: Global, store: &Store, mut seats: Vec<Seats>) -> Result<Vec<P
         match PassCells::new(alloc, cells) {
             Ok(own) => put_last(&mut list, Pass::new(alloc, seats.remove(0), own)),
             Err(NoMemory) => {
+                // Cells that passes have room for can't be dropped: what is made already is taken apart again.
                 give_up(list);
                 return Err(NoMemory);
             }
@@ -133,6 +137,7 @@ pub fn close(store: Store, passes: Passes) -> Closed
 {
     let kind = store.config().kind;
     let Passes { list, mut ends } = passes;
+    // All seats come back before the tables are taken apart: a table is closed only by whoever has all of it.
     take_back(list, &mut ends.list);
     let content = store.take_apart(ends);
     let Content {
@@ -140,6 +145,7 @@ pub fn close(store: Store, passes: Passes) -> Closed
         index,
         journal,
     } = content;
+    // By the words of the cells, so that none is unpacked, which would take memory.
     let totals = totals_of(kind, &mut cells, &index);
     Closed {
         journal: journal.into_items(),
@@ -148,7 +154,8 @@ pub fn close(store: Store, passes: Passes) -> Closed
     }
 }
 
-/// Lets a store go with all its passes, none of which has a transaction. Nothing comes out of it, and no row is looked at.
+/// Lets a store go with all its passes, none of which has a transaction. Nothing comes out of it, and no row is looked
+/// at.
 pub fn let_go(store: Store, passes: Passes)
     requires { AreIdle store passes.list.items }
 {

@@ -1,8 +1,8 @@
 //! A store that begins with a load.
 //!
 //! 1. It is as if pass 0 had begun on a new store, made the writes of a load and committed them.
-//! 2. The rows of the load are sorted, by several threads where the caller may start them, and divided among leaves from
-//!    left to right.
+//! 2. The rows of the load are sorted, by several threads where the caller may start them, and divided among leaves
+//!    from left to right.
 
 ghost use Rattle.std.specs.Prelude.{◌≡◌, ◌<◌, ◌↔◌, Err, IfErr, IfOk, false, true, length};
 ghost use Rattle.std.specs.List.{AllByRecursion};
@@ -34,6 +34,7 @@ pub enum LoadedRefusal {
     /// The load has more rows than so many leaves hold.
     #[error("full at {leaves} leaves")]
     Full { leaves: u32 },
+    /// Memory was refused, and there is no store.
     #[error("no memory")]
     NoMemory,
 }
@@ -89,6 +90,7 @@ pub fn loaded(alloc: Global, config: Config, load: Writes) -> Result<(Store, Pas
     if config.is_too_large() {
         return Err(LoadedRefusal::TooLarge);
     }
+    // A commit of nothing has no place in a journal.
     if load.is_empty() {
         let made = new(alloc, config)?;
         return Ok(made);

@@ -1,4 +1,6 @@
 //! Whoever runs transactions on a store, one after the other.
+//!
+//! 1. A pass is in one thread at a time; its fields are its own, and a store has none of them.
 
 ghost use Rattle.std.specs.Prelude.{◌≡◌, [], IfOk};
 ghost use Rattle.pass_writes.specs.PassSteps.Passes.{IsIdlePass};
@@ -15,14 +17,18 @@ use std::alloc::Global;
 /// the journal with the commit, and by the other its rows are stamped then. Its seats and cells are lent to calls that
 /// move rows for it.
 pub struct Pass {
+    /// Its seats on both tables of the store.
     pub seats: Seats,
+    /// The cells that it has in hand, and its guesses at others.
     pub cells: PassCells,
     pub alloc: Global,
     /// How many transactions it has begun.
     pub(crate) begun: u32,
     /// The start of the open one.
     pub(crate) start: u64,
+    /// Those of the open transaction; the list goes into the journal.
     pub(crate) own: RoomyWrites,
+    /// The same once more, by which their rows are stamped.
     pub(crate) changed: RoomyWrites,
 }
 

@@ -1,4 +1,7 @@
 //! What the open transaction reads.
+//!
+//! 1. These reads take latches, one cell at a time, and wait for it; `optimistic_read` has those that don't.
+//! 2. A read changes no row, and writes no word of the store but latches.
 
 ghost use Rattle.std.specs.Prelude.{◌≡◌, ◌≤◌, false};
 ghost use Rattle.graph_model.specs.declared.limits.TheConstants.{MAX_ID};

@@ -1,8 +1,8 @@
 //! What a closed store holds, counted in the words of its cells.
 //!
 //! 1. All transactions have ended, so the newest value of a row is the one that the graph of the whole journal has.
-//! 2. The index tells the cells in the order of their keys. Their rows are read where they stand, so no cell is unpacked,
-//!    and nothing takes memory.
+//! 2. The index tells the cells in the order of their keys. Their rows are read where they stand, so no cell is
+//!    unpacked, and nothing takes memory.
 
 ghost use Rattle.std.specs.Prelude.{◌≡◌, ◌+◌, ◌≤◌, count_by, length};
 ghost use Rattle.std.specs.FinMap as fin_map;
@@ -18,7 +18,9 @@ use txn_manager::Totals;
 /// How many rows have a value, and how many of these are vertices'.
 #[derive(Clone, Copy, Debug)]
 pub struct Counts {
+    /// Those of vertices and of arcs.
     pub rows: u64,
+    /// Those of vertices alone.
     pub vertices: u64,
 }
 
@@ -31,6 +33,7 @@ pub(crate) fn totals_of(kind: Kind, cells: &mut ClosedCells, index: &LeafIndex) 
     Totals {
         vertices: counts.vertices,
         edges: edges_in(kind, counts.rows - counts.vertices),
+        // Where no pass has a transaction or rows to stamp, whatever records there are say what nobody reads any more.
         undo: 0,
         retired: 0,
     }
@@ -62,6 +65,7 @@ fn count_rows(cells: &mut ClosedCells, index: &LeafIndex) -> Counts
     let mut rows = Rows32::new();
     let mut next = Key::of_vertex(0);
     'cells: while next.is_below(Key::end()) {
+        // From key to key and not by the numbers of cells: those of leaves that aren't live hold old words.
         let cell = index.route(next).cell;
         let (_, high) = cells.load_rows(cell, &mut rows);
         let found = count_from(rows.as_slice(), next);

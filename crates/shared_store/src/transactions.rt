@@ -36,6 +36,7 @@ pub fn begin(rt: &impl Wait, store: &Store, pass: &mut Pass) -> Result<Begun, Be
         Ok(begun) => begun,
         Err(refused) => return Err(refused),
     };
+    // Kept so that no later call has to ask the store for the name of the open transaction.
     pass.begun = begun.by.number;
     pass.start = begun.start;
     Ok(begun)
@@ -82,6 +83,7 @@ fn stamp_rows(rt: &impl Wait, store: &Store, pass: &mut Pass, by: TxnName, stamp
     let Some(stamp) = stamp else {
         return;
     };
+    // After the pass was unpinned, so its own start doesn't hold its records back.
     let sweep = sweep_pins(store, &mut pass.seats);
     stamp_all(
         rt,
@@ -93,6 +95,7 @@ fn stamp_rows(rt: &impl Wait, store: &Store, pass: &mut Pass, by: TxnName, stamp
         stamp,
         pass.changed.as_slice(),
     );
+    // The sweep has served, and the pass's view forgets it.
     end_sweep(store, &mut pass.seats);
 }
 
@@ -104,6 +107,7 @@ pub fn abort(rt: &impl Wait, store: &Store, pass: &mut Pass)
     ensures number { pass.new.seats.number ≡ pass.old.seats.number }
 {
     let begun = pass.latest();
+    // From here on it can't commit, before a row is taken back.
     stop(store, &mut pass.seats);
     undo_all(
         rt,
@@ -113,6 +117,7 @@ pub fn abort(rt: &impl Wait, store: &Store, pass: &mut Pass)
         begun.by,
         pass.own.as_slice(),
     );
+    // Only after the last record is gone: while one is left its word has to say that it hasn't committed.
     end(store, &mut pass.seats);
     unpin(store, &mut pass.seats);
     clear(&mut pass.own);

@@ -35,12 +35,17 @@ pub fn write(
     ensures room { IfOk result (λ written. NeedsRoom store.now.accounts.config.kind write written) }
     ensures number { pass.new.seats.number ≡ pass.old.seats.number }
 {
+    // With no cell in hand, since it waits for others. An edge that comes after it is met at the vertex's row, as a
+    // touch.
     let has_edges = removes_edges(rt, store, pass, write);
+    // Room in the pass's lists, before a row changes.
     match reserve(pass) {
         Ok(()) => {}
         Err(NoMemory) => return Err(Refusal::NoMemory),
     }
     let written = make(rt, store, pass, write, has_edges);
+    // A commit that is named has to be seen before the answer is given, and the journal is waited for with no cell in
+    // hand.
     see_cause(rt, store, pass, write, &written);
     written
 }
@@ -107,6 +112,7 @@ fn keep(pass: &mut Pass, write: Write, written: &Result<Written, Refusal>)
 {
     match written {
         Ok(Written::Done) => {
+            // Twice: one list goes into the journal with the commit, and by the other the rows are stamped after it.
             pass.own.push_within(write);
             pass.changed.push_within(write);
         }
