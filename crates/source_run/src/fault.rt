@@ -1,4 +1,6 @@
 //! Why sources aren't accepted.
+//!
+//! 1. Sources are looked at in a fixed order, V, E, scripts, schedule, and the first that is refused is named.
 
 ghost use Rattle.std.specs.Prelude.{◌≡◌};
 
@@ -22,6 +24,7 @@ pub enum SourceFault {
 pub enum ParseStop {
     /// The source at this place is the first with a fault.
     NotAccepted { place: usize, fault: SourceFault },
+    /// Memory was refused.
     NoMemory,
 }
 

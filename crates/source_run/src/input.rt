@@ -31,9 +31,13 @@ use std::thread::Threads;
 /// The graph of the files, the scripts that run on it, and their schedule.
 #[derive(Drop)]
 pub struct Input {
+    /// In the order of the vertex file.
     pub ids: Ids,
+    /// In the order of the edge file.
     pub edges: Edges,
+    /// In the order of the words.
     pub scripts: Items<Script>,
+    /// Which script is in turn, as far as it goes.
     pub schedule: Schedule,
 }
 
@@ -55,8 +59,10 @@ pub fn parse_sources<R: Threads + Sync>(
         (IsParseStop (run_request words.now) (texts_of (run_request words.now) sources.now)) }
 {
     let texts = sources.as_slice();
+    // In the order in which sources are named: the first that isn't accepted is the one that is told.
     let ids = parse_vertices(alloc, texts[0].as_slice())?;
     let edges = parse_edges(rt, alloc, texts[1].as_slice(), &ids, words)?;
+    // Names of the words come first; each script adds those of its results, so a later one can't take them.
     let mut taken = names_taken(alloc, words)?;
     let count = script_count(words);
     let scripts = parse_scripts(alloc, &texts[2..count + 2], &mut taken)?;

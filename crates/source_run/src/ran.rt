@@ -1,4 +1,6 @@
 //! The run of the scripts, by turns or on threads, as the words ask for it.
+//!
+//! 1. Both ways end in one value, whose contract is that of a run: what comes after doesn't ask which it was.
 
 ghost use Rattle.std.specs.Prelude.{◌≡◌, ◌≤◌, All, IfErr, IfOk, IfSome, false, length};
 ghost use Rattle.graph_model.specs.declared.limits.TheConstants.{MAX_LEAVES, MAX_THREADS};
@@ -53,8 +55,11 @@ pub struct Manner {
 /// holds.
 #[derive(Drop)]
 pub struct RunResult {
+    /// The engine's journal, or the closed store's.
     pub ran: Ran,
+    /// The scripts, with their answers and tables.
     pub jobs: Jobs,
+    /// What the settled store holds.
     pub totals: Totals,
 }
 

@@ -1,4 +1,6 @@
 //! What the words of `run` ask for: the sources in their order, and what the graph is.
+//!
+//! 1. A source is told by its place, as a fault names it later.
 
 ghost use Rattle.std.specs.Prelude.{◌≡◌, ◌<◌, [], map, length, get_or, IfOk};
 ghost use Rattle.command_words.specs.Views.{run_request};

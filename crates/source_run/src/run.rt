@@ -1,6 +1,6 @@
 //! The run of the scripts on the loaded graph, by their turns.
 //!
-//! 1. The graph is loaded as the first transaction of a new engine, and the scripts take their turns behind it.
+//! 1. The graph is loaded as the first transaction of a new engine, and the scripts take their turns after it.
 //! 2. Script k uses pass k of the engine, and the load and the service use pass 0.
 //! 3. The store has as many leaves as are stated, or as the rows of the load and of the scripts can fill.
 
@@ -36,8 +36,11 @@ use txn_manager::{Config, StoreRefusal, Totals};
 /// store holds.
 #[derive(Drop)]
 pub struct SteppedRun {
+    /// The engine's journal.
     pub ran: CoreJournal,
+    /// The scripts, with their answers and tables.
     pub jobs: Jobs,
+    /// What the settled store holds.
     pub totals: Totals,
 }
 
@@ -63,6 +66,7 @@ pub fn run_by_turns<R: Threads + Sync>(
     serial_stepped_runs_are_serial_runs();
     let config = config_of(kind, leaves, input.scripts.as_slice());
     let mut engine = new_engine(alloc, config)?;
+    // Taken apart, so that what was read of the graph is let go of with the load, and not with the run.
     let Input {
         ids,
         edges,
@@ -134,6 +138,7 @@ pub fn config_of(kind: Kind, leaves: u32, scripts: &[Script]) -> Config
     ensures config { IsConfig kind leaves scripts.now result }
     ensures fits { too_large result ≡ false }
 {
+    // No pass may begin more than the longest script does: more would be memory for none.
     let mut most = 1;
     'scripts: for script in scripts {
         most = most.max(begins(script.as_slice()));

@@ -1,4 +1,6 @@
 //! The run of the scripts side by side.
+//!
+//! 1. What was read of the graph is let go before scripts run: it may be as large as the store.
 
 ghost use Rattle.std.specs.Prelude.{◌≡◌, ◌≤◌, IfErr, IfOk, length};
 ghost use Rattle.graph_model.specs.declared.limits.TheConstants.{MAX_LEAVES, MAX_THREADS};
@@ -49,6 +51,7 @@ pub fn run_by_threads<R: Threads + Wait + Sync, G: Gate>(
         schedule: _,
     } = input;
     let load = writes_of(alloc, &ids, &edges)?;
+    // Before the store is made, which takes as much memory again.
     drop(ids);
     drop(edges);
     run_on_threads(rt, alloc, config, load, scripts, workers, gate)
