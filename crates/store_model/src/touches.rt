@@ -1,4 +1,6 @@
 //! Worked examples of touches, as the contract of a function.
+//!
+//! 1. Values that were reckoned by hand, beside wrong ones: a changed definition is refused here.
 
 ghost use Rattle.store_model.specs.TouchExamples.{TouchExamples};
 
