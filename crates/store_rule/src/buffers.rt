@@ -26,7 +26,9 @@ pub const MOST_UNPACKED: usize = 16;
 /// Room for the rows of cells that a pass has yet to unpack. Contracts see for how many.
 #[derive(Drop)]
 pub struct Buffers {
+    /// Each for the rows of one cell.
     pub(crate) free: Vec<Segment>,
+    /// Between a block and a segment.
     pub(crate) rows: Rows32,
 }
 
@@ -48,6 +50,7 @@ impl Buffers {
     {
         let mut free = Vec::with_capacity(alloc, MOST_UNPACKED)?;
         'rooms: for _room in 0..MOST_UNPACKED {
+            // All room that a pass ever unpacks cells into is made here, so to unpack takes no memory.
             let room = Segment::new(alloc, Key::END, Key::END)?;
             free.push(room)?;
         }

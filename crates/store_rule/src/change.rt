@@ -1,4 +1,7 @@
 //! The load of the clock by which a pass knows other contents.
+//!
+//! 1. Nobody else's view changes by it. It is a step since the rule is kept by steps alone, and the clock is a word
+//!    that any pass may load.
 
 ghost use Rattle.std.specs.Prelude.{◌≡◌};
 ghost use Rattle.loaded_cells.specs.RuleModel.Places.{lines};

@@ -28,8 +28,11 @@ use store_words::{Account, Accounts};
 /// What was in a store: its cells in the order of their numbers, its index and its journal.
 #[derive(Drop)]
 pub struct Content {
+    /// In the order of their numbers.
     pub cells: ClosedCells,
+    /// Which leaf has which keys.
     pub index: Box<LeafIndex>,
+    /// All commits.
     pub journal: RoomyJournal,
 }
 
@@ -48,11 +51,14 @@ impl Store {
             mut slots,
             mut cells,
         } = passes;
+        // All seats become one again, which then knows all that any pass knew.
         join_passes(&accounts, &latches, list, &mut latch, &mut account);
         latches.close(latch, &mut slots);
+        // The last slots come first: journal, index, and then the cells.
         let journal = take_in_journal(&accounts, &mut account, pop_slot(&mut slots));
         let index = take_in_index(&accounts, &mut account, pop_slot(&mut slots));
         take_cells(&accounts, &mut account, &mut slots, &mut cells);
+        // From here on one seat knows the words of all cells, and nobody steps on the table any more.
         accounts.look_last(&mut account);
         let cells = ClosedCells::new(accounts, account, cells);
         let journal = Box::into_inner(journal);
@@ -132,5 +138,6 @@ fn take_cells(
             Err(_) => unreachable!(),
         }
     }
+    // They came out with the last one first.
     cells.reverse();
 }

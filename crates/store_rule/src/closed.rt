@@ -20,8 +20,11 @@ use store_words::{Account, Accounts};
 /// The cells of a closed store, in the order of their numbers.
 #[derive(Drop)]
 pub struct ClosedCells {
+    /// The words of all cells.
     pub(crate) accounts: Accounts,
+    /// A seat that knows all of them.
     pub(crate) account: Account,
+    /// What no word says of each, the last one last.
     pub(crate) resting: Vec<Resting>,
     /// How many cells are left.
     pub(crate) left: u32,
@@ -73,8 +76,8 @@ impl ClosedCells {
         self.left == 0
     }
 
-    /// Loads the rows of a cell that is left, each with its value word in place of a weight, and answers its fence keys.
-    /// The cell stays packed, so this takes no memory.
+    /// Loads the rows of a cell that is left, each with its value word in place of a weight, and answers its fence
+    /// keys. The cell stays packed, so this takes no memory.
     pub fn load_rows(&mut self, cell: u32, rows: &mut Rows32) -> (Key, Key)
         requires { cell < length self.old }
         ensures kept { self.new ≡ self.old }
@@ -93,6 +96,8 @@ impl ClosedCells {
         if left == 0 {
             return Ok(None);
         }
+        // A closed store has room for one cell at a time: room for all of them would be as much memory as the store
+        // had.
         let room = Segment::new(alloc, Key::END, Key::END)?;
         let resting = pop_resting(&mut self.resting);
         let cell = left - 1;

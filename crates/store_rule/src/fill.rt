@@ -26,9 +26,13 @@ use txn_manager::{Config, RoomRefusal};
 /// What a store with the rows of a load is known by.
 #[derive(Drop)]
 struct Plan<'a> {
+    /// How the store is made.
     config: Config,
+    /// The writes whose rows they are.
     load: Writes,
+    /// Which leaf has which keys.
     index: LeafIndex,
+    /// By the number of a leaf.
     ranges: Vec<LoadedRange<'a>>,
 }
 
@@ -56,6 +60,7 @@ impl Store {
             made.0.latches.table.shared.table_id made.0.accounts.table.shared.table_id made.1.list.items) }
         ensures seats { IfOk result (λ made. AreIn made.0 made.1) }
     {
+        // Which rows a cell has is told by slices of the load, so no row is copied before it stands in the words.
         let LoadedLeaves { index, ranges } = divide_rows(alloc, config.leaves, rows)?;
         let plan = Plan {
             config,

@@ -1,4 +1,6 @@
 //! Values that a pass has taken, and whose notes it takes in.
+//!
+//! 1. The note came with the value: so a pass knows its contents without having asked whoever had it before.
 
 ghost use Rattle.std.specs.Prelude.{◌≡◌, ℕ, false, None};
 ghost use Rattle.loaded_cells.specs.CellsModel.Cells.{CellState};

@@ -1,4 +1,6 @@
 //! Notes that a pass cuts off, of values that it puts back.
+//!
+//! 1. A note is what the pass knows of the value. It goes with it, and the pass knows no more of it then.
 
 ghost use Rattle.std.specs.Prelude.{◌≡◌, false, None};
 ghost use Rattle.loaded_cells.specs.CellsModel.Cells.{CellState};

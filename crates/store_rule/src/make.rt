@@ -49,8 +49,11 @@ impl Store {
 /// What is to lie in the slots of a store that begins.
 #[derive(Drop)]
 pub(crate) struct Parts {
+    /// By the number of a cell.
     pub(crate) resting: Vec<Resting>,
+    /// With the leaves that have rows.
     pub(crate) index: LeafIndex,
+    /// With the load, if there is one.
     pub(crate) journal: RoomyJournal,
 }
 
@@ -107,6 +110,7 @@ pub(crate) fn deal_out(
     let slots = Vec::with_capacity(alloc, places)?;
     let cells = Vec::with_capacity(alloc, places - 2)?;
     let mut seat = seat;
+    // Each value gets its note from the one seat that knows all, before any pass has a seat of its own.
     let filled = lay_slots(alloc, &accounts, &mut seat, parts)?;
     let room = Room { seat, config };
     let Ok((latches, mut latch)) = LatchTable::open(alloc, filled, &room) else {
@@ -173,6 +177,7 @@ fn push_cells(
 {
     let cells = 8 * accounts.config.leaves;
     let mut rest = resting;
+    // So that the next one stands last, where it is taken off in one step.
     rest.reverse();
     'cells: for cell in 0..cells {
         let resting = pop_resting(&mut rest);
@@ -247,6 +252,7 @@ fn deal(
     let mut number = accounts.config.passes;
     'passes: while number > 0 {
         number -= 1;
+        // Before the seats: where memory is refused nothing has been split off yet for this pass.
         let buffers = Buffers::new(alloc)?;
         let pass = Pass {
             number,

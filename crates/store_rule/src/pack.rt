@@ -18,8 +18,8 @@ use latch_table::Held;
 use loaded_cells::below::{Resting, VersionSegment};
 
 impl Store {
-    /// Unpacks a gathered cell. Its contents may change until it is packed, and nobody reads them without its latch. The
-    /// pass lends room for its rows.
+    /// Unpacks a gathered cell. Its contents may change until it is packed, and nobody reads them without its latch.
+    /// The pass lends room for its rows.
     pub fn unpack(&self, pass: &mut Pass, held: Held<Resting>) -> Held<VersionSegment>
         requires table { pass.old.account.table_id ≡ self.now.accounts.table.shared.table_id }
         requires cell { held.cell < cells_of self.now.accounts.config }
@@ -76,6 +76,7 @@ impl Store {
             value,
         } = held;
         value.is_segment();
+        // The rows go into the words, and the room that they had back to the pass. What no word says stays in the slot.
         let (value, words) = value.rest();
         let low = words.low();
         let high = words.high();

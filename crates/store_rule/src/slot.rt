@@ -1,4 +1,7 @@
 //! What lies in the slots of the latch table.
+//!
+//! 1. There are a million slots in a large store, so they are as small as an enum of two numbers in an enum can be, and
+//!    a constant says how small.
 
 ghost use Rattle.std.specs.Prelude.{◌≡◌};
 
@@ -9,10 +12,11 @@ use loaded_cells::below::Resting;
 use store_words::Account;
 use txn_manager::Config;
 
-/// A value with the note of its contents, or nothing where a pass has it. A slot takes 24 bytes, and no box where it has
-/// a cell whose rows are all settled. Notes take none.
+/// A value with the note of its contents, or nothing where a pass has it. A slot takes 24 bytes, and no box where it
+/// has a cell whose rows are all settled. Notes take none.
 #[derive(Drop)]
 pub enum StoreSlot {
+    /// A pass has it.
     Out,
     /// Rows and fence keys of a packed cell stand in the words of its block.
     Cell {
@@ -35,7 +39,9 @@ const _: () = prove!(size_of::<StoreSlot>() == 24);
 /// What the latch table is told once: of which account table the notes are, by a seat of it, and how the store is made.
 #[derive(Drop)]
 pub struct Room {
+    /// Of the account table.
     pub seat: Account,
+    /// How the store is made.
     pub config: Config,
 }
 

@@ -1,4 +1,7 @@
 //! A store, and the passes on it.
+//!
+//! 1. A store is shared and changes only through its two tables; a pass is its owner's alone. So calls take `&Store`
+//!    and `&mut Pass`, and a store needs no lock of its own.
 
 ghost use Rattle.std.specs.Prelude.{◌≡◌, ◌+◌};
 ghost use Rattle.loaded_cells.specs.RuleModel.Sight.{cells_of};
@@ -23,20 +26,26 @@ pub type LatchPass = latch_table::Pass<StoreSlot, Room>;
 /// | one more | the journal |
 #[derive(Drop)]
 pub struct Store {
+    /// The words of the store.
     pub accounts: Accounts,
+    /// The values of the store, each with its latch.
     pub latches: LatchTable<StoreSlot, Room>,
     pub ghost same: { (latches.table.shared.key.config ≡ accounts.config)
         × (latches.table.shared.key.seat.table_id ≡ accounts.table.shared.table_id) },
     pub ghost places: { latches.table.shared.table_id.words ≡ cells_of accounts.config + 2 },
 }
 
-/// Whoever runs transactions on a store, one after the other: a seat of each of its tables, and room for the rows of the
-/// cells that it unpacks.
+/// Whoever runs transactions on a store, one after the other: a seat of each of its tables, and room for the rows of
+/// the cells that it unpacks.
 #[derive(Drop)]
 pub struct Pass {
+    /// From 0.
     pub number: u32,
+    /// Its seat on the latches.
     pub latch: LatchPass,
+    /// Its seat on the words.
     pub account: Account,
+    /// Room for the rows of cells that it unpacks.
     pub buffers: Buffers,
 }
 
@@ -44,10 +53,15 @@ pub struct Pass {
 /// empty lists with room for what lies in the slots and for what is kept of cells.
 #[derive(Drop)]
 pub struct Passes {
+    /// By number.
     pub list: Vec<Pass>,
+    /// The seat that takes those of the passes back.
     pub latch: LatchPass,
+    /// The same on the words.
     pub account: Account,
+    /// Empty, with room for all that lies in slots.
     pub slots: Vec<StoreSlot>,
+    /// Empty, with room for what is kept of all cells.
     pub cells: Vec<Resting>,
 }
 
