@@ -1,4 +1,6 @@
 //! A new account table, with the words of a store without rows, and its end.
+//!
+//! 1. The first seat knows all words; passes get parts of what it knows.
 
 ghost use Rattle.std.specs.Prelude.{◌≡◌, ◌<◌, ◌++◌, [], false, length, IfOk, OnOk};
 ghost use Rattle.rule_model.specs.CellsModel.Indexed.{new_cell};
@@ -20,7 +22,9 @@ use txn_manager::Config;
 /// The account table with its memory.
 #[derive(Drop)]
 pub struct Accounts {
+    /// All words.
     pub table: Table<(), AccountSight, Beginning, AccountRule, Global>,
+    /// How the store was made.
     pub config: Config,
     pub ghost key: { table.shared.key.config ≡ config },
     pub ghost sized: { too_large config ≡ false },

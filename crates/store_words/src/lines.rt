@@ -1,4 +1,8 @@
 //! Where the words of a store lie.
+//!
+//! 1. Words that one pass writes often have a line of the cache for themselves, so a begin of one pass costs no other
+//!    one a miss.
+//! 2. Blocks lie one after the other with no room between: only whoever holds a cell writes there.
 
 ghost use Rattle.std.specs.Prelude.{◌≡◌, ◌<◌, ◌+◌};
 ghost use Rattle.rule_model.specs.CellsModel.Words.{block_words};

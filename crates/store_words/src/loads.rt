@@ -17,8 +17,8 @@ use graph_model::{Key, Row};
 use rule_model::below::Rows32;
 
 impl Accounts {
-    /// Loads the rows of a held cell whose block spells its contents, each with its value word in place of a weight, and
-    /// answers the fence keys.
+    /// Loads the rows of a held cell whose block spells its contents, each with its value word in place of a weight,
+    /// and answers the fence keys.
     pub fn load_rows(&self, seat: &mut Account, cell: u32, rows: &mut Rows32) -> (Key, Key)
         requires table { seat.old.table_id ≡ self.now.table.shared.table_id }
         requires cell { cell < cells_of self.now.config }
@@ -44,6 +44,7 @@ impl Accounts {
         requires cell { cell < cells_of self.now.config }
         requires word { word < block_words }
     {
+        // Needs no order: nothing is told of what it finds, so it doesn't matter what else is found with it.
         self.table.shared.peek(self.block_place(cell, word))
     }
 

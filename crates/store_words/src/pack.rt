@@ -1,4 +1,6 @@
 //! Blocks that are made to spell a cell's contents again.
+//!
+//! 1. Words first and the even version last, so that whoever finds it finds them.
 
 ghost use Rattle.std.specs.Prelude.{◌≡◌, ◌<◌, ◌≤◌, true, false, length};
 ghost use Rattle.rule_model.specs.CellsModel.Cells.{CellState};

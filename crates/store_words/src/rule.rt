@@ -1,4 +1,6 @@
 //! The rule of the account table, and what its seats know.
+//!
+//! 1. It is the one rule of `rule_model`, as the table asks for it; no value of a sight is ever made.
 
 use atomic_table::{Seat, TableRule};
 use std::marker::Model;
@@ -20,7 +22,9 @@ impl Model for AccountSight {
 /// What the table is told once: how the store is made, and by a seat what is known of it at first.
 #[derive(Drop)]
 pub struct Beginning {
+    /// How the store is made.
     pub config: Config,
+    /// What is known of it at first.
     pub first: Account,
 }
 

@@ -2,7 +2,7 @@
 //!
 //! 1. The number of rows is stored in any case, so that the version word tells of the change. Of the other words only
 //!    those that differ are stored: a load of a held word costs a tenth of a store, and most words stay.
-//! 2. Words behind the last row are left as they are, since nobody reads them.
+//! 2. Words after the last row are left as they are, since nobody reads them.
 
 ghost use Rattle.std.specs.Prelude.{◌≡◌, ◌<◌, ◌≤◌, ◌+◌, ◌*◌, List, Some, true, length, slice_get};
 ghost use Rattle.rule_model.specs.CellsModel.Cells.{CellState};
@@ -28,6 +28,8 @@ impl Accounts {
         ensures spelled { (c : CellState) → HasCell seat.old.me.0 cell c
             → IsSpelling cell seat.old.me.0 c low high rows.now (5 + 3 * length rows.now) seat.new.me.0 }
     {
+        // This word is stored in any case: a block under a new version has had at least one word stored. Of the others
+        // only those that differ, since each store takes its line of the cache from readers.
         self.spell_word(seat, cell, 0, rows.len() as u64);
         self.respell_word(seat, cell, 1, low.src);
         self.respell_word(seat, cell, 2, low.second);
