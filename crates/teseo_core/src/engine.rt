@@ -1,4 +1,6 @@
 //! The store as an engine of one owner.
+//!
+//! 1. Each call hands on to one of `Core`'s own, so that its proof speaks of one call, and this file of traits alone.
 
 ghost use Rattle.std.specs.Prelude.{IsSome};
 ghost use Rattle.graph_model.specs.declared.write.Write.TheVariants as writes;

@@ -1,4 +1,6 @@
 //! Retired leaves that no open transaction needs any more.
+//!
+//! 1. The bound is a stamp that no open transaction began below: whoever began later can't have seen the leaf.
 
 ghost use Rattle.std.specs.Prelude.{◌≡◌, true, false};
 ghost use Rattle.graph_model.specs.Rows.{is_below, end_key};
@@ -17,7 +19,7 @@ pub(crate) fn free_bound(manager: &TxnManager) -> u64
     manager.least_pin().unwrap_or(STAMPS_END)
 }
 
-/// Behind the last leaf, which ends there, frees the retired ones that can be.
+/// After the last leaf, which ends there, frees the retired ones that can be.
 pub(crate) fn free_behind(rows: &mut LeafRows, manager: &TxnManager, high: Key)
     ensures contents { KeepsContents rows.old rows.new }
     ensures before { is_below high end_key ≡ true → rows.new ≡ rows.old }

@@ -1,4 +1,7 @@
 //! A load: all writes of a graph at once, as the first transaction.
+//!
+//! 1. Rows are sorted and leaves filled with them, where write by write each would cost two searches in memory that no
+//!    cache has.
 
 ghost use Rattle.std.specs.Prelude.{◌≡◌, ◌≤◌, [], IsSome, IfOk, IfErr, OnOk, OnErr};
 ghost use Rattle.std.specs.List.{AllByRecursion};
@@ -50,6 +53,7 @@ impl Core {
         ensures refused { IfErr result (IsLoadRefusal self.old.core load) }
         ensures err { OnErr result (self.new.core ≡ self.old.core) }
     {
+        // Rows and copy are made before the transaction begins, so that one that has begun can't fail.
         let rows = load_rows(self.alloc, self.leaves, self.kind, load.as_slice(), sorted)?;
         let copy = copy_of(self.alloc, &load)?;
         match self.begin_here() {

@@ -1,7 +1,7 @@
-//! The writes of a pass's transactions, one behind the other in a single list.
+//! The writes of a pass's transactions, one after the other in a single list.
 //!
 //! 1. An ended transaction has a part of the list, and those parts stand in the order of the transactions.
-//! 2. What stands behind them are the writes of the open transaction.
+//! 2. What stands after them are the writes of the open transaction.
 
 ghost use Rattle.std.specs.Prelude.{◌≡◌, ◌<◌, ◌≤◌, [], ◌∷◌, ◌++◌, length, OnOk};
 
@@ -13,7 +13,9 @@ use std::marker::Model;
 /// What a pass has written. For each ended transaction it is kept how many writes it made.
 #[derive(Drop)]
 pub struct MadeWrites {
+    /// Of all transactions, in their order.
     writes: RoomyItems<Write>,
+    /// Of each ended transaction, in their order.
     counts: RoomyItems<usize>,
 }
 

@@ -20,8 +20,11 @@ use undo_chain::Touched;
 /// A write that was refused since another transaction was open.
 #[derive(Drop)]
 pub struct Sighted {
+    /// Who was open.
     by: TxnName,
+    /// The write that was refused.
     write: Write,
+    /// The start of the transaction that made it.
     start: u64,
 }
 
@@ -36,12 +39,19 @@ impl Model for Sighted {
 /// The transactions of a pass with their writes, the latest of which may be open.
 #[derive(Drop)]
 pub struct Pass {
+    /// What it has written in all its transactions.
     made: MadeWrites,
+    /// Whom its writes have met.
     sighted: Vec<Sighted>,
+    /// None where no transaction is open.
     start: Option<u64>,
+    /// The writes of the open transaction.
     own: RoomyWrites,
+    /// Whether a write was ever answered `full`.
     filled: bool,
+    /// How many transactions it has begun.
     begun: u32,
+    /// How many it may begin.
     allowed: u32,
 }
 
@@ -168,7 +178,7 @@ impl Pass {
         self.start = None;
     }
 
-    /// Notes what a refused write has met, and answers the refusal. Where memory is wanted for the note,
+    /// Notes what a refused write has met, and answers the refusal. Where memory runs out for the note,
     /// that is the refusal.
     pub fn note_refusal(&mut self, start: u64, write: Write, refusal: Refusal) -> Refusal
         ensures { Notes self.old.state start write refusal result self.new.state }
@@ -177,6 +187,7 @@ impl Pass {
             cause: Cause::Holder { by },
         } = refusal
         {
+            // A cause that can't be noted isn't named: each one that is has to be matched when the run is over.
             match self.sighted.push(Sighted { by, write, start }) {
                 Ok(()) => {}
                 Err(_) => return Refusal::NoMemory,

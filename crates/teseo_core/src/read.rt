@@ -1,4 +1,6 @@
 //! What the open transaction reads.
+//!
+//! 1. A read asks the rows under the name and start of the open transaction; it changes nothing and takes no memory.
 
 ghost use Rattle.std.specs.Prelude.{◌≡◌, ◌≤◌, ℕ, Some, IsSome, false};
 ghost use Rattle.graph_model.specs.declared.limits.TheConstants.{MAX_ID};

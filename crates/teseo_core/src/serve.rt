@@ -1,4 +1,6 @@
 //! Turns of the service: a sweep, then a step of merging, and so on in turn.
+//!
+//! 1. Neither can starve the other, whatever it answers.
 
 ghost use Rattle.std.specs.Prelude.{◌≡◌};
 ghost use Rattle.graph_model.specs.OwnerLaws.{DidServe};
@@ -10,7 +12,9 @@ use graph_model::NoMemory;
 /// What a turn of the service does.
 #[derive(Clone, Copy, Debug, PartialEq, Eq)]
 pub enum ServiceTurn {
+    /// Rows of a leaf are pruned.
     Sweep,
+    /// A window is spread, or two leaves become one.
     Merge,
 }
 
@@ -35,6 +39,8 @@ impl Core {
     {
         let turn = self.turn;
         self.served = self.served.saturating_add(1);
+        // The turn goes on whatever the step answers: a merge that runs out of memory isn't tried for ever while no
+        // leaf is swept.
         self.turn = turn.next();
         match turn {
             ServiceTurn::Sweep => Ok(self.sweep_step()),

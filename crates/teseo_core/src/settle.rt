@@ -1,4 +1,6 @@
 //! The end of a run: rows without records, and the journal.
+//!
+//! 1. No transaction is open, so nobody reads what came before the newest graph.
 
 ghost use Rattle.std.specs.Prelude.{◌≡◌, [], true};
 ghost use Rattle.leaf_rows.specs.LeafStore.Leaves.{record_count};
@@ -14,12 +16,19 @@ use std::marker::Model;
 /// Nothing but an engine makes one.
 #[derive(Drop)]
 pub struct CoreJournal {
+    /// All commits.
     journal: Journal,
+    /// Whether an edge is one arc or two.
     kind: Kind,
+    /// How many leaves the store had.
     leaves: u32,
+    /// By number.
     passes: Vec<Pass>,
+    /// The one that calls spoke of last.
     selected: u32,
+    /// How many turns of the service there were.
     served: u64,
+    /// Whether no record and no retired leaf was left.
     settled: bool,
 }
 
@@ -74,6 +83,7 @@ impl Core {
         ensures settled { result.settled ≡ true → (record_count self.rows ≡ 0) × (self.rows.retired ≡ []) }
         ensures unsettled { record_count self.rows ≡ 0 → self.rows.retired ≡ [] → result.settled ≡ true }
     {
+        // Looked at before the rows are let go, and kept as a fact of the journal that is handed out.
         let settled = has_nothing_left(&self.rows);
         CoreJournal {
             settled,

@@ -1,4 +1,8 @@
 //! The store of one owner.
+//!
+//! 1. A commit gives the writes of the pass to the manager and touches no row: the manager tells the stamp of the name
+//!    from then on, so all of its rows are seen at once.
+//! 2. All memory that a commit or an abort needs is taken before, with the writes themselves.
 
 ghost use Rattle.std.specs.Prelude.{◌≡◌, ◌<◌, ◌-◌, ◌↔◌, None, Some, IsSome, IfOk, Err, length, replicate, true};
 ghost use Rattle.graph_model.specs.OwnerCalls.{current, pass_at};
@@ -22,13 +26,21 @@ use txn_manager::{Config, StoreRefusal, TxnManager};
 #[derive(Drop)]
 pub struct Core {
     pub(crate) alloc: Global,
+    /// Whether an edge is one arc or two.
     pub(crate) kind: Kind,
+    /// How many leaves there are.
     pub(crate) leaves: u32,
+    /// The journal, and where transactions stand.
     pub(crate) manager: TxnManager,
+    /// By number.
     pub(crate) passes: Vec<Pass>,
+    /// The one that the next calls speak of.
     pub(crate) selected: u32,
+    /// How many turns of the service there were.
     pub(crate) served: u64,
+    /// What the leaves hold.
     pub(crate) rows: LeafRows,
+    /// Where the next sweep begins.
     pub(crate) next: SweepKey,
     /// What the next turn of the service does.
     pub(crate) turn: ServiceTurn,
@@ -59,6 +71,7 @@ impl Core {
         if config.is_too_large() {
             return Err(StoreRefusal::TooLarge);
         }
+        // The tables of passes and of leaves are made here; a leaf gets memory for its rows when it is first taken.
         let manager = TxnManager::new(alloc, config.passes, config.txns_per_pass)?;
         let passes = new_passes(alloc, config.passes, config.txns_per_pass)?;
         let rows = LeafRows::new(alloc, config.leaves)?;
@@ -135,6 +148,7 @@ impl Core {
     {
         let by = name_of(&self.passes[self.selected as usize], self.selected);
         let writes = self.passes[self.selected as usize].end(self.alloc);
+        // A transaction that wrote nothing has no commit and no stamp, and leaves no trace in the journal.
         if writes.is_empty() {
             self.manager.end_txn(by);
             return None;

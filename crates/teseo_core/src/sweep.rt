@@ -14,6 +14,7 @@ use graph_model::Key;
 /// The key whose leaf the next sweep takes.
 #[derive(Clone, Copy)]
 pub(crate) struct SweepKey {
+    /// The leaf that has it is the next one.
     pub(crate) key: Key,
     ghost within: { is_below key end_key ≡ true },
 }
@@ -28,7 +29,7 @@ impl SweepKey {
         }
     }
 
-    /// This key, or behind the last leaf that of the first one.
+    /// This key, or after the last leaf that of the first one.
     fn from_first(key: Key) -> SweepKey
         ensures { result.key ≡ from_first key }
     {
@@ -42,7 +43,7 @@ impl SweepKey {
 
 impl Core {
     /// Takes away, in the rows of the next leaf, what no transaction can see any more, and answers whether a record
-    /// went. Behind the last leaf the retired leaves are freed that can be, and the first one comes next. Takes no
+    /// went. After the last leaf the retired leaves are freed that can be, and the first one comes next. Takes no
     /// memory.
     pub fn sweep_step(&mut self) -> bool
         ensures { Sweeps self.old self.new result }

@@ -1,4 +1,6 @@
 //! What the store holds, whatever transactions are open.
+//!
+//! 1. It reads under a name that no open transaction has, and so sees what has committed and nothing else.
 
 ghost use Rattle.std.specs.Prelude.{◌≡◌, ◌≤◌, ◌-◌, ◌^◌, None, length, min};
 ghost use Rattle.std.specs.FinMap as fin_map;
@@ -38,6 +40,7 @@ impl Core {
         Totals {
             vertices: counts.vertices as u64,
             edges: edges_of(self.kind, counts.arcs as u64),
+            // Records are counted beside it, in a walk of their own over all cells.
             undo: 0,
             retired: 0,
         }

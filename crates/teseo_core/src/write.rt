@@ -1,4 +1,9 @@
 //! Writes of the open transaction.
+//!
+//! 1. The rows of a write are found first, and once; all later steps go from there.
+//! 2. It is checked before room is made, so a write that is refused moves no row. Room is made before records are
+//!    reserved, since rows that move take their records along. Memory comes last before the change, so that where it is
+//!    refused nothing has changed.
 
 ghost use Rattle.std.specs.Prelude.{◌≡◌, ℕ, ◌<◌, ◌≤◌, true, IsSome, IfErr, OnOk, OnErr};
 ghost use Rattle.graph_model.specs.OwnerCalls.{current};
@@ -80,10 +85,13 @@ impl Core {
         let reader = reader_of(&self.manager, &self.passes[pass], self.selected);
         let start = reader.start;
         let by = reader.by;
+        // Before room is made: a write that is refused moves no row, so it can't slow down others.
         match self.rows.check(self.kind, &reader, write, &found.near) {
             Ok(()) => {}
             Err(refusal) => return Err(self.passes[pass].note_refusal(start, write, refusal)),
         }
+        // Below it no open transaction has begun, so leaves that were retired before may be taken again, if this write
+        // needs one.
         let until = free_bound(&self.manager);
         let earlier = self.passes[pass].earlier_touches();
         put(
@@ -115,9 +123,12 @@ fn put(
     ensures puts { Puts found.now.rows by write until rows.old rows.new pass.old.state pass.new.state result }
     ensures places { PlacesWrite until found.now.rows rows.old rows.new result }
 {
+    // Before records are reserved: rows that move take their records to other cells, and room in the old ones would be
+    // of no use.
     match rows.make_room_or_free(found, until) {
         Ok(()) => {}
         Err(RoomRefusal::Full { leaves }) => {
+            // It is kept that the pass was answered `full`: a run has to show why.
             pass.fill();
             return Err(Refusal::Full { leaves });
         }
