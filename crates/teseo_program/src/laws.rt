@@ -3,7 +3,7 @@
 ghost use Rattle.teseo_program.specs.Laws.{AcceptedRunsEndWell, RunsWithRoomEndWell, GraphsAreMade, FaultySourcesAreNamed, LongSourcesAreNamed, LoadsFindRoom, RunsFindRoom, LimitsAre};
 
 /// A run whose words and sources are accepted, and whose calls of the desk all succeed, ends with status 0, with 6
-/// where a write found no place, or with 3 for want of memory. With 0 or 3 alone where no leaves are stated, and the
+/// where a write found no place, or with 3 where memory runs out. With 0 or 3 alone where no leaves are stated, and the
 /// rows that the graph and the lines of the scripts may insert are fewer than 103 for each of the leaves that there
 /// may be.
 pub fn accepted_runs_end_well()
@@ -12,14 +12,14 @@ pub fn accepted_runs_end_well()
 {}
 
 /// A run names the first source that isn't accepted, with its first fault, or the first that is too long where those
-/// before it are read whole, if no read fails; or it ends with 3 for want of memory.
+/// before it are read whole, if no read fails; or it ends with 3 where memory runs out.
 pub fn refused_sources_are_named()
     ensures faulty { FaultySourcesAreNamed }
     ensures long { LongSourcesAreNamed }
 {}
 
-/// A graph that is asked for is made and written with status 0, or ends with 3 for want of memory, if all calls of the
-/// desk succeed.
+/// A graph that is asked for is made and written with status 0, or ends with 3 where memory runs out, if all calls of
+/// the desk succeed.
 pub fn graphs_are_made()
     ensures { GraphsAreMade }
 {}

@@ -1,4 +1,6 @@
 //! What a call leaves of the store that ran.
+//!
+//! 1. Only an engine, or a store that was closed, makes such a value: so it tells that one ran.
 
 use source_run::Ran;
 use source_run::below::{Closed, CoreJournal};

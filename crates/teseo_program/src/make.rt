@@ -25,6 +25,7 @@ pub fn prepare_graph(alloc: Global, words: &MakeWords<'_>) -> Result<Prepared, N
     ensures apart { IfOk result NamesAreApart }
 {
     let graph = make_graph(alloc, words.seed, words.vertices, words.edges)?;
+    // How many edges there are, since repeats and loops were passed over.
     let summary = made_text(alloc, u64::from(words.vertices), graph.kept as u64)?;
     let mut outputs = Items::new(alloc);
     outputs.push(output_of(alloc, words.out, graph.vertices)?)?;

@@ -1,4 +1,8 @@
 //! How a call ends.
+//!
+//! 1. An outcome has all that is said and the status, and nothing else: what led to it is said by its cause in the
+//!    definitions.
+//! 2. Errors of the parts become outcomes by `From`, so a step of the run passes them on by `?`.
 
 ghost use Rattle.std.specs.Prelude.{◌≡◌};
 
@@ -15,7 +19,7 @@ use source_run::{ParseStop, SourceFault};
 /// | `NotRead` too long | 1 | `NAME: too long` |
 /// | `NotAccepted` | 1 | `NAME line L: TEXT` |
 /// | `BadWords` | 2 | `bad words` |
-/// | `NoMemory`, `NotRead` for want of memory | 3 | `no memory` |
+/// | `NoMemory`, `NotRead` where memory runs out | 3 | `no memory` |
 /// | `NotRead` by a fault | 4 | `read failed NAME` |
 /// | `NotWritten` | 5 | `write failed NAME` |
 /// | `Full` | 6 | the summary |
@@ -25,15 +29,21 @@ use source_run::{ParseStop, SourceFault};
 /// `Done`, `NoMemory` or `NotWritten`.
 #[derive(Clone, Copy, Debug, PartialEq, Eq)]
 pub enum Outcome {
+    /// All outputs are written.
     Done,
     /// All is written, and a write found no place: a report has the line `full`.
     Full,
     /// The leaves have no place for all rows of the graph. Nothing is created.
     LoadFull,
+    /// The words aren't taken.
     BadWords,
+    /// A source wasn't read.
     NotRead(ReadStop),
+    /// A source isn't of its form.
     NotAccepted { place: usize, fault: SourceFault },
+    /// Memory was refused.
     NoMemory,
+    /// An output wasn't written whole.
     NotWritten(WriteStop),
 }
 

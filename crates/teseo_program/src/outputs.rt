@@ -1,4 +1,6 @@
 //! The outputs and the summary, all made before the first of them is written.
+//!
+//! 1. Where memory is refused for one of them nothing is created.
 
 ghost use Rattle.std.specs.Prelude.{◌≡◌, ◌++◌, map, length, All, IfOk, OnOk};
 ghost use Rattle.std.specs.List.{AllByRecursion, list_any};
@@ -41,6 +43,7 @@ pub fn outputs_of<R: Threads + Sync>(
     let mut outputs = Items::new(alloc);
     let mut text = Text::new(alloc);
     write_journal(run.ran.journal(), &mut text)?;
+    // The journal comes first: where a later output fails, what was committed is known all the same.
     outputs.push(output_of(alloc, words.journal, text)?)?;
     let jobs = run.jobs.as_slice();
     'reports: for k in 0..jobs.len() {
@@ -75,7 +78,7 @@ fn report_output(alloc: Global, script: &str, answers: &[Answer]) -> Result<Outp
     Ok(Output::new(name, Items::from_vec(text.into_vec())))
 }
 
-/// Puts the results of a script behind the outputs.
+/// Puts the results of a script after the outputs.
 fn push_results<R: Threads + Sync>(
     rt: &R,
     alloc: Global,

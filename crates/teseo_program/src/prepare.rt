@@ -27,9 +27,13 @@ use std::thread::Threads;
 /// line `full`, and what the store that ran has left, if one did.
 #[derive(Drop)]
 pub struct Prepared {
+    /// In the order in which they are written.
     pub outputs: Items<Output>,
+    /// What is said at the end.
     pub summary: Text,
+    /// Whether a report has a line `full`.
     pub is_full: bool,
+    /// What the store that ran has left, if one did.
     pub left: Left,
 }
 
@@ -95,6 +99,7 @@ fn make<R: Threads + Wait + Sync, G: Gate>(
     ensures apart { IfOk result NamesAreApart }
     ensures refused { IfErr result (IsLoadStop (run_request words.now) (meaning_of input)) }
 {
+    // The laws that what was read of files may be loaded, which the engine asks for.
     files_are_loadable();
     load_is_legal();
     let kind = kind_of(words);
@@ -107,6 +112,7 @@ fn make<R: Threads + Wait + Sync, G: Gate>(
     let commits = run.ran.journal().len() as u64;
     let summary = summary_of(alloc, commits, run.totals)?;
     let outputs = outputs_of(rt, alloc, words, &run)?;
+    // Looked for in the reports, as a reader would, and not in the store.
     let is_full = is_full(&run);
     Ok(Prepared {
         outputs,

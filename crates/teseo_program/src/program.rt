@@ -1,4 +1,6 @@
 //! A run, or a graph that is made, to its end.
+//!
+//! 1. Outputs come before the text that is said, so what is said is true of them.
 
 ghost use Rattle.std.specs.Prelude.{◌≡◌, ◌≢◌, ◌<◌, []};
 ghost use Rattle.desk_io.specs.Outputs.{names_of};
@@ -31,7 +33,7 @@ pub fn end_with<D: Desk>(desk: &mut D, outcome: Outcome) -> u8
     outcome.status()
 }
 
-/// Runs the scripts that the words name. Behind a run whose outputs were all written, `left` is what its store leaves;
+/// Runs the scripts that the words name. After a run whose outputs were all written, `left` is what its store leaves;
 /// else it stays as it is. Where the scripts run on threads the gate is called before each of their turns, and the call
 /// may wait.
 pub fn run<R: Threads + Wait + Sync, D: Desk, G: Gate>(
@@ -48,6 +50,7 @@ pub fn run<R: Threads + Wait + Sync, D: Desk, G: Gate>(
     match prepare(rt, alloc, desk, words, gate) {
         Ok(prepared) => {
             let outcome = write_and_say(desk, &prepared);
+            // Only where all outputs are written: what is handed out promises that.
             hand_out(left, prepared.left, outcome);
             outcome
         }
