@@ -37,6 +37,7 @@ pub fn run_threads<R: Threads + Sync, E: VertexEngine + Send, G: Gate>(
         → E.served jobs.new.service ≡ min (E.served jobs.old.service + lines_of jobs.old.jobs.items) (2 ^ 64 - 1) }
     ensures service { ReadsBy (E.account jobs.old.service) (E.account jobs.new.service) }
 {
+    // The service takes one turn for each, so a run ends although nobody stops it.
     let lines = count_lines(jobs.jobs.as_slice());
     let service = &mut jobs.service;
     let seats = jobs.jobs.as_mut_slice();
@@ -169,7 +170,7 @@ fn jobs_in_first(jobs: usize, workers: u32, first: u32) -> usize
     jobs / blocks * first + (jobs % blocks).min(first)
 }
 
-/// Runs a block of jobs, one after the other. Answers whether memory was wanted.
+/// Runs a block of jobs, one after the other. Answers whether memory ran out.
 fn run_block<R: Threads + Sync, E: VertexEngine, G: Gate>(
     rt: &R,
     seats: &mut [(Job, E)],
@@ -188,7 +189,7 @@ fn run_block<R: Threads + Sync, E: VertexEngine, G: Gate>(
     wanted
 }
 
-/// Runs a job on its engine. Answers whether memory was wanted.
+/// Runs a job on its engine. Answers whether memory ran out.
 fn run_seat<R: Threads + Sync, E: VertexEngine, G: Gate>(
     rt: &R,
     seat: &mut (Job, E),
@@ -201,7 +202,7 @@ fn run_seat<R: Threads + Sync, E: VertexEngine, G: Gate>(
     run_job(rt, &mut seat.0, &mut seat.1, gate)
 }
 
-/// Takes turns of a job until it has ended. Answers whether memory was wanted.
+/// Takes turns of a job until it has ended. Answers whether memory ran out.
 fn run_job<R: Threads + Sync, E: VertexEngine, G: Gate>(
     rt: &R,
     job: &mut Job,
@@ -218,6 +219,7 @@ fn run_job<R: Threads + Sync, E: VertexEngine, G: Gate>(
     let before = job.has_given_up();
     let mut turn: u64 = 0;
     'turns: while !job.has_ended() {
+        // Before the turn, where the job holds nothing: a gate may wait.
         gate.turn(job.number(), turn);
         turn = turn.saturating_add(1);
         let _ = job.turn(rt, engine);

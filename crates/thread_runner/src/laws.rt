@@ -3,7 +3,7 @@
 ghost use Rattle.thread_runner.specs.ByAccount.{TurnsKeepWhatRan, JobsRunTheirScripts, NewScriptsAreReady, NewScriptsRun};
 ghost use Rattle.thread_runner.specs.Driving.{PartsAreCutAlike};
 
-/// What turns by the account of a pass come to: the script's lines, one behind the other.
+/// What turns by the account of a pass come to: the script's lines, one after the other.
 pub fn turns_by_account_run_scripts()
     ensures turns { TurnsKeepWhatRan }
     ensures over { JobsRunTheirScripts }
