@@ -1,4 +1,6 @@
 //! The run from the load to the closed store.
+//!
+//! 1. However the scripts end, the store is taken apart or let go: no pass is left with a transaction.
 
 ghost use Rattle.std.specs.Prelude.{◌≡◌, ◌<◌, ◌≤◌, IfErr, IfOk, false, length};
 ghost use Rattle.graph_model.specs.History.{graph_at};
@@ -28,7 +30,9 @@ use txn_manager::Config;
 /// What a run by threads leaves: the closed store, and the scripts with their answers and tables.
 #[derive(Drop)]
 pub struct ThreadedRun {
+    /// What it holds, and its journal.
     pub closed: Closed,
+    /// With their answers and tables.
     pub jobs: Jobs,
 }
 
@@ -54,6 +58,7 @@ pub fn run_on_threads<R: Threads + Wait + Sync, G: Gate>(
         (graph_at config.kind r.closed.journal (length r.closed.journal)) r.closed.totals) }
     ensures refused { IfErr result (IsStopped config load) }
 {
+    // The law that what scripts leave on such a store is a run, in whatever order their steps came.
     closed_stores_leave_runs();
     let (store, mut passes) = load_store(rt, alloc, config, load)?;
     match run_passes(rt, alloc, &store, &mut passes.list, scripts, workers, gate) {
@@ -62,6 +67,7 @@ pub fn run_on_threads<R: Threads + Wait + Sync, G: Gate>(
             Ok(ThreadedRun { closed, jobs })
         }
         Err(NoMemory) => {
+            // Where memory ran out nothing is handed out, so nothing is counted.
             let_go(store, passes);
             Err(LoadRefusal::NoMemory)
         }

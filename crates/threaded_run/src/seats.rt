@@ -1,4 +1,6 @@
 //! Passes are lent to workers, each beside the job of its script, and come back.
+//!
+//! 1. Pass 0 has the load and the service; script n runs on pass n.
 
 ghost use Rattle.std.specs.Prelude.{◌≡◌, ◌<◌, ◌≤◌, ◌+◌, ◌-◌, ◌++◌, ◌^◌, [], ◌∷◌, Some, length, map};
 ghost use Rattle.std.specs.List.{AllByRecursion};

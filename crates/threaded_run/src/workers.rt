@@ -1,4 +1,7 @@
 //! Workers run the scripts on the passes of a store.
+//!
+//! 1. The store has a name of its own in the types of its workers, by which passes that come back are known to be of
+//!    it.
 
 ghost use Rattle.std.specs.Prelude.{◌≡◌, ◌<◌, ◌≤◌, ◌++◌, ◌∷◌, IfOk, Some, length, map};
 ghost use Rattle.std.specs.List.{AllByRecursion, AllZip};
@@ -64,6 +67,7 @@ fn run_at_home<R: Threads + Wait + Sync, G: Gate, H: Home + Send>(
 {
     let mut jobs = Vec::with_capacity(alloc, scripts.len())?;
     let mut seats = Vec::with_capacity(alloc, scripts.len())?;
+    // Pass 0 has made the load, and serves from now on.
     let mut loader = passes.remove(0);
     seat_all(
         rt,
@@ -83,6 +87,7 @@ fn run_at_home<R: Threads + Wait + Sync, G: Gate, H: Home + Send>(
         jobs: seats,
         service,
     } = over;
+    // All passes come back before an error is passed on: the store can be taken apart only with all of them.
     passes.push_reserved(take_pass(store, service));
     leave_all(store, seats, passes, &mut jobs);
     ended?;
