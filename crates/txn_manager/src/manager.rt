@@ -20,8 +20,11 @@ use std::marker::Model;
 /// The journal, the transactions of each pass, and how many a pass may begin.
 #[derive(Drop)]
 pub struct TxnManager {
+    /// With room for a commit of each pass.
     journal: RoomyItems<Commit>,
+    /// The transactions of each.
     passes: Vec<PassHistory>,
+    /// How many transactions a pass may begin.
     allowed: u32,
 }
 
@@ -67,6 +70,7 @@ impl TxnManager {
             return Err(BeginRefusal::TxnsUsed);
         }
         let start = self.journal.len() as u64;
+        // Room for a commit of each pass: so the commit of this transaction takes none, whichever commits first.
         self.journal.reserve(self.passes.len())?;
         self.passes[pass as usize].begin(start)?;
         Ok(Begun {
@@ -87,6 +91,7 @@ impl TxnManager {
         ensures committed { self.new ≡ record (committed self.old by writes) { spare = self.new.spare } }
     {
         let stamp = self.journal.len() as u64 + 1;
+        // From here on the name answers with its stamp, so all its rows are seen at once.
         let start = self.passes[by.job as usize].commit(stamp);
         self.journal.push_within(Commit {
             stamp,
