@@ -23,6 +23,7 @@ use std::marker::Model;
 /// The undo records of one segment.
 #[derive(Drop)]
 pub struct Chains {
+    /// Under keys by which heads and records name them.
     records: Slots,
 }
 
@@ -473,8 +474,8 @@ impl Chains {
         false
     }
 
-    /// Whether a list has a record that a prune at the horizon leaves, once this writer's records have a stamp up to it.
-    /// Nobody is asked for the writers of records without a stamp.
+    /// Whether a list has a record that a prune at the horizon leaves, once this writer's records have a stamp up to
+    /// it. Nobody is asked for the writers of records without a stamp.
     pub fn has_outlasting(&self, head: Option<usize>, by: TxnName, horizon: u64) -> bool
         requires { IsHeadOf self.now head }
         ensures { result ≡ list_any (outlasts by horizon) (list_at self.now head) }

@@ -1,4 +1,6 @@
 //! Lists of records are versions.
+//!
+//! 1. Callers cite this law and not the form of a record: what a record holds may change here without a change above.
 
 ghost use Rattle.undo_chain.specs.Laws.{PushIsWrite, PopIsUndo, FrontIsPruned, StampIsStamp};
 

@@ -1,4 +1,6 @@
 //! Keys of records in 48 bits.
+//!
+//! 1. Three parts of 16 bits keep a link at six bytes with no padding, so an entry of heads has 16 and a record 32.
 
 ghost use Rattle.std.specs.Prelude.{◌≡◌, ◌≤◌, Some, None};
 ghost use Rattle.undo_chain.specs.declared.link.TheConstants.{MOST_RECORDS};
@@ -13,8 +15,11 @@ pub const MOST_RECORDS: usize = 281474976710654;
 /// The key of a record, or none, in six bytes: one more than the key, or zero, in three parts of 16 bits.
 #[derive(Drop)]
 pub struct Link {
+    /// The lowest 16 bits.
     low: u16,
+    /// The next 16.
     middle: u16,
+    /// The highest 16.
     high: u16,
 }
 

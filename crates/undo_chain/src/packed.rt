@@ -1,4 +1,7 @@
 //! Undo records as they lie in memory.
+//!
+//! 1. A slot has 32 bytes, two to a line of the cache, whether it has a record or names the next vacant slot.
+//! 2. What a slot has no use for keeps old bytes; `content` says which parts mean something.
 
 ghost use Rattle.std.specs.Prelude.{◌≡◌, ◌≤◌, false, None, Some, IsSome, IsSomeAnd};
 ghost use Rattle.undo_chain.specs.declared.link.TheConstants.{MOST_RECORDS};
@@ -13,27 +16,39 @@ use std::marker::Model;
 
 /// What stands in a slot: the place of the next vacant one, or a record.
 pub enum Slot {
+    /// It has no record.
     Vacant(usize),
+    /// It has this one.
     Occupied(Undo),
 }
 
 /// Whether a slot has a record, and whether that has a stamp, or all from it on.
 #[derive(Clone, Copy)]
 pub enum Content {
+    /// It is vacant.
     Nothing,
+    /// The writer's word is asked.
     Unstamped,
+    /// The stamp stands here.
     Stamped,
+    /// Here and in all that follow.
     AllStamped,
 }
 
 /// A slot of 32 bytes, whether it has a record or not. What has no meaning in it isn't read.
 #[derive(Drop)]
 pub(crate) struct PackedSlot {
+    /// The writer.
     by: TxnName,
+    /// Its stamp, where `content` says that there is one.
     stamp: u64,
+    /// The value before, where `has_older` says that there was one.
     older: u64,
+    /// The next record of the list, or the next vacant slot.
     link: Link,
+    /// What the others mean.
     content: Content,
+    /// Whether the row had a value before.
     has_older: bool,
 }
 
@@ -56,6 +71,7 @@ impl PackedSlot {
         PackedSlot {
             by: undo.by,
             stamp: undo.stamp.unwrap_or(0),
+            // Whether it means something is told by `has_older`: an `Option` would take eight bytes more.
             older: undo.older.unwrap_or(0),
             link: Link::new(undo.next),
             content: match undo.stamp {

@@ -20,8 +20,11 @@ use std::mem;
 /// Undo records under keys that are picked here.
 #[derive(Drop)]
 pub(crate) struct Slots {
+    /// Vacant ones are a list too, each of which names the next.
     slots: Vec<PackedSlot>,
+    /// How many have a record.
     len: usize,
+    /// The first vacant slot, or the number of slots where none is.
     next: usize,
 }
 
@@ -98,6 +101,7 @@ impl Slots {
         if records <= self.spare() {
             return Ok(());
         }
+        // Beyond that a link couldn't name a record. No machine has the memory, so it is answered as if that ran out.
         if records > MOST_RECORDS - self.len {
             return Err(NoMemory);
         }
@@ -119,6 +123,8 @@ impl Slots {
         let key = self.next;
         let slot = PackedSlot::occupied(undo);
         self.len += 1;
+        // No slot is vacant. A new one is made only then, so there are never more slots than records stood here at
+        // once.
         if key == self.slots.len() {
             self.slots.push_reserved(slot);
             self.next = key + 1;

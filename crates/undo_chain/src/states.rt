@@ -1,4 +1,7 @@
 //! Where transactions stand.
+//!
+//! 1. Records know names alone. Who asks brings the knowledge: a manager for one owner, words of passes for many.
+//! 2. Records that have their stamp are never asked for.
 
 ghost use Rattle.std.specs.Prelude.{◌≡◌, ◌≤◌, true};
 ghost use Rattle.undo_chain.specs.States.{Knowledge, IsAnswer, Grows};
@@ -8,7 +11,9 @@ use graph_model::{State, TxnName};
 /// What a transaction sees: the commits up to its start, and its own writes.
 #[derive(Clone, Copy, Debug, PartialEq, Eq)]
 pub struct Snapshot {
+    /// How many commits it sees.
     pub start: u64,
+    /// Its own name.
     pub own: TxnName,
 }
 

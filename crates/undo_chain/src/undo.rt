@@ -1,4 +1,7 @@
 //! One undo record.
+//!
+//! 1. A record has the value before a write, so a list, newest first, leads from the newest value back to the oldest
+//!    that somebody may read.
 
 use graph_model::TxnName;
 
