@@ -1,4 +1,4 @@
-//! Lists in one block of memory that contracts see as lists, and the answer of a call that wanted memory.
+//! Lists in one block of memory that contracts see as lists, and the answer of a call that ran out of memory.
 //!
 //! 1. A list is made of a `Vec` and gives it back with no memory taken.
 //! 2. After a refused call a list is as it was.

@@ -1,4 +1,6 @@
 //! A list that grows at its end.
+//!
+//! 1. Its room isn't seen: a push may take memory, and whoever must not fail keeps a `RoomyItems`.
 
 ghost use Rattle.std.specs.Prelude.{◌≡◌, ◌==◌, ◌<◌, [], ◌∷◌, ◌++◌, length, slice_set, OnOk, OnErr};
 

@@ -1,4 +1,6 @@
-//! Want of memory, the one answer that no clause ties to a cause.
+//! Running out of memory, the one answer that no clause ties to a cause.
+//!
+//! 1. It may come at any call that may take memory, so contracts say what it leaves, and not when it comes.
 
 use std::alloc::{AllocError, AllocFailed};
 use thiserror::Error;

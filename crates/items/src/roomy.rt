@@ -1,4 +1,6 @@
 //! A list that knows how much room it has.
+//!
+//! 1. Room is made while nothing has changed yet; a push within it takes none, so a commit can't fail half way.
 
 ghost use Rattle.std.specs.Prelude.{◌≡◌, ◌==◌, ◌+◌, ◌^◌, ◌<◌, ◌≤◌, [], ◌∷◌, ◌++◌, length, IsSome, IfSome, IfNone, OnOk, OnErr, ◌↔◌};
 
