@@ -20,6 +20,7 @@ use std::{env, io};
 const STANDARD_ERROR: i32 = 2;
 
 fn main(rt: HostRuntime) -> ExitCode {
+    // First of all: a file that is opened later could else become standard output.
     let _standard = fill_standard(&rt);
     let alloc = rt.alloc();
     let words = words(&rt, alloc);
@@ -54,7 +55,7 @@ fn open_standard(rt: &impl Files<File = File>) -> Option<File> {
     }
 }
 
-/// The words behind the program's name, or how the run ends without them.
+/// The words after the program's name, or how the run ends without them.
 fn words(rt: &(impl Env + Alloc<A = Global>), alloc: Global) -> Result<Vec<String>, Outcome> {
     match env::args(rt) {
         Ok(args) => copied(alloc, args),
