@@ -12,7 +12,7 @@ use std::time::{Duration, Instant};
 /// So many times in a run it is told what the store holds.
 const MOMENTS: u32 = 10;
 
-/// Makes all changes so many times in each tenth of the run, and tells behind each tenth what the store holds.
+/// Makes all changes so many times in each tenth of the run, and tells after each tenth what the store holds.
 pub fn churn<R: Clock + Print, E: BenchEngine>(
     rt: &R,
     engine: &mut E,

@@ -58,7 +58,7 @@ fn main(rt: HostRuntime) -> Result<()> {
     }
 }
 
-/// The numbers behind the program's name, up to seven; 0 for each that isn't there.
+/// The numbers after the program's name, up to seven; 0 for each that isn't there.
 fn numbers(rt: &(impl Env + Alloc<A = Global>), alloc: Global) -> Result<[u64; 7]> {
     let mut numbers = [0; 7];
     let mut count = 0;
