@@ -1,6 +1,6 @@
 //! The kernels that are timed, each with all that it asks for beside the image.
 //!
-//! What is timed is one call for all of them, whose contract is small. A proof that makes all calls one behind the
+//! What is timed is one call for all of them, whose contract is small. A proof that makes all calls one after the
 //! other takes three times as long.
 
 use graph_image::{Image, KernelRefusal, Table};

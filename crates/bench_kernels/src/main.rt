@@ -56,7 +56,7 @@ fn main(rt: HostRuntime) -> Result<()> {
     Ok(())
 }
 
-/// The four numbers behind the program's name; 0 for each that isn't there.
+/// The four numbers after the program's name; 0 for each that isn't there.
 fn numbers(rt: &(impl Env + Alloc<A = Global>), alloc: Global) -> Result<[u64; 4]> {
     let mut numbers = [0; 4];
     let mut count = 0;
