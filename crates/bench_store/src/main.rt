@@ -33,7 +33,7 @@ fn main(rt: HostRuntime) -> Result<()> {
     Ok(())
 }
 
-/// The two numbers behind the program's name; 0 for each that isn't there.
+/// The two numbers after the program's name; 0 for each that isn't there.
 fn numbers(rt: &(impl Env + Alloc<A = Global>), alloc: Global) -> Result<[u64; 2]> {
     let mut numbers = [0; 2];
     let mut count = 0;

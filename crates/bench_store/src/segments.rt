@@ -150,7 +150,7 @@ fn run_of_all(segment: &Segment, s: u64, place: u64) -> u64 {
     sum_of(segment.run(from, until))
 }
 
-/// Lends twenty rows out of 32, with rows before them and behind them.
+/// Lends twenty rows out of 32, with rows before them and after them.
 fn run_of_some(segment: &Segment, s: u64, place: u64) -> u64 {
     let first = place % 11 + 1;
     sum_of(segment.run(row(s, first).key, row(s, first + USUAL).key))
