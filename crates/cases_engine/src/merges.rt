@@ -11,8 +11,8 @@ use teseo_core::Core;
 use txn_manager::{Config, Totals};
 
 // Rows come in the order of their keys. A leaf is split where the last segment is full and no window has room: the
-// first one with 219 rows, those behind it with 216. So 110 rows stay in the first leaf, 108 in each of the next
-// seven, and 134 are in the ninth. Of them 40 are left behind the sweeps, no more than 2 in a segment, and 5 in a
+// first one with 219 rows, those after it with 216. So 110 rows stay in the first leaf, 108 in each of the next
+// seven, and 134 are in the ninth. Of them 40 are left after the sweeps, no more than 2 in a segment, and 5 in a
 // segment where they are divided among eight. No window has enough to be spread, which takes 12 rows in two
 // segments, 32 in four or 80 in eight, and any two neighbours have few rows. So eight steps merge two leaves each.
 #[test]
@@ -45,7 +45,7 @@ type Leaves = (u32, Totals);
 
 /// Adds 1,000 vertices and removes all but 40 of them, sweeps all leaves, makes nine steps of merging, and sweeps once
 /// more. Answers how many leaves were in use before the sweeps, whether each of eight steps found something to do, and
-/// whether the ninth did; and what is left before the last sweep and behind it.
+/// whether the ninth did; and what is left before the last sweep and after it.
 fn merge_nine_leaves<E: LeafEngine + Drop>(
     mut engine: E,
 ) -> Result<((u32, bool, bool), (Leaves, Leaves)), Fail>

@@ -75,7 +75,7 @@ fn a_leaf_is_swept_whole(rt: HostRuntime) -> Result<(), Fail> {
 }
 
 /// Adds 33 vertices, makes two steps of merging and two sweeps, and settles the store. Answers whether each step and
-/// each sweep found something to do, and what is left before the store is settled and behind it.
+/// each sweep found something to do, and what is left before the store is settled and after it.
 fn sweep_a_leaf<E: LeafEngine + Drop>(
     mut engine: E,
 ) -> Result<((bool, bool), (bool, bool), (Totals, Totals)), Fail>
