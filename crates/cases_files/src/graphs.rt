@@ -30,7 +30,7 @@ fn a_vertex_file_is_read_or_its_first_fault_said(rt: HostRuntime) -> Result<(), 
     Ok(())
 }
 
-/// The ids that are read, each with a blank behind it, or the refusal.
+/// The ids that are read, each with a blank after it, or the refusal.
 fn said_ids(alloc: Global, text: &str, limit: u64) -> Result<String, Fail> {
     let mut said = String::new(alloc);
     match read_vertices(alloc, text.as_bytes(), limit) {
@@ -131,7 +131,7 @@ fn a_weight_is_read_in_units_or_its_fault_said(rt: HostRuntime) -> Result<(), Fa
     Ok(())
 }
 
-/// The edges that are read over the ids 1, 2 and 3, each as `1-2:7` for the weight 7, with a blank behind it, or
+/// The edges that are read over the ids 1, 2 and 3, each as `1-2:7` for the weight 7, with a blank after it, or
 /// the refusal.
 fn said_edges(
     alloc: Global,

@@ -24,7 +24,7 @@ fn lines_that_say_something_are_given_with_their_numbers_and_fields(
     Ok(())
 }
 
-/// Each line as `1(a)(b)` for its number and its fields, with a blank behind it.
+/// Each line as `1(a)(b)` for its number and its fields, with a blank after it.
 fn said_lines(alloc: Global, text: &str) -> Result<Text, NoMemory> {
     let mut said = Text::new(alloc);
     let mut lines = field_lines(text.as_bytes());

@@ -4,7 +4,7 @@ use graph_maker::make_graph;
 use std::test::Fail;
 
 /// The first row has no edges. The others were reckoned apart, in Python: loops, pairs that come again in the same
-/// order and in the other, fewer edges than wanted, the greatest seed.
+/// order and in the other, fewer edges than were asked for, the greatest seed.
 #[test]
 fn graphs_are_those_of_the_words_of_their_seeds(rt: HostRuntime) -> Result<(), Fail> {
     let cases = [
