@@ -11,7 +11,7 @@ use std::alloc::Global;
 use std::test::Fail;
 use txn_manager::RoomRefusal;
 
-/// Where the leaves begin, one behind the other. The last of eight leaves is taken first.
+/// Where the leaves begin, one after the other. The last of eight leaves is taken first.
 const FIRST: Key = Key { src: 0, second: 0 };
 
 const SEVENTH: Key = Key { src: 10, second: 0 };
