@@ -7,7 +7,7 @@ use run_model::{Command, Name};
 use std::alloc::Global;
 use std::test::Fail;
 
-/// Scripts, read one behind the other with the name `j` taken at first: the lines that each is read as, or its
+/// Scripts, read one after the other with the name `j` taken at first: the lines that each is read as, or its
 /// refusal.
 const SCRIPTS: &[(&str, &str)] = &[
     ("", ""),
@@ -115,7 +115,7 @@ fn a_schedule_is_read_or_its_first_fault_said(rt: HostRuntime) -> Result<(), Fai
     Ok(())
 }
 
-/// The lines that a script is read as, each with a slash behind it, or the refusal.
+/// The lines that a script is read as, each with a slash after it, or the refusal.
 fn said_script(alloc: Global, text: &str, taken: &mut Names) -> Result<Text, Fail> {
     let mut said = Text::new(alloc);
     match read_script(alloc, text.as_bytes(), taken) {
@@ -157,7 +157,7 @@ fn say_command(command: &Command, said: &mut Text) -> Result<(), NoMemory> {
     }
 }
 
-/// Says a word, and the numbers and the name behind it; the name of a line without one is empty.
+/// Says a word, and the numbers and the name after it; the name of a line without one is empty.
 fn say(word: &[u8], numbers: &[u64], name: &[u8], said: &mut Text) -> Result<(), NoMemory> {
     said.push_bytes(word)?;
     for number in numbers {
@@ -171,7 +171,7 @@ fn say(word: &[u8], numbers: &[u64], name: &[u8], said: &mut Text) -> Result<(),
     Ok(())
 }
 
-/// The jobs of a schedule for two scripts, each with a blank behind it, or the refusal.
+/// The jobs of a schedule for two scripts, each with a blank after it, or the refusal.
 fn said_schedule(alloc: Global, text: &str) -> Result<Text, Fail> {
     let mut said = Text::new(alloc);
     match read_schedule(alloc, text.as_bytes(), 2) {
