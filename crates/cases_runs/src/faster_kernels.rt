@@ -16,7 +16,7 @@ const SAME: &[(&str, &str)] = &[
     ("paths", "wide"),
 ];
 
-/// The words that make the graph, and those that run the script behind them, with the ends.
+/// The words that make the graph, and those that run the script after them, with the ends.
 const CALLS: &[(&str, End)] = &[
     (
         "make --seed 7 --vertices 10000 --edges 100000 --out v --edges-out e",

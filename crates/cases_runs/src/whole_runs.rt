@@ -189,7 +189,7 @@ pub const RUNS: [(Run, End); 20] = [
             ],
         ),
     ),
-    // each refusal of a write, and a write behind them
+    // each refusal of a write, and a write after them
     (
         (
             &[
