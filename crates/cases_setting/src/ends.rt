@@ -13,7 +13,7 @@ use std::thread::Threads;
 /// A file: its name and its text.
 pub type File<'a> = (&'a str, &'a str);
 
-/// The sources that are on the desk, and the words behind those of the graph and the journal.
+/// The sources that are on the desk, and the words after those of the graph and the journal.
 pub type Run<'a> = (&'a [File<'a>], &'a str);
 
 /// A status, what is said, how many files there are, and the text of some of them.
@@ -128,7 +128,7 @@ fn difference(alloc: Global, found: &str, wanted: &str) -> Result<String, AllocE
     Ok(both)
 }
 
-/// The end that a desk shows behind a call, as text, with the files of the wanted end.
+/// The end that a desk shows after a call, as text, with the files of the wanted end.
 fn text_of_desk(
     alloc: Global,
     status: u8,
