@@ -129,7 +129,7 @@ pub struct ServeOften {
     pub turns: u32,
     /// How many turns changed a cell.
     pub changed: u32,
-    /// How many of the last turns, one behind the other, changed none.
+    /// How many of the last turns, one after the other, changed none.
     pub still: u32,
 }
 
