@@ -13,9 +13,8 @@ use crate::rmat::{Ends, edge_text};
 use anyhow::Result;
 use graph_files::{Weights, files_are_loadable, load_is_legal, read_edges, read_vertices};
 use graph_maker::make_graph;
-use graph_model::{Ids, Kind, MAX_LOAD_ROWS, NoMemory, Write, Writes};
-use graphalytics_io::Edges;
-use items::Items;
+use graph_model::{Ids, Kind, MAX_LOAD_ROWS, NoMemory, Writes};
+use graphalytics_io::{Edges, writes_of};
 use std::alloc::Global;
 
 /// The ids and the edges of a graph.
@@ -33,28 +32,8 @@ impl Graph {
         ensures allowed { IfOk result (λ load. AllAllowed Undirected empty_graph load) }
         ensures within { IfOk result (λ load. AllByRecursion IsWithinLimits load) }
     {
-        writes_of(alloc, self)
+        writes_of(alloc, &self.ids, &self.edges)
     }
-}
-
-/// The writes that add the vertices, and then those that add the edges.
-fn writes_of(alloc: Global, graph: &Graph) -> Result<Writes, NoMemory>
-    ensures { IfOk result (λ load. load ≡ load_of graph.now.ids graph.now.edges) }
-{
-    let ids = graph.ids.as_slice();
-    let edges = graph.edges.as_slice();
-    let mut load = Vec::with_capacity(alloc, ids.len() + edges.len())?;
-    'ids: for v in ids {
-        load.push(Write::AddVertex { v: *v })?;
-    }
-    'edges: for edge in edges {
-        load.push(Write::AddEdge {
-            u: edge.u,
-            v: edge.v,
-            weight: edge.weight,
-        })?;
-    }
-    Ok(Items::from_vec(load))
 }
 
 /// A graph of so many vertices, from 1 on, and about so many edges, in no order.
