@@ -100,7 +100,7 @@ pub fn is_crowded(
 }
 
 /// How many rows each cell of a leaf has.
-fn counts_in(cells: &[TakenCell]) -> [u8; LEAF_SEGMENTS]
+pub fn counts_in(cells: &[TakenCell]) -> [u8; LEAF_SEGMENTS]
     requires { length cells.now ≡ 8 }
     ensures { result ≡ counts_of (values_of cells.now) }
 {
