@@ -3,7 +3,7 @@
 //! 1. They are those of `density_tree`, as for the owner of a store, by the counts of the cells.
 
 ghost use Rattle.std.specs.Prelude.{◌≡◌, ◌*◌, ◌<◌, ◌≤◌, ℕ, None, IfSome, length};
-ghost use Rattle.pass_moves.specs.LeafArray.Segments.{counts_of, rows_of};
+ghost use Rattle.pass_moves.specs.LeafArray.Segments.{rows_of};
 ghost use Rattle.pass_moves.specs.LeafStore.Merging.{HasNoWindow, IsLeftmostWindow};
 ghost use Rattle.pass_moves.specs.Moving.{values_of};
 
@@ -24,33 +24,6 @@ pub(crate) fn sparse_window(counts: [u8; LEAF_SEGMENTS]) -> Option<Window>
         }
     }
     None
-}
-
-/// How many rows each cell of a leaf has.
-pub(crate) fn counts_in(cells: &[TakenCell]) -> [u8; LEAF_SEGMENTS]
-    requires { length cells.now ≡ 8 }
-    ensures { result ≡ counts_of (values_of cells.now) }
-{
-    let [first, second, third, fourth, fifth, sixth, seventh, eighth] = cells else {
-        unreachable!()
-    };
-    [
-        count(first),
-        count(second),
-        count(third),
-        count(fourth),
-        count(fifth),
-        count(sixth),
-        count(seventh),
-        count(eighth),
-    ]
-}
-
-/// How many rows a cell has.
-fn count(cell: &TakenCell) -> u8
-    ensures { result ≡ length cell.now.held.value.rows }
-{
-    cell.held.value.len() as u8
 }
 
 /// How many rows all cells have.

@@ -8,11 +8,12 @@ ghost use Rattle.pass_merges.specs.Pairs.{StandTogether};
 ghost use Rattle.pass_merges.specs.Works.{IsWork};
 
 use crate::pair::LeafPair;
-use crate::sparse::{counts_in, rows_in, sparse_window};
+use crate::sparse::{rows_in, sparse_window};
 use density_tree::Window;
 use graph_model::Key;
 use leaf_index::{LeafIndex, LeafRange};
 use pass_moves::below::{MERGE_ROWS, TakenCell};
+use pass_moves::counts_in;
 
 /// What it is.
 #[derive(Clone, Copy, Debug, PartialEq, Eq)]
