@@ -3,10 +3,11 @@
 //! 1. One pointer, so that a slot of the latch table stays small: most segments at rest have no record.
 //! 2. The box is made when a segment first gets a record, so laying it to rest takes no memory.
 
-ghost use Rattle.std.specs.Prelude.{◌≡◌, ◌⊎◌, ◌<◌, ◌≤◌, ℕ, true, [], IfSome};
+ghost use Rattle.std.specs.Prelude.{◌≡◌, ◌⊎◌, ◌<◌, ◌≤◌, ℕ, true, [], map, IfSome};
 ghost use Rattle.std.specs.List.{list_any};
-ghost use Rattle.undo_chain.specs.Chains.{list_at, IsHeadOf};
-ghost use Rattle.undo_chain.specs.Records.{outlasts};
+ghost use Rattle.undo_chain.specs.Chains.{list_at, ChangesOneList, IsHeadOf};
+ghost use Rattle.undo_chain.specs.Records.{outlasts, stamped_by, value_of};
+ghost use Rattle.undo_chain.specs.States.{AreNamed, Grows};
 ghost use Rattle.head_map.specs.Heads.{heads_placed, place_behind, settled_heads};
 
 use crate::heads::{HeadMap, Heads, Inside};
@@ -14,7 +15,7 @@ use graph_model::TxnName;
 use std::alloc::Global;
 use std::marker::Model;
 use std::mem::replace;
-use undo_chain::Chains;
+use undo_chain::{Chains, Snapshot, States};
 
 /// What is kept of the rows: their number alone, or a box.
 #[derive(Drop)]
@@ -105,6 +106,44 @@ impl RestingHeads {
         match &self.kept {
             Kept::Settled { alloc: _, count: _ } => false,
             Kept::Changed { alloc: _, inside } => inside.chains.has_outlasting(head, by, horizon),
+        }
+    }
+
+    /// The value of a row for a snapshot. Its newest value is `base`.
+    pub fn value_at<S: States>(
+        &self,
+        head: Option<usize>,
+        base: Option<u64>,
+        snapshot: &Snapshot,
+        states: &mut S,
+    ) -> Option<u64>
+        requires head { IsHeadOf self.now.chains head }
+        requires known { snapshot.now.start ≤ (S.knowledge states.old).known }
+        requires named { AreNamed (S.knowledge states.old).names (list_at self.now.chains head) }
+        ensures value { result
+            ≡ value_of (S.knowledge states.old).stamps snapshot.now base (list_at self.now.chains head) }
+        ensures grows { Grows (S.knowledge states.old) (S.knowledge states.new) }
+    {
+        match &self.kept {
+            Kept::Settled { alloc: _, count: _ } => base,
+            Kept::Changed { alloc: _, inside } => {
+                inside.chains.value_at(head, base, snapshot, states)
+            }
+        }
+    }
+
+    /// Gives the records of a writer in one list their commit stamp, where they have none.
+    pub fn stamp(&mut self, head: Option<usize>, by: TxnName, stamp: u64)
+        requires { IsHeadOf self.old.chains head }
+        ensures list { list_at self.new.chains head ≡ map (stamped_by by stamp) (list_at self.old.chains head) }
+        ensures others { ChangesOneList self.old.chains self.new.chains head head }
+        ensures spare { self.new.chains.spare ≡ self.old.chains.spare }
+        ensures heads { self.new.heads ≡ self.old.heads }
+        ensures count { self.new.count ≡ self.old.count }
+    {
+        match &mut self.kept {
+            Kept::Settled { alloc: _, count: _ } => {}
+            Kept::Changed { alloc: _, inside } => inside.chains.stamp(head, by, stamp),
         }
     }
 
