@@ -6,6 +6,8 @@ pub mod WordLemmas
 pub mod RestLemmas
 pub mod SettleLemmas
 pub mod SettledLemmas
+pub mod StampLemmas
+pub mod ReadLemmas
 pub use Rattle.row_table.proofs.HeadMap.KeyedLemmas
 pub use Rattle.row_table.proofs.WalkLemmas
 pub mod ReweighLemmas

@@ -11,7 +11,7 @@ use Rattle.undo_chain.specs.Records as undo_records
 use Rattle.row_table.specs.HeadMapDeclared.heads.Heads.{Heads}
 use Rattle.row_table.specs.HeadMap.Heads.{place_behind, settled_heads}
 use Rattle.row_table.specs.Parts.{touches_of}
-use Rattle.version_segment.specs.Resting.{RestingRow, outlasts, Settles, CanSettle}
+use Rattle.version_segment.specs.Resting.{RestingRow, outlasts, CanSettle}
 use Rattle.version_segment.specs.RestingParts.{resting_at, resting_places, PlaceSettles}
 
 module _ (by : TxnName) (horizon : ℕ) where
@@ -58,6 +58,12 @@ module _ (by : TxnName) (horizon : ℕ) where
     -- a row without records settles
     pub none_settles : (h : Heads) → h ≡ settled_heads → PlaceSettles by horizon c h
     none_settles h none = subst (PlaceSettles by horizon c) (sym none) (record { value = refl; undos = refl; touches = refl })
+
+-- rows have values where those at their places do
+pub places_valued : (c : ChainMap) (count : ℕ) (f : ℕ → Heads) → ((p : ℕ) → p < count → (f p).has_value ≡ true)
+    → AllByRecursion (λ h. h.has_value ≡ true) (resting_places c count f)
+places_valued c zero f at = tt
+places_valued c (suc n) f at = (at 0 (omega arith), places_valued c n (λ p. f (suc p)) (λ p lt. at (suc p) (omega (arith, lt))))
 
 module _ (c : ChainMap) where
   -- what is left of a row is what is left at its place

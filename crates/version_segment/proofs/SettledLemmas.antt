@@ -13,7 +13,7 @@ use Rattle.graph_model.specs.Rows.{key_cmp, is_below, is_between}
 use Rattle.store_model.specs.Stamped.{Stamped, StampedVersions, first_stamped, known, lacks_stamp, prune_stamped, stamp, stamp_one, stamp_or, stamped_front}
 use Rattle.row_table.specs.Rows.{VersionedRows, IsSegment, is_empty, is_nothing, nothing, or_nothing}
 use Rattle.row_table.specs.HeadMap.Keyed.{RisesBy}
-use Rattle.version_segment.specs.Resting.{front_with, newest_in, newest_value, outlasts, resting_row, settled_rest, word_of, RestingRow, Settles}
+use Rattle.version_segment.specs.Resting.{front_with, newest_in, newest_value, oldest_with, outlasts, resting_row, settled_rest, stamped_row, with_newest, word_of, word_row, Settles}
 use Rattle.version_segment.specs.Settling.{SegmentIsStamped, SegmentSettles, each_row, settled_versions}
 
 -- ---- rows with other versions
@@ -61,19 +61,14 @@ each_sound f s is something =
 
 -- ---- stamps
 
+-- there are undo records where there were
+stamped_empty : (by : TxnName) (n : ℕ) (ps : List Stamped) → is_empty (map (stamp_one by n) ps) ≡ is_empty ps
+stamped_empty by n [] = refl
+stamped_empty by n (p ∷ ps) = refl
+
 stamped_something : (by : TxnName) (n : ℕ) (rows : List (Key × StampedVersions)) → AllByRecursion (λ row. is_nothing row.1 ≡ false) rows → AllByRecursion (λ row. is_nothing row.1 ≡ false) (each_row (stamp by n) rows)
 stamped_something by n [] h = tt
-stamped_something by n (r ∷ rs) h = ((λ i. none r.1.pairs i && (none r.1.touches i && not (is_some r.1.oldest))) ∙ h.0, stamped_something by n rs h.1)
-  where
-    none : (ps : List Stamped) → is_empty (map (stamp_one by n) ps) ≡ is_empty ps
-    none [] = refl
-    none (p ∷ ps) = refl
-
-pub segment_is_stamped : SegmentIsStamped
-segment_is_stamped by n s is = record {
-  rows = each_at (stamp by n) refl s.rows;
-  sound = each_sound (stamp by n) s is (stamped_something by n s.rows is.something);
-}
+stamped_something by n (r ∷ rs) h = ((λ i. stamped_empty by n r.1.pairs i && (stamped_empty by n r.1.touches i && not (is_some r.1.oldest))) ∙ h.0, stamped_something by n rs h.1)
 
 -- a stamp leaves the newest value
 newest_stays : (by : TxnName) (n : ℕ) (ps : List Stamped) (oldest : Option ℕ) → newest_in (map (stamp_one by n) ps) oldest ≡ newest_in ps oldest
@@ -83,6 +78,40 @@ newest_stays by n (p ∷ ps) oldest = one (same_name p.by by && lacks_stamp p)
     one : (t : Bool) → ◌≡◌ {A = Option ℕ} (cond {A = Stamped} t (record { by = p.by; stamp = Some n; value = p.value }) p).value p.value
     one true = refl
     one false = refl
+
+-- so all words stay
+stamped_words : (by : TxnName) (n : ℕ) (rows : List (Key × StampedVersions)) → map word_row (each_row (stamp by n) rows) ≡ map word_row rows
+stamped_words by n [] = refl
+stamped_words by n (r ∷ rs) =
+    λ i. record { key = r.0; weight = word_of (newest_stays by n r.1.pairs r.1.oldest i) (stamped_empty by n r.1.pairs i) } ∷ stamped_words by n rs i
+
+-- and what is left of stamped rows is stamped
+stamped_erased : (by : TxnName) (n : ℕ) (vs : StampedVersions) → with_newest None (stamp by n vs) ≡ stamp by n (with_newest None vs)
+stamped_erased by n vs = by_pairs vs.pairs
+  where
+    by_pairs : (ps : List Stamped) → ◌≡◌ {A = StampedVersions}
+        (record { pairs = front_with None (map (stamp_one by n) ps); oldest = oldest_with None (map (stamp_one by n) ps) vs.oldest; touches = map (stamp_one by n) vs.touches })
+        (record { pairs = map (stamp_one by n) (front_with None ps); oldest = oldest_with None ps vs.oldest; touches = map (stamp_one by n) vs.touches })
+    by_pairs [] = refl
+    by_pairs (p ∷ ps) = λ i. record { pairs = one (same_name p.by by && lacks_stamp p) i ∷ map (stamp_one by n) ps; oldest = vs.oldest; touches = map (stamp_one by n) vs.touches }
+      where
+        one : (t : Bool) → ◌≡◌ {A = Stamped} (record (cond {A = Stamped} t (record { by = p.by; stamp = Some n; value = p.value }) p) { value = None })
+            (cond {A = Stamped} t (record { by = p.by; stamp = Some n; value = None }) (record p { value = None }))
+        one true = refl
+        one false = refl
+
+stamped_left : (by : TxnName) (n : ℕ) (rows : List (Key × StampedVersions)) → map resting_row (each_row (stamp by n) rows) ≡ map (stamped_row by n) (map resting_row rows)
+stamped_left by n [] = refl
+stamped_left by n (r ∷ rs) =
+    λ i. record { has_value = is_some (newest_stays by n r.1.pairs r.1.oldest i); versions = stamped_erased by n r.1 i } ∷ stamped_left by n rs i
+
+pub segment_is_stamped : SegmentIsStamped
+segment_is_stamped by n s is = record {
+  rows = each_at (stamp by n) refl s.rows;
+  sound = each_sound (stamp by n) s is (stamped_something by n s.rows is.something);
+  rests = λ i. record { rows = stamped_left by n s.rows i; spare = s.spare };
+  words = stamped_words by n s.rows;
+}
 
 -- so stamped rows are settled as the rows are
 settled_again : (by : TxnName) (n : ℕ) (rows : List (Key × StampedVersions)) → each_row settled_versions (each_row (stamp by n) rows) ≡ each_row settled_versions rows

@@ -164,6 +164,7 @@ pub words_tell : WordsTell
 words_tell vs small = record {
   newest = word_back (newest_value vs) (is_empty vs.pairs) small;
   alone = λ unmarked. alone_at vs.pairs (not (is_some (newest_value vs))) (sym (marked_back (newest_value vs) (is_empty vs.pairs) small) ∙ unmarked);
+  whole = ap (λ v. with_newest v (with_newest None vs)) (word_back (newest_value vs) (is_empty vs.pairs) small) ∙ renew vs;
 }
 
 pub words_are : ValueWordsAre

@@ -9,7 +9,7 @@ use Rattle.graph_model.specs.declared.row.Row.{Row}
 use Rattle.graph_model.specs.declared.limits.TheConstants.{MAX_WEIGHT}
 use Rattle.graph_model.specs.Rows.{is_below}
 use Rattle.gap_segment.specs.Fenced.{AreSorted, AreWithin}
-use Rattle.store_model.specs.Stamped.{Stamped, StampedVersions, lacks_stamp}
+use Rattle.store_model.specs.Stamped.{Stamped, StampedVersions, lacks_stamp, stamp}
 use Rattle.row_table.specs.Rows.{VersionedRows, IsSegment, is_empty}
 
 -- ---- the newest value of a row, and the rest of its versions
@@ -139,6 +139,15 @@ pub record CanWake (resting : RestingRows) (low high : Key) (rows : List Row) : 
   pub within : AreWithin low high rows
   pub agree : AgreeWith resting.rows rows
 
+-- ---- rows that are stamped
+
+-- the records of a writer that have no stamp get this one
+abbrev pub stamped_row : TxnName → ℕ → RestingRow → RestingRow
+stamped_row by number h = record h { versions = stamp by number h.versions }
+
+abbrev pub stamped_rest : TxnName → ℕ → RestingRows → RestingRows
+stamped_rest by number resting = record resting { rows = map (stamped_row by number) resting.rows }
+
 -- ---- rows that settle
 
 -- the record has neither a stamp up to the horizon, nor none though it is this writer's: once this writer's records have
@@ -165,10 +174,12 @@ pub record ValueWordsAre : Type 0 where
   pub changed : (weight : ℕ) → word_of (Some weight) false ≡ 2 ^ 63 + weight
   pub none : (is_alone : Bool) → word_of None is_alone + 1 ≡ 2 ^ 64
 
--- a word tells the newest value of the versions that it was made of; where it isn't marked there is no older one
+-- a word tells the newest value of the versions that it was made of; where it isn't marked there is no older one; with
+-- that value what is left of them is what they were
 pub record WordTells (vs : StampedVersions) : Type 0 where
   pub newest : value_in_word (value_word vs) ≡ newest_value vs
   pub alone : is_marked (value_word vs) ≡ false → vs.pairs ≡ []
+  pub whole : with_newest (value_in_word (value_word vs)) (with_newest None vs) ≡ vs
 
 abbrev pub WordsTell : Type 0
 WordsTell = (vs : StampedVersions) → IfSome (newest_value vs) (λ weight. weight ≤ MAX_WEIGHT) → WordTells vs

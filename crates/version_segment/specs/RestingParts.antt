@@ -1,16 +1,20 @@
 -- The parts of a segment at rest. Only the crate itself speaks of them.
-use Rattle.std.specs.Prelude.{◌≡◌, ℕ, zero, suc, ◌≤◌, true, false, not, is_some, min, List, [], ◌∷◌, map, Some, None}
+use Rattle.std.specs.Prelude.{◌≡◌, ℕ, zero, suc, ◌<◌, ◌≤◌, true, false, not, is_some, min, List, [], ◌∷◌, length, map, take, Option, Some, None}
 use Rattle.std.specs.List.{list_any}
 use Rattle.graph_model.specs.declared.journal.TxnName.{TxnName}
+use Rattle.graph_model.specs.declared.row.Key.{Key}
 use Rattle.graph_model.specs.declared.row.Row.{Row}
 use Rattle.graph_model.specs.declared.limits.TheConstants.{MAX_WEIGHT}
+use Rattle.store_model.specs.Stamped.{StampedVersions}
 use Rattle.undo_chain.specs.Chains.{ChainMap, list_at}
-use Rattle.undo_chain.specs.Records.{outlasts}
+use Rattle.undo_chain.specs.States.{Grows, Knowledge}
+use Rattle.undo_chain.specs.Records.{outlasts, stamped_by}
 use Rattle.row_table.specs.HeadMapDeclared.heads.Heads.{Heads}
 use Rattle.row_table.specs.HeadMap.Heads.{PlacedRow, PlaceTable, heads_placed, settled_heads}
 use Rattle.row_table.specs.Lists.{AreHeads, AreOthers, HasRest}
 use Rattle.row_table.specs.Parts.{of_lists, value_in}
-use Rattle.version_segment.specs.Resting.{RestingRow, RestingRows, word_of, weight_in_word}
+use Rattle.row_table.specs.Rows.{range_of, rows_read}
+use Rattle.version_segment.specs.Resting.{RestingRow, RestingRows, weight_in_word, woken_row, woken_rows, word_of}
 
 -- ---- heads and records without rows
 
@@ -39,6 +43,44 @@ pub record PlaceSettles (by : TxnName) (horizon : ℕ) (c : ChainMap) (h : Heads
   pub value : h.has_value ≡ true
   pub undos : list_any (outlasts by horizon) (list_at c h.undos) ≡ false
   pub touches : list_any (outlasts by horizon) (list_at c h.touches) ≡ false
+
+-- the records of a writer have its stamp in both lists of a row
+pub record StampsLists (by : TxnName) (number : ℕ) (old new : ChainMap) (h : Heads) : Type 0 where
+  pub undos : list_at new h.undos ≡ map (stamped_by by number) (list_at old h.undos)
+  pub touches : list_at new h.touches ≡ map (stamped_by by number) (list_at old h.touches)
+
+-- both lists are as they were
+pub record LeavesLists (old new : ChainMap) (h : Heads) : Type 0 where
+  pub heads : AreHeads new h
+  pub undos : list_at new h.undos ≡ list_at old h.undos
+  pub touches : list_at new h.touches ≡ list_at old h.touches
+
+-- in the row with these heads the records have their stamp, and rows with other lists are as they were
+pub record StampsRow (by : TxnName) (number : ℕ) (old new : ChainMap) (h : Heads) : Type 0 where
+  pub heads : AreHeads new h
+  pub here : StampsLists by number old new h
+  pub others : (g : Heads) → AreHeads old g → AreOthers g h.undos h.touches → LeavesLists old new g
+  pub spare : new.spare ≡ old.spare
+
+-- in the rows from a place on they have it, and all others are as they were
+pub record StampsFrom (by : TxnName) (number : ℕ) (f : ℕ → Heads) (place : ℕ) (old new : ChainMap) : Type 0 where
+  pub heads : (p : ℕ) → AreHeads new (f p)
+  pub done : (p : ℕ) → place ≤ p → StampsLists by number old new (f p)
+  pub left : (p : ℕ) → p < place → LeavesLists old new (f p)
+  pub spare : new.spare ≡ old.spare
+
+-- ---- rows that are read
+
+-- what is seen of one row in a key range
+abbrev pub seen_row : (StampedVersions → Option ℕ) → Key → Key → RestingRow → Row → List Row
+seen_row read from until h row = rows_read read (range_of from until (woken_row h row ∷ []))
+
+-- the rows before a place have been read
+pub record IsReadTo (read : StampedVersions → Option ℕ) (from until : Key) (hs : List RestingRow) (words : List Row)
+    (place : ℕ) (old now : Knowledge) (buffer : List Row) : Type 0 where
+  pub rows : buffer ≡ rows_read read (range_of from until (take place (woken_rows hs words)))
+  pub few : length buffer ≤ place
+  pub grows : Grows old now
 
 -- ---- rows with words, and with weights
 

@@ -1,10 +1,10 @@
--- A segment whose rows all settle: a writer's records get its stamp, and all are pruned.
+-- A segment whose rows get a writer's stamp, and one whose rows all settle: they get it, and are pruned.
 use Rattle.std.specs.Prelude.{◌≡◌, ℕ, zero, suc, ◌≤◌, List, [], ◌∷◌, map, length, Option}
 use Rattle.graph_model.specs.declared.row.Key.{Key}
 use Rattle.graph_model.specs.declared.journal.TxnName.{TxnName}
 use Rattle.store_model.specs.Stamped.{StampedVersions, prune_stamped, stamp}
 use Rattle.row_table.specs.Rows.{VersionedRows, IsSegment, versions_at}
-use Rattle.version_segment.specs.Resting.{newest_value, resting_of, settled_rest, value_word, CanSettle}
+use Rattle.version_segment.specs.Resting.{newest_value, resting_of, settled_rest, stamped_rest, value_word, word_rows, CanSettle}
 
 -- the newest value alone
 abbrev pub settled_versions : StampedVersions → StampedVersions
@@ -33,8 +33,10 @@ settled_from (suc place) (row ∷ rows) = row ∷ settled_from place rows
 pub record StampsSegment (by : TxnName) (number : ℕ) (s : VersionedRows) : Type 0 where
   pub rows : (q : Key) → versions_at (stamped_segment by number s) q ≡ stamp by number (versions_at s q)
   pub sound : IsSegment (stamped_segment by number s)
+  pub rests : resting_of (stamped_segment by number s) ≡ stamped_rest by number (resting_of s)
+  pub words : word_rows (stamped_segment by number s) ≡ word_rows s
 
--- the versions of each key are stamped
+-- the versions of each key are stamped, so is what is left of them at rest, and all words stay
 abbrev pub SegmentIsStamped : Type 0
 SegmentIsStamped = (by : TxnName) (number : ℕ) (s : VersionedRows) → IsSegment s → StampsSegment by number s
 

@@ -6,21 +6,28 @@
 //!    any room for rows.
 //! 3. No call takes memory.
 
-ghost use Rattle.std.specs.Prelude.{◌≡◌, ◌≤◌, ◌<◌, ◌==◌, ℕ, true, [], length, slice_get, Some, IfSome};
+ghost use Rattle.std.specs.Prelude.{◌≡◌, ◌++◌, ◌≤◌, ◌<◌, ◌==◌, ℕ, true, [], length, slice_get, Some, IfSome};
+ghost use Rattle.std.specs.List.{AllByRecursion};
 ghost use Rattle.graph_model.specs.declared.limits.TheConstants.{SEGMENT_ROWS};
 ghost use Rattle.row_table.specs.HeadMap.Heads.{heads_placed};
-ghost use Rattle.version_segment.specs.Resting.{RestingRow, resting_of, settled_rest, word_rows, HasSmallWeights, CanSettle, CanWake, woken, AreErased};
-ghost use Rattle.version_segment.specs.RestingParts.{AreSmallAt, PlaceSettles, plain_rows, placed_words};
+ghost use Rattle.store_model.specs.Stamped.{read_stamped};
+ghost use Rattle.undo_chain.specs.States.{Grows};
+ghost use Rattle.row_table.specs.Checks.{AreNamedRows, IsNamed};
+ghost use Rattle.row_table.specs.Rows.{range_of, rows_read};
+ghost use Rattle.version_segment.specs.Resting.{RestingRow, resting_of, settled_rest, stamped_rest, value_in_word, with_newest, word_rows, HasSmallWeights, CanSettle, CanWake, woken, woken_row, woken_rows, AreErased};
+ghost use Rattle.version_segment.specs.RestingParts.{AreRestingParts, AreSmallAt, PlaceSettles, StampsFrom, StampsRow, plain_rows, placed_words, seen_row};
 ghost use Rattle.row_table.specs.Lists.{AreHeads};
 
+use crate::buffer::Rows32;
 use crate::segment::VersionSegment;
-use crate::value_word::{value_word, weight_in_word};
+use crate::value_word::{value_in_word, value_word, weight_in_word};
 use gap_segment::Segment;
 use graph_model::{Key, Row, TxnName};
 use row_table::RowTable;
 use row_table::below::{HeadMap, RestingHeads};
 use std::alloc::Global;
 use std::marker::Model;
+use undo_chain::{Snapshot, States};
 
 /// A segment without its rows and fence keys: their records, and how many rows there are. It takes 16 bytes, and a box
 /// where a row is changed.
@@ -76,12 +83,82 @@ impl Resting {
         self.heads.is_settled()
     }
 
+    /// The value of the row at a place for a snapshot, given the word that tells its newest value.
+    pub fn read<S: States>(
+        &self,
+        place: usize,
+        word: u64,
+        snapshot: &Snapshot,
+        states: &mut S,
+    ) -> Option<u64>
+        requires known { snapshot.now.start ≤ (S.knowledge states.old).known }
+        requires named { IfSome (slice_get self.now.rows place)
+            (λ h. IsNamed (S.knowledge states.old).names (with_newest (value_in_word word) h.versions)) }
+        ensures value { IfSome (slice_get self.now.rows place)
+            (λ h. result ≡ read_stamped (S.knowledge states.old).stamps snapshot.now.start snapshot.now.own
+            (with_newest (value_in_word word) h.versions)) }
+        ensures grows { Grows (S.knowledge states.old) (S.knowledge states.new) }
+    {
+        let row = self.heads.get(place);
+        let newest = value_in_word(word);
+        self.heads.value_at(row.undos, newest, snapshot, states)
+    }
+
+    /// Puts the rows of a key range that a snapshot sees into a buffer, given all rows, each with the word that tells its
+    /// newest value.
+    pub fn run_at<S: States>(
+        &self,
+        words: &[Row],
+        from: Key,
+        until: Key,
+        snapshot: &Snapshot,
+        states: &mut S,
+        buffer: &mut Rows32,
+    )
+        requires count { length words.now ≡ length self.now.rows }
+        requires known { snapshot.now.start ≤ (S.knowledge states.old).known }
+        requires named { AreNamedRows (S.knowledge states.old).names (woken_rows self.now.rows words.now) }
+        ensures rows { buffer.new
+            ≡ rows_read (read_stamped (S.knowledge states.old).stamps snapshot.now.start snapshot.now.own)
+            (range_of from until (woken_rows self.now.rows words.now)) }
+        ensures grows { Grows (S.knowledge states.old) (S.knowledge states.new) }
+    {
+        self.is_at_rest();
+        buffer.clear();
+        'rows: for place in 0..words.len() {
+            read_one(
+                self,
+                place,
+                words[place],
+                from,
+                until,
+                snapshot,
+                states,
+                buffer,
+            );
+        }
+    }
+
+    /// Gives the records of a writer in all rows its commit stamp, where they have none. No word of a row changes.
+    pub fn stamp(&mut self, by: TxnName, stamp: u64)
+        ensures { self.new ≡ stamped_rest by stamp self.old }
+    {
+        stamp_all(&mut self.heads, by, stamp);
+    }
+
     /// Whether each row has a value, and no record would be left by a prune at the horizon once this writer's have a stamp
     /// up to it. Only what is kept here is looked at, and nobody is asked for a writer.
     pub fn can_settle(&self, by: TxnName, horizon: u64) -> bool
         ensures { result ≡ true → CanSettle by horizon self.now.rows }
     {
         settle_all(&self.heads, by, horizon)
+    }
+
+    /// Whether each row has a value, so that no prune takes one away.
+    pub fn has_values(&self) -> bool
+        ensures { result ≡ true → AllByRecursion (λ h. h.has_value ≡ true) self.now.rows }
+    {
+        all_have_values(&self.heads)
     }
 
     /// What is left of as many rows once they are settled. The memory of their records is given back.
@@ -155,6 +232,59 @@ impl VersionSegment {
     }
 }
 
+/// Puts the row at a place into a buffer, if it stands in the range and the snapshot sees it.
+fn read_one<S: States>(
+    resting: &Resting,
+    place: usize,
+    row: Row,
+    from: Key,
+    until: Key,
+    snapshot: &Snapshot,
+    states: &mut S,
+    buffer: &mut Rows32,
+)
+    requires room { length buffer.old < 32 }
+    requires known { snapshot.now.start ≤ (S.knowledge states.old).known }
+    requires named { IfSome (slice_get resting.now.rows place)
+        (λ h. IsNamed (S.knowledge states.old).names (woken_row h row).1) }
+    ensures rows { IfSome (slice_get resting.now.rows place) (λ h. buffer.new ≡ buffer.old
+        ++ seen_row (read_stamped (S.knowledge states.old).stamps snapshot.now.start snapshot.now.own) from until h row) }
+    ensures grows { Grows (S.knowledge states.old) (S.knowledge states.new) }
+{
+    if row.key.is_below(from) || !row.key.is_below(until) {
+        return;
+    }
+    let value = resting.read(place, row.weight, snapshot, states);
+    buffer.push_value(row.key, value);
+}
+
+/// Stamps the records of all rows.
+fn stamp_all(heads: &mut RestingHeads, by: TxnName, stamp: u64)
+    requires { AreRestingParts heads.old.chains (heads_placed heads.old.heads.entries) heads.old.count }
+    ensures stamped { StampsFrom by stamp (heads_placed heads.old.heads.entries) 0 heads.old.chains heads.new.chains }
+    ensures heads { heads.new.heads ≡ heads.old.heads }
+    ensures count { heads.new.count ≡ heads.old.count }
+{
+    let mut end = heads.count();
+    'rows: while let Some(place) = heads.last_before(end) {
+        stamp_at(heads, place, by, stamp);
+        end = place;
+    }
+}
+
+/// Stamps those of the row at a place.
+fn stamp_at(heads: &mut RestingHeads, place: usize, by: TxnName, stamp: u64)
+    requires { AreHeads heads.old.chains (heads_placed heads.old.heads.entries place) }
+    ensures stamped { StampsRow by stamp heads.old.chains heads.new.chains
+        (heads_placed heads.old.heads.entries place) }
+    ensures heads { heads.new.heads ≡ heads.old.heads }
+    ensures count { heads.new.count ≡ heads.old.count }
+{
+    let row = heads.get(place);
+    heads.stamp(row.undos, by, stamp);
+    heads.stamp(row.touches, by, stamp);
+}
+
 /// Whether all rows settle.
 fn settle_all(heads: &RestingHeads, by: TxnName, horizon: u64) -> bool
     requires { (p : ℕ) → AreHeads heads.now.chains (heads_placed heads.now.heads.entries p) }
@@ -181,6 +311,21 @@ fn settles_at(heads: &RestingHeads, place: usize, by: TxnName, horizon: u64) -> 
         return false;
     }
     !heads.has_outlasting(row.touches, by, horizon)
+}
+
+/// Whether all rows have values.
+fn all_have_values(heads: &RestingHeads) -> bool
+    ensures { result ≡ true → (p : ℕ) → p < heads.now.count
+        → (heads_placed heads.now.heads.entries p).has_value ≡ true }
+{
+    let mut end = heads.count();
+    'rows: while let Some(place) = heads.last_before(end) {
+        if !heads.get(place).has_value {
+            return false;
+        }
+        end = place;
+    }
+    true
 }
 
 /// Gives each row the word of its value. Settled rows have it: it is their weight. So changed rows alone are looked at.
