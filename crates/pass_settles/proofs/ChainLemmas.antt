@@ -1,65 +1,53 @@
 -- A cell in hand that is settled: what is known of it after each step.
-use Rattle.std.proofs.Common.{◌≡◌, ℕ, ◌≤◌, List, [], ◌∷◌, length, refl, sym, ◌∙◌, ap, subst, arith, Some}
-use Rattle.std.specs.Prelude.{true, false, slice_get}
+use Rattle.std.proofs.Common.{◌≡◌, ℕ, ◌≤◌, List, length, refl, sym, ◌∙◌, ap, subst, arith}
+use Rattle.std.specs.Prelude.{true}
 use Rattle.graph_model.specs.declared.journal.TxnName.{TxnName}
 use Rattle.graph_model.specs.declared.row.Key.{Key}
-use Rattle.graph_model.specs.Legal.{IsLegal}
 use Rattle.epoch_reclaim.specs.declared.sweep.Sweep.{Sweep}
 use Rattle.epoch_reclaim.specs.Pinned.{horizon_of}
-use Rattle.seat_views.specs.Keeping.{kept_at}
 use Rattle.pass_sweeps.specs.VersionSegment.Resting.{resting_of, settled_rest, RestingRow, RestingRows}
-use Rattle.pass_sweeps.specs.VersionSegment.Rows.{IsSegment, VersionedRows}
-use Rattle.pass_sweeps.specs.StoreRelation.Passes.{PassState, name_at}
+use Rattle.pass_sweeps.specs.VersionSegment.Rows.{VersionedRows}
+use Rattle.pass_sweeps.specs.StoreRelation.Passes.{PassState}
 use Rattle.pass_sweeps.specs.CellsModel.Cells.{CellState, packed, unpacked}
 use Rattle.pass_sweeps.specs.CellsModel.Indexed.{covers}
 use Rattle.pass_sweeps.specs.CellsModel.Words.{Spells}
-use Rattle.pass_sweeps.specs.RuleModel.EndSteps.{new_state}
-use Rattle.pass_sweeps.specs.RuleModel.Sight.{HasCell, PinState, Sight, with_cell, with_cells, with_rows}
+use Rattle.pass_sweeps.specs.RuleModel.Sight.{PinState, with_cell, with_cells, with_rows}
 use Rattle.pass_sweeps.specs.StoreRule.Passes.{OnlyAccount}
 use Rattle.pass_sweeps.specs.StoreRule.Slots.{RestsAs}
 use Rattle.pass_sweeps.specs.StoreRuleDeclared.store.Pass.{Pass}
 use Rattle.pass_sweeps.specs.StoreRuleDeclared.store.Store.{Store}
-use Rattle.pass_sweeps.specs.PassSteps.Passes.{IsSamePass, pin_of, state_in, state_of}
+use Rattle.pass_sweeps.specs.PassSteps.Passes.{IsSamePass, pin_of, state_of}
 use Rattle.pass_sweeps.specs.Pruning.{HasCellOnly, cell_in, news_of}
 use Rattle.pass_sweeps.specs.SweepLaws.{CanPruneSeen}
-use Rattle.pass_sweeps.specs.Sweeping.{HasSwept}
 use Rattle.pass_sweeps.proofs.CellLemmas.{after_prune}
 use Rattle.pass_settles.specs.Marks.{HasValues, IsHalfSettled}
 use Rattle.pass_sweeps.specs.VersionSegment.Resting.{CanSettle}
 use Rattle.pass_settles.specs.Settled.{ClearsMarks, IsPackedWith, IsSettling, MayStampCell, stamped_between, stamped_in}
 use Rattle.pass_sweeps.specs.VersionSegment.Settling.{SettlesSegment, settled_segment, stamped_segment}
 use Rattle.pass_sweeps.proofs.VersionSegment.SettledLemmas.{segment_settles}
-use Rattle.pass_settles.proofs.StepLemmas.{cell_and_pass, cell_cleared, cell_is, cell_now, may_settle, may_stamp, raised_half, rest_length, settled_spells, values_small}
+use Rattle.pass_settles.proofs.RaisedLemmas as stamps
+use Rattle.pass_settles.proofs.StepLemmas.{cell_cleared, cell_is, cell_now, may_settle, raised_half, rest_length, settled_spells, values_small}
 
 module _ (store : Store) (p0 p1 : Pass) (k : ℕ) (c0 : CellState) (by : TxnName) (n : ℕ) (sweep : Sweep) (resting : RestingRows)
     (has : HasCellOnly store p0 (state_of p0) (pin_of p0) k c0 0) (rests : RestsAs c0.segment resting)
-    (settling : IsSettling store p0 sweep by n) (can : CanSettle by (horizon_of sweep) resting.rows)
+    (settling : IsSettling store p0 sweep by n) (within : n ≤ horizon_of sweep) (can : CanSettle by (horizon_of sweep) resting.rows)
     (spells : Spells c0.block c0.segment) (raised : OnlyAccount p0 p1 (with_cell p0.account.me.0 k (unpacked c0))) where
   -- its version word is odd
   pub has_raised : HasCellOnly store p1 (state_of p0) (pin_of p0) k (unpacked c0) 0
-  has_raised = cell_now store p0 p1 (state_of p0) (pin_of p0) k c0 (unpacked c0) has raised
+  has_raised = stamps.has_raised store p0 p1 k c0 by n has settling.stamping spells raised
 
   cell_raised : cell_in p1.account.me.0 k ≡ unpacked c0
-  cell_raised = cell_is p1.account.me.0 k (unpacked c0) has_raised.cell
+  cell_raised = stamps.cell_raised store p0 p1 k c0 by n has settling.stamping spells raised
 
   can_rest : CanSettle by (horizon_of sweep) (resting_of c0.segment).rows
   can_rest = subst (λ (l : List RestingRow). CanSettle by (horizon_of sweep) l) rests can
 
   settles : SettlesSegment by n (horizon_of sweep) c0.segment
-  settles = segment_settles by n (horizon_of sweep) c0.segment spells.sound settling.within can_rest
+  settles = segment_settles by n (horizon_of sweep) c0.segment spells.sound within can_rest
 
   -- the rows may be known as stamped
   pub may_know_stamped : (key : Key) → covers c0.segment key ≡ true → MayStampCell store.accounts.config p1.account.me.0 p1.number k by n
-  may_know_stamped key covered =
-      let st = has_raised.state in
-      let commit = settling.committed in
-      may_stamp store.accounts.config p1.account.me.0 p1.number k (unpacked c0) has_raised.cell has_raised.inside refl spells.sound key covered
-      by n commit.place commit.commit has_raised.of.sight.has
-      (ap (λ (u : PassState). u.stage) st ∙ settling.stage)
-      (ap (λ (u : PassState). slice_get u.seen commit.place) st ∙ commit.at)
-      (commit.by ∙ (λ i. name_at (sym raised.number i) (sym st i)))
-      commit.stamped
-      (settling.name ∙ (λ i. name_at (sym raised.number i) (sym st i)))
+  may_know_stamped = stamps.may_know_stamped store p0 p1 k c0 by n has settling.stamping spells raised
 
   -- with stamps
   abbrev pub state_stamped : PassState
@@ -69,16 +57,16 @@ module _ (store : Store) (p0 p1 : Pass) (k : ℕ) (c0 : CellState) (by : TxnName
   cell_stamped = record (cell_in p1.account.me.0 k) { segment = stamped_segment by n (cell_in p1.account.me.0 k).segment }
 
   segment_stamped : cell_stamped.segment ≡ stamped_segment by n c0.segment
-  segment_stamped = ap (λ (d : CellState). stamped_segment by n d.segment) cell_raised
+  segment_stamped = stamps.segment_stamped store p0 p1 k c0 by n has settling.stamping spells raised
 
   -- the pass's state then
   pub state_is : state_stamped ≡ stamped_between c0.segment.low c0.segment.high (state_of p0)
-  state_is = λ i. stamped_between (cell_raised i).segment.low (cell_raised i).segment.high (has_raised.state i)
+  state_is = stamps.state_is store p0 p1 k c0 by n has settling.stamping spells raised
 
   module _ (p2 : Pass) (stamped : OnlyAccount p1 p2 (with_rows p1.account.me.0 p1.number (stamped_in p1.account.me.0 p1.number k)
       (news_of p1.account.me.0 k (stamped_segment by n (cell_in p1.account.me.0 k).segment)))) where
     pub has_stamped : HasCellOnly store p2 state_stamped (pin_of p0) k cell_stamped 0
-    has_stamped = cell_and_pass store p1 p2 (state_of p0) state_stamped (pin_of p0) k (unpacked c0) cell_stamped has_raised has_raised.of.legal stamped
+    has_stamped = stamps.has_stamped store p0 p1 k c0 by n has settling.stamping spells raised p2 stamped
 
     stamped_is : cell_in p2.account.me.0 k ≡ cell_stamped
     stamped_is = cell_is p2.account.me.0 k cell_stamped has_stamped.cell

@@ -1,6 +1,6 @@
 -- Keys whose rows are stamped, one after the other.
-use Rattle.std.proofs.Common.{◌≡◌, ℕ, ◌+◌, ◌<◌, ◌≤◌, List, [], ◌∷◌, length, take, refl, sym, ◌∙◌, ap, subst, cond, arith, get_or, Some}
-use Rattle.std.specs.Prelude.{Bool, true, false, ◌&&◌, ◌||◌, not}
+use Rattle.std.proofs.Common.{◌≡◌, ℕ, ◌+◌, ◌<◌, List, [], ◌∷◌, length, take, refl, sym, ◌∙◌, ap, subst, cond, arith, get_or}
+use Rattle.std.specs.Prelude.{Bool, true, false, ◌||◌, not}
 use Rattle.std.proofs.lemmas.List.Folds.{list_any_more}
 use Rattle.graph_model.specs.declared.journal.TxnName.{TxnName}
 use Rattle.graph_model.specs.declared.row.Key.{Key}
@@ -13,7 +13,7 @@ use Rattle.pass_sweeps.specs.StoreRelation.Steps.{with_unstamped}
 use Rattle.pass_sweeps.specs.RuleModel.Sight.{PinState}
 use Rattle.pass_sweeps.specs.StoreRuleDeclared.store.Pass.{Pass}
 use Rattle.pass_sweeps.specs.StoreRuleDeclared.store.Store.{Store}
-use Rattle.pass_sweeps.specs.PassSteps.Passes.{IsSamePass, pin_of, state_of}
+use Rattle.pass_sweeps.specs.PassSteps.Passes.{pin_of, state_of}
 use Rattle.pass_sweeps.specs.PassSteps.Txns.{HasCommitted}
 use Rattle.pass_settles.specs.Settled.{IsSettling, StampsKeys, keys_outside, stamped_between}
 use Rattle.pass_settles.proofs.StepLemmas.{key_eq}
@@ -101,15 +101,17 @@ pub settling_still : (store : Store) (old new : Pass) (sweep : Sweep) (by : TxnN
     → new.number ≡ old.number → (keys : List Key) → state_of new ≡ with_unstamped (state_of old) keys → pin_of new ≡ pin_of old
     → IsSettling store new sweep by stamp
 settling_still store old new sweep by stamp is number keys state pin = record {
-  stage = ap (λ (u : PassState). u.stage) state ∙ is.stage;
-  committed = subst (λ (u : ℕ × PassState). HasCommitted u.0 u.1 stamp) (λ i. (sym number i, sym state i)) (record {
-    place = is.committed.place;
-    commit = is.committed.commit;
-    at = is.committed.at;
-    by = is.committed.by;
-    stamped = is.committed.stamped;
-  });
-  name = is.name ∙ (λ i. name_at (sym number i) (sym state i));
+  stamping = record {
+    stage = ap (λ (u : PassState). u.stage) state ∙ is.stamping.stage;
+    committed = subst (λ (u : ℕ × PassState). HasCommitted u.0 u.1 stamp) (λ i. (sym number i, sym state i)) (record {
+      place = is.stamping.committed.place;
+      commit = is.stamping.committed.commit;
+      at = is.stamping.committed.at;
+      by = is.stamping.committed.by;
+      stamped = is.stamping.committed.stamped;
+    });
+    name = is.stamping.name ∙ (λ i. name_at (sym number i) (sym state i));
+  };
   swept = record {
     is = ap (λ (x : PinState). x.sweep) pin ∙ is.swept.is;
     whole = is.swept.whole;
@@ -117,5 +119,4 @@ settling_still store old new sweep by stamp is number keys state pin = record {
         let same = ap (λ (u : PassState). length u.seen) state in
         let had = is.swept.seen in omega (arith, same, had);
   };
-  within = is.within;
 }

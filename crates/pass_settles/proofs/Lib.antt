@@ -1,4 +1,5 @@
 pub mod MarkLemmas
 pub mod StepLemmas
+pub mod RaisedLemmas
 pub mod ChainLemmas
 pub mod KeyLemmas

@@ -1,5 +1,5 @@
--- A pass that settles a cell in hand with the rows of its last commit.
-use Rattle.std.specs.Prelude.{◌≡◌, ℕ, ◌≤◌, true, false, not, List, [], ◌∷◌}
+-- A pass that stamps a cell in hand with the rows of its last commit, or settles it.
+use Rattle.std.specs.Prelude.{◌≡◌, ℕ, true, false, not, List}
 use Rattle.std.specs.List.{filter}
 use Rattle.graph_model.specs.declared.journal.TxnName.{TxnName}
 use Rattle.graph_model.specs.declared.journal.Commit.{Commit}
@@ -7,7 +7,6 @@ use Rattle.graph_model.specs.declared.row.Key.{Key}
 use Rattle.txn_manager.specs.declared.config.Config.{Config}
 use Rattle.graph_model.specs.Rows.{is_between}
 use Rattle.epoch_reclaim.specs.declared.sweep.Sweep.{Sweep}
-use Rattle.epoch_reclaim.specs.Pinned.{horizon_of}
 use Rattle.pass_sweeps.specs.VersionSegment.Resting.{RestingRows}
 use Rattle.pass_sweeps.specs.VersionSegment.Rows.{VersionedRows}
 use Rattle.pass_sweeps.specs.StoreRelation.Keys.{has_key}
@@ -15,14 +14,12 @@ use Rattle.pass_sweeps.specs.StoreRelation.Passes.{PassState}
 use Rattle.pass_sweeps.specs.StoreRelation.Steps.{with_unstamped}
 use Rattle.pass_sweeps.specs.StoreRelationDeclared.stage.Stage.TheVariants.{Idle}
 use Rattle.pass_sweeps.specs.CellsModel.Cells.{CellState}
-use Rattle.pass_sweeps.specs.CellsModel.Indexed.{covers}
-use Rattle.pass_sweeps.specs.CellsModel.Words.{Spells}
 use Rattle.pass_sweeps.specs.RuleModel.Sight.{PinState, Sight}
 use Rattle.pass_sweeps.specs.StoreWords.Spelling.{Stays}
 use Rattle.pass_sweeps.specs.StoreRule.Slots.{RestsAs}
 use Rattle.pass_sweeps.specs.StoreRuleDeclared.store.Pass.{Pass}
 use Rattle.pass_sweeps.specs.StoreRuleDeclared.store.Store.{Store}
-use Rattle.pass_sweeps.specs.PassSteps.Passes.{name_of_pass, pin_of, state_in, state_of}
+use Rattle.pass_sweeps.specs.PassSteps.Passes.{name_of_pass, state_in, state_of}
 use Rattle.pass_sweeps.specs.PassSteps.Txns.{HasCommitted}
 use Rattle.pass_sweeps.specs.Pruning.{HasCellOnly, cell_in, news_of}
 use Rattle.pass_sweeps.specs.Sweeping.{HasSwept}
@@ -31,15 +28,18 @@ use Rattle.pass_settles.specs.declared.fences.Fences.{Fences}
 use Rattle.pass_settles.specs.Marks.{IsClearing}
 use Rattle.pass_sweeps.specs.VersionSegment.Settling.{stamped_segment}
 
--- ---- who may settle
+-- ---- who may stamp and settle
 
--- The last commit of the pass has this name and this stamp, up to which its whole sweep lets all go.
-pub record IsSettling (store : Store) (pass : Pass) (sweep : Sweep) (by : TxnName) (stamp : ℕ) : Type 0 where
+-- the last commit of the pass has this name and this stamp
+pub record IsStamping (pass : Pass) (by : TxnName) (stamp : ℕ) : Type 0 where
   pub stage : (state_of pass).stage ≡ Idle
   pub committed : HasCommitted pass.number (state_of pass) stamp
   pub name : by ≡ name_of_pass pass
+
+-- and the pass has swept over all pins
+pub record IsSettling (store : Store) (pass : Pass) (sweep : Sweep) (by : TxnName) (stamp : ℕ) : Type 0 where
+  pub stamping : IsStamping pass by stamp
   pub swept : HasSwept store pass sweep
-  pub within : stamp ≤ horizon_of sweep
 
 -- ---- rows that are stamped
 

@@ -1,16 +1,18 @@
-//! A packed cell in hand is settled.
+//! A packed cell in hand is stamped or settled.
 //!
 //! 1. Its version word becomes odd first, and even again at the end, so that nobody reads words of it meanwhile.
-//! 2. Two loads of the clock make the pass's view know that its rows are stamped, and that they are pruned. The rows
-//!    themselves are not loaded: what is kept of them tells that nothing but their newest values is left.
-//! 3. Of its words only those with a mark are stored.
+//! 2. A load of the clock makes the pass's view know that its rows are stamped, and where it is settled one more that
+//!    they are pruned. The rows themselves are not loaded: what is kept of them is stamped in its place, or tells that
+//!    nothing but their newest values is left.
+//! 3. A stamp changes no word, so the cell has its old version again. Of a settled cell only the words with a mark are
+//!    stored.
 
-ghost use Rattle.std.specs.Prelude.{◌≡◌, ◌∷◌, ◌<◌, [], true, false, length};
+ghost use Rattle.std.specs.Prelude.{◌≡◌, ◌∷◌, ◌<◌, ◌≤◌, ◌==◌, [], true, false, length};
 ghost use Rattle.epoch_reclaim.specs.Pinned.{horizon_of};
 ghost use Rattle.epoch_reclaim.specs.declared.sweep.Sweep.{Sweep};
 ghost use Rattle.graph_model.specs.declared.row.Key.{Key};
 ghost use Rattle.pass_sweeps.specs.VersionSegment.Rows.{VersionedRows};
-ghost use Rattle.pass_sweeps.specs.CellsModel.Cells.{CellState, packed, unpacked};
+ghost use Rattle.pass_sweeps.specs.CellsModel.Cells.{CellState, last_word, packed, unpacked, version_word};
 ghost use Rattle.pass_sweeps.specs.CellsModel.Indexed.{covers};
 ghost use Rattle.pass_sweeps.specs.CellsModel.Words.{Spells};
 ghost use Rattle.pass_sweeps.specs.RuleModel.Sight.{HasCell, cells_of, with_cell, with_cells, with_rows};
@@ -21,7 +23,7 @@ ghost use Rattle.pass_sweeps.specs.Pruning.{HasCellOnly, cell_in, news_of};
 ghost use Rattle.pass_sweeps.specs.SweepLaws.{CanPruneSeen};
 ghost use Rattle.pass_settles.specs.Marks.{HasValues, IsHalfSettled};
 ghost use Rattle.pass_sweeps.specs.VersionSegment.Resting.{CanSettle};
-ghost use Rattle.pass_settles.specs.Settled.{ClearsMarks, IsPackedWith, IsSettling, MayStampCell, stamped_between, stamped_in};
+ghost use Rattle.pass_settles.specs.Settled.{ClearsMarks, IsPackedWith, IsSettling, IsStamping, MayStampCell, stamped_between, stamped_in};
 ghost use Rattle.pass_sweeps.specs.VersionSegment.Settling.{settled_segment, stamped_segment};
 
 use crate::marks::clear_marks;
@@ -42,6 +44,7 @@ pub(crate) fn settle_cell(
     requires taken { (c : CellState) × IsPackedWith store.now pass.old (state_of pass.old) (pin_of pass.old) held.cell
         held.value c × (Spells c.block c.segment → (q : Key) × (covers c.segment q ≡ true)) }
     requires settling { IsSettling store.now pass.old sweep.now by stamp }
+    requires within { stamp ≤ horizon_of sweep.now }
     requires settles { CanSettle by (horizon_of sweep.now) held.value.rows }
     ensures held { result.cell ≡ held.cell }
     ensures settled { (c : CellState) → HasCell pass.old.account.me.0 held.cell c → Spells c.block c.segment
@@ -59,7 +62,7 @@ pub(crate) fn settle_cell(
     know_stamped(store, pass, cell, by, stamp);
     know_settled(store, pass, cell);
     clear_cell(store, pass, cell, &value);
-    lower_cell(store, pass, cell);
+    lower_cell(store, pass, cell, true);
     Held {
         cell,
         found,
@@ -68,28 +71,67 @@ pub(crate) fn settle_cell(
     }
 }
 
-/// Makes the version word odd.
-fn raise_cell(store: &Store, pass: &mut Pass, cell: u32)
+/// Stamps a cell in hand, which has the key. Takes no memory.
+pub(crate) fn stamp_cell(
+    store: &Store,
+    pass: &mut Pass,
+    by: TxnName,
+    stamp: u64,
+    held: Held<Resting>,
+) -> Held<Resting>
+    requires taken { (c : CellState) × IsPackedWith store.now pass.old (state_of pass.old) (pin_of pass.old) held.cell
+        held.value c × (Spells c.block c.segment → (q : Key) × (covers c.segment q ≡ true)) }
+    requires stamping { IsStamping pass.old by stamp }
+    ensures held { result.cell ≡ held.cell }
+    ensures stamped { (c : CellState) → HasCell pass.old.account.me.0 held.cell c → Spells c.block c.segment
+        × (d : CellState) × IsPackedWith store.now pass.new
+        (stamped_between c.segment.low c.segment.high (state_of pass.old)) (pin_of pass.old) held.cell result.value d }
+    ensures same { IsSamePass pass.old pass.new }
+{
+    let Held {
+        cell,
+        found,
+        changed: _,
+        value,
+    } = held;
+    let mut value = value;
+    let is_last = raise_cell(store, pass, cell);
+    know_stamped(store, pass, cell, by, stamp);
+    lower_cell(store, pass, cell, is_last);
+    value.stamp(by, stamp);
+    Held {
+        cell,
+        found,
+        changed: true,
+        value,
+    }
+}
+
+/// Makes the version word odd, and answers whether it is the last one, which stays for good.
+fn raise_cell(store: &Store, pass: &mut Pass, cell: u32) -> bool
     requires table { pass.old.account.table_id ≡ store.now.accounts.table.shared.table_id }
     requires cell { cell < cells_of store.now.accounts.config }
     requires held { (c : CellState) × HasCell pass.old.account.me.0 cell c × (c.unpacked ≡ false) }
     ensures raised { (c : CellState) → HasCell pass.old.account.me.0 cell c
         → OnlyAccount pass.old pass.new (with_cell pass.old.account.me.0 cell (unpacked c)) }
     ensures told { (c : CellState) → HasCell pass.old.account.me.0 cell c → Spells c.block c.segment }
+    ensures last { (c : CellState) → HasCell pass.old.account.me.0 cell c → result ≡ (version_word c == last_word) }
 {
+    let found = store.accounts.holder_load(&mut pass.account, cell, 0);
     store.accounts.raise(&mut pass.account, cell);
+    found == u64::MAX
 }
 
-/// And even again.
-fn lower_cell(store: &Store, pass: &mut Pass, cell: u32)
+/// And even again: two higher than it was, where a word was stored.
+fn lower_cell(store: &Store, pass: &mut Pass, cell: u32, changed: bool)
     requires table { pass.old.account.table_id ≡ store.now.accounts.table.shared.table_id }
     requires cell { cell < cells_of store.now.accounts.config }
     requires held { (c : CellState) × HasCell pass.old.account.me.0 cell c × (c.unpacked ≡ true)
-        × (c.changed ≡ true) × Spells c.block c.segment }
+        × (c.changed ≡ changed) × Spells c.block c.segment }
     ensures { (c : CellState) → HasCell pass.old.account.me.0 cell c
         → OnlyAccount pass.old pass.new (with_cell pass.old.account.me.0 cell (packed c)) }
 {
-    store.accounts.lower(&mut pass.account, cell, true);
+    store.accounts.lower(&mut pass.account, cell, changed);
 }
 
 /// Takes the marks off its words.

@@ -11,4 +11,4 @@ mod keys;
 mod marks;
 
 pub use fences::Fences;
-pub use keys::settle_keys;
+pub use keys::{Unsettled, settle_keys};

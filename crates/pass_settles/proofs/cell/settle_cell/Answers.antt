@@ -20,7 +20,7 @@ know_stamped-requires-clause-table c =
     let key = c.requires.taken.2 spells in
     let one = c.raise_cell.ensures.raised c0 is.only.cell in
     let p1 = c.raise_cell.new.pass in
-    (has_raised store p0 p1 k c0 c.args.by c.args.stamp sweep rest is.only is.rests c.requires.settling c.requires.settles spells one).of.table
+    (has_raised store p0 p1 k c0 c.args.by c.args.stamp sweep rest is.only is.rests c.requires.settling c.requires.within c.requires.settles spells one).of.table
 
 pub know_stamped-requires-clause-may : goal.know_stamped-requires-clause-may
 know_stamped-requires-clause-may c =
@@ -35,7 +35,7 @@ know_stamped-requires-clause-may c =
     let key = c.requires.taken.2 spells in
     let one = c.raise_cell.ensures.raised c0 is.only.cell in
     let p1 = c.raise_cell.new.pass in
-    may_know_stamped store p0 p1 k c0 c.args.by c.args.stamp sweep rest is.only is.rests c.requires.settling c.requires.settles spells one key.0 key.1
+    may_know_stamped store p0 p1 k c0 c.args.by c.args.stamp sweep rest is.only is.rests c.requires.settling c.requires.within c.requires.settles spells one key.0 key.1
 
 pub know_settled-requires-clause-table : goal.know_settled-requires-clause-table
 know_settled-requires-clause-table c =
@@ -52,7 +52,7 @@ know_settled-requires-clause-table c =
     let p1 = c.raise_cell.new.pass in
     let p2 = c.know_stamped.new.pass in
     let two = c.know_stamped.ensures in
-    (has_stamped store p0 p1 k c0 c.args.by c.args.stamp sweep rest is.only is.rests c.requires.settling c.requires.settles spells one p2 two).of.table
+    (has_stamped store p0 p1 k c0 c.args.by c.args.stamp sweep rest is.only is.rests c.requires.settling c.requires.within c.requires.settles spells one p2 two).of.table
 
 pub know_settled-requires-clause-may : goal.know_settled-requires-clause-may
 know_settled-requires-clause-may c =
@@ -69,7 +69,7 @@ know_settled-requires-clause-may c =
     let p1 = c.raise_cell.new.pass in
     let p2 = c.know_stamped.new.pass in
     let two = c.know_stamped.ensures in
-    (sweep, may_know_settled store p0 p1 k c0 c.args.by c.args.stamp sweep rest is.only is.rests c.requires.settling c.requires.settles spells one p2 two key.0 key.1)
+    (sweep, may_know_settled store p0 p1 k c0 c.args.by c.args.stamp sweep rest is.only is.rests c.requires.settling c.requires.within c.requires.settles spells one p2 two key.0 key.1)
 
 pub clear_cell-requires-clause-table : goal.clear_cell-requires-clause-table
 clear_cell-requires-clause-table c =
@@ -88,7 +88,7 @@ clear_cell-requires-clause-table c =
     let two = c.know_stamped.ensures in
     let p3 = c.know_settled.new.pass in
     let three = c.know_settled.ensures in
-    (has_settled store p0 p1 k c0 c.args.by c.args.stamp sweep rest is.only is.rests c.requires.settling c.requires.settles spells one p2 two p3 three).of.table
+    (has_settled store p0 p1 k c0 c.args.by c.args.stamp sweep rest is.only is.rests c.requires.settling c.requires.within c.requires.settles spells one p2 two p3 three).of.table
 
 pub clear_cell-requires-clause-held : goal.clear_cell-requires-clause-held
 clear_cell-requires-clause-held c =
@@ -107,7 +107,7 @@ clear_cell-requires-clause-held c =
     let two = c.know_stamped.ensures in
     let p3 = c.know_settled.new.pass in
     let three = c.know_settled.ensures in
-    (cell_settled store p0 p1 k c0 c.args.by c.args.stamp sweep rest is.only is.rests c.requires.settling c.requires.settles spells one p2 two, (has_settled store p0 p1 k c0 c.args.by c.args.stamp sweep rest is.only is.rests c.requires.settling c.requires.settles spells one p2 two p3 three).cell, settled_loose store p0 p1 k c0 c.args.by c.args.stamp sweep rest is.only is.rests c.requires.settling c.requires.settles spells one p2 two)
+    (cell_settled store p0 p1 k c0 c.args.by c.args.stamp sweep rest is.only is.rests c.requires.settling c.requires.within c.requires.settles spells one p2 two, (has_settled store p0 p1 k c0 c.args.by c.args.stamp sweep rest is.only is.rests c.requires.settling c.requires.within c.requires.settles spells one p2 two p3 three).cell, settled_loose store p0 p1 k c0 c.args.by c.args.stamp sweep rest is.only is.rests c.requires.settling c.requires.within c.requires.settles spells one p2 two)
 
 pub lower_cell-requires-clause-table : goal.lower_cell-requires-clause-table
 lower_cell-requires-clause-table c =
@@ -127,9 +127,9 @@ lower_cell-requires-clause-table c =
     let p3 = c.know_settled.new.pass in
     let three = c.know_settled.ensures in
     let p4 = c.clear_cell.new.pass in
-    let four = c.clear_cell.ensures (cell_settled store p0 p1 k c0 c.args.by c.args.stamp sweep rest is.only is.rests c.requires.settling c.requires.settles spells one p2 two) c0.segment (has_settled store p0 p1 k c0 c.args.by c.args.stamp sweep rest is.only is.rests c.requires.settling c.requires.settles spells one p2 two p3 three).cell (settled_loose store p0 p1 k c0 c.args.by c.args.stamp sweep rest is.only is.rests c.requires.settling c.requires.settles spells one p2 two)
-    (values_settled store p0 p1 k c0 c.args.by c.args.stamp sweep rest is.only is.rests c.requires.settling c.requires.settles spells one p2 two) is.rests (settled_half store p0 p1 k c0 c.args.by c.args.stamp sweep rest is.only is.rests c.requires.settling c.requires.settles spells one p2 two) in
-    (has_cleared store p0 p1 k c0 c.args.by c.args.stamp sweep rest is.only is.rests c.requires.settling c.requires.settles spells one p2 two p3 three p4 four).of.table
+    let four = c.clear_cell.ensures (cell_settled store p0 p1 k c0 c.args.by c.args.stamp sweep rest is.only is.rests c.requires.settling c.requires.within c.requires.settles spells one p2 two) c0.segment (has_settled store p0 p1 k c0 c.args.by c.args.stamp sweep rest is.only is.rests c.requires.settling c.requires.within c.requires.settles spells one p2 two p3 three).cell (settled_loose store p0 p1 k c0 c.args.by c.args.stamp sweep rest is.only is.rests c.requires.settling c.requires.within c.requires.settles spells one p2 two)
+    (values_settled store p0 p1 k c0 c.args.by c.args.stamp sweep rest is.only is.rests c.requires.settling c.requires.within c.requires.settles spells one p2 two) is.rests (settled_half store p0 p1 k c0 c.args.by c.args.stamp sweep rest is.only is.rests c.requires.settling c.requires.within c.requires.settles spells one p2 two) in
+    (has_cleared store p0 p1 k c0 c.args.by c.args.stamp sweep rest is.only is.rests c.requires.settling c.requires.within c.requires.settles spells one p2 two p3 three p4 four).of.table
 
 pub lower_cell-requires-clause-held : goal.lower_cell-requires-clause-held
 lower_cell-requires-clause-held c =
@@ -149,9 +149,9 @@ lower_cell-requires-clause-held c =
     let p3 = c.know_settled.new.pass in
     let three = c.know_settled.ensures in
     let p4 = c.clear_cell.new.pass in
-    let four = c.clear_cell.ensures (cell_settled store p0 p1 k c0 c.args.by c.args.stamp sweep rest is.only is.rests c.requires.settling c.requires.settles spells one p2 two) c0.segment (has_settled store p0 p1 k c0 c.args.by c.args.stamp sweep rest is.only is.rests c.requires.settling c.requires.settles spells one p2 two p3 three).cell (settled_loose store p0 p1 k c0 c.args.by c.args.stamp sweep rest is.only is.rests c.requires.settling c.requires.settles spells one p2 two)
-    (values_settled store p0 p1 k c0 c.args.by c.args.stamp sweep rest is.only is.rests c.requires.settling c.requires.settles spells one p2 two) is.rests (settled_half store p0 p1 k c0 c.args.by c.args.stamp sweep rest is.only is.rests c.requires.settling c.requires.settles spells one p2 two) in
-    (four.clearing.cell, (has_cleared store p0 p1 k c0 c.args.by c.args.stamp sweep rest is.only is.rests c.requires.settling c.requires.settles spells one p2 two p3 three p4 four).cell, four.clearing.unpacked, four.clearing.changed, cleared_spells store p0 p1 k c0 c.args.by c.args.stamp sweep rest is.only is.rests c.requires.settling c.requires.settles spells one p2 two p3 three p4 four)
+    let four = c.clear_cell.ensures (cell_settled store p0 p1 k c0 c.args.by c.args.stamp sweep rest is.only is.rests c.requires.settling c.requires.within c.requires.settles spells one p2 two) c0.segment (has_settled store p0 p1 k c0 c.args.by c.args.stamp sweep rest is.only is.rests c.requires.settling c.requires.within c.requires.settles spells one p2 two p3 three).cell (settled_loose store p0 p1 k c0 c.args.by c.args.stamp sweep rest is.only is.rests c.requires.settling c.requires.within c.requires.settles spells one p2 two)
+    (values_settled store p0 p1 k c0 c.args.by c.args.stamp sweep rest is.only is.rests c.requires.settling c.requires.within c.requires.settles spells one p2 two) is.rests (settled_half store p0 p1 k c0 c.args.by c.args.stamp sweep rest is.only is.rests c.requires.settling c.requires.within c.requires.settles spells one p2 two) in
+    (four.clearing.cell, (has_cleared store p0 p1 k c0 c.args.by c.args.stamp sweep rest is.only is.rests c.requires.settling c.requires.within c.requires.settles spells one p2 two p3 three p4 four).cell, four.clearing.unpacked, four.clearing.changed, cleared_spells store p0 p1 k c0 c.args.by c.args.stamp sweep rest is.only is.rests c.requires.settling c.requires.within c.requires.settles spells one p2 two p3 three p4 four)
 
 pub returns-clause-settled : goal.returns-clause-settled
 returns-clause-settled c d has =
@@ -171,16 +171,16 @@ returns-clause-settled c d has =
     let p3 = c.know_settled.new.pass in
     let three = c.know_settled.ensures in
     let p4 = c.clear_cell.new.pass in
-    let four = c.clear_cell.ensures (cell_settled store p0 p1 k c0 c.args.by c.args.stamp sweep rest is.only is.rests c.requires.settling c.requires.settles spells one p2 two) c0.segment (has_settled store p0 p1 k c0 c.args.by c.args.stamp sweep rest is.only is.rests c.requires.settling c.requires.settles spells one p2 two p3 three).cell (settled_loose store p0 p1 k c0 c.args.by c.args.stamp sweep rest is.only is.rests c.requires.settling c.requires.settles spells one p2 two)
-    (values_settled store p0 p1 k c0 c.args.by c.args.stamp sweep rest is.only is.rests c.requires.settling c.requires.settles spells one p2 two) is.rests (settled_half store p0 p1 k c0 c.args.by c.args.stamp sweep rest is.only is.rests c.requires.settling c.requires.settles spells one p2 two) in
+    let four = c.clear_cell.ensures (cell_settled store p0 p1 k c0 c.args.by c.args.stamp sweep rest is.only is.rests c.requires.settling c.requires.within c.requires.settles spells one p2 two) c0.segment (has_settled store p0 p1 k c0 c.args.by c.args.stamp sweep rest is.only is.rests c.requires.settling c.requires.within c.requires.settles spells one p2 two p3 three).cell (settled_loose store p0 p1 k c0 c.args.by c.args.stamp sweep rest is.only is.rests c.requires.settling c.requires.within c.requires.settles spells one p2 two)
+    (values_settled store p0 p1 k c0 c.args.by c.args.stamp sweep rest is.only is.rests c.requires.settling c.requires.within c.requires.settles spells one p2 two) is.rests (settled_half store p0 p1 k c0 c.args.by c.args.stamp sweep rest is.only is.rests c.requires.settling c.requires.within c.requires.settles spells one p2 two) in
     let p5 = c.lower_cell.new.pass in
-    let five = c.lower_cell.ensures four.clearing.cell (has_cleared store p0 p1 k c0 c.args.by c.args.stamp sweep rest is.only is.rests c.requires.settling c.requires.settles spells one p2 two p3 three p4 four).cell in
+    let five = c.lower_cell.ensures four.clearing.cell (has_cleared store p0 p1 k c0 c.args.by c.args.stamp sweep rest is.only is.rests c.requires.settling c.requires.within c.requires.settles spells one p2 two p3 three p4 four).cell in
     let same : c0 ≡ d = some_is c0 d (sym is.only.cell ∙ has) in (
       subst (λ (x : CellState). Spells x.block x.segment) same spells,
       packed four.clearing.cell,
       subst (λ (x : CellState). IsPackedWith store p5 (stamped_between x.segment.low x.segment.high (state_of p0)) (pin_of p0) k
           c.settle.result (packed four.clearing.cell)) same
-          (packed_settled store p0 p1 k c0 c.args.by c.args.stamp sweep rest is.only is.rests c.requires.settling c.requires.settles spells one p2 two p3 three p4 four p5 c.settle.result five c.settle.ensures),
+          (packed_settled store p0 p1 k c0 c.args.by c.args.stamp sweep rest is.only is.rests c.requires.settling c.requires.within c.requires.settles spells one p2 two p3 three p4 four p5 c.settle.result five c.settle.ensures),
     )
 
 pub returns-clause-same : goal.returns-clause-same
@@ -201,8 +201,8 @@ returns-clause-same c =
     let p3 = c.know_settled.new.pass in
     let three = c.know_settled.ensures in
     let p4 = c.clear_cell.new.pass in
-    let four = c.clear_cell.ensures (cell_settled store p0 p1 k c0 c.args.by c.args.stamp sweep rest is.only is.rests c.requires.settling c.requires.settles spells one p2 two) c0.segment (has_settled store p0 p1 k c0 c.args.by c.args.stamp sweep rest is.only is.rests c.requires.settling c.requires.settles spells one p2 two p3 three).cell (settled_loose store p0 p1 k c0 c.args.by c.args.stamp sweep rest is.only is.rests c.requires.settling c.requires.settles spells one p2 two)
-    (values_settled store p0 p1 k c0 c.args.by c.args.stamp sweep rest is.only is.rests c.requires.settling c.requires.settles spells one p2 two) is.rests (settled_half store p0 p1 k c0 c.args.by c.args.stamp sweep rest is.only is.rests c.requires.settling c.requires.settles spells one p2 two) in
+    let four = c.clear_cell.ensures (cell_settled store p0 p1 k c0 c.args.by c.args.stamp sweep rest is.only is.rests c.requires.settling c.requires.within c.requires.settles spells one p2 two) c0.segment (has_settled store p0 p1 k c0 c.args.by c.args.stamp sweep rest is.only is.rests c.requires.settling c.requires.within c.requires.settles spells one p2 two p3 three).cell (settled_loose store p0 p1 k c0 c.args.by c.args.stamp sweep rest is.only is.rests c.requires.settling c.requires.within c.requires.settles spells one p2 two)
+    (values_settled store p0 p1 k c0 c.args.by c.args.stamp sweep rest is.only is.rests c.requires.settling c.requires.within c.requires.settles spells one p2 two) is.rests (settled_half store p0 p1 k c0 c.args.by c.args.stamp sweep rest is.only is.rests c.requires.settling c.requires.within c.requires.settles spells one p2 two) in
     let p5 = c.lower_cell.new.pass in
-    let five = c.lower_cell.ensures four.clearing.cell (has_cleared store p0 p1 k c0 c.args.by c.args.stamp sweep rest is.only is.rests c.requires.settling c.requires.settles spells one p2 two p3 three p4 four).cell in
-    same_settled store p0 p1 k c0 c.args.by c.args.stamp sweep rest is.only is.rests c.requires.settling c.requires.settles spells one p2 two p3 three p4 four p5 c.settle.result five c.settle.ensures
+    let five = c.lower_cell.ensures four.clearing.cell (has_cleared store p0 p1 k c0 c.args.by c.args.stamp sweep rest is.only is.rests c.requires.settling c.requires.within c.requires.settles spells one p2 two p3 three p4 four).cell in
+    same_settled store p0 p1 k c0 c.args.by c.args.stamp sweep rest is.only is.rests c.requires.settling c.requires.within c.requires.settles spells one p2 two p3 three p4 four p5 c.settle.result five c.settle.ensures
