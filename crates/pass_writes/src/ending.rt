@@ -19,13 +19,17 @@ use epoch_reclaim::Sweep;
 use graph_model::{Key, TxnName, Write};
 use pass_prunes::below::{Pass, PassCells, Store, WrittenRows};
 use pass_prunes::prune_taken;
-use pass_settles::settle_keys;
+use pass_settles::{Unsettled, settle_keys};
 use std::sync::Wait;
 
 /// A commit leaves the prune to the sweeps where its horizon is more commits behind. A transaction is open that long:
 /// what it sees stays, and a row that was written often has a record for each commit since, through all of which a prune
 /// would go.
 const MOST_COMMITS_BEHIND: u64 = 64;
+
+/// One commit of so many prunes the cells that it can't settle, where its horizon is near. The others stamp them in their
+/// place, which is much cheaper. So a row that is written often has a few records more than a reader needs.
+const COMMITS_A_PRUNE: u64 = 8;
 
 /// Takes all writes of a transaction that is being aborted back, the newest first. Takes no memory.
 pub fn undo_all(
@@ -80,8 +84,8 @@ fn undo_one(
 }
 
 /// Gives the records in all rows of the last commit its stamp, given its writes, and settles or prunes the cells of these
-/// rows at the horizon of the pass's sweep, where that is near. Takes no memory. The journal is free meanwhile: whoever meets a record without a
-/// stamp is told by the pass's word.
+/// rows at the horizon of the pass's sweep, where that is near. Takes no memory. The journal is free meanwhile: whoever
+/// meets a record without a stamp is told by the pass's word.
 pub fn stamp_all(
     rt: &impl Wait,
     store: &Store,
@@ -109,7 +113,7 @@ pub fn stamp_all(
     }
 }
 
-/// Stamps the rows of one write. Their cells are settled as far as nothing would be left of them.
+/// Stamps the rows of one write: in cells that settle, in packed ones as they lie, or in cells that are unpacked.
 fn stamp_one(
     rt: &impl Wait,
     store: &Store,
@@ -140,8 +144,8 @@ fn stamp_one(
     }
 }
 
-/// Settles the cells of these keys, where the horizon has reached the stamp, until one can't be. Answers of how many
-/// keys the rows are stamped then.
+/// Settles the cells of these keys, or stamps them in their place, until one is to be unpacked. Answers of how many keys
+/// the rows are stamped then.
 fn settle_cells(
     rt: &impl Wait,
     store: &Store,
@@ -164,11 +168,9 @@ fn settle_cells(
     ensures pin { pin_of pass.new ≡ pin_of pass.old }
     ensures same { IsSamePass pass.old pass.new }
 {
-    if store.pins().horizon(sweep) < stamp {
-        return 0;
-    }
     let guesses = cells.hints.of_all(store, keys);
-    settle_keys(rt, store, pass, sweep, by, stamp, keys, &guesses)
+    let unsettled = unsettled_cells(store, sweep, stamp);
+    settle_keys(rt, store, pass, sweep, by, stamp, unsettled, keys, &guesses)
 }
 
 /// Stamps the rows of these keys in cells that are taken for it, and prunes the cells where the horizon is near.
@@ -200,6 +202,17 @@ fn stamp_in_hand(
         prune_taken(store, pass, cells, sweep);
     }
     put_cells_back(store, pass, cells);
+}
+
+/// What a commit does with cells that can't settle.
+fn unsettled_cells(store: &Store, sweep: &Sweep, stamp: u64) -> Unsettled
+    requires whole { sweep.now.looked ≡ store.now.accounts.config.passes }
+{
+    if stamp % COMMITS_A_PRUNE == 0 && is_worth_a_prune(store, sweep, stamp) {
+        Unsettled::Leave
+    } else {
+        Unsettled::Stamp
+    }
 }
 
 /// Whether a commit prunes: the horizon lies so few commits back that it looks at few records for what can go.
