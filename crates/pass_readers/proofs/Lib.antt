@@ -1,0 +1,5 @@
+mod CellLemmas
+pub mod HandLemmas
+pub mod LendLemmas
+pub mod LookLemmas
+pub mod RunLemmas

@@ -1,0 +1,4 @@
+pub mod Hand
+pub mod Looks
+pub mod Readers
+pub mod Runs

@@ -1,0 +1,4 @@
+//! What crates above name of crates that they don't list.
+
+pub use pass_cells::CellHints;
+pub use pass_steps::below::Pass;
