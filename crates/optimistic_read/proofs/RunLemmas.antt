@@ -25,14 +25,16 @@ use Rattle.pass_steps.proofs.VersionSegment.KeyedLemmas.{tied_same}
 use Rattle.pass_steps.specs.VersionSegment.Resting.{is_marked, newest_in, value_word, word_of, word_row, word_rows}
 use Rattle.pass_steps.specs.VersionSegment.Rows.{IsSegment, VersionedRows, is_empty, is_nothing, or_nothing, range_of, versions_at}
 use Rattle.pass_steps.specs.StoreRelationDeclared.stage.Stage.TheVariants.{Open}
-use Rattle.pass_steps.specs.StoreRelation.Passes.{PassState, name_at}
+use Rattle.pass_steps.specs.StoreRelation.Passes.{EndedTxn, PassState, fresh_pass, name_at}
+use Rattle.pass_steps.specs.StoreRelation.Readers.{ReaderState}
 use Rattle.pass_steps.specs.CellsModel.BlockLaws.{row_key}
 use Rattle.pass_steps.specs.CellsModel.Indexed.{covers}
 use Rattle.pass_steps.specs.CellsModel.Reads.{first_loaded}
 use Rattle.pass_steps.specs.CellsModel.Words.{HasSmallValues, Spells}
 use Rattle.pass_steps.proofs.CellsModel.WordLemmas.{words_rise}
+use Rattle.pass_steps.specs.RuleModel.BlockSteps.{GiveView}
 use Rattle.pass_steps.specs.RuleModel.Sight.{HasPass, Sight, with_found}
-use Rattle.pass_steps.specs.StoreWords.Reads.{PassIsTold, read_ended}
+use Rattle.pass_steps.specs.StoreWords.Reads.{PassIsTold, ReaderIsTold, read_ended}
 use Rattle.pass_steps.specs.StoreWords.Steps.{Knows}
 use Rattle.optimistic_read.specs.declared.decode.Head.{Head}
 use Rattle.optimistic_read.specs.declared.decode.LoadedRun.{LoadedRun}
@@ -44,7 +46,7 @@ use Rattle.optimistic_read.specs.Reads.{IsHead, IsReadingOn, IsSearched, StillRe
 use Rattle.optimistic_read.specs.Runs.{EndsRun, IsRun, IsRunLoaded, IsRunRead, IsRunUpTo, IsTriedRun, decoded_rows, decoded_run, front_in, front_of, lesser, looked_at, read_up_to, room_behind, run_of, stop_in, stop_of}
 use Rattle.optimistic_read.specs.Tried.{is_chained}
 use Rattle.optimistic_read.proofs.LoadLemmas.{WithRow, row_known, weaken}
-use Rattle.optimistic_read.proofs.TryLemmas.{found_both, pass_there}
+use Rattle.optimistic_read.proofs.TryLemmas.{found_both, pass_there, readers_there}
 
 -- ---- the rows of a range, by places
 
@@ -864,3 +866,51 @@ run_answered z cell first second from until s0 s1 s2 s3 l before after t p st be
       rows_are = rows_of_run valid.block valid.segment valid.spells l from until before after loaded;
       answer_is = decodes valid.block valid.segment before after valid.spells loaded;
     })
+
+-- ---- by a reader
+
+-- so many transactions have ended
+abbrev ended_txns : ℕ → List EndedTxn
+ended_txns zero = []
+ended_txns (suc n) = record { writes = []; stamp = None } ∷ ended_txns n
+
+-- a pass that has the transaction which a reader reads
+abbrev pass_of : ReaderState → PassState
+pass_of x = record fresh_pass { start = x.start; own = x.own; seen = x.seen; past = ended_txns x.by.number }
+
+ended_count : (n : ℕ) → length (map (λ (t : EndedTxn). t.writes) (ended_txns n)) ≡ n
+ended_count zero = refl
+ended_count (suc n) = ap (λ m. suc m) (ended_count n)
+
+name_is : (x : ReaderState) → name_at x.by.job (pass_of x) ≡ x.by
+name_is x i = record { job = x.by.job; number = ended_count x.by.number i }
+
+pub reader_answered : (z : Config) (cell first second : ℕ) (from until : Key) (s0 s1 s2 s3 : Seat (Unit {0}) Sight)
+    (l : LoadedRun) (before after : List Row) (t : TriedRun) (x : ReaderState) → is_below from until ≡ true
+    → Knows s0 s1 (with_found s0.me.0 (first_loaded cell first) cell first) → StillReads s1 s2
+    → Knows s2 s3 (read_ended s2.me.0 second)
+    → IsReadingOn cell first s2.me.0 (IsRunLoaded l from until before after)
+    → ReaderIsTold z s2.me.0 second → first % 2 ≡ 0 → second ≡ first
+    → ((block : List ℕ) (s : VersionedRows) (before after : List Row) → Spells block s
+    → IsRunLoaded l from until before after s → t ≡ decoded_run s from until (room_behind before))
+    → s0.me.0.readers ≡ x ∷ [] → IsRun t (view z.kind x.seen x.start x.own) from until before after
+reader_answered z cell first second from until s0 s1 s2 s3 l before after t x ahead begun still ended on told even same
+    decodes has =
+    let there = readers_there cell first second s0 s1 s2 s3 begun still ended ∙ has in
+    let valid = told x on.reading there on.is (same ∙ sym on.first_is) in
+    let loaded = on.fact valid.block valid.segment valid.loaded valid.spells in
+    run_is z x.by.job (pass_of x) s0.me.0 s3.me.0 cell from until before after ahead t
+    (tried_of z x.by.job (pass_of x) s0.me.0 s3.me.0 cell from until before after t (record {
+      again = record {
+        word = first;
+        even = even;
+        twice = found_both cell first second s0 s1 s2 s3 begun still ended (IsRunLoaded l from until before after) on
+            ∙ (λ i. record { cell = cell; word = same i } ∷ record { cell = cell; word = first }
+            ∷ s0.me.0.reads.found);
+      };
+      contents = valid.segment;
+      sound = valid.spells.sound;
+      gives = subst (λ (by : TxnName). GiveView z x.seen x.start x.own by valid.segment) (sym (name_is x)) valid.fact;
+      rows_are = rows_of_run valid.block valid.segment valid.spells l from until before after loaded;
+      answer_is = decodes valid.block valid.segment before after valid.spells loaded;
+    }))

@@ -20,7 +20,7 @@ use Rattle.pass_steps.specs.CellsModel.Indexed.{covers}
 use Rattle.pass_steps.specs.CellsModel.Reads.{Reading, first_loaded, second_loaded}
 use Rattle.pass_steps.specs.CellsModel.Words.{Spells}
 use Rattle.pass_steps.specs.RuleModel.Sight.{HasPass, Sight, with_found}
-use Rattle.pass_steps.specs.StoreWords.Reads.{HasOpenPass, PassIsTold, read_ended, reading_ended}
+use Rattle.pass_steps.specs.StoreWords.Reads.{HasOpenPass, HasReader, PassIsTold, read_ended, reading_ended}
 use Rattle.pass_steps.specs.StoreWords.Steps.{Knows}
 use Rattle.optimistic_read.specs.declared.decode.LookedUp.{LookedUp}
 use Rattle.optimistic_read.specs.declared.tried.Tried.{Tried}
@@ -82,6 +82,9 @@ module _ (cell first second : ℕ) (s0 s1 s2 s3 : Seat (Unit {0}) Sight)
 
   pub open_there : HasOpenPass s0.me.0 → HasOpenPass s2.me.0
   open_there opened = (opened.0, opened.1, pass_there opened.0 opened.1 opened.2, opened.3)
+
+  pub readers_there : s2.me.0.readers ≡ s0.me.0.readers
+  readers_there i = (before i).readers
 
   module _ (knows : VersionedRows → Type 0) (x : IsReadingOn cell first s2.me.0 knows) where
     ended_is : s3.me.0 ≡ with_found s2.me.0 (Some (second_loaded x.reading second)) x.reading.cell second

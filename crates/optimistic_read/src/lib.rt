@@ -13,12 +13,14 @@ pub mod below;
 mod block;
 mod decode;
 mod read;
+mod reader_run;
 mod routing;
 mod run;
 mod scan;
 mod tried;
 
 pub use read::{try_has_vertex, try_key, try_weight};
+pub use reader_run::try_reader_run;
 pub use routing::route;
 pub use scan::try_run;
 pub use tried::{Route, Tried, TriedRun};
