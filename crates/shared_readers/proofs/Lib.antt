@@ -1,0 +1,3 @@
+pub mod LendLemmas
+pub mod ReadLemmas
+pub mod ScanLemmas

@@ -1,0 +1,59 @@
+//! A reader is split off a pass with an open transaction, and joined with it.
+
+ghost use Rattle.std.specs.Prelude.{◌≡◌};
+ghost use Rattle.shared_store.specs.Passes.{IsIdle, account_of, view_in};
+ghost use Rattle.shared_readers.specs.Readers.{IsBegun, IsLending, IsReader, Lends, TakesBack, job_of, seen_in};
+
+use graph_model::Begun;
+use pass_readers::{join_reader as join_seats, split_reader as split_seats};
+use shared_store::{Pass, Store};
+use undo_chain::Snapshot;
+
+/// Whoever reads by the account of a pass: another pass, which has no transaction of its own, with the snapshot of the
+/// transaction that is read.
+pub struct Reader {
+    pub(crate) pass: Pass,
+    pub(crate) snapshot: Snapshot,
+}
+
+/// Makes a reader of the open transaction, given what its begin answered, of a pass that has none. Takes no memory, and
+/// waits for nobody.
+pub fn split_reader(store: &Store, from: &mut Pass, begun: Begun, to: Pass) -> Reader
+    requires from { IsLending store.now from.old }
+    requires begun { IsBegun begun from.old }
+    requires to { IsIdle store.now to }
+    ensures from { Lends store.now from.old from.new }
+    ensures reader { IsReader store.now result }
+    ensures reads { seen_in store.now result ≡ view_in store.now from.old }
+    ensures job { job_of result ≡ from.old.seats.number }
+    ensures own { account_of store.now result.pass ≡ account_of store.now to }
+    ensures number { result.pass.seats.number ≡ to.seats.number }
+{
+    let mut pass = to;
+    split_seats(store, &mut from.seats, &mut pass.seats);
+    Reader {
+        pass,
+        snapshot: Snapshot {
+            start: begun.start,
+            own: begun.by,
+        },
+    }
+}
+
+/// Joins a reader with its pass, and gives back the pass that it was made of. Takes no memory, and waits for nobody.
+pub fn join_reader(store: &Store, from: &mut Pass, reader: Reader) -> Pass
+    requires from { IsLending store.now from.old }
+    requires reader { IsReader store.now reader }
+    requires job { job_of reader ≡ from.old.seats.number }
+    ensures from { TakesBack store.now from.old from.new }
+    ensures pass { IsIdle store.now result }
+    ensures own { account_of store.now result ≡ account_of store.now reader.pass }
+    ensures number { result.seats.number ≡ reader.pass.seats.number }
+{
+    let Reader {
+        mut pass,
+        snapshot: _,
+    } = reader;
+    join_seats(store, &mut from.seats, &mut pass.seats);
+    pass
+}
