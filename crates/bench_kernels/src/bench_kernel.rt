@@ -32,11 +32,11 @@ pub fn table_of<R: Threads + Sync>(
     kernel: BenchKernel,
 ) -> Result<Table, KernelRefusal> {
     match kernel {
-        BenchKernel::Bfs => kernel_bfs::run(rt, alloc, image, ROOT),
+        BenchKernel::Bfs => fast_bfs::below::run(rt, alloc, image, ROOT),
         BenchKernel::FastBfs => fast_bfs::run(rt, alloc, image, ROOT),
         BenchKernel::Wcc => Ok(kernel_wcc::run(rt, alloc, image)?),
         BenchKernel::Cdlp => Ok(kernel_cdlp::run(rt, alloc, image, ROUNDS)?),
-        BenchKernel::Sssp => kernel_sssp::run(rt, alloc, image, ROOT),
+        BenchKernel::Sssp => delta_sssp::below::run(rt, alloc, image, ROOT),
         BenchKernel::FastSssp { width } => delta_sssp::run(rt, alloc, image, ROOT, width.max(1)),
     }
 }

@@ -15,7 +15,7 @@ fn assert_weights<R: Threads + Sync + Abort>(
     root: u64,
     want: &[(u64, u64)],
 ) -> Result<(), Fail> {
-    let table = kernel_sssp::run(rt, alloc, image, root)?;
+    let table = delta_sssp::below::run(rt, alloc, image, root)?;
     assert_table(rt, alloc, &table, want, "sssp")?;
     let table = delta_sssp::run(rt, alloc, image, root, 1)?;
     assert_table(rt, alloc, &table, want, "fastsssp, narrow")?;

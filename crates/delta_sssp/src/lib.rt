@@ -8,6 +8,7 @@
 #![tactic(auto)]
 
 mod ahead;
+pub mod below;
 mod buckets;
 mod kernel;
 mod search;

@@ -8,6 +8,7 @@
 #![tactic(auto)]
 
 mod arcs_into;
+pub mod below;
 mod kernel;
 mod levels;
 mod place_set;

@@ -1,3 +1,4 @@
 pub mod KeyedLemmas
 pub mod HeadLemmas
 pub mod PlaceLemmas
+pub mod UndoChain

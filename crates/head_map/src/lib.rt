@@ -4,6 +4,7 @@
 //! 2. Rows that come, go or move take their heads along: the places of those after them shift.
 #![tactic(auto)]
 
+pub mod below;
 mod heads;
 mod list;
 mod packed;

@@ -3,6 +3,7 @@
 //! 1. Nothing is written here. Both texts are made before the first output is created.
 #![tactic(auto)]
 
+pub mod below;
 mod texts;
 
 pub use texts::{RecoveredTexts, recover_texts};

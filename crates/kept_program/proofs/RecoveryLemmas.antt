@@ -5,10 +5,10 @@ use Rattle.run_model.specs.Texts.{journal_text}
 use Rattle.desk_io.specs.Files.{Files}
 use Rattle.desk_io.specs.Outputs.{names_of}
 use Rattle.journal_disk.specs.Disk.{DiskState, FaultsStand}
-use Rattle.journal_file.specs.declared.refusal.RecoverRefusal.{RecoverRefusal}
-use Rattle.journal_file.specs.declared.refusal.RecoverRefusal.TheVariants as recoveries
-use Rattle.journal_file.specs.Reading.{Opened, opened}
-use Rattle.journal_file.specs.Recovering.{IsRefused}
+use Rattle.journal_recovery.specs.JournalFileDeclared.refusal.RecoverRefusal.{RecoverRefusal}
+use Rattle.journal_recovery.specs.JournalFileDeclared.refusal.RecoverRefusal.TheVariants as recoveries
+use Rattle.journal_recovery.specs.JournalFile.Reading.{Opened, opened}
+use Rattle.journal_recovery.specs.JournalFile.Recovering.{IsRefused}
 use Rattle.command_words.specs.Words.{RecoverRequest}
 use Rattle.teseo_program.specs.declared.outcome.Outcome.{Outcome}
 use Rattle.teseo_program.specs.declared.prepare.Prepared.{Prepared}

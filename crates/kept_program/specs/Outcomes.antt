@@ -5,9 +5,9 @@ use Rattle.graph_model.specs.declared.write.Kind.{Kind}
 use Rattle.graph_model.specs.declared.journal.Commit.{Commit}
 use Rattle.desk_io.specs.Files.{Files, Rose}
 use Rattle.journal_disk.specs.Disk.{DiskState, FaultsStand, FaultsRise}
-use Rattle.journal_file.specs.declared.refusal.RecoverRefusal.{RecoverRefusal}
-use Rattle.journal_file.specs.declared.refusal.RecoverRefusal.TheVariants as recoveries
-use Rattle.journal_file.specs.Recovering.{IsRefused}
+use Rattle.journal_recovery.specs.JournalFileDeclared.refusal.RecoverRefusal.{RecoverRefusal}
+use Rattle.journal_recovery.specs.JournalFileDeclared.refusal.RecoverRefusal.TheVariants as recoveries
+use Rattle.journal_recovery.specs.JournalFile.Recovering.{IsRefused}
 use Rattle.journal_recovery.specs.declared.texts.RecoveredTexts.{RecoveredTexts}
 use Rattle.journal_recovery.specs.Texts.{AreTextsOf}
 use Rattle.kept_run.specs.RunKeeper.Keeping.{KeepsSoFar}

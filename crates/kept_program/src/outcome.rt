@@ -4,7 +4,7 @@
 
 ghost use Rattle.std.specs.Prelude.{◌≡◌};
 
-use journal_file::RecoverRefusal;
+use journal_recovery::below::RecoverRefusal;
 use kept_run::KeptRefusal;
 use teseo_program::Outcome;
 

@@ -17,7 +17,7 @@ use crate::outcome::KeptOutcome;
 use command_words::RunWords;
 use desk_io::Desk;
 use journal_disk::Disk;
-use journal_file::DiskFault;
+use journal_recovery::below::DiskFault;
 use kept_run::below::{Input, Keeper, files_are_loadable, kind_of, leaves_of, load_is_legal};
 use kept_run::{KeptRefusal, run_scripts_kept};
 use std::alloc::Global;

@@ -4,7 +4,7 @@
 
 ghost use Rattle.std.specs.Prelude.{IfOk, IfErr, OnOk};
 ghost use Rattle.journal_disk.specs.Disk.{FaultsStand};
-ghost use Rattle.journal_file.specs.Recovering.{IsRefused};
+ghost use Rattle.journal_recovery.specs.JournalFile.Recovering.{IsRefused};
 ghost use Rattle.command_words.specs.Views.{recover_request};
 ghost use Rattle.teseo_program.specs.Prepared.{NamesAreApart};
 ghost use Rattle.kept_program.specs.Outcomes.{RecoverEnds};
@@ -16,7 +16,7 @@ use command_words::RecoverWords;
 use desk_io::Desk;
 use items::Items;
 use journal_disk::Disk;
-use journal_file::RecoverRefusal;
+use journal_recovery::below::RecoverRefusal;
 use journal_recovery::recover_texts;
 use std::alloc::Global;
 use teseo_program::{Left, Prepared, output_of, write_and_say};

@@ -14,7 +14,7 @@ use Rattle.run_model.proofs.SteppedLemmas.{first_is}
 use Rattle.run_keeper.specs.JobRunner.Progress.{Progress}
 use Rattle.run_keeper.specs.JobRunner.Runs.{AreNew}
 use Rattle.journal_disk.specs.Disk.{DiskState}
-use Rattle.journal_file.specs.declared.file.JournalFile.{JournalFile}
+use Rattle.run_keeper.specs.JournalFileDeclared.file.JournalFile.{JournalFile}
 use Rattle.run_keeper.specs.declared.keeper.KeepRefusal.{KeepRefusal}
 use Rattle.run_keeper.specs.declared.keeper.KeepRefusal.TheVariants as keeps
 use Rattle.run_keeper.specs.Keeping.{IsKept, AreAcknowledged, acknowledged_on, KeepsSoFar, StopsSoFar}

@@ -6,14 +6,14 @@ ghost use Rattle.run_model.specs.declared.answer.Answer.TheVariants as answers;
 ghost use Rattle.run_model.specs.Answering.{kernel_answer, IsKernelTable};
 ghost use Rattle.line_runner.specs.Kernels.{kernel_of, root_of, IsKernelImage};
 
+use delta_sssp::below::run as shortest_paths;
 use delta_sssp::run as shortest_paths_by_buckets;
+use fast_bfs::below::run as breadth_first_search;
 use fast_bfs::run as search_both_ways;
 use graph_image::Image;
 use graph_model::{KernelRefusal, Kind, NoMemory, Table};
 use items::RoomyItems;
-use kernel_bfs::run as breadth_first_search;
 use kernel_cdlp::run as communities;
-use kernel_sssp::run as shortest_paths;
 use kernel_wcc::run as components;
 use run_model::Name;
 use std::alloc::Global;

@@ -8,3 +8,4 @@ pub use Rattle.rule_model.proofs.PinStepLemmas
 pub use Rattle.rule_model.proofs.RowFrame
 pub use Rattle.rule_model.proofs.RowStepLemmas
 pub use Rattle.rule_model.proofs.TxnLemmas
+pub use Rattle.rule_model.proofs.ViewLemmas

@@ -10,5 +10,6 @@ pub use Rattle.rule_model.specs.RowSteps
 pub use Rattle.rule_model.specs.Rule
 pub use Rattle.rule_model.specs.Sight
 pub use Rattle.rule_model.specs.Steps
+pub use Rattle.rule_model.specs.StoreRelation
 pub use Rattle.rule_model.specs.TxnSteps
 pub use Rattle.rule_model.specs.ViewSteps

@@ -4,7 +4,7 @@ use Rattle.std.specs.Prelude.{false, true, Some, unwrap_or}
 use Rattle.seat_views.specs.Keeping.{kept_at}
 use Rattle.latch_table.specs.Latched.{number_of}
 use Rattle.graph_model.specs.Legal.{IsLegal}
-use Rattle.rule_model.specs.Sight.{PinState, Sight, fresh_pin}
+use Rattle.pass_steps.specs.RuleModel.Sight.{PinState, Sight, fresh_pin}
 use Rattle.pass_steps.specs.StoreRelation.Passes.{PassState, fresh_pass}
 use Rattle.pass_steps.specs.StoreRelation.Readers.{ReaderState}
 use Rattle.pass_steps.specs.CellsModel.Cells.{CellState}

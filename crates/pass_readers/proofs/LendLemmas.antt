@@ -5,10 +5,10 @@ use Rattle.atomic_table.specs.Table.{Joins, Splits}
 use Rattle.graph_model.specs.declared.journal.Commit.{Commit}
 use Rattle.graph_model.specs.Legal.{IsLegal}
 use Rattle.txn_manager.specs.declared.config.Config.{Config}
-use Rattle.rule_model.specs.Places.{lines}
-use Rattle.rule_model.specs.Sight.{HasPass, PinState, ReadState, Sight, no_reads, no_sight, with_pass}
-use Rattle.rule_model.specs.ViewSteps.{reader_seat}
-use Rattle.rule_model.proofs.ViewLemmas.{heap_is_of_no_account, reader_is_joined, reader_is_split}
+use Rattle.pass_steps.specs.RuleModel.Places.{lines}
+use Rattle.pass_steps.specs.RuleModel.Sight.{HasPass, PinState, ReadState, Sight, no_reads, no_sight, with_pass}
+use Rattle.pass_steps.specs.RuleModel.ViewSteps.{reader_seat}
+use Rattle.pass_steps.proofs.RuleModel.ViewLemmas.{heap_is_of_no_account, reader_is_joined, reader_is_split}
 use Rattle.pass_steps.specs.StoreRelation.Passes.{PassState}
 use Rattle.pass_steps.specs.StoreRelation.Readers.{ReaderState}
 use Rattle.pass_steps.specs.StoreRelation.Steps.{with_reader, with_readers, without_reader}

@@ -10,13 +10,13 @@ use Rattle.atomic_table.specs.declared.shared.Seat.{Seat}
 use Rattle.atomic_table.specs.Seated.{TableId}
 use Rattle.graph_model.specs.declared.journal.TxnName.{TxnName}
 use Rattle.txn_manager.specs.declared.config.Config.{Config}
-use Rattle.rule_model.specs.Places.{lines}
-use Rattle.rule_model.specs.StoreRelation.Shared.{longer_of}
-use Rattle.rule_model.specs.Sight.{Sight, no_sight}
-use Rattle.rule_model.specs.Steps.{AllowsLoad}
-use Rattle.rule_model.specs.ViewSteps.{IsCut, IsSplit, joined}
+use Rattle.pass_steps.specs.RuleModel.Places.{lines}
+use Rattle.pass_steps.specs.RuleModel.StoreRelation.Shared.{longer_of}
+use Rattle.pass_steps.specs.RuleModel.Sight.{Sight, no_sight}
+use Rattle.pass_steps.specs.RuleModel.Steps.{AllowsLoad}
+use Rattle.pass_steps.specs.RuleModel.ViewSteps.{IsCut, IsSplit, joined}
 use Rattle.pass_steps.proofs.RuleModel.NoteStepLemmas.{reader_looks}
-use Rattle.rule_model.specs.StoreRelation.ReadLaws.{Answers}
+use Rattle.pass_steps.specs.RuleModel.StoreRelation.ReadLaws.{Answers}
 use Rattle.pass_cells.specs.StoreWords.Notes.{IsNote}
 use Rattle.pass_steps.specs.StoreWords.Steps.{Knows}
 use Rattle.pass_steps.specs.Asking.{HasWriter}

@@ -2,3 +2,4 @@ pub mod Hand
 pub mod Looks
 pub mod Readers
 pub mod Runs
+pub mod RuleModel

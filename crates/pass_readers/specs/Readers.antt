@@ -10,7 +10,7 @@ use Rattle.latch_table.specs.Latched.{IsPassOf as IsLatchPass}
 use Rattle.seat_views.specs.Keeping.{kept_at}
 use Rattle.txn_manager.specs.declared.config.Config.{Config}
 use Rattle.undo_chain.specs.declared.states.Snapshot.{Snapshot}
-use Rattle.rule_model.specs.ViewSteps.{reader_seat}
+use Rattle.pass_steps.specs.RuleModel.ViewSteps.{reader_seat}
 use Rattle.pass_steps.specs.StoreRelation.Readers.{ReaderState, reader_of}
 use Rattle.pass_steps.specs.RuleModel.Sight.{HasPass, HasPin, ReadState, Sight, no_sight}
 use Rattle.pass_steps.specs.StoreWords.Steps.{IsAccountTable}

@@ -3,7 +3,7 @@
 ghost use Rattle.std.specs.Prelude.{◌≡◌, ◌<◌, [], ◌∷◌};
 ghost use Rattle.pass_steps.specs.StoreRelationDeclared.stage.Stage.TheVariants.{Open};
 ghost use Rattle.pass_steps.specs.RuleModel.Sight.{HasPass, no_reads, with_pass};
-ghost use Rattle.rule_model.specs.ViewSteps.{reader_seat};
+ghost use Rattle.pass_steps.specs.RuleModel.ViewSteps.{reader_seat};
 ghost use Rattle.pass_steps.specs.StoreRelation.Readers.{ReaderState};
 ghost use Rattle.pass_steps.specs.StoreRelation.Steps.{with_reader, without_reader};
 ghost use Rattle.pass_cells.specs.StoreWords.Notes.{IsNote};

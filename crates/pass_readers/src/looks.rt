@@ -9,7 +9,7 @@ ghost use Rattle.pass_steps.specs.Asking.{is_writer, state_at};
 ghost use Rattle.pass_steps.specs.RuleModel.Sight.{no_sight};
 ghost use Rattle.pass_steps.specs.StoreRule.Passes.{OnlyAccount};
 ghost use Rattle.pass_steps.specs.StoreWords.Steps.{Knows};
-ghost use Rattle.rule_model.specs.StoreRelation.ReadLaws.{Answers};
+ghost use Rattle.pass_steps.specs.RuleModel.StoreRelation.ReadLaws.{Answers};
 ghost use Rattle.pass_cells.specs.StoreWords.Notes.{IsNote};
 ghost use Rattle.pass_readers.specs.Readers.{read_by, read_in};
 ghost use Rattle.pass_readers.specs.Looks.{asked_by};

@@ -7,3 +7,4 @@ pub use Rattle.store_rule.proofs.RuleModel.PinStepLemmas
 pub use Rattle.store_rule.proofs.RuleModel.RowFrame
 pub use Rattle.store_rule.proofs.RuleModel.RowStepLemmas
 pub use Rattle.store_rule.proofs.RuleModel.TxnLemmas
+pub use Rattle.store_rule.proofs.RuleModel.ViewLemmas

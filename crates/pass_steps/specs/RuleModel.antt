@@ -8,3 +8,5 @@ pub use Rattle.store_rule.specs.RuleModel.RowSteps
 pub use Rattle.store_rule.specs.RuleModel.Rule
 pub use Rattle.store_rule.specs.RuleModel.Sight
 pub use Rattle.store_rule.specs.RuleModel.Steps
+pub use Rattle.store_rule.specs.RuleModel.StoreRelation
+pub use Rattle.store_rule.specs.RuleModel.ViewSteps

@@ -5,3 +5,4 @@ pub mod CallLemmas
 pub mod ScanLemmas
 pub mod KeptLemmas
 pub mod SendLemmas
+pub mod SharedStore

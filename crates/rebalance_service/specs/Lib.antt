@@ -8,3 +8,4 @@ pub mod SharedStore
 pub mod SharedStoreDeclared
 pub mod StoreRelation
 pub mod StoreRuleDeclared
+pub mod SharedStoreContracts

@@ -10,7 +10,7 @@ use Rattle.graph_model.specs.declared.journal.TxnName.{TxnName}
 use Rattle.graph_model.specs.Rows.{key_cmp, is_between}
 use Rattle.store_model.specs.Stamped.{StampedVersions, prune_stamped}
 use Rattle.gap_segment.specs.Fenced.{FencedRows, AreFenced, IsGapFor}
-use Rattle.undo_chain.specs.Chains.{ChainMap, list_at, IsHeadOf, ChangesOneList}
+use Rattle.head_map.specs.UndoChain.Chains.{ChainMap, list_at, IsHeadOf, ChangesOneList}
 use Rattle.head_map.specs.declared.heads.Heads.{Heads}
 use Rattle.head_map.specs.Heads.{ChangedRow}
 use Rattle.row_table.specs.declared.found.FoundRow.{FoundRow}

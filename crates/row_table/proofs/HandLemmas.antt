@@ -6,7 +6,7 @@ use Rattle.graph_model.specs.declared.row.Row.{Row}
 use Rattle.graph_model.proofs.PlaceLemmas.{some_eq}
 use Rattle.gap_segment.specs.Fenced.{AreSorted}
 use Rattle.gap_segment.proofs.FencedLemmas.{get_there, sorted_take, sorted_drop}
-use Rattle.undo_chain.specs.Chains.{ChainMap, list_at, IsHeadOf, ChangesOneList}
+use Rattle.head_map.specs.UndoChain.Chains.{ChainMap, list_at, IsHeadOf, ChangesOneList}
 use Rattle.head_map.specs.declared.heads.Heads.{Heads}
 use Rattle.row_table.specs.Rows.{all_records}
 use Rattle.head_map.specs.Heads.{PlaceTable, settled_heads, heads_at, heads_placed, keyed_table}

@@ -9,3 +9,4 @@ pub mod MoveLemmas
 pub mod HandLemmas
 pub mod ShareLemmas
 pub mod HeadMap
+pub mod UndoChain

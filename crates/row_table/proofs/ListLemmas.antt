@@ -4,7 +4,7 @@ use Rattle.std.specs.Prelude.{true, false, cond, Option}
 use Rattle.std.specs.Ordering.{eq_by_cmp}
 use Rattle.graph_model.specs.declared.row.Key.{Key}
 use Rattle.graph_model.specs.Rows.{key_cmp}
-use Rattle.undo_chain.specs.Chains.{ChainMap, list_at, AreApart, ChangesOneList}
+use Rattle.head_map.specs.UndoChain.Chains.{ChainMap, list_at, AreApart, ChangesOneList}
 use Rattle.head_map.specs.declared.heads.Heads.{Heads}
 use Rattle.row_table.specs.Lists.{AreHeads, AreOthers, AreLists, ChangesRow}
 use Rattle.head_map.proofs.KeyedLemmas.{tied_same, tied_self, tied_flip}

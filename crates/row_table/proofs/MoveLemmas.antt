@@ -11,7 +11,7 @@ use Rattle.graph_model.specs.Rows.{key_cmp, is_below}
 use Rattle.store_model.specs.Stamped.{StampedVersions}
 use Rattle.gap_segment.specs.Fenced.{FencedRows, AreBelow, AreAbove, AreSorted, AreFenced, first_key_or, front_of, back_of, joined}
 use Rattle.gap_segment.proofs.FencedLemmas.{fenced_front, fenced_back, fenced_append, all_map}
-use Rattle.undo_chain.specs.Chains.{ChainMap, list_at, IsHeadOf, ChangesOneList}
+use Rattle.head_map.specs.UndoChain.Chains.{ChainMap, list_at, IsHeadOf, ChangesOneList}
 use Rattle.head_map.specs.declared.heads.Heads.{Heads}
 use Rattle.head_map.specs.Heads.{ChangedRow}
 use Rattle.row_table.specs.Rows.{VersionedRows, is_empty, records_in, all_records, first_key_of, SharesRows}

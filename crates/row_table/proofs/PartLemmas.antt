@@ -10,10 +10,10 @@ use Rattle.graph_model.specs.Rows.{key_cmp, is_between}
 use Rattle.store_model.specs.Stamped.{StampedVersions}
 use Rattle.gap_segment.specs.Fenced.{FencedRows, AreSorted, AreFenced, IsGapFor, with_weight}
 use Rattle.gap_segment.proofs.FencedLemmas.{fenced_insert, fenced_remove, fenced_weight}
-use Rattle.undo_chain.specs.declared.undo.Undo.{Undo}
-use Rattle.undo_chain.specs.Records.{UndoRecord, pairs_of}
-use Rattle.undo_chain.specs.Chains.{ChainMap, record_at, unlinked, linked, walked, list_at, IsHeadOf}
-use Rattle.undo_chain.proofs.ChainLemmas.{record_there}
+use Rattle.head_map.specs.UndoChainDeclared.undo.Undo.{Undo}
+use Rattle.head_map.specs.UndoChain.Records.{UndoRecord, pairs_of}
+use Rattle.head_map.specs.UndoChain.Chains.{ChainMap, record_at, unlinked, linked, walked, list_at, IsHeadOf}
+use Rattle.head_map.proofs.UndoChain.ChainLemmas.{record_there}
 use Rattle.head_map.specs.Heads.{ChangedRow}
 use Rattle.row_table.specs.declared.found.FoundRow.{FoundRow}
 use Rattle.row_table.specs.Rows.{is_empty, is_nothing, with_versions}

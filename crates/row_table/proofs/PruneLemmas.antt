@@ -14,8 +14,8 @@ use Rattle.graph_model.proofs.PlaceLemmas.{some_eq}
 use Rattle.store_model.specs.Stamped.{StampedVersions, prune_stamped}
 use Rattle.gap_segment.specs.Fenced.{FencedRows}
 use Rattle.gap_segment.proofs.FencedLemmas.{all_take, all_drop}
-use Rattle.undo_chain.specs.Records.{unsettled_front, open_touches}
-use Rattle.undo_chain.specs.Chains.{ChainMap, list_at, ChangesOneList}
+use Rattle.head_map.specs.UndoChain.Records.{unsettled_front, open_touches}
+use Rattle.head_map.specs.UndoChain.Chains.{ChainMap, list_at, ChangesOneList}
 use Rattle.head_map.specs.Heads.{ChangedRow}
 use Rattle.row_table.specs.declared.found.FoundRow.{FoundRow}
 use Rattle.row_table.specs.Rows.{is_empty, is_nothing, with_versions, records_in, all_records, unless_nothing, pruned_rows, PrunesRows}

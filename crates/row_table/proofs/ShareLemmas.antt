@@ -11,7 +11,7 @@ use Rattle.graph_model.specs.declared.row.Row.{Row}
 use Rattle.graph_model.specs.Rows.{key_cmp, is_below}
 use Rattle.gap_segment.specs.Fenced.{FencedRows, AreSorted, AreFenced, front_of, back_of, joined}
 use Rattle.gap_segment.proofs.FencedLemmas.{fenced_append, fenced_front, fenced_back}
-use Rattle.undo_chain.specs.Chains.{ChainMap}
+use Rattle.head_map.specs.UndoChain.Chains.{ChainMap}
 use Rattle.head_map.specs.declared.heads.Heads.{Heads}
 use Rattle.head_map.specs.Heads.{ChangedRow}
 use Rattle.row_table.specs.Rows.{all_records, first_key_of, settled_row, settled_rows as rows_settled, SharesRows}

@@ -7,8 +7,8 @@ use Rattle.graph_model.specs.declared.journal.TxnName.{TxnName}
 use Rattle.graph_model.specs.Conflict.{same_name}
 use Rattle.graph_model.specs.Transactions.{reached}
 use Rattle.store_model.specs.Stamped.{Stamped, known, stamp_one, prune_stamped, stamp}
-use Rattle.undo_chain.specs.Records.{UndoRecord, pairs_of, oldest_of, is_settled, has_writer, with_touch, without_touch, open_touches, unsettled_front, lacks_stamp, stamped_by}
-use Rattle.undo_chain.proofs.VersionLemmas.{front_is_pruned, stamp_is_stamp}
+use Rattle.head_map.specs.UndoChain.Records.{UndoRecord, pairs_of, oldest_of, is_settled, has_writer, with_touch, without_touch, open_touches, unsettled_front, lacks_stamp, stamped_by}
+use Rattle.head_map.proofs.UndoChain.VersionLemmas.{front_is_pruned, stamp_is_stamp}
 use Rattle.row_table.specs.Rows.{new_record, has_record, written, undone, touched, untouched, records_in, newest_writer}
 use Rattle.row_table.specs.Parts.{touches_of, of_lists}
 

@@ -9,12 +9,12 @@ use Rattle.graph_model.specs.declared.refusal.Cause.TheVariants.{Later, Holder}
 use Rattle.store_model.specs.Check.{combine}
 use Rattle.store_model.specs.Stamped.{Stamped}
 use Rattle.store_model.proofs.CombineLemmas.{combine-assoc}
-use Rattle.undo_chain.specs.declared.undo.Undo.{Undo}
-use Rattle.undo_chain.specs.declared.states.Snapshot.{Snapshot}
-use Rattle.undo_chain.specs.Records.{UndoRecord, pairs_of}
-use Rattle.undo_chain.specs.Chains.{ChainMap, unlinked, list_at, IsHeadOf, IsLinkOf}
-use Rattle.undo_chain.specs.States.{Knowledge, Grows, IsAnswer, AreNamed}
-use Rattle.undo_chain.proofs.ListLemmas.{head_link, at_link, asked_on, asked_start, grows_start, grows_chain, none_left}
+use Rattle.head_map.specs.UndoChainDeclared.undo.Undo.{Undo}
+use Rattle.head_map.specs.UndoChainDeclared.states.Snapshot.{Snapshot}
+use Rattle.head_map.specs.UndoChain.Records.{UndoRecord, pairs_of}
+use Rattle.head_map.specs.UndoChain.Chains.{ChainMap, unlinked, list_at, IsHeadOf, IsLinkOf}
+use Rattle.head_map.specs.UndoChain.States.{Knowledge, Grows, IsAnswer, AreNamed}
+use Rattle.head_map.proofs.UndoChain.ListLemmas.{head_link, at_link, asked_on, asked_start, grows_start, grows_chain, none_left}
 use Rattle.row_table.specs.Checks.{AreNamedIn, blocked, IsStateBy, AreStatesOf, blocked_by, IsChecked, drops_in}
 use Rattle.row_table.specs.Parts.{touches_of}
 use Rattle.row_table.specs.Walks.{IsOneChecked, IsTouchWalk, IsDropWalk}

@@ -12,8 +12,8 @@ use Rattle.graph_model.specs.declared.refusal.Cause.TheVariants.{Later, Holder}
 use Rattle.graph_model.specs.Conflict.{same_name}
 use Rattle.store_model.specs.Check.{combine, no_value}
 use Rattle.store_model.specs.Stamped.{Stamped, StampedVersions}
-use Rattle.undo_chain.specs.declared.states.Snapshot.{Snapshot}
-use Rattle.undo_chain.specs.States.{Knowledge, IsAnswer}
+use Rattle.head_map.specs.UndoChainDeclared.states.Snapshot.{Snapshot}
+use Rattle.head_map.specs.UndoChain.States.{Knowledge, IsAnswer}
 
 -- ---- whom one may ask for
 

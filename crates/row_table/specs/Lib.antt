@@ -9,3 +9,5 @@ pub use Rattle.head_map.specs.Heads
 pub use Rattle.gap_segment.specs.Fenced
 pub mod HeadMap
 pub mod HeadMapDeclared
+pub mod UndoChain
+pub mod UndoChainDeclared

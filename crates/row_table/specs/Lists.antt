@@ -3,7 +3,7 @@ use Rattle.std.specs.Prelude.{◌≡◌, ℕ, true, false, ◌||◌, is_some, Op
 use Rattle.std.specs.Ordering.{eq_by_cmp}
 use Rattle.graph_model.specs.declared.row.Key.{Key}
 use Rattle.graph_model.specs.Rows.{key_cmp}
-use Rattle.undo_chain.specs.Chains.{ChainMap, list_at, IsHeadOf, AreApart}
+use Rattle.head_map.specs.UndoChain.Chains.{ChainMap, list_at, IsHeadOf, AreApart}
 use Rattle.head_map.specs.declared.heads.Heads.{Heads}
 
 -- a row's records and its touches stand in lists of their own

@@ -3,7 +3,7 @@ use Rattle.std.specs.Prelude.{◌≡◌, ◌⊎◌, ℕ, ◌+◌, ◌-◌, ◌<�
 use Rattle.graph_model.specs.declared.row.Key.{Key}
 use Rattle.graph_model.specs.declared.row.Row.{Row}
 use Rattle.gap_segment.specs.Fenced.{AreSorted}
-use Rattle.undo_chain.specs.Chains.{ChainMap}
+use Rattle.head_map.specs.UndoChain.Chains.{ChainMap}
 use Rattle.row_table.specs.Rows.{all_records, SharesRows}
 use Rattle.head_map.specs.Heads.{PlaceTable, HeadedRows, heads_at, heads_placed, settled_heads, keyed_table}
 use Rattle.row_table.specs.Lists.{AreLists, HasRest}

@@ -10,8 +10,8 @@ use Rattle.graph_model.specs.declared.row.Row.{Row}
 use Rattle.graph_model.specs.Rows.{key_cmp}
 use Rattle.store_model.specs.Stamped.{Stamped, StampedVersions}
 use Rattle.gap_segment.specs.Fenced.{FencedRows, AreFenced, IsGapFor, with_weight}
-use Rattle.undo_chain.specs.Records.{UndoRecord, pairs_of, oldest_of}
-use Rattle.undo_chain.specs.Chains.{ChainMap, list_at}
+use Rattle.head_map.specs.UndoChain.Records.{UndoRecord, pairs_of, oldest_of}
+use Rattle.head_map.specs.UndoChain.Chains.{ChainMap, list_at}
 use Rattle.head_map.specs.declared.heads.Heads.{Heads}
 use Rattle.head_map.specs.Heads.{ChangedRow}
 use Rattle.row_table.specs.declared.found.FoundRow.{FoundRow}

@@ -10,7 +10,7 @@ use Rattle.graph_model.specs.declared.row.Row.{Row}
 use Rattle.graph_model.specs.Rows.{key_cmp, is_below, is_between}
 use Rattle.graph_model.specs.declared.limits.TheConstants.{SEGMENT_ROWS}
 use Rattle.head_map.specs.Keyed.{RisesBy}
-use Rattle.undo_chain.specs.declared.states.Snapshot.{Snapshot}
+use Rattle.head_map.specs.UndoChainDeclared.states.Snapshot.{Snapshot}
 use Rattle.store_model.specs.Stamped.{Stamped, StampedVersions, read_stamped, prune_stamped}
 
 -- Rows between a low fence key, which a row may have, and a high one, which none has; and how many more

@@ -9,12 +9,12 @@ use Rattle.graph_model.specs.Conflict.{same_name}
 use Rattle.store_model.specs.Check.{combine}
 use Rattle.store_model.specs.Stamped.{Stamped, StampedVersions, read_stamped}
 use Rattle.gap_segment.specs.Fenced.{FencedRows}
-use Rattle.undo_chain.specs.declared.undo.Undo.{Undo}
-use Rattle.undo_chain.specs.declared.states.Snapshot.{Snapshot}
-use Rattle.undo_chain.specs.Records.{pairs_of}
-use Rattle.undo_chain.specs.Chains.{ChainMap, list_at, IsLinkOf}
-use Rattle.undo_chain.specs.States.{Knowledge, Grows}
-use Rattle.undo_chain.specs.Walks.{IsAsked}
+use Rattle.head_map.specs.UndoChainDeclared.undo.Undo.{Undo}
+use Rattle.head_map.specs.UndoChainDeclared.states.Snapshot.{Snapshot}
+use Rattle.head_map.specs.UndoChain.Records.{pairs_of}
+use Rattle.head_map.specs.UndoChain.Chains.{ChainMap, list_at, IsLinkOf}
+use Rattle.head_map.specs.UndoChain.States.{Knowledge, Grows}
+use Rattle.head_map.specs.UndoChain.Walks.{IsAsked}
 use Rattle.row_table.specs.Checks.{blocked, IsStateBy, IsChecked, drops_in}
 use Rattle.row_table.specs.Rows.{all_records, pruned_rows, rows_read}
 use Rattle.head_map.specs.Heads.{ChangedRow}

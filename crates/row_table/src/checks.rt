@@ -3,15 +3,15 @@
 ghost use Rattle.std.specs.Prelude.{◌≡◌, ℕ, take, None, true, Option};
 ghost use Rattle.graph_model.specs.Conflict.{same_name};
 ghost use Rattle.store_model.specs.Check.{combine};
-ghost use Rattle.undo_chain.specs.Records.{pairs_of};
-ghost use Rattle.undo_chain.specs.States.{Grows, AreNamed};
-ghost use Rattle.undo_chain.specs.Chains.{list_at, IsHeadOf};
+ghost use Rattle.head_map.specs.UndoChain.Records.{pairs_of};
+ghost use Rattle.head_map.specs.UndoChain.States.{Grows, AreNamed};
+ghost use Rattle.head_map.specs.UndoChain.Chains.{list_at, IsHeadOf};
 ghost use Rattle.row_table.specs.Checks.{IsStateBy, IsChecked, drops_in};
 ghost use Rattle.row_table.specs.Parts.{touches_of};
 ghost use Rattle.row_table.specs.Walks.{IsOneChecked};
 
 use graph_model::{Cause, State, TxnName};
-use undo_chain::{Chains, Snapshot, States, Undo};
+use head_map::below::{Chains, Snapshot, States, Undo};
 
 /// What the writer of the newest record says against a write.
 pub fn newest_cause<S: States>(

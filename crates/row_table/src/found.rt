@@ -9,8 +9,8 @@ ghost use Rattle.graph_model.specs.declared.row.Key.{Key};
 ghost use Rattle.graph_model.specs.declared.limits.TheConstants.{SEGMENT_ROWS};
 ghost use Rattle.graph_model.specs.Rows.{key_cmp, is_between};
 ghost use Rattle.gap_segment.specs.Fenced.{IsFound, IsGapFor};
-ghost use Rattle.undo_chain.specs.Chains.{IsHeadOf};
-ghost use Rattle.undo_chain.specs.States.{Grows};
+ghost use Rattle.head_map.specs.UndoChain.Chains.{IsHeadOf};
+ghost use Rattle.head_map.specs.UndoChain.States.{Grows};
 ghost use Rattle.row_table.specs.Checks.{AreNamedRows};
 ghost use Rattle.head_map.specs.Heads.{heads_at, settled_heads};
 ghost use Rattle.row_table.specs.Walks.{row_of, PrunesRow};
@@ -18,8 +18,8 @@ ghost use Rattle.row_table.specs.Parts.{AreParts, versioned, IsRow, IsRowFound, 
 
 use crate::rows::RowTable;
 use graph_model::{Key, Row};
+use head_map::below::{Chains, States};
 use head_map::{Heads, PackedHeads};
-use undo_chain::{Chains, States};
 
 /// Where a row stands, its newest value, and where its records and its touches begin.
 #[derive(Clone, Copy)]

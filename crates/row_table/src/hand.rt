@@ -7,8 +7,8 @@ ghost use Rattle.std.specs.Prelude.{◌+◌, ◌++◌};
 ghost use Rattle.row_table.specs.Moves.{CanHand, HandsPlace, HandsPlaces};
 
 use graph_model::Row;
+use head_map::below::{Chains, Link};
 use head_map::{HeadMap, PackedHeads};
-use undo_chain::{Chains, Link};
 
 /// Moves the records and touches of the rows at these places to another table, which has room for them.
 pub fn hand_each(

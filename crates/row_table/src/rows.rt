@@ -18,10 +18,10 @@ ghost use Rattle.row_table.specs.Moves.{SharesTables, MovesRoom};
 use crate::hand::hand_each;
 use gap_segment::Segment;
 use graph_model::{Key, NoMemory, Row};
+use head_map::below::Chains;
 use head_map::{HeadMap, Heads, PackedHeads};
 use std::alloc::Global;
 use std::marker::Model;
-use undo_chain::Chains;
 
 /// The rows of a segment, and where the records of those that are changed begin.
 #[derive(Drop)]

@@ -7,7 +7,7 @@ ghost use Rattle.std.specs.Prelude.{◌≡◌, ◌≤◌};
 ghost use Rattle.std.specs.FinMap.Entries.{find};
 ghost use Rattle.graph_model.specs.Rows.{key_cmp};
 ghost use Rattle.store_model.specs.Stamped.{read_stamped};
-ghost use Rattle.undo_chain.specs.States.{Grows};
+ghost use Rattle.head_map.specs.UndoChain.States.{Grows};
 ghost use Rattle.row_table.specs.Checks.{IsNamed, IsChecked, newest_of, newest_and_touches, drops_of};
 ghost use Rattle.row_table.specs.Parts.{versioned, AreParts};
 ghost use Rattle.row_table.specs.Rows.{or_nothing};
@@ -16,8 +16,8 @@ use crate::checks::{combined, drop_cause, newest_cause, touch_cause};
 use crate::found::{FoundRow, find_row};
 use crate::rows::RowTable;
 use graph_model::{Cause, Key};
+use head_map::below::{Chains, Snapshot, States};
 use std::marker::Model;
-use undo_chain::{Chains, Snapshot, States};
 
 /// The place at which no row stands, for whoever has not looked for a key yet.
 pub const NOWHERE: usize = 18446744073709551615;
@@ -35,7 +35,7 @@ impl<'a> Model for RowView<'a> {
     ghost use Rattle.std.specs.Prelude.{Option, IfSome};
     ghost use Rattle.std.specs.Option.{option_map};
     ghost use Rattle.store_model.specs.Stamped.{StampedVersions};
-    ghost use Rattle.undo_chain.specs.Chains.{list_at, IsHeadOf};
+    ghost use Rattle.head_map.specs.UndoChain.Chains.{list_at, IsHeadOf};
     ghost use Rattle.row_table.specs.Parts.{of_lists};
 
     ghost Value = { Option StampedVersions };

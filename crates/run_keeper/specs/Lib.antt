@@ -1,3 +1,4 @@
 pub mod Keeping
 pub mod Refusals
 pub mod JobRunner
+pub mod JournalFileDeclared

@@ -6,8 +6,8 @@ use Rattle.graph_model.specs.AccountSteps.{view_of}
 use Rattle.shared_store.specs.PassSteps.Passes.{IsIdlePass, IsOpenPass, HoldsNone, pin_of, reader_of_pass, state_of}
 use Rattle.shared_store.specs.StoreRelation.Passes.{PassState, number_of}
 use Rattle.shared_store.specs.StoreRelation.Passes.{account_of as state_account}
-use Rattle.rule_model.specs.StoreRelation.Readers.{ReaderState}
-use Rattle.rule_model.specs.StoreRelation.Steps.{with_readers}
+use Rattle.pass_readers.specs.RuleModel.StoreRelation.Readers.{ReaderState}
+use Rattle.pass_readers.specs.RuleModel.StoreRelation.Steps.{with_readers}
 use Rattle.shared_store.specs.StoreRuleDeclared.store.Pass.{Pass as Seats}
 use Rattle.shared_store.specs.StoreRuleDeclared.store.Store.{Store}
 use Rattle.pass_readers.specs.Readers.{IsReaderOf, first_of, read_by, seen_by}

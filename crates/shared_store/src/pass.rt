@@ -59,7 +59,7 @@ impl Pass {
     }
 
     /// What `begin` has answered of its latest transaction.
-    pub(crate) fn latest(&self) -> Begun
+    pub fn latest(&self) -> Begun
         ensures by { result.by ≡ record { job = self.now.seats.number; number = self.now.begun } }
         ensures start { result.start ≡ self.now.start }
     {

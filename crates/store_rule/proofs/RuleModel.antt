@@ -8,3 +8,4 @@ pub use Rattle.loaded_cells.proofs.RuleModel.PinStepLemmas
 pub use Rattle.loaded_cells.proofs.RuleModel.RowFrame
 pub use Rattle.loaded_cells.proofs.RuleModel.RowStepLemmas
 pub use Rattle.loaded_cells.proofs.RuleModel.TxnLemmas
+pub use Rattle.loaded_cells.proofs.RuleModel.ViewLemmas

@@ -9,5 +9,6 @@ pub use Rattle.loaded_cells.specs.RuleModel.RowSteps
 pub use Rattle.loaded_cells.specs.RuleModel.Rule
 pub use Rattle.loaded_cells.specs.RuleModel.Sight
 pub use Rattle.loaded_cells.specs.RuleModel.Steps
+pub use Rattle.loaded_cells.specs.RuleModel.StoreRelation
 pub use Rattle.loaded_cells.specs.RuleModel.TxnSteps
 pub use Rattle.loaded_cells.specs.RuleModel.ViewSteps

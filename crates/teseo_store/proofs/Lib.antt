@@ -1,2 +1,3 @@
 pub mod PropLemmas
 pub mod LendLemmas
+pub mod Sessions

@@ -10,7 +10,7 @@ ghost use Rattle.graph_model.specs.Refused.{AllAllowed, IsWithinLimits};
 ghost use Rattle.rebalance_service.specs.SharedStore.Ends.{AreEnds, AreIdle, AreNew, HasClosed};
 ghost use Rattle.rebalance_service.specs.SharedStore.Loading.{AreLoaded, IsLoadedRefusal};
 ghost use Rattle.rebalance_service.specs.SharedStore.Totals.{AreTotals};
-ghost use Rattle.shared_store.specs.declared.load.LoadedRefusal.TheVariants as loads;
+ghost use Rattle.rebalance_service.specs.SharedStoreDeclared.load.LoadedRefusal.TheVariants as loads;
 ghost use Rattle.teseo_store.specs.Lending.{AreDone, HaveSeenFronts, IsDoneByLast};
 ghost use Rattle.txn_manager.specs.Config.{too_large};
 ghost use Rattle.txn_manager.specs.declared.config.StoreRefusal.TheVariants.{TooLarge};

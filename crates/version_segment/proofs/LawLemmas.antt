@@ -19,7 +19,7 @@ use Rattle.graph_model.specs.declared.refusal.Cause.{Cause}
 use Rattle.graph_model.specs.declared.refusal.Cause.TheVariants.{Later, Holder}
 use Rattle.store_model.specs.Check.{combine}
 use Rattle.store_model.proofs.CombineLemmas.{says, check-cons}
-use Rattle.undo_chain.specs.declared.states.Snapshot.{Snapshot}
+use Rattle.row_table.specs.UndoChainDeclared.states.Snapshot.{Snapshot}
 use Rattle.row_table.specs.Checks.{blocked}
 use Rattle.store_model.specs.Stamped.{Stamped, StampedVersions, AreStamped, forget, forget_row, prune_stamped}
 use Rattle.store_model.specs.Cells.{contents_in, or_none}

@@ -10,7 +10,7 @@ use Rattle.graph_model.specs.declared.journal.TxnName.{TxnName}
 use Rattle.graph_model.specs.Rows.{key_cmp, is_below}
 use Rattle.graph_model.proofs.KeyLemmas.{below_chain}
 use Rattle.store_model.specs.Stamped.{Stamped, StampedVersions}
-use Rattle.undo_chain.specs.Records.{UndoRecord, newest_of, pairs_of}
+use Rattle.row_table.specs.UndoChain.Records.{UndoRecord, newest_of, pairs_of}
 use Rattle.row_table.specs.HeadMap.Keyed.{RisesBy}
 use Rattle.row_table.specs.Rows.{VersionedRows, IsSegment, ChangesKey, nothing, or_nothing, is_nothing, versions_at, has_row, with_versions, undone, untouched, newest_writer}
 use Rattle.row_table.proofs.HeadMap.KeyedLemmas.{below_untied}

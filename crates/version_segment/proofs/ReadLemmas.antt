@@ -9,7 +9,7 @@ use Rattle.graph_model.specs.Rows.{is_between}
 use Rattle.store_model.specs.Stamped.{StampedVersions}
 use Rattle.row_table.specs.Checks.{AreNamedRows, IsNamed}
 use Rattle.row_table.specs.Rows.{range_of, rows_read, with_row}
-use Rattle.undo_chain.specs.States.{Grows, Knowledge}
+use Rattle.row_table.specs.UndoChain.States.{Grows, Knowledge}
 use Rattle.version_segment.specs.Resting.{woken_row, woken_rows, RestingRow}
 use Rattle.version_segment.specs.RestingParts.{seen_row, IsReadTo}
 

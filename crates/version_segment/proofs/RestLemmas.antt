@@ -12,8 +12,8 @@ use Rattle.graph_model.specs.Rows.{key_cmp, is_below}
 use Rattle.graph_model.proofs.PlaceLemmas.{some_eq}
 use Rattle.gap_segment.specs.Fenced.{FencedRows, AreFenced, AreSorted, AreAbove, AreWithin, with_weight}
 use Rattle.store_model.specs.Stamped.{StampedVersions}
-use Rattle.undo_chain.specs.Chains.{ChainMap, list_at}
-use Rattle.undo_chain.specs.Records.{UndoRecord, pairs_of}
+use Rattle.row_table.specs.UndoChain.Chains.{ChainMap, list_at}
+use Rattle.row_table.specs.UndoChain.Records.{UndoRecord, pairs_of}
 use Rattle.row_table.specs.HeadMapDeclared.heads.Heads.{Heads}
 use Rattle.row_table.specs.HeadMap.Heads.{ChangedRow, PlacedRow, PlaceTable, settled_heads, heads_at, heads_placed, keyed, keyed_table}
 use Rattle.row_table.specs.Lists.{AreHeads, AreOthers, HasRest}

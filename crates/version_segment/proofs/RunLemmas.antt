@@ -9,11 +9,11 @@ use Rattle.graph_model.specs.Rows.{is_between}
 use Rattle.store_model.specs.Stamped.{StampedVersions, read_stamped}
 use Rattle.gap_segment.specs.Fenced.{FencedRows, AreSorted, IsPlaceOf, rows_between}
 use Rattle.gap_segment.proofs.FencedLemmas.{all_at, front_count, front_is_place, between_places}
-use Rattle.undo_chain.specs.declared.states.Snapshot.{Snapshot}
-use Rattle.undo_chain.specs.Records.{value_of}
-use Rattle.undo_chain.specs.Chains.{ChainMap, list_at}
-use Rattle.undo_chain.specs.States.{Knowledge, Grows, AreNamed}
-use Rattle.undo_chain.proofs.ListLemmas.{grows_start, grows_chain}
+use Rattle.row_table.specs.UndoChainDeclared.states.Snapshot.{Snapshot}
+use Rattle.row_table.specs.UndoChain.Records.{value_of}
+use Rattle.row_table.specs.UndoChain.Chains.{ChainMap, list_at}
+use Rattle.row_table.specs.UndoChain.States.{Knowledge, Grows, AreNamed}
+use Rattle.row_table.proofs.UndoChain.ListLemmas.{grows_start, grows_chain}
 use Rattle.row_table.specs.HeadMap.Heads.{ChangedRow}
 use Rattle.row_table.specs.Rows.{with_row, rows_read, range_of, rows_at}
 use Rattle.row_table.specs.Checks.{IsNamed, AreNamedRows}

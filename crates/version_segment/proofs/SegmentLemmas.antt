@@ -6,7 +6,7 @@ use Rattle.graph_model.specs.declared.row.Row.{Row}
 use Rattle.graph_model.specs.declared.limits.TheConstants.{SEGMENT_ROWS}
 use Rattle.graph_model.specs.Rows.{is_between}
 use Rattle.gap_segment.specs.Fenced.{FencedRows, AreWithin}
-use Rattle.undo_chain.specs.Chains.{ChainMap, list_at}
+use Rattle.row_table.specs.UndoChain.Chains.{ChainMap, list_at}
 use Rattle.row_table.specs.HeadMapDeclared.heads.Heads.{Heads}
 use Rattle.row_table.specs.Rows.{IsSegment, is_nothing}
 use Rattle.row_table.specs.HeadMap.Heads.{HeadTable, heads_at}

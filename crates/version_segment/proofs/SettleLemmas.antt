@@ -5,9 +5,9 @@ use Rattle.std.specs.List.{AllByRecursion, list_any}
 use Rattle.graph_model.specs.declared.journal.TxnName.{TxnName}
 use Rattle.graph_model.proofs.PlaceLemmas.{some_eq}
 use Rattle.store_model.specs.Stamped.{Stamped}
-use Rattle.undo_chain.specs.Chains.{ChainMap, list_at}
-use Rattle.undo_chain.specs.Records.{UndoRecord, pairs_of}
-use Rattle.undo_chain.specs.Records as undo_records
+use Rattle.row_table.specs.UndoChain.Chains.{ChainMap, list_at}
+use Rattle.row_table.specs.UndoChain.Records.{UndoRecord, pairs_of}
+use Rattle.row_table.specs.UndoChain.Records as undo_records
 use Rattle.row_table.specs.HeadMapDeclared.heads.Heads.{Heads}
 use Rattle.row_table.specs.HeadMap.Heads.{place_behind, settled_heads}
 use Rattle.row_table.specs.Parts.{touches_of}

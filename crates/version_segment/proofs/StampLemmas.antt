@@ -5,10 +5,10 @@ use mathlib.Core.Logic.{dite}
 use native.Mathlib.Decide.{dec_lt}
 use Rattle.graph_model.specs.declared.journal.TxnName.{TxnName}
 use Rattle.store_model.specs.Stamped.{read_stamped}
-use Rattle.undo_chain.specs.Chains.{ChainMap, list_at, ChangesOneList, IsHeadOf}
-use Rattle.undo_chain.specs.Records.{UndoRecord, stamped_by, value_of}
-use Rattle.undo_chain.specs.States.{AreNamed}
-use Rattle.undo_chain.specs.declared.states.Snapshot.{Snapshot}
+use Rattle.row_table.specs.UndoChain.Chains.{ChainMap, list_at, ChangesOneList, IsHeadOf}
+use Rattle.row_table.specs.UndoChain.Records.{UndoRecord, stamped_by, value_of}
+use Rattle.row_table.specs.UndoChain.States.{AreNamed}
+use Rattle.row_table.specs.UndoChainDeclared.states.Snapshot.{Snapshot}
 use Rattle.row_table.specs.HeadMapDeclared.heads.Heads.{Heads}
 use Rattle.row_table.specs.HeadMap.Heads.{settled_heads}
 use Rattle.row_table.specs.Checks.{AreNamedIn, IsNamed}

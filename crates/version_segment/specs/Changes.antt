@@ -5,8 +5,8 @@ use Rattle.graph_model.specs.declared.row.Key.{Key}
 use Rattle.graph_model.specs.declared.journal.TxnName.{TxnName}
 use Rattle.graph_model.specs.Rows.{is_between}
 use Rattle.store_model.specs.Stamped.{StampedVersions}
-use Rattle.undo_chain.specs.declared.touched.Touched.{Touched}
-use Rattle.undo_chain.specs.declared.touched.Touched.TheVariants.{Never}
+use Rattle.row_table.specs.UndoChainDeclared.touched.Touched.{Touched}
+use Rattle.row_table.specs.UndoChainDeclared.touched.Touched.TheVariants.{Never}
 use Rattle.version_segment.specs.declared.change.RowChange.{RowChange}
 use Rattle.version_segment.specs.declared.change.RowChange.TheVariants.{Write, Undo, Touch, Untouch}
 use Rattle.row_table.specs.Rows.{VersionedRows, versions_at, has_row, has_record, written, undone, touched, untouched}

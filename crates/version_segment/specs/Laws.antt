@@ -9,7 +9,7 @@ use Rattle.store_model.specs.Stamped.{Stamped, StampedVersions, IsStamped, forge
 use Rattle.graph_model.specs.declared.state.State.{State}
 use Rattle.graph_model.specs.declared.state.State.TheVariants.{Live, Committed, Aborted}
 use Rattle.store_model.specs.Check.{check}
-use Rattle.undo_chain.specs.declared.states.Snapshot.{Snapshot}
+use Rattle.row_table.specs.UndoChainDeclared.states.Snapshot.{Snapshot}
 use Rattle.row_table.specs.Checks.{blocked_by}
 use Rattle.store_model.specs.Cells.{Cell, contents_in}
 use Rattle.row_table.specs.Rows.{VersionedRows, IsSegment, versions_at, ChangesKey, PrunesRows, SharesRows, written, undone, touched, untouched}

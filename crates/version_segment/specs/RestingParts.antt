@@ -6,9 +6,9 @@ use Rattle.graph_model.specs.declared.row.Key.{Key}
 use Rattle.graph_model.specs.declared.row.Row.{Row}
 use Rattle.graph_model.specs.declared.limits.TheConstants.{MAX_WEIGHT}
 use Rattle.store_model.specs.Stamped.{StampedVersions}
-use Rattle.undo_chain.specs.Chains.{ChainMap, list_at}
-use Rattle.undo_chain.specs.States.{Grows, Knowledge}
-use Rattle.undo_chain.specs.Records.{outlasts, stamped_by}
+use Rattle.row_table.specs.UndoChain.Chains.{ChainMap, list_at}
+use Rattle.row_table.specs.UndoChain.States.{Grows, Knowledge}
+use Rattle.row_table.specs.UndoChain.Records.{outlasts, stamped_by}
 use Rattle.row_table.specs.HeadMapDeclared.heads.Heads.{Heads}
 use Rattle.row_table.specs.HeadMap.Heads.{PlacedRow, PlaceTable, heads_placed, settled_heads}
 use Rattle.row_table.specs.Lists.{AreHeads, AreOthers, HasRest}

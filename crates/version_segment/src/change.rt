@@ -6,7 +6,7 @@ ghost use Rattle.version_segment.specs.Changes.{MayChange, changed, records_for}
 
 use crate::segment::VersionSegment;
 use graph_model::{Key, TxnName};
-use undo_chain::Touched;
+use row_table::below::Touched;
 
 /// What a transaction does to a row.
 #[derive(Clone, Copy, Debug, PartialEq, Eq)]

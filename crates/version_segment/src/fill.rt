@@ -8,8 +8,8 @@ ghost use Rattle.row_table.specs.Rows.{settled_rows};
 
 use crate::segment::VersionSegment;
 use graph_model::{Key, Row};
+use row_table::below::Chains;
 use std::alloc::Global;
-use undo_chain::Chains;
 
 impl VersionSegment {
     /// Gives a segment without rows these rows and fence keys. Takes no memory, and gives that of spare records back.

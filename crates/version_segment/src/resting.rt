@@ -11,7 +11,7 @@ ghost use Rattle.std.specs.List.{AllByRecursion};
 ghost use Rattle.graph_model.specs.declared.limits.TheConstants.{SEGMENT_ROWS};
 ghost use Rattle.row_table.specs.HeadMap.Heads.{heads_placed};
 ghost use Rattle.store_model.specs.Stamped.{read_stamped};
-ghost use Rattle.undo_chain.specs.States.{Grows};
+ghost use Rattle.row_table.specs.UndoChain.States.{Grows};
 ghost use Rattle.row_table.specs.Checks.{AreNamedRows, IsNamed};
 ghost use Rattle.row_table.specs.Rows.{range_of, rows_read};
 ghost use Rattle.version_segment.specs.Resting.{RestingRow, resting_of, settled_rest, stamped_rest, value_in_word, with_newest, word_rows, HasSmallWeights, CanSettle, CanWake, woken, woken_row, woken_rows, AreErased};
@@ -24,10 +24,9 @@ use crate::value_word::{value_in_word, value_word, weight_in_word};
 use gap_segment::Segment;
 use graph_model::{Key, Row, TxnName};
 use row_table::RowTable;
-use row_table::below::{HeadMap, RestingHeads};
+use row_table::below::{HeadMap, RestingHeads, Snapshot, States};
 use std::alloc::Global;
 use std::marker::Model;
-use undo_chain::{Snapshot, States};
 
 /// A segment without its rows and fence keys: their records, and how many rows there are. It takes 16 bytes, and a box
 /// where a row is changed.

@@ -6,18 +6,18 @@ ghost use Rattle.graph_model.specs.Rows.{is_below, is_between};
 ghost use Rattle.store_model.specs.Stamped as stamped_versions;
 ghost use Rattle.store_model.specs.Stamped.{read_stamped};
 ghost use Rattle.row_table.specs.Checks.{IsNamed, AreNamedRows, IsChecked, cause_in, newest_of, newest_and_touches, drops_of};
-ghost use Rattle.undo_chain.specs.Records.{new_record};
-ghost use Rattle.undo_chain.specs.Chains.{list_at, IsHeadOf, ChangesOneList};
-ghost use Rattle.undo_chain.specs.States.{Grows};
-ghost use Rattle.undo_chain.specs.declared.touched.Touched.TheVariants.{Never};
+ghost use Rattle.row_table.specs.UndoChain.Records.{new_record};
+ghost use Rattle.row_table.specs.UndoChain.Chains.{list_at, IsHeadOf, ChangesOneList};
+ghost use Rattle.row_table.specs.UndoChain.States.{Grows};
+ghost use Rattle.row_table.specs.UndoChainDeclared.touched.Touched.TheVariants.{Never};
 ghost use Rattle.row_table.specs.Rows.{versions_at, has_row, has_record, records_in, rows_at, all_records, PrunesRows, ChangesKey, IsSegment, IsSameSegment, written, undone, touched, untouched, newest_writer};
 
 use crate::buffer::Rows32;
 use graph_model::{Cause, Key, NoMemory, Row, SEGMENT_ROWS, TxnName};
+use row_table::below::{Chains, Snapshot, States, Touched};
 use row_table::{FoundRow, NOWHERE, RowTable, find_row, insert_row, prune_row, set_row, value_in};
 use std::alloc::Global;
 use std::marker::Model;
-use undo_chain::{Chains, Snapshot, States, Touched};
 
 /// A write lays at most so many records in a segment: two touches, and one in each of two rows.
 const WRITE_RECORDS: usize = 4;

@@ -1,4 +1,4 @@
-use Rattle.rule_model.specs.Places.{lines}
+use Rattle.pass_steps.specs.RuleModel.Places.{lines}
 use Rattle.pass_steps.proofs.RuleModel.NoteStepLemmas.{reader_learns}
 use Rattle.pass_readers.specs.Readers.{read_in}
 use Rattle.pass_readers.proofs.learn.learn_rows.Goals as goal

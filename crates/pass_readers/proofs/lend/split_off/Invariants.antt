@@ -1,5 +1,5 @@
-use Rattle.rule_model.specs.Sight.{no_reads, with_pass}
-use Rattle.rule_model.specs.ViewSteps.{reader_seat}
+use Rattle.pass_steps.specs.RuleModel.Sight.{no_reads, with_pass}
+use Rattle.pass_steps.specs.RuleModel.ViewSteps.{reader_seat}
 use Rattle.pass_steps.specs.StoreRelation.Steps.{with_reader}
 use Rattle.pass_steps.specs.Passes.{state_in}
 use Rattle.pass_readers.specs.Readers.{reader_in}

@@ -1,4 +1,4 @@
-use Rattle.rule_model.specs.Sight.{with_pass}
+use Rattle.pass_steps.specs.RuleModel.Sight.{with_pass}
 use Rattle.pass_steps.specs.StoreRelation.Steps.{without_reader}
 use Rattle.pass_steps.specs.Passes.{state_in}
 use Rattle.pass_readers.proofs.lend.take_in.Given as given

@@ -1,5 +1,5 @@
 use Rattle.std.specs.Prelude.{◌≡◌, ◌⊎◌, ◌<◌}
-use Rattle.rule_model.specs.StoreRelation.ReadLaws.{Answers}
+use Rattle.pass_steps.specs.RuleModel.StoreRelation.ReadLaws.{Answers}
 use Rattle.pass_readers.specs.Readers.{read_in}
 use Rattle.pass_readers.proofs.looks.look.Given as given
 

@@ -1,5 +1,5 @@
 use Rattle.std.proofs.Common.{length}
-use Rattle.undo_chain.specs.Chains.{list_at}
+use Rattle.head_map.specs.UndoChain.Chains.{list_at}
 use Rattle.row_table.specs.Walks.{IsDropWalk}
 use Rattle.row_table.proofs.checks.drop_cause.Given as goal
 

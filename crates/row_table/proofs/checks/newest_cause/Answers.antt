@@ -1,7 +1,7 @@
 use Rattle.std.proofs.Common.{sym, subst, List}
 use Rattle.std.specs.Prelude.{take}
-use Rattle.undo_chain.specs.Records.{UndoRecord, pairs_of}
-use Rattle.undo_chain.proofs.ListLemmas.{at_link}
+use Rattle.head_map.specs.UndoChain.Records.{UndoRecord, pairs_of}
+use Rattle.head_map.proofs.UndoChain.ListLemmas.{at_link}
 use Rattle.row_table.specs.Checks.{IsChecked}
 use Rattle.row_table.proofs.WalkLemmas.{checked_one}
 use Rattle.row_table.proofs.checks.newest_cause.Goals as goal

@@ -1,5 +1,5 @@
 use Rattle.std.proofs.Common.{length}
-use Rattle.undo_chain.specs.Chains.{list_at}
+use Rattle.head_map.specs.UndoChain.Chains.{list_at}
 use Rattle.row_table.specs.Walks.{IsTouchWalk}
 use Rattle.row_table.proofs.checks.touch_cause.Given as goal
 

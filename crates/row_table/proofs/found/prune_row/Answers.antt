@@ -1,9 +1,9 @@
 use Rattle.std.proofs.Common.{◌≡◌, ℕ, sym, subst, inr, List, arith, Bool}
 use Rattle.graph_model.specs.declared.journal.TxnName.{TxnName}
 use Rattle.std.specs.Prelude.{Option}
-use Rattle.undo_chain.specs.States.{AreNamed}
-use Rattle.undo_chain.specs.Records.{UndoRecord, open_touches}
-use Rattle.undo_chain.specs.Chains.{list_at}
+use Rattle.head_map.specs.UndoChain.States.{AreNamed}
+use Rattle.head_map.specs.UndoChain.Records.{UndoRecord, open_touches}
+use Rattle.head_map.specs.UndoChain.Chains.{list_at}
 use Rattle.row_table.proofs.ListLemmas.{undos_leave_touches}
 use Rattle.row_table.proofs.WalkLemmas.{named_pairs, named_touches}
 use Rattle.row_table.proofs.ChangeLemmas.{row_begin}

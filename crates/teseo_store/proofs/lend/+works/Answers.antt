@@ -6,8 +6,8 @@ use denote.Struct.Declared.{shape}
 use denote.Struct.Tuple.{TupleAt, type_at}
 use Rattle.std.proofs.Common.{rules, ℕ, List, [], ◌∷◌, sym, subst}
 use Rattle.std.proofs.option.Option.TheSendSync as option
-use Rattle.shared_store.proofs.SendLemmas.{pass_send, store_sync}
-use Rattle.shared_store.specs.contracts.pass.Pass as Pass
+use Rattle.rebalance_service.proofs.SharedStore.SendLemmas.{pass_send, store_sync}
+use Rattle.rebalance_service.specs.SharedStoreContracts.pass.Pass as Pass
 use Rattle.teseo_store.specs.Lending.{AreDone}
 use Rattle.teseo_store.proofs.LendLemmas.{back_in_slot, is_back, lies_idle, lies_order}
 use Rattle.teseo_store.proofs.lend.+works.Lts-work_beside as lts

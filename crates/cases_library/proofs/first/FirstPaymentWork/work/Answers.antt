@@ -1,4 +1,4 @@
-use Rattle.sessions.proofs.PropLemmas.{has_open}
+use Rattle.teseo_store.proofs.Sessions.PropLemmas.{has_open}
 use Rattle.cases_library.proofs.PaymentLemmas.{committed_payment}
 use Rattle.cases_library.proofs.first.FirstPaymentWork.work.Goals as goal
 

@@ -1,7 +1,7 @@
 use Rattle.std.proofs.Common.{◌≡◌, ◌≤◌, ◌∙◌, ap, length, subst, sym}
 use Rattle.graph_model.specs.declared.state.State.{State}
 use Rattle.undo_chain.specs.States.{Grows, IsAnswer}
-use Rattle.rule_model.specs.Sight.{Sight}
+use Rattle.pass_steps.specs.RuleModel.Sight.{Sight}
 use Rattle.pass_steps.specs.Asking.{is_writer, state_at}
 use Rattle.pass_steps.proofs.AskLemmas.{word_answers}
 use Rattle.std.specs.Prelude.{true}

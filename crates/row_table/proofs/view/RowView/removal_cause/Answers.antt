@@ -1,6 +1,6 @@
 use Rattle.std.proofs.Common.{Bool, sym, subst}
 use Rattle.graph_model.specs.declared.journal.TxnName.{TxnName}
-use Rattle.undo_chain.specs.Chains.{list_at}
+use Rattle.head_map.specs.UndoChain.Chains.{list_at}
 use Rattle.row_table.specs.Checks.{AreNamedIn}
 use Rattle.row_table.specs.Parts.{touches_of}
 use Rattle.row_table.proofs.WalkLemmas.{named_pairs, named_touches, checked_both}

@@ -1,9 +1,9 @@
 use Rattle.std.proofs.Common.{◌≡◌, ◌∙◌, subst, sym}
 use Rattle.std.specs.Prelude.{slice_get, IfSome}
 use Rattle.store_model.specs.Stamped.{read_stamped}
-use Rattle.undo_chain.specs.Chains.{list_at}
-use Rattle.undo_chain.specs.Records.{value_of}
-use Rattle.undo_chain.specs.States.{AreNamed}
+use Rattle.row_table.specs.UndoChain.Chains.{list_at}
+use Rattle.row_table.specs.UndoChain.Records.{value_of}
+use Rattle.row_table.specs.UndoChain.States.{AreNamed}
 use Rattle.row_table.specs.Checks.{IsNamed}
 use Rattle.row_table.specs.HeadMap.Heads.{heads_placed}
 use Rattle.row_table.specs.HeadMapDeclared.heads.Heads.{Heads}

@@ -3,7 +3,7 @@ use Rattle.std.specs.Prelude.{Bool, slice_get, IfSome}
 use Rattle.graph_model.specs.declared.journal.TxnName.{TxnName}
 use Rattle.graph_model.specs.declared.row.Row.{Row}
 use Rattle.store_model.specs.Stamped.{read_stamped}
-use Rattle.undo_chain.proofs.ListLemmas.{grows_chain}
+use Rattle.row_table.proofs.UndoChain.ListLemmas.{grows_chain}
 use Rattle.row_table.specs.Checks.{IsNamed}
 use Rattle.version_segment.specs.Resting.{woken_row}
 use Rattle.version_segment.specs.RestingParts.{seen_row, IsReadTo}

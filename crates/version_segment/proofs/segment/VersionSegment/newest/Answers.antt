@@ -1,6 +1,6 @@
 use Rattle.std.proofs.Common.{sym, ◌∙◌, ap}
 use Rattle.store_model.specs.Stamped.{StampedVersions}
-use Rattle.undo_chain.specs.Chains.{list_at}
+use Rattle.row_table.specs.UndoChain.Chains.{list_at}
 use Rattle.row_table.specs.Rows.{VersionedRows, versions_at, newest_writer}
 use Rattle.row_table.proofs.ChangeLemmas.{no_versions, versions_now}
 use Rattle.version_segment.proofs.LookupLemmas.{newest_is}

@@ -1,5 +1,5 @@
 use Rattle.std.proofs.Common.{◌-◌, suc, refl, arith}
-use Rattle.undo_chain.proofs.ListLemmas.{grows_start, grows_chain, still_known}
+use Rattle.row_table.proofs.UndoChain.ListLemmas.{grows_start, grows_chain, still_known}
 use Rattle.row_table.proofs.ChangeLemmas.{spare_stays}
 use Rattle.row_table.proofs.PruneLemmas.{pruned_start, skip_settled, next_below, next_named, pruned_next, pruned_all, pruned_went}
 use Rattle.version_segment.proofs.segment.VersionSegment.prune_each.Goals as goal

@@ -1,4 +1,4 @@
-use Rattle.undo_chain.specs.States.{Grows}
+use Rattle.row_table.specs.UndoChain.States.{Grows}
 use Rattle.row_table.specs.Walks.{ArePruned}
 use Rattle.version_segment.proofs.segment.VersionSegment.prune_each.Given as goal
 

@@ -4,7 +4,7 @@ use Rattle.graph_model.specs.declared.row.Key.{Key}
 use Rattle.graph_model.specs.declared.row.Row.{Row}
 use Rattle.gap_segment.specs.Fenced.{FencedRows}
 use Rattle.store_model.specs.Stamped.{StampedVersions}
-use Rattle.undo_chain.specs.Chains.{list_at}
+use Rattle.row_table.specs.UndoChain.Chains.{list_at}
 use Rattle.row_table.specs.HeadMapDeclared.heads.Heads.{Heads}
 use Rattle.row_table.specs.Parts.{versions_in}
 use Rattle.row_table.specs.Rows.{records_in}

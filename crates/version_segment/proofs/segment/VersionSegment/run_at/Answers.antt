@@ -1,10 +1,10 @@
 use Rattle.std.proofs.Common.{◌<◌, ◌≤◌, ◌∙◌, refl, ap, sym, subst, length, get_or, arith, List}
 use Rattle.graph_model.specs.declared.row.Row.{Row}
 use Rattle.gap_segment.specs.Fenced.{FencedRows, rows_between}
-use Rattle.undo_chain.specs.States.{AreNamed}
-use Rattle.undo_chain.specs.Records.{value_of}
-use Rattle.undo_chain.specs.Chains.{list_at}
-use Rattle.undo_chain.proofs.ListLemmas.{still_known}
+use Rattle.row_table.specs.UndoChain.States.{AreNamed}
+use Rattle.row_table.specs.UndoChain.Records.{value_of}
+use Rattle.row_table.specs.UndoChain.Chains.{list_at}
+use Rattle.row_table.proofs.UndoChain.ListLemmas.{still_known}
 use Rattle.row_table.specs.HeadMapDeclared.heads.Heads.{Heads}
 use Rattle.row_table.specs.Parts.{value_in}
 use Rattle.version_segment.proofs.RunLemmas.{run_found, fewer_between, settled_run, filled_start, filled_end, filled_room, filled_named, filled_next}

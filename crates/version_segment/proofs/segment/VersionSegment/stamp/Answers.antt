@@ -1,7 +1,7 @@
 use Rattle.std.proofs.Common.{◌∙◌, ap, refl, map, arith}
 use Rattle.store_model.specs.Stamped.{stamp}
-use Rattle.undo_chain.specs.Records.{stamped_by}
-use Rattle.undo_chain.specs.Chains.{list_at}
+use Rattle.row_table.specs.UndoChain.Records.{stamped_by}
+use Rattle.row_table.specs.UndoChain.Chains.{list_at}
 use Rattle.row_table.specs.Rows.{is_empty}
 use Rattle.row_table.specs.Parts.{of_lists}
 use Rattle.row_table.proofs.ListLemmas.{undos_change, undos_leave_touches, touches_change, touches_leave_undos}

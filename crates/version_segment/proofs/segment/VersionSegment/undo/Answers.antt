@@ -1,6 +1,6 @@
 use Rattle.std.proofs.Common.{◌∙◌, ap, sym, subst, ◌≡◌, ℕ, Some, None}
 use Rattle.std.specs.Prelude.{Option}
-use Rattle.undo_chain.specs.Chains.{list_at, ChangesOneList}
+use Rattle.row_table.specs.UndoChain.Chains.{list_at, ChangesOneList}
 use Rattle.store_model.specs.Stamped.{StampedVersions}
 use Rattle.row_table.specs.Rows.{undone}
 use Rattle.row_table.specs.Parts.{of_lists}

@@ -1,6 +1,6 @@
 use Rattle.std.proofs.Common.{◌∙◌, ap}
-use Rattle.undo_chain.specs.Records.{without_touch}
-use Rattle.undo_chain.specs.Chains.{list_at}
+use Rattle.row_table.specs.UndoChain.Records.{without_touch}
+use Rattle.row_table.specs.UndoChain.Chains.{list_at}
 use Rattle.row_table.specs.Rows.{is_empty, untouched}
 use Rattle.row_table.specs.Parts.{of_lists}
 use Rattle.row_table.proofs.ListLemmas.{touches_change, touches_leave_undos}

@@ -1,6 +1,6 @@
 use Rattle.std.proofs.Common.{◌≡◌, ◌∙◌, ap, sym, subst, length, arith}
 use Rattle.gap_segment.specs.Fenced.{FencedRows, AreFenced}
-use Rattle.undo_chain.specs.Chains.{ChainMap}
+use Rattle.row_table.specs.UndoChain.Chains.{ChainMap}
 use Rattle.row_table.specs.HeadMap.Heads.{HeadedRows, PlaceTable, heads_placed, keyed_table}
 use Rattle.row_table.specs.Parts.{AreParts, view_of}
 use Rattle.version_segment.specs.Resting.{RestingRows, AgreeWith, woken}

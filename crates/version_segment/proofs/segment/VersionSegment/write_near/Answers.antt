@@ -1,5 +1,5 @@
 use Rattle.std.proofs.Common.{None}
-use Rattle.undo_chain.specs.Chains.{list_at}
+use Rattle.row_table.specs.UndoChain.Chains.{list_at}
 use Rattle.row_table.specs.Rows.{written}
 use Rattle.row_table.specs.Parts.{of_lists}
 use Rattle.row_table.proofs.ListLemmas.{undos_change, undos_leave_touches}

@@ -1,0 +1,3 @@
+-- Modules of journal_file that crates above name.
+pub use Rattle.journal_file.specs.Reading
+pub use Rattle.journal_file.specs.Recovering

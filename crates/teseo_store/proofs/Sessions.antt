@@ -1,0 +1,2 @@
+-- Modules of sessions that crates above name.
+pub use Rattle.sessions.proofs.PropLemmas
