@@ -135,7 +135,10 @@ plain_read stamps start own (Some h) n unmarked agrees =
     sym (tells (n == no_value) refl) ∙ alone (value_in_word n) h.versions.pairs (alone_at h.versions.pairs (not h.has_value) (sym agrees.marked ∙ unmarked))
   where
     tells : (t : Bool) → (n == no_value) ≡ t → value_in_word n ≡ Some n
-    tells true e = absurd (let same : n ≡ no_value = grind (arith, nat_tests) in let le : nat_le mark n ≡ true = grind (arith, nat_tests) in cc)
+    tells true e =
+        let same : n ≡ no_value = grind (arith, nat_tests) in
+        let le : nat_le mark n ≡ true = grind (arith, nat_tests) in
+        let clash : true ≡ false = sym le ∙ unmarked in cc
     tells false e = ap (λ t. cond t None (cond (nat_le mark n) (Some (n - mark)) (Some n))) e ∙ ap (λ t. cond t (Some (n - mark)) (Some n)) unmarked
 
     alone : (v : Option ℕ) (ps : List Stamped) → ps ≡ [] → v ≡ read_stamped stamps start own (record { pairs = front_with v ps; oldest = oldest_with v ps h.versions.oldest; touches = h.versions.touches })
