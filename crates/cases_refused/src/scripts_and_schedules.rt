@@ -1,9 +1,9 @@
 //! What scripts and schedules are read as, or the first fault that is said of each.
 
 use cases_setting::below::{Names, read_schedule, read_script};
-use graph_model::NoMemory;
+use graph_model::{NoMemory, Write};
 use graphalytics_io::Text;
-use run_model::{Command, Name};
+use run_model::{Command, Kernel, Name, Query};
 use std::alloc::Global;
 use std::test::Fail;
 
@@ -138,22 +138,38 @@ fn say_command(command: &Command, said: &mut Text) -> Result<(), NoMemory> {
         Command::Begin => said.push_bytes(b"begin"),
         Command::Commit => said.push_bytes(b"commit"),
         Command::Abort => said.push_bytes(b"abort"),
-        Command::AddVertex { v } => say(b"vertex", &[*v], b"", said),
-        Command::DropVertex { v } => say(b"unvertex", &[*v], b"", said),
-        Command::AddEdge { u, v, weight } => say(b"edge", &[*u, *v, *weight], b"", said),
-        Command::SetEdge { u, v, weight } => say(b"set", &[*u, *v, *weight], b"", said),
-        Command::DropEdge { u, v } => say(b"drop", &[*u, *v], b"", said),
-        Command::Weight { u, v } => say(b"weight", &[*u, *v], b"", said),
-        Command::Neighbours { v } => say(b"neighbours", &[*v], b"", said),
-        Command::Count => said.push_bytes(b"count"),
-        Command::Bfs { root, file } => say(b"bfs", &[*root], file.as_slice(), said),
-        Command::Wcc { file } => say(b"wcc", &[], file.as_slice(), said),
-        Command::Cdlp { rounds, file } => say(b"cdlp", &[*rounds as u64], file.as_slice(), said),
-        Command::Sssp { root, file } => say(b"sssp", &[*root], file.as_slice(), said),
-        Command::FastBfs { root, file } => say(b"fastbfs", &[*root], file.as_slice(), said),
-        Command::FastSssp { root, width, file } => {
-            say(b"fastsssp", &[*root, *width as u64], file.as_slice(), said)
-        }
+        Command::Write { write } => say_write(*write, said),
+        Command::Read { query } => say_query(*query, said),
+        Command::Run { kernel, file } => say_kernel(*kernel, file.as_slice(), said),
+    }
+}
+
+fn say_write(write: Write, said: &mut Text) -> Result<(), NoMemory> {
+    match write {
+        Write::AddVertex { v } => say(b"vertex", &[v], b"", said),
+        Write::DropVertex { v } => say(b"unvertex", &[v], b"", said),
+        Write::AddEdge { u, v, weight } => say(b"edge", &[u, v, weight], b"", said),
+        Write::SetEdge { u, v, weight } => say(b"set", &[u, v, weight], b"", said),
+        Write::DropEdge { u, v } => say(b"drop", &[u, v], b"", said),
+    }
+}
+
+fn say_query(query: Query, said: &mut Text) -> Result<(), NoMemory> {
+    match query {
+        Query::WeightOf { u, v } => say(b"weight", &[u, v], b"", said),
+        Query::NeighboursOf { v } => say(b"neighbours", &[v], b"", said),
+        Query::Counts => said.push_bytes(b"count"),
+    }
+}
+
+fn say_kernel(kernel: Kernel, file: &[u8], said: &mut Text) -> Result<(), NoMemory> {
+    match kernel {
+        Kernel::Bfs { root } => say(b"bfs", &[root], file, said),
+        Kernel::Wcc => say(b"wcc", &[], file, said),
+        Kernel::Cdlp { rounds } => say(b"cdlp", &[rounds as u64], file, said),
+        Kernel::Sssp { root } => say(b"sssp", &[root], file, said),
+        Kernel::FastBfs { root } => say(b"fastbfs", &[root], file, said),
+        Kernel::FastSssp { root, width } => say(b"fastsssp", &[root, width as u64], file, said),
     }
 }
 

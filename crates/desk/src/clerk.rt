@@ -45,7 +45,10 @@ impl<'a, R: Clock> Work for Clerk<'a, R> {
             } else {
                 self.refused = self.refused.saturating_add(1);
             }
-            thread::sleep(self.rt, self.pause);
+            // Even a sleep of no length gives the processor away, which takes longer than a transfer.
+            if !self.pause.is_zero() {
+                thread::sleep(self.rt, self.pause);
+            }
         }
         self.taken = since(self.rt, begun);
         self.busy.fetch_sub(1, Ordering::SeqCst);

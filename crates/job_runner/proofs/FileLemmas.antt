@@ -11,7 +11,6 @@ use Rattle.graph_model.proofs.LegalLemmas.{graph_at-append}
 use Rattle.run_model.specs.AnsweredLines.{AnsweredLine, effect, own_writes, start_of, newest_shown, snapshot}
 use Rattle.run_model.specs.Answering.{IsKernelTable}
 use Rattle.run_model.specs.Inputs.{File}
-use Rattle.run_model.specs.Requests.{request}
 use Rattle.run_model.specs.Run.{Context, Filing, filing_of, IsFiled, HasFile, HasFiles}
 use Rattle.run_model.proofs.LineLemmas.{shown_front, start_below}
 use Rattle.line_runner.specs.declared.table.NamedTable.{NamedTable}
@@ -36,7 +35,7 @@ module _ (c d : Context) (bound : ℕ) (kind : c.kind ≡ d.kind) (same : (start
   files_to before (l ∷ ls) files shown is =
       let here : newest_shown before ≤ bound = omega (arith, shown_front before (l ∷ ls), shown) in
       let rest : newest_shown ((before ++ l ∷ []) ++ ls) ≤ bound = subst (λ xs. newest_shown xs ≤ bound) (sym (append_assoc before (l ∷ []) ls)) shown in
-      (is.0, filed_to before l.txn (cond (effect l.answer).files (filing_of (request l.command)) None) files is.0 here is.1, files_to (before ++ l ∷ []) ls is.0 rest is.2)
+      (is.0, filed_to before l.txn (cond (effect l.answer).files (filing_of l.command) None) files is.0 here is.1, files_to (before ++ l ∷ []) ls is.0 rest is.2)
 
 -- ---- one line more
 
@@ -49,7 +48,7 @@ files_more c before [] l files more is has =
     ([], subst (λ xs. HasFile c xs l (files ++ more) []) (append-nil before) (subst (λ xs. HasFile c (before ++ []) l (xs ++ more) []) (sym is) has), refl)
 files_more c before (k ∷ ls) l files more is has = (
   is.0 ++ more,
-  filed_more c before k.txn (cond (effect k.answer).files (filing_of (request k.command)) None) files is.0 more is.1,
+  filed_more c before k.txn (cond (effect k.answer).files (filing_of k.command) None) files is.0 more is.1,
   files_more c (before ++ k ∷ []) ls l is.0 more is.2 (subst (λ xs. HasFile c xs l more []) (sym (append_assoc before (k ∷ []) ls)) has),
 )
 

@@ -9,7 +9,8 @@ use Rattle.graph_model.specs.declared.refusal.Refusal.TheVariants as refusals
 use Rattle.graph_model.specs.Account.{Account}
 use Rattle.graph_model.specs.OwnerCalls.{Core, account_here, AbortsHere}
 use Rattle.run_model.specs.declared.command.Command.{Command}
-use Rattle.run_model.specs.Requests.{Request, ToBegin, ToCommit, ToAbort, ToWrite, ToRead, ToRun, request, next_txn, begun_by, open_behind, IsScript}
+use Rattle.run_model.specs.declared.command.Command.TheVariants as commands
+use Rattle.run_model.specs.Commands.{next_txn, begun_by, open_behind, IsScript}
 use Rattle.run_model.specs.Jobs.{is_empty}
 use Rattle.line_runner.specs.declared.answering.LineTurn.{LineTurn}
 use Rattle.line_runner.specs.declared.phase.Phase.{Phase}
@@ -69,34 +70,34 @@ over_at job going = by_phase job.phase going
 -- transactions are begun, and none is taken back
 pub begun_rises : (n : ℕ) (cs : List Command) → n ≤ begun_by n cs
 begun_rises n [] = omega arith
-begun_rises n (c ∷ cs) = next n (request c) (begun_by (next_txn n (request c)) cs) (begun_rises (next_txn n (request c)) cs)
+begun_rises n (c ∷ cs) = next n c (begun_by (next_txn n c) cs) (begun_rises (next_txn n c) cs)
   where
-    next : (n : ℕ) (r : Request) (m : ℕ) → next_txn n r ≤ m → n ≤ m
-    next n ToBegin m le = omega (arith, le)
-    next n ToCommit m le = le
-    next n ToAbort m le = le
-    next n (ToWrite w) m le = le
-    next n (ToRead query) m le = le
-    next n (ToRun kernel file) m le = le
+    next : (n : ℕ) (r : Command) (m : ℕ) → next_txn n r ≤ m → n ≤ m
+    next n commands.Begin m le = omega (arith, le)
+    next n commands.Commit m le = le
+    next n commands.Abort m le = le
+    next n (commands.Write w) m le = le
+    next n (commands.Read query) m le = le
+    next n (commands.Run kernel file) m le = le
 
 some_stands : (x : Option Bool) (rest : List Command) → IsScript x rest → (b : Bool) × (x ≡ Some b)
 some_stands None rest is = absurd is
 some_stands (Some b) rest is = (b, refl)
 
-pub may_take : (account : Account) (job : Progress) → IsReadyBy account job → (c : Command) (rest : List Command) → left_of job ≡ c ∷ rest → MayTakeNow account job.phase job.reading (request c)
+pub may_take : (account : Account) (job : Progress) → IsReadyBy account job → (c : Command) (rest : List Command) → left_of job ≡ c ∷ rest → MayTakeNow account job.phase job.reading c
 may_take account job ready c rest is =
     let script : IsScript (Some (is_inside job.phase)) (c ∷ rest) = subst (IsScript (Some (is_inside job.phase))) is ready.script in
-    let room : begun_by (next_txn account.begun (request c)) rest ≤ account.allowed = subst (λ cs. begun_by account.begun cs ≤ account.allowed) is ready.room in
+    let room : begun_by (next_txn account.begun c) rest ≤ account.allowed = subst (λ cs. begun_by account.begun cs ≤ account.allowed) is ready.room in
     record {
       valid = ready.valid;
       phase_is = ready.phase_is;
-      stands = some_stands (open_behind (is_inside job.phase) (request c)) rest script.1;
+      stands = some_stands (open_behind (is_inside job.phase) c) rest script.1;
       within = script.0;
-      room = λ e. begins account.begun (request c) e (begun_by (next_txn account.begun (request c)) rest) (begun_rises (next_txn account.begun (request c)) rest) room;
+      room = λ e. begins account.begun c e (begun_by (next_txn account.begun c) rest) (begun_rises (next_txn account.begun c) rest) room;
       reads = ready.reads c rest is;
     }
   where
-    begins : (n : ℕ) (r : Request) → r ≡ ToBegin → (m : ℕ) → next_txn n r ≤ m → m ≤ account.allowed → n < account.allowed
+    begins : (n : ℕ) (r : Command) → r ≡ commands.Begin → (m : ℕ) → next_txn n r ≤ m → m ≤ account.allowed → n < account.allowed
     begins n r e m le room = let one : n + 1 ≤ m = subst (λ x. next_txn n x ≤ m) e le in omega arith
 
 -- ---- the fields
@@ -106,19 +107,19 @@ module _ {S : Type 0} (e : Calls S) (old : S) (job : Progress) (going : is_over 
   at_hand : left_of job ≡ c ∷ drop (suc (length job.answers)) job.commands
   at_hand = drop_at job.commands (length job.answers) (has_left job.phase (left_of job) going) c at
 
-  pub may_here : (phase : Phase) (reading : Option Reading) → phase ≡ job.phase → reading ≡ job.reading → MayTakeNow (e.account old) phase reading (request c)
+  pub may_here : (phase : Phase) (reading : Option Reading) → phase ≡ job.phase → reading ≡ job.reading → MayTakeNow (e.account old) phase reading c
   may_here phase reading p r =
-      subst (λ x. MayTakeNow (e.account old) x reading (request c)) (sym p)
-      (subst (λ x. MayTakeNow (e.account old) job.phase x (request c)) (sym r) (may_take (e.account old) job ready c (drop (suc (length job.answers)) job.commands) at_hand))
+      subst (λ x. MayTakeNow (e.account old) x reading c) (sym p)
+      (subst (λ x. MayTakeNow (e.account old) job.phase x c) (sym r) (may_take (e.account old) job ready c (drop (suc (length job.answers)) job.commands) at_hand))
 
-  pub took_here : (phase : Phase) (reading : Option Reading) → phase ≡ job.phase → reading ≡ job.reading → (new : S) (next : Progress) (turn made : LineTurn) → turn ≡ made → TakesOn e old phase reading (request c) turn new → (image : Option KeptImage) → IfSome image (IsKeptImage (view_now (e.account old))) → next ≡ behind job image made
+  pub took_here : (phase : Phase) (reading : Option Reading) → phase ≡ job.phase → reading ≡ job.reading → (new : S) (next : Progress) (turn made : LineTurn) → turn ≡ made → TakesOn e old phase reading c turn new → (image : Option KeptImage) → IfSome image (IsKeptImage (view_now (e.account old))) → next ≡ behind job image made
       → (x : Command) (rest : List Command) → left_of job ≡ x ∷ rest → TakesTurnOn e old job x next new
   took_here phase reading p r new next turn made same takes image kept is x rest there =
       let equal : c ≡ x = heads c x _ rest (sym at_hand ∙ there) in
       record {
         turn = made;
-        takes = subst (λ y. TakesOn e old job.phase job.reading (request y) made new) equal
-            (subst (λ z. TakesOn e old z job.reading (request c) made new) p (subst (λ s. TakesOn e old phase s (request c) made new) r (subst (λ t. TakesOn e old phase reading (request c) t new) same takes)));
+        takes = subst (λ y. TakesOn e old job.phase job.reading y made new) equal
+            (subst (λ z. TakesOn e old z job.reading c made new) p (subst (λ s. TakesOn e old phase s c made new) r (subst (λ t. TakesOn e old phase reading c t new) same takes)));
         image = image;
         kept = kept;
         job_is = is;
@@ -136,7 +137,7 @@ module _ {S : Type 0} (e : Calls S) (core : S → Core) (exact : AreExact e core
   takes_alone : (c : Command) (rest : List Command) → left_of job ≡ c ∷ rest → (next : Progress) (new : S) → TakesTurnOn e old job c next new → TakesTurn (core old) job c next (core new)
   takes_alone c rest left next new is = record {
     turn = is.turn;
-    takes = takes_here e core exact old new job.phase job.reading (request c) (record { selected = ready.selected; now = may_take (account_here (core old)) job ready.now c rest left }) is.turn is.takes;
+    takes = takes_here e core exact old new job.phase job.reading c (record { selected = ready.selected; now = may_take (account_here (core old)) job ready.now c rest left }) is.turn is.takes;
     image = is.image;
     kept = subst (λ (a : Account). IfSome is.image (IsKeptImage (view_now a))) (exact.accounts old) is.kept;
     job_is = is.job_is;

@@ -13,7 +13,6 @@ use Rattle.graph_model.specs.History.{view}
 use Rattle.graph_model.specs.Inserted.{inserted, inserted_by}
 use Rattle.graph_model.specs.OwnerCalls.{PassState, Core, no_pass, pass_at, inserted_here}
 use Rattle.graph_model.proofs.TestLemmas.{self_eq}
-use Rattle.run_model.specs.Requests.{request}
 use Rattle.run_model.specs.AnsweredLines.{made_by, answered_lines, newest_shown}
 use Rattle.run_model.specs.Inputs.{Inputs}
 use Rattle.run_model.specs.Run.{MayFill, inserted_in}
@@ -97,7 +96,7 @@ tied_grows old new pass k job tied kind rest journal within shown =
       last = tied.last;
       begins = tied.begins;
       room = tied.room;
-      reads = λ c more e. if_same job.reading (λ g reading. IsReading g (request c) reading) (same (unwrap_or pass.start 0) pass.own within) (tied.reads c more e);
+      reads = λ c more e. if_same job.reading (λ g reading. IsReading g c reading) (same (unwrap_or pass.start 0) pass.own within) (tied.reads c more e);
       small = tied.small;
       kept = if_same job.image IsKeptImage (same (unwrap_or pass.start 0) pass.own within) tied.kept;
       files = files_to (files_context old) (files_context new) (length old.journal) (sym kind) same [] (answered_lines job.commands job.answers) (map file_of job.tables) shown tied.files;

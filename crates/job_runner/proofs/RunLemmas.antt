@@ -11,7 +11,7 @@ use Rattle.graph_model.specs.OwnerCalls.{PassState, Core, no_pass, pass_at, Serv
 use Rattle.graph_model.proofs.TestLemmas.{self_eq}
 use Rattle.run_model.specs.declared.command.Command.{Command}
 use Rattle.run_model.specs.declared.answer.Answer.{Answer}
-use Rattle.run_model.specs.Requests.{request, next_txn, begun_by, IsScript}
+use Rattle.run_model.specs.Commands.{next_txn, begun_by, IsScript}
 use Rattle.run_model.specs.AnsweredLines.{AnsweredLine, made_by, answered_from, answered_lines}
 use Rattle.run_model.specs.Inputs.{Inputs}
 use Rattle.run_model.specs.Run.{HasFiles, MayFill}
@@ -223,7 +223,7 @@ pub answers_of_lines : (txn : ℕ) (cs : List Command) (ys : List Answer) → le
 answers_of_lines txn [] [] le = refl
 answers_of_lines txn [] (y ∷ ys) le = absurd (omega (arith, le))
 answers_of_lines txn (c ∷ cs) [] le = refl
-answers_of_lines txn (c ∷ cs) (y ∷ ys) le = ap (λ zs. y ∷ zs) (answers_of_lines (next_txn txn (request c)) cs ys (omega (arith, le)))
+answers_of_lines txn (c ∷ cs) (y ∷ ys) le = ap (λ zs. y ∷ zs) (answers_of_lines (next_txn txn c) cs ys (omega (arith, le)))
 
 reports_are : (ps : List PassState) (js : List Progress) → length js ≤ length ps → ((k : ℕ) (job : Progress) → slice_get js k ≡ Some job → length job.answers ≤ length job.commands)
     → map (λ (job : Progress). job.answers) js ≡ map (λ (j : JobState). map (λ (l : AnsweredLine). l.answer) j.lines) (seats ps js)
@@ -263,7 +263,7 @@ commands_of_lines : (txn : ℕ) (cs : List Command) (ys : List Answer) → lengt
 commands_of_lines txn [] [] le = refl
 commands_of_lines txn [] (y ∷ ys) le = absurd (omega (arith, le))
 commands_of_lines txn (c ∷ cs) [] le = refl
-commands_of_lines txn (c ∷ cs) (y ∷ ys) le = ap (λ ds. c ∷ ds) (commands_of_lines (next_txn txn (request c)) cs ys (omega (arith, le)))
+commands_of_lines txn (c ∷ cs) (y ∷ ys) le = ap (λ ds. c ∷ ds) (commands_of_lines (next_txn txn c) cs ys (omega (arith, le)))
 
 done_at_end : (inputs : Inputs) (core : Core) (jobs : List Progress) → AreUnderWay inputs core jobs → has_ended (state_of core jobs) ≡ true → HaveDone inputs.scripts (map (λ job. job.answers) jobs) core
 done_at_end inputs core jobs are over k commands answers script report =

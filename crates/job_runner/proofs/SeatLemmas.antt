@@ -17,7 +17,8 @@ use Rattle.graph_model.specs.OwnerCalls as owner
 use Rattle.graph_model.specs.OwnerCalls.{PassState, Core, no_pass, pass_at, current, with_current}
 use Rattle.run_model.specs.declared.command.Command.{Command}
 use Rattle.run_model.specs.declared.answer.Answer.{Answer}
-use Rattle.run_model.specs.Requests.{Request, ToBegin, ToCommit, ToAbort, ToWrite, ToRead, ToRun, request, next_txn}
+use Rattle.run_model.specs.declared.command.Command.TheVariants as commands
+use Rattle.run_model.specs.Commands.{next_txn}
 use Rattle.run_model.specs.AnsweredLines.{answered_from, answered_lines}
 use Rattle.run_model.specs.declared.answer.Answer.TheVariants as answers_of
 use Rattle.run_model.specs.Answering.{refusal_answer, query_answer, kernel_answer}
@@ -98,17 +99,17 @@ module _ (kind : Kind) (journal : List Commit) (txns : List OpenTxn) (number : �
   write_same w None None = λ t. cond (full && inserts w) (jobs_of.stops answers_of.Full)
       (record { answer = answers_of.Done; start = start t; own = own t ++ w ∷ []; skipping = false; commits = [] })
 
-  live_same : (r : Request) → live_result kind journal txns number i full r ≡ live_result kind journal txns number j full r
-  live_same ToBegin = ap (λ n. jobs_of.begins (txn_name number (n + 1)) (length journal)) begun
-  live_same ToCommit = λ t. jobs_of.commit_result journal (txn_name number (begun t)) (unwrap_or (start t) 0) (own t)
-  live_same ToAbort = refl
-  live_same (ToWrite w) =
+  live_same : (r : Command) → live_result kind journal txns number i full r ≡ live_result kind journal txns number j full r
+  live_same commands.Begin = ap (λ n. jobs_of.begins (txn_name number (n + 1)) (length journal)) begun
+  live_same commands.Commit = λ t. jobs_of.commit_result journal (txn_name number (begun t)) (unwrap_or (start t) 0) (own t)
+  live_same commands.Abort = refl
+  live_same (commands.Write w) =
       (λ t. write_result i w (refused (view kind journal (unwrap_or (start t) 0) (own t)) w) (conflict kind journal txns (txn_name number (begun t)) (unwrap_or (start t) 0) w) full)
       ∙ write_same w _ _
-  live_same (ToRead query) = λ t. record { answer = query_answer kind (view kind journal (unwrap_or (start t) 0) (own t)) query; start = start t; own = own t; skipping = false; commits = [] }
-  live_same (ToRun kernel file) = λ t. record { answer = kernel_answer (view kind journal (unwrap_or (start t) 0) (own t)) kernel; start = start t; own = own t; skipping = false; commits = [] }
+  live_same (commands.Read query) = λ t. record { answer = query_answer kind (view kind journal (unwrap_or (start t) 0) (own t)) query; start = start t; own = own t; skipping = false; commits = [] }
+  live_same (commands.Run kernel file) = λ t. record { answer = kernel_answer (view kind journal (unwrap_or (start t) 0) (own t)) kernel; start = start t; own = own t; skipping = false; commits = [] }
 
-  pub result_same : i.skipping ≡ j.skipping → (r : Request) → line_result kind journal txns number i full r ≡ line_result kind journal txns number j full r
+  pub result_same : i.skipping ≡ j.skipping → (r : Command) → line_result kind journal txns number i full r ≡ line_result kind journal txns number j full r
   result_same skipping r = λ t. cond (skipping t) (skips r) (live_same r t)
 
 -- ---- one line more
@@ -124,13 +125,13 @@ none_answered txn [] = refl
 none_answered txn (c ∷ cs) = refl
 
 pub lines_more : (txn : ℕ) (cs : List Command) (ys : List Answer) (latest : ℕ) (c : Command) (rest : List Command) (a : Answer) → AreNumbered txn (answered_from txn cs ys) latest → drop (length ys) cs ≡ c ∷ rest
-    → answered_from txn cs (ys ++ a ∷ []) ≡ answered_from txn cs ys ++ record { txn = next_txn latest (request c); command = c; answer = a } ∷ []
+    → answered_from txn cs (ys ++ a ∷ []) ≡ answered_from txn cs ys ++ record { txn = next_txn latest c; command = c; answer = a } ∷ []
 lines_more txn [] [] latest c rest a are e = cc
 lines_more txn [] (b ∷ ys) latest c rest a are e = cc
 lines_more txn (x ∷ cs) [] latest c rest a are e =
     let same : x ≡ c = heads x c cs rest e in
-    ap (λ ls. record { txn = next_txn txn (request x); command = x; answer = a } ∷ ls) (none_answered (next_txn txn (request x)) cs) ∙ (λ i. record { txn = next_txn (are i) (request (same i)); command = same i; answer = a } ∷ [])
-lines_more txn (x ∷ cs) (b ∷ ys) latest c rest a are e = ap (λ ls. record { txn = next_txn txn (request x); command = x; answer = b } ∷ ls) (lines_more (next_txn txn (request x)) cs ys latest c rest a are.1 e)
+    ap (λ ls. record { txn = next_txn txn x; command = x; answer = a } ∷ ls) (none_answered (next_txn txn x) cs) ∙ (λ i. record { txn = next_txn (are i) (same i); command = same i; answer = a } ∷ [])
+lines_more txn (x ∷ cs) (b ∷ ys) latest c rest a are e = ap (λ ls. record { txn = next_txn txn x; command = x; answer = b } ∷ ls) (lines_more (next_txn txn x) cs ys latest c rest a are.1 e)
 
 pub left_more : (cs : List Command) (ys : List Answer) (c : Command) (rest : List Command) (a : Answer) → drop (length ys) cs ≡ c ∷ rest → drop (length (ys ++ a ∷ [])) cs ≡ rest
 left_more [] [] c rest a e = cc
@@ -191,11 +192,11 @@ module _ (core : Core) (jobs : List Progress) (closed : AreClosed core (length j
     turn_is full c rest cons = ap (turn_at_place core.kind (state_of core jobs) k full) seat_there ∙ ap (job_turn core.kind (state_of core jobs) k full j) cons
 
     -- a portion of rows
-    pub scan_is_turn : (full : Bool) (c : Command) (rest : List Command) → left_of job ≡ c ∷ rest → (next : Reading) (image : Option KeptImage) (new : Core) → ScansHere core job.phase job.reading (request c) next new
+    pub scan_is_turn : (full : Bool) (c : Command) (rest : List Command) → left_of job ≡ c ∷ rest → (next : Reading) (image : Option KeptImage) (new : Core) → ScansHere core job.phase job.reading c next new
         → state_of new (slice_set jobs k (behind job image (Scanning next))) ≡ turn core.kind (state_of core jobs) (suc k) full
     scan_is_turn full c rest cons next image new scans =
         let calm : is_skipping job.phase ≡ false = ap is_skipping scans.further.is_open in
-        let goes : nat_lt (j.taken + 1) (turns_of core.kind core.journal j (request c)) ≡ true = ap (λ b. goes_on_here core b (taken_of job.reading) (request c)) calm ∙ scans.further.more in
+        let goes : nat_lt (j.taken + 1) (turns_of core.kind core.journal j c) ≡ true = ap (λ b. goes_on_here core b (taken_of job.reading) c) calm ∙ scans.further.more in
         ap (λ x. state_of x (slice_set jobs k (behind job image (Scanning next)))) scans.same
         ∙ (λ i. record { journal = core.journal; jobs = seats (drop 1 (sym (put_back core.passes core.selected inside) i)) (slice_set jobs k (behind job image (Scanning next))) })
         ∙ (λ i. record { journal = core.journal; jobs = set_state (current core) (behind job image (Scanning next)) i })
@@ -204,11 +205,11 @@ module _ (core : Core) (jobs : List Progress) (closed : AreClosed core (length j
 
     -- a line
     pub answer_is_turn : (c : Command) (rest : List Command) → left_of job ≡ c ∷ rest → AreNumbered 0 (answered_lines job.commands job.answers) (current core).begun → (given : LineAnswer) (image : Option KeptImage) (new : Core)
-        → (answers : AnswersHere core job.phase job.reading (request c) given new) → state_of new (slice_set jobs k (behind job image (Answering given))) ≡ turn core.kind (state_of core jobs) (suc k) answers.does.full
+        → (answers : AnswersHere core job.phase job.reading c given new) → state_of new (slice_set jobs k (behind job image (Answering given))) ≡ turn core.kind (state_of core jobs) (suc k) answers.does.full
     answer_is_turn c rest cons numbered given image new answers =
         let does = answers.does in
         let full : Bool = does.full in
-        let r : Request = request c in
+        let r : Command = c in
         let here : LineResult = result_here core (is_skipping job.phase) full r in
         let next : Progress = behind job image (Answering given) in
         let result : LineResult = line_result core.kind core.journal (jobs_of.open_txns (state_of core jobs).jobs) (k + 1) j full r in

@@ -11,7 +11,8 @@ use Rattle.graph_model.specs.History.{view}
 use Rattle.graph_model.specs.OwnerCalls.{PassState, Core, no_pass, pass_at, open_txns, one_more, account_here}
 use Rattle.run_model.specs.declared.command.Command.{Command}
 use Rattle.run_model.specs.declared.answer.Answer.TheVariants as answers
-use Rattle.run_model.specs.Requests.{Request, ToBegin, ToCommit, ToAbort, ToWrite, ToRead, ToRun, request, next_txn, begun_by, open_behind}
+use Rattle.run_model.specs.declared.command.Command.TheVariants as commands
+use Rattle.run_model.specs.Commands.{next_txn, begun_by, open_behind}
 use Rattle.run_model.specs.AnsweredLines.{AnsweredLine, effect, made_by, answered_lines, snapshot, own_writes}
 use Rattle.run_model.specs.Inputs.{Inputs}
 use Rattle.run_model.specs.Run.{Filing, filing_of, HasFiles}
@@ -41,13 +42,13 @@ use Rattle.job_runner.proofs.TieLemmas.{phase_fits, stop_closes, writes_open, la
 use Rattle.job_runner.proofs.KeepLemmas.{if_same, fills, within, job_keeps, sum_changed, length_set}
 
 -- a line that has a file runs a kernel, and begins nothing
-filing_runs : (b : Bool) (r : Request) (f : Filing) → cond b (filing_of r) None ≡ Some f → (n : ℕ) → next_txn n r ≡ n
-filing_runs true ToBegin f e n = cc
-filing_runs true ToCommit f e n = refl
-filing_runs true ToAbort f e n = refl
-filing_runs true (ToWrite w) f e n = refl
-filing_runs true (ToRead query) f e n = refl
-filing_runs true (ToRun kernel file) f e n = refl
+filing_runs : (b : Bool) (r : Command) (f : Filing) → cond b (filing_of r) None ≡ Some f → (n : ℕ) → next_txn n r ≡ n
+filing_runs true commands.Begin f e n = cc
+filing_runs true commands.Commit f e n = refl
+filing_runs true commands.Abort f e n = refl
+filing_runs true (commands.Write w) f e n = refl
+filing_runs true (commands.Read query) f e n = refl
+filing_runs true (commands.Run kernel file) f e n = refl
 filing_runs false r f e n = cc
 
 no_filing : {P : Type 0} (b : Bool) (f : Filing) → (let none : Option Filing = None in cond b none None ≡ Some f) → P
@@ -62,7 +63,7 @@ some_left (x ∷ cs) zero c rest e = omega arith
 some_left (x ∷ cs) (suc n) c rest e = omega (arith, some_left cs n c rest e)
 
 -- a line that isn't skipped begins a transaction, or one is open
-may_write : (phase : Phase) (start : Option ℕ) (r : Request) → IsPhase phase start → (behind : Bool) → open_behind (is_inside phase) r ≡ Some behind → is_skipping phase ≡ false → (r ≡ ToBegin) ⊎ IsSome start
+may_write : (phase : Phase) (start : Option ℕ) (r : Command) → IsPhase phase start → (behind : Bool) → open_behind (is_inside phase) r ≡ Some behind → is_skipping phase ≡ false → (r ≡ commands.Begin) ⊎ IsSome start
 may_write Between start r is behind e calm = inl (between_begins r behind e)
 may_write Open start r is behind e calm = inr is
 may_write Skipping start r is behind e calm = cc
@@ -92,7 +93,7 @@ module _ (inputs : Inputs) (core : Core) (jobs : List Progress) (u : AreUnderWay
   tied : AreTied core pass k job
   tied = u.each k job there
 
-  may : MayTake chosen job.phase job.reading (request c)
+  may : MayTake chosen job.phase job.reading c
   may = let ready = ties.ready inputs core jobs u k job there in record { selected = ready.selected; now = may_take (account_here chosen) job ready.now c rest cons }
 
   inside : suc k < length core.passes
@@ -103,7 +104,7 @@ module _ (inputs : Inputs) (core : Core) (jobs : List Progress) (u : AreUnderWay
 
   -- ---- a portion of rows
 
-  module _ (next : Reading) (image : Option KeptImage) (new : Core) (scans : ScansHere chosen job.phase job.reading (request c) next new) (kept : IfSome image (IsKeptImage (view_here chosen))) where
+  module _ (next : Reading) (image : Option KeptImage) (new : Core) (scans : ScansHere chosen job.phase job.reading c next new) (kept : IfSome image (IsKeptImage (view_here chosen))) where
     scan_tied : AreTied chosen pass k (behind job image (Scanning next))
     unfolding tied
     scan_tied = record {
@@ -116,7 +117,7 @@ module _ (inputs : Inputs) (core : Core) (jobs : List Progress) (u : AreUnderWay
       last = tied.last;
       begins = tied.begins;
       room = tied.room;
-      reads = λ x more e. subst (λ y. IsReading (view_here chosen) (request y) next) (heads c x rest more (sym cons ∙ e)) scans.further.reads;
+      reads = λ x more e. subst (λ y. IsReading (view_here chosen) y next) (heads c x rest more (sym cons ∙ e)) scans.further.reads;
       small = scans.further.small;
       kept = kept;
       files = tied.files;
@@ -130,24 +131,24 @@ module _ (inputs : Inputs) (core : Core) (jobs : List Progress) (u : AreUnderWay
 
   -- ---- a line
 
-  module _ (given : LineAnswer) (image : Option KeptImage) (new : Core) (answered : AnswersHere chosen job.phase job.reading (request c) given new) (kept : IfSome image (IsKeptImage (view_here chosen))) where
+  module _ (given : LineAnswer) (image : Option KeptImage) (new : Core) (answered : AnswersHere chosen job.phase job.reading c given new) (kept : IfSome image (IsKeptImage (view_here chosen))) where
     abbrev here : LineResult
-    here = result_here chosen (is_skipping job.phase) answered.does.full (request c)
+    here = result_here chosen (is_skipping job.phase) answered.does.full c
 
     abbrev next : Progress
     next = behind job image (Answering given)
 
     abbrev after : Core
-    after = core_behind chosen (request c) here answered.does.sighted answered.does.filled
+    after = core_behind chosen c here answered.does.sighted answered.does.filled
 
     abbrev passed : PassState
-    passed = pass_behind pass (request c) here answered.does.sighted answered.does.filled
+    passed = pass_behind pass c here answered.does.sighted answered.does.filled
 
     abbrev lines : List AnsweredLine
     lines = answered_lines job.commands job.answers
 
     abbrev line : AnsweredLine
-    line = line_of (next_txn pass.begun (request c)) c given.answer
+    line = line_of (next_txn pass.begun c) c given.answer
 
     lines_are : answered_lines next.commands next.answers ≡ lines ++ line ∷ []
     lines_are = lines_more 0 job.commands job.answers pass.begun c rest given.answer (ties.its inputs core jobs u k job there).numbered cons
@@ -157,19 +158,19 @@ module _ (inputs : Inputs) (core : Core) (jobs : List Progress) (u : AreUnderWay
 
     open_write : (effect given.answer).writes ≡ true → (earlier : List (List Write)) × (pass.made ≡ earlier ++ pass.own ∷ [])
     unfolding tied may
-    open_write e = tied.last (writes_open chosen.kind chosen.journal (open_txns chosen) (suc k) (seat chosen (is_skipping job.phase)) answered.does.full (request c)
-        (may_write job.phase pass.start (request c) may.now.phase_is may.now.stands.0 may.now.stands.1)
+    open_write e = tied.last (writes_open chosen.kind chosen.journal (open_txns chosen) (suc k) (seat chosen (is_skipping job.phase)) answered.does.full c
+        (may_write job.phase pass.start c may.now.phase_is may.now.stands.0 may.now.stands.1)
         (ap (λ a. (effect a).writes) (sym answered.does.answer) ∙ e))
 
     -- where the line has a file, its graph is that of its transaction
-    view_snapshot : (f : Filing) → cond (effect given.answer).files (filing_of (request c)) None ≡ Some f
-        → view_here chosen ≡ snapshot core.kind (core.journal ++ here.commits) (next_txn pass.begun (request c)) lines
+    view_snapshot : (f : Filing) → cond (effect given.answer).files (filing_of c) None ≡ Some f
+        → view_here chosen ≡ snapshot core.kind (core.journal ++ here.commits) (next_txn pass.begun c) lines
     unfolding tied may
     view_snapshot f e = by_phase job.phase refl may.now.phase_is may.now.stands.0 may.now.stands.1
       where
-        by_phase : (phase : Phase) → job.phase ≡ phase → IsPhase phase pass.start → (behind : Bool) → open_behind (is_inside phase) (request c) ≡ Some behind
-            → view_here chosen ≡ snapshot core.kind (core.journal ++ here.commits) (next_txn pass.begun (request c)) lines
-        by_phase Between is phase behind stands = no_filing (effect given.answer).files f (ap (λ r. cond (effect given.answer).files (filing_of r) None) (sym (between_begins (request c) behind stands)) ∙ e)
+        by_phase : (phase : Phase) → job.phase ≡ phase → IsPhase phase pass.start → (behind : Bool) → open_behind (is_inside phase) c ≡ Some behind
+            → view_here chosen ≡ snapshot core.kind (core.journal ++ here.commits) (next_txn pass.begun c) lines
+        by_phase Between is phase behind stands = no_filing (effect given.answer).files f (ap (λ r. cond (effect given.answer).files (filing_of r) None) (sym (between_begins c behind stands)) ∙ e)
         by_phase Open is phase behind stands =
             let o = some_of pass.start phase in
             let told = (ties.its inputs core jobs u k job there).told o.0 o.1 in
@@ -177,10 +178,10 @@ module _ (inputs : Inputs) (core : Core) (jobs : List Progress) (u : AreUnderWay
             (λ i. view core.kind core.journal (unwrap_or (o.1 i) 0) (told.own i))
             ∙ sym (view_grows core.kind core.journal here.commits o.0 (own_writes pass.begun lines) le)
             ∙ (λ i. view core.kind (core.journal ++ here.commits) (sym told.started i) (own_writes pass.begun lines))
-            ∙ ap (λ n. snapshot core.kind (core.journal ++ here.commits) n lines) (sym (filing_runs (effect given.answer).files (request c) f e pass.begun))
+            ∙ ap (λ n. snapshot core.kind (core.journal ++ here.commits) n lines) (sym (filing_runs (effect given.answer).files c f e pass.begun))
         by_phase Skipping is phase behind stands =
-            let skipped : given.answer ≡ answers.Skipped = answered.does.answer ∙ ap (λ p. (result_here chosen (is_skipping p) answered.does.full (request c)).answer) is in
-            absurd (let none : ◌≡◌ {A = Option Filing} None (Some f) = sym (ap (λ a. cond (effect a).files (filing_of (request c)) None) skipped) ∙ e in cc)
+            let skipped : given.answer ≡ answers.Skipped = answered.does.answer ∙ ap (λ p. (result_here chosen (is_skipping p) answered.does.full c).answer) is in
+            absurd (let none : ◌≡◌ {A = Option Filing} None (Some f) = sym (ap (λ a. cond (effect a).files (filing_of c) None) skipped) ∙ e in cc)
         by_phase GivenUp is never behind stands = absurd never
 
     -- an image that is kept is that of what the transaction sees behind the line
@@ -192,8 +193,8 @@ module _ (inputs : Inputs) (core : Core) (jobs : List Progress) (u : AreUnderWay
         seen e =
             let each = all_three (is_open job.phase) (is_open given.phase) (effect given.answer).writes e in
             let phase : job.phase ≡ Open = open_is job.phase each.0 in
-            let same = stays_same chosen.kind chosen.journal (open_txns chosen) (suc k) (seat chosen (is_skipping job.phase)) answered.does.full (request c) may.now.stands.0
-            (ap (λ p. open_behind (is_inside p) (request c)) (sym phase) ∙ may.now.stands.1) (ap is_skipping phase)
+            let same = stays_same chosen.kind chosen.journal (open_txns chosen) (suc k) (seat chosen (is_skipping job.phase)) answered.does.full c may.now.stands.0
+            (ap (λ p. open_behind (is_inside p) c) (sym phase) ∙ may.now.stands.1) (ap is_skipping phase)
             (ap is_open (sym answered.does.phase) ∙ each.1) (ap (λ a. (effect a).writes) (sym answered.does.answer) ∙ each.2) in
             λ i. view core.kind ((sym (append-nil core.journal) ∙ ap (λ xs. core.journal ++ xs) (sym same.2)) i) (unwrap_or (sym same.0 i) 0) (sym same.1 i)
 
@@ -206,19 +207,19 @@ module _ (inputs : Inputs) (core : Core) (jobs : List Progress) (u : AreUnderWay
     line_tied = record {
       number = tied.number;
       answered = one_more (length job.commands) (length job.answers) (length next.answers) (some_left job.commands (length job.answers) c rest cons) (length-append job.answers (given.answer ∷ []));
-      phase_is = subst (λ p. IsPhase p here.start) (sym answered.does.phase) (phase_fits here (stop_closes chosen.kind chosen.journal (open_txns chosen) (suc k) (seat chosen (is_skipping job.phase)) answered.does.full (request c)));
-      wrote = ap (λ a. flat (made_behind pass.made (request c) a)) (sym answered.does.answer)
-          ∙ made_more pass.made pass.own (next_txn pass.begun (request c)) c given.answer open_write (request c) refl
+      phase_is = subst (λ p. IsPhase p here.start) (sym answered.does.phase) (phase_fits here (stop_closes chosen.kind chosen.journal (open_txns chosen) (suc k) (seat chosen (is_skipping job.phase)) answered.does.full c));
+      wrote = ap (λ a. flat (made_behind pass.made c a)) (sym answered.does.answer)
+          ∙ made_more pass.made pass.own (next_txn pass.begun c) c given.answer open_write c refl
           ∙ ap (λ xs. xs ++ filter_map made_by (line ∷ [])) tied.wrote
           ∙ sym (filter_map-append made_by lines (line ∷ []))
           ∙ ap (filter_map made_by) (sym lines_are);
-      counted = made_count pass.made pass.begun (request c) here.answer tied.counted;
-      by_txn = λ n lt. ap (λ a. slice_get (made_behind pass.made (request c) a) n) (sym answered.does.answer)
-          ∙ txn_more pass.made pass.begun lines tied.counted (ties.its inputs core jobs u k job there).numbered tied.by_txn c given.answer (request c) refl n lt
+      counted = made_count pass.made pass.begun c here.answer tied.counted;
+      by_txn = λ n lt. ap (λ a. slice_get (made_behind pass.made c a) n) (sym answered.does.answer)
+          ∙ txn_more pass.made pass.begun lines tied.counted (ties.its inputs core jobs u k job there).numbered tied.by_txn c given.answer c refl n lt
           ∙ ap (λ ls. Some (own_writes (suc n) ls)) (sym lines_are);
-      last = last_behind chosen.kind chosen.journal (open_txns chosen) (suc k) (seat chosen (is_skipping job.phase)) answered.does.full pass.made tied.last (request c);
-      begins = subst (λ cs. begun_by (next_txn pass.begun (request c)) cs ≡ begun_by 0 job.commands) (sym left_is) (subst (λ cs. begun_by pass.begun cs ≡ begun_by 0 job.commands) cons tied.begins);
-      room = subst (λ cs. begun_by (next_txn pass.begun (request c)) cs ≤ pass.allowed) (sym left_is) (subst (λ cs. begun_by pass.begun cs ≤ pass.allowed) cons tied.room);
+      last = last_behind chosen.kind chosen.journal (open_txns chosen) (suc k) (seat chosen (is_skipping job.phase)) answered.does.full pass.made tied.last c;
+      begins = subst (λ cs. begun_by (next_txn pass.begun c) cs ≡ begun_by 0 job.commands) (sym left_is) (subst (λ cs. begun_by pass.begun cs ≡ begun_by 0 job.commands) cons tied.begins);
+      room = subst (λ cs. begun_by (next_txn pass.begun c) cs ≤ pass.allowed) (sym left_is) (subst (λ cs. begun_by pass.begun cs ≤ pass.allowed) cons tied.room);
       reads = λ x more e. tt;
       small = omega arith;
       kept = line_kept;
@@ -227,7 +228,7 @@ module _ (inputs : Inputs) (core : Core) (jobs : List Progress) (u : AreUnderWay
           (files_more (files_context after) [] lines line (map file_of job.tables) (map file_of (listed_table given.table))
           (files_to (files_context core) (files_context after) (length core.journal) refl (λ start own le. sym (view_grows core.kind core.journal here.commits start own le)) [] lines (map file_of job.tables)
           (ties.its inputs core jobs u k job there).shown tied.files)
-          (file_given (files_context after) lines (next_txn pass.begun (request c)) (cond (effect given.answer).files (filing_of (request c)) None) (view_here chosen) given.table answered.does.table view_snapshot)));
+          (file_given (files_context after) lines (next_txn pass.begun c) (cond (effect given.answer).files (filing_of c) None) (view_here chosen) given.table answered.does.table view_snapshot)));
     }
       where
         one_more : (n m l : ℕ) → m < n → l ≡ m + 1 → l ≤ n
@@ -296,7 +297,7 @@ module _ (core : Core) (jobs : List Progress) (k : ℕ) (job : Progress) (there 
         left = left_falls (is_over job) ended (under_way jobs) (under_way (slice_set jobs k next)) going
             (sum_changed (λ j. cond (not (is_over j)) 1 0) jobs k job next there ∙ ap (λ b. under_way jobs + cond (not b) 1 0) over)
 
-        by_turn : (turn : LineTurn) → TakesHere now job.phase job.reading (request c) turn new → (image : Option KeptImage) → IfSome image (IsKeptImage (view_here now)) → next ≡ behind job image turn
+        by_turn : (turn : LineTurn) → TakesHere now job.phase job.reading c turn new → (image : Option KeptImage) → IfSome image (IsKeptImage (view_here now)) → next ≡ behind job image turn
             → Turns core jobs (suc k) ended new (slice_set jobs k next)
         by_turn (Scanning reading) t image kept is = record {
           full = false;
@@ -335,7 +336,7 @@ module _ (core : Core) (jobs : List Progress) (k : ℕ) (job : Progress) (there 
         less : sum_by turns_left (slice_set jobs k next) < sum_by turns_left jobs
         less =
             let falls : turns_left next < turns_left job = subst (λ x. turns_left x < turns_left job) (sym takes.job_is) (turn_less job c rest cons (u.each k job there).small takes.turn
-            (λ reading same. let scans : ScansHere now job.phase job.reading (request c) reading new = subst (λ t. TakesHere now job.phase job.reading (request c) t new) same takes.takes in (scans.further.taken, scans.further.small)) takes.image) in
+            (λ reading same. let scans : ScansHere now job.phase job.reading c reading new = subst (λ t. TakesHere now job.phase job.reading c t new) same takes.takes in (scans.further.taken, scans.further.small)) takes.image) in
             omega (arith, falls, sum_changed turns_left jobs k job next there)
         -- ---- a script that is over is passed over
 

@@ -19,7 +19,9 @@ use Rattle.graph_model.specs.Legal.{IsLegal}
 use Rattle.graph_model.specs.Refused.{AllAllowed}
 use Rattle.graph_model.specs.OwnerCalls.{PassState, Core, pass_at, account_here}
 use Rattle.run_model.specs.declared.answer.Answer.TheVariants as answers
-use Rattle.run_model.specs.Requests.{Request, ToBegin, ToCommit, ToAbort, ToWrite, ToRead, ToRun, open_behind, IsScript}
+use Rattle.run_model.specs.declared.command.Command.{Command}
+use Rattle.run_model.specs.declared.command.Command.TheVariants as commands
+use Rattle.run_model.specs.Commands.{open_behind, IsScript}
 use Rattle.run_model.specs.AnsweredLines.{effect}
 use Rattle.run_model.specs.Answering.{refusal_answer}
 use Rattle.run_model.specs.Inputs.{Inputs}
@@ -144,7 +146,7 @@ none_open is = cc
 
 module _ (kind : Kind) (journal : List Commit) (txns : List OpenTxn) (number : ℕ) (j : JobState) (full : Bool) where
   -- no transaction is open behind a stop
-  pub stop_closes : (r : Request) → (line_result kind journal txns number j full r).skipping ≡ true → (line_result kind journal txns number j full r).start ≡ None
+  pub stop_closes : (r : Command) → (line_result kind journal txns number j full r).skipping ≡ true → (line_result kind journal txns number j full r).start ≡ None
   stop_closes r = by_skipping j.skipping
     where
       by_write : (w : Write) (x : Option Refusal) (y : Option Cause) → (write_result j w x y full).skipping ≡ true → (write_result j w x y full).start ≡ None
@@ -160,23 +162,23 @@ module _ (kind : Kind) (journal : List Commit) (txns : List OpenTxn) (number : �
       by_own by start [] e = refl
       by_own by start (w ∷ ws) e = refl
 
-      live : (r : Request) → (live_result kind journal txns number j full r).skipping ≡ true → (live_result kind journal txns number j full r).start ≡ None
-      live ToBegin e = cc
-      live ToCommit e = by_own _ _ j.own e
-      live ToAbort e = refl
-      live (ToWrite w) e = by_write w _ _ e
-      live (ToRead query) e = cc
-      live (ToRun kernel file) e = cc
+      live : (r : Command) → (live_result kind journal txns number j full r).skipping ≡ true → (live_result kind journal txns number j full r).start ≡ None
+      live commands.Begin e = cc
+      live commands.Commit e = by_own _ _ j.own e
+      live commands.Abort e = refl
+      live (commands.Write w) e = by_write w _ _ e
+      live (commands.Read query) e = cc
+      live (commands.Run kernel file) e = cc
 
       by_skipping : (b : Bool) → (cond b (skips r) (live_result kind journal txns number j full r)).skipping ≡ true → (cond b (skips r) (live_result kind journal txns number j full r)).start ≡ None
       by_skipping true e = refl
       by_skipping false e = live r e
 
   -- a write is made where a transaction is open
-  pub writes_open : (r : Request) → (j.skipping ≡ false → (r ≡ ToBegin) ⊎ IsSome j.start) → (effect (line_result kind journal txns number j full r).answer).writes ≡ true → IsSome j.start
+  pub writes_open : (r : Command) → (j.skipping ≡ false → (r ≡ commands.Begin) ⊎ IsSome j.start) → (effect (line_result kind journal txns number j full r).answer).writes ≡ true → IsSome j.start
   writes_open r may = by_skipping j.skipping refl
     where
-      begun : (r ≡ ToBegin) ⊎ IsSome j.start → (effect (live_result kind journal txns number j full r).answer).writes ≡ true → IsSome j.start
+      begun : (r ≡ commands.Begin) ⊎ IsSome j.start → (effect (live_result kind journal txns number j full r).answer).writes ≡ true → IsSome j.start
       begun (inl is) e = absurd (let never : false ≡ true = sym (ap (λ x. (effect (live_result kind journal txns number j full x).answer).writes) is) ∙ e in cc)
       begun (inr opened) e = opened
 
@@ -191,7 +193,7 @@ module _ (kind : Kind) (journal : List Commit) (txns : List OpenTxn) (number : �
   abbrev StaysSame : LineResult → Type 0
   StaysSame result = is_open (phase_behind result) ≡ true → (effect result.answer).writes ≡ false → IsSame result
 
-  pub stays_same : (r : Request) (behind : Bool) → open_behind true r ≡ Some behind → j.skipping ≡ false → StaysSame (line_result kind journal txns number j full r)
+  pub stays_same : (r : Command) (behind : Bool) → open_behind true r ≡ Some behind → j.skipping ≡ false → StaysSame (line_result kind journal txns number j full r)
   stays_same r behind stands calm = subst (λ b. StaysSame (cond b (skips r) (live_result kind journal txns number j full r))) (sym calm) (live r stands)
     where
       by_write : (w : Write) (x : Option Refusal) (y : Option Cause) → StaysSame (write_result j w x y full)
@@ -207,52 +209,52 @@ module _ (kind : Kind) (journal : List Commit) (txns : List OpenTxn) (number : �
       by_own by start [] e f = none_open e
       by_own by start (w ∷ ws) e f = none_open e
 
-      live : (r : Request) → open_behind true r ≡ Some behind → StaysSame (live_result kind journal txns number j full r)
-      live ToBegin stands e f = let no_one : ◌≡◌ {A = Option Bool} None (Some behind) = stands in cc
-      live ToCommit stands e f = by_own _ _ j.own e f
-      live ToAbort stands e f = none_open e
-      live (ToWrite w) stands e f = by_write w _ _ e f
-      live (ToRead query) stands e f = (refl, refl, refl)
-      live (ToRun kernel file) stands e f = (refl, refl, refl)
+      live : (r : Command) → open_behind true r ≡ Some behind → StaysSame (live_result kind journal txns number j full r)
+      live commands.Begin stands e f = let no_one : ◌≡◌ {A = Option Bool} None (Some behind) = stands in cc
+      live commands.Commit stands e f = by_own _ _ j.own e f
+      live commands.Abort stands e f = none_open e
+      live (commands.Write w) stands e f = by_write w _ _ e f
+      live (commands.Read query) stands e f = (refl, refl, refl)
+      live (commands.Run kernel file) stands e f = (refl, refl, refl)
 
   -- the open transaction's writes stand last
   module _ (made : List (List Write)) (last : IsSome j.start → (earlier : List (List Write)) × (made ≡ earlier ++ j.own ∷ [])) where
-    abbrev Last : Request → LineResult → Type 0
+    abbrev Last : Command → LineResult → Type 0
     Last r result = IsSome result.start → (earlier : List (List Write)) × (made_behind made r result.answer ≡ earlier ++ result.own ∷ [])
 
-    pub last_behind : (r : Request) → Last r (line_result kind journal txns number j full r)
+    pub last_behind : (r : Command) → Last r (line_result kind journal txns number j full r)
     last_behind r = by_skipping j.skipping
       where
-        by_write : (w : Write) (x : Option Refusal) (y : Option Cause) → Last (ToWrite w) (write_result j w x y full)
+        by_write : (w : Write) (x : Option Refusal) (y : Option Cause) → Last (commands.Write w) (write_result j w x y full)
         by_write w (Some refusal) y opened = let l = last opened in (l.0, ap (λ b. cond b (last_with made w) made) (refused_none refusal) ∙ l.1)
         by_write w None (Some cause) opened = none_open opened
         by_write w None None opened = by_full (full && inserts w) opened
           where
-            by_full : (b : Bool) → Last (ToWrite w) (cond b (stops answers.Full) (writes_more j w))
+            by_full : (b : Bool) → Last (commands.Write w) (cond b (stops answers.Full) (writes_more j w))
             by_full true opened = none_open opened
             by_full false opened = let l = last opened in (l.0, ap (λ xs. last_with xs w) l.1 ∙ last_more l.0 j.own w)
 
-        by_own : (by : TxnName) (start : ℕ) (own : List Write) → Last ToCommit (commit_result journal by start own)
+        by_own : (by : TxnName) (start : ℕ) (own : List Write) → Last commands.Commit (commit_result journal by start own)
         by_own by start [] opened = none_open opened
         by_own by start (w ∷ ws) opened = none_open opened
 
-        live : (r : Request) → Last r (live_result kind journal txns number j full r)
-        live ToBegin opened = (made, refl)
-        live ToCommit opened = by_own _ _ j.own opened
-        live ToAbort opened = none_open opened
-        live (ToWrite w) opened = by_write w _ _ opened
-        live (ToRead query) opened = last opened
-        live (ToRun kernel file) opened = last opened
+        live : (r : Command) → Last r (live_result kind journal txns number j full r)
+        live commands.Begin opened = (made, refl)
+        live commands.Commit opened = by_own _ _ j.own opened
+        live commands.Abort opened = none_open opened
+        live (commands.Write w) opened = by_write w _ _ opened
+        live (commands.Read query) opened = last opened
+        live (commands.Run kernel file) opened = last opened
 
         by_skipping : (b : Bool) → Last r (cond b (skips r) (live_result kind journal txns number j full r))
         by_skipping true opened = none_open opened
         by_skipping false opened = live r opened
 
 -- between transactions only a `begin` may stand
-pub between_begins : (r : Request) (behind : Bool) → open_behind false r ≡ Some behind → r ≡ ToBegin
-between_begins ToBegin behind e = refl
-between_begins ToCommit behind e = let no_one : ◌≡◌ {A = Option Bool} None (Some behind) = e in cc
-between_begins ToAbort behind e = let no_one : ◌≡◌ {A = Option Bool} None (Some behind) = e in cc
-between_begins (ToWrite w) behind e = let no_one : ◌≡◌ {A = Option Bool} None (Some behind) = e in cc
-between_begins (ToRead query) behind e = let no_one : ◌≡◌ {A = Option Bool} None (Some behind) = e in cc
-between_begins (ToRun kernel file) behind e = let no_one : ◌≡◌ {A = Option Bool} None (Some behind) = e in cc
+pub between_begins : (r : Command) (behind : Bool) → open_behind false r ≡ Some behind → r ≡ commands.Begin
+between_begins commands.Begin behind e = refl
+between_begins commands.Commit behind e = let no_one : ◌≡◌ {A = Option Bool} None (Some behind) = e in cc
+between_begins commands.Abort behind e = let no_one : ◌≡◌ {A = Option Bool} None (Some behind) = e in cc
+between_begins (commands.Write w) behind e = let no_one : ◌≡◌ {A = Option Bool} None (Some behind) = e in cc
+between_begins (commands.Read query) behind e = let no_one : ◌≡◌ {A = Option Bool} None (Some behind) = e in cc
+between_begins (commands.Run kernel file) behind e = let no_one : ◌≡◌ {A = Option Bool} None (Some behind) = e in cc

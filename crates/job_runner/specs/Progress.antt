@@ -5,7 +5,7 @@ use Rattle.graph_model.specs.OwnerCalls.{PassState, Core, account_here}
 use Rattle.run_model.specs.declared.command.Command.{Command}
 use Rattle.run_model.specs.declared.answer.Answer.{Answer}
 use Rattle.run_model.specs.AnsweredLines.{answered_lines}
-use Rattle.run_model.specs.Requests.{request, begun_by, IsScript}
+use Rattle.run_model.specs.Commands.{begun_by, IsScript}
 use Rattle.run_model.specs.Jobs.{JobState, RunState, is_empty}
 use Rattle.line_runner.specs.declared.answering.LineTurn.{LineTurn}
 use Rattle.line_runner.specs.declared.answering.LineTurn.TheVariants.{Scanning, Answering}
@@ -90,7 +90,7 @@ pub record IsReadyBy (account : Account) (job : Progress) : Type 0 where
   pub script : IsScript (Some (is_inside job.phase)) (left_of job)
   -- what has been read is that of the line at hand
   pub reads : (c : Command) (rest : List Command) → left_of job ≡ c ∷ rest
-      → IfSome job.reading (IsReading (view_now account) (request c))
+      → IfSome job.reading (IsReading (view_now account) c)
   pub small : taken_of job.reading < too_many_turns
   pub kept : IfSome job.image (IsKeptImage (view_now account))
 
@@ -103,7 +103,7 @@ pub record IsReady (core : Core) (job : Progress) : Type 0 where
 pub record TakesTurnOn {S : Type 0} (e : Calls S) (old : S) (job : Progress) (c : Command) (next : Progress) (new : S)
     : Type 0 where
   pub turn : LineTurn
-  pub takes : TakesOn e old job.phase job.reading (request c) turn new
+  pub takes : TakesOn e old job.phase job.reading c turn new
   pub image : Option KeptImage
   pub kept : IfSome image (IsKeptImage (view_now (e.account old)))
   pub job_is : next ≡ behind job image turn
@@ -139,7 +139,7 @@ TookTurnOn {S = S} e old job turns.NoMemory next new =
 -- the line at hand takes a turn, on the core of one owner
 pub record TakesTurn (old : Core) (job : Progress) (c : Command) (next : Progress) (new : Core) : Type 0 where
   pub turn : LineTurn
-  pub takes : TakesHere old job.phase job.reading (request c) turn new
+  pub takes : TakesHere old job.phase job.reading c turn new
   pub image : Option KeptImage
   pub kept : IfSome image (IsKeptImage (view_here old))
   pub job_is : next ≡ behind job image turn

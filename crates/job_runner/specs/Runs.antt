@@ -10,7 +10,7 @@ use Rattle.run_model.specs.declared.answer.Answer.{Answer}
 use Rattle.run_model.specs.declared.command.Command.{Command}
 use Rattle.run_model.specs.AnsweredLines.{answered_lines, made_by, own_writes}
 use Rattle.run_model.specs.Inputs.{Inputs, AreInputs, Outputs}
-use Rattle.run_model.specs.Requests.{request, begun_by}
+use Rattle.run_model.specs.Commands.{begun_by}
 use Rattle.run_model.specs.Run.{Context, HasFiles, MayFill}
 use Rattle.run_model.specs.Jobs.{load_journal, lines_so_far, turn}
 use Rattle.run_model.specs.Stepped.{IsStepped, service_turns}
@@ -82,7 +82,7 @@ pub record AreTied (core : Core) (pass : PassState) (k : ℕ) (job : Progress) :
   pub room : begun_by pass.begun (left_of job) ≤ pass.allowed
   -- what the job has read is its line's: the rows that a scan was given, or the image of all rows
   pub reads : (c : Command) (rest : List Command) → left_of job ≡ c ∷ rest
-      → IfSome job.reading (IsReading (view_of_pass core pass) (request c))
+      → IfSome job.reading (IsReading (view_of_pass core pass) c)
   pub small : taken_of job.reading < too_many_turns
   -- an image that is kept is that of what the transaction sees
   pub kept : IfSome job.image (IsKeptImage (view_of_pass core pass))

@@ -30,6 +30,39 @@ times_few xs i y =
     let part = length-take i xs in
     omega arith
 
+-- two values stand no more often than there are places
+times_both : (xs : List ℕ) (x y : ℕ) → (x ≡ y → ⊥) → times xs x + times xs y ≤ length xs
+times_both [] x y other = omega arith
+times_both (z ∷ zs) x y other =
+    let rest = times_both zs x y other in
+    ⊎_elim
+    (λ same. (let h : times (z ∷ zs) x ≡ 1 + times zs x = subst (λ w. times (w ∷ zs) x ≡ 1 + times zs x) (sym same) (times_here x zs) in
+    let t = times_there z zs y (λ equal. other (sym same ∙ equal)) in omega arith))
+    (λ apart. (let t = times_there z zs x apart in
+    ⊎_elim
+    (λ same. (let h : times (z ∷ zs) y ≡ 1 + times zs y = subst (λ w. times (w ∷ zs) y ≡ 1 + times zs y) (sym same) (times_here y zs) in omega arith))
+    (λ away. (let s = times_there z zs y away in omega arith))
+    (cases_eq z y)))
+    (cases_eq z x)
+
+-- a value that stands more often than all others together stands most often
+pub most_by_far : (default x : ℕ) (xs : List ℕ) → length xs < times xs x + times xs x → IsMostFrequentOr default xs x
+most_by_far default x [] far = absurd (omega arith)
+most_by_far default x (z ∷ zs) far =
+    let xs = z ∷ zs in
+    let fewer : (y : ℕ) → (x ≡ y → ⊥) → times xs y < times xs x = λ y other. (let both = times_both xs x y other in omega arith) in
+    record {
+      stands = omega arith;
+      most = λ y. ⊎_elim (λ same. (let e = ap (times xs) same in omega arith)) (λ other. (let less = fewer y other in omega arith)) (cases_eq x y);
+      least = λ y equal. ⊎_elim (λ same. omega arith) (λ other. absurd (let less = fewer y other in omega arith)) (cases_eq x y);
+    }
+
+-- ---- counting one value
+
+-- one place more
+pub times_more : (xs : List ℕ) (i x y : ℕ) → i < length xs → x ≡ get_or xs i 0 → times (take (i + 1) xs) y ≡ times (take i xs) y + cond (x == y) 1 0
+times_more xs i x y within is = sum_by_more (λ z. cond (z == y) 1 0) xs i 0 within ∙ ap (λ z. times (take i xs) y + cond (z == y) 1 0) (sym is)
+
 -- ---- runs of a sorted list
 
 -- of the first i values: the last, how often it stands, the one that stands most often, and how often that is

@@ -28,7 +28,7 @@ kept_first image labels changed below count all = record {
       let into = none_quiet (length image.vertices) changed count all (arcs_at image.into p) quiet.1 in
       let nothing : labels_met labels (arcs_at image.out p) ++ labels_met labels (arcs_at image.into p) ≡ [] = (λ i. labels_met labels (out i) ++ labels_met labels (into i)) in
       record {
-        most = subst (λ xs. IsMostFrequentOr (slice_index labels p) xs (slice_index labels p)) (sym nothing) refl;
+        most = λ linked. subst (λ xs. IsMostFrequentOr (slice_index labels p) xs (slice_index labels p)) (sym nothing) refl;
         below = below.each p within;
       };
 }
@@ -52,7 +52,7 @@ kept_later image old new changed round marked = record {
       let met : labels_met old (arcs_at image.out p) ++ labels_met old (arcs_at image.into p) ≡ labels_met new (arcs_at image.out p) ++ labels_met new (arcs_at image.into p) =
       (λ i. same_met old new changed marked (arcs_at image.out p) quiet.0 i ++ same_met old new changed marked (arcs_at image.into p) quiet.1 i) in
       record {
-        most = subst (λ xs. IsMostFrequentOr (slice_index new p) xs (slice_index new p)) met (other_default (slice_index old p) (labels_met old (arcs_at image.out p) ++ labels_met old (arcs_at image.into p)) (slice_index new p) next.most);
+        most = λ linked. subst (λ xs. IsMostFrequentOr (slice_index new p) xs (slice_index new p)) met (other_default (slice_index old p) (labels_met old (arcs_at image.out p) ++ labels_met old (arcs_at image.into p)) (slice_index new p) (next.most linked));
         below = next.below;
       };
 }

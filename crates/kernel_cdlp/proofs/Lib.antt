@@ -3,3 +3,4 @@ pub mod KeptLemmas
 pub mod PartLemmas
 pub mod RisingLemmas
 pub mod RoundLemmas
+pub mod WakeLemmas

@@ -7,7 +7,6 @@ use Rattle.std.proofs.lemmas.List.{map-append, map-id}
 use Rattle.std.proofs.lemmas.Option.{slice_get_within, get_or_from_slice_get}
 use Rattle.graph_model.specs.declared.write.Kind.TheVariants.{Directed, Undirected}
 use Rattle.graph_model.specs.declared.table.Entry.{Entry}
-use Rattle.graph_model.specs.declared.table.Value.{Value}
 use Rattle.graph_model.specs.declared.table.Value.TheVariants.{Number}
 use Rattle.graph_model.specs.Graph.{Graph, IsSymmetric}
 use Rattle.graph_model.specs.Tables.{IsCdlp, IsCdlpValue}
@@ -20,7 +19,7 @@ use Rattle.graph_image.specs.Images.{Places, AreWithin, IsImageOf, arcs_at}
 use Rattle.graph_image.proofs.Lists.{get_map}
 use Rattle.graph_image.proofs.ImageLemmas.{vertex_at}
 use Rattle.kernel_cdlp.specs.Frequency.{IsMostFrequentOr}
-use Rattle.kernel_cdlp.specs.Rounds.{labels_met, IsNextLabel, IsRound, AreBelow, AreLabels, AreValues}
+use Rattle.kernel_cdlp.specs.Rounds.{labels_met, IsNextLabel, IsRound, AreBelow, AreLabels, IsLinked, value_of}
 use Rattle.kernel_cdlp.proofs.FrequencyLemmas.{stands_at, doubled, risen, is_most_frequent_of}
 use Rattle.kernel_cdlp.proofs.RisingLemmas.{ids_met, others_are_targets, others_are_sources}
 
@@ -54,7 +53,7 @@ module _ (image : Places) (labels : List ℕ) (p x : ℕ) (below : AreBelow (len
     (out_within : AreWithin (length image.vertices) out) (into_within : AreWithin (length image.vertices) into) where
   next_of : IsMostFrequentOr (slice_index labels p) (labels_met labels out ++ labels_met labels into) x → IsNextLabel image labels p x
   next_of most = record {
-    most = subst (λ arcs. IsMostFrequentOr (slice_index labels p) (labels_met labels arcs ++ labels_met labels (arcs_at image.into p)) x) out_is
+    most = λ linked. subst (λ arcs. IsMostFrequentOr (slice_index labels p) (labels_met labels arcs ++ labels_met labels (arcs_at image.into p)) x) out_is
         (subst (λ arcs. IsMostFrequentOr (slice_index labels p) (labels_met labels out ++ labels_met labels arcs) x) into_is most);
     below = next_is_below (length image.vertices) labels out into p x below out_within into_within within most;
   }
@@ -72,6 +71,17 @@ module _ (image : Places) (labels : List ℕ) (p x : ℕ) (below : AreBelow (len
     pub next_both : (later : List ℕ) → take (length out + length into) later ≡ take (length out) met ++ labels_met labels into
         → IsMostFrequentOr (slice_index labels p) (take (length out + length into) later) x → IsNextLabel image labels p x
     next_both later met_into most = next_of (subst (λ l. IsMostFrequentOr (slice_index labels p) l x) (met_into ∙ ap (λ l. l ++ labels_met labels into) met_first) most)
+
+-- the arcs of a graph's image are linked
+linked_of : (image : Places) (g : Graph) → IsImageOf image g → IsLinked image
+linked_of image g is = record {
+  out = λ p k a within at.
+      let leads = (is.out p within).sound k a at in
+      (is.into a.other (slice_get_within image.vertices a.other leads.to leads.to_at)).complete p a.weight leads;
+  into = λ p k a within at.
+      let leads = (is.into p within).sound k a at in
+      (is.out a.other (slice_get_within image.vertices a.other leads.from leads.from_at)).complete p a.weight leads;
+}
 
 pub round_below : (image : Places) (old new : List ℕ) → IsRound image old new → AreBelow (length image.vertices) new
 round_below image old new round = record { count = round.count; each = λ p within. (round.each p within).below }
@@ -117,7 +127,7 @@ module _ (image : Places) (g : Graph) (is : IsImageOf image g) (rounds : ℕ) (o
       let met = labels_met old out ++ labels_met old into in
       let next = round.each p within in
       let most = risen f (length image.vertices) rise (slice_index old p) (slice_index new p) met
-      (each_of_both (λ y. y < length image.vertices) (labels_met old out) (labels_met old into) (met_below (length image.vertices) old out below out_within) (met_below (length image.vertices) old into below into_within)) next.most in
+      (each_of_both (λ y. y < length image.vertices) (labels_met old out) (labels_met old into) (met_below (length image.vertices) old out below out_within) (met_below (length image.vertices) old into below into_within)) (next.most (linked_of image g is)) in
       let own : f (slice_index old p) ≡ label Directed g rounds v = get_or_from_slice_get image.vertices (slice_index old p) (label Directed g rounds v) 0 (labels p v at) in
       let near : map f met ≡ map (label Directed g rounds) (targets g v ++ sources g v) =
       map-append f (labels_met old out) (labels_met old into)
@@ -130,10 +140,13 @@ module _ (image : Places) (g : Graph) (is : IsImageOf image g) (rounds : ℕ) (o
 -- ---- the table
 
 -- the ids of the labels make the table, of the graph with its directions
-pub directed_table : (image : Places) (g : Graph) → IsImageOf image g → (rounds : ℕ) (labels : List ℕ) (values : List Value) (table : List Entry)
-    → AreLabels g image.vertices rounds labels → AreValues image.vertices labels values → AreEntries image.vertices values table → IsCdlp Directed g rounds table
-directed_table image g is rounds labels values table are shown entries = table_right image g is (IsCdlpValue Directed g rounds) values table entries
-    (λ p v x at value. shown.each p x value ∙ ap Number (get_or_from_slice_get image.vertices (slice_index labels p) (label Directed g rounds v) 0 (are p v at)))
+pub directed_table : (image : Places) (g : Graph) → IsImageOf image g → (rounds : ℕ) (labels : List ℕ) (table : List Entry)
+    → AreLabels g image.vertices rounds labels → AreEntries image.vertices (map (value_of image.vertices) labels) table → IsCdlp Directed g rounds table
+directed_table image g is rounds labels table are entries = table_right image g is (IsCdlpValue Directed g rounds) (map (value_of image.vertices) labels) table entries
+    (λ p v x at value.
+    let there = get_map (value_of image.vertices) labels p x value in
+    let placed = ap (slice_get image.vertices) (sym (get_or_from_slice_get labels p there.0 0 there.1)) ∙ are p v at in
+    sym there.2 ∙ ap Number (get_or_from_slice_get image.vertices there.0 (label Directed g rounds v) 0 placed))
 
 -- and where it is symmetric, of the graph without
 pub undirected_table : (g : Graph) (rounds : ℕ) (table : List Entry) → IsSymmetric g → IsCdlp Directed g rounds table → IsCdlp Undirected g rounds table

@@ -1,5 +1,5 @@
 -- Rounds of labels over places. A label is a place.
-use Rattle.std.specs.Prelude.{◌≡◌, ℕ, ◌<◌, ◌++◌, Bool, false, List, map, length, slice_index, slice_get, Some}
+use Rattle.std.specs.Prelude.{◌≡◌, ℕ, ◌<◌, ◌++◌, Bool, false, true, List, map, length, slice_index, slice_get, Some}
 use Rattle.graph_model.specs.declared.write.Kind.TheVariants.{Directed}
 use Rattle.graph_model.specs.declared.table.Value.{Value}
 use Rattle.graph_model.specs.declared.table.Value.TheVariants.{Number}
@@ -13,9 +13,16 @@ use Rattle.kernel_cdlp.specs.Frequency.{IsMostFrequentOr}
 abbrev pub labels_met : List ℕ → List Arc → List ℕ
 labels_met labels arcs = map (λ a. slice_index labels a.other) arcs
 
+-- the arcs out and the arcs in are the same arcs, as those of each graph's image are
+pub record IsLinked (image : Places) : Type 0 where
+  pub out : (p k : ℕ) (a : Arc) → p < length image.vertices → slice_get (arcs_at image.out p) k ≡ Some a
+      → (l : ℕ) × (slice_get (arcs_at image.into a.other) l ≡ Some (record { other = p; weight = a.weight }))
+  pub into : (p k : ℕ) (a : Arc) → p < length image.vertices → slice_get (arcs_at image.into p) k ≡ Some a
+      → (l : ℕ) × (slice_get (arcs_at image.out a.other) l ≡ Some (record { other = p; weight = a.weight }))
+
 -- x is the label of p after a round: p meets a label for each arc out, and one for each arc in
 pub record IsNextLabel (image : Places) (labels : List ℕ) (p x : ℕ) : Type 0 where
-  pub most : IsMostFrequentOr (slice_index labels p)
+  pub most : IsLinked image → IsMostFrequentOr (slice_index labels p)
       (labels_met labels (arcs_at image.out p) ++ labels_met labels (arcs_at image.into p)) x
   pub below : x < length image.vertices
 
@@ -43,6 +50,17 @@ pub record IsKept (image : Places) (labels : List ℕ) (changed : List Bool) : T
   pub count : length changed ≡ length image.vertices
   pub each : (p : ℕ) → p < length image.vertices → IsQuiet image changed p → HasNextLabel image labels p
 
+-- a place that isn't awake meets no label that has changed
+pub record IsRoused (image : Places) (changed awake : List Bool) : Type 0 where
+  pub count : length awake ≡ length image.vertices
+  pub each : IsLinked image → (p : ℕ) → p < length image.vertices → slice_get awake p ≡ Some false → IsQuiet image changed p
+
+-- the other ends of the first i arcs are awake, and so is who was
+pub record IsWoken (old : List Bool) (arcs : List Arc) (i : ℕ) (awake : List Bool) : Type 0 where
+  pub count : length awake ≡ length old
+  pub stays : (p : ℕ) → slice_get old p ≡ Some true → slice_get awake p ≡ Some true
+  pub ends : (k : ℕ) (a : Arc) → k < i → slice_get arcs k ≡ Some a → slice_get awake a.other ≡ Some true
+
 -- a place that isn't marked has the label that it had before
 pub record AreMarked (before after : List ℕ) (changed : List Bool) : Type 0 where
   pub count : length changed ≡ length after
@@ -58,8 +76,6 @@ abbrev pub AreLabels : Graph → List ℕ → ℕ → List ℕ → Type 0
 AreLabels g vertices rounds labels = (p v : ℕ) → slice_get vertices p ≡ Some v
     → slice_get vertices (slice_index labels p) ≡ Some (label Directed g rounds v)
 
--- each value is the id of the label
-pub record AreValues (vertices labels : List ℕ) (values : List Value) : Type 0 where
-  pub count : length values ≡ length labels
-  pub each : (p : ℕ) (x : Value) → slice_get values p ≡ Some x
-      → x ≡ Number (slice_index vertices (slice_index labels p))
+-- a label as the table has it: the id at that place
+abbrev pub value_of : List ℕ → ℕ → Value
+value_of vertices label = Number (slice_index vertices label)

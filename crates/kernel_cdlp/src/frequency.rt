@@ -1,22 +1,43 @@
 //! The value that stands most often.
 //!
-//! 1. Values are sorted and their longest run is looked for. Of several runs of one length the first counts, which is
-//!    the one of the least value, as Graphalytics asks.
+//! 1. Where one value stands more often than all others together, it is seen by counting it. After a few rounds nearly
+//!    all places meet such a label.
+//! 2. Else values are sorted and their longest run is looked for. Of several runs of one length the first counts, which
+//!    is the one of the least value, as Graphalytics asks.
 
-ghost use Rattle.std.specs.Prelude.{◌≡◌, ℕ, ◌+◌, ◌<◌, ◌≤◌, ◌++◌, length, take, slice_index};
+ghost use Rattle.std.specs.Prelude.{◌≡◌, ℕ, ◌+◌, ◌<◌, ◌≤◌, ◌++◌, length, take, slice_index, IsTrue};
+ghost use Rattle.graph_model.specs.Labels.{times};
 ghost use Rattle.graph_image.specs.Images.{AreWithin};
 ghost use Rattle.kernel_cdlp.specs.Frequency.{IsMostFrequentOr};
 ghost use Rattle.kernel_cdlp.specs.Rounds.{labels_met};
 
 use graph_image::Arc;
 
-/// The least of the values that stand most often, or the default where there is none. It leaves the
+/// The least of the values that stand most often, or the default where there is none. It may put the
 /// values in rising order.
 pub fn most_frequent(values: &mut [u32], default: u32) -> u32
     ensures { IsMostFrequentOr default values.old result }
 {
+    // A value that has more than half of the places is likely to stand in the middle, in whatever order they are.
+    let middle = values.len() / 2;
+    if middle < values.len() && outnumbers(values, values[middle]) {
+        return values[middle];
+    }
     values.sort_unstable();
     longest_run(values, default)
+}
+
+/// Whether a value stands more often than all others together.
+fn outnumbers(values: &[u32], value: u32) -> bool
+    ensures { IsTrue result → length values.now < times values.now value + times values.now value }
+{
+    let mut count = 0usize;
+    'values: for i in 0..values.len() {
+        if values[i] == value {
+            count += 1;
+        }
+    }
+    values.len() - count < count
 }
 
 /// The same of values in rising order: the first of the longest runs.

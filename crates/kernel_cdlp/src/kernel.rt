@@ -3,15 +3,16 @@
 //! 1. Inside, a label is a place, in 32 bits; the table has the vertex of that place. Places rise with their vertices,
 //!    so the least place is the least vertex.
 
-ghost use Rattle.std.specs.Prelude.{length, IfOk};
+ghost use Rattle.std.specs.Prelude.{length, map, IfOk};
 ghost use Rattle.graph_model.specs.Graph.{Graph, IsSymmetric};
 ghost use Rattle.graph_model.specs.Tables.{IsCdlp};
 ghost use Rattle.graph_model.specs.declared.write.Kind.TheVariants.{Directed, Undirected};
+ghost use Rattle.graph_image.specs.Entries.{AreEntries};
 ghost use Rattle.graph_image.specs.Images.{IsImageOf};
-ghost use Rattle.kernel_cdlp.specs.Rounds.{AreBelow, AreValues};
+ghost use Rattle.kernel_cdlp.specs.Rounds.{value_of, AreBelow};
 
 use crate::rounds::labels_after;
-use graph_image::{Image, NoMemory, Table, Value, table_of};
+use graph_image::{Entry, Image, NoMemory, Table, Value};
 use std::alloc::Global;
 use std::thread::Threads;
 
@@ -30,21 +31,24 @@ pub fn run<R: Threads + Sync>(
         → IsCdlp Undirected g rounds table) }
 {
     let labels = labels_after(rt, alloc, image, rounds)?;
-    let values = values_of(alloc, image.vertices(), labels.as_slice())?;
-    let table = table_of(alloc, image, values.as_slice())?;
+    let table = table_by(alloc, image, labels.as_slice())?;
     Ok(table)
 }
 
-/// The ids of labels.
-fn values_of(alloc: Global, vertices: &[u64], labels: &[u32]) -> Result<Vec<Value>, NoMemory>
-    requires { AreBelow (length vertices.now) labels.now }
-    ensures { IfOk result (λ values. AreValues vertices.now labels.now values.items) }
+/// A line for each vertex, with the id of the label of its place.
+fn table_by(alloc: Global, image: &Image, labels: &[u32]) -> Result<Table, NoMemory>
+    requires { AreBelow (length image.now.vertices) labels.now }
+    ensures { IfOk result (AreEntries image.now.vertices (map (value_of image.now.vertices) labels.now)) }
 {
-    let mut values = Vec::with_capacity(alloc, labels.len())?;
-    'places: for i in 0..labels.len() {
-        values.push(Value::Number {
-            n: vertices[labels[i] as usize],
+    let vertices = image.vertices();
+    let mut entries = Vec::with_capacity(alloc, vertices.len())?;
+    'places: for i in 0..vertices.len() {
+        entries.push(Entry {
+            vertex: vertices[i],
+            value: Value::Number {
+                n: vertices[labels[i] as usize],
+            },
         })?;
     }
-    Ok(values)
+    Ok(Table::from_vec(entries))
 }

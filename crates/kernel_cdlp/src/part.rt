@@ -6,7 +6,7 @@
 
 ghost use Rattle.std.specs.Prelude.{◌≡◌, ◌+◌, ◌<◌, ◌≤◌, length, IfOk, IsTrue};
 ghost use Rattle.graph_image.specs.Images.{arcs_at, AreWithin};
-ghost use Rattle.kernel_cdlp.specs.Rounds.{AreBelow, IsNextLabel, HaveNotChanged, IsQuiet, IsKept};
+ghost use Rattle.kernel_cdlp.specs.Rounds.{AreBelow, IsNextLabel, HaveNotChanged, IsQuiet, IsKept, IsRoused};
 ghost use Rattle.kernel_cdlp.specs.Parts.{IsPart, IsRelabelled, AreParts};
 
 use crate::frequency::{meet, most_frequent};
@@ -29,15 +29,23 @@ pub struct Part {
 
 impl Part {
     /// Gives each place of the part its label after a round.
-    pub fn relabel(&mut self, image: &Image, labels: &[u32], changed: &[bool])
+    pub fn relabel(&mut self, image: &Image, labels: &[u32], changed: &[bool], awake: &[bool])
         requires part { IsPart image.now self.old }
         requires labels { AreBelow (length image.now.vertices) labels.now }
         requires kept { IsKept image.now labels.now changed.now }
+        requires roused { IsRoused image.now changed.now awake.now }
         ensures { IsRelabelled image.now labels.now self.old self.new }
     {
         'places: for k in 0..self.labels.len() {
             let place = self.first + k;
-            let label = next_label(image, labels, changed, place, self.met.as_mut_slice());
+            let label = next_label(
+                image,
+                labels,
+                changed,
+                awake,
+                place,
+                self.met.as_mut_slice(),
+            );
             self.labels[k] = label;
         }
     }
@@ -106,13 +114,24 @@ fn have_not_changed(arcs: &[Arc], changed: &[bool]) -> bool
 
 /// The label of a place after a round. Where its arcs in are those out, it reads these alone: each label
 /// would stand twice as often.
-fn next_label(image: &Image, labels: &[u32], changed: &[bool], place: usize, met: &mut [u32]) -> u32
+fn next_label(
+    image: &Image,
+    labels: &[u32],
+    changed: &[bool],
+    awake: &[bool],
+    place: usize,
+    met: &mut [u32],
+) -> u32
     requires place { place < length image.now.vertices }
     requires labels { AreBelow (length image.now.vertices) labels.now }
     requires kept { IsKept image.now labels.now changed.now }
+    requires roused { IsRoused image.now changed.now awake.now }
     requires room { length (arcs_at image.now.out place) + length (arcs_at image.now.into place) ≤ length met.old }
     ensures { IsNextLabel image.now labels.now place result }
 {
+    if !awake[place] {
+        return labels[place];
+    }
     if is_quiet(image, changed, place) {
         return labels[place];
     }

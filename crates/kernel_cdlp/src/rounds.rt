@@ -9,13 +9,15 @@ ghost use Rattle.std.specs.Prelude.{◌≡◌, ◌<◌, ◌^◌, length, IfOk, O
 ghost use Rattle.std.specs.List.{range_with_len};
 ghost use Rattle.graph_model.specs.Graph.{Graph};
 ghost use Rattle.graph_image.specs.Images.{IsImageOf};
-ghost use Rattle.kernel_cdlp.specs.Rounds.{AreBelow, AreLabels, IsRound, IsKept, AreMarked};
+ghost use Rattle.kernel_cdlp.specs.Rounds.{AreBelow, AreLabels, IsRound, IsKept, IsRoused, AreMarked};
 ghost use Rattle.kernel_cdlp.specs.Parts.{IsPart, IsRelabelled, AreParts, AreRelabelled};
 
+use crate::awake::wake;
 use crate::part::{Part, parts_of};
 use graph_image::{Image, NoMemory};
 use rayon::prelude::*;
 use std::alloc::Global;
+use std::mem;
 use std::thread::Threads;
 
 /// The label of each place after so many rounds, as a place.
@@ -33,14 +35,22 @@ pub fn labels_after<R: Threads + Sync>(
     let mut labels = first_labels(alloc, count)?;
     let mut before = Vec::with_capacity(alloc, count)?;
     let mut changed = vec![in alloc; true; count]?;
+    let mut awake = vec![in alloc; true; count]?;
     let mut parts = parts_of(alloc, image)?;
     'rounds: for _round in 0..rounds {
-        // The labels before the round are copied once, and all parts read the copy: so a round sees none of its own
-        // labels.
-        before.clear();
-        before.extend_from_slice(labels.as_slice())?;
-        round(rt, image, &mut parts, &mut labels, changed.as_slice())?;
+        // All parts read one list and the labels go into the other, so a round sees none of its own labels.
+        mem::swap(&mut before, &mut labels);
+        round(
+            rt,
+            image,
+            before.as_slice(),
+            changed.as_slice(),
+            awake.as_slice(),
+            &mut parts,
+            &mut labels,
+        )?;
         mark(before.as_slice(), labels.as_slice(), &mut changed);
+        wake(image, changed.as_slice(), &mut awake);
     }
     Ok(labels)
 }
@@ -72,17 +82,20 @@ fn mark(before: &[u32], after: &[u32], changed: &mut Vec<bool>)
 fn round<R: Threads + Sync>(
     rt: &R,
     image: &Image,
+    before: &[u32],
+    changed: &[bool],
+    awake: &[bool],
     parts: &mut Vec<Part>,
     labels: &mut Vec<u32>,
-    changed: &[bool],
 ) -> Result<(), NoMemory>
     requires parts { AreParts image.now (length image.now.vertices) parts.old.items }
-    requires labels { AreBelow (length image.now.vertices) labels.old.items }
-    requires kept { IsKept image.now labels.old.items changed.now }
+    requires labels { AreBelow (length image.now.vertices) before.now }
+    requires kept { IsKept image.now before.now changed.now }
+    requires roused { IsRoused image.now changed.now awake.now }
     ensures parts { AreParts image.now (length image.now.vertices) parts.new.items }
-    ensures ok { OnOk result (IsRound image.now labels.old.items labels.new.items) }
+    ensures ok { OnOk result (IsRound image.now before.now labels.new.items) }
 {
-    relabel_each(rt, image, labels.as_slice(), changed, parts.as_mut_slice());
+    relabel_each(rt, image, before, changed, awake, parts.as_mut_slice());
     labels.clear();
     'parts: for i in 0..parts.len() {
         labels.extend_from_slice(parts[i].labels.as_slice())?;
@@ -96,11 +109,13 @@ fn relabel_each<R: Threads + Sync>(
     image: &Image,
     labels: &[u32],
     changed: &[bool],
+    awake: &[bool],
     parts: &mut [Part],
 )
     requires parts { AreParts image.now (length image.now.vertices) parts.old }
     requires labels { AreBelow (length image.now.vertices) labels.now }
     requires kept { IsKept image.now labels.now changed.now }
+    requires roused { IsRoused image.now changed.now awake.now }
     ensures parts { AreParts image.now (length image.now.vertices) parts.new }
     ensures labels { AreRelabelled image.now labels.now parts.new }
 {
@@ -109,8 +124,8 @@ fn relabel_each<R: Threads + Sync>(
         parts,
         |_place: usize, part: &mut Part|
             requires { IsPart image.now part.old × AreBelow (length image.now.vertices) labels.now
-                × IsKept image.now labels.now changed.now }
+                × IsKept image.now labels.now changed.now × IsRoused image.now changed.now awake.now }
             ensures { IsRelabelled image.entry.now labels.entry.now part.old part.new }
-        { part.relabel(image, labels, changed) },
+        { part.relabel(image, labels, changed, awake) },
     );
 }

@@ -1,16 +1,16 @@
 -- Labels join the ends of arcs, and where all are joined they lead to the least places.
-use Rattle.std.proofs.Common.{◌≡◌, ℕ, zero, suc, ◌+◌, ◌<◌, ◌≤◌, ◌⊎◌, inl, inr, ⊎_elim, List, [], ◌∷◌, ◌++◌, length, take, slice_get, slice_set, Some, refl, sym, ap, ◌∙◌, subst, arith, get_or-set_other, get_or-set_same, length-set, length-append}
+use Rattle.std.proofs.Common.{◌≡◌, ℕ, zero, suc, ◌+◌, ◌<◌, ◌≤◌, ◌⊎◌, inl, inr, ⊎_elim, List, [], ◌∷◌, ◌++◌, length, take, slice_get, slice_set, Some, refl, sym, ap, ◌∙◌, subst, arith, get_or-set_other, get_or-set_same, length-set}
 use Rattle.std.specs.Prelude.{slice_index}
 use Rattle.std.proofs.lemmas.Bool.{cases_lt, cases_eq}
 use Rattle.std.proofs.lemmas.List.{length-take, take_all}
-use Rattle.std.proofs.lemmas.Option.{same_Some, none-some, slice_get_within, slice_get-get_or, get_or_from_slice_get}
+use Rattle.std.proofs.lemmas.Option.{same_Some, slice_get_within, slice_get-get_or, get_or_from_slice_get}
 use Rattle.graph_model.specs.Graph.{Graph}
 use Rattle.graph_model.proofs.PlaceLemmas.{get_take}
 use Rattle.graph_image.specs.declared.edge.Arc.{Arc}
 use Rattle.graph_image.specs.Images.{Places, arcs_at, Leads, IsImageOf, AreWithin}
 use Rattle.graph_image.specs.Paths.{HasTrail}
-use Rattle.graph_image.proofs.Lists.{below_cases, get_push_cases}
-use Rattle.kernel_wcc.specs.Labels.{AreLow, IsFirstLabel, Joins, AreReached, Follows, IsLabelOr, IsLabelOrEnd, IsJoined, HasEqualEnds, AreJoined, AreSound, IsDone, AreMerged, IsSettled, AreComponents}
+use Rattle.graph_image.proofs.Lists.{below_cases}
+use Rattle.kernel_wcc.specs.Labels.{AreLow, AreFirstLabels, Joins, AreReached, Follows, IsLabelOr, IsLabelOrEnd, IsJoined, HasEqualEnds, AreJoined, AreSound, IsDone, AreMerged, IsSettled, AreComponents}
 
 -- ---- trails
 
@@ -237,35 +237,25 @@ reached_joined Link old p arcs n new joined reached linked q label q_at =
 
 -- ---- first labels, and arcs out of the places that keep their own
 
-pub sound_none : (image : Places) → AreSound image 0 []
-sound_none image = record {
-  count = refl;
-  low = λ p label at. absurd (none-some label at);
-  reached = λ g is p label at. absurd (none-some label at);
-}
-
--- a place more has its first label
-pub sound_more : (image : Places) (labels : List ℕ) (p label : ℕ) → AreSound image p labels → p < length image.vertices → IsFirstLabel (arcs_at image.out p) p labels label → AreSound image (p + 1) (labels ++ label ∷ [])
-sound_more image labels p label sound below first = record {
-  count = let count = sound.count in length-append labels (label ∷ []) ∙ omega arith;
-  low = λ q other at. ⊎_elim
-      (λ before. sound.low q other before)
-      (λ here. let count = sound.count in ⊎_elim
-      (λ own. (let place = here.0 in let same = here.1 in omega arith))
-      (λ lower. (let within = slice_get_within labels lower.0.other label lower.2 in let low = sound.low lower.0.other label lower.2 in let place = here.0 in let same = here.1 in omega arith))
-      first)
-      (get_push_cases labels label q other at);
-  reached = λ g is q other at. ⊎_elim
-      (λ before. sound.reached g is q other before)
-      (λ here.
-      let place : p ≡ q = sym sound.count ∙ sym here.0 in
-      subst (λ x. Joins (Leads g image.vertices) x other) place (subst (Joins (Leads g image.vertices) p) here.1 (⊎_elim
+-- first labels join what links join
+pub first_sound : (image : Places) (labels : List ℕ) → AreFirstLabels image labels → AreSound image (length image.vertices) labels
+first_sound image labels first = record {
+  count = first.count;
+  low = λ p label at.
+      let within = slice_get_within labels p label at in
+      let count = first.count in
+      let read = get_or_from_slice_get labels p label 0 at in
+      ⊎_elim (λ own. omega arith) (λ lower. (let less = lower.2 in let same = lower.3 in omega arith)) (first.each p (omega arith));
+  reached = λ g is p label at.
+      let within = slice_get_within labels p label at in
+      let count = first.count in
+      let read = get_or_from_slice_get labels p label 0 at in
+      let below : p < length image.vertices = omega arith in
+      subst (Joins (Leads g image.vertices) p) read (⊎_elim
       (λ own. ([], sym own))
-      (λ lower. joins_on (Leads g image.vertices) p lower.0.other label
-      (joins_link (Leads g image.vertices) p lower.0.other (inl (lower.0.weight, (is.out p below).sound 0 lower.0 lower.1)))
-      (sound.reached g is lower.0.other label lower.2))
-      first)))
-      (get_push_cases labels label q other at);
+      (λ lower. subst (Joins (Leads g image.vertices) p) (sym lower.3)
+      (joins_link (Leads g image.vertices) p lower.0.other (inl (lower.0.weight, (is.out p below).sound 0 lower.0 lower.1))))
+      (first.each p below));
 }
 
 module _ (image : Places) (labels : List ℕ) (sound : AreSound image (length image.vertices) labels) (p : ℕ) (below : p < length image.vertices) where

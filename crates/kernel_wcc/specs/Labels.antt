@@ -15,10 +15,14 @@ value_of vertices label = Number (slice_index vertices label)
 abbrev pub AreLow : List ℕ → Type 0
 AreLow labels = (p label : ℕ) → slice_get labels p ≡ Some label → label ≤ p
 
--- the label of p is that of a lower place to which an arc of the list leads, or p itself
-abbrev pub IsFirstLabel : List Arc → ℕ → List ℕ → ℕ → Type 0
-IsFirstLabel arcs p labels label = (label ≡ p)
-    ⊎ ((a : Arc) × (slice_get arcs 0 ≡ Some a) × (slice_get labels a.other ≡ Some label))
+-- the label is a lower place to which the first arc of the list leads, or p itself
+abbrev pub IsFirstLabel : List Arc → ℕ → ℕ → Type 0
+IsFirstLabel arcs p label = (label ≡ p) ⊎ ((a : Arc) × (slice_get arcs 0 ≡ Some a) × (a.other < p) × (label ≡ a.other))
+
+-- each place has its first label
+pub record AreFirstLabels (image : Places) (labels : List ℕ) : Type 0 where
+  pub count : length labels ≡ length image.vertices
+  pub each : (p : ℕ) → p < length image.vertices → IsFirstLabel (arcs_at image.out p) p (slice_index labels p)
 
 -- ---- what labels join
 

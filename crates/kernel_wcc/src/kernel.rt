@@ -16,12 +16,12 @@ use std::alloc::Global;
 use std::thread::Threads;
 
 /// Weakly connected components: each vertex in rising order, with the least id of a vertex of its
-/// component, where the direction of arcs doesn't count (LDBC Graphalytics, WCC). It runs on one thread.
+/// component, where the direction of arcs doesn't count (LDBC Graphalytics, WCC).
 /// No clause speaks of running out of memory.
-pub fn run<R: Threads + Sync>(_rt: &R, alloc: Global, image: &Image) -> Result<Table, NoMemory>
+pub fn run<R: Threads + Sync>(rt: &R, alloc: Global, image: &Image) -> Result<Table, NoMemory>
     ensures { IfOk result (λ table. (g : Graph) → IsImageOf image.now g → IsWcc g table) }
 {
-    let labels = components(alloc, image)?;
+    let labels = components(rt, alloc, image)?;
     let table = table_by(alloc, image, labels.as_slice())?;
     Ok(table)
 }

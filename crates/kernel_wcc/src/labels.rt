@@ -1,25 +1,37 @@
 //! Labels that sink until each names the least place of its component.
 //!
-//! 1. Each place begins with the label of its lowest neighbour, by which most of the largest component is joined at
-//!    once.
+//! 1. Each place begins with its lowest neighbour as its label, by which most of the largest component is joined at
+//!    once. No such label depends on another, so several threads find them.
 //! 2. Places that have that component's label already are passed over from then on, so few arcs are looked at.
 
 ghost use Rattle.std.specs.Prelude.{◌≡◌, ℕ, ◌+◌, ◌<◌, ◌^◌, length, IfOk};
 ghost use Rattle.graph_model.specs.Graph.{Graph};
-ghost use Rattle.graph_image.specs.Images.{IsImageOf, Leads, AreWithin};
-ghost use Rattle.kernel_wcc.specs.Labels.{AreLow, IsFirstLabel, IsJoined, AreJoined, AreSound, AreMerged, IsSettled, AreComponents};
+ghost use Rattle.graph_image.specs.Images.{IsImageOf, Leads, AreWithin, arcs_at};
+ghost use Rattle.kernel_wcc.specs.Labels.{AreLow, IsFirstLabel, AreFirstLabels, IsJoined, AreJoined, AreSound, AreMerged, IsSettled, AreComponents};
 
 use graph_image::{Arc, Image, NoMemory};
+use rayon::current_num_threads;
 use std::alloc::Global;
+use std::thread::{Threads, for_each_mut};
+
+/// An image of fewer places isn't worth a thread.
+const SMALL: usize = 16384;
+
+/// More threads than these share the places no better.
+const MOST_THREADS: usize = 32;
 
 /// The label of each place: the least place of its component.
-pub fn components(alloc: Global, image: &Image) -> Result<Vec<u32>, NoMemory>
+pub fn components<R: Threads + Sync>(
+    rt: &R,
+    alloc: Global,
+    image: &Image,
+) -> Result<Vec<u32>, NoMemory>
     ensures count { IfOk result (λ labels. length labels.items ≡ length image.now.vertices) }
     ensures low { IfOk result (λ labels. AreLow labels.items) }
     ensures components { IfOk result (λ labels. (g : Graph) → IsImageOf image.now g
         → AreComponents (Leads g image.now.vertices) labels.items) }
 {
-    let mut labels = first_labels(alloc, image)?;
+    let mut labels = first_labels(rt, alloc, image)?;
     join_roots(image, &mut labels);
     settle(&mut labels);
     // The place with the most arcs is likely in the largest component, so most places have its label now and are passed
@@ -32,26 +44,55 @@ pub fn components(alloc: Global, image: &Image) -> Result<Vec<u32>, NoMemory>
     Ok(labels)
 }
 
-/// The label of the lowest place that an arc leads to, where that is lower, else the place itself. In rising
-/// order a lower place has its label already, so the labels are settled.
-fn first_labels(alloc: Global, image: &Image) -> Result<Vec<u32>, NoMemory>
+/// The first labels of all places, settled.
+fn first_labels<R: Threads + Sync>(
+    rt: &R,
+    alloc: Global,
+    image: &Image,
+) -> Result<Vec<u32>, NoMemory>
     ensures { IfOk result (λ labels. AreSound image.now (length image.now.vertices) labels.items) }
 {
-    let mut labels = Vec::with_capacity(alloc, image.len())?;
-    'places: for place in 0..image.len() {
-        let label = first_label(image.out(place), place, labels.as_slice());
-        labels.push(label)?;
-    }
+    let mut labels = vec![in alloc; 0u32; image.len()]?;
+    label_each(rt, image, &mut labels);
+    settle(&mut labels);
     Ok(labels)
 }
 
-/// The first label of a place, where all lower places have theirs.
-fn first_label(arcs: &[Arc], place: usize, labels: &[u32]) -> u32
-    requires { (length labels.now ≡ place) × (place < 2 ^ 32) }
-    ensures { IsFirstLabel arcs.now place labels.now result }
+/// Gives each place its first label.
+fn label_each<R: Threads + Sync>(rt: &R, image: &Image, labels: &mut Vec<u32>)
+    requires { length labels.old.items ≡ length image.now.vertices }
+    ensures { AreFirstLabels image.now labels.new.items }
+{
+    let threads = threads_for(rt, image.len());
+    for_each_mut(
+        rt,
+        labels.as_mut_slice(),
+        threads,
+        &|place: usize, label: &mut u32|
+            requires { (place < length image.now.vertices) × (length image.now.vertices < 2 ^ 32) }
+            ensures { IsFirstLabel (arcs_at image.entry.now.out place) place label.new }
+        { *label = first_label(image.out(place), place) },
+    );
+}
+
+/// How many threads are worth it for so many places.
+fn threads_for<R: Threads + Sync>(rt: &R, places: usize) -> usize
+    ensures { 0 < result }
+{
+    if places < SMALL {
+        1
+    } else {
+        current_num_threads(rt).min(MOST_THREADS)
+    }
+}
+
+/// The lowest place that an arc leads to, where that is lower, else the place itself.
+fn first_label(arcs: &[Arc], place: usize) -> u32
+    requires { place < 2 ^ 32 }
+    ensures { IsFirstLabel arcs.now place result }
 {
     match arcs.first() {
-        Some(arc) if (arc.other as usize) < place => labels[arc.other as usize],
+        Some(arc) if (arc.other as usize) < place => arc.other,
         _ => place as u32,
     }
 }

@@ -1,7 +1,7 @@
 //! Weakly connected components over the image of a graph (LDBC Graphalytics, WCC).
 //!
-//! 1. Each place has a label: a place of its component that isn't above it. At first that is the label of the lowest
-//!    place to which an arc leads from it, if that one is lower, so that trees grow with no search.
+//! 1. Each place has a label: a place of its component that isn't above it. At first that is the lowest place to which
+//!    an arc leads from it, if that one is lower, so that trees grow with no search.
 //! 2. To join two places is to make their labels lead to one place, by labels that only sink. First each place that
 //!    is still its own label is joined with the ends of its arcs. In most graphs nearly all places of the largest
 //!    component have one label then.

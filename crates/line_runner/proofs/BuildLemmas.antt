@@ -9,7 +9,10 @@ use Rattle.graph_model.specs.Rows.{all_rows, AreRowsOf}
 use Rattle.graph_model.proofs.RowLemmas.{rows_rise}
 use Rattle.graph_image.specs.Building.{AreStorable}
 use Rattle.graph_image.proofs.GivenLemmas.{rows_light}
-use Rattle.run_model.specs.Requests.{Query, WeightOf, NeighboursOf, Counts, Request, ToBegin, ToCommit, ToAbort, ToWrite, ToRead, ToRun}
+use Rattle.run_model.specs.declared.command.Command.{Command}
+use Rattle.run_model.specs.declared.command.Command.TheVariants as commands
+use Rattle.run_model.specs.declared.command.Query.{Query}
+use Rattle.run_model.specs.declared.command.Query.TheVariants.{WeightOf, NeighboursOf, Counts}
 use Rattle.line_runner.specs.declared.scan.ScanResult.{ScanResult}
 use Rattle.line_runner.specs.Scanning.{IsQueryResult, IsResult, rows_of_line, FitIn}
 
@@ -36,14 +39,14 @@ query_fits (NeighboursOf v) given more count result is = subst (λ x. FitIn x mo
 query_fits Counts given more count result is = subst (λ x. FitIn x more count) (sym is) tt
 
 -- the next portion may be taken in
-pub fits : (g : Graph) → AreRowsOf (all_rows g) g → IsBounded g → (r : Request) (given more left : List Row) (count : ℕ) (result : ScanResult) → IsResult r given result
+pub fits : (g : Graph) → AreRowsOf (all_rows g) g → IsBounded g → (r : Command) (given more left : List Row) (count : ℕ) (result : ScanResult) → IsResult r given result
     → given ++ left ≡ rows_of_line g r → more ≡ take SCAN_ROWS left → count ≡ length given + length more → FitIn result more count
-fits g are bounded ToBegin given more left count result is whole next counted = absurd is
-fits g are bounded ToCommit given more left count result is whole next counted = absurd is
-fits g are bounded ToAbort given more left count result is whole next counted = absurd is
-fits g are bounded (ToWrite w) given more left count result is whole next counted = absurd is
-fits g are bounded (ToRead query) given more left count result is whole next counted = query_fits query given more count result is
-fits g are bounded (ToRun kernel file) given more left count result is whole next counted =
+fits g are bounded commands.Begin given more left count result is whole next counted = absurd is
+fits g are bounded commands.Commit given more left count result is whole next counted = absurd is
+fits g are bounded commands.Abort given more left count result is whole next counted = absurd is
+fits g are bounded (commands.Write w) given more left count result is whole next counted = absurd is
+fits g are bounded (commands.Read query) given more left count result is whole next counted = query_fits query given more count result is
+fits g are bounded (commands.Run kernel file) given more left count result is whole next counted =
     let rest : more ++ drop SCAN_ROWS left ≡ left = ap (λ xs. xs ++ drop SCAN_ROWS left) next ∙ take-append-drop SCAN_ROWS left in
     let all : (given ++ more) ++ drop SCAN_ROWS left ≡ all_rows g = append_assoc given more (drop SCAN_ROWS left) ∙ ap (λ xs. given ++ xs) rest ∙ whole in
     subst (λ x. FitIn x more count) (sym is) (λ few. front_storable g (all_rows g) (given ++ more) (drop SCAN_ROWS left) are bounded all (omega (arith, few, counted, length-append given more)))

@@ -26,7 +26,11 @@ use Rattle.run_model.specs.declared.answer.Answer.{Answer}
 use Rattle.run_model.specs.declared.answer.Answer.TheVariants as answers
 use Rattle.run_model.specs.AnsweredLines.{effect}
 use Rattle.run_model.specs.Answering.{refusal_answer, query_answer, kernel_answer}
-use Rattle.run_model.specs.Requests.{Query, WeightOf, NeighboursOf, Counts, Kernel, request, Request, ToBegin, ToCommit, ToAbort, ToWrite, ToRead, ToRun, next_txn, open_behind}
+use Rattle.run_model.specs.declared.command.Command.TheVariants as commands
+use Rattle.run_model.specs.declared.command.Query.{Query}
+use Rattle.run_model.specs.declared.command.Query.TheVariants.{WeightOf, NeighboursOf, Counts}
+use Rattle.run_model.specs.declared.command.Kernel.{Kernel}
+use Rattle.run_model.specs.Commands.{next_txn, open_behind}
 use Rattle.run_model.specs.Run.{filing_of, txn_name}
 use Rattle.run_model.specs.Jobs.{LineResult, goes_on, writes_more, stops, skips, begins, ends, write_result, commit_result}
 use Rattle.line_runner.specs.declared.answering.LineAnswer.{LineAnswer}
@@ -50,7 +54,7 @@ no_file core false = refl
 
 module _ (old : Core) (inside : old.selected < length old.passes) where
   -- a line by its result
-  by_result : (skipping full : Bool) (r : Request) (given : LineAnswer) (new : Core) (result : LineResult) → result_here old skipping full r ≡ result
+  by_result : (skipping full : Bool) (r : Command) (given : LineAnswer) (new : Core) (result : LineResult) → result_here old skipping full r ≡ result
       → (full ≡ true → SPLIT_ROWS * old.leaves ≤ inserted_here old)
       → given.answer ≡ result.answer → given.phase ≡ phase_behind result
       → IsFileOn old.kind (view_here old) (cond (effect given.answer).files (filing_of r) None) given.table
@@ -71,7 +75,7 @@ module _ (old : Core) (inside : old.selected < length old.passes) where
   not_full e = cc
 
   -- nothing has changed
-  stays : (r : Request) (a : Answer) → made_behind (current old).made r a ≡ (current old).made → next_txn (current old).begun r ≡ (current old).begun
+  stays : (r : Command) (a : Answer) → made_behind (current old).made r a ≡ (current old).made → next_txn (current old).begun r ≡ (current old).begun
       → old ≡ core_behind old r (goes_on (seat old false) a) (current old).sighted (current old).filled
   stays r a made begun = λ i. record old {
     journal = sym (append-nil old.journal) i;
@@ -81,66 +85,66 @@ module _ (old : Core) (inside : old.selected < length old.passes) where
   -- ---- the ends of a transaction
 
   -- a begin
-  pub begin_does : (begun : Begun) (new : Core) → BeginsHere old (Ok begun) new → DoesLine old false ToBegin (plain (answers.Begun begun.by begun.start) Open) new
+  pub begin_does : (begun : Begun) (new : Core) → BeginsHere old (Ok begun) new → DoesLine old false commands.Begin (plain (answers.Begun begun.by begun.start) Open) new
   begin_does begun new is =
-      by_result false false ToBegin (plain (answers.Begun begun.by begun.start) Open) new (begins (txn_name old.selected ((current old).begun + 1)) (length old.journal)) refl not_full
+      by_result false false commands.Begin (plain (answers.Begun begun.by begun.start) Open) new (begins (txn_name old.selected ((current old).begun + 1)) (length old.journal)) refl not_full
       (λ i. answers.Begun (is.1 i).by (is.1 i).start) refl refl (current old).sighted (current old).filled
       (is.2 ∙ (λ i. record (with_current old (begun_pass old)) { journal = sym (append-nil old.journal) i }))
 
   -- an abort
-  pub abort_does : (new : Core) → AbortsHere old new → DoesLine old false ToAbort (plain answers.Aborted Between) new
+  pub abort_does : (new : Core) → AbortsHere old new → DoesLine old false commands.Abort (plain answers.Aborted Between) new
   abort_does new is =
-      by_result false false ToAbort (plain answers.Aborted Between) new (ends answers.Aborted []) refl not_full refl refl refl (current old).sighted (current old).filled
+      by_result false false commands.Abort (plain answers.Aborted Between) new (ends answers.Aborted []) refl not_full refl refl refl (current old).sighted (current old).filled
       (is ∙ (λ i. record (with_current old (ended_pass old)) { journal = sym (append-nil old.journal) i }))
 
   -- a commit
-  pub commit_does : (stamp : Option ℕ) (new : Core) → CommitsHere old stamp new → DoesLine old false ToCommit (plain (answers.Committed stamp) Between) new
+  pub commit_does : (stamp : Option ℕ) (new : Core) → CommitsHere old stamp new → DoesLine old false commands.Commit (plain (answers.Committed stamp) Between) new
   commit_does stamp new is = by_own (current old).own refl is.2
     where
       named : (start : ℕ) → (current old).start ≡ Some start → (own : List Write) → (current old).own ≡ own
-          → result_here old false false ToCommit ≡ commit_result old.journal (name_here old) start own
+          → result_here old false false commands.Commit ≡ commit_result old.journal (name_here old) start own
       named start opened own f = λ i. commit_result old.journal (name_here old) (unwrap_or (opened i) 0) (f i)
 
-      by_own : (own : List Write) → (current old).own ≡ own → CommitsHereFrom old is.0 own stamp new → DoesLine old false ToCommit (plain (answers.Committed stamp) Between) new
+      by_own : (own : List Write) → (current old).own ≡ own → CommitsHereFrom old is.0 own stamp new → DoesLine old false commands.Commit (plain (answers.Committed stamp) Between) new
       by_own [] f done =
-          by_result false false ToCommit (plain (answers.Committed stamp) Between) new (commit_result old.journal (name_here old) is.0 []) (named is.0 is.1 [] f) not_full
+          by_result false false commands.Commit (plain (answers.Committed stamp) Between) new (commit_result old.journal (name_here old) is.0 []) (named is.0 is.1 [] f) not_full
           (ap answers.Committed done.0) refl refl (current old).sighted (current old).filled
           (done.1 ∙ (λ i. record (with_current old (ended_pass old)) { journal = sym (append-nil old.journal) i }))
       by_own (w ∷ ws) f done =
-          by_result false false ToCommit (plain (answers.Committed stamp) Between) new (commit_result old.journal (name_here old) is.0 (w ∷ ws)) (named is.0 is.1 (w ∷ ws) f) not_full
+          by_result false false commands.Commit (plain (answers.Committed stamp) Between) new (commit_result old.journal (name_here old) is.0 (w ∷ ws)) (named is.0 is.1 (w ∷ ws) f) not_full
           (ap answers.Committed done.0) refl refl (current old).sighted (current old).filled done.1
 
   -- ---- reads
 
   -- a read, or a kernel, that leaves the core as it was
   pub read_does : (query : Query) (a : Answer) (new : Core) → IsSome (current old).start → a ≡ query_answer old.kind (view_here old) query → new ≡ old
-      → DoesLine old false (ToRead query) (plain a Open) new
+      → DoesLine old false (commands.Read query) (plain a Open) new
   read_does query a new opened is same =
       let o = some_of (current old).start opened in
-      by_result false false (ToRead query) (plain a Open) new (goes_on (seat old false) (query_answer old.kind (view_here old) query)) refl not_full
+      by_result false false (commands.Read query) (plain a Open) new (goes_on (seat old false) (query_answer old.kind (view_here old) query)) refl not_full
       is (sym (ap phase_at o.1)) (no_file old (effect a).files) (current old).sighted (current old).filled
-      (same ∙ stays (ToRead query) (query_answer old.kind (view_here old) query) refl refl)
+      (same ∙ stays (commands.Read query) (query_answer old.kind (view_here old) query) refl refl)
 
   pub run_does : (kernel : Kernel) (file : List ℕ) (given : LineAnswer) (new : Core) → IsSome (current old).start → given.answer ≡ kernel_answer (view_here old) kernel → given.phase ≡ Open
-      → IsFileOn old.kind (view_here old) (cond (effect given.answer).files (filing_of (ToRun kernel file)) None) given.table → new ≡ old → DoesLine old false (ToRun kernel file) given new
+      → IsFileOn old.kind (view_here old) (cond (effect given.answer).files (filing_of (commands.Run kernel file)) None) given.table → new ≡ old → DoesLine old false (commands.Run kernel file) given new
   run_does kernel file given new opened is phase table same =
       let o = some_of (current old).start opened in
-      by_result false false (ToRun kernel file) given new (goes_on (seat old false) (kernel_answer (view_here old) kernel)) refl not_full
+      by_result false false (commands.Run kernel file) given new (goes_on (seat old false) (kernel_answer (view_here old) kernel)) refl not_full
       is (phase ∙ sym (ap phase_at o.1)) table (current old).sighted (current old).filled
-      (same ∙ stays (ToRun kernel file) (kernel_answer (view_here old) kernel) refl refl)
+      (same ∙ stays (commands.Run kernel file) (kernel_answer (view_here old) kernel) refl refl)
 
   -- ---- a line that is skipped
 
-  skips_same : (r : Request) (behind : Bool) → open_behind true r ≡ Some behind → (made : List (List Write)) (begun : ℕ)
+  skips_same : (r : Command) (behind : Bool) → open_behind true r ≡ Some behind → (made : List (List Write)) (begun : ℕ)
       → (made_behind made r answers.Skipped ≡ made) × (next_txn begun r ≡ begun)
-  skips_same ToBegin behind e made begun = let no : ◌≡◌ {A = Option Bool} None (Some behind) = e in cc
-  skips_same ToCommit behind e made begun = (refl, refl)
-  skips_same ToAbort behind e made begun = (refl, refl)
-  skips_same (ToWrite w) behind e made begun = (refl, refl)
-  skips_same (ToRead query) behind e made begun = (refl, refl)
-  skips_same (ToRun kernel file) behind e made begun = (refl, refl)
+  skips_same commands.Begin behind e made begun = let no : ◌≡◌ {A = Option Bool} None (Some behind) = e in cc
+  skips_same commands.Commit behind e made begun = (refl, refl)
+  skips_same commands.Abort behind e made begun = (refl, refl)
+  skips_same (commands.Write w) behind e made begun = (refl, refl)
+  skips_same (commands.Read query) behind e made begun = (refl, refl)
+  skips_same (commands.Run kernel file) behind e made begun = (refl, refl)
 
-  pub skip_does : (r : Request) (behind : Bool) → open_behind true r ≡ Some behind → (current old).start ≡ None → (current old).own ≡ []
+  pub skip_does : (r : Command) (behind : Bool) → open_behind true r ≡ Some behind → (current old).start ≡ None → (current old).own ≡ []
       → DoesLine old true r (plain answers.Skipped (phase_behind (skips r))) old
   skip_does r behind stands closed none =
       let same = skips_same r behind stands (current old).made (current old).begun in
@@ -154,30 +158,30 @@ module _ (old : Core) (inside : old.selected < length old.passes) where
 
   module _ (w : Write) (start : ℕ) (opened : (current old).start ≡ Some start) where
     result_write : (full : Bool) (x : Option Refusal) (y : Option Cause) → refused (view_of (account_here old) start) w ≡ x → conflict_here old start w ≡ y
-        → result_here old false full (ToWrite w) ≡ write_result (seat old false) w x y full
+        → result_here old false full (commands.Write w) ≡ write_result (seat old false) w x y full
     result_write full x y ex ey = λ i. write_result (seat old false) w
         ((ap (λ s. refused (view old.kind old.journal (unwrap_or s 0) (current old).own) w) opened ∙ ex) i)
         ((ap (λ s. conflict old.kind old.journal (open_txns old) (name_here old) (unwrap_or s 0) w) opened ∙ ey) i) full
 
     -- by what the write was answered
     abbrev Done : Result LineAnswer NoMemory → Core → Type 0
-    Done result new = IfOk result (λ given. DoesLine old false (ToWrite w) given new)
+    Done result new = IfOk result (λ given. DoesLine old false (commands.Write w) given new)
 
     -- the graph refused it
     refused_done : (refusal : Refusal) (a : Answer) → refusal_answer refusal ≡ a → (effect a).writes ≡ false → (mid new : Core) (result : Result LineAnswer NoMemory)
         → (refused (view_of (account_here old) start) w ≡ Some refusal) × (mid ≡ old) → GoesOpen mid a result new → Done result new
     refused_done refusal a same none mid new result is goes = subst (λ x. Done x new) (sym goes.0)
-        (by_result false false (ToWrite w) (plain a Open) new (goes_on (seat old false) (refusal_answer refusal))
+        (by_result false false (commands.Write w) (plain a Open) new (goes_on (seat old false) (refusal_answer refusal))
         (result_write false (Some refusal) (conflict_here old start w) is.0 refl) not_full (sym same) (sym (ap phase_at opened)) (no_file old (effect a).files)
         (current old).sighted (current old).filled
-        (goes.1 ∙ is.1 ∙ stays (ToWrite w) (refusal_answer refusal) (ap (λ x. made_behind (current old).made (ToWrite w) x) same ∙ ap (λ b. cond b (last_with (current old).made w) (current old).made) none) refl))
+        (goes.1 ∙ is.1 ∙ stays (commands.Write w) (refusal_answer refusal) (ap (λ x. made_behind (current old).made (commands.Write w) x) same ∙ ap (λ b. cond b (last_with (current old).made w) (current old).made) none) refl))
 
     -- it stops the transaction
     stopped_done : (a : Answer) → (effect a).writes ≡ false → (full : Bool) → (full ≡ true → SPLIT_ROWS * old.leaves ≤ inserted_here old)
-        → result_here old false full (ToWrite w) ≡ stops a → (state : PassState) → state.made ≡ (current old).made → state.begun ≡ (current old).begun → state.allowed ≡ (current old).allowed
+        → result_here old false full (commands.Write w) ≡ stops a → (state : PassState) → state.made ≡ (current old).made → state.begun ≡ (current old).begun → state.allowed ≡ (current old).allowed
         → (mid new : Core) (result : Result LineAnswer NoMemory) → mid ≡ with_current old state → StopsOn AbortsHere mid a result new → Done result new
     stopped_done a none full filling is state made begun allowed mid new result from stop = subst (λ x. Done x new) (sym stop.0)
-        (by_result false full (ToWrite w) (plain a Skipping) new (stops a) is filling refl refl (no_file old (effect a).files) state.sighted state.filled
+        (by_result false full (commands.Write w) (plain a Skipping) new (stops a) is filling refl refl (no_file old (effect a).files) state.sighted state.filled
         (stop.1 ∙ ap (λ x. with_current x (ended_pass x)) from ∙ ended_of old inside state
         ∙ (λ i. record old {
           journal = sym (append-nil old.journal) i;
@@ -194,7 +198,7 @@ module _ (old : Core) (inside : old.selected < length old.passes) where
 
     pub write_done : (r : Result (Unit {0}) Refusal) (mid new : Core) (result : Result LineAnswer NoMemory) → WritesHereFrom old start w r mid → FinishesOn AbortsHere mid r result new → Done result new
     write_done (Ok done) mid new result is goes = subst (λ x. Done x new) (sym goes.0)
-        (by_result false false (ToWrite w) (plain answers.Done Open) new (writes_more (seat old false) w) (result_write false None None is.0 is.1) not_full refl (sym (ap phase_at opened)) refl
+        (by_result false false (commands.Write w) (plain answers.Done Open) new (writes_more (seat old false) w) (result_write false None None is.0 is.1) not_full refl (sym (ap phase_at opened)) refl
         (current old).sighted (current old).filled
         (goes.1 ∙ is.2 ∙ (λ i. record (with_current old (written_pass old w)) { journal = sym (append-nil old.journal) i })))
     write_done (Err refusals.SelfLoop) mid new result is goes = refused_done refusals.SelfLoop answers.SelfLoop refl refl mid new result is goes

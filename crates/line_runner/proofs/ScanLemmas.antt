@@ -9,7 +9,10 @@ use Rattle.graph_model.specs.Graph.{Graph}
 use Rattle.graph_model.specs.Rows.{rows}
 use Rattle.graph_model.specs.Scans.{rows_left, ScansBy}
 use Rattle.graph_model.proofs.AccountLemmas.{done_is_whole}
-use Rattle.run_model.specs.Requests.{Query, WeightOf, NeighboursOf, Counts, Request, ToBegin, ToCommit, ToAbort, ToWrite, ToRead, ToRun}
+use Rattle.run_model.specs.declared.command.Command.{Command}
+use Rattle.run_model.specs.declared.command.Command.TheVariants as commands
+use Rattle.run_model.specs.declared.command.Query.{Query}
+use Rattle.run_model.specs.declared.command.Query.TheVariants.{WeightOf, NeighboursOf, Counts}
 use Rattle.line_runner.specs.declared.scan.Scan.{Scan}
 use Rattle.line_runner.specs.declared.scan.ScanResult.{ScanResult}
 use Rattle.line_runner.specs.declared.scan.ScanResult.TheVariants.{Targets, Vertices, Rows}
@@ -25,13 +28,13 @@ query_more (WeightOf u v) given more result is = absurd is
 query_more (NeighboursOf v) given more result is = ap (λ x. with_rows x more) is ∙ ap Targets (sym (map-append target_of given more))
 query_more Counts given more result is = ap (λ x. with_rows x more) is ∙ ap Vertices (sym (count_append is_vertex given more))
 
-pub result_more : (r : Request) (given more : List Row) (result : ScanResult) → IsResult r given result → IsResult r (given ++ more) (with_rows result more)
-result_more ToBegin given more result is = absurd is
-result_more ToCommit given more result is = absurd is
-result_more ToAbort given more result is = absurd is
-result_more (ToWrite w) given more result is = absurd is
-result_more (ToRead query) given more result is = query_more query given more result is
-result_more (ToRun kernel file) given more result is = ap (λ x. with_rows x more) is
+pub result_more : (r : Command) (given more : List Row) (result : ScanResult) → IsResult r given result → IsResult r (given ++ more) (with_rows result more)
+result_more commands.Begin given more result is = absurd is
+result_more commands.Commit given more result is = absurd is
+result_more commands.Abort given more result is = absurd is
+result_more (commands.Write w) given more result is = absurd is
+result_more (commands.Read query) given more result is = query_more query given more result is
+result_more (commands.Run kernel file) given more result is = ap (λ x. with_rows x more) is
 
 -- no more vertices than rows were counted
 bounded_more : (result : ScanResult) (n : ℕ) (more : List Row) → vertices_in result ≤ n → vertices_in (with_rows result more) ≤ n + length more
@@ -40,7 +43,7 @@ bounded_more (Vertices count) n more le = omega (arith, le, count_by-le-length i
 bounded_more (Rows kept) n more le = omega arith
 
 -- a scan that has been given nothing
-pub fresh : (g : Graph) (r : Request) (scan : Scan) (next until : Key) (result : ScanResult) → scan ≡ record { cursor = record { next = next; until = until; done = false }; rows = 0; result = result }
+pub fresh : (g : Graph) (r : Command) (scan : Scan) (next until : Key) (result : ScanResult) → scan ≡ record { cursor = record { next = next; until = until; done = false }; rows = 0; result = result }
     → rows g next until ≡ rows_of_line g r → IsResult r [] result → vertices_in result ≡ 0 → IsScan g r scan
 fresh g r scan next until result is whole kept none = subst (IsScan g r) (sym is) (record {
   given = [];
@@ -55,7 +58,7 @@ fresh g r scan next until result is whole kept none = subst (IsScan g r) (sym is
 
 -- ONE TURN
 pub step_is : (g : Graph) (old new : Scan) (given : List Row) → ScansBy g old.cursor new.cursor given → new.rows ≡ old.rows + length given → new.result ≡ with_rows old.result given → new.rows < 2 ^ 64
-    → (r : Request) → IsScan g r old → ScansOn g r old new
+    → (r : Command) → IsScan g r old → ScansOn g r old new
 step_is g old new given by rows result small r scan = record {
   small = small;
   portion = λ going. let on = by.goes_on going in (

@@ -15,7 +15,9 @@ use Rattle.graph_model.specs.Graph.{Graph}
 use Rattle.graph_model.specs.Scans.{rows_left}
 use Rattle.run_model.specs.declared.answer.Answer.TheVariants as answers
 use Rattle.run_model.specs.declared.command.Command.{Command}
-use Rattle.run_model.specs.Requests.{WeightOf, NeighboursOf, Counts, request, Request, ToBegin, ToCommit, ToAbort, ToWrite, ToRead, ToRun, open_behind}
+use Rattle.run_model.specs.declared.command.Command.TheVariants as commands
+use Rattle.run_model.specs.declared.command.Query.TheVariants.{WeightOf, NeighboursOf, Counts}
+use Rattle.run_model.specs.Commands.{open_behind}
 use Rattle.run_model.specs.Jobs.{scanned, skips}
 use Rattle.line_runner.specs.declared.answering.LineAnswer.{LineAnswer}
 use Rattle.line_runner.specs.declared.phase.Phase.{Phase}
@@ -69,7 +71,7 @@ write_wants {S = S} e old new w wanted opened (wrote, mid, did, finishes) = by_r
     by_refusal (Err refusals.NoMemory) did is = inr (inl (opened, (w, subst (λ s. e.writes old w (Err refusals.NoMemory) s) (sym is.1) did)))
 
 -- a line that writes is one of a transaction, where it isn't skipped
-pub in_txn : (a : Account) (phase : Phase) (reading : Option Reading) (r : Request) (w : Write) → MayTakeNow a phase reading r → r ≡ ToWrite w → (phase ≡ Skipping → ⊥) → IsSome a.start
+pub in_txn : (a : Account) (phase : Phase) (reading : Option Reading) (r : Command) (w : Write) → MayTakeNow a phase reading r → r ≡ commands.Write w → (phase ≡ Skipping → ⊥) → IsSome a.start
 in_txn a phase reading r w may same other = by_phase phase refl
   where
     by_phase : (p : Phase) → phase ≡ p → IsSome a.start
@@ -99,44 +101,44 @@ one_turn n = grind (arith, nat_tests)
 
 module _ {S : Type 0} (e : Calls S) (old : S) (phase : Phase) (reading : Option Reading) where
   -- a line that scans nothing is answered at once
-  takes_answer : is_skipping phase ≡ false → (command x : Command) → command ≡ x → ((g : Graph) → scanned g (request x) ≡ 0)
-      → (given : LineAnswer) (new : S) → AnswersLive e old (request x) given new → AnswersOn e old phase reading (request command) given new
-  takes_answer calm command x is none given new does = subst (λ y. AnswersOn e old phase reading (request y) given new) (sym is) (record {
+  takes_answer : is_skipping phase ≡ false → (command x : Command) → command ≡ x → ((g : Graph) → scanned g x ≡ 0)
+      → (given : LineAnswer) (new : S) → AnswersLive e old x given new → AnswersOn e old phase reading command given new
+  takes_answer calm command x is none given new does = subst (λ y. AnswersOn e old phase reading y given new) (sym is) (record {
     last = (λ i. nat_lt (taken_of reading + 1) (cond (calm i) 1 (none (view_now (e.account old)) i / SCAN_ROWS + 1))) ∙ one_turn (taken_of reading);
-    does = subst (λ b. cond b (AnswersSkipped old (request x) given new) (AnswersLive e old (request x) given new)) (sym calm) does;
+    does = subst (λ b. cond b (AnswersSkipped old x given new) (AnswersLive e old x given new)) (sym calm) does;
   })
 
   -- the same where answer and engine are named otherwise
-  pub takes_by : is_skipping phase ≡ false → (command x : Command) → command ≡ x → ((g : Graph) → scanned g (request x) ≡ 0)
-      → (given given' : LineAnswer) → given ≡ given' → (new new' : S) → new ≡ new' → AnswersLive e old (request x) given' new' → AnswersOn e old phase reading (request command) given new
+  pub takes_by : is_skipping phase ≡ false → (command x : Command) → command ≡ x → ((g : Graph) → scanned g x ≡ 0)
+      → (given given' : LineAnswer) → given ≡ given' → (new new' : S) → new ≡ new' → AnswersLive e old x given' new' → AnswersOn e old phase reading command given new
   takes_by calm command x is none given given' same new new' equal does =
-      subst (λ y. AnswersOn e old phase reading (request command) y new) (sym same)
-      (subst (λ y. AnswersOn e old phase reading (request command) given' y) (sym equal) (takes_answer calm command x is none given' new' does))
+      subst (λ y. AnswersOn e old phase reading command y new) (sym same)
+      (subst (λ y. AnswersOn e old phase reading command given' y) (sym equal) (takes_answer calm command x is none given' new' does))
 
   -- a line at hand that is skipped takes one turn
-  pub skips_turn : (r : Request) → phase ≡ Skipping → (given : LineAnswer) → given ≡ plain answers.Skipped (phase_behind (skips r)) → AnswersOn e old phase reading r given old
+  pub skips_turn : (r : Command) → phase ≡ Skipping → (given : LineAnswer) → given ≡ plain answers.Skipped (phase_behind (skips r)) → AnswersOn e old phase reading r given old
   skips_turn r is given same = subst (λ p. AnswersOn e old p reading r given old) (sym is) (record { last = one_turn (taken_of reading); does = (same, refl) })
 
 -- ---- scans
 
 -- a line scans so many rows
-scanned_is : (g : Graph) (r : Request) → length (rows_of_line g r) ≡ scanned g r
-scanned_is g ToBegin = refl
-scanned_is g ToCommit = refl
-scanned_is g ToAbort = refl
-scanned_is g (ToWrite w) = refl
-scanned_is g (ToRead (WeightOf u v)) = refl
-scanned_is g (ToRead (NeighboursOf v)) = sym (length-map _ _)
-scanned_is g (ToRead Counts) = refl
-scanned_is g (ToRun kernel file) = refl
+scanned_is : (g : Graph) (r : Command) → length (rows_of_line g r) ≡ scanned g r
+scanned_is g commands.Begin = refl
+scanned_is g commands.Commit = refl
+scanned_is g commands.Abort = refl
+scanned_is g (commands.Write w) = refl
+scanned_is g (commands.Read (WeightOf u v)) = refl
+scanned_is g (commands.Read (NeighboursOf v)) = sym (length-map _ _)
+scanned_is g (commands.Read Counts) = refl
+scanned_is g (commands.Run kernel file) = refl
 
 -- what the line has begun to read, or what it begins with
-pub reading_or : (g : Graph) (before : Option Reading) (r : Request) (fresh : Reading) → IfSome before (IsReading g r) → taken_by fresh ≡ 0 → IsReading g r fresh
+pub reading_or : (g : Graph) (before : Option Reading) (r : Command) (fresh : Reading) → IfSome before (IsReading g r) → taken_by fresh ≡ 0 → IsReading g r fresh
     → IsReading g r (unwrap_or before fresh) × (taken_by (unwrap_or before fresh) ≡ taken_of before)
 reading_or g None r fresh is none reads = (reads, none)
 reading_or g (Some reading) r fresh is none reads = (is, refl)
 
-module _ (g : Graph) (before : Option Reading) (r : Request) (s next : Scan) (is : IsScan g r s) (taken : taken_by (readings.Scan s) ≡ taken_of before) (on : ScansOn g r s next) where
+module _ (g : Graph) (before : Option Reading) (r : Command) (s next : Scan) (is : IsScan g r s) (taken : taken_by (readings.Scan s) ≡ taken_of before) (on : ScansOn g r s next) where
   -- rows are left
   scan_goes : next.cursor.done ≡ false → ReadsFurther g Open before r (readings.Scan next)
   scan_goes going =

@@ -17,7 +17,9 @@ use Rattle.graph_model.proofs.ViewLemmas.{view_bounded, view_ends, view_symmetri
 use Rattle.run_model.specs.declared.answer.Answer.{Answer}
 use Rattle.run_model.specs.declared.answer.Answer.TheVariants as answers
 use Rattle.run_model.specs.Answering.{targets_of, query_answer}
-use Rattle.run_model.specs.Requests.{Kernel, Counts, NeighboursOf, ToRun}
+use Rattle.run_model.specs.declared.command.Command.TheVariants as commands
+use Rattle.run_model.specs.declared.command.Query.TheVariants.{NeighboursOf, Counts}
+use Rattle.run_model.specs.declared.command.Kernel.{Kernel}
 use Rattle.line_runner.specs.declared.scan.Scan.{Scan}
 use Rattle.line_runner.specs.declared.scan.ScanResult.TheVariants.{Targets, Rows}
 use Rattle.line_runner.specs.declared.kept.KeptImage.{KeptImage}
@@ -104,7 +106,7 @@ pub same_rows : (xs ys : List Row) → Rows xs ≡ Rows ys → xs ≡ ys
 same_rows xs ys e = cc
 
 -- a scan of all rows that is whole was given those of the view
-pub has_all : (account : Account) → IsValid account → IsSome account.start → (kernel : Kernel) (file : List ℕ) (scan : Scan) → IsWhole (view_now account) (ToRun kernel file) scan → HasAllRows (view_now account) scan
+pub has_all : (account : Account) → IsValid account → IsSome account.start → (kernel : Kernel) (file : List ℕ) (scan : Scan) → IsWhole (view_now account) (commands.Run kernel file) scan → HasAllRows (view_now account) scan
 has_all account valid opened kernel file scan whole = record {
   are = (seen_now account valid opened).rows;
   counted = whole.counted;

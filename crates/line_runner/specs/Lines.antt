@@ -5,7 +5,8 @@ use Rattle.graph_model.specs.Account.{Sighting}
 use Rattle.graph_model.specs.Graph.{Graph}
 use Rattle.graph_model.specs.OwnerCalls.{PassState, Core, current, with_current, account_here, open_txns, inserted_here, ended_pass}
 use Rattle.run_model.specs.AnsweredLines.{effect}
-use Rattle.run_model.specs.Requests.{Request, next_txn}
+use Rattle.run_model.specs.declared.command.Command.{Command}
+use Rattle.run_model.specs.Commands.{next_txn}
 use Rattle.run_model.specs.Run.{filing_of}
 use Rattle.run_model.specs.Jobs.{JobState, LineResult, line_result}
 use Rattle.side_runs.specs.ByAccount.{made_behind}
@@ -38,12 +39,12 @@ seat core skipping = record {
 }
 
 -- what the line does, as the definition of a run by turns has it
-abbrev pub result_here : Core → Bool → Bool → Request → LineResult
+abbrev pub result_here : Core → Bool → Bool → Command → LineResult
 result_here core skipping full r =
     line_result core.kind core.journal (open_txns core) core.selected (seat core skipping) full r
 
 -- the pass behind a line that has this result. What it has met and whether it was full isn't told
-abbrev pub pass_behind : PassState → Request → LineResult → List Sighting → Bool → PassState
+abbrev pub pass_behind : PassState → Command → LineResult → List Sighting → Bool → PassState
 pass_behind old r result sighted filled = record {
   made = made_behind old.made r result.answer;
   sighted = sighted;
@@ -55,7 +56,7 @@ pass_behind old r result sighted filled = record {
 }
 
 -- the core behind the line
-abbrev pub core_behind : Core → Request → LineResult → List Sighting → Bool → Core
+abbrev pub core_behind : Core → Command → LineResult → List Sighting → Bool → Core
 core_behind old r result sighted filled =
     record (with_current old (pass_behind (current old) r result sighted filled)) {
       journal = old.journal ++ result.commits;
@@ -63,7 +64,7 @@ core_behind old r result sighted filled =
 
 -- a line was answered: answer, phase and core are those of the definition. Only where the rows that were
 -- inserted fill the leaves does it find no place. A line answered `table` has its table, and no other has one
-pub record DoesLine (old : Core) (skipping : Bool) (r : Request) (given : LineAnswer) (new : Core) : Type 0 where
+pub record DoesLine (old : Core) (skipping : Bool) (r : Command) (given : LineAnswer) (new : Core) : Type 0 where
   pub full : Bool
   pub filling : full ≡ true → SPLIT_ROWS * old.leaves ≤ inserted_here old
   pub answer : given.answer ≡ (result_here old skipping full r).answer
@@ -76,28 +77,28 @@ pub record DoesLine (old : Core) (skipping : Bool) (r : Request) (given : LineAn
 -- ---- turns of a line
 
 -- so many turns were taken, and this one isn't the last
-abbrev pub goes_on_here : Core → Bool → ℕ → Request → Bool
+abbrev pub goes_on_here : Core → Bool → ℕ → Command → Bool
 goes_on_here core skipping taken r = goes_on_at (view_here core) skipping taken r
 
 -- the line at hand of a job may be taken, on the pass that is selected
-pub record MayTake (core : Core) (phase : Phase) (reading : Option Reading) (r : Request) : Type 0 where
+pub record MayTake (core : Core) (phase : Phase) (reading : Option Reading) (r : Command) : Type 0 where
   pub selected : core.selected < length core.passes
   pub now : MayTakeNow (account_here core) phase reading r
 
 -- a turn that isn't the last changes nothing but how far the line has come
-pub record ScansHere (old : Core) (phase : Phase) (before : Option Reading) (r : Request) (next : Reading) (new : Core)
+pub record ScansHere (old : Core) (phase : Phase) (before : Option Reading) (r : Command) (next : Reading) (new : Core)
     : Type 0 where
   pub further : ReadsFurther (view_here old) phase before r next
   pub same : new ≡ old
 
 -- the last turn of a line answers it
-pub record AnswersHere (old : Core) (phase : Phase) (reading : Option Reading) (r : Request) (given : LineAnswer)
+pub record AnswersHere (old : Core) (phase : Phase) (reading : Option Reading) (r : Command) (given : LineAnswer)
     (new : Core) : Type 0 where
   pub last : goes_on_here old (is_skipping phase) (taken_of reading) r ≡ false
   pub does : DoesLine old (is_skipping phase) r given new
 
 -- one turn of a line
-abbrev pub TakesHere : Core → Phase → Option Reading → Request → LineTurn → Core → Type 0
+abbrev pub TakesHere : Core → Phase → Option Reading → Command → LineTurn → Core → Type 0
 TakesHere old phase reading r (Scanning next) new = ScansHere old phase reading r next new
 TakesHere old phase reading r (Answering given) new = AnswersHere old phase reading r given new
 

@@ -7,7 +7,8 @@ use Rattle.run_model.specs.declared.answer.Answer.{Answer}
 use Rattle.run_model.specs.AnsweredLines.{effect}
 use Rattle.run_model.specs.Answering.{kernel_answer, IsKernelTable}
 use Rattle.run_model.specs.Inputs.{File}
-use Rattle.run_model.specs.Requests.{Kernel, ToRun}
+use Rattle.run_model.specs.declared.command.Command.TheVariants as commands
+use Rattle.run_model.specs.declared.command.Kernel.{Kernel}
 use Rattle.run_model.specs.Run.{Filing, filing_of}
 use Rattle.run_model.specs.Jobs.{LineResult}
 use Rattle.line_runner.specs.declared.answering.LineAnswer.{LineAnswer}
@@ -68,7 +69,7 @@ IsFileOn kind g (Some filing) named = (table : List Entry)
 pub record AnswersKernel (kind : Kind) (g : Graph) (kernel : Kernel) (file : List ℕ) (given : LineAnswer) : Type 0 where
   pub answer : given.answer ≡ kernel_answer g kernel
   pub phase : given.phase ≡ Open
-  pub table : IsFileOn kind g (cond (effect given.answer).files (filing_of (ToRun kernel file)) None) given.table
+  pub table : IsFileOn kind g (cond (effect given.answer).files (filing_of (commands.Run kernel file)) None) given.table
 
 -- ---- the image that is kept
 

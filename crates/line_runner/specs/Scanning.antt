@@ -11,7 +11,10 @@ use Rattle.graph_model.specs.Graph.{Graph}
 use Rattle.graph_model.specs.Rows.{rows, all_rows, AreRowsOf}
 use Rattle.graph_model.specs.Scans.{rows_left}
 use Rattle.graph_image.specs.Building.{AreStorable}
-use Rattle.run_model.specs.Requests.{Query, WeightOf, NeighboursOf, Counts, Request, ToBegin, ToCommit, ToAbort, ToWrite, ToRead, ToRun}
+use Rattle.run_model.specs.declared.command.Command.{Command}
+use Rattle.run_model.specs.declared.command.Command.TheVariants as commands
+use Rattle.run_model.specs.declared.command.Query.{Query}
+use Rattle.run_model.specs.declared.command.Query.TheVariants.{WeightOf, NeighboursOf, Counts}
 use Rattle.line_runner.specs.declared.reading.Reading.{Reading}
 use Rattle.line_runner.specs.declared.reading.Reading.TheVariants as readings
 use Rattle.line_runner.specs.declared.scan.Scan.{Scan}
@@ -54,13 +57,13 @@ IsQueryResult (NeighboursOf v) given result = result ≡ Targets (map target_of 
 IsQueryResult Counts given result = result ≡ Vertices (count_by is_vertex given)
 
 -- what a line keeps of the rows that it has scanned: a kernel keeps the rows. No other line scans
-abbrev pub IsResult : Request → List Row → ScanResult → Type 0
-IsResult ToBegin given result = ⊥
-IsResult ToCommit given result = ⊥
-IsResult ToAbort given result = ⊥
-IsResult (ToWrite w) given result = ⊥
-IsResult (ToRead query) given result = IsQueryResult query given result
-IsResult (ToRun kernel file) given result = result ≡ Rows given
+abbrev pub IsResult : Command → List Row → ScanResult → Type 0
+IsResult commands.Begin given result = ⊥
+IsResult commands.Commit given result = ⊥
+IsResult commands.Abort given result = ⊥
+IsResult (commands.Write w) given result = ⊥
+IsResult (commands.Read query) given result = IsQueryResult query given result
+IsResult (commands.Run kernel file) given result = result ≡ Rows given
 
 -- the answer to `count`: an undirected edge is two arcs
 abbrev pub counted : Kind → ℕ → ℕ → Answer
@@ -76,13 +79,13 @@ rows_of_query g (NeighboursOf v) = rows g (record { src = v; second = 1 }) (reco
 rows_of_query g Counts = all_rows g
 
 -- the rows that a line scans
-abbrev pub rows_of_line : Graph → Request → List Row
-rows_of_line g ToBegin = []
-rows_of_line g ToCommit = []
-rows_of_line g ToAbort = []
-rows_of_line g (ToWrite w) = []
-rows_of_line g (ToRead query) = rows_of_query g query
-rows_of_line g (ToRun kernel file) = all_rows g
+abbrev pub rows_of_line : Graph → Command → List Row
+rows_of_line g commands.Begin = []
+rows_of_line g commands.Commit = []
+rows_of_line g commands.Abort = []
+rows_of_line g (commands.Write w) = []
+rows_of_line g (commands.Read query) = rows_of_query g query
+rows_of_line g (commands.Run kernel file) = all_rows g
 
 -- so many portions have as many rows as 64 bits count, and no scan gives as many
 abbrev pub too_many_turns : ℕ
@@ -98,7 +101,7 @@ fresh_scan next until kept = record {
 
 -- A scan under way. The rows that it was given and those that are left are the line's, and what it has kept
 -- is that of the rows that it was given
-pub record IsScan (g : Graph) (r : Request) (scan : Scan) : Type 0 where
+pub record IsScan (g : Graph) (r : Command) (scan : Scan) : Type 0 where
   pub given : List Row
   pub counted : scan.rows ≡ length given
   pub whole : given ++ rows_left g scan.cursor ≡ rows_of_line g r
@@ -109,13 +112,13 @@ pub record IsScan (g : Graph) (r : Request) (scan : Scan) : Type 0 where
   pub full : scan.rows ≡ SCAN_ROWS * portions
 
 -- a scan with nothing left: it was given all rows of the line
-pub record IsWhole (g : Graph) (r : Request) (scan : Scan) : Type 0 where
+pub record IsWhole (g : Graph) (r : Command) (scan : Scan) : Type 0 where
   pub counted : scan.rows ≡ length (rows_of_line g r)
   pub result : IsResult r (rows_of_line g r) scan.result
   pub bounded : vertices_in scan.result ≤ scan.rows
 
 -- a turn of a scan gives a full portion, or else the rest
-pub record ScansOn (g : Graph) (r : Request) (old new : Scan) : Type 0 where
+pub record ScansOn (g : Graph) (r : Command) (old new : Scan) : Type 0 where
   pub small : new.rows < 2 ^ 64
   pub portion : new.cursor.done ≡ false → IsScan g r new × (new.rows ≡ old.rows + SCAN_ROWS)
   pub rest : new.cursor.done ≡ true → IsWhole g r new × (new.rows < old.rows + SCAN_ROWS)
@@ -129,16 +132,16 @@ pub record HasAllRows (g : Graph) (scan : Scan) : Type 0 where
 -- ---- lines that take more than one turn
 
 -- the line runs a kernel
-abbrev pub RunsKernel : Request → Type 0
-RunsKernel ToBegin = ⊥
-RunsKernel ToCommit = ⊥
-RunsKernel ToAbort = ⊥
-RunsKernel (ToWrite w) = ⊥
-RunsKernel (ToRead query) = ⊥
-RunsKernel (ToRun kernel file) = Unit {0}
+abbrev pub RunsKernel : Command → Type 0
+RunsKernel commands.Begin = ⊥
+RunsKernel commands.Commit = ⊥
+RunsKernel commands.Abort = ⊥
+RunsKernel (commands.Write w) = ⊥
+RunsKernel (commands.Read query) = ⊥
+RunsKernel (commands.Run kernel file) = Unit {0}
 
 -- a line scans its rows, or it runs a kernel on the image that is kept of them
-abbrev pub IsReading : Graph → Request → Reading → Type 0
+abbrev pub IsReading : Graph → Command → Reading → Type 0
 IsReading g r (readings.Scan scan) = IsScan g r scan
 IsReading g r (readings.Replay kept turns) = IsKeptImage g kept × RunsKernel r
 

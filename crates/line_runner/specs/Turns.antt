@@ -17,7 +17,11 @@ use Rattle.graph_model.specs.OwnerCalls.{Core, account_here, BeginsHere, WritesH
 use Rattle.run_model.specs.declared.answer.Answer.{Answer}
 use Rattle.run_model.specs.declared.answer.Answer.TheVariants as answers
 use Rattle.run_model.specs.Answering.{query_answer}
-use Rattle.run_model.specs.Requests.{Query, Kernel, Request, ToBegin, ToCommit, ToAbort, ToWrite, ToRead, ToRun, IsRequest, open_behind}
+use Rattle.run_model.specs.declared.command.Command.{Command}
+use Rattle.run_model.specs.declared.command.Command.TheVariants as commands
+use Rattle.run_model.specs.declared.command.Query.{Query}
+use Rattle.run_model.specs.declared.command.Kernel.{Kernel}
+use Rattle.run_model.specs.Commands.{IsCommand, open_behind}
 use Rattle.run_model.specs.Jobs.{scanned, skips}
 use Rattle.line_runner.specs.declared.answering.LineAnswer.{LineAnswer}
 use Rattle.line_runner.specs.declared.answering.LineTurn.{LineTurn}
@@ -40,24 +44,24 @@ abbrev pub view_now : Account → Graph
 view_now account = view_of account (unwrap_or account.start 0)
 
 -- the line at hand of a job may be taken, on this pass
-pub record MayTakeNow (account : Account) (phase : Phase) (reading : Option Reading) (r : Request) : Type 0 where
+pub record MayTakeNow (account : Account) (phase : Phase) (reading : Option Reading) (r : Command) : Type 0 where
   pub valid : IsValid account
   pub phase_is : IsPhase phase account.start
   -- it may stand there, and its numbers are within their limits
   pub stands : (behind : Bool) × (open_behind (is_inside phase) r ≡ Some behind)
-  pub within : IsRequest r
-  pub room : r ≡ ToBegin → account.begun < account.allowed
+  pub within : IsCommand r
+  pub room : r ≡ commands.Begin → account.begun < account.allowed
   -- what has been read is the line's
   pub reads : IfSome reading (IsReading (view_now account) r)
 
 -- ---- turns of a line that reads
 
 -- on a graph so many turns of the line were taken, and this one isn't the last
-abbrev pub goes_on_at : Graph → Bool → ℕ → Request → Bool
+abbrev pub goes_on_at : Graph → Bool → ℕ → Command → Bool
 goes_on_at g skipping taken r = nat_lt (taken + 1) (cond skipping 1 (scanned g r / SCAN_ROWS + 1))
 
 -- a turn that isn't the last changes nothing but how far the line has come
-pub record ReadsFurther (g : Graph) (phase : Phase) (before : Option Reading) (r : Request) (next : Reading)
+pub record ReadsFurther (g : Graph) (phase : Phase) (before : Option Reading) (r : Command) (next : Reading)
     : Type 0 where
   pub is_open : phase ≡ Open
   pub more : goes_on_at g false (taken_of before) r ≡ true
@@ -66,12 +70,12 @@ pub record ReadsFurther (g : Graph) (phase : Phase) (before : Option Reading) (r
   pub reads : IsReading g r next
 
 -- a turn of a scan leaves rows, or is the last
-pub record Advances (g : Graph) (before : Option Reading) (r : Request) (next : Scan) : Type 0 where
+pub record Advances (g : Graph) (before : Option Reading) (r : Command) (next : Scan) : Type 0 where
   pub portion : next.cursor.done ≡ false → ReadsFurther g Open before r (readings.Scan next)
   pub rest : next.cursor.done ≡ true → IsWhole g r next × (goes_on_at g false (taken_of before) r ≡ false)
 
 -- a turn of a kernel's line leaves turns, or is the last and has the image that the kernel runs on
-abbrev pub ReadsImage : Graph → Option Reading → Request → ImageTurn → Type 0
+abbrev pub ReadsImage : Graph → Option Reading → Command → ImageTurn → Type 0
 ReadsImage g before r (Further reading) = ReadsFurther g Open before r reading
 ReadsImage g before r (Whole kept) = IsKeptImage g kept × (goes_on_at g false (taken_of before) r ≡ false)
 
@@ -153,29 +157,29 @@ pub record AnswersRead {S : Type 0} (account : S → Account) (reads : S → S �
   pub reads_on : ReadsOn reads old new
 
 -- a line that isn't skipped was answered, by the calls that it made
-abbrev pub AnswersLive : {S : Type 0} → Calls S → S → Request → LineAnswer → S → Type 0
-AnswersLive e old ToBegin given new =
+abbrev pub AnswersLive : {S : Type 0} → Calls S → S → Command → LineAnswer → S → Type 0
+AnswersLive e old commands.Begin given new =
     (begun : Begun) × (given ≡ plain (answers.Begun begun.by begun.start) Open) × e.begins old (Ok begun) new
-AnswersLive e old ToCommit given new =
+AnswersLive e old commands.Commit given new =
     (stamp : Option ℕ) × (given ≡ plain (answers.Committed stamp) Between) × e.commits old stamp new
-AnswersLive e old ToAbort given new = (given ≡ plain answers.Aborted Between) × e.aborts old new
-AnswersLive e old (ToWrite w) given new = WritesOn e.writes e.aborts old w (Ok given) new
-AnswersLive e old (ToRead query) given new = AnswersRead e.account e.reads old query given new
-AnswersLive e old (ToRun kernel file) given new =
+AnswersLive e old commands.Abort given new = (given ≡ plain answers.Aborted Between) × e.aborts old new
+AnswersLive e old (commands.Write w) given new = WritesOn e.writes e.aborts old w (Ok given) new
+AnswersLive e old (commands.Read query) given new = AnswersRead e.account e.reads old query given new
+AnswersLive e old (commands.Run kernel file) given new =
     AnswersKernel (e.account old).kind (view_now (e.account old)) kernel file given × ReadsOn e.reads old new
 
 -- a line that is skipped was answered, without a call
-abbrev pub AnswersSkipped : {S : Type 0} → S → Request → LineAnswer → S → Type 0
+abbrev pub AnswersSkipped : {S : Type 0} → S → Command → LineAnswer → S → Type 0
 AnswersSkipped old r given new = (given ≡ plain answers.Skipped (phase_behind (skips r))) × (new ≡ old)
 
 -- the last turn of a line answers it
-pub record AnswersOn {S : Type 0} (e : Calls S) (old : S) (phase : Phase) (reading : Option Reading) (r : Request)
+pub record AnswersOn {S : Type 0} (e : Calls S) (old : S) (phase : Phase) (reading : Option Reading) (r : Command)
     (given : LineAnswer) (new : S) : Type 0 where
   pub last : goes_on_at (view_now (e.account old)) (is_skipping phase) (taken_of reading) r ≡ false
   pub does : cond (is_skipping phase) (AnswersSkipped old r given new) (AnswersLive e old r given new)
 
 -- one turn of a line
-abbrev pub TakesOn : {S : Type 0} → Calls S → S → Phase → Option Reading → Request → LineTurn → S → Type 0
+abbrev pub TakesOn : {S : Type 0} → Calls S → S → Phase → Option Reading → Command → LineTurn → S → Type 0
 TakesOn e old phase reading r (Scanning next) new =
     ReadsFurther (view_now (e.account old)) phase reading r next × ReadsOn e.reads old new
 TakesOn e old phase reading r (Answering given) new = AnswersOn e old phase reading r given new

@@ -7,9 +7,10 @@
 ghost use Rattle.std.specs.Prelude.{◌≡◌, ℕ, List, Option, Some, IfSome, IsSome, IfOk, OnOk, OnErr};
 ghost use Rattle.graph_model.specs.Account.{IsValid};
 ghost use Rattle.graph_model.specs.Graph.{Graph};
-ghost use Rattle.run_model.specs.Requests as requests;
-ghost use Rattle.run_model.specs.Requests.{ToRun};
-ghost use Rattle.line_runner.specs.Kernels.{kernel_of, IsKeptImage, IsKernelImage};
+ghost use Rattle.run_model.specs.declared.command.Kernel.{Kernel};
+ghost use Rattle.run_model.specs.declared.command.Command.TheVariants as commands;
+ghost use Rattle.run_model.specs.Commands.{root_of};
+ghost use Rattle.line_runner.specs.Kernels.{IsKeptImage, IsKernelImage};
 ghost use Rattle.line_runner.specs.Scanning.{IsReading, IsScan, taken_of};
 ghost use Rattle.line_runner.specs.Phases.{AnswersKernel};
 ghost use Rattle.line_runner.specs.Turns.{view_now, MayTakeNow, ReadsImage, ReadsOn, TakesOn, calls};
@@ -19,10 +20,10 @@ use crate::kept::KeptImage;
 use crate::phase::Phase;
 use crate::reading::Reading;
 use crate::scan::Scan;
-use crate::table::{Kernel, NamedTable, copy_of, kernel_table};
+use crate::table::{NamedTable, copy_of, kernel_table};
 use graph_image::Image;
 use graph_model::{Engine, KernelRefusal, Kind, NoMemory, SCAN_ROWS};
-use run_model::{Answer, Name};
+use run_model::{Answer, Kernel, Name};
 use std::alloc::Global;
 use std::thread::Threads;
 
@@ -45,9 +46,9 @@ pub fn run_kernel<R: Threads + Sync, E: Engine>(
     before: Option<Reading>,
     image: &mut Option<KeptImage>,
 ) -> Result<LineTurn, NoMemory>
-    requires may { MayTakeNow (E.account engine.old) Phase.Open before (ToRun (kernel_of kernel) file.now) }
+    requires may { MayTakeNow (E.account engine.old) Phase.Open before (commands.Run kernel file.now) }
     requires kept { IfSome image.old (IsKeptImage (view_now (E.account engine.old))) }
-    ensures takes { let r = ToRun (kernel_of kernel) file.now in
+    ensures takes { let r = commands.Run kernel file.now in
         let e = calls E.account E.did_begin E.did_write E.did_read E.did_commit E.did_abort in
         IfOk result (λ turn. TakesOn e engine.old Phase.Open before r turn engine.new) }
     ensures kept { OnOk result (IfSome image.new (IsKeptImage (view_now (E.account engine.old)))) }
@@ -73,12 +74,12 @@ fn read_image<R: Threads + Sync, E: Engine>(
 ) -> Result<ImageTurn, NoMemory>
     requires valid { IsValid (E.account engine.old) }
     requires current { IsSome (E.account engine.old).start }
-    requires reads { (kernel : requests.Kernel) × (file : List ℕ)
-        × IfSome before (IsReading (view_now (E.account engine.old)) (ToRun kernel file)) }
+    requires reads { (kernel : Kernel) × (file : List ℕ)
+        × IfSome before (IsReading (view_now (E.account engine.old)) (commands.Run kernel file)) }
     requires kept { IfSome image (IsKeptImage (view_now (E.account engine.old))) }
-    ensures reads { IfOk result (λ turn. (kernel : requests.Kernel) (file : List ℕ)
-        → IfSome before (IsReading (view_now (E.account engine.old)) (ToRun kernel file))
-        → ReadsImage (view_now (E.account engine.old)) before (ToRun kernel file) turn) }
+    ensures reads { IfOk result (λ turn. (kernel : Kernel) (file : List ℕ)
+        → IfSome before (IsReading (view_now (E.account engine.old)) (commands.Run kernel file))
+        → ReadsImage (view_now (E.account engine.old)) before (commands.Run kernel file) turn) }
     ensures did { ReadsOn E.did_read engine.old engine.new }
 {
     match before.unwrap_or(Reading::of_image(alloc, image)) {
@@ -95,12 +96,12 @@ fn read_rows<R: Threads + Sync, E: Engine>(
 ) -> Result<ImageTurn, NoMemory>
     requires valid { IsValid (E.account engine.old) }
     requires current { IsSome (E.account engine.old).start }
-    requires scans { (kernel : requests.Kernel) × (file : List ℕ)
-        × IsScan (view_now (E.account engine.old)) (ToRun kernel file) scan }
-    ensures reads { IfOk result (λ turn. (before : Option Reading) (kernel : requests.Kernel) (file : List ℕ)
+    requires scans { (kernel : Kernel) × (file : List ℕ)
+        × IsScan (view_now (E.account engine.old)) (commands.Run kernel file) scan }
+    ensures reads { IfOk result (λ turn. (before : Option Reading) (kernel : Kernel) (file : List ℕ)
         → taken_of before ≡ taken_of (Some (Reading.Scan scan))
-        → IsScan (view_now (E.account engine.old)) (ToRun kernel file) scan
-        → ReadsImage (view_now (E.account engine.old)) before (ToRun kernel file) turn) }
+        → IsScan (view_now (E.account engine.old)) (commands.Run kernel file) scan
+        → ReadsImage (view_now (E.account engine.old)) before (commands.Run kernel file) turn) }
     ensures did { E.did_read engine.old engine.new }
 {
     let kind = engine.kind();
@@ -116,9 +117,9 @@ fn read_rows<R: Threads + Sync, E: Engine>(
 
 /// Takes one turn of a line whose image is kept, which takes as many as the scan of its rows.
 fn replay(kept: KeptImage, turns: u64) -> ImageTurn
-    ensures { (g : Graph) (before : Option Reading) (kernel : requests.Kernel) (file : List ℕ)
+    ensures { (g : Graph) (before : Option Reading) (kernel : Kernel) (file : List ℕ)
         → taken_of before ≡ turns → IsKeptImage g kept
-        → ReadsImage g before (ToRun kernel file) result }
+        → ReadsImage g before (commands.Run kernel file) result }
 {
     if turns < kept.rows / SCAN_ROWS as u64 {
         let reading = Reading::Replay {
@@ -141,7 +142,7 @@ fn answer_kernel<R: Threads + Sync>(
     image: &Image,
 ) -> Result<LineAnswer, NoMemory>
     ensures { IfOk result (λ given. (g : Graph) → IsKernelImage kind image.now g
-        → AnswersKernel kind g (kernel_of kernel) file.now given) }
+        → AnswersKernel kind g kernel file.now given) }
 {
     match kernel_table(rt, alloc, kind, kernel, image) {
         Ok(table) => {
@@ -155,9 +156,25 @@ fn answer_kernel<R: Threads + Sync>(
             })
         }
         Err(KernelRefusal::NoRoot) => {
-            let answer = Answer::NoVertex { v: kernel.root() };
-            Ok(LineAnswer::plain(answer, Phase::Open))
+            let Some(v) = root_of(kernel) else {
+                unreachable!()
+            };
+            Ok(LineAnswer::plain(Answer::NoVertex { v }, Phase::Open))
         }
         Err(KernelRefusal::NoMemory) => Err(NoMemory),
+    }
+}
+
+/// The vertex that a kernel begins at, if it needs one.
+fn root_of(kernel: Kernel) -> Option<u64>
+    ensures { result ≡ root_of kernel }
+{
+    match kernel {
+        Kernel::Bfs { root } => Some(root),
+        Kernel::Wcc => None,
+        Kernel::Cdlp { rounds: _ } => None,
+        Kernel::Sssp { root } => Some(root),
+        Kernel::FastBfs { root } => Some(root),
+        Kernel::FastSssp { root, width: _ } => Some(root),
     }
 }

@@ -13,7 +13,9 @@ ghost use Rattle.graph_model.specs.declared.refusal.BeginRefusal.TheVariants as 
 ghost use Rattle.graph_model.specs.Account.{IsValid};
 ghost use Rattle.graph_model.specs.Refused.{IsWithinLimits};
 ghost use Rattle.run_model.specs.declared.answer.Answer.TheVariants as answers;
-ghost use Rattle.run_model.specs.Requests.{Query, request, ToRead, WeightOf, NeighboursOf, Counts};
+ghost use Rattle.run_model.specs.declared.command.Command.TheVariants as commands;
+ghost use Rattle.run_model.specs.declared.command.Query.{Query};
+ghost use Rattle.run_model.specs.declared.command.Query.TheVariants.{WeightOf, NeighboursOf, Counts};
 ghost use Rattle.run_model.specs.Jobs.{skips};
 ghost use Rattle.line_runner.specs.Kernels.{IsKeptImage};
 ghost use Rattle.line_runner.specs.Scanning.{IsReading, IsScan};
@@ -26,9 +28,8 @@ use crate::kernel_line::run_kernel;
 use crate::phase::Phase;
 use crate::reading::Reading;
 use crate::scan::Scan;
-use crate::table::Kernel;
 use graph_model::{BeginRefusal, Engine, NoMemory, Refusal, VertexEngine, Write};
-use run_model::{Answer, Command};
+use run_model::{Answer, Command, Query};
 use std::alloc::Global;
 use std::thread::Threads;
 
@@ -42,10 +43,10 @@ pub fn take_line<R: Threads + Sync, E: VertexEngine>(
     reading: Option<Reading>,
     image: &mut Option<KeptImage>,
 ) -> Result<LineTurn, NoMemory>
-    requires may { MayTakeNow (E.account engine.old) phase reading (request command.now) }
+    requires may { MayTakeNow (E.account engine.old) phase reading command.now }
     requires kept { IfSome image.old (IsKeptImage (view_now (E.account engine.old))) }
     ensures takes { let e = calls E.account E.did_begin E.did_write E.did_read E.did_commit E.did_abort in
-        IfOk result (λ turn. TakesOn e engine.old phase reading (request command.now) turn engine.new) }
+        IfOk result (λ turn. TakesOn e engine.old phase reading command.now turn engine.new) }
     ensures kept { OnOk result (IfSome image.new (IsKeptImage (view_now (E.account engine.old)))) }
     ensures err { let e = calls E.account E.did_begin E.did_write E.did_read E.did_commit E.did_abort in
         OnErr result (WantsOn e engine.old engine.new) }
@@ -59,53 +60,10 @@ pub fn take_line<R: Threads + Sync, E: VertexEngine>(
         Command::Begin => begin(engine)?,
         Command::Commit => commit(engine),
         Command::Abort => abort(engine),
-        Command::AddVertex { v } => write(engine, Write::AddVertex { v: *v })?,
-        Command::DropVertex { v } => write(engine, Write::DropVertex { v: *v })?,
-        Command::AddEdge { u, v, weight } => write(
-            engine,
-            Write::AddEdge {
-                u: *u,
-                v: *v,
-                weight: *weight,
-            },
-        )?,
-        Command::SetEdge { u, v, weight } => write(
-            engine,
-            Write::SetEdge {
-                u: *u,
-                v: *v,
-                weight: *weight,
-            },
-        )?,
-        Command::DropEdge { u, v } => write(engine, Write::DropEdge { u: *u, v: *v })?,
-        Command::Weight { u, v } => weight(engine, *u, *v),
-        Command::Neighbours { v } => return neighbours(alloc, engine, *v, reading),
-        Command::Count => return count(engine, reading),
-        Command::Bfs { root, file } => {
-            let kernel = Kernel::Bfs { root: *root };
-            return run_kernel(rt, alloc, engine, kernel, file, reading, image);
-        }
-        Command::Wcc { file } => {
-            return run_kernel(rt, alloc, engine, Kernel::Wcc, file, reading, image);
-        }
-        Command::Cdlp { rounds, file } => {
-            let kernel = Kernel::Cdlp { rounds: *rounds };
-            return run_kernel(rt, alloc, engine, kernel, file, reading, image);
-        }
-        Command::Sssp { root, file } => {
-            let kernel = Kernel::Sssp { root: *root };
-            return run_kernel(rt, alloc, engine, kernel, file, reading, image);
-        }
-        Command::FastBfs { root, file } => {
-            let kernel = Kernel::FastBfs { root: *root };
-            return run_kernel(rt, alloc, engine, kernel, file, reading, image);
-        }
-        Command::FastSssp { root, width, file } => {
-            let kernel = Kernel::FastSssp {
-                root: *root,
-                width: *width,
-            };
-            return run_kernel(rt, alloc, engine, kernel, file, reading, image);
+        Command::Write { write } => make_write(engine, *write)?,
+        Command::Read { query } => return read(alloc, engine, *query, reading),
+        Command::Run { kernel, file } => {
+            return run_kernel(rt, alloc, engine, *kernel, file, reading, image);
         }
     };
     Ok(LineTurn::Answering { given })
@@ -154,17 +112,17 @@ fn abort<E: Engine>(engine: &mut E) -> LineAnswer
 }
 
 /// Makes a write, and takes the transaction back where a conflict or a full store stops it.
-fn write<E: VertexEngine>(engine: &mut E, w: Write) -> Result<LineAnswer, NoMemory>
+fn make_write<E: VertexEngine>(engine: &mut E, w: Write) -> Result<LineAnswer, NoMemory>
     requires current { IsSome (E.account engine.old).start }
     requires within { IsWithinLimits w }
     ensures { WritesOn E.did_write E.did_abort engine.old w result engine.new }
 {
-    let wrote = make(engine, w);
+    let wrote = hand_over(engine, w);
     finish(engine, wrote)
 }
 
 /// Hands a write to the engine.
-fn make<E: VertexEngine>(engine: &mut E, w: Write) -> Result<(), Refusal>
+fn hand_over<E: VertexEngine>(engine: &mut E, w: Write) -> Result<(), Refusal>
     requires current { IsSome (E.account engine.old).start }
     requires within { IsWithinLimits w }
     ensures { E.did_write engine.old w result engine.new }
@@ -208,6 +166,27 @@ fn stop<E: Engine>(engine: &mut E, answer: Answer) -> LineAnswer
     LineAnswer::plain(answer, Phase::Skipping)
 }
 
+/// Takes one turn of a read.
+fn read<E: Engine>(
+    alloc: Global,
+    engine: &mut E,
+    query: Query,
+    before: Option<Reading>,
+) -> Result<LineTurn, NoMemory>
+    requires { MayTakeNow (E.account engine.old) Phase.Open before (commands.Read query) }
+    ensures takes { let e = calls E.account E.did_begin E.did_write E.did_read E.did_commit E.did_abort in
+        IfOk result (λ turn. TakesOn e engine.old Phase.Open before (commands.Read query) turn engine.new) }
+    ensures err { OnErr result (ReadsOn E.did_read engine.old engine.new) }
+{
+    match query {
+        Query::WeightOf { u, v } => Ok(LineTurn::Answering {
+            given: weight(engine, u, v),
+        }),
+        Query::NeighboursOf { v } => neighbours(alloc, engine, v, before),
+        Query::Counts => count(engine, before),
+    }
+}
+
 /// Reads a weight.
 fn weight<E: Engine>(engine: &mut E, u: u64, v: u64) -> LineAnswer
     requires current { IsSome (E.account engine.old).start }
@@ -224,7 +203,7 @@ fn weight<E: Engine>(engine: &mut E, u: u64, v: u64) -> LineAnswer
 
 /// Skips a line behind a stop, up to the end of its transaction.
 fn skip(command: &Command) -> LineAnswer
-    ensures { result ≡ plain answers.Skipped (phase_behind (skips (request command.now))) }
+    ensures { result ≡ plain answers.Skipped (phase_behind (skips command.now)) }
 {
     let phase = match command {
         Command::Commit => Phase::Between,
@@ -242,13 +221,13 @@ fn advance<E: Engine>(
 ) -> Result<Scan, NoMemory>
     requires valid { IsValid (E.account engine.old) }
     requires current { IsSome (E.account engine.old).start }
-    requires scans { (query : Query) × IfSome before (IsReading (view_now (E.account engine.old)) (ToRead query))
-        × IsScan (view_now (E.account engine.old)) (ToRead query) fresh }
+    requires scans { (query : Query) × IfSome before (IsReading (view_now (E.account engine.old)) (commands.Read query))
+        × IsScan (view_now (E.account engine.old)) (commands.Read query) fresh }
     requires empty { fresh.rows ≡ 0 }
     ensures advances { IfOk result (λ next. (query : Query)
-        → IfSome before (IsReading (view_now (E.account engine.old)) (ToRead query))
-        → IsScan (view_now (E.account engine.old)) (ToRead query) fresh
-        → Advances (view_now (E.account engine.old)) before (ToRead query) next) }
+        → IfSome before (IsReading (view_now (E.account engine.old)) (commands.Read query))
+        → IsScan (view_now (E.account engine.old)) (commands.Read query) fresh
+        → Advances (view_now (E.account engine.old)) before (commands.Read query) next) }
     ensures did { E.did_read engine.old engine.new }
 {
     let mut scan = before.unwrap_or(Reading::Scan { scan: fresh }).into_scan();
@@ -263,9 +242,9 @@ fn neighbours<E: Engine>(
     v: u64,
     before: Option<Reading>,
 ) -> Result<LineTurn, NoMemory>
-    requires { MayTakeNow (E.account engine.old) Phase.Open before (ToRead (NeighboursOf v)) }
+    requires { MayTakeNow (E.account engine.old) Phase.Open before (commands.Read (NeighboursOf v)) }
     ensures takes { let e = calls E.account E.did_begin E.did_write E.did_read E.did_commit E.did_abort in
-        IfOk result (λ turn. TakesOn e engine.old Phase.Open before (ToRead (NeighboursOf v)) turn engine.new) }
+        IfOk result (λ turn. TakesOn e engine.old Phase.Open before (commands.Read (NeighboursOf v)) turn engine.new) }
     ensures err { OnErr result (ReadsOn E.did_read engine.old engine.new) }
 {
     let scan = advance(engine, before, Scan::of_arcs(alloc, v))?;
@@ -287,9 +266,9 @@ fn neighbours<E: Engine>(
 
 /// Scans all rows, and counts them.
 fn count<E: Engine>(engine: &mut E, before: Option<Reading>) -> Result<LineTurn, NoMemory>
-    requires { MayTakeNow (E.account engine.old) Phase.Open before (ToRead Counts) }
+    requires { MayTakeNow (E.account engine.old) Phase.Open before (commands.Read Counts) }
     ensures takes { let e = calls E.account E.did_begin E.did_write E.did_read E.did_commit E.did_abort in
-        IfOk result (λ turn. TakesOn e engine.old Phase.Open before (ToRead Counts) turn engine.new) }
+        IfOk result (λ turn. TakesOn e engine.old Phase.Open before (commands.Read Counts) turn engine.new) }
     ensures err { OnErr result (ReadsOn E.did_read engine.old engine.new) }
 {
     let scan = advance(engine, before, Scan::of_counts())?;

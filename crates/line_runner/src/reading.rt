@@ -5,7 +5,9 @@
 
 ghost use Rattle.std.specs.Prelude.{◌≡◌, ℕ, List, IfSome};
 ghost use Rattle.graph_model.specs.Graph.{Graph};
-ghost use Rattle.run_model.specs.Requests.{Query, Kernel, ToRead, ToRun};
+ghost use Rattle.run_model.specs.declared.command.Command.TheVariants as commands;
+ghost use Rattle.run_model.specs.declared.command.Query.{Query};
+ghost use Rattle.run_model.specs.declared.command.Kernel.{Kernel};
 ghost use Rattle.line_runner.specs.Kernels.{IsKeptImage};
 ghost use Rattle.line_runner.specs.Scanning.{IsReading, taken_by};
 
@@ -27,7 +29,7 @@ impl Reading {
     pub fn of_image(alloc: Global, image: Option<KeptImage>) -> Reading
         ensures none { taken_by result ≡ 0 }
         ensures reading { (g : Graph) (kernel : Kernel) (file : List ℕ) → IfSome image (IsKeptImage g)
-            → IsReading g (ToRun kernel file) result }
+            → IsReading g (commands.Run kernel file) result }
     {
         match image {
             Some(kept) => Reading::Replay { kept, turns: 0 },
@@ -39,7 +41,7 @@ impl Reading {
 
     /// The scan of a read.
     pub fn into_scan(self) -> Scan
-        requires { (g : Graph) × (query : Query) × IsReading g (ToRead query) self }
+        requires { (g : Graph) × (query : Query) × IsReading g (commands.Read query) self }
         ensures { self ≡ Reading.Scan result }
     {
         match self {

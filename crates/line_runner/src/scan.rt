@@ -11,7 +11,10 @@ ghost use Rattle.graph_model.specs.declared.row.Row.{Row};
 ghost use Rattle.graph_model.specs.declared.limits.TheConstants.{MAX_ID};
 ghost use Rattle.graph_model.specs.Graph.{Graph};
 ghost use Rattle.graph_model.specs.Account.{IsValid};
-ghost use Rattle.run_model.specs.Requests.{Kernel, Request, NeighboursOf, Counts, ToRead, ToRun};
+ghost use Rattle.run_model.specs.declared.command.Command.{Command};
+ghost use Rattle.run_model.specs.declared.command.Command.TheVariants as commands;
+ghost use Rattle.run_model.specs.declared.command.Query.TheVariants.{NeighboursOf, Counts};
+ghost use Rattle.run_model.specs.declared.command.Kernel.{Kernel};
 ghost use Rattle.line_runner.specs.Scanning.{is_vertex, target_of, with_rows, vertices_in, counted, fresh_scan, FitIn, IsScan, ScansOn};
 ghost use Rattle.line_runner.specs.Turns.{view_now};
 
@@ -83,7 +86,7 @@ impl Scan {
     pub fn of_arcs(alloc: Global, v: u64) -> Scan
         requires { v ≤ MAX_ID }
         ensures empty { result.rows ≡ 0 }
-        ensures scan { (g : Graph) → IsScan g (ToRead (NeighboursOf v)) result }
+        ensures scan { (g : Graph) → IsScan g (commands.Read (NeighboursOf v)) result }
     {
         let next = Key { src: v, second: 1 };
         let until = Key::of_vertex(v + 1);
@@ -94,7 +97,7 @@ impl Scan {
     /// A scan of all rows that counts. Takes no memory.
     pub fn of_counts() -> Scan
         ensures empty { result.rows ≡ 0 }
-        ensures scan { (g : Graph) → IsScan g (ToRead Counts) result }
+        ensures scan { (g : Graph) → IsScan g (commands.Read Counts) result }
     {
         let count = 0;
         Scan::begin(
@@ -107,7 +110,7 @@ impl Scan {
     /// A scan of all rows that keeps them. Takes no memory.
     pub fn of_rows(alloc: Global) -> Scan
         ensures empty { result.rows ≡ 0 }
-        ensures scan { (g : Graph) (kernel : Kernel) (file : List ℕ) → IsScan g (ToRun kernel file) result }
+        ensures scan { (g : Graph) (kernel : Kernel) (file : List ℕ) → IsScan g (commands.Run kernel file) result }
     {
         let rows = PartBuilder::new(alloc);
         Scan::begin(Key::of_vertex(0), Key::end(), ScanResult::Rows { rows })
@@ -132,8 +135,8 @@ impl Scan {
     pub fn step<E: Engine>(&mut self, engine: &mut E) -> Result<(), NoMemory>
         requires current { IsSome (E.account engine.old).start }
         requires valid { IsValid (E.account engine.old) }
-        requires scan { (r : Request) × IsScan (view_now (E.account engine.old)) r self.old }
-        ensures ok { OnOk result ((r : Request) → IsScan (view_now (E.account engine.old)) r self.old
+        requires scan { (r : Command) × IsScan (view_now (E.account engine.old)) r self.old }
+        ensures ok { OnOk result ((r : Command) → IsScan (view_now (E.account engine.old)) r self.old
             → ScansOn (view_now (E.account engine.old)) r self.old self.new) }
         ensures did { E.did_read engine.old engine.new }
     {

@@ -1,10 +1,11 @@
 //! The tables of kernels, by the names of their files.
 
-ghost use Rattle.std.specs.Prelude.{◌≡◌, List, length, IfOk, IfErr};
+ghost use Rattle.std.specs.Prelude.{◌≡◌, List, length, Err, IfOk, IfSome, IsSome};
 ghost use Rattle.graph_model.specs.Graph.{Graph};
 ghost use Rattle.run_model.specs.declared.answer.Answer.TheVariants as answers;
+ghost use Rattle.run_model.specs.Commands.{root_of};
 ghost use Rattle.run_model.specs.Answering.{kernel_answer, IsKernelTable};
-ghost use Rattle.line_runner.specs.Kernels.{kernel_of, root_of, IsKernelImage};
+ghost use Rattle.line_runner.specs.Kernels.{IsKernelImage};
 
 use delta_sssp::below::run as shortest_paths;
 use delta_sssp::run as shortest_paths_by_buckets;
@@ -15,36 +16,9 @@ use graph_model::{KernelRefusal, Kind, NoMemory, Table};
 use items::RoomyItems;
 use kernel_cdlp::run as communities;
 use kernel_wcc::run as components;
-use run_model::Name;
+use run_model::{Kernel, Name};
 use std::alloc::Global;
 use std::thread::Threads;
-
-/// A kernel of LDBC Graphalytics, with its root or its number of rounds, and by which algorithm it runs.
-#[derive(Clone, Copy, Debug, PartialEq, Eq)]
-pub enum Kernel {
-    Bfs { root: u64 },
-    Wcc,
-    Cdlp { rounds: u32 },
-    Sssp { root: u64 },
-    FastBfs { root: u64 },
-    FastSssp { root: u64, width: u32 },
-}
-
-impl Kernel {
-    /// The vertex that it begins at; 0 where it needs none.
-    pub fn root(&self) -> u64
-        ensures { result ≡ root_of self.now }
-    {
-        match self {
-            Kernel::Bfs { root } => *root,
-            Kernel::Wcc => 0,
-            Kernel::Cdlp { rounds: _ } => 0,
-            Kernel::Sssp { root } => *root,
-            Kernel::FastBfs { root } => *root,
-            Kernel::FastSssp { root, width: _ } => *root,
-        }
-    }
-}
 
 /// A kernel's table, and the name of the file that it is for.
 #[derive(Drop)]
@@ -65,10 +39,10 @@ pub fn kernel_table<R: Threads + Sync>(
     image: &Image,
 ) -> Result<Table, KernelRefusal>
     ensures table { IfOk result (λ table. (g : Graph) → IsKernelImage kind image.now g
-        → (kernel_answer g (kernel_of kernel) ≡ answers.Table (length table))
-        × IsKernelTable kind g (kernel_of kernel) table) }
+        → (kernel_answer g kernel ≡ answers.Table (length table)) × IsKernelTable kind g kernel table) }
+    ensures rooted { result ≡ Err KernelRefusal.NoRoot → IsSome (root_of kernel) }
     ensures no_root { result ≡ Err KernelRefusal.NoRoot → (g : Graph) → IsKernelImage kind image.now g
-        → kernel_answer g (kernel_of kernel) ≡ answers.NoVertex (root_of kernel) }
+        → IfSome (root_of kernel) (λ root. kernel_answer g kernel ≡ answers.NoVertex root) }
 {
     match kernel {
         Kernel::Bfs { root } => breadth_first_search(rt, alloc, image, root),

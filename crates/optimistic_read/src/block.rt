@@ -5,20 +5,19 @@
 
 ghost use Rattle.std.specs.Prelude.{◌≡◌, ◌≤◌, ◌<◌, ◌+◌};
 ghost use Rattle.pass_steps.specs.CellsModel.Words.{block_words};
-ghost use Rattle.pass_steps.specs.RuleModel.Sight.{cells_of};
-ghost use Rattle.pass_steps.specs.StoreWords.Reads.{IsReadOf};
+ghost use Rattle.pass_steps.specs.StoreWords.Reads.{IsBlockOf, IsReadOf};
 ghost use Rattle.pass_steps.specs.StoreWords.Steps.{Knows};
 ghost use Rattle.optimistic_read.specs.Reads.{IsHead, IsLookedUp, IsReadingOn, IsSearched, StillReads, begun_read, key_read, row_read};
 
 use crate::decode::{Head, LookedUp};
 use graph_model::{Key, Row};
-use pass_steps::below::{Account, Accounts};
+use pass_steps::below::{Account, Accounts, Block};
 
-/// A read that is under way: of which cell, and the even version word that it found first.
+/// A read that is under way: of which block, and the even version word that it found first.
 #[derive(Clone, Copy)]
 pub struct BlockRead {
-    /// The number of the cell.
-    pub cell: u32,
+    /// That of the cell.
+    pub block: Block,
     /// The read is valid where the second load finds this one.
     pub first: u64,
 }
@@ -26,10 +25,10 @@ pub struct BlockRead {
 /// Loads what a look-up of the key needs: 5 words, two for each row that is looked at, and three of the last one.
 pub fn look_up(accounts: &Accounts, seat: &mut Account, read: BlockRead, key: Key) -> LookedUp
     requires table { seat.old.table_id ≡ accounts.now.table.shared.table_id }
-    requires cell { read.cell < cells_of accounts.now.config }
-    requires begun { seat.old.me.0.reads.reading ≡ begun_read read.cell read.first }
+    requires block { IsBlockOf accounts.now.config read.block }
+    requires begun { seat.old.me.0.reads.reading ≡ begun_read read.block.cell read.first }
     ensures still { StillReads seat.old seat.new }
-    ensures known { IsReadingOn read.cell read.first seat.new.me.0 (IsLookedUp result key) }
+    ensures known { IsReadingOn read.block.cell read.first seat.new.me.0 (IsLookedUp result key) }
 {
     let head = load_head(accounts, seat, read);
     let place = search(accounts, seat, read, head, key);
@@ -47,14 +46,14 @@ pub fn look_up(accounts: &Accounts, seat: &mut Account, read: BlockRead, key: Ke
 /// Loads the number of rows and the fence keys.
 pub(crate) fn load_head(accounts: &Accounts, seat: &mut Account, read: BlockRead) -> Head
     requires table { seat.old.table_id ≡ accounts.now.table.shared.table_id }
-    requires cell { read.cell < cells_of accounts.now.config }
-    requires begun { seat.old.me.0.reads.reading ≡ begun_read read.cell read.first }
+    requires block { IsBlockOf accounts.now.config read.block }
+    requires begun { seat.old.me.0.reads.reading ≡ begun_read read.block.cell read.first }
     ensures still { StillReads seat.old seat.new }
     ensures few { result.count ≤ 32 }
-    ensures known { IsReadingOn read.cell read.first seat.new.me.0 (IsHead result) }
+    ensures known { IsReadingOn read.block.cell read.first seat.new.me.0 (IsHead result) }
 {
     // May be any number while the cell is changed. Cut off at the most rows that a block has, it bounds the search.
-    let count = accounts.block_load(seat, read.cell, 1);
+    let count = accounts.block_load(seat, read.block, 1);
     // May be of two different ranges, the low key and the high one. Nobody compares them before the second load.
     let low = load_key(accounts, seat, read, 2);
     let high = load_key(accounts, seat, read, 4);
@@ -74,12 +73,12 @@ pub(crate) fn search(
     key: Key,
 ) -> u32
     requires table { seat.old.table_id ≡ accounts.now.table.shared.table_id }
-    requires cell { read.cell < cells_of accounts.now.config }
+    requires block { IsBlockOf accounts.now.config read.block }
     requires few { head.count ≤ 32 }
-    requires reading { IsReadingOn read.cell read.first seat.old.me.0 (IsHead head) }
+    requires reading { IsReadingOn read.block.cell read.first seat.old.me.0 (IsHead head) }
     ensures still { StillReads seat.old seat.new }
     ensures within { result ≤ head.count }
-    ensures searched { IsReadingOn read.cell read.first seat.new.me.0 (IsSearched head key result) }
+    ensures searched { IsReadingOn read.block.cell read.first seat.new.me.0 (IsSearched head key result) }
 {
     let mut place = 0;
     let mut rest = head.count;
@@ -100,28 +99,28 @@ pub(crate) fn search(
 /// Loads the row at a place.
 pub(crate) fn load_row(accounts: &Accounts, seat: &mut Account, read: BlockRead, place: u32) -> Row
     requires table { seat.old.table_id ≡ accounts.now.table.shared.table_id }
-    requires cell { read.cell < cells_of accounts.now.config }
+    requires block { IsBlockOf accounts.now.config read.block }
     requires place { place < 32 }
-    requires reading { IsReadOf seat.old.me.0 read.cell }
+    requires reading { IsReadOf seat.old.me.0 read.block.cell }
     ensures loaded { Knows seat.old seat.new (row_read seat.old.me.0 place result) }
 {
     let key = load_key(accounts, seat, read, 6 + 3 * place);
     // May be the value of another key than the one just loaded. Nobody compares or decodes before the second load.
-    let weight = accounts.block_load(seat, read.cell, 8 + 3 * place);
+    let weight = accounts.block_load(seat, read.block, 8 + 3 * place);
     Row { key, weight }
 }
 
 /// Loads a key, whose second word follows its first one.
 fn load_key(accounts: &Accounts, seat: &mut Account, read: BlockRead, word: u32) -> Key
     requires table { seat.old.table_id ≡ accounts.now.table.shared.table_id }
-    requires cell { read.cell < cells_of accounts.now.config }
+    requires block { IsBlockOf accounts.now.config read.block }
     requires word { (1 ≤ word) × (word + 1 < block_words) }
-    requires reading { IsReadOf seat.old.me.0 read.cell }
+    requires reading { IsReadOf seat.old.me.0 read.block.cell }
     ensures loaded { Knows seat.old seat.new (key_read seat.old.me.0 word result) }
 {
     // The two may be of different keys. Each load is an acquire: where it finds a word of a change, the second load of
     // the version word finds that change too, and the read is given up.
-    let src = accounts.block_load(seat, read.cell, word);
-    let second = accounts.block_load(seat, read.cell, word + 1);
+    let src = accounts.block_load(seat, read.block, word);
+    let second = accounts.block_load(seat, read.block, word + 1);
     Key { src, second }
 }

@@ -18,7 +18,7 @@ use crate::block::{BlockRead, look_up};
 use crate::decode::decode;
 use crate::tried::{Route, Tried};
 use graph_model::Key;
-use pass_steps::below::{Account, Accounts, Pass, Store};
+use pass_steps::below::{Account, Accounts, Block, Pass, Store};
 
 /// Tries to read whether the open transaction sees a vertex, whose value is 0. It makes loads alone, takes no latch and
 /// no memory, and waits for nobody.
@@ -83,7 +83,9 @@ fn try_block(accounts: &Accounts, seat: &mut Account, cell: u32, key: Key) -> Tr
             second: first,
         };
     }
-    let looked = look_up(accounts, seat, BlockRead { cell, first }, key);
+    let begin = accounts.block_begin(cell);
+    let block = Block { cell, begin };
+    let looked = look_up(accounts, seat, BlockRead { block, first }, key);
     let second = accounts.second_load(seat, cell);
     // Somebody has changed it between both loads. No number comes twice, so an equal one means that nobody did.
     if second != first {

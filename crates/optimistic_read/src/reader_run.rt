@@ -14,7 +14,7 @@ use crate::decode::decode_run;
 use crate::run::load_run;
 use crate::tried::{Route, TriedRun};
 use graph_model::{Key, Rows64};
-use pass_steps::below::{Account, Accounts, Store};
+use pass_steps::below::{Account, Accounts, Block, Store};
 
 /// Tries to read a run as `try_run` does, by a seat that reads by the account of a pass: the rows are those that the
 /// pass's transaction saw when the account was lent. It makes loads alone, takes no latch and no memory, and waits for
@@ -63,7 +63,16 @@ fn read_block_run(
             second: first,
         };
     }
-    let loaded = load_run(accounts, seat, BlockRead { cell, first }, from, until, rows);
+    let begin = accounts.block_begin(cell);
+    let block = Block { cell, begin };
+    let loaded = load_run(
+        accounts,
+        seat,
+        BlockRead { block, first },
+        from,
+        until,
+        rows,
+    );
     let second = accounts.reader_second_load(seat, cell);
     if second != first {
         return TriedRun::Busy {

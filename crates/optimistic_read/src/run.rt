@@ -6,7 +6,7 @@
 
 ghost use Rattle.std.specs.Prelude.{◌≡◌, ◌≤◌, ◌<◌, ◌&&◌, not, true};
 ghost use Rattle.graph_model.specs.Rows.{is_below, is_between};
-ghost use Rattle.pass_steps.specs.RuleModel.Sight.{cells_of};
+ghost use Rattle.pass_steps.specs.StoreWords.Reads.{IsBlockOf};
 ghost use Rattle.optimistic_read.specs.Reads.{IsHead, IsReadingOn, IsSearched, StillReads, begun_read};
 ghost use Rattle.optimistic_read.specs.Runs.{IsRunLoaded};
 
@@ -27,10 +27,10 @@ pub fn load_run(
     rows: &mut Rows64,
 ) -> LoadedRun
     requires table { seat.old.table_id ≡ accounts.now.table.shared.table_id }
-    requires cell { read.cell < cells_of accounts.now.config }
-    requires begun { seat.old.me.0.reads.reading ≡ begun_read read.cell read.first }
+    requires block { IsBlockOf accounts.now.config read.block }
+    requires begun { seat.old.me.0.reads.reading ≡ begun_read read.block.cell read.first }
     ensures still { StillReads seat.old seat.new }
-    ensures known { IsReadingOn read.cell read.first seat.new.me.0
+    ensures known { IsReadingOn read.block.cell read.first seat.new.me.0
         (IsRunLoaded result from until rows.old rows.new) }
 {
     let head = load_head(accounts, seat, read);
@@ -56,12 +56,12 @@ fn load_rows(
     rows: &mut Rows64,
 ) -> Stop
     requires table { seat.old.table_id ≡ accounts.now.table.shared.table_id }
-    requires cell { read.cell < cells_of accounts.now.config }
+    requires block { IsBlockOf accounts.now.config read.block }
     requires few { head.count ≤ 32 }
     requires holds { is_between head.low head.high from ≡ true }
-    requires reading { IsReadingOn read.cell read.first seat.old.me.0 (IsHead head) }
+    requires reading { IsReadingOn read.block.cell read.first seat.old.me.0 (IsHead head) }
     ensures still { StillReads seat.old seat.new }
-    ensures known { IsReadingOn read.cell read.first seat.new.me.0
+    ensures known { IsReadingOn read.block.cell read.first seat.new.me.0
         (IsRunLoaded (record { head = head; stop = result }) from until rows.old rows.new) }
 {
     let mut place = first_place(accounts, seat, read, head, from);
@@ -97,12 +97,12 @@ fn first_place(
     from: Key,
 ) -> u32
     requires table { seat.old.table_id ≡ accounts.now.table.shared.table_id }
-    requires cell { read.cell < cells_of accounts.now.config }
+    requires block { IsBlockOf accounts.now.config read.block }
     requires few { head.count ≤ 32 }
-    requires reading { IsReadingOn read.cell read.first seat.old.me.0 (IsHead head) }
+    requires reading { IsReadingOn read.block.cell read.first seat.old.me.0 (IsHead head) }
     ensures still { StillReads seat.old seat.new }
     ensures within { result ≤ head.count }
-    ensures searched { IsReadingOn read.cell read.first seat.new.me.0 (IsSearched head from result) }
+    ensures searched { IsReadingOn read.block.cell read.first seat.new.me.0 (IsSearched head from result) }
 {
     if head.low.is_below(from) {
         search(accounts, seat, read, head, from)

@@ -17,7 +17,7 @@ use crate::decode::decode_run;
 use crate::run::load_run;
 use crate::tried::{Route, TriedRun};
 use graph_model::{Key, Rows64};
-use pass_steps::below::{Account, Accounts, Pass, Store};
+use pass_steps::below::{Account, Accounts, Block, Pass, Store};
 
 /// Tries to read the rows that the open transaction sees from one key on and before another, as far as the cell goes,
 /// up to the first row that has undo records, and as many as the buffer has room for. They are put after those that
@@ -76,7 +76,16 @@ fn try_block_run(
             second: first,
         };
     }
-    let loaded = load_run(accounts, seat, BlockRead { cell, first }, from, until, rows);
+    let begin = accounts.block_begin(cell);
+    let block = Block { cell, begin };
+    let loaded = load_run(
+        accounts,
+        seat,
+        BlockRead { block, first },
+        from,
+        until,
+        rows,
+    );
     let second = accounts.second_load(seat, cell);
     if second != first {
         return TriedRun::Busy {

@@ -17,7 +17,7 @@ use Rattle.journal_disk.specs.Disk.{DiskState}
 use Rattle.journal_file.specs.declared.file.JournalFile.{JournalFile}
 use Rattle.run_model.specs.declared.command.Command.{Command}
 use Rattle.run_model.specs.Inputs.{Inputs}
-use Rattle.run_model.specs.Requests.{Request, ToBegin, ToCommit, ToAbort, ToWrite, ToRead, ToRun, request}
+use Rattle.run_model.specs.declared.command.Command.TheVariants as commands
 use Rattle.run_model.specs.Run.{txn_name}
 use Rattle.run_model.specs.Jobs.{JobState, RunState, LineResult, load_journal, open_txns, start_of_job, view_of_job, commit_result, write_result, skips, live_result, line_result, turns_of, with_job, line_turn, job_turn, turn_at_place, turn}
 use Rattle.run_model.specs.Stepped.{turn_at}
@@ -46,14 +46,14 @@ write_short j (write.SetEdge u v weight) None None true = omega arith
 write_short j (write.DropEdge u v) None None true = omega arith
 write_short j w None None false = omega arith
 
-live_short : (kind : Kind) (journal : List Commit) (txns : List OpenTxn) (job : ℕ) (j : JobState) (full : Bool) (r : Request) → IsShort (live_result kind journal txns job j full r)
-live_short kind journal txns job j full ToBegin = omega arith
-live_short kind journal txns job j full ToCommit = commit_short journal (txn_name job j.begun) (start_of_job j) j.own
-live_short kind journal txns job j full ToAbort = omega arith
-live_short kind journal txns job j full (ToWrite w) =
+live_short : (kind : Kind) (journal : List Commit) (txns : List OpenTxn) (job : ℕ) (j : JobState) (full : Bool) (r : Command) → IsShort (live_result kind journal txns job j full r)
+live_short kind journal txns job j full commands.Begin = omega arith
+live_short kind journal txns job j full commands.Commit = commit_short journal (txn_name job j.begun) (start_of_job j) j.own
+live_short kind journal txns job j full commands.Abort = omega arith
+live_short kind journal txns job j full (commands.Write w) =
     write_short j w (refused (view_of_job kind journal j) w) (conflict kind journal txns (txn_name job j.begun) (start_of_job j) w) full
-live_short kind journal txns job j full (ToRead query) = omega arith
-live_short kind journal txns job j full (ToRun kernel file) = omega arith
+live_short kind journal txns job j full (commands.Read query) = omega arith
+live_short kind journal txns job j full (commands.Run kernel file) = omega arith
 
 line_short : (skipping : Bool) (skipped live : LineResult) → IsShort skipped → IsShort live → IsShort (cond skipping skipped live)
 line_short true skipped live a b = a
@@ -62,14 +62,14 @@ line_short false skipped live a b = b
 grows_little : (kind : Kind) (s : RunState) (k : ℕ) (full : Bool) (j : JobState) (left : List Command) → length (job_turn kind s k full j left).journal ≤ length s.journal + 1
 grows_little kind s k full j [] = omega arith
 grows_little kind s k full j (c ∷ rest) =
-    let r : Request = request c in
+    let r : Command = c in
     by_rows (nat_lt (j.taken + 1) (turns_of kind s.journal j r))
     (line_short j.skipping (skips r) (live_result kind s.journal (open_txns s.jobs) (k + 1) j full r) (omega arith) (live_short kind s.journal (open_txns s.jobs) (k + 1) j full r))
   where
-    by_rows : (b : Bool) → IsShort (line_result kind s.journal (open_txns s.jobs) (k + 1) j full (request c))
+    by_rows : (b : Bool) → IsShort (line_result kind s.journal (open_txns s.jobs) (k + 1) j full c)
         → length (cond b (with_job s k (record j { taken = j.taken + 1 })) (line_turn kind s k full j c rest)).journal ≤ length s.journal + 1
     by_rows true short = omega arith
-    by_rows false short = omega (arith, short, length-append s.journal (line_result kind s.journal (open_txns s.jobs) (k + 1) j full (request c)).commits)
+    by_rows false short = omega (arith, short, length-append s.journal (line_result kind s.journal (open_txns s.jobs) (k + 1) j full c).commits)
 
 at_place : (kind : Kind) (s : RunState) (k : ℕ) (full : Bool) (job : Option JobState) → length (turn_at_place kind s k full job).journal ≤ length s.journal + 1
 at_place kind s k full None = omega arith

@@ -1,4 +1,4 @@
--- Requests within a transaction, and answers that tell nothing beside their words.
+-- Commands within a transaction, and answers that tell nothing beside their words.
 use Rattle.std.proofs.Common.{◌≡◌, ℕ, List, [], ◌∷◌, refl, ap, subst, cond}
 use Rattle.std.specs.Prelude.{Bool, true, false, ◌==◌, not, Option, Some, None}
 use Rattle.std.specs.List.{filter_map, cons_option}
@@ -13,64 +13,47 @@ use Rattle.graph_model.specs.Inserted.{inserts}
 use Rattle.run_model.specs.declared.command.Command.{Command}
 use Rattle.run_model.specs.declared.command.Command.TheVariants as commands
 use Rattle.run_model.specs.declared.answer.Answer.{Answer}
-use Rattle.run_model.specs.Requests.{Query, WeightOf, NeighboursOf, Counts, Kernel, Bfs, Wcc, Cdlp, Sssp, Request, ToBegin, ToCommit, ToAbort, ToWrite, ToRead, ToRun, write_of, request, next_txn, open_behind, IsRequest, IsScript}
+use Rattle.run_model.specs.declared.command.Query.{Query}
+use Rattle.run_model.specs.declared.command.Query.TheVariants.{WeightOf, NeighboursOf, Counts}
+use Rattle.run_model.specs.declared.command.Kernel.{Kernel}
+use Rattle.run_model.specs.Commands.{write_of, next_txn, open_behind, root_of, IsCommand, IsScript}
 use Rattle.run_model.specs.AnsweredLines.{AnsweredLine, effect, made_by}
-use Rattle.run_model.specs.Answering.{refusal_answer, weight_answer, query_answer, kernel_answer}
+use Rattle.run_model.specs.Answering.{refusal_answer, weight_answer, query_answer, table_answer, at_root, kernel_answer}
 use Rattle.run_model.specs.Run.{MayBeFull}
 use Rattle.run_model.specs.Jobs.{is_end}
 
--- ---- requests
+-- ---- commands
 
 -- what stands within a transaction: it begins no other, its numbers are within their limits, and what is left
 -- goes on from it
-pub record IsWithinTxn (r : Request) (rest : List Command) : Type 0 where
+pub record IsWithinTxn (r : Command) (rest : List Command) : Type 0 where
   pub same : (txn : ℕ) → next_txn txn r ≡ txn
-  pub within : IsRequest r
+  pub within : IsCommand r
   pub script : IsScript (Some (not (is_end r))) rest
 
 -- within a transaction each line does
-pub within_txn : (c : Command) (rest : List Command) → IsScript (Some true) (c ∷ rest) → IsWithinTxn (request c) rest
-within_txn c rest is = by_request (request c) is.0 is.1
+pub within_txn : (c : Command) (rest : List Command) → IsScript (Some true) (c ∷ rest) → IsWithinTxn c rest
+within_txn c rest is = by_command c is.0 is.1
   where
-    by_request : (r : Request) → IsRequest r → IsScript (open_behind true r) rest → IsWithinTxn r rest
-    by_request ToBegin limits next = absurd next
-    by_request ToCommit limits next = record { same = λ n. refl; within = limits; script = next }
-    by_request ToAbort limits next = record { same = λ n. refl; within = limits; script = next }
-    by_request (ToWrite w) limits next = record { same = λ n. refl; within = limits; script = next }
-    by_request (ToRead query) limits next = record { same = λ n. refl; within = limits; script = next }
-    by_request (ToRun kernel file) limits next = record { same = λ n. refl; within = limits; script = next }
+    by_command : (r : Command) → IsCommand r → IsScript (open_behind true r) rest → IsWithinTxn r rest
+    by_command commands.Begin limits next = absurd next
+    by_command commands.Commit limits next = record { same = λ n. refl; within = limits; script = next }
+    by_command commands.Abort limits next = record { same = λ n. refl; within = limits; script = next }
+    by_command (commands.Write w) limits next = record { same = λ n. refl; within = limits; script = next }
+    by_command (commands.Read query) limits next = record { same = λ n. refl; within = limits; script = next }
+    by_command (commands.Run kernel file) limits next = record { same = λ n. refl; within = limits; script = next }
 
 -- where none is open the line is a `begin`
-pub must_begin : (c : Command) (rest : List Command) → IsScript (Some false) (c ∷ rest) → (request c ≡ ToBegin) × IsScript (Some true) rest
-must_begin c rest is = by_request (request c) is.1
+pub must_begin : (c : Command) (rest : List Command) → IsScript (Some false) (c ∷ rest) → (c ≡ commands.Begin) × IsScript (Some true) rest
+must_begin c rest is = by_command c is.1
   where
-    by_request : (r : Request) → IsScript (open_behind false r) rest → (r ≡ ToBegin) × IsScript (Some true) rest
-    by_request ToBegin next = (refl, next)
-    by_request ToCommit next = absurd next
-    by_request ToAbort next = absurd next
-    by_request (ToWrite w) next = absurd next
-    by_request (ToRead query) next = absurd next
-    by_request (ToRun kernel file) next = absurd next
-
--- only a `commit` asks for one
-pub asks_commit : (c : Command) → request c ≡ ToCommit → c ≡ commands.Commit
-asks_commit commands.Commit f = refl
-asks_commit commands.Begin f = cc
-asks_commit commands.Abort f = cc
-asks_commit (commands.AddVertex v) f = cc
-asks_commit (commands.DropVertex v) f = cc
-asks_commit (commands.AddEdge u v weight) f = cc
-asks_commit (commands.SetEdge u v weight) f = cc
-asks_commit (commands.DropEdge u v) f = cc
-asks_commit (commands.Weight u v) f = cc
-asks_commit (commands.Neighbours v) f = cc
-asks_commit commands.Count f = cc
-asks_commit (commands.Bfs root file) f = cc
-asks_commit (commands.Wcc file) f = cc
-asks_commit (commands.Cdlp rounds file) f = cc
-asks_commit (commands.Sssp root file) f = cc
-asks_commit (commands.FastBfs root file) f = cc
-asks_commit (commands.FastSssp root width file) f = cc
+    by_command : (r : Command) → IsScript (open_behind false r) rest → (r ≡ commands.Begin) × IsScript (Some true) rest
+    by_command commands.Begin next = (refl, next)
+    by_command commands.Commit next = absurd next
+    by_command commands.Abort next = absurd next
+    by_command (commands.Write w) next = absurd next
+    by_command (commands.Read query) next = absurd next
+    by_command (commands.Run kernel file) next = absurd next
 
 -- a write that may want a place may be answered `full`
 pub may_be_full : (w : Write) → inserts w ≡ true → MayBeFull w
@@ -129,11 +112,12 @@ query_plain kind g Counts = record { start = refl; writes = refl; stops = refl; 
 
 -- and a kernel
 pub kernel_plain : (g : Graph) (kernel : Kernel) → IsPlain (kernel_answer g kernel)
-kernel_plain g (Bfs root) = by_cond IsPlain (has_vertex g root) _ _ (record { start = refl; writes = refl; stops = refl; stamp = refl }) (record { start = refl; writes = refl; stops = refl; stamp = refl })
-kernel_plain g Wcc = record { start = refl; writes = refl; stops = refl; stamp = refl }
-kernel_plain g (Cdlp rounds) = record { start = refl; writes = refl; stops = refl; stamp = refl }
-kernel_plain g (Sssp root) = by_cond IsPlain (has_vertex g root) _ _ (record { start = refl; writes = refl; stops = refl; stamp = refl }) (record { start = refl; writes = refl; stops = refl; stamp = refl })
+kernel_plain g kernel = by_root (root_of kernel)
+  where
+    by_root : (root : Option ℕ) → IsPlain (at_root g root (table_answer g))
+    by_root None = record { start = refl; writes = refl; stops = refl; stamp = refl }
+    by_root (Some root) = by_cond IsPlain (has_vertex g root) _ _ (record { start = refl; writes = refl; stops = refl; stamp = refl }) (record { start = refl; writes = refl; stops = refl; stamp = refl })
 
 -- a plain answer makes no write
 pub plain_makes_none : (l : AnsweredLine) → IsPlain l.answer → filter_map made_by (l ∷ []) ≡ []
-plain_makes_none l plain = ap (λ b. cons_option (cond b (write_of (request l.command)) None) []) plain.writes
+plain_makes_none l plain = ap (λ b. cons_option (cond b (write_of l.command) None) []) plain.writes

@@ -37,7 +37,8 @@ use Rattle.graph_model.specs.declared.table.Value.TheVariants.{Number}
 use Rattle.graph_model.specs.Tables.{IsTable, IsCdlpValue}
 use Rattle.run_model.specs.Answering.{targets_of, edges_in, weight_answer, query_answer, table_answer}
 use Rattle.run_model.proofs.SnapshotLemmas.{target_arc}
-use Rattle.run_model.specs.Requests.{Counts, begun_by, IsScript}
+use Rattle.run_model.specs.declared.command.Query.TheVariants.{Counts}
+use Rattle.run_model.specs.Commands.{begun_by, IsScript}
 use Rattle.run_model.specs.Run.{Context, txn_name, load_commit, IsCause, IsWriteAnswer, AllAnswered, HasFiles, IsLoad, IsShown}
 use Rattle.graph_model.specs.declared.limits.TheConstants.{MAX_WEIGHT, MAX_BEGINS}
 use Rattle.std.specs.List.{AllByRecursion, list_any, slice_index_or}
@@ -231,7 +232,7 @@ cause_at_two cause run =
 
 -- the first script where it sets another edge
 abbrev apart_lines : List AnsweredLine
-apart_lines = answered_lines (commands.Begin ∷ commands.SetEdge 2 3 9 ∷ commands.Commit ∷ []) (answers.Begun (txn_name 1 1) 1 ∷ answers.Done ∷ answers.Committed (Some 2) ∷ [])
+apart_lines = answered_lines (commands.Begin ∷ commands.Write (writes.SetEdge 2 3 9) ∷ commands.Commit ∷ []) (answers.Begun (txn_name 1 1) 1 ∷ answers.Done ∷ answers.Committed (Some 2) ∷ [])
 
 abbrev judged_apart : Cause → Context
 judged_apart cause = record {
@@ -250,7 +251,7 @@ pub conflicts : ConflictExamples
 conflicts = record {
   with_open = meets (Holder (txn_name 1 1)) (
     λ same. (let e : 1 ≡ 2 = same in omega (arith, e)),
-    (0, first_lines, refl, refl, record { place = 1; line = record { txn = 1; command = commands.SetEdge 1 2 9; answer = answers.Done }; write = writes.SetEdge 1 2 9; there = refl; txn = refl; made = refl; clashes = refl }),
+    (0, first_lines, refl, refl, record { place = 1; line = record { txn = 1; command = commands.Write (writes.SetEdge 1 2 9); answer = answers.Done }; write = writes.SetEdge 1 2 9; there = refl; txn = refl; made = refl; clashes = refl }),
     λ i c at by. (let numbers = commit_numbers i c at in let job : c.by.job ≡ 1 = ap (λ (n : TxnName). n.job) by in let place = numbers.0 in let stamp = numbers.1 in omega arith),
   );
   with_later = meets (Later 2) (0, omega arith, refl);
@@ -290,7 +291,7 @@ conflicts = record {
         at_place : (place : ℕ) → slice_get apart_lines place ≡ Some line → ⊥
         at_place zero at = none-some _ (by_line (record { txn = 1; command = commands.Begin; answer = answers.Begun (txn_name 1 1) 1 }) (same_Some _ line at))
         at_place (suc zero) at =
-            let wrote = same_Some (writes.SetEdge 2 3 9) write (by_line (record { txn = 1; command = commands.SetEdge 2 3 9; answer = answers.Done }) (same_Some _ line at)) in
+            let wrote = same_Some (writes.SetEdge 2 3 9) write (by_line (record { txn = 1; command = commands.Write (writes.SetEdge 2 3 9); answer = answers.Done }) (same_Some _ line at)) in
             let none : false ≡ true = ap (λ w. clash Undirected w (writes.SetEdge 1 2 8)) wrote ∙ clashes in cc
         at_place (suc (suc zero)) at = none-some _ (by_line (record { txn = 1; command = commands.Commit; answer = answers.Committed (Some 2) }) (same_Some _ line at))
         at_place (suc (suc (suc place))) at = none-some _ at
@@ -411,13 +412,13 @@ second_allowed : refused one (writes.AddVertex 2) ≡ None
 second_allowed = simp lookups refl
 
 abbrev refusal_lines : List Command
-refusal_lines = commands.AddVertex 1 ∷ commands.AddEdge 1 1 5 ∷ commands.AddEdge 1 2 5 ∷ commands.Commit ∷ []
+refusal_lines = commands.Write (writes.AddVertex 1) ∷ commands.Write (writes.AddEdge 1 1 5) ∷ commands.Write (writes.AddEdge 1 2 5) ∷ commands.Commit ∷ []
 
 abbrev refusal_report : List Answer
 refusal_report = answers.Exists ∷ answers.SelfLoop ∷ answers.NoVertex 2 ∷ answers.Committed None ∷ []
 
 abbrev own_lines : List Command
-own_lines = commands.AddVertex 2 ∷ commands.Count ∷ commands.Abort ∷ []
+own_lines = commands.Write (writes.AddVertex 2) ∷ commands.Read Counts ∷ commands.Abort ∷ []
 
 abbrev own_report : List Answer
 own_report = answers.Done ∷ answers.Counted 2 0 ∷ answers.Aborted ∷ []
@@ -466,13 +467,13 @@ lone_goes = refused_at _ _ _ (entries_made Undirected load) (writes.DropVertex 4
 pub wrong_answers : WrongAnswers
 wrong_answers = record {
   other_weight = λ run. let e : answers.Weight 5 ≡ answers.Nothing = (run.answered 0 _ refl).1.0 ∙ ap weight_answer (no_arc (1, 1)) in cc;
-  made_what_exists = λ run. let e : answers.Done ≡ answers.Exists = refused_so (commands.AddVertex 1 ∷ commands.Abort ∷ []) (answers.Done ∷ answers.Aborted ∷ []) (writes.AddVertex 1) _ answers.Done exists (run.answered 0 _ refl).1.0 in cc;
+  made_what_exists = λ run. let e : answers.Done ≡ answers.Exists = refused_so (commands.Write (writes.AddVertex 1) ∷ commands.Abort ∷ []) (answers.Done ∷ answers.Aborted ∷ []) (writes.AddVertex 1) _ answers.Done exists (run.answered 0 _ refl).1.0 in cc;
   met_nobody = λ run.
-      let later = refused_so (commands.AddVertex 2 ∷ commands.Abort ∷ []) (answers.Conflict (Later 1) ∷ answers.Skipped ∷ []) (writes.AddVertex 2) _ (answers.Conflict (Later 1)) second_allowed (run.answered 0 _ refl).1.0 in let below : later.0 < 0 = later.1 in omega arith;
-  full_at_a_set = λ run. no_place_for (commands.SetEdge 1 2 9) (writes.SetEdge 1 2 9) None set_allowed (run.answered 0 _ refl).1.0;
-  full_at_a_dropped_edge = λ run. no_place_for (commands.DropEdge 1 2) (writes.DropEdge 1 2) None (simp lookups refl) (run.answered 0 _ refl).1.0;
-  full_at_a_removed_vertex = λ run. no_place_for (commands.DropVertex 4) (writes.DropVertex 4) None lone_goes (run.answered 0 _ refl).1.0;
-  full_at_what_exists = λ run. let e : answers.Full ≡ answers.Exists = no_place_for (commands.AddVertex 4) (writes.AddVertex 4) (Some refusals.VertexExists) (simp lookups refl) (run.answered 0 _ refl).1.0 in cc;
+      let later = refused_so (commands.Write (writes.AddVertex 2) ∷ commands.Abort ∷ []) (answers.Conflict (Later 1) ∷ answers.Skipped ∷ []) (writes.AddVertex 2) _ (answers.Conflict (Later 1)) second_allowed (run.answered 0 _ refl).1.0 in let below : later.0 < 0 = later.1 in omega arith;
+  full_at_a_set = λ run. no_place_for (commands.Write (writes.SetEdge 1 2 9)) (writes.SetEdge 1 2 9) None set_allowed (run.answered 0 _ refl).1.0;
+  full_at_a_dropped_edge = λ run. no_place_for (commands.Write (writes.DropEdge 1 2)) (writes.DropEdge 1 2) None (simp lookups refl) (run.answered 0 _ refl).1.0;
+  full_at_a_removed_vertex = λ run. no_place_for (commands.Write (writes.DropVertex 4)) (writes.DropVertex 4) None lone_goes (run.answered 0 _ refl).1.0;
+  full_at_what_exists = λ run. let e : answers.Full ≡ answers.Exists = no_place_for (commands.Write (writes.AddVertex 4)) (writes.AddVertex 4) (Some refusals.VertexExists) (simp lookups refl) (run.answered 0 _ refl).1.0 in cc;
   full_too_early = λ run. let filled : 103 ≤ 1 = run.full 0 1 _ _ refl refl refl in omega (arith, filled);
   skipped_alone = λ run. let e : answers.Skipped ≡ query_answer Undirected one Counts = (run.answered 0 _ refl).1.0 in cc;
   not_skipped = λ run. let e : answers.Aborted ≡ answers.Skipped = (run.answered 0 _ refl).1.1.0 in cc;

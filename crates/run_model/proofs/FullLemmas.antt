@@ -12,7 +12,8 @@ use Rattle.graph_model.proofs.PlaceLemmas.{some_eq}
 use Rattle.graph_model.proofs.TableLemmas.{one_table, one_bfs_value, one_sssp_value, one_wcc_value, one_cdlp_value}
 use Rattle.run_model.specs.declared.answer.Answer.{Answer}
 use Rattle.run_model.specs.declared.answer.Answer.TheVariants as answers
-use Rattle.run_model.specs.Requests.{Kernel, Bfs, Wcc, Cdlp, Sssp}
+use Rattle.run_model.specs.declared.command.Kernel.{Kernel}
+use Rattle.run_model.specs.declared.command.Kernel.TheVariants.{Bfs, Wcc, Cdlp, Sssp, FastBfs, FastSssp}
 use Rattle.run_model.specs.AnsweredLines.{AnsweredLine}
 use Rattle.run_model.specs.Answering.{IsKernelTable}
 use Rattle.run_model.specs.Inputs.{File}
@@ -32,6 +33,8 @@ one_kernel_table kind g (Bfs root) s t = one_table g (IsBfsValue g root) (one_bf
 one_kernel_table kind g Wcc s t = one_table g (IsWccValue g) (one_wcc_value g) s t
 one_kernel_table kind g (Cdlp rounds) s t = one_table g (IsCdlpValue kind g rounds) (one_cdlp_value kind g rounds) s t
 one_kernel_table kind g (Sssp root) s t = one_table g (IsSsspValue g root) (one_sssp_value g root) s t
+one_kernel_table kind g (FastBfs root) s t = one_table g (IsBfsValue g root) (one_bfs_value g root) s t
+one_kernel_table kind g (FastSssp root width) s t = one_table g (IsSsspValue g root) (one_sssp_value g root) s t
 
 -- a line's file is settled by what lies behind it
 one_file : (context : Context) (before : List AnsweredLine) (txn : ℕ) (filing : Option Filing) (fs gs rest : List File)

@@ -16,7 +16,8 @@ use Rattle.graph_model.specs.Conflict.{meets, later}
 use Rattle.graph_model.proofs.LegalLemmas.{graph_at-append, get_front}
 use Rattle.run_model.specs.declared.answer.Answer.{Answer}
 use Rattle.run_model.specs.declared.answer.Answer.TheVariants as answers
-use Rattle.run_model.specs.Requests.{Request, ToBegin, ToCommit, ToAbort, ToWrite, ToRead, ToRun, request}
+use Rattle.run_model.specs.declared.command.Command.{Command}
+use Rattle.run_model.specs.declared.command.Command.TheVariants as commands
 use Rattle.run_model.specs.AnsweredLines.{AnsweredLine, own_writes, is_stopped, start_of, newest_shown, snapshot}
 use Rattle.run_model.specs.Answering.{query_answer, kernel_answer}
 use Rattle.run_model.specs.Run.{Context, MadeClash, IsCause, IsAllowedAnswer, IsWriteAnswer, IsBeginAnswer, IsCommitted, IsCommitAnswer, IsLiveAnswer, IsAnswered, AllAnswered}
@@ -133,22 +134,22 @@ module _ (kind : Kind) (load : List Write) (journal more : List Commit) (scripts
   same_snapshot : (txn : ℕ) (before : List AnsweredLine) → start_of txn before ≤ length journal → snapshot kind (journal ++ more) txn before ≡ snapshot kind journal txn before
   same_snapshot txn before le = ap (λ g. apply_all kind g (own_writes txn before)) (graph_at-append kind journal more (start_of txn before) le)
 
-  live_grows : (before : List AnsweredLine) (txn : ℕ) (r : Request) (a : Answer) → start_of txn before ≤ length journal → IsLiveAnswer old before txn r a → IsLiveAnswer new before txn r a
-  live_grows before txn ToBegin a le is = begin_grows before txn a is
-  live_grows before txn ToCommit a le is = commit_grows txn (start_of txn before) (own_writes txn before) a is
-  live_grows before txn ToAbort a le is = is
-  live_grows before txn (ToWrite w) a le is =
+  live_grows : (before : List AnsweredLine) (txn : ℕ) (r : Command) (a : Answer) → start_of txn before ≤ length journal → IsLiveAnswer old before txn r a → IsLiveAnswer new before txn r a
+  live_grows before txn commands.Begin a le is = begin_grows before txn a is
+  live_grows before txn commands.Commit a le is = commit_grows txn (start_of txn before) (own_writes txn before) a is
+  live_grows before txn commands.Abort a le is = is
+  live_grows before txn (commands.Write w) a le is =
       subst (λ g. IsWriteAnswer new (start_of txn before) w (refused g w) a) (sym (same_snapshot txn before le)) (write_grows (start_of txn before) w _ a le is)
-  live_grows before txn (ToRead query) a le is = is ∙ ap (λ g. query_answer kind g query) (sym (same_snapshot txn before le))
-  live_grows before txn (ToRun kernel file) a le is = is ∙ ap (λ g. kernel_answer g kernel) (sym (same_snapshot txn before le))
+  live_grows before txn (commands.Read query) a le is = is ∙ ap (λ g. query_answer kind g query) (sym (same_snapshot txn before le))
+  live_grows before txn (commands.Run kernel file) a le is = is ∙ ap (λ g. kernel_answer g kernel) (sym (same_snapshot txn before le))
 
   -- a line's answer stays right
   pub answered_grows : (before : List AnsweredLine) (l : AnsweredLine) → start_of l.txn before ≤ length journal → IsAnswered old before l → IsAnswered new before l
   answered_grows before l le = elim (is_stopped l.txn before) as (λ s.
-      cond s (l.answer ≡ answers.Skipped) (IsLiveAnswer old before l.txn (request l.command) l.answer)
-      → cond s (l.answer ≡ answers.Skipped) (IsLiveAnswer new before l.txn (request l.command) l.answer)) [
+      cond s (l.answer ≡ answers.Skipped) (IsLiveAnswer old before l.txn l.command l.answer)
+      → cond s (l.answer ≡ answers.Skipped) (IsLiveAnswer new before l.txn l.command l.answer)) [
         | true ↦ λ is. is
-        | false ↦ λ is. live_grows before l.txn (request l.command) l.answer le is
+        | false ↦ λ is. live_grows before l.txn l.command l.answer le is
       ]
 
   -- and so do those of all lines

@@ -29,7 +29,10 @@ use Rattle.run_model.specs.declared.command.Command.{Command}
 use Rattle.run_model.specs.declared.command.Command.TheVariants as commands
 use Rattle.run_model.specs.declared.answer.Answer.{Answer}
 use Rattle.run_model.specs.declared.answer.Answer.TheVariants as answers
-use Rattle.run_model.specs.Requests.{WeightOf, NeighboursOf, Counts, Kernel, Bfs, Cdlp, Sssp, begun_by, IsScript}
+use Rattle.run_model.specs.declared.command.Query.TheVariants.{WeightOf, NeighboursOf, Counts}
+use Rattle.run_model.specs.declared.command.Kernel.{Kernel}
+use Rattle.run_model.specs.declared.command.Kernel.TheVariants.{Bfs, Wcc, Cdlp, Sssp, FastBfs, FastSssp}
+use Rattle.run_model.specs.Commands.{begun_by, IsScript}
 use Rattle.run_model.specs.AnsweredLines.{AnsweredLine, answered_lines}
 use Rattle.run_model.specs.Answering.{targets_of, edges_in, at_vertex, weight_answer, query_answer, table_answer, IsKernelTable}
 use Rattle.run_model.specs.Inputs.{File}
@@ -149,21 +152,21 @@ other_number m n e = cc
 
 pub reads : ReadExamples
 reads = record {
-  weight = reads_arcs (commands.Weight 1 2) (answers.Weight 5) ((omega arith, omega arith), (tt, refl)) (omega arith) (sym (arrows_weight 1 2), (refl, tt)) refl ([], refl, ([], refl, ([], refl, refl)));
+  weight = reads_arcs (commands.Read (WeightOf 1 2)) (answers.Weight 5) ((omega arith, omega arith), (tt, refl)) (omega arith) (sym (arrows_weight 1 2), (refl, tt)) refl ([], refl, ([], refl, ([], refl, refl)));
   not_the_way_round = λ run. let same : ◌≡◌ {A = ℕ} 4 5 = other_number 4 5 ((run.answered 0 _ refl).1.0 ∙ arrows_weight 1 2) in omega (arith, same);
-  no_way_back = reads_arcs (commands.Weight 2 1) answers.Nothing ((omega arith, omega arith), (tt, refl)) (omega arith) (sym (arrows_weight 2 1), (refl, tt)) refl ([], refl, ([], refl, ([], refl, refl)));
+  no_way_back = reads_arcs (commands.Read (WeightOf 2 1)) answers.Nothing ((omega arith, omega arith), (tt, refl)) (omega arith) (sym (arrows_weight 2 1), (refl, tt)) refl ([], refl, ([], refl, ([], refl, refl)));
   weight_back = λ run. let e : answers.Weight 5 ≡ answers.Nothing = (run.answered 0 _ refl).1.0 ∙ arrows_weight 2 1 in cc;
-  both_ways = reads_edges (commands.Weight 2 1) (answers.Weight 5) ((omega arith, omega arith), (tt, refl)) (omega arith) (sym (edges_weight 2 1), (refl, tt)) refl ([], refl, ([], refl, ([], refl, refl)));
+  both_ways = reads_edges (commands.Read (WeightOf 2 1)) (answers.Weight 5) ((omega arith, omega arith), (tt, refl)) (omega arith) (sym (edges_weight 2 1), (refl, tt)) refl ([], refl, ([], refl, ([], refl, refl)));
   not_one_way = λ run. let e : answers.Nothing ≡ answers.Weight 5 = (run.answered 0 _ refl).1.0 ∙ edges_weight 2 1 in cc;
-  targets = reads_arcs (commands.Neighbours 1) (answers.Neighbours (2 ∷ 3 ∷ [])) (omega arith, (tt, refl)) (omega arith) (sym (tells_targets Directed arrows marks arrow_list on_arrows 1), (refl, tt)) refl ([], refl, ([], refl, ([], refl, refl)));
+  targets = reads_arcs (commands.Read (NeighboursOf 1)) (answers.Neighbours (2 ∷ 3 ∷ [])) (omega arith, (tt, refl)) (omega arith) (sym (tells_targets Directed arrows marks arrow_list on_arrows 1), (refl, tt)) refl ([], refl, ([], refl, ([], refl, refl)));
   one_too_great = λ run.
       let e : answers.Neighbours (3 ∷ 4 ∷ []) ≡ answers.Neighbours (2 ∷ 3 ∷ []) = (run.answered 0 _ refl).1.0 ∙ tells_targets Directed arrows marks arrow_list on_arrows 1 in
       let lists : ◌≡◌ {A = List ℕ} (3 ∷ 4 ∷ []) (2 ∷ 3 ∷ []) = cc in
       let same : ◌≡◌ {A = ℕ} 3 2 = ap (λ xs. unwrap_or (slice_get xs 0) 0) lists in omega (arith, same);
-  no_targets = reads_arcs (commands.Neighbours 2) (answers.Neighbours []) (omega arith, (tt, refl)) (omega arith) (sym (tells_targets Directed arrows marks arrow_list on_arrows 2), (refl, tt)) refl ([], refl, ([], refl, ([], refl, refl)));
-  either_end = reads_edges (commands.Neighbours 2) (answers.Neighbours (1 ∷ 3 ∷ [])) (omega arith, (tt, refl)) (omega arith) (sym (tells_targets Undirected lines_both_ways marks edge_list on_edges 2), (refl, tt)) refl ([], refl, ([], refl, ([], refl, refl)));
-  count = reads_arcs commands.Count (answers.Counted 3 3) (tt, (tt, refl)) (omega arith) (sym (tells_counts Directed arrows marks arrow_list on_arrows), (refl, tt)) refl ([], refl, ([], refl, ([], refl, refl)));
-  edges_once = reads_edges commands.Count (answers.Counted 3 3) (tt, (tt, refl)) (omega arith) (sym (tells_counts Undirected lines_both_ways marks edge_list on_edges), (refl, tt)) refl ([], refl, ([], refl, ([], refl, refl)));
+  no_targets = reads_arcs (commands.Read (NeighboursOf 2)) (answers.Neighbours []) (omega arith, (tt, refl)) (omega arith) (sym (tells_targets Directed arrows marks arrow_list on_arrows 2), (refl, tt)) refl ([], refl, ([], refl, ([], refl, refl)));
+  either_end = reads_edges (commands.Read (NeighboursOf 2)) (answers.Neighbours (1 ∷ 3 ∷ [])) (omega arith, (tt, refl)) (omega arith) (sym (tells_targets Undirected lines_both_ways marks edge_list on_edges 2), (refl, tt)) refl ([], refl, ([], refl, ([], refl, refl)));
+  count = reads_arcs (commands.Read Counts) (answers.Counted 3 3) (tt, (tt, refl)) (omega arith) (sym (tells_counts Directed arrows marks arrow_list on_arrows), (refl, tt)) refl ([], refl, ([], refl, ([], refl, refl)));
+  edges_once = reads_edges (commands.Read Counts) (answers.Counted 3 3) (tt, (tt, refl)) (omega arith) (sym (tells_counts Undirected lines_both_ways marks edge_list on_edges), (refl, tt)) refl ([], refl, ([], refl, ([], refl, refl)));
   edges_twice = λ run.
       let e : answers.Counted 3 6 ≡ answers.Counted 3 3 = (run.answered 0 _ refl).1.0 ∙ tells_counts Undirected lines_both_ways marks edge_list on_edges in
       let same : ◌≡◌ {A = ℕ} 6 3 = cc in omega (arith, same);
@@ -199,13 +202,13 @@ dropped_count : query_answer Directed (after_write (writes.DropEdge 1 2)) Counts
 dropped_count = tells_counts Directed _ _ _ (entries_made Directed (arcs ++ writes.DropEdge 1 2 ∷ []))
 
 abbrev add_lines : List Command
-add_lines = commands.AddEdge 2 1 7 ∷ commands.Weight 2 1 ∷ []
+add_lines = commands.Write (writes.AddEdge 2 1 7) ∷ commands.Read (WeightOf 2 1) ∷ []
 
 abbrev set_lines : List Command
-set_lines = commands.SetEdge 1 2 9 ∷ commands.Weight 1 2 ∷ []
+set_lines = commands.Write (writes.SetEdge 1 2 9) ∷ commands.Read (WeightOf 1 2) ∷ []
 
 abbrev drop_lines : List Command
-drop_lines = commands.DropEdge 1 2 ∷ commands.Weight 1 2 ∷ commands.Count ∷ []
+drop_lines = commands.Write (writes.DropEdge 1 2) ∷ commands.Read (WeightOf 1 2) ∷ commands.Read Counts ∷ []
 
 pub written : WriteExamples
 written = record {
@@ -223,17 +226,17 @@ written = record {
       ((omega arith, omega arith), ((omega arith, omega arith), (tt, (tt, refl)))) (omega arith) refl
       (so_refused drop_lines (answers.Done ∷ answers.Nothing ∷ answers.Counted 3 2 ∷ []) (writes.DropEdge 1 2) _ answers.Done (refused_by (writes.DropEdge 1 2)) tt, (sym dropped_weight, (sym dropped_count, (refl, tt))))
       refl ([], refl, ([], refl, ([], refl, ([], refl, ([], refl, refl)))));
-  not_dropped = λ run. refused_so (commands.DropEdge 1 2 ∷ []) (answers.HasEdges ∷ []) (writes.DropEdge 1 2) _ answers.HasEdges (refused_by (writes.DropEdge 1 2)) (run.answered 0 _ refl).1.0;
-  edge_exists = reads_arcs (commands.AddEdge 1 2 7) answers.Exists ((omega arith, omega arith, omega arith), (tt, refl)) (omega arith)
-      (so_refused (commands.AddEdge 1 2 7 ∷ []) (answers.Exists ∷ []) (writes.AddEdge 1 2 7) _ answers.Exists (refused_by (writes.AddEdge 1 2 7)) refl, (refl, tt)) refl ([], refl, ([], refl, ([], refl, refl)));
-  no_edge = reads_arcs (commands.DropEdge 2 1) answers.NoEdge ((omega arith, omega arith), (tt, refl)) (omega arith)
-      (so_refused (commands.DropEdge 2 1 ∷ []) (answers.NoEdge ∷ []) (writes.DropEdge 2 1) _ answers.NoEdge (refused_by (writes.DropEdge 2 1)) refl, (refl, tt)) refl ([], refl, ([], refl, ([], refl, refl)));
-  has_edges = reads_arcs (commands.DropVertex 2) answers.HasEdges (omega arith, (tt, refl)) (omega arith)
-      (so_refused (commands.DropVertex 2 ∷ []) (answers.HasEdges ∷ []) (writes.DropVertex 2) _ answers.HasEdges (refused_by (writes.DropVertex 2)) refl, (refl, tt)) refl ([], refl, ([], refl, ([], refl, refl)));
-  has_no_edge = λ run. let e : answers.NoEdge ≡ answers.HasEdges = refused_so (commands.DropVertex 2 ∷ []) (answers.NoEdge ∷ []) (writes.DropVertex 2) _ answers.NoEdge (refused_by (writes.DropVertex 2)) (run.answered 0 _ refl).1.0 in cc;
-  removed_with_edges = λ run. let e : answers.Done ≡ answers.HasEdges = refused_so (commands.DropVertex 2 ∷ []) (answers.Done ∷ []) (writes.DropVertex 2) _ answers.Done (refused_by (writes.DropVertex 2)) (run.answered 0 _ refl).1.0 in cc;
-  no_vertex_to_remove = reads_arcs (commands.DropVertex 9) (answers.NoVertex 9) (omega arith, (tt, refl)) (omega arith)
-      (so_refused (commands.DropVertex 9 ∷ []) (answers.NoVertex 9 ∷ []) (writes.DropVertex 9) _ (answers.NoVertex 9) (refused_by (writes.DropVertex 9)) refl, (refl, tt)) refl ([], refl, ([], refl, ([], refl, refl)));
+  not_dropped = λ run. refused_so (commands.Write (writes.DropEdge 1 2) ∷ []) (answers.HasEdges ∷ []) (writes.DropEdge 1 2) _ answers.HasEdges (refused_by (writes.DropEdge 1 2)) (run.answered 0 _ refl).1.0;
+  edge_exists = reads_arcs (commands.Write (writes.AddEdge 1 2 7)) answers.Exists ((omega arith, omega arith, omega arith), (tt, refl)) (omega arith)
+      (so_refused (commands.Write (writes.AddEdge 1 2 7) ∷ []) (answers.Exists ∷ []) (writes.AddEdge 1 2 7) _ answers.Exists (refused_by (writes.AddEdge 1 2 7)) refl, (refl, tt)) refl ([], refl, ([], refl, ([], refl, refl)));
+  no_edge = reads_arcs (commands.Write (writes.DropEdge 2 1)) answers.NoEdge ((omega arith, omega arith), (tt, refl)) (omega arith)
+      (so_refused (commands.Write (writes.DropEdge 2 1) ∷ []) (answers.NoEdge ∷ []) (writes.DropEdge 2 1) _ answers.NoEdge (refused_by (writes.DropEdge 2 1)) refl, (refl, tt)) refl ([], refl, ([], refl, ([], refl, refl)));
+  has_edges = reads_arcs (commands.Write (writes.DropVertex 2)) answers.HasEdges (omega arith, (tt, refl)) (omega arith)
+      (so_refused (commands.Write (writes.DropVertex 2) ∷ []) (answers.HasEdges ∷ []) (writes.DropVertex 2) _ answers.HasEdges (refused_by (writes.DropVertex 2)) refl, (refl, tt)) refl ([], refl, ([], refl, ([], refl, refl)));
+  has_no_edge = λ run. let e : answers.NoEdge ≡ answers.HasEdges = refused_so (commands.Write (writes.DropVertex 2) ∷ []) (answers.NoEdge ∷ []) (writes.DropVertex 2) _ answers.NoEdge (refused_by (writes.DropVertex 2)) (run.answered 0 _ refl).1.0 in cc;
+  removed_with_edges = λ run. let e : answers.Done ≡ answers.HasEdges = refused_so (commands.Write (writes.DropVertex 2) ∷ []) (answers.Done ∷ []) (writes.DropVertex 2) _ answers.Done (refused_by (writes.DropVertex 2)) (run.answered 0 _ refl).1.0 in cc;
+  no_vertex_to_remove = reads_arcs (commands.Write (writes.DropVertex 9)) (answers.NoVertex 9) (omega arith, (tt, refl)) (omega arith)
+      (so_refused (commands.Write (writes.DropVertex 9) ∷ []) (answers.NoVertex 9 ∷ []) (writes.DropVertex 9) _ (answers.NoVertex 9) (refused_by (writes.DropVertex 9)) refl, (refl, tt)) refl ([], refl, ([], refl, ([], refl, refl)));
 }
 
 -- ---- kernels
@@ -283,12 +286,12 @@ abbrev own_labels : List Entry
 own_labels = entry 1 1 ∷ entry 2 2 ∷ entry 3 3 ∷ []
 
 -- a line with its file
-files_so : (command : List ℕ → Command) (table : List Entry) → IsScript (Some true) (command (codes "f") ∷ commands.Abort ∷ []) → begun_by 1 (command (codes "f") ∷ commands.Abort ∷ []) ≤ MAX_BEGINS
-    → AllAnswered (on_arcs (command (codes "f") ∷ []) (answers.Table 3 ∷ [])) (take 1 (lines_of (command (codes "f")) (answers.Table 3))) (drop 1 (lines_of (command (codes "f")) (answers.Table 3)))
-    → list_any (λ l. is_full l.answer) (lines_of (command (codes "f")) (answers.Table 3)) ≡ false
-    → HasFiles (on_arcs (command (codes "f") ∷ []) (answers.Table 3 ∷ [])) [] (lines_of (command (codes "f")) (answers.Table 3)) (file (codes "f") table ∷ []) → Files command table
-files_so command table script few all none filed =
-    answers_so Directed (writes.AddVertex 1) other_writes directed_allowed arcs_within (command (codes "f") ∷ commands.Abort ∷ []) (answers.Table 3 ∷ answers.Aborted ∷ []) (file (codes "f") table ∷ []) script few refl all none filed
+files_so : (kernel : Kernel) (table : List Entry) → IsScript (Some true) (commands.Run kernel (codes "f") ∷ commands.Abort ∷ []) → begun_by 1 (commands.Run kernel (codes "f") ∷ commands.Abort ∷ []) ≤ MAX_BEGINS
+    → AllAnswered (on_arcs (commands.Run kernel (codes "f") ∷ []) (answers.Table 3 ∷ [])) (take 1 (lines_of (commands.Run kernel (codes "f")) (answers.Table 3))) (drop 1 (lines_of (commands.Run kernel (codes "f")) (answers.Table 3)))
+    → list_any (λ l. is_full l.answer) (lines_of (commands.Run kernel (codes "f")) (answers.Table 3)) ≡ false
+    → HasFiles (on_arcs (commands.Run kernel (codes "f") ∷ []) (answers.Table 3 ∷ [])) [] (lines_of (commands.Run kernel (codes "f")) (answers.Table 3)) (file (codes "f") table ∷ []) → Files kernel table
+files_so kernel table script few all none filed =
+    answers_so Directed (writes.AddVertex 1) other_writes directed_allowed arcs_within (commands.Run kernel (codes "f") ∷ commands.Abort ∷ []) (answers.Table 3 ∷ answers.Aborted ∷ []) (file (codes "f") table ∷ []) script few refl all none filed
 
 -- the table of a script's first file
 first_table : (t u : List Entry) (fs gs : List File) (name other : List ℕ) → file name t ∷ fs ≡ file other u ∷ gs → t ≡ u
@@ -300,53 +303,38 @@ another_table kernel right wrong table is that same = ap (λ t. value_in t 2) (s
 
 pub kernels : KernelExamples
 kernels = record {
-  bfs = files_so commands_bfs hops (omega arith, (tt, refl)) (omega arith) (sym (tells_table Directed arrows marks arrow_list on_arrows 1), (refl, tt)) refl
+  bfs = files_so (Bfs 1) hops (omega arith, (tt, refl)) (omega arith) (sym (tells_table Directed arrows marks arrow_list on_arrows 1), (refl, tt)) refl
       (_, refl, ([], (hops, refl, hops_are), ([], refl, refl)));
   bfs_by_weight = λ run.
       let files = run.files 0 _ _ refl refl in
       let same : ◌≡◌ {A = ℕ} 4 1 = another_table (Bfs 1) hops weights files.2.1.0 hops_are files.2.1.2 (first_table _ _ _ _ _ _ (files.1 ∙ files.2.1.1)) in omega (arith, same);
-  sssp = files_so commands_sssp weights (omega arith, (tt, refl)) (omega arith) (sym (tells_table Directed arrows marks arrow_list on_arrows 1), (refl, tt)) refl
+  sssp = files_so (Sssp 1) weights (omega arith, (tt, refl)) (omega arith) (sym (tells_table Directed arrows marks arrow_list on_arrows 1), (refl, tt)) refl
       (_, refl, ([], (weights, refl, weights_are), ([], refl, refl)));
   sssp_by_arcs = λ run.
       let files = run.files 0 _ _ refl refl in
       let same : ◌≡◌ {A = ℕ} 1 4 = another_table (Sssp 1) weights hops files.2.1.0 weights_are files.2.1.2 (first_table _ _ _ _ _ _ (files.1 ∙ files.2.1.1)) in omega (arith, same);
-  fast_bfs = files_so commands_fast_bfs hops (omega arith, (tt, refl)) (omega arith) (sym (tells_table Directed arrows marks arrow_list on_arrows 1), (refl, tt)) refl
+  fast_bfs = files_so (FastBfs 1) hops (omega arith, (tt, refl)) (omega arith) (sym (tells_table Directed arrows marks arrow_list on_arrows 1), (refl, tt)) refl
       (_, refl, ([], (hops, refl, hops_are), ([], refl, refl)));
   fast_bfs_by_weight = λ run.
       let files = run.files 0 _ _ refl refl in
       let same : ◌≡◌ {A = ℕ} 4 1 = another_table (Bfs 1) hops weights files.2.1.0 hops_are files.2.1.2 (first_table _ _ _ _ _ _ (files.1 ∙ files.2.1.1)) in omega (arith, same);
-  fast_sssp = files_so commands_fast_sssp weights (omega arith, (tt, refl)) (omega arith) (sym (tells_table Directed arrows marks arrow_list on_arrows 1), (refl, tt)) refl
+  fast_sssp = files_so (FastSssp 1 3) weights (omega arith, (tt, refl)) (omega arith) (sym (tells_table Directed arrows marks arrow_list on_arrows 1), (refl, tt)) refl
       (_, refl, ([], (weights, refl, weights_are), ([], refl, refl)));
   fast_sssp_by_arcs = λ run.
       let files = run.files 0 _ _ refl refl in
       let same : ◌≡◌ {A = ℕ} 1 4 = another_table (Sssp 1) weights hops files.2.1.0 weights_are files.2.1.2 (first_table _ _ _ _ _ _ (files.1 ∙ files.2.1.1)) in omega (arith, same);
-  wcc = files_so commands.Wcc one_component (tt, (tt, refl)) (omega arith) (sym (tells_entries Directed arrows marks arrow_list on_arrows), (refl, tt)) refl
+  wcc = files_so Wcc one_component (tt, (tt, refl)) (omega arith) (sym (tells_entries Directed arrows marks arrow_list on_arrows), (refl, tt)) refl
       (_, refl, ([], (one_component, refl, component_is), ([], refl, refl)));
-  cdlp = files_so commands_cdlp first_labels (omega arith, (tt, refl)) (omega arith) (sym (tells_entries Directed arrows marks arrow_list on_arrows), (refl, tt)) refl
+  cdlp = files_so (Cdlp 1) first_labels (omega arith, (tt, refl)) (omega arith) (sym (tells_entries Directed arrows marks arrow_list on_arrows), (refl, tt)) refl
       (_, refl, ([], (first_labels, refl, labels_are 1 first_labels refl (refl, (refl, (refl, tt)))), ([], refl, refl)));
   cdlp_of_no_round = λ run.
       let files = run.files 0 _ _ refl refl in
       let same : ◌≡◌ {A = ℕ} 1 2 = another_table (Cdlp 0) own_labels first_labels files.2.1.0 (labels_are 0 own_labels refl (refl, (refl, (refl, tt)))) files.2.1.2 (first_table _ _ _ _ _ _ (files.1 ∙ files.2.1.1)) in omega (arith, same);
-  no_root = reads_arcs (commands.Bfs 9 (codes "f")) (answers.NoVertex 9) (omega arith, (tt, refl)) (omega arith) (sym (tells_table Directed arrows marks arrow_list on_arrows 9), (refl, tt)) refl ([], refl, ([], refl, ([], refl, refl)));
-  no_root_of_paths = reads_arcs (commands.Sssp 9 (codes "f")) (answers.NoVertex 9) (omega arith, (tt, refl)) (omega arith) (sym (tells_table Directed arrows marks arrow_list on_arrows 9), (refl, tt)) refl ([], refl, ([], refl, ([], refl, refl)));
+  no_root = reads_arcs (commands.Run (Bfs 9) (codes "f")) (answers.NoVertex 9) (omega arith, (tt, refl)) (omega arith) (sym (tells_table Directed arrows marks arrow_list on_arrows 9), (refl, tt)) refl ([], refl, ([], refl, ([], refl, refl)));
+  no_root_of_paths = reads_arcs (commands.Run (Sssp 9) (codes "f")) (answers.NoVertex 9) (omega arith, (tt, refl)) (omega arith) (sym (tells_table Directed arrows marks arrow_list on_arrows 9), (refl, tt)) refl ([], refl, ([], refl, ([], refl, refl)));
   table_without_a_root = λ run. let e : answers.Table 3 ≡ answers.NoVertex 9 = (run.answered 0 _ refl).1.0 ∙ tells_table Directed arrows marks arrow_list on_arrows 9 in cc;
   unfiled = λ run. let files = run.files 0 _ [] refl refl in let e = files.1 ∙ files.2.1.1 in cc;
 }
-  where
-    commands_bfs : List ℕ → Command
-    commands_bfs name = commands.Bfs 1 name
-
-    commands_sssp : List ℕ → Command
-    commands_sssp name = commands.Sssp 1 name
-
-    commands_fast_bfs : List ℕ → Command
-    commands_fast_bfs name = commands.FastBfs 1 name
-
-    commands_fast_sssp : List ℕ → Command
-    commands_fast_sssp name = commands.FastSssp 1 3 name
-
-    commands_cdlp : List ℕ → Command
-    commands_cdlp name = commands.Cdlp 1 name
 
 -- ---- turns
 

@@ -10,57 +10,58 @@ use Rattle.graph_model.proofs.TestLemmas.{self_eq}
 use Rattle.run_model.specs.declared.command.Command.{Command}
 use Rattle.run_model.specs.declared.answer.Answer.{Answer}
 use Rattle.run_model.specs.declared.answer.Answer.TheVariants as answers
-use Rattle.run_model.specs.Requests.{Request, ToBegin, ToCommit, ToAbort, ToWrite, ToRead, ToRun, request, next_txn, begun_by}
+use Rattle.run_model.specs.declared.command.Command.TheVariants as commands
+use Rattle.run_model.specs.Commands.{next_txn, begun_by}
 use Rattle.run_model.specs.AnsweredLines.{AnsweredLine, answered_from, effect, made_by, of_txn, own_writes, is_stopped, or_later, first_start, start_of, newest_shown}
 use Rattle.run_model.specs.UnderWay.{AreNumbered}
 
 -- ---- numbers of transactions
 
 -- no line goes back to an earlier transaction
-pub next_least : (txn : ℕ) (r : Request) → txn ≤ next_txn txn r
-next_least txn ToBegin = omega arith
-next_least txn ToCommit = omega arith
-next_least txn ToAbort = omega arith
-next_least txn (ToWrite w) = omega arith
-next_least txn (ToRead query) = omega arith
-next_least txn (ToRun kernel file) = omega arith
+pub next_least : (txn : ℕ) (r : Command) → txn ≤ next_txn txn r
+next_least txn commands.Begin = omega arith
+next_least txn commands.Commit = omega arith
+next_least txn commands.Abort = omega arith
+next_least txn (commands.Write w) = omega arith
+next_least txn (commands.Read query) = omega arith
+next_least txn (commands.Run kernel file) = omega arith
 
 -- so none of the lines is of one before the first
 numbered_least : (before : ℕ) (ls : List AnsweredLine) (latest : ℕ) → AreNumbered before ls latest → before ≤ latest
 numbered_least before [] latest are = omega (arith, are)
 numbered_least before (l ∷ ls) latest are =
-    let rest : next_txn before (request l.command) ≤ latest = numbered_least (next_txn before (request l.command)) ls latest are.1 in
-    let step : before ≤ next_txn before (request l.command) = next_least before (request l.command) in
+    let rest : next_txn before l.command ≤ latest = numbered_least (next_txn before l.command) ls latest are.1 in
+    let step : before ≤ next_txn before l.command = next_least before l.command in
     omega arith
 
 -- one line more has the number of the transaction behind it
 pub numbered_more : (before : ℕ) (ls : List AnsweredLine) (latest : ℕ) (c : Command) (a : Answer) → AreNumbered before ls latest
-    → AreNumbered before (ls ++ record { txn = next_txn latest (request c); command = c; answer = a } ∷ []) (next_txn latest (request c))
-numbered_more before [] latest c a are = (ap (λ n. next_txn n (request c)) (sym are), ap (λ n. next_txn n (request c)) are)
-numbered_more before (l ∷ ls) latest c a are = (are.0, numbered_more (next_txn before (request l.command)) ls latest c a are.1)
+    → AreNumbered before (ls ++ record { txn = next_txn latest c; command = c; answer = a } ∷ []) (next_txn latest c)
+numbered_more before [] latest c a are = (ap (λ n. next_txn n c) (sym are), ap (λ n. next_txn n c) are)
+numbered_more before (l ∷ ls) latest c a are = (are.0, numbered_more (next_txn before l.command) ls latest c a are.1)
 
 -- numbered lines are those of their commands and answers
 pub numbered_lines : (before : ℕ) (ls : List AnsweredLine) (latest : ℕ) → AreNumbered before ls latest
     → answered_from before (map (λ l. l.command) ls) (map (λ l. l.answer) ls) ≡ ls
 numbered_lines before [] latest are = refl
 numbered_lines before (l ∷ ls) latest are =
-    (λ i. record { txn = sym are.0 i; command = l.command; answer = l.answer } ∷ numbered_lines (next_txn before (request l.command)) ls latest are.1 i)
+    (λ i. record { txn = sym are.0 i; command = l.command; answer = l.answer } ∷ numbered_lines (next_txn before l.command) ls latest are.1 i)
 
 -- behind numbered lines a script comes to as many transactions as it does as a whole
 pub begun_behind : (before : ℕ) (ls : List AnsweredLine) (latest : ℕ) (cs : List Command) → AreNumbered before ls latest
     → begun_by before (map (λ l. l.command) ls ++ cs) ≡ begun_by latest cs
 begun_behind before [] latest cs are = ap (λ n. begun_by n cs) are
-begun_behind before (l ∷ ls) latest cs are = begun_behind (next_txn before (request l.command)) ls latest cs are.1
+begun_behind before (l ∷ ls) latest cs are = begun_behind (next_txn before l.command) ls latest cs are.1
 
 -- no line is of a transaction behind the latest
 pub none_later : (before : ℕ) (ls : List AnsweredLine) (latest txn : ℕ) → AreNumbered before ls latest → latest < txn → of_txn txn ls ≡ []
 none_later before [] latest txn are later = refl
 none_later before (l ∷ ls) latest txn are later =
-    let most : next_txn before (request l.command) ≤ latest = numbered_least (next_txn before (request l.command)) ls latest are.1 in
-    let number : l.txn ≡ next_txn before (request l.command) = are.0 in
+    let most : next_txn before l.command ≤ latest = numbered_least (next_txn before l.command) ls latest are.1 in
+    let number : l.txn ≡ next_txn before l.command = are.0 in
     let below : l.txn < txn = omega arith in
     let other : (l.txn == txn) ≡ false = grind (arith, nat_tests) in
-    ap (λ s. cond s (l ∷ of_txn txn ls) (of_txn txn ls)) other ∙ none_later (next_txn before (request l.command)) ls latest txn are.1 later
+    ap (λ s. cond s (l ∷ of_txn txn ls) (of_txn txn ls)) other ∙ none_later (next_txn before l.command) ls latest txn are.1 later
 
 -- ---- one line more of a transaction
 

@@ -24,7 +24,8 @@ use Rattle.graph_model.proofs.TransactionLemmas.{begin_keeps, write_keeps, commi
 use Rattle.run_model.specs.declared.command.Command.{Command}
 use Rattle.run_model.specs.declared.answer.Answer.{Answer}
 use Rattle.run_model.specs.declared.answer.Answer.TheVariants as answers
-use Rattle.run_model.specs.Requests.{Request, ToBegin, ToCommit, ToAbort, ToWrite, ToRead, ToRun, request, write_of, next_txn, IsRequest, IsScript}
+use Rattle.run_model.specs.declared.command.Command.TheVariants as commands
+use Rattle.run_model.specs.Commands.{write_of, next_txn, IsCommand, IsScript}
 use Rattle.run_model.specs.AnsweredLines.{AnsweredLine, effect, made_by, of_txn, own_writes, is_stopped, start_of, snapshot}
 use Rattle.run_model.specs.Answering.{refusal_answer, query_answer, kernel_answer}
 use Rattle.run_model.specs.Inputs.{Inputs}
@@ -32,7 +33,7 @@ use Rattle.run_model.specs.Run.{Context, IsCause, IsWriteAnswer, IsCommitAnswer,
 use Rattle.run_model.specs.Jobs.{JobState, RunState, LineResult, running_of, open_txns, lines_so_far, start_of_job, view_of_job, answered_job, is_end, goes_on, writes_more, stops, ends, begins, skips, write_result, commit_result, live_result, line_turn}
 use Rattle.run_model.specs.Stepped.{context_in}
 use Rattle.run_model.specs.UnderWay.{open_by_name, IsToldByLines, IsJob, IsUnderWay}
-use Rattle.run_model.proofs.AnswerLemmas.{IsWithinTxn, within_txn, must_begin, asks_commit, may_be_full, IsPlain, refusal_plain, query_plain, kernel_plain, plain_makes_none}
+use Rattle.run_model.proofs.AnswerLemmas.{IsWithinTxn, within_txn, must_begin, may_be_full, IsPlain, refusal_plain, query_plain, kernel_plain, plain_makes_none}
 use Rattle.run_model.proofs.CauseLemmas.{later_cause, holder_cause}
 use Rattle.run_model.proofs.LineLemmas.{none_later, own_more, stopped_more, start_more, start_first}
 use Rattle.run_model.proofs.OpenLemmas.{no_open_meets, open_are_listed, open_here, latest_changes, next_changes, open_unchanged}
@@ -81,18 +82,18 @@ module _ (inputs : Inputs) (leaves : ℕ) (s : RunState) (u : IsUnderWay inputs 
 
     -- ---- behind a stop
 
-    keeps_skip : j.skipping ≡ true → Keeps (skips (request c))
+    keeps_skip : j.skipping ≡ true → Keeps (skips c)
     unfolding job_is
     keeps_skip skipping =
         let script : IsScript (Some true) (c ∷ rest) = subst (IsScript (Some true)) left (subst (λ t. IsScript (Some (t || is_some j.start)) j.left) skipping job_is.script) in
-        let inside : IsWithinTxn (request c) rest = within_txn c rest script in
-        let o : LineResult = skips (request c) in
+        let inside : IsWithinTxn c rest = within_txn c rest script in
+        let o : LineResult = skips c in
         let behind : is_stopped j.begun j.lines ≡ true = job_is.stopped skipping in
         let same : open_by_name (jobs_behind o) ≡ open_by_name s.jobs = open_unchanged s.jobs k j at (answered_job j c rest o) (inr refl) (none_open j (job_is.closed skipping)) in
         let are : AreTransactions inputs.kind (s.journal ++ []) (open_by_name (jobs_behind o)) 0 = no_commits (jobs_behind o) (subst (λ r. AreTransactions inputs.kind s.journal r 0) (sym same) u.transactions) in
-        let stopped : is_stopped (next_txn j.begun (request c)) j.lines ≡ true = ap (λ n. is_stopped n j.lines) (inside.same j.begun) ∙ behind in
+        let stopped : is_stopped (next_txn j.begun c) j.lines ≡ true = ap (λ n. is_stopped n j.lines) (inside.same j.begun) ∙ behind in
         let is : IsAnswered here j.lines (line answers.Skipped) =
-        subst (λ t. cond t (◌≡◌ {A = Answer} answers.Skipped answers.Skipped) (IsLiveAnswer here j.lines (next_txn j.begun (request c)) (request c) answers.Skipped)) (sym stopped) refl in
+        subst (λ t. cond t (◌≡◌ {A = Answer} answers.Skipped answers.Skipped) (IsLiveAnswer here j.lines (next_txn j.begun c) c answers.Skipped)) (sym stopped) refl in
         keeps_by o (record {
           transactions = are;
           answered = still o are is;
@@ -101,7 +102,7 @@ module _ (inputs : Inputs) (leaves : ℕ) (s : RunState) (u : IsUnderWay inputs 
           idle = λ e. refl;
           stopped = λ e. ap (λ n. is_stopped n (j.lines ++ line answers.Skipped ∷ [])) (inside.same j.begun) ∙ stopped_more j.begun j.lines (line answers.Skipped) (inside.same j.begun) ∙ ap (λ t. t || false) behind;
           closed = λ e. refl;
-          script = subst (λ t. IsScript (Some t) rest) (sym (or_false (not (is_end (request c))))) inside.script;
+          script = subst (λ t. IsScript (Some t) rest) (sym (or_false (not (is_end c)))) inside.script;
           committed = λ i d e. cc;
           full = λ e. cc;
         })
@@ -114,31 +115,31 @@ module _ (inputs : Inputs) (leaves : ℕ) (s : RunState) (u : IsUnderWay inputs 
         let script : IsScript (Some false) (c ∷ rest) = subst (IsScript (Some false)) left (subst (λ t. IsScript (Some t) j.left) (λ i. calm i || is_some (closed i)) job_is.script) in
         let first = must_begin c rest script in
         let o : LineResult = begins (txn_name (k + 1) (j.begun + 1)) (length s.journal) in
-        let txn : ℕ = next_txn j.begun (request c) in
-        let one : next_txn j.begun (request c) ≡ j.begun + 1 = ap (next_txn j.begun) first.0 in
+        let txn : ℕ = next_txn j.begun c in
+        let one : next_txn j.begun c ≡ j.begun + 1 = ap (next_txn j.begun) first.0 in
         let l : AnsweredLine = line o.answer in
-        let none : of_txn (next_txn j.begun (request c)) j.lines ≡ [] = none_later 0 j.lines j.begun (next_txn j.begun (request c)) job_is.numbered (omega (arith, one)) in
-        let changed : Changes (txn_name (k + 1) (next_txn j.begun (request c))) (open_by_name s.jobs) (open_by_name (jobs_behind o)) (Some (record { start = length s.journal; writes = [] })) =
+        let none : of_txn (next_txn j.begun c) j.lines ≡ [] = none_later 0 j.lines j.begun (next_txn j.begun c) job_is.numbered (omega (arith, one)) in
+        let changed : Changes (txn_name (k + 1) (next_txn j.begun c)) (open_by_name s.jobs) (open_by_name (jobs_behind o)) (Some (record { start = length s.journal; writes = [] })) =
         next_changes s.jobs k j at (answered_job j c rest o) (none_open j closed) in
         let are : AreTransactions inputs.kind (s.journal ++ []) (open_by_name (jobs_behind o)) 0 = no_commits (jobs_behind o)
-        (begin_keeps inputs.kind s.journal (open_by_name s.jobs) 0 u.transactions (txn_name (k + 1) (next_txn j.begun (request c))) (open_by_name (jobs_behind o)) changed
+        (begin_keeps inputs.kind s.journal (open_by_name s.jobs) 0 u.transactions (txn_name (k + 1) (next_txn j.begun c)) (open_by_name (jobs_behind o)) changed
         (λ i d e. false_from_ne_true _ (λ same.
-        let by : d.by ≡ txn_name (k + 1) (next_txn j.begun (request c)) = name_eq d.by (txn_name (k + 1) (next_txn j.begun (request c))) same in
+        let by : d.by ≡ txn_name (k + 1) (next_txn j.begun c) = name_eq d.by (txn_name (k + 1) (next_txn j.begun c)) same in
         let old : d.by.number ≤ j.begun = u.begun i d k j e (ap (λ (q : TxnName). q.job) by) at in
-        let now : d.by.number ≡ next_txn j.begun (request c) = ap (λ (q : TxnName). q.number) by in
+        let now : d.by.number ≡ next_txn j.begun c = ap (λ (q : TxnName). q.number) by in
         omega (arith, old, now, one)))) in
         let is : IsAnswered here j.lines l =
-        subst (λ t. cond t (o.answer ≡ answers.Skipped) (IsLiveAnswer here j.lines (next_txn j.begun (request c)) (request c) o.answer)) (sym (ap (list_any (λ x. (effect x.answer).stops)) none))
-        (subst (λ r. IsLiveAnswer here j.lines (next_txn j.begun (request c)) r o.answer) (sym first.0)
+        subst (λ t. cond t (o.answer ≡ answers.Skipped) (IsLiveAnswer here j.lines (next_txn j.begun c) c o.answer)) (sym (ap (list_any (λ x. (effect x.answer).stops)) none))
+        (subst (λ r. IsLiveAnswer here j.lines (next_txn j.begun c) r o.answer) (sym first.0)
         (ap (txn_name (k + 1)) (sym one), record { within = omega arith; loaded = u.behind_load; shown = job_is.shown })) in
         keeps_by o (record {
           transactions = are;
           answered = still o are is;
           shown = omega (arith, length-append s.journal o.commits);
           told = λ start e. record {
-            started = start_first (next_txn j.begun (request c)) j.lines l refl start none e;
-            own = sym (own_more (next_txn j.begun (request c)) j.lines l refl ∙ ap (λ ls. filter_map made_by ls ++ []) none);
-            going = stopped_more (next_txn j.begun (request c)) j.lines l refl ∙ ap (λ ls. list_any (λ x. (effect x.answer).stops) ls || false) none;
+            started = start_first (next_txn j.begun c) j.lines l refl start none e;
+            own = sym (own_more (next_txn j.begun c) j.lines l refl ∙ ap (λ ls. filter_map made_by ls ++ []) none);
+            going = stopped_more (next_txn j.begun c) j.lines l refl ∙ ap (λ ls. list_any (λ x. (effect x.answer).stops) ls || false) none;
           };
           idle = λ e. refl;
           stopped = λ e. absurd (true≢false (sym e));
@@ -154,7 +155,7 @@ module _ (inputs : Inputs) (leaves : ℕ) (s : RunState) (u : IsUnderWay inputs 
       told : IsToldByLines j (start_of_job j)
       told = job_is.told (start_of_job j) opened
 
-      inside : IsWithinTxn (request c) rest
+      inside : IsWithinTxn c rest
       unfolding job_is
       inside = within_txn c rest (subst (IsScript (Some true)) left (subst (λ t. IsScript (Some t) j.left) (λ i. calm i || is_some (opened i)) job_is.script))
 
@@ -175,17 +176,17 @@ module _ (inputs : Inputs) (leaves : ℕ) (s : RunState) (u : IsUnderWay inputs 
       met_by w = conflict inputs.kind s.journal (open_txns s.jobs) mine (start_of_job j) w
 
       -- what is right of a line here
-      live : (context : Context) (a : Answer) → IsLiveAnswer context j.lines j.begun (request c) a → IsAnswered context j.lines (line a)
+      live : (context : Context) (a : Answer) → IsLiveAnswer context j.lines j.begun c a → IsAnswered context j.lines (line a)
       unfolding told inside
       live context a is =
           subst (λ n. IsAnswered context j.lines (record { txn = n; command = c; answer = a })) (sym (inside.same j.begun))
-          (subst (λ t. cond t (a ≡ answers.Skipped) (IsLiveAnswer context j.lines j.begun (request c) a)) (sym told.going) is)
+          (subst (λ t. cond t (a ≡ answers.Skipped) (IsLiveAnswer context j.lines j.begun c a)) (sym told.going) is)
 
       same_view : snapshot inputs.kind s.journal j.begun j.lines ≡ view_of_job inputs.kind s.journal j
       unfolding told
       same_view = λ i. view inputs.kind s.journal (told.started i) (sym told.own i)
 
-      live_write : (w : Write) (a : Answer) → request c ≡ ToWrite w → IsWriteAnswer here (start_of_job j) w (refused (view_of_job inputs.kind s.journal j) w) a → IsAnswered here j.lines (line a)
+      live_write : (w : Write) (a : Answer) → c ≡ commands.Write w → IsWriteAnswer here (start_of_job j) w (refused (view_of_job inputs.kind s.journal j) w) a → IsAnswered here j.lines (line a)
       unfolding told same_view
       live_write w a e is = live here a
           (subst (λ r. IsLiveAnswer here j.lines j.begun r a) (sym e)
@@ -197,7 +198,7 @@ module _ (inputs : Inputs) (leaves : ℕ) (s : RunState) (u : IsUnderWay inputs 
           → o.start ≡ j.start → (start : ℕ) → o.start ≡ Some start → IsToldByLines (answered_job j c rest o) start
       unfolding told inside
       still_told o ws no_start no_stop made more same start e =
-          let txn : next_txn j.begun (request c) ≡ j.begun = inside.same j.begun in
+          let txn : next_txn j.begun c ≡ j.begun = inside.same j.begun in
           let lines : List AnsweredLine = j.lines ++ line o.answer ∷ [] in
           record {
             started = ap (λ n. start_of n (j.lines ++ line o.answer ∷ [])) txn ∙ start_more j.begun j.lines (line o.answer) txn no_start ∙ told.started ∙ some_eq _ _ (sym opened ∙ sym same ∙ e);
@@ -206,7 +207,7 @@ module _ (inputs : Inputs) (leaves : ℕ) (s : RunState) (u : IsUnderWay inputs 
           }
 
       -- an answer that leaves all as it is
-      keeps_plain : (a : Answer) → IsPlain a → is_end (request c) ≡ false → IsAnswered here j.lines (line a) → Keeps (goes_on j a)
+      keeps_plain : (a : Answer) → IsPlain a → is_end c ≡ false → IsAnswered here j.lines (line a) → Keeps (goes_on j a)
       unfolding inside
       keeps_plain a plain mid is =
           let o : LineResult = goes_on j a in
@@ -233,7 +234,7 @@ module _ (inputs : Inputs) (leaves : ℕ) (s : RunState) (u : IsUnderWay inputs 
           (subst (λ to. Changes mine (open_by_name s.jobs) (open_by_name (jobs_behind o)) to) none (latest_changes s.jobs k j at (answered_job j c rest o) (inr none)))
 
       -- it is stopped
-      keeps_stop : (a : Answer) → (effect a).stops ≡ true → is_end (request c) ≡ false → (effect a).stamp ≤ length s.journal → (a ≡ answers.Full → MayFill inputs.kind leaves inputs.load (lines_so_far s))
+      keeps_stop : (a : Answer) → (effect a).stops ≡ true → is_end c ≡ false → (effect a).stamp ≤ length s.journal → (a ≡ answers.Full → MayFill inputs.kind leaves inputs.load (lines_so_far s))
           → IsAnswered here j.lines (line a) → Keeps (stops a)
       unfolding told inside
       keeps_stop a stop mid stamp filled is =
@@ -253,7 +254,7 @@ module _ (inputs : Inputs) (leaves : ℕ) (s : RunState) (u : IsUnderWay inputs 
           })
 
       -- it ends without a commit
-      keeps_end : (a : Answer) → is_end (request c) ≡ true → (effect a).stamp ≡ 0 → (effect a).stops ≡ false → IsAnswered here j.lines (line a) → Keeps (ends a [])
+      keeps_end : (a : Answer) → is_end c ≡ true → (effect a).stamp ≡ 0 → (effect a).stops ≡ false → IsAnswered here j.lines (line a) → Keeps (ends a [])
       unfolding inside
       keeps_end a last stamp no_stop is =
           let o : LineResult = ends a [] in
@@ -272,7 +273,7 @@ module _ (inputs : Inputs) (leaves : ℕ) (s : RunState) (u : IsUnderWay inputs 
           })
 
       -- a write is made
-      keeps_write : (w : Write) → request c ≡ ToWrite w → refused (view_of_job inputs.kind s.journal j) w ≡ None → met_by w ≡ None
+      keeps_write : (w : Write) → c ≡ commands.Write w → refused (view_of_job inputs.kind s.journal j) w ≡ None → met_by w ≡ None
           → Keeps (writes_more j w)
       unfolding inside
       keeps_write w asked allowed free =
@@ -284,7 +285,7 @@ module _ (inputs : Inputs) (leaves : ℕ) (s : RunState) (u : IsUnderWay inputs 
           subst (λ to. Changes mine (open_by_name s.jobs) (open_by_name (jobs_behind o)) to) goes_on_is (latest_changes s.jobs k j at (answered_job j c rest o) (inl (inside.same j.begun))) in
           let are : AreTransactions inputs.kind (s.journal ++ []) (open_by_name (jobs_behind o)) 0 = no_commits (jobs_behind o)
           (write_keeps inputs.kind s.journal (open_by_name s.jobs) 0 u.transactions mine (open_by_name (jobs_behind o)) running open_now w changed allowed
-          (subst IsRequest asked inside.within) (no_open_meets inputs.kind (open_txns s.jobs) (open_by_name s.jobs) mine w (open_are_listed s.jobs) none.0) none.1) in
+          (subst IsCommand asked inside.within) (no_open_meets inputs.kind (open_txns s.jobs) (open_by_name s.jobs) mine w (open_are_listed s.jobs) none.0) none.1) in
           let is : IsAnswered here j.lines (line answers.Done) = live_write w answers.Done asked (subst (λ r. IsWriteAnswer here (start_of_job j) w r answers.Done) (sym allowed) tt) in
           keeps_by o (record {
             transactions = are;
@@ -300,7 +301,7 @@ module _ (inputs : Inputs) (leaves : ℕ) (s : RunState) (u : IsUnderWay inputs 
           })
 
       -- another transaction clashes with it
-      keeps_conflict : (w : Write) (cause : Cause) → request c ≡ ToWrite w → refused (view_of_job inputs.kind s.journal j) w ≡ None
+      keeps_conflict : (w : Write) (cause : Cause) → c ≡ commands.Write w → refused (view_of_job inputs.kind s.journal j) w ≡ None
           → met_by w ≡ Some cause → Keeps (stops (answers.Conflict cause))
       keeps_conflict w cause asked allowed met = by_cause cause met
         where
@@ -313,14 +314,14 @@ module _ (inputs : Inputs) (leaves : ℕ) (s : RunState) (u : IsUnderWay inputs 
           by_cause (Holder name) e = stop_by (Holder name) (holder_cause inputs leaves s u mine (start_of_job j) w running open_now name e) (omega arith)
 
       -- it finds no place
-      keeps_full : (w : Write) → request c ≡ ToWrite w → refused (view_of_job inputs.kind s.journal j) w ≡ None → inserts w ≡ true → MayFill inputs.kind leaves inputs.load (lines_so_far s) → Keeps (stops answers.Full)
+      keeps_full : (w : Write) → c ≡ commands.Write w → refused (view_of_job inputs.kind s.journal j) w ≡ None → inserts w ≡ true → MayFill inputs.kind leaves inputs.load (lines_so_far s) → Keeps (stops answers.Full)
       keeps_full w asked allowed may filled =
           let none : 0 ≤ length s.journal = omega arith in
           keeps_stop answers.Full refl (ap is_end asked) none (λ e. filled)
           (live_write w answers.Full asked (subst (λ r. IsWriteAnswer here (start_of_job j) w r answers.Full) (sym allowed) (may_be_full w may)))
 
       -- a commit of what the transaction wrote
-      live_commit : (context : Context) (a : Answer) → request c ≡ ToCommit → IsCommitAnswer context j.begun (start_of_job j) j.own a → IsAnswered context j.lines (line a)
+      live_commit : (context : Context) (a : Answer) → c ≡ commands.Commit → IsCommitAnswer context j.begun (start_of_job j) j.own a → IsAnswered context j.lines (line a)
       unfolding told
       live_commit context a asked is = live context a
           (subst (λ r. IsLiveAnswer context j.lines j.begun r a) (sym asked)
@@ -328,7 +329,7 @@ module _ (inputs : Inputs) (leaves : ℕ) (s : RunState) (u : IsUnderWay inputs 
           (subst (λ ws. IsCommitAnswer context j.begun (start_of_job j) ws a) told.own is)))
 
       -- the transaction commits
-      keeps_commit : request c ≡ ToCommit → (own : List Write) → j.own ≡ own → Keeps (commit_result s.journal mine (start_of_job j) own)
+      keeps_commit : c ≡ commands.Commit → (own : List Write) → j.own ≡ own → Keeps (commit_result s.journal mine (start_of_job j) own)
       unfolding inside
       keeps_commit asked [] e = keeps_end (answers.Committed None) (ap is_end asked) refl refl
           (live_commit here (answers.Committed None) asked (subst (λ ws. IsCommitAnswer here j.begun (start_of_job j) ws (answers.Committed None)) (sym e) refl))
@@ -336,13 +337,13 @@ module _ (inputs : Inputs) (leaves : ℕ) (s : RunState) (u : IsUnderWay inputs 
         where
           one_commit : (jobs : List JobState) → slice_get (map (λ (x : JobState). x.lines) jobs) k ≡ Some (j.lines ++ line (answers.Committed (Some (length s.journal + 1))) ∷ []) → (new : Commit)
               → new.by ≡ mine → new.stamp ≡ length s.journal + 1 → (i : ℕ) (d : Commit) → slice_get (new ∷ []) i ≡ Some d
-              → (d.by ≡ txn_name (k + 1) (next_txn j.begun (request c))) × IsShown (map (λ (x : JobState). x.lines) jobs) d
+              → (d.by ≡ txn_name (k + 1) (next_txn j.begun c)) × IsShown (map (λ (x : JobState). x.lines) jobs) d
           one_commit jobs lines new by stamp zero d g =
               let same : new ≡ d = some_eq new d g in
-              let named : d.by ≡ txn_name (k + 1) (next_txn j.begun (request c)) = ap (λ (x : Commit). x.by) (sym same) ∙ by ∙ ap (txn_name (k + 1)) (sym (inside.same j.begun)) in
+              let named : d.by ≡ txn_name (k + 1) (next_txn j.begun c) = ap (λ (x : Commit). x.by) (sym same) ∙ by ∙ ap (txn_name (k + 1)) (sym (inside.same j.begun)) in
               let l : AnsweredLine = line (answers.Committed (Some (length s.journal + 1))) in (
                 named,
-                (k, j.lines ++ l ∷ [], length j.lines, l, lines, get_end j.lines l, named, (asks_commit c asked, ap (λ n. answers.Committed (Some n)) (sym (ap (λ (x : Commit). x.stamp) (sym same) ∙ stamp)))),
+                (k, j.lines ++ l ∷ [], length j.lines, l, lines, get_end j.lines l, named, (asked, ap (λ n. answers.Committed (Some n)) (sym (ap (λ (x : Commit). x.stamp) (sym same) ∙ stamp)))),
               )
           one_commit jobs lines new by stamp (suc i) d g = absurd (none-some d g)
 
@@ -374,19 +375,19 @@ module _ (inputs : Inputs) (leaves : ℕ) (s : RunState) (u : IsUnderWay inputs 
               })
 
       -- a line of the open transaction
-      keeps_open : (full : Bool) → (full ≡ true → MayFill inputs.kind leaves inputs.load (lines_so_far s)) → (r : Request) → request c ≡ r → Keeps (live_result inputs.kind s.journal (open_txns s.jobs) (k + 1) j full r)
-      keeps_open full filled ToBegin e = let none : (txn : ℕ) → txn + 1 ≡ txn = (λ txn. ap (next_txn txn) (sym e) ∙ inside.same txn) in absurd (omega (arith, none 0))
-      keeps_open full filled ToCommit e = keeps_commit e j.own refl
-      keeps_open full filled ToAbort e = keeps_end answers.Aborted (ap is_end e) refl refl (live here answers.Aborted (subst (λ r. IsLiveAnswer here j.lines j.begun r answers.Aborted) (sym e) refl))
-      keeps_open full filled (ToRead query) e =
+      keeps_open : (full : Bool) → (full ≡ true → MayFill inputs.kind leaves inputs.load (lines_so_far s)) → (r : Command) → c ≡ r → Keeps (live_result inputs.kind s.journal (open_txns s.jobs) (k + 1) j full r)
+      keeps_open full filled commands.Begin e = let none : (txn : ℕ) → txn + 1 ≡ txn = (λ txn. ap (next_txn txn) (sym e) ∙ inside.same txn) in absurd (omega (arith, none 0))
+      keeps_open full filled commands.Commit e = keeps_commit e j.own refl
+      keeps_open full filled commands.Abort e = keeps_end answers.Aborted (ap is_end e) refl refl (live here answers.Aborted (subst (λ r. IsLiveAnswer here j.lines j.begun r answers.Aborted) (sym e) refl))
+      keeps_open full filled (commands.Read query) e =
           let a : Answer = query_answer inputs.kind (view_of_job inputs.kind s.journal j) query in
           keeps_plain a (query_plain inputs.kind (view_of_job inputs.kind s.journal j) query) (ap is_end e)
           (live here a (subst (λ r. IsLiveAnswer here j.lines j.begun r a) (sym e) (ap (λ g. query_answer inputs.kind g query) (sym same_view))))
-      keeps_open full filled (ToRun kernel file) e =
+      keeps_open full filled (commands.Run kernel file) e =
           let a : Answer = kernel_answer (view_of_job inputs.kind s.journal j) kernel in
           keeps_plain a (kernel_plain (view_of_job inputs.kind s.journal j) kernel) (ap is_end e)
           (live here a (subst (λ r. IsLiveAnswer here j.lines j.begun r a) (sym e) (ap (λ g. kernel_answer g kernel) (sym same_view))))
-      keeps_open full filled (ToWrite w) e = by_graph (refused (view_of_job inputs.kind s.journal j) w) refl
+      keeps_open full filled (commands.Write w) e = by_graph (refused (view_of_job inputs.kind s.journal j) w) refl
         where
           by_place : refused (view_of_job inputs.kind s.journal j) w ≡ None → met_by w ≡ None → (t v : Bool) → full ≡ t → inserts w ≡ v → Keeps (cond (t && v) (stops answers.Full) (writes_more j w))
           by_place r f true true is_full may = keeps_full w e r may (filled is_full)
@@ -408,8 +409,8 @@ module _ (inputs : Inputs) (leaves : ℕ) (s : RunState) (u : IsUnderWay inputs 
     pub keeps_line : (full : Bool) → (full ≡ true → MayFill inputs.kind leaves inputs.load (lines_so_far s)) → IsUnderWay inputs leaves (line_turn inputs.kind s k full j c rest)
     keeps_line full filled = by_skipping j.skipping refl
       where
-        by_open : j.skipping ≡ false → (b : Bool) → is_some j.start ≡ b → Keeps (live_result inputs.kind s.journal (open_txns s.jobs) (k + 1) j full (request c))
-        by_open calm true e = keeps_open calm (some_start j.start e) full filled (request c) refl
+        by_open : j.skipping ≡ false → (b : Bool) → is_some j.start ≡ b → Keeps (live_result inputs.kind s.journal (open_txns s.jobs) (k + 1) j full c)
+        by_open calm true e = keeps_open calm (some_start j.start e) full filled c refl
         by_open calm false e =
             let closed : j.start ≡ None = no_start j.start e in
             let script : IsScript (Some false) (c ∷ rest) = subst (IsScript (Some false)) left (subst (λ t. IsScript (Some t) j.left) (λ i. calm i || e i) (u.each k j at).script) in
@@ -419,6 +420,6 @@ module _ (inputs : Inputs) (leaves : ℕ) (s : RunState) (u : IsUnderWay inputs 
             no_start None f = refl
             no_start (Some start) f = cc
 
-        by_skipping : (t : Bool) → j.skipping ≡ t → Keeps (cond t (skips (request c)) (live_result inputs.kind s.journal (open_txns s.jobs) (k + 1) j full (request c)))
+        by_skipping : (t : Bool) → j.skipping ≡ t → Keeps (cond t (skips c) (live_result inputs.kind s.journal (open_txns s.jobs) (k + 1) j full c))
         by_skipping true e = keeps_skip e
         by_skipping false e = by_open e (is_some j.start) refl

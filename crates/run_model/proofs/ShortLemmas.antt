@@ -22,7 +22,12 @@ use Rattle.graph_model.proofs.SortedLemmas.{map_at}
 use Rattle.run_model.specs.declared.command.Command.{Command}
 use Rattle.run_model.specs.declared.answer.Answer.{Answer}
 use Rattle.run_model.specs.declared.answer.Answer.TheVariants as answers
-use Rattle.run_model.specs.Requests.{Query, WeightOf, NeighboursOf, Counts, Kernel, Bfs, Wcc, Cdlp, Sssp, Request, ToBegin, ToCommit, ToAbort, ToWrite, ToRead, ToRun, request, write_of, next_txn, begun_by, IsQuery, IsKernel, IsRequest, IsScript}
+use Rattle.run_model.specs.declared.command.Command.TheVariants as commands
+use Rattle.run_model.specs.declared.command.Query.{Query}
+use Rattle.run_model.specs.declared.command.Query.TheVariants.{WeightOf, NeighboursOf, Counts}
+use Rattle.run_model.specs.declared.command.Kernel.{Kernel}
+use Rattle.run_model.specs.declared.command.Kernel.TheVariants.{Bfs, Wcc, Cdlp, Sssp, FastBfs, FastSssp}
+use Rattle.run_model.specs.Commands.{write_of, next_txn, begun_by, IsQuery, IsKernel, IsCommand, IsScript}
 use Rattle.run_model.specs.AnsweredLines.{AnsweredLine, answered_from, answered_lines, effect, made_by, of_txn, own_writes, is_stopped, start_of, snapshot}
 use Rattle.run_model.specs.Answering.{refusal_answer, weight_answer, edges_in, at_vertex, query_answer, table_answer, kernel_answer}
 use Rattle.run_model.specs.Inputs.{Inputs, Outputs}
@@ -35,27 +40,27 @@ use Rattle.run_model.proofs.SnapshotLemmas.{IsSmall, view_small, vertices_count,
 
 -- ---- the lines of a script
 
-next_grows : (txn : ℕ) (r : Request) → txn ≤ next_txn txn r
-next_grows txn ToBegin = omega arith
-next_grows txn ToCommit = omega arith
-next_grows txn ToAbort = omega arith
-next_grows txn (ToWrite w) = omega arith
-next_grows txn (ToRead query) = omega arith
-next_grows txn (ToRun kernel file) = omega arith
+next_grows : (txn : ℕ) (r : Command) → txn ≤ next_txn txn r
+next_grows txn commands.Begin = omega arith
+next_grows txn commands.Commit = omega arith
+next_grows txn commands.Abort = omega arith
+next_grows txn (commands.Write w) = omega arith
+next_grows txn (commands.Read query) = omega arith
+next_grows txn (commands.Run kernel file) = omega arith
 
 pub begun_grows : (txn : ℕ) (cs : List Command) → txn ≤ begun_by txn cs
 begun_grows txn [] = omega arith
-begun_grows txn (c ∷ cs) = omega (arith, next_grows txn (request c), begun_grows (next_txn txn (request c)) cs)
+begun_grows txn (c ∷ cs) = omega (arith, next_grows txn c, begun_grows (next_txn txn c) cs)
 
 -- no line has a greater number than there are transactions
 pub line_numbered : (txn : ℕ) (cs : List Command) (report : List Answer) (i : ℕ) (l : AnsweredLine) → slice_get (answered_from txn cs report) i ≡ Some l → l.txn ≤ begun_by txn cs
 line_numbered txn [] report i l at = absurd (none-some l at)
 line_numbered txn (c ∷ cs) [] i l at = absurd (none-some l at)
 line_numbered txn (c ∷ cs) (a ∷ report) zero l at =
-    let here : AnsweredLine = record { txn = next_txn txn (request c); command = c; answer = a } in
+    let here : AnsweredLine = record { txn = next_txn txn c; command = c; answer = a } in
     let same : here ≡ l = same_Some here l at in
-    subst (λ (m : AnsweredLine). m.txn ≤ begun_by txn (c ∷ cs)) same (begun_grows (next_txn txn (request c)) cs)
-line_numbered txn (c ∷ cs) (a ∷ report) (suc i) l at = line_numbered (next_txn txn (request c)) cs report i l at
+    subst (λ (m : AnsweredLine). m.txn ≤ begun_by txn (c ∷ cs)) same (begun_grows (next_txn txn c) cs)
+line_numbered txn (c ∷ cs) (a ∷ report) (suc i) l at = line_numbered (next_txn txn c) cs report i l at
 
 -- the lines of each script with their answers
 pub lines_of_script : (scripts : List (List Command)) (reports : List (List Answer)) (k : ℕ) (ls : List AnsweredLine) → slice_get (answered_scripts scripts reports) k ≡ Some ls
@@ -75,23 +80,23 @@ script_lines (c ∷ scripts) (r ∷ reports) (suc k) cs report at_script at_repo
 -- ---- what a transaction wrote is within the limits
 
 abbrev HasRequest : AnsweredLine → Type 0
-HasRequest l = IsRequest (request l.command)
+HasRequest l = IsCommand l.command
 
-written : (r : Request) (w : Write) → IsRequest r → write_of r ≡ Some w → IsWithinLimits w
-written ToBegin w within is = cc
-written ToCommit w within is = cc
-written ToAbort w within is = cc
-written (ToWrite v) w within is = let same : v ≡ w = cc in subst IsWithinLimits same within
-written (ToRead query) w within is = cc
-written (ToRun kernel file) w within is = cc
+written : (r : Command) (w : Write) → IsCommand r → write_of r ≡ Some w → IsWithinLimits w
+written commands.Begin w within is = cc
+written commands.Commit w within is = cc
+written commands.Abort w within is = cc
+written (commands.Write v) w within is = let same : v ≡ w = cc in subst IsWithinLimits same within
+written (commands.Read query) w within is = cc
+written (commands.Run kernel file) w within is = cc
 
-made_within : (done : Bool) (r : Request) (w : Write) → IsRequest r → cond done (write_of r) None ≡ Some w → IsWithinLimits w
+made_within : (done : Bool) (r : Command) (w : Write) → IsCommand r → cond done (write_of r) None ≡ Some w → IsWithinLimits w
 made_within true r w within is = written r w within is
 made_within false r w within is = cc
 
 own_within : (txn : ℕ) (before : List AnsweredLine) → AllByRecursion HasRequest before → AllByRecursion IsWithinLimits (own_writes txn before)
 own_within txn before all =
-    all_mapped HasRequest IsWithinLimits made_by (λ l w within is. made_within (effect l.answer).writes (request l.command) w within is)
+    all_mapped HasRequest IsWithinLimits made_by (λ l w within is. made_within (effect l.answer).writes l.command w within is)
     (of_txn txn before) (all_filtered HasRequest (λ l. l.txn == txn) before all)
 
 -- ---- answers by the graph
@@ -149,6 +154,8 @@ short_kernel g (Bfs root) small within = short_at g root (table_answer g) within
 short_kernel g Wcc small within = short_table g small
 short_kernel g (Cdlp rounds) small within = short_table g small
 short_kernel g (Sssp root) small within = short_at g root (table_answer g) within (short_table g small)
+short_kernel g (FastBfs root) small within = short_at g root (table_answer g) within (short_table g small)
+short_kernel g (FastSssp root width) small within = short_at g root (table_answer g) within (short_table g small)
 
 short_edges : (kind : Kind) (g : Graph) → IsSmall g → IsShort (edges_in kind g)
 short_edges Directed g small = let count = arcs_count g small in omega arith
@@ -235,19 +242,19 @@ module _ (context : Context) (known : IsSurveyed context) where
     small : IsSmall (snapshot context.kind context.journal txn before)
     small = view_small context.kind context.journal (start_of txn before) (own_writes txn before) known.within (own_within txn before asked)
 
-    short_live : (r : Request) (a : Answer) → IsRequest r → IsLiveAnswer context before txn r a → IsShortAnswer a
-    short_live ToBegin a within is = short_begin before txn a short is
-    short_live ToCommit a within is = short_commit txn (start_of txn before) (own_writes txn before) a is
-    short_live ToAbort a within is = subst IsShortAnswer (sym is) tt
-    short_live (ToWrite w) a within is = short_write (snapshot context.kind context.journal txn before) (start_of txn before) w a within is
-    short_live (ToRead query) a within is = subst IsShortAnswer (sym is) (short_query context.kind _ query small within)
-    short_live (ToRun kernel file) a within is = subst IsShortAnswer (sym is) (short_kernel _ kernel small within)
+    short_live : (r : Command) (a : Answer) → IsCommand r → IsLiveAnswer context before txn r a → IsShortAnswer a
+    short_live commands.Begin a within is = short_begin before txn a short is
+    short_live commands.Commit a within is = short_commit txn (start_of txn before) (own_writes txn before) a is
+    short_live commands.Abort a within is = subst IsShortAnswer (sym is) tt
+    short_live (commands.Write w) a within is = short_write (snapshot context.kind context.journal txn before) (start_of txn before) w a within is
+    short_live (commands.Read query) a within is = subst IsShortAnswer (sym is) (short_query context.kind _ query small within)
+    short_live (commands.Run kernel file) a within is = subst IsShortAnswer (sym is) (short_kernel _ kernel small within)
 
   short_line : (before : List AnsweredLine) (l : AnsweredLine) → AllByRecursion HasRequest before → HasRequest l → IsShort l.txn → IsAnswered context before l → IsShortAnswer l.answer
   short_line before l asked within short is =
-      elim (is_stopped l.txn before) as (λ t. cond t (l.answer ≡ answers.Skipped) (IsLiveAnswer context before l.txn (request l.command) l.answer) → IsShortAnswer l.answer) [
+      elim (is_stopped l.txn before) as (λ t. cond t (l.answer ≡ answers.Skipped) (IsLiveAnswer context before l.txn l.command l.answer) → IsShortAnswer l.answer) [
         | true ↦ λ skipped. subst IsShortAnswer (sym skipped) tt
-        | false ↦ λ live. short_live before asked l.txn short (request l.command) l.answer within live
+        | false ↦ λ live. short_live before asked l.txn short l.command l.answer within live
       ] is
 
   -- the answers of a script from a line on
@@ -258,7 +265,7 @@ module _ (context : Context) (known : IsSurveyed context) where
   short_lines (c ∷ cs) [] within txn before script same short asked all = tt
   short_lines (c ∷ cs) (a ∷ report) None txn before script same short asked all = absurd script
   short_lines (c ∷ cs) (a ∷ report) (Some within) txn before script same short asked all =
-      let now = next_txn txn (request c) in
+      let now = next_txn txn c in
       let l : AnsweredLine = record { txn = now; command = c; answer = a } in
       let here = short_line before l asked script.0 (less_short now (begun_by now cs) (begun_grows now cs) short) all.0 in
       let asked_more = all_on HasRequest before (l ∷ []) asked (script.0, tt) in

@@ -15,7 +15,7 @@ use Rattle.graph_model.proofs.PlaceLemmas.{some_eq, get_end}
 use Rattle.graph_model.proofs.TestLemmas.{eq_of}
 use Rattle.run_model.specs.declared.command.Command.{Command}
 use Rattle.run_model.specs.declared.answer.Answer.TheVariants as answers
-use Rattle.run_model.specs.Requests.{Request, ToBegin, ToCommit, ToAbort, ToWrite, ToRead, ToRun, request}
+use Rattle.run_model.specs.declared.command.Command.TheVariants as commands
 use Rattle.run_model.specs.AnsweredLines.{AnsweredLine}
 use Rattle.run_model.specs.Run.{txn_name}
 use Rattle.run_model.specs.Jobs.{JobState, RunState, LineResult, open_txns, start_of_job, view_of_job, answered_job, writes_more, stops, skips, write_result, live_result, line_result, turns_of, with_job, line_turn, job_turn, turn_at_place, turn, has_ended}
@@ -69,11 +69,11 @@ turn_goes_on kind s (suc k) full = by_place (slice_get s.jobs k) refl
     by_left : (j : JobState) → slice_get s.jobs k ≡ Some j → (cs : List Command) → LinesGoOn s.jobs (job_turn kind s k full j cs).jobs × (length (job_turn kind s k full j cs).jobs ≡ length s.jobs)
     by_left j at [] = (lines_stay s.jobs, refl)
     by_left j at (c ∷ rest) =
-        elim (nat_lt (j.taken + 1) (turns_of kind s.journal j (request c))) as (λ t.
+        elim (nat_lt (j.taken + 1) (turns_of kind s.journal j c)) as (λ t.
         LinesGoOn s.jobs (cond t (with_job s k (record j { taken = j.taken + 1 })) (line_turn kind s k full j c rest)).jobs
         × (length (cond t (with_job s k (record j { taken = j.taken + 1 })) (line_turn kind s k full j c rest)).jobs ≡ length s.jobs)) [
           | true ↦ (lines_set s.jobs k j (record j { taken = j.taken + 1 }) [] at (sym (append-nil j.lines)), length-set s.jobs k _)
-          | false ↦ (lines_set s.jobs k j (answered_job j c rest (line_result kind s.journal (open_txns s.jobs) (k + 1) j full (request c))) _ at refl, length-set s.jobs k _)
+          | false ↦ (lines_set s.jobs k j (answered_job j c rest (line_result kind s.journal (open_txns s.jobs) (k + 1) j full c)) _ at refl, length-set s.jobs k _)
         ]
 
     by_place : (x : Option JobState) → slice_get s.jobs k ≡ x → LinesGoOn s.jobs (turn_at_place kind s k full x).jobs × (length (turn_at_place kind s k full x).jobs ≡ length s.jobs)
@@ -130,7 +130,7 @@ abbrev SameOrFull : LineResult → LineResult → Type 0
 SameOrFull a b = (a ≡ b) ⊎ ((a.answer ≡ answers.Full) × (b.answer ≡ answers.Done))
 
 -- so it is with a line that finds a place or doesn't
-same_or_full : (kind : Kind) (journal : List Commit) (txns : List OpenTxn) (job : ℕ) (j : JobState) (r : Request) → SameOrFull (line_result kind journal txns job j true r) (line_result kind journal txns job j false r)
+same_or_full : (kind : Kind) (journal : List Commit) (txns : List OpenTxn) (job : ℕ) (j : JobState) (r : Command) → SameOrFull (line_result kind journal txns job j true r) (line_result kind journal txns job j false r)
 same_or_full kind journal txns job j r = by_skipping j.skipping
   where
     by_write : (w : Write) (refusal : Option Refusal) (cause : Option Cause) → SameOrFull (write_result j w refusal cause true) (write_result j w refusal cause false)
@@ -141,17 +141,17 @@ same_or_full kind journal txns job j r = by_skipping j.skipping
       | false ↦ inl refl
     ]
 
-    by_request : (r : Request) → SameOrFull (live_result kind journal txns job j true r) (live_result kind journal txns job j false r)
-    by_request ToBegin = inl refl
-    by_request ToCommit = inl refl
-    by_request ToAbort = inl refl
-    by_request (ToWrite w) = by_write w (refused (view_of_job kind journal j) w) (conflict kind journal txns (txn_name job j.begun) (start_of_job j) w)
-    by_request (ToRead query) = inl refl
-    by_request (ToRun kernel file) = inl refl
+    by_command : (r : Command) → SameOrFull (live_result kind journal txns job j true r) (live_result kind journal txns job j false r)
+    by_command commands.Begin = inl refl
+    by_command commands.Commit = inl refl
+    by_command commands.Abort = inl refl
+    by_command (commands.Write w) = by_write w (refused (view_of_job kind journal j) w) (conflict kind journal txns (txn_name job j.begun) (start_of_job j) w)
+    by_command (commands.Read query) = inl refl
+    by_command (commands.Run kernel file) = inl refl
 
     by_skipping : (t : Bool) → SameOrFull (cond t (skips r) (live_result kind journal txns job j true r)) (cond t (skips r) (live_result kind journal txns job j false r))
     by_skipping true = inl refl
-    by_skipping false = by_request r
+    by_skipping false = by_command r
 
 -- a turn is settled by where it answers `full`
 turn_by_full : (kind : Kind) (s : RunState) (job : ℕ) → AreFullAlike (turn kind s job true).jobs (turn kind s job false).jobs → turn kind s job true ≡ turn kind s job false
@@ -160,7 +160,7 @@ turn_by_full kind s (suc k) alike = by_place (slice_get s.jobs k) refl alike
   where
     by_line : (j : JobState) → slice_get s.jobs k ≡ Some j → (c : Command) (rest : List Command)
         → AreFullAlike (line_turn kind s k true j c rest).jobs (line_turn kind s k false j c rest).jobs → line_turn kind s k true j c rest ≡ line_turn kind s k false j c rest
-    by_line j at c rest alike = elim (same_or_full kind s.journal (open_txns s.jobs) (k + 1) j (request c)) as (λ _. line_turn kind s k true j c rest ≡ line_turn kind s k false j c rest) [
+    by_line j at c rest alike = elim (same_or_full kind s.journal (open_txns s.jobs) (k + 1) j c) as (λ _. line_turn kind s k true j c rest ≡ line_turn kind s k false j c rest) [
       | inl same ↦ ap (λ (o : LineResult). record { journal = s.journal ++ o.commits; jobs = slice_set s.jobs k (answered_job j c rest o) }) same
       | inr differ ↦
           let full = (alike k (length j.lines) _ _ _ _ (here true) (here false) (get_end j.lines _) (get_end j.lines _)).0 differ.0 in
@@ -169,12 +169,12 @@ turn_by_full kind s (suc k) alike = by_place (slice_get s.jobs k) refl alike
     ]
       where
         here : (full : Bool) → slice_get (map (λ (x : JobState). x.lines) (line_turn kind s k full j c rest).jobs) k
-            ≡ Some ((answered_job j c rest (line_result kind s.journal (open_txns s.jobs) (k + 1) j full (request c))).lines)
+            ≡ Some ((answered_job j c rest (line_result kind s.journal (open_txns s.jobs) (k + 1) j full c)).lines)
         here full = get_map (λ (x : JobState). x.lines) (line_turn kind s k full j c rest).jobs k _ (get_set s.jobs k _ (below_length s.jobs k j at))
 
     by_left : (j : JobState) → slice_get s.jobs k ≡ Some j → (cs : List Command) → AreFullAlike (job_turn kind s k true j cs).jobs (job_turn kind s k false j cs).jobs → job_turn kind s k true j cs ≡ job_turn kind s k false j cs
     by_left j at [] alike = refl
-    by_left j at (c ∷ rest) alike = elim (nat_lt (j.taken + 1) (turns_of kind s.journal j (request c))) as (λ t.
+    by_left j at (c ∷ rest) alike = elim (nat_lt (j.taken + 1) (turns_of kind s.journal j c)) as (λ t.
         AreFullAlike (cond t (with_job s k (record j { taken = j.taken + 1 })) (line_turn kind s k true j c rest)).jobs (cond t (with_job s k (record j { taken = j.taken + 1 })) (line_turn kind s k false j c rest)).jobs
         → cond t (with_job s k (record j { taken = j.taken + 1 })) (line_turn kind s k true j c rest) ≡ cond t (with_job s k (record j { taken = j.taken + 1 })) (line_turn kind s k false j c rest)) [
           | true ↦ λ _. refl

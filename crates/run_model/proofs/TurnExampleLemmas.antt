@@ -19,7 +19,8 @@ use Rattle.graph_model.proofs.PlaceLemmas.{some_eq}
 use Rattle.run_model.specs.declared.command.Command.TheVariants as commands
 use Rattle.run_model.specs.declared.answer.Answer.{Answer}
 use Rattle.run_model.specs.declared.answer.Answer.TheVariants as answers
-use Rattle.run_model.specs.Requests.{Counts, ToCommit, ToAbort, begun_by, IsScript}
+use Rattle.run_model.specs.declared.command.Query.TheVariants.{Counts}
+use Rattle.run_model.specs.Commands.{begun_by, IsScript}
 use Rattle.run_model.specs.Answering.{edges_in, query_answer}
 use Rattle.run_model.specs.Inputs.{Inputs, AreInputs, Outputs}
 use Rattle.run_model.specs.Run.{txn_name, load_commit, HasFiles}
@@ -65,10 +66,10 @@ abbrev a0 : JobState
 a0 = new_job (sets 9)
 
 abbrev a1 : JobState
-a1 = answered_job a0 commands.Begin (commands.SetEdge 1 2 9 ∷ commands.Commit ∷ []) (begins (txn_name 1 1) 1)
+a1 = answered_job a0 commands.Begin (commands.Write (writes.SetEdge 1 2 9) ∷ commands.Commit ∷ []) (begins (txn_name 1 1) 1)
 
 abbrev a2 : JobState
-a2 = answered_job a1 (commands.SetEdge 1 2 9) (commands.Commit ∷ []) (writes_more a1 (writes.SetEdge 1 2 9))
+a2 = answered_job a1 (commands.Write (writes.SetEdge 1 2 9)) (commands.Commit ∷ []) (writes_more a1 (writes.SetEdge 1 2 9))
 
 abbrev a3 : JobState
 a3 = answered_job a2 commands.Commit [] (ends (answers.Committed (Some 2)) (nine 2 ∷ []))
@@ -78,13 +79,13 @@ abbrev b0 : JobState
 b0 = new_job (sets 8)
 
 abbrev b1 : JobState
-b1 = answered_job b0 commands.Begin (commands.SetEdge 1 2 8 ∷ commands.Commit ∷ []) (begins (txn_name 2 1) 1)
+b1 = answered_job b0 commands.Begin (commands.Write (writes.SetEdge 1 2 8) ∷ commands.Commit ∷ []) (begins (txn_name 2 1) 1)
 
 abbrev b2 : Cause → JobState
-b2 cause = answered_job b1 (commands.SetEdge 1 2 8) (commands.Commit ∷ []) (stops (answers.Conflict cause))
+b2 cause = answered_job b1 (commands.Write (writes.SetEdge 1 2 8)) (commands.Commit ∷ []) (stops (answers.Conflict cause))
 
 abbrev b3 : Cause → JobState
-b3 cause = answered_job (b2 cause) commands.Commit [] (skips ToCommit)
+b3 cause = answered_job (b2 cause) commands.Commit [] (skips commands.Commit)
 
 -- before the first has committed, and behind it
 abbrev early : JobState → JobState → RunState
@@ -95,13 +96,13 @@ late a b = record { journal = load_commit load ∷ nine 2 ∷ []; jobs = a ∷ b
 
 -- the first sets the edge; the second meets it, or its commit
 first_sets : early a2 b1 ≡ turn Undirected (early a1 b1) 1 false
-first_sets = ap (λ r. answered_run (early a1 b1) 0 a1 (commands.SetEdge 1 2 9) (commands.Commit ∷ []) (write_result a1 (writes.SetEdge 1 2 9) r None false)) (sym set_nine)
+first_sets = ap (λ r. answered_run (early a1 b1) 0 a1 (commands.Write (writes.SetEdge 1 2 9)) (commands.Commit ∷ []) (write_result a1 (writes.SetEdge 1 2 9) r None false)) (sym set_nine)
 
 second_meets_open : early a2 (b2 (Holder (txn_name 1 1))) ≡ turn Undirected (early a2 b1) 2 false
-second_meets_open = ap (λ r. answered_run (early a2 b1) 1 b1 (commands.SetEdge 1 2 8) (commands.Commit ∷ []) (write_result b1 (writes.SetEdge 1 2 8) r (Some (Holder (txn_name 1 1))) false)) (sym set_eight)
+second_meets_open = ap (λ r. answered_run (early a2 b1) 1 b1 (commands.Write (writes.SetEdge 1 2 8)) (commands.Commit ∷ []) (write_result b1 (writes.SetEdge 1 2 8) r (Some (Holder (txn_name 1 1))) false)) (sym set_eight)
 
 second_meets_later : late a3 (b2 (Later 2)) ≡ turn Undirected (late a3 b1) 2 false
-second_meets_later = ap (λ r. answered_run (late a3 b1) 1 b1 (commands.SetEdge 1 2 8) (commands.Commit ∷ []) (write_result b1 (writes.SetEdge 1 2 8) r (Some (Later 2)) false)) (sym set_eight)
+second_meets_later = ap (λ r. answered_run (late a3 b1) 1 b1 (commands.Write (writes.SetEdge 1 2 8)) (commands.Commit ∷ []) (write_result b1 (writes.SetEdge 1 2 8) r (Some (Later 2)) false)) (sym set_eight)
 
 -- what the last state gives
 set_runs : (schedule : List ℕ) (cause : Cause) (turns : ℕ) → IsReached (setting_of two_inputs 1 schedule) (first_state two_inputs) turns (late a3 (b3 cause)) → MeetsByTurns schedule cause
@@ -227,18 +228,18 @@ abbrev count_inputs : ℕ → Inputs
 count_inputs n = record {
   kind = Undirected;
   load = vertices_to n;
-  scripts = (commands.Begin ∷ commands.Count ∷ commands.Abort ∷ []) ∷ (commands.Begin ∷ commands.Commit ∷ []) ∷ [];
+  scripts = (commands.Begin ∷ commands.Read Counts ∷ commands.Abort ∷ []) ∷ (commands.Begin ∷ commands.Commit ∷ []) ∷ [];
 }
 
 -- the script that counts: before its first line, behind each, and with so many turns of the count taken
 abbrev c0 : JobState
-c0 = new_job (commands.Begin ∷ commands.Count ∷ commands.Abort ∷ [])
+c0 = new_job (commands.Begin ∷ commands.Read Counts ∷ commands.Abort ∷ [])
 
 abbrev c1 : ℕ → JobState
-c1 taken = record (answered_job c0 commands.Begin (commands.Count ∷ commands.Abort ∷ []) (begins (txn_name 1 1) 1)) { taken = taken }
+c1 taken = record (answered_job c0 commands.Begin (commands.Read Counts ∷ commands.Abort ∷ []) (begins (txn_name 1 1) 1)) { taken = taken }
 
 abbrev c2 : ℕ → JobState
-c2 n = answered_job (c1 0) commands.Count (commands.Abort ∷ []) (goes_on (c1 0) (answers.Counted n 0))
+c2 n = answered_job (c1 0) (commands.Read Counts) (commands.Abort ∷ []) (goes_on (c1 0) (answers.Counted n 0))
 
 abbrev c3 : ℕ → JobState
 c3 n = answered_job (c2 n) commands.Abort [] (ends answers.Aborted [])
@@ -260,14 +261,14 @@ module _ (n : ℕ) (is : IsCounted n) (d : JobState) (taken : ℕ) where
   -- while more rows are left than a turn gives, the count goes on
   count_waits : nat_lt (taken + 1) (n / 64 + 1) ≡ true → counting n (c1 (taken + 1)) d ≡ turn Undirected (counting n (c1 taken) d) 1 false
   count_waits more =
-      ap (λ t. cond t (counting n (c1 (taken + 1)) d) (line_turn Undirected (counting n (c1 taken) d) 0 false (c1 taken) commands.Count (commands.Abort ∷ [])))
+      ap (λ t. cond t (counting n (c1 (taken + 1)) d) (line_turn Undirected (counting n (c1 taken) d) 0 false (c1 taken) (commands.Read Counts) (commands.Abort ∷ [])))
       (sym (ap (λ r. nat_lt (taken + 1) (r / 64 + 1)) is.rows ∙ more))
 
   -- then it is answered
   count_ends : nat_lt (taken + 1) (n / 64 + 1) ≡ false → counting n (c2 n) d ≡ turn Undirected (counting n (c1 taken) d) 1 false
   count_ends last =
-      ap (λ a. counting n (answered_job (c1 taken) commands.Count (commands.Abort ∷ []) (goes_on (c1 taken) a)) d) (sym is.answer)
-      ∙ ap (λ t. cond t (counting n (c1 (taken + 1)) d) (line_turn Undirected (counting n (c1 taken) d) 0 false (c1 taken) commands.Count (commands.Abort ∷ [])))
+      ap (λ a. counting n (answered_job (c1 taken) (commands.Read Counts) (commands.Abort ∷ []) (goes_on (c1 taken) a)) d) (sym is.answer)
+      ∙ ap (λ t. cond t (counting n (c1 (taken + 1)) d) (line_turn Undirected (counting n (c1 taken) d) 0 false (c1 taken) (commands.Read Counts) (commands.Abort ∷ [])))
       (sym (ap (λ r. nat_lt (taken + 1) (r / 64 + 1)) is.rows ∙ last))
 
 -- what the last state gives
@@ -324,20 +325,20 @@ counts = record {
 -- ---- a place that is missed, and one that is found
 
 abbrev add_inputs : Inputs
-add_inputs = record { kind = Undirected; load = one_vertex; scripts = (commands.Begin ∷ commands.AddVertex 2 ∷ commands.Abort ∷ []) ∷ [] }
+add_inputs = record { kind = Undirected; load = one_vertex; scripts = (commands.Begin ∷ commands.Write (writes.AddVertex 2) ∷ commands.Abort ∷ []) ∷ [] }
 
 add_allowed : refused (apply_all Undirected empty_graph one_vertex) (writes.AddVertex 2) ≡ None
 add_allowed = refused_at _ _ _ (entries_made Undirected one_vertex) (writes.AddVertex 2)
 
 abbrev e0 : JobState
-e0 = new_job (commands.Begin ∷ commands.AddVertex 2 ∷ commands.Abort ∷ [])
+e0 = new_job (commands.Begin ∷ commands.Write (writes.AddVertex 2) ∷ commands.Abort ∷ [])
 
 abbrev e1 : JobState
-e1 = answered_job e0 commands.Begin (commands.AddVertex 2 ∷ commands.Abort ∷ []) (begins (txn_name 1 1) 1)
+e1 = answered_job e0 commands.Begin (commands.Write (writes.AddVertex 2) ∷ commands.Abort ∷ []) (begins (txn_name 1 1) 1)
 
 -- behind the write, as its result says
 abbrev e2 : LineResult → JobState
-e2 o = answered_job e1 (commands.AddVertex 2) (commands.Abort ∷ []) o
+e2 o = answered_job e1 (commands.Write (writes.AddVertex 2)) (commands.Abort ∷ []) o
 
 -- and behind the last line
 abbrev e3 : LineResult → LineResult → JobState
@@ -347,8 +348,8 @@ abbrev adding : JobState → RunState
 adding e = record { journal = load_commit one_vertex ∷ []; jobs = e ∷ [] }
 
 adds : (full : Bool) → adding (e2 (write_result e1 (writes.AddVertex 2) None None full)) ≡ turn Undirected (adding e1) 1 full
-adds true = ap (λ r. answered_run (adding e1) 0 e1 (commands.AddVertex 2) (commands.Abort ∷ []) (write_result e1 (writes.AddVertex 2) r None true)) (sym add_allowed)
-adds false = ap (λ r. answered_run (adding e1) 0 e1 (commands.AddVertex 2) (commands.Abort ∷ []) (write_result e1 (writes.AddVertex 2) r None false)) (sym add_allowed)
+adds true = ap (λ r. answered_run (adding e1) 0 e1 (commands.Write (writes.AddVertex 2)) (commands.Abort ∷ []) (write_result e1 (writes.AddVertex 2) r None true)) (sym add_allowed)
+adds false = ap (λ r. answered_run (adding e1) 0 e1 (commands.Write (writes.AddVertex 2)) (commands.Abort ∷ []) (write_result e1 (writes.AddVertex 2) r None false)) (sym add_allowed)
 
 -- what the last state gives
 adds_by : (o last : LineResult) → Behind add_inputs 0 [] 5 (adding (e3 o last))
@@ -369,7 +370,7 @@ adds_by o last reached no_files = record {
 
 pub places : PlaceExamples
 places = record {
-  missed = adds_by (stops answers.Full) (skips ToAbort) missed_turns ([], refl, ([], refl, ([], refl, refl)));
+  missed = adds_by (stops answers.Full) (skips commands.Abort) missed_turns ([], refl, ([], refl, ([], refl, refl)));
   found = adds_by (writes_more e1 (writes.AddVertex 2)) (ends answers.Aborted []) found_turns ([], refl, ([], refl, ([], refl, refl)));
   too_early = λ run. wrong_answers.full_too_early (stepped_is_run add_inputs 1 [] _ given run);
 }
@@ -381,8 +382,8 @@ places = record {
     begun_turns : Behind add_inputs 0 [] 2 (adding e1)
     begun_turns = one_more add_inputs 0 [] 1 (adding e1) (adding e1) (one_more add_inputs 0 [] 0 (adding e0) (adding e1) refl refl refl) refl refl
 
-    missed_turns : Behind add_inputs 0 [] 5 (adding (e3 (stops answers.Full) (skips ToAbort)))
-    missed_turns = last_turns (stops answers.Full) (skips ToAbort) (adding e1, true, begun_turns, refl, (λ _. omega arith), adds true) refl
+    missed_turns : Behind add_inputs 0 [] 5 (adding (e3 (stops answers.Full) (skips commands.Abort)))
+    missed_turns = last_turns (stops answers.Full) (skips commands.Abort) (adding e1, true, begun_turns, refl, (λ _. omega arith), adds true) refl
 
     found_turns : Behind add_inputs 0 [] 5 (adding (e3 (writes_more e1 (writes.AddVertex 2)) (ends answers.Aborted [])))
     found_turns = last_turns (writes_more e1 (writes.AddVertex 2)) (ends answers.Aborted [])
@@ -393,8 +394,8 @@ places = record {
       allowed = (add_first, tt);
       within = (omega arith, tt);
       count = omega arith;
-      scripts = at_one (λ k cs. IsScript (Some false) cs) (commands.Begin ∷ commands.AddVertex 2 ∷ commands.Abort ∷ []) (tt, (omega arith, (tt, refl)));
-      begins = at_one (λ k cs. begun_by 0 cs ≤ MAX_BEGINS) (commands.Begin ∷ commands.AddVertex 2 ∷ commands.Abort ∷ []) (omega arith);
+      scripts = at_one (λ k cs. IsScript (Some false) cs) (commands.Begin ∷ commands.Write (writes.AddVertex 2) ∷ commands.Abort ∷ []) (tt, (omega arith, (tt, refl)));
+      begins = at_one (λ k cs. begun_by 0 cs ≤ MAX_BEGINS) (commands.Begin ∷ commands.Write (writes.AddVertex 2) ∷ commands.Abort ∷ []) (omega arith);
     }
       where
         add_first : refused empty_graph (writes.AddVertex 1) ≡ None

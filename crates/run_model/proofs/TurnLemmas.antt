@@ -5,7 +5,7 @@ use Rattle.graph_model.specs.Transactions.{AreTransactions}
 use Rattle.graph_model.proofs.LegalLemmas.{below_length}
 use Rattle.graph_model.specs.declared.limits.TheConstants.{MAX_BEGINS}
 use Rattle.run_model.specs.declared.command.Command.{Command}
-use Rattle.run_model.specs.Requests.{request, next_txn, open_behind, begun_by, IsScript}
+use Rattle.run_model.specs.Commands.{next_txn, open_behind, begun_by, IsScript}
 use Rattle.run_model.specs.Inputs.{Inputs}
 use Rattle.run_model.specs.Run.{IsShown, IsLoad, MayFill}
 use Rattle.run_model.specs.Jobs.{JobState, RunState, lines_so_far, turns_of, with_job, line_turn, job_turn, turn_at_place, turn}
@@ -59,7 +59,7 @@ module _ (inputs : Inputs) (leaves : ℕ) (s : RunState) (u : IsUnderWay inputs 
   keeps_job : (full : Bool) → (full ≡ true → MayFill inputs.kind leaves inputs.load (lines_so_far s)) → (cs : List Command) → j.left ≡ cs → IsUnderWay inputs leaves (job_turn inputs.kind s k full j cs)
   keeps_job full filled [] e = u
   keeps_job full filled (c ∷ rest) e =
-      elim (nat_lt (j.taken + 1) (turns_of inputs.kind s.journal j (request c))) as (λ t. IsUnderWay inputs leaves (cond t (with_job s k (record j { taken = j.taken + 1 })) (line_turn inputs.kind s k full j c rest))) [
+      elim (nat_lt (j.taken + 1) (turns_of inputs.kind s.journal j c)) as (λ t. IsUnderWay inputs leaves (cond t (with_job s k (record j { taken = j.taken + 1 })) (line_turn inputs.kind s k full j c rest))) [
         | true ↦ keeps_wait (j.taken + 1)
         | false ↦ keeps_line inputs leaves s u k j at c rest e full filled
       ]
@@ -94,11 +94,11 @@ lines_stand inputs leaves s k j c rest are u at left =
     let job = u.each k j at in
     let script : IsScript (Some (is_within j)) (c ∷ rest) = subst (IsScript (Some (is_within j))) left job.script in
     let whole : slice_get inputs.scripts k ≡ Some (script_of j) = ap (λ xs. slice_get xs k) (sym u.whole) ∙ get_map script_of s.jobs k j at in
-    let all : begun_by 0 (script_of j) ≡ begun_by (next_txn j.begun (request c)) rest = begun_behind 0 j.lines j.begun j.left job.numbered ∙ ap (begun_by j.begun) left in
+    let all : begun_by 0 (script_of j) ≡ begun_by (next_txn j.begun c) rest = begun_behind 0 j.lines j.begun j.left job.numbered ∙ ap (begun_by j.begun) left in
     let few : begun_by 0 (script_of j) ≤ MAX_BEGINS = are.begins k (script_of j) whole in
-    let behind : next_txn j.begun (request c) ≤ begun_by (next_txn j.begun (request c)) rest = begun_grows (next_txn j.begun (request c)) rest in
+    let behind : next_txn j.begun c ≤ begun_by (next_txn j.begun c) rest = begun_grows (next_txn j.begun c) rest in
     record {
       limits = script.0;
-      stands = goes_on_so (open_behind (is_within j) (request c)) rest script.1;
-      begins = λ begins. (let one : next_txn j.begun (request c) ≡ j.begun + 1 = ap (next_txn j.begun) begins in omega arith);
+      stands = goes_on_so (open_behind (is_within j) c) rest script.1;
+      begins = λ begins. (let one : next_txn j.begun c ≡ j.begun + 1 = ap (next_txn j.begun) begins in omega arith);
     }

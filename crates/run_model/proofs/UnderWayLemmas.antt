@@ -14,7 +14,7 @@ use Rattle.graph_model.proofs.PlaceLemmas.{some_eq, get_snoc}
 use Rattle.run_model.specs.declared.command.Command.{Command}
 use Rattle.run_model.specs.declared.answer.Answer.{Answer}
 use Rattle.run_model.specs.declared.answer.Answer.TheVariants as answers
-use Rattle.run_model.specs.Requests.{request, next_txn, IsScript}
+use Rattle.run_model.specs.Commands.{next_txn, IsScript}
 use Rattle.run_model.specs.AnsweredLines.{AnsweredLine, effect, made_by, is_stopped, start_of, newest_shown}
 use Rattle.run_model.specs.Inputs.{Inputs}
 use Rattle.run_model.specs.Run.{IsAnswered, AllAnswered, IsShown, IsLoad, MayFill, txn_name, load_stamp, load_commit, inserted_in}
@@ -32,7 +32,7 @@ answered_run s k j c rest o = record { journal = s.journal ++ o.commits; jobs = 
 
 -- the line at hand with this answer
 abbrev pub line_with : JobState → Command → Answer → AnsweredLine
-line_with j c a = record { txn = next_txn j.begun (request c); command = c; answer = a }
+line_with j c a = record { txn = next_txn j.begun c; command = c; answer = a }
 
 -- what the result of a line owes
 pub record IsResult (inputs : Inputs) (leaves : ℕ) (s : RunState) (k : ℕ) (j : JobState) (c : Command) (rest : List Command) (o : LineResult) : Type 0 where
@@ -163,7 +163,7 @@ module _ (inputs : Inputs) (leaves : ℕ) (s : RunState) (u : IsUnderWay inputs 
         | inl p ↦ elim (set_cases s.jobs k m j' x inside in_jobs) as (λ _. d.by.number ≤ x.begun) [
           | inl q ↦
               let old : d.by.number ≤ j.begun = u.begun i d k j p (job ∙ ap (λ n. n + 1) q.0) at in
-              let step : j.begun ≤ next_txn j.begun (request c) = next_least j.begun (request c) in
+              let step : j.begun ≤ next_txn j.begun c = next_least j.begun c in
               let is : j'.begun ≡ x.begun = ap (λ (y : JobState). y.begun) q.1 in
               omega (arith, old, step, is)
           | inr q ↦ u.begun i d m x p job q.1

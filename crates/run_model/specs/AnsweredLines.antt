@@ -11,7 +11,7 @@ use Rattle.graph_model.specs.History.{view}
 use Rattle.run_model.specs.declared.command.Command.{Command}
 use Rattle.run_model.specs.declared.answer.Answer.{Answer}
 use Rattle.run_model.specs.declared.answer.Answer.TheVariants as answers
-use Rattle.run_model.specs.Requests.{request, write_of, next_txn}
+use Rattle.run_model.specs.Commands.{write_of, next_txn}
 
 -- a command, the number of its transaction in the script, and its answer
 pub record AnsweredLine : Type 0 where
@@ -24,8 +24,8 @@ abbrev pub answered_from : ℕ → List Command → List Answer → List Answere
 answered_from txn [] report = []
 answered_from txn (c ∷ cs) [] = []
 answered_from txn (c ∷ cs) (a ∷ rest) =
-    record { txn = next_txn txn (request c); command = c; answer = a }
-    ∷ answered_from (next_txn txn (request c)) cs rest
+    record { txn = next_txn txn c; command = c; answer = a }
+    ∷ answered_from (next_txn txn c) cs rest
 
 -- a script and its whole report
 abbrev pub answered_lines : List Command → List Answer → List AnsweredLine
@@ -84,7 +84,7 @@ effect answers.Skipped = no_effect
 
 -- the write that a line made
 abbrev pub made_by : AnsweredLine → Option Write
-made_by l = cond (effect l.answer).writes (write_of (request l.command)) None
+made_by l = cond (effect l.answer).writes (write_of l.command) None
 
 -- the lines of one transaction
 abbrev pub of_txn : ℕ → List AnsweredLine → List AnsweredLine

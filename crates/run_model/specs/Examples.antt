@@ -11,6 +11,8 @@ use Rattle.graph_model.specs.declared.refusal.Cause.TheVariants.{Later, Holder}
 use Rattle.graph_model.specs.declared.table.Value.TheVariants.{Number}
 use Rattle.run_model.specs.declared.command.Command.{Command}
 use Rattle.run_model.specs.declared.command.Command.TheVariants as commands
+use Rattle.run_model.specs.declared.command.Query.TheVariants.{WeightOf, NeighboursOf, Counts}
+use Rattle.run_model.specs.declared.command.Kernel.TheVariants.{Bfs, Wcc, Cdlp}
 use Rattle.run_model.specs.declared.answer.Answer.{Answer}
 use Rattle.run_model.specs.declared.answer.Answer.TheVariants as answers
 use Rattle.run_model.specs.Inputs.{File}
@@ -40,7 +42,7 @@ load =
 
 -- a script that gives the edge from 1 to 2 another weight
 abbrev pub sets : ℕ → List Command
-sets weight = commands.Begin ∷ commands.SetEdge 1 2 weight ∷ commands.Commit ∷ []
+sets weight = commands.Begin ∷ commands.Write (writes.SetEdge 1 2 weight) ∷ commands.Commit ∷ []
 
 -- a commit of the weight 9
 abbrev pub nine : ℕ → Commit
@@ -57,7 +59,7 @@ Meets start cause =
 -- the first sets another edge, and the second, which began as early, names this
 abbrev pub MeetsApart : Cause → Type 0
 MeetsApart cause =
-    Gives load ((commands.Begin ∷ commands.SetEdge 2 3 9 ∷ commands.Commit ∷ []) ∷ sets 8 ∷ [])
+    Gives load ((commands.Begin ∷ commands.Write (writes.SetEdge 2 3 9) ∷ commands.Commit ∷ []) ∷ sets 8 ∷ [])
     (load_commit load ∷ record (nine 2) { writes = writes.SetEdge 2 3 9 ∷ [] } ∷ [])
     ((answers.Begun (txn_name 1 1) 1 ∷ answers.Done ∷ answers.Committed (Some 2) ∷ [])
     ∷ (answers.Begun (txn_name 2 1) 1 ∷ answers.Conflict cause ∷ answers.Skipped ∷ []) ∷ [])
@@ -97,17 +99,17 @@ GetsAnswers cs report files = GetsOn Undirected one_vertex cs report files
 -- lines of each kind
 pub record AnswerExamples : Type 0 where
   pub reads : GetsAnswers
-      (commands.Weight 1 1 ∷ commands.Neighbours 1 ∷ commands.Neighbours 2 ∷ commands.Count ∷ commands.Commit ∷ [])
+      (commands.Read (WeightOf 1 1) ∷ commands.Read (NeighboursOf 1) ∷ commands.Read (NeighboursOf 2) ∷ commands.Read Counts ∷ commands.Commit ∷ [])
       (answers.Nothing ∷ answers.Neighbours [] ∷ answers.NoVertex 2 ∷ answers.Counted 1 0
       ∷ answers.Committed None ∷ []) []
   pub refusals : GetsAnswers
-      (commands.AddVertex 1 ∷ commands.AddEdge 1 1 5 ∷ commands.AddEdge 1 2 5 ∷ commands.Commit ∷ [])
+      (commands.Write (writes.AddVertex 1) ∷ commands.Write (writes.AddEdge 1 1 5) ∷ commands.Write (writes.AddEdge 1 2 5) ∷ commands.Commit ∷ [])
       (answers.Exists ∷ answers.SelfLoop ∷ answers.NoVertex 2 ∷ answers.Committed None ∷ []) []
   pub own_writes : GetsAnswers
-      (commands.AddVertex 2 ∷ commands.Count ∷ commands.Abort ∷ [])
+      (commands.Write (writes.AddVertex 2) ∷ commands.Read Counts ∷ commands.Abort ∷ [])
       (answers.Done ∷ answers.Counted 2 0 ∷ answers.Aborted ∷ []) []
   pub kernel : GetsAnswers
-      (commands.Cdlp 0 (codes "f") ∷ commands.Bfs 2 (codes "g") ∷ commands.Commit ∷ [])
+      (commands.Run (Cdlp 0) (codes "f") ∷ commands.Run (Bfs 2) (codes "g") ∷ commands.Commit ∷ [])
       (answers.Table 1 ∷ answers.NoVertex 2 ∷ answers.Committed None ∷ [])
       (record { name = codes "f"; table = record { vertex = 1; value = Number 1 } ∷ [] } ∷ [])
 
@@ -119,28 +121,28 @@ FindsNoPlace c =
 
 -- one answer is wrong
 pub record WrongAnswers : Type 0 where
-  pub other_weight : GetsAnswers (commands.Weight 1 1 ∷ commands.Abort ∷ [])
+  pub other_weight : GetsAnswers (commands.Read (WeightOf 1 1) ∷ commands.Abort ∷ [])
       (answers.Weight 5 ∷ answers.Aborted ∷ []) [] → ⊥
-  pub made_what_exists : GetsAnswers (commands.AddVertex 1 ∷ commands.Abort ∷ [])
+  pub made_what_exists : GetsAnswers (commands.Write (writes.AddVertex 1) ∷ commands.Abort ∷ [])
       (answers.Done ∷ answers.Aborted ∷ []) [] → ⊥
-  pub met_nobody : GetsAnswers (commands.AddVertex 2 ∷ commands.Abort ∷ [])
+  pub met_nobody : GetsAnswers (commands.Write (writes.AddVertex 2) ∷ commands.Abort ∷ [])
       (answers.Conflict (Later 1) ∷ answers.Skipped ∷ []) [] → ⊥
   -- only an added vertex or edge wants a place, however few leaves there are
-  pub full_at_a_set : FindsNoPlace (commands.SetEdge 1 2 9) → ⊥
-  pub full_at_a_dropped_edge : FindsNoPlace (commands.DropEdge 1 2) → ⊥
-  pub full_at_a_removed_vertex : FindsNoPlace (commands.DropVertex 4) → ⊥
-  pub full_at_what_exists : FindsNoPlace (commands.AddVertex 4) → ⊥
-  pub full_too_early : GetsAnswers (commands.AddVertex 2 ∷ commands.Abort ∷ [])
+  pub full_at_a_set : FindsNoPlace (commands.Write (writes.SetEdge 1 2 9)) → ⊥
+  pub full_at_a_dropped_edge : FindsNoPlace (commands.Write (writes.DropEdge 1 2)) → ⊥
+  pub full_at_a_removed_vertex : FindsNoPlace (commands.Write (writes.DropVertex 4)) → ⊥
+  pub full_at_what_exists : FindsNoPlace (commands.Write (writes.AddVertex 4)) → ⊥
+  pub full_too_early : GetsAnswers (commands.Write (writes.AddVertex 2) ∷ commands.Abort ∷ [])
       (answers.Full ∷ answers.Skipped ∷ []) [] → ⊥
-  pub skipped_alone : GetsAnswers (commands.Count ∷ commands.Abort ∷ [])
+  pub skipped_alone : GetsAnswers (commands.Read Counts ∷ commands.Abort ∷ [])
       (answers.Skipped ∷ answers.Aborted ∷ []) [] → ⊥
-  pub not_skipped : GetsAnswers (commands.AddVertex 2 ∷ commands.Abort ∷ [])
+  pub not_skipped : GetsAnswers (commands.Write (writes.AddVertex 2) ∷ commands.Abort ∷ [])
       (answers.Full ∷ answers.Aborted ∷ []) [] → ⊥
   pub commits_nothing : GetsAnswers (commands.Commit ∷ [])
       (answers.Committed (Some 1) ∷ []) [] → ⊥
-  pub forgets_a_write : GetsAnswers (commands.AddVertex 2 ∷ commands.Commit ∷ [])
+  pub forgets_a_write : GetsAnswers (commands.Write (writes.AddVertex 2) ∷ commands.Commit ∷ [])
       (answers.Done ∷ answers.Committed None ∷ []) [] → ⊥
-  pub lacks_its_file : GetsAnswers (commands.Wcc (codes "f") ∷ commands.Abort ∷ [])
+  pub lacks_its_file : GetsAnswers (commands.Run Wcc (codes "f") ∷ commands.Abort ∷ [])
       (answers.Table 1 ∷ answers.Aborted ∷ []) [] → ⊥
   pub unasked_file : GetsAnswers (commands.Abort ∷ [])
       (answers.Aborted ∷ []) (record { name = codes "f"; table = [] } ∷ []) → ⊥
@@ -164,7 +166,7 @@ pub record WrongParts : Type 0 where
   pub begins_in_the_future : Begins (txn_name 1 1) 2 → ⊥
   pub has_another_name : Begins (txn_name 1 2) 1 → ⊥
   pub begins_before_its_last_commit : Gives load
-      ((commands.Begin ∷ commands.SetEdge 1 2 9 ∷ commands.Commit ∷ commands.Begin ∷ commands.Abort ∷ []) ∷ [])
+      ((commands.Begin ∷ commands.Write (writes.SetEdge 1 2 9) ∷ commands.Commit ∷ commands.Begin ∷ commands.Abort ∷ []) ∷ [])
       (load_commit load ∷ nine 2 ∷ [])
       ((answers.Begun (txn_name 1 1) 1 ∷ answers.Done ∷ answers.Committed (Some 2)
       ∷ answers.Begun (txn_name 1 2) 1 ∷ answers.Aborted ∷ []) ∷ []) ([] ∷ []) → ⊥
@@ -264,7 +266,7 @@ CountsRows n =
     IsStepped (record {
       kind = Undirected;
       load = vertices_to n;
-      scripts = (commands.Begin ∷ commands.Count ∷ commands.Abort ∷ []) ∷ (commands.Begin ∷ commands.Commit ∷ []) ∷ [];
+      scripts = (commands.Begin ∷ commands.Read Counts ∷ commands.Abort ∷ []) ∷ (commands.Begin ∷ commands.Commit ∷ []) ∷ [];
     }) 1 [] (record {
       journal = load_commit (vertices_to n) ∷ [];
       reports = (answers.Begun (txn_name 1 1) 1 ∷ answers.Counted n 0 ∷ answers.Aborted ∷ [])
@@ -287,7 +289,7 @@ AddsByTurns leaves report =
     IsStepped (record {
       kind = Undirected;
       load = one_vertex;
-      scripts = (commands.Begin ∷ commands.AddVertex 2 ∷ commands.Abort ∷ []) ∷ [];
+      scripts = (commands.Begin ∷ commands.Write (writes.AddVertex 2) ∷ commands.Abort ∷ []) ∷ [];
     }) leaves [] (record {
       journal = load_commit one_vertex ∷ [];
       reports = (answers.Begun (txn_name 1 1) 1 ∷ report) ∷ [];

@@ -10,7 +10,7 @@ use Rattle.graph_model.specs.Graph.{empty_graph}
 use Rattle.graph_model.specs.Refused.{AllAllowed, IsWithinLimits}
 use Rattle.run_model.specs.declared.command.Command.{Command}
 use Rattle.run_model.specs.declared.answer.Answer.{Answer}
-use Rattle.run_model.specs.Requests.{begun_by, IsScript}
+use Rattle.run_model.specs.Commands.{begun_by, IsScript}
 
 -- the kind of graph, the writes of the load, the scripts
 pub record Inputs : Type 0 where

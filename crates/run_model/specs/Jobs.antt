@@ -19,7 +19,10 @@ use Rattle.graph_model.specs.Passes.{open_txns_of}
 use Rattle.run_model.specs.declared.command.Command.{Command}
 use Rattle.run_model.specs.declared.answer.Answer.{Answer}
 use Rattle.run_model.specs.declared.answer.Answer.TheVariants as answers
-use Rattle.run_model.specs.Requests.{Query, WeightOf, NeighboursOf, Counts, Request, ToBegin, ToCommit, ToAbort, ToWrite, ToRead, ToRun, request, next_txn}
+use Rattle.run_model.specs.declared.command.Command.TheVariants as commands
+use Rattle.run_model.specs.declared.command.Query.{Query}
+use Rattle.run_model.specs.declared.command.Query.TheVariants.{WeightOf, NeighboursOf, Counts}
+use Rattle.run_model.specs.Commands.{next_txn}
 use Rattle.run_model.specs.AnsweredLines.{AnsweredLine}
 use Rattle.run_model.specs.Answering.{refusal_answer, query_answer, kernel_answer, targets_of}
 use Rattle.run_model.specs.Inputs.{Inputs}
@@ -109,16 +112,16 @@ abbrev pub begins : TxnName → ℕ → LineResult
 begins by now = record { answer = answers.Begun by now; start = Some now; own = []; skipping = false; commits = [] }
 
 -- whether a line ends its transaction
-abbrev pub is_end : Request → Bool
-is_end ToBegin = false
-is_end ToCommit = true
-is_end ToAbort = true
-is_end (ToWrite w) = false
-is_end (ToRead query) = false
-is_end (ToRun kernel file) = false
+abbrev pub is_end : Command → Bool
+is_end commands.Begin = false
+is_end commands.Commit = true
+is_end commands.Abort = true
+is_end (commands.Write w) = false
+is_end (commands.Read query) = false
+is_end (commands.Run kernel file) = false
 
 -- a line behind a stop, up to the transaction's end
-abbrev pub skips : Request → LineResult
+abbrev pub skips : Command → LineResult
 skips r = record { answer = answers.Skipped; start = None; own = []; skipping = not (is_end r); commits = [] }
 
 -- a write is refused by its graph, else by a conflict, else for want of a place, or it is made
@@ -136,21 +139,21 @@ commit_result journal by start (w ∷ ws) =
 
 -- a line that isn't skipped, in script number `job`, among these open transactions. The bit says whether a
 -- write that nothing refuses finds no place
-abbrev pub live_result : Kind → List Commit → List OpenTxn → ℕ → JobState → Bool → Request → LineResult
-live_result kind journal txns job j full ToBegin = begins (txn_name job (j.begun + 1)) (length journal)
-live_result kind journal txns job j full ToCommit =
+abbrev pub live_result : Kind → List Commit → List OpenTxn → ℕ → JobState → Bool → Command → LineResult
+live_result kind journal txns job j full commands.Begin = begins (txn_name job (j.begun + 1)) (length journal)
+live_result kind journal txns job j full commands.Commit =
     commit_result journal (txn_name job j.begun) (start_of_job j) j.own
-live_result kind journal txns job j full ToAbort = ends answers.Aborted []
-live_result kind journal txns job j full (ToWrite w) =
+live_result kind journal txns job j full commands.Abort = ends answers.Aborted []
+live_result kind journal txns job j full (commands.Write w) =
     write_result j w (refused (view_of_job kind journal j) w)
     (conflict kind journal txns (txn_name job j.begun) (start_of_job j) w) full
-live_result kind journal txns job j full (ToRead query) =
+live_result kind journal txns job j full (commands.Read query) =
     goes_on j (query_answer kind (view_of_job kind journal j) query)
-live_result kind journal txns job j full (ToRun kernel file) =
+live_result kind journal txns job j full (commands.Run kernel file) =
     goes_on j (kernel_answer (view_of_job kind journal j) kernel)
 
 -- a line
-abbrev pub line_result : Kind → List Commit → List OpenTxn → ℕ → JobState → Bool → Request → LineResult
+abbrev pub line_result : Kind → List Commit → List OpenTxn → ℕ → JobState → Bool → Command → LineResult
 line_result kind journal txns job j full r = cond j.skipping (skips r) (live_result kind journal txns job j full r)
 
 -- ---- what a turn does
@@ -162,25 +165,25 @@ scanned_by g (NeighboursOf v) = length (targets_of g v)
 scanned_by g Counts = length (all_rows g)
 
 -- how many rows a line scans
-abbrev pub scanned : Graph → Request → ℕ
-scanned g ToBegin = 0
-scanned g ToCommit = 0
-scanned g ToAbort = 0
-scanned g (ToWrite w) = 0
-scanned g (ToRead query) = scanned_by g query
-scanned g (ToRun kernel file) = length (all_rows g)
+abbrev pub scanned : Graph → Command → ℕ
+scanned g commands.Begin = 0
+scanned g commands.Commit = 0
+scanned g commands.Abort = 0
+scanned g (commands.Write w) = 0
+scanned g (commands.Read query) = scanned_by g query
+scanned g (commands.Run kernel file) = length (all_rows g)
 
 -- how many turns a line takes: each gives a full portion of rows, and the last one fewer
-abbrev pub turns_of : Kind → List Commit → JobState → Request → ℕ
+abbrev pub turns_of : Kind → List Commit → JobState → Command → ℕ
 turns_of kind journal j r = cond j.skipping 1 (scanned (view_of_job kind journal j) r / SCAN_ROWS + 1)
 
 -- the script behind a line that was answered
 abbrev pub answered_job : JobState → Command → List Command → LineResult → JobState
 answered_job j c rest result = record {
-  lines = j.lines ++ record { txn = next_txn j.begun (request c); command = c; answer = result.answer } ∷ [];
+  lines = j.lines ++ record { txn = next_txn j.begun c; command = c; answer = result.answer } ∷ [];
   left = rest;
   taken = 0;
-  begun = next_txn j.begun (request c);
+  begun = next_txn j.begun c;
   start = result.start;
   own = result.own;
   skipping = result.skipping;
@@ -193,14 +196,14 @@ with_job s k j = record s { jobs = slice_set s.jobs k j }
 -- the line at hand of the script at place k is answered
 abbrev pub line_turn : Kind → RunState → ℕ → Bool → JobState → Command → List Command → RunState
 line_turn kind s k full j c rest =
-    let result : LineResult = line_result kind s.journal (open_txns s.jobs) (k + 1) j full (request c) in
+    let result : LineResult = line_result kind s.journal (open_txns s.jobs) (k + 1) j full c in
     record { journal = s.journal ++ result.commits; jobs = slice_set s.jobs k (answered_job j c rest result) }
 
 -- one turn of the line at hand, which is answered with its last
 abbrev pub job_turn : Kind → RunState → ℕ → Bool → JobState → List Command → RunState
 job_turn kind s k full j [] = s
 job_turn kind s k full j (c ∷ rest) =
-    cond (nat_lt (j.taken + 1) (turns_of kind s.journal j (request c)))
+    cond (nat_lt (j.taken + 1) (turns_of kind s.journal j c))
     (with_job s k (record j { taken = j.taken + 1 }))
     (line_turn kind s k full j c rest)
 

@@ -1,4 +1,4 @@
-pub mod Requests
+pub mod Commands
 pub mod AnsweredLines
 pub mod Answering
 pub mod Inputs

@@ -7,7 +7,8 @@ use Rattle.graph_model.specs.Transactions.{Running, AreTransactions}
 use Rattle.graph_model.specs.Passes.{of_latest, state_in}
 use Rattle.run_model.specs.declared.command.Command.{Command}
 use Rattle.run_model.specs.declared.answer.Answer.TheVariants as answers
-use Rattle.run_model.specs.Requests.{Request, ToBegin, request, next_txn, open_behind, IsRequest, IsScript}
+use Rattle.run_model.specs.declared.command.Command.TheVariants as commands
+use Rattle.run_model.specs.Commands.{next_txn, open_behind, IsCommand, IsScript}
 use Rattle.run_model.specs.AnsweredLines.{AnsweredLine, own_writes, is_stopped, start_of, newest_shown}
 use Rattle.run_model.specs.Inputs.{Inputs}
 use Rattle.run_model.specs.Run.{Context, AllAnswered, IsShown, IsLoad, load_stamp, load_commit, MayFill}
@@ -21,7 +22,7 @@ use Rattle.run_model.specs.Stepped.{context_in}
 abbrev pub AreNumbered : ℕ → List AnsweredLine → ℕ → Type 0
 AreNumbered before [] latest = before ≡ latest
 AreNumbered before (l ∷ ls) latest =
-    (l.txn ≡ next_txn before (request l.command)) × AreNumbered (next_txn before (request l.command)) ls latest
+    (l.txn ≡ next_txn before l.command) × AreNumbered (next_txn before l.command) ls latest
 
 -- the open transaction is the one that the lines tell of: its start, its writes, and that nothing stopped it
 pub record IsToldByLines (j : JobState) (start : ℕ) : Type 0 where
@@ -50,10 +51,10 @@ pub record IsJob (context : Context) (j : JobState) : Type 0 where
 
 -- the line at hand may stand where the script is: its numbers are within their limits, it begins a transaction
 -- exactly where the script is within none, and it begins no more than a script may
-pub record MayStand (j : JobState) (r : Request) : Type 0 where
-  pub limits : IsRequest r
+pub record MayStand (j : JobState) (r : Command) : Type 0 where
+  pub limits : IsCommand r
   pub stands : (within : Bool) × (open_behind (is_within j) r ≡ Some within)
-  pub begins : r ≡ ToBegin → j.begun < MAX_BEGINS
+  pub begins : r ≡ commands.Begin → j.begun < MAX_BEGINS
 
 -- ---- all scripts
 

@@ -9,7 +9,7 @@ mod command;
 mod laws;
 
 pub use answer::{Answer, Answers};
-pub use command::{Command, Name, Script};
+pub use command::{Command, Kernel, Name, Query, Script};
 pub use laws::{
     full_lines_settle_runs, journal_text_is_of_one_journal, report_text_is_of_one_report,
     runs_have_short_numbers, stepped_runs_are_runs, texts_tell_runs, turns_keep_runs_under_way,

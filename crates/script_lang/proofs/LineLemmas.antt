@@ -6,7 +6,7 @@ use Rattle.std.proofs.lemmas.Bool.Decides.{nat_tests}
 use Rattle.std.proofs.lemmas.List.Elements.{All-nil, All-cons}
 use Rattle.graph_model.specs.declared.limits.TheConstants.{MAX_ID, MAX_WEIGHT, MAX_ROUNDS, MAX_BEGINS}
 use Rattle.run_model.specs.declared.command.Command.{Command}
-use Rattle.run_model.specs.Requests.{request, next_txn, open_behind, IsRequest}
+use Rattle.run_model.specs.Commands.{next_txn, open_behind, IsCommand}
 use Rattle.graphalytics_io.specs.declared.number.NumberFault.TheVariants as numbers
 use Rattle.graphalytics_io.specs.Numbers.{is_number, number_of, number_within}
 use Rattle.script_lang.specs.declared.word.Word.{Word}
@@ -132,36 +132,36 @@ module _ (taken : List (List ℕ)) where
       let both = neither (field_fault taken kind field) (fields_fault taken kinds fields) none in
       file_named (with_value values kind field) kinds fields (named_more values kind kinds field named both.0) (omega arith) both.1
 
--- each request of a word with such values is within its limits
-request_within : (word : Word) (values : Values) → IsWithin values → IsRequest (request (command_of word values))
-request_within words.Begin values within = tt
-request_within words.Commit values within = tt
-request_within words.Abort values within = tt
-request_within words.Vertex values within = within.vertex
-request_within words.Unvertex values within = within.vertex
-request_within words.Edge values within = (within.vertex, within.target, within.weight)
-request_within words.Set values within = (within.vertex, within.target, within.weight)
-request_within words.Drop values within = (within.vertex, within.target)
-request_within words.Weight values within = (within.vertex, within.target)
-request_within words.Neighbours values within = within.vertex
-request_within words.Count values within = tt
-request_within words.Bfs values within = within.vertex
-request_within words.Wcc values within = tt
-request_within words.Cdlp values within = within.rounds
-request_within words.Sssp values within = within.vertex
-request_within words.FastBfs values within = within.vertex
-request_within words.FastSssp values within = within.vertex
+-- each command of a word with such values is within its limits
+command_within : (word : Word) (values : Values) → IsWithin values → IsCommand (command_of word values)
+command_within words.Begin values within = tt
+command_within words.Commit values within = tt
+command_within words.Abort values within = tt
+command_within words.Vertex values within = within.vertex
+command_within words.Unvertex values within = within.vertex
+command_within words.Edge values within = (within.vertex, within.target, within.weight)
+command_within words.Set values within = (within.vertex, within.target, within.weight)
+command_within words.Drop values within = (within.vertex, within.target)
+command_within words.Weight values within = (within.vertex, within.target)
+command_within words.Neighbours values within = within.vertex
+command_within words.Count values within = tt
+command_within words.Bfs values within = within.vertex
+command_within words.Wcc values within = tt
+command_within words.Cdlp values within = within.rounds
+command_within words.Sssp values within = within.vertex
+command_within words.FastBfs values within = within.vertex
+command_within words.FastSssp values within = within.vertex
 
 -- a line that may stand where it does leaves a transaction open, or none, as a script asks
 opens : (word : Word) (began : Option ℕ) (number : ℕ) (values : Values) → place_fault word (is_some began) ≡ None
-    → open_behind (is_some began) (request (command_of word values)) ≡ Some (is_some (began_behind began number (request (command_of word values))))
+    → open_behind (is_some began) (command_of word values) ≡ Some (is_some (began_behind began number (command_of word values)))
 opens words.Begin None number values none = refl
 opens words.Begin (Some first) number values none = absurd (cc)
 opens word None number values none = absurd (cc)
 opens word (Some first) number values none = refl
 
 -- a line leaves the number of `begin` lines within its limit
-begins : (word : Word) (begun : ℕ) (values : Values) → begun ≤ MAX_BEGINS → begins_fault word begun ≡ None → next_txn begun (request (command_of word values)) ≤ MAX_BEGINS
+begins : (word : Word) (begun : ℕ) (values : Values) → begun ≤ MAX_BEGINS → begins_fault word begun ≡ None → next_txn begun (command_of word values) ≤ MAX_BEGINS
 begins words.Begin begun values within none = with_test (nat_le MAX_BEGINS begun) refl none
   where
     with_test : (v : Bool) → nat_le MAX_BEGINS begun ≡ v → cond v (Some TooManyBegins) None ≡ None → begun + 1 ≤ MAX_BEGINS
@@ -185,7 +185,7 @@ asked taken kinds fields file all counted none =
 
 -- the file of a line is a new name
 asks : (taken : List (List ℕ)) (word : Word) (fields : List (List ℕ)) → count_fault (kinds_of word) (length fields) ≡ None → fields_fault taken (kinds_of word) fields ≡ None
-    → All (IsNewName taken) (file_of (request (command_of word (with_values no_values (kinds_of word) fields))))
+    → All (IsNewName taken) (file_of (command_of word (with_values no_values (kinds_of word) fields)))
 asks taken words.Bfs fields counted none = asked taken (kinds_of words.Bfs) fields refl refl counted none
 asks taken words.Wcc fields counted none = asked taken (kinds_of words.Wcc) fields refl refl counted none
 asks taken words.Cdlp fields counted none = asked taken (kinds_of words.Cdlp) fields refl refl counted none
@@ -196,10 +196,10 @@ asks taken word fields counted none = All-nil (IsNewName taken)
 
 -- what holds of the command of a line
 pub record IsAllowed (before : Before) (number : ℕ) (command : Command) : Type 0 where
-  pub within : IsRequest (request command)
-  pub opens : open_behind (is_some before.began) (request command) ≡ Some (is_some (began_behind before.began number (request command)))
-  pub begins : next_txn before.begun (request command) ≤ MAX_BEGINS
-  pub file : All (IsNewName before.taken) (file_of (request command))
+  pub within : IsCommand command
+  pub opens : open_behind (is_some before.began) command ≡ Some (is_some (began_behind before.began number command))
+  pub begins : next_txn before.begun command ≤ MAX_BEGINS
+  pub file : All (IsNewName before.taken) (file_of command)
 
 pub allowed : (before : Before) (number : ℕ) (fields : List (List ℕ)) (command : Command) → before.begun ≤ MAX_BEGINS → read_line before fields ≡ Ok command → IsAllowed before number command
 allowed before number fields command few read =
@@ -209,7 +209,7 @@ allowed before number fields command few read =
     let read = both_none (fields_fault before.taken (kinds_of line.word) line.fields) (begins_fault line.word before.begun) placed.1 in
     let start : IsWithin no_values = record { vertex = omega arith; target = omega arith; weight = omega arith; rounds = omega arith } in
     subst (IsAllowed before number) (sym line.same) (record {
-      within = request_within line.word _ (values_within before.taken no_values (kinds_of line.word) line.fields start read.0);
+      within = command_within line.word _ (values_within before.taken no_values (kinds_of line.word) line.fields start read.0);
       opens = opens line.word before.began number _ placed.0;
       begins = begins line.word before.begun _ few read.1;
       file = asks before.taken line.word line.fields counted.0 read.0;

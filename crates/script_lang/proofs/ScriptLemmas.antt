@@ -6,7 +6,8 @@ use Rattle.std.proofs.lemmas.List.Elements.{All-nil, All-cons, Contains-append_l
 use Rattle.std.proofs.lemmas.List.Kept.{AllPairs-cons}
 use Rattle.graph_model.specs.declared.limits.TheConstants.{MAX_BEGINS}
 use Rattle.run_model.specs.declared.command.Command.{Command}
-use Rattle.run_model.specs.Requests.{Request, ToRun, request, begun_by, IsScript}
+use Rattle.run_model.specs.declared.command.Command.TheVariants as commands
+use Rattle.run_model.specs.Commands.{begun_by, IsScript}
 use Rattle.graphalytics_io.specs.declared.lines.FieldLine.{FieldLine}
 use Rattle.script_lang.specs.declared.refusal.ScriptWhat.{ScriptWhat}
 use Rattle.script_lang.specs.declared.refusal.ScriptRefusal.{ScriptRefusal}
@@ -54,8 +55,8 @@ one_new taken files file first more = record {
       (λ k d within same. more.new k d within (subst (Contains (taken ++ file ∷ [])) same (Contains-push taken file))) more.distinct;
 }
 
-files_more : (taken files : List (List ℕ)) (asked : Request) → All (IsNewName taken) (file_of asked) → AreNew (taken ++ file_of asked) files → AreNew taken (file_of asked ++ files)
-files_more taken files (ToRun kernel file) first more = one_new taken files file (first 0 file (omega arith)) more
+files_more : (taken files : List (List ℕ)) (asked : Command) → All (IsNewName taken) (file_of asked) → AreNew (taken ++ file_of asked) files → AreNew taken (file_of asked ++ files)
+files_more taken files (commands.Run kernel file) first more = one_new taken files file (first 0 file (omega arith)) more
 files_more taken files asked first more = subst (λ names. AreNew names files) (append-nil taken) more
 
 -- what is read can be run
@@ -73,7 +74,7 @@ run_more : (before : Before) (number : ℕ) (command : Command) (script : List C
 run_more before number command script first more = record {
   transactions = (first.within, subst (λ found. IsScript found script) (sym first.opens) more.transactions);
   begins = more.begins;
-  files = files_more before.taken (files_of script) (request command) first.file more.files;
+  files = files_more before.taken (files_of script) command first.file more.files;
 }
 
 can_run : (before : Before) (lines : List FieldLine) (script : List Command) → before.begun ≤ MAX_BEGINS → read_lines before lines ≡ Ok script → CanRun before script
@@ -99,10 +100,10 @@ runnable taken lines script read =
     record { transactions = run.transactions; begins = run.begins; named = run.files.named; new = run.files.new; distinct = run.files.distinct }
 
 -- the names taken, with the file of one more command
-pub files_push : (before taken : List (List ℕ)) (script : List Command) (command : Command) → taken ≡ before ++ files_of script → taken ++ file_of (request command) ≡ before ++ files_of (script ++ command ∷ [])
+pub files_push : (before taken : List (List ℕ)) (script : List Command) (command : Command) → taken ≡ before ++ files_of script → taken ++ file_of command ≡ before ++ files_of (script ++ command ∷ [])
 files_push before taken script command same =
-    ap (λ names. names ++ file_of (request command)) same ∙ append_assoc before (files_of script) (file_of (request command))
-    ∙ ap (λ files. before ++ files) (ap (λ file. files_of script ++ file) (sym (append-nil (file_of (request command)))) ∙ sym (flat_map-append (λ c. file_of (request c)) script (command ∷ [])))
+    ap (λ names. names ++ file_of command) same ∙ append_assoc before (files_of script) (file_of command)
+    ∙ ap (λ files. before ++ files) (ap (λ file. files_of script ++ file) (sym (append-nil (file_of command))) ∙ sym (flat_map-append (λ c. file_of c) script (command ∷ [])))
 
 -- what is kept of names is kept of those in front of them
 pub front_kept : (first names more now : List (List ℕ)) → names ≡ first ++ more → take (length names) now ≡ names → take (length first) now ≡ first

@@ -2,7 +2,7 @@
 use Rattle.std.specs.Prelude.{◌≢◌, ℕ, ◌<◌, ◌≤◌, false, List, length, Some, All, AllPairs, Contains}
 use Rattle.graph_model.specs.declared.limits.TheConstants.{MAX_BEGINS}
 use Rattle.run_model.specs.declared.command.Command.{Command}
-use Rattle.run_model.specs.Requests.{IsScript, begun_by}
+use Rattle.run_model.specs.Commands.{IsScript, begun_by}
 use Rattle.script_lang.specs.FieldFaults.{IsNameByte}
 use Rattle.script_lang.specs.Scripts.{files_of}
 

@@ -3,9 +3,12 @@ use Rattle.std.specs.Prelude.{◌≡◌, ℕ, Bool, cond, nat_le, nat_lt, ◌&&�
 use Rattle.std.specs.List.{flat_map}
 use Rattle.std.specs.Option.{option_or}
 use Rattle.graph_model.specs.declared.limits.TheConstants.{MAX_BEGINS}
+use Rattle.graph_model.specs.declared.write.Write.TheVariants as writes
 use Rattle.run_model.specs.declared.command.Command.{Command}
 use Rattle.run_model.specs.declared.command.Command.TheVariants as commands
-use Rattle.run_model.specs.Requests.{Request, ToBegin, ToCommit, ToAbort, ToWrite, ToRead, ToRun, request, next_txn}
+use Rattle.run_model.specs.declared.command.Kernel.TheVariants.{Bfs, Wcc, Cdlp, Sssp, FastBfs, FastSssp}
+use Rattle.run_model.specs.declared.command.Query.TheVariants.{WeightOf, NeighboursOf, Counts}
+use Rattle.run_model.specs.Commands.{next_txn}
 use Rattle.graphalytics_io.specs.declared.lines.FieldLine.{FieldLine}
 use Rattle.graphalytics_io.specs.FieldLines.{field_lines}
 use Rattle.script_lang.specs.declared.word.Word.{Word}
@@ -25,20 +28,20 @@ abbrev pub command_of : Word → Values → Command
 command_of words.Begin values = commands.Begin
 command_of words.Commit values = commands.Commit
 command_of words.Abort values = commands.Abort
-command_of words.Vertex values = commands.AddVertex values.vertex
-command_of words.Unvertex values = commands.DropVertex values.vertex
-command_of words.Edge values = commands.AddEdge values.vertex values.target values.weight
-command_of words.Set values = commands.SetEdge values.vertex values.target values.weight
-command_of words.Drop values = commands.DropEdge values.vertex values.target
-command_of words.Weight values = commands.Weight values.vertex values.target
-command_of words.Neighbours values = commands.Neighbours values.vertex
-command_of words.Count values = commands.Count
-command_of words.Bfs values = commands.Bfs values.vertex values.file
-command_of words.Wcc values = commands.Wcc values.file
-command_of words.Cdlp values = commands.Cdlp values.rounds values.file
-command_of words.Sssp values = commands.Sssp values.vertex values.file
-command_of words.FastBfs values = commands.FastBfs values.vertex values.file
-command_of words.FastSssp values = commands.FastSssp values.vertex values.width values.file
+command_of words.Vertex values = commands.Write (writes.AddVertex values.vertex)
+command_of words.Unvertex values = commands.Write (writes.DropVertex values.vertex)
+command_of words.Edge values = commands.Write (writes.AddEdge values.vertex values.target values.weight)
+command_of words.Set values = commands.Write (writes.SetEdge values.vertex values.target values.weight)
+command_of words.Drop values = commands.Write (writes.DropEdge values.vertex values.target)
+command_of words.Weight values = commands.Read (WeightOf values.vertex values.target)
+command_of words.Neighbours values = commands.Read (NeighboursOf values.vertex)
+command_of words.Count values = commands.Read Counts
+command_of words.Bfs values = commands.Run (Bfs values.vertex) values.file
+command_of words.Wcc values = commands.Run Wcc values.file
+command_of words.Cdlp values = commands.Run (Cdlp values.rounds) values.file
+command_of words.Sssp values = commands.Run (Sssp values.vertex) values.file
+command_of words.FastBfs values = commands.Run (FastBfs values.vertex) values.file
+command_of words.FastSssp values = commands.Run (FastSssp values.vertex values.width) values.file
 
 -- too few or too many fields
 abbrev pub count_fault : List FieldKind → ℕ → Option ScriptWhat
@@ -88,33 +91,33 @@ read_line before [] = Err NotACommand
 read_line before (word ∷ fields) = read_behind before (word_of word) fields
 
 -- the line of the `begin` that is open behind a line
-abbrev pub began_behind : Option ℕ → ℕ → Request → Option ℕ
-began_behind began number ToBegin = Some number
-began_behind began number ToCommit = None
-began_behind began number ToAbort = None
-began_behind began number (ToWrite w) = began
-began_behind began number (ToRead query) = began
-began_behind began number (ToRun kernel file) = began
+abbrev pub began_behind : Option ℕ → ℕ → Command → Option ℕ
+began_behind began number commands.Begin = Some number
+began_behind began number commands.Commit = None
+began_behind began number commands.Abort = None
+began_behind began number (commands.Write w) = began
+began_behind began number (commands.Read query) = began
+began_behind began number (commands.Run kernel file) = began
 
--- the file that a request asks for, if it asks for one
-abbrev pub file_of : Request → List (List ℕ)
-file_of ToBegin = []
-file_of ToCommit = []
-file_of ToAbort = []
-file_of (ToWrite w) = []
-file_of (ToRead query) = []
-file_of (ToRun kernel file) = file ∷ []
+-- the file that a command asks for, if it asks for one
+abbrev pub file_of : Command → List (List ℕ)
+file_of commands.Begin = []
+file_of commands.Commit = []
+file_of commands.Abort = []
+file_of (commands.Write w) = []
+file_of (commands.Read query) = []
+file_of (commands.Run kernel file) = file ∷ []
 
 -- the files that a script asks for, in order
 abbrev pub files_of : List Command → List (List ℕ)
-files_of script = flat_map (λ command. file_of (request command)) script
+files_of script = flat_map file_of script
 
 -- what is known behind a line with this number and command
 abbrev pub behind : Before → ℕ → Command → Before
 behind before number command = record {
-  began = began_behind before.began number (request command);
-  begun = next_txn before.begun (request command);
-  taken = before.taken ++ file_of (request command);
+  began = began_behind before.began number command;
+  begun = next_txn before.begun command;
+  taken = before.taken ++ file_of command;
 }
 
 -- a line's command, and then the others; or the line's fault

@@ -5,7 +5,7 @@
 
 ghost use Rattle.std.specs.Prelude.{◌≡◌, ◌≤◌, ◌<◌, ◌^◌, length, take, is_some, None, Some, Ok, Err, OnOk, OnErr, IfErr, MatchResult};
 ghost use Rattle.graph_model.specs.declared.limits.TheConstants.{MAX_BEGINS};
-ghost use Rattle.run_model.specs.Requests.{request, next_txn};
+ghost use Rattle.run_model.specs.Commands.{next_txn};
 ghost use Rattle.script_lang.specs.Words.{needed};
 ghost use Rattle.script_lang.specs.Scripts.{command_of, count_fault, place_fault, begins_fault, read_line, began_behind};
 ghost use Rattle.script_lang.specs.Readings.{before_of, ReadsLine, IsRefusedLine};
@@ -85,10 +85,10 @@ impl Reading {
 
     /// Notes what is known after a line.
     fn follow(&mut self, number: u64, command: &Command)
-        requires { next_txn self.old.begun (request command.now) < 2 ^ 32 }
+        requires { next_txn self.old.begun command.now < 2 ^ 32 }
         ensures { self.new ≡ record self.old {
-          began = began_behind self.old.began number (request command.now);
-          begun = next_txn self.old.begun (request command.now);
+          began = began_behind self.old.began number command.now;
+          begun = next_txn self.old.begun command.now;
         } }
     {
         match command {

@@ -8,16 +8,17 @@ ghost use Rattle.std.specs.Prelude.{◌≡◌, ◌≢◌, ℕ, ◌+◌, ◌<◌,
 ghost use Rattle.std.specs.Vec.{vec_len, vec_capacity};
 ghost use Rattle.graph_model.specs.declared.limits.TheConstants.{MAX_ID};
 ghost use Rattle.graph_model.specs.declared.row.Key.{Key};
+ghost use Rattle.graph_model.specs.Refused.{IsWithinLimits};
 ghost use Rattle.graph_model.specs.Rows.{is_below};
 ghost use Rattle.graph_model.specs.Effects.{same_key, arc_keys};
-ghost use Rattle.run_model.specs.Requests.{request, IsRequest};
-ghost use Rattle.serial_model.specs.Footprints.{depends, is_at_edge, is_at_removal};
+ghost use Rattle.run_model.specs.Commands.{IsCommand, IsQuery};
+ghost use Rattle.serial_model.specs.Footprints.{depends, write_depends, read_depends, is_at_edge, is_at_removal};
 ghost use Rattle.serial_check.specs.declared.range.KeyRange.{KeyRange};
 ghost use Rattle.serial_check.specs.Ranges.{holds, covers, joined, IsRowKey, AreApart};
 
 use crate::range::KeyRange;
-use graph_model::{Key, Kind, NoMemory};
-use run_model::Command;
+use graph_model::{Key, Kind, NoMemory, Write};
+use run_model::{Command, Query};
 use std::alloc::Global;
 use std::marker::Model;
 
@@ -72,24 +73,19 @@ impl Footprint {
 
     /// Adds the keys of the rows on which the answer to a line depends.
     pub fn add(&mut self, kind: Kind, command: &Command) -> Result<(), NoMemory>
-        requires { IsRequest (request command.now) }
+        requires { IsCommand command.now }
         ensures ok { OnOk result ((q : Key) → IsRowKey q
-            → covers self.new.items q ≡ (covers self.old.items q || depends kind (request command.now) q)) }
+            → covers self.new.items q ≡ (covers self.old.items q || depends kind command.now q)) }
         ensures err { OnErr result (self.new ≡ self.old) }
     {
         // Before anything is added, so that where memory is refused the footprint is as it was.
         self.reserve()?;
         match command {
             Command::Begin | Command::Commit | Command::Abort => {}
-            Command::AddVertex { v } => self.put(KeyRange::of_vertex(*v)),
-            Command::DropVertex { v } => self.put(removal_range(kind, *v)),
-            Command::AddEdge { u, v, weight: _ } => self.put_edge(kind, *u, *v),
-            Command::SetEdge { u, v, weight: _ } => self.put_edge(kind, *u, *v),
-            Command::DropEdge { u, v } => self.put_edge(kind, *u, *v),
-            Command::Weight { u, v } => self.put(KeyRange::of_arc(*u, *v)),
-            Command::Neighbours { v } => self.put(KeyRange::from_source(*v)),
-            // `count` and the kernels depend on all rows.
-            _ => self.put(KeyRange::all()),
+            Command::Write { write } => self.put_write(kind, *write),
+            Command::Read { query } => self.put_read(*query),
+            // A kernel reads all rows.
+            Command::Run { kernel: _, file: _ } => self.put(KeyRange::all()),
         }
         Ok(())
     }
@@ -102,6 +98,36 @@ impl Footprint {
     {
         self.ranges.reserve(LINE_RANGES)?;
         Ok(())
+    }
+
+    /// Adds the keys of the rows on which the answer to a write depends.
+    fn put_write(&mut self, kind: Kind, write: Write)
+        requires room { 4 ≤ self.old.spare }
+        requires within { IsWithinLimits write }
+        ensures { (q : Key) → IsRowKey q
+            → covers self.new.items q ≡ (covers self.old.items q || write_depends kind write q) }
+    {
+        match write {
+            Write::AddVertex { v } => self.put(KeyRange::of_vertex(v)),
+            Write::DropVertex { v } => self.put(removal_range(kind, v)),
+            Write::AddEdge { u, v, weight: _ } => self.put_edge(kind, u, v),
+            Write::SetEdge { u, v, weight: _ } => self.put_edge(kind, u, v),
+            Write::DropEdge { u, v } => self.put_edge(kind, u, v),
+        }
+    }
+
+    /// Adds the keys of the rows on which the answer to a read depends.
+    fn put_read(&mut self, query: Query)
+        requires room { 4 ≤ self.old.spare }
+        requires within { IsQuery query }
+        ensures { (q : Key) → IsRowKey q
+            → covers self.new.items q ≡ (covers self.old.items q || read_depends query q) }
+    {
+        match query {
+            Query::WeightOf { u, v } => self.put(KeyRange::of_arc(u, v)),
+            Query::NeighboursOf { v } => self.put(KeyRange::from_source(v)),
+            Query::Counts => self.put(KeyRange::all()),
+        }
     }
 
     /// Adds the keys of an edge's rows and of its ends.

@@ -19,7 +19,7 @@ use Rattle.graph_model.proofs.EffectLemmas.{value_at-apply_all, value_after-none
 use Rattle.graph_model.proofs.HistoryLemmas.{graph_at-more}
 use Rattle.graph_model.proofs.ViewLemmas.{view_symmetric}
 use Rattle.graph_model.proofs.ConflictLemmas.{filtered_in, in_filtered, greatest_none, greatest_in, greatest_ge}
-use Rattle.run_model.specs.Requests.{Request}
+use Rattle.run_model.specs.declared.command.Command.{Command}
 use Rattle.serial_model.specs.Footprints.{depends, writes_in, later_in, newest_in}
 use Rattle.serial_model.specs.SerialRun.{HasSameAnswer}
 use Rattle.serial_model.specs.Laws.{OtherCommitsLeaveAnswers}
@@ -79,7 +79,7 @@ module _ (kind : Kind) (journal : List Commit) (foot : Key → Bool) (start unti
       ∙ sym (value_at-apply_all kind (graph_at kind journal until) own q)
 
   -- so a line whose footprint is part of this one has the same answer
-  pub line_same : (own : List Write) (r : Request) → ((q : Key) → depends kind r q ≡ true → foot q ≡ true) → HasSameAnswer kind (view kind journal start own) (view kind journal until own) r
+  pub line_same : (own : List Write) (r : Command) → ((q : Key) → depends kind r q ≡ true → foot q ≡ true) → HasSameAnswer kind (view kind journal start own) (view kind journal until own) r
   line_same own r part = answer_same kind (view kind journal start own) (view kind journal until own) (symmetric start) (symmetric until) r
       (λ q e. view_same own q (part q e))
     where

@@ -10,7 +10,8 @@ use Rattle.graph_model.proofs.EntryLemmas.{made_weight}
 use Rattle.run_model.specs.declared.command.Command.TheVariants as commands
 use Rattle.run_model.specs.declared.answer.Answer.{Answer}
 use Rattle.run_model.specs.declared.answer.Answer.TheVariants as answers
-use Rattle.run_model.specs.Requests.{Request, ToBegin, ToCommit, ToAbort, ToWrite, ToRead, ToRun}
+use Rattle.run_model.specs.declared.command.Command.{Command}
+use Rattle.run_model.specs.declared.command.Query.TheVariants.{WeightOf}
 use Rattle.run_model.specs.Answering.{weight_answer}
 use Rattle.serial_model.specs.SerialRun.{HasSameAnswer, AnswersAsBehind}
 use Rattle.serial_model.specs.Examples.{lines_of, both_committed, RefusalExamples, SkewExamples}
@@ -19,13 +20,13 @@ pub refusals : RefusalExamples
 refusals = record { refused = refl; begun_later = refl; elsewhere = refl; other_end = refl; one_way = refl }
 
 -- on one graph a line has one answer
-same_graph_same : (kind : Kind) (g : Graph) (r : Request) → HasSameAnswer kind g g r
-same_graph_same kind g ToBegin = tt
-same_graph_same kind g ToCommit = tt
-same_graph_same kind g ToAbort = tt
-same_graph_same kind g (ToWrite w) = refl
-same_graph_same kind g (ToRead query) = refl
-same_graph_same kind g (ToRun kernel file) = (refl, λ table. ((λ is. is), (λ is. is)))
+same_graph_same : (kind : Kind) (g : Graph) (r : Command) → HasSameAnswer kind g g r
+same_graph_same kind g commands.Begin = tt
+same_graph_same kind g commands.Commit = tt
+same_graph_same kind g commands.Abort = tt
+same_graph_same kind g (commands.Write w) = refl
+same_graph_same kind g (commands.Read query) = refl
+same_graph_same kind g (commands.Run kernel file) = (refl, λ table. ((λ is. is), (λ is. is)))
 
 two_of : (stamp : ℕ) → ◌≡◌ {A = Answer} (answers.Committed (Some 2)) (answers.Committed (Some stamp)) → 2 ≡ stamp
 two_of stamp e = cc
@@ -52,7 +53,7 @@ skew = record {
     serial = λ stamp shows. subst (AnswersAsBehind Undirected both_committed (lines_of 1 1 2 2 3) 1) (two_of stamp shows.1) (λ i l at txn. same_graph_same Undirected _ _);
   };
   second = λ line.
-      let same = line.serial 3 (refl, refl) 1 (record { txn = 1; command = commands.Weight 2 3; answer = answers.Weight 1 }) refl refl in
+      let same = line.serial 3 (refl, refl) 1 (record { txn = 1; command = commands.Read (WeightOf 2 3); answer = answers.Weight 1 }) refl refl in
       one_not_five (sym (ap weight_answer weight_before) ∙ same ∙ ap weight_answer weight_behind);
   refused = record {
     refused = λ _. ((λ e. cc), (0, omega arith, refl));

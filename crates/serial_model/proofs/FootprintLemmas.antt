@@ -23,7 +23,10 @@ use Rattle.graph_model.proofs.GraphLemmas.{same_graph, no_edges, has_no_edges}
 use Rattle.graph_model.proofs.SortedLemmas.{true_from_T}
 use Rattle.graph_model.proofs.RowLemmas.{find-entries, rows_of_values}
 use Rattle.graph_model.proofs.KeyLemmas.{same_key_test}
-use Rattle.run_model.specs.Requests.{Query, WeightOf, NeighboursOf, Counts, Request, ToBegin, ToCommit, ToAbort, ToWrite, ToRead, ToRun}
+use Rattle.run_model.specs.declared.command.Command.{Command}
+use Rattle.run_model.specs.declared.command.Command.TheVariants as commands
+use Rattle.run_model.specs.declared.command.Query.{Query}
+use Rattle.run_model.specs.declared.command.Query.TheVariants.{WeightOf, NeighboursOf, Counts}
 use Rattle.run_model.specs.Answering.{targets_of, weight_answer, query_answer, kernel_answer, IsKernelTable}
 use Rattle.run_model.specs.declared.answer.Answer.TheVariants as answers
 use Rattle.serial_model.specs.Footprints.{is_from, is_at_edge, is_at_removal, write_depends, read_depends, depends}
@@ -146,13 +149,13 @@ module _ (kind : Kind) (g h : Graph) (gs : kind ≡ Undirected → IsSymmetric g
   read_same Counts same = ap (λ x. query_answer kind x Counts) (graph_same g h (λ q. same q refl))
 
   -- graphs that agree at the keys of a line's footprint give it one answer
-  pub answer_same : (r : Request) → ((q : Key) → depends kind r q ≡ true → value_at g q ≡ value_at h q) → HasSameAnswer kind g h r
-  answer_same ToBegin same = tt
-  answer_same ToCommit same = tt
-  answer_same ToAbort same = tt
-  answer_same (ToWrite w) same = write_same w same
-  answer_same (ToRead query) same = read_same query same
-  answer_same (ToRun kernel file) same =
+  pub answer_same : (r : Command) → ((q : Key) → depends kind r q ≡ true → value_at g q ≡ value_at h q) → HasSameAnswer kind g h r
+  answer_same commands.Begin same = tt
+  answer_same commands.Commit same = tt
+  answer_same commands.Abort same = tt
+  answer_same (commands.Write w) same = write_same w same
+  answer_same (commands.Read query) same = read_same query same
+  answer_same (commands.Run kernel file) same =
       let one : g ≡ h = graph_same g h (λ q. same q refl) in
       (ap (λ x. kernel_answer x kernel) one, λ table. (subst (λ x. IsKernelTable kind x kernel table) one, subst (λ x. IsKernelTable kind x kernel table) (sym one)))
 

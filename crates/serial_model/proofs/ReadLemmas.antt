@@ -19,7 +19,7 @@ use Rattle.run_model.specs.declared.command.Command.{Command}
 use Rattle.run_model.specs.declared.command.Command.TheVariants as commands
 use Rattle.run_model.specs.declared.answer.Answer.{Answer}
 use Rattle.run_model.specs.declared.answer.Answer.TheVariants as answers
-use Rattle.run_model.specs.Requests.{Request, ToBegin, ToCommit, ToAbort, ToWrite, ToRead, ToRun, request, next_txn, write_of}
+use Rattle.run_model.specs.Commands.{next_txn, write_of}
 use Rattle.run_model.specs.AnsweredLines.{AnsweredLine, effect, made_by, of_txn, own_writes, first_start, or_later, start_of, snapshot}
 use Rattle.run_model.specs.Inputs.{File}
 use Rattle.run_model.specs.Run.{Context, IsFiled, HasFiles, Filing, filing_of}
@@ -56,43 +56,43 @@ module _ (kind : Kind) (journal : List Commit) (txns : List OpenTxn) (number : �
   write_read w None (Some cause) = refl
   write_read w None None = refl
 
-  live_read : (r : Request) → live_result kind journal txns number (job_read j) full r ≡ live_result kind journal txns number j full r
-  live_read ToBegin = refl
-  live_read ToCommit = refl
-  live_read ToAbort = refl
-  live_read (ToWrite w) = write_read w (refused (view_of_job kind journal j) w) (conflict kind journal txns _ _ w)
-  live_read (ToRead query) = refl
-  live_read (ToRun kernel file) = refl
+  live_read : (r : Command) → live_result kind journal txns number (job_read j) full r ≡ live_result kind journal txns number j full r
+  live_read commands.Begin = refl
+  live_read commands.Commit = refl
+  live_read commands.Abort = refl
+  live_read (commands.Write w) = write_read w (refused (view_of_job kind journal j) w) (conflict kind journal txns _ _ w)
+  live_read (commands.Read query) = refl
+  live_read (commands.Run kernel file) = refl
 
-  pub result_read : (r : Request) → line_result kind journal txns number (job_read j) full r ≡ line_result kind journal txns number j full r
+  pub result_read : (r : Command) → line_result kind journal txns number (job_read j) full r ≡ line_result kind journal txns number j full r
   result_read r = ap (cond j.skipping (skips r)) (live_read r)
 
   -- a `commit` line is answered a stamp, or none, or is skipped
-  commit_goes : (skipping : Bool) (own : List Write) (by : TxnName) (start : ℕ) → (effect (cond skipping (skips ToCommit) (commit_result journal by start own)).answer).stops ≡ false
+  commit_goes : (skipping : Bool) (own : List Write) (by : TxnName) (start : ℕ) → (effect (cond skipping (skips commands.Commit) (commit_result journal by start own)).answer).stops ≡ false
   commit_goes true own by start = refl
   commit_goes false [] by start = refl
   commit_goes false (w ∷ ws) by start = refl
 
   -- so no turn of today refuses one
-  pub none_refused : (r : Request) → (is_commit r && (effect (line_result kind journal txns number j full r).answer).stops) ≡ false
-  none_refused ToBegin = refl
-  none_refused ToCommit = commit_goes j.skipping j.own _ _
-  none_refused ToAbort = refl
-  none_refused (ToWrite w) = refl
-  none_refused (ToRead query) = refl
-  none_refused (ToRun kernel file) = refl
+  pub none_refused : (r : Command) → (is_commit r && (effect (line_result kind journal txns number j full r).answer).stops) ≡ false
+  none_refused commands.Begin = refl
+  none_refused commands.Commit = commit_goes j.skipping j.own _ _
+  none_refused commands.Abort = refl
+  none_refused (commands.Write w) = refl
+  none_refused (commands.Read query) = refl
+  none_refused (commands.Run kernel file) = refl
 
 -- ---- turns
 
 module _ (kind : Kind) (s : RunState) (k : ℕ) (full : Bool) where
   -- the result of the line at hand
   abbrev result_of : JobState → Command → LineResult
-  result_of j c = line_result kind s.journal (open_txns s.jobs) (k + 1) j full (request c)
+  result_of j c = line_result kind s.journal (open_txns s.jobs) (k + 1) j full c
 
-  result_same : (j : JobState) (c : Command) → line_result kind s.journal (open_txns (map job_read s.jobs)) (k + 1) (job_read j) full (request c) ≡ result_of j c
+  result_same : (j : JobState) (c : Command) → line_result kind s.journal (open_txns (map job_read s.jobs)) (k + 1) (job_read j) full c ≡ result_of j c
   result_same j c =
-      ap (λ txns. line_result kind s.journal txns (k + 1) (job_read j) full (request c)) (open_read 1 s.jobs)
-      ∙ result_read kind s.journal (open_txns s.jobs) (k + 1) j full (request c)
+      ap (λ txns. line_result kind s.journal txns (k + 1) (job_read j) full c) (open_read 1 s.jobs)
+      ∙ result_read kind s.journal (open_txns s.jobs) (k + 1) j full c
 
   line_more : (j : JobState) (c : Command) (l : AnsweredLine) → is_refused l.command l.answer ≡ false → map line_read j.lines ++ l ∷ [] ≡ map line_read (j.lines ++ l ∷ [])
   line_more j c l e = ap (λ x. map line_read j.lines ++ x ∷ []) (sym (read_as_is l e)) ∙ sym (map-append line_read j.lines (l ∷ []))
@@ -100,12 +100,12 @@ module _ (kind : Kind) (s : RunState) (k : ℕ) (full : Bool) where
   answered_read : (j : JobState) (c : Command) (rest : List Command) → answered_job (job_read j) c rest (result_of j c) ≡ job_read (answered_job j c rest (result_of j c))
   answered_read j c rest =
       let result : LineResult = result_of j c in
-      let line : AnsweredLine = record { txn = next_txn j.begun (request c); command = c; answer = result.answer } in
+      let line : AnsweredLine = record { txn = next_txn j.begun c; command = c; answer = result.answer } in
       λ i. record {
-        lines = line_more j c line (none_refused kind s.journal (open_txns s.jobs) (k + 1) j full (request c)) i;
+        lines = line_more j c line (none_refused kind s.journal (open_txns s.jobs) (k + 1) j full c) i;
         left = rest;
         taken = 0;
-        begun = next_txn j.begun (request c);
+        begun = next_txn j.begun c;
         start = result.start;
         own = result.own;
         skipping = result.skipping;
@@ -119,7 +119,7 @@ module _ (kind : Kind) (s : RunState) (k : ℕ) (full : Bool) where
 
   job_turn_read : (j : JobState) (cs : List Command) → job_turn kind (run_read s) k full (job_read j) cs ≡ run_read (job_turn kind s k full j cs)
   job_turn_read j [] = refl
-  job_turn_read j (c ∷ rest) = elim (nat_lt (j.taken + 1) (turns_of kind s.journal j (request c)))
+  job_turn_read j (c ∷ rest) = elim (nat_lt (j.taken + 1) (turns_of kind s.journal j c))
       as (λ t. cond t (with_job (run_read s) k (record (job_read j) { taken = j.taken + 1 })) (line_turn kind (run_read s) k full (job_read j) c rest)
       ≡ run_read (cond t (with_job s k (record j { taken = j.taken + 1 })) (line_turn kind s k full j c rest))) [
         | true ↦ λ i. record { journal = s.journal; jobs = sym (map_slice_set job_read s.jobs k (record j { taken = j.taken + 1 })) i }
@@ -158,30 +158,30 @@ no_start answers.Aborted e = cc
 no_start answers.Skipped e = cc
 
 -- a `commit` makes no write and asks for no file
-no_write : (r : Request) → is_commit r ≡ true → write_of r ≡ None
-no_write ToCommit e = refl
-no_write ToBegin e = cc
-no_write ToAbort e = cc
-no_write (ToWrite w) e = cc
-no_write (ToRead query) e = cc
-no_write (ToRun kernel file) e = cc
+no_write : (r : Command) → is_commit r ≡ true → write_of r ≡ None
+no_write commands.Commit e = refl
+no_write commands.Begin e = cc
+no_write commands.Abort e = cc
+no_write (commands.Write w) e = cc
+no_write (commands.Read query) e = cc
+no_write (commands.Run kernel file) e = cc
 
-no_filing : (r : Request) → is_commit r ≡ true → filing_of r ≡ None
-no_filing ToCommit e = refl
-no_filing ToBegin e = cc
-no_filing ToAbort e = cc
-no_filing (ToWrite w) e = cc
-no_filing (ToRead query) e = cc
-no_filing (ToRun kernel file) e = cc
+no_filing : (r : Command) → is_commit r ≡ true → filing_of r ≡ None
+no_filing commands.Commit e = refl
+no_filing commands.Begin e = cc
+no_filing commands.Abort e = cc
+no_filing (commands.Write w) e = cc
+no_filing (commands.Read query) e = cc
+no_filing (commands.Run kernel file) e = cc
 
 -- it and an `abort` belong to the transaction before
-same_txn : (r : Request) (n : ℕ) → is_commit r ≡ true → next_txn n r ≡ n
-same_txn ToCommit n e = refl
-same_txn ToBegin n e = cc
-same_txn ToAbort n e = cc
-same_txn (ToWrite w) n e = cc
-same_txn (ToRead query) n e = cc
-same_txn (ToRun kernel file) n e = cc
+same_txn : (r : Command) (n : ℕ) → is_commit r ≡ true → next_txn n r ≡ n
+same_txn commands.Commit n e = refl
+same_txn commands.Begin n e = cc
+same_txn commands.Abort n e = cc
+same_txn (commands.Write w) n e = cc
+same_txn (commands.Read query) n e = cc
+same_txn (commands.Run kernel file) n e = cc
 
 both_parts : (s t : Bool) → (s && t) ≡ true → (s ≡ true) × (t ≡ true)
 both_parts true true e = (refl, refl)
@@ -193,7 +193,7 @@ or_none true x e = sym e
 or_none false x e = refl
 
 module _ (l : AnsweredLine) where
-  by_refused : {X : Type 0} (f : AnsweredLine → X) → (is_commit (request l.command) ≡ true → (effect l.answer).stops ≡ true → f (record { txn = l.txn; command = commands.Abort; answer = answers.Aborted }) ≡ f l) → f (line_read l) ≡ f l
+  by_refused : {X : Type 0} (f : AnsweredLine → X) → (is_commit l.command ≡ true → (effect l.answer).stops ≡ true → f (record { txn = l.txn; command = commands.Abort; answer = answers.Aborted }) ≡ f l) → f (line_read l) ≡ f l
   by_refused f same = elim (is_refused l.command l.answer) as (λ t. is_refused l.command l.answer ≡ t → f (record { txn = l.txn; command = cond t commands.Abort l.command; answer = cond t answers.Aborted l.answer }) ≡ f l) [
     | true ↦ λ e. let p = both_parts _ _ e in same p.0 p.1
     | false ↦ λ e. refl
@@ -203,13 +203,13 @@ module _ (l : AnsweredLine) where
   start_read_one = by_refused (λ x. (effect x.answer).start) (λ c stops. sym (no_start l.answer stops))
 
   made_read_one : made_by (line_read l) ≡ made_by l
-  made_read_one = by_refused made_by (λ c stops. or_none (effect l.answer).writes (write_of (request l.command)) (no_write (request l.command) c))
+  made_read_one = by_refused made_by (λ c stops. or_none (effect l.answer).writes (write_of l.command) (no_write l.command c))
 
-  filing_read_one : cond (effect (line_read l).answer).files (filing_of (request (line_read l).command)) None ≡ cond (effect l.answer).files (filing_of (request l.command)) None
-  filing_read_one = by_refused (λ x. cond (effect x.answer).files (filing_of (request x.command)) None) (λ c stops. or_none (effect l.answer).files (filing_of (request l.command)) (no_filing (request l.command) c))
+  filing_read_one : cond (effect (line_read l).answer).files (filing_of ((line_read l).command)) None ≡ cond (effect l.answer).files (filing_of l.command) None
+  filing_read_one = by_refused (λ x. cond (effect x.answer).files (filing_of x.command) None) (λ c stops. or_none (effect l.answer).files (filing_of l.command) (no_filing l.command c))
 
-  pub next_read_one : (n : ℕ) → next_txn n (request (line_read l).command) ≡ next_txn n (request l.command)
-  next_read_one n = by_refused (λ x. next_txn n (request x.command)) (λ c stops. sym (same_txn (request l.command) n c))
+  pub next_read_one : (n : ℕ) → next_txn n ((line_read l).command) ≡ next_txn n l.command
+  next_read_one n = by_refused (λ x. next_txn n x.command) (λ c stops. sym (same_txn l.command n c))
 
 txn_read : (txn : ℕ) (ls : List AnsweredLine) → of_txn txn (map line_read ls) ≡ map line_read (of_txn txn ls)
 txn_read txn [] = refl
@@ -237,7 +237,7 @@ pub numbered_read : (before : ℕ) (ls : List AnsweredLine) (latest : ℕ) → A
 numbered_read before [] latest are = are
 numbered_read before (l ∷ ls) latest are = (
   are.0 ∙ next_read_one l before,
-  numbered_read (next_txn before (request l.command)) ls latest (subst (λ n. AreNumbered n (map line_read ls) latest) (next_read_one l before) are.1),
+  numbered_read (next_txn before l.command) ls latest (subst (λ n. AreNumbered n (map line_read ls) latest) (next_read_one l before) are.1),
 )
 
 -- a script with its report, line by line
@@ -266,7 +266,7 @@ module _ (context : Context) where
   files_unread before [] files has = has
   files_unread before (l ∷ ls) files has = (
     has.0,
-    filed_unread l.txn before (cond (effect l.answer).files (filing_of (request l.command)) None) files has.0
+    filed_unread l.txn before (cond (effect l.answer).files (filing_of l.command) None) files has.0
         (subst (λ f. IsFiled context (map line_read before) l.txn f files has.0) (filing_read_one l) has.1),
     files_unread (before ++ l ∷ []) ls has.0 (subst (λ bs. HasFiles context bs (map line_read ls) has.0) (sym (map-append line_read before (l ∷ []))) has.2),
   )
@@ -276,6 +276,6 @@ module _ (context : Context) where
   files_read before (l ∷ ls) files has = (
     has.0,
     subst (λ f. IsFiled context (map line_read before) l.txn f files has.0) (sym (filing_read_one l))
-        (filed_read l.txn before (cond (effect l.answer).files (filing_of (request l.command)) None) files has.0 has.1),
+        (filed_read l.txn before (cond (effect l.answer).files (filing_of l.command) None) files has.0 has.1),
     subst (λ bs. HasFiles context bs (map line_read ls) has.0) (map-append line_read before (l ∷ [])) (files_read (before ++ l ∷ []) ls has.0 has.2),
   )

@@ -21,7 +21,7 @@ use Rattle.run_model.specs.declared.command.Command.{Command}
 use Rattle.run_model.specs.declared.command.Command.TheVariants as commands
 use Rattle.run_model.specs.declared.answer.Answer.{Answer}
 use Rattle.run_model.specs.declared.answer.Answer.TheVariants as answers
-use Rattle.run_model.specs.Requests.{Request, ToBegin, ToCommit, ToAbort, ToWrite, ToRead, ToRun, request, next_txn, open_behind, begun_by, IsScript}
+use Rattle.run_model.specs.Commands.{next_txn, open_behind, begun_by, IsScript}
 use Rattle.run_model.specs.AnsweredLines.{AnsweredLine, of_txn, own_writes, start_of, newest_shown}
 use Rattle.run_model.specs.Inputs.{Inputs, AreInputs, File, Outputs}
 use Rattle.run_model.specs.Run.{MayFill, AllAnswered, Filing, IsFiled, HasFiles, IsLoad, IsShown, IsRun, load_commit, answered_scripts, run_lines}
@@ -32,7 +32,6 @@ use Rattle.run_model.proofs.SetLemmas.{get_set, set_cases, map_set, get_map, map
 use Rattle.run_model.proofs.LineLemmas.{numbered_lines}
 use Rattle.run_model.proofs.OpenLemmas.{open_unchanged}
 use Rattle.run_model.proofs.CauseLemmas.{contains_at}
-use Rattle.run_model.proofs.AnswerLemmas.{asks_commit}
 use Rattle.run_model.proofs.TurnLemmas.{turn_keeps}
 use Rattle.run_model.proofs.SteppedLemmas.{first_is}
 use Rattle.serial_model.specs.Footprints.{footprint, depends, writes_in, later_in, newest_in}
@@ -51,12 +50,12 @@ script_abort None [] rest is = is
 script_abort (Some true) [] rest is = is
 script_abort (Some false) [] rest is = is
 script_abort None (x ∷ xs) rest is = is
-script_abort (Some within) (x ∷ xs) rest is = (is.0, script_abort (open_behind within (request x)) xs rest is.1)
+script_abort (Some within) (x ∷ xs) rest is = (is.0, script_abort (open_behind within x) xs rest is.1)
 
 -- and begins as many transactions
 begun_abort : (n : ℕ) (xs rest : List Command) → begun_by n (xs ++ commands.Abort ∷ rest) ≡ begun_by n (xs ++ commands.Commit ∷ rest)
 begun_abort n [] rest = refl
-begun_abort n (x ∷ xs) rest = begun_abort (next_txn n (request x)) xs rest
+begun_abort n (x ∷ xs) rest = begun_abort (next_txn n x) xs rest
 
 module _ (inputs : Inputs) (leaves : ℕ) (t : RunState) (u : IsUnderWay inputs leaves t) (k : ℕ) (j : JobState) (at : slice_get t.jobs k ≡ Some j) (rest : List Command) (left : j.left ≡ commands.Commit ∷ rest) where
   abbrev pub aborting : JobState
@@ -132,7 +131,7 @@ module _ (inputs : Inputs) (leaves : ℕ) (t : RunState) (u : IsUnderWay inputs 
       ap (turn_at_place kind changed k full) (get_set t.jobs k aborting inside)
       ∙ ap (λ b. cond (nat_lt (j.taken + 1) (cond b 1 (0 / 64 + 1))) (with_job changed k (record aborting { taken = j.taken + 1 })) (line_turn kind changed k full aborting commands.Abort rest)) calm
       ∙ ap (λ b. cond b (with_job changed k (record aborting { taken = j.taken + 1 })) (line_turn kind changed k full aborting commands.Abort rest)) (last j.taken)
-      ∙ ap (λ b. line_of (cond b (skips ToAbort) (ends answers.Aborted []))) calm
+      ∙ ap (λ b. line_of (cond b (skips commands.Abort) (ends answers.Aborted []))) calm
       ∙ (λ i. record { journal = append-nil t.journal i; jobs = set_twice t.jobs k aborting (answered_job aborting commands.Abort rest (ends answers.Aborted [])) i })
     where
       last : (n : ℕ) → nat_lt (n + 1) (0 / 64 + 1) ≡ false
@@ -144,8 +143,8 @@ module _ (inputs : Inputs) (leaves : ℕ) (t : RunState) (u : IsUnderWay inputs 
 -- ---- a turn that refuses
 
 -- what a line is that is refused
-pub refusal_parts : (kind : Kind) (journal : List Commit) (j : JobState) (stamp : ℕ) (r : Request) → refusal_of_line kind journal j r ≡ Some stamp
-    → (r ≡ ToCommit) × (j.skipping ≡ false) × (w : Write) × (ws : List Write) × (j.own ≡ w ∷ ws) × (newest_in kind journal (start_of_job j) (footprint kind (of_txn j.begun j.lines)) ≡ Some stamp)
+pub refusal_parts : (kind : Kind) (journal : List Commit) (j : JobState) (stamp : ℕ) (r : Command) → refusal_of_line kind journal j r ≡ Some stamp
+    → (r ≡ commands.Commit) × (j.skipping ≡ false) × (w : Write) × (ws : List Write) × (j.own ≡ w ∷ ws) × (newest_in kind journal (start_of_job j) (footprint kind (of_txn j.begun j.lines)) ≡ Some stamp)
 refusal_parts kind journal j stamp r e = by_skipping j.skipping refl e
   where
     by_own : (own : List Write) → j.own ≡ own → newest_against kind journal j own ≡ Some stamp
@@ -153,19 +152,19 @@ refusal_parts kind journal j stamp r e = by_skipping j.skipping refl e
     by_own [] is e = cc
     by_own (w ∷ ws) is e = (w, ws, is, e)
 
-    by_request : (r : Request) → live_refusal kind journal j r ≡ Some stamp
-        → (r ≡ ToCommit) × (w : Write) × (ws : List Write) × (j.own ≡ w ∷ ws) × (newest_in kind journal (start_of_job j) (footprint kind (of_txn j.begun j.lines)) ≡ Some stamp)
-    by_request ToCommit e = let p = by_own j.own refl e in (refl, p.0, p.1, p.2, p.3)
-    by_request ToBegin e = cc
-    by_request ToAbort e = cc
-    by_request (ToWrite w) e = cc
-    by_request (ToRead query) e = cc
-    by_request (ToRun kernel file) e = cc
+    by_command : (r : Command) → live_refusal kind journal j r ≡ Some stamp
+        → (r ≡ commands.Commit) × (w : Write) × (ws : List Write) × (j.own ≡ w ∷ ws) × (newest_in kind journal (start_of_job j) (footprint kind (of_txn j.begun j.lines)) ≡ Some stamp)
+    by_command commands.Commit e = let p = by_own j.own refl e in (refl, p.0, p.1, p.2, p.3)
+    by_command commands.Begin e = cc
+    by_command commands.Abort e = cc
+    by_command (commands.Write w) e = cc
+    by_command (commands.Read query) e = cc
+    by_command (commands.Run kernel file) e = cc
 
     by_skipping : (b : Bool) → j.skipping ≡ b → cond b None (live_refusal kind journal j r) ≡ Some stamp
-        → (r ≡ ToCommit) × (j.skipping ≡ false) × (w : Write) × (ws : List Write) × (j.own ≡ w ∷ ws) × (newest_in kind journal (start_of_job j) (footprint kind (of_txn j.begun j.lines)) ≡ Some stamp)
+        → (r ≡ commands.Commit) × (j.skipping ≡ false) × (w : Write) × (ws : List Write) × (j.own ≡ w ∷ ws) × (newest_in kind journal (start_of_job j) (footprint kind (of_txn j.begun j.lines)) ≡ Some stamp)
     by_skipping true is e = cc
-    by_skipping false is e = let p = by_request r e in (p.0, is, p.1, p.2, p.3, p.4)
+    by_skipping false is e = let p = by_command r e in (p.0, is, p.1, p.2, p.3, p.4)
 
 module _ (inputs : Inputs) (leaves : ℕ) (s : RunState) (way : IsSerialWay inputs leaves s) (k : ℕ) (j : JobState) (at : slice_get s.jobs k ≡ Some j) where
   -- the newest commit in the footprint is one of the journal
@@ -178,7 +177,7 @@ module _ (inputs : Inputs) (leaves : ℕ) (s : RunState) (way : IsSerialWay inpu
       let same : (found.1).stamp ≡ stamp = found.4 in
       (contains_at (later_in inputs.kind s.journal start foot) place.0 stamp place.1, omega (arith, is, below, same))
 
-  module _ (rest : List Command) (left : j.left ≡ commands.Commit ∷ rest) (stamp : ℕ) (e : refusal_of_line inputs.kind s.journal j ToCommit ≡ Some stamp) where
+  module _ (rest : List Command) (left : j.left ≡ commands.Commit ∷ rest) (stamp : ℕ) (e : refusal_of_line inputs.kind s.journal j commands.Commit ≡ Some stamp) where
     abbrev refused : JobState
     refused = refused_job j commands.Commit rest stamp
 
@@ -209,7 +208,7 @@ module _ (inputs : Inputs) (leaves : ℕ) (s : RunState) (way : IsSerialWay inpu
 
     under_after : (i : Inputs) × AreInputs i × IsUnderWay i leaves (run_read after) × (record i { scripts = map script_of (run_read after).jobs } ≡ inputs_at inputs after)
     under_after =
-        let calm = (refusal_parts inputs.kind s.journal j stamp ToCommit e).1 in
+        let calm = (refusal_parts inputs.kind s.journal j stamp commands.Commit e).1 in
         let base : Inputs = record inputs { scripts = map script_of (changed (inputs_at inputs s) leaves (run_read s) way.under k (job_read j) read_there rest left).jobs } in
         let aborting_under = abort_under (inputs_at inputs s) leaves (run_read s) way.under k (job_read j) read_there rest left in
         let behind = turn_keeps base leaves (changed (inputs_at inputs s) leaves (run_read s) way.under k (job_read j) read_there rest left) (suc k) false aborting_under (λ f. absurd (true≢false (sym f))) in (
@@ -221,7 +220,7 @@ module _ (inputs : Inputs) (leaves : ℕ) (s : RunState) (way : IsSerialWay inpu
 
     kept_refusal : IsKeptLine inputs.kind s.journal j.lines refused_line
     kept_refusal =
-        let parts = refusal_parts inputs.kind s.journal j stamp ToCommit e in
+        let parts = refusal_parts inputs.kind s.journal j stamp commands.Commit e in
         let start : start_of_job j ≡ start_of j.begun j.lines = start_is inputs leaves s way k j at parts.2 parts.3 parts.4 in
         let newest : newest_in inputs.kind s.journal (start_of j.begun j.lines) (footprint inputs.kind (of_txn j.begun j.lines)) ≡ Some stamp = ap (λ n. newest_in inputs.kind s.journal n (footprint inputs.kind (of_txn j.begun j.lines))) (sym start) ∙ parts.5 in
         record {
@@ -239,7 +238,7 @@ module _ (inputs : Inputs) (leaves : ℕ) (s : RunState) (way : IsSerialWay inpu
 
     pub refuses : IsSerialWay inputs leaves after
     refuses =
-        let parts = refusal_parts inputs.kind s.journal j stamp ToCommit e in
+        let parts = refusal_parts inputs.kind s.journal j stamp commands.Commit e in
         let under = under_after in
         one_line inputs leaves s way k j at refused s.journal [] (sym (append-nil s.journal)) refused_line refl
         (ap (λ cs. cs ++ rest) (map-append (λ (l : AnsweredLine). l.command) j.lines (refused_line ∷ [])) ∙ append_assoc (map (λ (l : AnsweredLine). l.command) j.lines) (commands.Commit ∷ []) rest
@@ -251,18 +250,18 @@ module _ (inputs : Inputs) (leaves : ℕ) (s : RunState) (way : IsSerialWay inpu
 
   -- ---- any turn
 
-  line_keeps : (full : Bool) → (full ≡ true → MayFill inputs.kind leaves inputs.load (lines_so_far s)) → (c : Command) (rest : List Command) → j.left ≡ c ∷ rest → (o : Option ℕ) → refusal_of_line inputs.kind s.journal j (request c) ≡ o
+  line_keeps : (full : Bool) → (full ≡ true → MayFill inputs.kind leaves inputs.load (lines_so_far s)) → (c : Command) (rest : List Command) → j.left ≡ c ∷ rest → (o : Option ℕ) → refusal_of_line inputs.kind s.journal j c ≡ o
       → IsSerialWay inputs leaves (refused_or s k j c rest o (job_turn inputs.kind s k full j (c ∷ rest)))
   line_keeps full filled c rest left None e = goes_on inputs leaves s way k j at full c rest left e filled
   line_keeps full filled c rest left (Some stamp) e =
-      let is : c ≡ commands.Commit = asks_commit c (refusal_parts inputs.kind s.journal j stamp (request c) e).0 in
+      let is : c ≡ commands.Commit = (refusal_parts inputs.kind s.journal j stamp c e).0 in
       subst (λ x. IsSerialWay inputs leaves (with_job s k (refused_job j x rest stamp))) (sym is)
-      (refuses rest (left ∙ ap (λ x. x ∷ rest) is) stamp (ap (λ x. refusal_of_line inputs.kind s.journal j (request x)) (sym is) ∙ e))
+      (refuses rest (left ∙ ap (λ x. x ∷ rest) is) stamp (ap (λ x. refusal_of_line inputs.kind s.journal j x) (sym is) ∙ e))
 
   job_keeps : (full : Bool) → (full ≡ true → MayFill inputs.kind leaves inputs.load (lines_so_far s)) → (cs : List Command) → j.left ≡ cs
       → IsSerialWay inputs leaves (serial_line inputs.kind s k j cs (job_turn inputs.kind s k full j cs))
   job_keeps full filled [] left = way
-  job_keeps full filled (c ∷ rest) left = line_keeps full filled c rest left (refusal_of_line inputs.kind s.journal j (request c)) refl
+  job_keeps full filled (c ∷ rest) left = line_keeps full filled c rest left (refusal_of_line inputs.kind s.journal j c) refl
 
 -- behind each turn the run is under way
 pub serial_turn_keeps : (inputs : Inputs) (leaves : ℕ) (s : RunState) (job : ℕ) (full : Bool) → IsSerialWay inputs leaves s → (full ≡ true → MayFill inputs.kind leaves inputs.load (lines_so_far s))
@@ -361,20 +360,20 @@ under_way_is_run inputs leaves s outputs are u over journal reports filed files 
 -- ---- a serial order
 
 -- the footprint of lines has that of each of them
-foot_part : (kind : Kind) (txn : ℕ) (before : List AnsweredLine) (i : ℕ) (l : AnsweredLine) → slice_get before i ≡ Some l → l.txn ≡ txn → (q : Key) → depends kind (request l.command) q ≡ true → footprint kind (of_txn txn before) q ≡ true
+foot_part : (kind : Kind) (txn : ℕ) (before : List AnsweredLine) (i : ℕ) (l : AnsweredLine) → slice_get before i ≡ Some l → l.txn ≡ txn → (q : Key) → depends kind l.command q ≡ true → footprint kind (of_txn txn before) q ≡ true
 foot_part kind txn [] i l at same q e = cc
 foot_part kind txn (x ∷ before) zero l at same q e =
     let is : x ≡ l = some_eq x l at in
-    ap (λ t. list_any (λ (m : AnsweredLine). depends kind (request m.command) q) (cond t (x ∷ of_txn txn before) (of_txn txn before))) (ap (λ (m : AnsweredLine). m.txn == txn) is ∙ ap (λ n. n == txn) same ∙ self_eq txn)
-    ∙ or_left _ _ (ap (λ (m : AnsweredLine). depends kind (request m.command) q) is ∙ e)
-foot_part kind txn (x ∷ before) (suc i) l at same q e = elim (x.txn == txn) as (λ t. list_any (λ (m : AnsweredLine). depends kind (request m.command) q) (cond t (x ∷ of_txn txn before) (of_txn txn before)) ≡ true) [
-  | true ↦ or_right (depends kind (request x.command) q) _ (foot_part kind txn before i l at same q e)
+    ap (λ t. list_any (λ (m : AnsweredLine). depends kind m.command q) (cond t (x ∷ of_txn txn before) (of_txn txn before))) (ap (λ (m : AnsweredLine). m.txn == txn) is ∙ ap (λ n. n == txn) same ∙ self_eq txn)
+    ∙ or_left _ _ (ap (λ (m : AnsweredLine). depends kind m.command q) is ∙ e)
+foot_part kind txn (x ∷ before) (suc i) l at same q e = elim (x.txn == txn) as (λ t. list_any (λ (m : AnsweredLine). depends kind m.command q) (cond t (x ∷ of_txn txn before) (of_txn txn before)) ≡ true) [
+  | true ↦ or_right (depends kind x.command q) _ (foot_part kind txn before i l at same q e)
   | false ↦ foot_part kind txn before i l at same q e
 ]
 
 placed_serial : (kind : Kind) (journal : List Commit) (before : List AnsweredLine) (txn stamp : ℕ) → IsPlaced kind journal before txn stamp → AnswersAsBehind kind journal before txn stamp
 placed_serial kind journal before txn stamp placed i l at same =
-    line_same kind journal (footprint kind (of_txn txn before)) (start_of txn before) (stamp - 1) placed.started placed.clear (own_writes txn (take i before)) (request l.command) (foot_part kind txn before i l at same)
+    line_same kind journal (footprint kind (of_txn txn before)) (start_of txn before) (stamp - 1) placed.started placed.clear (own_writes txn (take i before)) l.command (foot_part kind txn before i l at same)
 
 kept_serial : (kind : Kind) (journal : List Commit) (before : List AnsweredLine) (l : AnsweredLine) → IsKeptLine kind journal before l → IsSerialLine kind journal before l
 kept_serial kind journal before l kept = record {

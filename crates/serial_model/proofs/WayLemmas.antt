@@ -17,7 +17,7 @@ use Rattle.run_model.specs.declared.command.Command.{Command}
 use Rattle.run_model.specs.declared.command.Command.TheVariants as commands
 use Rattle.run_model.specs.declared.answer.Answer.{Answer}
 use Rattle.run_model.specs.declared.answer.Answer.TheVariants as answers
-use Rattle.run_model.specs.Requests.{Request, ToBegin, ToCommit, ToAbort, ToWrite, ToRead, ToRun, request, next_txn}
+use Rattle.run_model.specs.Commands.{next_txn}
 use Rattle.run_model.specs.AnsweredLines.{AnsweredLine, effect, made_by, of_txn, start_of, newest_shown}
 use Rattle.run_model.specs.Inputs.{Inputs, AreInputs}
 use Rattle.run_model.specs.Run.{MayFill, ShowsCommit, inserted_in, txn_name}
@@ -221,8 +221,8 @@ module _ (inputs : Inputs) (leaves : ℕ) (s : RunState) (way : IsSerialWay inpu
   start_within = let first = start_below j.begun j.lines in let most = way.shown k j at in omega (arith, first, most)
 
   placed_by : (skipping : Bool) (own : List Write) (by : TxnName) → j.own ≡ own → cond skipping None (newest_against inputs.kind s.journal j own) ≡ None → (stamp : ℕ)
-      → (cond skipping (skips ToCommit) (commit_result s.journal by (start_of_job j) own)).answer ≡ answers.Committed (Some stamp)
-      → IsPlaced inputs.kind (s.journal ++ (cond skipping (skips ToCommit) (commit_result s.journal by (start_of_job j) own)).commits) j.lines j.begun stamp
+      → (cond skipping (skips commands.Commit) (commit_result s.journal by (start_of_job j) own)).answer ≡ answers.Committed (Some stamp)
+      → IsPlaced inputs.kind (s.journal ++ (cond skipping (skips commands.Commit) (commit_result s.journal by (start_of_job j) own)).commits) j.lines j.begun stamp
   placed_by true own by is none stamp e = cc
   placed_by false [] by is none stamp e = cc
   placed_by false (w ∷ ws) by is none stamp e =
@@ -241,31 +241,31 @@ module _ (inputs : Inputs) (leaves : ℕ) (s : RunState) (way : IsSerialWay inpu
       }
 
   module _ (full : Bool) where
-    abbrev result_at : Request → LineResult
+    abbrev result_at : Command → LineResult
     result_at r = line_result inputs.kind s.journal (open_txns s.jobs) (k + 1) j full r
 
-    placed_at : (r : Request) → r ≡ ToCommit → refusal_of_line inputs.kind s.journal j r ≡ None → (stamp : ℕ) → (result_at r).answer ≡ answers.Committed (Some stamp)
+    placed_at : (r : Command) → r ≡ commands.Commit → refusal_of_line inputs.kind s.journal j r ≡ None → (stamp : ℕ) → (result_at r).answer ≡ answers.Committed (Some stamp)
         → IsPlaced inputs.kind (s.journal ++ (result_at r).commits) j.lines (next_txn j.begun r) stamp
-    placed_at ToCommit is none stamp e = placed_by j.skipping j.own _ refl none stamp e
-    placed_at ToBegin is none stamp e = cc
-    placed_at ToAbort is none stamp e = cc
-    placed_at (ToWrite w) is none stamp e = cc
-    placed_at (ToRead query) is none stamp e = cc
-    placed_at (ToRun kernel file) is none stamp e = cc
+    placed_at commands.Commit is none stamp e = placed_by j.skipping j.own _ refl none stamp e
+    placed_at commands.Begin is none stamp e = cc
+    placed_at commands.Abort is none stamp e = cc
+    placed_at (commands.Write w) is none stamp e = cc
+    placed_at (commands.Read query) is none stamp e = cc
+    placed_at (commands.Run kernel file) is none stamp e = cc
 
-    begins_at : (r : Request) → r ≡ ToBegin → (by : TxnName) (start : ℕ) → (result_at r).answer ≡ answers.Begun by start → newest_shown j.lines ≤ start
-    begins_at ToBegin is by start e = by_skipping j.skipping e
+    begins_at : (r : Command) → r ≡ commands.Begin → (by : TxnName) (start : ℕ) → (result_at r).answer ≡ answers.Begun by start → newest_shown j.lines ≤ start
+    begins_at commands.Begin is by start e = by_skipping j.skipping e
       where
-        by_skipping : (b : Bool) → (cond b (skips ToBegin) (line_begins (txn_name (k + 1) (j.begun + 1)) (length s.journal))).answer ≡ answers.Begun by start → newest_shown j.lines ≤ start
+        by_skipping : (b : Bool) → (cond b (skips commands.Begin) (line_begins (txn_name (k + 1) (j.begun + 1)) (length s.journal))).answer ≡ answers.Begun by start → newest_shown j.lines ≤ start
         by_skipping true e = cc
         by_skipping false e = let now : length s.journal ≡ start = cc in let most = way.shown k j at in omega (arith, now, most)
-    begins_at ToCommit is by start e = cc
-    begins_at ToAbort is by start e = cc
-    begins_at (ToWrite w) is by start e = cc
-    begins_at (ToRead query) is by start e = cc
-    begins_at (ToRun kernel file) is by start e = cc
+    begins_at commands.Commit is by start e = cc
+    begins_at commands.Abort is by start e = cc
+    begins_at (commands.Write w) is by start e = cc
+    begins_at (commands.Read query) is by start e = cc
+    begins_at (commands.Run kernel file) is by start e = cc
 
-    module _ (c : Command) (rest : List Command) (left : j.left ≡ c ∷ rest) (none : refusal_of_line inputs.kind s.journal j (request c) ≡ None)
+    module _ (c : Command) (rest : List Command) (left : j.left ≡ c ∷ rest) (none : refusal_of_line inputs.kind s.journal j c ≡ None)
         (filled : full ≡ true → MayFill inputs.kind leaves inputs.load (lines_so_far s)) where
       abbrev next : RunState
       next = job_turn inputs.kind s k full j (c ∷ rest)
@@ -279,16 +279,16 @@ module _ (inputs : Inputs) (leaves : ℕ) (s : RunState) (way : IsSerialWay inpu
           (λ e. (let most = filled e in let same = inserted_read inputs.kind s.jobs in omega (arith, most, same))))
 
       abbrev line : AnsweredLine
-      line = record { txn = next_txn j.begun (request c); command = c; answer = (result_at (request c)).answer }
+      line = record { txn = next_txn j.begun c; command = c; answer = (result_at c).answer }
 
-      kept_line : IsKeptLine inputs.kind (s.journal ++ (result_at (request c)).commits) j.lines line
+      kept_line : IsKeptLine inputs.kind (s.journal ++ (result_at c).commits) j.lines line
       kept_line = record {
-        refused = λ e. absurd (true≢false (sym e ∙ none_refused inputs.kind s.journal (open_txns s.jobs) (k + 1) j full (request c)));
-        begins = λ by start is e. begins_at (request c) (ap request is) by start e;
-        placed = λ stamp shows. placed_at (request c) (ap request shows.0) none stamp shows.1;
+        refused = λ e. absurd (true≢false (sym e ∙ none_refused inputs.kind s.journal (open_txns s.jobs) (k + 1) j full c));
+        begins = λ by start is e. begins_at c is by start e;
+        placed = λ stamp shows. placed_at c shows.0 none stamp shows.1;
       }
 
-      script_is : script_of (answered_job j c rest (result_at (request c))) ≡ script_of j
+      script_is : script_of (answered_job j c rest (result_at c)) ≡ script_of j
       script_is =
           ap (λ cs. cs ++ rest) (map-append (λ (l : AnsweredLine). l.command) j.lines (line ∷ [])) ∙ append_assoc (map (λ (l : AnsweredLine). l.command) j.lines) (c ∷ []) rest
           ∙ ap (λ cs. map (λ (l : AnsweredLine). l.command) j.lines ++ cs) (sym left)
@@ -302,20 +302,20 @@ module _ (inputs : Inputs) (leaves : ℕ) (s : RunState) (way : IsSerialWay inpu
       answers_line : next ≡ line_turn inputs.kind s k full j c rest → IsSerialWay inputs leaves next
       answers_line is = subst (IsSerialWay inputs leaves) (sym is)
           (let after : RunState = line_turn inputs.kind s k full j c rest in
-          let j' : JobState = answered_job j c rest (result_at (request c)) in
+          let j' : JobState = answered_job j c rest (result_at c) in
           let u = subst (λ x. IsUnderWay (inputs_at inputs s) leaves (run_read x)) is under_next in
           let there : slice_get (run_read after).jobs k ≡ Some (job_read j') = get_map job_read after.jobs k j' (get_set s.jobs k j' inside) in
           let most : newest_shown (map line_read (j.lines ++ line ∷ [])) ≤ length after.journal = (u.each k (job_read j') there).shown in
           let as_is : map line_read (j.lines ++ line ∷ []) ≡ map line_read j.lines ++ line ∷ [] =
-          map-append line_read j.lines (line ∷ []) ∙ ap (λ x. map line_read j.lines ++ x ∷ []) (read_as_is line (none_refused inputs.kind s.journal (open_txns s.jobs) (k + 1) j full (request c))) in
+          map-append line_read j.lines (line ∷ []) ∙ ap (λ x. map line_read j.lines ++ x ∷ []) (read_as_is line (none_refused inputs.kind s.journal (open_txns s.jobs) (k + 1) j full c)) in
           let last = last_shown (map line_read j.lines) line in
           let stamp : (effect line.answer).stamp ≤ length after.journal = (let same = ap newest_shown as_is in omega (arith, most, same, last)) in
-          one_line j' after.journal (result_at (request c)).commits refl line refl script_is stamp kept_line
+          one_line j' after.journal (result_at c).commits refl line refl script_is stamp kept_line
           (rebase_given (inputs_at inputs s) leaves (run_read after) u way.given) (rebase (inputs_at inputs s) leaves (run_read after) u))
 
       pub goes_on : IsSerialWay inputs leaves next
-      goes_on = elim (nat_lt (j.taken + 1) (turns_of inputs.kind s.journal j (request c)))
-          as (λ t. nat_lt (j.taken + 1) (turns_of inputs.kind s.journal j (request c)) ≡ t → IsSerialWay inputs leaves next) [
+      goes_on = elim (nat_lt (j.taken + 1) (turns_of inputs.kind s.journal j c))
+          as (λ t. nat_lt (j.taken + 1) (turns_of inputs.kind s.journal j c) ≡ t → IsSerialWay inputs leaves next) [
             | true ↦ λ e. waits (ap (λ t. cond t (with_job s k (record j { taken = j.taken + 1 })) (line_turn inputs.kind s k full j c rest)) e)
             | false ↦ λ e. answers_line (ap (λ t. cond t (with_job s k (record j { taken = j.taken + 1 })) (line_turn inputs.kind s k full j c rest)) e)
           ] refl

@@ -6,6 +6,7 @@ use Rattle.graph_model.specs.declared.journal.Commit.{Commit}
 use Rattle.graph_model.specs.declared.refusal.Cause.TheVariants.{Later}
 use Rattle.run_model.specs.declared.command.Command.{Command}
 use Rattle.run_model.specs.declared.command.Command.TheVariants as commands
+use Rattle.run_model.specs.declared.command.Query.TheVariants.{WeightOf}
 use Rattle.run_model.specs.declared.answer.Answer.{Answer}
 use Rattle.run_model.specs.declared.answer.Answer.TheVariants as answers
 use Rattle.run_model.specs.AnsweredLines.{AnsweredLine, answered_lines}
@@ -17,7 +18,7 @@ use Rattle.serial_model.specs.SerialRun.{IsSerialLine}
 -- a script that asks for the weight of one edge, and gives another edge the weight 5
 abbrev pub looks_and_sets : ℕ → ℕ → ℕ → ℕ → List Command
 looks_and_sets a b u v =
-    commands.Begin ∷ commands.Weight a b ∷ commands.SetEdge u v 5 ∷ commands.Commit ∷ []
+    commands.Begin ∷ commands.Read (WeightOf a b) ∷ commands.Write (writes.SetEdge u v 5) ∷ commands.Commit ∷ []
 
 -- each looks at the edge that the other one sets
 abbrev pub skewed : List (List Command)
@@ -26,7 +27,7 @@ skewed = looks_and_sets 1 2 2 3 ∷ looks_and_sets 2 3 1 2 ∷ []
 -- the lines of such a script, up to its `commit`
 abbrev pub lines_of : ℕ → ℕ → ℕ → ℕ → ℕ → List AnsweredLine
 lines_of job a b u v = answered_lines
-    (commands.Begin ∷ commands.Weight a b ∷ commands.SetEdge u v 5 ∷ [])
+    (commands.Begin ∷ commands.Read (WeightOf a b) ∷ commands.Write (writes.SetEdge u v 5) ∷ [])
     (answers.Begun (txn_name job 1) 1 ∷ answers.Weight 1 ∷ answers.Done ∷ [])
 
 -- the load, and the first script's commit

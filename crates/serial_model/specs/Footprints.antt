@@ -10,7 +10,10 @@ use Rattle.graph_model.specs.declared.journal.Commit.{Commit}
 use Rattle.graph_model.specs.Rows.{vertex_key, arc_key}
 use Rattle.graph_model.specs.Effects.{same_key, arc_keys, keys_of}
 use Rattle.graph_model.specs.Conflict.{greatest}
-use Rattle.run_model.specs.Requests.{Query, WeightOf, NeighboursOf, Counts, Request, ToBegin, ToCommit, ToAbort, ToWrite, ToRead, ToRun, request}
+use Rattle.run_model.specs.declared.command.Command.{Command}
+use Rattle.run_model.specs.declared.command.Command.TheVariants as commands
+use Rattle.run_model.specs.declared.command.Query.{Query}
+use Rattle.run_model.specs.declared.command.Query.TheVariants.{WeightOf, NeighboursOf, Counts}
 use Rattle.run_model.specs.AnsweredLines.{AnsweredLine}
 
 -- the row of a vertex, and those of the arcs that lead from it
@@ -43,17 +46,17 @@ read_depends (NeighboursOf v) q = is_from v q
 read_depends Counts q = true
 
 -- the footprint of a line: the rows on which its answer depends. A kernel looks at all rows
-abbrev pub depends : Kind → Request → Key → Bool
-depends kind ToBegin q = false
-depends kind ToCommit q = false
-depends kind ToAbort q = false
-depends kind (ToWrite w) q = write_depends kind w q
-depends kind (ToRead query) q = read_depends query q
-depends kind (ToRun kernel file) q = true
+abbrev pub depends : Kind → Command → Key → Bool
+depends kind commands.Begin q = false
+depends kind commands.Commit q = false
+depends kind commands.Abort q = false
+depends kind (commands.Write w) q = write_depends kind w q
+depends kind (commands.Read query) q = read_depends query q
+depends kind (commands.Run kernel file) q = true
 
 -- the footprint of lines: the rows on which one of their answers depends
 abbrev pub footprint : Kind → List AnsweredLine → Key → Bool
-footprint kind lines q = list_any (λ l. depends kind (request l.command) q) lines
+footprint kind lines q = list_any (λ l. depends kind l.command q) lines
 
 -- one of the writes writes a row of the footprint
 abbrev pub writes_in : Kind → (Key → Bool) → List Write → Bool

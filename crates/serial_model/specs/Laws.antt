@@ -9,20 +9,20 @@ use Rattle.graph_model.specs.Graph.{Graph, IsSymmetric}
 use Rattle.graph_model.specs.History.{view}
 use Rattle.graph_model.specs.Rows.{value_at}
 use Rattle.run_model.specs.Inputs.{Inputs, AreInputs, Outputs}
-use Rattle.run_model.specs.Requests.{Request}
+use Rattle.run_model.specs.declared.command.Command.{Command}
 use Rattle.serial_model.specs.Footprints.{depends, writes_in}
 use Rattle.serial_model.specs.SerialTurns.{IsSeriallyStepped}
 use Rattle.serial_model.specs.SerialRun.{HasSameAnswer, IsSerialRun}
 
 -- a line has one answer on graphs that agree on its footprint
 abbrev pub AnswersDependOnFootprints : Type 0
-AnswersDependOnFootprints = (kind : Kind) (g h : Graph) (r : Request)
+AnswersDependOnFootprints = (kind : Kind) (g h : Graph) (r : Command)
     → (kind ≡ Undirected → IsSymmetric g) → (kind ≡ Undirected → IsSymmetric h)
     → ((q : Key) → depends kind r q ≡ true → value_at g q ≡ value_at h q) → HasSameAnswer kind g h r
 
 -- commits that write in no row of a line's footprint leave its answer, under whatever the transaction wrote itself
 abbrev pub OtherCommitsLeaveAnswers : Type 0
-OtherCommitsLeaveAnswers = (kind : Kind) (journal : List Commit) (start until : ℕ) (own : List Write) (r : Request)
+OtherCommitsLeaveAnswers = (kind : Kind) (journal : List Commit) (start until : ℕ) (own : List Write) (r : Command)
     → start ≤ until
     → ((i : ℕ) (c : Commit) → slice_get journal i ≡ Some c → start ≤ i → i < until
     → writes_in kind (depends kind r) c.writes ≡ false)

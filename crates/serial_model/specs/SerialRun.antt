@@ -12,7 +12,6 @@ use Rattle.run_model.specs.declared.command.Command.{Command}
 use Rattle.run_model.specs.declared.command.Command.TheVariants as commands
 use Rattle.run_model.specs.declared.answer.Answer.{Answer}
 use Rattle.run_model.specs.declared.answer.Answer.TheVariants as answers
-use Rattle.run_model.specs.Requests.{Request, ToBegin, ToCommit, ToAbort, ToWrite, ToRead, ToRun, request}
 use Rattle.run_model.specs.AnsweredLines.{AnsweredLine, effect, of_txn, own_writes, start_of, newest_shown}
 use Rattle.run_model.specs.Answering.{query_answer, kernel_answer, IsKernelTable}
 use Rattle.run_model.specs.Inputs.{Inputs, Outputs}
@@ -22,17 +21,17 @@ use Rattle.serial_model.specs.Footprints.{footprint, later_in}
 
 -- ---- refused commits
 
-abbrev pub is_commit : Request → Bool
-is_commit ToBegin = false
-is_commit ToCommit = true
-is_commit ToAbort = false
-is_commit (ToWrite w) = false
-is_commit (ToRead query) = false
-is_commit (ToRun kernel file) = false
+abbrev pub is_commit : Command → Bool
+is_commit commands.Begin = false
+is_commit commands.Commit = true
+is_commit commands.Abort = false
+is_commit (commands.Write w) = false
+is_commit (commands.Read query) = false
+is_commit (commands.Run kernel file) = false
 
 -- a `commit` that was answered a conflict, which stops its transaction
 abbrev pub is_refused : Command → Answer → Bool
-is_refused c a = is_commit (request c) && (effect a).stops
+is_refused c a = is_commit c && (effect a).stops
 
 -- a refused `commit` is read as an `abort`
 abbrev pub command_read : Command → Answer → Command
@@ -90,13 +89,13 @@ IsRefusal kind journal before txn _ = ⊥
 -- ---- one transaction after the other
 
 -- a line has one answer on both graphs
-abbrev pub HasSameAnswer : Kind → Graph → Graph → Request → Type 0
-HasSameAnswer kind g h ToBegin = Unit {0}
-HasSameAnswer kind g h ToCommit = Unit {0}
-HasSameAnswer kind g h ToAbort = Unit {0}
-HasSameAnswer kind g h (ToWrite w) = refused g w ≡ refused h w
-HasSameAnswer kind g h (ToRead query) = query_answer kind g query ≡ query_answer kind h query
-HasSameAnswer kind g h (ToRun kernel file) = (kernel_answer g kernel ≡ kernel_answer h kernel)
+abbrev pub HasSameAnswer : Kind → Graph → Graph → Command → Type 0
+HasSameAnswer kind g h commands.Begin = Unit {0}
+HasSameAnswer kind g h commands.Commit = Unit {0}
+HasSameAnswer kind g h commands.Abort = Unit {0}
+HasSameAnswer kind g h (commands.Write w) = refused g w ≡ refused h w
+HasSameAnswer kind g h (commands.Read query) = query_answer kind g query ≡ query_answer kind h query
+HasSameAnswer kind g h (commands.Run kernel file) = (kernel_answer g kernel ≡ kernel_answer h kernel)
     × ((table : List Entry) → IsKernelTable kind g kernel table ↔ IsKernelTable kind h kernel table)
 
 -- the lines of this transaction have the answers that they would have had behind all commits below this stamp
@@ -105,7 +104,7 @@ AnswersAsBehind kind journal before txn stamp = (i : ℕ) (l : AnsweredLine) →
     → HasSameAnswer kind
     (view kind journal (start_of txn before) (own_writes txn (take i before)))
     (view kind journal (stamp - 1) (own_writes txn (take i before)))
-    (request l.command)
+    l.command
 
 -- how a line, in a report behind these lines, keeps a run serialisable
 pub record IsSerialLine (kind : Kind) (journal : List Commit) (before : List AnsweredLine) (l : AnsweredLine)

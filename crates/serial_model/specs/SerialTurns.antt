@@ -6,7 +6,7 @@ use Rattle.graph_model.specs.declared.journal.Commit.{Commit}
 use Rattle.graph_model.specs.declared.refusal.Cause.TheVariants.{Later}
 use Rattle.run_model.specs.declared.command.Command.{Command}
 use Rattle.run_model.specs.declared.answer.Answer.TheVariants as answers
-use Rattle.run_model.specs.Requests.{Request, ToBegin, ToCommit, ToAbort, ToWrite, ToRead, ToRun, request}
+use Rattle.run_model.specs.declared.command.Command.TheVariants as commands
 use Rattle.run_model.specs.AnsweredLines.{AnsweredLine, of_txn}
 use Rattle.run_model.specs.Inputs.{Inputs, File, Outputs}
 use Rattle.run_model.specs.Run.{MayFill, HasFiles}
@@ -22,16 +22,16 @@ newest_against kind journal j (w ∷ ws) =
     newest_in kind journal (start_of_job j) (footprint kind (of_txn j.begun j.lines))
 
 -- the commit for which a line that isn't skipped is refused, if it is a `commit` that is
-abbrev pub live_refusal : Kind → List Commit → JobState → Request → Option ℕ
-live_refusal kind journal j ToBegin = None
-live_refusal kind journal j ToCommit = newest_against kind journal j j.own
-live_refusal kind journal j ToAbort = None
-live_refusal kind journal j (ToWrite w) = None
-live_refusal kind journal j (ToRead query) = None
-live_refusal kind journal j (ToRun kernel file) = None
+abbrev pub live_refusal : Kind → List Commit → JobState → Command → Option ℕ
+live_refusal kind journal j commands.Begin = None
+live_refusal kind journal j commands.Commit = newest_against kind journal j j.own
+live_refusal kind journal j commands.Abort = None
+live_refusal kind journal j (commands.Write w) = None
+live_refusal kind journal j (commands.Read query) = None
+live_refusal kind journal j (commands.Run kernel file) = None
 
 -- the commit for which the line is refused
-abbrev pub refusal_of_line : Kind → List Commit → JobState → Request → Option ℕ
+abbrev pub refusal_of_line : Kind → List Commit → JobState → Command → Option ℕ
 refusal_of_line kind journal j r = cond j.skipping None (live_refusal kind journal j r)
 
 -- the transaction is over, and nothing of it is kept
@@ -45,7 +45,7 @@ refused_or s k j c rest (Some stamp) other = with_job s k (refused_job j c rest 
 abbrev pub serial_line : Kind → RunState → ℕ → JobState → List Command → RunState → RunState
 serial_line kind s k j [] other = other
 serial_line kind s k j (c ∷ rest) other =
-    refused_or s k j c rest (refusal_of_line kind s.journal j (request c)) other
+    refused_or s k j c rest (refusal_of_line kind s.journal j c) other
 
 abbrev pub serial_at : Kind → RunState → ℕ → Option JobState → RunState → RunState
 serial_at kind s k None other = other

@@ -8,7 +8,7 @@ use Rattle.graph_model.specs.OwnerCalls.{PassState, Core, pass_at}
 use Rattle.run_model.specs.declared.command.Command.{Command}
 use Rattle.run_model.specs.declared.command.Command.TheVariants as commands
 use Rattle.run_model.specs.declared.answer.Answer.{Answer}
-use Rattle.run_model.specs.Requests.{Request, ToCommit, request, next_txn, begun_by}
+use Rattle.run_model.specs.Commands.{next_txn, begun_by}
 use Rattle.run_model.specs.AnsweredLines.{made_by, own_writes, answered_from, answered_lines}
 use Rattle.run_model.specs.Inputs.{Inputs}
 use Rattle.run_model.specs.Run.{HasFiles}
@@ -34,7 +34,7 @@ use Rattle.serial_runner.specs.SerialRuns.{aborting}
 lines_front : (txn : ℕ) (cs : List Command) (ys : List Answer) (x : Command) → answered_from txn (slice_set cs (length ys) x) ys ≡ answered_from txn cs ys
 lines_front txn [] ys x = refl
 lines_front txn (c ∷ cs) [] x = refl
-lines_front txn (c ∷ cs) (y ∷ ys) x = ap (λ ls. record { txn = next_txn txn (request c); command = c; answer = y } ∷ ls) (lines_front (next_txn txn (request c)) cs ys x)
+lines_front txn (c ∷ cs) (y ∷ ys) x = ap (λ ls. record { txn = next_txn txn c; command = c; answer = y } ∷ ls) (lines_front (next_txn txn c) cs ys x)
 
 pub left_set : (cs : List Command) (ys : List Answer) (c : Command) (rest : List Command) (x : Command) → drop (length ys) cs ≡ c ∷ rest → drop (length ys) (slice_set cs (length ys) x) ≡ x ∷ rest
 left_set [] [] c rest x e = cc
@@ -48,11 +48,11 @@ left_set (d ∷ cs) (y ∷ ys) c rest x e = left_set cs ys c rest x e
 begun_set : (n : ℕ) (cs : List Command) (ys : List Answer) (rest : List Command) → drop (length ys) cs ≡ commands.Commit ∷ rest → begun_by n (slice_set cs (length ys) commands.Abort) ≡ begun_by n cs
 begun_set n [] [] rest e = cc
 begun_set n [] (y ∷ ys) rest e = cc
-begun_set n (d ∷ cs) [] rest e = let is : d ≡ commands.Commit = heads e in ap (λ x. begun_by (next_txn n (request x)) cs) (sym is)
+begun_set n (d ∷ cs) [] rest e = let is : d ≡ commands.Commit = heads e in ap (λ x. begun_by (next_txn n x) cs) (sym is)
   where
     heads : d ∷ cs ≡ commands.Commit ∷ rest → d ≡ commands.Commit
     heads e = cc
-begun_set n (d ∷ cs) (y ∷ ys) rest e = begun_set (next_txn n (request d)) cs ys rest e
+begun_set n (d ∷ cs) (y ∷ ys) rest e = begun_set (next_txn n d) cs ys rest e
 
 -- one of the scripts under way
 seats_here : (ps : List PassState) (js : List Progress) (k : ℕ) (pass : PassState) (job : Progress) → slice_get ps k ≡ Some pass → seats ps (slice_set js k job) ≡ slice_set (seats ps js) k (job_at pass job)
@@ -62,7 +62,7 @@ seats_here (q ∷ ps) (u ∷ js) zero pass job at = let same : q ≡ pass = some
 seats_here (q ∷ ps) (u ∷ js) (suc k) pass job at = ap (λ xs. job_at q u ∷ xs) (seats_here ps js k pass job at)
 
 -- a line that commits reads nothing
-reads_none : (g : Graph) (reading : Option Reading) (r : Request) → IfSome reading (IsReading g ToCommit) → IfSome reading (IsReading g r)
+reads_none : (g : Graph) (reading : Option Reading) (r : Command) → IfSome reading (IsReading g commands.Commit) → IfSome reading (IsReading g r)
 reads_none g None r is = tt
 reads_none g (Some (readings.Scan scan)) r is = absurd is.result
 reads_none g (Some (readings.Replay kept turns)) r is = absurd is.1
@@ -120,7 +120,7 @@ module _ (inputs : Inputs) (core : Core) (jobs : List Progress) (u : AreUnderWay
         ∙ sym (ap (begun_by pass.begun) left) ∙ tied.begins ∙ sym (begun_set 0 job.commands job.answers rest left);
     room = subst (λ cs. begun_by pass.begun cs ≤ pass.allowed) (sym (left_set job.commands job.answers commands.Commit rest commands.Abort left))
         (subst (λ cs. begun_by pass.begun cs ≤ pass.allowed) left tied.room);
-    reads = λ c more e. reads_none (view_of_pass core pass) job.reading (request c) (tied.reads commands.Commit rest left);
+    reads = λ c more e. reads_none (view_of_pass core pass) job.reading c (tied.reads commands.Commit rest left);
     small = tied.small;
     kept = tied.kept;
     files = subst (λ ls. HasFiles (files_context core) [] ls (map file_of job.tables)) (sym lines_same) tied.files;

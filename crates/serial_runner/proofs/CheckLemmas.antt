@@ -17,7 +17,7 @@ use Rattle.graph_model.specs.Effects.{arc_keys, keys_of}
 use Rattle.graph_model.specs.Conflict.{greatest}
 use Rattle.graph_model.specs.OwnerCalls.{PassState, Core}
 use Rattle.run_model.specs.declared.command.Command.{Command}
-use Rattle.run_model.specs.Requests.{Request, ToBegin, ToCommit, ToAbort, ToWrite, ToRead, ToRun, request}
+use Rattle.run_model.specs.declared.command.Command.TheVariants as commands
 use Rattle.run_model.specs.AnsweredLines.{of_txn}
 use Rattle.run_model.specs.Jobs.{JobState, start_of_job}
 use Rattle.serial_model.specs.Footprints.{depends, footprint, writes_in, later_in, newest_in}
@@ -80,7 +80,7 @@ module _ (core : Core) (legal : IsLegal core.kind core.journal) (pass : PassStat
   none_of true = refl
   none_of false = refl
 
-  commit_same : request c ≡ ToCommit → cond j.skipping None (newest_against core.kind core.journal j j.own) ≡ refusal_since core.kind core.journal (writing_since pass) ranges
+  commit_same : c ≡ commands.Commit → cond j.skipping None (newest_against core.kind core.journal j j.own) ≡ refusal_since core.kind core.journal (writing_since pass) ranges
   commit_same is = by_own pass.own refl
     where
       covered : (q : Key) → IsRowKey q → footprint core.kind (of_txn j.begun j.lines) q ≡ covers ranges q
@@ -89,7 +89,7 @@ module _ (core : Core) (legal : IsLegal core.kind core.journal) (pass : PassStat
           ∙ ap (λ r. footprint core.kind (of_txn j.begun j.lines) q || (nat_lt 0 j.taken && depends_of r q)) is
           ∙ nothing (footprint core.kind (of_txn j.begun j.lines) q) (nat_lt 0 j.taken))
         where
-          depends_of : Request → Key → Bool
+          depends_of : Command → Key → Bool
           depends_of r q = depends core.kind r q
 
           nothing : (f t : Bool) → (f || (t && false)) ≡ f
@@ -121,10 +121,10 @@ module _ (core : Core) (legal : IsLegal core.kind core.journal) (pass : PassStat
           ∙ ap (λ b. refusal_since core.kind core.journal (cond b None pass.start) ranges) (some_own w ws))
 
   -- by ranges and by lines a line is refused for the same commit
-  pub refusal_same : (r : Request) → request c ≡ r → refusal_of_line core.kind core.journal j r ≡ refusal_by core pass ranges r
-  refusal_same ToCommit is = commit_same is
-  refusal_same ToBegin is = none_of j.skipping
-  refusal_same ToAbort is = none_of j.skipping
-  refusal_same (ToWrite w) is = none_of j.skipping
-  refusal_same (ToRead query) is = none_of j.skipping
-  refusal_same (ToRun kernel file) is = none_of j.skipping
+  pub refusal_same : (r : Command) → c ≡ r → refusal_of_line core.kind core.journal j r ≡ refusal_by core pass ranges r
+  refusal_same commands.Commit is = commit_same is
+  refusal_same commands.Begin is = none_of j.skipping
+  refusal_same commands.Abort is = none_of j.skipping
+  refusal_same (commands.Write w) is = none_of j.skipping
+  refusal_same (commands.Read query) is = none_of j.skipping
+  refusal_same (commands.Run kernel file) is = none_of j.skipping

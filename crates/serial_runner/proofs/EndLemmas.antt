@@ -14,7 +14,7 @@ use Rattle.graph_model.proofs.HistoryLemmas.{get_within}
 use Rattle.run_model.specs.declared.command.Command.{Command}
 use Rattle.run_model.specs.declared.answer.Answer.{Answer}
 use Rattle.run_model.specs.declared.answer.Answer.TheVariants as answers
-use Rattle.run_model.specs.Requests.{request, next_txn, begun_by}
+use Rattle.run_model.specs.Commands.{next_txn, begun_by}
 use Rattle.run_model.specs.AnsweredLines.{AnsweredLine, effect, of_txn, own_writes, snapshot}
 use Rattle.run_model.specs.Answering.{IsKernelTable}
 use Rattle.run_model.specs.Inputs.{Inputs, AreInputs, File}
@@ -194,7 +194,7 @@ whole_scripts (j ∷ jobs) e =
 
 begun_read : (n : ℕ) (ls : List AnsweredLine) → begun_by n (map (λ (l : AnsweredLine). l.command) (map line_read ls)) ≡ begun_by n (map (λ (l : AnsweredLine). l.command) ls)
 begun_read n [] = refl
-begun_read n (l ∷ ls) = ap (λ m. begun_by m (map (λ (x : AnsweredLine). x.command) (map line_read ls))) (next_read_one l n) ∙ begun_read (next_txn n (request l.command)) ls
+begun_read n (l ∷ ls) = ap (λ m. begun_by m (map (λ (x : AnsweredLine). x.command) (map line_read ls))) (next_read_one l n) ∙ begun_read (next_txn n l.command) ls
 
 tables_anew : (checks : List Check) (jobs : List Progress) → map (λ (job : Progress). map file_of job.tables) (jobs_anew checks jobs) ≡ map (λ (job : Progress). map file_of job.tables) jobs
 tables_anew [] jobs = refl

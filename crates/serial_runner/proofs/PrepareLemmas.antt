@@ -8,12 +8,11 @@ use Rattle.graph_model.proofs.LegalLemmas.{below_length}
 use Rattle.graph_model.proofs.PlaceLemmas.{some_eq}
 use Rattle.run_model.specs.declared.command.Command.{Command}
 use Rattle.run_model.specs.declared.command.Command.TheVariants as commands
-use Rattle.run_model.specs.Requests.{Request, ToBegin, ToCommit, ToAbort, ToWrite, ToRead, ToRun, request, IsRequest, IsScript}
+use Rattle.run_model.specs.Commands.{IsCommand, IsScript}
 use Rattle.run_model.specs.Inputs.{Inputs}
 use Rattle.run_model.specs.Jobs.{is_empty}
 use Rattle.run_model.specs.Stepped.{turn_at}
 use Rattle.run_model.proofs.SetLemmas.{get_set}
-use Rattle.run_model.proofs.AnswerLemmas.{asks_commit}
 use Rattle.job_runner.specs.LineRunner.Scanning.{too_many_turns, taken_of}
 use Rattle.job_runner.specs.Progress.{Progress, left_of, has_given_up, is_over}
 use Rattle.job_runner.specs.LineRunner.Phases.{is_skipping}
@@ -33,16 +32,16 @@ use Rattle.serial_runner.proofs.StateLemmas.{extends_none}
 use Rattle.serial_runner.proofs.TurnLemmas as turned
 
 -- a line that is refused commits
-refusal_asks : (core : Core) (pass : PassState) (ranges : List KeyRange) (stamp : ℕ) (r : Request) → refusal_by core pass ranges r ≡ Some stamp → r ≡ ToCommit
-refusal_asks core pass ranges stamp ToBegin e = cc
-refusal_asks core pass ranges stamp ToCommit e = refl
-refusal_asks core pass ranges stamp ToAbort e = cc
-refusal_asks core pass ranges stamp (ToWrite w) e = cc
-refusal_asks core pass ranges stamp (ToRead query) e = cc
-refusal_asks core pass ranges stamp (ToRun kernel file) e = cc
+refusal_asks : (core : Core) (pass : PassState) (ranges : List KeyRange) (stamp : ℕ) (r : Command) → refusal_by core pass ranges r ≡ Some stamp → r ≡ commands.Commit
+refusal_asks core pass ranges stamp commands.Begin e = cc
+refusal_asks core pass ranges stamp commands.Commit e = refl
+refusal_asks core pass ranges stamp commands.Abort e = cc
+refusal_asks core pass ranges stamp (commands.Write w) e = cc
+refusal_asks core pass ranges stamp (commands.Read query) e = cc
+refusal_asks core pass ranges stamp (commands.Run kernel file) e = cc
 
 -- another line is refused by none
-pub refusal_none : (core : Core) (pass : PassState) (ranges : List KeyRange) (r : Request) → is_commit r ≡ false → refusal_by core pass ranges r ≡ None
+pub refusal_none : (core : Core) (pass : PassState) (ranges : List KeyRange) (r : Command) → is_commit r ≡ false → refusal_by core pass ranges r ≡ None
 refusal_none core pass ranges r e = ap (λ b. cond b (refusal_since core.kind core.journal (writing_since pass) ranges) None) e
 
 -- a job that is over isn't prepared
@@ -55,7 +54,7 @@ prepares_none core jobs k check over = record {
 -- one with this line at hand is
 pub prepares : (core : Core) (jobs : List Progress) (k : ℕ) (job : Progress) → slice_get jobs k ≡ Some job → is_over job ≡ false → (c : Command) (rest : List Command) → left_of job ≡ c ∷ rest
     → (check : Check) (mid : List Progress) (after : Check) (prepared : Progress) → mid ≡ slice_set jobs k prepared
-    → PreparesLine core.kind (request c) (refusal_by core (pass_at core (suc k)) check.footprint.items (request c)) job check prepared after → Prepares core jobs k check mid after
+    → PreparesLine core.kind c (refusal_by core (pass_at core (suc k)) check.footprint.items c) job check prepared after → Prepares core jobs k check mid after
 prepares core jobs k job there going c rest left check mid after prepared is prep = record {
   over = λ other at done. absurd (true≢false (sym done ∙ ap is_over (some_eq other job (sym at ∙ there)) ∙ going));
   line = λ other d more at _ e.
@@ -63,61 +62,61 @@ prepares core jobs k job there going c rest left check mid after prepared is pre
       let head : c ≡ d = heads c d rest more (sym left ∙ ap left_of same ∙ e) in (
         prepared,
         is,
-        subst (λ (x : Progress). PreparesLine core.kind (request d) (refusal_by core (pass_at core (suc k)) check.footprint.items (request d)) x check prepared after) same
-            (subst (λ x. PreparesLine core.kind (request x) (refusal_by core (pass_at core (suc k)) check.footprint.items (request x)) job check prepared after) head prep),
+        subst (λ (x : Progress). PreparesLine core.kind d (refusal_by core (pass_at core (suc k)) check.footprint.items d) x check prepared after) same
+            (subst (λ x. PreparesLine core.kind x (refusal_by core (pass_at core (suc k)) check.footprint.items x) job check prepared after) head prep),
       );
 }
 
 -- a line that is refused by none leaves the jobs
 pub prepares_line : (core : Core) (jobs : List Progress) (k : ℕ) (job : Progress) → slice_get jobs k ≡ Some job → is_over job ≡ false → (c : Command) (rest : List Command) → left_of job ≡ c ∷ rest
-    → (check after : Check) → is_commit (request c) ≡ false → after.refused ≡ check.refused → Extends core.kind (request c) check.footprint.items after.footprint.items → Prepares core jobs k check jobs after
+    → (check after : Check) → is_commit c ≡ false → after.refused ≡ check.refused → Extends core.kind c check.footprint.items after.footprint.items → Prepares core jobs k check jobs after
 prepares_line core jobs k job there going c rest left check after other kept extends =
     prepares core jobs k job there going c rest left check jobs after job (sym (set_same jobs k job there))
-    (subst (λ o. PreparesLine core.kind (request c) o job check job after) (sym (refusal_none core (pass_at core (suc k)) check.footprint.items (request c) other)) (refl, kept, extends))
+    (subst (λ o. PreparesLine core.kind c o job check job after) (sym (refusal_none core (pass_at core (suc k)) check.footprint.items c other)) (refl, kept, extends))
 
 -- a line that commits, as the code hands it on
 pub prepares_commit : (core : Core) (jobs : List Progress) (k : ℕ) (job : Progress) → slice_get jobs k ≡ Some job → is_over job ≡ false → (c : Command) (rest : List Command) → left_of job ≡ c ∷ rest
-    → is_commit (request c) ≡ true → (number : ℕ) → number ≡ suc k → (check : Check) (mid : List Progress) (after : Check) (prepared : Progress) → mid ≡ slice_set jobs k prepared
-    → PreparesLine core.kind ToCommit (refusal_by core (pass_at core number) check.footprint.items ToCommit) job check prepared after → Prepares core jobs k check mid after
+    → is_commit c ≡ true → (number : ℕ) → number ≡ suc k → (check : Check) (mid : List Progress) (after : Check) (prepared : Progress) → mid ≡ slice_set jobs k prepared
+    → PreparesLine core.kind commands.Commit (refusal_by core (pass_at core number) check.footprint.items commands.Commit) job check prepared after → Prepares core jobs k check mid after
 prepares_commit core jobs k job there going c rest left commits number place check mid after prepared is prep =
     prepares core jobs k job there going c rest left check mid after prepared is
-    (subst (λ r. PreparesLine core.kind r (refusal_by core (pass_at core (suc k)) check.footprint.items r) job check prepared after) (sym (commit_asked (request c) commits))
-    (subst (λ n. PreparesLine core.kind ToCommit (refusal_by core (pass_at core n) check.footprint.items ToCommit) job check prepared after) place prep))
+    (subst (λ r. PreparesLine core.kind r (refusal_by core (pass_at core (suc k)) check.footprint.items r) job check prepared after) (sym (commit_asked c commits))
+    (subst (λ n. PreparesLine core.kind commands.Commit (refusal_by core (pass_at core n) check.footprint.items commands.Commit) job check prepared after) place prep))
   where
-    commit_asked : (r : Request) → is_commit r ≡ true → r ≡ ToCommit
-    commit_asked ToBegin e = cc
-    commit_asked ToCommit e = refl
-    commit_asked ToAbort e = cc
-    commit_asked (ToWrite w) e = cc
-    commit_asked (ToRead query) e = cc
-    commit_asked (ToRun kernel file) e = cc
+    commit_asked : (r : Command) → is_commit r ≡ true → r ≡ commands.Commit
+    commit_asked commands.Begin e = cc
+    commit_asked commands.Commit e = refl
+    commit_asked commands.Abort e = cc
+    commit_asked (commands.Write w) e = cc
+    commit_asked (commands.Read query) e = cc
+    commit_asked (commands.Run kernel file) e = cc
 
 -- no commit stands against a `commit`
-pub commit_waits : (core : Core) (pass : PassState) (jobs : List Progress) (k : ℕ) (check after : Check) → refusal_by core pass check.footprint.items ToCommit ≡ None → after.refused ≡ check.refused → after.footprint.items ≡ check.footprint.items
+pub commit_waits : (core : Core) (pass : PassState) (jobs : List Progress) (k : ℕ) (check after : Check) → refusal_by core pass check.footprint.items commands.Commit ≡ None → after.refused ≡ check.refused → after.footprint.items ≡ check.footprint.items
     → (job : Progress) → slice_get jobs k ≡ Some job
-    → (prepared : Progress) × (jobs ≡ slice_set jobs k prepared) × PreparesLine core.kind ToCommit (refusal_by core pass check.footprint.items ToCommit) job check prepared after
+    → (prepared : Progress) × (jobs ≡ slice_set jobs k prepared) × PreparesLine core.kind commands.Commit (refusal_by core pass check.footprint.items commands.Commit) job check prepared after
 commit_waits core pass jobs k check after none kept same job at = (
   job,
   sym (set_same jobs k job at),
-  subst (λ o. PreparesLine core.kind ToCommit o job check job after) (sym none) (refl, kept, extends_none core.kind check.footprint.items after.footprint.items same),
+  subst (λ o. PreparesLine core.kind commands.Commit o job check job after) (sym none) (refl, kept, extends_none core.kind check.footprint.items after.footprint.items same),
 )
 
 -- one does
-pub commit_aborts : (core : Core) (pass : PassState) (jobs mid : List Progress) (k : ℕ) (check after : Check) (line stamp : ℕ) → refusal_by core pass check.footprint.items ToCommit ≡ Some stamp
+pub commit_aborts : (core : Core) (pass : PassState) (jobs mid : List Progress) (k : ℕ) (check after : Check) (line stamp : ℕ) → refusal_by core pass check.footprint.items commands.Commit ≡ Some stamp
     → after.refused ≡ check.refused ++ record { line = line; stamp = stamp } ∷ [] → after.footprint.items ≡ check.footprint.items
     → ((job : Progress) → slice_get jobs k ≡ Some job → line ≡ length job.answers) → ((job : Progress) → slice_get jobs k ≡ Some job → mid ≡ slice_set jobs k (aborting job))
     → (job : Progress) → slice_get jobs k ≡ Some job
-    → (prepared : Progress) × (mid ≡ slice_set jobs k prepared) × PreparesLine core.kind ToCommit (refusal_by core pass check.footprint.items ToCommit) job check prepared after
+    → (prepared : Progress) × (mid ≡ slice_set jobs k prepared) × PreparesLine core.kind commands.Commit (refusal_by core pass check.footprint.items commands.Commit) job check prepared after
 commit_aborts core pass jobs mid k check after line stamp some noted same counted aborts job at = (
   aborting job,
   aborts job at,
-  subst (λ o. PreparesLine core.kind ToCommit o job check (aborting job) after) (sym some)
+  subst (λ o. PreparesLine core.kind commands.Commit o job check (aborting job) after) (sym some)
       (refl, noted ∙ ap (λ n. check.refused ++ record { line = n; stamp = stamp } ∷ []) (counted job at), same),
 )
 
 -- the line at hand is one that a script may have
 pub is_request : (inputs : Inputs) (core : Core) (jobs : List Progress) → AreUnderWay inputs core jobs → (k : ℕ) (job : Progress) → slice_get jobs k ≡ Some job → (c : Command) (rest : List Command) → left_of job ≡ c ∷ rest
-    → IsRequest (request c)
+    → IsCommand c
 is_request inputs core jobs u k job there c rest left =
     (subst (IsScript (Some (is_skipping job.phase || is_some (pass_at core (suc k)).start))) left (ties.its inputs core jobs u k job there).script).0
 
@@ -163,8 +162,8 @@ takes_service core jobs checks number service ended new next turns goes = record
 -- how the job was prepared: it was over, or its line was looked at
 pub data Was (core : Core) (jobs : List Progress) (k : ℕ) (job : Progress) (check : Check) (mid : List Progress) (after : Check) : Type 0 where
   Over : is_over job ≡ true → mid ≡ jobs → after ≡ check → Was core jobs k job check mid after
-  Line : is_over job ≡ false → (c : Command) → (rest : List Command) → left_of job ≡ c ∷ rest → (o : Option ℕ) → refusal_by core (pass_at core (suc k)) check.footprint.items (request c) ≡ o
-      → (prepared : Progress) → mid ≡ slice_set jobs k prepared → PreparesLine core.kind (request c) o job check prepared after → Was core jobs k job check mid after
+  Line : is_over job ≡ false → (c : Command) → (rest : List Command) → left_of job ≡ c ∷ rest → (o : Option ℕ) → refusal_by core (pass_at core (suc k)) check.footprint.items c ≡ o
+      → (prepared : Progress) → mid ≡ slice_set jobs k prepared → PreparesLine core.kind c o job check prepared after → Was core jobs k job check mid after
 
 module _ (core : Core) (jobs : List Progress) (k : ℕ) (job : Progress) (there : slice_get jobs k ≡ Some job) (check : Check) (mid : List Progress) (after : Check) where
   pub was : Prepares core jobs k check mid after → Was core jobs k job check mid after
@@ -175,10 +174,10 @@ module _ (core : Core) (jobs : List Progress) (k : ℕ) (job : Progress) (there 
       by_over false e =
           let hand = at_hand core jobs k job there e in
           let a = prep.line job hand.0 hand.1 there e hand.2 in
-          Line e hand.0 hand.1 hand.2 (refusal_by core (pass_at core (suc k)) check.footprint.items (request hand.0)) refl a.0 a.1 a.2
+          Line e hand.0 hand.1 hand.2 (refusal_by core (pass_at core (suc k)) check.footprint.items hand.0) refl a.0 a.1 a.2
 
   -- a job that is prepared has as much left
-  prepared_left : (c : Command) (rest : List Command) → left_of job ≡ c ∷ rest → (o : Option ℕ) (prepared : Progress) → PreparesLine core.kind (request c) o job check prepared after
+  prepared_left : (c : Command) (rest : List Command) → left_of job ≡ c ∷ rest → (o : Option ℕ) (prepared : Progress) → PreparesLine core.kind c o job check prepared after
       → (turns_left prepared ≡ turns_left job) × (is_over prepared ≡ is_over job)
   prepared_left c rest left None prepared prep = (ap turns_left prep.0, ap is_over prep.0)
   prepared_left c rest left (Some stamp) prepared prep =
@@ -209,7 +208,7 @@ module _ (core : Core) (jobs : List Progress) (k : ℕ) (job : Progress) (there 
   mid_ready (Line going c rest left None e prepared is prep) inputs u =
       (inputs, subst (AreUnderWay inputs core) (sym (is ∙ ap (slice_set jobs k) prep.0 ∙ set_same jobs k job there)) u)
   mid_ready (Line going c rest left (Some stamp) e prepared is prep) inputs u =
-      let commits : left_of job ≡ commands.Commit ∷ rest = left ∙ ap (λ x. x ∷ rest) (asks_commit c (refusal_asks core (pass_at core (suc k)) check.footprint.items stamp (request c) e)) in
+      let commits : left_of job ≡ commands.Commit ∷ rest = left ∙ ap (λ x. x ∷ rest) (refusal_asks core (pass_at core (suc k)) check.footprint.items stamp c e) in
       (abort.inputs' inputs core jobs u k job there rest commits, subst (AreUnderWay (abort.inputs' inputs core jobs u k job there rest commits) core) (sym (is ∙ ap (slice_set jobs k) prep.0)) (abort.abort_under_way inputs core jobs u k job there rest commits))
 
   -- the turn leaves fewer turns

@@ -13,7 +13,7 @@ use Rattle.run_model.specs.declared.command.Command.{Command}
 use Rattle.run_model.specs.declared.command.Command.TheVariants as commands
 use Rattle.run_model.specs.declared.answer.Answer.{Answer}
 use Rattle.run_model.specs.declared.answer.Answer.TheVariants as answers
-use Rattle.run_model.specs.Requests.{request, next_txn}
+use Rattle.run_model.specs.Commands.{next_txn}
 use Rattle.run_model.specs.AnsweredLines.{answered_from}
 use Rattle.run_model.specs.Inputs.{Inputs}
 use Rattle.run_model.specs.Run.{MayFill}
@@ -21,7 +21,6 @@ use Rattle.run_model.specs.Jobs.{JobState, RunState, lines_so_far, ends, answere
 use Rattle.run_model.specs.Stepped.{turn_at, service_turns, context_in}
 use Rattle.run_model.specs.UnderWay.{AreNumbered, IsJob}
 use Rattle.run_model.proofs.SetLemmas.{get_set, get_set_else, set_cases, get_map, map_get}
-use Rattle.run_model.proofs.AnswerLemmas.{asks_commit}
 use Rattle.job_runner.specs.Progress.{Progress, left_of, job_at, state_of}
 use Rattle.job_runner.specs.Runs.{under_way, Turns}
 use Rattle.job_runner.proofs.RunLemmas.{ended_is}
@@ -54,7 +53,7 @@ pub answered_count : (txn : ℕ) (cs : List Command) (ys : List Answer) → leng
 answered_count txn [] [] le = refl
 answered_count txn [] (y ∷ ys) le = absurd (omega (arith, le))
 answered_count txn (c ∷ cs) [] le = refl
-answered_count txn (c ∷ cs) (y ∷ ys) le = ap suc (answered_count (next_txn txn (request c)) cs ys (omega (arith, le)))
+answered_count txn (c ∷ cs) (y ∷ ys) le = ap suc (answered_count (next_txn txn c) cs ys (omega (arith, le)))
 
 not_over : (n : ℕ) → 0 < n → (n == 0) ≡ false
 not_over n lt = grind (arith, nat_tests)
@@ -179,13 +178,13 @@ module _ (inputs : Inputs) (schedule : List ℕ) (first : Core) (n : ℕ) (core 
         legal : IsLegal core.kind core.journal
         legal = subst (λ kind. IsLegal kind core.journal) (sym u.under.kind) u.under.state.transactions.legal
 
-        refusal_is : refusal_of_line inputs.kind s.journal j (request c) ≡ refusal_by core (pass_at core (suc k)) check.footprint.items (request c)
+        refusal_is : refusal_of_line inputs.kind s.journal j c ≡ refusal_by core (pass_at core (suc k)) check.footprint.items c
         refusal_is =
-            (λ i. refusal_of_line (sym kind_is i) (journal_is i) j (request c))
+            (λ i. refusal_of_line (sym kind_is i) (journal_is i) j c)
             ∙ refusal_same core legal (pass_at core (suc k)) j (ap (λ (x : JobState). x.own) script_at.2) (ap (λ (x : JobState). x.start) script_at.2)
             (λ e. ap (λ (x : JobState). x.own) script_at.2 ∙ its.idle (sym (ap (λ (x : JobState). x.start) script_at.2) ∙ e))
             (λ e. ap (λ (x : JobState). x.start) script_at.2 ∙ its.closed (sym (ap (λ (x : JobState). x.skipping) script_at.2) ∙ e))
-            check.footprint.items c rest cons (subst (λ kind. IsFootprintOf kind j check.footprint.items) (sym kind_is) tie) (request c) refl
+            check.footprint.items c rest cons (subst (λ kind. IsFootprintOf kind j check.footprint.items) (sym kind_is) tie) c refl
 
         -- what the checks have to be behind another state of this script
         feet_behind : (next : JobState) → IsFootprintOf inputs.kind next new_check.footprint.items → (i : ℕ) (x : JobState) (y : Check) → slice_get (slice_set s.jobs k next) i ≡ Some x → slice_get after i ≡ Some y → IsFootprintOf inputs.kind x y.footprint.items
@@ -203,13 +202,13 @@ module _ (inputs : Inputs) (schedule : List ℕ) (first : Core) (n : ℕ) (core 
             ∙ sym (map_slice_set (λ (x : JobState). refused_from 0 x.lines) s.jobs k next)
 
         -- one that isn't refused
-        pub line_turn : refusal_by core (pass_at core (suc k)) check.footprint.items (request c) ≡ None → (prepared : Progress) → PreparesLine core.kind (request c) None job check prepared new_check
+        pub line_turn : refusal_by core (pass_at core (suc k)) check.footprint.items c ≡ None → (prepared : Progress) → PreparesLine core.kind c None job check prepared new_check
             → (ended : Bool) (new : Core) (next : List Progress) → Turns core jobs number ended new next → length next ≡ length jobs → IsUnderCheck inputs schedule first (suc n) new next after
         line_turn none prepared prep ended new next turns next_count =
             let goes = turn_goes inputs.kind s k turns.full j at c rest cons in
             let jobs_are : (turn inputs.kind s number turns.full).jobs ≡ slice_set s.jobs k goes.0 = ap (λ m. (turn inputs.kind s m turns.full).jobs) is ∙ goes.1 in
             let covers_now : CoversWith inputs.kind j c new_check.footprint.items =
-            foot_extended inputs.kind j c rest check.footprint.items new_check.footprint.items cons numbered tie (subst (λ kind. Extends kind (request c) check.footprint.items new_check.footprint.items) kind_is prep.2) in
+            foot_extended inputs.kind j c rest check.footprint.items new_check.footprint.items cons numbered tie (subst (λ kind. Extends kind c check.footprint.items new_check.footprint.items) kind_is prep.2) in
             plain_turn ended new next turns next_count after
             (ap (λ m. serial_turn inputs.kind s m turns.full) is
             ∙ ap (λ x. serial_at inputs.kind s k x (turn inputs.kind s (suc k) turns.full)) at
@@ -224,12 +223,12 @@ module _ (inputs : Inputs) (schedule : List ℕ) (first : Core) (n : ℕ) (core 
             same_refs next (states.Answers a not has) = sym (ap (refused_from 0) has.lines ∙ refused_same j.lines _ not)
 
         -- one that is: the job aborts
-        pub refused_turn : (stamp : ℕ) → refusal_by core (pass_at core (suc k)) check.footprint.items (request c) ≡ Some stamp → (prepared : Progress) → PreparesLine core.kind (request c) (Some stamp) job check prepared new_check
+        pub refused_turn : (stamp : ℕ) → refusal_by core (pass_at core (suc k)) check.footprint.items c ≡ Some stamp → (prepared : Progress) → PreparesLine core.kind c (Some stamp) job check prepared new_check
             → (ended : Bool) (new : Core) (next : List Progress) → Turns core (slice_set jobs k prepared) number ended new next → length next ≡ length jobs → IsUnderCheck inputs schedule first (suc n) new next after
         refused_turn stamp e prepared prep ended new next turns next_count =
-            let refusal : refusal_of_line inputs.kind s.journal j (request c) ≡ Some stamp = refusal_is ∙ e in
-            let parts = refusal_parts inputs.kind s.journal j stamp (request c) refusal in
-            let commit : c ≡ commands.Commit = asks_commit c parts.0 in
+            let refusal : refusal_of_line inputs.kind s.journal j c ≡ Some stamp = refusal_is ∙ e in
+            let parts = refusal_parts inputs.kind s.journal j stamp c refusal in
+            let commit : c ≡ commands.Commit = parts.0 in
             let commits : left_of job ≡ commands.Commit ∷ rest = left ∙ ap (λ x. x ∷ rest) commit in
             let behind = abort.abort_under_way u.read core jobs u.under k job there rest commits in
             let turned : Turns core (abort.jobs' u.read core jobs u.under k job there rest commits) number ended new next = subst (λ x. Turns core (slice_set jobs k x) number ended new next) prep.0 turns in
@@ -258,7 +257,7 @@ module _ (inputs : Inputs) (schedule : List ℕ) (first : Core) (n : ℕ) (core 
               refused = refs_behind (refused_job j c rest stamp) (prep.1 ∙ (λ i. old_refs i ++ record { line = lines_count i; stamp = stamp } ∷ []) ∙ sym (refused_one j.lines _ (refused_so commit)));
               feet = feet_behind (refused_job j c rest stamp) (foot_answered inputs.kind j c rest (answers.Conflict (Later stamp)) (refused_job j c rest stamp) new_check.footprint.items
                   (record { lines = refl; left = refl; taken = refl; begun = refl })
-                  (foot_extended inputs.kind j c rest check.footprint.items new_check.footprint.items cons numbered tie (subst (λ x. Extends inputs.kind (request x) check.footprint.items new_check.footprint.items) (sym commit) (extends_none inputs.kind check.footprint.items new_check.footprint.items prep.2))));
+                  (foot_extended inputs.kind j c rest check.footprint.items new_check.footprint.items cons numbered tie (subst (λ x. Extends inputs.kind x check.footprint.items new_check.footprint.items) (sym commit) (extends_none inputs.kind check.footprint.items new_check.footprint.items prep.2))));
               leaves = turned.leaves ∙ u.leaves;
               served = λ small. turned.served ∙ (λ i. cond (sym whose i == 0) (one_more core.served) core.served)
                   ∙ counted (turn_at (length inputs.scripts) schedule n == 0) core.served (service_turns (length inputs.scripts) schedule n) (u.served small);

@@ -9,7 +9,7 @@ use Rattle.run_model.specs.declared.command.Command.{Command}
 use Rattle.run_model.specs.declared.command.Command.TheVariants.{Abort}
 use Rattle.run_model.specs.declared.answer.Answer.{Answer}
 use Rattle.run_model.specs.declared.answer.Answer.TheVariants.{Conflict}
-use Rattle.run_model.specs.Requests.{Request, ToBegin, ToCommit, ToAbort, ToWrite, ToRead, ToRun, request}
+use Rattle.run_model.specs.declared.command.Command.TheVariants as commands
 use Rattle.run_model.specs.AnsweredLines.{AnsweredLine, effect, of_txn}
 use Rattle.run_model.specs.Inputs.{Inputs}
 use Rattle.run_model.specs.Jobs.{JobState, RunState, first_state}
@@ -38,7 +38,7 @@ refused_from place (l ∷ ls) =
 -- the footprint of the line at hand
 abbrev pub depends_at_hand : Kind → List Command → Key → Bool
 depends_at_hand kind [] q = false
-depends_at_hand kind (c ∷ cs) q = depends kind (request c) q
+depends_at_hand kind (c ∷ cs) q = depends kind c q
 
 -- the ranges cover the footprint of the transaction's lines, and of the line at hand where it has taken a turn
 abbrev pub IsFootprintOf : Kind → JobState → List KeyRange → Type 0
@@ -53,21 +53,21 @@ abbrev pub refusal_since : Kind → List Commit → Option ℕ → List KeyRange
 refusal_since kind journal None ranges = None
 refusal_since kind journal (Some start) ranges = newest_in kind journal start (covers ranges)
 
-abbrev pub refusal_by : Core → PassState → List KeyRange → Request → Option ℕ
+abbrev pub refusal_by : Core → PassState → List KeyRange → Command → Option ℕ
 refusal_by core pass ranges r =
     cond (is_commit r) (refusal_since core.kind core.journal (writing_since pass) ranges) None
 
 -- a line that begins a transaction
-abbrev pub is_begin : Request → Bool
-is_begin ToBegin = true
-is_begin ToCommit = false
-is_begin ToAbort = false
-is_begin (ToWrite w) = false
-is_begin (ToRead query) = false
-is_begin (ToRun kernel file) = false
+abbrev pub is_begin : Command → Bool
+is_begin commands.Begin = true
+is_begin commands.Commit = false
+is_begin commands.Abort = false
+is_begin (commands.Write w) = false
+is_begin (commands.Read query) = false
+is_begin (commands.Run kernel file) = false
 
 -- the ranges behind the line: a transaction begins with none
-pub record Extends (kind : Kind) (r : Request) (old new : List KeyRange) : Type 0 where
+pub record Extends (kind : Kind) (r : Command) (old new : List KeyRange) : Type 0 where
   pub begins : is_begin r ≡ true → new ≡ []
   pub others : is_begin r ≡ false
       → (q : Key) → IsRowKey q → covers new q ≡ (covers old q || depends kind r q)
@@ -77,7 +77,7 @@ abbrev pub aborting : Progress → Progress
 aborting job = record job { commands = slice_set job.commands (length job.answers) Abort }
 
 -- what is done before a line takes a turn: where the line is refused it will abort, and that is noted
-abbrev pub PreparesLine : Kind → Request → Option ℕ → Progress → Check → Progress → Check → Type 0
+abbrev pub PreparesLine : Kind → Command → Option ℕ → Progress → Check → Progress → Check → Type 0
 PreparesLine kind r None job old next new =
     (next ≡ job) × (new.refused ≡ old.refused) × Extends kind r old.footprint.items new.footprint.items
 PreparesLine kind r (Some stamp) job old next new = (next ≡ aborting job)
@@ -91,8 +91,8 @@ pub record Prepares (core : Core) (jobs : List Progress) (k : ℕ) (old : Check)
   pub line : (job : Progress) (c : Command) (rest : List Command) → slice_get jobs k ≡ Some job → is_over job ≡ false
       → left_of job ≡ c ∷ rest
       → (prepared : Progress) × (next ≡ slice_set jobs k prepared)
-      × PreparesLine core.kind (request c)
-      (refusal_by core (pass_at core (suc k)) old.footprint.items (request c)) job old prepared new
+      × PreparesLine core.kind c
+      (refusal_by core (pass_at core (suc k)) old.footprint.items c) job old prepared new
 
 -- nothing was checked of any script
 abbrev pub AreFresh : List Check → Type 0

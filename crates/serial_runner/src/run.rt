@@ -10,7 +10,7 @@ ghost use Rattle.graph_model.specs.OwnerCalls.{Core, pass_at};
 ghost use Rattle.run_model.specs.Inputs.{Inputs};
 ghost use Rattle.job_runner.specs.Progress.{Progress, is_over};
 ghost use Rattle.job_runner.specs.Runs.{AreNew, AreUnderWay, IsStuck, RunIsStuck, Goes, GivesUp, under_way};
-ghost use Rattle.run_model.specs.Requests.{ToCommit, request};
+ghost use Rattle.run_model.specs.declared.command.Command.TheVariants as commands;
 ghost use Rattle.serial_model.specs.SerialRun.{is_commit};
 ghost use Rattle.serial_runner.specs.SerialRuns.{is_begin, AreFresh, IsUnderCheck, TakesCheckedTurn, PreparesLine, Prepares, refusal_since, refusal_by, job_anew, jobs_anew, SerialEnds};
 ghost use Rattle.serial_runner.specs.declared.run.RefusedCommit.{RefusedCommit};
@@ -216,14 +216,14 @@ fn prepare<E: JournalEngine>(
 
 /// Whether the line commits.
 fn is_commit(command: &Command) -> bool
-    ensures { result ≡ is_commit (request command.now) }
+    ensures { result ≡ is_commit command.now }
 {
     matches!(command, Command::Commit)
 }
 
 /// Whether the line begins a transaction.
 fn is_begin(command: &Command) -> bool
-    ensures { result ≡ is_begin (request command.now) }
+    ensures { result ≡ is_begin command.now }
 {
     matches!(command, Command::Begin)
 }
@@ -241,8 +241,8 @@ fn prepare_commit<E: JournalEngine>(
     requires going { (job : Progress) → slice_get jobs.old (number - 1) ≡ Some job → is_over job ≡ false }
     ensures ok { OnOk result ((job : Progress) → slice_get jobs.old (number - 1) ≡ Some job
         → (prepared : Progress) × (jobs.new ≡ slice_set jobs.old (number - 1) prepared)
-        × PreparesLine (E.core engine.now).kind ToCommit
-        (refusal_by (E.core engine.now) (pass_at (E.core engine.now) number) check.old.footprint.items ToCommit)
+        × PreparesLine (E.core engine.now).kind commands.Commit
+        (refusal_by (E.core engine.now) (pass_at (E.core engine.now) number) check.old.footprint.items commands.Commit)
         job check.old prepared check.new) }
     ensures err { OnErr result (jobs.new ≡ jobs.old) }
 {

@@ -18,7 +18,7 @@ use Rattle.run_model.specs.declared.command.Command.{Command}
 use Rattle.run_model.specs.declared.answer.Answer.{Answer}
 use Rattle.run_model.specs.declared.answer.Answer.TheVariants as answers
 use Rattle.run_model.specs.AnsweredLines.{AnsweredLine, answered_from, answered_lines, made_by, own_writes}
-use Rattle.run_model.specs.Requests.{request, next_txn, begun_by}
+use Rattle.run_model.specs.Commands.{next_txn, begun_by}
 use Rattle.run_model.specs.Inputs.{Inputs, AreInputs, File, Outputs}
 use Rattle.run_model.specs.Run.{MadeClash, IsCause, AllAnswered, HasFiles, IsLoad, IsShown, MayFill, answered_scripts, run_lines, context_at, inserted_in, load_stamp, load_commit, txn_name}
 use Rattle.side_runs.specs.ByAccount.{HasRunBy}
@@ -82,8 +82,8 @@ line_there : (txn : ℕ) (cs : List Command) (report : List Answer) → length r
 line_there txn [] [] count i a e = cc
 line_there txn [] (b ∷ report) count i a e = absurd (omega (arith, count))
 line_there txn (c ∷ cs) [] count i a e = cc
-line_there txn (c ∷ cs) (b ∷ report) count zero a e = (record { txn = next_txn txn (request c); command = c; answer = b }, refl, some_eq b a e)
-line_there txn (c ∷ cs) (b ∷ report) count (suc i) a e = line_there (next_txn txn (request c)) cs report (omega (arith, count)) i a e
+line_there txn (c ∷ cs) (b ∷ report) count zero a e = (record { txn = next_txn txn c; command = c; answer = b }, refl, some_eq b a e)
+line_there txn (c ∷ cs) (b ∷ report) count (suc i) a e = line_there (next_txn txn c) cs report (omega (arith, count)) i a e
 
 -- ---- sums
 
@@ -397,7 +397,7 @@ commands_are : (txn : ℕ) (cs : List Command) (report : List Answer) → length
 commands_are txn [] [] count = refl
 commands_are txn [] (a ∷ report) count = refl
 commands_are txn (c ∷ cs) [] count = absurd (omega (arith, count))
-commands_are txn (c ∷ cs) (a ∷ report) count = ap (λ xs. c ∷ xs) (commands_are (next_txn txn (request c)) cs report (omega (arith, count)))
+commands_are txn (c ∷ cs) (a ∷ report) count = ap (λ xs. c ∷ xs) (commands_are (next_txn txn c) cs report (omega (arith, count)))
 
 pub are_made : RunsSideBySideAreMade
 are_made inputs leaves passes outputs given is k cs report e f =

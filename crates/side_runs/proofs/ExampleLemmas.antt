@@ -16,7 +16,7 @@ use Rattle.graph_model.proofs.PlaceLemmas.{some_eq}
 use Rattle.run_model.specs.declared.answer.Answer.{Answer}
 use Rattle.run_model.specs.declared.answer.Answer.TheVariants as answers
 use Rattle.run_model.specs.Inputs.{File}
-use Rattle.run_model.specs.Requests.{ToBegin}
+use Rattle.run_model.specs.declared.command.Command.TheVariants as commands
 use Rattle.run_model.specs.Run.{load_commit, txn_name}
 use Rattle.side_runs.specs.ByAccount.{LineBy, HasRunBy}
 use Rattle.side_runs.specs.SideBySide.{made_at, IsMatched, sum_below, inserted_by_pass}
@@ -32,7 +32,7 @@ still a e = record { seen = ([], e); others = refl }
 abbrev open_pass : ℕ → List Write → Account
 open_pass job own = record (pass_with job (load_commit load ∷ []) (own ∷ []) [] []) { start = Some 1; own = own }
 
-begins : (job : ℕ) → LineBy false (pass_with job (load_commit load ∷ []) [] [] []) ToBegin (answers.Begun (txn_name job 1) 1) [] [] (open_pass job [])
+begins : (job : ℕ) → LineBy false (pass_with job (load_commit load ∷ []) [] [] []) commands.Begin (answers.Begun (txn_name job 1) 1) [] [] (open_pass job [])
 begins job = record {
   now = pass_with job (load_commit load ∷ []) [] [] [];
   waits = still (pass_with job (load_commit load ∷ []) [] [] []) refl;

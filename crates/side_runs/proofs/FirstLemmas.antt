@@ -14,7 +14,8 @@ use Rattle.graph_model.proofs.PlaceLemmas.{some_eq}
 use Rattle.run_model.specs.declared.command.Command.{Command}
 use Rattle.run_model.specs.declared.answer.Answer.{Answer}
 use Rattle.run_model.specs.declared.answer.Answer.TheVariants as answers
-use Rattle.run_model.specs.Requests.{Request, ToBegin, ToCommit, ToAbort, ToWrite, ToRead, ToRun, request, next_txn, IsScript}
+use Rattle.run_model.specs.declared.command.Command.TheVariants as commands
+use Rattle.run_model.specs.Commands.{next_txn, IsScript}
 use Rattle.run_model.specs.AnsweredLines.{AnsweredLine, effect}
 use Rattle.run_model.specs.Answering.{refusal_answer}
 use Rattle.run_model.specs.Inputs.{File}
@@ -49,7 +50,7 @@ module _ (kind : Kind) (load : List Write) (job : ℕ) (journal : List Commit) (
   no_plain a stamp plain some e = let none : stamp ≡ 0 = ap (λ x. (effect x).stamp) (sym e) ∙ plain.stamp in omega (arith, some, none)
 
   by_commit : (now new : Account) (start : ℕ) (given : Option ℕ) (stamp : ℕ) (more : List Commit) → journal ≡ new.seen ++ more → load_stamp load ≤ start → now.start ≡ Some start
-      → LiveLineBy now ToCommit (answers.Committed given) new → answers.Committed given ≡ answers.Committed (Some stamp) → IsBehind stamp
+      → LiveLineBy now commands.Commit (answers.Committed given) new → answers.Committed given ≡ answers.Committed (Some stamp) → IsBehind stamp
   by_commit now new start given stamp more ahead loaded opened (None, same, does) e = absurd (none_given (sym same ∙ e))
     where
       none_given : answers.Committed None ≡ answers.Committed (Some stamp) → ⊥
@@ -64,36 +65,36 @@ module _ (kind : Kind) (load : List Write) (job : ℕ) (journal : List Commit) (
 
   module _ (before : List AnsweredLine) (now : Account) (c : Command) (rest : List Command) (t : Tells kind load job before false now (c ∷ rest)) (a : Answer) (new : Account) (more : List Commit) (ahead : journal ≡ new.seen ++ more)
       (stamp : ℕ) (some : 0 < stamp) (e : a ≡ answers.Committed (Some stamp)) where
-    by_request : (start : ℕ) → now.start ≡ Some start → (r : Request) → LiveLineBy now r a new → IsBehind stamp
-    by_request start opened ToBegin does = absurd (other (sym does.1 ∙ e))
+    by_command : (start : ℕ) → now.start ≡ Some start → (r : Command) → LiveLineBy now r a new → IsBehind stamp
+    by_command start opened commands.Begin does = absurd (other (sym does.1 ∙ e))
       where
         other : answers.Begun (does.0).by (does.0).start ≡ answers.Committed (Some stamp) → ⊥
         other f = cc
-    by_request start opened ToCommit does =
+    by_command start opened commands.Commit does =
         by_commit now new start does.0 stamp more ahead (t.place.started start opened).0 opened (does.0, refl, does.2) (sym does.1 ∙ e)
-    by_request start opened ToAbort does = absurd (other (sym does.0 ∙ e))
+    by_command start opened commands.Abort does = absurd (other (sym does.0 ∙ e))
       where
         other : answers.Aborted ≡ answers.Committed (Some stamp) → ⊥
         other f = cc
-    by_request start opened (ToWrite w) does = absurd (no_write does.1 stamp (sym does.4 ∙ e))
-    by_request start opened (ToRead query) does = absurd (no_plain a stamp (subst IsPlain (sym (does.0 start opened)) (query_plain now.kind (view_of now start) query)) some e)
-    by_request start opened (ToRun kernel file) does = absurd (no_plain a stamp (subst IsPlain (sym (does.0 start opened)) (kernel_plain (view_of now start) kernel)) some e)
+    by_command start opened (commands.Write w) does = absurd (no_write does.1 stamp (sym does.4 ∙ e))
+    by_command start opened (commands.Read query) does = absurd (no_plain a stamp (subst IsPlain (sym (does.0 start opened)) (query_plain now.kind (view_of now start) query)) some e)
+    by_command start opened (commands.Run kernel file) does = absurd (no_plain a stamp (subst IsPlain (sym (does.0 start opened)) (kernel_plain (view_of now start) kernel)) some e)
 
-    behind_live : LiveLineBy now (request c) a new → IsBehind stamp
+    behind_live : LiveLineBy now c a new → IsBehind stamp
     behind_live does = by_start now.start refl
       where
         other : (by : _) (start : ℕ) → answers.Begun by start ≡ answers.Committed (Some stamp) → ⊥
         other by start f = cc
 
         by_start : (s : Option ℕ) → now.start ≡ s → IsBehind stamp
-        by_start (Some start) opened = by_request start opened (request c) does
+        by_start (Some start) opened = by_command start opened c does
         by_start None closed =
             let first = must_begin c rest (subst (λ x. IsScript (Some x) (c ∷ rest)) (ap is_some closed) t.place.script) in
-            let begins : LiveLineBy now ToBegin a new = subst (λ r. LiveLineBy now r a new) first.0 does in
+            let begins : LiveLineBy now commands.Begin a new = subst (λ r. LiveLineBy now r a new) first.0 does in
             absurd (other (begins.0).by (begins.0).start (sym begins.1 ∙ e))
 
   behind_line : (before : List AnsweredLine) (now : Account) (c : Command) (rest : List Command) (skipping : Bool) (a : Answer) (new : Account) (more : List Commit) → journal ≡ new.seen ++ more
-      → Tells kind load job before skipping now (c ∷ rest) → cond skipping ((a ≡ answers.Skipped) × ReadsBy now new) (LiveLineBy now (request c) a new)
+      → Tells kind load job before skipping now (c ∷ rest) → cond skipping ((a ≡ answers.Skipped) × ReadsBy now new) (LiveLineBy now c a new)
       → (stamp : ℕ) → 0 < stamp → a ≡ answers.Committed (Some stamp) → IsBehind stamp
   behind_line before now c rest true a new more ahead t does stamp some e = absurd (other (sym does.0 ∙ e))
     where
@@ -108,11 +109,11 @@ module _ (kind : Kind) (load : List Write) (job : ℕ) (journal : List Commit) (
   behind_lines skipping old [] (a ∷ report) files skips last before more ahead t is i stamp e some = absurd is
   behind_lines skipping old (c ∷ cs) [] files skips last before more ahead t is i stamp e some = absurd is
   behind_lines skipping old (c ∷ cs) (a ∷ report) files skips last before more ahead t is i stamp e some =
-      let g = lines_grow (skips_behind skipping (request c) a) is.0 cs report is.1 skips last is.3 in
+      let g = lines_grow (skips_behind skipping c a) is.0 cs report is.1 skips last is.3 in
       let further : journal ≡ (is.0).seen ++ (g.seen.0 ++ more) = ahead ∙ ap (λ xs. xs ++ more) g.seen.1 ∙ append_assoc (is.0).seen g.seen.0 more in
       let u = line_tells kind load job journal legal before skipping old c cs a files is.1 is.0 (g.seen.0 ++ more) further t is.2 in
-      let l : AnsweredLine = line_of (next_txn old.begun (request c)) c a in
-      at i e (g.seen.0 ++ more) further (λ k f. behind_lines (skips_behind skipping (request c) a) is.0 cs report is.1 skips last (before ++ l ∷ []) more ahead u.0 is.3 k stamp f some)
+      let l : AnsweredLine = line_of (next_txn old.begun c) c a in
+      at i e (g.seen.0 ++ more) further (λ k f. behind_lines (skips_behind skipping c a) is.0 cs report is.1 skips last (before ++ l ∷ []) more ahead u.0 is.3 k stamp f some)
     where
       at : (i : ℕ) → slice_get (a ∷ report) i ≡ Some (answers.Committed (Some stamp)) → (beyond : List Commit) → journal ≡ (is.0).seen ++ beyond
           → ((k : ℕ) → slice_get report k ≡ Some (answers.Committed (Some stamp)) → IsBehind stamp) → IsBehind stamp

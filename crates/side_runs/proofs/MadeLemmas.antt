@@ -12,7 +12,8 @@ use Rattle.graph_model.specs.AccountSteps.{last_with}
 use Rattle.graph_model.proofs.TestLemmas.{self_eq}
 use Rattle.run_model.specs.declared.command.Command.{Command}
 use Rattle.run_model.specs.declared.answer.Answer.{Answer}
-use Rattle.run_model.specs.Requests.{Request, ToBegin, ToCommit, ToAbort, ToWrite, ToRead, ToRun, request, next_txn, write_of}
+use Rattle.run_model.specs.declared.command.Command.TheVariants as commands
+use Rattle.run_model.specs.Commands.{next_txn, write_of}
 use Rattle.run_model.specs.AnsweredLines.{AnsweredLine, effect, made_by, of_txn, own_writes}
 use Rattle.run_model.specs.UnderWay.{AreNumbered}
 use Rattle.run_model.proofs.LineLemmas.{none_later}
@@ -40,7 +41,7 @@ flat_last : (earlier : List (List Write)) (ws : List Write) → flat (earlier ++
 flat_last earlier ws = flat_map-append (λ ws. ws) earlier (ws ∷ []) ∙ ap (λ xs. flat earlier ++ xs) (append-nil ws)
 
 -- a line that asks for no write has made none
-pub none_made : (c : Command) (r : Request) → request c ≡ r → write_of r ≡ None → (txn : ℕ) (a : Answer) → filter_map made_by (line_of txn c a ∷ []) ≡ []
+pub none_made : (c : Command) (r : Command) → c ≡ r → write_of r ≡ None → (txn : ℕ) (a : Answer) → filter_map made_by (line_of txn c a ∷ []) ≡ []
 none_made c r is none txn a = ap (λ w. cons_option (cond (effect a).writes w None) []) (ap write_of is ∙ none) ∙ either (effect a).writes
   where
     either : (b : Bool) → let none : Option Write = None in cons_option (cond b none none) [] ≡ []
@@ -50,14 +51,14 @@ none_made c r is none txn a = ap (λ w. cons_option (cond (effect a).writes w No
 -- what a pass has made behind a line, by what it was answered: the writes of the lines, one list for each
 -- transaction, the open one's last
 module _ (made : List (List Write)) (own : List Write) (txn : ℕ) (c : Command) (a : Answer) (opened : (effect a).writes ≡ true → (earlier : List (List Write)) × (made ≡ earlier ++ own ∷ [])) where
-  unchanged : (r : Request) → request c ≡ r → write_of r ≡ None → flat made ≡ flat made ++ filter_map made_by (line_of txn c a ∷ [])
+  unchanged : (r : Command) → c ≡ r → write_of r ≡ None → flat made ≡ flat made ++ filter_map made_by (line_of txn c a ∷ [])
   unchanged r is none = sym (ap (λ xs. flat made ++ xs) (none_made c r is none txn a) ∙ append-nil (flat made))
 
-  pub made_more : (r : Request) → request c ≡ r → flat (made_behind made r a) ≡ flat made ++ filter_map made_by (line_of txn c a ∷ [])
-  made_more ToBegin is = flat_last made [] ∙ ap (λ xs. flat made ++ xs) (sym (none_made c ToBegin is refl txn a))
-  made_more ToCommit is = unchanged ToCommit is refl
-  made_more ToAbort is = unchanged ToAbort is refl
-  made_more (ToWrite w) is = by_write (effect a).writes refl ∙ ap (λ x. flat made ++ cons_option (cond (effect a).writes x None) []) (sym (ap write_of is))
+  pub made_more : (r : Command) → c ≡ r → flat (made_behind made r a) ≡ flat made ++ filter_map made_by (line_of txn c a ∷ [])
+  made_more commands.Begin is = flat_last made [] ∙ ap (λ xs. flat made ++ xs) (sym (none_made c commands.Begin is refl txn a))
+  made_more commands.Commit is = unchanged commands.Commit is refl
+  made_more commands.Abort is = unchanged commands.Abort is refl
+  made_more (commands.Write w) is = by_write (effect a).writes refl ∙ ap (λ x. flat made ++ cons_option (cond (effect a).writes x None) []) (sym (ap write_of is))
     where
       by_write : (b : Bool) → (effect a).writes ≡ b → flat (cond (effect a).writes (last_with made w) made) ≡ flat made ++ cons_option (cond (effect a).writes (Some w) None) []
       by_write true e =
@@ -67,20 +68,20 @@ module _ (made : List (List Write)) (own : List Write) (txn : ℕ) (c : Command)
           ∙ ap (λ xs. xs ++ w ∷ []) (sym (ap flat o.1 ∙ flat_last o.0 own))
           ∙ ap (λ b. flat made ++ cons_option (cond b (Some w) None) []) (sym e)
       by_write false e = ap (λ b. flat (cond b (last_with made w) made)) e ∙ sym (append-nil (flat made)) ∙ ap (λ b. flat made ++ cons_option (cond b (Some w) None) []) (sym e)
-  made_more (ToRead query) is = unchanged (ToRead query) is refl
-  made_more (ToRun kernel file) is = unchanged (ToRun kernel file) is refl
+  made_more (commands.Read query) is = unchanged (commands.Read query) is refl
+  made_more (commands.Run kernel file) is = unchanged (commands.Run kernel file) is refl
 
-pub made_count : (made : List (List Write)) (begun : ℕ) (r : Request) (a : Answer) → length made ≡ begun → length (made_behind made r a) ≡ next_txn begun r
-made_count made begun ToBegin a is = omega (arith, length-append made ([] ∷ []), is)
-made_count made begun ToCommit a is = is
-made_count made begun ToAbort a is = is
-made_count made begun (ToWrite w) a is = by_write (effect a).writes ∙ is
+pub made_count : (made : List (List Write)) (begun : ℕ) (r : Command) (a : Answer) → length made ≡ begun → length (made_behind made r a) ≡ next_txn begun r
+made_count made begun commands.Begin a is = omega (arith, length-append made ([] ∷ []), is)
+made_count made begun commands.Commit a is = is
+made_count made begun commands.Abort a is = is
+made_count made begun (commands.Write w) a is = by_write (effect a).writes ∙ is
   where
     by_write : (b : Bool) → length (cond b (last_with made w) made) ≡ length made
     by_write true = last_count made w
     by_write false = refl
-made_count made begun (ToRead query) a is = is
-made_count made begun (ToRun kernel file) a is = is
+made_count made begun (commands.Read query) a is = is
+made_count made begun (commands.Run kernel file) a is = is
 
 -- the lines of a transaction, with one line more
 of_more : (u : ℕ) (ls : List AnsweredLine) (l : AnsweredLine) → of_txn u (ls ++ l ∷ []) ≡ of_txn u ls ++ cond (l.txn == u) (l ∷ []) []
@@ -140,12 +141,12 @@ abbrev pub MadeByTxn : List (List Write) → ℕ → List AnsweredLine → Type 
 MadeByTxn made begun lines = (n : ℕ) → n < begun → slice_get made n ≡ Some (own_writes (suc n) lines)
 
 module _ (made : List (List Write)) (begun : ℕ) (lines : List AnsweredLine) (counted : length made ≡ begun) (numbered : AreNumbered 0 lines begun) (by_txn : MadeByTxn made begun lines) (c : Command) (a : Answer) where
-  kept : (r : Request) → request c ≡ r → write_of r ≡ None → MadeByTxn made begun (lines ++ line_of begun c a ∷ [])
+  kept : (r : Command) → c ≡ r → write_of r ≡ None → MadeByTxn made begun (lines ++ line_of begun c a ∷ [])
   kept r is none n lt = by_txn n lt ∙ ap Some (sym (own_same (suc n) lines (line_of begun c a) (none_made c r is none begun a)))
 
-  pub txn_more : (r : Request) → request c ≡ r → MadeByTxn (made_behind made r a) (next_txn begun r) (lines ++ line_of (next_txn begun r) c a ∷ [])
-  txn_more ToBegin is n lt =
-      let same : own_writes (suc n) (lines ++ line_of (begun + 1) c a ∷ []) ≡ own_writes (suc n) lines = own_same (suc n) lines (line_of (begun + 1) c a) (none_made c ToBegin is refl (begun + 1) a) in
+  pub txn_more : (r : Command) → c ≡ r → MadeByTxn (made_behind made r a) (next_txn begun r) (lines ++ line_of (next_txn begun r) c a ∷ [])
+  txn_more commands.Begin is n lt =
+      let same : own_writes (suc n) (lines ++ line_of (begun + 1) c a ∷ []) ≡ own_writes (suc n) lines = own_same (suc n) lines (line_of (begun + 1) c a) (none_made c commands.Begin is refl (begun + 1) a) in
       elim (cases_eq n begun) as (λ _. slice_get (made ++ [] ∷ []) n ≡ Some (own_writes (suc n) (lines ++ line_of (begun + 1) c a ∷ []))) [
         | inl e ↦ get_behind made [] n (e ∙ sym counted) ∙ ap Some (sym (same ∙ ap (filter_map made_by) (none_later 0 lines begun (suc n) numbered (omega (arith, e)))))
         | inr other ↦ get_front made ([] ∷ []) n (own_writes (suc n) lines) (by_txn n (less n begun lt other)) ∙ ap Some (sym same)
@@ -153,9 +154,9 @@ module _ (made : List (List Write)) (begun : ℕ) (lines : List AnsweredLine) (c
     where
       less : (n m : ℕ) → n < m + 1 → (n ≡ m → ⊥) → n < m
       less n m lt other = omega (arith, lt, other)
-  txn_more ToCommit is n lt = kept ToCommit is refl n lt
-  txn_more ToAbort is n lt = kept ToAbort is refl n lt
-  txn_more (ToWrite w) is n lt = by_write (effect a).writes refl
+  txn_more commands.Commit is n lt = kept commands.Commit is refl n lt
+  txn_more commands.Abort is n lt = kept commands.Abort is refl n lt
+  txn_more (commands.Write w) is n lt = by_write (effect a).writes refl
     where
       written : filter_map made_by (line_of begun c a ∷ []) ≡ cons_option (cond (effect a).writes (Some w) None) []
       written = ap (λ x. cons_option (cond (effect a).writes x None) []) (ap write_of is)
@@ -170,5 +171,5 @@ module _ (made : List (List Write)) (begun : ℕ) (lines : List AnsweredLine) (c
           ap (λ b. slice_get (cond b (last_with made w) made) n) e
           ∙ by_txn n lt
           ∙ ap Some (sym (own_same (suc n) lines (line_of begun c a) (written ∙ ap (λ b. cons_option (cond b (Some w) None) []) e)))
-  txn_more (ToRead query) is n lt = kept (ToRead query) is refl n lt
-  txn_more (ToRun kernel file) is n lt = kept (ToRun kernel file) is refl n lt
+  txn_more (commands.Read query) is n lt = kept (commands.Read query) is refl n lt
+  txn_more (commands.Run kernel file) is n lt = kept (commands.Run kernel file) is refl n lt

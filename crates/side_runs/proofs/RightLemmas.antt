@@ -25,13 +25,13 @@ use Rattle.run_model.specs.declared.command.Command.{Command}
 use Rattle.run_model.specs.declared.command.Command.TheVariants as commands
 use Rattle.run_model.specs.declared.answer.Answer.{Answer}
 use Rattle.run_model.specs.declared.answer.Answer.TheVariants as answers
-use Rattle.run_model.specs.Requests.{Request, ToBegin, ToCommit, ToAbort, ToWrite, ToRead, ToRun, request, next_txn, IsScript}
+use Rattle.run_model.specs.Commands.{next_txn, IsScript}
 use Rattle.run_model.specs.AnsweredLines.{AnsweredLine, answered_from, effect, of_txn, own_writes, is_stopped, snapshot}
 use Rattle.run_model.specs.Answering.{refusal_answer, query_answer, kernel_answer, IsKernelTable}
 use Rattle.run_model.specs.Inputs.{File}
 use Rattle.run_model.specs.Run.{Context, IsCause, IsWriteAnswer, IsCommitted, IsCommitAnswer, IsLiveAnswer, IsAnswered, AllAnswered, Filing, filing_of, IsFiled, HasFile, HasFiles, load_stamp, txn_name}
 use Rattle.side_runs.specs.ByAccount.{write_answer, RefusedLeaves, WriteLeaves, LiveLineBy, TableBy, skips_behind, LinesBy}
-use Rattle.run_model.proofs.AnswerLemmas.{IsWithinTxn, within_txn, must_begin, asks_commit, may_be_full, IsPlain, query_plain, kernel_plain}
+use Rattle.run_model.proofs.AnswerLemmas.{IsWithinTxn, within_txn, must_begin, may_be_full, IsPlain, query_plain, kernel_plain}
 use Rattle.run_model.proofs.LineLemmas.{none_later}
 use Rattle.side_runs.proofs.MadeLemmas.{line_of}
 use Rattle.side_runs.proofs.TellLemmas.{Tells, ToldBy, tells_wait}
@@ -63,14 +63,14 @@ module _ (kind : Kind) (load : List Write) (journal : List Commit) (legal : IsLe
 
   module _ (before : List AnsweredLine) (now : Account) (c : Command) (rest : List Command) where
     abbrev line : Answer → AnsweredLine
-    line a = line_of (next_txn now.begun (request c)) c a
+    line a = line_of (next_txn now.begun c) c a
 
     right_skip : Tells kind load job before true now (c ∷ rest) → LineRight before (line answers.Skipped)
     right_skip t =
-        let inside : IsWithinTxn (request c) rest = within_txn c rest t.place.script in
-        let stopped : is_stopped (next_txn now.begun (request c)) before ≡ true = ap (λ n. is_stopped n before) (inside.same now.begun) ∙ t.place.stopped refl in
+        let inside : IsWithinTxn c rest = within_txn c rest t.place.script in
+        let stopped : is_stopped (next_txn now.begun c) before ≡ true = ap (λ n. is_stopped n before) (inside.same now.begun) ∙ t.place.stopped refl in
         record {
-          answered = subst (λ s. cond s (◌≡◌ {A = Answer} answers.Skipped answers.Skipped) (IsLiveAnswer here before (next_txn now.begun (request c)) (request c) answers.Skipped)) (sym stopped) refl;
+          answered = subst (λ s. cond s (◌≡◌ {A = Answer} answers.Skipped answers.Skipped) (IsLiveAnswer here before (next_txn now.begun c) c answers.Skipped)) (sym stopped) refl;
           full = λ e. cc;
           shows = λ stamp some e. cc;
         }
@@ -80,20 +80,20 @@ module _ (kind : Kind) (load : List Write) (journal : List Commit) (legal : IsLe
       right_begin closed begun new more ahead b =
           let first = must_begin c rest (subst (λ x. IsScript (Some x) (c ∷ rest)) (ap is_some closed) t.place.script) in
           let a : Answer = answers.Begun begun.by begun.start in
-          let one : next_txn now.begun (request c) ≡ now.begun + 1 = ap (next_txn now.begun) first.0 in
-          let none : of_txn (next_txn now.begun (request c)) before ≡ [] = none_later 0 before now.begun (next_txn now.begun (request c)) t.lists.numbered (omega (arith, one)) in
-          let named : begun.by ≡ txn_name job (next_txn now.begun (request c)) = b.by ∙ (λ i. txn_name (t.job_is i) (sym one i)) in
+          let one : next_txn now.begun c ≡ now.begun + 1 = ap (next_txn now.begun) first.0 in
+          let none : of_txn (next_txn now.begun c) before ≡ [] = none_later 0 before now.begun (next_txn now.begun c) t.lists.numbered (omega (arith, one)) in
+          let named : begun.by ≡ txn_name job (next_txn now.begun c) = b.by ∙ (λ i. txn_name (t.job_is i) (sym one i)) in
           let count : length journal ≡ length new.seen + length more = ap length ahead ∙ length-append new.seen more in
           record {
-            answered = subst (λ s. cond s (a ≡ answers.Skipped) (IsLiveAnswer here before (next_txn now.begun (request c)) (request c) a)) (sym (ap (list_any (λ x. (effect x.answer).stops)) none))
-                (subst (λ r. IsLiveAnswer here before (next_txn now.begun (request c)) r a) (sym first.0)
+            answered = subst (λ s. cond s (a ≡ answers.Skipped) (IsLiveAnswer here before (next_txn now.begun c) c a)) (sym (ap (list_any (λ x. (effect x.answer).stops)) none))
+                (subst (λ r. IsLiveAnswer here before (next_txn now.begun c) r a) (sym first.0)
                 (named, record { within = omega (arith, b.until, count); loaded = omega (arith, t.loaded, b.from); shown = omega (arith, t.shown, b.from) }));
             full = λ e. cc;
             shows = λ stamp some e. cc;
           }
 
       module _ (start : ℕ) (opened : now.start ≡ Some start) (beyond : List Commit) (seen : journal ≡ now.seen ++ beyond) where
-        inside : IsWithinTxn (request c) rest
+        inside : IsWithinTxn c rest
         inside = within_txn c rest (subst (λ x. IsScript (Some x) (c ∷ rest)) (ap is_some opened) t.place.script)
 
         told : ToldBy before now start
@@ -106,13 +106,13 @@ module _ (kind : Kind) (load : List Write) (journal : List Commit) (legal : IsLe
             (λ i. view (sym t.kind_is i) (seen i) (told.begins i) (sym told.own_is i))
             ∙ ap (λ g. apply_all now.kind g now.own) (graph_at-append now.kind now.seen beyond start (t.place.started start opened).1)
 
-        live : (a : Answer) → IsLiveAnswer here before now.begun (request c) a → IsAnswered here before (line a)
+        live : (a : Answer) → IsLiveAnswer here before now.begun c a → IsAnswered here before (line a)
         unfolding told inside
         live a is =
             subst (λ n. IsAnswered here before (record { txn = n; command = c; answer = a })) (sym (inside.same now.begun))
-            (subst (λ s. cond s (a ≡ answers.Skipped) (IsLiveAnswer here before now.begun (request c) a)) (sym told.going) is)
+            (subst (λ s. cond s (a ≡ answers.Skipped) (IsLiveAnswer here before now.begun c a)) (sym told.going) is)
 
-        live_write : (w : Write) (a : Answer) → request c ≡ ToWrite w → IsWriteAnswer here start w (refused (view_of now start) w) a → IsAnswered here before (line a)
+        live_write : (w : Write) (a : Answer) → c ≡ commands.Write w → IsWriteAnswer here start w (refused (view_of now start) w) a → IsAnswered here before (line a)
         unfolding told same_view
         live_write w a e is = live a
             (subst (λ r. IsLiveAnswer here before now.begun r a) (sym e)
@@ -127,7 +127,7 @@ module _ (kind : Kind) (load : List Write) (journal : List Commit) (legal : IsLe
           shows = λ stamp some e. (let none : stamp ≡ 0 = ap (λ x. (effect x).stamp) (sym e) ∙ plain.stamp in absurd (omega (arith, some, none)));
         }
 
-        by_refusal : (refusal : Refusal) (w : Write) → request c ≡ ToWrite w → (between new : Account) → Grows between last → (more : List Commit) → journal ≡ between.seen ++ more
+        by_refusal : (refusal : Refusal) (w : Write) → c ≡ commands.Write w → (between new : Account) → Grows between last → (more : List Commit) → journal ≡ between.seen ++ more
             → WritesAt now start w (Err refusal) between → RefusedLeaves refusal between new → LineRight before (line (refusal_answer refusal))
         by_refusal refusals.SelfLoop w is between new g more ahead does leaves = right_plain answers.SelfLoop (record { start = refl; writes = refl; stops = refl; stamp = refl })
             (live_write w answers.SelfLoop is (subst (λ r. IsWriteAnswer here start w r answers.SelfLoop) (sym does.0) refl))
@@ -167,7 +167,7 @@ module _ (kind : Kind) (load : List Write) (journal : List Commit) (legal : IsLe
         }
         by_refusal refusals.NoMemory w is between new g more ahead does leaves = absurd leaves
 
-        by_write : (result : Result (Unit {0}) Refusal) (w : Write) → request c ≡ ToWrite w → (between new : Account) → Grows between last → (more : List Commit) → journal ≡ between.seen ++ more
+        by_write : (result : Result (Unit {0}) Refusal) (w : Write) → c ≡ commands.Write w → (between new : Account) → Grows between last → (more : List Commit) → journal ≡ between.seen ++ more
             → WritesAt now start w result between → WriteLeaves result between new → LineRight before (line (write_answer result))
         by_write (Ok done) w is between new g more ahead does leaves = record {
           answered = live_write w answers.Done is (subst (λ r. IsWriteAnswer here start w r answers.Done) (sym does.0) tt);
@@ -176,14 +176,14 @@ module _ (kind : Kind) (load : List Write) (journal : List Commit) (legal : IsLe
         }
         by_write (Err refusal) w is between new g more ahead does leaves = by_refusal refusal w is between new g more ahead does leaves
 
-        live_commit : (a : Answer) → request c ≡ ToCommit → IsCommitAnswer here now.begun start now.own a → IsAnswered here before (line a)
+        live_commit : (a : Answer) → c ≡ commands.Commit → IsCommitAnswer here now.begun start now.own a → IsAnswered here before (line a)
         unfolding told
         live_commit a asked is = live a
             (subst (λ r. IsLiveAnswer here before now.begun r a) (sym asked)
             (subst (λ n. IsCommitAnswer here now.begun n (own_writes now.begun before) a) (sym told.begins)
             (subst (λ ws. IsCommitAnswer here now.begun start ws a) told.own_is is)))
 
-        by_commit : (stamp : Option ℕ) (new : Account) (more : List Commit) → journal ≡ new.seen ++ more → request c ≡ ToCommit → CommitsBy now stamp new → LineRight before (line (answers.Committed stamp))
+        by_commit : (stamp : Option ℕ) (new : Account) (more : List Commit) → journal ≡ new.seen ++ more → c ≡ commands.Commit → CommitsBy now stamp new → LineRight before (line (answers.Committed stamp))
         by_commit None new more ahead asked does = record {
           answered = live_commit (answers.Committed None) asked (subst (λ ws. IsCommitAnswer here now.begun start ws (answers.Committed None)) (sym does.0) refl);
           full = λ e. cc;
@@ -205,43 +205,43 @@ module _ (kind : Kind) (load : List Write) (journal : List Commit) (legal : IsLe
                 there,
                 sym has.stamped ∙ same,
                 named ∙ ap (txn_name job) (sym (same_txn now.begun)),
-                asks_commit c asked,
+                asked,
               ));
             }
           where
             stamp_eq : {m n : ℕ} → answers.Committed (Some m) ≡ answers.Committed (Some n) → m ≡ n
             stamp_eq e = cc
 
-            same_txn : (n : ℕ) → next_txn n (request c) ≡ n
+            same_txn : (n : ℕ) → next_txn n c ≡ n
             same_txn n = ap (next_txn n) asked
 
             by_own : (own : List Write) → 0 < length own → IsCommitted here now.begun start own stamp → IsCommitAnswer here now.begun start own (answers.Committed (Some stamp))
             by_own [] some is = absurd (omega (arith, some))
             by_own (w ∷ ws) some is = is
 
-        pub right_open : (r : Request) → request c ≡ r → (a : Answer) (new : Account) → Grows new last → (more : List Commit) → journal ≡ new.seen ++ more → LiveLineBy now r a new → LineRight before (line a)
+        pub right_open : (r : Command) → c ≡ r → (a : Answer) (new : Account) → Grows new last → (more : List Commit) → journal ≡ new.seen ++ more → LiveLineBy now r a new → LineRight before (line a)
         unfolding inside same_view
-        right_open ToBegin is a new g more ahead does = let none : (txn : ℕ) → txn + 1 ≡ txn = (λ txn. ap (next_txn txn) (sym is) ∙ inside.same txn) in absurd (omega (arith, none 0))
-        right_open ToCommit is a new g more ahead does = subst (λ x. LineRight before (line x)) (sym does.1) (by_commit does.0 new more ahead is does.2)
-        right_open ToAbort is a new g more ahead does = subst (λ x. LineRight before (line x)) (sym does.0) (record {
+        right_open commands.Begin is a new g more ahead does = let none : (txn : ℕ) → txn + 1 ≡ txn = (λ txn. ap (next_txn txn) (sym is) ∙ inside.same txn) in absurd (omega (arith, none 0))
+        right_open commands.Commit is a new g more ahead does = subst (λ x. LineRight before (line x)) (sym does.1) (by_commit does.0 new more ahead is does.2)
+        right_open commands.Abort is a new g more ahead does = subst (λ x. LineRight before (line x)) (sym does.0) (record {
           answered = live answers.Aborted (subst (λ r. IsLiveAnswer here before now.begun r answers.Aborted) (sym is) refl);
           full = λ e. cc;
           shows = λ stamp some e. cc;
         })
-        right_open (ToWrite w) is a new g more ahead does =
+        right_open (commands.Write w) is a new g more ahead does =
             let at_start : WritesAt now start w does.1 does.2 = subst (λ n. WritesAt now n w does.1 does.2) (some_eq does.0 start (sym does.3 ∙ opened)) does.5 in
             let grown = leaves_all does.1 does.2 new does.6 in
             subst (λ x. LineRight before (line x)) (sym does.4)
             (by_write does.1 w is does.2 new (grows_on does.2 new last grown g) (grown.seen.0 ++ more) (ahead ∙ ap (λ xs. xs ++ more) grown.seen.1 ∙ append_assoc (does.2).seen grown.seen.0 more) at_start does.6)
-        right_open (ToRead query) is a new g more ahead does =
+        right_open (commands.Read query) is a new g more ahead does =
             right_plain a (subst IsPlain (sym (does.0 start opened)) (query_plain now.kind (view_of now start) query))
             (live a (subst (λ r. IsLiveAnswer here before now.begun r a) (sym is) (does.0 start opened ∙ (λ i. query_answer (t.kind_is i) (sym same_view i) query))))
-        right_open (ToRun kernel file) is a new g more ahead does =
+        right_open (commands.Run kernel file) is a new g more ahead does =
             right_plain a (subst IsPlain (sym (does.0 start opened)) (kernel_plain (view_of now start) kernel))
             (live a (subst (λ r. IsLiveAnswer here before now.begun r a) (sym is) (does.0 start opened ∙ ap (λ v. kernel_answer v kernel) (sym same_view))))
 
         -- the file of a line
-        pub filed_open : (filing : Option Filing) (files others : List File) → TableBy now filing files others → IsFiled here before (next_txn now.begun (request c)) filing files others
+        pub filed_open : (filing : Option Filing) (files others : List File) → TableBy now filing files others → IsFiled here before (next_txn now.begun c) filing files others
         unfolding inside same_view
         filed_open None files others is = is
         filed_open (Some filing) files others is = (
@@ -252,8 +252,8 @@ module _ (kind : Kind) (load : List Write) (journal : List Commit) (legal : IsLe
         )
 
       -- a line that isn't skipped
-      right_live : (a : Answer) (files others : List File) (new : Account) → Grows now new → Grows new last → (more : List Commit) → journal ≡ new.seen ++ more → LiveLineBy now (request c) a new
-          → TableBy now (cond (effect a).files (filing_of (request c)) None) files others → LineRight before (line a) × HasFile here before (line a) files others
+      right_live : (a : Answer) (files others : List File) (new : Account) → Grows now new → Grows new last → (more : List Commit) → journal ≡ new.seen ++ more → LiveLineBy now c a new
+          → TableBy now (cond (effect a).files (filing_of c) None) files others → LineRight before (line a) × HasFile here before (line a) files others
       right_live a files others new first g more ahead does table = by_start now.start refl
         where
           beyond : journal ≡ now.seen ++ (first.seen.0 ++ more)
@@ -261,23 +261,23 @@ module _ (kind : Kind) (load : List Write) (journal : List Commit) (legal : IsLe
 
           by_start : (s : Option ℕ) → now.start ≡ s → LineRight before (line a) × HasFile here before (line a) files others
           by_start (Some start) e = (
-            right_open start e (first.seen.0 ++ more) beyond (request c) refl a new g more ahead does,
-            filed_open start e (first.seen.0 ++ more) beyond (cond (effect a).files (filing_of (request c)) None) files others table,
+            right_open start e (first.seen.0 ++ more) beyond c refl a new g more ahead does,
+            filed_open start e (first.seen.0 ++ more) beyond (cond (effect a).files (filing_of c) None) files others table,
           )
           by_start None e =
               let first = must_begin c rest (subst (λ x. IsScript (Some x) (c ∷ rest)) (ap is_some e) t.place.script) in
-              let begins : LiveLineBy now ToBegin a new = subst (λ r. LiveLineBy now r a new) first.0 does in
-              let plain : files ≡ others = subst (λ x. TableBy now (cond (effect x).files (filing_of (request c)) None) files others) begins.1 table in
+              let begins : LiveLineBy now commands.Begin a new = subst (λ r. LiveLineBy now r a new) first.0 does in
+              let plain : files ≡ others = subst (λ x. TableBy now (cond (effect x).files (filing_of c) None) files others) begins.1 table in
               subst (λ x. LineRight before (line x) × HasFile here before (line x) files others) (sym begins.1) (right_begin e begins.0 new more ahead begins.2, plain)
 
     -- any line
     right_line : (skipping : Bool) (a : Answer) (files others : List File) (new : Account) → Grows new last → (more : List Commit) → journal ≡ new.seen ++ more → Tells kind load job before skipping now (c ∷ rest)
-        → cond skipping ((a ≡ answers.Skipped) × ReadsBy now new) (LiveLineBy now (request c) a new) → TableBy now (cond (effect a).files (filing_of (request c)) None) files others
+        → cond skipping ((a ≡ answers.Skipped) × ReadsBy now new) (LiveLineBy now c a new) → TableBy now (cond (effect a).files (filing_of c) None) files others
         → LineRight before (line a) × HasFile here before (line a) files others
     right_line true a files others new g more ahead t does table =
-        let plain : files ≡ others = subst (λ x. TableBy now (cond (effect x).files (filing_of (request c)) None) files others) does.0 table in
+        let plain : files ≡ others = subst (λ x. TableBy now (cond (effect x).files (filing_of c) None) files others) does.0 table in
         subst (λ x. LineRight before (line x) × HasFile here before (line x) files others) (sym does.0) (right_skip t, plain)
-    right_line false a files others new g more ahead t does table = right_live t a files others new (does_grow false now (request c) a new does) g more ahead does table
+    right_line false a files others new g more ahead t does table = right_live t a files others new (does_grow false now c a new does) g more ahead does table
 
   -- ---- all lines
 
@@ -310,16 +310,16 @@ module _ (kind : Kind) (load : List Write) (journal : List Commit) (legal : IsLe
   lines_right skipping old [] (a ∷ report) files skips before more ahead t is = absurd is
   lines_right skipping old (c ∷ cs) [] files skips before more ahead t is = absurd is
   lines_right skipping old (c ∷ cs) (a ∷ report) files skips before more ahead t is =
-      let l : AnsweredLine = line_of (next_txn old.begun (request c)) c a in
+      let l : AnsweredLine = line_of (next_txn old.begun c) c a in
       let by = is.2 in
-      let g = lines_grow (skips_behind skipping (request c) a) is.0 cs report is.1 skips last is.3 in
+      let g = lines_grow (skips_behind skipping c a) is.0 cs report is.1 skips last is.3 in
       let further : journal ≡ (is.0).seen ++ (g.seen.0 ++ more) = ahead ∙ ap (λ xs. xs ++ more) g.seen.1 ∙ append_assoc (is.0).seen g.seen.0 more in
       let u = line_tells kind load job journal legal before skipping old c cs a files is.1 is.0 (g.seen.0 ++ more) further t by in
       let waited : Tells kind load job before skipping by.now (c ∷ cs) = tells_wait kind load job before skipping old (c ∷ cs) by.now t by.waits in
       let same : (by.now).begun ≡ old.begun = ap (λ (x : Account). x.begun) by.waits.others in
       let right : LineRight before l × HasFile here before l files is.1 =
-      subst (λ n. LineRight before (line_of (next_txn n (request c)) c a) × HasFile here before (line_of (next_txn n (request c)) c a) files is.1) same
+      subst (λ n. LineRight before (line_of (next_txn n c) c a) × HasFile here before (line_of (next_txn n c) c a) files is.1) same
       (right_line before by.now c cs skipping a files is.1 is.0 g (g.seen.0 ++ more) further waited by.does by.table) in
-      right_before before (answered_from (next_txn old.begun (request c)) cs report) l files is.1 right.0 right.1
+      right_before before (answered_from (next_txn old.begun c) cs report) l files is.1 right.0 right.1
       (subst (λ n. LinesRight (before ++ l ∷ []) (answered_from n cs report) is.1) u.1
-      (lines_right (skips_behind skipping (request c) a) is.0 cs report is.1 skips (before ++ l ∷ []) more ahead u.0 is.3))
+      (lines_right (skips_behind skipping c a) is.0 cs report is.1 skips (before ++ l ∷ []) more ahead u.0 is.3))

@@ -16,7 +16,8 @@ use Rattle.graph_model.specs.Legal.{IsLegal}
 use Rattle.run_model.specs.declared.command.Command.{Command}
 use Rattle.run_model.specs.declared.answer.Answer.{Answer}
 use Rattle.run_model.specs.declared.answer.Answer.TheVariants as answers
-use Rattle.run_model.specs.Requests.{Request, ToBegin, ToCommit, ToAbort, ToWrite, ToRead, ToRun, request, next_txn, IsScript}
+use Rattle.run_model.specs.declared.command.Command.TheVariants as commands
+use Rattle.run_model.specs.Commands.{next_txn, IsScript}
 use Rattle.run_model.specs.AnsweredLines.{AnsweredLine, answered_from, answered_lines, effect}
 use Rattle.run_model.specs.Inputs.{File}
 use Rattle.run_model.specs.Run.{Filing, filing_of}
@@ -89,19 +90,19 @@ commit_grows : (stamp : Option ℕ) (old new : Account) → CommitsBy old stamp 
 commit_grows None old new does = goes_still old _ new does.1 refl refl
 commit_grows (Some stamp) old new does = goes_still old _ new does.1 refl refl
 
-pub live_grows : (r : Request) (old : Account) (a : Answer) (new : Account) → LiveLineBy old r a new → Grows old new
-live_grows ToBegin old a new does = goes_still old _ new (does.2).opened refl refl
-live_grows ToCommit old a new does = commit_grows does.0 old new does.2
-live_grows ToAbort old a new does = goes_still old _ new does.1 refl refl
-live_grows (ToWrite w) old a new does = write_grows does.1 old does.2 new does.0 w does.5 does.6
-live_grows (ToRead query) old a new does = goes_still old old new does.1 refl refl
-live_grows (ToRun kernel file) old a new does = goes_still old old new does.1 refl refl
+pub live_grows : (r : Command) (old : Account) (a : Answer) (new : Account) → LiveLineBy old r a new → Grows old new
+live_grows commands.Begin old a new does = goes_still old _ new (does.2).opened refl refl
+live_grows commands.Commit old a new does = commit_grows does.0 old new does.2
+live_grows commands.Abort old a new does = goes_still old _ new does.1 refl refl
+live_grows (commands.Write w) old a new does = write_grows does.1 old does.2 new does.0 w does.5 does.6
+live_grows (commands.Read query) old a new does = goes_still old old new does.1 refl refl
+live_grows (commands.Run kernel file) old a new does = goes_still old old new does.1 refl refl
 
-pub does_grow : (skipping : Bool) (old : Account) (r : Request) (a : Answer) (new : Account) → cond skipping ((a ≡ answers.Skipped) × ReadsBy old new) (LiveLineBy old r a new) → Grows old new
+pub does_grow : (skipping : Bool) (old : Account) (r : Command) (a : Answer) (new : Account) → cond skipping ((a ≡ answers.Skipped) × ReadsBy old new) (LiveLineBy old r a new) → Grows old new
 does_grow true old r a new does = goes_still old old new does.1 refl refl
 does_grow false old r a new does = live_grows r old a new does
 
-pub line_grows : (skipping : Bool) (old : Account) (r : Request) (a : Answer) (files rest : List File) (new : Account) → LineBy skipping old r a files rest new → Grows old new
+pub line_grows : (skipping : Bool) (old : Account) (r : Command) (a : Answer) (files rest : List File) (new : Account) → LineBy skipping old r a files rest new → Grows old new
 line_grows skipping old r a files rest new is = grows_on old is.now new (goes_still old old is.now is.waits refl refl) (does_grow skipping is.now r a new is.does)
 
 pub lines_grow : (skipping : Bool) (old : Account) (cs : List Command) (report : List Answer) (files : List File) (skips : Bool) (last : Account)
@@ -110,7 +111,7 @@ lines_grow skipping old [] [] files skips last is = goes_still old old last is.0
 lines_grow skipping old [] (a ∷ report) files skips last is = absurd is
 lines_grow skipping old (c ∷ cs) [] files skips last is = absurd is
 lines_grow skipping old (c ∷ cs) (a ∷ report) files skips last is =
-    grows_on old is.0 last (line_grows skipping old (request c) a files is.1 is.0 is.2) (lines_grow (skips_behind skipping (request c) a) is.0 cs report is.1 skips last is.3)
+    grows_on old is.0 last (line_grows skipping old c a files is.1 is.0 is.2) (lines_grow (skips_behind skipping c a) is.0 cs report is.1 skips last is.3)
 
 -- each command has its answer
 pub lines_count : (skipping : Bool) (old : Account) (cs : List Command) (report : List Answer) (files : List File) (skips : Bool) (last : Account)
@@ -118,7 +119,7 @@ pub lines_count : (skipping : Bool) (old : Account) (cs : List Command) (report 
 lines_count skipping old [] [] files skips last is = refl
 lines_count skipping old [] (a ∷ report) files skips last is = absurd is
 lines_count skipping old (c ∷ cs) [] files skips last is = absurd is
-lines_count skipping old (c ∷ cs) (a ∷ report) files skips last is = ap suc (lines_count (skips_behind skipping (request c) a) is.0 cs report is.1 skips last is.3)
+lines_count skipping old (c ∷ cs) (a ∷ report) files skips last is = ap suc (lines_count (skips_behind skipping c a) is.0 cs report is.1 skips last is.3)
 
 -- ---- stamps
 
@@ -160,15 +161,15 @@ commit_stamps : (given : Option ℕ) (old : Account) (a : Answer) (new : Account
 commit_stamps None old a new e does = inl (same_stamps old _ new does.1 refl)
 commit_stamps (Some stamp) old a new e does = inr (stamp, ap (λ (x : Account). x.stamps) (does.1).others, e)
 
-live_stamps : (r : Request) (old : Account) (a : Answer) (new : Account) → LiveLineBy old r a new → KeepsStamps old a new
-live_stamps ToBegin old a new does = inl (same_stamps old _ new (does.2).opened refl)
-live_stamps ToCommit old a new does = commit_stamps does.0 old a new does.1 does.2
-live_stamps ToAbort old a new does = inl (same_stamps old _ new does.1 refl)
-live_stamps (ToWrite w) old a new does = inl (write_stamps does.1 old does.2 new does.0 w does.5 does.6)
-live_stamps (ToRead query) old a new does = inl (same_stamps old old new does.1 refl)
-live_stamps (ToRun kernel file) old a new does = inl (same_stamps old old new does.1 refl)
+live_stamps : (r : Command) (old : Account) (a : Answer) (new : Account) → LiveLineBy old r a new → KeepsStamps old a new
+live_stamps commands.Begin old a new does = inl (same_stamps old _ new (does.2).opened refl)
+live_stamps commands.Commit old a new does = commit_stamps does.0 old a new does.1 does.2
+live_stamps commands.Abort old a new does = inl (same_stamps old _ new does.1 refl)
+live_stamps (commands.Write w) old a new does = inl (write_stamps does.1 old does.2 new does.0 w does.5 does.6)
+live_stamps (commands.Read query) old a new does = inl (same_stamps old old new does.1 refl)
+live_stamps (commands.Run kernel file) old a new does = inl (same_stamps old old new does.1 refl)
 
-does_stamps : (skipping : Bool) (old : Account) (r : Request) (a : Answer) (new : Account) → cond skipping ((a ≡ answers.Skipped) × ReadsBy old new) (LiveLineBy old r a new) → KeepsStamps old a new
+does_stamps : (skipping : Bool) (old : Account) (r : Command) (a : Answer) (new : Account) → cond skipping ((a ≡ answers.Skipped) × ReadsBy old new) (LiveLineBy old r a new) → KeepsStamps old a new
 does_stamps true old r a new does = inl (same_stamps old old new does.1 refl)
 does_stamps false old r a new does = live_stamps r old a new does
 
@@ -184,7 +185,7 @@ stamps_answered skipping old [] [] files skips last is i stamp e = inl (i, ap (�
 stamps_answered skipping old [] (a ∷ report) files skips last is i stamp e = absurd is
 stamps_answered skipping old (c ∷ cs) [] files skips last is i stamp e = absurd is
 stamps_answered skipping old (c ∷ cs) (a ∷ report) files skips last is i stamp e =
-    elim (stamps_answered (skips_behind skipping (request c) a) is.0 cs report is.1 skips last is.3 i stamp e) as (λ _. Found old (a ∷ report) stamp) [
+    elim (stamps_answered (skips_behind skipping c a) is.0 cs report is.1 skips last is.3 i stamp e) as (λ _. Found old (a ∷ report) stamp) [
       | inl before ↦ by_line before.0 before.1
       | inr later ↦ inr (suc later.0, later.1)
     ]
@@ -197,7 +198,7 @@ stamps_answered skipping old (c ∷ cs) (a ∷ report) files skips last is i sta
     one_place n (suc k) f = absurd (none-some stamp f)
 
     by_line : (k : ℕ) → slice_get (is.0).stamps k ≡ Some stamp → Found old (a ∷ report) stamp
-    by_line k f = elim (does_stamps skipping (is.2).now (request c) a is.0 (is.2).does) as (λ _. Found old (a ∷ report) stamp) [
+    by_line k f = elim (does_stamps skipping (is.2).now c a is.0 (is.2).does) as (λ _. Found old (a ∷ report) stamp) [
       | inl same ↦ inl (k, ap (λ xs. slice_get xs k) (sym (same ∙ waited)) ∙ f)
       | inr (one, more, answer) ↦ elim (append_cases old.stamps (one ∷ []) k stamp (ap (λ xs. slice_get xs k) (sym (more ∙ ap (λ xs. xs ++ one ∷ []) waited)) ∙ f)) as (λ _. Found old (a ∷ report) stamp) [
         | inl old_one ↦ inl (k, old_one)
@@ -223,18 +224,18 @@ table_on old (Some filing) files rest more is = (is.0, ap (λ xs. xs ++ more) is
 
 -- lines, one line more, and more that may have been seen
 pub lines_on : (skipping : Bool) (old : Account) (cs : List Command) (report : List Answer) (files : List File) (skips : Bool) (last : Account) (c : Command) (a : Answer) (more : List File) (new : Account)
-    → LinesBy skipping old cs report files skips last → LineBy skips last (request c) a more [] new
-    → LinesBy skipping old (cs ++ c ∷ []) (report ++ a ∷ []) (files ++ more) (skips_behind skips (request c) a) new
+    → LinesBy skipping old cs report files skips last → LineBy skips last c a more [] new
+    → LinesBy skipping old (cs ++ c ∷ []) (report ++ a ∷ []) (files ++ more) (skips_behind skips c a) new
 lines_on skipping old [] [] files skips last c a more new is by = (
   new,
   [],
   record {
     now = by.now;
     waits = waits_before old last by.now is.0 by.waits;
-    does = subst (λ s. cond s ((a ≡ answers.Skipped) × ReadsBy by.now new) (LiveLineBy by.now (request c) a new)) (sym is.1) by.does;
-    table = subst (λ fs. TableBy by.now (cond (effect a).files (filing_of (request c)) None) (fs ++ more) []) (sym is.2) by.table;
+    does = subst (λ s. cond s ((a ≡ answers.Skipped) × ReadsBy by.now new) (LiveLineBy by.now c a new)) (sym is.1) by.does;
+    table = subst (λ fs. TableBy by.now (cond (effect a).files (filing_of c) None) (fs ++ more) []) (sym is.2) by.table;
   },
-  (stays new, ap (λ s. skips_behind s (request c) a) is.1, refl),
+  (stays new, ap (λ s. skips_behind s c a) is.1, refl),
 )
 lines_on skipping old [] (b ∷ report) files skips last c a more new is by = absurd is
 lines_on skipping old (d ∷ cs) [] files skips last c a more new is by = absurd is
@@ -242,8 +243,8 @@ lines_on skipping old (d ∷ cs) (b ∷ report) files skips last c a more new is
     let one = is.2 in (
       is.0,
       is.1 ++ more,
-      record { now = one.now; waits = one.waits; does = one.does; table = table_on one.now (cond (effect b).files (filing_of (request d)) None) files is.1 more one.table },
-      lines_on (skips_behind skipping (request d) b) is.0 cs report is.1 skips last c a more new is.3 by,
+      record { now = one.now; waits = one.waits; does = one.does; table = table_on one.now (cond (effect b).files (filing_of d) None) files is.1 more one.table },
+      lines_on (skips_behind skipping d b) is.0 cs report is.1 skips last c a more new is.3 by,
     )
 
 -- a pass that has only seen more behind its lines
@@ -253,26 +254,26 @@ lines_wait skipping old [] [] files skips last new is waits = (waits_before old 
 lines_wait skipping old [] (b ∷ report) files skips last new is waits = absurd is
 lines_wait skipping old (d ∷ cs) [] files skips last new is waits = absurd is
 lines_wait skipping old (d ∷ cs) (b ∷ report) files skips last new is waits =
-    (is.0, is.1, is.2, lines_wait (skips_behind skipping (request d) b) is.0 cs report is.1 skips last new is.3 waits)
+    (is.0, is.1, is.2, lines_wait (skips_behind skipping d b) is.0 cs report is.1 skips last new is.3 waits)
 
 -- ---- what the lines tell at the end
 
 numbered_one : (before : ℕ) (ls : List AnsweredLine) (m n : ℕ) → AreNumbered before ls m → AreNumbered before ls n → m ≡ n
 numbered_one before [] m n e f = sym e ∙ f
-numbered_one before (l ∷ ls) m n e f = numbered_one (next_txn before (request l.command)) ls m n e.1 f.1
+numbered_one before (l ∷ ls) m n e f = numbered_one (next_txn before l.command) ls m n e.1 f.1
 
 module _ (kind : Kind) (load : List Write) (job : ℕ) (journal : List Commit) (legal : IsLegal kind journal) where
   -- behind a line
   pub line_tells : (before : List AnsweredLine) (skipping : Bool) (old : Account) (c : Command) (cs : List Command) (a : Answer) (files rest : List File) (new : Account) (more : List Commit)
-      → journal ≡ new.seen ++ more → Tells kind load job before skipping old (c ∷ cs) → LineBy skipping old (request c) a files rest new
-      → Tells kind load job (before ++ line_of (next_txn old.begun (request c)) c a ∷ []) (skips_behind skipping (request c) a) new cs × (new.begun ≡ next_txn old.begun (request c))
+      → journal ≡ new.seen ++ more → Tells kind load job before skipping old (c ∷ cs) → LineBy skipping old c a files rest new
+      → Tells kind load job (before ++ line_of (next_txn old.begun c) c a ∷ []) (skips_behind skipping c a) new cs × (new.begun ≡ next_txn old.begun c)
   line_tells before skipping old c cs a files rest new more ahead t is =
       let waited : Tells kind load job before skipping is.now (c ∷ cs) = tells_wait kind load job before skipping old (c ∷ cs) is.now t is.waits in
       let same : (is.now).begun ≡ old.begun = ap (λ (x : Account). x.begun) is.waits.others in
-      let u : Tells kind load job (before ++ line_of (next_txn old.begun (request c)) c a ∷ []) (skips_behind skipping (request c) a) new cs =
-      subst (λ n. Tells kind load job (before ++ line_of (next_txn n (request c)) c a ∷ []) (skips_behind skipping (request c) a) new cs) same
+      let u : Tells kind load job (before ++ line_of (next_txn old.begun c) c a ∷ []) (skips_behind skipping c a) new cs =
+      subst (λ n. Tells kind load job (before ++ line_of (next_txn n c) c a ∷ []) (skips_behind skipping c a) new cs) same
       (tells_line kind load job journal legal before is.now c cs skipping a new more ahead waited is.does) in
-      (u, numbered_one 0 (before ++ line_of (next_txn old.begun (request c)) c a ∷ []) new.begun (next_txn old.begun (request c)) u.lists.numbered (numbered_more 0 before old.begun c a t.lists.numbered))
+      (u, numbered_one 0 (before ++ line_of (next_txn old.begun c) c a ∷ []) new.begun (next_txn old.begun c) u.lists.numbered (numbered_more 0 before old.begun c a t.lists.numbered))
 
   -- behind all of them
   pub lines_tell : (skipping : Bool) (old : Account) (cs : List Command) (report : List Answer) (files : List File) (skips : Bool) (last : Account) (before : List AnsweredLine) (more : List Commit)
@@ -284,13 +285,13 @@ module _ (kind : Kind) (load : List Write) (job : ℕ) (journal : List Commit) (
   lines_tell skipping old [] (a ∷ report) files skips last before more ahead t is = absurd is
   lines_tell skipping old (c ∷ cs) [] files skips last before more ahead t is = absurd is
   lines_tell skipping old (c ∷ cs) (a ∷ report) files skips last before more ahead t is =
-      let l : AnsweredLine = line_of (next_txn old.begun (request c)) c a in
-      let g = lines_grow (skips_behind skipping (request c) a) is.0 cs report is.1 skips last is.3 in
+      let l : AnsweredLine = line_of (next_txn old.begun c) c a in
+      let g = lines_grow (skips_behind skipping c a) is.0 cs report is.1 skips last is.3 in
       let further : journal ≡ (is.0).seen ++ (g.seen.0 ++ more) = ahead ∙ ap (λ xs. xs ++ more) g.seen.1 ∙ append_assoc (is.0).seen g.seen.0 more in
       let u = line_tells before skipping old c cs a files is.1 is.0 (g.seen.0 ++ more) further t is.2 in
-      subst (λ ls. Tells kind load job ls skips last []) (append_assoc before (l ∷ []) (answered_from (next_txn old.begun (request c)) cs report))
+      subst (λ ls. Tells kind load job ls skips last []) (append_assoc before (l ∷ []) (answered_from (next_txn old.begun c) cs report))
       (subst (λ n. Tells kind load job ((before ++ l ∷ []) ++ answered_from n cs report) skips last []) u.1
-      (lines_tell (skips_behind skipping (request c) a) is.0 cs report is.1 skips last (before ++ l ∷ []) more ahead u.0 is.3))
+      (lines_tell (skips_behind skipping c a) is.0 cs report is.1 skips last (before ++ l ∷ []) more ahead u.0 is.3))
 
   -- before the first line
   pub first_tells : (cs : List Command) (first : Account) → IsUnbegun kind load job first → IsScript (Some false) cs → Tells kind load job [] false first cs

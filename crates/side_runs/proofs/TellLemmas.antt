@@ -15,7 +15,8 @@ use Rattle.graph_model.proofs.PlaceLemmas.{some_eq}
 use Rattle.run_model.specs.declared.command.Command.{Command}
 use Rattle.run_model.specs.declared.answer.Answer.{Answer}
 use Rattle.run_model.specs.declared.answer.Answer.TheVariants as answers
-use Rattle.run_model.specs.Requests.{ToBegin, ToWrite, request, next_txn, write_of, IsScript}
+use Rattle.run_model.specs.declared.command.Command.TheVariants as commands
+use Rattle.run_model.specs.Commands.{next_txn, write_of, IsScript}
 use Rattle.run_model.specs.AnsweredLines.{AnsweredLine, effect, made_by, of_txn, own_writes, is_stopped, start_of, newest_shown}
 use Rattle.run_model.specs.Run.{load_stamp, txn_name}
 use Rattle.run_model.specs.UnderWay.{AreNumbered}
@@ -84,25 +85,25 @@ module _ (kind : Kind) (load : List Write) (job : ℕ) (before : List AnsweredLi
 
   module _ (c : Command) (rest : List Command) (t : Tells kind load job before skipping now (c ∷ rest)) (seen more : List Commit) (e : seen ≡ now.seen ++ more) where
     abbrev line : Answer → AnsweredLine
-    line a = line_of (next_txn now.begun (request c)) c a
+    line a = line_of (next_txn now.begun c) c a
 
     longer : length seen ≡ length now.seen + length more
     longer = ap length e ∙ length-append now.seen more
 
     lists_more : (a : Answer) → ((effect a).writes ≡ true → (earlier : List (List Write)) × (now.made ≡ earlier ++ now.own ∷ []))
-        → Lists (next_txn now.begun (request c)) (made_behind now.made (request c) a) (before ++ line a ∷ [])
+        → Lists (next_txn now.begun c) (made_behind now.made c a) (before ++ line a ∷ [])
     lists_more a opened = record {
       numbered = numbered_more 0 before now.begun c a t.lists.numbered;
-      counted = made_count now.made now.begun (request c) a t.lists.counted;
-      by_txn = txn_more now.made now.begun before t.lists.counted t.lists.numbered t.lists.by_txn c a (request c) refl;
-      wrote = made_more now.made now.own (next_txn now.begun (request c)) c a opened (request c) refl
+      counted = made_count now.made now.begun c a t.lists.counted;
+      by_txn = txn_more now.made now.begun before t.lists.counted t.lists.numbered t.lists.by_txn c a c refl;
+      wrote = made_more now.made now.own (next_txn now.begun c) c a opened c refl
           ∙ ap (λ xs. xs ++ filter_map made_by (line a ∷ [])) t.lists.wrote ∙ sym (filter_map-append made_by before (line a ∷ []));
     }
 
-    lists_to : (a : Answer) (begun : ℕ) (made : List (List Write)) → next_txn now.begun (request c) ≡ begun → made_behind now.made (request c) a ≡ made
+    lists_to : (a : Answer) (begun : ℕ) (made : List (List Write)) → next_txn now.begun c ≡ begun → made_behind now.made c a ≡ made
         → ((effect a).writes ≡ true → (earlier : List (List Write)) × (now.made ≡ earlier ++ now.own ∷ [])) → Lists begun made (before ++ line a ∷ [])
     lists_to a begun made f g opened =
-        subst (λ n. Lists n made (before ++ line a ∷ [])) f (subst (λ m. Lists (next_txn now.begun (request c)) m (before ++ line a ∷ [])) g (lists_more a opened))
+        subst (λ n. Lists n made (before ++ line a ∷ [])) f (subst (λ m. Lists (next_txn now.begun c) m (before ++ line a ∷ [])) g (lists_more a opened))
 
     -- the line, once it is known where the script is behind it
     with_line : (a : Answer) (new : Account) (skips : Bool) → new.job ≡ now.job → new.kind ≡ now.kind → new.seen ≡ seen → Lists new.begun new.made (before ++ line a ∷ [])
@@ -148,7 +149,7 @@ module _ (kind : Kind) (load : List Write) (job : ℕ) (before : List AnsweredLi
 
     -- the transaction is over behind the line, or it was
     pub tells_over : (a : Answer) (skips : Bool) (start : Option ℕ) (own : List Write) (sighted : List Sighting) (filled : Bool) (stamps : List ℕ) → start ≡ None
-        → next_txn now.begun (request c) ≡ now.begun → made_behind now.made (request c) a ≡ now.made
+        → next_txn now.begun c ≡ now.begun → made_behind now.made c a ≡ now.made
         → (effect a).writes ≡ false → (effect a).stamp ≤ length seen
         → (skips ≡ true → (is_stopped now.begun before || ((effect a).stops || false)) ≡ true) → IsScript (Some skips) rest
         → Tells kind load job (before ++ line a ∷ []) skips (over start own sighted filled stamps) rest
@@ -157,14 +158,14 @@ module _ (kind : Kind) (load : List Write) (job : ℕ) (before : List AnsweredLi
         (at_none a (over start own sighted filled stamps) skips none (λ f. stopped_more now.begun before (line a) same ∙ stop f) script)
 
     -- a transaction begins
-    pub tells_begun : (start : ℕ) → request c ≡ ToBegin → length now.seen ≤ start → start ≤ length seen → IsScript (Some true) rest
+    pub tells_begun : (start : ℕ) → c ≡ commands.Begin → length now.seen ≤ start → start ≤ length seen → IsScript (Some true) rest
         → Tells kind load job (before ++ line (answers.Begun (txn_name job (now.begun + 1)) start) ∷ []) false (record (begun_at now start) { seen = seen }) rest
     tells_begun start is from until script =
         let a : Answer = answers.Begun (txn_name job (now.begun + 1)) start in
         let new : Account = record (begun_at now start) { seen = seen } in
-        let one : next_txn now.begun (request c) ≡ now.begun + 1 = ap (next_txn now.begun) is in
+        let one : next_txn now.begun c ≡ now.begun + 1 = ap (next_txn now.begun) is in
         let none : of_txn (now.begun + 1) before ≡ [] = none_later 0 before now.begun (now.begun + 1) t.lists.numbered (omega arith) in
-        let nothing : filter_map made_by (line a ∷ []) ≡ [] = none_made c ToBegin is refl (next_txn now.begun (request c)) a in
+        let nothing : filter_map made_by (line a ∷ []) ≡ [] = none_made c commands.Begin is refl (next_txn now.begun c) a in
         with_line a new false refl refl refl (lists_to a (now.begun + 1) (now.made ++ [] ∷ []) one (ap (λ r. made_behind now.made r a) is) (λ f. absurd (true≢false (sym f)))) until
         (at_open a new start refl (omega (arith, t.loaded, from)) until
         (record {
@@ -175,7 +176,7 @@ module _ (kind : Kind) (load : List Write) (job : ℕ) (before : List AnsweredLi
         }) script)
 
     -- the transaction goes on
-    module _ (same : next_txn now.begun (request c) ≡ now.begun) (start : ℕ) (opened : now.start ≡ Some start) (script : IsScript (Some true) rest) where
+    module _ (same : next_txn now.begun c ≡ now.begun) (start : ℕ) (opened : now.start ≡ Some start) (script : IsScript (Some true) rest) where
       told : ToldBy before now start
       told = t.place.told start opened
 
@@ -186,7 +187,7 @@ module _ (kind : Kind) (load : List Write) (job : ℕ) (before : List AnsweredLi
       behind_load : load_stamp load ≤ start
       behind_load = (t.place.started start opened).0
 
-      pub tells_plain : (a : Answer) → made_behind now.made (request c) a ≡ now.made → filter_map made_by (line a ∷ []) ≡ [] → (effect a).start ≡ None → (effect a).writes ≡ false → (effect a).stops ≡ false → (effect a).stamp ≡ 0
+      pub tells_plain : (a : Answer) → made_behind now.made c a ≡ now.made → filter_map made_by (line a ∷ []) ≡ [] → (effect a).start ≡ None → (effect a).writes ≡ false → (effect a).stops ≡ false → (effect a).stamp ≡ 0
           → Tells kind load job (before ++ line a ∷ []) false (record now { seen = seen }) rest
       unfolding told within behind_load
       tells_plain a made nothing no_start no_write no_stop stamp =
@@ -200,7 +201,7 @@ module _ (kind : Kind) (load : List Write) (job : ℕ) (before : List AnsweredLi
             last = told.last;
           }) script)
 
-      pub tells_written : (w : Write) → request c ≡ ToWrite w → Tells kind load job (before ++ line answers.Done ∷ []) false (record (with_write now w) { seen = seen }) rest
+      pub tells_written : (w : Write) → c ≡ commands.Write w → Tells kind load job (before ++ line answers.Done ∷ []) false (record (with_write now w) { seen = seen }) rest
       unfolding told within behind_load
       tells_written w is =
           let new : Account = record (with_write now w) { seen = seen } in

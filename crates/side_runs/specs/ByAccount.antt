@@ -11,7 +11,7 @@ use Rattle.graph_model.specs.AccountSteps.{view_of, last_with, ReadsBy, BeginsAt
 use Rattle.run_model.specs.declared.command.Command.{Command}
 use Rattle.run_model.specs.declared.answer.Answer.{Answer}
 use Rattle.run_model.specs.declared.answer.Answer.TheVariants as answers
-use Rattle.run_model.specs.Requests.{Request, ToBegin, ToCommit, ToAbort, ToWrite, ToRead, ToRun, request}
+use Rattle.run_model.specs.declared.command.Command.TheVariants as commands
 use Rattle.run_model.specs.AnsweredLines.{effect}
 use Rattle.run_model.specs.Answering.{refusal_answer, query_answer, kernel_answer, IsKernelTable}
 use Rattle.run_model.specs.Inputs.{File}
@@ -44,19 +44,19 @@ WriteLeaves (Ok done) old new = ReadsBy old new
 WriteLeaves (Err refusal) old new = RefusedLeaves refusal old new
 
 -- a line that isn't skipped, by the calls that it makes
-abbrev pub LiveLineBy : Account → Request → Answer → Account → Type 0
-LiveLineBy old ToBegin answer new =
+abbrev pub LiveLineBy : Account → Command → Answer → Account → Type 0
+LiveLineBy old commands.Begin answer new =
     (begun : Begun) × (answer ≡ answers.Begun begun.by begun.start) × BeginsAt old begun new
-LiveLineBy old ToCommit answer new =
+LiveLineBy old commands.Commit answer new =
     (stamp : Option ℕ) × (answer ≡ answers.Committed stamp) × CommitsBy old stamp new
-LiveLineBy old ToAbort answer new = (answer ≡ answers.Aborted) × AbortsBy old new
-LiveLineBy old (ToWrite w) answer new = (start : ℕ) × (result : Result (Unit {0}) Refusal) × (between : Account)
+LiveLineBy old commands.Abort answer new = (answer ≡ answers.Aborted) × AbortsBy old new
+LiveLineBy old (commands.Write w) answer new = (start : ℕ) × (result : Result (Unit {0}) Refusal) × (between : Account)
     × (old.start ≡ Some start) × (answer ≡ write_answer result) × WritesAt old start w result between
     × WriteLeaves result between new
-LiveLineBy old (ToRead query) answer new =
+LiveLineBy old (commands.Read query) answer new =
     ((start : ℕ) → old.start ≡ Some start → answer ≡ query_answer old.kind (view_of old start) query)
     × ReadsBy old new
-LiveLineBy old (ToRun kernel file) answer new =
+LiveLineBy old (commands.Run kernel file) answer new =
     ((start : ℕ) → old.start ≡ Some start → answer ≡ kernel_answer (view_of old start) kernel)
     × ReadsBy old new
 
@@ -68,7 +68,7 @@ TableBy old (Some filing) files rest =
     × ((start : ℕ) → old.start ≡ Some start → IsKernelTable old.kind (view_of old start) filing.kernel table)
 
 -- a line, before which more of the journal may have been seen; behind a stop it is skipped
-pub record LineBy (skipping : Bool) (old : Account) (r : Request) (answer : Answer) (files rest : List File)
+pub record LineBy (skipping : Bool) (old : Account) (r : Command) (answer : Answer) (files rest : List File)
     (new : Account) : Type 0 where
   pub now : Account
   pub waits : ReadsBy old now
@@ -76,19 +76,19 @@ pub record LineBy (skipping : Bool) (old : Account) (r : Request) (answer : Answ
   pub table : TableBy now (cond (effect answer).files (filing_of r) None) files rest
 
 -- whether the line behind this one is skipped
-abbrev pub skips_behind : Bool → Request → Answer → Bool
+abbrev pub skips_behind : Bool → Command → Answer → Bool
 skips_behind skipping r answer = cond skipping (not (is_end r)) (effect answer).stops
 
 -- ---- what is made
 
 -- `begin` opens a list of writes, and a write that is made stands last
-abbrev pub made_behind : List (List Write) → Request → Answer → List (List Write)
-made_behind made ToBegin answer = made ++ [] ∷ []
-made_behind made ToCommit answer = made
-made_behind made ToAbort answer = made
-made_behind made (ToWrite w) answer = cond (effect answer).writes (last_with made w) made
-made_behind made (ToRead query) answer = made
-made_behind made (ToRun kernel file) answer = made
+abbrev pub made_behind : List (List Write) → Command → Answer → List (List Write)
+made_behind made commands.Begin answer = made ++ [] ∷ []
+made_behind made commands.Commit answer = made
+made_behind made commands.Abort answer = made
+made_behind made (commands.Write w) answer = cond (effect answer).writes (last_with made w) made
+made_behind made (commands.Read query) answer = made
+made_behind made (commands.Run kernel file) answer = made
 
 -- ---- all lines
 
@@ -99,8 +99,8 @@ LinesBy skipping old [] [] files skips last = ReadsBy old last × (skipping ≡ 
 LinesBy skipping old [] (a ∷ report) files skips last = ⊥
 LinesBy skipping old (c ∷ cs) [] files skips last = ⊥
 LinesBy skipping old (c ∷ cs) (a ∷ report) files skips last =
-    (next : Account) × (rest : List File) × LineBy skipping old (request c) a files rest next
-    × LinesBy (skips_behind skipping (request c) a) next cs report rest skips last
+    (next : Account) × (rest : List File) × LineBy skipping old c a files rest next
+    × LinesBy (skips_behind skipping c a) next cs report rest skips last
 
 -- the pass of a script before its first line: it has begun nothing, and has seen the load
 pub record IsUnbegun (kind : Kind) (load : List Write) (job : ℕ) (account : Account) : Type 0 where

@@ -14,7 +14,7 @@ use Rattle.run_model.specs.declared.answer.Answer.{Answer}
 use Rattle.run_model.specs.declared.answer.Answer.TheVariants as answers
 use Rattle.run_model.specs.Inputs.{Inputs, AreInputs, File, Outputs}
 use Rattle.run_model.specs.AnsweredLines.{answered_lines, own_writes}
-use Rattle.run_model.specs.Requests.{begun_by}
+use Rattle.run_model.specs.Commands.{begun_by}
 use Rattle.run_model.specs.Run.{load_stamp, IsRun}
 use Rattle.side_runs.specs.ByAccount.{HasRunBy}
 

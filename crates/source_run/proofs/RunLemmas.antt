@@ -23,7 +23,8 @@ use Rattle.graphalytics_io.specs.Load.{load_of, added_edge}
 use Rattle.graph_files.specs.EdgeFiles.{arcs_of}
 use Rattle.graph_files.specs.Laws.{FilesAreWithinLimits}
 use Rattle.run_model.specs.declared.command.Command.{Command}
-use Rattle.run_model.specs.Requests.{Request, ToBegin, ToCommit, ToAbort, ToWrite, ToRead, ToRun, request, next_txn, begun_by}
+use Rattle.run_model.specs.declared.command.Command.TheVariants as commands
+use Rattle.run_model.specs.Commands.{next_txn, begun_by}
 use Rattle.run_model.specs.Inputs.{Inputs, AreInputs, Outputs}
 use Rattle.run_model.specs.Laws.{SteppedRunsAreRuns}
 use Rattle.run_model.specs.Stepped.{service_turns}
@@ -43,36 +44,36 @@ use Rattle.source_run.specs.Running.{stepped_outputs, IsRunAs, IsLeftAs, EndsAs,
 
 -- ---- transactions that a script begins
 
-next_grows : (n : ℕ) (r : Request) → n ≤ next_txn n r
-next_grows n ToBegin = omega arith
-next_grows n ToCommit = omega arith
-next_grows n ToAbort = omega arith
-next_grows n (ToWrite w) = omega arith
-next_grows n (ToRead query) = omega arith
-next_grows n (ToRun kernel file) = omega arith
+next_grows : (n : ℕ) (r : Command) → n ≤ next_txn n r
+next_grows n commands.Begin = omega arith
+next_grows n commands.Commit = omega arith
+next_grows n commands.Abort = omega arith
+next_grows n (commands.Write w) = omega arith
+next_grows n (commands.Read query) = omega arith
+next_grows n (commands.Run kernel file) = omega arith
 
 begun_grows : (cs : List Command) (n : ℕ) → n ≤ begun_by n cs
 begun_grows [] n = omega arith
-begun_grows (c ∷ cs) n = omega (arith, next_grows n (request c), begun_grows cs (next_txn n (request c)))
+begun_grows (c ∷ cs) n = omega (arith, next_grows n c, begun_grows cs (next_txn n c))
 
 -- no more are begun by the first lines than by all
 pub begun_within : (cs : List Command) (n i : ℕ) → begun_by n (take i cs) ≤ begun_by n cs
 begun_within cs n zero = begun_grows cs n
 begun_within [] n (suc i) = omega arith
-begun_within (c ∷ cs) n (suc i) = begun_within cs (next_txn n (request c)) i
+begun_within (c ∷ cs) n (suc i) = begun_within cs (next_txn n c) i
 
 -- one line more
-begun_more : (cs : List Command) (n i : ℕ) (d : Command) → i < length cs → begun_by n (take (suc i) cs) ≡ next_txn (begun_by n (take i cs)) (request (get_or cs i d))
+begun_more : (cs : List Command) (n i : ℕ) (d : Command) → i < length cs → begun_by n (take (suc i) cs) ≡ next_txn (begun_by n (take i cs)) (get_or cs i d)
 begun_more [] n i d lt = absurd (omega (arith, lt))
 begun_more (c ∷ cs) n zero d lt = refl
-begun_more (c ∷ cs) n (suc i) d lt = begun_more cs (next_txn n (request c)) i d (omega (arith, lt))
+begun_more (c ∷ cs) n (suc i) d lt = begun_more cs (next_txn n c) i d (omega (arith, lt))
 
 -- a line is counted where it begins a transaction
-pub begun_next : (cs : List Command) (i : ℕ) (c : Command) → i < length cs → c ≡ get_or cs i c → (begins : Bool) → ((n : ℕ) → next_txn n (request c) ≡ cond begins (n + 1) n)
+pub begun_next : (cs : List Command) (i : ℕ) (c : Command) → i < length cs → c ≡ get_or cs i c → (begins : Bool) → ((n : ℕ) → next_txn n c ≡ cond begins (n + 1) n)
     → (count : ℕ) → count ≡ begun_by 0 (take i cs) → cond begins (count + 1) count ≡ begun_by 0 (take (i + 1) cs)
 begun_next cs i c lt is begins next count counted =
     let one_more : suc i ≡ i + 1 = omega arith in
-    sym (next count) ∙ (λ j. next_txn (counted j) (request (is j))) ∙ sym (begun_more cs 0 i c lt) ∙ ap (λ k. begun_by 0 (take k cs)) one_more
+    sym (next count) ∙ (λ j. next_txn (counted j) (is j)) ∙ sym (begun_more cs 0 i c lt) ∙ ap (λ k. begun_by 0 (take k cs)) one_more
 
 -- ---- jobs
 

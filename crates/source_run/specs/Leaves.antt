@@ -5,23 +5,23 @@ use Rattle.graph_model.specs.declared.write.Kind.{Kind}
 use Rattle.graph_model.specs.Inserted.{inserted, inserted_by}
 use Rattle.run_model.specs.declared.command.Command.{Command}
 use Rattle.run_model.specs.Inputs.{Inputs}
-use Rattle.run_model.specs.Requests.{Request, ToBegin, ToCommit, ToAbort, ToWrite, ToRead, ToRun, request}
+use Rattle.run_model.specs.declared.command.Command.TheVariants as commands
 use Rattle.command_words.specs.Words.{RunRequest}
 use Rattle.source_run.specs.declared.leaves.TheConstants.{MOST_ROWS}
 use Rattle.source_run.specs.Requests.{kind_of}
 use Rattle.source_run.specs.Input.{Meaning, inputs_of}
 
 -- the most rows that a line inserts
-abbrev pub asked_by : Kind → Request → ℕ
-asked_by kind ToBegin = 0
-asked_by kind ToCommit = 0
-asked_by kind ToAbort = 0
-asked_by kind (ToWrite w) = inserted_by kind w
-asked_by kind (ToRead query) = 0
-asked_by kind (ToRun kernel file) = 0
+abbrev pub asked_by : Kind → Command → ℕ
+asked_by kind commands.Begin = 0
+asked_by kind commands.Commit = 0
+asked_by kind commands.Abort = 0
+asked_by kind (commands.Write w) = inserted_by kind w
+asked_by kind (commands.Read query) = 0
+asked_by kind (commands.Run kernel file) = 0
 
 abbrev pub asked_in : Kind → List Command → ℕ
-asked_in kind commands = sum_by (λ c. asked_by kind (request c)) commands
+asked_in kind script = sum_by (asked_by kind) script
 
 -- the most rows that the load and the lines of all scripts insert
 abbrev pub most_rows : Inputs → ℕ

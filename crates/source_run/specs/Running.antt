@@ -11,7 +11,7 @@ use Rattle.graph_model.specs.OwnerCalls.{Core}
 use Rattle.graphalytics_io.specs.declared.edges.Edge.{Edge}
 use Rattle.graphalytics_io.specs.Load.{load_of}
 use Rattle.run_model.specs.declared.command.Command.{Command}
-use Rattle.run_model.specs.Requests.{begun_by}
+use Rattle.run_model.specs.Commands.{begun_by}
 use Rattle.run_model.specs.Answering.{edges_in}
 use Rattle.run_model.specs.Inputs.{Inputs, Outputs}
 use Rattle.run_model.specs.Run.{IsRun}

@@ -6,7 +6,7 @@
 
 ghost use Rattle.std.specs.Prelude.{◌≡◌, ◌+◌, ◌/◌, ◌≤◌, [], min, IfSome};
 ghost use Rattle.graph_model.specs.declared.limits.TheConstants.{MAX_LEAVES, SPLIT_ROWS};
-ghost use Rattle.run_model.specs.Requests.{request};
+ghost use Rattle.graph_model.specs.Inserted.{inserted_by};
 ghost use Rattle.source_run.specs.declared.leaves.TheConstants.{MOST_ROWS};
 ghost use Rattle.source_run.specs.Input.{inputs_of};
 ghost use Rattle.source_run.specs.Leaves.{asked_by, asked_in, leaves_for, most_rows, counted};
@@ -14,7 +14,7 @@ ghost use Rattle.source_run.specs.Parsing.{meaning_of};
 ghost use Rattle.source_run.specs.Running.{Fits};
 
 use crate::input::Input;
-use graph_model::{Kind, MAX_LEAVES, SPLIT_ROWS};
+use graph_model::{Kind, MAX_LEAVES, SPLIT_ROWS, Write};
 use run_model::{Command, Script};
 
 /// How many rows fill the greatest number of leaves.
@@ -84,12 +84,23 @@ fn rows_with(kind: Kind, script: &[Command], before: u64) -> u64
 
 /// How many rows a line may insert.
 fn asked_by(kind: Kind, command: &Command) -> u64
-    ensures asked { result ≡ asked_by kind (request command.now) }
+    ensures asked { result ≡ asked_by kind command.now }
     ensures few { result ≤ 2 }
 {
     match command {
-        Command::AddVertex { .. } => 1,
-        Command::AddEdge { .. } => match kind {
+        Command::Write { write } => inserted_by(kind, *write),
+        _ => 0,
+    }
+}
+
+/// How many rows a write may insert.
+fn inserted_by(kind: Kind, write: Write) -> u64
+    ensures inserted { result ≡ inserted_by kind write }
+    ensures few { result ≤ 2 }
+{
+    match write {
+        Write::AddVertex { v: _ } => 1,
+        Write::AddEdge { .. } => match kind {
             Kind::Directed => 1,
             Kind::Undirected => 2,
         },

@@ -12,7 +12,7 @@ ghost use Rattle.graph_model.specs.Graph.{empty_graph};
 ghost use Rattle.graph_model.specs.Loading.{IsNew, IsLoad, IsLoadRefusal, loaded};
 ghost use Rattle.graph_model.specs.Refused.{AllAllowed, IsWithinLimits};
 ghost use Rattle.run_model.specs.Inputs.{Inputs, AreInputs};
-ghost use Rattle.run_model.specs.Requests.{request, next_txn, begun_by};
+ghost use Rattle.run_model.specs.Commands.{next_txn, begun_by};
 ghost use Rattle.txn_manager.specs.Config.{too_large};
 ghost use Rattle.serial_runner.specs.TeseoCore.Keeping.{new_core};
 ghost use Rattle.serial_runner.specs.JobRunner.Runs.{new_jobs, AreNew, GivesUp};
@@ -167,7 +167,7 @@ fn begins(script: &[Command]) -> u32
 
 /// Whether the line begins a transaction.
 fn is_begin(command: &Command) -> bool
-    ensures { (n : ℕ) → next_txn n (request command.now) ≡ cond result (n + 1) n }
+    ensures { (n : ℕ) → next_txn n command.now ≡ cond result (n + 1) n }
 {
     matches!(command, Command::Begin)
 }

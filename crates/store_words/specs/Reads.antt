@@ -1,12 +1,18 @@
 -- What the loads of a read leave of a seat's view, and what they tell.
-use Rattle.std.specs.Prelude.{◌≡◌, ℕ, [], ◌∷◌, Option, Some, None}
+use Rattle.std.specs.Prelude.{◌≡◌, ◌<◌, ℕ, [], ◌∷◌, Option, Some, None}
 use Rattle.txn_manager.specs.declared.config.Config.{Config}
 use Rattle.rule_model.specs.StoreRelationDeclared.stage.Stage.TheVariants.{Open}
 use Rattle.rule_model.specs.StoreRelation.Passes.{PassState, name_at}
 use Rattle.rule_model.specs.StoreRelation.Readers.{ReaderState}
 use Rattle.rule_model.specs.CellsModel.Reads.{Reading, IsValidated, second_loaded, word_loaded}
 use Rattle.rule_model.specs.BlockSteps.{GiveView}
-use Rattle.rule_model.specs.Sight.{Sight, HasPass, with_found, with_reading}
+use Rattle.rule_model.specs.Places.{lines}
+use Rattle.rule_model.specs.Sight.{Sight, HasPass, cells_of, with_found, with_reading}
+use Rattle.store_words.specs.declared.lines.Block.{Block}
+
+-- the block of one of the store's cells, and its begin among the words
+abbrev pub IsBlockOf : Config → Block → Type 0
+IsBlockOf z block = (block.cell < cells_of z) × (block.begin ≡ (lines z.passes).cell block.cell)
 
 -- a read of the cell is under way
 abbrev pub IsReadOf : Sight → ℕ → Type 0

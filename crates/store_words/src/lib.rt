@@ -20,6 +20,7 @@ mod steps;
 
 pub use accounts::Accounts;
 pub use first::{Begins, first_seat};
+pub use lines::Block;
 pub use notes::{Cut, Cuts, TakesIn};
 pub use rule::{Account, AccountRule, AccountSight, Beginning};
 pub use steps::{Turn, Turns};

@@ -9,10 +9,11 @@ ghost use Rattle.std.specs.Prelude.{◌≡◌, ◌<◌, ◌≤◌, ℕ, Some};
 ghost use Rattle.rule_model.specs.CellsModel.Reads.{Reading, first_loaded};
 ghost use Rattle.rule_model.specs.CellsModel.Words.{block_words};
 ghost use Rattle.rule_model.specs.Sight.{cells_of, with_found};
-ghost use Rattle.store_words.specs.Reads.{HasOpenPass, HasReader, IsReadOf, PassIsTold, ReaderIsTold, read_ended, word_read};
+ghost use Rattle.store_words.specs.Reads.{IsBlockOf, HasOpenPass, HasReader, IsReadOf, PassIsTold, ReaderIsTold, read_ended, word_read};
 ghost use Rattle.store_words.specs.Steps.{Knows};
 
 use crate::accounts::Accounts;
+use crate::lines::Block;
 use crate::rule::Account;
 use std::marker::Brand;
 use txn_manager::Config;
@@ -31,15 +32,15 @@ impl Accounts {
     }
 
     /// Loads another word of the block.
-    pub fn block_load(&self, seat: &mut Account, cell: u32, word: u32) -> u64
+    pub fn block_load(&self, seat: &mut Account, block: Block, word: u32) -> u64
         requires table { seat.old.table_id ≡ self.now.table.shared.table_id }
-        requires cell { cell < cells_of self.now.config }
+        requires block { IsBlockOf self.now.config block }
         requires word { (1 ≤ word) × (word < block_words) }
-        requires reading { IsReadOf seat.old.me.0 cell }
+        requires reading { IsReadOf seat.old.me.0 block.cell }
         ensures loaded { Knows seat.old seat.new (word_read seat.old.me.0 word result) }
     {
         // Has to be an acquire: where a writer's word is found, so is that writer's version word, at the second load.
-        let place = self.block_place(cell, word);
+        let place = self.place_in(block, word);
         self.load_as::<Brand, u32>(seat, place, &word)
     }
 

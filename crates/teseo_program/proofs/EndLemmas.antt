@@ -11,7 +11,7 @@ use Rattle.source_run.specs.GraphFiles.EdgeFiles.{edges_of}
 use Rattle.run_model.specs.declared.command.Command.{Command}
 use Rattle.run_model.specs.declared.answer.Answer.{Answer}
 use Rattle.run_model.specs.declared.answer.Answer.TheVariants as answers
-use Rattle.run_model.specs.Requests.{request, next_txn}
+use Rattle.run_model.specs.Commands.{next_txn}
 use Rattle.run_model.specs.AnsweredLines.{AnsweredLine, answered_from, answered_lines}
 use Rattle.run_model.specs.Inputs.{Inputs, Outputs}
 use Rattle.run_model.specs.Run.{answered_scripts, IsRun}
@@ -94,8 +94,8 @@ report_has_none txn [] [] same none = refl
 report_has_none txn [] (a ∷ report) same none = absurd (omega (arith, same))
 report_has_none txn (c ∷ cs) [] same none = refl
 report_has_none txn (c ∷ cs) (a ∷ report) same none =
-    let here : is_full a ≡ false = not_true (is_full a) (λ e. none 0 (record { txn = next_txn txn (request c); command = c; answer = a }) refl (full_is a e)) in
-    let rest : list_any is_full report ≡ false = report_has_none (next_txn txn (request c)) cs report (omega (arith, same)) (λ i l at. none (suc i) l at) in
+    let here : is_full a ≡ false = not_true (is_full a) (λ e. none 0 (record { txn = next_txn txn c; command = c; answer = a }) refl (full_is a e)) in
+    let rest : list_any is_full report ≡ false = report_has_none (next_txn txn c) cs report (omega (arith, same)) (λ i l at. none (suc i) l at) in
     λ i. here i || rest i
 
 reports_have_none : (scripts : List (List Command)) (reports : List (List Answer)) → length reports ≡ length scripts

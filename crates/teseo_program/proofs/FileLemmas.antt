@@ -5,7 +5,8 @@ use Rattle.std.specs.List.{flat_map}
 use Rattle.std.proofs.lemmas.List.{append-nil, append_assoc}
 use Rattle.run_model.specs.declared.command.Command.{Command}
 use Rattle.run_model.specs.declared.answer.Answer.{Answer}
-use Rattle.run_model.specs.Requests.{Request, ToBegin, ToCommit, ToAbort, ToWrite, ToRead, ToRun, request, next_txn}
+use Rattle.run_model.specs.declared.command.Command.TheVariants as commands
+use Rattle.run_model.specs.Commands.{next_txn}
 use Rattle.run_model.specs.AnsweredLines.{AnsweredLine, answered_from, answered_lines, effect}
 use Rattle.run_model.specs.Inputs.{Inputs, File, Outputs}
 use Rattle.run_model.specs.Run.{Context, filing_of, IsFiled, HasFiles, IsRun, answered_scripts, context_at}
@@ -19,30 +20,30 @@ names_in files = map (λ f. f.name) files
 
 -- the files of lines are among those that the lines ask for, in their order
 abbrev asked_by : List AnsweredLine → List (List ℕ)
-asked_by lines = flat_map (λ l. file_of (request l.command)) lines
+asked_by lines = flat_map (λ l. file_of l.command) lines
 
-one_file : (context : Context) (before : List AnsweredLine) (txn : ℕ) (r : Request) (shown : Bool) (files rest : List File) (names : List (List ℕ))
+one_file : (context : Context) (before : List AnsweredLine) (txn : ℕ) (r : Command) (shown : Bool) (files rest : List File) (names : List (List ℕ))
     → IsFiled context before txn (cond shown (filing_of r) None) files rest → IsSublist (names_in rest) names → IsSublist (names_in files) (file_of r ++ names)
 one_file context before txn r false files rest names is sub = subst (λ fs. IsSublist (names_in fs) (file_of r ++ names)) (sym is) (sub_behind (file_of r) (names_in rest) names sub)
-one_file context before txn ToBegin true files rest names is sub = subst (λ fs. IsSublist (names_in fs) names) (sym is) sub
-one_file context before txn ToCommit true files rest names is sub = subst (λ fs. IsSublist (names_in fs) names) (sym is) sub
-one_file context before txn ToAbort true files rest names is sub = subst (λ fs. IsSublist (names_in fs) names) (sym is) sub
-one_file context before txn (ToWrite w) true files rest names is sub = subst (λ fs. IsSublist (names_in fs) names) (sym is) sub
-one_file context before txn (ToRead query) true files rest names is sub = subst (λ fs. IsSublist (names_in fs) names) (sym is) sub
-one_file context before txn (ToRun kernel file) true files rest names is sub =
+one_file context before txn commands.Begin true files rest names is sub = subst (λ fs. IsSublist (names_in fs) names) (sym is) sub
+one_file context before txn commands.Commit true files rest names is sub = subst (λ fs. IsSublist (names_in fs) names) (sym is) sub
+one_file context before txn commands.Abort true files rest names is sub = subst (λ fs. IsSublist (names_in fs) names) (sym is) sub
+one_file context before txn (commands.Write w) true files rest names is sub = subst (λ fs. IsSublist (names_in fs) names) (sym is) sub
+one_file context before txn (commands.Read query) true files rest names is sub = subst (λ fs. IsSublist (names_in fs) names) (sym is) sub
+one_file context before txn (commands.Run kernel file) true files rest names is sub =
     subst (λ fs. IsSublist (names_in fs) (file ∷ names)) (sym is.1) (inl (refl, sub))
 
 files_asked : (context : Context) (before lines : List AnsweredLine) (files : List File) → HasFiles context before lines files → IsSublist (names_in files) (asked_by lines)
 files_asked context before [] files has = subst (λ fs. IsSublist (names_in fs) []) (sym has) tt
 files_asked context before (l ∷ lines) files has =
-    one_file context before l.txn (request l.command) (effect l.answer).files files has.0 (asked_by lines) has.1 (files_asked context (before ++ l ∷ []) lines has.0 has.2)
+    one_file context before l.txn l.command (effect l.answer).files files has.0 (asked_by lines) has.1 (files_asked context (before ++ l ∷ []) lines has.0 has.2)
 
 -- a script with its whole report has the script's commands
 same_commands : (txn : ℕ) (cs : List Command) (report : List Answer) → length report ≡ length cs → asked_by (answered_from txn cs report) ≡ files_of cs
 same_commands txn [] report same = refl
 same_commands txn (c ∷ cs) [] same = absurd (omega (arith, same))
 same_commands txn (c ∷ cs) (a ∷ report) same =
-    ap (λ rest. file_of (request c) ++ rest) (same_commands (next_txn txn (request c)) cs report (omega (arith, same)))
+    ap (λ rest. file_of c ++ rest) (same_commands (next_txn txn c) cs report (omega (arith, same)))
 
 -- so it is with all scripts of a run
 all_asked : (context : ℕ → Context) (scripts : List (List Command)) (reports : List (List Answer)) (files : List (List File))

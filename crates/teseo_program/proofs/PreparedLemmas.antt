@@ -14,7 +14,7 @@ use Rattle.graphalytics_io.specs.Load.{load_of}
 use Rattle.source_run.specs.GraphFiles.Load.{IsLoadable}
 use Rattle.source_run.specs.GraphFiles.Laws.{LoadIsAllowed, LoadIsWithinLimits, FilesAreLoadable}
 use Rattle.run_model.specs.declared.command.Command.{Command}
-use Rattle.run_model.specs.Requests.{begun_by, IsScript}
+use Rattle.run_model.specs.Commands.{begun_by, IsScript}
 use Rattle.run_model.specs.Inputs.{AreInputs}
 use Rattle.source_run.specs.ScriptLang.FieldFaults.{IsNameByte}
 use Rattle.source_run.specs.ScriptLang.Scripts.{files_of}

@@ -8,29 +8,30 @@ use Rattle.graph_model.specs.Inserted.{inserted, inserted_by}
 use Rattle.run_model.specs.declared.answer.Answer.{Answer}
 use Rattle.run_model.specs.declared.command.Command.{Command}
 use Rattle.run_model.specs.AnsweredLines.{AnsweredLine, answered_from, answered_lines, effect, made_by}
-use Rattle.run_model.specs.Requests.{Request, ToBegin, ToCommit, ToAbort, ToWrite, ToRead, ToRun, request, next_txn, write_of}
+use Rattle.run_model.specs.declared.command.Command.TheVariants as commands
+use Rattle.run_model.specs.Commands.{next_txn, write_of}
 use Rattle.run_model.specs.Run.{answered_scripts, inserted_in}
 use Rattle.run_model.proofs.SetLemmas.{sum_cons}
 use Rattle.source_run.specs.Leaves.{asked_by, asked_in}
 use Rattle.teseo_program.specs.Laws.{LoadsFindRoom, RunsFindRoom}
 
 -- what a line makes inserts no more rows than the line asks for
-line_asks : (kind : Kind) (r : Request) (made : Bool) (ws : List Write) → inserted kind (cons_option (cond made (write_of r) None) ws) ≤ asked_by kind r + inserted kind ws
+line_asks : (kind : Kind) (r : Command) (made : Bool) (ws : List Write) → inserted kind (cons_option (cond made (write_of r) None) ws) ≤ asked_by kind r + inserted kind ws
 line_asks kind r false ws = omega arith
-line_asks kind ToBegin true ws = omega arith
-line_asks kind ToCommit true ws = omega arith
-line_asks kind ToAbort true ws = omega arith
-line_asks kind (ToWrite w) true ws = let sum = sum_cons (inserted_by kind) w ws in omega (arith, sum)
-line_asks kind (ToRead query) true ws = omega arith
-line_asks kind (ToRun kernel file) true ws = omega arith
+line_asks kind commands.Begin true ws = omega arith
+line_asks kind commands.Commit true ws = omega arith
+line_asks kind commands.Abort true ws = omega arith
+line_asks kind (commands.Write w) true ws = let sum = sum_cons (inserted_by kind) w ws in omega (arith, sum)
+line_asks kind (commands.Read query) true ws = omega arith
+line_asks kind (commands.Run kernel file) true ws = omega arith
 
 script_asks : (kind : Kind) (txn : ℕ) (cs : List Command) (answers : List Answer) → inserted kind (filter_map made_by (answered_from txn cs answers)) ≤ asked_in kind cs
 script_asks kind txn [] answers = omega arith
 script_asks kind txn (c ∷ cs) [] = omega arith
 script_asks kind txn (c ∷ cs) (a ∷ answers) =
-    let rest = script_asks kind (next_txn txn (request c)) cs answers in
-    let here = line_asks kind (request c) (effect a).writes (filter_map made_by (answered_from (next_txn txn (request c)) cs answers)) in
-    let sum = sum_cons (λ x. asked_by kind (request x)) c cs in
+    let rest = script_asks kind (next_txn txn c) cs answers in
+    let here = line_asks kind c (effect a).writes (filter_map made_by (answered_from (next_txn txn c) cs answers)) in
+    let sum = sum_cons (λ x. asked_by kind x) c cs in
     omega (arith, rest, here, sum)
 
 scripts_ask : (kind : Kind) (scripts : List (List Command)) (reports : List (List Answer)) → inserted_in kind (answered_scripts scripts reports) ≤ sum_by (asked_in kind) scripts

@@ -10,7 +10,7 @@ use Rattle.run_model.specs.declared.command.Command.{Command}
 use Rattle.run_model.specs.declared.command.Command.TheVariants as commands
 use Rattle.run_model.specs.declared.answer.Answer.{Answer}
 use Rattle.run_model.specs.declared.answer.Answer.TheVariants as answers
-use Rattle.run_model.specs.Requests.{Request, ToBegin, ToCommit, ToAbort, ToWrite, ToRead, ToRun, request, next_txn}
+use Rattle.run_model.specs.Commands.{next_txn}
 use Rattle.run_model.specs.AnsweredLines.{AnsweredLine, effect, answered_from, answered_lines}
 use Rattle.run_model.specs.Inputs.{Inputs, Outputs}
 use Rattle.run_model.specs.Run.{answered_scripts}
@@ -26,18 +26,18 @@ use Rattle.teseo_program.proofs.FileLemmas.{names_in, files_of_run}
 
 -- ---- lines
 
-asks_commit : (r : Request) → is_commit r ≡ true → r ≡ ToCommit
-asks_commit ToBegin e = cc
-asks_commit ToCommit e = refl
-asks_commit ToAbort e = cc
-asks_commit (ToWrite w) e = cc
-asks_commit (ToRead query) e = cc
-asks_commit (ToRun kernel file) e = cc
+asks_commit : (r : Command) → is_commit r ≡ true → r ≡ commands.Commit
+asks_commit commands.Begin e = cc
+asks_commit commands.Commit e = refl
+asks_commit commands.Abort e = cc
+asks_commit (commands.Write w) e = cc
+asks_commit (commands.Read query) e = cc
+asks_commit (commands.Run kernel file) e = cc
 
 -- what commits and aborts have alike, each line has that is read
-line_same : {X : Type 0} (f : Request → X) → f ToAbort ≡ f ToCommit → (c : Command) (a : Answer) → f (request (command_read c a)) ≡ f (request c)
-line_same f alike c a = elim (is_refused c a) as (λ t. is_refused c a ≡ t → f (request (cond t commands.Abort c)) ≡ f (request c)) [
-  | true ↦ λ t. alike ∙ ap f (sym (asks_commit (request c) (both_of (is_commit (request c)) _ t).0))
+line_same : {X : Type 0} (f : Command → X) → f commands.Abort ≡ f commands.Commit → (c : Command) (a : Answer) → f (command_read c a) ≡ f c
+line_same f alike c a = elim (is_refused c a) as (λ t. is_refused c a ≡ t → f (cond t commands.Abort c) ≡ f c) [
+  | true ↦ λ t. alike ∙ ap f (sym (asks_commit c (both_of (is_commit c) _ t).0))
   | false ↦ λ t. refl
 ] refl
 
@@ -50,9 +50,9 @@ rows_same : (kind : Kind) (cs : List Command) (report : List Answer) → asked_i
 rows_same kind [] report = refl
 rows_same kind (c ∷ cs) [] = refl
 rows_same kind (c ∷ cs) (a ∷ report) =
-    sum_cons (λ x. asked_by kind (request x)) (command_read c a) (script_read cs report)
+    sum_cons (λ x. asked_by kind x) (command_read c a) (script_read cs report)
     ∙ (λ i. line_same (asked_by kind) refl c a i + rows_same kind cs report i)
-    ∙ sym (sum_cons (λ x. asked_by kind (request x)) c cs)
+    ∙ sym (sum_cons (λ x. asked_by kind x) c cs)
 
 -- ---- scripts
 
@@ -111,8 +111,8 @@ report_same : (kind : Kind) (journal : List Commit) (before : List AnsweredLine)
 report_same kind journal before txn [] report each = refl
 report_same kind journal before txn (c ∷ cs) [] each = refl
 report_same kind journal before txn (c ∷ cs) (a ∷ report) each =
-    let l : AnsweredLine = record { txn = next_txn txn (request c); command = c; answer = a } in
-    λ i. answer_same kind journal before l each.0 i || report_same kind journal (before ++ l ∷ []) (next_txn txn (request c)) cs report each.1 i
+    let l : AnsweredLine = record { txn = next_txn txn c; command = c; answer = a } in
+    λ i. answer_same kind journal before l each.0 i || report_same kind journal (before ++ l ∷ []) (next_txn txn c) cs report each.1 i
 
 reports_same : (kind : Kind) (journal : List Commit) (scripts : List (List Command)) (reports : List (List Answer))
     → ((k : ℕ) (ls : List AnsweredLine) → slice_get (answered_scripts scripts reports) k ≡ Some ls → EachLine (IsSerialLine kind journal) [] ls)

@@ -14,7 +14,11 @@ use Rattle.run_model.specs.declared.answer.Answer.{Answer}
 use Rattle.run_model.specs.declared.answer.Answer.TheVariants as answers
 use Rattle.run_model.specs.AnsweredLines.{effect}
 use Rattle.run_model.specs.Answering.{query_answer, kernel_answer, IsKernelTable}
-use Rattle.run_model.specs.Requests.{Query, Kernel, Request, ToBegin, ToCommit, ToAbort, ToWrite, ToRead, ToRun, IsRequest, next_txn, open_behind}
+use Rattle.run_model.specs.declared.command.Command.{Command}
+use Rattle.run_model.specs.declared.command.Command.TheVariants as commands
+use Rattle.run_model.specs.declared.command.Query.{Query}
+use Rattle.run_model.specs.declared.command.Kernel.{Kernel}
+use Rattle.run_model.specs.Commands.{IsCommand, next_txn, open_behind}
 use Rattle.run_model.specs.Run.{Filing, filing_of}
 use Rattle.run_model.specs.Jobs.{is_end, skips}
 use Rattle.run_model.proofs.AnswerLemmas.{query_plain, kernel_plain}
@@ -32,7 +36,7 @@ use Rattle.job_runner.specs.Progress.{listed_table}
 use Rattle.thread_runner.specs.ByAccount.{phase_left}
 
 -- what a line that isn't skipped leaves of the account, in this phase
-pub record Leaves (old : Account) (phase : Phase) (r : Request) (given : LineAnswer) (new : Account) : Type 0 where
+pub record Leaves (old : Account) (phase : Phase) (r : Command) (given : LineAnswer) (new : Account) : Type 0 where
   pub line : LiveLineBy old r given.answer new
   pub table : TableBy old (cond (effect given.answer).files (filing_of r) None) (map file_of (listed_table given.table)) []
   pub phase_is : given.phase ≡ phase_left (effect given.answer).stops new
@@ -74,12 +78,12 @@ module _ {S : Type 0} (e : Calls S) (by : AreByAccount e) where
 
   module _ (old new : S) (valid : IsValid (e.account old)) where
     -- a transaction begins
-    leaves_begin : (given : LineAnswer) → AnswersLive e old ToBegin given new → Leaves (e.account old) Between ToBegin given (e.account new)
+    leaves_begin : (given : LineAnswer) → AnswersLive e old commands.Begin given new → Leaves (e.account old) Between commands.Begin given (e.account new)
     leaves_begin given is =
         let b = by.begins_by old new (Ok is.0) is.2 in
         let goes = b.0.opened in
         let start : (e.account new).start ≡ Some is.0.start = ap (λ (a : Account). a.start) goes.others in
-        subst (λ x. Leaves (e.account old) Between ToBegin x (e.account new)) (sym is.1) (record {
+        subst (λ x. Leaves (e.account old) Between commands.Begin x (e.account new)) (sym is.1) (record {
           line = (is.0, refl, b.0);
           table = refl;
           phase_is = sym (ap phase_at start);
@@ -93,7 +97,7 @@ module _ {S : Type 0} (e : Calls S) (by : AreByAccount e) where
         })
 
     -- it ends
-    leaves_end : (r : Request) (a : Answer) (given : LineAnswer) → given ≡ plain a Between → (effect a).stops ≡ false → filing_of r ≡ None → is_end r ≡ true → ((n : ℕ) → next_txn n r ≡ n) → LiveLineBy (e.account old) r a (e.account new)
+    leaves_end : (r : Command) (a : Answer) (given : LineAnswer) → given ≡ plain a Between → (effect a).stops ≡ false → filing_of r ≡ None → is_end r ≡ true → ((n : ℕ) → next_txn n r ≡ n) → LiveLineBy (e.account old) r a (e.account new)
         → (changed : Account) → changed.start ≡ None → changed.job ≡ (e.account old).job → changed.allowed ≡ (e.account old).allowed → changed.begun ≡ (e.account old).begun → GoesOn (e.account old) changed (e.account new) → IsValid (e.account new)
         → Leaves (e.account old) Open r given (e.account new)
     leaves_end r a given is calm none last same line changed closed job allowed begun goes now =
@@ -111,22 +115,22 @@ module _ {S : Type 0} (e : Calls S) (by : AreByAccount e) where
           same = λ f. cc;
         })
 
-    leaves_commit : (given : LineAnswer) → AnswersLive e old ToCommit given new → Leaves (e.account old) Open ToCommit given (e.account new)
+    leaves_commit : (given : LineAnswer) → AnswersLive e old commands.Commit given new → Leaves (e.account old) Open commands.Commit given (e.account new)
     leaves_commit given (None, is, did) =
         let c = by.commits_by old new None did in
-        leaves_end ToCommit (answers.Committed None) given is refl refl refl (λ n. refl) (None, refl, c.0) (ended (e.account old)) refl refl refl refl c.0.1 (commit_keeps (e.account old) valid None (e.account new) c.1 c.0)
+        leaves_end commands.Commit (answers.Committed None) given is refl refl refl (λ n. refl) (None, refl, c.0) (ended (e.account old)) refl refl refl refl c.0.1 (commit_keeps (e.account old) valid None (e.account new) c.1 c.0)
     leaves_commit given (Some stamp, is, did) =
         let c = by.commits_by old new (Some stamp) did in
-        leaves_end ToCommit (answers.Committed (Some stamp)) given is refl refl refl (λ n. refl) (Some stamp, refl, c.0) (stamped (e.account old) stamp) refl refl refl refl c.0.1 (commit_keeps (e.account old) valid (Some stamp) (e.account new) c.1 c.0)
+        leaves_end commands.Commit (answers.Committed (Some stamp)) given is refl refl refl (λ n. refl) (Some stamp, refl, c.0) (stamped (e.account old) stamp) refl refl refl refl c.0.1 (commit_keeps (e.account old) valid (Some stamp) (e.account new) c.1 c.0)
 
-    leaves_abort : (given : LineAnswer) → AnswersLive e old ToAbort given new → Leaves (e.account old) Open ToAbort given (e.account new)
+    leaves_abort : (given : LineAnswer) → AnswersLive e old commands.Abort given new → Leaves (e.account old) Open commands.Abort given (e.account new)
     leaves_abort given is =
         let c = by.aborts_by old new is.1 in
-        leaves_end ToAbort answers.Aborted given is.0 refl refl refl (λ n. refl) (refl, c.0) (ended (e.account old)) refl refl refl refl c.0 (abort_keeps (e.account old) valid (e.account new) c.1 c.0)
+        leaves_end commands.Abort answers.Aborted given is.0 refl refl refl (λ n. refl) (refl, c.0) (ended (e.account old)) refl refl refl refl c.0 (abort_keeps (e.account old) valid (e.account new) c.1 c.0)
 
     module _ (opened : IsSome (e.account old).start) where
       -- a read, or a kernel
-      leaves_read : (r : Request) (given : LineAnswer) → given.phase ≡ Open → (effect given.answer).stops ≡ false → is_end r ≡ false → ((n : ℕ) → next_txn n r ≡ n) → ReadsOn e.reads old new
+      leaves_read : (r : Command) (given : LineAnswer) → given.phase ≡ Open → (effect given.answer).stops ≡ false → is_end r ≡ false → ((n : ℕ) → next_txn n r ≡ n) → ReadsOn e.reads old new
           → (ReadsBy (e.account old) (e.account new) → LiveLineBy (e.account old) r given.answer (e.account new))
           → TableBy (e.account old) (cond (effect given.answer).files (filing_of r) None) (map file_of (listed_table given.table)) []
           → Leaves (e.account old) Open r given (e.account new)
@@ -147,20 +151,20 @@ module _ {S : Type 0} (e : Calls S) (by : AreByAccount e) where
             same = λ f. sees_still (e.account old) (e.account new) valid opened read.0;
           }
 
-      leaves_query : (query : Query) (given : LineAnswer) → AnswersLive e old (ToRead query) given new → Leaves (e.account old) Open (ToRead query) given (e.account new)
+      leaves_query : (query : Query) (given : LineAnswer) → AnswersLive e old (commands.Read query) given new → Leaves (e.account old) Open (commands.Read query) given (e.account new)
       leaves_query query given is =
           let answer : given.answer ≡ query_answer (e.account old).kind (view_now (e.account old)) query = ap (λ (x : LineAnswer). x.answer) is.given_is ∙ is.right in
           let calm : (effect given.answer).stops ≡ false = ap (λ a. (effect a).stops) answer ∙ (query_plain (e.account old).kind (view_now (e.account old)) query).stops in
-          leaves_read (ToRead query) given (ap (λ (x : LineAnswer). x.phase) is.given_is) calm refl (λ n. refl) is.reads_on
+          leaves_read (commands.Read query) given (ap (λ (x : LineAnswer). x.phase) is.given_is) calm refl (λ n. refl) is.reads_on
           (λ read. (λ start at. answer ∙ ap (λ g. query_answer (e.account old).kind g query) (seen_at (e.account old) start at), read))
           (subst (λ (x : LineAnswer). TableBy (e.account old) (cond (effect x.answer).files None None) (map file_of (listed_table x.table)) []) (sym is.given_is) (no_table (e.account old) (effect is.answer).files))
 
-      leaves_kernel : (kernel : Kernel) (file : List ℕ) (given : LineAnswer) → AnswersLive e old (ToRun kernel file) given new → Leaves (e.account old) Open (ToRun kernel file) given (e.account new)
+      leaves_kernel : (kernel : Kernel) (file : List ℕ) (given : LineAnswer) → AnswersLive e old (commands.Run kernel file) given new → Leaves (e.account old) Open (commands.Run kernel file) given (e.account new)
       leaves_kernel kernel file given is =
           let calm : (effect given.answer).stops ≡ false = ap (λ a. (effect a).stops) is.0.answer ∙ (kernel_plain (view_now (e.account old)) kernel).stops in
-          leaves_read (ToRun kernel file) given is.0.phase calm refl (λ n. refl) is.1
+          leaves_read (commands.Run kernel file) given is.0.phase calm refl (λ n. refl) is.1
           (λ read. (λ start at. is.0.answer ∙ ap (λ g. kernel_answer g kernel) (seen_at (e.account old) start at), read))
-          (file_table (e.account old) (cond (effect given.answer).files (filing_of (ToRun kernel file)) None) given.table is.0.table)
+          (file_table (e.account old) (cond (effect given.answer).files (filing_of (commands.Run kernel file)) None) given.table is.0.table)
 
       module _ (w : Write) (limits : IsWithinLimits w) (wrote : Result (Unit {0}) Refusal) (mid : S) (did : e.writes old w wrote mid) (given : LineAnswer) where
         start_of : (start : ℕ) × ((e.account old).start ≡ Some start)
@@ -178,13 +182,13 @@ module _ {S : Type 0} (e : Calls S) (by : AreByAccount e) where
         goes_on : (a : Answer) → a ≡ write_answer wrote → (effect a).stops ≡ false → (◌≡◌ {A = Result LineAnswer NoMemory} (Ok given) (Ok (plain a Open))) × (new ≡ mid)
             → (ReadsBy (e.account mid) (e.account new) → WriteLeaves wrote (e.account mid) (e.account new))
             → (sees_same Open (plain a Open) ≡ true → view_now (e.account mid) ≡ view_now (e.account old))
-            → Leaves (e.account old) Open (ToWrite w) given (e.account new)
+            → Leaves (e.account old) Open (commands.Write w) given (e.account new)
         unfolding start_of at_start valid_mid
         goes_on a answer calm is leaves sees =
             let given_is : given ≡ plain a Open = (let one = is.0 in cc) in
             let stays = write_stays (e.account old) start_of.0 w wrote (e.account mid) at_start in
-            subst (λ x. Leaves (e.account old) Open (ToWrite w) x (e.account new)) (sym given_is)
-            (subst (λ s. Leaves (e.account old) Open (ToWrite w) (plain a Open) (e.account s)) (sym is.1) (record {
+            subst (λ x. Leaves (e.account old) Open (commands.Write w) x (e.account new)) (sym given_is)
+            (subst (λ s. Leaves (e.account old) Open (commands.Write w) (plain a Open) (e.account s)) (sym is.1) (record {
               line = (start_of.0, wrote, e.account mid, start_of.1, answer, at_start, subst (λ s. WriteLeaves wrote (e.account mid) (e.account s)) is.1 (leaves (subst (λ s. ReadsBy (e.account mid) (e.account s)) (sym is.1) (reads_none (e.account mid)))));
               table = no_table (e.account old) (effect a).files;
               phase_is = sym (ap (λ b. phase_left b (e.account mid)) calm ∙ ap phase_at (stays.0 ∙ start_of.1));
@@ -201,7 +205,7 @@ module _ {S : Type 0} (e : Calls S) (by : AreByAccount e) where
         plainly : (a : Answer) → a ≡ write_answer wrote → (effect a).stops ≡ false → (◌≡◌ {A = Result LineAnswer NoMemory} (Ok given) (Ok (plain a Open))) × (new ≡ mid)
             → (ReadsBy (e.account mid) (e.account new) → WriteLeaves wrote (e.account mid) (e.account new))
             → ((start : ℕ) → WritesAt (e.account old) start w wrote (e.account mid) → ReadsBy (e.account old) (e.account mid))
-            → Leaves (e.account old) Open (ToWrite w) given (e.account new)
+            → Leaves (e.account old) Open (commands.Write w) given (e.account new)
         unfolding start_of at_start
         plainly a answer calm is leaves reads =
             goes_on a answer calm is leaves (λ f. sees_still (e.account old) (e.account mid) valid opened (reads start_of.0 at_start))
@@ -209,13 +213,13 @@ module _ {S : Type 0} (e : Calls S) (by : AreByAccount e) where
         -- it is stopped
         is_stopped : (a : Answer) → a ≡ write_answer wrote → (effect a).stops ≡ true → (◌≡◌ {A = Result LineAnswer NoMemory} (Ok given) (Ok (plain a Skipping))) × e.aborts mid new
             → (AbortsBy (e.account mid) (e.account new) → WriteLeaves wrote (e.account mid) (e.account new))
-            → Leaves (e.account old) Open (ToWrite w) given (e.account new)
+            → Leaves (e.account old) Open (commands.Write w) given (e.account new)
         unfolding start_of at_start valid_mid
         is_stopped a answer stops is leaves =
             let given_is : given ≡ plain a Skipping = (let one = is.0 in cc) in
             let stays = write_stays (e.account old) start_of.0 w wrote (e.account mid) at_start in
             let abort = by.aborts_by mid new is.1 in
-            subst (λ x. Leaves (e.account old) Open (ToWrite w) x (e.account new)) (sym given_is) (record {
+            subst (λ x. Leaves (e.account old) Open (commands.Write w) x (e.account new)) (sym given_is) (record {
               line = (start_of.0, wrote, e.account mid, start_of.1, answer, at_start, leaves abort.0);
               table = no_table (e.account old) (effect a).files;
               phase_is = sym (ap (λ b. phase_left b (e.account new)) stops);
@@ -228,7 +232,7 @@ module _ {S : Type 0} (e : Calls S) (by : AreByAccount e) where
               same = λ f. cc;
             })
 
-      leaves_refused : (w : Write) (limits : IsWithinLimits w) (mid : S) (given : LineAnswer) (refusal : Refusal) → e.writes old w (Err refusal) mid → FinishesRefusedOn e.aborts mid refusal (Ok given) new → Leaves (e.account old) Open (ToWrite w) given (e.account new)
+      leaves_refused : (w : Write) (limits : IsWithinLimits w) (mid : S) (given : LineAnswer) (refusal : Refusal) → e.writes old w (Err refusal) mid → FinishesRefusedOn e.aborts mid refusal (Ok given) new → Leaves (e.account old) Open (commands.Write w) given (e.account new)
       leaves_refused w limits mid given refusals.SelfLoop did is = plainly w limits (Err refusals.SelfLoop) mid did given answers.SelfLoop refl refl is (λ r. r) (λ o at. at.1)
       leaves_refused w limits mid given (refusals.NoVertex v) did is = plainly w limits (Err (refusals.NoVertex v)) mid did given (answers.NoVertex v) refl refl is (λ r. r) (λ o at. at.1)
       leaves_refused w limits mid given refusals.VertexExists did is = plainly w limits (Err refusals.VertexExists) mid did given answers.Exists refl refl is (λ r. r) (λ o at. at.1)
@@ -239,24 +243,24 @@ module _ {S : Type 0} (e : Calls S) (by : AreByAccount e) where
       leaves_refused w limits mid given (refusals.Full leaves) did is = is_stopped w limits (Err (refusals.Full leaves)) mid did given answers.Full refl refl is (λ r. r)
       leaves_refused w limits mid given refusals.NoMemory did is = absurd is.0
 
-      leaves_write : (w : Write) (limits : IsWithinLimits w) (given : LineAnswer) → AnswersLive e old (ToWrite w) given new → Leaves (e.account old) Open (ToWrite w) given (e.account new)
+      leaves_write : (w : Write) (limits : IsWithinLimits w) (given : LineAnswer) → AnswersLive e old (commands.Write w) given new → Leaves (e.account old) Open (commands.Write w) given (e.account new)
       leaves_write w limits given (Ok done, mid, did, is) = goes_on w limits (Ok done) mid did given answers.Done refl refl is (λ r. r) (λ f. cc)
       leaves_write w limits given (Err refusal, mid, did, is) = leaves_refused w limits mid given refusal did is
 
     -- a line that isn't skipped
-    pub leaves_live : (phase : Phase) (r : Request) (given : LineAnswer) → IsPhase phase (e.account old).start → (behind : Bool) → open_behind (is_inside phase) r ≡ Some behind → IsRequest r → is_skipping phase ≡ false
+    pub leaves_live : (phase : Phase) (r : Command) (given : LineAnswer) → IsPhase phase (e.account old).start → (behind : Bool) → open_behind (is_inside phase) r ≡ Some behind → IsCommand r → is_skipping phase ≡ false
         → AnswersLive e old r given new → Leaves (e.account old) phase r given (e.account new)
     leaves_live Skipping r given opened behind stands limits calm is = cc
     leaves_live GivenUp r given opened behind stands limits calm is = absurd opened
-    leaves_live Between ToBegin given closed behind stands limits calm is = leaves_begin given is
-    leaves_live Between ToCommit given closed behind stands limits calm is = let no : ◌≡◌ {A = Option Bool} None (Some behind) = stands in cc
-    leaves_live Between ToAbort given closed behind stands limits calm is = let no : ◌≡◌ {A = Option Bool} None (Some behind) = stands in cc
-    leaves_live Between (ToWrite w) given closed behind stands limits calm is = let no : ◌≡◌ {A = Option Bool} None (Some behind) = stands in cc
-    leaves_live Between (ToRead query) given closed behind stands limits calm is = let no : ◌≡◌ {A = Option Bool} None (Some behind) = stands in cc
-    leaves_live Between (ToRun kernel file) given closed behind stands limits calm is = let no : ◌≡◌ {A = Option Bool} None (Some behind) = stands in cc
-    leaves_live Open ToBegin given opened behind stands limits calm is = let no : ◌≡◌ {A = Option Bool} None (Some behind) = stands in cc
-    leaves_live Open ToCommit given opened behind stands limits calm is = leaves_commit given is
-    leaves_live Open ToAbort given opened behind stands limits calm is = leaves_abort given is
-    leaves_live Open (ToWrite w) given opened behind stands limits calm is = leaves_write opened w limits given is
-    leaves_live Open (ToRead query) given opened behind stands limits calm is = leaves_query opened query given is
-    leaves_live Open (ToRun kernel file) given opened behind stands limits calm is = leaves_kernel opened kernel file given is
+    leaves_live Between commands.Begin given closed behind stands limits calm is = leaves_begin given is
+    leaves_live Between commands.Commit given closed behind stands limits calm is = let no : ◌≡◌ {A = Option Bool} None (Some behind) = stands in cc
+    leaves_live Between commands.Abort given closed behind stands limits calm is = let no : ◌≡◌ {A = Option Bool} None (Some behind) = stands in cc
+    leaves_live Between (commands.Write w) given closed behind stands limits calm is = let no : ◌≡◌ {A = Option Bool} None (Some behind) = stands in cc
+    leaves_live Between (commands.Read query) given closed behind stands limits calm is = let no : ◌≡◌ {A = Option Bool} None (Some behind) = stands in cc
+    leaves_live Between (commands.Run kernel file) given closed behind stands limits calm is = let no : ◌≡◌ {A = Option Bool} None (Some behind) = stands in cc
+    leaves_live Open commands.Begin given opened behind stands limits calm is = let no : ◌≡◌ {A = Option Bool} None (Some behind) = stands in cc
+    leaves_live Open commands.Commit given opened behind stands limits calm is = leaves_commit given is
+    leaves_live Open commands.Abort given opened behind stands limits calm is = leaves_abort given is
+    leaves_live Open (commands.Write w) given opened behind stands limits calm is = leaves_write opened w limits given is
+    leaves_live Open (commands.Read query) given opened behind stands limits calm is = leaves_query opened query given is
+    leaves_live Open (commands.Run kernel file) given opened behind stands limits calm is = leaves_kernel opened kernel file given is

@@ -6,7 +6,7 @@ use Rattle.graph_model.specs.declared.write.Kind.{Kind}
 use Rattle.graph_model.specs.declared.write.Write.{Write}
 use Rattle.run_model.specs.declared.command.Command.{Command}
 use Rattle.run_model.specs.Inputs.{File}
-use Rattle.run_model.specs.Requests.{begun_by}
+use Rattle.run_model.specs.Commands.{begun_by}
 use Rattle.side_runs.specs.ByAccount.{IsUnbegun, HasRunBy}
 use Rattle.job_runner.specs.LineRunnerDeclared.answering.LineTurn.{LineTurn}
 use Rattle.job_runner.specs.LineRunnerDeclared.answering.LineTurn.TheVariants.{Scanning, Answering}

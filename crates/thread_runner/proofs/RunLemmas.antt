@@ -6,7 +6,6 @@ use Rattle.graph_model.specs.declared.write.Kind.{Kind}
 use Rattle.graph_model.specs.declared.write.Write.{Write}
 use Rattle.graph_model.specs.Account.{Account}
 use Rattle.run_model.specs.declared.command.Command.{Command}
-use Rattle.run_model.specs.Requests.{request}
 use Rattle.run_model.specs.Jobs.{is_empty}
 use Rattle.side_runs.specs.ByAccount.{skips_behind, LinesBy, HasRunBy}
 use Rattle.side_runs.proofs.SeriesLemmas.{lines_on, lines_wait}
@@ -47,7 +46,7 @@ left_skipping false account = by_start account.start
     by_start (Some start) = refl
 
 module _ (kind : Kind) (load : List Write) (old : Account) (job : Progress) (c : Command) (rest : List Command) (left : left_of job ≡ c ∷ rest) (new : Account) (so_far : HasRunSoFar kind load job old) where
-  by_turn : (image : Option KeptImage) (turn : LineTurn) → TakesBy old job.phase job.reading (request c) turn new → HasRunSoFar kind load (behind job image turn) new
+  by_turn : (image : Option KeptImage) (turn : LineTurn) → TakesBy old job.phase job.reading c turn new → HasRunSoFar kind load (behind job image turn) new
   by_turn image (Scanning reading) takes = record {
     first = so_far.first;
     unbegun = so_far.unbegun;
@@ -58,7 +57,7 @@ module _ (kind : Kind) (load : List Write) (old : Account) (job : Progress) (c :
       let more = take_more (length job.answers) job.commands c rest left in
       let count : length (job.answers ++ given.answer ∷ []) ≡ length job.answers + 1 = length-append job.answers (given.answer ∷ []) in
       let grown : length (job.answers ++ given.answer ∷ []) ≡ suc (length job.answers) = omega (arith, count) in
-      let skips : Bool = skips_behind (is_skipping job.phase) (request c) given.answer in
+      let skips : Bool = skips_behind (is_skipping job.phase) c given.answer in
       let phase : is_skipping given.phase ≡ skips = ap is_skipping takes.phase_is ∙ left_skipping skips new in
       let lines = lines_on false so_far.first (take (length job.answers) job.commands) job.answers (map file_of job.tables) (is_skipping job.phase) old c given.answer (map file_of (listed_table given.table)) new so_far.lines takes.does in
       record {

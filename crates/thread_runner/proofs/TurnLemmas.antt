@@ -11,7 +11,8 @@ use Rattle.run_model.specs.declared.command.Command.{Command}
 use Rattle.run_model.specs.declared.answer.Answer.TheVariants as answers
 use Rattle.run_model.specs.AnsweredLines.{effect}
 use Rattle.run_model.specs.Run.{filing_of}
-use Rattle.run_model.specs.Requests.{Request, ToBegin, ToCommit, ToAbort, ToWrite, ToRead, ToRun, request, next_txn, begun_by, open_behind, IsScript}
+use Rattle.run_model.specs.declared.command.Command.TheVariants as commands
+use Rattle.run_model.specs.Commands.{next_txn, begun_by, open_behind, IsScript}
 use Rattle.run_model.specs.Jobs.{is_end, skips, is_empty}
 use Rattle.run_model.proofs.AnswerLemmas.{must_begin, within_txn}
 use Rattle.side_runs.specs.ByAccount.{skips_behind, LiveLineBy, TableBy}
@@ -41,7 +42,7 @@ use Rattle.thread_runner.proofs.CallLemmas.{Leaves, reads_read, leaves_live}
 
 -- ---- one turn, by the calls
 
-module _ {S : Type 0} (e : Calls S) (by : AreByAccount e) (old new : S) (phase : Phase) (reading : Option Reading) (r : Request) (may : MayTakeNow (e.account old) phase reading r) where
+module _ {S : Type 0} (e : Calls S) (by : AreByAccount e) (old new : S) (phase : Phase) (reading : Option Reading) (r : Command) (may : MayTakeNow (e.account old) phase reading r) where
   legal : SeesLegal (e.account old)
   legal = may.valid.legal
 
@@ -113,7 +114,7 @@ module _ {S : Type 0} (e : Calls S) (by : AreByAccount e) (old : S) (job : Progr
   takes_turn : (c : Command) (rest : List Command) → left_of job ≡ c ∷ rest → (next : Progress) (new : S) → TakesTurnOn e old job c next new → TakesTurnBy (e.account old) job c next (e.account new)
   takes_turn c rest left next new is = record {
     turn = is.turn;
-    takes = takes_by e by old new job.phase job.reading (request c) (may_take (e.account old) job ready c rest left) is.turn is.takes;
+    takes = takes_by e by old new job.phase job.reading c (may_take (e.account old) job ready c rest left) is.turn is.takes;
     image = is.image;
     kept = is.kept;
     job_is = is.job_is;
@@ -134,17 +135,17 @@ line_of [] none = absurd (let no : true ≡ false = none in cc)
 line_of (c ∷ rest) none = (c, rest, refl)
 
 module _ {S : Type 0} (e : Calls S) (by : AreByAccount e) (old : S) (job : Progress) (ready : IsReadyBy (e.account old) job) (c : Command) (rest : List Command) (left : left_of job ≡ c ∷ rest) (new : S) where
-  may : MayTakeNow (e.account old) job.phase job.reading (request c)
+  may : MayTakeNow (e.account old) job.phase job.reading c
   may = may_take (e.account old) job ready c rest left
 
   script : IsScript (Some (is_inside job.phase)) (c ∷ rest)
   script = subst (IsScript (Some (is_inside job.phase))) left ready.script
 
-  room : begun_by (next_txn (e.account old).begun (request c)) rest ≤ (e.account old).allowed
+  room : begun_by (next_txn (e.account old).begun c) rest ≤ (e.account old).allowed
   room = subst (λ cs. begun_by (e.account old).begun cs ≤ (e.account old).allowed) left ready.room
 
   -- the line took a portion of what it reads
-  scans_ready : (next : Reading) (image : Option KeptImage) → IfSome image (IsKeptImage (view_now (e.account old))) → TakesOn e old job.phase job.reading (request c) (Scanning next) new → IsReadyBy (e.account new) (behind job image (Scanning next))
+  scans_ready : (next : Reading) (image : Option KeptImage) → IfSome image (IsKeptImage (view_now (e.account old))) → TakesOn e old job.phase job.reading c (Scanning next) new → IsReadyBy (e.account new) (behind job image (Scanning next))
   scans_ready next image kept is =
       let read = reads_read e by old new ready.valid.legal is.1 in
       let opened : IsSome (e.account old).start = subst (λ p. IsPhase p (e.account old).start) is.0.is_open ready.phase_is in
@@ -156,7 +157,7 @@ module _ {S : Type 0} (e : Calls S) (by : AreByAccount e) (old : S) (job : Progr
         phase_is = subst (IsPhase job.phase) (sym (ap (λ (a : Account). a.start) goes)) ready.phase_is;
         room = subst (λ (a : Account). begun_by a.begun (left_of job) ≤ a.allowed) (sym goes) ready.room;
         script = ready.script;
-        reads = λ x xs there. subst (λ g. IsReading g (request x) next) (sym same) (subst (λ d. IsReading (view_now (e.account old)) (request d) next) (heads c x rest xs (sym left ∙ there)) is.0.reads);
+        reads = λ x xs there. subst (λ g. IsReading g x next) (sym same) (subst (λ d. IsReading (view_now (e.account old)) d next) (heads c x rest xs (sym left ∙ there)) is.0.reads);
         small = is.0.small;
         kept = subst (λ g. IfSome image (IsKeptImage g)) (sym same) kept;
       }
@@ -173,21 +174,21 @@ module _ {S : Type 0} (e : Calls S) (by : AreByAccount e) (old : S) (job : Progr
     rest_left = left_more job.commands job.answers c rest given.answer left
 
     -- it was answered
-    live_ready : Leaves (e.account old) job.phase (request c) given (e.account new) → is_skipping job.phase ≡ false → IsReadyBy (e.account new) answered
+    live_ready : Leaves (e.account old) job.phase c given (e.account new) → is_skipping job.phase ≡ false → IsReadyBy (e.account new) answered
     unfolding rest_left
     live_ready l calm = record {
       number = l.job ∙ ready.number;
       valid = l.valid;
       phase_is = l.fits;
       room = subst (λ cs. begun_by (e.account new).begun cs ≤ (e.account new).allowed) (sym rest_left)
-          (subst (λ n. begun_by n rest ≤ (e.account new).allowed) (sym l.begun) (subst (λ n. begun_by (next_txn (e.account old).begun (request c)) rest ≤ n) (sym l.allowed) room));
+          (subst (λ n. begun_by n rest ≤ (e.account new).allowed) (sym l.begun) (subst (λ n. begun_by (next_txn (e.account old).begun c) rest ≤ n) (sym l.allowed) room));
       script = subst (λ cs. IsScript (Some (is_inside given.phase)) cs) (sym rest_left) (subst (λ b. IsScript (Some b) rest) (sym l.inside) (script_behind job.phase refl));
       reads = λ x xs there. tt;
       small = omega arith;
       kept = no_image (sees_same job.phase given) image (view_now (e.account old)) (view_now (e.account new)) l.same kept;
     }
       where
-        script_behind : (p : Phase) → job.phase ≡ p → IsScript (Some (not (is_end (request c)))) rest
+        script_behind : (p : Phase) → job.phase ≡ p → IsScript (Some (not (is_end c))) rest
         script_behind Between same =
             let begins = must_begin c rest (subst (λ p. IsScript (Some (is_inside p)) (c ∷ rest)) same script) in
             subst (λ r. IsScript (Some (not (is_end r))) rest) (sym begins.0) begins.1
@@ -196,20 +197,20 @@ module _ {S : Type 0} (e : Calls S) (by : AreByAccount e) (old : S) (job : Progr
         script_behind GivenUp same = absurd (subst (λ p. IsPhase p (e.account old).start) same ready.phase_is)
 
     -- it was skipped
-    skip_ready : job.phase ≡ Skipping → AnswersSkipped old (request c) given new → IsReadyBy (e.account new) answered
+    skip_ready : job.phase ≡ Skipping → AnswersSkipped old c given new → IsReadyBy (e.account new) answered
     unfolding rest_left
     skip_ready same skipped =
         let inside = within_txn c rest (subst (λ p. IsScript (Some (is_inside p)) (c ∷ rest)) same script) in
         let closed : (e.account old).start ≡ None = subst (λ p. IsPhase p (e.account old).start) same ready.phase_is in
-        let phase : given.phase ≡ phase_behind (skips (request c)) = ap (λ (x : LineAnswer). x.phase) skipped.0 in
+        let phase : given.phase ≡ phase_behind (skips c) = ap (λ (x : LineAnswer). x.phase) skipped.0 in
         subst (λ s. IsReadyBy (e.account s) answered) (sym skipped.1) (record {
           number = ready.number;
           valid = ready.valid;
-          phase_is = subst (λ p. IsPhase p (e.account old).start) (sym phase) (skipped_phase (is_end (request c)) (e.account old).start closed);
+          phase_is = subst (λ p. IsPhase p (e.account old).start) (sym phase) (skipped_phase (is_end c) (e.account old).start closed);
           room = subst (λ cs. begun_by (e.account old).begun cs ≤ (e.account old).allowed) (sym rest_left)
               (subst (λ n. begun_by n rest ≤ (e.account old).allowed) (inside.same (e.account old).begun) room);
           script = subst (λ cs. IsScript (Some (is_inside given.phase)) cs) (sym rest_left)
-              (subst (λ b. IsScript (Some b) rest) (sym (ap is_inside phase ∙ skipped_inside (is_end (request c)))) inside.script);
+              (subst (λ b. IsScript (Some b) rest) (sym (ap is_inside phase ∙ skipped_inside (is_end c))) inside.script);
           reads = λ x xs there. tt;
           small = omega arith;
           kept = no_image (sees_same job.phase given) image (view_now (e.account old)) (view_now (e.account old)) (λ f. refl) kept;
@@ -223,19 +224,19 @@ module _ {S : Type 0} (e : Calls S) (by : AreByAccount e) (old : S) (job : Progr
         skipped_inside true = refl
         skipped_inside false = refl
 
-    answers_ready : AnswersOn e old job.phase job.reading (request c) given new → IsReadyBy (e.account new) answered
+    answers_ready : AnswersOn e old job.phase job.reading c given new → IsReadyBy (e.account new) answered
     answers_ready is = by_phase job.phase refl
       where
         calm_ready : is_skipping job.phase ≡ false → IsReadyBy (e.account new) answered
-        calm_ready calm = live_ready (live e by old new job.phase job.reading (request c) may given is calm) calm
+        calm_ready calm = live_ready (live e by old new job.phase job.reading c may given is calm) calm
 
         by_phase : (p : Phase) → job.phase ≡ p → IsReadyBy (e.account new) answered
-        by_phase Skipping same = skip_ready same (subst (λ p. cond (is_skipping p) (AnswersSkipped old (request c) given new) (AnswersLive e old (request c) given new)) same is.does)
+        by_phase Skipping same = skip_ready same (subst (λ p. cond (is_skipping p) (AnswersSkipped old c given new) (AnswersLive e old c given new)) same is.does)
         by_phase Between same = calm_ready (ap is_skipping same)
         by_phase Open same = calm_ready (ap is_skipping same)
         by_phase GivenUp same = calm_ready (ap is_skipping same)
 
-  turn_ready : (turn : LineTurn) (image : Option KeptImage) → IfSome image (IsKeptImage (view_now (e.account old))) → TakesOn e old job.phase job.reading (request c) turn new → IsReadyBy (e.account new) (behind job image turn)
+  turn_ready : (turn : LineTurn) (image : Option KeptImage) → IfSome image (IsKeptImage (view_now (e.account old))) → TakesOn e old job.phase job.reading c turn new → IsReadyBy (e.account new) (behind job image turn)
   turn_ready (Scanning next) image kept is = scans_ready next image kept is
   turn_ready (Answering given) image kept is = answers_ready given image kept is
 
@@ -309,9 +310,9 @@ module _ {S : Type 0} (e : Calls S) (by : AreByAccount e) (old : S) (job : Progr
   unfolding hand
   took_fewer takes =
       let t = takes hand.0 hand.1 hand.2 in
-      subst (λ x. turns_left x < turns_left job) (sym t.job_is) (turn_less job hand.0 hand.1 hand.2 ready.small t.turn (further (request hand.0) t.turn t.takes) t.image)
+      subst (λ x. turns_left x < turns_left job) (sym t.job_is) (turn_less job hand.0 hand.1 hand.2 ready.small t.turn (further hand.0 t.turn t.takes) t.image)
     where
-      further : (r : Request) (turn : LineTurn) → TakesOn e old job.phase job.reading r turn new → (reading : Reading) → turn ≡ Scanning reading
+      further : (r : Command) (turn : LineTurn) → TakesOn e old job.phase job.reading r turn new → (reading : Reading) → turn ≡ Scanning reading
           → (taken_of (Some reading) ≡ taken_of job.reading + 1) × (taken_of (Some reading) < 288230376151711744)
       further r turn takes reading same =
           let scans = subst (λ t. TakesOn e old job.phase job.reading r t new) same takes in (scans.0.taken, scans.0.small)

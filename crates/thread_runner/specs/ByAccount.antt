@@ -5,7 +5,7 @@ use Rattle.graph_model.specs.declared.write.Write.{Write}
 use Rattle.graph_model.specs.Account.{Account, IsValid}
 use Rattle.graph_model.specs.AccountSteps.{ReadsBy, AbortsBy}
 use Rattle.run_model.specs.declared.command.Command.{Command}
-use Rattle.run_model.specs.Requests.{Request, request, begun_by, IsScript}
+use Rattle.run_model.specs.Commands.{begun_by, IsScript}
 use Rattle.side_runs.specs.ByAccount.{LineBy, skips_behind, LinesBy, IsUnbegun, HasRunBy}
 use Rattle.job_runner.specs.LineRunnerDeclared.answering.LineAnswer.{LineAnswer}
 use Rattle.job_runner.specs.LineRunnerDeclared.answering.LineTurn.{LineTurn}
@@ -29,21 +29,21 @@ abbrev pub phase_left : Bool → Account → Phase
 phase_left skips account = cond skips Skipping (phase_at account.start)
 
 -- the last turn of a line answers it
-pub record AnswersBy (old : Account) (phase : Phase) (reading : Option Reading) (r : Request) (given : LineAnswer)
+pub record AnswersBy (old : Account) (phase : Phase) (reading : Option Reading) (r : Command) (given : LineAnswer)
     (new : Account) : Type 0 where
   pub last : goes_on_at (view_now old) (is_skipping phase) (taken_of reading) r ≡ false
   pub does : LineBy (is_skipping phase) old r given.answer (map file_of (listed_table given.table)) [] new
   pub phase_is : given.phase ≡ phase_left (skips_behind (is_skipping phase) r given.answer) new
 
 -- one turn of a line. Where turns are left more of the journal may have been seen, and nothing else has changed
-abbrev pub TakesBy : Account → Phase → Option Reading → Request → LineTurn → Account → Type 0
+abbrev pub TakesBy : Account → Phase → Option Reading → Command → LineTurn → Account → Type 0
 TakesBy old phase reading r (Scanning next) new = ReadsFurther (view_now old) phase reading r next × ReadsBy old new
 TakesBy old phase reading r (Answering given) new = AnswersBy old phase reading r given new
 
 -- the line at hand takes a turn
 pub record TakesTurnBy (old : Account) (job : Progress) (c : Command) (next : Progress) (new : Account) : Type 0 where
   pub turn : LineTurn
-  pub takes : TakesBy old job.phase job.reading (request c) turn new
+  pub takes : TakesBy old job.phase job.reading c turn new
   pub image : Option KeptImage
   pub kept : IfSome image (IsKeptImage (view_now old))
   pub job_is : next ≡ behind job image turn

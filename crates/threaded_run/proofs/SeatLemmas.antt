@@ -7,7 +7,7 @@ use Rattle.graph_model.specs.declared.journal.Commit.{Commit}
 use Rattle.graph_model.specs.Account.{Account}
 use Rattle.run_model.specs.declared.command.Command.{Command}
 use Rattle.run_model.specs.Inputs.{Inputs}
-use Rattle.run_model.specs.Requests.{begun_by, IsScript}
+use Rattle.run_model.specs.Commands.{begun_by, IsScript}
 use Rattle.run_model.specs.Run.{load_stamp}
 use Rattle.run_model.proofs.ListLemmas.{all_from_places}
 use Rattle.thread_runner.specs.JobRunner.Progress.{Progress, new_progress, is_over, IsReadyBy}

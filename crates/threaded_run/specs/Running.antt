@@ -12,7 +12,7 @@ use Rattle.graph_model.specs.Loading.{IsAdd}
 use Rattle.graph_model.specs.Refused.{AllAllowed, IsWithinLimits}
 use Rattle.run_model.specs.declared.command.Command.{Command}
 use Rattle.run_model.specs.Inputs.{Inputs, AreInputs}
-use Rattle.run_model.specs.Requests.{begun_by}
+use Rattle.run_model.specs.Commands.{begun_by}
 use Rattle.txn_manager.specs.declared.config.Config.{Config}
 
 abbrev pub inputs_on : Config → List Write → List (List Command) → Inputs

@@ -1,17 +1,19 @@
 -- Rows of a key range that are read one after the other, from what is left of them and their words.
 use Rattle.std.proofs.Common.{◌≡◌, ℕ, zero, suc, ◌+◌, ◌<◌, ◌≤◌, List, [], ◌∷◌, ◌++◌, get_or, length, length-append, take, take_all, refl, sym, ◌∙◌, ap, subst, arith, Option, Some, None}
-use Rattle.std.specs.Prelude.{Bool, true, false, cond, slice_get, IfSome}
+use Rattle.std.specs.Prelude.{Bool, true, false, ◌==◌, ◌-◌, cond, nat_le, not, slice_get, IfSome}
+use Rattle.std.proofs.lemmas.Bool.Decides.{nat_tests}
 use Rattle.std.proofs.lemmas.List.{append-nil}
 use Rattle.graph_model.specs.declared.journal.TxnName.{TxnName}
 use Rattle.graph_model.specs.declared.row.Key.{Key}
 use Rattle.graph_model.specs.declared.row.Row.{Row}
 use Rattle.graph_model.specs.Rows.{is_between}
-use Rattle.store_model.specs.Stamped.{StampedVersions}
+use Rattle.store_model.specs.Stamped.{Stamped, StampedVersions, read_stamped}
 use Rattle.row_table.specs.Checks.{AreNamedRows, IsNamed}
 use Rattle.row_table.specs.Rows.{range_of, rows_read, with_row}
 use Rattle.row_table.specs.UndoChain.States.{Grows, Knowledge}
-use Rattle.version_segment.specs.Resting.{woken_row, woken_rows, RestingRow}
+use Rattle.version_segment.specs.Resting.{front_with, is_marked, mark, no_value, oldest_with, value_in_word, with_newest, woken_row, woken_rows, AgreesWith, AgreeWith, RestingRow}
 use Rattle.version_segment.specs.RestingParts.{seen_row, IsReadTo}
+use Rattle.version_segment.proofs.WordLemmas.{alone_at}
 
 -- ---- lists
 
@@ -77,6 +79,18 @@ module _ (hs : List RestingRow) (words : List Row) (many : length words ≡ leng
       go (h ∷ hs) (w ∷ ws) same zero lt named = named.0
       go (h ∷ hs) (w ∷ ws) same (suc p) lt named = go hs ws (omega (arith, same)) p (omega (arith, lt)) named.1
 
+  -- where all words agree with what is left of their rows that of one does
+  pub word_agrees : (p : ℕ) (d : Row) → p < length words → AgreeWith hs words → IfSome (slice_get hs p) (λ h. AgreesWith h (get_or words p d).weight)
+  word_agrees p d lt agree = go hs words many p lt agree
+    where
+      go : (hs : List RestingRow) (words : List Row) → length words ≡ length hs → (p : ℕ) → p < length words → AgreeWith hs words
+          → IfSome (slice_get hs p) (λ h. AgreesWith h (get_or words p d).weight)
+      go [] [] same p lt agree = absurd (omega (arith, lt))
+      go [] (w ∷ ws) same p lt agree = absurd agree
+      go (h ∷ hs) [] same p lt agree = absurd agree
+      go (h ∷ hs) (w ∷ ws) same zero lt agree = agree.0
+      go (h ∷ hs) (w ∷ ws) same (suc p) lt agree = go hs ws (omega (arith, same)) p (omega (arith, lt)) agree.1
+
   module _ (read : StampedVersions → Option ℕ) (from until : Key) (old now : Knowledge) where
     -- it has been read
     pub read_next : (new : Knowledge) (p : ℕ) (d : Row) (buffer buffer' : List Row) → p < length words → IsReadTo read from until hs words p old now buffer
@@ -112,6 +126,24 @@ module _ (hs : List RestingRow) (words : List Row) (many : length words ≡ leng
         woken_few (h ∷ hs) (w ∷ ws) (suc p) le = let rest = woken_few hs ws p (omega (arith, le)) in omega (arith, rest)
 
 -- ---- one row
+
+-- of one without undo records the word is the value that each snapshot sees
+pub plain_read : (stamps : TxnName → Option ℕ) (start : ℕ) (own : TxnName) (o : Option RestingRow) (n : ℕ) → is_marked n ≡ false → IfSome o (λ h. AgreesWith h n)
+    → IfSome o (λ h. ◌≡◌ {A = Option ℕ} (Some n) (read_stamped stamps start own (with_newest (value_in_word n) h.versions)))
+plain_read stamps start own None n unmarked agrees = tt
+plain_read stamps start own (Some h) n unmarked agrees =
+    sym (tells (n == no_value) refl) ∙ alone (value_in_word n) h.versions.pairs (alone_at h.versions.pairs (not h.has_value) (sym agrees.marked ∙ unmarked))
+  where
+    tells : (t : Bool) → (n == no_value) ≡ t → value_in_word n ≡ Some n
+    tells true e =
+        let same : n ≡ no_value = grind (arith, nat_tests) in
+        let le : nat_le mark n ≡ true = grind (arith, nat_tests) in
+        let clash : true ≡ false = sym le ∙ unmarked in cc
+    tells false e = ap (λ t. cond t None (cond (nat_le mark n) (Some (n - mark)) (Some n))) e ∙ ap (λ t. cond t (Some (n - mark)) (Some n)) unmarked
+
+    alone : (v : Option ℕ) (ps : List Stamped) → ps ≡ [] → v ≡ read_stamped stamps start own (record { pairs = front_with v ps; oldest = oldest_with v ps h.versions.oldest; touches = h.versions.touches })
+    alone v [] none = refl
+    alone v (p ∷ ps) none = cc
 
 -- a row beyond the range adds nothing
 pub seen_none : (read : StampedVersions → Option ℕ) (from until : Key) (o : Option RestingRow) (row : Row) (buffer : List Row) → is_between from until row.key ≡ false

@@ -156,7 +156,7 @@ can_wake s is small = record {
 -- ---- what a word tells
 
 -- no older value is there where there are no undo records
-alone_at : (ps : List Stamped) (no_newest : Bool) → (not (is_empty ps) || no_newest) ≡ false → ps ≡ []
+pub alone_at : (ps : List Stamped) (no_newest : Bool) → (not (is_empty ps) || no_newest) ≡ false → ps ≡ []
 alone_at [] no_newest h = refl
 alone_at (p ∷ ps) no_newest h = cc
 

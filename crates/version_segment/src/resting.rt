@@ -14,13 +14,13 @@ ghost use Rattle.store_model.specs.Stamped.{read_stamped};
 ghost use Rattle.row_table.specs.UndoChain.States.{Grows};
 ghost use Rattle.row_table.specs.Checks.{AreNamedRows, IsNamed};
 ghost use Rattle.row_table.specs.Rows.{range_of, rows_read};
-ghost use Rattle.version_segment.specs.Resting.{RestingRow, resting_of, settled_rest, stamped_rest, value_in_word, with_newest, word_rows, HasSmallWeights, CanSettle, CanWake, woken, woken_row, woken_rows, AreErased};
+ghost use Rattle.version_segment.specs.Resting.{RestingRow, resting_of, settled_rest, stamped_rest, value_in_word, with_newest, word_rows, HasSmallWeights, CanSettle, CanWake, woken, woken_row, woken_rows, AgreesWith, AgreeWith, AreErased};
 ghost use Rattle.version_segment.specs.RestingParts.{AreRestingParts, AreSmallAt, PlaceSettles, StampsFrom, StampsRow, plain_rows, placed_words, seen_row};
 ghost use Rattle.row_table.specs.Lists.{AreHeads};
 
 use crate::buffer::Rows32;
 use crate::segment::VersionSegment;
-use crate::value_word::{value_in_word, value_word, weight_in_word};
+use crate::value_word::{is_marked, value_in_word, value_word, weight_in_word};
 use gap_segment::Segment;
 use graph_model::{Key, Row, TxnName};
 use row_table::RowTable;
@@ -90,6 +90,31 @@ impl Resting {
         snapshot: &Snapshot,
         states: &mut S,
     ) -> Option<u64>
+        requires agrees { IfSome (slice_get self.now.rows place) (λ h. AgreesWith h word) }
+        requires known { snapshot.now.start ≤ (S.knowledge states.old).known }
+        requires named { IfSome (slice_get self.now.rows place)
+            (λ h. IsNamed (S.knowledge states.old).names (with_newest (value_in_word word) h.versions)) }
+        ensures value { IfSome (slice_get self.now.rows place)
+            (λ h. result ≡ read_stamped (S.knowledge states.old).stamps snapshot.now.start snapshot.now.own
+            (with_newest (value_in_word word) h.versions)) }
+        ensures grows { Grows (S.knowledge states.old) (S.knowledge states.new) }
+    {
+        // Most rows have no undo records, and then nothing but the word is looked at.
+        if is_marked(word) {
+            self.read_records(place, word, snapshot, states)
+        } else {
+            Some(word)
+        }
+    }
+
+    /// The same by its undo records.
+    fn read_records<S: States>(
+        &self,
+        place: usize,
+        word: u64,
+        snapshot: &Snapshot,
+        states: &mut S,
+    ) -> Option<u64>
         requires known { snapshot.now.start ≤ (S.knowledge states.old).known }
         requires named { IfSome (slice_get self.now.rows place)
             (λ h. IsNamed (S.knowledge states.old).names (with_newest (value_in_word word) h.versions)) }
@@ -115,6 +140,7 @@ impl Resting {
         buffer: &mut Rows32,
     )
         requires count { length words.now ≡ length self.now.rows }
+        requires agree { AgreeWith self.now.rows words.now }
         requires known { snapshot.now.start ≤ (S.knowledge states.old).known }
         requires named { AreNamedRows (S.knowledge states.old).names (woken_rows self.now.rows words.now) }
         ensures rows { buffer.new
@@ -243,6 +269,7 @@ fn read_one<S: States>(
     buffer: &mut Rows32,
 )
     requires room { length buffer.old < 32 }
+    requires agrees { IfSome (slice_get resting.now.rows place) (λ h. AgreesWith h row.weight) }
     requires known { snapshot.now.start ≤ (S.knowledge states.old).known }
     requires named { IfSome (slice_get resting.now.rows place)
         (λ h. IsNamed (S.knowledge states.old).names (woken_row h row).1) }

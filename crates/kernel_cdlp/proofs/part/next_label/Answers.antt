@@ -1,7 +1,19 @@
-use Rattle.std.proofs.Common.{◌≡◌, length, refl, sym, ap, ◌∙◌, subst}
+use Rattle.std.proofs.Common.{◌≡◌, length, refl, sym, ap, ◌∙◌, subst, arith, false, slice_get, Some}
 use Rattle.graph_image.specs.Images.{arcs_at, AreWithin}
 use Rattle.kernel_cdlp.proofs.RoundLemmas.{next_once, next_both}
+use Rattle.kernel_cdlp.proofs.WakeLemmas.{asleep}
 use Rattle.kernel_cdlp.proofs.part.next_label.Goals as goal
+
+pub returns-then-not-awake-place : goal.returns-then-not-awake-place
+returns-then-not-awake-place c =
+    let place = c.requires.place in
+    let count = c.requires.roused.count in
+    let awake = c.args.awake.now in
+    let at : slice_get awake c.args.place ≡ Some false = asleep awake c.args.place (omega arith) c.if-not-awake-place.true in
+    record {
+      most = λ linked. (c.requires.kept.each c.args.place place (c.requires.roused.each linked c.args.place place at)).most linked;
+      below = c.requires.labels.each c.args.place place;
+    }
 
 pub returns-then-is_quiet : goal.returns-then-is_quiet
 returns-then-is_quiet c = c.requires.kept.each c.args.place c.requires.place (c.is_quiet.ensures c.if-is_quiet.true)

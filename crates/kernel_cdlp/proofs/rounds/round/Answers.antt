@@ -12,10 +12,10 @@ parts-preserved g c =
     let long : c.args.parts.now.len ≡ length now = count ∙ ap length (sym same) in
     let part = c.index.result.now in
     let at : slice_get now c.parts.i ≡ Some part = slice_get_read now c.args.parts.now.len c.parts.i part long (omega (arith, c.parts-test.true, c.len-i-end.ensures)) c.index.ensures in
-    subst (AreJoined c.args.image.now c.args.labels.now.items now (c.parts.i + 1)) (sym (c.in_ok-extend_from_slice.ensures.items ∙ ap (λ l. c.parts.labels.items ++ l) c.as_slice-in-parts.ensures.value))
-    (joined_more c.args.image.now c.args.labels.now.items now c.parts.i c.parts.labels.items part
+    subst (AreJoined c.args.image.now c.args.before.now now (c.parts.i + 1)) (sym (c.in_ok-extend_from_slice.ensures.items ∙ ap (λ l. c.parts.labels.items ++ l) c.as_slice.ensures.value))
+    (joined_more c.args.image.now c.args.before.now now c.parts.i c.parts.labels.items part
     (subst (AreParts c.args.image.now (length c.args.image.now.vertices)) (sym same) c.relabel_each.ensures.parts)
-    (subst (λ l. AreRelabelled c.args.image.now l now) c.as_slice.ensures.value (subst (AreRelabelled c.args.image.now c.as_slice.result.now) (sym same) c.relabel_each.ensures.labels))
+    (subst (AreRelabelled c.args.image.now c.args.before.now) (sym same) c.relabel_each.ensures.labels)
     c.parts.invariant at)
 
 pub returns-clause-ok : goal.returns-clause-ok
@@ -25,4 +25,4 @@ returns-clause-ok g c =
     let same = front_of c.args.parts.now.len c.relabel_each.new.parts (drop (length c.relabel_each.new.parts) c.args.parts.now.items) count in
     let long : c.args.parts.now.len ≡ length now = count ∙ ap length (sym same) in
     let last : c.parts.i ≡ length now = omega (arith, c.parts-test.false, c.parts.auto, long) in
-    joined_all c.args.image.now c.args.labels.now.items now c.parts.i c.parts.labels.items c.parts.invariant last
+    joined_all c.args.image.now c.args.before.now now c.parts.i c.parts.labels.items c.parts.invariant last

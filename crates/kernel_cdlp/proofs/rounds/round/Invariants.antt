@@ -3,4 +3,4 @@ use Rattle.kernel_cdlp.proofs.PartLemmas.{AreJoined}
 use Rattle.kernel_cdlp.proofs.rounds.round.Given as goal
 
 abbrev pub invariant-parts : goal.invariant-parts
-invariant-parts g l = AreJoined l.image l.fn.labels.items l.parts.items l.i l.labels.items
+invariant-parts g l = AreJoined l.image l.before l.parts.items l.i l.labels.items

@@ -3,4 +3,4 @@ use Rattle.kernel_wcc.proofs.labels.components.Given as goal
 
 -- the places so far are joined with the large one, or with the ends of their arcs
 abbrev pub invariant-places : goal.invariant-places
-invariant-places l = AreMerged l.image l.large l.place l.labels.items
+invariant-places g l = AreMerged l.image l.large l.place l.labels.items

@@ -1,9 +1,9 @@
 use Rattle.std.proofs.Common.{◌≡◌, cond, subst, ap, ◌∙◌}
 use Rattle.std.specs.Prelude.{None}
 use Rattle.run_model.specs.AnsweredLines.{effect}
-use Rattle.run_model.specs.Requests.{ToRun}
+use Rattle.run_model.specs.declared.command.Command.TheVariants as commands
 use Rattle.run_model.specs.Run.{filing_of}
-use Rattle.line_runner.specs.Kernels.{kernel_of, IsKernelImage}
+use Rattle.line_runner.specs.Kernels.{IsKernelImage}
 use Rattle.line_runner.specs.Phases.{AnswersKernel, IsFileOn}
 use Rattle.line_runner.specs.Turns.{view_now, ReadsImage}
 use Rattle.line_runner.proofs.ViewLemmas.{kernel_image}
@@ -13,17 +13,17 @@ use Rattle.line_runner.proofs.kernel_line.run_kernel.Goals as goal
 pub returns-in-Further-clause-takes : goal.returns-in-Further-clause-takes
 returns-in-Further-clause-takes g c =
     let view = view_now (g.E.Engine.account c.args.engine.now) in
-    let r = ToRun (kernel_of c.args.kernel) c.args.file.now in
-    let reads = subst (ReadsImage view c.args.before r) c.in-Further.is (c.in_ok-reading.ensures.reads (kernel_of c.args.kernel) c.args.file.now c.requires.may.reads) in
+    let r = commands.Run c.args.kernel c.args.file.now in
+    let reads = subst (ReadsImage view c.args.before r) c.in-Further.is (c.in_ok-reading.ensures.reads c.args.kernel c.args.file.now c.requires.may.reads) in
     (reads, c.in_ok-reading.ensures.did)
 
 pub returns-in_ok-given-in-Whole-clause-takes : goal.returns-in_ok-given-in-Whole-clause-takes
 returns-in_ok-given-in-Whole-clause-takes g c =
     let account = g.E.Engine.account c.args.engine.now in
     let view = view_now account in
-    let kernel = kernel_of c.args.kernel in
+    let kernel = c.args.kernel in
     let file = c.args.file.now in
-    let r = ToRun kernel file in
+    let r = commands.Run kernel file in
     let reads = subst (ReadsImage view c.args.before r) c.in-Whole.is (c.in_ok-reading.ensures.reads kernel file c.requires.may.reads) in
     let kind : c.kind.result ≡ account.kind = c.kind.ensures ∙ reads_kind g.E.Engine.account _ (λ s t d. (g.met.E.Engine.reads s t d).0) _ _ c.in_ok-reading.ensures.did in
     let image : IsKernelImage c.kind.result c.in-Whole.kept.image view = kernel_image account c.requires.may.valid c.requires.may.phase_is c.in-Whole.kept reads.0 c.kind.result kind in
@@ -36,4 +36,4 @@ returns-in_ok-given-in-Whole-clause-takes g c =
 pub returns-in_ok-given-in-Whole-clause-kept : goal.returns-in_ok-given-in-Whole-clause-kept
 returns-in_ok-given-in-Whole-clause-kept g c =
     let view = view_now (g.E.Engine.account c.args.engine.now) in
-    (subst (ReadsImage view c.args.before (ToRun (kernel_of c.args.kernel) c.args.file.now)) c.in-Whole.is (c.in_ok-reading.ensures.reads (kernel_of c.args.kernel) c.args.file.now c.requires.may.reads)).0
+    (subst (ReadsImage view c.args.before (commands.Run c.args.kernel c.args.file.now)) c.in-Whole.is (c.in_ok-reading.ensures.reads c.args.kernel c.args.file.now c.requires.may.reads)).0

@@ -1,7 +1,7 @@
 use Rattle.std.proofs.Common.{◌≡◌, ◌-◌, ap, ◌∙◌}
 use Rattle.std.specs.Prelude.{count_by}
 use Rattle.graph_model.specs.Rows.{all_rows}
-use Rattle.run_model.specs.Requests.{Counts}
+use Rattle.run_model.specs.declared.command.Query.TheVariants.{Counts}
 use Rattle.line_runner.specs.Scanning.{is_vertex, counted}
 use Rattle.line_runner.specs.Turns.{view_now}
 use Rattle.line_runner.proofs.CoreLemmas.{not_true, not_false}

@@ -3,7 +3,7 @@ use Rattle.std.specs.Prelude.{IsSome}
 use Rattle.graph_model.specs.Graph.{has_vertex}
 use Rattle.run_model.specs.declared.answer.Answer.TheVariants as answers
 use Rattle.run_model.specs.Answering.{query_answer}
-use Rattle.run_model.specs.Requests.{NeighboursOf}
+use Rattle.run_model.specs.declared.command.Query.TheVariants.{NeighboursOf}
 use Rattle.line_runner.specs.Turns.{view_now}
 use Rattle.line_runner.proofs.CoreLemmas.{not_true, not_false, view_is}
 use Rattle.line_runner.proofs.ViewLemmas.{neighbours_are, same_targets, sees_still}

@@ -3,7 +3,7 @@ use Rattle.optimistic_read.proofs.block.load_head.Goals as goal
 
 pub block_load-count-requires-clause-reading : goal.block_load-count-requires-clause-reading
 block_load-count-requires-clause-reading c =
-    reads_of_begun c.args.read.cell c.args.read.first c.args.seat.now.me.0 c.requires.begun
+    reads_of_begun c.args.read.block.cell c.args.read.first c.args.seat.now.me.0 c.requires.begun
 
 pub load_key-low-requires-clause-reading : goal.load_key-low-requires-clause-reading
 load_key-low-requires-clause-reading c =

@@ -5,7 +5,7 @@ use Rattle.optimistic_read.proofs.block.look_up.Goals as goal
 
 pub load_row-row-requires-clause-reading : goal.load_row-row-requires-clause-reading
 load_row-row-requires-clause-reading c =
-    reads_of c.args.read.cell c.args.read.first c.search-place.new.seat.me.0
+    reads_of c.args.read.block.cell c.args.read.first c.search-place.new.seat.me.0
     (IsSearched c.load_head-head.result c.args.key c.search-place.result) c.search-place.ensures.searched
 
 pub returns-then-place-head-clause-still : goal.returns-then-place-head-clause-still
@@ -18,7 +18,7 @@ returns-then-place-head-clause-still c =
 
 pub returns-then-place-head-clause-known : goal.returns-then-place-head-clause-known
 returns-then-place-head-clause-known c =
-    row_looked_up c.args.read.cell c.args.read.first c.load_head-head.result c.args.key c.search-place.result
+    row_looked_up c.args.read.block.cell c.args.read.first c.load_head-head.result c.args.key c.search-place.result
     c.load_row-row.result c.search-place.new.seat.me.0 c.load_row-row.new.seat.me.0 c.if-place-head.true
     (λ i. (c.load_row-row.ensures.loaded.me i).0) c.search-place.ensures.searched
 
@@ -30,5 +30,5 @@ returns-else-place-head-clause-still c =
 pub returns-else-place-head-clause-known : goal.returns-else-place-head-clause-known
 returns-else-place-head-clause-known c =
     let no = c.if-place-head.false in
-    none_looked_up c.args.read.cell c.args.read.first c.load_head-head.result c.args.key c.search-place.result
+    none_looked_up c.args.read.block.cell c.args.read.first c.load_head-head.result c.args.key c.search-place.result
     c.search-place.new.seat.me.0 (omega (arith, no)) c.search-place.ensures.searched

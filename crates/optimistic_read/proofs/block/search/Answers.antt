@@ -6,7 +6,7 @@ pub halves-init : goal.halves-init
 halves-init c = (
   still_here c.args.seat.now,
   omega arith,
-  search_begins c.args.read.cell c.args.read.first c.args.seat.now.me.0 c.args.head c.args.key c.requires.reading,
+  search_begins c.args.read.block.cell c.args.read.first c.args.seat.now.me.0 c.args.head c.args.key c.requires.reading,
 )
 
 pub load_key-middle-requires-clause-reading : goal.load_key-middle-requires-clause-reading
@@ -51,5 +51,5 @@ halves-preserved c =
 pub returns-clause-searched : goal.returns-clause-searched
 returns-clause-searched c =
     let none = c.halves-test.false in
-    search_ends c.args.read.cell c.args.read.first c.halves.seat.me.0 c.args.head c.args.key c.halves.place
+    search_ends c.args.read.block.cell c.args.read.first c.halves.seat.me.0 c.args.head c.args.key c.halves.place
     c.halves.rest (omega (arith, none)) c.halves.invariant.2

@@ -6,8 +6,8 @@ use Rattle.optimistic_read.proofs.block.search.Given as goal
 abbrev pub invariant-halves : goal.invariant-halves
 invariant-halves l =
     StillReads l.fn.seat l.seat × (l.place + l.rest ≤ l.fn.head.count)
-    × IsReadingOn l.read.cell l.read.first l.seat.me.0
-    (Halved l.read.cell l.read.first l.fn.head l.key l.place l.rest)
+    × IsReadingOn l.read.block.cell l.read.first l.seat.me.0
+    (Halved l.read.block.cell l.read.first l.fn.head l.key l.place l.rest)
 
 abbrev pub decreases-halves : goal.decreases-halves
 decreases-halves l = l.rest

@@ -10,14 +10,14 @@ rows-init c =
       c.first_place-place.ensures.still,
       c.first_place-place.ensures.within,
       omega (arith, len, few),
-      run_begins c.args.read.cell c.args.read.first c.args.head c.args.from c.args.until c.args.rows.now
+      run_begins c.args.read.block.cell c.args.read.first c.args.head c.args.from c.args.until c.args.rows.now
           c.first_place-place.result (64 - c.len-room.result) c.first_place-place.new.seat.me.0 (ap (λ n. 64 - n) len)
           c.first_place-place.ensures.searched,
     )
 
 pub returns-then-is_beyond-clause-known : goal.returns-then-is_beyond-clause-known
 returns-then-is_beyond-clause-known c =
-    run_ends_at c.args.read.cell c.args.read.first c.args.head c.args.from c.args.until c.args.rows.now
+    run_ends_at c.args.read.block.cell c.args.read.first c.args.head c.args.from c.args.until c.args.rows.now
     c.requires.holds c.rows.place c.rows.room c.rows.rows c.load_row-row.result c.rows.seat.me.0
     c.load_row-row.new.seat.me.0 c.rows-test.true (λ i. (c.load_row-row.ensures.loaded.me i).0) c.rows.invariant.3
     c.is_not_behind-inside.result (sym c.is_beyond.ensures ∙ c.if-is_beyond.true)
@@ -25,7 +25,7 @@ returns-then-is_beyond-clause-known c =
 pub returns-then-room-eq0-clause-known : goal.returns-then-room-eq0-clause-known
 returns-then-room-eq0-clause-known c =
     let none = c.if-room-eq0.true in
-    run_is_full c.args.read.cell c.args.read.first c.args.head c.args.from c.args.until c.args.rows.now
+    run_is_full c.args.read.block.cell c.args.read.first c.args.head c.args.from c.args.until c.args.rows.now
     c.requires.holds c.rows.place c.rows.room c.rows.rows c.load_row-row.result c.rows.seat.me.0
     c.load_row-row.new.seat.me.0 c.rows-test.true (λ i. (c.load_row-row.ensures.loaded.me i).0) c.rows.invariant.3
     c.is_not_behind-inside.result c.is_not_behind-inside.ensures (sym c.is_beyond.ensures ∙ c.if-is_beyond.false)
@@ -34,7 +34,7 @@ returns-then-room-eq0-clause-known c =
 pub returns-then-is_marked-clause-known : goal.returns-then-is_marked-clause-known
 returns-then-is_marked-clause-known c =
     let some = c.if-room-eq0.false in
-    run_is_marked c.args.read.cell c.args.read.first c.args.head c.args.from c.args.until c.args.rows.now
+    run_is_marked c.args.read.block.cell c.args.read.first c.args.head c.args.from c.args.until c.args.rows.now
     c.requires.holds c.rows.place c.rows.room c.rows.rows c.load_row-row.result c.rows.seat.me.0
     c.load_row-row.new.seat.me.0 c.rows-test.true (λ i. (c.load_row-row.ensures.loaded.me i).0) c.rows.invariant.3
     c.is_not_behind-inside.result c.is_not_behind-inside.ensures (sym c.is_beyond.ensures ∙ c.if-is_beyond.false)
@@ -51,7 +51,7 @@ rows-preserved c =
           c.load_row-row.ensures.loaded,
       omega (arith, less),
       omega (arith, sum, some, count),
-      run_goes_on c.args.read.cell c.args.read.first c.args.head c.args.from c.args.until c.args.rows.now
+      run_goes_on c.args.read.block.cell c.args.read.first c.args.head c.args.from c.args.until c.args.rows.now
           c.requires.holds c.rows.place c.rows.room c.rows.rows c.load_row-row.result c.rows.seat.me.0
           c.load_row-row.new.seat.me.0 less (λ i. (c.load_row-row.ensures.loaded.me i).0) c.rows.invariant.3
           c.is_not_behind-inside.result c.is_not_behind-inside.ensures (sym c.is_beyond.ensures ∙ c.if-is_beyond.false)
@@ -62,5 +62,5 @@ rows-preserved c =
 pub returns-clause-known : goal.returns-clause-known
 returns-clause-known c =
     let none = c.rows-test.false in
-    run_ends c.args.read.cell c.args.read.first c.args.head c.args.from c.args.until c.args.rows.now c.requires.holds
+    run_ends c.args.read.block.cell c.args.read.first c.args.head c.args.from c.args.until c.args.rows.now c.requires.holds
     c.rows.place c.rows.room c.rows.rows c.rows.seat.me.0 (omega (arith, none)) c.rows.invariant.3

@@ -5,7 +5,7 @@ use Rattle.optimistic_read.proofs.run.load_run.Goals as goal
 
 pub returns-then-not-holds-clause-known : goal.returns-then-not-holds-clause-known
 returns-then-not-holds-clause-known c =
-    none_loaded c.args.read.cell c.args.read.first c.load_head-head.result c.args.from c.args.until c.args.rows.now
+    none_loaded c.args.read.block.cell c.args.read.first c.load_head-head.result c.args.from c.args.until c.args.rows.now
     c.load_head-head.new.seat.me.0 (sym c.holds.ensures ∙ c.if-not-holds.true) c.load_head-head.ensures.known
 
 pub load_rows-stop-requires-clause-holds : goal.load_rows-stop-requires-clause-holds

@@ -5,7 +5,6 @@ use Rattle.std.proofs.lemmas.Result.{on_ok_weaker}
 use Rattle.graph_model.specs.Legal.{IsLegal}
 use Rattle.graph_model.specs.Account.{Account}
 use Rattle.graph_model.proofs.PlaceLemmas.{some_eq}
-use Rattle.run_model.specs.Requests.{request}
 use Rattle.serial_model.specs.Footprints.{depends}
 use Rattle.serial_check.specs.Ranges.{covers}
 use Rattle.job_runner.specs.Progress.{is_over}
@@ -50,5 +49,5 @@ returns-clause-ok g c =
     let here = c.in-Some.ensures.some in
     on_ok_weaker c.add.result (λ adds.
     (prepares_line core c.args.jobs.now (c.args.number - 1) here.0 here.2 here.3 c.in-Some.command.now here.1 here.4 c.args.check.now _ (sym c.is_commit.ensures ∙ c.if-is_commit.false) refl
-    (record { begins = λ e. absurd (true≢false (sym e ∙ sym c.is_begin.ensures ∙ c.if-is_begin.false)); others = λ _ q row. adds q row ∙ ap (λ kind. covers c.args.check.now.footprint.items q || depends kind (request c.in-Some.command.now) q) c.kind.ensures ∙ ap (λ (a : Account). covers c.args.check.now.footprint.items q || depends a.kind (request c.in-Some.command.now) q) (g.met.E.StepEngine.accounts c.args.engine.now) })))
+    (record { begins = λ e. absurd (true≢false (sym e ∙ sym c.is_begin.ensures ∙ c.if-is_begin.false)); others = λ _ q row. adds q row ∙ ap (λ kind. covers c.args.check.now.footprint.items q || depends kind c.in-Some.command.now q) c.kind.ensures ∙ ap (λ (a : Account). covers c.args.check.now.footprint.items q || depends a.kind c.in-Some.command.now q) (g.met.E.StepEngine.accounts c.args.engine.now) })))
     c.add.ensures.ok

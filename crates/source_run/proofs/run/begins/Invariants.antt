@@ -1,6 +1,6 @@
 -- the transactions of the lines so far
 use Rattle.std.proofs.Common.{◌≡◌, take}
-use Rattle.run_model.specs.Requests.{begun_by}
+use Rattle.run_model.specs.Commands.{begun_by}
 use Rattle.source_run.proofs.run.begins.Given as goal
 
 abbrev pub invariant-lines : goal.invariant-lines

@@ -7,7 +7,7 @@ use Rattle.row_table.proofs.UndoChain.ListLemmas.{grows_chain}
 use Rattle.row_table.specs.Checks.{IsNamed}
 use Rattle.version_segment.specs.Resting.{woken_row}
 use Rattle.version_segment.specs.RestingParts.{seen_row, IsReadTo}
-use Rattle.version_segment.proofs.ReadLemmas.{read_all, read_next, woken_named}
+use Rattle.version_segment.proofs.ReadLemmas.{read_all, read_next, woken_named, word_agrees}
 use Rattle.version_segment.proofs.resting.Resting.run_at.Goals as goal
 
 pub read_one-requires-clause-named : goal.read_one-requires-clause-named
@@ -19,6 +19,11 @@ read_one-requires-clause-named g c =
     let row : Row = slice_index_or words p blank in
     subst (λ (names : TxnName → Bool). IfSome (slice_get hs p) (λ h. IsNamed names (woken_row h row).1)) (sym c.rows.invariant.grows.names)
     (woken_named hs words c.requires.count (g.S.States.knowledge c.args.states.now).names p blank c.rows-test.true c.requires.named)
+
+pub read_one-requires-clause-agrees : goal.read_one-requires-clause-agrees
+read_one-requires-clause-agrees g c =
+    let blank : Row = record { key = record { src = 0; second = 0 }; weight = 0 } in
+    word_agrees c.args.self.now.rows c.args.words.now c.requires.count c.rows.place blank c.rows-test.true c.requires.agree
 
 pub rows-preserved : goal.rows-preserved
 rows-preserved g c =

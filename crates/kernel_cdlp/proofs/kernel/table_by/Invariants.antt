@@ -1,0 +1,8 @@
+-- the vertices so far have each its value in the table
+use Rattle.std.proofs.Common.{map, take}
+use Rattle.graph_image.specs.Entries.{AreEntries}
+use Rattle.kernel_cdlp.specs.Rounds.{value_of}
+use Rattle.kernel_cdlp.proofs.kernel.table_by.Given as goal
+
+abbrev pub invariant-places : goal.invariant-places
+invariant-places l = AreEntries (take l.i l.vertices) (map (value_of l.image.vertices) l.labels) l.entries.items

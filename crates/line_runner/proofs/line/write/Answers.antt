@@ -1,5 +1,0 @@
-use Rattle.line_runner.proofs.AccountLemmas.{still_open}
-use Rattle.line_runner.proofs.line.write.Goals as goal
-
-pub finish-requires : goal.finish-requires
-finish-requires g c = still_open (g.E.Engine.account c.args.engine.now) c.requires.current c.args.w c.make-wrote.result (g.E.Engine.account c.make-wrote.new.engine) (g.met.E.Engine.wrote _ _ _ _ c.make-wrote.ensures).0
