@@ -1,10 +1,15 @@
 use Rattle.std.proofs.Common.{◌∙◌}
-use Rattle.pass_scans.proofs.PackedLemmas.{many, named_asked, shown_asked, start_known}
+use Rattle.pass_scans.proofs.PackedLemmas.{agree, many, named_asked, shown_asked, start_known}
 use Rattle.pass_scans.proofs.run.read_as.Goals as goal
 
 pub run_at-requires-clause-count : goal.run_at-requires-clause-count
 run_at-requires-clause-count g c =
     many c.args.store.now c.args.pass.now c.args._cell c.args.resting.now c.args.words.now c.args.from c.args.end c.args.clock
+    c.requires.learnt c.requires.may.0 c.requires.may.1
+
+pub run_at-requires-clause-agree : goal.run_at-requires-clause-agree
+run_at-requires-clause-agree g c =
+    agree c.args.store.now c.args.pass.now c.args._cell c.args.resting.now c.args.words.now c.args.from c.args.end c.args.clock
     c.requires.learnt c.requires.may.0 c.requires.may.1
 
 pub run_at-requires-clause-known : goal.run_at-requires-clause-known
