@@ -22,8 +22,8 @@ use Rattle.line_runner.specs.Phases.{is_inside, IsPhase}
 use Rattle.line_runner.specs.Turns.{view_now, MayTakeNow, Calls, ReadsTimes, TakesOn, WantsOn, AreByAccount, AreExact}
 use Rattle.line_runner.specs.Lines.{given_up}
 use Rattle.line_runner.proofs.ExactLemmas.{takes_here, wants_same}
-use Rattle.job_runner.specs.declared.turn.Turn.{Turn}
-use Rattle.job_runner.specs.declared.turn.Turn.TheVariants as turns
+use Rattle.job_runner.specs.declared.turn.JobTurn.{JobTurn}
+use Rattle.job_runner.specs.declared.turn.JobTurn.TheVariants as turns
 use Rattle.job_runner.specs.Progress.{Progress, left_of, has_given_up, is_over, behind, gone, GivesUpOn, IsReady, IsReadyBy, IsRolledBack, TakesTurn, TookTurn, TakesTurnOn, TookTurnOn}
 
 -- ---- what is left of a script
@@ -143,7 +143,7 @@ module _ {S : Type 0} (e : Calls S) (core : S → Core) (exact : AreExact e core
     job_is = is.job_is;
   }
 
-  pub took_alone : (turn : Turn) (next : Progress) (new : S) → TookTurnOn e old job turn next new → TookTurn (core old) job turn next (core new)
+  pub took_alone : (turn : JobTurn) (next : Progress) (new : S) → TookTurnOn e old job turn next new → TookTurn (core old) job turn next (core new)
   took_alone turns.More next new is = (is.0, λ c rest left. takes_alone c rest left next new (is.1 c rest left))
   took_alone turns.Ended next new is = (is.0, λ c rest left. takes_alone c rest left next new (is.1 c rest left))
   took_alone turns.NoMemory next new is =

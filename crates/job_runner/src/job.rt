@@ -10,10 +10,10 @@ ghost use Rattle.run_model.specs.declared.command.Command.{Command};
 ghost use Rattle.run_model.specs.declared.command.Command.TheVariants.{Abort};
 ghost use Rattle.line_runner.specs.Turns.{calls, WantsOn};
 ghost use Rattle.graph_model.specs.OwnerCalls.{account_here};
-ghost use Rattle.job_runner.specs.declared.turn.Turn.TheVariants as turns;
+ghost use Rattle.job_runner.specs.declared.turn.JobTurn.TheVariants as turns;
 ghost use Rattle.job_runner.specs.Progress.{new_progress, left_of, is_over, listed_table, gone, has_given_up, GivesUpOn, IsReady, IsReadyBy, IsRolledBack, TakesTurnOn, TookTurn, TookTurnOn};
 
-use crate::turn::Turn;
+use crate::turn::JobTurn;
 use graph_model::{Engine, NoMemory, StepEngine, VertexEngine};
 use items::RoomyItems;
 use line_runner::{KeptImage, LineTurn, NamedTable, Phase, Reading, Tables, take_line};
@@ -155,7 +155,7 @@ impl Job {
     }
 
     /// Takes one turn: a line, or a further portion of the rows that the line at hand scans.
-    pub fn turn<R: Threads + Sync, E: VertexEngine>(&mut self, rt: &R, engine: &mut E) -> Turn
+    pub fn turn<R: Threads + Sync, E: VertexEngine>(&mut self, rt: &R, engine: &mut E) -> JobTurn
         requires going { is_over self.old ≡ false }
         requires ready { IsReadyBy (E.account engine.old) self.old }
         ensures took { let e = calls E.account E.did_begin E.did_write E.did_read E.did_commit E.did_abort in
@@ -163,18 +163,22 @@ impl Job {
         ensures rolled_back { result ≡ turns.NoMemory → IsRolledBack self.old self.new (E.account engine.new) }
     {
         match self.take_turn(rt, engine) {
-            Ok(()) if self.has_ended() => Turn::Ended,
-            Ok(()) => Turn::More,
+            Ok(()) if self.has_ended() => JobTurn::Ended,
+            Ok(()) => JobTurn::More,
             Err(NoMemory) => {
                 // Its transaction is taken back, which takes no memory: the run ends, and no pass is left with one.
                 self.give_up(engine);
-                Turn::NoMemory
+                JobTurn::NoMemory
             }
         }
     }
 
     /// Takes one turn on an engine of one owner.
-    pub fn turn_alone<R: Threads + Sync, E: StepEngine>(&mut self, rt: &R, engine: &mut E) -> Turn
+    pub fn turn_alone<R: Threads + Sync, E: StepEngine>(
+        &mut self,
+        rt: &R,
+        engine: &mut E,
+    ) -> JobTurn
         requires going { is_over self.old ≡ false }
         requires ready { IsReady (E.core engine.old) self.old }
         ensures took { TookTurn (E.core engine.old) self.old result self.new (E.core engine.new) }

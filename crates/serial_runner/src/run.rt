@@ -17,7 +17,7 @@ ghost use Rattle.serial_runner.specs.declared.run.RefusedCommit.{RefusedCommit};
 ghost use Rattle.serial_runner.specs.declared.run.Check.{Check};
 ghost use Rattle.teseo_core.specs.Writing.{writing_since};
 
-use crate::engine::JournalEngine;
+use crate::engine::CheckedEngine;
 use graph_model::{Cause, NoMemory};
 use items::Items;
 use job_runner::{Jobs, take_turn};
@@ -46,7 +46,7 @@ struct Check {
 
 /// Runs the jobs of all scripts to their end, one turn after the other, and refuses each commit that would not leave a
 /// serial order.
-pub fn run_serial<R: Threads + Sync, E: JournalEngine>(
+pub fn run_serial<R: Threads + Sync, E: CheckedEngine>(
     rt: &R,
     alloc: Global,
     engine: &mut E,
@@ -69,7 +69,7 @@ pub fn run_serial<R: Threads + Sync, E: JournalEngine>(
 }
 
 /// Takes turns until all scripts have ended, or memory runs out, with a check for each script.
-fn run_checked<R: Threads + Sync, E: JournalEngine>(
+fn run_checked<R: Threads + Sync, E: CheckedEngine>(
     rt: &R,
     alloc: Global,
     engine: &mut E,
@@ -87,7 +87,7 @@ fn run_checked<R: Threads + Sync, E: JournalEngine>(
 }
 
 /// Takes turns until all scripts have ended, or memory runs out, and gives refused commits their answers.
-fn run_with<R: Threads + Sync, E: JournalEngine>(
+fn run_with<R: Threads + Sync, E: CheckedEngine>(
     rt: &R,
     engine: &mut E,
     jobs: &mut Jobs,
@@ -123,7 +123,7 @@ fn new_checks(alloc: Global, count: usize) -> Result<Vec<Check>, NoMemory>
 }
 
 /// Takes turns until all scripts have ended, or memory runs out.
-fn take_turns<R: Threads + Sync, E: JournalEngine>(
+fn take_turns<R: Threads + Sync, E: CheckedEngine>(
     rt: &R,
     engine: &mut E,
     jobs: &mut Jobs,
@@ -163,7 +163,7 @@ fn take_turns<R: Threads + Sync, E: JournalEngine>(
 
 /// Gives a turn to the service, number 0, or to a job, whose line is checked first. Answers whether the job ends with
 /// that.
-fn take_checked_turn<R: Threads + Sync, E: JournalEngine>(
+fn take_checked_turn<R: Threads + Sync, E: CheckedEngine>(
     rt: &R,
     engine: &mut E,
     jobs: &mut Jobs,
@@ -187,7 +187,7 @@ fn take_checked_turn<R: Threads + Sync, E: JournalEngine>(
 }
 
 /// Checks the line at hand of a job. Where a commit stands against it, it will abort.
-fn prepare<E: JournalEngine>(
+fn prepare<E: CheckedEngine>(
     engine: &E,
     jobs: &mut Jobs,
     check: &mut Check,
@@ -229,7 +229,7 @@ fn is_begin(command: &Command) -> bool
 }
 
 /// Checks a `commit` of a job. Where a commit stands against it, it will abort, and that is noted.
-fn prepare_commit<E: JournalEngine>(
+fn prepare_commit<E: CheckedEngine>(
     engine: &E,
     jobs: &mut Jobs,
     check: &mut Check,
@@ -260,7 +260,7 @@ fn prepare_commit<E: JournalEngine>(
 }
 
 /// The commit that stands against that of a pass's open transaction, which has this footprint.
-fn refusal<E: JournalEngine>(engine: &E, footprint: &Footprint, pass: u32) -> Option<u64>
+fn refusal<E: CheckedEngine>(engine: &E, footprint: &Footprint, pass: u32) -> Option<u64>
     requires { IsLegal (E.core engine.now).kind (E.core engine.now).journal }
     ensures { result ≡ refusal_since (E.core engine.now).kind (E.core engine.now).journal
         (writing_since (pass_at (E.core engine.now) pass)) footprint.now.items }

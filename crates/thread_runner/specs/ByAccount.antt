@@ -18,8 +18,8 @@ use Rattle.job_runner.specs.LineRunner.Kernels.{IsKeptImage}
 use Rattle.job_runner.specs.LineRunner.Scanning.{taken_of}
 use Rattle.job_runner.specs.LineRunner.Phases.{is_skipping, phase_at, file_of}
 use Rattle.job_runner.specs.LineRunner.Turns.{view_now, goes_on_at, ReadsFurther}
-use Rattle.job_runner.specs.declared.turn.Turn.{Turn}
-use Rattle.job_runner.specs.declared.turn.Turn.TheVariants as turns
+use Rattle.job_runner.specs.declared.turn.JobTurn.{JobTurn}
+use Rattle.job_runner.specs.declared.turn.JobTurn.TheVariants as turns
 use Rattle.job_runner.specs.Progress.{Progress, new_progress, left_of, listed_table, has_given_up, is_over, behind, gone, IsReadyBy}
 
 -- ---- one turn
@@ -56,7 +56,7 @@ GivesUpBy old Skipping new = ReadsBy old new
 GivesUpBy old GivenUp new = ReadsBy old new
 
 -- what a turn comes to: the line at hand takes it, or memory was wanted, and the transaction is taken back
-abbrev pub TookTurnBy : Account → Progress → Turn → Progress → Account → Type 0
+abbrev pub TookTurnBy : Account → Progress → JobTurn → Progress → Account → Type 0
 TookTurnBy old job turns.More next new = (is_over next ≡ false)
     × ((c : Command) (rest : List Command) → left_of job ≡ c ∷ rest → TakesTurnBy old job c next new)
 TookTurnBy old job turns.Ended next new = (is_over next ≡ true)
@@ -69,7 +69,7 @@ TookTurnBy old job turns.NoMemory next new = GivesUpBy old job.phase new × (nex
 abbrev pub TurnsBy : ℕ → Account → Progress → Progress → Account → Type 0
 TurnsBy zero old job next new = (next ≡ job) × (new ≡ old)
 TurnsBy (suc n) old job next new =
-    (turn : Turn) × (between : Progress) × (then : Account) × (is_over job ≡ false)
+    (turn : JobTurn) × (between : Progress) × (then : Account) × (is_over job ≡ false)
     × TookTurnBy old job turn between then × TurnsBy n then between next new
 
 -- a job took its turns on the account of its own pass

@@ -1,6 +1,6 @@
 use Rattle.std.proofs.Common.{sym}
 use Rattle.id_places.proofs.KnownLemmas.{place_dense}
-use Rattle.id_places.proofs.known.Known.find_dense.Goals as goal
+use Rattle.id_places.proofs.id_table.IdTable.find_dense.Goals as goal
 
 pub returns-then-id-least : goal.returns-then-id-least
 returns-then-id-least c =

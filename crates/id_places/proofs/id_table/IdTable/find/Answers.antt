@@ -1,7 +1,7 @@
 use Rattle.std.proofs.Common.{◌≡◌, Some, sym}
 use Rattle.id_places.specs.Places.{place_of}
 use Rattle.id_places.proofs.KnownLemmas.{among_place}
-use Rattle.id_places.proofs.known.Known.find.Goals as goal
+use Rattle.id_places.proofs.id_table.IdTable.find.Goals as goal
 
 pub returns-in-Some-clause-among : goal.returns-in-Some-clause-among
 returns-in-Some-clause-among c = among_place c.args.self.now c.args.id (Some c.in-Some.place) (sym c.in-Some.ensures)

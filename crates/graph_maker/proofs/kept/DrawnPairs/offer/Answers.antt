@@ -2,7 +2,7 @@ use Rattle.std.proofs.Common.{rules, ◌∙◌, ap, cond, true}
 use Rattle.std.specs.HashSet.{contains}
 use Rattle.graph_maker.specs.Kept.{same_pair}
 use Rattle.graph_maker.proofs.KeptLemmas.{one_more, kept_so}
-use Rattle.graph_maker.proofs.kept.Kept.offer.Goals as goal
+use Rattle.graph_maker.proofs.kept.DrawnPairs.offer.Goals as goal
 
 pub invariant_of-self-then-branch : goal.invariant_of-self-then-branch
 invariant_of-self-then-branch c =

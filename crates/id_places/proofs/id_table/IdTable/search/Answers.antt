@@ -2,7 +2,7 @@ use Rattle.std.proofs.Common.{Err, sym, ap, ◌∙◌}
 use Rattle.std.proofs.lemmas.List.Sorted.{searched}
 use Rattle.id_places.specs.Places.{place_of}
 use Rattle.id_places.proofs.KnownLemmas.{searched_none}
-use Rattle.id_places.proofs.known.Known.search.Goals as goal
+use Rattle.id_places.proofs.id_table.IdTable.search.Goals as goal
 
 pub returns-in-Err : goal.returns-in-Err
 returns-in-Err c =

@@ -1,6 +1,6 @@
 use Rattle.std.proofs.Common.{arith}
 use Rattle.id_places.proofs.KnownLemmas.{right_slot}
-use Rattle.id_places.proofs.slots.Slots.find.Goals as goal
+use Rattle.id_places.proofs.slots.IdSlots.find.Goals as goal
 
 pub returns-then-slot : goal.returns-then-slot
 returns-then-slot c = λ ids right.

@@ -1,7 +1,7 @@
 use Rattle.std.proofs.Common.{ℕ}
 use Rattle.std.proofs.lemmas.List.Sorted.{IsNonDecreasingBy-from_sort}
 use Rattle.id_places.proofs.KnownLemmas.{among_permuted}
-use Rattle.id_places.proofs.known.Known.of.Goals as goal
+use Rattle.id_places.proofs.id_table.IdTable.of.Goals as goal
 
 pub dense_front-dense-requires : goal.dense_front-dense-requires
 dense_front-dense-requires c = rw c.as_slice.ensures.value (IsNonDecreasingBy-from_sort (λ (x : ℕ). x) _ c.sort_unstable.ensures.sorted)

@@ -9,27 +9,27 @@ ghost use Rattle.std.specs.Prelude.{IfOk, IfSome, MatchOption, Some};
 ghost use Rattle.std.specs.List.Sorted.{IsNonDecreasing};
 ghost use Rattle.id_places.specs.Places.{is_among, StartsDense, place_of, IsRight};
 
-use crate::slots::{Slots, stands_first};
+use crate::slots::{IdSlots, stands_first};
 use items::NoMemory;
 use std::alloc::Global;
 use std::marker::Model;
 
 /// The ids of a graph in rising order.
 #[derive(Drop)]
-pub struct Known {
+pub struct IdTable {
     /// Without repeats.
     sorted: Vec<u64>,
     /// How many ids at the front have no gap between them. A look-up among these reads no memory, which is what files
     /// with the ids 1 to n need.
     dense: usize,
     /// Where most of the others stand.
-    slots: Slots,
+    slots: IdSlots,
     ghost rises: { IsNonDecreasing sorted.items },
     ghost starts: { StartsDense sorted.items dense },
     ghost right: { All (IsRight sorted.items) slots },
 }
 
-impl Model for Known {
+impl Model for IdTable {
     ghost use Rattle.std.specs.Prelude.{ℕ, List};
 
     ghost Value = { List ℕ };
@@ -37,7 +37,7 @@ impl Model for Known {
     ghost view = { λ known. known.sorted.items };
 }
 
-impl Known {
+impl IdTable {
     /// Whether the id is one of them.
     pub fn knows(&self, id: u64) -> bool
         ensures { result ≡ is_among self.now id }
@@ -46,15 +46,15 @@ impl Known {
     }
 
     /// Sorts a copy of the ids.
-    pub fn of(alloc: Global, ids: &[u64]) -> Result<Known, NoMemory>
+    pub fn of(alloc: Global, ids: &[u64]) -> Result<IdTable, NoMemory>
         ensures { IfOk result (λ known. (v : ℕ) → is_among known v ≡ is_among ids.now v) }
     {
         let mut sorted = Vec::from_slice(alloc, ids)?;
         sorted.sort_unstable();
         // In most files all ids follow each other, and then no table is needed.
         let dense = dense_front(sorted.as_slice());
-        let slots = Slots::of(alloc, sorted.as_slice(), dense)?;
-        Ok(Known {
+        let slots = IdSlots::of(alloc, sorted.as_slice(), dense)?;
+        Ok(IdTable {
             sorted,
             dense,
             slots,
