@@ -12,7 +12,7 @@ use Rattle.line_runner.specs.declared.answering.LineTurn.TheVariants.{Scanning, 
 use Rattle.line_runner.specs.declared.kept.KeptImage.{KeptImage}
 use Rattle.line_runner.specs.declared.phase.Phase.{Phase}
 use Rattle.line_runner.specs.declared.phase.Phase.TheVariants.{Between, Open, Skipping, GivenUp}
-use Rattle.line_runner.specs.declared.reading.Reading.{Reading}
+use Rattle.line_runner.specs.declared.reading.LineReading.{LineReading}
 use Rattle.line_runner.specs.declared.table.NamedTable.{NamedTable}
 use Rattle.job_runner.specs.declared.turn.JobTurn.{JobTurn}
 use Rattle.job_runner.specs.declared.turn.JobTurn.TheVariants as turns
@@ -31,7 +31,7 @@ pub record Progress : Type 0 where
   pub tables : List NamedTable
   pub phase : Phase
   -- what the line at hand has read, if it has taken a turn
-  pub reading : Option Reading
+  pub reading : Option LineReading
   -- the image of what the open transaction sees, if one is kept
   pub image : Option KeptImage
 

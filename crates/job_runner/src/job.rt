@@ -16,7 +16,7 @@ ghost use Rattle.job_runner.specs.Progress.{new_progress, left_of, is_over, list
 use crate::turn::JobTurn;
 use graph_model::{Engine, NoMemory, StepEngine, VertexEngine};
 use items::RoomyItems;
-use line_runner::{KeptImage, LineTurn, NamedTable, Phase, Reading, Tables, take_line};
+use line_runner::{KeptImage, LineReading, LineTurn, NamedTable, Phase, Tables, take_line};
 use run_model::{Answer, Command, Script};
 use std::alloc::Global;
 use std::marker::Model;
@@ -38,7 +38,7 @@ pub struct Job {
     /// Where it stands between its lines.
     phase: Phase,
     /// How far the line at hand has come, if it has taken a turn.
-    reading: Option<Reading>,
+    reading: Option<LineReading>,
     /// Of what the open transaction sees, if a line has made one.
     image: Option<KeptImage>,
 }
@@ -230,7 +230,7 @@ impl Job {
     }
 
     /// Keeps these for the next turn.
-    fn keep(&mut self, reading: Option<Reading>, image: Option<KeptImage>)
+    fn keep(&mut self, reading: Option<LineReading>, image: Option<KeptImage>)
         ensures { self.new ≡ record self.old { reading = reading; image = image } }
     {
         self.reading = reading;

@@ -26,7 +26,7 @@ use crate::answering::{LineAnswer, LineTurn};
 use crate::kept::KeptImage;
 use crate::kernel_line::run_kernel;
 use crate::phase::Phase;
-use crate::reading::Reading;
+use crate::reading::LineReading;
 use crate::scan::Scan;
 use graph_model::{BeginRefusal, Engine, NoMemory, Refusal, VertexEngine, Write};
 use run_model::{Answer, Command, Query};
@@ -40,7 +40,7 @@ pub fn take_line<R: Threads + Sync, E: VertexEngine>(
     engine: &mut E,
     command: &Command,
     phase: Phase,
-    reading: Option<Reading>,
+    reading: Option<LineReading>,
     image: &mut Option<KeptImage>,
 ) -> Result<LineTurn, NoMemory>
     requires may { MayTakeNow (E.account engine.old) phase reading command.now }
@@ -171,7 +171,7 @@ fn read<E: Engine>(
     alloc: Global,
     engine: &mut E,
     query: Query,
-    before: Option<Reading>,
+    before: Option<LineReading>,
 ) -> Result<LineTurn, NoMemory>
     requires { MayTakeNow (E.account engine.old) Phase.Open before (commands.Read query) }
     ensures takes { let e = calls E.account E.did_begin E.did_write E.did_read E.did_commit E.did_abort in
@@ -216,7 +216,7 @@ fn skip(command: &Command) -> LineAnswer
 /// Takes one turn of the scan of a read: the one under way, or a new one.
 fn advance<E: Engine>(
     engine: &mut E,
-    before: Option<Reading>,
+    before: Option<LineReading>,
     fresh: Scan,
 ) -> Result<Scan, NoMemory>
     requires valid { IsValid (E.account engine.old) }
@@ -230,7 +230,9 @@ fn advance<E: Engine>(
         → Advances (view_now (E.account engine.old)) before (commands.Read query) next) }
     ensures did { E.did_read engine.old engine.new }
 {
-    let mut scan = before.unwrap_or(Reading::Scan { scan: fresh }).into_scan();
+    let mut scan = before
+        .unwrap_or(LineReading::Scan { scan: fresh })
+        .into_scan();
     scan.step(engine)?;
     Ok(scan)
 }
@@ -240,7 +242,7 @@ fn neighbours<E: Engine>(
     alloc: Global,
     engine: &mut E,
     v: u64,
-    before: Option<Reading>,
+    before: Option<LineReading>,
 ) -> Result<LineTurn, NoMemory>
     requires { MayTakeNow (E.account engine.old) Phase.Open before (commands.Read (NeighboursOf v)) }
     ensures takes { let e = calls E.account E.did_begin E.did_write E.did_read E.did_commit E.did_abort in
@@ -249,7 +251,7 @@ fn neighbours<E: Engine>(
 {
     let scan = advance(engine, before, Scan::of_arcs(alloc, v))?;
     if !scan.cursor.done {
-        let reading = Reading::Scan { scan };
+        let reading = LineReading::Scan { scan };
         return Ok(LineTurn::Scanning { reading });
     }
     let answer = if engine.has_vertex(v) {
@@ -265,7 +267,7 @@ fn neighbours<E: Engine>(
 }
 
 /// Scans all rows, and counts them.
-fn count<E: Engine>(engine: &mut E, before: Option<Reading>) -> Result<LineTurn, NoMemory>
+fn count<E: Engine>(engine: &mut E, before: Option<LineReading>) -> Result<LineTurn, NoMemory>
     requires { MayTakeNow (E.account engine.old) Phase.Open before (commands.Read Counts) }
     ensures takes { let e = calls E.account E.did_begin E.did_write E.did_read E.did_commit E.did_abort in
         IfOk result (λ turn. TakesOn e engine.old Phase.Open before (commands.Read Counts) turn engine.new) }
@@ -273,7 +275,7 @@ fn count<E: Engine>(engine: &mut E, before: Option<Reading>) -> Result<LineTurn,
 {
     let scan = advance(engine, before, Scan::of_counts())?;
     if !scan.cursor.done {
-        let reading = Reading::Scan { scan };
+        let reading = LineReading::Scan { scan };
         return Ok(LineTurn::Scanning { reading });
     }
     let answer = scan.into_counts(engine.kind());

@@ -22,7 +22,7 @@ use Rattle.job_runner.specs.LineRunnerDeclared.answering.LineTurn.TheVariants.{S
 use Rattle.job_runner.specs.LineRunnerDeclared.kept.KeptImage.{KeptImage}
 use Rattle.job_runner.specs.LineRunnerDeclared.phase.Phase.{Phase}
 use Rattle.job_runner.specs.LineRunnerDeclared.phase.Phase.TheVariants.{Between, Open, Skipping, GivenUp}
-use Rattle.job_runner.specs.LineRunnerDeclared.reading.Reading.{Reading}
+use Rattle.job_runner.specs.LineRunnerDeclared.reading.LineReading.{LineReading}
 use Rattle.job_runner.specs.LineRunner.Kernels.{IsKeptImage}
 use Rattle.job_runner.specs.LineRunner.Scanning.{IsReading, taken_of}
 use Rattle.job_runner.specs.LineRunner.Phases.{is_skipping, is_inside, IsPhase, phase_at, phase_behind, plain, file_of, sees_same, image_behind}
@@ -42,7 +42,7 @@ use Rattle.thread_runner.proofs.CallLemmas.{Leaves, reads_read, leaves_live}
 
 -- ---- one turn, by the calls
 
-module _ {S : Type 0} (e : Calls S) (by : AreByAccount e) (old new : S) (phase : Phase) (reading : Option Reading) (r : Command) (may : MayTakeNow (e.account old) phase reading r) where
+module _ {S : Type 0} (e : Calls S) (by : AreByAccount e) (old new : S) (phase : Phase) (reading : Option LineReading) (r : Command) (may : MayTakeNow (e.account old) phase reading r) where
   legal : SeesLegal (e.account old)
   legal = may.valid.legal
 
@@ -145,7 +145,7 @@ module _ {S : Type 0} (e : Calls S) (by : AreByAccount e) (old : S) (job : Progr
   room = subst (λ cs. begun_by (e.account old).begun cs ≤ (e.account old).allowed) left ready.room
 
   -- the line took a portion of what it reads
-  scans_ready : (next : Reading) (image : Option KeptImage) → IfSome image (IsKeptImage (view_now (e.account old))) → TakesOn e old job.phase job.reading c (Scanning next) new → IsReadyBy (e.account new) (behind job image (Scanning next))
+  scans_ready : (next : LineReading) (image : Option KeptImage) → IfSome image (IsKeptImage (view_now (e.account old))) → TakesOn e old job.phase job.reading c (Scanning next) new → IsReadyBy (e.account new) (behind job image (Scanning next))
   scans_ready next image kept is =
       let read = reads_read e by old new ready.valid.legal is.1 in
       let opened : IsSome (e.account old).start = subst (λ p. IsPhase p (e.account old).start) is.0.is_open ready.phase_is in
@@ -312,7 +312,7 @@ module _ {S : Type 0} (e : Calls S) (by : AreByAccount e) (old : S) (job : Progr
       let t = takes hand.0 hand.1 hand.2 in
       subst (λ x. turns_left x < turns_left job) (sym t.job_is) (turn_less job hand.0 hand.1 hand.2 ready.small t.turn (further hand.0 t.turn t.takes) t.image)
     where
-      further : (r : Command) (turn : LineTurn) → TakesOn e old job.phase job.reading r turn new → (reading : Reading) → turn ≡ Scanning reading
+      further : (r : Command) (turn : LineTurn) → TakesOn e old job.phase job.reading r turn new → (reading : LineReading) → turn ≡ Scanning reading
           → (taken_of (Some reading) ≡ taken_of job.reading + 1) × (taken_of (Some reading) < 288230376151711744)
       further r turn takes reading same =
           let scans = subst (λ t. TakesOn e old job.phase job.reading r t new) same takes in (scans.0.taken, scans.0.small)

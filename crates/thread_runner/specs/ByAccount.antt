@@ -13,7 +13,7 @@ use Rattle.job_runner.specs.LineRunnerDeclared.answering.LineTurn.TheVariants.{S
 use Rattle.job_runner.specs.LineRunnerDeclared.kept.KeptImage.{KeptImage}
 use Rattle.job_runner.specs.LineRunnerDeclared.phase.Phase.{Phase}
 use Rattle.job_runner.specs.LineRunnerDeclared.phase.Phase.TheVariants.{Between, Open, Skipping, GivenUp}
-use Rattle.job_runner.specs.LineRunnerDeclared.reading.Reading.{Reading}
+use Rattle.job_runner.specs.LineRunnerDeclared.reading.LineReading.{LineReading}
 use Rattle.job_runner.specs.LineRunner.Kernels.{IsKeptImage}
 use Rattle.job_runner.specs.LineRunner.Scanning.{taken_of}
 use Rattle.job_runner.specs.LineRunner.Phases.{is_skipping, phase_at, file_of}
@@ -29,14 +29,14 @@ abbrev pub phase_left : Bool → Account → Phase
 phase_left skips account = cond skips Skipping (phase_at account.start)
 
 -- the last turn of a line answers it
-pub record AnswersBy (old : Account) (phase : Phase) (reading : Option Reading) (r : Command) (given : LineAnswer)
+pub record AnswersBy (old : Account) (phase : Phase) (reading : Option LineReading) (r : Command) (given : LineAnswer)
     (new : Account) : Type 0 where
   pub last : goes_on_at (view_now old) (is_skipping phase) (taken_of reading) r ≡ false
   pub does : LineBy (is_skipping phase) old r given.answer (map file_of (listed_table given.table)) [] new
   pub phase_is : given.phase ≡ phase_left (skips_behind (is_skipping phase) r given.answer) new
 
 -- one turn of a line. Where turns are left more of the journal may have been seen, and nothing else has changed
-abbrev pub TakesBy : Account → Phase → Option Reading → Command → LineTurn → Account → Type 0
+abbrev pub TakesBy : Account → Phase → Option LineReading → Command → LineTurn → Account → Type 0
 TakesBy old phase reading r (Scanning next) new = ReadsFurther (view_now old) phase reading r next × ReadsBy old new
 TakesBy old phase reading r (Answering given) new = AnswersBy old phase reading r given new
 

@@ -5,8 +5,8 @@ use Rattle.graph_model.specs.declared.limits.TheConstants.{MAX_WEIGHT}
 use Rattle.graph_image.specs.Images.{arcs_at}
 use Rattle.kernel_sssp.specs.declared.search.TheConstants.{UNREACHED}
 use Rattle.kernel_sssp.proofs.SearchLemmas.{IsFollowing, following_kept, following_lowered, followed}
-use Rattle.kernel_sssp.proofs.search.Search.follow.Goals as goal
-use Rattle.kernel_sssp.proofs.search.Search.follow.Goals.{then-distance-index+in_ok-lower, else-distance-index}
+use Rattle.kernel_sssp.proofs.search.PathSearch.follow.Goals as goal
+use Rattle.kernel_sssp.proofs.search.PathSearch.follow.Goals.{then-distance-index+in_ok-lower, else-distance-index}
 
 pub index-requires : goal.index-requires
 index-requires c =

@@ -5,8 +5,8 @@ use Rattle.graph_model.specs.declared.limits.TheConstants.{MAX_WEIGHT}
 use Rattle.graph_image.specs.declared.edge.Arc.{Arc}
 use Rattle.graph_image.specs.Images.{arcs_at}
 use Rattle.delta_sssp.proofs.SearchLemmas.{IsFollowing, following_kept, following_lowered, followed}
-use Rattle.delta_sssp.proofs.search.Search.follow.Goals as goal
-use Rattle.delta_sssp.proofs.search.Search.follow.Goals.{then-distance-index+in_ok-lower, else-distance-index}
+use Rattle.delta_sssp.proofs.search.BucketSearch.follow.Goals as goal
+use Rattle.delta_sssp.proofs.search.BucketSearch.follow.Goals.{then-distance-index+in_ok-lower, else-distance-index}
 
 pub index-requires : goal.index-requires
 index-requires c =

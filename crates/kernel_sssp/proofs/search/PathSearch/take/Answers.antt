@@ -3,7 +3,7 @@ use Rattle.std.specs.Prelude.{IsPermutation}
 use Rattle.kernel_sssp.specs.Search.{AreQueued}
 use Rattle.kernel_sssp.proofs.Lists.{none_taken}
 use Rattle.kernel_sssp.proofs.SearchLemmas.{near_within, far_within, last_within, near_first, far_first}
-use Rattle.kernel_sssp.proofs.search.Search.take.Goals as goal
+use Rattle.kernel_sssp.proofs.search.PathSearch.take.Goals as goal
 
 pub index_mut-requires : goal.index_mut-requires
 index_mut-requires c =

@@ -3,8 +3,8 @@ use Rattle.std.proofs.lemmas.Option.{IfSome_then}
 use Rattle.kernel_sssp.specs.Search.{queue_of, AreQueued, IsArranged}
 use Rattle.kernel_sssp.proofs.Lists.{none_then}
 use Rattle.kernel_sssp.proofs.SearchLemmas.{queued_in_order, arranged_none, next_arranged, end_arranged}
-use Rattle.kernel_sssp.proofs.search.Search.next.Goals as goal
-use Rattle.kernel_sssp.proofs.search.Search.next.Goals.{then-is_empty+in_ok-bring_near, else-is_empty}
+use Rattle.kernel_sssp.proofs.search.PathSearch.next.Goals as goal
+use Rattle.kernel_sssp.proofs.search.PathSearch.next.Goals.{then-is_empty+in_ok-bring_near, else-is_empty}
 
 pub take-requires : goal.take-requires
 take-requires c =

@@ -1,7 +1,7 @@
 use Rattle.std.proofs.Common.{length, refl}
 use Rattle.std.proofs.lemmas.Option.{slice_get_read}
 use Rattle.delta_sssp.proofs.SearchLemmas.{stepped}
-use Rattle.delta_sssp.proofs.search.Search.step.Goals as goal
+use Rattle.delta_sssp.proofs.search.BucketSearch.step.Goals as goal
 
 pub visit-requires-clause-visit : goal.visit-requires-clause-visit
 visit-requires-clause-visit c =

@@ -4,7 +4,7 @@ use Rattle.std.proofs.lemmas.List.Sorted.{IsPermutation-sym}
 use Rattle.std.proofs.lemmas.Option.{slice_get_read}
 use Rattle.kernel_sssp.proofs.Lists.{set_same}
 use Rattle.kernel_sssp.proofs.SearchLemmas.{near_first, far_first}
-use Rattle.kernel_sssp.proofs.search.Search.lower.Goals as goal
+use Rattle.kernel_sssp.proofs.search.PathSearch.lower.Goals as goal
 
 pub returns-else-not-index : goal.returns-else-not-index
 returns-else-not-index c =

@@ -3,7 +3,7 @@ use Rattle.std.proofs.lemmas.List.Sorted.{IsPermutation-trans}
 use Rattle.std.proofs.lemmas.Option.{slice_get_read}
 use Rattle.kernel_sssp.specs.Search.{queue_of}
 use Rattle.kernel_sssp.proofs.SearchLemmas.{queued_in_order, far_within, brought}
-use Rattle.kernel_sssp.proofs.search.Search.bring_near.Goals as goal
+use Rattle.kernel_sssp.proofs.search.PathSearch.bring_near.Goals as goal
 
 pub index-requires-in-places : goal.index-requires-in-places
 index-requires-in-places c =

@@ -1,7 +1,7 @@
 -- the queue has the same places
 use Rattle.std.proofs.Common.{◌-◌, length}
 use Rattle.kernel_sssp.specs.Search.{IsArranged}
-use Rattle.kernel_sssp.proofs.search.Search.bring_near.Given as goal
+use Rattle.kernel_sssp.proofs.search.PathSearch.bring_near.Given as goal
 
 abbrev pub invariant-far : goal.invariant-far
 invariant-far l = IsArranged l.fn.self l.self
