@@ -149,6 +149,8 @@ impl Job {
         requires { place < length self.old.answers }
         ensures { self.new ≡ record self.old { answers = slice_set self.old.answers place answer } }
     {
+        // The list takes no other answer in place while its room is counted, so it is one without that count
+        // meanwhile.
         let mut answers = replace(&mut self.answers, RoomyItems::new(self.alloc)).into_items();
         answers.set(place, answer);
         self.answers = RoomyItems::from_items(answers);
@@ -243,6 +245,7 @@ impl Job {
         ensures did { GivesUpOn E.did_abort self.old.phase engine.old engine.new }
         ensures job { self.new ≡ gone self.old }
     {
+        // A stop has taken the transaction back already.
         if let Phase::Open = self.phase {
             engine.abort();
         }

@@ -162,6 +162,7 @@ fn give_up_each<E: StepEngine>(engine: &mut E, jobs: &mut [Job])
     ensures journal { (E.core engine.new).journal ≡ (E.core engine.old).journal }
 {
     'jobs: for job in jobs.iter_mut() {
+        // Also of a job that has ended, whose pass has no transaction: then nothing is taken back.
         engine.select(job.number());
         job.give_up(engine);
     }

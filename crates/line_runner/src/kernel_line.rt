@@ -57,6 +57,7 @@ pub fn run_kernel<R: Threads + Sync, E: Engine>(
     match read_image(rt, alloc, engine, before, image.take())? {
         ImageTurn::Further { reading } => Ok(LineTurn::Scanning { reading }),
         ImageTurn::Whole { kept } => {
+            // Before the image is handed out again: a run that is out of memory ends, and needs none.
             let given = answer_kernel(rt, alloc, engine.kind(), kernel, file, &kept.image)?;
             *image = Some(kept);
             Ok(LineTurn::Answering { given })
@@ -111,6 +112,7 @@ fn read_rows<R: Threads + Sync, E: Engine>(
         let reading = LineReading::Scan { scan };
         return Ok(ImageTurn::Further { reading });
     }
+    // Made within the turn that read the last rows, as a scan answers with its last turn too.
     let kept = KeptImage::of_scan(rt, kind, scan)?;
     Ok(ImageTurn::Whole { kept })
 }
@@ -121,6 +123,8 @@ fn replay(kept: KeptImage, turns: u64) -> ImageTurn
         → taken_of before ≡ turns → IsKeptImage g kept
         → ReadsImage g before (commands.Run kernel file) result }
 {
+    // As many turns as the scan of these rows took: what other scripts do meanwhile must not depend on whether an
+    // image was kept.
     if turns < kept.rows / SCAN_ROWS as u64 {
         let reading = LineReading::Replay {
             kept,

@@ -51,6 +51,7 @@ pub fn take_line<R: Threads + Sync, E: VertexEngine>(
     ensures err { let e = calls E.account E.did_begin E.did_write E.did_read E.did_commit E.did_abort in
         OnErr result (WantsOn e engine.old engine.new) }
 {
+    // The transaction is over, so there is nothing to ask the engine for.
     if let Phase::Skipping = phase {
         return Ok(LineTurn::Answering {
             given: skip(command),
@@ -86,6 +87,7 @@ fn begin<E: Engine>(engine: &mut E) -> Result<LineAnswer, NoMemory>
             };
             Ok(LineAnswer::plain(answer, Phase::Open))
         }
+        // A pass may begin as many transactions as its script has (`room` of `MayTakeNow`).
         Err(BeginRefusal::TxnsUsed) => unreachable!(),
         Err(BeginRefusal::NoMemory) => Err(NoMemory),
     }
@@ -149,6 +151,8 @@ fn finish<E: Engine>(engine: &mut E, wrote: Result<(), Refusal>) -> Result<LineA
         Err(Refusal::EdgeExists) => Answer::Exists,
         Err(Refusal::NoEdge) => Answer::NoEdge,
         Err(Refusal::HasEdges) => Answer::HasEdges,
+        // A conflict stays for as long as the transaction does, and a full store may: so it lets go of its rows at
+        // once, and doesn't keep others from them.
         Err(Refusal::Conflict { cause }) => return Ok(stop(engine, Answer::Conflict { cause })),
         Err(Refusal::Full { leaves: _ }) => return Ok(stop(engine, Answer::Full)),
         Err(Refusal::NoMemory) => return Err(NoMemory),
@@ -254,6 +258,7 @@ fn neighbours<E: Engine>(
         let reading = LineReading::Scan { scan };
         return Ok(LineTurn::Scanning { reading });
     }
+    // Asked with the last turn, so that a line takes as many turns whether the vertex is there or not.
     let answer = if engine.has_vertex(v) {
         Answer::Neighbours {
             targets: scan.into_targets(),

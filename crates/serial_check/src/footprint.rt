@@ -68,6 +68,7 @@ impl Footprint {
         ensures { result ≡ covers self.now.items key }
     {
         let count = count_up_to(self.ranges.as_slice(), key);
+        // The last range that begins at the key or below it is the only one that can have it, since they are apart.
         count > 0 && key.is_below(self.ranges[count - 1].until)
     }
 
@@ -81,6 +82,7 @@ impl Footprint {
         // Before anything is added, so that where memory is refused the footprint is as it was.
         self.reserve()?;
         match command {
+            // What these are answered depends on the journal and on the writes alone.
             Command::Begin | Command::Commit | Command::Abort => {}
             Command::Write { write } => self.put_write(kind, *write),
             Command::Read { query } => self.put_read(*query),
@@ -109,6 +111,7 @@ impl Footprint {
     {
         match write {
             Write::AddVertex { v } => self.put(FootprintRange::of_vertex(v)),
+            // Whether it goes depends on all arcs that lead to it or from it.
             Write::DropVertex { v } => self.put(removal_range(kind, v)),
             Write::AddEdge { u, v, weight: _ } => self.put_edge(kind, u, v),
             Write::SetEdge { u, v, weight: _ } => self.put_edge(kind, u, v),
@@ -125,6 +128,7 @@ impl Footprint {
     {
         match query {
             Query::WeightOf { u, v } => self.put(FootprintRange::of_arc(u, v)),
+            // Its own row too, which says whether the vertex is there.
             Query::NeighboursOf { v } => self.put(FootprintRange::from_source(v)),
             Query::Counts => self.put(FootprintRange::all()),
         }
@@ -178,7 +182,9 @@ fn removal_range(kind: Kind, v: u64) -> FootprintRange
     ensures holds { (q : Key) → IsRowKey q → holds result q ≡ is_at_removal kind v q }
 {
     match kind {
+        // An arc that leads to the vertex stands under its source, which may be any.
         Kind::Directed => FootprintRange::all(),
+        // Each of its edges has a row under it.
         Kind::Undirected => FootprintRange::from_source(v),
     }
 }

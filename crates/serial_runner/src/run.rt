@@ -82,6 +82,7 @@ fn run_checked<R: Threads + Sync, E: CheckedEngine>(
         → SerialEnds inputs schedule.now (E.core engine.old) (E.core engine.new) jobs.new) }
     ensures err { OnErr result (RunIsStuck (E.core engine.old) (E.core engine.new) jobs.new) }
 {
+    // Made before the first turn, one a script, so that a turn finds its own by a number.
     let mut checks = new_checks(alloc, jobs.len())?;
     run_with(rt, engine, jobs, checks.as_mut_slice(), schedule)
 }
@@ -103,6 +104,7 @@ fn run_with<R: Threads + Sync, E: CheckedEngine>(
     ensures err { OnErr result (RunIsStuck (E.core engine.old) (E.core engine.new) jobs.new) }
 {
     take_turns(rt, engine, jobs, checks, schedule)?;
+    // After the run, since until then a refused commit is an abort to whatever looks at the answers.
     answer_refused(jobs, checks);
     Ok(())
 }
@@ -179,9 +181,11 @@ fn take_checked_turn<R: Threads + Sync, E: CheckedEngine>(
     ensures goes { OnOk result (Goes jobs.old number jobs.new) }
     ensures err { OnErr result (IsStuck (E.core engine.old) (E.core engine.new) jobs.new) }
 {
+    // The service reads and writes nothing of any transaction.
     if number == 0 {
         return take_turn(rt, engine, jobs, number);
     }
+    // Before the turn: a line that scans for several turns is added each time, which changes nothing after the first.
     prepare(engine, jobs, &mut checks[number as usize - 1], number)?;
     take_turn(rt, engine, jobs, number)
 }
@@ -250,6 +254,7 @@ fn prepare_commit<E: CheckedEngine>(
         None => Ok(()),
         Some(stamp) => {
             let line = jobs.answered(number);
+            // Before the line is changed, so that where memory runs out the script is as it was.
             check.refused.push(RefusedCommit { line, stamp })?;
             // What the engine does is an abort, which needs no word of refusals; the report says `conflict` in its
             // place.
@@ -265,6 +270,7 @@ fn refusal<E: CheckedEngine>(engine: &E, footprint: &Footprint, pass: u32) -> Op
     ensures { result ≡ refusal_since (E.core engine.now).kind (E.core engine.now).journal
         (writing_since (pass_at (E.core engine.now) pass)) footprint.now.items }
 {
+    // A transaction that wrote nothing is in order as of its start, whatever committed since.
     let start = engine.writing_since(pass)?;
     check(engine.kind(), engine.journal(), start, footprint)
 }
