@@ -1,7 +1,6 @@
 use Rattle.std.proofs.Common.{◌≡◌, ◌∙◌, ap, refl, sym}
 use Rattle.std.specs.Prelude.{true}
 use Rattle.graph_model.specs.Rows.{is_below, is_between, rows}
-use Rattle.pass_sweeps.specs.CellsModel.Cells.{CellState}
 use Rattle.pass_sweeps.specs.StoreRelation.Passes.{PassState}
 use Rattle.pass_sweeps.specs.PassSteps.Passes.{pin_of, state_of}
 use Rattle.pass_sweeps.specs.VersionSegment.Resting.{resting_of}

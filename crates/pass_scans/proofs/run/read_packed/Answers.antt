@@ -1,4 +1,4 @@
-use Rattle.std.proofs.Common.{◌≡◌, ◌∙◌, ap, subst, sym}
+use Rattle.std.proofs.Common.{◌∙◌, ap, subst, sym}
 use Rattle.std.specs.Prelude.{IfSome}
 use Rattle.pass_sweeps.specs.StoreRelation.Passes.{PassState}
 use Rattle.pass_sweeps.specs.PassSteps.Passes.{pin_of, state_of}
