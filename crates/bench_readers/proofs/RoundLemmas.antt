@@ -20,6 +20,10 @@ pub stay_twice : (store : Store) (old mid new : List Pass) → StayIdle store ol
     → map (account_of store) new ≡ map (account_of store) mid → StayIdle store old new
 stay_twice store old mid new first idle same = record { idle = idle; accounts = same ∙ first.accounts }
 
+pub stay_count : (store : Store) (old new : List Pass) → StayIdle store old new → length new ≡ length old
+stay_count store old new stay =
+    sym (length-map (account_of store) new) ∙ ap length stay.accounts ∙ length-map (account_of store) old
+
 -- ---- at their places
 
 same_in : {X : Type 0} (a b : X) → ◌≡◌ {A = Option X} (Some a) (Some b) → a ≡ b

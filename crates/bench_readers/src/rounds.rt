@@ -1,9 +1,9 @@
 //! Rounds in which readers read all rows.
 
-ghost use Rattle.std.specs.Prelude.{◌≡◌, ◌<◌, length};
+ghost use Rattle.std.specs.Prelude.{◌≡◌, ◌<◌, length, map};
 ghost use Rattle.std.specs.List.{AllByRecursion};
 ghost use Rattle.std.specs.Vec.{vec_capacity};
-ghost use Rattle.reader_parts.specs.SharedStore.Passes.{IsIdle, IsOpen};
+ghost use Rattle.reader_parts.specs.SharedStore.Passes.{IsIdle, IsOpen, KeepsOpen, account_of};
 ghost use Rattle.bench_readers.specs.Rounds.{StayIdle};
 
 use anyhow::Result;
@@ -31,8 +31,9 @@ pub fn time_pass<R: Threads + Wait + Clock + Print + Sync>(
     ensures idle { StayIdle store.now idle.old.items idle.new.items }
     ensures room { vec_capacity idle.new ≡ vec_capacity idle.old }
 {
-    if begin(rt, store, pass).is_err() {
-        return Ok(());
+    match begin(rt, store, pass) {
+        Ok(_) => {}
+        Err(_) => return Ok(()),
     }
     let ended = time_rounds(rt, store, pass, idle, rounds);
     abort(rt, store, pass);
@@ -56,12 +57,31 @@ fn time_rounds<R: Threads + Wait + Clock + Print + Sync>(
     ensures room { vec_capacity idle.new ≡ vec_capacity idle.old }
 {
     'rounds: for _round in 0..rounds {
-        let begun = Instant::now(rt)?;
-        let lists = scan_parts(rt, store, pass, idle)?;
-        let took = begun.elapsed(rt)?;
-        say(rt, &lists, took)?;
+        time_round(rt, store, pass, idle)?;
     }
     Ok(())
+}
+
+/// Has it read once, and prints how fast that was.
+fn time_round<R: Threads + Wait + Clock + Print + Sync>(
+    rt: &R,
+    store: &Store,
+    pass: &mut Pass,
+    idle: &mut Vec<Pass>,
+) -> Result<()>
+    requires opened { IsOpen store.now pass.old }
+    requires idle { AllByRecursion (IsIdle store.now) idle.old.items }
+    requires some { 0 < length idle.old.items }
+    ensures kept { KeepsOpen store.now pass.old pass.new }
+    ensures idle { AllByRecursion (IsIdle store.now) idle.new.items }
+    ensures own { map (account_of store.now) idle.new.items ≡ map (account_of store.now) idle.old.items }
+    ensures room { vec_capacity idle.new ≡ vec_capacity idle.old }
+{
+    let begun = Instant::now(rt);
+    let lists = scan_parts(rt, store, pass, idle);
+    let ended = Instant::now(rt);
+    let took = ended?.duration_since(begun?);
+    say(rt, &lists?, took)
 }
 
 /// Prints how many rows there are, and how many a second.

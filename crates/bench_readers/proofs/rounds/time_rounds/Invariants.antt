@@ -1,4 +1,4 @@
-use Rattle.std.proofs.Common.{◌≡◌}
+use Rattle.std.proofs.Common.{◌≡◌, length}
 use Rattle.std.specs.Vec.{vec_capacity}
 use Rattle.reader_parts.specs.SharedStore.Passes.{IsOpen}
 use Rattle.bench_readers.specs.Rounds.{StayIdle}
@@ -9,5 +9,6 @@ invariant-rounds g l = record {
   opened : IsOpen l.store l.pass;
   number : l.pass.seats.number ≡ l.fn.pass.seats.number;
   idle : StayIdle l.store l.fn.idle.items l.idle.items;
+  count : length l.idle.items ≡ length l.fn.idle.items;
   room : vec_capacity l.idle ≡ vec_capacity l.fn.idle;
 }
