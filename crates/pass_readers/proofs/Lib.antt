@@ -3,3 +3,4 @@ pub mod HandLemmas
 pub mod LendLemmas
 pub mod LookLemmas
 pub mod RunLemmas
+pub mod PassCellsMade

@@ -3,3 +3,4 @@ pub mod Looks
 pub mod Readers
 pub mod Runs
 pub mod RuleModel
+pub mod PassCellsContracts

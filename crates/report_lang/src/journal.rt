@@ -3,14 +3,18 @@
 //! 1. A commit is a line with its stamp, start and name, and a line for each of its writes, in the order in which they
 //!    were made.
 //! 2. Where memory is refused the text is as it was.
+//! 3. The first commit is mostly that of a load, with more writes than all others together: so several threads share its
+//!    writes, and then the other commits.
 
-ghost use Rattle.std.specs.Prelude.{◌≡◌, ◌++◌, codes, OnOk, OnErr};
-ghost use Rattle.run_model.specs.Texts.{field, write_text, commit_text, journal_text};
+ghost use Rattle.std.specs.Prelude.{◌≡◌, ◌++◌, ◌∷◌, [], codes, IfOk, OnOk, OnErr};
+ghost use Rattle.run_model.specs.Texts.{field, name_text, write_text, commit_text, journal_text};
 ghost use Rattle.graphalytics_io.specs.Appends.{Extends};
 
 use crate::pieces::{Field, write_counted, write_named};
 use graph_model::{Commit, Journal, NoMemory, Write};
-use graphalytics_io::{Spelling, Text, append_each, write_each};
+use graphalytics_io::{Spelling, Text, append_each, text_of_items, write_each};
+use std::alloc::Global;
+use std::thread::Threads;
 
 /// Writes a journal at the end of a text: a line for each commit, and one for each of its writes. Without
 /// memory nothing is written. Takes no memory but the text's own.
@@ -21,6 +25,26 @@ pub fn write_journal(journal: &Journal, text: &mut Text) -> Result<(), NoMemory>
     append_each::<Commit, CommitLines>(journal.as_slice(), text)
 }
 
+/// The text of a journal, made by several threads.
+pub fn text_of_journal<R: Threads + Sync>(
+    rt: &R,
+    alloc: Global,
+    journal: &Journal,
+) -> Result<Text, NoMemory>
+    ensures { IfOk result (λ text. text ≡ journal_text journal.now) }
+{
+    let mut text = Text::new(alloc);
+    let [first, later @ ..] = journal.as_slice() else {
+        return Ok(text);
+    };
+    write_commit_line(first, &mut text)?;
+    let writes = text_of_items::<R, Write, WriteLine>(rt, alloc, first.writes.as_slice())?;
+    text.push_bytes(writes.as_slice())?;
+    let commits = text_of_items::<R, Commit, CommitLines>(rt, alloc, later)?;
+    text.push_bytes(commits.as_slice())?;
+    Ok(text)
+}
+
 /// The line of a commit, and those of its writes.
 struct CommitLines;
 
@@ -28,12 +52,21 @@ impl Spelling<Commit> for CommitLines {
     ghost text_of = { commit_text };
 
     fn write(commit: &Commit, text: &mut Text) -> Result<(), NoMemory> {
-        write_counted(b"commit", commit.stamp, text)?;
-        write_counted(b" start", commit.start, text)?;
-        write_named(b" by ", commit.by, text)?;
-        text.push_bytes(b"\n")?;
+        write_commit_line(commit, text)?;
         write_each::<Write, WriteLine>(commit.writes.as_slice(), text)
     }
+}
+
+/// Writes the line of a commit without those of its writes. Without memory the text may have a part of it.
+fn write_commit_line(commit: &Commit, text: &mut Text) -> Result<(), NoMemory>
+    ensures ok { OnOk result (text.new ≡ text.old ++ (codes "commit" ++ field commit.now.stamp ++ codes " start"
+        ++ field commit.now.start ++ codes " by " ++ name_text commit.now.by ++ (10 ∷ []))) }
+    ensures err { OnErr result (Extends text.old text.new) }
+{
+    write_counted(b"commit", commit.stamp, text)?;
+    write_counted(b" start", commit.start, text)?;
+    write_named(b" by ", commit.by, text)?;
+    text.push_bytes(b"\n")
 }
 
 /// The line of a write.

@@ -11,5 +11,5 @@ mod journal;
 mod pieces;
 mod report;
 
-pub use journal::write_journal;
+pub use journal::{text_of_journal, write_journal};
 pub use report::write_report;

@@ -15,7 +15,7 @@ use Rattle.shared_store.specs.declared.pass.Pass.{Pass}
 use Rattle.shared_store.specs.Passes.{IsIdle, IsOpen, account_of, view_in}
 use Rattle.shared_store.proofs.PassLemmas.{view_has_end}
 use Rattle.shared_readers.specs.declared.reader.Reader.{Reader}
-use Rattle.shared_readers.specs.Readers.{EndsWithKeys, IsBegun, IsLending, IsReader, KeepsLending, out_of, seen_in}
+use Rattle.shared_readers.specs.Readers.{EndsWithKeys, IsLending, IsReader, KeepsLending, out_of, own_account, seen_in}
 
 -- ---- the pass that lends
 
@@ -82,8 +82,8 @@ sees_the_view store from was i = view_of (account_of store from) (sym was.start 
 pub reads_by : (store : Store) (x : ReaderState) (seats : Seats) → IsReaderOf store x seats → read_by seats ≡ x
 reads_by store x seats of i = first_of (of.sight.readers i)
 
-module _ (store : Store) (from : Pass) (answer : Begun) (was : IsLending store from) (says : IsBegun answer from)
-    (to : Pass) (idle : IsIdle store to) (reader : Reader)
+module _ (store : Store) (from : Pass) (answer : Begun) (was : IsLending store from)
+    (by : answer.by ≡ record { job = from.seats.number; number = from.begun }) (since : answer.start ≡ from.start) (to : Pass) (idle : IsIdle store to) (reader : Reader)
     (of : IsReaderOf store (reader_of_pass from.seats) reader.pass.seats) (none : HoldsNone reader.pass.seats)
     (state : state_of reader.pass.seats ≡ state_of to.seats) (number : reader.pass.seats.number ≡ to.seats.number)
     (cells : reader.pass.cells.taken.list.items ≡ to.cells.taken.list.items) (begun : reader.pass.begun ≡ to.begun)
@@ -92,8 +92,8 @@ module _ (store : Store) (from : Pass) (answer : Begun) (was : IsLending store f
   by_account : read_by reader.pass.seats ≡ reader_of_pass from.seats
   by_account = reads_by store (reader_of_pass from.seats) reader.pass.seats of
 
-  pub own_account : account_of store reader.pass ≡ account_of store to
-  own_account i = state_account store.accounts.config (number i) (state i)
+  pub account_kept : own_account store reader ≡ account_of store to
+  account_kept i = state_account store.accounts.config (number i) (state i)
 
   pub sees_it : seen_in store reader ≡ view_in store from
   sees_it = (λ i. seen_by store.accounts.config (by_account i)) ∙ sees_the_view store from was
@@ -106,14 +106,15 @@ module _ (store : Store) (from : Pass) (answer : Begun) (was : IsLending store f
       cells = cells ∙ idle.cells;
     };
     snapshot = record {
-      start = start_is ∙ says.start ∙ (λ i. (sym by_account i).start);
-      own = own_is ∙ says.by ∙ (λ i. (sym by_account i).by);
+      start = start_is ∙ since ∙ was.start ∙ (λ i. (sym by_account i).start);
+      own = own_is ∙ by ∙ (λ i. record { job = from.seats.number; number = was.begun i })
+          ∙ (λ i. (sym by_account i).by);
     };
     ends = subst EndsWithKeys (sym sees_it) was.ends;
     begun = begun ∙ idle.begun ∙ (λ i. number_of (sym state i));
     own = own ∙ idle.own;
     changed = changed ∙ idle.changed;
-    valid = subst IsValid (sym own_account) idle.valid;
+    valid = subst IsValid (sym account_kept) idle.valid;
   }
 
 -- ---- and is a pass again
@@ -123,7 +124,7 @@ module _ (store : Store) (reader : Reader) (was : IsReader store reader) (pass :
     (number : pass.seats.number ≡ reader.pass.seats.number)
     (cells : pass.cells.taken.list.items ≡ reader.pass.cells.taken.list.items) (begun : pass.begun ≡ reader.pass.begun)
     (own : pass.own.items ≡ reader.pass.own.items) (changed : pass.changed.items ≡ reader.pass.changed.items) where
-  pub account_again : account_of store pass ≡ account_of store reader.pass
+  pub account_again : account_of store pass ≡ own_account store reader
   account_again i = state_account store.accounts.config (number i) (state i)
 
   pub is_idle_again : IsIdle store pass

@@ -9,7 +9,7 @@ use Rattle.graph_model.specs.Rows.{end_key, is_below, is_between, rows, value_at
 use Rattle.graph_model.proofs.KeyLemmas.{below_flip, below_self, between_parts, tied_keys, upto_chain}
 use Rattle.graph_model.proofs.RowLemmas.{ranges_adjoin, rows_of_values}
 use Rattle.edge_scan.specs.Steps.{IsUnderWay, end_of}
-use Rattle.shared_store.specs.StoreRuleDeclared.store.Store.{Store}
+use Rattle.optimistic_read.specs.StoreRuleDeclared.store.Store.{Store}
 use Rattle.pass_readers.specs.Runs.{IsRunTo}
 use Rattle.shared_readers.specs.declared.reader.Reader.{Reader}
 use Rattle.shared_readers.specs.Readers.{EndsWithKeys, KeepsReading, seen_in}

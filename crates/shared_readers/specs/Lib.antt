@@ -1,1 +1,17 @@
 pub mod Readers
+pub mod Runs
+pub mod CellsModel
+pub mod OptimisticRead
+pub mod OptimisticReadDeclared
+pub mod PassCellsContracts
+pub mod PassSteps
+pub mod RowWrites
+pub mod RuleModel
+pub mod SharedStore
+pub mod SharedStoreContracts
+pub mod SharedStoreDeclared
+pub mod StoreRelation
+pub mod StoreRelationContracts
+pub mod StoreRelationDeclared
+pub mod StoreRuleContracts
+pub mod StoreRuleDeclared

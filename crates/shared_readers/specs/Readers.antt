@@ -1,13 +1,12 @@
 -- Readers of a pass of a shared store, and passes that have readers out.
 use Rattle.std.specs.Prelude.{◌≡◌, ℕ, ◌+◌, ◌-◌, false, List, [], None}
-use Rattle.graph_model.specs.declared.journal.Begun.{Begun}
 use Rattle.graph_model.specs.declared.row.Key.{Key}
-use Rattle.graph_model.specs.Account.{IsValid}
+use Rattle.graph_model.specs.Account.{Account, IsValid}
 use Rattle.graph_model.specs.Graph.{Graph}
 use Rattle.graph_model.specs.Rows.{end_key, is_below, value_at}
-use Rattle.shared_store.specs.PassSteps.Passes.{IsOpenPass, name_of_pass, state_of}
-use Rattle.shared_store.specs.StoreRelation.Passes.{number_of}
-use Rattle.shared_store.specs.StoreRuleDeclared.store.Store.{Store}
+use Rattle.optimistic_read.specs.PassSteps.Passes.{IsOpenPass, state_of}
+use Rattle.optimistic_read.specs.StoreRelation.Passes.{number_of}
+use Rattle.optimistic_read.specs.StoreRuleDeclared.store.Store.{Store}
 use Rattle.pass_readers.specs.Hand.{HasNothing}
 use Rattle.pass_readers.specs.Readers.{IsSnapshotOf, read_by, seen_by}
 use Rattle.shared_store.specs.declared.pass.Pass.{Pass}
@@ -36,11 +35,6 @@ pub record IsLending (store : Store) (pass : Pass) : Type 0 where
   pub valid : IsValid (account_of store pass)
   pub ends : EndsWithKeys (view_in store pass)
 
--- its begin has answered so
-pub record IsBegun (begun : Begun) (pass : Pass) : Type 0 where
-  pub by : begun.by ≡ name_of_pass pass.seats
-  pub start : begun.start ≡ (state_of pass.seats).start
-
 -- it has the same transaction, and knows of it what it knew
 pub record KeepsLending (store : Store) (old new : Pass) : Type 0 where
   pub lending : IsLending store new
@@ -66,6 +60,10 @@ seen_in store reader = seen_by store.accounts.config (read_by reader.pass.seats)
 abbrev pub job_of : Reader → ℕ
 job_of reader = (read_by reader.pass.seats).by.job
 
+-- what the seat of its own pass knows of that pass
+abbrev pub own_account : Store → Reader → Account
+own_account store reader = account_of store reader.pass
+
 -- it has no cell in hand, and its own pass no transaction
 pub record IsReader (store : Store) (reader : Reader) : Type 0 where
   pub nothing : HasNothing store reader.pass.seats reader.pass.cells.taken.list.items
@@ -74,11 +72,10 @@ pub record IsReader (store : Store) (reader : Reader) : Type 0 where
   pub begun : reader.pass.begun ≡ number_of (state_of reader.pass.seats)
   pub own : reader.pass.own.items ≡ []
   pub changed : reader.pass.changed.items ≡ []
-  pub valid : IsValid (account_of store reader.pass)
+  pub valid : IsValid (own_account store reader)
 
 -- it reads by the same account, and its own pass is as it was
 pub record KeepsReading (store : Store) (old new : Reader) : Type 0 where
   pub reader : IsReader store new
   pub reads : read_by new.pass.seats ≡ read_by old.pass.seats
-  pub account : account_of store new.pass ≡ account_of store old.pass
-  pub number : new.pass.seats.number ≡ old.pass.seats.number
+  pub account : own_account store new ≡ own_account store old

@@ -4,6 +4,7 @@ ghost use Rattle.std.specs.Prelude.{◌≡◌, false, ◌++◌, OnOk};
 ghost use Rattle.graph_model.specs.Rows.{is_below, rows};
 ghost use Rattle.shared_readers.specs.Readers.{IsReader, KeepsReading, seen_in};
 
+use crate::place::ReadPlace;
 use crate::reader::Reader;
 use crate::runs::read_run;
 use graph_model::{Key, NoMemory, Row, Rows64};
@@ -16,6 +17,7 @@ pub fn read_part(
     rt: &impl Wait,
     store: &Store,
     reader: &mut Reader,
+    place: &mut ReadPlace<'_>,
     from: Key,
     until: Key,
     list: &mut Vec<Row>,
@@ -31,7 +33,7 @@ pub fn read_part(
         if !next.is_below(until) {
             return Ok(());
         }
-        let end = read_run(rt, store, reader, next, until, &mut run);
+        let end = read_run(rt, store, reader, place, next, until, &mut run);
         list.extend_from_slice(run.as_slice())?;
         next = end;
     }

@@ -2,9 +2,8 @@
 
 ghost use Rattle.std.specs.Prelude.{◌≡◌};
 ghost use Rattle.shared_store.specs.Passes.{IsIdle, account_of, view_in};
-ghost use Rattle.shared_readers.specs.Readers.{IsBegun, IsLending, IsReader, Lends, TakesBack, job_of, seen_in};
+ghost use Rattle.shared_readers.specs.Readers.{IsLending, IsReader, Lends, TakesBack, job_of, own_account, seen_in};
 
-use graph_model::Begun;
 use pass_readers::{join_reader as join_seats, split_reader as split_seats};
 use shared_store::{Pass, Store};
 use undo_chain::Snapshot;
@@ -16,19 +15,17 @@ pub struct Reader {
     pub(crate) snapshot: Snapshot,
 }
 
-/// Makes a reader of the open transaction, given what its begin answered, of a pass that has none. Takes no memory, and
-/// waits for nobody.
-pub fn split_reader(store: &Store, from: &mut Pass, begun: Begun, to: Pass) -> Reader
+/// Makes a reader of the open transaction, of a pass that has none. Takes no memory, and waits for nobody.
+pub fn split_reader(store: &Store, from: &mut Pass, to: Pass) -> Reader
     requires from { IsLending store.now from.old }
-    requires begun { IsBegun begun from.old }
     requires to { IsIdle store.now to }
     ensures from { Lends store.now from.old from.new }
     ensures reader { IsReader store.now result }
     ensures reads { seen_in store.now result ≡ view_in store.now from.old }
     ensures job { job_of result ≡ from.old.seats.number }
-    ensures own { account_of store.now result.pass ≡ account_of store.now to }
-    ensures number { result.pass.seats.number ≡ to.seats.number }
+    ensures own { own_account store.now result ≡ account_of store.now to }
 {
+    let begun = from.latest();
     let mut pass = to;
     split_seats(store, &mut from.seats, &mut pass.seats);
     Reader {
@@ -47,8 +44,7 @@ pub fn join_reader(store: &Store, from: &mut Pass, reader: Reader) -> Pass
     requires job { job_of reader ≡ from.old.seats.number }
     ensures from { TakesBack store.now from.old from.new }
     ensures pass { IsIdle store.now result }
-    ensures own { account_of store.now result ≡ account_of store.now reader.pass }
-    ensures number { result.seats.number ≡ reader.pass.seats.number }
+    ensures own { account_of store.now result ≡ own_account store.now reader }
 {
     let Reader {
         mut pass,

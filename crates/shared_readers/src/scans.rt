@@ -8,6 +8,7 @@ ghost use Rattle.graph_model.specs.Scans.{ScansBy, rows_left};
 ghost use Rattle.edge_scan.specs.Steps.{IsUnderWay};
 ghost use Rattle.shared_readers.specs.Readers.{EndsWithKeys, IsReader, KeepsReading, seen_in};
 
+use crate::place::ReadPlace;
 use crate::reader::Reader;
 use crate::runs::read_run;
 use edge_scan::step;
@@ -21,6 +22,7 @@ pub fn scan_reader(
     rt: &impl Wait,
     store: &Store,
     reader: &mut Reader,
+    place: &mut ReadPlace<'_>,
     cursor: &mut Cursor,
     rows: &mut Rows64,
 )
@@ -36,7 +38,15 @@ pub fn scan_reader(
             cursor.done = true;
             return;
         }
-        let end = read_run(rt, store, reader, cursor.next, cursor.until, &mut run);
+        let end = read_run(
+            rt,
+            store,
+            reader,
+            place,
+            cursor.next,
+            cursor.until,
+            &mut run,
+        );
         if take_run(cursor, end, &run, rows) {
             return;
         }

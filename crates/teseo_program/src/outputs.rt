@@ -20,7 +20,7 @@ use desk_io::Output;
 use graph_model::{NoMemory, Table};
 use graphalytics_io::{Text, text_of_table};
 use items::Items;
-use report_lang::{write_journal, write_report};
+use report_lang::{text_of_journal, write_report};
 use run_model::{Answer, Name};
 use source_run::below::NamedTable;
 use source_run::{RunResult, script_at};
@@ -41,8 +41,7 @@ pub fn outputs_of<R: Threads + Sync>(
         ≡ sinks_of (run_request words.now).journal (report_names (run_request words.now)) (run_outputs run.now)) }
 {
     let mut outputs = Items::new(alloc);
-    let mut text = Text::new(alloc);
-    write_journal(run.ran.journal(), &mut text)?;
+    let text = text_of_journal(rt, alloc, run.ran.journal())?;
     // The journal comes first: where a later output fails, what was committed is known all the same.
     outputs.push(output_of(alloc, words.journal, text)?)?;
     let jobs = run.jobs.as_slice();

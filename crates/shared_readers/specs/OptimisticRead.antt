@@ -1,0 +1,3 @@
+-- Modules of optimistic_read that crates above name.
+pub use Rattle.optimistic_read.specs.Runs
+pub use Rattle.optimistic_read.specs.Tried
