@@ -1,6 +1,6 @@
 //! Words that are taken, and words that are not.
 
-use command_words::{Command, RunWords, read_words};
+use command_words::{ProgramWords, RunWords, read_words};
 use std::alloc::Global;
 use std::test::Fail;
 
@@ -146,12 +146,12 @@ fn answer_to(alloc: Global, line: &str) -> Result<String, Fail> {
         words.push(String::from_str(alloc, word)?)?;
     }
     let answer = match read_words(alloc, words.as_slice()) {
-        Ok(Command::Run(run)) => text_of_run(alloc, &run)?,
-        Ok(Command::Make(make)) => format!(in alloc;
+        Ok(ProgramWords::Run(run)) => text_of_run(alloc, &run)?,
+        Ok(ProgramWords::Make(make)) => format!(in alloc;
             "{} {} {} {} {}",
             make.seed, make.vertices, make.edges, make.out, make.edges_out
         )?,
-        Ok(Command::Recover(recover)) => {
+        Ok(ProgramWords::Recover(recover)) => {
             format!(in alloc; "{} {}", recover.keep, recover.journal)?
         }
         Err(refusal) => format!(in alloc; "{refusal}")?,

@@ -4,8 +4,8 @@ use Rattle.clap.specs.Words.{App, Row, Shape, Text, found_of, kind_of, rows_of, 
 use Rattle.clap.specs.declared.error.Error.{Error}
 use Rattle.clap.specs.declared.error.kind.ErrorKind.TheVariants.{OutOfMemory}
 use Rattle.clap.specs.declared.parser.matches.ArgMatches.{ArgMatches}
-use Rattle.command_words.specs.declared.command.Command.{Command}
-use Rattle.command_words.specs.declared.command.Command.TheVariants.{Run, Make, Recover}
+use Rattle.command_words.specs.declared.command.ProgramWords.{ProgramWords}
+use Rattle.command_words.specs.declared.command.ProgramWords.TheVariants.{Run, Make, Recover}
 use Rattle.command_words.specs.declared.command.RunWords.{RunWords}
 use Rattle.command_words.specs.declared.command.MakeWords.{MakeWords}
 use Rattle.command_words.specs.declared.command.RecoverWords.{RecoverWords}
@@ -48,7 +48,7 @@ make_request words = record {
 abbrev pub recover_request : RecoverWords → RecoverRequest
 recover_request words = record { keep = words.keep.now; journal = words.journal.now }
 
-abbrev pub request_of : Command → Request
+abbrev pub request_of : ProgramWords → Request
 request_of (Run words) = run (run_request words)
 request_of (Make words) = make (make_request words)
 request_of (Recover words) = recover (recover_request words)

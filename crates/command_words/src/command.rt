@@ -12,7 +12,7 @@ use crate::names::TakenName;
 
 /// What the words ask for.
 #[derive(Debug, Drop)]
-pub enum Command<'a> {
+pub enum ProgramWords<'a> {
     /// To run scripts on a graph.
     Run(RunWords<'a>),
     /// To make the files of a graph.

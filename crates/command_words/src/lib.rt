@@ -12,7 +12,7 @@ mod number;
 mod refusal;
 mod words;
 
-pub use command::{Command, MakeWords, RecoverWords, RunWords};
+pub use command::{MakeWords, ProgramWords, RecoverWords, RunWords};
 pub use laws::words_ask_for_one_request;
 pub use names::TakenName;
 pub use refusal::WordsRefusal;

@@ -14,7 +14,7 @@ ghost use Rattle.command_words.specs.Views.{run_request, make_request, recover_r
 ghost use Rattle.command_words.specs.Views.{IsFound, Refuses, RefusesWords};
 
 use crate::app::teseo_command;
-use crate::command::{Command, MakeWords, RecoverWords, RunWords};
+use crate::command::{MakeWords, ProgramWords, RecoverWords, RunWords};
 use crate::number::read_number;
 use crate::refusal::WordsRefusal;
 use clap::ArgMatches;
@@ -34,7 +34,7 @@ const MAX_MADE_VERTICES: u64 = 1000000;
 const MAX_MADE_EDGES: u64 = 3000000;
 
 /// What the words ask for, the words after the program's name.
-pub fn read_words<'a>(alloc: Global, words: &'a [String]) -> Result<Command<'a>, WordsRefusal>
+pub fn read_words<'a>(alloc: Global, words: &'a [String]) -> Result<ProgramWords<'a>, WordsRefusal>
     ensures taken { IfOk result (λ command. IsTaken (map string_bytes words.entry.now) (request_of command)) }
     ensures refused { IfErr result (RefusesWords (map string_bytes words.entry.now)) }
 {
@@ -43,13 +43,13 @@ pub fn read_words<'a>(alloc: Global, words: &'a [String]) -> Result<Command<'a>,
         return Err(WordsRefusal::BadWords)
     };
     if name == "run" {
-        return Ok(Command::Run(run_words(alloc, found)?));
+        return Ok(ProgramWords::Run(run_words(alloc, found)?));
     }
     if name == "make" {
-        return Ok(Command::Make(make_words(found)?));
+        return Ok(ProgramWords::Make(make_words(found)?));
     }
     if name == "recover" {
-        return Ok(Command::Recover(recover_words(found)?));
+        return Ok(ProgramWords::Recover(recover_words(found)?));
     }
     Err(WordsRefusal::BadWords)
 }

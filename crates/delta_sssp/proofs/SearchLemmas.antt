@@ -17,8 +17,8 @@ use Rattle.kernel_sssp.specs.declared.search.TheConstants.{UNREACHED}
 use Rattle.kernel_sssp.specs.Search.{LinkOut, IsSearched, IsRelaxed}
 use Rattle.delta_sssp.specs.declared.buckets.Visit.{Visit}
 use Rattle.delta_sssp.specs.declared.buckets.Buckets.{Buckets}
-use Rattle.delta_sssp.specs.declared.search.Stage.{Stage}
-use Rattle.delta_sssp.specs.declared.search.Search.{Search}
+use Rattle.delta_sssp.specs.declared.search.BucketStage.{BucketStage}
+use Rattle.delta_sssp.specs.declared.search.BucketSearch.{BucketSearch}
 use Rattle.delta_sssp.specs.Buckets.{visits_in, HasNone, Puts, TakesFirst}
 use Rattle.delta_sssp.specs.Search.{AreRelaxedTo, AreRelaxed, IsVisit, IsVisited, IsSearch, IsSearchOf, spread, IsStart, IsPut, IsLowered, Follows, Steps, Advances}
 use Rattle.delta_sssp.proofs.WeightLemmas.{zero_reached, at_root, at_other, weights_start, sum_fits, sum_reached, kept_relaxed, lowered, here, there, p_other, keeps_relaxed, now_relaxed, lowered_weights, weights_done}
@@ -55,7 +55,7 @@ later_stays hand bucket visit visits visits_new later later_new put x k v at = �
 
 -- ---- an arc that leads to a lesser distance
 
-module _ (image : Places) (stage : Stage) (ds : List ℕ) (visits : List Visit) (later : Buckets) (is : IsSearch image stage ds visits later)
+module _ (image : Places) (stage : BucketStage) (ds : List ℕ) (visits : List Visit) (later : Buckets) (is : IsSearch image stage ds visits later)
     (p k : ℕ) (a : Arc) (p_within : p < length image.vertices) (p_reached : slice_index ds p ≡ UNREACHED → ⊥) (p_bucket : slice_index ds p / stage.width ≡ stage.bucket)
     (at : slice_get (arcs_at image.out p) k ≡ Some a) (q_within : a.other < length image.vertices) (light : a.weight ≤ MAX_WEIGHT)
     (less : slice_index ds p + a.weight < slice_index ds a.other) where
@@ -178,7 +178,7 @@ module _ (image : Places) (stage : Stage) (ds : List ℕ) (visits : List Visit) 
 
 -- ---- the arcs of a visit so far
 
-pub record IsFollowing (image : Places) (visit : Visit) (i : ℕ) (old s : Search) : Type 0 where
+pub record IsFollowing (image : Places) (visit : Visit) (i : ℕ) (old s : BucketSearch) : Type 0 where
   pub search : IsSearchOf image s
   pub stage_is : s.stage ≡ old.stage
   pub here_is : slice_index s.distances.items visit.place ≡ visit.distance
@@ -186,7 +186,7 @@ pub record IsFollowing (image : Places) (visit : Visit) (i : ℕ) (old s : Searc
   pub visits_stay : (k : ℕ) (v : Visit) → slice_get old.visits.items k ≡ Some v → slice_get s.visits.items k ≡ Some v
   pub no_more : spread s ≤ spread old
 
-pub following_start : (image : Places) (visit : Visit) (old : Search) → IsSearchOf image old → slice_index old.distances.items visit.place ≡ visit.distance → IsFollowing image visit 0 old old
+pub following_start : (image : Places) (visit : Visit) (old : BucketSearch) → IsSearchOf image old → slice_index old.distances.items visit.place ≡ visit.distance → IsFollowing image visit 0 old old
 following_start image visit old is here_is = record {
   search = is;
   stage_is = refl;
@@ -196,13 +196,13 @@ following_start image visit old is here_is = record {
   no_more = omega arith;
 }
 
-module _ (image : Places) (visit : Visit) (i : ℕ) (old s : Search) (so_far : IsFollowing image visit i old s) (right : IsVisit (length image.vertices) old.stage.width old.stage.bucket visit)
+module _ (image : Places) (visit : Visit) (i : ℕ) (old s : BucketSearch) (so_far : IsFollowing image visit i old s) (right : IsVisit (length image.vertices) old.stage.width old.stage.bucket visit)
     (a : Arc) (at : slice_get (arcs_at image.out visit.place) i ≡ Some a) (a_within : a.other < length image.vertices) (light : a.weight ≤ MAX_WEIGHT) where
   place_reached : slice_index s.distances.items visit.place ≡ UNREACHED → ⊥
   place_reached none = right.reached_is (sym so_far.here_is ∙ none)
 
   place_bucket : slice_index s.distances.items visit.place / s.stage.width ≡ s.stage.bucket
-  place_bucket = (λ j. so_far.here_is j / (so_far.stage_is j).width) ∙ right.bucket_is ∙ ap (λ (t : Stage). t.bucket) (sym so_far.stage_is)
+  place_bucket = (λ j. so_far.here_is j / (so_far.stage_is j).width) ∙ right.bucket_is ∙ ap (λ (t : BucketStage). t.bucket) (sym so_far.stage_is)
 
   pub following_fits : visit.distance + a.weight < UNREACHED
   following_fits = (let f = sum_fits image s.stage.root s.distances.items so_far.search.weights visit.place i a right.place_is place_reached at a_within light in let h = so_far.here_is in omega arith)
@@ -228,7 +228,7 @@ module _ (image : Places) (visit : Visit) (i : ℕ) (old s : Search) (so_far : I
   following_kept le = following_same (kept_relaxed image s.stage.root s.distances.items so_far.search.weights visit.place i a right.place_is place_reached at a_within light
       (subst (λ d. slice_index s.distances.items a.other ≤ d + a.weight) (sym so_far.here_is) le))
 
-  module _ (new : Search) (less : visit.distance + a.weight < slice_index s.distances.items a.other) (lowers : IsLowered a.other (visit.distance + a.weight) s new) where
+  module _ (new : BucketSearch) (less : visit.distance + a.weight < slice_index s.distances.items a.other) (lowers : IsLowered a.other (visit.distance + a.weight) s new) where
     less_here : slice_index s.distances.items visit.place + a.weight < slice_index s.distances.items a.other
     less_here = subst (λ d. d + a.weight < slice_index s.distances.items a.other) (sym so_far.here_is) less
 
@@ -248,7 +248,7 @@ module _ (image : Places) (visit : Visit) (i : ℕ) (old s : Search) (so_far : I
 
     pub following_lowered : IsFollowing image visit (i + 1) old new
     following_lowered = record {
-      search = subst (λ (t : Stage). IsSearch image t new.distances.items new.visits.items new.later) (sym lowers.stage_is)
+      search = subst (λ (t : BucketStage). IsSearch image t new.distances.items new.visits.items new.later) (sym lowers.stage_is)
           (subst (λ ds. IsSearch image s.stage ds new.visits.items new.later) (sym distances_here)
           (lowered_search image s.stage s.distances.items s.visits.items s.later so_far.search visit.place i a right.place_is place_reached place_bucket at a_within light less_here new.visits.items new.later put_here));
       stage_is = lowers.stage_is ∙ so_far.stage_is;
@@ -264,7 +264,7 @@ module _ (image : Places) (visit : Visit) (i : ℕ) (old s : Search) (so_far : I
     }
 
 -- past all arcs
-pub followed : (image : Places) (visit : Visit) (i : ℕ) (old s : Search) → IsFollowing image visit i old s → length (arcs_at image.out visit.place) ≤ i → Follows image visit old s
+pub followed : (image : Places) (visit : Visit) (i : ℕ) (old s : BucketSearch) → IsFollowing image visit i old s → length (arcs_at image.out visit.place) ≤ i → Follows image visit old s
 followed image visit i old s so_far all = record {
   search = so_far.search;
   stage_is = so_far.stage_is;
@@ -274,7 +274,7 @@ followed image visit i old s so_far all = record {
 }
 
 -- a visit that doesn't count
-pub not_followed : (image : Places) (visit : Visit) (old : Search) → IsSearchOf image old → (slice_index old.distances.items visit.place ≡ visit.distance → ⊥) → Follows image visit old old
+pub not_followed : (image : Places) (visit : Visit) (old : BucketSearch) → IsSearchOf image old → (slice_index old.distances.items visit.place ≡ visit.distance → ⊥) → Follows image visit old old
 not_followed image visit old is other = record {
   search = is;
   stage_is = refl;
@@ -285,7 +285,7 @@ not_followed image visit old is other = record {
 
 -- ---- one visit more
 
-module _ (image : Places) (visit : Visit) (old mid : Search) (follows : Follows image visit old mid) where
+module _ (image : Places) (visit : Visit) (old mid : BucketSearch) (follows : Follows image visit old mid) where
   -- a place that is visited by this visit has its arcs relaxed
   relaxed_by : (n p : ℕ) → slice_get old.visits.items n ≡ Some visit → slice_get mid.visits.items n ≡ Some (record { place = p; distance = slice_index mid.distances.items p }) → AreRelaxed image mid.distances.items p
   relaxed_by n p at is =
@@ -294,11 +294,11 @@ module _ (image : Places) (visit : Visit) (old mid : Search) (follows : Follows 
       let distance : visit.distance ≡ slice_index mid.distances.items p = ap (λ (v : Visit). v.distance) same in
       subst (AreRelaxed image mid.distances.items) place (follows.relaxed (ap (slice_index mid.distances.items) place ∙ sym distance))
 
-pub stepped : (image : Places) (visit : Visit) (old mid : Search) → slice_get old.visits.items old.stage.made ≡ Some visit → Follows image visit old mid → Steps image old (record mid { stage = record mid.stage { made = mid.stage.made + 1 } })
+pub stepped : (image : Places) (visit : Visit) (old mid : BucketSearch) → slice_get old.visits.items old.stage.made ≡ Some visit → Follows image visit old mid → Steps image old (record mid { stage = record mid.stage { made = mid.stage.made + 1 } })
 stepped image visit old mid at follows =
     let is = follows.search in
     let stage = follows.stage_is in
-    let made_is : mid.stage.made ≡ old.stage.made = ap (λ (t : Stage). t.made) stage in
+    let made_is : mid.stage.made ≡ old.stage.made = ap (λ (t : BucketStage). t.made) stage in
     let below = slice_get_within mid.visits.items old.stage.made visit (follows.visits_stay old.stage.made visit at) in
     record {
       search = record {
@@ -319,8 +319,8 @@ stepped image visit old mid at follows =
         visits_right = is.visits_right;
         later_right = is.later_right;
       };
-      root_is = ap (λ (t : Stage). t.root) stage;
-      bucket_is = ap (λ (t : Stage). t.bucket) stage;
+      root_is = ap (λ (t : BucketStage). t.root) stage;
+      bucket_is = ap (λ (t : BucketStage). t.bucket) stage;
       nearer = (let m = follows.no_more in omega arith);
     }
 
@@ -331,7 +331,7 @@ in_use : (buckets : Buckets) (x k : ℕ) (v : Visit) (list : Option (List Visit)
 in_use buckets x k v None none at = absurd (none-some v (ap (λ o. slice_get (unwrap_or o []) k) (sym none) ∙ at))
 in_use buckets x k v (Some list) some at = (list, some)
 
-module _ (image : Places) (stage : Stage) (ds : List ℕ) (visits : List Visit) (later : Buckets) (is : IsSearch image stage ds visits later) (all : length visits ≤ stage.made) where
+module _ (image : Places) (stage : BucketStage) (ds : List ℕ) (visits : List Visit) (later : Buckets) (is : IsSearch image stage ds visits later) (all : length visits ≤ stage.made) where
   -- the arcs out of places below all later buckets are relaxed
   pub relaxed_below : (bound : ℕ) → ((x : ℕ) (list : List Visit) → get nat_cmp later.lists x ≡ Some list → bound ≤ x) → (p : ℕ) → p < length image.vertices → slice_index ds p / stage.width < bound → AreRelaxed image ds p
   relaxed_below bound least p within low k a at is_reached =
@@ -391,13 +391,13 @@ module _ (image : Places) (stage : Stage) (ds : List ℕ) (visits : List Visit) 
     }
 
 -- after the first of the later buckets is at hand
-pub advanced : (image : Places) (old new : Search) → IsSearchOf image old → length old.visits.items ≤ old.stage.made → Advances old new → IsSearchOf image new
-advanced image old new is all next = subst (λ (t : Stage). IsSearch image t new.distances.items new.visits.items new.later) (sym next.stage_is)
+pub advanced : (image : Places) (old new : BucketSearch) → IsSearchOf image old → length old.visits.items ≤ old.stage.made → Advances old new → IsSearchOf image new
+advanced image old new is all next = subst (λ (t : BucketStage). IsSearch image t new.distances.items new.visits.items new.later) (sym next.stage_is)
     (subst (λ ds. IsSearch image (record old.stage { bucket = new.stage.bucket; made = 0 }) ds new.visits.items new.later) (sym next.distances_are)
     (next_search image old.stage old.distances.items old.visits.items old.later is all new.stage.bucket new.visits.items new.later next.takes))
 
 -- and that is a higher one
-pub advanced_bucket : (image : Places) (old new : Search) → IsSearchOf image old → Advances old new → old.stage.bucket < new.stage.bucket
+pub advanced_bucket : (image : Places) (old new : BucketSearch) → IsSearchOf image old → Advances old new → old.stage.bucket < new.stage.bucket
 advanced_bucket image old new is next = is.above new.stage.bucket new.visits.items next.takes.was
 
 -- ---- the start
@@ -435,8 +435,8 @@ begun image root width later few below wide none =
       later_right = λ x k v at. absurd (nothing_in later none x k v at);
     }
 
-pub started : (image : Places) (root width : ℕ) (s : Search) → length image.vertices < 2 ^ 32 → root < length image.vertices → 0 < width → IsStart (length image.vertices) root width s → IsSearchOf image s
-started image root width s few below wide start = subst (λ (t : Stage). IsSearch image t s.distances.items s.visits.items s.later) (sym start.stage_is)
+pub started : (image : Places) (root width : ℕ) (s : BucketSearch) → length image.vertices < 2 ^ 32 → root < length image.vertices → 0 < width → IsStart (length image.vertices) root width s → IsSearchOf image s
+started image root width s few below wide start = subst (λ (t : BucketStage). IsSearch image t s.distances.items s.visits.items s.later) (sym start.stage_is)
     (subst (λ ds. IsSearch image (record { root = root; width = width; bucket = 0; made = 0 }) ds s.visits.items s.later) (sym start.distances_are)
     (subst (λ vs. IsSearch image (record { root = root; width = width; bucket = 0; made = 0 }) (set (replicate (length image.vertices) UNREACHED) root 0) vs s.later) (sym start.visits_are)
     (begun image root width s.later few below wide start.later_none)))

@@ -10,8 +10,8 @@ use Rattle.kernel_sssp.specs.declared.search.TheConstants.{UNREACHED}
 use Rattle.kernel_sssp.specs.Search.{LinkOut, IsRelaxed, reached}
 use Rattle.delta_sssp.specs.declared.buckets.Visit.{Visit}
 use Rattle.delta_sssp.specs.declared.buckets.Buckets.{Buckets}
-use Rattle.delta_sssp.specs.declared.search.Stage.{Stage}
-use Rattle.delta_sssp.specs.declared.search.Search.{Search}
+use Rattle.delta_sssp.specs.declared.search.BucketStage.{BucketStage}
+use Rattle.delta_sssp.specs.declared.search.BucketSearch.{BucketSearch}
 use Rattle.delta_sssp.specs.Buckets.{visits_in, Puts, TakesFirst}
 
 -- The distances are the weights of paths, and no greater than the number of reached places allows.
@@ -40,14 +40,14 @@ pub record IsVisit (n width bucket : ℕ) (visit : Visit) : Type 0 where
   pub reached_is : visit.distance ≡ UNREACHED → ⊥
 
 -- the place is among the visits, with its distance; its arcs are relaxed if that visit was made
-pub record IsVisited (image : Places) (stage : Stage) (distances : List ℕ) (visits : List Visit) (p : ℕ) : Type 0 where
+pub record IsVisited (image : Places) (stage : BucketStage) (distances : List ℕ) (visits : List Visit) (p : ℕ) : Type 0 where
   pub at : ℕ
   pub is : slice_get visits at ≡ Some (record { place = p; distance = slice_index distances p })
   pub done : at < stage.made → AreRelaxed image distances p
 
 -- Settled up to the bucket: the arcs out of places of lower buckets are relaxed, the places of the bucket
 -- are among its visits, and those of higher ones in their buckets.
-pub record IsSearch (image : Places) (stage : Stage) (distances : List ℕ) (visits : List Visit) (later : Buckets)
+pub record IsSearch (image : Places) (stage : BucketStage) (distances : List ℕ) (visits : List Visit) (later : Buckets)
     : Type 0 where
   pub weights : AreWeights image stage.root distances
   pub wide : 0 < stage.width
@@ -66,17 +66,17 @@ pub record IsSearch (image : Places) (stage : Stage) (distances : List ℕ) (vis
   pub later_right : (x k : ℕ) (v : Visit) → slice_get (visits_in later x) k ≡ Some v
       → IsVisit (length image.vertices) stage.width x v
 
-abbrev pub IsSearchOf : Places → Search → Type 0
+abbrev pub IsSearchOf : Places → BucketSearch → Type 0
 IsSearchOf image s = IsSearch image s.stage s.distances.items s.visits.items s.later
 
 -- it rises with no arc that is followed: a lesser distance takes away what the visit that it brings adds
-abbrev pub spread : Search → ℕ
+abbrev pub spread : BucketSearch → ℕ
 spread s = sum_by (λ d. d) s.distances.items + length s.visits.items
 
 -- ---- steps
 
 -- just the root is reached, and is to be visited
-pub record IsStart (n root width : ℕ) (s : Search) : Type 0 where
+pub record IsStart (n root width : ℕ) (s : BucketSearch) : Type 0 where
   pub stage_is : s.stage ≡ record { root = root; width = width; bucket = 0; made = 0 }
   pub distances_are : s.distances.items ≡ slice_set (replicate n UNREACHED) root 0
   pub visits_are : s.visits.items ≡ record { place = root; distance = 0 } ∷ []
@@ -89,14 +89,14 @@ IsPut bucket hand visit visits later visits_new later_new =
     ⊎ ((bucket ≡ hand → ⊥) × (visits_new ≡ visits) × Puts bucket visit later later_new)
 
 -- the place has this distance, and is to be visited
-pub record IsLowered (place distance : ℕ) (old new : Search) : Type 0 where
+pub record IsLowered (place distance : ℕ) (old new : BucketSearch) : Type 0 where
   pub stage_is : new.stage ≡ old.stage
   pub distances_are : new.distances.items ≡ slice_set old.distances.items place distance
   pub put : IsPut (distance / old.stage.width) old.stage.bucket (record { place = place; distance = distance })
       old.visits.items old.later new.visits.items new.later
 
 -- the arcs are followed where the visit counts; visits come behind those that were there
-pub record Follows (image : Places) (visit : Visit) (old new : Search) : Type 0 where
+pub record Follows (image : Places) (visit : Visit) (old new : BucketSearch) : Type 0 where
   pub search : IsSearchOf image new
   pub stage_is : new.stage ≡ old.stage
   pub relaxed : slice_index new.distances.items visit.place ≡ visit.distance
@@ -105,21 +105,21 @@ pub record Follows (image : Places) (visit : Visit) (old new : Search) : Type 0 
   pub no_more : spread new ≤ spread old
 
 -- one visit more is made
-pub record Steps (image : Places) (old new : Search) : Type 0 where
+pub record Steps (image : Places) (old new : BucketSearch) : Type 0 where
   pub search : IsSearchOf image new
   pub root_is : new.stage.root ≡ old.stage.root
   pub bucket_is : new.stage.bucket ≡ old.stage.bucket
   pub nearer : spread new + old.stage.made < spread old + new.stage.made
 
 -- all visits of the bucket are made
-pub record Settles (image : Places) (old new : Search) : Type 0 where
+pub record Settles (image : Places) (old new : BucketSearch) : Type 0 where
   pub search : IsSearchOf image new
   pub root_is : new.stage.root ≡ old.stage.root
   pub bucket_is : new.stage.bucket ≡ old.stage.bucket
   pub all : length new.visits.items ≤ new.stage.made
 
 -- the first of the later buckets is at hand, and none of its visits is made
-pub record Advances (old new : Search) : Type 0 where
+pub record Advances (old new : BucketSearch) : Type 0 where
   pub stage_is : new.stage ≡ record old.stage { bucket = new.stage.bucket; made = 0 }
   pub bucket_small : new.stage.bucket < 2 ^ 64
   pub distances_are : new.distances.items ≡ old.distances.items

@@ -10,7 +10,7 @@ ghost use Rattle.graph_model.specs.declared.table.KernelRefusal.TheVariants as K
 ghost use Rattle.graph_image.specs.Images.{IsImageOf};
 ghost use Rattle.kernel_sssp.specs.Search.{LinkOut, IsSearched};
 
-use crate::search::Search;
+use crate::search::BucketSearch;
 use graph_image::{Image, KernelRefusal, NoMemory, Table};
 use kernel_sssp::table_by;
 use std::alloc::Global;
@@ -51,12 +51,12 @@ fn least_weights(
     ensures { IfOk result (λ distances.
         IsSearched (LinkOut image.now) root (length image.now.vertices) distances.items) }
 {
-    let mut search = Search::new(alloc, image.len(), root, width)?;
+    let mut search = BucketSearch::new(alloc, image.len(), root, width)?;
     'buckets: loop {
         // All visits of the bucket at hand, those that come while it is made among them.
         search.settle(image)?;
         if !search.advance() {
-            let Search {
+            let BucketSearch {
                 stage: _,
                 distances,
                 visits: _,

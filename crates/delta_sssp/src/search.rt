@@ -19,7 +19,7 @@ use std::alloc::Global;
 
 /// How far the search has come.
 #[derive(Clone, Copy)]
-pub struct Stage {
+pub struct BucketStage {
     /// The place of the root.
     pub root: usize,
     /// How wide a bucket is.
@@ -32,9 +32,9 @@ pub struct Stage {
 
 /// What is known of the weights.
 #[derive(Drop)]
-pub struct Search {
+pub struct BucketSearch {
     /// How far it has come.
-    pub stage: Stage,
+    pub stage: BucketStage,
     /// The least weight of a path to each place, of the paths that were found.
     pub distances: Vec<u64>,
     /// The visits of the bucket at hand.
@@ -45,9 +45,14 @@ pub struct Search {
     pub ahead: Ahead,
 }
 
-impl Search {
+impl BucketSearch {
     /// Just the root is reached, and is to be visited.
-    pub fn new(alloc: Global, count: usize, root: usize, width: u32) -> Result<Search, NoMemory>
+    pub fn new(
+        alloc: Global,
+        count: usize,
+        root: usize,
+        width: u32,
+    ) -> Result<BucketSearch, NoMemory>
         requires root { root < count }
         requires few { count < 2 ^ 32 }
         ensures { IfOk result (IsStart count root width) }
@@ -59,13 +64,13 @@ impl Search {
             place: root as u32,
             distance: 0,
         })?;
-        let stage = Stage {
+        let stage = BucketStage {
             root,
             width,
             bucket: 0,
             made: 0,
         };
-        Ok(Search {
+        Ok(BucketSearch {
             stage,
             distances,
             visits,
@@ -94,7 +99,7 @@ impl Search {
         let Some((bucket, visits)) = self.later.take_first() else {
             return false;
         };
-        self.stage = Stage {
+        self.stage = BucketStage {
             bucket,
             made: 0,
             ..self.stage

@@ -8,7 +8,7 @@ use Rattle.graphalytics_io.specs.declared.lines.FieldLine.{FieldLine}
 use Rattle.graph_model.specs.declared.write.Kind.{Kind}
 use Rattle.graph_files.specs.declared.checks.Checks.{Checks}
 use Rattle.graph_files.specs.declared.faultless.Front.{Front}
-use Rattle.graph_files.specs.declared.listings.Reading.{Reading}
+use Rattle.graph_files.specs.declared.listings.EdgesSoFar.{EdgesSoFar}
 use Rattle.graph_files.specs.declared.refusal.What.{What}
 use Rattle.id_places.specs.Places.{is_among, pair_in}
 use Rattle.graph_files.specs.EdgeFiles.{arcs_of, Rules, edges_behind}
@@ -44,7 +44,7 @@ pub record AreNew (kind : Kind) (ids : List ℕ) (most : ℕ) (edges : List Edge
   pub few : length edges ≤ most
 
 -- the lines stand for what those behind the listings so far stand for
-abbrev pub GoesOn : Rules → List FieldLine → Reading → Type 0
+abbrev pub GoesOn : Rules → List FieldLine → EdgesSoFar → Type 0
 GoesOn rules lines reading =
     edges_behind rules (record { listings = []; edges = [] }) lines
     ≡ edges_behind rules (record { listings = reading.listings; edges = reading.edges })

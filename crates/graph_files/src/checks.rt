@@ -4,13 +4,13 @@
 
 use crate::weights::Weights;
 use graph_model::Kind;
-use id_places::Known;
+use id_places::IdTable;
 
 /// The ids of the graph, its kind, what its weights are, and how many edges there may be.
 #[derive(Drop)]
 pub(crate) struct Checks {
     /// The ids of the graph, for the ends of edges.
-    pub known: Known,
+    pub known: IdTable,
     /// Whether an edge may be listed in both directions.
     pub kind: Kind,
     /// What a third field says.

@@ -20,7 +20,7 @@ use crate::refusal::ReadRefusal;
 use crate::weights::Weights;
 use graph_model::{Ids, Kind};
 use graphalytics_io::Edges;
-use id_places::Known;
+use id_places::IdTable;
 use std::alloc::Global;
 use std::thread::Threads;
 
@@ -83,7 +83,7 @@ fn read_checked(
         (edges_of (record { ids = ids.now; kind = kind; weights = weights; limit = limit }) text.now) refusal) }
 {
     let checks = Checks {
-        known: Known::of(alloc, ids.as_slice())?,
+        known: IdTable::of(alloc, ids.as_slice())?,
         kind,
         weights,
         most: limit.saturating_sub(ids.len() as u64) / arcs_of(kind),

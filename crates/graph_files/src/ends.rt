@@ -14,7 +14,7 @@ use crate::refusal::What;
 use crate::vertices::read_id;
 use crate::weights::{Weights, read_decimal};
 use graphalytics_io::{Edge, Fields};
-use id_places::Known;
+use id_places::IdTable;
 
 /// Which ids an edge may join.
 pub(crate) trait KnownIds {
@@ -35,13 +35,13 @@ impl KnownIds for EveryId {
     }
 }
 
-impl KnownIds for Known {
+impl KnownIds for IdTable {
     ghost use Rattle.id_places.specs.Places.{is_among};
 
     ghost knows = { is_among };
 
     fn knows(&self, id: u64) -> bool {
-        Known::knows(self, id)
+        IdTable::knows(self, id)
     }
 }
 

@@ -15,8 +15,8 @@ ghost use Rattle.graph_files.specs.Kept.{IsCheckedBy, AreListed, IsFront, AreNew
 use crate::checks::Checks;
 use crate::ends::{EveryId, read_edge};
 use crate::halves::read_halves;
-use crate::listings::Reading;
-use crate::seconds::{Parts, parts_of};
+use crate::listings::EdgesSoFar;
+use crate::seconds::{PartedListings, parts_of};
 use crate::weights::Weights;
 use graphalytics_io::{Edge, Edges, cuts_for, field_lines};
 use id_places::{are_distinct, numbers_of};
@@ -93,7 +93,7 @@ pub(crate) fn faultless_front(
     alloc: Global,
     edges: Edges,
     checks: &Checks,
-) -> Result<Reading, NoMemory>
+) -> Result<EdgesSoFar, NoMemory>
     ensures { IfOk result (λ reading. (rules : Rules) (front rest : List FieldLine) → IsCheckedBy rules checks.now
         → AreListed (edge_of every_id checks.now.weights) front edges → GoesOn rules (front ++ rest) reading) }
 {
@@ -101,20 +101,20 @@ pub(crate) fn faultless_front(
     let edges = first_of(edges, numbers.len());
     let (parts, count) = parts_of(alloc, edges.as_slice(), numbers.as_slice(), checks)?;
     let listings = first_of(edges, count);
-    let Parts {
+    let PartedListings {
         kept,
         kept_numbers,
         second_numbers,
     } = parts;
     // No edge is listed for the first time twice, and none for the second time twice: so no line is one too many.
     if are_distinct(kept_numbers) && are_distinct(second_numbers) {
-        Ok(Reading {
+        Ok(EdgesSoFar {
             listings,
             edges: kept,
         })
     } else {
         // Where one is, all lines are gone over again from the first on, and the line is found.
-        Ok(Reading::new(alloc))
+        Ok(EdgesSoFar::new(alloc))
     }
 }
 

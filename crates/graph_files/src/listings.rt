@@ -28,7 +28,7 @@ pub enum Listing {
 
 /// What is kept of the lines so far.
 #[derive(Drop)]
-pub struct Reading {
+pub struct EdgesSoFar {
     /// The edge of each line.
     pub listings: Edges,
     /// The edges without second listings.
@@ -39,7 +39,7 @@ pub struct Reading {
 pub(crate) fn read_rest(
     text: &[u8],
     checks: &Checks,
-    reading: Reading,
+    reading: EdgesSoFar,
 ) -> Result<Edges, ReadRefusal>
     requires readable { AreReadable checks.now.weights }
     requires so_far { (rules : Rules) → IsCheckedBy rules checks.now → GoesOn rules (field_lines text.now) reading }
@@ -60,7 +60,7 @@ pub(crate) fn read_rest(
             Err(what) => return Err(ReadRefusal::Fault(Fault { line: number, what })),
         }
     }
-    let Reading { edges, .. } = reading;
+    let EdgesSoFar { edges, .. } = reading;
     Ok(edges)
 }
 
@@ -75,14 +75,14 @@ fn lines_behind(text: &[u8], count: usize) -> FieldLines<'_>
     lines
 }
 
-impl Reading {
+impl EdgesSoFar {
     ghost use Rattle.std.specs.Prelude.{◌≡◌, [], ◌++◌, ◌∷◌, Err};
 
-    pub(crate) fn new(alloc: Global) -> Reading
+    pub(crate) fn new(alloc: Global) -> EdgesSoFar
         ensures listings { result.listings ≡ [] }
         ensures edges { result.edges ≡ [] }
     {
-        Reading {
+        EdgesSoFar {
             listings: Edges::new(alloc),
             edges: Edges::new(alloc),
         }
@@ -112,12 +112,12 @@ impl Reading {
     }
 
     /// The same after a line that lists an edge.
-    fn with(self, edge: Edge, listing: Listing) -> Result<Reading, NoMemory>
+    fn with(self, edge: Edge, listing: Listing) -> Result<EdgesSoFar, NoMemory>
         ensures listings { IfOk result (λ reading. reading.listings ≡ self.listings ++ edge ∷ []) }
         ensures edges { IfOk result (λ reading. reading.edges
             ≡ (behind (record { listings = self.listings; edges = self.edges }) edge listing).edges) }
     {
-        let Reading {
+        let EdgesSoFar {
             mut listings,
             mut edges,
         } = self;
@@ -125,7 +125,7 @@ impl Reading {
         if let Listing::First = listing {
             edges.push(edge)?;
         }
-        Ok(Reading { listings, edges })
+        Ok(EdgesSoFar { listings, edges })
     }
 }
 

@@ -20,7 +20,7 @@ use std::alloc::Global;
 
 /// The edges of the listings so far, with their numbers, and the numbers of second listings.
 #[derive(Drop)]
-pub struct Parts {
+pub struct PartedListings {
     /// Those that are listed for the first time, in the order of the file.
     pub kept: Edges,
     /// The numbers of their ends.
@@ -55,12 +55,12 @@ pub(crate) fn parts_of(
     edges: &[Edge],
     numbers: &[u64],
     checks: &Checks,
-) -> Result<(Parts, usize), NoMemory>
+) -> Result<(PartedListings, usize), NoMemory>
     requires { length numbers.now ≡ length edges.now }
     ensures { IfOk result (λ found. (number : Edge → ℕ) → numbers.now ≡ map number edges.now
         → AreParts checks.now.kind checks.now.most number (take found.1 edges.now) found.0) }
 {
-    let mut parts = Parts::new(alloc);
+    let mut parts = PartedListings::new(alloc);
     let mut places = earlier_of(alloc, numbers)?;
     'listings: for at in 0..edges.len() {
         let first = first_place(places.as_slice(), at);
@@ -83,15 +83,15 @@ fn first_place(places: &[usize], at: usize) -> Option<usize> {
     }
 }
 
-impl Parts {
+impl PartedListings {
     ghost use Rattle.std.specs.Prelude.{◌≡◌, []};
 
-    fn new(alloc: Global) -> Parts
+    fn new(alloc: Global) -> PartedListings
         ensures kept { result.kept ≡ [] }
         ensures kept_numbers { result.kept_numbers.items ≡ [] }
         ensures second_numbers { result.second_numbers.items ≡ [] }
     {
-        Parts {
+        PartedListings {
             kept: Edges::new(alloc),
             kept_numbers: Vec::new(alloc),
             second_numbers: Vec::new(alloc),

@@ -57,7 +57,7 @@ fn read_each(alloc: Global, text: &[u8], limit: u64) -> Result<Ids, ReadRefusal>
     ensures ok { IfOk result (λ ids. vertices_of limit text.now ≡ Ok ids) }
     ensures fault { IfErr result (λ refusal. IsRefused (vertices_of limit text.now) refusal) }
 {
-    let mut reading = Reading::new(alloc);
+    let mut reading = IdsSoFar::new(alloc);
     let mut lines = field_lines(text);
     'lines: while let Some(line) = lines.next() {
         let number = line.number;
@@ -66,13 +66,13 @@ fn read_each(alloc: Global, text: &[u8], limit: u64) -> Result<Ids, ReadRefusal>
             Err(what) => return Err(ReadRefusal::Fault(Fault { line: number, what })),
         }
     }
-    let Reading { ids, .. } = reading;
+    let IdsSoFar { ids, .. } = reading;
     Ok(ids)
 }
 
 /// The ids of the lines so far.
 #[derive(Drop)]
-struct Reading {
+struct IdsSoFar {
     /// In the order of the file.
     ids: Ids,
     /// The same as a set, to find repeats.
@@ -80,13 +80,13 @@ struct Reading {
     ghost same: { IsSetOf sorted ids },
 }
 
-impl Reading {
+impl IdsSoFar {
     ghost use Rattle.std.specs.Prelude.{◌≡◌};
 
-    fn new(alloc: Global) -> Reading
+    fn new(alloc: Global) -> IdsSoFar
         ensures { result.ids ≡ [] }
     {
-        Reading {
+        IdsSoFar {
             ids: Ids::new(alloc),
             sorted: BTreeSet::new(alloc),
         }
@@ -107,16 +107,16 @@ impl Reading {
     }
 
     /// The same with an id after the others.
-    fn with(self, id: u64) -> Result<Reading, NoMemory>
+    fn with(self, id: u64) -> Result<IdsSoFar, NoMemory>
         ensures { IfOk result (λ reading. reading.ids ≡ self.ids ++ id ∷ []) }
     {
-        let Reading {
+        let IdsSoFar {
             mut ids,
             mut sorted,
         } = self;
         ids.push(id)?;
         sorted.insert(id)?;
-        Ok(Reading { ids, sorted })
+        Ok(IdsSoFar { ids, sorted })
     }
 }
 

@@ -2,21 +2,21 @@
 use Rattle.std.proofs.Common.{◌≡◌, ℕ, ◌+◌, ◌-◌, ◌≤◌, ◌<◌, zero, suc, true, false, List, ◌++◌, length, cond, refl, sym, ◌∙◌, ap, arith}
 use Rattle.std.specs.Prelude.{nat_le}
 use Rattle.std.proofs.lemmas.Bool.Decides.{nat_tests}
-use Rattle.graph_maker.specs.declared.pair.Pair.{Pair}
+use Rattle.graph_maker.specs.declared.pair.VertexPair.{VertexPair}
 use Rattle.graph_maker.specs.Draws.{draw, kept_behind, drawn}
 use Rattle.graph_maker.specs.Texts.{vertex_text, id_line}
 
-module _ (vertices wanted draws state : ℕ) (kept : List Pair) (all : List Pair) (before : drawn vertices wanted draws state kept ≡ all) where
+module _ (vertices wanted draws state : ℕ) (kept : List VertexPair) (all : List VertexPair) (before : drawn vertices wanted draws state kept ≡ all) where
   -- one draw more leads to the same pairs
-  pub next_draw : (pair : Pair) (state' : ℕ) (kept' : List Pair) → 0 < draws → length kept < wanted
+  pub next_draw : (pair : VertexPair) (state' : ℕ) (kept' : List VertexPair) → 0 < draws → length kept < wanted
       → (pair, state') ≡ draw vertices state → kept' ≡ kept_behind kept pair → drawn vertices wanted (draws - 1) state' kept' ≡ all
   next_draw pair state' kept' some few drew is =
       ap (λ k. drawn vertices wanted (draws - 1) state' k) is
-      ∙ ap (λ (d : Pair × ℕ). drawn vertices wanted (draws - 1) d.1 (kept_behind kept d.0)) drew
+      ∙ ap (λ (d : VertexPair × ℕ). drawn vertices wanted (draws - 1) d.1 (kept_behind kept d.0)) drew
       ∙ sym (one_less vertices wanted draws state kept some (let e : nat_le wanted (length kept) ≡ false = grind (arith, nat_tests) in e))
       ∙ before
     where
-      one_less : (vertices wanted draws state : ℕ) (kept : List Pair) → 0 < draws → nat_le wanted (length kept) ≡ false
+      one_less : (vertices wanted draws state : ℕ) (kept : List VertexPair) → 0 < draws → nat_le wanted (length kept) ≡ false
           → drawn vertices wanted draws state kept
           ≡ drawn vertices wanted (draws - 1) (draw vertices state).1 (kept_behind kept (draw vertices state).0)
       one_less vertices wanted zero state kept some few = absurd (omega arith)

@@ -4,7 +4,7 @@ use Rattle.std.specs.Prelude.{not, ◌||◌}
 use Rattle.std.specs.List.{list_any}
 use Rattle.std.proofs.lemmas.List.Folds.{list_any-append}
 use Rattle.std.proofs.lemmas.Bool.Decides.{nat_tests}
-use Rattle.graph_maker.specs.declared.pair.Pair.{Pair}
+use Rattle.graph_maker.specs.declared.pair.VertexPair.{VertexPair}
 use Rattle.graph_maker.specs.Draws.{have_same_ends, kept_behind}
 use Rattle.graph_maker.specs.Kept.{in_order, same_pair, HasEndsOf}
 
@@ -20,8 +20,8 @@ or_swaps false true = refl
 or_swaps false false = refl
 
 -- the set with one pair more has the ends of the pairs with that one behind them
-pub one_more : (has has' : Pair → Bool) (kept kept' : List Pair) (pair : Pair) → HasEndsOf has kept → kept' ≡ kept ++ pair ∷ []
-    → ((q : Pair) → has' q ≡ cond (same_pair (in_order pair) q) true (has q)) → HasEndsOf has' kept'
+pub one_more : (has has' : VertexPair → Bool) (kept kept' : List VertexPair) (pair : VertexPair) → HasEndsOf has kept → kept' ≡ kept ++ pair ∷ []
+    → ((q : VertexPair) → has' q ≡ cond (same_pair (in_order pair) q) true (has q)) → HasEndsOf has' kept'
 one_more has has' kept kept' pair ends is more p =
     more (in_order p)
     ∙ ap (λ t. cond t true (has (in_order p))) (ordered_same pair.first pair.second p.first p.second)
@@ -31,7 +31,7 @@ one_more has has' kept kept' pair ends is more p =
     ∙ ap (list_any (have_same_ends p)) (sym is)
 
 -- a pair is kept where its ends differ and the set hadn't had them
-pub kept_so : (has : Pair → Bool) (kept : List Pair) (pair : Pair) (added : Bool) → HasEndsOf has kept
+pub kept_so : (has : VertexPair → Bool) (kept : List VertexPair) (pair : VertexPair) (added : Bool) → HasEndsOf has kept
     → (pair.first == pair.second) ≡ false → added ≡ not (has (in_order pair)) → kept_behind kept pair ≡ cond added (kept ++ pair ∷ []) kept
 kept_so has kept pair added ends apart is =
     ap (λ t. cond (t || list_any (have_same_ends pair) kept) kept (kept ++ pair ∷ [])) apart

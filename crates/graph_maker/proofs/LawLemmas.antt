@@ -7,7 +7,7 @@ use Rattle.std.proofs.lemmas.Bool.Decides.{nat_tests}
 use Rattle.std.proofs.lemmas.List.Elements.{All-append, All-cons, All-nil}
 use Rattle.std.proofs.lemmas.List.{length-append}
 use Rattle.std.proofs.Math.Nat.{mod-lt}
-use Rattle.graph_maker.specs.declared.pair.Pair.{Pair}
+use Rattle.graph_maker.specs.declared.pair.VertexPair.{VertexPair}
 use Rattle.graph_maker.specs.Draws.{draw, have_same_ends, is_passed_over, kept_behind, drawn}
 use Rattle.graph_maker.specs.Laws.{IsEdge, AreEdgesOf}
 
@@ -24,14 +24,14 @@ ends_swap : (a b c d : ℕ) → have_same_ends (record { first = a; second = b }
 ends_swap a b c d = grind (arith, nat_tests)
 
 -- none of the pairs has the ends of another, nor of one more that isn't passed over
-distinct_more : (kept : List Pair) (pair : Pair) → IsDistinct have_same_ends kept → list_any (have_same_ends pair) kept ≡ false
+distinct_more : (kept : List VertexPair) (pair : VertexPair) → IsDistinct have_same_ends kept → list_any (have_same_ends pair) kept ≡ false
     → IsDistinct have_same_ends (kept ++ pair ∷ [])
 unfolding IsDistinct
 distinct_more [] pair d new = (tt, tt)
 distinct_more (x ∷ xs) pair d new =
     (others xs d.0, distinct_more xs pair d.1 (right_false (have_same_ends pair x) _ new))
   where
-    others : (ys : List Pair) → AllByRecursion (λ y. have_same_ends x y ≡ false) ys → AllByRecursion (λ y. have_same_ends x y ≡ false) (ys ++ pair ∷ [])
+    others : (ys : List VertexPair) → AllByRecursion (λ y. have_same_ends x y ≡ false) ys → AllByRecursion (λ y. have_same_ends x y ≡ false) (ys ++ pair ∷ [])
     others [] all = (ends_swap x.first x.second pair.first pair.second ∙ left_false (have_same_ends pair x) _ new, tt)
     others (y ∷ ys) all = (all.0, others ys all.1)
 
@@ -49,7 +49,7 @@ is_edge : (vertices state : ℕ) → 0 < vertices → ((draw vertices state).0.f
     → IsEdge vertices (draw vertices state).0
 is_edge vertices state some apart = edge_between vertices _ _ (mod-lt _ some) (mod-lt _ some) apart
 
-kept_more : (vertices wanted : ℕ) (kept : List Pair) (pair : Pair) → AreEdgesOf vertices wanted kept
+kept_more : (vertices wanted : ℕ) (kept : List VertexPair) (pair : VertexPair) → AreEdgesOf vertices wanted kept
     → ((pair.first == pair.second) ≡ false → IsEdge vertices pair) → length kept < wanted
     → AreEdgesOf vertices wanted (kept_behind kept pair)
 kept_more vertices wanted kept pair edges is few = by_test (is_passed_over kept pair) refl
@@ -64,7 +64,7 @@ kept_more vertices wanted kept pair edges is few = by_test (is_passed_over kept 
     }
 
 -- draws add edges to edges, as far as they are wanted
-pub drawn_are_edges : (vertices wanted draws state : ℕ) (kept : List Pair) → 0 < vertices → AreEdgesOf vertices wanted kept
+pub drawn_are_edges : (vertices wanted draws state : ℕ) (kept : List VertexPair) → 0 < vertices → AreEdgesOf vertices wanted kept
     → AreEdgesOf vertices wanted (drawn vertices wanted draws state kept)
 drawn_are_edges vertices wanted zero state kept some edges = edges
 drawn_are_edges vertices wanted (suc draws) state kept some edges =
@@ -72,7 +72,7 @@ drawn_are_edges vertices wanted (suc draws) state kept some edges =
     (λ few. drawn_are_edges vertices wanted draws (draw vertices state).1 (kept_behind kept (draw vertices state).0) some
     (kept_more vertices wanted kept (draw vertices state).0 edges (λ apart. is_edge vertices state some apart) few))
   where
-    rest : List Pair
+    rest : List VertexPair
     rest = drawn vertices wanted draws (draw vertices state).1 (kept_behind kept (draw vertices state).0)
 
     by_test : (t : Bool) → nat_le wanted (length kept) ≡ t → (length kept < wanted → AreEdgesOf vertices wanted rest)

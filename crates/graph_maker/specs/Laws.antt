@@ -1,11 +1,11 @@
 -- What the pairs of a generated graph are.
 use Rattle.std.specs.Prelude.{◌≢◌, ℕ, ◌≤◌, ◌<◌, List, length, All}
 use Rattle.std.specs.List.{IsDistinct}
-use Rattle.graph_maker.specs.declared.pair.Pair.{Pair}
+use Rattle.graph_maker.specs.declared.pair.VertexPair.{VertexPair}
 use Rattle.graph_maker.specs.Draws.{have_same_ends, pairs_of}
 
 -- an edge between two of the vertices 1 to so many
-pub record IsEdge (vertices : ℕ) (pair : Pair) : Type 0 where
+pub record IsEdge (vertices : ℕ) (pair : VertexPair) : Type 0 where
   pub first_from : 1 ≤ pair.first
   pub first_to : pair.first ≤ vertices
   pub second_from : 1 ≤ pair.second
@@ -14,7 +14,7 @@ pub record IsEdge (vertices : ℕ) (pair : Pair) : Type 0 where
 
 -- each pair is an edge of the graph, no edge comes twice in whatever order of its ends, and there are at most as
 -- many as are wanted
-pub record AreEdgesOf (vertices wanted : ℕ) (pairs : List Pair) : Type 0 where
+pub record AreEdgesOf (vertices wanted : ℕ) (pairs : List VertexPair) : Type 0 where
   pub edges : All (IsEdge vertices) pairs
   pub distinct : IsDistinct have_same_ends pairs
   pub few : length pairs ≤ wanted

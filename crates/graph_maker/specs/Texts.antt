@@ -1,7 +1,7 @@
 -- The two texts of a generated graph.
 use Rattle.std.specs.Prelude.{ℕ, zero, suc, List, [], ◌∷◌, ◌++◌, decimal}
 use Rattle.std.specs.List.{flat_map}
-use Rattle.graph_maker.specs.declared.pair.Pair.{Pair}
+use Rattle.graph_maker.specs.declared.pair.VertexPair.{VertexPair}
 use Rattle.graph_maker.specs.Draws.{pairs_of}
 
 -- a line with one id
@@ -14,7 +14,7 @@ vertex_text zero = []
 vertex_text (suc n) = vertex_text n ++ id_line (suc n)
 
 -- a line with the first end, a blank, and the second end
-abbrev pub pair_line : Pair → List ℕ
+abbrev pub pair_line : VertexPair → List ℕ
 pair_line pair = decimal pair.first ++ 32 ∷ decimal pair.second ++ 10 ∷ []
 
 -- the pairs kept, in the order in which they were drawn

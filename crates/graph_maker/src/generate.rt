@@ -8,8 +8,8 @@ ghost use Rattle.std.specs.Prelude.{◌≡◌, ◌<◌, ℕ, length, IfOk};
 ghost use Rattle.graph_maker.specs.Draws.{draw, pairs_of};
 ghost use Rattle.graph_maker.specs.Texts.{vertex_text, edge_text};
 
-use crate::kept::Kept;
-use crate::pair::Pair;
+use crate::kept::DrawnPairs;
+use crate::pair::VertexPair;
 use crate::texts::{edge_lines, vertex_lines};
 use graphalytics_io::Text;
 use items::NoMemory;
@@ -51,12 +51,12 @@ pub fn make_graph(
 }
 
 /// Draws pairs until as many are kept as are asked for, or two for each of them were drawn.
-fn draw_pairs(alloc: Global, seed: u64, vertices: u32, edges: u32) -> Result<Kept, NoMemory>
+fn draw_pairs(alloc: Global, seed: u64, vertices: u32, edges: u32) -> Result<DrawnPairs, NoMemory>
     requires { 0 < vertices }
     ensures { IfOk result (λ pairs. pairs ≡ pairs_of seed vertices edges) }
 {
     let mut generator = SplitMix64::from_seed(seed.to_le_bytes());
-    let mut kept = Kept::new(alloc);
+    let mut kept = DrawnPairs::new(alloc);
     let mut draws = 2 * u64::from(edges);
     'draws: while draws > 0 && kept.len() < edges as usize {
         draws -= 1;
@@ -66,14 +66,14 @@ fn draw_pairs(alloc: Global, seed: u64, vertices: u32, edges: u32) -> Result<Kep
 }
 
 /// Draws a pair of vertices.
-fn draw(generator: &mut SplitMix64, vertices: u32) -> Pair
+fn draw(generator: &mut SplitMix64, vertices: u32) -> VertexPair
     requires { 0 < vertices }
     ensures { (result, generator.new) ≡ draw vertices generator.old }
 {
     let count = u64::from(vertices);
     let first = generator.next_word();
     let second = generator.next_word();
-    Pair {
+    VertexPair {
         first: 1 + first % count,
         second: 1 + second % count,
     }

@@ -6,7 +6,7 @@
 ghost use Rattle.std.specs.Prelude.{◌≡◌, [], length, OnOk, OnErr};
 ghost use Rattle.graph_maker.specs.Draws.{kept_behind};
 
-use crate::pair::Pair;
+use crate::pair::VertexPair;
 use items::NoMemory;
 use std::alloc::Global;
 use std::collections::HashSet;
@@ -14,32 +14,32 @@ use std::marker::Model;
 
 /// Pairs in the order in which they were drawn, with the set of their ends.
 #[derive(Drop)]
-pub struct Kept {
+pub struct DrawnPairs {
     /// In the order in which they were drawn.
-    pairs: Vec<Pair>,
+    pairs: Vec<VertexPair>,
     /// The lesser end first.
-    ends: HashSet<Pair>,
+    ends: HashSet<VertexPair>,
 }
 
-impl Model for Kept {
+impl Model for DrawnPairs {
     ghost use Rattle.std.specs.Prelude.{List};
     ghost use Rattle.std.specs.HashSet.{contains};
-    ghost use Rattle.graph_maker.specs.declared.pair.Pair.{Pair};
+    ghost use Rattle.graph_maker.specs.declared.pair.VertexPair.{VertexPair};
     ghost use Rattle.graph_maker.specs.Kept.{same_pair, HasEndsOf};
 
-    ghost Value = { List Pair };
+    ghost Value = { List VertexPair };
 
     ghost view = { λ k. k.pairs.items };
 
     ghost invariant = { λ k. HasEndsOf (contains same_pair k.ends) k.pairs.items };
 }
 
-impl Kept {
+impl DrawnPairs {
     /// None. Takes no memory.
-    pub fn new(alloc: Global) -> Kept
+    pub fn new(alloc: Global) -> DrawnPairs
         ensures { result ≡ [] }
     {
-        Kept {
+        DrawnPairs {
             pairs: Vec::new(alloc),
             ends: HashSet::new(alloc),
         }
@@ -53,14 +53,14 @@ impl Kept {
     }
 
     /// Lends the pairs in their order.
-    pub fn as_slice(&self) -> &[Pair]
+    pub fn as_slice(&self) -> &[VertexPair]
         ensures { result.now ≡ self.now }
     {
         self.pairs.as_slice()
     }
 
     /// Keeps a pair, unless it is passed over.
-    pub fn offer(&mut self, pair: Pair) -> Result<(), NoMemory>
+    pub fn offer(&mut self, pair: VertexPair) -> Result<(), NoMemory>
         ensures ok { OnOk result (self.new ≡ kept_behind self.old pair) }
         ensures err { OnErr result (self.new ≡ self.old) }
     {

@@ -13,4 +13,4 @@ mod texts;
 
 pub use generate::{MadeGraph, make_graph};
 pub use laws::pairs_are_edges;
-pub use pair::Pair;
+pub use pair::VertexPair;

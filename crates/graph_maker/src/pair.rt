@@ -6,14 +6,14 @@ ghost use Rattle.std.specs.Prelude.{◌≡◌, ◌==◌, cond, nat_le};
 
 /// Two vertices in the order in which they were drawn: a line of the edge file.
 #[derive(Clone, Copy, Debug, PartialEq, Eq, Hash)]
-pub struct Pair {
+pub struct VertexPair {
     /// The source, where the graph is directed.
     pub first: u64,
     /// The target there.
     pub second: u64,
 }
 
-impl Pair {
+impl VertexPair {
     ghost use Rattle.graph_maker.specs.Kept.{in_order};
 
     /// Whether it leads from a vertex to itself.
@@ -24,13 +24,13 @@ impl Pair {
     }
 
     /// The same ends with the lesser one first.
-    pub(crate) fn in_order(self) -> Pair
+    pub(crate) fn in_order(self) -> VertexPair
         ensures { result ≡ in_order self }
     {
         if self.first <= self.second {
             self
         } else {
-            Pair {
+            VertexPair {
                 first: self.second,
                 second: self.first,
             }

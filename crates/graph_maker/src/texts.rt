@@ -7,7 +7,7 @@ ghost use Rattle.std.specs.Prelude.{◌≡◌, IfOk};
 ghost use Rattle.std.specs.List.{flat_map};
 ghost use Rattle.graph_maker.specs.Texts.{vertex_text, pair_line};
 
-use crate::pair::Pair;
+use crate::pair::VertexPair;
 use graphalytics_io::{Spelling, Text, append_each};
 use items::NoMemory;
 use std::alloc::Global;
@@ -27,21 +27,21 @@ pub(crate) fn vertex_lines(alloc: Global, vertices: u32) -> Result<Text, NoMemor
 }
 
 /// The text of the edge file.
-pub(crate) fn edge_lines(alloc: Global, pairs: &[Pair]) -> Result<Text, NoMemory>
+pub(crate) fn edge_lines(alloc: Global, pairs: &[VertexPair]) -> Result<Text, NoMemory>
     ensures { IfOk result (λ text. text ≡ flat_map pair_line pairs.now) }
 {
     let mut text = Text::new(alloc);
-    append_each::<Pair, PairLine>(pairs, &mut text)?;
+    append_each::<VertexPair, PairLine>(pairs, &mut text)?;
     Ok(text)
 }
 
 /// The line of a pair: the first end, a blank, the second end, a line feed.
 struct PairLine;
 
-impl Spelling<Pair> for PairLine {
+impl Spelling<VertexPair> for PairLine {
     ghost text_of = { pair_line };
 
-    fn write(pair: &Pair, text: &mut Text) -> Result<(), NoMemory> {
+    fn write(pair: &VertexPair, text: &mut Text) -> Result<(), NoMemory> {
         text.push_number(pair.first)?;
         text.push_bytes(b" ")?;
         text.push_number(pair.second)?;

@@ -12,7 +12,7 @@ use Rattle.std.proofs.lemmas.List.Sums.{position_or_len_is, fails_before_first}
 use Rattle.std.proofs.lemmas.List.Quantifiers.{position-Some}
 use Rattle.graph_model.proofs.TestLemmas.{eq_of, self_eq, never}
 use Rattle.id_places.specs.Places.{is_among, StartsDense, place_of, IsRight}
-use Rattle.id_places.specs.declared.slots.Slot.{Slot}
+use Rattle.id_places.specs.declared.slots.IdSlot.{IdSlot}
 use Rattle.id_places.specs.declared.slots.TheConstants.{NOWHERE}
 
 -- an id at some place is among the ids
@@ -134,7 +134,7 @@ module _ (xs : List ℕ) (i : ℕ) (inside : i < length xs) where
       above false is = tt
 
 -- a slot that has an id has its first place
-pub right_slot : (ids : List ℕ) (slots : List Slot) (at id : ℕ) (slot : Slot) → All (IsRight ids) slots → at < length slots → slot ≡ get_or slots at slot
+pub right_slot : (ids : List ℕ) (slots : List IdSlot) (at id : ℕ) (slot : IdSlot) → All (IsRight ids) slots → at < length slots → slot ≡ get_or slots at slot
     → slot.id ≡ id → slot.place ≢ NOWHERE → place_of ids id ≡ Some slot.place
 right_slot ids slots at id slot right inside is same filled =
     ap (place_of ids) (sym same) ∙ subst (IsRight ids) (sym is) (right at slot inside) filled

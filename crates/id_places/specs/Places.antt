@@ -4,7 +4,7 @@ use Rattle.std.specs.List.{list_any, position, position_or_len}
 use Rattle.graphalytics_io.specs.declared.edges.Edge.{Edge}
 use Rattle.graph_model.specs.declared.write.Kind.{Kind}
 use Rattle.graph_model.specs.declared.write.Kind.TheVariants.{Directed, Undirected}
-use Rattle.id_places.specs.declared.slots.Slot.{Slot}
+use Rattle.id_places.specs.declared.slots.IdSlot.{IdSlot}
 use Rattle.id_places.specs.declared.slots.TheConstants.{NOWHERE}
 
 -- the id is one of these
@@ -21,7 +21,7 @@ abbrev pub place_of : List ℕ → ℕ → Option ℕ
 place_of ids v = position (λ id. id == v) ids
 
 -- a slot is empty, or has the first place of its id
-abbrev pub IsRight : List ℕ → Slot → Type 0
+abbrev pub IsRight : List ℕ → IdSlot → Type 0
 IsRight ids slot = slot.place ≢ NOWHERE → place_of ids slot.id ≡ Some slot.place
 
 -- a number for the places of an edge's ends: the same for both directions where they don't count

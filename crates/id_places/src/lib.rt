@@ -5,10 +5,10 @@
 #![tactic(auto)]
 
 mod distinct;
-mod known;
+mod id_table;
 mod numbers;
 mod slots;
 
 pub use distinct::are_distinct;
-pub use known::Known;
+pub use id_table::IdTable;
 pub use numbers::numbers_of;

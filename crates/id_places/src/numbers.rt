@@ -6,7 +6,7 @@ ghost use Rattle.std.specs.Prelude.{◌≡◌, ◌≤◌, true, length, take, If
 ghost use Rattle.std.specs.Vec.{vec_len};
 ghost use Rattle.id_places.specs.Places.{is_among, AreNumbers, pair_in, pair_of};
 
-use crate::known::Known;
+use crate::id_table::IdTable;
 use graph_model::Kind;
 use graphalytics_io::Edge;
 use items::NoMemory;
@@ -16,7 +16,7 @@ use std::alloc::Global;
 pub fn numbers_of(
     alloc: Global,
     edges: &[Edge],
-    known: &Known,
+    known: &IdTable,
     kind: Kind,
 ) -> Result<Vec<u64>, NoMemory>
     ensures few { IfOk result (λ numbers. vec_len numbers ≤ length edges.now) }
@@ -34,7 +34,7 @@ pub fn numbers_of(
 }
 
 /// The number of an edge, if both ends are known.
-fn number_of(edge: &Edge, known: &Known, kind: Kind) -> Option<u64>
+fn number_of(edge: &Edge, known: &IdTable, kind: Kind) -> Option<u64>
     ensures number { IfSome result (λ number. number ≡ pair_in kind known.now edge.now) }
     ensures source { IfSome result (λ _. is_among known.now edge.now.u ≡ true) }
     ensures target { IfSome result (λ _. is_among known.now edge.now.v ≡ true) }

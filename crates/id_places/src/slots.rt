@@ -23,7 +23,7 @@ const SPREAD: u64 = 11400714819323198485;
 
 /// An id, and the first place where it stands.
 #[derive(Clone, Copy, Debug)]
-pub struct Slot {
+pub struct IdSlot {
     /// What stands in the file.
     pub id: u64,
     /// Its place among the ids.
@@ -32,34 +32,34 @@ pub struct Slot {
 
 /// The slots, at least twice as many as ids.
 #[derive(Drop)]
-pub(crate) struct Slots {
+pub(crate) struct IdSlots {
     /// An id has one of the slots that are looked at for it, if one of these was empty when it came.
-    slots: Vec<Slot>,
+    slots: Vec<IdSlot>,
     /// How many bits of an id's multiple are dropped; the others give its first slot.
     shift: u32,
     ghost small: { shift < 64 },
 }
 
-impl Model for Slots {
+impl Model for IdSlots {
     ghost use Rattle.std.specs.Prelude.{List};
-    ghost use Rattle.id_places.specs.declared.slots.Slot.{Slot};
+    ghost use Rattle.id_places.specs.declared.slots.IdSlot.{IdSlot};
 
-    ghost Value = { List Slot };
+    ghost Value = { List IdSlot };
 
     ghost view = { λ slots. slots.slots.items };
 }
 
-impl Slots {
+impl IdSlots {
     /// A table of the ids from a place on.
-    pub(crate) fn of(alloc: Global, sorted: &[u64], from: usize) -> Result<Slots, NoMemory>
+    pub(crate) fn of(alloc: Global, sorted: &[u64], from: usize) -> Result<IdSlots, NoMemory>
         requires { IsNonDecreasing sorted.now }
         ensures { IfOk result (All (IsRight sorted.now)) }
     {
-        let mut slots = Slots::empty(alloc, sorted.len().saturating_sub(from))?;
+        let mut slots = IdSlots::empty(alloc, sorted.len().saturating_sub(from))?;
         'places: for place in from..sorted.len() {
             // Of an id that stands several times the first place counts.
             if stands_first(sorted, place) {
-                slots.put(Slot {
+                slots.put(IdSlot {
                     id: sorted[place],
                     place,
                 });
@@ -69,23 +69,23 @@ impl Slots {
     }
 
     /// Empty slots for so many ids.
-    fn empty(alloc: Global, count: usize) -> Result<Slots, NoMemory>
+    fn empty(alloc: Global, count: usize) -> Result<IdSlots, NoMemory>
         ensures { IfOk result (λ slots. (ids : List ℕ) → All (IsRight ids) slots) }
     {
         let bits = bits_of(count);
-        let empty = Slot {
+        let empty = IdSlot {
             id: 0,
             place: NOWHERE,
         };
         let slots = vec![in alloc; empty; (1usize << bits).saturating_add(TRIES)]?;
-        Ok(Slots {
+        Ok(IdSlots {
             slots,
             shift: 64 - bits,
         })
     }
 
     /// Fills an empty slot, if one is among those that are looked at for the id.
-    fn put(&mut self, slot: Slot)
+    fn put(&mut self, slot: IdSlot)
         ensures { (ids : List ℕ) → All (IsRight ids) self.old → IsRight ids slot → All (IsRight ids) self.new }
     {
         if let Some(at) = self.empty_slot(slot.id) {

@@ -16,14 +16,14 @@ use Rattle.line_runner.specs.declared.answering.LineTurn.{LineTurn}
 use Rattle.line_runner.specs.declared.phase.Phase.{Phase}
 use Rattle.line_runner.specs.declared.phase.Phase.TheVariants.{Between, Open, Skipping, GivenUp}
 use Rattle.line_runner.specs.declared.kept.KeptImage.{KeptImage}
-use Rattle.line_runner.specs.declared.reading.Reading.{Reading}
+use Rattle.line_runner.specs.declared.reading.LineReading.{LineReading}
 use Rattle.line_runner.specs.Kernels.{IsKeptImage}
 use Rattle.line_runner.specs.Phases.{is_inside, IsPhase}
 use Rattle.line_runner.specs.Turns.{view_now, MayTakeNow, Calls, ReadsTimes, TakesOn, WantsOn, AreByAccount, AreExact}
 use Rattle.line_runner.specs.Lines.{given_up}
 use Rattle.line_runner.proofs.ExactLemmas.{takes_here, wants_same}
-use Rattle.job_runner.specs.declared.turn.Turn.{Turn}
-use Rattle.job_runner.specs.declared.turn.Turn.TheVariants as turns
+use Rattle.job_runner.specs.declared.turn.JobTurn.{JobTurn}
+use Rattle.job_runner.specs.declared.turn.JobTurn.TheVariants as turns
 use Rattle.job_runner.specs.Progress.{Progress, left_of, has_given_up, is_over, behind, gone, GivesUpOn, IsReady, IsReadyBy, IsRolledBack, TakesTurn, TookTurn, TakesTurnOn, TookTurnOn}
 
 -- ---- what is left of a script
@@ -107,12 +107,12 @@ module _ {S : Type 0} (e : Calls S) (old : S) (job : Progress) (going : is_over 
   at_hand : left_of job ≡ c ∷ drop (suc (length job.answers)) job.commands
   at_hand = drop_at job.commands (length job.answers) (has_left job.phase (left_of job) going) c at
 
-  pub may_here : (phase : Phase) (reading : Option Reading) → phase ≡ job.phase → reading ≡ job.reading → MayTakeNow (e.account old) phase reading c
+  pub may_here : (phase : Phase) (reading : Option LineReading) → phase ≡ job.phase → reading ≡ job.reading → MayTakeNow (e.account old) phase reading c
   may_here phase reading p r =
       subst (λ x. MayTakeNow (e.account old) x reading c) (sym p)
       (subst (λ x. MayTakeNow (e.account old) job.phase x c) (sym r) (may_take (e.account old) job ready c (drop (suc (length job.answers)) job.commands) at_hand))
 
-  pub took_here : (phase : Phase) (reading : Option Reading) → phase ≡ job.phase → reading ≡ job.reading → (new : S) (next : Progress) (turn made : LineTurn) → turn ≡ made → TakesOn e old phase reading c turn new → (image : Option KeptImage) → IfSome image (IsKeptImage (view_now (e.account old))) → next ≡ behind job image made
+  pub took_here : (phase : Phase) (reading : Option LineReading) → phase ≡ job.phase → reading ≡ job.reading → (new : S) (next : Progress) (turn made : LineTurn) → turn ≡ made → TakesOn e old phase reading c turn new → (image : Option KeptImage) → IfSome image (IsKeptImage (view_now (e.account old))) → next ≡ behind job image made
       → (x : Command) (rest : List Command) → left_of job ≡ x ∷ rest → TakesTurnOn e old job x next new
   took_here phase reading p r new next turn made same takes image kept is x rest there =
       let equal : c ≡ x = heads c x _ rest (sym at_hand ∙ there) in
@@ -143,7 +143,7 @@ module _ {S : Type 0} (e : Calls S) (core : S → Core) (exact : AreExact e core
     job_is = is.job_is;
   }
 
-  pub took_alone : (turn : Turn) (next : Progress) (new : S) → TookTurnOn e old job turn next new → TookTurn (core old) job turn next (core new)
+  pub took_alone : (turn : JobTurn) (next : Progress) (new : S) → TookTurnOn e old job turn next new → TookTurn (core old) job turn next (core new)
   took_alone turns.More next new is = (is.0, λ c rest left. takes_alone c rest left next new (is.1 c rest left))
   took_alone turns.Ended next new is = (is.0, λ c rest left. takes_alone c rest left next new (is.1 c rest left))
   took_alone turns.NoMemory next new is =

@@ -30,7 +30,7 @@ use Rattle.line_runner.specs.declared.answering.LineAnswer.{LineAnswer}
 use Rattle.line_runner.specs.declared.answering.LineTurn.TheVariants.{Scanning, Answering}
 use Rattle.line_runner.specs.declared.phase.Phase.TheVariants.{Skipping}
 use Rattle.line_runner.specs.declared.kept.KeptImage.{KeptImage}
-use Rattle.line_runner.specs.declared.reading.Reading.{Reading}
+use Rattle.line_runner.specs.declared.reading.LineReading.{LineReading}
 use Rattle.line_runner.specs.Scanning.{taken_of}
 use Rattle.line_runner.specs.Phases.{is_skipping, phase_at, phase_behind}
 use Rattle.line_runner.specs.Lines.{seat, result_here, pass_behind, goes_on_here, ScansHere, AnswersHere}
@@ -192,7 +192,7 @@ module _ (core : Core) (jobs : List Progress) (closed : AreClosed core (length j
     turn_is full c rest cons = ap (turn_at_place core.kind (state_of core jobs) k full) seat_there ∙ ap (job_turn core.kind (state_of core jobs) k full j) cons
 
     -- a portion of rows
-    pub scan_is_turn : (full : Bool) (c : Command) (rest : List Command) → left_of job ≡ c ∷ rest → (next : Reading) (image : Option KeptImage) (new : Core) → ScansHere core job.phase job.reading c next new
+    pub scan_is_turn : (full : Bool) (c : Command) (rest : List Command) → left_of job ≡ c ∷ rest → (next : LineReading) (image : Option KeptImage) (new : Core) → ScansHere core job.phase job.reading c next new
         → state_of new (slice_set jobs k (behind job image (Scanning next))) ≡ turn core.kind (state_of core jobs) (suc k) full
     scan_is_turn full c rest cons next image new scans =
         let calm : is_skipping job.phase ≡ false = ap is_skipping scans.further.is_open in

@@ -24,7 +24,7 @@ use Rattle.line_runner.specs.declared.answering.LineTurn.TheVariants.{Scanning, 
 use Rattle.line_runner.specs.declared.phase.Phase.{Phase}
 use Rattle.line_runner.specs.declared.phase.Phase.TheVariants.{Between, Open, Skipping, GivenUp}
 use Rattle.line_runner.specs.declared.kept.KeptImage.{KeptImage}
-use Rattle.line_runner.specs.declared.reading.Reading.{Reading}
+use Rattle.line_runner.specs.declared.reading.LineReading.{LineReading}
 use Rattle.line_runner.specs.Kernels.{IsKeptImage}
 use Rattle.line_runner.specs.Scanning.{IsReading, taken_of}
 use Rattle.side_runs.specs.ByAccount.{made_behind}
@@ -104,7 +104,7 @@ module _ (inputs : Inputs) (core : Core) (jobs : List Progress) (u : AreUnderWay
 
   -- ---- a portion of rows
 
-  module _ (next : Reading) (image : Option KeptImage) (new : Core) (scans : ScansHere chosen job.phase job.reading c next new) (kept : IfSome image (IsKeptImage (view_here chosen))) where
+  module _ (next : LineReading) (image : Option KeptImage) (new : Core) (scans : ScansHere chosen job.phase job.reading c next new) (kept : IfSome image (IsKeptImage (view_here chosen))) where
     scan_tied : AreTied chosen pass k (behind job image (Scanning next))
     unfolding tied
     scan_tied = record {
@@ -250,7 +250,7 @@ module _ (inputs : Inputs) (core : Core) (jobs : List Progress) (u : AreUnderWay
 
 -- how the turns that are left fall
 pub turn_less : (job : Progress) (c : Command) (rest : List Command) → left_of job ≡ c ∷ rest → taken_of job.reading < 288230376151711744 → (turn : LineTurn)
-    → ((next : Reading) → turn ≡ Scanning next → (taken_of (Some next) ≡ taken_of job.reading + 1) × (taken_of (Some next) < 288230376151711744))
+    → ((next : LineReading) → turn ≡ Scanning next → (taken_of (Some next) ≡ taken_of job.reading + 1) × (taken_of (Some next) < 288230376151711744))
     → (image : Option KeptImage) → turns_left (behind job image turn) < turns_left job
 turn_less job c rest cons small (Scanning next) further image =
     let taken : taken_of (Some next) ≡ taken_of job.reading + 1 = (further next refl).0 in

@@ -10,8 +10,8 @@ use Rattle.run_model.specs.Inputs.{Inputs}
 use Rattle.run_model.proofs.SetLemmas.{get_set_else, set_cases}
 use Rattle.line_runner.specs.declared.phase.Phase.{Phase}
 use Rattle.line_runner.specs.declared.phase.Phase.TheVariants.{Between, Open, Skipping, GivenUp}
-use Rattle.job_runner.specs.declared.turn.Turn.{Turn}
-use Rattle.job_runner.specs.declared.turn.Turn.TheVariants as turns
+use Rattle.job_runner.specs.declared.turn.JobTurn.{JobTurn}
+use Rattle.job_runner.specs.declared.turn.JobTurn.TheVariants as turns
 use Rattle.line_runner.specs.Phases.{IsPhase}
 use Rattle.line_runner.specs.Lines.{given_up}
 use Rattle.job_runner.specs.Progress.{Progress, is_over, IsReady, TakesTurn, TookTurn}
@@ -115,7 +115,7 @@ module _ (core : Core) (jobs : List Progress) (k : ℕ) (job : Progress) (there 
 
     module _ (going : is_over job ≡ false) (new : Core) (next : Progress) where
       -- what the call answers
-      abbrev pub Says : Turn → Result Bool NoMemory → Type 0
+      abbrev pub Says : JobTurn → Result Bool NoMemory → Type 0
       Says turns.More result = result ≡ Ok false
       Says turns.Ended result = result ≡ Ok true
       Says turns.NoMemory result = OnOk result ⊥
@@ -133,19 +133,19 @@ module _ (core : Core) (jobs : List Progress) (k : ℕ) (job : Progress) (there 
           by_either (inl t) = let h = at_hand core jobs k job there going in t.1 h.0 h.1 h.2
           by_either (inr t) = let h = at_hand core jobs k job there going in t.1 h.0 h.1 h.2
 
-      pub took_turns : (turn : Turn) → TookTurn selected job turn next new → (result : Result Bool NoMemory) → Says turn result → IfOk result (λ ended. Turns core jobs number ended new (slice_set jobs k next))
+      pub took_turns : (turn : JobTurn) → TookTurn selected job turn next new → (result : Result Bool NoMemory) → Says turn result → IfOk result (λ ended. Turns core jobs number ended new (slice_set jobs k next))
       took_turns turns.More took result says = subst (λ r. IfOk r (λ ended. Turns core jobs number ended new (slice_set jobs k next))) (sym says) (turned false took.0 (inl took)).0
       took_turns turns.Ended took result says = subst (λ r. IfOk r (λ ended. Turns core jobs number ended new (slice_set jobs k next))) (sym says) (turned true took.0 (inr took)).0
       took_turns turns.NoMemory took (Ok ended) says = absurd says
       took_turns turns.NoMemory took (Err e) says = tt
 
-      pub took_goes : (turn : Turn) → TookTurn selected job turn next new → (result : Result Bool NoMemory) → Says turn result → OnOk result (Goes jobs number (slice_set jobs k next))
+      pub took_goes : (turn : JobTurn) → TookTurn selected job turn next new → (result : Result Bool NoMemory) → Says turn result → OnOk result (Goes jobs number (slice_set jobs k next))
       took_goes turns.More took result says = subst (λ r. OnOk r (Goes jobs number (slice_set jobs k next))) (sym says) (turned false took.0 (inl took)).1
       took_goes turns.Ended took result says = subst (λ r. OnOk r (Goes jobs number (slice_set jobs k next))) (sym says) (turned true took.0 (inr took)).1
       took_goes turns.NoMemory took (Ok ended) says = absurd says
       took_goes turns.NoMemory took (Err e) says = tt
 
-      pub took_stuck : (turn : Turn) → TookTurn selected job turn next new → (result : Result Bool NoMemory) → Says turn result → OnErr result (IsStuck core new (slice_set jobs k next))
+      pub took_stuck : (turn : JobTurn) → TookTurn selected job turn next new → (result : Result Bool NoMemory) → Says turn result → OnErr result (IsStuck core new (slice_set jobs k next))
       took_stuck turns.More took result says = subst (λ r. OnErr r (IsStuck core new (slice_set jobs k next))) (sym says) tt
       took_stuck turns.Ended took result says = subst (λ r. OnErr r (IsStuck core new (slice_set jobs k next))) (sym says) tt
       took_stuck turns.NoMemory took (Ok ended) says = tt

@@ -12,10 +12,10 @@ use Rattle.line_runner.specs.declared.answering.LineTurn.TheVariants.{Scanning, 
 use Rattle.line_runner.specs.declared.kept.KeptImage.{KeptImage}
 use Rattle.line_runner.specs.declared.phase.Phase.{Phase}
 use Rattle.line_runner.specs.declared.phase.Phase.TheVariants.{Between, Open, Skipping, GivenUp}
-use Rattle.line_runner.specs.declared.reading.Reading.{Reading}
+use Rattle.line_runner.specs.declared.reading.LineReading.{LineReading}
 use Rattle.line_runner.specs.declared.table.NamedTable.{NamedTable}
-use Rattle.job_runner.specs.declared.turn.Turn.{Turn}
-use Rattle.job_runner.specs.declared.turn.Turn.TheVariants as turns
+use Rattle.job_runner.specs.declared.turn.JobTurn.{JobTurn}
+use Rattle.job_runner.specs.declared.turn.JobTurn.TheVariants as turns
 use Rattle.line_runner.specs.Kernels.{IsKeptImage}
 use Rattle.line_runner.specs.Scanning.{too_many_turns, IsReading, taken_of}
 use Rattle.line_runner.specs.Phases.{is_skipping, is_inside, IsPhase, image_behind}
@@ -31,7 +31,7 @@ pub record Progress : Type 0 where
   pub tables : List NamedTable
   pub phase : Phase
   -- what the line at hand has read, if it has taken a turn
-  pub reading : Option Reading
+  pub reading : Option LineReading
   -- the image of what the open transaction sees, if one is kept
   pub image : Option KeptImage
 
@@ -128,7 +128,7 @@ pub record IsRolledBack (job next : Progress) (account : Account) : Type 0 where
   pub closed : account.start ≡ None
 
 -- what a turn comes to: the line at hand takes it, or memory was wanted, and the transaction is taken back
-abbrev pub TookTurnOn : {S : Type 0} → Calls S → S → Progress → Turn → Progress → S → Type 0
+abbrev pub TookTurnOn : {S : Type 0} → Calls S → S → Progress → JobTurn → Progress → S → Type 0
 TookTurnOn e old job turns.More next new = (is_over next ≡ false)
     × ((c : Command) (rest : List Command) → left_of job ≡ c ∷ rest → TakesTurnOn e old job c next new)
 TookTurnOn e old job turns.Ended next new = (is_over next ≡ true)
@@ -145,7 +145,7 @@ pub record TakesTurn (old : Core) (job : Progress) (c : Command) (next : Progres
   pub job_is : next ≡ behind job image turn
 
 -- what that comes to
-abbrev pub TookTurn : Core → Progress → Turn → Progress → Core → Type 0
+abbrev pub TookTurn : Core → Progress → JobTurn → Progress → Core → Type 0
 TookTurn old job turns.More next new = (is_over next ≡ false)
     × ((c : Command) (rest : List Command) → left_of job ≡ c ∷ rest → TakesTurn old job c next new)
 TookTurn old job turns.Ended next new = (is_over next ≡ true)

@@ -10,13 +10,13 @@ ghost use Rattle.run_model.specs.declared.command.Command.{Command};
 ghost use Rattle.run_model.specs.declared.command.Command.TheVariants.{Abort};
 ghost use Rattle.line_runner.specs.Turns.{calls, WantsOn};
 ghost use Rattle.graph_model.specs.OwnerCalls.{account_here};
-ghost use Rattle.job_runner.specs.declared.turn.Turn.TheVariants as turns;
+ghost use Rattle.job_runner.specs.declared.turn.JobTurn.TheVariants as turns;
 ghost use Rattle.job_runner.specs.Progress.{new_progress, left_of, is_over, listed_table, gone, has_given_up, GivesUpOn, IsReady, IsReadyBy, IsRolledBack, TakesTurnOn, TookTurn, TookTurnOn};
 
-use crate::turn::Turn;
+use crate::turn::JobTurn;
 use graph_model::{Engine, NoMemory, StepEngine, VertexEngine};
 use items::RoomyItems;
-use line_runner::{KeptImage, LineTurn, NamedTable, Phase, Reading, Tables, take_line};
+use line_runner::{KeptImage, LineReading, LineTurn, NamedTable, Phase, Tables, take_line};
 use run_model::{Answer, Command, Script};
 use std::alloc::Global;
 use std::marker::Model;
@@ -38,7 +38,7 @@ pub struct Job {
     /// Where it stands between its lines.
     phase: Phase,
     /// How far the line at hand has come, if it has taken a turn.
-    reading: Option<Reading>,
+    reading: Option<LineReading>,
     /// Of what the open transaction sees, if a line has made one.
     image: Option<KeptImage>,
 }
@@ -149,13 +149,15 @@ impl Job {
         requires { place < length self.old.answers }
         ensures { self.new ≡ record self.old { answers = slice_set self.old.answers place answer } }
     {
+        // The list takes no other answer in place while its room is counted, so it is one without that count
+        // meanwhile.
         let mut answers = replace(&mut self.answers, RoomyItems::new(self.alloc)).into_items();
         answers.set(place, answer);
         self.answers = RoomyItems::from_items(answers);
     }
 
     /// Takes one turn: a line, or a further portion of the rows that the line at hand scans.
-    pub fn turn<R: Threads + Sync, E: VertexEngine>(&mut self, rt: &R, engine: &mut E) -> Turn
+    pub fn turn<R: Threads + Sync, E: VertexEngine>(&mut self, rt: &R, engine: &mut E) -> JobTurn
         requires going { is_over self.old ≡ false }
         requires ready { IsReadyBy (E.account engine.old) self.old }
         ensures took { let e = calls E.account E.did_begin E.did_write E.did_read E.did_commit E.did_abort in
@@ -163,18 +165,22 @@ impl Job {
         ensures rolled_back { result ≡ turns.NoMemory → IsRolledBack self.old self.new (E.account engine.new) }
     {
         match self.take_turn(rt, engine) {
-            Ok(()) if self.has_ended() => Turn::Ended,
-            Ok(()) => Turn::More,
+            Ok(()) if self.has_ended() => JobTurn::Ended,
+            Ok(()) => JobTurn::More,
             Err(NoMemory) => {
                 // Its transaction is taken back, which takes no memory: the run ends, and no pass is left with one.
                 self.give_up(engine);
-                Turn::NoMemory
+                JobTurn::NoMemory
             }
         }
     }
 
     /// Takes one turn on an engine of one owner.
-    pub fn turn_alone<R: Threads + Sync, E: StepEngine>(&mut self, rt: &R, engine: &mut E) -> Turn
+    pub fn turn_alone<R: Threads + Sync, E: StepEngine>(
+        &mut self,
+        rt: &R,
+        engine: &mut E,
+    ) -> JobTurn
         requires going { is_over self.old ≡ false }
         requires ready { IsReady (E.core engine.old) self.old }
         ensures took { TookTurn (E.core engine.old) self.old result self.new (E.core engine.new) }
@@ -226,7 +232,7 @@ impl Job {
     }
 
     /// Keeps these for the next turn.
-    fn keep(&mut self, reading: Option<Reading>, image: Option<KeptImage>)
+    fn keep(&mut self, reading: Option<LineReading>, image: Option<KeptImage>)
         ensures { self.new ≡ record self.old { reading = reading; image = image } }
     {
         self.reading = reading;
@@ -239,6 +245,7 @@ impl Job {
         ensures did { GivesUpOn E.did_abort self.old.phase engine.old engine.new }
         ensures job { self.new ≡ gone self.old }
     {
+        // A stop has taken the transaction back already.
         if let Phase::Open = self.phase {
             engine.abort();
         }

@@ -12,7 +12,7 @@ ghost use Rattle.run_model.specs.declared.command.Command.{Command};
 ghost use Rattle.run_model.specs.declared.command.Command.TheVariants.{Abort};
 
 use crate::job::Job;
-use crate::turn::Turn;
+use crate::turn::JobTurn;
 use graph_model::{NoMemory, StepEngine};
 use run_model::{Answer, Command};
 use std::marker::Model;
@@ -139,9 +139,9 @@ impl Jobs {
         // The engine of one owner has all passes, so it is told whose turn this is.
         engine.select(number);
         match job.turn_alone(rt, engine) {
-            Turn::More => Ok(false),
-            Turn::Ended => Ok(true),
-            Turn::NoMemory => Err(NoMemory),
+            JobTurn::More => Ok(false),
+            JobTurn::Ended => Ok(true),
+            JobTurn::NoMemory => Err(NoMemory),
         }
     }
 
@@ -162,6 +162,7 @@ fn give_up_each<E: StepEngine>(engine: &mut E, jobs: &mut [Job])
     ensures journal { (E.core engine.new).journal ≡ (E.core engine.old).journal }
 {
     'jobs: for job in jobs.iter_mut() {
+        // Also of a job that has ended, whose pass has no transaction: then nothing is taken back.
         engine.select(job.number());
         job.give_up(engine);
     }

@@ -16,4 +16,4 @@ pub use job::Job;
 pub use jobs::Jobs;
 pub use line_runner::NamedTable;
 pub use run::{run_stepped, take_turn};
-pub use turn::Turn;
+pub use turn::JobTurn;

@@ -29,6 +29,7 @@ pub fn run_stepped<R: Threads + Sync, E: StepEngine>(
     match take_turns(rt, engine, jobs, schedule) {
         Ok(()) => Ok(()),
         Err(e) => {
+            // The caller ends without a result, and has to find no transaction in the store that it lets go of.
             jobs.give_up(engine);
             Err(e)
         }
@@ -86,6 +87,7 @@ pub fn take_turn<R: Threads + Sync, E: StepEngine>(
     ensures err { OnErr result (IsStuck (E.core engine.old) (E.core engine.new) jobs.new) }
 {
     if number == 0 {
+        // Whether it changed a cell is nothing to the turns, and one that is refused memory has changed nothing.
         let _ = engine.service_step();
         return Ok(false);
     }

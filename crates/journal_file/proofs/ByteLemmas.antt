@@ -11,7 +11,7 @@ use Rattle.graph_model.specs.declared.write.Write.TheVariants.{AddVertex, DropVe
 use Rattle.graph_model.specs.declared.journal.Commit.{Commit}
 use Rattle.graph_model.specs.Refused.{IsWithinLimits}
 use Rattle.journal_file.specs.Format.{word, half, tagged, write_bytes, head_bytes, body, entry, entry_len, IsEntry}
-use Rattle.journal_file.specs.declared.reading.Head.{Head}
+use Rattle.journal_file.specs.declared.reading.CommitHead.{CommitHead}
 use Rattle.journal_file.specs.Reading.{on_vertex, on_edge, on_ends, of_tag, write_of, put_first, writes_of, head_of, is_next, with_writes, is_whole, commit_of, gated}
 
 -- ---- writes
@@ -80,7 +80,7 @@ pub length-entry : (c : Commit) → length (entry c) ≡ entry_len c
 length-entry c = omega (arith, length-body c)
 
 -- the head of a commit
-abbrev head_is : Commit → Head
+abbrev head_is : Commit → CommitHead
 head_is c = record { stamp = c.stamp; start = c.start; job = c.by.job; number = c.by.number; count = length c.writes }
 
 module _ (stamp : ℕ) (c : Commit) (is : IsEntry stamp c) (rest : List ℕ) where

@@ -10,7 +10,7 @@ use Rattle.std.proofs.lemmas.Slice.Eq.{bytes_eq-Decides}
 use Rattle.graph_model.specs.declared.write.Kind.TheVariants.{Directed, Undirected}
 use Rattle.graph_model.specs.declared.write.Write.{Write}
 use Rattle.graph_model.specs.declared.journal.Commit.{Commit}
-use Rattle.journal_file.specs.declared.reading.Head.{Head}
+use Rattle.journal_file.specs.declared.reading.CommitHead.{CommitHead}
 use Rattle.journal_file.specs.Format.{header}
 use Rattle.journal_file.specs.Reading.{head_of, is_next, with_writes, writes_of, commit_of, gated, kind_in}
 use Rattle.journal_file.specs.Recovering.{open_head, gated_head}
@@ -27,11 +27,11 @@ head_within bytes = λ i. record {
 }
 
 -- a head with the writes behind it
-abbrev pub then_writes : Option Head → List ℕ → Option Commit
+abbrev pub then_writes : Option CommitHead → List ℕ → Option Commit
 then_writes None bytes = None
 then_writes (Some head) bytes = option_map (with_writes head) (writes_of head.count bytes)
 
-tests : (X : Option Commit) (head : Head) (bytes : List ℕ) → X ≡ then_writes (Some head) bytes → (long gate next whole fits : Bool) → (long ≡ true → fits ≡ whole)
+tests : (X : Option Commit) (head : CommitHead) (bytes : List ℕ) → X ≡ then_writes (Some head) bytes → (long gate next whole fits : Bool) → (long ≡ true → fits ≡ whole)
     → cond gate (cond (long && (next && whole)) X None) None ≡ then_writes (cond long (cond (gate && (next && fits)) (Some head) None) None) bytes
 tests X head bytes is false true next whole fits same = refl
 tests X head bytes is false false next whole fits same = refl
@@ -104,7 +104,7 @@ pub none_by_head : (stamp : ℕ) (bytes : List ℕ) → None ≡ gated_head stam
 none_by_head stamp bytes none = sym (gated_parts stamp bytes ∙ ap (λ found. then_writes found (drop 33 bytes)) (sym none))
 
 -- a head with the writes that stand behind it
-pub by_head : (stamp at : ℕ) (file body : List ℕ) (head : Head) (writes : Option (List Write)) → Some head ≡ gated_head stamp (drop at file)
+pub by_head : (stamp at : ℕ) (file body : List ℕ) (head : CommitHead) (writes : Option (List Write)) → Some head ≡ gated_head stamp (drop at file)
     → body ≡ take (25 * head.count) (drop (at + 33) file) → writes ≡ writes_of head.count body
     → option_map (with_writes head) writes ≡ gated stamp (drop at file)
 by_head stamp at file body head writes is body_is writes_are =
@@ -116,7 +116,7 @@ by_head stamp at file body head writes is body_is writes_are =
 
 -- ---- a head that was read
 
-module _ (front : List ℕ) (behind stamp : ℕ) (len : length front ≡ 33) (head : Head) (is : head ≡ head_of (take (length front - 1) (drop 1 front))) where
+module _ (front : List ℕ) (behind stamp : ℕ) (len : length front ≡ 33) (head : CommitHead) (is : head ≡ head_of (take (length front - 1) (drop 1 front))) where
   head_is : head_of (drop 1 front) ≡ head
   head_is = ap head_of (sym (take_all (length front - 1) (drop 1 front) (omega (arith, len, length-drop 1 front)))) ∙ sym is
 

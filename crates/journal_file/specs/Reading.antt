@@ -8,7 +8,7 @@ use Rattle.graph_model.specs.declared.write.Kind.TheVariants.{Directed, Undirect
 use Rattle.graph_model.specs.declared.write.Write.{Write}
 use Rattle.graph_model.specs.declared.write.Write.TheVariants.{AddVertex, DropVertex, AddEdge, SetEdge, DropEdge}
 use Rattle.graph_model.specs.declared.journal.Commit.{Commit}
-use Rattle.journal_file.specs.declared.reading.Head.{Head}
+use Rattle.journal_file.specs.declared.reading.CommitHead.{CommitHead}
 use Rattle.journal_file.specs.Format.{header, entry_len}
 
 -- the numbers of eight bytes and of four that stand at a place
@@ -54,7 +54,7 @@ writes_of (suc count) bytes = put_first (write_of (take 25 bytes)) (writes_of co
 
 -- ---- commits
 
-abbrev pub head_of : List ℕ → Head
+abbrev pub head_of : List ℕ → CommitHead
 head_of bytes = record {
   stamp = word_at bytes 0;
   start = word_at bytes 8;
@@ -64,10 +64,10 @@ head_of bytes = record {
 }
 
 -- the stamp is the next one, the start is below it, and something was written
-abbrev pub is_next : ℕ → Head → Bool
+abbrev pub is_next : ℕ → CommitHead → Bool
 is_next stamp head = (head.stamp == stamp) && (nat_lt head.start stamp && not (head.count == 0))
 
-abbrev pub with_writes : Head → List Write → Commit
+abbrev pub with_writes : CommitHead → List Write → Commit
 with_writes head writes = record {
   stamp = head.stamp;
   start = head.start;

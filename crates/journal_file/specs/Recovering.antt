@@ -1,7 +1,7 @@
 -- What a journal file that is read gives, and why it gives nothing.
 use Rattle.std.specs.Prelude.{◌≡◌, ℕ, ◌-◌, ◌*◌, ◌==◌, ◌&&◌, cond, nat_le, List, length, get_or, take, drop, Option, Some, None, IsTrue, option_map}
 use Rattle.journal_disk.specs.Disk.{DiskState, content, FaultsStand, FaultsRise}
-use Rattle.journal_file.specs.declared.reading.Head.{Head}
+use Rattle.journal_file.specs.declared.reading.CommitHead.{CommitHead}
 use Rattle.journal_file.specs.declared.recovery.Recovered.{Recovered}
 use Rattle.journal_file.specs.declared.refusal.RecoverRefusal.{RecoverRefusal}
 use Rattle.journal_file.specs.declared.refusal.RecoverRefusal.TheVariants.{NotAJournal, DiskFault, NoMemory}
@@ -39,12 +39,12 @@ ReadsOnly old new DiskFault = FaultsRise old new
 ReadsOnly old new NoMemory = new ≡ old
 
 -- the head in a front of 33 bytes, where its gate is open, it keeps the rules, and so many bytes come behind it
-abbrev pub open_head : List ℕ → ℕ → ℕ → Option Head
+abbrev pub open_head : List ℕ → ℕ → ℕ → Option CommitHead
 open_head front behind stamp =
     cond ((get_or front 0 0 == 1)
     && (is_next stamp (head_of (drop 1 front)) && nat_le (25 * (head_of (drop 1 front)).count) behind))
     (Some (head_of (drop 1 front))) None
 
 -- the head behind a gate
-abbrev pub gated_head : ℕ → List ℕ → Option Head
+abbrev pub gated_head : ℕ → List ℕ → Option CommitHead
 gated_head stamp bytes = cond (nat_le 33 (length bytes)) (open_head (take 33 bytes) (length bytes - 33) stamp) None

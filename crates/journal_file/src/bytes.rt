@@ -76,6 +76,7 @@ pub(crate) fn write_of(bytes: &[u8]) -> Option<Write>
     requires { length bytes.now ≡ 25 }
     ensures { result ≡ write_of bytes.now }
 {
+    // The tag comes first, so the numbers stand at odd places; the bytes are copied, and no place has to be even.
     let (u, v, weight) = (word_at(bytes, 1), word_at(bytes, 9), word_at(bytes, 17));
     of_tag(bytes[0], u, v, weight)
 }
@@ -98,6 +99,7 @@ fn of_tag(tag: u8, u: u64, v: u64, weight: u64) -> Option<Write>
 fn on_vertex(write: Write, u: u64, v: u64, weight: u64) -> Option<Write>
     ensures { result ≡ on_vertex write u v weight }
 {
+    // Numbers that a write doesn't have are 0 and nothing else, so that no two forms stand for one write.
     if u <= MAX_ID && (v == 0 && weight == 0) {
         Some(write)
     } else {

@@ -41,6 +41,7 @@ impl JournalFile {
         ensures ok { OnOk result (FaultsStand (K.state disk.old) (K.state disk.new)) }
         ensures err { OnErr result (FaultsRise (K.state disk.old) (K.state disk.new)) }
     {
+        // All calls of the disk that follow are of this file.
         disk.choose(name)?;
         // Whatever stood there is gone before the header is written: an old gate after a new header would be read.
         disk.cut(0)?;
@@ -63,6 +64,7 @@ impl JournalFile {
     pub fn has_room(&self, entry: &Record) -> bool
         ensures { IsTrue result ↔ (self.now.gate + length entry.now < 2 ^ 63) }
     {
+        // The bytes have the next gate at their end, closed, so their number is how far the file grows.
         let len = entry.as_slice().len() as u64;
         self.gate < MOST_BYTES && len < MOST_BYTES - self.gate
     }
@@ -85,8 +87,11 @@ impl JournalFile {
         ensures same { OnErr result (self.new ≡ self.old) }
     {
         let bytes = entry.as_slice();
+        // The body first, with the closed gate after it: a crash before its own gate is open leaves the file as it
+        // was read before.
         write_and_sync(disk, self.gate + 1, bytes)?;
         write_and_sync(disk, self.gate, &[1])?;
+        // After a fault nothing is kept: what the disk has is not known then, and the caller adds no more.
         *self = grown(*self, bytes);
         Ok(())
     }
@@ -125,6 +130,7 @@ fn write_and_sync<K: Disk>(disk: &mut K, at: u64, bytes: &[u8]) -> Result<(), Fa
     ensures err { OnErr result (FaultsRise (K.state disk.old) (K.state disk.new)) }
 {
     disk.write_at(at, bytes)?;
+    // Before the next write: the order in which bytes reach the disk is known from syncs alone.
     disk.sync()?;
     Ok(())
 }

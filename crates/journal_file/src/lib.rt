@@ -19,7 +19,7 @@ mod refusal;
 
 pub use file::JournalFile;
 pub use laws::files_stand_for_their_commits;
-pub use reading::Head;
+pub use reading::CommitHead;
 pub use record::Record;
 pub use recovery::{Recovered, recover};
 pub use refusal::{DiskFault, RecoverRefusal};

@@ -11,7 +11,7 @@ use std::alloc::Global;
 
 /// What stands before the writes of a commit.
 #[derive(Clone, Copy, Debug, PartialEq, Eq)]
-pub struct Head {
+pub struct CommitHead {
     /// The stamp of the commit.
     pub stamp: u64,
     /// The start of its transaction.
@@ -24,7 +24,7 @@ pub struct Head {
     pub count: u64,
 }
 
-impl Head {
+impl CommitHead {
     /// Whether the stamp is the next one, the start is below it, and something was written.
     pub(crate) fn is_next(&self, stamp: u64) -> bool
         ensures { result ≡ is_next stamp self.now }
@@ -34,11 +34,11 @@ impl Head {
 }
 
 /// The head of a body.
-pub(crate) fn head_of(bytes: &[u8]) -> Head
+pub(crate) fn head_of(bytes: &[u8]) -> CommitHead
     requires { 32 ≤ length bytes.now }
     ensures { result ≡ head_of bytes.now }
 {
-    Head {
+    CommitHead {
         stamp: word_at(bytes, 0),
         start: word_at(bytes, 8),
         job: half_at(bytes, 16),

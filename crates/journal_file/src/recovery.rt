@@ -8,7 +8,7 @@ ghost use Rattle.journal_file.specs.Reading.{gated, kind_in, kind_of_header, com
 ghost use Rattle.journal_file.specs.Recovering.{Reads, IsRefused, IsRefusedRead, IsRecovered, ReadsOnly, gated_head, open_head};
 
 use crate::file::HEADER_LEN;
-use crate::reading::{Head, head_of, writes_of};
+use crate::reading::{CommitHead, head_of, writes_of};
 use crate::refusal::RecoverRefusal;
 use desk_io::Failed;
 use graph_model::{Commit, Journal, Kind, TxnName, Writes};
@@ -148,7 +148,12 @@ fn read_commit<K: Disk>(
 
 /// The head after the gate at a place, if the gate is open, the head keeps the rules, and the file has the bytes of
 /// all its writes.
-fn read_head<K: Disk>(disk: &mut K, size: u64, at: u64, stamp: u64) -> Result<Option<Head>, Failed>
+fn read_head<K: Disk>(
+    disk: &mut K,
+    size: u64,
+    at: u64,
+    stamp: u64,
+) -> Result<Option<CommitHead>, Failed>
     requires { at ≤ size }
     ensures head { IfOk result (λ head. (file : List ℕ) → content (K.state disk.old) ≡ Some file
         → size ≡ length file → head ≡ gated_head stamp (drop at file)) }
@@ -167,7 +172,7 @@ fn read_head<K: Disk>(disk: &mut K, size: u64, at: u64, stamp: u64) -> Result<Op
 }
 
 /// The head after a gate, if the gate is open and the head keeps the rules, where so many bytes come after it.
-fn open_head(front: &[u8], behind: u64, stamp: u64) -> Option<Head>
+fn open_head(front: &[u8], behind: u64, stamp: u64) -> Option<CommitHead>
     requires { length front.now ≡ 33 }
     ensures head { result ≡ open_head front.now behind stamp }
     ensures within { IfSome result (λ head. 25 * head.count ≤ behind) }
@@ -195,7 +200,7 @@ fn is_open(front: &[u8]) -> bool
 }
 
 /// The commit of a head with its writes.
-fn commit_of(head: Head, writes: Writes) -> Commit
+fn commit_of(head: CommitHead, writes: Writes) -> Commit
     ensures { result ≡ with_writes head writes }
 {
     Commit {

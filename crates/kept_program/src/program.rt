@@ -17,7 +17,7 @@ use crate::outcome::KeptOutcome;
 use crate::prepare::prepare_kept;
 use crate::recovery::recover;
 use crate::say::say_stop;
-use command_words::{Command, RunWords, read_words};
+use command_words::{ProgramWords, RunWords, read_words};
 use desk_io::{Desk, Gate};
 use journal_disk::Disk;
 use std::alloc::Global;
@@ -63,9 +63,9 @@ fn outcome_of<R: Threads + Wait + Sync, D: Desk, G: Gate, K: Disk>(
         (D.files desk.old) (D.files desk.new) left.old left.new (K.state disk.old) (K.state disk.new) }
 {
     match read_words(alloc, words) {
-        Ok(Command::Run(words)) => run_as_asked(rt, alloc, desk, &words, gate, left, disk),
-        Ok(Command::Make(words)) => KeptOutcome::Of(make_files(alloc, desk, &words)),
-        Ok(Command::Recover(words)) => recover(alloc, desk, &words, disk),
+        Ok(ProgramWords::Run(words)) => run_as_asked(rt, alloc, desk, &words, gate, left, disk),
+        Ok(ProgramWords::Make(words)) => KeptOutcome::Of(make_files(alloc, desk, &words)),
+        Ok(ProgramWords::Recover(words)) => recover(alloc, desk, &words, disk),
         Err(refusal) => {
             let outcome = KeptOutcome::Of(Outcome::from(refusal));
             say_stop(desk, "", "", outcome);

@@ -11,7 +11,7 @@ use Rattle.graph_image.specs.declared.edge.Arc.{Arc}
 use Rattle.graph_image.specs.Images.{Places, arcs_at}
 use Rattle.graph_image.specs.Paths.{HasPathBy}
 use Rattle.graph_image.proofs.Lists.{get_within, get_front, get_last, below_cases}
-use Rattle.kernel_sssp.specs.declared.search.Search.{Search}
+use Rattle.kernel_sssp.specs.declared.search.PathSearch.{PathSearch}
 use Rattle.kernel_sssp.specs.declared.search.TheConstants.{UNREACHED}
 use Rattle.kernel_sssp.specs.Search.{LinkOut, IsSearched, reached, queue_of, AreQueued, IsSearch, IsRelaxed, AreRelaxed, AreRelaxedBut, work, IsStart, IsArranged, IsNext, IsEnd, IsLowered}
 use Rattle.kernel_sssp.proofs.Lists.{get_set_else, get_set_here, get_replicate, reached_some, reached_few, reached_more, reached_same}
@@ -29,7 +29,7 @@ same_flag t f = let both : true ≡ false = sym t ∙ f in absurd cc
 
 -- ---- the start
 
-module _ (image : Places) (root : ℕ) (few : length image.vertices < 2 ^ 32) (below : root < length image.vertices) (s : Search) (start : IsStart (length image.vertices) root s) where
+module _ (image : Places) (root : ℕ) (few : length image.vertices < 2 ^ 32) (below : root < length image.vertices) (s : PathSearch) (start : IsStart (length image.vertices) root s) where
   long : length (replicate (length image.vertices) UNREACHED) ≡ length image.vertices
   long = length-replicate (length image.vertices) UNREACHED
 
@@ -99,7 +99,7 @@ later_one : (place k p : ℕ) (rest : List ℕ) → (p ≡ place → ⊥) → sl
 later_one place zero p rest other at = absurd (other (sym (same_Some place p at)))
 later_one place (suc k) p rest other at = (k, at)
 
-module _ (image : Places) (old new : Search) (is : IsSearch image old) (place : ℕ) (next : IsNext place old new) where
+module _ (image : Places) (old new : PathSearch) (is : IsSearch image old) (place : ℕ) (next : IsNext place old new) where
   first : (k : ℕ) × (slice_get (queue_of old) k ≡ Some place)
   first = in_order (place ∷ queue_of new) (queue_of old) (IsPermutation-sym (queue_of old) (place ∷ queue_of new) next.queue) 0 place refl
 
@@ -153,7 +153,7 @@ module _ (image : Places) (old new : Search) (is : IsSearch image old) (place : 
       omega arith
 
 -- a step behind an arrangement of the queue is one from before it
-pub next_arranged : (place : ℕ) (old mid new : Search) → IsArranged old mid → IsNext place mid new → IsNext place old new
+pub next_arranged : (place : ℕ) (old mid new : PathSearch) → IsArranged old mid → IsNext place mid new → IsNext place old new
 next_arranged place old mid new arranged next = record {
   root = next.root ∙ arranged.root;
   distances = next.distances ∙ arranged.distances;
@@ -165,14 +165,14 @@ nothing : (xs : List ℕ) → length xs ≡ 0 → xs ≡ []
 nothing [] none = refl
 nothing (x ∷ xs) none = absurd (omega arith)
 
-pub end_arranged : (old mid new : Search) → IsArranged old mid → IsEnd mid new → IsEnd old new
+pub end_arranged : (old mid new : PathSearch) → IsArranged old mid → IsEnd mid new → IsEnd old new
 end_arranged old mid new arranged end = record {
   none = nothing (queue_of old) (sym (length_permutation (queue_of old) (queue_of mid) arranged.queue) ∙ ap length end.none);
   root = end.root ∙ arranged.root;
   distances = end.distances ∙ arranged.distances;
 }
 
-pub arranged_none : (s : Search) → IsArranged s s
+pub arranged_none : (s : PathSearch) → IsArranged s s
 arranged_none s = record { root = refl; distances = refl; waiting = refl; queue = IsPermutation-refl (queue_of s) }
 
 -- the places of each part are those of the queue
@@ -211,7 +211,7 @@ brought near near_later far far_later k place taken within put place_is left tak
 
 -- ---- a lesser weight
 
-module _ (image : Places) (old new : Search) (is : IsSearch image old) (p k : ℕ) (a : Arc) (p_within : p < length image.vertices) (p_reached : slice_index old.distances.items p ≡ UNREACHED → ⊥)
+module _ (image : Places) (old new : PathSearch) (is : IsSearch image old) (p k : ℕ) (a : Arc) (p_within : p < length image.vertices) (p_reached : slice_index old.distances.items p ≡ UNREACHED → ⊥)
     (at : slice_get (arcs_at image.out p) k ≡ Some a) (q_within : a.other < length image.vertices) (light : a.weight ≤ MAX_WEIGHT) where
   -- the sum is a weight
   pub sum_fits : slice_index old.distances.items p + a.weight < UNREACHED
@@ -382,14 +382,14 @@ module _ (image : Places) (old new : Search) (is : IsSearch image old) (p k : �
 
 -- ---- the arcs of a place so far
 
-pub record IsFollowing (image : Places) (place i from : ℕ) (old s : Search) : Type 0 where
+pub record IsFollowing (image : Places) (place i from : ℕ) (old s : PathSearch) : Type 0 where
   pub search : IsSearch image s
   pub relaxed : AreRelaxedBut image place i s
   pub here : slice_index s.distances.items place ≡ from
   pub root_is : s.root ≡ old.root
   pub less : work s ≤ work old
 
-module _ (image : Places) (place i from : ℕ) (old s : Search) (so_far : IsFollowing image place i from old s) (within : place < length image.vertices) (from_reached : from ≡ UNREACHED → ⊥)
+module _ (image : Places) (place i from : ℕ) (old s : PathSearch) (so_far : IsFollowing image place i from old s) (within : place < length image.vertices) (from_reached : from ≡ UNREACHED → ⊥)
     (a : Arc) (at : slice_get (arcs_at image.out place) i ≡ Some a) (a_within : a.other < length image.vertices) (light : a.weight ≤ MAX_WEIGHT) where
   place_reached : slice_index s.distances.items place ≡ UNREACHED → ⊥
   place_reached none = from_reached (sym so_far.here ∙ none)
@@ -405,7 +405,7 @@ module _ (image : Places) (place i from : ℕ) (old s : Search) (so_far : IsFoll
   }
 
   -- after one that does
-  pub following_lowered : (new : Search) → from + a.weight < slice_index s.distances.items a.other → IsLowered a.other (from + a.weight) s new → IsFollowing image place (i + 1) from old new
+  pub following_lowered : (new : PathSearch) → from + a.weight < slice_index s.distances.items a.other → IsLowered a.other (from + a.weight) s new → IsFollowing image place (i + 1) from old new
   following_lowered new less lowered =
       let less_here = subst (λ d. d + a.weight < slice_index s.distances.items a.other) (sym so_far.here) less in
       let lowered_here = subst (λ d. IsLowered a.other (d + a.weight) s new) (sym so_far.here) lowered in
@@ -418,12 +418,12 @@ module _ (image : Places) (place i from : ℕ) (old s : Search) (so_far : IsFoll
       }
 
 -- all arcs
-pub followed : (image : Places) (place i : ℕ) (s : Search) → length (arcs_at image.out place) ≤ i → AreRelaxedBut image place i s → AreRelaxed image s
+pub followed : (image : Places) (place i : ℕ) (s : PathSearch) → length (arcs_at image.out place) ≤ i → AreRelaxedBut image place i s → AreRelaxed image s
 followed image place i s all relaxed p k a waits at = relaxed p k a waits (λ same. (let below = slice_get_within (arcs_at image.out place) k a (ap (λ q. slice_get (arcs_at image.out q) k) (sym same) ∙ at) in omega arith)) at
 
 -- ---- the end
 
-module _ (image : Places) (s : Search) (is : IsSearch image s) (relaxed : AreRelaxed image s) (none : queue_of s ≡ []) where
+module _ (image : Places) (s : PathSearch) (is : IsSearch image s) (relaxed : AreRelaxed image s) (none : queue_of s ≡ []) where
   no_flag : (p : ℕ) → p < length image.vertices → slice_get s.waiting.items p ≡ Some false
   no_flag p within =
       let there = get_within s.waiting.items p (let f = is.flags in omega arith) in

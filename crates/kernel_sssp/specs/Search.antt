@@ -6,7 +6,7 @@ use Rattle.graph_model.specs.declared.table.Value.TheVariants.{Number, Infinity}
 use Rattle.graph_image.specs.declared.edge.Arc.{Arc}
 use Rattle.graph_image.specs.Images.{Places, arcs_at}
 use Rattle.graph_image.specs.Paths.{HasPathBy}
-use Rattle.kernel_sssp.specs.declared.search.Search.{Search}
+use Rattle.kernel_sssp.specs.declared.search.PathSearch.{PathSearch}
 use Rattle.kernel_sssp.specs.declared.search.TheConstants.{UNREACHED}
 
 -- a weight as the table has it
@@ -34,7 +34,7 @@ abbrev pub reached : List ℕ → ℕ
 reached distances = count_by (λ d. not (d == UNREACHED)) distances
 
 -- the places in the queue: the near ones, and then the far ones
-abbrev pub queue_of : Search → List ℕ
+abbrev pub queue_of : PathSearch → List ℕ
 queue_of s = s.near.items ++ s.far.items
 
 -- the places in the queue are among the first n
@@ -43,7 +43,7 @@ AreQueued n queue = (k p : ℕ) → slice_get queue k ≡ Some p → p < n
 
 -- The weights are those of paths, and no greater than the number of reached places allows. What
 -- waits is in the queue, and what is in the queue is reached.
-pub record IsSearch (image : Places) (s : Search) : Type 0 where
+pub record IsSearch (image : Places) (s : PathSearch) : Type 0 where
   pub few : length image.vertices < 2 ^ 32
   pub count : length s.distances.items ≡ length image.vertices
   pub flags : length s.waiting.items ≡ length image.vertices
@@ -62,50 +62,50 @@ IsRelaxed distances p a = (slice_index distances p ≡ UNREACHED → ⊥) → (s
     × (slice_index distances a.other ≤ slice_index distances p + a.weight)
 
 -- so do the arcs out of the places that don't wait
-abbrev pub AreRelaxed : Places → Search → Type 0
+abbrev pub AreRelaxed : Places → PathSearch → Type 0
 AreRelaxed image s = (p k : ℕ) (a : Arc) → slice_get s.waiting.items p ≡ Some false
     → slice_get (arcs_at image.out p) k ≡ Some a → IsRelaxed s.distances.items p a
 
 -- of the arcs out of one place the first i do
-abbrev pub AreRelaxedBut : Places → ℕ → ℕ → Search → Type 0
+abbrev pub AreRelaxedBut : Places → ℕ → ℕ → PathSearch → Type 0
 AreRelaxedBut image place i s = (p k : ℕ) (a : Arc) → slice_get s.waiting.items p ≡ Some false → (p ≡ place → k < i)
     → slice_get (arcs_at image.out p) k ≡ Some a → IsRelaxed s.distances.items p a
 
 -- what is left to do: it falls with each weight that is lowered, and with each place that is taken out of the queue
-abbrev pub work : Search → ℕ
+abbrev pub work : PathSearch → ℕ
 work s = sum_by (λ d. d) s.distances.items + length (queue_of s)
 
 -- ---- steps
 
 -- just the root is reached, and waits
-pub record IsStart (n root : ℕ) (s : Search) : Type 0 where
+pub record IsStart (n root : ℕ) (s : PathSearch) : Type 0 where
   pub root_is : s.root ≡ root
   pub distances : s.distances.items ≡ slice_set (replicate n UNREACHED) root 0
   pub waiting : s.waiting.items ≡ slice_set (replicate n false) root true
   pub queue : queue_of s ≡ root ∷ []
 
 -- the queue has the same places, in another order
-pub record IsArranged (old new : Search) : Type 0 where
+pub record IsArranged (old new : PathSearch) : Type 0 where
   pub root : new.root ≡ old.root
   pub distances : new.distances.items ≡ old.distances.items
   pub waiting : new.waiting.items ≡ old.waiting.items
   pub queue : IsPermutation (queue_of old) (queue_of new)
 
 -- the place stood in the queue, and is out of it and doesn't wait any more
-pub record IsNext (place : ℕ) (old new : Search) : Type 0 where
+pub record IsNext (place : ℕ) (old new : PathSearch) : Type 0 where
   pub root : new.root ≡ old.root
   pub distances : new.distances.items ≡ old.distances.items
   pub waiting : new.waiting.items ≡ slice_set old.waiting.items place false
   pub queue : IsPermutation (queue_of old) (place ∷ queue_of new)
 
 -- no place stood in the queue
-pub record IsEnd (old new : Search) : Type 0 where
+pub record IsEnd (old new : PathSearch) : Type 0 where
   pub none : queue_of old ≡ []
   pub root : new.root ≡ old.root
   pub distances : new.distances.items ≡ old.distances.items
 
 -- the place has this weight, and waits: it is put into the queue, or waited before
-pub record IsLowered (place distance : ℕ) (old new : Search) : Type 0 where
+pub record IsLowered (place distance : ℕ) (old new : PathSearch) : Type 0 where
   pub root : new.root ≡ old.root
   pub distances : new.distances.items ≡ slice_set old.distances.items place distance
   pub waiting : new.waiting.items ≡ slice_set old.waiting.items place true

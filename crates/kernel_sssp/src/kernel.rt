@@ -10,7 +10,7 @@ ghost use Rattle.graph_image.specs.Images.{IsImageOf};
 ghost use Rattle.kernel_sssp.specs.Search.{LinkOut, IsSearched};
 
 use crate::distances::table_by;
-use crate::search::Search;
+use crate::search::PathSearch;
 use graph_image::{Image, KernelRefusal, NoMemory, Table};
 use std::alloc::Global;
 use std::thread::Threads;
@@ -42,11 +42,11 @@ fn least_weights(alloc: Global, image: &Image, root: usize) -> Result<Vec<u64>, 
     ensures { IfOk result (λ distances.
         IsSearched (LinkOut image.now) root (length image.now.vertices) distances.items) }
 {
-    let mut search = Search::new(alloc, image.len(), root, step_of(image))?;
+    let mut search = PathSearch::new(alloc, image.len(), root, step_of(image))?;
     'places: while let Some(place) = search.next()? {
         search.follow(image, place as usize)?;
     }
-    let Search {
+    let PathSearch {
         root: _,
         distances,
         waiting: _,

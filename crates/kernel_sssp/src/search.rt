@@ -14,7 +14,7 @@ pub const UNREACHED: u64 = 18446744073709551615;
 
 /// What is known of the weights.
 #[derive(Drop)]
-pub struct Search {
+pub struct PathSearch {
     /// The place of the root.
     pub root: usize,
     /// The least weight of a path to each place, of the paths that were found.
@@ -31,12 +31,12 @@ pub struct Search {
     pub step: u64,
 }
 
-impl Search {
+impl PathSearch {
     ghost use Rattle.kernel_sssp.specs.Search.{IsSearch, AreRelaxed, AreRelaxedBut, IsStart, IsNext, IsEnd, IsLowered, IsArranged, work, queue_of, AreQueued};
     ghost use Rattle.kernel_sssp.specs.declared.search.TheConstants.{UNREACHED};
 
     /// Just the root is reached, and waits.
-    pub fn new(alloc: Global, count: usize, root: usize, step: u64) -> Result<Search, NoMemory>
+    pub fn new(alloc: Global, count: usize, root: usize, step: u64) -> Result<PathSearch, NoMemory>
         requires root { root < count }
         requires few { count < 2 ^ 32 }
         ensures { IfOk result (IsStart count root) }
@@ -47,7 +47,7 @@ impl Search {
         distances[root] = 0;
         waiting[root] = true;
         near.push(root as u32)?;
-        Ok(Search {
+        Ok(PathSearch {
             root,
             distances,
             waiting,

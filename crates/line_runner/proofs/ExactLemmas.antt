@@ -18,7 +18,7 @@ use Rattle.line_runner.specs.declared.answering.LineTurn.{LineTurn}
 use Rattle.line_runner.specs.declared.answering.LineTurn.TheVariants.{Scanning, Answering}
 use Rattle.line_runner.specs.declared.phase.Phase.{Phase}
 use Rattle.line_runner.specs.declared.phase.Phase.TheVariants.{Between, Open, Skipping, GivenUp}
-use Rattle.line_runner.specs.declared.reading.Reading.{Reading}
+use Rattle.line_runner.specs.declared.reading.LineReading.{LineReading}
 use Rattle.line_runner.specs.Scanning.{taken_of}
 use Rattle.line_runner.specs.Phases.{is_skipping, is_inside, IsPhase, phase_behind, plain, AnswersKernel}
 use Rattle.line_runner.specs.Turns.{Calls, ReadsTimes, FinishesRefusedOn, FinishesOn, MayTakeNow, AnswersSkipped, AnswersLive, AnswersOn, TakesOn, WantsOn, AreExact, view_now, goes_on_at, ReadsFurther}
@@ -87,14 +87,14 @@ module _ {S : Type 0} (e : Calls S) (core : S → Core) (exact : AreExact e core
     none_own (Some x) closed idle = cc
 
     -- the last turn of a line
-    by_live : (phase : Phase) (r : Command) (given : LineAnswer) (reading : Option Reading) → MayTake (core old) phase reading r → cond (is_skipping phase) (AnswersSkipped old r given new) (AnswersLive e old r given new)
+    by_live : (phase : Phase) (r : Command) (given : LineAnswer) (reading : Option LineReading) → MayTake (core old) phase reading r → cond (is_skipping phase) (AnswersSkipped old r given new) (AnswersLive e old r given new)
         → is_skipping phase ≡ false → DoesLine (core old) (is_skipping phase) r given (core new)
     by_live phase r given reading may does calm =
         let live : AnswersLive e old r given new = subst (λ b. cond b (AnswersSkipped old r given new) (AnswersLive e old r given new)) calm does in
         subst (λ b. DoesLine (core old) b r given (core new)) (sym calm)
         (live_here r given (inside_or_begins phase r may.now.stands.0 may.now.phase_is calm may.now.stands.1) live)
 
-    answers_here : (phase : Phase) (reading : Option Reading) (r : Command) (given : LineAnswer) → MayTake (core old) phase reading r → AnswersOn e old phase reading r given new → AnswersHere (core old) phase reading r given (core new)
+    answers_here : (phase : Phase) (reading : Option LineReading) (r : Command) (given : LineAnswer) → MayTake (core old) phase reading r → AnswersOn e old phase reading r given new → AnswersHere (core old) phase reading r given (core new)
     answers_here phase reading r given may is = record {
       last = subst (λ (a : Account). goes_on_at (view_now a) (is_skipping phase) (taken_of reading) r ≡ false) (exact.accounts old) is.last;
       does = by_phase phase refl;
@@ -112,7 +112,7 @@ module _ {S : Type 0} (e : Calls S) (core : S → Core) (exact : AreExact e core
         by_phase GivenUp same = by_live phase r given reading may is.does (ap is_skipping same)
 
   -- one turn of a line, where it may be taken
-  pub takes_here : (old new : S) (phase : Phase) (reading : Option Reading) (r : Command) → MayTake (core old) phase reading r → (turn : LineTurn) → TakesOn e old phase reading r turn new → TakesHere (core old) phase reading r turn (core new)
+  pub takes_here : (old new : S) (phase : Phase) (reading : Option LineReading) (r : Command) → MayTake (core old) phase reading r → (turn : LineTurn) → TakesOn e old phase reading r turn new → TakesHere (core old) phase reading r turn (core new)
   takes_here old new phase reading r may (Scanning next) is = record {
     further = subst (λ (a : Account). ReadsFurther (view_now a) phase reading r next) (exact.accounts old) is.0;
     same = times_same is.1.0 old new is.1.1;
@@ -130,5 +130,5 @@ module _ {S : Type 0} (e : Calls S) (core : S → Core) (exact : AreExact e core
   ]
 
 -- what may be taken by the account may be taken on the core
-pub may_now : {S : Type 0} (e : Calls S) (core : S → Core) (old : S) (exact : AreExact e core) (phase : Phase) (reading : Option Reading) (r : Command) → MayTake (core old) phase reading r → MayTakeNow (e.account old) phase reading r
+pub may_now : {S : Type 0} (e : Calls S) (core : S → Core) (old : S) (exact : AreExact e core) (phase : Phase) (reading : Option LineReading) (r : Command) → MayTake (core old) phase reading r → MayTakeNow (e.account old) phase reading r
 may_now e core old exact phase reading r may = subst (λ (a : Account). MayTakeNow a phase reading r) (sym (exact.accounts old)) may.now

@@ -37,8 +37,8 @@ use Rattle.line_runner.specs.declared.answering.LineAnswer.{LineAnswer}
 use Rattle.line_runner.specs.declared.phase.Phase.{Phase}
 use Rattle.line_runner.specs.declared.phase.Phase.TheVariants.{Between, Open, Skipping, GivenUp}
 use Rattle.run_model.specs.declared.command.Command.{Command}
-use Rattle.line_runner.specs.declared.reading.Reading.{Reading}
-use Rattle.line_runner.specs.declared.reading.Reading.TheVariants as readings
+use Rattle.line_runner.specs.declared.reading.LineReading.{LineReading}
+use Rattle.line_runner.specs.declared.reading.LineReading.TheVariants as readings
 use Rattle.line_runner.specs.declared.scan.Scan.{Scan}
 use Rattle.line_runner.specs.Scanning.{IsScan, IsWhole, ScansOn, rows_of_line, IsReading, taken_by, taken_of}
 use Rattle.side_runs.specs.ByAccount.{made_behind}

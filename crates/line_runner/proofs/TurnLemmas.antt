@@ -22,8 +22,8 @@ use Rattle.run_model.specs.Jobs.{scanned, skips}
 use Rattle.line_runner.specs.declared.answering.LineAnswer.{LineAnswer}
 use Rattle.line_runner.specs.declared.phase.Phase.{Phase}
 use Rattle.line_runner.specs.declared.phase.Phase.TheVariants.{Between, Open, Skipping, GivenUp}
-use Rattle.line_runner.specs.declared.reading.Reading.{Reading}
-use Rattle.line_runner.specs.declared.reading.Reading.TheVariants as readings
+use Rattle.line_runner.specs.declared.reading.LineReading.{LineReading}
+use Rattle.line_runner.specs.declared.reading.LineReading.TheVariants as readings
 use Rattle.line_runner.specs.declared.scan.Scan.{Scan}
 use Rattle.line_runner.specs.Scanning.{IsScan, IsWhole, ScansOn, rows_of_line, IsReading, taken_by, taken_of}
 use Rattle.line_runner.specs.Phases.{is_skipping, is_inside, IsPhase, phase_behind, plain}
@@ -71,7 +71,7 @@ write_wants {S = S} e old new w wanted opened (wrote, mid, did, finishes) = by_r
     by_refusal (Err refusals.NoMemory) did is = inr (inl (opened, (w, subst (λ s. e.writes old w (Err refusals.NoMemory) s) (sym is.1) did)))
 
 -- a line that writes is one of a transaction, where it isn't skipped
-pub in_txn : (a : Account) (phase : Phase) (reading : Option Reading) (r : Command) (w : Write) → MayTakeNow a phase reading r → r ≡ commands.Write w → (phase ≡ Skipping → ⊥) → IsSome a.start
+pub in_txn : (a : Account) (phase : Phase) (reading : Option LineReading) (r : Command) (w : Write) → MayTakeNow a phase reading r → r ≡ commands.Write w → (phase ≡ Skipping → ⊥) → IsSome a.start
 in_txn a phase reading r w may same other = by_phase phase refl
   where
     by_phase : (p : Phase) → phase ≡ p → IsSome a.start
@@ -99,7 +99,7 @@ calm_of GivenUp other = refl
 one_turn : (n : ℕ) → nat_lt (n + 1) 1 ≡ false
 one_turn n = grind (arith, nat_tests)
 
-module _ {S : Type 0} (e : Calls S) (old : S) (phase : Phase) (reading : Option Reading) where
+module _ {S : Type 0} (e : Calls S) (old : S) (phase : Phase) (reading : Option LineReading) where
   -- a line that scans nothing is answered at once
   takes_answer : is_skipping phase ≡ false → (command x : Command) → command ≡ x → ((g : Graph) → scanned g x ≡ 0)
       → (given : LineAnswer) (new : S) → AnswersLive e old x given new → AnswersOn e old phase reading command given new
@@ -133,12 +133,12 @@ scanned_is g (commands.Read Counts) = refl
 scanned_is g (commands.Run kernel file) = refl
 
 -- what the line has begun to read, or what it begins with
-pub reading_or : (g : Graph) (before : Option Reading) (r : Command) (fresh : Reading) → IfSome before (IsReading g r) → taken_by fresh ≡ 0 → IsReading g r fresh
+pub reading_or : (g : Graph) (before : Option LineReading) (r : Command) (fresh : LineReading) → IfSome before (IsReading g r) → taken_by fresh ≡ 0 → IsReading g r fresh
     → IsReading g r (unwrap_or before fresh) × (taken_by (unwrap_or before fresh) ≡ taken_of before)
 reading_or g None r fresh is none reads = (reads, none)
 reading_or g (Some reading) r fresh is none reads = (is, refl)
 
-module _ (g : Graph) (before : Option Reading) (r : Command) (s next : Scan) (is : IsScan g r s) (taken : taken_by (readings.Scan s) ≡ taken_of before) (on : ScansOn g r s next) where
+module _ (g : Graph) (before : Option LineReading) (r : Command) (s next : Scan) (is : IsScan g r s) (taken : taken_by (readings.Scan s) ≡ taken_of before) (on : ScansOn g r s next) where
   -- rows are left
   scan_goes : next.cursor.done ≡ false → ReadsFurther g Open before r (readings.Scan next)
   scan_goes going =

@@ -15,7 +15,7 @@ use Rattle.line_runner.specs.declared.answering.LineTurn.{LineTurn}
 use Rattle.line_runner.specs.declared.answering.LineTurn.TheVariants.{Scanning, Answering}
 use Rattle.line_runner.specs.declared.phase.Phase.{Phase}
 use Rattle.line_runner.specs.declared.phase.Phase.TheVariants.{Between, Open, Skipping, GivenUp}
-use Rattle.line_runner.specs.declared.reading.Reading.{Reading}
+use Rattle.line_runner.specs.declared.reading.LineReading.{LineReading}
 use Rattle.line_runner.specs.Scanning.{taken_of}
 use Rattle.line_runner.specs.Phases.{is_skipping, phase_behind, IsFileOn}
 use Rattle.line_runner.specs.Turns.{view_now, goes_on_at, MayTakeNow, ReadsFurther}
@@ -81,24 +81,24 @@ abbrev pub goes_on_here : Core → Bool → ℕ → Command → Bool
 goes_on_here core skipping taken r = goes_on_at (view_here core) skipping taken r
 
 -- the line at hand of a job may be taken, on the pass that is selected
-pub record MayTake (core : Core) (phase : Phase) (reading : Option Reading) (r : Command) : Type 0 where
+pub record MayTake (core : Core) (phase : Phase) (reading : Option LineReading) (r : Command) : Type 0 where
   pub selected : core.selected < length core.passes
   pub now : MayTakeNow (account_here core) phase reading r
 
 -- a turn that isn't the last changes nothing but how far the line has come
-pub record ScansHere (old : Core) (phase : Phase) (before : Option Reading) (r : Command) (next : Reading) (new : Core)
+pub record ScansHere (old : Core) (phase : Phase) (before : Option LineReading) (r : Command) (next : LineReading) (new : Core)
     : Type 0 where
   pub further : ReadsFurther (view_here old) phase before r next
   pub same : new ≡ old
 
 -- the last turn of a line answers it
-pub record AnswersHere (old : Core) (phase : Phase) (reading : Option Reading) (r : Command) (given : LineAnswer)
+pub record AnswersHere (old : Core) (phase : Phase) (reading : Option LineReading) (r : Command) (given : LineAnswer)
     (new : Core) : Type 0 where
   pub last : goes_on_here old (is_skipping phase) (taken_of reading) r ≡ false
   pub does : DoesLine old (is_skipping phase) r given new
 
 -- one turn of a line
-abbrev pub TakesHere : Core → Phase → Option Reading → Command → LineTurn → Core → Type 0
+abbrev pub TakesHere : Core → Phase → Option LineReading → Command → LineTurn → Core → Type 0
 TakesHere old phase reading r (Scanning next) new = ScansHere old phase reading r next new
 TakesHere old phase reading r (Answering given) new = AnswersHere old phase reading r given new
 

@@ -15,8 +15,8 @@ use Rattle.run_model.specs.declared.command.Command.{Command}
 use Rattle.run_model.specs.declared.command.Command.TheVariants as commands
 use Rattle.run_model.specs.declared.command.Query.{Query}
 use Rattle.run_model.specs.declared.command.Query.TheVariants.{WeightOf, NeighboursOf, Counts}
-use Rattle.line_runner.specs.declared.reading.Reading.{Reading}
-use Rattle.line_runner.specs.declared.reading.Reading.TheVariants as readings
+use Rattle.line_runner.specs.declared.reading.LineReading.{LineReading}
+use Rattle.line_runner.specs.declared.reading.LineReading.TheVariants as readings
 use Rattle.line_runner.specs.declared.scan.Scan.{Scan}
 use Rattle.line_runner.specs.declared.scan.ScanResult.{ScanResult}
 use Rattle.line_runner.specs.declared.scan.ScanResult.TheVariants.{Targets, Vertices, Rows}
@@ -141,16 +141,16 @@ RunsKernel (commands.Read query) = ⊥
 RunsKernel (commands.Run kernel file) = Unit {0}
 
 -- a line scans its rows, or it runs a kernel on the image that is kept of them
-abbrev pub IsReading : Graph → Command → Reading → Type 0
+abbrev pub IsReading : Graph → Command → LineReading → Type 0
 IsReading g r (readings.Scan scan) = IsScan g r scan
 IsReading g r (readings.Replay kept turns) = IsKeptImage g kept × RunsKernel r
 
 -- the turns that a line has taken: each turn of a scan gave a full portion, and those of a replay are counted
-abbrev pub taken_by : Reading → ℕ
+abbrev pub taken_by : LineReading → ℕ
 taken_by (readings.Scan scan) = scan.rows / SCAN_ROWS
 taken_by (readings.Replay kept turns) = turns
 
 -- the turns that the line at hand has taken
-abbrev pub taken_of : Option Reading → ℕ
+abbrev pub taken_of : Option LineReading → ℕ
 taken_of None = 0
 taken_of (Some reading) = taken_by reading

@@ -30,8 +30,8 @@ use Rattle.line_runner.specs.declared.kernel_line.ImageTurn.{ImageTurn}
 use Rattle.line_runner.specs.declared.kernel_line.ImageTurn.TheVariants.{Further, Whole}
 use Rattle.line_runner.specs.declared.phase.Phase.{Phase}
 use Rattle.line_runner.specs.declared.phase.Phase.TheVariants.{Between, Open, Skipping, GivenUp}
-use Rattle.line_runner.specs.declared.reading.Reading.{Reading}
-use Rattle.line_runner.specs.declared.reading.Reading.TheVariants as readings
+use Rattle.line_runner.specs.declared.reading.LineReading.{LineReading}
+use Rattle.line_runner.specs.declared.reading.LineReading.TheVariants as readings
 use Rattle.line_runner.specs.declared.scan.Scan.{Scan}
 use Rattle.line_runner.specs.Kernels.{IsKeptImage}
 use Rattle.line_runner.specs.Scanning.{too_many_turns, IsWhole, IsReading, taken_of}
@@ -44,7 +44,7 @@ abbrev pub view_now : Account → Graph
 view_now account = view_of account (unwrap_or account.start 0)
 
 -- the line at hand of a job may be taken, on this pass
-pub record MayTakeNow (account : Account) (phase : Phase) (reading : Option Reading) (r : Command) : Type 0 where
+pub record MayTakeNow (account : Account) (phase : Phase) (reading : Option LineReading) (r : Command) : Type 0 where
   pub valid : IsValid account
   pub phase_is : IsPhase phase account.start
   -- it may stand there, and its numbers are within their limits
@@ -61,7 +61,7 @@ abbrev pub goes_on_at : Graph → Bool → ℕ → Command → Bool
 goes_on_at g skipping taken r = nat_lt (taken + 1) (cond skipping 1 (scanned g r / SCAN_ROWS + 1))
 
 -- a turn that isn't the last changes nothing but how far the line has come
-pub record ReadsFurther (g : Graph) (phase : Phase) (before : Option Reading) (r : Command) (next : Reading)
+pub record ReadsFurther (g : Graph) (phase : Phase) (before : Option LineReading) (r : Command) (next : LineReading)
     : Type 0 where
   pub is_open : phase ≡ Open
   pub more : goes_on_at g false (taken_of before) r ≡ true
@@ -70,12 +70,12 @@ pub record ReadsFurther (g : Graph) (phase : Phase) (before : Option Reading) (r
   pub reads : IsReading g r next
 
 -- a turn of a scan leaves rows, or is the last
-pub record Advances (g : Graph) (before : Option Reading) (r : Command) (next : Scan) : Type 0 where
+pub record Advances (g : Graph) (before : Option LineReading) (r : Command) (next : Scan) : Type 0 where
   pub portion : next.cursor.done ≡ false → ReadsFurther g Open before r (readings.Scan next)
   pub rest : next.cursor.done ≡ true → IsWhole g r next × (goes_on_at g false (taken_of before) r ≡ false)
 
 -- a turn of a kernel's line leaves turns, or is the last and has the image that the kernel runs on
-abbrev pub ReadsImage : Graph → Option Reading → Command → ImageTurn → Type 0
+abbrev pub ReadsImage : Graph → Option LineReading → Command → ImageTurn → Type 0
 ReadsImage g before r (Further reading) = ReadsFurther g Open before r reading
 ReadsImage g before r (Whole kept) = IsKeptImage g kept × (goes_on_at g false (taken_of before) r ≡ false)
 
@@ -173,13 +173,13 @@ abbrev pub AnswersSkipped : {S : Type 0} → S → Command → LineAnswer → S 
 AnswersSkipped old r given new = (given ≡ plain answers.Skipped (phase_behind (skips r))) × (new ≡ old)
 
 -- the last turn of a line answers it
-pub record AnswersOn {S : Type 0} (e : Calls S) (old : S) (phase : Phase) (reading : Option Reading) (r : Command)
+pub record AnswersOn {S : Type 0} (e : Calls S) (old : S) (phase : Phase) (reading : Option LineReading) (r : Command)
     (given : LineAnswer) (new : S) : Type 0 where
   pub last : goes_on_at (view_now (e.account old)) (is_skipping phase) (taken_of reading) r ≡ false
   pub does : cond (is_skipping phase) (AnswersSkipped old r given new) (AnswersLive e old r given new)
 
 -- one turn of a line
-abbrev pub TakesOn : {S : Type 0} → Calls S → S → Phase → Option Reading → Command → LineTurn → S → Type 0
+abbrev pub TakesOn : {S : Type 0} → Calls S → S → Phase → Option LineReading → Command → LineTurn → S → Type 0
 TakesOn e old phase reading r (Scanning next) new =
     ReadsFurther (view_now (e.account old)) phase reading r next × ReadsOn e.reads old new
 TakesOn e old phase reading r (Answering given) new = AnswersOn e old phase reading r given new

@@ -5,7 +5,7 @@ ghost use Rattle.line_runner.specs.Phases.{image_behind};
 
 use crate::kept::KeptImage;
 use crate::phase::Phase;
-use crate::reading::Reading;
+use crate::reading::LineReading;
 use crate::table::NamedTable;
 use run_model::Answer;
 
@@ -21,7 +21,7 @@ pub struct LineAnswer {
 #[derive(Drop)]
 pub enum LineTurn {
     /// Turns are left.
-    Scanning { reading: Reading },
+    Scanning { reading: LineReading },
     /// The line has its answer.
     Answering { given: LineAnswer },
 }

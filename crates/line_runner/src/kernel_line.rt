@@ -18,7 +18,7 @@ ghost use Rattle.line_runner.specs.Turns.{view_now, MayTakeNow, ReadsImage, Read
 use crate::answering::{LineAnswer, LineTurn};
 use crate::kept::KeptImage;
 use crate::phase::Phase;
-use crate::reading::Reading;
+use crate::reading::LineReading;
 use crate::scan::Scan;
 use crate::table::{NamedTable, copy_of, kernel_table};
 use graph_image::Image;
@@ -31,7 +31,7 @@ use std::thread::Threads;
 #[derive(Drop)]
 pub enum ImageTurn {
     /// Turns are left.
-    Further { reading: Reading },
+    Further { reading: LineReading },
     /// It was the last, and the image is there.
     Whole { kept: KeptImage },
 }
@@ -43,7 +43,7 @@ pub fn run_kernel<R: Threads + Sync, E: Engine>(
     engine: &mut E,
     kernel: Kernel,
     file: &Name,
-    before: Option<Reading>,
+    before: Option<LineReading>,
     image: &mut Option<KeptImage>,
 ) -> Result<LineTurn, NoMemory>
     requires may { MayTakeNow (E.account engine.old) Phase.Open before (commands.Run kernel file.now) }
@@ -57,6 +57,7 @@ pub fn run_kernel<R: Threads + Sync, E: Engine>(
     match read_image(rt, alloc, engine, before, image.take())? {
         ImageTurn::Further { reading } => Ok(LineTurn::Scanning { reading }),
         ImageTurn::Whole { kept } => {
+            // Before the image is handed out again: a run that is out of memory ends, and needs none.
             let given = answer_kernel(rt, alloc, engine.kind(), kernel, file, &kept.image)?;
             *image = Some(kept);
             Ok(LineTurn::Answering { given })
@@ -69,7 +70,7 @@ fn read_image<R: Threads + Sync, E: Engine>(
     rt: &R,
     alloc: Global,
     engine: &mut E,
-    before: Option<Reading>,
+    before: Option<LineReading>,
     image: Option<KeptImage>,
 ) -> Result<ImageTurn, NoMemory>
     requires valid { IsValid (E.account engine.old) }
@@ -82,9 +83,9 @@ fn read_image<R: Threads + Sync, E: Engine>(
         → ReadsImage (view_now (E.account engine.old)) before (commands.Run kernel file) turn) }
     ensures did { ReadsOn E.did_read engine.old engine.new }
 {
-    match before.unwrap_or(Reading::of_image(alloc, image)) {
-        Reading::Scan { scan } => read_rows(rt, engine, scan),
-        Reading::Replay { kept, turns } => Ok(replay(kept, turns)),
+    match before.unwrap_or(LineReading::of_image(alloc, image)) {
+        LineReading::Scan { scan } => read_rows(rt, engine, scan),
+        LineReading::Replay { kept, turns } => Ok(replay(kept, turns)),
     }
 }
 
@@ -98,8 +99,8 @@ fn read_rows<R: Threads + Sync, E: Engine>(
     requires current { IsSome (E.account engine.old).start }
     requires scans { (kernel : Kernel) × (file : List ℕ)
         × IsScan (view_now (E.account engine.old)) (commands.Run kernel file) scan }
-    ensures reads { IfOk result (λ turn. (before : Option Reading) (kernel : Kernel) (file : List ℕ)
-        → taken_of before ≡ taken_of (Some (Reading.Scan scan))
+    ensures reads { IfOk result (λ turn. (before : Option LineReading) (kernel : Kernel) (file : List ℕ)
+        → taken_of before ≡ taken_of (Some (LineReading.Scan scan))
         → IsScan (view_now (E.account engine.old)) (commands.Run kernel file) scan
         → ReadsImage (view_now (E.account engine.old)) before (commands.Run kernel file) turn) }
     ensures did { E.did_read engine.old engine.new }
@@ -108,21 +109,24 @@ fn read_rows<R: Threads + Sync, E: Engine>(
     let mut scan = scan;
     scan.step(engine)?;
     if !scan.cursor.done {
-        let reading = Reading::Scan { scan };
+        let reading = LineReading::Scan { scan };
         return Ok(ImageTurn::Further { reading });
     }
+    // Made within the turn that read the last rows, as a scan answers with its last turn too.
     let kept = KeptImage::of_scan(rt, kind, scan)?;
     Ok(ImageTurn::Whole { kept })
 }
 
 /// Takes one turn of a line whose image is kept, which takes as many as the scan of its rows.
 fn replay(kept: KeptImage, turns: u64) -> ImageTurn
-    ensures { (g : Graph) (before : Option Reading) (kernel : Kernel) (file : List ℕ)
+    ensures { (g : Graph) (before : Option LineReading) (kernel : Kernel) (file : List ℕ)
         → taken_of before ≡ turns → IsKeptImage g kept
         → ReadsImage g before (commands.Run kernel file) result }
 {
+    // As many turns as the scan of these rows took: what other scripts do meanwhile must not depend on whether an
+    // image was kept.
     if turns < kept.rows / SCAN_ROWS as u64 {
-        let reading = Reading::Replay {
+        let reading = LineReading::Replay {
             kept,
             turns: turns + 1,
         };

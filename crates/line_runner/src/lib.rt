@@ -19,6 +19,6 @@ pub use answering::{LineAnswer, LineTurn};
 pub use kept::KeptImage;
 pub use line::take_line;
 pub use phase::Phase;
-pub use reading::Reading;
+pub use reading::LineReading;
 pub use scan::{Scan, ScanResult};
 pub use table::{NamedTable, Tables};

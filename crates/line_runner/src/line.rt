@@ -26,7 +26,7 @@ use crate::answering::{LineAnswer, LineTurn};
 use crate::kept::KeptImage;
 use crate::kernel_line::run_kernel;
 use crate::phase::Phase;
-use crate::reading::Reading;
+use crate::reading::LineReading;
 use crate::scan::Scan;
 use graph_model::{BeginRefusal, Engine, NoMemory, Refusal, VertexEngine, Write};
 use run_model::{Answer, Command, Query};
@@ -40,7 +40,7 @@ pub fn take_line<R: Threads + Sync, E: VertexEngine>(
     engine: &mut E,
     command: &Command,
     phase: Phase,
-    reading: Option<Reading>,
+    reading: Option<LineReading>,
     image: &mut Option<KeptImage>,
 ) -> Result<LineTurn, NoMemory>
     requires may { MayTakeNow (E.account engine.old) phase reading command.now }
@@ -51,6 +51,7 @@ pub fn take_line<R: Threads + Sync, E: VertexEngine>(
     ensures err { let e = calls E.account E.did_begin E.did_write E.did_read E.did_commit E.did_abort in
         OnErr result (WantsOn e engine.old engine.new) }
 {
+    // The transaction is over, so there is nothing to ask the engine for.
     if let Phase::Skipping = phase {
         return Ok(LineTurn::Answering {
             given: skip(command),
@@ -86,6 +87,7 @@ fn begin<E: Engine>(engine: &mut E) -> Result<LineAnswer, NoMemory>
             };
             Ok(LineAnswer::plain(answer, Phase::Open))
         }
+        // A pass may begin as many transactions as its script has (`room` of `MayTakeNow`).
         Err(BeginRefusal::TxnsUsed) => unreachable!(),
         Err(BeginRefusal::NoMemory) => Err(NoMemory),
     }
@@ -149,6 +151,8 @@ fn finish<E: Engine>(engine: &mut E, wrote: Result<(), Refusal>) -> Result<LineA
         Err(Refusal::EdgeExists) => Answer::Exists,
         Err(Refusal::NoEdge) => Answer::NoEdge,
         Err(Refusal::HasEdges) => Answer::HasEdges,
+        // A conflict stays for as long as the transaction does, and a full store may: so it lets go of its rows at
+        // once, and doesn't keep others from them.
         Err(Refusal::Conflict { cause }) => return Ok(stop(engine, Answer::Conflict { cause })),
         Err(Refusal::Full { leaves: _ }) => return Ok(stop(engine, Answer::Full)),
         Err(Refusal::NoMemory) => return Err(NoMemory),
@@ -171,7 +175,7 @@ fn read<E: Engine>(
     alloc: Global,
     engine: &mut E,
     query: Query,
-    before: Option<Reading>,
+    before: Option<LineReading>,
 ) -> Result<LineTurn, NoMemory>
     requires { MayTakeNow (E.account engine.old) Phase.Open before (commands.Read query) }
     ensures takes { let e = calls E.account E.did_begin E.did_write E.did_read E.did_commit E.did_abort in
@@ -216,7 +220,7 @@ fn skip(command: &Command) -> LineAnswer
 /// Takes one turn of the scan of a read: the one under way, or a new one.
 fn advance<E: Engine>(
     engine: &mut E,
-    before: Option<Reading>,
+    before: Option<LineReading>,
     fresh: Scan,
 ) -> Result<Scan, NoMemory>
     requires valid { IsValid (E.account engine.old) }
@@ -230,7 +234,9 @@ fn advance<E: Engine>(
         → Advances (view_now (E.account engine.old)) before (commands.Read query) next) }
     ensures did { E.did_read engine.old engine.new }
 {
-    let mut scan = before.unwrap_or(Reading::Scan { scan: fresh }).into_scan();
+    let mut scan = before
+        .unwrap_or(LineReading::Scan { scan: fresh })
+        .into_scan();
     scan.step(engine)?;
     Ok(scan)
 }
@@ -240,7 +246,7 @@ fn neighbours<E: Engine>(
     alloc: Global,
     engine: &mut E,
     v: u64,
-    before: Option<Reading>,
+    before: Option<LineReading>,
 ) -> Result<LineTurn, NoMemory>
     requires { MayTakeNow (E.account engine.old) Phase.Open before (commands.Read (NeighboursOf v)) }
     ensures takes { let e = calls E.account E.did_begin E.did_write E.did_read E.did_commit E.did_abort in
@@ -249,9 +255,10 @@ fn neighbours<E: Engine>(
 {
     let scan = advance(engine, before, Scan::of_arcs(alloc, v))?;
     if !scan.cursor.done {
-        let reading = Reading::Scan { scan };
+        let reading = LineReading::Scan { scan };
         return Ok(LineTurn::Scanning { reading });
     }
+    // Asked with the last turn, so that a line takes as many turns whether the vertex is there or not.
     let answer = if engine.has_vertex(v) {
         Answer::Neighbours {
             targets: scan.into_targets(),
@@ -265,7 +272,7 @@ fn neighbours<E: Engine>(
 }
 
 /// Scans all rows, and counts them.
-fn count<E: Engine>(engine: &mut E, before: Option<Reading>) -> Result<LineTurn, NoMemory>
+fn count<E: Engine>(engine: &mut E, before: Option<LineReading>) -> Result<LineTurn, NoMemory>
     requires { MayTakeNow (E.account engine.old) Phase.Open before (commands.Read Counts) }
     ensures takes { let e = calls E.account E.did_begin E.did_write E.did_read E.did_commit E.did_abort in
         IfOk result (λ turn. TakesOn e engine.old Phase.Open before (commands.Read Counts) turn engine.new) }
@@ -273,7 +280,7 @@ fn count<E: Engine>(engine: &mut E, before: Option<Reading>) -> Result<LineTurn,
 {
     let scan = advance(engine, before, Scan::of_counts())?;
     if !scan.cursor.done {
-        let reading = Reading::Scan { scan };
+        let reading = LineReading::Scan { scan };
         return Ok(LineTurn::Scanning { reading });
     }
     let answer = scan.into_counts(engine.kind());

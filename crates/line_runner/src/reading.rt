@@ -17,23 +17,23 @@ use std::alloc::Global;
 
 /// What a line reads, and how far it has come.
 #[derive(Drop)]
-pub enum Reading {
+pub enum LineReading {
     /// It scans rows.
     Scan { scan: Scan },
     /// The image of all rows is kept, and it has taken so many of the turns that their scan would take.
     Replay { kept: KeptImage, turns: u64 },
 }
 
-impl Reading {
+impl LineReading {
     /// What a kernel's line begins with: the image that is kept, or else a scan. Takes no memory.
-    pub fn of_image(alloc: Global, image: Option<KeptImage>) -> Reading
+    pub fn of_image(alloc: Global, image: Option<KeptImage>) -> LineReading
         ensures none { taken_by result ≡ 0 }
         ensures reading { (g : Graph) (kernel : Kernel) (file : List ℕ) → IfSome image (IsKeptImage g)
             → IsReading g (commands.Run kernel file) result }
     {
         match image {
-            Some(kept) => Reading::Replay { kept, turns: 0 },
-            None => Reading::Scan {
+            Some(kept) => LineReading::Replay { kept, turns: 0 },
+            None => LineReading::Scan {
                 scan: Scan::of_rows(alloc),
             },
         }
@@ -42,11 +42,11 @@ impl Reading {
     /// The scan of a read.
     pub fn into_scan(self) -> Scan
         requires { (g : Graph) × (query : Query) × IsReading g (commands.Read query) self }
-        ensures { self ≡ Reading.Scan result }
+        ensures { self ≡ LineReading.Scan result }
     {
         match self {
-            Reading::Scan { scan } => scan,
-            Reading::Replay {
+            LineReading::Scan { scan } => scan,
+            LineReading::Replay {
                 kept: _kept,
                 turns: _turns,
             } => unreachable!(),

@@ -45,6 +45,7 @@ impl ScanResult {
             ScanResult::Targets { ids } => push_targets(ids, given)?,
             ScanResult::Vertices { count } => *count += count_vertices(given),
             ScanResult::Rows { rows } => {
+                // A place of an image is a number of 32 bits.
                 if count > u32::MAX as u64 {
                     return Err(NoMemory);
                 }
@@ -60,6 +61,7 @@ fn push_targets(ids: &mut Ids, given: &[Row]) -> Result<(), NoMemory>
     ensures { OnOk result (ids.new ≡ ids.old ++ map target_of given.now) }
 {
     'arcs: for row in given {
+        // A target stands one higher in its key, since 0 marks the row of the vertex itself.
         ids.push(row.key.second.saturating_sub(1))?;
     }
     Ok(())
@@ -70,6 +72,7 @@ fn count_vertices(given: &[Row]) -> u64
     ensures is { result ≡ count_by is_vertex given.now }
     ensures bound { result ≤ length given.now }
 {
+    // The row of a vertex comes before its arcs, with 0 for a target.
     given.iter().filter(|row| row.key.second == 0).count() as u64
 }
 
@@ -143,6 +146,7 @@ impl Scan {
         let mut rows = Rows64::new();
         engine.scan_step(&mut self.cursor, &mut rows);
         let given = rows.as_slice();
+        // Checked, since the number of rows tells how many turns the line has taken.
         let Some(count) = self.rows.checked_add(given.len() as u64) else {
             return Err(NoMemory);
         };
@@ -189,6 +193,7 @@ impl Scan {
         let arcs = self.rows - vertices;
         let edges = match kind {
             Kind::Directed => arcs,
+            // An edge without direction is two rows.
             Kind::Undirected => arcs / 2,
         };
         Answer::Counted { vertices, edges }

@@ -46,6 +46,7 @@ pub fn kernel_table<R: Threads + Sync>(
 {
     match kernel {
         Kernel::Bfs { root } => breadth_first_search(rt, alloc, image, root),
+        // These two need no root, so running out of memory is all that they can be refused for.
         Kernel::Wcc => Ok(components(rt, alloc, image)?),
         Kernel::Cdlp { rounds } => Ok(communities(rt, alloc, image, rounds)?),
         Kernel::Sssp { root } => shortest_paths(rt, alloc, image, root),

@@ -3,7 +3,11 @@ use Rattle.std.proofs.Common.{◌≡◌, inl, inr, ℕ, refl, sym, ◌∙◌, ap
 use mathlib.Core.List.{IsPrefix}
 use Rattle.std.specs.Prelude.{true, Option, Some, None, IfSome, Result, Ok, Err}
 use Rattle.graph_model.specs.Account.{Account, IsOpenTxn, IsValid}
-use Rattle.graph_model.specs.AccountSteps.{ReadsBy}
+use Rattle.graph_model.specs.AccountSteps.{ReadsBy, view_of}
+use Rattle.graph_model.specs.declared.journal.Begun.{Begun}
+use Rattle.graph_model.specs.declared.row.Key.{Key}
+use Rattle.graph_model.specs.declared.row.Row.{Row}
+use Rattle.graph_model.specs.Rows.{rows}
 use Rattle.graph_model.proofs.AccountLemmas.{read_keeps}
 use Rattle.optimistic_read.specs.RuleModel.Sight.{PinState}
 use Rattle.optimistic_read.specs.StoreRelation.Passes.{PassState, number_of}
@@ -23,7 +27,11 @@ use Rattle.pass_room.specs.declared.made.NoRoom.{NoRoom}
 use Rattle.pass_room.specs.declared.made.NoRoom.TheVariants.{Full, NoMemory}
 use Rattle.pass_room.specs.declared.made.RoomMade.{RoomMade}
 use Rattle.shared_store.specs.declared.pass.Pass.{Pass}
-use Rattle.shared_store.specs.Passes.{IsIdle, IsOpen, account_of}
+use Rattle.optimistic_read.specs.Runs.{EndsRun}
+use Rattle.pass_scans.specs.Packed.{IsRunTo, view_seen}
+use Rattle.pass_scans.specs.PassSteps.Asking.{IsSnapshotOf}
+use Rattle.pass_scans.specs.PassSweeps.Pruning.{FindsWords}
+use Rattle.shared_store.specs.Passes.{IsIdle, IsOpen, KeepsOpen, account_of, view_in}
 use Rattle.rebalance_service.specs.Ready.{IsReady, KeepsRest}
 
 -- ---- room was made
@@ -127,7 +135,7 @@ module _ (store : Store) (old new : Pass) (rest : KeepsRest old new) (of : IsPas
     valid = valid' was.valid;
   }
 
-  opened' : IsOpen store old → IsOpen store new
+  pub opened' : IsOpen store old → IsOpen store new
   opened' was =
       let is = goes.sees.is in
       record {
@@ -189,3 +197,48 @@ ready_hinted store pass cells same (inr opened) =
       changed = opened.changed;
       valid = opened.valid;
     })
+
+-- ---- rows were read in a cell
+
+-- a pass that has found words goes on
+found_goes : (old new : Seats) → FindsWords old new → GoesOn old new
+found_goes old new found = record {
+  number = found.number;
+  sees = record {
+    front = subst (λ (st : PassState). IsPrefix (state_of old).seen st.seen) (sym found.state) (prefix_all (state_of old).seen);
+    is = found.state ∙ (λ i. record (state_of old) { seen = (sym found.state i).seen; looks = (sym found.state i).looks });
+  };
+  pin = found.pin ∙ (λ i. record (pin_of old) { sweep = (sym found.pin i).sweep });
+  reads = found.reads;
+}
+
+-- OPEN STILL: its transaction is the same
+pub found_open : (store : Store) (old : Pass) (seats : Seats) → IsOpen store old → IsPassOf store seats → HoldsNone seats
+    → FindsWords old.seats seats → KeepsOpen store old (record old { seats = seats })
+found_open store old seats was of none found = record {
+  opened = opened' store old (record old { seats = seats }) (seats_only old seats found.number) of none
+      (found_goes old.seats seats found) was;
+  account = λ i. state_account store.accounts.config (found.number i) (found.state i);
+  start = refl;
+  number = found.number;
+}
+
+-- what its begin has answered is its snapshot
+pub seen_snapshot : (store : Store) (pass : Pass) → IsOpen store pass → (begun : Begun)
+    → begun.by ≡ record { job = pass.seats.number; number = pass.begun } → begun.start ≡ pass.start
+    → IsSnapshotOf pass.seats (record { start = begun.start; own = begun.by })
+seen_snapshot store pass was begun by start = record {
+  start = start ∙ was.start;
+  own = by ∙ (λ i. record { job = pass.seats.number; number = was.begun i });
+  within = was.opened.opened.started;
+}
+
+-- and the rows that were read are those of its view
+pub seen_run : (store : Store) (pass : Pass) → IsOpen store pass → (o : Option Key) (from until : Key) (run : List Row)
+    → IfSome o (λ end. IsRunTo end (view_seen store.accounts.config (state_of pass.seats)) from until run)
+    → IfSome o (λ end. EndsRun end from until × (run ≡ rows (view_in store pass) from end))
+seen_run store pass was None from until run read = tt
+seen_run store pass was (Some end) from until run read = (
+  record { ahead = read.ahead; inside = read.inside },
+  read.run_is ∙ (λ i. rows (view_of (account_of store pass) (sym was.start i)) from end),
+)

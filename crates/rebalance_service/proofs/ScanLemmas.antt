@@ -1,6 +1,6 @@
 -- Scans of an open transaction, cell after cell.
 use Rattle.std.proofs.Common.{◌≡◌, inl, ℕ, zero, suc, ◌<◌, ◌≤◌, List, [], ◌∷◌, ◌++◌, length, take, refl, sym, ◌∙◌, ap, subst, cond, arith}
-use Rattle.std.specs.Prelude.{Bool, true, false}
+use Rattle.std.specs.Prelude.{Bool, true, false, Option, Some, IfSome}
 use Rattle.graph_model.specs.declared.row.Cursor.{Cursor}
 use Rattle.graph_model.specs.declared.row.Key.{Key}
 use Rattle.graph_model.specs.declared.row.Row.{Row}
@@ -100,6 +100,12 @@ pub chained_there : (t : TriedRun) (key end : Key) (g : Graph) (from until : Key
     → IsRun t g from until before after → t ≡ Chained key end
     → IsRunUpTo key g from until before after × EndsRun end key until
 chained_there t key end g from until before after run is = subst (λ a. IsRun a g from until before after) is run
+
+-- what a cell in hand has given
+pub run_there : (o : Option Key) (end : Key) (g : Graph) (from until : Key) (run : List Row)
+    → IfSome o (λ e. EndsRun e from until × (run ≡ rows g from e)) → o ≡ Some end
+    → EndsRun end from until × (run ≡ rows g from end)
+run_there o end g from until run read is = subst (λ a. IfSome a (λ e. EndsRun e from until × (run ≡ rows g from e))) is read
 
 -- ---- a scan
 

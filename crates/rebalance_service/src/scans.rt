@@ -2,13 +2,13 @@
 //!
 //! 1. The rows of a cell are read without its latch, straight into the caller's buffer. Where somebody changes a cell
 //!    meanwhile the portion is read again.
-//! 2. Where a row has undo records, latches are taken for the keys from its own on to the end of its cell. Where a cell
-//!    stays busy, or no hint has it, the whole portion is read anew by latches.
+//! 2. Where a row has undo records, the latch of its cell is taken, and the rows from its own on are read as they lie.
+//!    Where a cell stays busy, or no hint has it, the whole portion is read anew by latches.
 //! 3. The rows of a cell end with its high fence key, from which the scan goes on. So nothing is left out, whichever
 //!    cells are looked at: first the one in which the last step ended, after a cell the one with the next number, since
 //!    the cells of a leaf stand in the order of their keys, and then the one that a hint names.
 
-ghost use Rattle.std.specs.Prelude.{◌≡◌, ◌⊎◌, ◌<◌, [], true, false, length};
+ghost use Rattle.std.specs.Prelude.{◌≡◌, ◌⊎◌, ◌<◌, [], true, false, length, IfSome};
 ghost use Rattle.graph_model.specs.declared.row.Cursor.{Cursor};
 ghost use Rattle.graph_model.specs.Graph.{Graph};
 ghost use Rattle.graph_model.specs.Rows.{is_below, rows};
@@ -21,8 +21,10 @@ ghost use Rattle.rebalance_service.specs.Scanned.{ReadsNone};
 use crate::reads::{TRIES, likely_cell};
 use crate::scan_place::ScanPlace;
 use edge_scan::step;
-use graph_model::{Cursor, Key, Rows64};
+use graph_model::{Cursor, Key, Row, Rows64};
 use optimistic_read::{Route, TriedRun, try_run};
+use pass_scans::below::Rows32;
+use pass_scans::read_packed;
 use shared_store::{Pass, Store};
 use std::hint::spin_loop;
 use std::sync::Wait;
@@ -127,7 +129,7 @@ fn read_on(
             // The rows before this one are in the buffer and right; from it on records have to be read.
             cursor.next = key;
             place.has_met_records = true;
-            read_held(rt, store, pass, cursor, end, rows)
+            read_chained(rt, store, pass, place.cell, cursor, end, rows)
         }
         _ => false,
     }
@@ -148,6 +150,56 @@ fn is_last(end: Key, until: Key, rows: &Rows64) -> bool
     ensures { result ≡ true → (is_below end until ≡ false) × (length rows.now < 64) }
 {
     !end.is_below(until) && rows.len() < 64
+}
+
+/// Reads rows by latches, where one has undo records: those of this cell as they lie, or where it isn't the next key's any
+/// more, those before this end. Answers false where they are too many for one portion.
+fn read_chained(
+    rt: &impl Wait,
+    store: &Store,
+    pass: &mut Pass,
+    cell: u32,
+    cursor: &mut Cursor,
+    end: Key,
+    rows: &mut Rows64,
+) -> bool
+    requires opened { IsOpen store.now pass.old }
+    requires going { cursor.old.done ≡ false }
+    requires ends { EndsRun end cursor.old.next cursor.old.until }
+    ensures kept { KeepsOpen store.now pass.old pass.new }
+    ensures on { result ≡ true → (first : Cursor)
+        → IsUnderWay (view_in store.now pass.old) first cursor.old rows.old
+        → IsUnderWay (view_in store.now pass.old) first cursor.new rows.new }
+{
+    let mut run = Rows32::new();
+    match read_cell(rt, store, pass, cell, cursor.next, cursor.until, &mut run) {
+        Some(end) => {
+            take_run(cursor, end, run.as_slice(), rows);
+            true
+        }
+        None => read_held(rt, store, pass, cursor, end, rows),
+    }
+}
+
+/// Reads the rows from a key on and before another by the latch of this cell, as far as it goes, and answers where they
+/// end, or nothing where it isn't the first key's.
+fn read_cell(
+    rt: &impl Wait,
+    store: &Store,
+    pass: &mut Pass,
+    cell: u32,
+    from: Key,
+    until: Key,
+    run: &mut Rows32,
+) -> Option<Key>
+    requires opened { IsOpen store.now pass.old }
+    requires ahead { is_below from until ≡ true }
+    ensures kept { KeepsOpen store.now pass.old pass.new }
+    ensures run { IfSome result (λ end. EndsRun end from until
+        × (run.new ≡ rows (view_in store.now pass.old) from end)) }
+{
+    let begun = pass.latest();
+    read_packed(rt, store, &mut pass.seats, begun, cell, from, until, run)
 }
 
 /// Reads the rows before this end by latches, as many as there is room for. Answers false where they are too many for
@@ -179,18 +231,18 @@ fn read_held(
     if !part.done {
         return false;
     }
-    take_run(cursor, end, &run, rows);
+    take_run(cursor, end, run.as_slice(), rows);
     true
 }
 
 /// Takes the rows that were read before this end.
-fn take_run(cursor: &mut Cursor, end: Key, run: &Rows64, given: &mut Rows64)
+fn take_run(cursor: &mut Cursor, end: Key, run: &[Row], given: &mut Rows64)
     requires going { cursor.old.done ≡ false }
     requires ends { EndsRun end cursor.old.next cursor.old.until }
     ensures under_way { (g : Graph) (first : Cursor) → run.now ≡ rows g cursor.old.next end
         → IsUnderWay g first cursor.old given.old → IsUnderWay g first cursor.new given.new }
 {
-    step(cursor, end, run.as_slice(), given);
+    step(cursor, end, run, given);
 }
 
 /// What tries near the place of the scan have found last, or where no cell there has the key, in the one that a hint

@@ -33,15 +33,27 @@ pub fn text_of_journal<R: Threads + Sync>(
 ) -> Result<Text, NoMemory>
     ensures { IfOk result (λ text. text ≡ journal_text journal.now) }
 {
-    let mut text = Text::new(alloc);
     let [first, later @ ..] = journal.as_slice() else {
-        return Ok(text);
+        return Ok(Text::new(alloc));
     };
-    write_commit_line(first, &mut text)?;
-    let writes = text_of_items::<R, Write, WriteLine>(rt, alloc, first.writes.as_slice())?;
+    let mut text = text_of_commit(rt, alloc, first)?;
+    let behind = text_of_items::<R, Commit, CommitLines>(rt, alloc, later)?;
+    text.push_bytes(behind.as_slice())?;
+    Ok(text)
+}
+
+/// The text of a commit whose writes several threads share.
+fn text_of_commit<R: Threads + Sync>(
+    rt: &R,
+    alloc: Global,
+    commit: &Commit,
+) -> Result<Text, NoMemory>
+    ensures { IfOk result (λ text. text ≡ commit_text commit.now) }
+{
+    let mut text = Text::new(alloc);
+    write_commit_line(commit, &mut text)?;
+    let writes = text_of_items::<R, Write, WriteLine>(rt, alloc, commit.writes.as_slice())?;
     text.push_bytes(writes.as_slice())?;
-    let commits = text_of_items::<R, Commit, CommitLines>(rt, alloc, later)?;
-    text.push_bytes(commits.as_slice())?;
     Ok(text)
 }
 

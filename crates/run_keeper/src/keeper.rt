@@ -69,6 +69,7 @@ impl Keeper {
     {
         files_stand_for_their_commits();
         let file = JournalFile::create(disk, name, kind)?;
+        // One buffer for the bytes of all commits: after the longest one, none takes memory.
         let record = Record::new(alloc);
         Ok(Keeper { file, record })
     }
@@ -87,6 +88,7 @@ impl Keeper {
         ensures ok { OnOk result (FaultsStand (K.state disk.old) (K.state disk.new)) }
         ensures refused { IfErr result (Stops (K.state disk.old) (K.state disk.new)) }
     {
+        // The file tells itself what it has: no count beside it can go wrong after a commit that was not kept.
         let first = self.file.len() as usize;
         'commits: for place in first..journal.len() {
             self.keep_next(disk, &journal[place])?;
@@ -110,6 +112,7 @@ impl Keeper {
     {
         files_stand_for_their_commits();
         self.record.lay(commit)?;
+        // No file of a disk is as long as its numbers count.
         if !self.file.has_room(&self.record) {
             return Err(KeepRefusal::NoMemory);
         }

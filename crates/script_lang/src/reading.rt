@@ -22,7 +22,7 @@ use std::alloc::Global;
 
 /// The commands of the lines so far, and what the next line is checked against.
 #[derive(Drop)]
-pub(crate) struct Reading {
+pub(crate) struct ScriptSoFar {
     /// Those so far.
     pub script: Script,
     /// The line of the `begin` whose transaction is open.
@@ -31,7 +31,7 @@ pub(crate) struct Reading {
     pub begun: u32,
 }
 
-impl Reading {
+impl ScriptSoFar {
     /// Reads one more line.
     pub(crate) fn read_line(
         &mut self,

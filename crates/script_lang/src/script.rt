@@ -8,7 +8,7 @@ ghost use Rattle.script_lang.specs.Scripts.{script_of, files_of, IsRefused};
 ghost use Rattle.script_lang.specs.Runnable.{IsRunnable};
 
 use crate::names::Names;
-use crate::reading::Reading;
+use crate::reading::ScriptSoFar;
 use crate::refusal::{ScriptRefusal, ScriptWhat};
 use graphalytics_io::field_lines;
 use run_model::Script;
@@ -37,7 +37,7 @@ fn read_lines(alloc: Global, text: &[u8], taken: &mut Names) -> Result<Script, S
     ensures fault { IfErr result (λ refusal. IsRefused (script_of taken.old text.now) refusal) }
     ensures kept { OnErr result (take (length taken.old) taken.new ≡ taken.old) }
 {
-    let mut reading = Reading {
+    let mut reading = ScriptSoFar {
         script: Script::new(alloc),
         began: None,
         begun: 0,
@@ -46,7 +46,7 @@ fn read_lines(alloc: Global, text: &[u8], taken: &mut Names) -> Result<Script, S
     'lines: while let Some(line) = lines.next() {
         reading.read_line(alloc, line, taken)?;
     }
-    let Reading { script, began, .. } = reading;
+    let ScriptSoFar { script, began, .. } = reading;
     match began {
         None => Ok(script),
         // Named by the line of its `begin`: the end of the script has no line.

@@ -10,7 +10,7 @@ use Rattle.graph_model.proofs.KeyLemmas.{below_chain, below_flip, below_self, ti
 use Rattle.graph_model.proofs.PlaceLemmas.{some_eq, get_take, get_drop, get_in_drop}
 use Rattle.graph_model.proofs.HistoryLemmas.{get_within}
 use Rattle.graph_model.proofs.TestLemmas.{either_of}
-use Rattle.serial_check.specs.declared.range.KeyRange.{KeyRange}
+use Rattle.serial_check.specs.declared.range.FootprintRange.{FootprintRange}
 use Rattle.serial_check.specs.Ranges.{holds, covers, joined, AreApart}
 use Rattle.serial_check.proofs.RangeLemmas.{same_bool, covers_at, covers_of, from_rises, until_rises}
 
@@ -36,44 +36,44 @@ split_cases (y ∷ xs) ys j (suc i) x e = elim (split_cases xs ys j i x e)
     ]
 
 -- one range between two lists that are apart from it
-apart_split : (xs ys : List KeyRange) (j : KeyRange) → AreApart xs → AreApart ys → is_below j.from j.until ≡ true
-    → ((i : ℕ) (a : KeyRange) → slice_get xs i ≡ Some a → is_below a.until j.from ≡ true) → ((i : ℕ) (b : KeyRange) → slice_get ys i ≡ Some b → is_below j.until b.from ≡ true) → AreApart (xs ++ j ∷ ys)
+apart_split : (xs ys : List FootprintRange) (j : FootprintRange) → AreApart xs → AreApart ys → is_below j.from j.until ≡ true
+    → ((i : ℕ) (a : FootprintRange) → slice_get xs i ≡ Some a → is_below a.until j.from ≡ true) → ((i : ℕ) (b : FootprintRange) → slice_get ys i ≡ Some b → is_below j.until b.from ≡ true) → AreApart (xs ++ j ∷ ys)
 apart_split xs ys j left right some before behind = record {
   some = λ i r e. elim (split_cases xs ys j i r e) as (λ _. is_below r.from r.until ≡ true) [
     | inl p ↦ left.some i r p.1
     | inr rest ↦ elim rest as (λ _. is_below r.from r.until ≡ true) [
-      | inl p ↦ ap (λ (x : KeyRange). is_below x.from x.until) (sym p.1) ∙ some
+      | inl p ↦ ap (λ (x : FootprintRange). is_below x.from x.until) (sym p.1) ∙ some
       | inr p ↦ right.some p.0 r p.2
     ]
   ];
   apart = λ i k a b lt e f. by_first i k a b lt (split_cases xs ys j i a e) (split_cases xs ys j k b f);
 }
   where
-    InFront : ℕ → KeyRange → Type 0
+    InFront : ℕ → FootprintRange → Type 0
     InFront i x = (i < length xs) × (slice_get xs i ≡ Some x)
 
-    Here : ℕ → KeyRange → Type 0
+    Here : ℕ → FootprintRange → Type 0
     Here i x = (i ≡ length xs) × (j ≡ x)
 
-    Behind : ℕ → KeyRange → Type 0
+    Behind : ℕ → FootprintRange → Type 0
     Behind i x = (m : ℕ) × (i ≡ length xs + suc m) × (slice_get ys m ≡ Some x)
 
-    by_first : (i k : ℕ) (a b : KeyRange) → i < k → ((i < length xs) × (slice_get xs i ≡ Some a)) ⊎ ((i ≡ length xs) × (j ≡ a)) ⊎ ((m : ℕ) × (i ≡ length xs + suc m) × (slice_get ys m ≡ Some a))
+    by_first : (i k : ℕ) (a b : FootprintRange) → i < k → ((i < length xs) × (slice_get xs i ≡ Some a)) ⊎ ((i ≡ length xs) × (j ≡ a)) ⊎ ((m : ℕ) × (i ≡ length xs + suc m) × (slice_get ys m ≡ Some a))
         → ((k < length xs) × (slice_get xs k ≡ Some b)) ⊎ ((k ≡ length xs) × (j ≡ b)) ⊎ ((m : ℕ) × (k ≡ length xs + suc m) × (slice_get ys m ≡ Some b)) → is_below a.until b.from ≡ true
     by_first i k a b lt (inl p) (inl q) = left.apart i k a b lt p.1 q.1
-    by_first i k a b lt (inl p) (inr (inl q)) = ap (λ (x : KeyRange). is_below a.until x.from) (sym q.1) ∙ before i a p.1
+    by_first i k a b lt (inl p) (inr (inl q)) = ap (λ (x : FootprintRange). is_below a.until x.from) (sym q.1) ∙ before i a p.1
     by_first i k a b lt (inl p) (inr (inr q)) = below_chain a.until j.from b.from (before i a p.1) (below_chain j.from j.until b.from some (behind q.0 b q.2))
     by_first i k a b lt (inr (inl p)) (inl q) = absurd (omega (arith, lt, p.0, q.0))
     by_first i k a b lt (inr (inl p)) (inr (inl q)) = absurd (omega (arith, lt, p.0, q.0))
-    by_first i k a b lt (inr (inl p)) (inr (inr q)) = ap (λ (x : KeyRange). is_below x.until b.from) (sym p.1) ∙ behind q.0 b q.2
+    by_first i k a b lt (inr (inl p)) (inr (inr q)) = ap (λ (x : FootprintRange). is_below x.until b.from) (sym p.1) ∙ behind q.0 b q.2
     by_first i k a b lt (inr (inr p)) (inl q) = absurd (omega (arith, lt, p.1, q.0))
     by_first i k a b lt (inr (inr p)) (inr (inl q)) = absurd (omega (arith, lt, p.1, q.0))
     by_first i k a b lt (inr (inr p)) (inr (inr q)) = right.apart p.0 q.0 a b (omega (arith, lt, p.1, q.1)) p.2 q.2
 
 -- ---- a range from where the first begins up to where the last ends
 
-module _ (range first last : KeyRange) where
-  abbrev whole : KeyRange
+module _ (range first last : FootprintRange) where
+  abbrev whole : FootprintRange
   whole = joined range first last
 
   from_cases : ((whole.from ≡ first.from) × (is_below first.from range.from ≡ true)) ⊎ ((whole.from ≡ range.from) × (is_below first.from range.from ≡ false))
@@ -117,7 +117,7 @@ module _ (range first last : KeyRange) where
   ]
 
   -- a part of it
-  part_of : (r : KeyRange) (q : Key) → is_below r.from whole.from ≡ false → is_below whole.until r.until ≡ false → holds r q ≡ true → holds whole q ≡ true
+  part_of : (r : FootprintRange) (q : Key) → is_below r.from whole.from ≡ false → is_below whole.until r.until ≡ false → holds r q ≡ true → holds whole q ≡ true
   part_of r q low high h =
       let p = between_parts r.from r.until q h in
       between_of whole.from whole.until q (upto_chain whole.from r.from q low p.0) (below_up q r.until whole.until p.1 high)
@@ -146,17 +146,17 @@ module _ (range first last : KeyRange) where
 -- ---- putting a range
 
 -- what stands in place of the ranges that are met: the range where there are none, else one that joins them
-pub data Joins (xs : List KeyRange) (range : KeyRange) (start end : ℕ) (j : KeyRange) : Type 0 where
+pub data Joins (xs : List FootprintRange) (range : FootprintRange) (start end : ℕ) (j : FootprintRange) : Type 0 where
   Alone : start ≡ end → j ≡ range → Joins xs range start end j
-  Met : (first last : KeyRange) (m : ℕ) → end ≡ suc m → start ≤ m → slice_get xs start ≡ Some first → slice_get xs m ≡ Some last → j ≡ joined range first last → Joins xs range start end j
+  Met : (first last : FootprintRange) (m : ℕ) → end ≡ suc m → start ≤ m → slice_get xs start ≡ Some first → slice_get xs m ≡ Some last → j ≡ joined range first last → Joins xs range start end j
 
-module _ (xs : List KeyRange) (apart : AreApart xs) (range : KeyRange) (some : is_below range.from range.until ≡ true) (start end : ℕ)
-    (before_start : (i : ℕ) (r : KeyRange) → i < start → slice_get xs i ≡ Some r → is_below r.until range.from ≡ true)
-    (from_start : (i : ℕ) (r : KeyRange) → start ≤ i → slice_get xs i ≡ Some r → is_below r.until range.from ≡ false)
-    (before_end : (i : ℕ) (r : KeyRange) → i < end → slice_get xs i ≡ Some r → is_below range.until r.from ≡ false)
-    (from_end : (i : ℕ) (r : KeyRange) → end ≤ i → slice_get xs i ≡ Some r → is_below range.until r.from ≡ true) where
-  module _ (j : KeyRange) (joins : Joins xs range start end j) where
-    abbrev pub put_list : List KeyRange
+module _ (xs : List FootprintRange) (apart : AreApart xs) (range : FootprintRange) (some : is_below range.from range.until ≡ true) (start end : ℕ)
+    (before_start : (i : ℕ) (r : FootprintRange) → i < start → slice_get xs i ≡ Some r → is_below r.until range.from ≡ true)
+    (from_start : (i : ℕ) (r : FootprintRange) → start ≤ i → slice_get xs i ≡ Some r → is_below r.until range.from ≡ false)
+    (before_end : (i : ℕ) (r : FootprintRange) → i < end → slice_get xs i ≡ Some r → is_below range.until r.from ≡ false)
+    (from_end : (i : ℕ) (r : FootprintRange) → end ≤ i → slice_get xs i ≡ Some r → is_below range.until r.from ≡ true) where
+  module _ (j : FootprintRange) (joins : Joins xs range start end j) where
+    abbrev pub put_list : List FootprintRange
     put_list = take start xs ++ j ∷ drop end xs
 
     holds_range : (q : Key) → holds range q ≡ true → holds j q ≡ true
@@ -166,7 +166,7 @@ module _ (xs : List KeyRange) (apart : AreApart xs) (range : KeyRange) (some : i
         by_joins (Alone same is) = ap (λ x. holds x q) is ∙ h
         by_joins (Met first last m e le f g is) = ap (λ x. holds x q) is ∙ part_of range first last range q (from_range range first last) (until_range range first last) h
 
-    holds_met : (i : ℕ) (r : KeyRange) (q : Key) → slice_get xs i ≡ Some r → start ≤ i → i < end → holds r q ≡ true → holds j q ≡ true
+    holds_met : (i : ℕ) (r : FootprintRange) (q : Key) → slice_get xs i ≡ Some r → start ≤ i → i < end → holds r q ≡ true → holds j q ≡ true
     holds_met i r q at low high h = by_joins joins
       where
         by_joins : Joins xs range start end j → holds j q ≡ true
@@ -176,15 +176,15 @@ module _ (xs : List KeyRange) (apart : AreApart xs) (range : KeyRange) (some : i
             high_enough
             h
           where
-            later : (a b : KeyRange) (x y : ℕ) → slice_get xs x ≡ Some a → slice_get xs y ≡ Some b → x ≤ y → is_below b.from a.from ≡ false
+            later : (a b : FootprintRange) (x y : ℕ) → slice_get xs x ≡ Some a → slice_get xs y ≡ Some b → x ≤ y → is_below b.from a.from ≡ false
             later a b x y ea eb order = elim (cases_eq x y) as (λ _. is_below b.from a.from ≡ false) [
-              | inl same ↦ ap (λ (z : KeyRange). is_below b.from z.from) (some_eq a b (sym ea ∙ ap (slice_get xs) same ∙ eb)) ∙ below_self b.from
+              | inl same ↦ ap (λ (z : FootprintRange). is_below b.from z.from) (some_eq a b (sym ea ∙ ap (slice_get xs) same ∙ eb)) ∙ below_self b.from
               | inr other ↦ below_flip a.from b.from (from_rises xs apart x y a b (omega (arith, order, other)) ea eb)
             ]
 
-            ends_later : (a b : KeyRange) (x y : ℕ) → slice_get xs x ≡ Some a → slice_get xs y ≡ Some b → x ≤ y → is_below b.until a.until ≡ false
+            ends_later : (a b : FootprintRange) (x y : ℕ) → slice_get xs x ≡ Some a → slice_get xs y ≡ Some b → x ≤ y → is_below b.until a.until ≡ false
             ends_later a b x y ea eb order = elim (cases_eq x y) as (λ _. is_below b.until a.until ≡ false) [
-              | inl same ↦ ap (λ (z : KeyRange). is_below b.until z.until) (some_eq a b (sym ea ∙ ap (slice_get xs) same ∙ eb)) ∙ below_self b.until
+              | inl same ↦ ap (λ (z : FootprintRange). is_below b.until z.until) (some_eq a b (sym ea ∙ ap (slice_get xs) same ∙ eb)) ∙ below_self b.until
               | inr other ↦ below_flip a.until b.until (until_rises xs apart x y a b (omega (arith, order, other)) ea eb)
             ]
 
@@ -193,7 +193,7 @@ module _ (xs : List KeyRange) (apart : AreApart xs) (range : KeyRange) (some : i
 
     -- exactly the keys of the ranges and of the new one are covered
     pub put_covers : (q : Key) → covers put_list q ≡ (covers xs q || holds range q)
-    put_covers q = list_any-append (λ (r : KeyRange). holds r q) (take start xs) (j ∷ drop end xs) ∙ same_bool _ _ forth back
+    put_covers q = list_any-append (λ (r : FootprintRange). holds r q) (take start xs) (j ∷ drop end xs) ∙ same_bool _ _ forth back
       where
         forth : (covers (take start xs) q || (holds j q || covers (drop end xs) q)) ≡ true → (covers xs q || holds range q) ≡ true
         forth e = elim (either_of (covers (take start xs) q) (holds j q || covers (drop end xs) q) e) as (λ _. (covers xs q || holds range q) ≡ true) [
@@ -215,7 +215,7 @@ module _ (xs : List KeyRange) (apart : AreApart xs) (range : KeyRange) (some : i
                   ]
                 ]
 
-        in_new : (i : ℕ) (r : KeyRange) → slice_get xs i ≡ Some r → holds r q ≡ true → (covers (take start xs) q || (holds j q || covers (drop end xs) q)) ≡ true
+        in_new : (i : ℕ) (r : FootprintRange) → slice_get xs i ≡ Some r → holds r q ≡ true → (covers (take start xs) q || (holds j q || covers (drop end xs) q)) ≡ true
         in_new i r at h = elim (nat_lt i start) as (λ t. nat_lt i start ≡ t → (covers (take start xs) q || (holds j q || covers (drop end xs) q)) ≡ true) [
           | true ↦ λ t. or_left _ _ (covers_of (take start xs) q i r (get_in_take start xs i r (below i start t) at) h)
           | false ↦ λ t. or_right (covers (take start xs) q) _ (elim (nat_lt i end) as (λ s. nat_lt i end ≡ s → (holds j q || covers (drop end xs) q) ≡ true) [
@@ -260,29 +260,29 @@ module _ (xs : List KeyRange) (apart : AreApart xs) (range : KeyRange) (some : i
         ] refl
 
         by_some : Joins xs range start end j → is_below j.from j.until ≡ true
-        by_some (Alone same is) = ap (λ (x : KeyRange). is_below x.from x.until) is ∙ some
+        by_some (Alone same is) = ap (λ (x : FootprintRange). is_below x.from x.until) is ∙ some
         by_some (Met first last m e le g h is) =
-            ap (λ (x : KeyRange). is_below x.from x.until) is
+            ap (λ (x : FootprintRange). is_below x.from x.until) is
             ∙ below_up (joined range first last).from range.until (joined range first last).until (not_above (joined range first last).from range.from range.until (from_range range first last) some) (until_range range first last)
 
-        front : (i : ℕ) (a : KeyRange) → i < start → slice_get xs i ≡ Some a → Joins xs range start end j → is_below a.until j.from ≡ true
-        front i a lt at (Alone same is) = ap (λ (x : KeyRange). is_below a.until x.from) is ∙ before_start i a lt at
-        front i a lt at (Met first last m e le g h is) = ap (λ (x : KeyRange). is_below a.until x.from) is
+        front : (i : ℕ) (a : FootprintRange) → i < start → slice_get xs i ≡ Some a → Joins xs range start end j → is_below a.until j.from ≡ true
+        front i a lt at (Alone same is) = ap (λ (x : FootprintRange). is_below a.until x.from) is ∙ before_start i a lt at
+        front i a lt at (Met first last m e le g h is) = ap (λ (x : FootprintRange). is_below a.until x.from) is
             ∙ elim (from_cases range first last) as (λ _. is_below a.until (joined range first last).from ≡ true) [
               | inl p ↦ ap (is_below a.until) p.0 ∙ apart.apart i start a first lt at g
               | inr p ↦ ap (is_below a.until) p.0 ∙ before_start i a lt at
             ]
 
-        rear : (i : ℕ) (b : KeyRange) → end ≤ i → slice_get xs i ≡ Some b → Joins xs range start end j → is_below j.until b.from ≡ true
-        rear i b le at (Alone same is) = ap (λ (x : KeyRange). is_below x.until b.from) is ∙ from_end i b le at
-        rear i b past at (Met first last m e le g h is) = ap (λ (x : KeyRange). is_below x.until b.from) is
+        rear : (i : ℕ) (b : FootprintRange) → end ≤ i → slice_get xs i ≡ Some b → Joins xs range start end j → is_below j.until b.from ≡ true
+        rear i b le at (Alone same is) = ap (λ (x : FootprintRange). is_below x.until b.from) is ∙ from_end i b le at
+        rear i b past at (Met first last m e le g h is) = ap (λ (x : FootprintRange). is_below x.until b.from) is
             ∙ elim (until_cases range first last) as (λ _. is_below (joined range first last).until b.from ≡ true) [
               | inl p ↦ ap (λ x. is_below x b.from) p.0 ∙ apart.apart m i last b (omega (arith, e, past)) h at
               | inr p ↦ ap (λ x. is_below x b.from) p.0 ∙ from_end i b past at
             ]
 
   -- the first that is met stands no further than the first behind
-  pub start_upto : start ≤ length xs → ((i : ℕ) → i < start → (r : KeyRange) × (slice_get xs i ≡ Some r)) → start ≤ end
+  pub start_upto : start ≤ length xs → ((i : ℕ) → i < start → (r : FootprintRange) × (slice_get xs i ≡ Some r)) → start ≤ end
   start_upto within there = elim (nat_lt end start) as (λ t. nat_lt end start ≡ t → start ≤ end) [
     | true ↦ λ t.
         let lt : end < start = below t in
@@ -300,42 +300,42 @@ module _ (xs : List KeyRange) (apart : AreApart xs) (range : KeyRange) (some : i
       beyond t = grind (arith, nat_tests)
 
 -- what is left where a range was put
-pub record IsPut (xs : List KeyRange) (range : KeyRange) (ys : List KeyRange) : Type 0 where
+pub record IsPut (xs : List FootprintRange) (range : FootprintRange) (ys : List FootprintRange) : Type 0 where
   pub apart : AreApart ys
   pub covered : (q : Key) → covers ys q ≡ (covers xs q || holds range q)
 
 -- what two searches have found, in the list itself
-pub record IsFound (xs : List KeyRange) (range : KeyRange) (start end : ℕ) : Type 0 where
+pub record IsFound (xs : List FootprintRange) (range : FootprintRange) (start end : ℕ) : Type 0 where
   pub start_within : start ≤ length xs
   pub end_within : end ≤ length xs
-  pub before_start : (i : ℕ) (r : KeyRange) → i < start → slice_get xs i ≡ Some r → is_below r.until range.from ≡ true
-  pub from_start : (i : ℕ) (r : KeyRange) → start ≤ i → slice_get xs i ≡ Some r → is_below r.until range.from ≡ false
-  pub before_end : (i : ℕ) (r : KeyRange) → i < end → slice_get xs i ≡ Some r → is_below range.until r.from ≡ false
-  pub from_end : (i : ℕ) (r : KeyRange) → end ≤ i → slice_get xs i ≡ Some r → is_below range.until r.from ≡ true
+  pub before_start : (i : ℕ) (r : FootprintRange) → i < start → slice_get xs i ≡ Some r → is_below r.until range.from ≡ true
+  pub from_start : (i : ℕ) (r : FootprintRange) → start ≤ i → slice_get xs i ≡ Some r → is_below r.until range.from ≡ false
+  pub before_end : (i : ℕ) (r : FootprintRange) → i < end → slice_get xs i ≡ Some r → is_below range.until r.from ≡ false
+  pub from_end : (i : ℕ) (r : FootprintRange) → end ≤ i → slice_get xs i ≡ Some r → is_below range.until r.from ≡ true
 
-module _ (xs : List KeyRange) (apart : AreApart xs) (range : KeyRange) (some : is_below range.from range.until ≡ true) (start end : ℕ) (found : IsFound xs range start end) where
+module _ (xs : List FootprintRange) (apart : AreApart xs) (range : FootprintRange) (some : is_below range.from range.until ≡ true) (start end : ℕ) (found : IsFound xs range start end) where
   pub in_order : start ≤ end
   in_order = start_upto xs apart range some start end found.before_start found.from_start found.before_end found.from_end found.start_within
       (λ i lt. get_within xs i (let le = found.start_within in omega (arith, lt, le)))
 
-  is_put : (j : KeyRange) → Joins xs range start end j → IsPut xs range (take start xs ++ j ∷ drop end xs)
+  is_put : (j : FootprintRange) → Joins xs range start end j → IsPut xs range (take start xs ++ j ∷ drop end xs)
   is_put j joins = record {
     apart = put_apart xs apart range some start end found.before_start found.from_start found.before_end found.from_end j joins in_order;
     covered = put_covers xs apart range some start end found.before_start found.from_start found.before_end found.from_end j joins;
   }
 
   -- where no range is met it stands alone
-  pub put_alone : start ≡ end → (ys : List KeyRange) → ys ≡ take start xs ++ range ∷ drop start xs → IsPut xs range ys
+  pub put_alone : start ≡ end → (ys : List FootprintRange) → ys ≡ take start xs ++ range ∷ drop start xs → IsPut xs range ys
   put_alone same ys is = subst (IsPut xs range) (sym (is ∙ ap (λ n. take start xs ++ range ∷ drop n xs) same)) (is_put range (Alone same refl))
 
   -- else it is joined with those that are met
-  pub put_joined : start < end → (first last j : KeyRange) (m : ℕ) → end ≡ suc m → slice_get xs start ≡ Some first → slice_get xs m ≡ Some last → j ≡ joined range first last
-      → (ys : List KeyRange) → ys ≡ take (suc start) (slice_set xs start j) ++ drop end (slice_set xs start j) → IsPut xs range ys
+  pub put_joined : start < end → (first last j : FootprintRange) (m : ℕ) → end ≡ suc m → slice_get xs start ≡ Some first → slice_get xs m ≡ Some last → j ≡ joined range first last
+      → (ys : List FootprintRange) → ys ≡ take (suc start) (slice_set xs start j) ++ drop end (slice_set xs start j) → IsPut xs range ys
   put_joined lt first last j m e f g is ys ys_are =
       subst (IsPut xs range) (sym (ys_are ∙ set_cut xs start end j (let le = found.end_within in omega (arith, lt, le)) lt))
       (is_put j (Met first last m e (omega (arith, lt, e)) f g is))
     where
-      set_cut : (xs : List KeyRange) (s e : ℕ) (j : KeyRange) → s < length xs → s < e → take (suc s) (slice_set xs s j) ++ drop e (slice_set xs s j) ≡ take s xs ++ j ∷ drop e xs
+      set_cut : (xs : List FootprintRange) (s e : ℕ) (j : FootprintRange) → s < length xs → s < e → take (suc s) (slice_set xs s j) ++ drop e (slice_set xs s j) ≡ take s xs ++ j ∷ drop e xs
       set_cut [] s e j inside lt = absurd (omega arith)
       set_cut (x ∷ xs) zero zero j inside lt = absurd (omega arith)
       set_cut (x ∷ xs) zero (suc e) j inside lt = refl
@@ -343,18 +343,18 @@ module _ (xs : List KeyRange) (apart : AreApart xs) (range : KeyRange) (some : i
       set_cut (x ∷ xs) (suc s) (suc e) j inside lt = ap (λ ys. x ∷ ys) (set_cut xs s e j (omega arith) (omega arith))
 
 -- the searches go over a list that is the ranges
-pub found_in : (xs ys zs : List KeyRange) (range : KeyRange) (start end : ℕ) → ys ≡ xs → zs ≡ xs → end ≤ length ys
-    → ((i : ℕ) (r : KeyRange) → i < end → slice_get ys i ≡ Some r → is_below range.until r.from ≡ false) → ((i : ℕ) (r : KeyRange) → end ≤ i → slice_get ys i ≡ Some r → is_below range.until r.from ≡ true)
+pub found_in : (xs ys zs : List FootprintRange) (range : FootprintRange) (start end : ℕ) → ys ≡ xs → zs ≡ xs → end ≤ length ys
+    → ((i : ℕ) (r : FootprintRange) → i < end → slice_get ys i ≡ Some r → is_below range.until r.from ≡ false) → ((i : ℕ) (r : FootprintRange) → end ≤ i → slice_get ys i ≡ Some r → is_below range.until r.from ≡ true)
     → start ≤ length zs
-    → ((i : ℕ) (r : KeyRange) → i < start → slice_get zs i ≡ Some r → is_below r.until range.from ≡ true) → ((i : ℕ) (r : KeyRange) → start ≤ i → slice_get zs i ≡ Some r → is_below r.until range.from ≡ false)
+    → ((i : ℕ) (r : FootprintRange) → i < start → slice_get zs i ≡ Some r → is_below r.until range.from ≡ true) → ((i : ℕ) (r : FootprintRange) → start ≤ i → slice_get zs i ≡ Some r → is_below r.until range.from ≡ false)
     → IsFound xs range start end
 found_in xs ys zs range start end a b end_within before_end from_end start_within before_start from_start = record {
   start_within = subst (λ l. start ≤ length l) b start_within;
   end_within = subst (λ l. end ≤ length l) a end_within;
-  before_start = subst (λ l. (i : ℕ) (r : KeyRange) → i < start → slice_get l i ≡ Some r → is_below r.until range.from ≡ true) b before_start;
-  from_start = subst (λ l. (i : ℕ) (r : KeyRange) → start ≤ i → slice_get l i ≡ Some r → is_below r.until range.from ≡ false) b from_start;
-  before_end = subst (λ l. (i : ℕ) (r : KeyRange) → i < end → slice_get l i ≡ Some r → is_below range.until r.from ≡ false) a before_end;
-  from_end = subst (λ l. (i : ℕ) (r : KeyRange) → end ≤ i → slice_get l i ≡ Some r → is_below range.until r.from ≡ true) a from_end;
+  before_start = subst (λ l. (i : ℕ) (r : FootprintRange) → i < start → slice_get l i ≡ Some r → is_below r.until range.from ≡ true) b before_start;
+  from_start = subst (λ l. (i : ℕ) (r : FootprintRange) → start ≤ i → slice_get l i ≡ Some r → is_below r.until range.from ≡ false) b from_start;
+  before_end = subst (λ l. (i : ℕ) (r : FootprintRange) → i < end → slice_get l i ≡ Some r → is_below range.until r.from ≡ false) a before_end;
+  from_end = subst (λ l. (i : ℕ) (r : FootprintRange) → end ≤ i → slice_get l i ≡ Some r → is_below range.until r.from ≡ true) a from_end;
 }
 
 -- ---- ranges put one behind the other

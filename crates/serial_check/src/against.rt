@@ -22,6 +22,7 @@ pub fn check(kind: Kind, journal: &[Commit], start: u64, footprint: &Footprint) 
     ensures { result ≡ newest_in kind journal.now start (covers footprint.now.items) }
 {
     let mut place = journal.len();
+    // The commit of a stamp stands at the place before it, so those up to the start come first in the journal.
     'commits: while place as u64 > start {
         place -= 1;
         let commit = &journal[place];
@@ -68,6 +69,7 @@ fn edge_is_in(kind: Kind, u: u64, v: u64, footprint: &Footprint) -> bool
 {
     match kind {
         Kind::Directed => footprint.has(Key::of_arc(u, v)),
+        // A scan of one end may have read one of both rows alone.
         Kind::Undirected => { footprint.has(Key::of_arc(v, u)) || footprint.has(Key::of_arc(u, v)) }
     }
 }

@@ -13,10 +13,10 @@ ghost use Rattle.graph_model.specs.Rows.{is_below};
 ghost use Rattle.graph_model.specs.Effects.{same_key, arc_keys};
 ghost use Rattle.run_model.specs.Commands.{IsCommand, IsQuery};
 ghost use Rattle.serial_model.specs.Footprints.{depends, write_depends, read_depends, is_at_edge, is_at_removal};
-ghost use Rattle.serial_check.specs.declared.range.KeyRange.{KeyRange};
+ghost use Rattle.serial_check.specs.declared.range.FootprintRange.{FootprintRange};
 ghost use Rattle.serial_check.specs.Ranges.{holds, covers, joined, IsRowKey, AreApart};
 
-use crate::range::KeyRange;
+use crate::range::FootprintRange;
 use graph_model::{Key, Kind, NoMemory, Write};
 use run_model::{Command, Query};
 use std::alloc::Global;
@@ -29,17 +29,17 @@ const LINE_RANGES: usize = 4;
 #[derive(Drop)]
 pub struct Footprint {
     /// They may overlap.
-    ranges: Vec<KeyRange>,
+    ranges: Vec<FootprintRange>,
 }
 
 impl Model for Footprint {
     ghost use Rattle.std.specs.Prelude.{◌-◌};
     ghost use Rattle.std.specs.Vec.{vec_capacity, vec_len};
     ghost use Rattle.items.specs.Room.{WithRoom};
-    ghost use Rattle.serial_check.specs.declared.range.KeyRange.{KeyRange};
+    ghost use Rattle.serial_check.specs.declared.range.FootprintRange.{FootprintRange};
     ghost use Rattle.serial_check.specs.Ranges.{AreApart};
 
-    ghost Value = { WithRoom KeyRange };
+    ghost Value = { WithRoom FootprintRange };
 
     ghost view = { λ f. record { items = f.ranges.items; spare = vec_capacity f.ranges - vec_len f.ranges } };
 
@@ -68,6 +68,7 @@ impl Footprint {
         ensures { result ≡ covers self.now.items key }
     {
         let count = count_up_to(self.ranges.as_slice(), key);
+        // The last range that begins at the key or below it is the only one that can have it, since they are apart.
         count > 0 && key.is_below(self.ranges[count - 1].until)
     }
 
@@ -81,11 +82,12 @@ impl Footprint {
         // Before anything is added, so that where memory is refused the footprint is as it was.
         self.reserve()?;
         match command {
+            // What these are answered depends on the journal and on the writes alone.
             Command::Begin | Command::Commit | Command::Abort => {}
             Command::Write { write } => self.put_write(kind, *write),
             Command::Read { query } => self.put_read(*query),
             // A kernel reads all rows.
-            Command::Run { kernel: _, file: _ } => self.put(KeyRange::all()),
+            Command::Run { kernel: _, file: _ } => self.put(FootprintRange::all()),
         }
         Ok(())
     }
@@ -108,7 +110,8 @@ impl Footprint {
             → covers self.new.items q ≡ (covers self.old.items q || write_depends kind write q) }
     {
         match write {
-            Write::AddVertex { v } => self.put(KeyRange::of_vertex(v)),
+            Write::AddVertex { v } => self.put(FootprintRange::of_vertex(v)),
+            // Whether it goes depends on all arcs that lead to it or from it.
             Write::DropVertex { v } => self.put(removal_range(kind, v)),
             Write::AddEdge { u, v, weight: _ } => self.put_edge(kind, u, v),
             Write::SetEdge { u, v, weight: _ } => self.put_edge(kind, u, v),
@@ -124,9 +127,10 @@ impl Footprint {
             → covers self.new.items q ≡ (covers self.old.items q || read_depends query q) }
     {
         match query {
-            Query::WeightOf { u, v } => self.put(KeyRange::of_arc(u, v)),
-            Query::NeighboursOf { v } => self.put(KeyRange::from_source(v)),
-            Query::Counts => self.put(KeyRange::all()),
+            Query::WeightOf { u, v } => self.put(FootprintRange::of_arc(u, v)),
+            // Its own row too, which says whether the vertex is there.
+            Query::NeighboursOf { v } => self.put(FootprintRange::from_source(v)),
+            Query::Counts => self.put(FootprintRange::all()),
         }
     }
 
@@ -137,19 +141,19 @@ impl Footprint {
         requires second { v ≤ MAX_ID }
         ensures { (q : Key) → covers self.new.items q ≡ (covers self.old.items q || is_at_edge kind u v q) }
     {
-        self.put(KeyRange::of_vertex(u));
-        self.put(KeyRange::of_vertex(v));
+        self.put(FootprintRange::of_vertex(u));
+        self.put(FootprintRange::of_vertex(v));
         match kind {
-            Kind::Directed => self.put(KeyRange::of_arc(u, v)),
+            Kind::Directed => self.put(FootprintRange::of_arc(u, v)),
             Kind::Undirected => {
-                self.put(KeyRange::of_arc(v, u));
-                self.put(KeyRange::of_arc(u, v));
+                self.put(FootprintRange::of_arc(v, u));
+                self.put(FootprintRange::of_arc(u, v));
             }
         }
     }
 
     /// Adds a range, joined with those that it meets or overlaps. There has to be room for it.
-    fn put(&mut self, range: KeyRange)
+    fn put(&mut self, range: FootprintRange)
         requires room { 0 < self.old.spare }
         requires some { is_below range.from range.until ≡ true }
         ensures covers { (q : Key) → covers self.new.items q ≡ (covers self.old.items q || holds range q) }
@@ -172,24 +176,26 @@ impl Footprint {
 }
 
 /// The keys on which the removal of a vertex depends.
-fn removal_range(kind: Kind, v: u64) -> KeyRange
+fn removal_range(kind: Kind, v: u64) -> FootprintRange
     requires { v ≤ MAX_ID }
     ensures some { is_below result.from result.until ≡ true }
     ensures holds { (q : Key) → IsRowKey q → holds result q ≡ is_at_removal kind v q }
 {
     match kind {
-        Kind::Directed => KeyRange::all(),
-        Kind::Undirected => KeyRange::from_source(v),
+        // An arc that leads to the vertex stands under its source, which may be any.
+        Kind::Directed => FootprintRange::all(),
+        // Each of its edges has a row under it.
+        Kind::Undirected => FootprintRange::from_source(v),
     }
 }
 
 /// How many of the ranges begin at the key or below it.
-fn count_up_to(ranges: &[KeyRange], key: Key) -> usize
+fn count_up_to(ranges: &[FootprintRange], key: Key) -> usize
     requires { AreApart ranges.now }
     ensures within { result ≤ length ranges.now }
-    ensures before { (i : ℕ) (r : KeyRange) → i < result → slice_get ranges.now i ≡ Some r
+    ensures before { (i : ℕ) (r : FootprintRange) → i < result → slice_get ranges.now i ≡ Some r
         → is_below key r.from ≡ false }
-    ensures behind { (i : ℕ) (r : KeyRange) → result ≤ i → slice_get ranges.now i ≡ Some r
+    ensures behind { (i : ℕ) (r : FootprintRange) → result ≤ i → slice_get ranges.now i ≡ Some r
         → is_below key r.from ≡ true }
 {
     let mut low = 0;
@@ -207,12 +213,12 @@ fn count_up_to(ranges: &[KeyRange], key: Key) -> usize
 }
 
 /// The place of the first range that ends at the key or above it.
-fn first_met(ranges: &[KeyRange], key: Key) -> usize
+fn first_met(ranges: &[FootprintRange], key: Key) -> usize
     requires { AreApart ranges.now }
     ensures within { result ≤ length ranges.now }
-    ensures before { (i : ℕ) (r : KeyRange) → i < result → slice_get ranges.now i ≡ Some r
+    ensures before { (i : ℕ) (r : FootprintRange) → i < result → slice_get ranges.now i ≡ Some r
         → is_below r.until key ≡ true }
-    ensures behind { (i : ℕ) (r : KeyRange) → result ≤ i → slice_get ranges.now i ≡ Some r
+    ensures behind { (i : ℕ) (r : FootprintRange) → result ≤ i → slice_get ranges.now i ≡ Some r
         → is_below r.until key ≡ false }
 {
     let mut low = 0;
@@ -230,10 +236,10 @@ fn first_met(ranges: &[KeyRange], key: Key) -> usize
 }
 
 /// A range from where the first of two ranges begins, or this one, up to where the last of them ends, or this one.
-fn joined(range: KeyRange, first: KeyRange, last: KeyRange) -> KeyRange
+fn joined(range: FootprintRange, first: FootprintRange, last: FootprintRange) -> FootprintRange
     ensures { result ≡ joined range first last }
 {
-    KeyRange {
+    FootprintRange {
         from: if first.from.is_below(range.from) {
             first.from
         } else {
@@ -248,7 +254,7 @@ fn joined(range: KeyRange, first: KeyRange, last: KeyRange) -> KeyRange
 }
 
 /// Removes the ranges between two places.
-fn remove_between(ranges: &mut Vec<KeyRange>, from: usize, until: usize)
+fn remove_between(ranges: &mut Vec<FootprintRange>, from: usize, until: usize)
     requires order { from ≤ until }
     requires within { until ≤ length ranges.old.items }
     ensures items { ranges.new.items ≡ take from ranges.old.items ++ drop until ranges.old.items }

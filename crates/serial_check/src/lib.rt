@@ -10,4 +10,4 @@ mod range;
 
 pub use against::check;
 pub use footprint::Footprint;
-pub use range::KeyRange;
+pub use range::FootprintRange;

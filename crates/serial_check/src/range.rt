@@ -15,32 +15,32 @@ use graph_model::Key;
 
 /// The keys from the one on and below the other.
 #[derive(Clone, Copy, Debug, PartialEq, Eq)]
-pub struct KeyRange {
+pub struct FootprintRange {
     /// The least key.
     pub from: Key,
     /// The first key beyond it.
     pub until: Key,
 }
 
-impl KeyRange {
+impl FootprintRange {
     /// The key of a vertex's row alone.
-    pub fn of_vertex(v: u64) -> KeyRange
+    pub fn of_vertex(v: u64) -> FootprintRange
         ensures some { is_below result.from result.until ≡ true }
         ensures holds { (q : Key) → holds result q ≡ same_key q (vertex_key v) }
     {
-        KeyRange {
+        FootprintRange {
             from: Key { src: v, second: 0 },
             until: Key { src: v, second: 1 },
         }
     }
 
     /// The key of an arc's row alone.
-    pub fn of_arc(u: u64, v: u64) -> KeyRange
+    pub fn of_arc(u: u64, v: u64) -> FootprintRange
         requires { v ≤ MAX_ID }
         ensures some { is_below result.from result.until ≡ true }
         ensures holds { (q : Key) → holds result q ≡ same_key q (arc_key u v) }
     {
-        KeyRange {
+        FootprintRange {
             from: Key {
                 src: u,
                 second: v + 1,
@@ -53,12 +53,12 @@ impl KeyRange {
     }
 
     /// The keys of a vertex's row and of the rows of the arcs that lead from it.
-    pub fn from_source(v: u64) -> KeyRange
+    pub fn from_source(v: u64) -> FootprintRange
         requires { v ≤ MAX_ID }
         ensures some { is_below result.from result.until ≡ true }
         ensures holds { (q : Key) → holds result q ≡ is_from v q }
     {
-        KeyRange {
+        FootprintRange {
             from: Key { src: v, second: 0 },
             until: Key {
                 src: v + 1,
@@ -68,11 +68,11 @@ impl KeyRange {
     }
 
     /// The keys of all rows.
-    pub fn all() -> KeyRange
+    pub fn all() -> FootprintRange
         ensures some { is_below result.from result.until ≡ true }
         ensures holds { (q : Key) → IsRowKey q → holds result q ≡ true }
     {
-        KeyRange {
+        FootprintRange {
             from: Key { src: 0, second: 0 },
             until: Key::END,
         }

@@ -15,8 +15,8 @@ use Rattle.run_model.specs.Run.{HasFiles}
 use Rattle.run_model.specs.Jobs.{JobState, RunState, with_job}
 use Rattle.run_model.specs.UnderWay.{script_of, IsUnderWay}
 use Rattle.run_model.proofs.SetLemmas.{set_cases}
-use Rattle.job_runner.specs.LineRunnerDeclared.reading.Reading.{Reading}
-use Rattle.job_runner.specs.LineRunnerDeclared.reading.Reading.TheVariants as readings
+use Rattle.job_runner.specs.LineRunnerDeclared.reading.LineReading.{LineReading}
+use Rattle.job_runner.specs.LineRunnerDeclared.reading.LineReading.TheVariants as readings
 use Rattle.job_runner.specs.LineRunner.Scanning.{IsReading}
 use Rattle.job_runner.specs.LineRunner.Phases.{file_of}
 use Rattle.job_runner.specs.Progress.{Progress, left_of, job_at, seats, state_of}
@@ -62,7 +62,7 @@ seats_here (q ∷ ps) (u ∷ js) zero pass job at = let same : q ≡ pass = some
 seats_here (q ∷ ps) (u ∷ js) (suc k) pass job at = ap (λ xs. job_at q u ∷ xs) (seats_here ps js k pass job at)
 
 -- a line that commits reads nothing
-reads_none : (g : Graph) (reading : Option Reading) (r : Command) → IfSome reading (IsReading g commands.Commit) → IfSome reading (IsReading g r)
+reads_none : (g : Graph) (reading : Option LineReading) (r : Command) → IfSome reading (IsReading g commands.Commit) → IfSome reading (IsReading g r)
 reads_none g None r is = tt
 reads_none g (Some (readings.Scan scan)) r is = absurd is.result
 reads_none g (Some (readings.Replay kept turns)) r is = absurd is.1

@@ -22,7 +22,7 @@ use Rattle.run_model.specs.AnsweredLines.{of_txn}
 use Rattle.run_model.specs.Jobs.{JobState, start_of_job}
 use Rattle.serial_model.specs.Footprints.{depends, footprint, writes_in, later_in, newest_in}
 use Rattle.serial_model.specs.SerialTurns.{newest_against, refusal_of_line}
-use Rattle.serial_check.specs.declared.range.KeyRange.{KeyRange}
+use Rattle.serial_check.specs.declared.range.FootprintRange.{FootprintRange}
 use Rattle.serial_check.specs.Ranges.{covers, IsRowKey}
 use Rattle.serial_runner.specs.SerialRuns.{depends_at_hand, IsFootprintOf, refusal_since, refusal_by}
 use Rattle.teseo_core.specs.Writing.{writing_since}
@@ -74,7 +74,7 @@ some_own x xs = past (length xs)
     past n = grind (arith, nat_tests)
 
 module _ (core : Core) (legal : IsLegal core.kind core.journal) (pass : PassState) (j : JobState) (own : j.own ≡ pass.own) (start : j.start ≡ pass.start)
-    (idle : j.start ≡ None → j.own ≡ []) (closed : j.skipping ≡ true → j.start ≡ None) (ranges : List KeyRange) (c : Command) (rest : List Command) (left : j.left ≡ c ∷ rest)
+    (idle : j.start ≡ None → j.own ≡ []) (closed : j.skipping ≡ true → j.start ≡ None) (ranges : List FootprintRange) (c : Command) (rest : List Command) (left : j.left ≡ c ∷ rest)
     (tie : IsFootprintOf core.kind j ranges) where
   none_of : (b : Bool) → cond {A = Option ℕ} b None None ≡ None
   none_of true = refl

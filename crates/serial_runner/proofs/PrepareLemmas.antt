@@ -22,7 +22,7 @@ use Rattle.job_runner.proofs.TookLemmas.{set_same, are_held}
 use Rattle.job_runner.proofs.TieLemmas as ties
 use Rattle.job_runner.proofs.JobLemmas.{heads}
 use Rattle.job_runner.proofs.StepLemmas.{at_hand, over_left}
-use Rattle.serial_check.specs.declared.range.KeyRange.{KeyRange}
+use Rattle.serial_check.specs.declared.range.FootprintRange.{FootprintRange}
 use Rattle.serial_runner.specs.declared.run.Check.{Check}
 use Rattle.serial_model.specs.SerialRun.{is_commit}
 use Rattle.teseo_core.specs.Writing.{writing_since}
@@ -32,7 +32,7 @@ use Rattle.serial_runner.proofs.StateLemmas.{extends_none}
 use Rattle.serial_runner.proofs.TurnLemmas as turned
 
 -- a line that is refused commits
-refusal_asks : (core : Core) (pass : PassState) (ranges : List KeyRange) (stamp : ℕ) (r : Command) → refusal_by core pass ranges r ≡ Some stamp → r ≡ commands.Commit
+refusal_asks : (core : Core) (pass : PassState) (ranges : List FootprintRange) (stamp : ℕ) (r : Command) → refusal_by core pass ranges r ≡ Some stamp → r ≡ commands.Commit
 refusal_asks core pass ranges stamp commands.Begin e = cc
 refusal_asks core pass ranges stamp commands.Commit e = refl
 refusal_asks core pass ranges stamp commands.Abort e = cc
@@ -41,7 +41,7 @@ refusal_asks core pass ranges stamp (commands.Read query) e = cc
 refusal_asks core pass ranges stamp (commands.Run kernel file) e = cc
 
 -- another line is refused by none
-pub refusal_none : (core : Core) (pass : PassState) (ranges : List KeyRange) (r : Command) → is_commit r ≡ false → refusal_by core pass ranges r ≡ None
+pub refusal_none : (core : Core) (pass : PassState) (ranges : List FootprintRange) (r : Command) → is_commit r ≡ false → refusal_by core pass ranges r ≡ None
 refusal_none core pass ranges r e = ap (λ b. cond b (refusal_since core.kind core.journal (writing_since pass) ranges) None) e
 
 -- a job that is over isn't prepared

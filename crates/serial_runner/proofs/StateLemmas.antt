@@ -19,7 +19,7 @@ use Rattle.run_model.proofs.LineLemmas.{none_later}
 use Rattle.serial_model.specs.Footprints.{depends, footprint}
 use Rattle.serial_model.specs.SerialRun.{is_refused}
 use Rattle.serial_model.proofs.ReadLemmas.{none_refused}
-use Rattle.serial_check.specs.declared.range.KeyRange.{KeyRange}
+use Rattle.serial_check.specs.declared.range.FootprintRange.{FootprintRange}
 use Rattle.serial_check.specs.Ranges.{covers, IsRowKey}
 use Rattle.serial_runner.specs.SerialRuns.{refused_from, depends_at_hand, IsFootprintOf, Extends}
 
@@ -117,14 +117,14 @@ foot_more kind txn before l same q =
     ∙ ap (λ b. footprint kind (of_txn txn before) q || b) (or_false (depends kind l.command q))
 
 -- what the ranges cover before the line takes its turn: the line's footprint with that of its transaction
-abbrev pub CoversWith : Kind → JobState → Command → List KeyRange → Type 0
+abbrev pub CoversWith : Kind → JobState → Command → List FootprintRange → Type 0
 CoversWith kind j c ranges = (q : Key) → IsRowKey q → covers ranges q ≡ (footprint kind (of_txn (next_txn j.begun c) j.lines) q || depends kind c q)
 
 positive : (n : ℕ) → nat_lt 0 (n + 1) ≡ true
 positive n = grind (arith, nat_tests)
 
 -- behind a line that was answered that is what they have to cover
-pub foot_answered : (kind : Kind) (j : JobState) (c : Command) (rest : List Command) (a : Answer) (next : JobState) (ranges : List KeyRange) → HasAnswered j c rest a next → CoversWith kind j c ranges → IsFootprintOf kind next ranges
+pub foot_answered : (kind : Kind) (j : JobState) (c : Command) (rest : List Command) (a : Answer) (next : JobState) (ranges : List FootprintRange) → HasAnswered j c rest a next → CoversWith kind j c ranges → IsFootprintOf kind next ranges
 foot_answered kind j c rest a next ranges has covered q row =
     covered q row
     ∙ sym (foot_more kind (next_txn j.begun c) j.lines (record { txn = next_txn j.begun c; command = c; answer = a }) refl q)
@@ -134,7 +134,7 @@ foot_answered kind j c rest a next ranges has covered q row =
     ∙ or_false (footprint kind (of_txn (next_txn j.begun c) (j.lines ++ record { txn = next_txn j.begun c; command = c; answer = a } ∷ [])) q))
 
 -- and so behind each turn
-pub foot_behind : (kind : Kind) (j : JobState) (c : Command) (rest : List Command) (next : JobState) (ranges : List KeyRange) → j.left ≡ c ∷ rest → Goes j c rest next → CoversWith kind j c ranges → IsFootprintOf kind next ranges
+pub foot_behind : (kind : Kind) (j : JobState) (c : Command) (rest : List Command) (next : JobState) (ranges : List FootprintRange) → j.left ≡ c ∷ rest → Goes j c rest next → CoversWith kind j c ranges → IsFootprintOf kind next ranges
 foot_behind kind j c rest next ranges left (Waits inside is) covered q row =
     covered q row
     ∙ ap (λ n. footprint kind (of_txn n j.lines) q || depends kind c q) (inside j.begun)
@@ -144,7 +144,7 @@ foot_behind kind j c rest next ranges left (Waits inside is) covered q row =
 foot_behind kind j c rest next ranges left (Answers a not has) covered q row = foot_answered kind j c rest a next ranges has covered q row
 
 -- what a line's check does to the ranges is what they have to cover before the turn
-pub foot_extended : (kind : Kind) (j : JobState) (c : Command) (rest : List Command) (old new : List KeyRange) → j.left ≡ c ∷ rest → AreNumbered 0 j.lines j.begun → IsFootprintOf kind j old → Extends kind c old new → CoversWith kind j c new
+pub foot_extended : (kind : Kind) (j : JobState) (c : Command) (rest : List Command) (old new : List FootprintRange) → j.left ≡ c ∷ rest → AreNumbered 0 j.lines j.begun → IsFootprintOf kind j old → Extends kind c old new → CoversWith kind j c new
 foot_extended kind j c rest old new left numbered tie extends = by_command c refl extends
   where
     -- with what the line at hand has added so far
@@ -177,7 +177,7 @@ foot_extended kind j c rest old new left numbered tie extends = by_command c ref
     by_command (commands.Run kernel file) is e = adds (commands.Run kernel file) is (λ n. refl) (e.others refl)
 
 -- a line that isn't a `begin` may leave the ranges, where it depends on nothing
-pub extends_none : (kind : Kind) (old new : List KeyRange) → new ≡ old → Extends kind commands.Commit old new
+pub extends_none : (kind : Kind) (old new : List FootprintRange) → new ≡ old → Extends kind commands.Commit old new
 extends_none kind old new same = record {
   begins = λ e. absurd (let never : false ≡ true = e in cc);
   others = λ e q row. ap (λ rs. covers rs q) same ∙ sym (or_false (covers old q));

@@ -20,7 +20,7 @@ use Rattle.serial_model.specs.SerialRun.{is_commit, is_refused, run_read}
 use Rattle.teseo_core.specs.Writing.{writing_since}
 use Rattle.job_runner.specs.Progress.{Progress, left_of, is_over, state_of}
 use Rattle.job_runner.specs.Runs.{AreUnderWay, under_way, HaveDone, outputs_of}
-use Rattle.serial_check.specs.declared.range.KeyRange.{KeyRange}
+use Rattle.serial_check.specs.declared.range.FootprintRange.{FootprintRange}
 use Rattle.serial_runner.specs.declared.run.RefusedCommit.{RefusedCommit}
 use Rattle.serial_runner.specs.declared.run.Check.{Check}
 use Rattle.serial_check.specs.Ranges.{covers, IsRowKey}
@@ -41,7 +41,7 @@ depends_at_hand kind [] q = false
 depends_at_hand kind (c ∷ cs) q = depends kind c q
 
 -- the ranges cover the footprint of the transaction's lines, and of the line at hand where it has taken a turn
-abbrev pub IsFootprintOf : Kind → JobState → List KeyRange → Type 0
+abbrev pub IsFootprintOf : Kind → JobState → List FootprintRange → Type 0
 IsFootprintOf kind j ranges = (q : Key) → IsRowKey q
     → covers ranges q
     ≡ (footprint kind (of_txn j.begun j.lines) q || (nat_lt 0 j.taken && depends_at_hand kind j.left q))
@@ -49,11 +49,11 @@ IsFootprintOf kind j ranges = (q : Key) → IsRowKey q
 -- ---- before a turn
 
 -- the commit for which a line is refused, by these ranges of keys
-abbrev pub refusal_since : Kind → List Commit → Option ℕ → List KeyRange → Option ℕ
+abbrev pub refusal_since : Kind → List Commit → Option ℕ → List FootprintRange → Option ℕ
 refusal_since kind journal None ranges = None
 refusal_since kind journal (Some start) ranges = newest_in kind journal start (covers ranges)
 
-abbrev pub refusal_by : Core → PassState → List KeyRange → Command → Option ℕ
+abbrev pub refusal_by : Core → PassState → List FootprintRange → Command → Option ℕ
 refusal_by core pass ranges r =
     cond (is_commit r) (refusal_since core.kind core.journal (writing_since pass) ranges) None
 
@@ -67,7 +67,7 @@ is_begin (commands.Read query) = false
 is_begin (commands.Run kernel file) = false
 
 -- the ranges behind the line: a transaction begins with none
-pub record Extends (kind : Kind) (r : Command) (old new : List KeyRange) : Type 0 where
+pub record Extends (kind : Kind) (r : Command) (old new : List FootprintRange) : Type 0 where
   pub begins : is_begin r ≡ true → new ≡ []
   pub others : is_begin r ≡ false
       → (q : Key) → IsRowKey q → covers new q ≡ (covers old q || depends kind r q)

@@ -11,7 +11,7 @@ use graph_model::{Commit, StepEngine};
 use teseo_core::Core;
 
 /// An engine of one owner that lends its journal.
-pub trait JournalEngine: StepEngine {
+pub trait CheckedEngine: StepEngine {
     /// Lends the journal, the commits in the order of their stamps.
     fn journal(&self) -> &[Commit]
         ensures { result.now ≡ (Self.core self.now).journal };
@@ -21,7 +21,7 @@ pub trait JournalEngine: StepEngine {
         ensures { result ≡ writing_since (pass_at (Self.core self.now) pass) };
 }
 
-impl JournalEngine for Core {
+impl CheckedEngine for Core {
     fn journal(&self) -> &[Commit] {
         self.journal()
     }

@@ -9,5 +9,5 @@ pub mod below;
 mod engine;
 mod run;
 
-pub use engine::JournalEngine;
+pub use engine::CheckedEngine;
 pub use run::{RefusedCommit, run_serial};

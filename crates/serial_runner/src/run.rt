@@ -17,7 +17,7 @@ ghost use Rattle.serial_runner.specs.declared.run.RefusedCommit.{RefusedCommit};
 ghost use Rattle.serial_runner.specs.declared.run.Check.{Check};
 ghost use Rattle.teseo_core.specs.Writing.{writing_since};
 
-use crate::engine::JournalEngine;
+use crate::engine::CheckedEngine;
 use graph_model::{Cause, NoMemory};
 use items::Items;
 use job_runner::{Jobs, take_turn};
@@ -46,7 +46,7 @@ struct Check {
 
 /// Runs the jobs of all scripts to their end, one turn after the other, and refuses each commit that would not leave a
 /// serial order.
-pub fn run_serial<R: Threads + Sync, E: JournalEngine>(
+pub fn run_serial<R: Threads + Sync, E: CheckedEngine>(
     rt: &R,
     alloc: Global,
     engine: &mut E,
@@ -69,7 +69,7 @@ pub fn run_serial<R: Threads + Sync, E: JournalEngine>(
 }
 
 /// Takes turns until all scripts have ended, or memory runs out, with a check for each script.
-fn run_checked<R: Threads + Sync, E: JournalEngine>(
+fn run_checked<R: Threads + Sync, E: CheckedEngine>(
     rt: &R,
     alloc: Global,
     engine: &mut E,
@@ -82,12 +82,13 @@ fn run_checked<R: Threads + Sync, E: JournalEngine>(
         → SerialEnds inputs schedule.now (E.core engine.old) (E.core engine.new) jobs.new) }
     ensures err { OnErr result (RunIsStuck (E.core engine.old) (E.core engine.new) jobs.new) }
 {
+    // Made before the first turn, one a script, so that a turn finds its own by a number.
     let mut checks = new_checks(alloc, jobs.len())?;
     run_with(rt, engine, jobs, checks.as_mut_slice(), schedule)
 }
 
 /// Takes turns until all scripts have ended, or memory runs out, and gives refused commits their answers.
-fn run_with<R: Threads + Sync, E: JournalEngine>(
+fn run_with<R: Threads + Sync, E: CheckedEngine>(
     rt: &R,
     engine: &mut E,
     jobs: &mut Jobs,
@@ -103,6 +104,7 @@ fn run_with<R: Threads + Sync, E: JournalEngine>(
     ensures err { OnErr result (RunIsStuck (E.core engine.old) (E.core engine.new) jobs.new) }
 {
     take_turns(rt, engine, jobs, checks, schedule)?;
+    // After the run, since until then a refused commit is an abort to whatever looks at the answers.
     answer_refused(jobs, checks);
     Ok(())
 }
@@ -123,7 +125,7 @@ fn new_checks(alloc: Global, count: usize) -> Result<Vec<Check>, NoMemory>
 }
 
 /// Takes turns until all scripts have ended, or memory runs out.
-fn take_turns<R: Threads + Sync, E: JournalEngine>(
+fn take_turns<R: Threads + Sync, E: CheckedEngine>(
     rt: &R,
     engine: &mut E,
     jobs: &mut Jobs,
@@ -163,7 +165,7 @@ fn take_turns<R: Threads + Sync, E: JournalEngine>(
 
 /// Gives a turn to the service, number 0, or to a job, whose line is checked first. Answers whether the job ends with
 /// that.
-fn take_checked_turn<R: Threads + Sync, E: JournalEngine>(
+fn take_checked_turn<R: Threads + Sync, E: CheckedEngine>(
     rt: &R,
     engine: &mut E,
     jobs: &mut Jobs,
@@ -179,15 +181,17 @@ fn take_checked_turn<R: Threads + Sync, E: JournalEngine>(
     ensures goes { OnOk result (Goes jobs.old number jobs.new) }
     ensures err { OnErr result (IsStuck (E.core engine.old) (E.core engine.new) jobs.new) }
 {
+    // The service reads and writes nothing of any transaction.
     if number == 0 {
         return take_turn(rt, engine, jobs, number);
     }
+    // Before the turn: a line that scans for several turns is added each time, which changes nothing after the first.
     prepare(engine, jobs, &mut checks[number as usize - 1], number)?;
     take_turn(rt, engine, jobs, number)
 }
 
 /// Checks the line at hand of a job. Where a commit stands against it, it will abort.
-fn prepare<E: JournalEngine>(
+fn prepare<E: CheckedEngine>(
     engine: &E,
     jobs: &mut Jobs,
     check: &mut Check,
@@ -229,7 +233,7 @@ fn is_begin(command: &Command) -> bool
 }
 
 /// Checks a `commit` of a job. Where a commit stands against it, it will abort, and that is noted.
-fn prepare_commit<E: JournalEngine>(
+fn prepare_commit<E: CheckedEngine>(
     engine: &E,
     jobs: &mut Jobs,
     check: &mut Check,
@@ -250,6 +254,7 @@ fn prepare_commit<E: JournalEngine>(
         None => Ok(()),
         Some(stamp) => {
             let line = jobs.answered(number);
+            // Before the line is changed, so that where memory runs out the script is as it was.
             check.refused.push(RefusedCommit { line, stamp })?;
             // What the engine does is an abort, which needs no word of refusals; the report says `conflict` in its
             // place.
@@ -260,11 +265,12 @@ fn prepare_commit<E: JournalEngine>(
 }
 
 /// The commit that stands against that of a pass's open transaction, which has this footprint.
-fn refusal<E: JournalEngine>(engine: &E, footprint: &Footprint, pass: u32) -> Option<u64>
+fn refusal<E: CheckedEngine>(engine: &E, footprint: &Footprint, pass: u32) -> Option<u64>
     requires { IsLegal (E.core engine.now).kind (E.core engine.now).journal }
     ensures { result ≡ refusal_since (E.core engine.now).kind (E.core engine.now).journal
         (writing_since (pass_at (E.core engine.now) pass)) footprint.now.items }
 {
+    // A transaction that wrote nothing is in order as of its start, whatever committed since.
     let start = engine.writing_since(pass)?;
     check(engine.kind(), engine.journal(), start, footprint)
 }

@@ -13,8 +13,8 @@ use Rattle.job_runner.specs.LineRunnerDeclared.answering.LineTurn.TheVariants.{S
 use Rattle.job_runner.specs.LineRunnerDeclared.kept.KeptImage.{KeptImage}
 use Rattle.job_runner.specs.LineRunner.Phases.{file_of}
 use Rattle.job_runner.proofs.LineRunner.AccountLemmas.{reads_none}
-use Rattle.job_runner.specs.declared.turn.Turn.{Turn}
-use Rattle.job_runner.specs.declared.turn.Turn.TheVariants as turns
+use Rattle.job_runner.specs.declared.turn.JobTurn.{JobTurn}
+use Rattle.job_runner.specs.declared.turn.JobTurn.TheVariants as turns
 use Rattle.job_runner.specs.Progress.{Progress, new_progress, left_of, behind, is_over}
 use Rattle.job_runner.proofs.JobLemmas.{has_left}
 use Rattle.thread_runner.specs.ByAccount.{TakesTurnBy, TookTurnBy, TurnsBy, HasRunSoFar, NewScriptsAreReady, NewScriptsRun}
@@ -30,7 +30,7 @@ behind_same : (job : Progress) (image : Option KeptImage) (turn : LineTurn) → 
 behind_same job image (Scanning reading) = record { number = refl; commands = refl }
 behind_same job image (Answering given) = record { number = refl; commands = refl }
 
-turn_same : (old new : Account) (job next : Progress) (turn : Turn) → is_over job ≡ false → TookTurnBy old job turn next new → IsSameScript job next
+turn_same : (old new : Account) (job next : Progress) (turn : JobTurn) → is_over job ≡ false → TookTurnBy old job turn next new → IsSameScript job next
 turn_same old new job next turn going took = by_turn turn took
   where
     by_line : ((c : Command) (rest : List Command) → left_of job ≡ c ∷ rest → TakesTurnBy old job c next new) → IsSameScript job next
@@ -39,7 +39,7 @@ turn_same old new job next turn going took = by_turn turn took
         let t = takes line.0 line.1 line.2 in
         subst (IsSameScript job) (sym t.job_is) (behind_same job t.image t.turn)
 
-    by_turn : (turn : Turn) → TookTurnBy old job turn next new → IsSameScript job next
+    by_turn : (turn : JobTurn) → TookTurnBy old job turn next new → IsSameScript job next
     by_turn turns.More took = by_line took.1
     by_turn turns.Ended took = by_line took.1
     by_turn turns.NoMemory took = record {

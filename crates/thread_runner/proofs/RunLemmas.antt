@@ -13,8 +13,8 @@ use Rattle.job_runner.specs.LineRunnerDeclared.answering.LineTurn.{LineTurn}
 use Rattle.job_runner.specs.LineRunnerDeclared.answering.LineTurn.TheVariants.{Scanning, Answering}
 use Rattle.job_runner.specs.LineRunnerDeclared.kept.KeptImage.{KeptImage}
 use Rattle.job_runner.specs.LineRunner.Phases.{is_skipping, phase_at, file_of}
-use Rattle.job_runner.specs.declared.turn.Turn.{Turn}
-use Rattle.job_runner.specs.declared.turn.Turn.TheVariants as turns
+use Rattle.job_runner.specs.declared.turn.JobTurn.{JobTurn}
+use Rattle.job_runner.specs.declared.turn.JobTurn.TheVariants as turns
 use Rattle.job_runner.specs.Progress.{Progress, left_of, listed_table, has_given_up, is_over, behind}
 use Rattle.job_runner.proofs.JobLemmas.{has_left}
 use Rattle.thread_runner.specs.ByAccount.{phase_left, TakesBy, TakesTurnBy, TookTurnBy, TurnsBy, RanBy, HasRunSoFar}
@@ -101,7 +101,7 @@ times_keep kind load (suc n) old new job next is going so_far = times_keep kind 
         let line = line_of (left_of job) (has_left job.phase (left_of job) is.3) in
         turn_keeps kind load old job line.0 line.1 line.2 is.2 so_far is.1 (takes line.0 line.1 line.2)
 
-    by_turn : (turn : Turn) → TookTurnBy old job turn is.1 is.2 → HasRunSoFar kind load is.1 is.2
+    by_turn : (turn : JobTurn) → TookTurnBy old job turn is.1 is.2 → HasRunSoFar kind load is.1 is.2
     by_turn turns.More took = by_line took.1
     by_turn turns.Ended took = by_line took.1
     by_turn turns.NoMemory took =

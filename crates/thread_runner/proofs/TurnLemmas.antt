@@ -22,7 +22,7 @@ use Rattle.job_runner.specs.LineRunnerDeclared.answering.LineTurn.TheVariants.{S
 use Rattle.job_runner.specs.LineRunnerDeclared.kept.KeptImage.{KeptImage}
 use Rattle.job_runner.specs.LineRunnerDeclared.phase.Phase.{Phase}
 use Rattle.job_runner.specs.LineRunnerDeclared.phase.Phase.TheVariants.{Between, Open, Skipping, GivenUp}
-use Rattle.job_runner.specs.LineRunnerDeclared.reading.Reading.{Reading}
+use Rattle.job_runner.specs.LineRunnerDeclared.reading.LineReading.{LineReading}
 use Rattle.job_runner.specs.LineRunner.Kernels.{IsKeptImage}
 use Rattle.job_runner.specs.LineRunner.Scanning.{IsReading, taken_of}
 use Rattle.job_runner.specs.LineRunner.Phases.{is_skipping, is_inside, IsPhase, phase_at, phase_behind, plain, file_of, sees_same, image_behind}
@@ -30,8 +30,8 @@ use Rattle.job_runner.specs.LineRunner.Turns.{view_now, MayTakeNow, Calls, Answe
 use Rattle.job_runner.proofs.LineRunner.CoreLemmas.{some_of}
 use Rattle.job_runner.proofs.LineRunner.AccountLemmas.{reads_none, reads_aborts}
 use Rattle.job_runner.proofs.LineRunner.ViewLemmas.{sees_still}
-use Rattle.job_runner.specs.declared.turn.Turn.{Turn}
-use Rattle.job_runner.specs.declared.turn.Turn.TheVariants as turns
+use Rattle.job_runner.specs.declared.turn.JobTurn.{JobTurn}
+use Rattle.job_runner.specs.declared.turn.JobTurn.TheVariants as turns
 use Rattle.job_runner.specs.Progress.{Progress, left_of, listed_table, has_given_up, is_over, behind, gone, GivesUpOn, IsReadyBy, TakesTurnOn, TookTurnOn}
 use Rattle.job_runner.specs.Runs.{turns_left}
 use Rattle.job_runner.proofs.JobLemmas.{heads, may_take, has_left}
@@ -42,7 +42,7 @@ use Rattle.thread_runner.proofs.CallLemmas.{Leaves, reads_read, leaves_live}
 
 -- ---- one turn, by the calls
 
-module _ {S : Type 0} (e : Calls S) (by : AreByAccount e) (old new : S) (phase : Phase) (reading : Option Reading) (r : Command) (may : MayTakeNow (e.account old) phase reading r) where
+module _ {S : Type 0} (e : Calls S) (by : AreByAccount e) (old new : S) (phase : Phase) (reading : Option LineReading) (r : Command) (may : MayTakeNow (e.account old) phase reading r) where
   legal : SeesLegal (e.account old)
   legal = may.valid.legal
 
@@ -121,7 +121,7 @@ module _ {S : Type 0} (e : Calls S) (by : AreByAccount e) (old : S) (job : Progr
   }
 
   -- a turn by the calls is one by the account
-  pub took_by : (turn : Turn) (next : Progress) (new : S) → TookTurnOn e old job turn next new → TookTurnBy (e.account old) job turn next (e.account new)
+  pub took_by : (turn : JobTurn) (next : Progress) (new : S) → TookTurnOn e old job turn next new → TookTurnBy (e.account old) job turn next (e.account new)
   took_by turns.More next new is = (is.0, λ c rest left. takes_turn c rest left next new (is.1 c rest left))
   took_by turns.Ended next new is = (is.0, λ c rest left. takes_turn c rest left next new (is.1 c rest left))
   took_by turns.NoMemory next new is =
@@ -145,7 +145,7 @@ module _ {S : Type 0} (e : Calls S) (by : AreByAccount e) (old : S) (job : Progr
   room = subst (λ cs. begun_by (e.account old).begun cs ≤ (e.account old).allowed) left ready.room
 
   -- the line took a portion of what it reads
-  scans_ready : (next : Reading) (image : Option KeptImage) → IfSome image (IsKeptImage (view_now (e.account old))) → TakesOn e old job.phase job.reading c (Scanning next) new → IsReadyBy (e.account new) (behind job image (Scanning next))
+  scans_ready : (next : LineReading) (image : Option KeptImage) → IfSome image (IsKeptImage (view_now (e.account old))) → TakesOn e old job.phase job.reading c (Scanning next) new → IsReadyBy (e.account new) (behind job image (Scanning next))
   scans_ready next image kept is =
       let read = reads_read e by old new ready.valid.legal is.1 in
       let opened : IsSome (e.account old).start = subst (λ p. IsPhase p (e.account old).start) is.0.is_open ready.phase_is in
@@ -264,7 +264,7 @@ module _ {S : Type 0} (e : Calls S) (by : AreByAccount e) (old : S) (job : Progr
       let t = takes hand.0 hand.1 hand.2 in
       subst (IsReadyBy (e.account new)) (sym t.job_is) (turn_ready e by old job ready hand.0 hand.1 hand.2 new t.turn t.image t.kept t.takes)
 
-  pub stays_ready : (turn : Turn) → TookTurnOn e old job turn next new → is_over next ≡ false → IsReadyBy (e.account new) next
+  pub stays_ready : (turn : JobTurn) → TookTurnOn e old job turn next new → is_over next ≡ false → IsReadyBy (e.account new) next
   stays_ready turns.More took on = took_ready took.1
   stays_ready turns.Ended took on = absurd (let no : true ≡ false = sym took.0 ∙ on in cc)
   stays_ready turns.NoMemory took on = absurd (let no : true ≡ false = sym (ap is_over took.3) ∙ on in cc)
@@ -274,7 +274,7 @@ module _ {S : Type 0} (e : Calls S) (by : AreByAccount e) (old : S) (job : Progr
   number_kept takes = let t = takes hand.0 hand.1 hand.2 in ap (λ (x : Progress). x.number) t.job_is ∙ behind_number job t.image t.turn
 
   -- the engine stays of its pass
-  pub turn_pass : (turn : Turn) → TookTurnOn e old job turn next new → (e.account new).job ≡ (e.account old).job
+  pub turn_pass : (turn : JobTurn) → TookTurnOn e old job turn next new → (e.account new).job ≡ (e.account old).job
   turn_pass turns.More took = (took_ready took.1).number ∙ number_kept took.1 ∙ sym ready.number
   turn_pass turns.Ended took = (took_ready took.1).number ∙ number_kept took.1 ∙ sym ready.number
   turn_pass turns.NoMemory took = gave_pass job.phase (gives_up_by e by old job ready job.phase took.0 new (wants_read e by old took.0 ready.valid.legal took.1) took.2)
@@ -286,7 +286,7 @@ module _ {S : Type 0} (e : Calls S) (by : AreByAccount e) (old : S) (job : Progr
       gave_pass GivenUp is = ap (λ (a : Account). a.job) is.others
 
   -- whoever is over behind a turn has no transaction open
-  pub turn_closed : (turn : Turn) → TookTurnOn e old job turn next new → is_over next ≡ true → (e.account new).start ≡ None
+  pub turn_closed : (turn : JobTurn) → TookTurnOn e old job turn next new → is_over next ≡ true → (e.account new).start ≡ None
   turn_closed turns.More took over = absurd (let no : true ≡ false = sym over ∙ took.0 in cc)
   turn_closed turns.Ended took over = ready_closed next.phase refl (took_ready took.1)
     where
@@ -312,19 +312,19 @@ module _ {S : Type 0} (e : Calls S) (by : AreByAccount e) (old : S) (job : Progr
       let t = takes hand.0 hand.1 hand.2 in
       subst (λ x. turns_left x < turns_left job) (sym t.job_is) (turn_less job hand.0 hand.1 hand.2 ready.small t.turn (further hand.0 t.turn t.takes) t.image)
     where
-      further : (r : Command) (turn : LineTurn) → TakesOn e old job.phase job.reading r turn new → (reading : Reading) → turn ≡ Scanning reading
+      further : (r : Command) (turn : LineTurn) → TakesOn e old job.phase job.reading r turn new → (reading : LineReading) → turn ≡ Scanning reading
           → (taken_of (Some reading) ≡ taken_of job.reading + 1) × (taken_of (Some reading) < 288230376151711744)
       further r turn takes reading same =
           let scans = subst (λ t. TakesOn e old job.phase job.reading r t new) same takes in (scans.0.taken, scans.0.small)
 
-  pub left_fewer : (turn : Turn) → TookTurnOn e old job turn next new → left_over next < left_over job
+  pub left_fewer : (turn : JobTurn) → TookTurnOn e old job turn next new → left_over next < left_over job
   left_fewer turn took = subst (λ x. left_over next < cond x 0 (turns_left job + 1)) (sym going) (by_turn turn took)
     where
       at_most : (over : Bool) (m n : ℕ) → m < n → cond over 0 (m + 1) < n + 1
       at_most true m n lt = omega arith
       at_most false m n lt = omega (arith, lt)
 
-      by_turn : (turn : Turn) → TookTurnOn e old job turn next new → left_over next < turns_left job + 1
+      by_turn : (turn : JobTurn) → TookTurnOn e old job turn next new → left_over next < turns_left job + 1
       by_turn turns.More took = at_most (is_over next) (turns_left next) (turns_left job) (took_fewer took.1)
       by_turn turns.Ended took = at_most (is_over next) (turns_left next) (turns_left job) (took_fewer took.1)
       by_turn turns.NoMemory took = subst (λ x. left_over x < turns_left job + 1) (sym took.3) (omega arith)
@@ -332,7 +332,7 @@ module _ {S : Type 0} (e : Calls S) (by : AreByAccount e) (old : S) (job : Progr
 -- ---- turns one behind the other
 
 -- one turn more
-pub turns_more : (n : ℕ) (s : Account) (a b c : Progress) (t u : Account) → TurnsBy n s a b t → is_over b ≡ false → (turn : Turn) → TookTurnBy t b turn c u → TurnsBy (suc n) s a c u
+pub turns_more : (n : ℕ) (s : Account) (a b c : Progress) (t u : Account) → TurnsBy n s a b t → is_over b ≡ false → (turn : JobTurn) → TookTurnBy t b turn c u → TurnsBy (suc n) s a c u
 turns_more zero s a b c t u is going turn took =
     (turn, c, u, sym (ap is_over is.0) ∙ going, subst (λ x. TookTurnBy s x turn c u) is.0 (subst (λ x. TookTurnBy x b turn c u) is.1 took), (refl, refl))
 turns_more (suc n) s a b c t u is going turn took =

@@ -13,13 +13,13 @@ use Rattle.job_runner.specs.LineRunnerDeclared.answering.LineTurn.TheVariants.{S
 use Rattle.job_runner.specs.LineRunnerDeclared.kept.KeptImage.{KeptImage}
 use Rattle.job_runner.specs.LineRunnerDeclared.phase.Phase.{Phase}
 use Rattle.job_runner.specs.LineRunnerDeclared.phase.Phase.TheVariants.{Between, Open, Skipping, GivenUp}
-use Rattle.job_runner.specs.LineRunnerDeclared.reading.Reading.{Reading}
+use Rattle.job_runner.specs.LineRunnerDeclared.reading.LineReading.{LineReading}
 use Rattle.job_runner.specs.LineRunner.Kernels.{IsKeptImage}
 use Rattle.job_runner.specs.LineRunner.Scanning.{taken_of}
 use Rattle.job_runner.specs.LineRunner.Phases.{is_skipping, phase_at, file_of}
 use Rattle.job_runner.specs.LineRunner.Turns.{view_now, goes_on_at, ReadsFurther}
-use Rattle.job_runner.specs.declared.turn.Turn.{Turn}
-use Rattle.job_runner.specs.declared.turn.Turn.TheVariants as turns
+use Rattle.job_runner.specs.declared.turn.JobTurn.{JobTurn}
+use Rattle.job_runner.specs.declared.turn.JobTurn.TheVariants as turns
 use Rattle.job_runner.specs.Progress.{Progress, new_progress, left_of, listed_table, has_given_up, is_over, behind, gone, IsReadyBy}
 
 -- ---- one turn
@@ -29,14 +29,14 @@ abbrev pub phase_left : Bool → Account → Phase
 phase_left skips account = cond skips Skipping (phase_at account.start)
 
 -- the last turn of a line answers it
-pub record AnswersBy (old : Account) (phase : Phase) (reading : Option Reading) (r : Command) (given : LineAnswer)
+pub record AnswersBy (old : Account) (phase : Phase) (reading : Option LineReading) (r : Command) (given : LineAnswer)
     (new : Account) : Type 0 where
   pub last : goes_on_at (view_now old) (is_skipping phase) (taken_of reading) r ≡ false
   pub does : LineBy (is_skipping phase) old r given.answer (map file_of (listed_table given.table)) [] new
   pub phase_is : given.phase ≡ phase_left (skips_behind (is_skipping phase) r given.answer) new
 
 -- one turn of a line. Where turns are left more of the journal may have been seen, and nothing else has changed
-abbrev pub TakesBy : Account → Phase → Option Reading → Command → LineTurn → Account → Type 0
+abbrev pub TakesBy : Account → Phase → Option LineReading → Command → LineTurn → Account → Type 0
 TakesBy old phase reading r (Scanning next) new = ReadsFurther (view_now old) phase reading r next × ReadsBy old new
 TakesBy old phase reading r (Answering given) new = AnswersBy old phase reading r given new
 
@@ -56,7 +56,7 @@ GivesUpBy old Skipping new = ReadsBy old new
 GivesUpBy old GivenUp new = ReadsBy old new
 
 -- what a turn comes to: the line at hand takes it, or memory was wanted, and the transaction is taken back
-abbrev pub TookTurnBy : Account → Progress → Turn → Progress → Account → Type 0
+abbrev pub TookTurnBy : Account → Progress → JobTurn → Progress → Account → Type 0
 TookTurnBy old job turns.More next new = (is_over next ≡ false)
     × ((c : Command) (rest : List Command) → left_of job ≡ c ∷ rest → TakesTurnBy old job c next new)
 TookTurnBy old job turns.Ended next new = (is_over next ≡ true)
@@ -69,7 +69,7 @@ TookTurnBy old job turns.NoMemory next new = GivesUpBy old job.phase new × (nex
 abbrev pub TurnsBy : ℕ → Account → Progress → Progress → Account → Type 0
 TurnsBy zero old job next new = (next ≡ job) × (new ≡ old)
 TurnsBy (suc n) old job next new =
-    (turn : Turn) × (between : Progress) × (then : Account) × (is_over job ≡ false)
+    (turn : JobTurn) × (between : Progress) × (then : Account) × (is_over job ≡ false)
     × TookTurnBy old job turn between then × TurnsBy n then between next new
 
 -- a job took its turns on the account of its own pass

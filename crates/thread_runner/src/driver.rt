@@ -54,6 +54,7 @@ fn count_lines<E>(seats: &[(Job, E)]) -> u64
 {
     match seats {
         [] => 0,
+        // No script has as many lines, but no bound says so; a lesser number of turns would do as well.
         [seat, rest @ ..] => (seat.0.lines() as u64).saturating_add(count_lines(rest)),
     }
 }
@@ -75,6 +76,7 @@ fn run_beside<R: Threads + Sync, E: VertexEngine + Send, G: Gate>(
         → E.served service.new ≡ min (E.served service.old + turns) (2 ^ 64 - 1) }
     ensures service { ReadsBy (E.account service.old) (E.account service.new) }
 {
+    // Joined, so that both have let go of the store before the caller takes it apart.
     let ((), wanted) = join_mut(
         rt,
         &mut ||
@@ -99,6 +101,7 @@ fn serve<R: Threads, E: Engine>(_rt: &R, engine: &mut E, turns: u64)
     ensures account { ReadsBy (E.account engine.old) (E.account engine.new) }
 {
     'turns: for _taken in 0..turns {
+        // One that is refused memory has changed nothing, and the next one tries again.
         let _ = engine.service_step();
     }
 }
@@ -116,6 +119,7 @@ fn run_blocks<R: Threads + Sync, E: VertexEngine + Send, G: Gate>(
     ensures ran { AllZip (HasRun E.account) seats.old seats.new }
     ensures wanted { result ≡ some_gave_up seats.old seats.new }
 {
+    // Cut by workers and not by jobs: a block may be empty, and is one thread all the same.
     if workers == 1 {
         return run_block(rt, seats, gate);
     }
@@ -155,6 +159,7 @@ fn both_parts<R: Threads + Sync, E: VertexEngine + Send, G: Gate>(
         ensures { AllZip (HasRun E.account) back.entry.now back.exit.now
             × (result ≡ some_gave_up back.entry.now back.exit.now) }
     { run_blocks(rt, back, others, gate) };
+    // Both, also where the first ran out of memory: each job ends by itself, and takes its transaction back.
     let (a, b) = join_mut(rt, &mut left, &mut right);
     a || b
 }
@@ -216,11 +221,13 @@ fn run_job<R: Threads + Sync, E: VertexEngine, G: Gate>(
     ensures closed { is_over job.old ≡ false → (E.account engine.new).start ≡ None }
     ensures wanted { result ≡ gave_up job.old job.new }
 {
+    // A job may come that had given up before, which is not told of this run.
     let before = job.has_given_up();
     let mut turn: u64 = 0;
     'turns: while !job.has_ended() {
         // Before the turn, where the job holds nothing: a gate may wait.
         gate.turn(job.number(), turn);
+        // A gate is told a number and nothing rests on it, so the last one may stay.
         turn = turn.saturating_add(1);
         let _ = job.turn(rt, engine);
     }

@@ -90,6 +90,7 @@ fn load_store<R: Threads + Sync>(
 {
     match loaded_by_threads(rt, alloc, config, load) {
         Ok(made) => Ok(made),
+        // The caller has asked whether a store may be as large.
         Err(LoadedRefusal::TooLarge) => unreachable!(),
         Err(LoadedRefusal::Full { leaves }) => Err(LoadRefusal::Full { leaves }),
         Err(LoadedRefusal::NoMemory) => Err(LoadRefusal::NoMemory),

@@ -42,6 +42,7 @@ pub(crate) fn seat_all<'a, R: Wait, H: Home>(
 {
     let mut number = 1;
     'scripts: while !scripts.is_empty() {
+        // In the order of both lists: the pass of a script has its number, by which answers name its transactions.
         let pass = passes.remove(0);
         let script = scripts.remove(0);
         seats.push_reserved(seat_one(rt, alloc, store, loader, pass, number, script));
@@ -67,6 +68,7 @@ fn seat_one<'a, R: Wait, H: Home>(
     ensures seated { IsSeated store.now (account_of store.now loader.old).seen number script pass result.0 result.1.pass }
     ensures store { result.1.store.now ≡ store.now }
 {
+    // So it has seen the load: its first transaction begins behind that, whatever other passes do by then.
     meet(store, loader, &mut pass);
     (
         Job::new(alloc, number, script),
@@ -93,6 +95,7 @@ pub(crate) fn leave_all<R: Wait, H: Home>(
         passes.push_reserved(take_pass(store, worker));
         jobs.push_reserved(job);
     }
+    // A worker is no value that may be dropped, since its pass would be lost: so the list is shown to be empty.
     seats.destroy_empty();
 }
 

@@ -1,6 +1,6 @@
 use Rattle.std.proofs.Common.{◌^◌, ◌<◌, ◌∙◌, length, sym, ap, subst, arith}
 use Rattle.kernel_sssp.specs.Search.{LinkOut, IsSearched}
-use Rattle.delta_sssp.specs.declared.search.Stage.{Stage}
+use Rattle.delta_sssp.specs.declared.search.BucketStage.{BucketStage}
 use Rattle.delta_sssp.specs.Search.{IsStart}
 use Rattle.delta_sssp.proofs.SearchLemmas.{started, advanced, advanced_bucket, search_done}
 use Rattle.delta_sssp.proofs.kernel.least_weights.Goals as goal
@@ -9,7 +9,7 @@ pub buckets-init : goal.buckets-init
 buckets-init c =
     let few : length c.args.image.now.vertices < 2 ^ 32 = omega (arith, c.len.ensures.len, c.len.ensures.few) in
     let start = subst (λ n. IsStart n c.args.root c.args.width c.in_ok-search.search) c.len.ensures.len c.in_ok-search.ensures in
-    (started c.args.image.now c.args.root c.args.width c.in_ok-search.search few c.requires.root c.requires.width start, ap (λ (t : Stage). t.root) start.stage_is)
+    (started c.args.image.now c.args.root c.args.width c.in_ok-search.search few c.requires.root c.requires.width start, ap (λ (t : BucketStage). t.root) start.stage_is)
 
 pub returns-then-not-advance : goal.returns-then-not-advance
 returns-then-not-advance c =
@@ -33,4 +33,4 @@ pub buckets-preserved : goal.buckets-preserved
 buckets-preserved c =
     let done = c.in_ok-settle.ensures in
     let more = c.advance.ensures.more c.if-not-advance.false in
-    (advanced c.args.image.now c.settle.new.self c.advance.new.self done.search done.all more, ap (λ (t : Stage). t.root) more.stage_is ∙ done.root_is ∙ c.buckets.invariant.1)
+    (advanced c.args.image.now c.settle.new.self c.advance.new.self done.search done.all more, ap (λ (t : BucketStage). t.root) more.stage_is ∙ done.root_is ∙ c.buckets.invariant.1)

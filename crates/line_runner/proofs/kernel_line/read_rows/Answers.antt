@@ -1,7 +1,7 @@
 use Rattle.std.proofs.Common.{refl, sym, ◌∙◌}
 use Rattle.std.specs.Prelude.{Some}
 use Rattle.run_model.specs.declared.command.Command.TheVariants as commands
-use Rattle.line_runner.specs.declared.reading.Reading.TheVariants as readings
+use Rattle.line_runner.specs.declared.reading.LineReading.TheVariants as readings
 use Rattle.line_runner.specs.Turns.{view_now}
 use Rattle.line_runner.proofs.TurnLemmas.{advances}
 use Rattle.line_runner.proofs.ViewLemmas.{has_all, seen_now}

@@ -2,7 +2,7 @@ use Rattle.std.proofs.Common.{sym, subst, ap, ◌∙◌}
 use Rattle.run_model.specs.declared.command.Command.TheVariants as commands
 use Rattle.graph_model.specs.declared.limits.TheConstants.{SCAN_ROWS}
 use Rattle.std.specs.Prelude.{◌/◌}
-use Rattle.line_runner.specs.declared.reading.Reading.TheVariants as readings
+use Rattle.line_runner.specs.declared.reading.LineReading.TheVariants as readings
 use Rattle.line_runner.specs.Scanning.{IsReading, taken_by}
 use Rattle.line_runner.specs.Turns.{view_now}
 use Rattle.line_runner.proofs.TurnLemmas.{reading_or, advances}

@@ -11,6 +11,6 @@ step-requires-clause-ahead c =
 pub returns : goal.returns
 returns c = record {
   under_way = λ g first is.
-      c.step.ensures.under_way g first (c.as_slice.ensures ∙ is
+      c.step.ensures.under_way g first (is
       ∙ ap (rows g c.args.cursor.now.next) (sym (step_end c.args.end c.args.cursor.now c.requires.ends.inside)));
 }

@@ -1,13 +1,13 @@
 use Rattle.std.proofs.Common.{◌+◌, ◌-◌, ◌/◌, ◌<◌, length, sym, ◌∙◌, slice_index_or, arith}
 use Rattle.std.proofs.lemmas.Option.{slice_get-get_or}
-use Rattle.serial_check.specs.declared.range.KeyRange.{KeyRange}
+use Rattle.serial_check.specs.declared.range.FootprintRange.{FootprintRange}
 use Rattle.serial_check.proofs.RangeLemmas.{middle_is, ends_below, ends_from}
 use Rattle.serial_check.proofs.footprint.first_met.Goals as goal
 
 pub halves-preserved-then-is_below : goal.halves-preserved-then-is_below
 halves-preserved-then-is_below c =
     let xs = c.args.ranges.now in
-    let d : KeyRange = record { from = record { src = 0; second = 0 }; until = record { src = 0; second = 0 } } in
+    let d : FootprintRange = record { from = record { src = 0; second = 0 }; until = record { src = 0; second = 0 } } in
     let m = c.halves.low + (c.halves.high - c.halves.low) / 2 in
     let mid = middle_is c.halves.low c.halves.high c.halves-test.true in
     let inside : m < length xs = omega (arith, mid.1, c.halves.invariant.within) in
@@ -16,7 +16,7 @@ halves-preserved-then-is_below c =
 pub halves-preserved : goal.halves-preserved
 halves-preserved c =
     let xs = c.args.ranges.now in
-    let d : KeyRange = record { from = record { src = 0; second = 0 }; until = record { src = 0; second = 0 } } in
+    let d : FootprintRange = record { from = record { src = 0; second = 0 }; until = record { src = 0; second = 0 } } in
     let m = c.halves.low + (c.halves.high - c.halves.low) / 2 in
     let mid = middle_is c.halves.low c.halves.high c.halves-test.true in
     let inside : m < length xs = omega (arith, mid.1, c.halves.invariant.within) in

@@ -2,7 +2,7 @@ use Rattle.std.proofs.Common.{◌≡◌, ℕ, ◌+◌, ◌-◌, ◌<◌, ◌≤�
 use Rattle.std.specs.Prelude.{nat_lt, slice_get, Some}
 use Rattle.std.proofs.lemmas.Option.{slice_get_read}
 use Rattle.graph_model.specs.Rows.{is_below}
-use Rattle.serial_check.specs.declared.range.KeyRange.{KeyRange}
+use Rattle.serial_check.specs.declared.range.FootprintRange.{FootprintRange}
 use Rattle.serial_check.specs.Ranges.{covers}
 use Rattle.serial_check.proofs.RangeLemmas.{found_none, found_last}
 use Rattle.serial_check.proofs.footprint.Footprint.has.Goals as goal
@@ -19,8 +19,8 @@ returns-then-count-gt0 c =
     let at : slice_get xs (n - 1) ≡ Some r = slice_get_read xs (length xs) (n - 1) r refl (omega (arith, some, within)) c.index.ensures in
     c.is_below.ensures
     ∙ found_last xs c.self.invariant c.args.key n
-    (subst (λ ys. (i : ℕ) (x : KeyRange) → i < n → slice_get ys i ≡ Some x → is_below c.args.key x.from ≡ false) same c.count_up_to-count.ensures.before)
-    (subst (λ ys. (i : ℕ) (x : KeyRange) → n ≤ i → slice_get ys i ≡ Some x → is_below c.args.key x.from ≡ true) same c.count_up_to-count.ensures.behind)
+    (subst (λ ys. (i : ℕ) (x : FootprintRange) → i < n → slice_get ys i ≡ Some x → is_below c.args.key x.from ≡ false) same c.count_up_to-count.ensures.before)
+    (subst (λ ys. (i : ℕ) (x : FootprintRange) → n ≤ i → slice_get ys i ≡ Some x → is_below c.args.key x.from ≡ true) same c.count_up_to-count.ensures.behind)
     (n - 1) r is at
     ∙ ap (λ ys. covers ys c.args.key) (ap (λ x. x.items) c.self.view_is)
 
@@ -33,7 +33,7 @@ returns-else-count-gt0 c =
     let none : nat_lt 0 n ≡ false = ap (nat_lt 0) zero_is in
     none
     ∙ sym (found_none xs c.self.invariant c.args.key n
-    (subst (λ ys. (i : ℕ) (x : KeyRange) → i < n → slice_get ys i ≡ Some x → is_below c.args.key x.from ≡ false) same c.count_up_to-count.ensures.before)
-    (subst (λ ys. (i : ℕ) (x : KeyRange) → n ≤ i → slice_get ys i ≡ Some x → is_below c.args.key x.from ≡ true) same c.count_up_to-count.ensures.behind)
+    (subst (λ ys. (i : ℕ) (x : FootprintRange) → i < n → slice_get ys i ≡ Some x → is_below c.args.key x.from ≡ false) same c.count_up_to-count.ensures.before)
+    (subst (λ ys. (i : ℕ) (x : FootprintRange) → n ≤ i → slice_get ys i ≡ Some x → is_below c.args.key x.from ≡ true) same c.count_up_to-count.ensures.behind)
     zero_is)
     ∙ ap (λ ys. covers ys c.args.key) (ap (λ x. x.items) c.self.view_is)

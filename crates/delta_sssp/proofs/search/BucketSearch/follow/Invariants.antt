@@ -1,0 +1,6 @@
+-- the arcs so far are relaxed
+use Rattle.delta_sssp.proofs.SearchLemmas.{IsFollowing}
+use Rattle.delta_sssp.proofs.search.BucketSearch.follow.Given as goal
+
+abbrev pub invariant-arcs : goal.invariant-arcs
+invariant-arcs l = IsFollowing l.image l.visit l.i l.fn.self l.self

@@ -1,6 +1,0 @@
--- the arcs so far are relaxed
-use Rattle.delta_sssp.proofs.SearchLemmas.{IsFollowing}
-use Rattle.delta_sssp.proofs.search.Search.follow.Given as goal
-
-abbrev pub invariant-arcs : goal.invariant-arcs
-invariant-arcs l = IsFollowing l.image l.visit l.i l.fn.self l.self

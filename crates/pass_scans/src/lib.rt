@@ -1,0 +1,12 @@
+//! Rows that an open transaction reads in a packed cell, as it lies in its slot.
+//!
+//! 1. The words of all rows are loaded, and of rows without undo records nothing else is looked at. What is kept of the
+//!    others stays where it is: no cell is unpacked.
+//! 2. A cell is taken by its number, which may lag behind: its fence keys tell whether it is the key's.
+#![tactic(auto)]
+
+pub mod below;
+mod packed;
+mod run;
+
+pub use run::read_packed;
