@@ -1,8 +1,9 @@
 -- Rows in parts, and what each part lays of an image.
-use Rattle.std.specs.Prelude.{◌≡◌, ℕ, ◌+◌, ◌-◌, ◌<◌, ◌≤◌, ◌++◌, ◌==◌, Bool, cond, List, [], ◌∷◌, slice_get, Some}
-use Rattle.std.specs.List.{AllZip}
+use Rattle.std.specs.Prelude.{◌≡◌, ℕ, ◌+◌, ◌-◌, ◌^◌, ◌<◌, ◌≤◌, ◌++◌, ◌==◌, Bool, cond, List, [], ◌∷◌, length, slice_get, Some}
+use Rattle.std.specs.List.{All, AllZip}
 use Rattle.graph_model.specs.declared.limits.TheConstants.{MAX_WEIGHT}
 use Rattle.graph_model.specs.declared.row.Row.{Row}
+use Rattle.part_scan.specs.Parts.{rows_in}
 use Rattle.graph_image.specs.Images.{Listed}
 use Rattle.graph_image.specs.declared.edge.Arc.{Arc}
 use Rattle.graph_image.specs.declared.part.Share.{Share}
@@ -50,6 +51,23 @@ pub record IsPlaceable (vertices : List ℕ) (r : Row) : Type 0 where
 pub record IsShareOf (rows : List Row) (share : Share) : Type 0 where
   pub vertices : share.vertices ≡ vertices_in rows
   pub arcs : share.arcs ≡ arcs_in rows
+
+-- there is just the room for the vertices of these lists, and for where the arcs of each begin; the places of their
+-- arcs, with so many before them, are numbers
+pub record FitVertices (lists : List (List Row)) (shares : List Share) (before : ℕ) (vertices starts : List ℕ)
+    : Type 0 where
+  pub shares_are : AllZip IsShareOf lists shares
+  pub few : before + arcs_in (rows_in lists) < 2 ^ 32
+  pub short : length (rows_in lists) < 2 ^ 32
+  pub vertex_room : length vertices ≡ vertices_in (rows_in lists)
+  pub start_room : length starts ≡ vertices_in (rows_in lists)
+
+-- there is just the room for the arcs of these lists, each of which has a place
+pub record FitArcs (vertices : List ℕ) (lists : List (List Row)) (shares : List Share) (arcs : List Arc) : Type 0 where
+  pub shares_are : AllZip IsShareOf lists shares
+  pub short : length (rows_in lists) < 2 ^ 32
+  pub placeable : All (IsPlaceable vertices) (rows_in lists)
+  pub arc_room : length arcs ≡ arcs_in (rows_in lists)
 
 -- the vertices of the rows, where the arcs out of each begin and at last where they all end, and these arcs
 pub record AreLaidOut (rows : List Row) (ids : List ℕ) (out : Listed) : Type 0 where

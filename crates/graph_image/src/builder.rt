@@ -59,6 +59,7 @@ impl Builder {
         ensures ok { OnOk result (self.new ≡ self.old ++ rows.now) }
         ensures err { OnErr result (self.new ≡ self.old) }
     {
+        // Each row may have a source of its own, and room for all is asked for once.
         self.sources.reserve(rows.len())?;
         self.rows.reserve(rows.len())?;
         'rows: for i in 0..rows.len() {
@@ -90,6 +91,7 @@ fn append(sources: &mut RoomyItems<u64>, rows: &mut RoomyItems<PlacedRow>, row: 
     ensures room { (sources.old.spare ≤ sources.new.spare + 1) × (rows.old.spare ≤ rows.new.spare + 1) }
 {
     let count = sources.len();
+    // Sources rise, so a row has the last one or a new one: no set is asked.
     if count == 0 || sources.as_slice()[count - 1] != row.key.src {
         sources.push_within(row.key.src);
     }
@@ -116,6 +118,7 @@ fn into_of(
     ensures mirrored { IfOk result (λ into. IfNone into (IsMirrored (length sources.now) out.now)) }
 {
     let count = sources.len();
+    // A look at each arc is cheaper than the arrays that it may save, and half of the image's memory is theirs.
     if out.is_mirrored(alloc, count)? {
         return Ok(None);
     }

@@ -28,6 +28,7 @@ pub fn share_of(rows: &[Row]) -> Share
         arcs: 0,
     };
     'rows: for i in 0..rows.len() {
+        // A key of a vertex's own row has 0 where an arc's has its target.
         if rows[i].key.second == 0 {
             share.vertices += 1;
         } else {

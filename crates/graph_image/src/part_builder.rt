@@ -62,6 +62,7 @@ impl PartBuilder {
         ensures ok { OnOk result (self.new ≡ self.old ++ rows.now) }
         ensures err { OnErr result (self.new ≡ self.old) }
     {
+        // Only before rows come, and never within them: those of one call stay in one part.
         if self.last.len() >= PART_ROWS {
             self.begin_part()?;
         }
@@ -78,6 +79,7 @@ impl PartBuilder {
     {
         self.full.reserve(1)?;
         let mut next = RoomyItems::new(self.alloc);
+        // At once, since a list that grows is copied, and a part never has many more.
         next.reserve(PART_ROWS)?;
         let last = replace(&mut self.last, next);
         self.full.push_within(last.into_items());
@@ -100,6 +102,7 @@ impl PartBuilder {
         full.push_within(last.into_items());
         let parts = full.into_items();
         let (vertices, out) = out_of(rt, alloc, parts.as_slice())?;
+        // Before the arcs in are made: rows and both arrays together would be the most memory of a kernel's line.
         drop(parts);
         let image = with_arcs_in(alloc, kind, vertices, out)?;
         Ok(image)

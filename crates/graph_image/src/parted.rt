@@ -70,6 +70,7 @@ pub fn out_of<R: Threads + Sync>(
 {
     let shares = shares_of(rt, alloc, lists)?;
     let total = total_of(lists, shares.as_slice());
+    // All arrays have their length before a thread writes: each gets a slice of its own, and none waits for another.
     let mut vertices = vec![in alloc; 0u64; total.vertices]?;
     let mut starts = vec![in alloc; 0u32; total.vertices + 1]?;
     lay_starts(
@@ -112,6 +113,7 @@ fn lay_starts<R: Threads + Sync>(
     ensures vertices { vertices.new ≡ ids_of (rows_in lists.now) }
     ensures starts { starts.new ≡ starts_from 0 (rows_in lists.now) ++ arcs_in (rows_in lists.now) ∷ [] }
 {
+    // The last number is no vertex's start but where all arcs end, so no part writes it.
     let (each, end) = starts.split_at_mut(total.vertices);
     end[0] = total.arcs as u32;
     lay_vertices(rt, lists, shares, 0, vertices, each);

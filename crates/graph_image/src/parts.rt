@@ -4,13 +4,13 @@
 //!    made in between.
 //! 2. The parts are cut in two, over and over, until each thread has one.
 
-ghost use Rattle.std.specs.Prelude.{◌≡◌, ◌+◌, ◌<◌, ◌^◌, List, length, slice_get, Some, IfOk};
+ghost use Rattle.std.specs.Prelude.{◌≡◌, ◌<◌, ◌^◌, List, length, slice_get, Some, IfOk};
 ghost use Rattle.graph_model.specs.declared.row.Row.{Row};
 ghost use Rattle.std.specs.List.{All, AllZip};
 ghost use Rattle.std.specs.Thread.{IsSync};
 ghost use Rattle.part_scan.specs.Parts.{rows_in};
 ghost use Rattle.graph_image.specs.Images.{IdsRise};
-ghost use Rattle.graph_image.specs.Parts.{vertices_in, arcs_in, ids_of, starts_from, arc_rows, IsArcOf, IsPlaceable, IsShareOf};
+ghost use Rattle.graph_image.specs.Parts.{arcs_in, ids_of, starts_from, arc_rows, IsArcOf, IsPlaceable, IsShareOf, FitVertices, FitArcs};
 
 use crate::edge::Arc;
 use crate::part::{Share, lay_arcs_of, lay_vertices_of, share_of};
@@ -66,11 +66,7 @@ pub fn lay_vertices<R: Threads + Sync>(
     vertices: &mut [u64],
     starts: &mut [u32],
 )
-    requires shares { AllZip IsShareOf lists.now shares.now }
-    requires few { before + arcs_in (rows_in lists.now) < 2 ^ 32 }
-    requires short { length (rows_in lists.now) < 2 ^ 32 }
-    requires vertices { length vertices.old ≡ vertices_in (rows_in lists.now) }
-    requires starts { length starts.old ≡ vertices_in (rows_in lists.now) }
+    requires fit { FitVertices lists.now shares.now before vertices.old starts.old }
     ensures vertices { vertices.new ≡ ids_of (rows_in lists.now) }
     ensures starts { starts.new ≡ starts_from before (rows_in lists.now) }
 {
@@ -84,6 +80,7 @@ pub fn lay_vertices<R: Threads + Sync>(
     }
     let (front, back) = lists.split_at(count / 2);
     let (front_shares, back_shares) = shares.split_at(count / 2);
+    // The shares were counted by all threads before, so this adds up a few numbers and looks at no row.
     let share = total_of(front, front_shares);
     let (front_vertices, back_vertices) = vertices.split_at_mut(share.vertices);
     let (front_starts, back_starts) = starts.split_at_mut(share.vertices);
@@ -110,56 +107,33 @@ fn both_vertices<R: Threads + Sync>(
     front: &[RowList],
     front_shares: &[Share],
     before: usize,
-    front_vertices: &mut [u64],
+    front_ids: &mut [u64],
     front_starts: &mut [u32],
     back: &[RowList],
     back_shares: &[Share],
     behind: usize,
-    back_vertices: &mut [u64],
+    back_ids: &mut [u64],
     back_starts: &mut [u32],
 )
     requires some_front { 0 < length front.now }
     requires some_back { 0 < length back.now }
-    requires front_shares { AllZip IsShareOf front.now front_shares.now }
-    requires front_few { before + arcs_in (rows_in front.now) < 2 ^ 32 }
-    requires front_short { length (rows_in front.now) < 2 ^ 32 }
-    requires front_vertices { length front_vertices.old ≡ vertices_in (rows_in front.now) }
-    requires front_starts { length front_starts.old ≡ vertices_in (rows_in front.now) }
-    requires back_shares { AllZip IsShareOf back.now back_shares.now }
-    requires back_few { behind + arcs_in (rows_in back.now) < 2 ^ 32 }
-    requires back_short { length (rows_in back.now) < 2 ^ 32 }
-    requires back_vertices { length back_vertices.old ≡ vertices_in (rows_in back.now) }
-    requires back_starts { length back_starts.old ≡ vertices_in (rows_in back.now) }
-    ensures front_vertices { front_vertices.new ≡ ids_of (rows_in front.now) }
-    ensures front_starts { front_starts.new ≡ starts_from before (rows_in front.now) }
-    ensures back_vertices { back_vertices.new ≡ ids_of (rows_in back.now) }
-    ensures back_starts { back_starts.new ≡ starts_from behind (rows_in back.now) }
+    requires front { FitVertices front.now front_shares.now before front_ids.old front_starts.old }
+    requires back { FitVertices back.now back_shares.now behind back_ids.old back_starts.old }
+    ensures front { (front_ids.new ≡ ids_of (rows_in front.now))
+        × (front_starts.new ≡ starts_from before (rows_in front.now)) }
+    ensures back { (back_ids.new ≡ ids_of (rows_in back.now))
+        × (back_starts.new ≡ starts_from behind (rows_in back.now)) }
 {
     let mut left = ||
-        requires { IsSync R.row × AllZip IsShareOf front.now front_shares.now
-            × (before + arcs_in (rows_in front.now) < 2 ^ 32) × (length (rows_in front.now) < 2 ^ 32)
-            × (length front_vertices.now ≡ vertices_in (rows_in front.now))
-            × (length front_starts.now ≡ vertices_in (rows_in front.now)) }
-        ensures { (front_vertices.exit.now ≡ ids_of (rows_in front.entry.now))
+        requires { IsSync R.row × FitVertices front.now front_shares.now before front_ids.now front_starts.now }
+        ensures { (front_ids.exit.now ≡ ids_of (rows_in front.entry.now))
             × (front_starts.exit.now ≡ starts_from before (rows_in front.entry.now)) }
-    {
-        lay_vertices(
-            rt,
-            front,
-            front_shares,
-            before,
-            front_vertices,
-            front_starts,
-        )
-    };
+    { lay_vertices(rt, front, front_shares, before, front_ids, front_starts) };
     let mut right = ||
-        requires { IsSync R.row × AllZip IsShareOf back.now back_shares.now
-            × (behind + arcs_in (rows_in back.now) < 2 ^ 32) × (length (rows_in back.now) < 2 ^ 32)
-            × (length back_vertices.now ≡ vertices_in (rows_in back.now))
-            × (length back_starts.now ≡ vertices_in (rows_in back.now)) }
-        ensures { (back_vertices.exit.now ≡ ids_of (rows_in back.entry.now))
+        requires { IsSync R.row × FitVertices back.now back_shares.now behind back_ids.now back_starts.now }
+        ensures { (back_ids.exit.now ≡ ids_of (rows_in back.entry.now))
             × (back_starts.exit.now ≡ starts_from behind (rows_in back.entry.now)) }
-    { lay_vertices(rt, back, back_shares, behind, back_vertices, back_starts) };
+    { lay_vertices(rt, back, back_shares, behind, back_ids, back_starts) };
     join_mut(rt, &mut left, &mut right);
 }
 
@@ -220,27 +194,19 @@ fn both_arcs<R: Threads + Sync>(
     requires few { length vertices.now < 2 ^ 32 }
     requires some_front { 0 < length front.now }
     requires some_back { 0 < length back.now }
-    requires front_shares { AllZip IsShareOf front.now front_shares.now }
-    requires front_short { length (rows_in front.now) < 2 ^ 32 }
-    requires front_placeable { All (IsPlaceable vertices.now) (rows_in front.now) }
-    requires front_arcs { length front_arcs.old ≡ arcs_in (rows_in front.now) }
-    requires back_shares { AllZip IsShareOf back.now back_shares.now }
-    requires back_short { length (rows_in back.now) < 2 ^ 32 }
-    requires back_placeable { All (IsPlaceable vertices.now) (rows_in back.now) }
-    requires back_arcs { length back_arcs.old ≡ arcs_in (rows_in back.now) }
+    requires front { FitArcs vertices.now front.now front_shares.now front_arcs.old }
+    requires back { FitArcs vertices.now back.now back_shares.now back_arcs.old }
     ensures front_arcs { AllZip (IsArcOf vertices.now) (arc_rows (rows_in front.now)) front_arcs.new }
     ensures back_arcs { AllZip (IsArcOf vertices.now) (arc_rows (rows_in back.now)) back_arcs.new }
 {
     let mut left = ||
-        requires { IsSync R.row × AllZip IsShareOf front.now front_shares.now × (length (rows_in front.now) < 2 ^ 32)
-            × IdsRise vertices.now × (length vertices.now < 2 ^ 32) × All (IsPlaceable vertices.now) (rows_in front.now)
-            × (length front_arcs.now ≡ arcs_in (rows_in front.now)) }
+        requires { IsSync R.row × IdsRise vertices.now × (length vertices.now < 2 ^ 32)
+            × FitArcs vertices.now front.now front_shares.now front_arcs.now }
         ensures { AllZip (IsArcOf vertices.entry.now) (arc_rows (rows_in front.entry.now)) front_arcs.exit.now }
     { lay_arcs(rt, front, front_shares, vertices, front_arcs) };
     let mut right = ||
-        requires { IsSync R.row × AllZip IsShareOf back.now back_shares.now × (length (rows_in back.now) < 2 ^ 32)
-            × IdsRise vertices.now × (length vertices.now < 2 ^ 32) × All (IsPlaceable vertices.now) (rows_in back.now)
-            × (length back_arcs.now ≡ arcs_in (rows_in back.now)) }
+        requires { IsSync R.row × IdsRise vertices.now × (length vertices.now < 2 ^ 32)
+            × FitArcs vertices.now back.now back_shares.now back_arcs.now }
         ensures { AllZip (IsArcOf vertices.entry.now) (arc_rows (rows_in back.entry.now)) back_arcs.exit.now }
     { lay_arcs(rt, back, back_shares, vertices, back_arcs) };
     join_mut(rt, &mut left, &mut right);

@@ -8,8 +8,14 @@ use Rattle.graph_image.proofs.parted.lay_starts.Goals as goal
 pub overflow_cast-end : goal.overflow_cast-end
 overflow_cast-end g c = (let both = vertices_and_arcs (rows_in c.args.lists.now) in omega (arith, both, c.requires.total.arcs, c.requires.few))
 
-pub lay_vertices-requires-clause-few : goal.lay_vertices-requires-clause-few
-lay_vertices-requires-clause-few g c = (let both = vertices_and_arcs (rows_in c.args.lists.now) in omega (arith, both, c.requires.few))
+pub lay_vertices-requires-clause-fit : goal.lay_vertices-requires-clause-fit
+lay_vertices-requires-clause-fit g c κs within = record {
+  shares_are = c.requires.shares;
+  few = (let both = vertices_and_arcs (rows_in c.args.lists.now) in omega (arith, both, c.requires.few));
+  short = c.requires.few;
+  vertex_room = c.requires.vertices;
+  start_room = c.split_at_mut-each.ensures.front_len ∙ c.requires.total.vertices;
+}
 
 pub returns-clause-starts : goal.returns-clause-starts
 returns-clause-starts g c =
