@@ -21,7 +21,7 @@ use Rattle.graph_files.proofs.EdgeLemmas.{line_read}
 use Rattle.graph_files.proofs.UnrepeatedLemmas.{first_place, turned, first_listing, checked_lines}
 use Rattle.id_places.proofs.DistinctLemmas.{same_number, earlier_differ}
 use Rattle.graphalytics_io.specs.declared.edges.Edge.{Edge}
-use Rattle.graph_files.specs.declared.seconds.Parts.{Parts}
+use Rattle.graph_files.specs.declared.seconds.PartedListings.{PartedListings}
 use Rattle.graph_files.specs.Seconds.{IsTurned, AreParted, AreParts, Takes}
 
 module _ (kind : Kind) where
@@ -52,7 +52,7 @@ map_push number (x ∷ edges) edge = ap (λ ns. number x ∷ ns) (map_push numbe
 
 module _ (kind : Kind) (most : ℕ) (number : Edge → ℕ) where
   -- before the first listing nothing is parted
-  pub parts_none : (parts : Parts) → parts.kept ≡ [] → parts.kept_numbers.items ≡ [] → parts.second_numbers.items ≡ []
+  pub parts_none : (parts : PartedListings) → parts.kept ≡ [] → parts.kept_numbers.items ≡ [] → parts.second_numbers.items ≡ []
       → AreParts kind most number [] parts
   parts_none parts kept kept_numbers second_numbers = record {
     seconds = [];
@@ -63,7 +63,7 @@ module _ (kind : Kind) (most : ℕ) (number : Edge → ℕ) where
   }
 
   -- a listing that is taken goes to one of the parts
-  parts_more : (edges : List Edge) (old new : Parts) (edge : Edge) (n : ℕ) → AreParts kind most number edges old → n ≡ number edge
+  parts_more : (edges : List Edge) (old new : PartedListings) (edge : Edge) (n : ℕ) → AreParts kind most number edges old → n ≡ number edge
       → Takes kind most old edge n new → AreParts kind most number (edges ++ edge ∷ []) new
   parts_more edges old new edge n so_far is (inl keeps) = record {
     seconds = so_far.seconds;
@@ -82,14 +82,14 @@ module _ (kind : Kind) (most : ℕ) (number : Edge → ℕ) where
   }
 
   -- a listing that is taken, by its place
-  pub parts_step : (edges : List Edge) (numbers : List ℕ) (at : ℕ) (d : Edge) (old new : Parts) → at < length edges → numbers ≡ map number edges
+  pub parts_step : (edges : List Edge) (numbers : List ℕ) (at : ℕ) (d : Edge) (old new : PartedListings) → at < length edges → numbers ≡ map number edges
       → AreParts kind most number (take at edges) old → Takes kind most old (get_or edges at d) (get_or numbers at 0) new → AreParts kind most number (take (at + 1) edges) new
   parts_step edges numbers at d old new inside is so_far takes =
       let own : get_or numbers at 0 ≡ number (get_or edges at d) = ap (λ ns. get_or ns at 0) is ∙ get_or-map number edges at d 0 inside in
       subst (λ es. AreParts kind most number es new) (sym (take_more edges at d inside)) (parts_more (take at edges) old new (get_or edges at d) _ so_far own takes)
 
   -- once all listings are taken, all are parted
-  pub parts_all : (edges : List Edge) (at : ℕ) (parts : Parts) → length edges ≤ at → AreParts kind most number (take at edges) parts → AreParts kind most number (take (length edges) edges) parts
+  pub parts_all : (edges : List Edge) (at : ℕ) (parts : PartedListings) → length edges ≤ at → AreParts kind most number (take at edges) parts → AreParts kind most number (take (length edges) edges) parts
   parts_all edges at parts end so_far = subst (λ es. AreParts kind most number es parts) (take_all at edges end ∙ sym (take_all (length edges) edges (omega arith))) so_far
 
 -- ---- what such listings stand for
@@ -307,7 +307,7 @@ listed_long item (line ∷ lines) [] listed = absurd listed
 listed_long item (line ∷ lines) (x ∷ xs) listed = ap (λ n. suc n) (listed_long item lines xs listed.1)
 
 -- a file goes on behind the front of its lines whose edges are parted, by what the lines are checked against
-pub front_goes_on : (rules : Rules) (checks : Checks) (front rest : List FieldLine) (edges : List Edge) (numbers : List ℕ) (parts : Parts) (n count : ℕ) → IsCheckedBy rules checks
+pub front_goes_on : (rules : Rules) (checks : Checks) (front rest : List FieldLine) (edges : List Edge) (numbers : List ℕ) (parts : PartedListings) (n count : ℕ) → IsCheckedBy rules checks
     → AreListed (edge_of every_id checks.weights) front edges → AreNumbers checks.kind checks.known (take n edges) numbers
     → ((number : Edge → ℕ) → numbers ≡ map number (take n edges) → AreParts checks.kind checks.most number (take count (take n edges)) parts)
     → IsDistinct same_number parts.kept_numbers.items → IsDistinct same_number parts.second_numbers.items

@@ -3,7 +3,7 @@ use Rattle.std.specs.Prelude.{◌≡◌, ◌≢◌, ◌⊎◌, ℕ, ◌<◌, ◌
 use Rattle.graph_model.specs.declared.write.Kind.{Kind}
 use Rattle.graph_model.specs.declared.write.Kind.TheVariants.{Undirected}
 use Rattle.graphalytics_io.specs.declared.edges.Edge.{Edge}
-use Rattle.graph_files.specs.declared.seconds.Parts.{Parts}
+use Rattle.graph_files.specs.declared.seconds.PartedListings.{PartedListings}
 
 -- directions don't count, and the edge is the first one the other way round, with its weight, and no loop
 pub record IsTurned (kind : Kind) (first edge : Edge) : Type 0 where
@@ -22,7 +22,7 @@ AreParted kind front (edge ∷ edges) kept seconds =
     × ((first : Edge) × Contains front first × IsTurned kind first edge) × AreParted kind front edges kept more)
 
 -- the parts of these listings, with the numbers that edges have; at most so many are kept
-pub record AreParts (kind : Kind) (most : ℕ) (number : Edge → ℕ) (edges : List Edge) (parts : Parts) : Type 0 where
+pub record AreParts (kind : Kind) (most : ℕ) (number : Edge → ℕ) (edges : List Edge) (parts : PartedListings) : Type 0 where
   pub seconds : List Edge
   pub parted : AreParted kind [] edges parts.kept seconds
   pub kept_numbers : parts.kept_numbers.items ≡ map number parts.kept
@@ -30,14 +30,14 @@ pub record AreParts (kind : Kind) (most : ℕ) (number : Edge → ℕ) (edges : 
   pub few : length parts.kept ≤ most
 
 -- a listing is kept
-pub record Keeps (most : ℕ) (old : Parts) (edge : Edge) (number : ℕ) (new : Parts) : Type 0 where
+pub record Keeps (most : ℕ) (old : PartedListings) (edge : Edge) (number : ℕ) (new : PartedListings) : Type 0 where
   pub room : length old.kept < most
   pub kept : new.kept ≡ old.kept ++ edge ∷ []
   pub kept_numbers : new.kept_numbers.items ≡ old.kept_numbers.items ++ number ∷ []
   pub second_numbers : new.second_numbers.items ≡ old.second_numbers.items
 
 -- a listing is a second one
-pub record Passes (kind : Kind) (old : Parts) (edge : Edge) (number : ℕ) (new : Parts) : Type 0 where
+pub record Passes (kind : Kind) (old : PartedListings) (edge : Edge) (number : ℕ) (new : PartedListings) : Type 0 where
   pub first : Edge
   pub there : Contains old.kept first
   pub turned : IsTurned kind first edge
@@ -46,5 +46,5 @@ pub record Passes (kind : Kind) (old : Parts) (edge : Edge) (number : ℕ) (new 
   pub second_numbers : new.second_numbers.items ≡ old.second_numbers.items ++ number ∷ []
 
 -- a listing is taken, in one of these ways
-abbrev pub Takes : Kind → ℕ → Parts → Edge → ℕ → Parts → Type 0
+abbrev pub Takes : Kind → ℕ → PartedListings → Edge → ℕ → PartedListings → Type 0
 Takes kind most old edge number new = Keeps most old edge number new ⊎ Passes kind old edge number new

@@ -1,4 +1,5 @@
 pub mod IndexLemmas
 pub mod CellLemmas
 pub mod MergeLemmas
+mod PassLemmas
 pub mod TurnLemmas

@@ -29,14 +29,14 @@ use Rattle.pass_moves.specs.PassCellsDeclared.taken.TakenCell.{TakenCell}
 use Rattle.pass_moves.specs.PassLeaves.Hand.{HoldsLeaves, IsLeafOfKey}
 use Rattle.pass_moves.specs.Moving.{values_of}
 use Rattle.pass_moves.proofs.KeyLemmas.{eight_cells, known_sound, one_leaf}
-use Rattle.pass_writes.specs.PassSteps.Passes.{HoldsNone, IsPassOf}
-use Rattle.pass_writes.specs.PassSweeps.Stepping.{ChoosesLeaf, key_after}
-use Rattle.pass_writes.proofs.HandLemmas.{pass_kept}
+use Rattle.pass_sweeps.specs.PassSteps.Passes.{HoldsNone, IsPassOf}
+use Rattle.pass_sweeps.specs.Stepping.{ChoosesLeaf, key_after}
 use Rattle.pass_merges.specs.Pairs.{StandTogether}
 use Rattle.pass_merges.specs.Turns.{IsPairTurn, IsTurnOf}
 use Rattle.pass_merges.specs.declared.pair.LeafPair.{LeafPair}
 use Rattle.pass_merges.specs.declared.turn.MergeTurn.{MergeTurn}
 use Rattle.pass_merges.specs.declared.turn.MergeTurn.TheVariants.{Spread, Merged, Nothing}
+use Rattle.pass_merges.proofs.PassLemmas.{pass_kept}
 
 -- ---- what the pass has
 

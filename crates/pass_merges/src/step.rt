@@ -7,8 +7,8 @@ ghost use Rattle.std.specs.Prelude.{◌≡◌, ℕ, [], IfOk};
 ghost use Rattle.graph_model.specs.Rows.{first_key};
 ghost use Rattle.pass_moves.specs.PassCells.Holding.{KeepsPass};
 ghost use Rattle.pass_moves.specs.PassCells.Holding as holding;
-ghost use Rattle.pass_writes.specs.PassSteps.Passes.{HoldsNone, IsPassOf};
-ghost use Rattle.pass_writes.specs.PassSweeps.Stepping.{ChoosesLeaf};
+ghost use Rattle.pass_sweeps.specs.PassSteps.Passes.{HoldsNone, IsPassOf};
+ghost use Rattle.pass_sweeps.specs.Stepping.{ChoosesLeaf};
 ghost use Rattle.pass_merges.specs.Turns.{IsTurnOf};
 
 use crate::hand::{merge_with, spread_in_hand};
@@ -17,7 +17,7 @@ use crate::turn::MergeTurn;
 use crate::work::{Work, find_work};
 use graph_model::{Key, NoMemory};
 use pass_moves::below::{CellHints, Leaf, LeafInHand, Pass, PassLeaves, Store};
-use pass_writes::below::key_after;
+use pass_sweeps::key_after;
 use std::alloc::Global;
 use std::sync::Wait;
 

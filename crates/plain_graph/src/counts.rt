@@ -1,4 +1,6 @@
 //! How large the graph of a journal is.
+//!
+//! 1. All commits are made once more, in ordered maps: what is told of a journal rests on no store.
 
 ghost use Rattle.std.specs.Prelude.{◌≡◌, IfOk};
 ghost use Rattle.plain_graph.specs.Counting.{counts_of};

@@ -1,4 +1,6 @@
 //! Parts of lines that reports and the journal share.
+//!
+//! 1. Each has a word or a blank before its number, so a line is its parts, one after the other.
 
 ghost use Rattle.std.specs.Prelude.{◌≡◌, ◌++◌, OnOk, OnErr};
 ghost use Rattle.run_model.specs.Texts.{field, name_text};

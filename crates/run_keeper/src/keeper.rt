@@ -1,4 +1,7 @@
 //! The file of a run, with the bytes of the commit at hand.
+//!
+//! 1. Which commits the file has is told by the file alone: the next one is the one after those.
+//! 2. One buffer serves all commits, so after the longest of them none takes memory.
 
 ghost use Rattle.std.specs.Prelude.{◌≡◌, ◌≤◌, ◌++◌, ◌∷◌, [], List, length, IfOk, IfErr, OnOk, OnErr};
 ghost use Rattle.graph_model.specs.declared.write.Kind.{Kind};

@@ -53,6 +53,7 @@ impl Names {
         ensures ok { OnOk result (self.new ≡ self.old ++ name ∷ []) }
         ensures err { OnErr result (self.new ≡ self.old) }
     {
+        // Room for the name, then the map, then the name itself: where memory runs out no name has come.
         self.names.reserve(1)?;
         let place = self.names.len();
         add_place(self.alloc, &mut self.places, name.as_slice(), place)?;
@@ -83,6 +84,7 @@ impl Names {
         ensures { self.new ≡ take len self.old }
     {
         'names: while len < self.names.len() {
+            // From the last on, so that of two equal names the later one goes first.
             let Some(name) = self.names.pop() else { return };
             let place = self.names.len();
             remove_place(&mut self.places, name.as_slice(), place);
@@ -101,6 +103,7 @@ fn add_place(
         ≡ option_or (place_in places.old other) (cond (bytes_eq other name.now) (Some place) None)) }
     ensures err { OnErr result ((other : List ℕ) → place_in places.new other ≡ place_in places.old other) }
 {
+    // A name may come twice, since those of the words are taken as they are; the first place is the one that counts.
     if places.contains_key(name) {
         return Ok(());
     }
@@ -116,6 +119,7 @@ fn remove_place(places: &mut BTreeMap<Vec<u8>, usize>, name: &[u8], place: usize
         (place_in places.old other) }
 {
     if let Some(first) = places.get(name) {
+        // A name that stood there before keeps its place.
         if *first == place {
             places.remove(name);
         }

@@ -111,6 +111,7 @@ fn check_count(kinds: &[FieldKind], count: usize) -> Result<(), ScriptWhat>
     if count < needed(kinds) {
         return Err(ScriptWhat::MissingField);
     }
+    // A field that may be missing counts here and not above.
     if kinds.len() < count {
         return Err(ScriptWhat::ExtraField);
     }
@@ -130,6 +131,7 @@ fn check_place(word: Word, is_open: bool) -> Result<(), ScriptWhat>
         (λ what. place_fault word is_open ≡ Some what) }
 {
     match (word.is_begin(), is_open) {
+        // Transactions of a script come one after the other: its pass has one at a time.
         (true, true) => Err(ScriptWhat::BegunTwice),
         (false, false) => Err(ScriptWhat::NotBegun),
         _ => Ok(()),

@@ -71,6 +71,7 @@ impl ScriptWhat {
     pub(crate) fn order(self) -> u8
         ensures { result ≡ order self }
     {
+        // The variants are written in this order, so their numbers are it.
         self as u8
     }
 }

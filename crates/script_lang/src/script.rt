@@ -25,6 +25,7 @@ pub fn read_script(alloc: Global, text: &[u8], taken: &mut Names) -> Result<Scri
     let before = taken.len();
     let read = read_lines(alloc, text, taken);
     if read.is_err() {
+        // The caller may try another text, whose names are then as free as before.
         taken.truncate(before);
     }
     read

@@ -72,6 +72,7 @@ pub(crate) const WORDS: [Word; 17] = [
 pub(crate) fn word_of(field: &[u8]) -> Option<Word>
     ensures { result ≡ word_of field.now }
 {
+    // One after the other: seventeen short words are compared sooner than a map is asked.
     WORDS.iter().copied().find(|word| word.is(field))
 }
 

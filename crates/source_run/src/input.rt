@@ -132,6 +132,7 @@ fn parse_scripts(
 {
     let mut scripts = Items::new(alloc);
     'texts: for k in 0..texts.len() {
+        // A fault of a script knows its line alone; which source it is in is added here.
         let script = match read_script(alloc, texts[k].as_slice(), taken) {
             Ok(script) => script,
             Err(refusal) => return Err(script_stop(k + 2, refusal)),
@@ -167,6 +168,7 @@ fn parse_schedule(
     ensures refused { IfErr result (IsScheduleStopOf (run_request words.now) texts.now) }
 {
     let count = script_count(words);
+    // Then all turns go by rotation.
     if words.schedule.is_none() {
         return Ok(Schedule::new(alloc));
     }
@@ -199,6 +201,7 @@ fn name_of(alloc: Global, name: TakenName<'_>) -> Result<Name, NoMemory>
         TakenName::Given(name) => Vec::from_slice(alloc, name.as_bytes())?,
         TakenName::ReportOf(script) => {
             let mut bytes = Vec::from_slice(alloc, script.as_bytes())?;
+            // No word has this name, so it is made here as it is made for the output.
             bytes.extend_from_slice(b".report")?;
             bytes
         }

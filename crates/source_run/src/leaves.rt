@@ -41,6 +41,7 @@ fn leaves_for_rows(rows: u64) -> u32
     requires { rows ≤ MOST_ROWS }
     ensures { result ≡ min MAX_LEAVES (1 + rows / SPLIT_ROWS) }
 {
+    // One more, for the leaf that is there before the first row comes.
     let leaves = 1 + rows / SPLIT_ROWS;
     leaves.min(MAX_LEAVES as u64) as u32
 }
@@ -77,6 +78,7 @@ fn rows_with(kind: Kind, script: &[Command], before: u64) -> u64
 {
     let mut rows = before;
     'lines: for command in script {
+        // Cut off at each line, so that no sum of a long script wraps; beyond that all leaves are taken anyway.
         rows = MOST_ROWS.min(rows + asked_by(kind, command));
     }
     rows

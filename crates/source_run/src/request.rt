@@ -56,6 +56,7 @@ pub fn sources_of<'a>(alloc: Global, words: &RunWords<'a>) -> Result<Vec<&'a str
     ensures { IfOk result (λ names. map (λ name. name.now) names.items ≡ source_names (run_request words.now)) }
 {
     let mut names = Vec::new(alloc);
+    // In the order in which they are parsed, by which the place of a fault is told.
     names.push(words.vertices)?;
     names.push(words.edges)?;
     names.extend_from_slice(words.scripts.as_slice())?;

@@ -77,6 +77,7 @@ pub fn run_by_turns<R: Threads + Sync>(
     let mut jobs = jobs_of(alloc, scripts)?;
     let schedule = schedule.as_slice();
     run_jobs(rt, alloc, &mut engine, &mut jobs, schedule, is_serial)?;
+    // Nobody reads any more, so each row keeps its newest value alone, and those are counted.
     engine.settle();
     let totals = engine.totals();
     Ok(SteppedRun {
@@ -101,6 +102,7 @@ pub fn load_graph<R: Threads + Sync>(
     ensures refused { IfErr result (IsLoadRefusal engine.old.core (load_of ids edges)) }
 {
     let load = writes_of(alloc, &ids, &edges)?;
+    // The writes say all that the load needs: ids, edges, writes and rows together would be the most memory of a run.
     drop(ids);
     drop(edges);
     engine.load_by_threads(rt, load)
@@ -179,6 +181,7 @@ pub fn new_engine(alloc: Global, config: Config) -> Result<Core, NoMemory>
 {
     match Core::new(alloc, config) {
         Ok(engine) => Ok(engine),
+        // No number of `config_of` is above its limit.
         Err(StoreRefusal::TooLarge) => unreachable!(),
         Err(StoreRefusal::NoMemory) => Err(NoMemory),
     }
@@ -190,6 +193,7 @@ pub fn jobs_of(alloc: Global, scripts: Items<Script>) -> Result<Jobs, NoMemory>
     ensures { IfOk result (λ jobs. jobs ≡ new_jobs 1 scripts) }
 {
     let mut jobs = Vec::new(alloc);
+    // Transactions are named by it, and 0 is the load's.
     let mut number = 1;
     'scripts: for script in scripts.into_vec() {
         jobs.push(Job::new(alloc, number, script))?;

@@ -1,4 +1,7 @@
 //! The store, from its making to its end.
+//!
+//! 1. Between calls no session works and none has a transaction: a call that lends them has all back before it returns.
+//! 2. So whoever has the store has all of its sessions, and may close it without asking anybody.
 
 ghost use Rattle.std.specs.Prelude.{◌≡◌, ◌≤◌, ◌↔◌, Err, IfErr, IfOk, true, length};
 ghost use Rattle.std.specs.List.{AllByRecursion};

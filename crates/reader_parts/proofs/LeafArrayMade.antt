@@ -1,0 +1,2 @@
+-- Modules of leaf_array that crates above name.
+pub use Rattle.shared_readers.proofs.LeafArrayMade.Leaf

@@ -1,0 +1,2 @@
+-- Modules of row_writes that crates above name.
+pub use Rattle.shared_readers.proofs.RowWrites.KeyLemmas

@@ -1,0 +1,16 @@
+pub mod Cuts
+pub mod Parts
+pub mod CellsModel
+pub mod OptimisticRead
+pub mod OptimisticReadDeclared
+pub mod PassSteps
+pub mod RowWrites
+pub mod RuleModel
+pub mod SharedStore
+pub mod SharedStoreContracts
+pub mod SharedStoreDeclared
+pub mod StoreRelation
+pub mod StoreRelationContracts
+pub mod StoreRelationDeclared
+pub mod StoreRuleContracts
+pub mod StoreRuleDeclared
