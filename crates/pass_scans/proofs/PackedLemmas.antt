@@ -1,12 +1,10 @@
 -- A packed cell in hand whose rows are read as they lie.
-use Rattle.std.proofs.Common.{◌≡◌, ℕ, suc, ◌+◌, ◌<◌, ◌≤◌, List, [], ◌∷◌, length, map, refl, sym, ◌∙◌, ap, subst, cond, arith, get_or-set_other, length-set}
-use Rattle.std.specs.Prelude.{Bool, true, false, Option, Some, None, slice_get}
-use Rattle.std.specs.List.{AllByRecursion}
-use Rattle.std.specs.FinMap.Entries.{find}
+use Rattle.std.proofs.Common.{◌≡◌, ℕ, suc, ◌+◌, ◌≤◌, List, [], ◌∷◌, length, map, refl, sym, ◌∙◌, ap, subst, cond, arith, get_or-set_other, length-set}
+use Rattle.std.specs.Prelude.{Bool, true, false, Option}
 use Rattle.graph_model.specs.declared.journal.TxnName.{TxnName}
 use Rattle.graph_model.specs.declared.row.Key.{Key}
 use Rattle.graph_model.specs.declared.row.Row.{Row}
-use Rattle.graph_model.specs.Rows.{is_below, is_between, key_cmp, rows, value_at}
+use Rattle.graph_model.specs.Rows.{is_below, is_between, rows}
 use Rattle.graph_model.specs.Transactions.{stamp_in}
 use Rattle.graph_model.proofs.KeyLemmas.{below_flip, below_self, below_up, between_of, between_parts, upto_chain}
 use Rattle.txn_manager.specs.declared.config.Config.{Config}
@@ -15,15 +13,13 @@ use Rattle.undo_chain.specs.declared.states.Snapshot.{Snapshot}
 use Rattle.undo_chain.specs.States.{Knowledge}
 use Rattle.seat_views.specs.Keeping.{kept_at}
 use Rattle.pass_cells.specs.Reading.{lesser}
-use Rattle.pass_cells.specs.RuleModel.NoteSteps.{HasRow, LearnsRows}
+use Rattle.pass_cells.specs.RuleModel.NoteSteps.{LearnsRows}
 use Rattle.pass_cells.specs.StoreRelation.Readers.{reader_of}
 use Rattle.pass_cells.specs.VersionSegment.Checks.{AreNamedRows}
 use Rattle.pass_cells.proofs.RunLemmas.{range_read}
 use Rattle.pass_sweeps.specs.CellsModel.Cells.{CellState, raised_word, unpacked, version_word}
-use Rattle.pass_sweeps.specs.CellsModel.Indexed.{covers}
 use Rattle.pass_sweeps.specs.CellsModel.Words.{Spells}
 use Rattle.pass_sweeps.specs.Pruning.{FindsWords, HasCellOnly}
-use Rattle.pass_sweeps.specs.SweepLaws.{TellsWriters}
 use Rattle.pass_sweeps.specs.RuleModel.Sight.{PinState, Sight, with_cell}
 use Rattle.pass_sweeps.specs.StoreRelation.Passes.{PassState, name_at}
 use Rattle.pass_sweeps.specs.StoreRule.Passes.{OnlyAccount}
@@ -31,8 +27,8 @@ use Rattle.pass_sweeps.specs.StoreRuleDeclared.store.Pass.{Pass}
 use Rattle.pass_sweeps.specs.StoreRuleDeclared.store.Store.{Store}
 use Rattle.pass_sweeps.specs.PassSteps.Asking.{Asking, IsSnapshotOf, asking_of, is_writer, knowledge_at, lent_part}
 use Rattle.pass_sweeps.specs.PassSteps.Passes.{pin_of, reader_of_pass, state_in, state_of}
-use Rattle.pass_sweeps.specs.VersionSegment.Resting.{resting_of, resting_row, word_row, word_rows, woken_rows, AgreeWith, RestingRow, RestingRows}
-use Rattle.pass_sweeps.specs.VersionSegment.Rows.{VersionedRows, range_of, rows_read, versions_at}
+use Rattle.pass_sweeps.specs.VersionSegment.Resting.{resting_row, word_row, woken_rows, AgreeWith, RestingRow, RestingRows}
+use Rattle.pass_sweeps.specs.VersionSegment.Rows.{VersionedRows, range_of, rows_read}
 use Rattle.pass_sweeps.proofs.CellLemmas.{own_self, rows_named}
 use Rattle.pass_sweeps.proofs.CellsModel.WordLemmas.{newest_weights}
 use Rattle.pass_sweeps.proofs.HandLemmas.{account_keeps, cell_stays, self_of, self_pin, self_state}

@@ -10,8 +10,8 @@ load_key-low-requires-clause-reading c =
     let r = c.args.read in
     let s0 = c.args.seat.now in
     let one = c.block_load-count in
-    reads_on r.cell 1 one.result s0.me.0 one.new.seat.me.0 (λ i. (one.ensures.loaded.me i).0)
-    (reads_of_begun r.cell r.first s0.me.0 c.requires.begun)
+    reads_on r.block.cell 1 one.result s0.me.0 one.new.seat.me.0 (λ i. (one.ensures.loaded.me i).0)
+    (reads_of_begun r.block.cell r.first s0.me.0 c.requires.begun)
 
 pub load_key-high-requires-clause-reading : goal.load_key-high-requires-clause-reading
 load_key-high-requires-clause-reading c =
@@ -19,9 +19,9 @@ load_key-high-requires-clause-reading c =
     let s0 = c.args.seat.now in
     let one = c.block_load-count in
     let two = c.load_key-low in
-    reads_after_key r.cell 2 two.result one.new.seat.me.0 two.new.seat.me.0 (λ i. (two.ensures.loaded.me i).0)
-    (reads_on r.cell 1 one.result s0.me.0 one.new.seat.me.0 (λ i. (one.ensures.loaded.me i).0)
-    (reads_of_begun r.cell r.first s0.me.0 c.requires.begun))
+    reads_after_key r.block.cell 2 two.result one.new.seat.me.0 two.new.seat.me.0 (λ i. (two.ensures.loaded.me i).0)
+    (reads_on r.block.cell 1 one.result s0.me.0 one.new.seat.me.0 (λ i. (one.ensures.loaded.me i).0)
+    (reads_of_begun r.block.cell r.first s0.me.0 c.requires.begun))
 
 pub returns-clause-still : goal.returns-clause-still
 returns-clause-still c =
@@ -40,6 +40,6 @@ returns-clause-known c =
     let one = c.block_load-count in
     let two = c.load_key-low in
     let three = c.load_key-high in
-    head_known r.cell r.first one.result c.min.result two.result three.result c.args.seat.now.me.0 one.new.seat.me.0
+    head_known r.block.cell r.first one.result c.min.result two.result three.result c.args.seat.now.me.0 one.new.seat.me.0
     two.new.seat.me.0 three.new.seat.me.0 c.min.ensures c.requires.begun (λ i. (one.ensures.loaded.me i).0)
     (λ i. (two.ensures.loaded.me i).0) (λ i. (three.ensures.loaded.me i).0)

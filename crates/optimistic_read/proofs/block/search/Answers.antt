@@ -12,8 +12,8 @@ halves-init c = (
 pub load_key-middle-requires-clause-reading : goal.load_key-middle-requires-clause-reading
 load_key-middle-requires-clause-reading c =
     let r = c.args.read in
-    reads_of r.cell r.first c.halves.seat.me.0
-    (Halved r.cell r.first c.args.head c.args.key c.halves.place c.halves.rest) c.halves.invariant.2
+    reads_of r.block.cell r.first c.halves.seat.me.0
+    (Halved r.block.cell r.first c.args.head c.args.key c.halves.place c.halves.rest) c.halves.invariant.2
 
 pub halves-preserved-then-is_below : goal.halves-preserved-then-is_below
 halves-preserved-then-is_below c =
@@ -26,7 +26,7 @@ halves-preserved-then-is_below c =
       key_on c.args.seat.now c.halves.seat middle.new.seat (6 + 3 * (c.halves.place + half)) middle.result h.0
           middle.ensures.loaded,
       omega (arith, some, within),
-      goes_up r.cell r.first c.args.head c.args.key c.halves.place c.halves.rest half middle.result c.halves.seat.me.0
+      goes_up r.block.cell r.first c.args.head c.args.key c.halves.place c.halves.rest half middle.result c.halves.seat.me.0
           middle.new.seat.me.0 (omega (arith, some)) (λ i. (middle.ensures.loaded.me i).0) h.2
           (sym c.is_below.ensures ∙ c.if-is_below.true) (c.halves.place + (half + 1)) (c.halves.rest - (half + 1))
           (omega arith) (omega (arith, some)),
@@ -43,7 +43,7 @@ halves-preserved c =
       key_on c.args.seat.now c.halves.seat middle.new.seat (6 + 3 * (c.halves.place + half)) middle.result h.0
           middle.ensures.loaded,
       omega (arith, some, within),
-      goes_down r.cell r.first c.args.head c.args.key c.halves.place c.halves.rest half middle.result c.halves.seat.me.0
+      goes_down r.block.cell r.first c.args.head c.args.key c.halves.place c.halves.rest half middle.result c.halves.seat.me.0
           middle.new.seat.me.0 (omega (arith, some)) (λ i. (middle.ensures.loaded.me i).0) h.2
           (sym c.is_below.ensures ∙ c.if-is_below.false),
     )

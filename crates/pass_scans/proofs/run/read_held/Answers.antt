@@ -1,7 +1,6 @@
 use Rattle.std.proofs.Common.{◌≡◌, ◌∙◌, ap, refl, sym}
 use Rattle.std.specs.Prelude.{true}
 use Rattle.graph_model.specs.Rows.{is_below, is_between, rows}
-use Rattle.pass_sweeps.specs.CellsModel.Cells.{CellState}
 use Rattle.pass_sweeps.specs.StoreRelation.Passes.{PassState}
 use Rattle.pass_sweeps.specs.PassSteps.Passes.{pin_of, state_of}
 use Rattle.pass_sweeps.specs.VersionSegment.Resting.{resting_of}
@@ -16,57 +15,57 @@ pub returns-then-not-holds-clause-taken : goal.returns-then-not-holds-clause-tak
 returns-then-not-holds-clause-taken c =
     let p0 = c.args.pass.now in
     let t = c.requires.taken in
-    let l = c.load_packed-low.ensures.loaded t.0 t.1.only.cell in (
+    let l = c.load_packed.ensures.loaded t.0 t.1.only.cell in (
       l.0,
-      packed_self c.args.store.now c.load_packed-low.new.pass (state_of p0) (pin_of p0) c.args.cell l.0 l.1.only l.1.packed,
+      packed_self c.args.store.now c.load_packed.new.pass (state_of p0) (pin_of p0) c.args.cell l.0 l.1.only l.1.packed,
       t.2 ∙ ap (λ (s : VersionedRows). (resting_of s).rows) (sym l.2),
     )
 
 pub learn-clock-requires-clause-pass : goal.learn-clock-requires-clause-pass
 learn-clock-requires-clause-pass c =
     let t = c.requires.taken in
-    (c.load_packed-low.ensures.loaded t.0 t.1.only.cell).1.only.of
+    (c.load_packed.ensures.loaded t.0 t.1.only.cell).1.only.of
 
 pub learn-clock-requires-clause-stage : goal.learn-clock-requires-clause-stage
 learn-clock-requires-clause-stage c =
     let t = c.requires.taken in
-    ap (λ (st : PassState). st.stage) (c.load_packed-low.ensures.loaded t.0 t.1.only.cell).1.only.state ∙ c.requires.opened
+    ap (λ (st : PassState). st.stage) (c.load_packed.ensures.loaded t.0 t.1.only.cell).1.only.state ∙ c.requires.opened
 
 pub read_rows-requires-clause-pass : goal.read_rows-requires-clause-pass
 read_rows-requires-clause-pass c =
     let p0 = c.args.pass.now in
     let t = c.requires.taken in
-    let l = c.load_packed-low.ensures.loaded t.0 t.1.only.cell in
-    (after_learning c.args.store.now c.load_packed-low.new.pass c.learn-clock.new.pass (state_of p0) (pin_of p0) c.args.cell l.0 0 l.1.only
+    let l = c.load_packed.ensures.loaded t.0 t.1.only.cell in
+    (after_learning c.args.store.now c.load_packed.new.pass c.learn-clock.new.pass (state_of p0) (pin_of p0) c.args.cell l.0 0 l.1.only
     c.learn-clock.ensures.same).of
 
 pub read_rows-requires-clause-learnt : goal.read_rows-requires-clause-learnt
 read_rows-requires-clause-learnt c =
-    learnt_still c.args.store.now.accounts.config c.load_packed-low.new.pass c.learn-clock.new.pass c.learn-clock.result
+    learnt_still c.args.store.now.accounts.config c.load_packed.new.pass c.learn-clock.new.pass c.learn-clock.result
     c.learn-clock.ensures.same c.learn-clock.ensures.learnt
 
 pub read_rows-requires-clause-snapshot : goal.read_rows-requires-clause-snapshot
 read_rows-requires-clause-snapshot c =
     let store = c.args.store.now in
     let p0 = c.args.pass.now in
-    let p1 = c.load_packed-low.new.pass in
+    let p1 = c.load_packed.new.pass in
     let p2 = c.learn-clock.new.pass in
     let t = c.requires.taken in
-    let of = (c.load_packed-low.ensures.loaded t.0 t.1.only.cell).1.only.of in
+    let of = (c.load_packed.ensures.loaded t.0 t.1.only.cell).1.only.of in
     snapshot_still p0 p2 c.args.snapshot.now
-    (finds_then p0 p1 p2 c.load_packed-low.ensures.found (account_found store p1 p2 _ of c.learn-clock.ensures.same refl refl refl refl refl))
+    (finds_then p0 p1 p2 c.load_packed.ensures.found (account_found store p1 p2 _ of c.learn-clock.ensures.same refl refl refl refl refl))
     c.requires.snapshot
 
 pub read_rows-requires-clause-may : goal.read_rows-requires-clause-may
 read_rows-requires-clause-may c =
     let p0 = c.args.pass.now in
     let t = c.requires.taken in
-    let l = c.load_packed-low.ensures.loaded t.0 t.1.only.cell in
+    let l = c.load_packed.ensures.loaded t.0 t.1.only.cell in
     let spell = l.3 in
-    let low = c.load_packed-low.result.0 in
-    let high = c.load_packed-low.result.1 in
+    let low = c.load_packed.result.0 in
+    let high = c.load_packed.result.1 in
     let holds : is_between low high c.args.from ≡ true = sym c.holds.ensures ∙ c.if-not-holds.false in
-    let has = after_learning c.args.store.now c.load_packed-low.new.pass c.learn-clock.new.pass (state_of p0) (pin_of p0) c.args.cell l.0 0
+    let has = after_learning c.args.store.now c.load_packed.new.pass c.learn-clock.new.pass (state_of p0) (pin_of p0) c.args.cell l.0 0
     l.1.only c.learn-clock.ensures.same in (
       l.0,
       record {
@@ -88,8 +87,8 @@ returns-clause-taken c =
     let p2 = c.learn-clock.new.pass in
     let p3 = c.read_rows.new.pass in
     let t = c.requires.taken in
-    let l = c.load_packed-low.ensures.loaded t.0 t.1.only.cell in
-    let has = after_learning store c.load_packed-low.new.pass p2 (state_of p0) (pin_of p0) c.args.cell l.0 0 l.1.only
+    let l = c.load_packed.ensures.loaded t.0 t.1.only.cell in
+    let has = after_learning store c.load_packed.new.pass p2 (state_of p0) (pin_of p0) c.args.cell l.0 0 l.1.only
     c.learn-clock.ensures.same in (
       l.0,
       packed_self store p3 (state_of p3) (pin_of p0) c.args.cell l.0
@@ -101,30 +100,30 @@ pub returns-clause-found : goal.returns-clause-found
 returns-clause-found c =
     let store = c.args.store.now in
     let p0 = c.args.pass.now in
-    let p1 = c.load_packed-low.new.pass in
+    let p1 = c.load_packed.new.pass in
     let p2 = c.learn-clock.new.pass in
     let p3 = c.read_rows.new.pass in
     let t = c.requires.taken in
-    let l = c.load_packed-low.ensures.loaded t.0 t.1.only.cell in
+    let l = c.load_packed.ensures.loaded t.0 t.1.only.cell in
     let has = after_learning store p1 p2 (state_of p0) (pin_of p0) c.args.cell l.0 0 l.1.only c.learn-clock.ensures.same in
     finds_then p0 p2 p3
-    (finds_then p0 p1 p2 c.load_packed-low.ensures.found (account_found store p1 p2 _ l.1.only.of c.learn-clock.ensures.same refl refl refl refl refl))
+    (finds_then p0 p1 p2 c.load_packed.ensures.found (account_found store p1 p2 _ l.1.only.of c.learn-clock.ensures.same refl refl refl refl refl))
     (looks_found store p2 p3 has.of c.read_rows.ensures.looked)
 
 pub returns-clause-run : goal.returns-clause-run
 returns-clause-run c =
     let store = c.args.store.now in
     let p0 = c.args.pass.now in
-    let p1 = c.load_packed-low.new.pass in
+    let p1 = c.load_packed.new.pass in
     let p2 = c.learn-clock.new.pass in
     let t = c.requires.taken in
-    let l = c.load_packed-low.ensures.loaded t.0 t.1.only.cell in
-    let low = c.load_packed-low.result.0 in
-    let high = c.load_packed-low.result.1 in
+    let l = c.load_packed.ensures.loaded t.0 t.1.only.cell in
+    let low = c.load_packed.result.0 in
+    let high = c.load_packed.result.1 in
     let holds : is_between low high c.args.from ≡ true = sym c.holds.ensures ∙ c.if-not-holds.false in
     let ends = run_ends low high c.args.from c.args.until holds c.requires.ahead in
     let is = c.lesser-end.ensures in
-    let found = finds_then p0 p1 p2 c.load_packed-low.ensures.found
+    let found = finds_then p0 p1 p2 c.load_packed.ensures.found
     (account_found store p1 p2 _ l.1.only.of c.learn-clock.ensures.same refl refl refl refl refl) in
     record {
       ahead = ap (is_below c.args.from) is ∙ ends.0;

@@ -1,4 +1,4 @@
-use Rattle.std.proofs.Common.{◌≡◌, ◌∙◌, ap, subst, sym}
+use Rattle.std.proofs.Common.{◌∙◌, ap, subst, sym}
 use Rattle.std.specs.Prelude.{IfSome}
 use Rattle.pass_sweeps.specs.StoreRelation.Passes.{PassState}
 use Rattle.pass_sweeps.specs.PassSteps.Passes.{pin_of, state_of}
@@ -35,7 +35,7 @@ pub give_cell-requires : goal.give_cell-requires
 give_cell-requires g c =
     let p2 = c.read_held-end.new.pass in
     let t = c.read_held-end.ensures.taken in
-    (state_of p2, pin_of p2, t.0, t.1.only, t.1.packed, t.2)
+    record { taken = (state_of p2, pin_of p2, t.0, t.1.only, t.1.packed, t.2) }
 
 pub returns-clause-found : goal.returns-clause-found
 returns-clause-found g c =
