@@ -96,7 +96,6 @@ pub fn run_scripts<R: Threads + Wait + Sync, G: Gate>(
         }
         Some(workers) => {
             let run = run_by_threads(rt, alloc, kind, leaves, workers, input, gate)?;
-            // Out of the closed store before that is handed on, so that both kinds of a run tell their counts alike.
             let totals = run.closed.totals;
             Ok(RunResult {
                 ran: Ran::Shared(run.closed),

@@ -44,7 +44,8 @@ pub struct SteppedRun {
     pub totals: Totals,
 }
 
-/// Loads the graph into an engine of one owner, and runs the scripts on it by their turns.
+/// Loads the graph into an engine of one owner, and runs the scripts on it by their turns. At the end nobody reads any
+/// more, so each row keeps its newest value alone, and those are counted.
 pub fn run_by_turns<R: Threads + Sync>(
     rt: &R,
     alloc: Global,
@@ -77,7 +78,6 @@ pub fn run_by_turns<R: Threads + Sync>(
     let mut jobs = jobs_of(alloc, scripts)?;
     let schedule = schedule.as_slice();
     run_jobs(rt, alloc, &mut engine, &mut jobs, schedule, is_serial)?;
-    // Nobody reads any more, so each row keeps its newest value alone, and those are counted.
     engine.settle();
     let totals = engine.totals();
     Ok(SteppedRun {
