@@ -22,7 +22,7 @@ stay_twice store old mid new first idle same = record { idle = idle; accounts = 
 
 pub stay_count : (store : Store) (old new : List Pass) → StayIdle store old new → length new ≡ length old
 stay_count store old new stay =
-    sym (length-map (account_of store) new) ∙ ap length stay.accounts ∙ length-map (account_of store) old
+    sym (length-map new (account_of store)) ∙ ap length stay.accounts ∙ length-map old (account_of store)
 
 -- ---- at their places
 
@@ -69,7 +69,7 @@ module _ (store : Store) where
       module _ (stay : StayIdle store front back) (idle : IsIdle store pass)
           (number : pass.seats.number ≡ last.seats.number) (new : List Pass) (new_is : new ≡ back ++ pass ∷ []) where
         as_long : length back ≡ length front
-        as_long = sym (length-map (account_of store) back) ∙ ap length stay.accounts ∙ length-map (account_of store) front
+        as_long = sym (length-map back (account_of store)) ∙ ap length stay.accounts ∙ length-map front (account_of store)
 
         idle_at : (p : ℕ) (x : Pass)
             → ((p < length back) × (slice_get back p ≡ Some x)) ⊎ ((p ≡ length back) × (pass ≡ x)) → IsIdle store x

@@ -135,7 +135,7 @@ module _ (store : Store) (old now : Pass) (all idle : List Pass) (from : Key) (e
   accounts_count (p ∷ ps) = let rest = accounts_count ps in omega (arith, rest)
 
   pub all_split : length parts ≡ length all
-  all_split = sym (accounts_count parts) ∙ ap length all_accounts ∙ length-map (account_of store) all
+  all_split = sym (accounts_count parts) ∙ ap length all_accounts ∙ length-map all (account_of store)
 
 -- ---- reading
 

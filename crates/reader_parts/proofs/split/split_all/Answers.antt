@@ -1,6 +1,6 @@
 use Rattle.std.proofs.Common.{◌<◌, length, refl, rules, arith, ap}
 use Rattle.reader_parts.proofs.ListLemmas.{first_out}
-use Rattle.reader_parts.proofs.SplitLemmas.{splitting_on, splitting_starts}
+use Rattle.reader_parts.proofs.SplitLemmas.{all_split, splitting_on, splitting_starts}
 use Rattle.reader_parts.proofs.split.split_all.Goals as goal
 
 pub parts-init : goal.parts-init
@@ -34,3 +34,8 @@ parts-preserved c =
       room = search rules;
       capacity = search rules;
     }
+
+pub returns-clause-count : goal.returns-clause-count
+returns-clause-count c =
+    all_split c.args.store.now c.args.pass.now c.parts.pass c.args.idle.now.items c.parts.idle.items c.parts.from
+    c.parts.ends.items c.parts.parts.items c.parts.invariant.splitting (search rules)
