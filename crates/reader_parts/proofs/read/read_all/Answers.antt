@@ -17,6 +17,8 @@ returns g c =
     let many = as_many store old new c.read_each.ensures.read in
     let count : c.args.parts.now.len ≡ length new =
     omega (arith, many, c.args.parts.now.ok, c.as_mut_slice.ensures) in
-    subst (AllZip (HasRead store) c.args.parts.now.items)
-    (sym (front_of c.args.parts.now.len new (drop (length new) c.args.parts.now.items) count))
-    (subst (λ xs. AllZip (HasRead store) xs new) c.as_mut_slice.ensures.value c.read_each.ensures.read)
+    record {
+      read = subst (AllZip (HasRead store) c.args.parts.now.items)
+          (sym (front_of c.args.parts.now.len new (drop (length new) c.args.parts.now.items) count))
+          (subst (λ xs. AllZip (HasRead store) xs new) c.as_mut_slice.ensures.value c.read_each.ensures.read);
+    }
