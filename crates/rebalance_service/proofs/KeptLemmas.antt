@@ -1,5 +1,5 @@
 -- A pass stays ready where room was made for it, and where a turn of the service was taken by it.
-use Rattle.std.proofs.Common.{◌≡◌, inl, inr, ℕ, refl, sym, ◌∙◌, ap, subst}
+use Rattle.std.proofs.Common.{◌≡◌, inl, inr, ℕ, List, refl, sym, ◌∙◌, ap, subst}
 use mathlib.Core.List.{IsPrefix}
 use Rattle.std.specs.Prelude.{true, Option, Some, None, IfSome, Result, Ok, Err}
 use Rattle.graph_model.specs.Account.{Account, IsOpenTxn, IsValid}

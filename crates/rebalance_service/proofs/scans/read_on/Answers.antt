@@ -14,8 +14,8 @@ returns-in-Rows-clause-on g c = λ yes first under_way.
     (rows_there c.try_likely.result c.in-Rows.end graph cursor.next cursor.until c.args.rows.now c.try_likely.new.rows
     c.try_likely.ensures.run c.in-Rows.is) under_way
 
-pub read_held-requires-clause-ends : goal.read_held-requires-clause-ends
-read_held-requires-clause-ends g c =
+pub read_chained-requires-clause-ends : goal.read_chained-requires-clause-ends
+read_chained-requires-clause-ends g c =
     (chained_there c.try_likely.result c.in-Chained.key c.in-Chained.end
     (view_in c.args.store.now c.args.pass.now) c.args.cursor.now.next c.args.cursor.now.until c.args.rows.now
     c.try_likely.new.rows c.try_likely.ensures.run c.in-Chained.is).1
@@ -30,6 +30,6 @@ returns-in-Chained-clause-on g c = λ yes first under_way.
     c.args.rows.now c.try_likely.new.rows c.try_likely.ensures.run c.in-Chained.is in
     let there = run_taken graph first cursor at c.args.rows.now c.try_likely.new.rows c.in-Chained.key refl refl
     (λ done. let off : true ≡ false = sym done ∙ c.requires.going in cc) read.0 under_way in
-    subst (λ g. IsUnderWay g first c.read_held.new.cursor c.read_held.new.rows) same
-    (c.read_held.ensures.on yes first
+    subst (λ g. IsUnderWay g first c.read_chained.new.cursor c.read_chained.new.rows) same
+    (c.read_chained.ensures.on yes first
     (subst (λ g. IsUnderWay g first at c.try_likely.new.rows) (sym same) there))
