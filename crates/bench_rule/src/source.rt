@@ -53,6 +53,14 @@ impl Source {
         self.rows.len() as u64
     }
 
+    /// A copy of the rows.
+    pub fn copy_of_rows(&self, alloc: Global) -> Result<Vec<Row>, NoMemory>
+        ensures { IfOk result (λ rows. rows.items ≡ self.now.rows.items) }
+    {
+        let rows = Vec::from_slice(alloc, self.rows.as_slice())?;
+        Ok(rows)
+    }
+
     /// A copy of the writes.
     pub fn copy(&self, alloc: Global) -> Result<Writes, NoMemory>
         ensures { IfOk result (λ copy. copy ≡ self.now.load) }
@@ -61,14 +69,20 @@ impl Source {
         Ok(Items::from_vec(copy))
     }
 
-    /// A store of the rows, which takes the copy of the writes.
-    pub fn store(&self, alloc: Global, copy: Writes) -> Result<(Store, Passes), RoomRefusal>
+    /// A store of the rows, which takes the copies of these and of the writes.
+    pub fn store(
+        &self,
+        alloc: Global,
+        rows: Vec<Row>,
+        copy: Writes,
+    ) -> Result<(Store, Passes), RoomRefusal>
         requires source { IsSource self.now }
+        requires rows { rows.items ≡ self.now.rows.items }
         requires copy { copy ≡ self.now.load }
         ensures { IfOk result (λ made. AreLoadedPasses self.now.load made.0.latches.table.shared.key
             made.0.latches.table.shared.table_id made.0.accounts.table.shared.table_id made.1.list.items) }
     {
-        Store::filled(alloc, self.config, self.rows.as_slice(), copy)
+        Store::filled(alloc, self.config, rows, copy)
     }
 }
 

@@ -31,8 +31,9 @@ pub fn time<R: Clock + Print + Wait>(
 ) -> Result<()>
     requires { IsSource source.now }
 {
+    let rows = source.copy_of_rows(alloc)?;
     let copy = source.copy(alloc)?;
-    let (store, passes) = source.store(alloc, copy)?;
+    let (store, passes) = source.store(alloc, rows, copy)?;
     let mut passes = passes;
     let best = time_by_first(rt, &store, &mut passes.list, trips)?;
     drop(passes);

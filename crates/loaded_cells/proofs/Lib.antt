@@ -2,6 +2,7 @@ pub mod RangeLemmas
 pub mod FillLemmas
 pub mod DividedLemmas
 pub mod WordLemmas
+pub mod CountLemmas
 pub mod NumberedLemmas
 pub mod BeginLemmas
 pub mod CellsModel

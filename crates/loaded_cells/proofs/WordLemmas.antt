@@ -7,7 +7,7 @@ use Rattle.std.proofs.lemmas.List.{get_or-set_other, get_or-set_same, get_or_app
 use Rattle.graph_model.specs.declared.row.Row.{Row}
 use Rattle.seat_views.proofs.NumberLemmas.{some_is}
 use Rattle.txn_manager.specs.declared.config.Config.{Config}
-use Rattle.rule_model.specs.VersionSegment.Resting.{RestingRows, word_row, word_rows}
+use Rattle.rule_model.specs.VersionSegment.Resting.{RestingRows, settled_rest, word_row, word_rows}
 use Rattle.rule_model.specs.VersionSegment.Rows.{IsSegment, VersionedRows}
 use Rattle.rule_model.specs.StoreRelation.Loads.{loaded_word}
 use Rattle.rule_model.specs.StoreRelation.Words.{commit_word}
@@ -16,7 +16,7 @@ use Rattle.rule_model.specs.EndSteps.{AreLoadedWords, IsFirstState, zeros}
 use Rattle.rule_model.specs.Places.{lines}
 use Rattle.rule_model.specs.Sight.{cells_of}
 use Rattle.rule_model.proofs.PlaceLemmas.{lines_keep_apart}
-use Rattle.loaded_cells.specs.Numbered.{block_of, blocks_of, cell_of, first_state, AreRestOf, loaded_head, loaded_words, rest_rows, resting_rows}
+use Rattle.loaded_cells.specs.Numbered.{block_of, blocks_of, cell_of, first_state, loaded_head, loaded_words, resting_rows, row_count, row_counts}
 use Rattle.loaded_cells.specs.Ranges.{idle_segment, leaf_segments, loaded_segments}
 use Rattle.loaded_cells.specs.declared.fill.LoadedRange.{LoadedRange}
 
@@ -237,15 +237,15 @@ words_more z leaves p d old new less words lays =
     lays ∙ ap (λ l. l ++ blocks_of ss) words ∙ append_assoc head (blocks_of front) (blocks_of ss)
     ∙ ap (λ l. head ++ l) (sym (blocks_append front ss) ∙ ap blocks_of (sym (cells_more leaves p d less)))
 
-pub rests_more : (leaves : List LoadedRange) (p : ℕ) (d : LoadedRange) (old new : List RestingRows) → p < length leaves
-    → AreRestOf (loaded_segments (take p leaves)) old
-    → resting_rows new ≡ resting_rows old ++ map rest_rows (leaf_segments (slice_index_or leaves p d))
-    → AreRestOf (loaded_segments (take (p + 1) leaves)) new
-rests_more leaves p d old new less are rests =
+pub counts_more : (leaves : List LoadedRange) (p : ℕ) (d : LoadedRange) (old new : List ℕ) → p < length leaves
+    → old ≡ row_counts (loaded_segments (take p leaves))
+    → new ≡ old ++ row_counts (leaf_segments (slice_index_or leaves p d))
+    → new ≡ row_counts (loaded_segments (take (p + 1) leaves))
+counts_more leaves p d old new less are counts =
     let front = loaded_segments (take p leaves) in
     let ss = leaf_segments (slice_index_or leaves p d) in
-    rests ∙ ap (λ l. l ++ map rest_rows ss) are ∙ sym (map-append rest_rows front ss)
-    ∙ ap (map rest_rows) (sym (cells_more leaves p d less))
+    counts ∙ ap (λ l. l ++ row_counts ss) are ∙ sym (map-append row_count front ss)
+    ∙ ap row_counts (sym (cells_more leaves p d less))
 
 -- ---- a segment more of a leaf
 
@@ -256,10 +256,20 @@ block_more start old new front s was lays =
     ∙ ap (λ l. start ++ l) (sym (blocks_append front (s ∷ [])
     ∙ ap (λ l. blocks_of front ++ l) (append-nil (block_of s))))
 
-pub rest_more : (start old new : List RestingRows) (front : List VersionedRows) (s : VersionedRows) (r : RestingRows)
-    → resting_rows old ≡ resting_rows start ++ map rest_rows front → new ≡ old ++ r ∷ [] → r.rows ≡ rest_rows s
-    → resting_rows new ≡ resting_rows start ++ map rest_rows (front ++ s ∷ [])
-rest_more start old new front s r was lays own =
-    ap resting_rows lays ∙ map-append (λ (x : RestingRows). x.rows) old (r ∷ [])
-    ∙ (λ i. was i ++ own i ∷ []) ∙ append_assoc (resting_rows start) (map rest_rows front) (rest_rows s ∷ [])
-    ∙ ap (λ l. resting_rows start ++ l) (sym (map-append rest_rows front (s ∷ [])))
+pub count_more : (start old new : List ℕ) (front : List VersionedRows) (s : VersionedRows) (count : ℕ)
+    → old ≡ start ++ row_counts front → new ≡ old ++ count ∷ [] → count ≡ row_count s
+    → new ≡ start ++ row_counts (front ++ s ∷ [])
+count_more start old new front s count was lays own =
+    lays ∙ (λ i. was i ++ own i ∷ []) ∙ append_assoc start (row_counts front) (row_count s ∷ [])
+    ∙ ap (λ l. start ++ l) (sym (map-append row_count front (s ∷ [])))
+
+-- ---- what rests of a cell more
+
+pub rest_more : (counts : List ℕ) (p : ℕ) (d : ℕ) (old new : List RestingRows) (r : RestingRows) → p < length counts
+    → resting_rows old ≡ map settled_rest (take p counts) → new ≡ old ++ r ∷ []
+    → r.rows ≡ settled_rest (slice_index_or counts p d) → resting_rows new ≡ map settled_rest (take (p + 1) counts)
+rest_more counts p d old new r less was lays own =
+    let count = slice_index_or counts p d in
+    ap resting_rows lays ∙ map-append (λ (x : RestingRows). x.rows) old (r ∷ []) ∙ (λ i. was i ++ own i ∷ [])
+    ∙ sym (map-append settled_rest (take p counts) (count ∷ []))
+    ∙ ap (map settled_rest) (sym (take_one counts p d less))

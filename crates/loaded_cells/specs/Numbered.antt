@@ -73,6 +73,13 @@ rest_rows s = (resting_of s).rows
 abbrev pub resting_rows : List RestingRows → List (List RestingRow)
 resting_rows resting = map (λ (r : RestingRows). r.rows) resting
 
+-- how many rows each of these segments has
+abbrev pub row_count : VersionedRows → ℕ
+row_count s = length s.rows
+
+abbrev pub row_counts : List VersionedRows → List ℕ
+row_counts ss = map row_count ss
+
 -- so much is kept of these segments beside the words
 abbrev pub AreRestOf : List VersionedRows → List RestingRows → Type 0
 AreRestOf ss resting = resting_rows resting ≡ map rest_rows ss

@@ -13,5 +13,5 @@ mod rest;
 mod words;
 
 pub use fill::{LoadedLeaves, LoadedRange, divide_rows};
-pub use rest::rest_cells;
+pub use rest::{count_rows, rest_cells};
 pub use words::lay_words;

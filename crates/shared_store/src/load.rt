@@ -96,7 +96,7 @@ pub fn loaded(alloc: Global, config: Config, load: Writes) -> Result<(Store, Pas
         return Ok(made);
     }
     let rows = sorted_rows(alloc, config.kind, load.as_slice())?;
-    filled(alloc, config, rows.as_slice(), load)
+    filled(alloc, config, rows, load)
 }
 
 /// The same, where the rows are sorted by several threads.
@@ -123,18 +123,18 @@ pub fn loaded_by_threads<R: Threads + Sync>(
         return Ok(made);
     }
     let rows = sorted_by_threads(rt, alloc, config.kind, load.as_slice())?;
-    filled(alloc, config, rows.as_slice(), load)
+    filled(alloc, config, rows, load)
 }
 
 /// The same of a load that isn't empty, with its rows in the order of their keys.
 fn filled(
     alloc: Global,
     config: Config,
-    rows: &[Row],
+    rows: Vec<Row>,
     load: Writes,
 ) -> Result<(Store, Passes), LoadedRefusal>
     requires sized { too_large config ≡ false }
-    requires rows { AreRowsOf config load rows.now }
+    requires rows { AreRowsOf config load rows.items }
     ensures refused { IfErr result (λ refusal. IsLoadedRefusal config load refusal) }
     ensures config { IfOk result (λ made. made.0.accounts.config ≡ config) }
     ensures passes { IfOk result (λ made. AreLoaded load made.0 made.1.list.items) }

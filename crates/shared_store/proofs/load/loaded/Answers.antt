@@ -11,7 +11,6 @@ filled-requires-clause-rows c =
     let z = c.args.config in
     let load = c.args.load in
     let rows = c.in_ok-rows.rows.items in
-    subst (AreRowsOf z load) (sym c.as_slice-2.ensures.value)
-    (rows_of_load z load rows (some_of load (sym c.is_empty.ensures ∙ c.if-is_empty.false)) c.requires.adds
+    rows_of_load z load rows (some_of load (sym c.is_empty.ensures ∙ c.if-is_empty.false)) c.requires.adds
     c.requires.within c.requires.allowed
-    (subst (λ (ws : List Write). AreSortedRows z.kind ws rows) c.as_slice.ensures c.in_ok-rows.ensures))
+    (subst (λ (ws : List Write). AreSortedRows z.kind ws rows) c.as_slice.ensures c.in_ok-rows.ensures)
