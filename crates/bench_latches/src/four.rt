@@ -9,7 +9,7 @@ use crate::best::Best;
 use crate::random::Random;
 use crate::spots::{Spot, open, touch, touch_many};
 use anyhow::Result;
-use latch_table::{Cells, LatchTable, Pass};
+use latch_table::{Cells, LatchSeat, LatchTable};
 use std::alloc::Global;
 use std::rt::Clock;
 use std::sync::Wait;
@@ -41,7 +41,7 @@ struct Lap {
     sum: u64,
 }
 
-type Seat = Pass<Spot, ()>;
+type Seat = LatchSeat<Spot, ()>;
 
 type Spots = LatchTable<Spot, ()>;
 

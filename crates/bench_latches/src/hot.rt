@@ -7,7 +7,7 @@ use crate::best::{Best, CALLS, ROUNDS};
 use crate::random::Random;
 use crate::spots::{Spot, cell_below, open, touch_many};
 use anyhow::Result;
-use latch_table::{Cells, Pass};
+use latch_table::{Cells, LatchSeat};
 use std::alloc::Global;
 use std::rt::Clock;
 use std::sync::Wait;
@@ -37,7 +37,7 @@ fn time_touches<R: Clock + Print + Wait>(
     rt: &R,
     name: &str,
     cells: &Cells<'_, Spot, ()>,
-    pass: &mut Pass<Spot, ()>,
+    pass: &mut LatchSeat<Spot, ()>,
     below: u32,
     seed: u64,
 ) -> Result<()>

@@ -5,7 +5,7 @@ ghost use Rattle.std.specs.Prelude.{◌≡◌, ◌<◌};
 use crate::best::{Best, CALLS, ROUNDS};
 use anyhow::Result;
 use atomic_table::{Play, Table, TableRule};
-use epoch_reclaim::{Pass, PinPlaces, Pins};
+use epoch_reclaim::{PinPlaces, PinSeat, Pins};
 use std::alloc::Global;
 use std::rt::Clock;
 use std::time::Instant;
@@ -46,7 +46,7 @@ pub fn time<R: Clock + Print>(rt: &R, alloc: Global) -> Result<()> {
 }
 
 /// Announces, loads the clock and pins, again and again.
-fn pin_often(pins: &Pins<'_, (), (), Anything>, pass: &mut Pass<()>) -> u64
+fn pin_often(pins: &Pins<'_, (), (), Anything>, pass: &mut PinSeat<()>) -> u64
     requires table { (pass.old.table_id ≡ pins.now.table.now.table_id)
         × (pins.now.table.now.table_id.words ≡ 1024) }
     requires places { (pins.now.places.first ≡ 16) × (pins.now.places.stride ≡ 8)

@@ -5,7 +5,7 @@ ghost use Rattle.latch_table.specs.Latched.{IsIdle};
 ghost use Rattle.latch_table.specs.Opening.{HasPasses};
 
 use crate::random::Random;
-use latch_table::{Cells, LatchTable, Pass, Slot};
+use latch_table::{Cells, LatchSeat, LatchTable, Slot};
 use std::alloc::{AllocError, Global};
 use std::sync::Wait;
 
@@ -39,7 +39,7 @@ impl Slot<()> for Spot {
 pub fn open(
     alloc: Global,
     count: usize,
-) -> Result<(LatchTable<Spot, ()>, Pass<Spot, ()>), AllocError>
+) -> Result<(LatchTable<Spot, ()>, LatchSeat<Spot, ()>), AllocError>
     requires { 0 < count }
     ensures table { IfOk result (λ t. (t.0.table.shared.table_id.words ≡ count)
         × (t.1.table_id ≡ t.0.table.shared.table_id)) }
@@ -56,7 +56,7 @@ pub fn open(
 pub fn touch(
     rt: &impl Wait,
     cells: &Cells<'_, Spot, ()>,
-    pass: &mut Pass<Spot, ()>,
+    pass: &mut LatchSeat<Spot, ()>,
     cell: u32,
 ) -> u64
     requires pass { IsIdle 64 tt cells.now.table.now.table_id pass.old }
@@ -76,7 +76,7 @@ pub fn touch(
 pub fn touch_many(
     rt: &impl Wait,
     cells: &Cells<'_, Spot, ()>,
-    pass: &mut Pass<Spot, ()>,
+    pass: &mut LatchSeat<Spot, ()>,
     below: u32,
     calls: u64,
     random: &mut Random,

@@ -4,7 +4,7 @@ ghost use Rattle.std.specs.Prelude.{◌≡◌, ◌<◌, ◌≤◌, [], ◌∷◌
 ghost use Rattle.std.specs.Vec.{vec_capacity};
 ghost use Rattle.latch_table.specs.Latched.{IsIdle, number_of};
 
-use latch_table::{Cells, Held, Laid, Pass, Slot};
+use latch_table::{Cells, Held, Laid, LatchSeat, Slot};
 use std::alloc::{AllocError, Global};
 use std::sync::Wait;
 
@@ -36,7 +36,7 @@ impl Slot<()> for Counter {
 pub fn add(
     rt: &impl Wait,
     counters: &Cells<'_, Counter, ()>,
-    pass: &mut Pass<Counter, ()>,
+    pass: &mut LatchSeat<Counter, ()>,
     cell: u32,
     amount: u64,
 )
@@ -56,7 +56,7 @@ pub fn add(
 pub fn even_out(
     rt: &impl Wait,
     counters: &Cells<'_, Counter, ()>,
-    pass: &mut Pass<Counter, ()>,
+    pass: &mut LatchSeat<Counter, ()>,
     low: u32,
     high: u32,
     held: &mut Vec<Held<Counter>>,
@@ -102,7 +102,7 @@ pub fn lists_for_two(alloc: Global) -> Result<(Vec<Held<Counter>>, Vec<Laid>), A
 pub fn count_of(
     rt: &impl Wait,
     counters: &Cells<'_, Counter, ()>,
-    pass: &mut Pass<Counter, ()>,
+    pass: &mut LatchSeat<Counter, ()>,
     cell: u32,
 ) -> u64
     requires pass { IsIdle 2 tt counters.now.table.now.table_id pass.old }

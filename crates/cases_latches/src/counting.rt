@@ -4,7 +4,7 @@ ghost use Rattle.std.specs.Prelude.{◌≡◌, ◌<◌, length, IfOk};
 ghost use Rattle.latch_table.specs.Latched.{IsIdle, number_of};
 
 use crate::counters::{Counter, add, count_of, even_out, lists_for_two};
-use latch_table::{LatchTable, Pass};
+use latch_table::{LatchSeat, LatchTable};
 use std::alloc::{AllocError, Global};
 use std::sync::Wait;
 use std::thread::{Threads, join};
@@ -12,9 +12,9 @@ use std::thread::{Threads, join};
 /// A table of four counters, with the seats of two passes and the seat that takes them back.
 pub struct Opened {
     pub table: LatchTable<Counter, ()>,
-    pub all: Pass<Counter, ()>,
-    pub one: Pass<Counter, ()>,
-    pub two: Pass<Counter, ()>,
+    pub all: LatchSeat<Counter, ()>,
+    pub one: LatchSeat<Counter, ()>,
+    pub two: LatchSeat<Counter, ()>,
     pub ghost of_table: { (all.table_id ≡ table.table.shared.table_id) × (table.table.shared.table_id.words ≡ 4) },
     pub ghost first: { IsIdle 2 tt table.table.shared.table_id one × (number_of one.me.0 ≡ 0) },
     pub ghost second: { IsIdle 2 tt table.table.shared.table_id two × (number_of two.me.0 ≡ 1) },
@@ -90,9 +90,9 @@ pub fn count_by_two<R: Threads + Wait + Sync>(
 fn count(
     rt: &impl Wait,
     table: &LatchTable<Counter, ()>,
-    mut pass: Pass<Counter, ()>,
+    mut pass: LatchSeat<Counter, ()>,
     rounds: u32,
-) -> Pass<Counter, ()>
+) -> LatchSeat<Counter, ()>
     requires pass { IsIdle 2 tt table.now.table.shared.table_id pass }
     requires cells { table.now.table.shared.table_id.words ≡ 4 }
     ensures pass { IsIdle 2 tt table.now.table.shared.table_id result }
@@ -145,8 +145,8 @@ pub fn want_by_two<R: Threads + Sync>(
 /// The word that is in the way of the first counter, if one is.
 fn want(
     table: &LatchTable<Counter, ()>,
-    mut pass: Pass<Counter, ()>,
-) -> (Option<u64>, Pass<Counter, ()>)
+    mut pass: LatchSeat<Counter, ()>,
+) -> (Option<u64>, LatchSeat<Counter, ()>)
     requires pass { IsIdle 2 tt table.now.table.shared.table_id pass }
     requires cells { table.now.table.shared.table_id.words ≡ 4 }
     ensures pass { IsIdle 2 tt table.now.table.shared.table_id result.1 }

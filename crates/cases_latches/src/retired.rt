@@ -3,7 +3,7 @@
 ghost use Rattle.std.specs.Prelude.{◌≡◌, ◌<◌};
 
 use atomic_table::{Play, Table, TableRule};
-use epoch_reclaim::{Pass, PinPlaces, Pins};
+use epoch_reclaim::{PinPlaces, PinSeat, Pins};
 use std::alloc::{AllocError, Global};
 
 /// A rule that allows each step. A store says more, and shows of each kind of step that it keeps what it says.
@@ -27,7 +27,7 @@ pub struct Retired {
 }
 
 /// Frees the buffers that nobody can read any more: those that were taken out below the horizon.
-pub fn reclaim(pins: &Pins<'_, (), (), AnyStep>, pass: &mut Pass<()>, retired: &mut Vec<Retired>)
+pub fn reclaim(pins: &Pins<'_, (), (), AnyStep>, pass: &mut PinSeat<()>, retired: &mut Vec<Retired>)
     requires table { (pass.old.table_id ≡ pins.now.table.now.table_id)
         × (pins.now.table.now.table_id.words ≡ 48) }
     requires places { (pins.now.places.clock ≡ 8) × (pins.now.places.first ≡ 16)

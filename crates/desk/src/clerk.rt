@@ -1,4 +1,7 @@
 //! Clerks, who book transfers.
+//!
+//! 1. A transfer is one transaction: it is booked whole or not at all.
+//! 2. One that meets a write of somebody else is tried anew, on what that one has left.
 
 ghost use Rattle.std.specs.Prelude.{◌≤◌};
 ghost use Rattle.graph_model.specs.declared.limits.TheConstants.{MAX_ID};
@@ -51,6 +54,7 @@ impl<'a, R: Clock> Work for Clerk<'a, R> {
             }
         }
         self.taken = since(self.rt, begun);
+        // After its last transfer is booked: whoever finds nobody busy sees all transfers when it looks next.
         self.busy.fetch_sub(1, Ordering::SeqCst);
         session
     }
@@ -77,6 +81,7 @@ impl Change for Booking {
             return txn.add_edge(from, to, amount);
         };
         let paid = paid.saturating_add(amount);
+        // Told apart from a refusal of the store, since another try would be as much too high.
         self.is_over = paid > MAX_WEIGHT;
         if self.is_over {
             return Ok(());

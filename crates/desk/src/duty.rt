@@ -1,7 +1,9 @@
 //! What is done at the desk.
+//!
+//! 1. A store runs works of one type side by side, so a clerk and the watcher are variants of one.
 
 use crate::clerk::Clerk;
-use crate::known::Known;
+use crate::known::KnownRings;
 use crate::leave::Leave;
 use crate::look::{Look, take_look};
 use crate::refusal::LookRefusal;
@@ -37,7 +39,7 @@ pub struct LastLook<'a, R: Threads + Sync> {
 
 impl<'a, R: Threads + Sync> Work for LastLook<'a, R> {
     fn work<E: VertexEngine, P: Place>(&mut self, session: Session<E, P>) -> Session<E, P> {
-        let mut known = Known::nothing(self.alloc);
+        let mut known = KnownRings::nothing(self.alloc);
         let (session, seen) = take_look(&Leave::of(self.rt), self.alloc, session, &mut known);
         self.seen = Some(seen);
         session

@@ -19,16 +19,16 @@ use std::thread::Threads;
 
 /// How many others accounts had paid at the last look, and the rings that were found.
 #[derive(Drop)]
-pub struct Known {
+pub struct KnownRings {
     paid: BTreeMap<u64, usize>,
     /// The accounts of each ring, in rising order.
     rings: Vec<Vec<u64>>,
 }
 
-impl Known {
+impl KnownRings {
     /// Nobody has paid anybody.
-    pub fn nothing(alloc: Global) -> Known {
-        Known {
+    pub fn nothing(alloc: Global) -> KnownRings {
+        KnownRings {
             paid: BTreeMap::new(alloc),
             rings: Vec::new(alloc),
         }
@@ -74,6 +74,7 @@ impl Known {
     /// Whether a ring wasn't known. From now on it is.
     fn learns(&mut self, ring: &Vec<u64>) -> Result<bool, LookRefusal> {
         let mut accounts = ring.clone()?;
+        // A ring is found from each of its accounts, and is the same one.
         accounts.sort_unstable();
         if self.rings.iter().any(|known| *known == accounts) {
             return Ok(false);

@@ -1,4 +1,7 @@
 //! A look at a snapshot.
+//!
+//! 1. All kernels run on one image, so what they say is of one moment, whatever is booked meanwhile.
+//! 2. The transaction ends before they run, since the image has all that they need.
 
 ghost use Rattle.std.specs.Prelude.{◌≡◌, IfOk};
 ghost use Rattle.std.specs.List.{AllByRecursion};
@@ -6,7 +9,7 @@ ghost use Rattle.graph_model.specs.Graph.{Graph};
 ghost use Rattle.graph_image.specs.Images.{IsImageOf};
 ghost use Rattle.desk.specs.Rings.{IsRing, graph_after};
 
-use crate::known::Known;
+use crate::known::KnownRings;
 use crate::refusal::LookRefusal;
 use crate::ring::Ring;
 use graph_image::{Image, Table, Value};
@@ -37,7 +40,7 @@ pub fn take_look<R: Threads + Sync, E: VertexEngine, P: Place>(
     rt: &R,
     alloc: Global,
     session: Session<E, P>,
-    known: &mut Known,
+    known: &mut KnownRings,
 ) -> (Session<E, P>, Result<Look, LookRefusal>)
     ensures rings { IfOk result.1 (λ look. AllByRecursion (λ ring. IsRing (graph_after (E.account result.0.engine)
         look.commits) ring.accounts.items) look.rings.items) }
@@ -48,6 +51,7 @@ pub fn take_look<R: Threads + Sync, E: VertexEngine, P: Place>(
     };
     let commits = txn.start();
     let image = txn.image(alloc);
+    // It has written nothing. A snapshot that stays open would keep old versions in the store.
     let session = txn.abort();
     match image {
         Ok(image) => (session, analysed(rt, alloc, &image, commits, known)),
@@ -74,7 +78,7 @@ fn analysed<R: Threads + Sync>(
     alloc: Global,
     image: &Image,
     commits: u64,
-    known: &mut Known,
+    known: &mut KnownRings,
 ) -> Result<Look, LookRefusal>
     ensures commits { IfOk result (λ look. look.commits ≡ commits) }
     ensures rings { IfOk result (λ look. (g : Graph) → IsImageOf image.now g
@@ -106,6 +110,7 @@ fn amount_of(image: &Image) -> u64 {
     let mut amount: u64 = 0;
     'places: for place in 0..image.len() {
         'arcs: for arc in image.out(place) {
+            // An amount is said and nothing rests on it, so the last number may stand for more.
             amount = amount.saturating_add(u64::from(arc.weight));
         }
     }

@@ -24,7 +24,7 @@ mod words;
 use anyhow::Result;
 use clerk::Clerk;
 use duty::{Duty, LastLook};
-use known::Known;
+use known::KnownRings;
 use look::Look;
 use refusal::LookRefusal;
 use std::alloc::Global;
@@ -74,7 +74,7 @@ fn run<'a, R: Threads + Wait + Clock + Print + Eprint + Sync>(
             alloc,
             pause: words.between_looks,
             busy: &busy,
-            known: Known::nothing(alloc),
+            known: KnownRings::nothing(alloc),
             looks: 0,
             refused: None,
         }),

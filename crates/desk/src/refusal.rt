@@ -1,4 +1,6 @@
 //! Why a look has found nothing out.
+//!
+//! 1. A look writes nothing, so one that is refused leaves the store as it was.
 
 use graph_image::{KernelRefusal, NoMemory};
 use std::alloc::{AllocError, AllocFailed};

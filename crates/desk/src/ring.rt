@@ -1,4 +1,7 @@
 //! A ring, as it is said.
+//!
+//! 1. Accounts are kept in the order in which each was paid by the next one, and said the other way round, as the money
+//!    went.
 
 use graph_image::{Entry, Image, Table, Value};
 use std::fmt;

@@ -1,4 +1,7 @@
 //! Rings: ways by which money comes back to who paid it.
+//!
+//! 1. One search tells how far from the account each other one is; the way back goes each time to who is nearer. So a
+//!    ring is a shortest one through its account.
 
 ghost use Rattle.std.specs.Prelude.{◌≡◌, ◌<◌, Some, IfOk, IfSome, length, slice_get};
 ghost use Rattle.graph_model.specs.Graph.{Graph};

@@ -1,4 +1,6 @@
 //! How long something takes.
+//!
+//! 1. Where the clock fails a figure is missing, and nothing else is wrong.
 
 use std::io;
 use std::rt::Clock;

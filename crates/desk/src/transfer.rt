@@ -1,4 +1,6 @@
 //! Transfers, and how a file tells them.
+//!
+//! 1. A line that tells none within the limits stops the program before the first transfer is booked.
 
 ghost use Rattle.std.specs.Prelude.{◌≤◌};
 ghost use Rattle.graph_model.specs.declared.limits.TheConstants.{MAX_ID, MAX_WEIGHT};

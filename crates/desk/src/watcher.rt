@@ -1,6 +1,10 @@
 //! The watcher, who looks for rings while clerks book.
+//!
+//! 1. It looks once more after the last clerk is done, so what was booked last is seen.
+//! 2. Between looks its session serves, which keeps the store small while clerks write.
+//! 3. What it says depends on the threads, so it says it on the standard error.
 
-use crate::known::Known;
+use crate::known::KnownRings;
 use crate::leave::Leave;
 use crate::look::{Look, count_commits, take_look};
 use crate::refusal::LookRefusal;
@@ -24,7 +28,7 @@ pub struct Watcher<'a, R: Threads + Clock + Eprint + Sync> {
     pub pause: u64,
     /// How many clerks have transfers yet.
     pub busy: &'a AtomicU64,
-    pub known: Known,
+    pub known: KnownRings,
     pub looks: u32,
     /// Why it doesn't look any more.
     pub refused: Option<LookRefusal>,
@@ -34,6 +38,7 @@ impl<'a, R: Threads + Clock + Eprint + Sync> Work for Watcher<'a, R> {
     fn work<E: VertexEngine, P: Place>(&mut self, session: Session<E, P>) -> Session<E, P> {
         let mut session = session;
         'looks: for _look in 0..MOST_LOOKS {
+            // Before the look: clerks that are done by now have booked all that it is to see.
             let is_last = is_over(self.busy);
             let begun = Instant::now(self.rt);
             let (next, seen) = take_look(&Leave::of(self.rt), self.alloc, session, &mut self.known);

@@ -1,4 +1,6 @@
 //! The words after the program's name.
+//!
+//! 1. A number that isn't there is 0: nobody waits then.
 
 use anyhow::{Context, Result, bail};
 use std::alloc::Global;

@@ -7,6 +7,6 @@ mod places;
 mod sweep;
 
 pub use laws::{passes_stay_pinned, sweeps_are_safe};
-pub use pins::{Pass, Pins};
+pub use pins::{PinSeat, Pins};
 pub use places::PinPlaces;
 pub use sweep::Sweep;

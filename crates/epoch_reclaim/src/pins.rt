@@ -20,7 +20,7 @@ use crate::sweep::Sweep;
 use atomic_table::{Play, Seat, Shared, TableRule};
 
 /// A seat of the table that has the pins. It takes no bytes.
-pub type Pass<V> = Seat<(), V>;
+pub type PinSeat<V> = Seat<(), V>;
 
 /// The pins of a table, and its clock.
 #[derive(Drop)]
@@ -33,7 +33,7 @@ pub struct Pins<'a, V, K, P: TableRule<(), V, K>> {
 
 impl<'a, V, K, P: TableRule<(), V, K>> Pins<'a, V, K, P> {
     /// Holds everything back, before the pass loads the clock.
-    pub fn announce<M: Play<(), V>>(&self, pass: &mut Pass<V>, number: u32)
+    pub fn announce<M: Play<(), V>>(&self, pass: &mut PinSeat<V>, number: u32)
         requires number { number < self.now.places.passes }
         requires keeps { MayStore (P.holds self.now.table.now.key) self.now.table.now.table_id pass.old
             (pin_place self.now.places number) announced_word M.then }
@@ -47,7 +47,7 @@ impl<'a, V, K, P: TableRule<(), V, K>> Pins<'a, V, K, P> {
     }
 
     /// Holds back what a transaction of this start sees, and no more.
-    pub fn pin<M: Play<(), V>>(&self, pass: &mut Pass<V>, number: u32, start: u64)
+    pub fn pin<M: Play<(), V>>(&self, pass: &mut PinSeat<V>, number: u32, start: u64)
         requires number { number < self.now.places.passes }
         requires start { start < 2 ^ 63 }
         requires keeps { MayStore (P.holds self.now.table.now.key) self.now.table.now.table_id pass.old
@@ -62,7 +62,7 @@ impl<'a, V, K, P: TableRule<(), V, K>> Pins<'a, V, K, P> {
     }
 
     /// Holds nothing back any more.
-    pub fn unpin<M: Play<(), V>>(&self, pass: &mut Pass<V>, number: u32)
+    pub fn unpin<M: Play<(), V>>(&self, pass: &mut PinSeat<V>, number: u32)
         requires number { number < self.now.places.passes }
         requires keeps { MayStore (P.holds self.now.table.now.key) self.now.table.now.table_id pass.old
             (pin_place self.now.places number) unpinned M.then }
@@ -75,7 +75,7 @@ impl<'a, V, K, P: TableRule<(), V, K>> Pins<'a, V, K, P> {
     }
 
     /// A sweep that has loaded the clock, and no pin yet.
-    pub fn sweep_begin<M: Play<(), V>>(&self, pass: &mut Pass<V>) -> Sweep
+    pub fn sweep_begin<M: Play<(), V>>(&self, pass: &mut PinSeat<V>) -> Sweep
         requires keeps { MayLoad (P.holds self.now.table.now.key) self.now.table.now.table_id pass.old
             self.now.places.clock M.then }
         ensures begun { result ≡ begun result.clock }
@@ -93,7 +93,7 @@ impl<'a, V, K, P: TableRule<(), V, K>> Pins<'a, V, K, P> {
     }
 
     /// Looks at the pin of the next pass.
-    pub fn sweep_look<M: Play<(), V>>(&self, pass: &mut Pass<V>, sweep: &mut Sweep)
+    pub fn sweep_look<M: Play<(), V>>(&self, pass: &mut PinSeat<V>, sweep: &mut Sweep)
         requires left { sweep.old.looked < self.now.places.passes }
         requires keeps { MayLoad (P.holds self.now.table.now.key) self.now.table.now.table_id pass.old
             (pin_place self.now.places sweep.old.looked) M.then }

@@ -14,7 +14,7 @@ ghost use Rattle.latch_table.specs.declared.sight.CellWord.{CellWord};
 ghost use Rattle.latch_table.specs.Latched.{IsPassOf, IsBusy, IsEven, number_of, gave, looked, last_word, word_after, cell_word};
 
 use crate::backoff::Backoff;
-use crate::rule::{Gives, LatchRule, Looks, Pass, Takes};
+use crate::rule::{Gives, LatchRule, LatchSeat, Looks, Takes};
 use crate::sight::LatchSight;
 use crate::slot::Slot;
 use atomic_table::Shared;
@@ -64,7 +64,7 @@ pub struct Busy {
 
 impl<'a, K, V: Slot<K>> Cells<'a, V, K> {
     /// Takes a cell, if this call's look finds it free. It waits for nobody and takes no memory.
-    pub fn try_take(&self, pass: &mut Pass<V, K>, cell: u32) -> Result<Held<V>, Busy>
+    pub fn try_take(&self, pass: &mut LatchSeat<V, K>, cell: u32) -> Result<Held<V>, Busy>
         requires pass { IsPassOf (V.passes self.now.table.now.key) self.now.table.now.key
             self.now.table.now.table_id pass.old }
         requires cell { cell < self.now.table.now.table_id.words }
@@ -106,7 +106,7 @@ impl<'a, K, V: Slot<K>> Cells<'a, V, K> {
 
     /// Takes a cell as soon as this call's look finds it free: pauses between looks, twice as long each time, and
     /// after some of them leaves the processor to others. A pass that takes a cell that it holds waits for ever.
-    pub fn take(&self, rt: &impl Wait, pass: &mut Pass<V, K>, cell: u32) -> Held<V>
+    pub fn take(&self, rt: &impl Wait, pass: &mut LatchSeat<V, K>, cell: u32) -> Held<V>
         requires pass { IsPassOf (V.passes self.now.table.now.key) self.now.table.now.key
             self.now.table.now.table_id pass.old }
         requires cell { cell < self.now.table.now.table_id.words }
@@ -131,7 +131,7 @@ impl<'a, K, V: Slot<K>> Cells<'a, V, K> {
     }
 
     /// Lays the value back in its slot. The cell stays held until it is released. Cells that are out longer come next.
-    pub fn put_back(&self, pass: &mut Pass<V, K>, held: Held<V>) -> Laid
+    pub fn put_back(&self, pass: &mut LatchSeat<V, K>, held: Held<V>) -> Laid
         requires pass { IsPassOf (V.passes self.now.table.now.key) self.now.table.now.key
             self.now.table.now.table_id pass.old }
         requires holds { pass.old.me.1 ≡ (held.cell, V.vacant) ∷ rest pass.old.me.1 }
@@ -160,7 +160,7 @@ impl<'a, K, V: Slot<K>> Cells<'a, V, K> {
     }
 
     /// Makes the version word even again. Whoever takes the cell next finds the value that was put back.
-    pub fn release(&self, pass: &mut Pass<V, K>, laid: Laid)
+    pub fn release(&self, pass: &mut LatchSeat<V, K>, laid: Laid)
         requires pass { IsPassOf (V.passes self.now.table.now.key) self.now.table.now.key
             self.now.table.now.table_id pass.old }
         requires cell { laid.cell < self.now.table.now.table_id.words }
@@ -189,7 +189,7 @@ impl<'a, K, V: Slot<K>> Cells<'a, V, K> {
     }
 
     /// Puts the value of a cell back and releases the cell. The pass holds no other one.
-    pub fn give(&self, pass: &mut Pass<V, K>, held: Held<V>)
+    pub fn give(&self, pass: &mut LatchSeat<V, K>, held: Held<V>)
         requires pass { IsPassOf (V.passes self.now.table.now.key) self.now.table.now.key
             self.now.table.now.table_id pass.old }
         requires cell { held.cell < self.now.table.now.table_id.words }
@@ -207,7 +207,7 @@ impl<'a, K, V: Slot<K>> Cells<'a, V, K> {
     }
 
     /// The version word of a cell. It may be another one by the time that the caller reads it.
-    pub fn version(&self, pass: &mut Pass<V, K>, cell: u32) -> u64
+    pub fn version(&self, pass: &mut LatchSeat<V, K>, cell: u32) -> u64
         requires pass { IsPassOf (V.passes self.now.table.now.key) self.now.table.now.key
             self.now.table.now.table_id pass.old }
         requires cell { cell < self.now.table.now.table_id.words }

@@ -14,7 +14,7 @@ mod table;
 pub use cells::{Busy, Cells, Held, Laid};
 pub use laws::places_are_apart;
 pub use places::{LINE, Places};
-pub use rule::{Gives, LatchRule, Looks, Pass, Takes};
+pub use rule::{Gives, LatchRule, LatchSeat, Looks, Takes};
 pub use sight::{CellWord, LatchSight};
 pub use slot::Slot;
 pub use table::{Deals, LatchTable, Merges};

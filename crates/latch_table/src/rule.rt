@@ -24,7 +24,7 @@ impl<K, V: Slot<K>> TableRule<V, LatchSight<K>, K> for LatchRule<V> {
 }
 
 /// A seat of the latch table. It takes no bytes.
-pub type Pass<V, K> = Seat<V, LatchSight<K>>;
+pub type LatchSeat<V, K> = Seat<V, LatchSight<K>>;
 
 /// A load.
 pub struct Looks;

@@ -11,13 +11,18 @@ ghost use Rattle.latch_table.specs.Latched.{IsPassOf, number_of};
 ghost use Rattle.latch_table.specs.Several.{taken_of, laid_of, words_of, laid_word, held_word, stored_after, AreHeldFit, AreLaid};
 
 use crate::cells::{Cells, Held, Laid};
-use crate::rule::Pass;
+use crate::rule::LatchSeat;
 use crate::slot::Slot;
 
 impl<'a, K, V: Slot<K>> Cells<'a, V, K> {
     /// Gives all cells of a pass back, as they were taken: puts each value back, and then releases each cell. The
     /// second list is work space with room for all.
-    pub fn give_all(&self, pass: &mut Pass<V, K>, held: &mut Vec<Held<V>>, laid: &mut Vec<Laid>)
+    pub fn give_all(
+        &self,
+        pass: &mut LatchSeat<V, K>,
+        held: &mut Vec<Held<V>>,
+        laid: &mut Vec<Laid>,
+    )
         requires pass { IsPassOf (V.passes self.now.table.now.key) self.now.table.now.key
             self.now.table.now.table_id pass.old }
         requires holds { pass.old.me.1 ≡ taken_of V.vacant held.old.items }
@@ -37,7 +42,12 @@ impl<'a, K, V: Slot<K>> Cells<'a, V, K> {
     }
 
     /// Puts all values back, the cell that was taken last first. The pass holds no other cell.
-    pub fn put_back_all(&self, pass: &mut Pass<V, K>, held: &mut Vec<Held<V>>, laid: &mut Vec<Laid>)
+    pub fn put_back_all(
+        &self,
+        pass: &mut LatchSeat<V, K>,
+        held: &mut Vec<Held<V>>,
+        laid: &mut Vec<Laid>,
+    )
         requires pass { IsPassOf (V.passes self.now.table.now.key) self.now.table.now.key
             self.now.table.now.table_id pass.old }
         requires holds { pass.old.me.1 ≡ taken_of V.vacant held.old.items }
@@ -66,7 +76,7 @@ impl<'a, K, V: Slot<K>> Cells<'a, V, K> {
     }
 
     /// Releases all cells that were put back, in the order of their slots.
-    pub fn release_all(&self, pass: &mut Pass<V, K>, laid: &mut Vec<Laid>)
+    pub fn release_all(&self, pass: &mut LatchSeat<V, K>, laid: &mut Vec<Laid>)
         requires pass { IsPassOf (V.passes self.now.table.now.key) self.now.table.now.key
             self.now.table.now.table_id pass.old }
         requires laid { AreLaid (V.fits self.now.table.now.key) self.now.table.now.table_id.words

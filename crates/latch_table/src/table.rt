@@ -10,7 +10,7 @@ ghost use Rattle.latch_table.specs.Latched.{IsPassOf, number_of};
 ghost use Rattle.latch_table.specs.Opening.{first_pass, other_passes, merged, spent, HasPasses, IsBack, IsWhole, AreFit};
 
 use crate::cells::Cells;
-use crate::rule::{LatchRule, Pass};
+use crate::rule::{LatchRule, LatchSeat};
 use crate::sight::LatchSight;
 use crate::slot::Slot;
 use atomic_table::{Join, Refused, Split, Table};
@@ -48,7 +48,7 @@ impl<K, V: Slot<K>> LatchTable<V, K> {
         alloc: Global,
         values: Vec<V>,
         about: &K,
-    ) -> Result<(LatchTable<V, K>, Pass<V, K>), Refused<V, Global>>
+    ) -> Result<(LatchTable<V, K>, LatchSeat<V, K>), Refused<V, Global>>
         requires fits { AreFit (V.fits about.now) values.items }
         ensures table { IfOk result (λ t. (t.0.table.shared.table_id.words ≡ length values.items)
             × (t.0.table.shared.key ≡ about.now)) }
@@ -75,7 +75,7 @@ impl<K, V: Slot<K>> LatchTable<V, K> {
     }
 
     /// Moves the values of all cells, in their order, into a list that has the room.
-    pub fn close(self, all: Pass<V, K>, values: &mut Vec<V>)
+    pub fn close(self, all: LatchSeat<V, K>, values: &mut Vec<V>)
         requires pass { all.table_id ≡ self.table.shared.table_id }
         requires whole { IsWhole (V.passes self.table.shared.key) all.me.0 }
         requires room { (values.old.items ≡ []) × (self.table.shared.table_id.words ≤ vec_capacity values.old) }
@@ -105,7 +105,7 @@ fn even_words(alloc: Global, count: usize) -> Result<Vec<u64>, AllocError>
 
 impl<'a, K, V: Slot<K>> Cells<'a, V, K> {
     /// A seat for the last of the passes that are still to be dealt, which has this number.
-    pub fn deal(&self, all: &mut Pass<V, K>, number: u32) -> Pass<V, K>
+    pub fn deal(&self, all: &mut LatchSeat<V, K>, number: u32) -> LatchSeat<V, K>
         requires table { (all.old.table_id ≡ self.now.table.now.table_id)
             × (0 < self.now.table.now.table_id.words) }
         requires passes { HasPasses self.now.table.now.key (number + 1) all.old.me.0
@@ -120,7 +120,7 @@ impl<'a, K, V: Slot<K>> Cells<'a, V, K> {
     }
 
     /// Takes a pass that holds no cell into a seat.
-    pub fn merge(&self, all: &mut Pass<V, K>, pass: Pass<V, K>)
+    pub fn merge(&self, all: &mut LatchSeat<V, K>, pass: LatchSeat<V, K>)
         requires table { (all.old.table_id ≡ self.now.table.now.table_id)
             × (0 < self.now.table.now.table_id.words) }
         requires pass { IsPassOf (V.passes self.now.table.now.key) self.now.table.now.key

@@ -8,7 +8,7 @@ use Rattle.graph_model.specs.Rows.{is_below, first_key, end_key}
 use Rattle.leaf_trie.specs.declared.start.LeafStart.{LeafStart}
 use Rattle.leaf_trie.specs.Leaves.{Inserts, NoneBegins, OneBegins, Removes, BeginAbove as StartAbove, BeginBelow as StartBelow}
 use Rattle.leaf_trie.proofs.ListLemmas.{all_append, all_front, all_back}
-use Rattle.leaf_index.specs.declared.slot.Slot.{Slot}
+use Rattle.leaf_index.specs.declared.slot.IndexSlot.{IndexSlot}
 use Rattle.leaf_index.specs.declared.route.Retired.{Retired}
 use Rattle.leaf_index.specs.Index.{Entry, AreCuts, AreSorted, BeginAbove, NotAbove, end_of}
 use Rattle.leaf_index.specs.Slots.{HasSlot, HaveSlots, AreRisingStarts, StandOnce, IsKept, IsFloorStart, BeginsBefore, begin_or, cuts_or_none, entry_of, entries_of, times}
@@ -20,12 +20,12 @@ use Rattle.leaf_index.proofs.IndexLemmas.{Unused}
 
 -- ---- a slot of the table
 
-pub get_set_same : (slots : List Slot) (leaf : ℕ) (x : Slot) → leaf < length slots → slice_get (set slots leaf x) leaf ≡ Some x
+pub get_set_same : (slots : List IndexSlot) (leaf : ℕ) (x : IndexSlot) → leaf < length slots → slice_get (set slots leaf x) leaf ≡ Some x
 get_set_same [] leaf x lt = absurd (omega (arith, lt))
 get_set_same (y ∷ ys) zero x lt = refl
 get_set_same (y ∷ ys) (suc leaf) x lt = get_set_same ys leaf x (omega (arith, lt))
 
-pub get_set_other : (slots : List Slot) (leaf i : ℕ) (x : Slot) → i ≢ leaf → slice_get (set slots leaf x) i ≡ slice_get slots i
+pub get_set_other : (slots : List IndexSlot) (leaf i : ℕ) (x : IndexSlot) → i ≢ leaf → slice_get (set slots leaf x) i ≡ slice_get slots i
 get_set_other [] leaf i x ne = refl
 get_set_other (y ∷ ys) zero zero x ne = absurd (ne refl)
 get_set_other (y ∷ ys) zero (suc i) x ne = refl
@@ -36,19 +36,19 @@ get_set_other (y ∷ ys) (suc leaf) (suc i) x ne = get_set_other ys leaf i x (λ
 abbrev pub Apart : ℕ → List LeafStart → Type 0
 Apart leaf starts = AllByRecursion (λ s. s.leaf ≢ leaf) starts
 
-pub entries_kept : (slots : List Slot) (leaf : ℕ) (x : Slot) (ss : List LeafStart) → Apart leaf ss → entries_of (set slots leaf x) ss ≡ entries_of slots ss
+pub entries_kept : (slots : List IndexSlot) (leaf : ℕ) (x : IndexSlot) (ss : List LeafStart) → Apart leaf ss → entries_of (set slots leaf x) ss ≡ entries_of slots ss
 entries_kept slots leaf x [] h = refl
 entries_kept slots leaf x (s ∷ ss) h =
     let cuts : cuts_or_none (slice_get (set slots leaf x) s.leaf) ≡ cuts_or_none (slice_get slots s.leaf) = ap cuts_or_none (get_set_other slots leaf s.leaf x h.0) in
     let first : entry_of (set slots leaf x) s ≡ entry_of slots s = λ i. record { low = s.low; leaf = s.leaf; cuts = cuts i } in
     (λ i. first i ∷ entries_kept slots leaf x ss h.1 i)
 
-pub slots_kept : (slots : List Slot) (leaf : ℕ) (x : Slot) (high : Key) (ss : List LeafStart) → Apart leaf ss → HaveSlots slots high ss → HaveSlots (set slots leaf x) high ss
+pub slots_kept : (slots : List IndexSlot) (leaf : ℕ) (x : IndexSlot) (high : Key) (ss : List LeafStart) → Apart leaf ss → HaveSlots slots high ss → HaveSlots (set slots leaf x) high ss
 slots_kept slots leaf x high [] h k = tt
 slots_kept slots leaf x high (s ∷ ss) h k =
     (record { slot = k.0.slot; there = get_set_other slots leaf s.leaf x h.0 ∙ k.0.there; ends = k.0.ends; cuts = k.0.cuts }, slots_kept slots leaf x high ss h.1 k.1)
 
-pub have_join : (slots : List Slot) (high : Key) (front back : List LeafStart) → HaveSlots slots (begin_or back high) front → HaveSlots slots high back → HaveSlots slots high (front ++ back)
+pub have_join : (slots : List IndexSlot) (high : Key) (front back : List LeafStart) → HaveSlots slots (begin_or back high) front → HaveSlots slots high back → HaveSlots slots high (front ++ back)
 have_join slots high [] back h k = k
 have_join slots high (s ∷ front) back h k = (subst (HasSlot slots s) (begins front) h.0, have_join slots high front back h.1 k)
   where
@@ -56,7 +56,7 @@ have_join slots high (s ∷ front) back h k = (subst (HasSlot slots s) (begins f
     begins [] = refl
     begins (f ∷ fs) = refl
 
-pub have_front : (slots : List Slot) (high : Key) (front back : List LeafStart) → HaveSlots slots high (front ++ back) → HaveSlots slots (begin_or back high) front
+pub have_front : (slots : List IndexSlot) (high : Key) (front back : List LeafStart) → HaveSlots slots high (front ++ back) → HaveSlots slots (begin_or back high) front
 have_front slots high [] back h = tt
 have_front slots high (s ∷ front) back h = (subst (HasSlot slots s) (begins front) h.0, have_front slots high front back h.1)
   where
@@ -64,7 +64,7 @@ have_front slots high (s ∷ front) back h = (subst (HasSlot slots s) (begins fr
     begins [] = refl
     begins (f ∷ fs) = refl
 
-pub have_back : (slots : List Slot) (high : Key) (front back : List LeafStart) → HaveSlots slots high (front ++ back) → HaveSlots slots high back
+pub have_back : (slots : List IndexSlot) (high : Key) (front back : List LeafStart) → HaveSlots slots high (front ++ back) → HaveSlots slots high back
 have_back slots high [] back h = h
 have_back slots high (s ∷ front) back h = have_back slots high front back h.1
 
@@ -106,7 +106,7 @@ one_last p (f ∷ front) s back (g ∷ front') t back' e ps rest pt rest' =
 
 -- ---- entries are of leaves
 
-pub record Split (slots : List Slot) (starts : List LeafStart) (front : List Entry) (e : Entry) (back : List Entry) : Type 0 where
+pub record Split (slots : List IndexSlot) (starts : List LeafStart) (front : List Entry) (e : Entry) (back : List Entry) : Type 0 where
   pub before : List LeafStart
   pub start : LeafStart
   pub behind : List LeafStart
@@ -115,7 +115,7 @@ pub record Split (slots : List Slot) (starts : List LeafStart) (front : List Ent
   pub entry : entry_of slots start ≡ e
   pub backs : entries_of slots behind ≡ back
 
-pub split : (slots : List Slot) (starts : List LeafStart) (front : List Entry) (e : Entry) (back : List Entry) → entries_of slots starts ≡ front ++ e ∷ back → Split slots starts front e back
+pub split : (slots : List IndexSlot) (starts : List LeafStart) (front : List Entry) (e : Entry) (back : List Entry) → entries_of slots starts ≡ front ++ e ∷ back → Split slots starts front e back
 split slots [] [] e back is = cc
 split slots [] (g ∷ front) e back is = cc
 split slots (s ∷ ss) [] e back is = record { before = []; start = s; behind = ss; is = refl; fronts = refl; entry = first_same is; backs = rest_same is }
@@ -153,12 +153,12 @@ floor_is key starts leaf front s back f is from above =
 -- ---- other cuts
 
 -- one leaf has another slot
-pub record Changed (slots new : List Slot) (starts : List LeafStart) (free : List ℕ) (retired : List Retired) (front : List LeafStart) (s : LeafStart) (x : Slot) (back : List LeafStart) : Type 0 where
+pub record Changed (slots new : List IndexSlot) (starts : List LeafStart) (free : List ℕ) (retired : List Retired) (front : List LeafStart) (s : LeafStart) (x : IndexSlot) (back : List LeafStart) : Type 0 where
   pub kept : IsKept new starts free retired
   pub entries : entries_of new starts ≡ entries_of slots front ++ record { low = s.low; leaf = s.leaf; cuts = x.cuts } ∷ entries_of slots back
   pub count : length new ≡ length slots
 
-pub changed : (slots : List Slot) (starts : List LeafStart) (free : List ℕ) (retired : List Retired) (front : List LeafStart) (s : LeafStart) (x : Slot) (back : List LeafStart) → IsKept slots starts free retired → starts ≡ front ++ s ∷ back
+pub changed : (slots : List IndexSlot) (starts : List LeafStart) (free : List ℕ) (retired : List Retired) (front : List LeafStart) (s : LeafStart) (x : IndexSlot) (back : List LeafStart) → IsKept slots starts free retired → starts ≡ front ++ s ∷ back
     → x.high ≡ begin_or back end_key → AreCuts s.low x.cuts (begin_or back end_key) → Changed slots (set slots s.leaf x) starts free retired front s x back
 changed slots starts free retired front s x back k is ends cuts =
     let new = set slots s.leaf x in
@@ -182,12 +182,12 @@ changed slots starts free retired front s x back k is ends cuts =
     cond_same q e = ap (λ n. worth (nat_lt q n)) e
 
 -- what the index is then
-pub record CutChanged (starts : List LeafStart) (free : List ℕ) (retired : List Retired) (slots new : List Slot) (entries : List Entry) : Type 0 where
+pub record CutChanged (starts : List LeafStart) (free : List ℕ) (retired : List Retired) (slots new : List IndexSlot) (entries : List Entry) : Type 0 where
   pub kept : IsKept new starts free retired
   pub sets : entries_of new starts ≡ entries
   pub count : length new ≡ length slots
 
-pub cut_changed : (slots : List Slot) (starts : List LeafStart) (free : List ℕ) (retired : List Retired) (entries : List Entry) (low : Key) (cuts : List Key) (leaf : ℕ) (now : Slot) → entries_of slots starts ≡ entries → IsKept slots starts free retired
+pub cut_changed : (slots : List IndexSlot) (starts : List LeafStart) (free : List ℕ) (retired : List Retired) (entries : List Entry) (low : Key) (cuts : List Key) (leaf : ℕ) (now : IndexSlot) → entries_of slots starts ≡ entries → IsKept slots starts free retired
     → (can : CanCut low cuts entries) → IsFloorStart low starts leaf → slice_get slots leaf ≡ Some now → CutChanged starts free retired slots (set slots leaf (record { cuts = cuts; high = now.high })) (with_cuts low cuts entries can)
 cut_changed slots starts free retired entries low cuts leaf now view k can f there =
     let sp = split slots starts can.front can.entry can.back (view ∙ can.is) in
@@ -198,10 +198,10 @@ cut_changed slots starts free retired entries low cuts leaf now view k can f the
     let same = floor_is low starts leaf sp.before s sp.behind f sp.is from above in
     let number : s.leaf ≡ leaf = ap (λ (x : LeafStart). x.leaf) (sym same.starts) ∙ f.same in
     let h = slot_at slots end_key sp.before s sp.behind (subst (HaveSlots slots end_key) sp.is k.have) in
-    let high : now.high ≡ begin_or sp.behind end_key = ap (λ (x : Slot). x.high) (sym (slot_read slots s leaf (begin_or sp.behind end_key) now h number there)) ∙ h.ends in
+    let high : now.high ≡ begin_or sp.behind end_key = ap (λ (x : IndexSlot). x.high) (sym (slot_read slots s leaf (begin_or sp.behind end_key) now h number there)) ∙ h.ends in
     let ends : end_of can.back ≡ begin_or sp.behind end_key = ap end_of (sym sp.backs) ∙ end_begin slots sp.behind in
     let fit : AreCuts s.low cuts (begin_or sp.behind end_key) = subst (λ x. AreCuts x cuts (begin_or sp.behind end_key)) (sym begins) (subst (AreCuts low cuts) ends can.fit) in
-    let x : Slot = record { cuts = cuts; high = now.high } in
+    let x : IndexSlot = record { cuts = cuts; high = now.high } in
     let c = changed slots starts free retired sp.before s x sp.behind k sp.is high fit in
     let is : entries_of (set slots s.leaf x) starts ≡ can.front ++ record { low = can.entry.low; leaf = can.entry.leaf; cuts = cuts } ∷ can.back =
     c.entries ∙ (λ i. sp.fronts i ++ record { low = (sp.entry i).low; leaf = (sp.entry i).leaf; cuts = cuts } ∷ sp.backs i) in
@@ -209,7 +209,7 @@ cut_changed slots starts free retired entries low cuts leaf now view k can f the
 
 -- ---- one leaf more
 
-starts_above : (slots : List Slot) (key : Key) (ss : List LeafStart) → BeginAbove key (entries_of slots ss) → StartAbove key ss
+starts_above : (slots : List IndexSlot) (key : Key) (ss : List LeafStart) → BeginAbove key (entries_of slots ss) → StartAbove key ss
 starts_above slots key [] h = tt
 starts_above slots key (s ∷ ss) h = (h.0, starts_above slots key ss h.1)
 
@@ -250,12 +250,12 @@ count_more leaf front s back =
     omega (arith, count_append p front (s ∷ back), count_cons p s back, count_append p front back)
 
 -- what the index is then
-pub record AddChanged (starts : List LeafStart) (free : List ℕ) (retired : List Retired) (slots new : List Slot) (entries : List Entry) : Type 0 where
+pub record AddChanged (starts : List LeafStart) (free : List ℕ) (retired : List Retired) (slots new : List IndexSlot) (entries : List Entry) : Type 0 where
   pub kept : IsKept new starts free retired
   pub adds : entries_of new starts ≡ entries
   pub count : length new ≡ length slots
 
-pub add_changed : (slots : List Slot) (starts after : List LeafStart) (free : List ℕ) (retired : List Retired) (entries : List Entry) (low : Key) (leaf : ℕ) (cuts : List Key) (before : ℕ) (now : Slot) → entries_of slots starts ≡ entries
+pub add_changed : (slots : List IndexSlot) (starts after : List LeafStart) (free : List ℕ) (retired : List Retired) (entries : List Entry) (low : Key) (leaf : ℕ) (cuts : List Key) (before : ℕ) (now : IndexSlot) → entries_of slots starts ≡ entries
     → IsKept slots starts free retired → Unused slots starts free retired leaf → (can : CanAdd low cuts entries) → IsFloorStart low starts before → slice_get slots before ≡ Some now → Inserts (record { low = low; leaf = leaf }) starts after
     → AddChanged after free retired slots (set (set slots before (record { cuts = now.cuts; high = low })) leaf (record { cuts = cuts; high = now.high })) (with_leaf low leaf cuts entries can)
 add_changed slots starts after free retired entries low leaf cuts before now view k unused can f there ins =
@@ -276,17 +276,17 @@ add_changed slots starts after free retired entries low leaf cuts before now vie
     let apart : Apart leaf (sp.before ++ p ∷ sp.behind) = subst (Apart leaf) sp.is (absent (length slots) starts free retired leaf unused.unused) in
     let apart_front = all_front (λ (r : LeafStart). r.leaf ≢ leaf) sp.before (p ∷ sp.behind) apart in
     let apart_back = all_back (λ (r : LeafStart). r.leaf ≢ leaf) sp.before (p ∷ sp.behind) apart in
-    let x : Slot = record { cuts = now.cuts; high = low } in
-    let y : Slot = record { cuts = cuts; high = now.high } in
+    let x : IndexSlot = record { cuts = now.cuts; high = low } in
+    let y : IndexSlot = record { cuts = cuts; high = now.high } in
     let one = set slots p.leaf x in
     let new = set one leaf y in
     let count : length new ≡ length slots = length-set one leaf y ∙ length-set slots p.leaf x in
     let there_p : slice_get new p.leaf ≡ Some x = get_set_other one leaf p.leaf y apart_back.0 ∙ get_set_same slots p.leaf x lt in
     let there_s : slice_get new leaf ≡ Some y = get_set_same one leaf y (omega (arith, unused.exists, length-set slots p.leaf x)) in
-    let older : can.before.cuts ≡ now.cuts = ap (λ (e : Entry). e.cuts) (sym sp.entry) ∙ ap cuts_or_none h.there ∙ ap (λ (z : Slot). z.cuts) slot in
-    let had = subst (λ (z : Slot). AreCuts p.low z.cuts (begin_or sp.behind end_key)) slot h.cuts in
+    let older : can.before.cuts ≡ now.cuts = ap (λ (e : Entry). e.cuts) (sym sp.entry) ∙ ap cuts_or_none h.there ∙ ap (λ (z : IndexSlot). z.cuts) slot in
+    let had = subst (λ (z : IndexSlot). AreCuts p.low z.cuts (begin_or sp.behind end_key)) slot h.cuts in
     let cuts_p : AreCuts p.low now.cuts low = record { count = had.count; begin = had.begin; sorted = subst (λ ks. AreSorted ks low) older can.older } in
-    let ends : now.high ≡ begin_or sp.behind end_key = ap (λ (z : Slot). z.high) (sym slot) ∙ h.ends in
+    let ends : now.high ≡ begin_or sp.behind end_key = ap (λ (z : IndexSlot). z.high) (sym slot) ∙ h.ends in
     let ends' : end_of can.back ≡ begin_or sp.behind end_key = ap end_of (sym sp.backs) ∙ end_begin slots sp.behind in
     let has_p : HasSlot new p low = record { slot = x; there = there_p; ends = refl; cuts = cuts_p } in
     let has_s : HasSlot new s (begin_or sp.behind end_key) = record { slot = y; there = there_s; ends = ends; cuts = subst (AreCuts low cuts) ends' can.newer } in
@@ -295,7 +295,7 @@ add_changed slots starts after free retired entries low leaf cuts before now vie
     let now_have : HaveSlots new end_key (sp.before ++ p ∷ s ∷ sp.behind) = have_join new end_key sp.before (p ∷ s ∷ sp.behind) front_kept (has_p, (has_s, back_kept)) in
     let rises : AreRisingStarts (ins.front ++ s ∷ ins.back) = rising_more ins.front s ins.back (subst AreRisingStarts ins.was k.rising) ins.below ins.above in
     let first : begin_or after end_key ≡ first_key = ap (λ ss. begin_or ss end_key) is ∙ begin_same sp.before p (s ∷ sp.behind) sp.behind end_key ∙ ap (λ ss. begin_or ss end_key) (sym sp.is) ∙ k.first in
-    let entry_p : entry_of new p ≡ can.before = (λ i. record { low = p.low; leaf = p.leaf; cuts = cuts_or_none (there_p i) }) ∙ ap (λ ks. let e : Entry = record { low = p.low; leaf = p.leaf; cuts = ks } in e) (sym (ap cuts_or_none h.there ∙ ap (λ (z : Slot). z.cuts) slot)) ∙ sp.entry in
+    let entry_p : entry_of new p ≡ can.before = (λ i. record { low = p.low; leaf = p.leaf; cuts = cuts_or_none (there_p i) }) ∙ ap (λ ks. let e : Entry = record { low = p.low; leaf = p.leaf; cuts = ks } in e) (sym (ap cuts_or_none h.there ∙ ap (λ (z : IndexSlot). z.cuts) slot)) ∙ sp.entry in
     let entry_s : entry_of new s ≡ record { low = low; leaf = leaf; cuts = cuts } = (λ i. record { low = low; leaf = leaf; cuts = cuts_or_none (there_s i) }) in
     let fronts : entries_of new sp.before ≡ can.front = entries_kept one leaf y sp.before apart_front ∙ entries_kept slots p.leaf x sp.before alone.0 ∙ sp.fronts in
     let backs : entries_of new sp.behind ≡ can.back = entries_kept one leaf y sp.behind apart_back.1 ∙ entries_kept slots p.leaf x sp.behind alone.1 ∙ sp.backs in
@@ -334,7 +334,7 @@ none_begins key (f ∷ front) p back h below above =
     let less = (all_back (λ (s : LeafStart). is_below f.low s.low ≡ true) front (p ∷ back) h.0).0 in
     (apart_keys f.low key (below_chain f.low p.low key less below), none_begins key front p back h.1 below above)
 
-pub none_at : (slots : List Slot) (starts : List LeafStart) (free : List ℕ) (retired : List Retired) (entries : List Entry) (low : Key) (cuts : List Key) → entries_of slots starts ≡ entries → IsKept slots starts free retired → CanAdd low cuts entries → NoneBegins low starts
+pub none_at : (slots : List IndexSlot) (starts : List LeafStart) (free : List ℕ) (retired : List Retired) (entries : List Entry) (low : Key) (cuts : List Key) → entries_of slots starts ≡ entries → IsKept slots starts free retired → CanAdd low cuts entries → NoneBegins low starts
 none_at slots starts free retired entries low cuts view k can =
     let sp = split slots starts can.front can.before can.back (view ∙ can.is) in
     let below : is_below sp.start.low low ≡ true = subst (λ (e : Entry). is_below e.low low ≡ true) (sym sp.entry) can.begins in
@@ -367,7 +367,7 @@ none_below key [] h = tt
 none_below key (s ∷ ss) h = (below_flip key s.low h.0, none_below key ss h.1)
 
 -- the leaf that is dropped, with the one before it
-pub record Neighbours (slots : List Slot) (starts : List LeafStart) (low : Key) (entries : List Entry) (can : CanDrop low entries) : Type 0 where
+pub record Neighbours (slots : List IndexSlot) (starts : List LeafStart) (low : Key) (entries : List Entry) (can : CanDrop low entries) : Type 0 where
   pub before : List LeafStart
   pub p : LeafStart
   pub d : LeafStart
@@ -381,7 +381,7 @@ pub record Neighbours (slots : List Slot) (starts : List LeafStart) (low : Key) 
   pub below : is_below p.low low ≡ true
   pub above : StartAbove low behind
 
-pub neighbours : (slots : List Slot) (starts : List LeafStart) (free : List ℕ) (retired : List Retired) (entries : List Entry) (low : Key) → entries_of slots starts ≡ entries → IsKept slots starts free retired → (can : CanDrop low entries) → Neighbours slots starts low entries can
+pub neighbours : (slots : List IndexSlot) (starts : List LeafStart) (free : List ℕ) (retired : List Retired) (entries : List Entry) (low : Key) → entries_of slots starts ≡ entries → IsKept slots starts free retired → (can : CanDrop low entries) → Neighbours slots starts low entries can
 neighbours slots starts free retired entries low view k can =
     let sp = split slots starts can.front can.before (can.dropped ∷ can.back) (view ∙ can.is) in
     let sq = split slots sp.behind [] can.dropped can.back sp.backs in
@@ -411,13 +411,13 @@ neighbours slots starts free retired entries low view k can =
     no_entries [] e = refl
     no_entries (s ∷ ss) e = cc
 
-pub one_begins : (slots : List Slot) (starts : List LeafStart) (low : Key) (entries : List Entry) (can : CanDrop low entries) → (n : Neighbours slots starts low entries can) → OneBegins low starts
+pub one_begins : (slots : List IndexSlot) (starts : List LeafStart) (low : Key) (entries : List Entry) (can : CanDrop low entries) → (n : Neighbours slots starts low entries can) → OneBegins low starts
 one_begins slots starts low entries can n = record { front = n.before ++ n.p ∷ []; start = n.d; back = n.behind; is = n.is ∙ sym (append_assoc n.before (n.p ∷ []) (n.d ∷ n.behind)); low = n.begins }
 
-pub two_there : (slots : List Slot) (starts : List LeafStart) (low : Key) (entries : List Entry) (can : CanDrop low entries) → (n : Neighbours slots starts low entries can) → 2 ≤ length starts
+pub two_there : (slots : List IndexSlot) (starts : List LeafStart) (low : Key) (entries : List Entry) (can : CanDrop low entries) → (n : Neighbours slots starts low entries can) → 2 ≤ length starts
 two_there slots starts low entries can n = omega (arith, ap length n.is, length-append n.before (n.p ∷ n.d ∷ n.behind))
 
-pub before_there : (slots : List Slot) (starts : List LeafStart) (low : Key) (entries : List Entry) (can : CanDrop low entries) → (n : Neighbours slots starts low entries can) → AllByRecursion (λ (s : LeafStart). NotAbove low s.low) starts → ⊥
+pub before_there : (slots : List IndexSlot) (starts : List LeafStart) (low : Key) (entries : List Entry) (can : CanDrop low entries) → (n : Neighbours slots starts low entries can) → AllByRecursion (λ (s : LeafStart). NotAbove low s.low) starts → ⊥
 before_there slots starts low entries can n all =
     let at = (all_back (λ (s : LeafStart). NotAbove low s.low) n.before (n.p ∷ n.d ∷ n.behind) (subst (AllByRecursion (λ (s : LeafStart). NotAbove low s.low)) n.is all)).0 in
     clash at n.below
@@ -425,12 +425,12 @@ before_there slots starts low entries can n all =
     clash : {t : Bool} → t ≡ false → t ≡ true → ⊥
     clash e f = cc
 
-pub record DropChanged (starts : List LeafStart) (free : List ℕ) (retired : List Retired) (slots new : List Slot) (entries : List Entry) : Type 0 where
+pub record DropChanged (starts : List LeafStart) (free : List ℕ) (retired : List Retired) (slots new : List IndexSlot) (entries : List Entry) : Type 0 where
   pub kept : IsKept new starts free retired
   pub drops : entries_of new starts ≡ entries
   pub count : length new ≡ length slots
 
-range_joined : (slots : List Slot) (starts after : List LeafStart) (free : List ℕ) (retired : List Retired) (entries : List Entry) (low : Key) (dropped before : ℕ) (gone now : Slot) → IsKept slots starts free retired → (can : CanDrop low entries)
+range_joined : (slots : List IndexSlot) (starts after : List LeafStart) (free : List ℕ) (retired : List Retired) (entries : List Entry) (low : Key) (dropped before : ℕ) (gone now : IndexSlot) → IsKept slots starts free retired → (can : CanDrop low entries)
     → (n : Neighbours slots starts low entries can) → IsFloorStart low starts dropped → slice_get slots dropped ≡ Some gone → BeginsBefore low starts before → slice_get slots before ≡ Some now → Removes low starts after
     → DropChanged after free retired slots (set slots before (record { cuts = now.cuts; high = gone.high })) (without_leaf low entries can)
 range_joined slots starts after free retired entries low dropped before gone now k can n f there_gone b there_now rem =
@@ -453,19 +453,19 @@ range_joined slots starts after free retired entries low dropped before gone now
     let slot_p = slot_read slots p before d.low now h number_p there_now in
     let slot_d = slot_read slots d dropped (begin_or n.behind end_key) gone g number_d there_gone in
     let alone = stands_alone (length slots) n.before p (d ∷ n.behind) free retired (subst (λ ss. StandOnce (length slots) ss free retired) n.is k.once) in
-    let x : Slot = record { cuts = now.cuts; high = gone.high } in
+    let x : IndexSlot = record { cuts = now.cuts; high = gone.high } in
     let new = set slots p.leaf x in
     let count = length-set slots p.leaf x in
     let there : slice_get new p.leaf ≡ Some x = get_set_same slots p.leaf x (within_there slots p.leaf h.slot h.there) in
-    let ends : gone.high ≡ begin_or n.behind end_key = ap (λ (z : Slot). z.high) (sym slot_d) ∙ g.ends in
-    let had = subst (λ (z : Slot). AreCuts p.low z.cuts d.low) slot_p h.cuts in
+    let ends : gone.high ≡ begin_or n.behind end_key = ap (λ (z : IndexSlot). z.high) (sym slot_d) ∙ g.ends in
+    let had = subst (λ (z : IndexSlot). AreCuts p.low z.cuts d.low) slot_p h.cuts in
     let cuts : AreCuts p.low now.cuts (begin_or n.behind end_key) = record { count = had.count; begin = had.begin; sorted = sorted_up now.cuts d.low (begin_or n.behind end_key) had.sorted (cuts_span d.low g.slot.cuts (begin_or n.behind end_key) g.cuts) } in
     let here : HasSlot new p (begin_or n.behind end_key) = record { slot = x; there = there; ends = ends; cuts = cuts } in
     let front_kept = slots_kept slots p.leaf x p.low n.before alone.0 (have_front slots end_key n.before (p ∷ d ∷ n.behind) have) in
     let back_kept = slots_kept slots p.leaf x end_key n.behind alone.1.1 (have_back slots end_key n.before (p ∷ d ∷ n.behind) have).1.1 in
     let now_have : HaveSlots new end_key (n.before ++ p ∷ n.behind) = have_join new end_key n.before (p ∷ n.behind) front_kept (here, back_kept) in
     let entry : entry_of new p ≡ can.before =
-    (λ i. record { low = p.low; leaf = p.leaf; cuts = cuts_or_none (there i) }) ∙ ap (λ ks. let e : Entry = record { low = p.low; leaf = p.leaf; cuts = ks } in e) (sym (ap cuts_or_none h.there ∙ ap (λ (z : Slot). z.cuts) slot_p)) ∙ n.entry_p in
+    (λ i. record { low = p.low; leaf = p.leaf; cuts = cuts_or_none (there i) }) ∙ ap (λ ks. let e : Entry = record { low = p.low; leaf = p.leaf; cuts = ks } in e) (sym (ap cuts_or_none h.there ∙ ap (λ (z : IndexSlot). z.cuts) slot_p)) ∙ n.entry_p in
     let fronts : entries_of new n.before ≡ can.front = entries_kept slots p.leaf x n.before alone.0 ∙ n.fronts in
     let backs : entries_of new n.behind ≡ can.back = entries_kept slots p.leaf x n.behind alone.1.1 ∙ n.backs in
     let entries_new : entries_of new after ≡ (can.front ++ can.before ∷ []) ++ can.back =
@@ -497,7 +497,7 @@ removed_start low starts after dropped rising f rem =
     same.starts
 
 -- it is live no more
-removed_apart : (slots : List Slot) (starts after : List LeafStart) (free : List ℕ) (retired : List Retired) (low : Key) (dropped : ℕ) → IsKept slots starts free retired → IsFloorStart low starts dropped → Removes low starts after → Apart dropped after
+removed_apart : (slots : List IndexSlot) (starts after : List LeafStart) (free : List ℕ) (retired : List Retired) (low : Key) (dropped : ℕ) → IsKept slots starts free retired → IsFloorStart low starts dropped → Removes low starts after → Apart dropped after
 removed_apart slots starts after free retired low dropped k f rem =
     let number : rem.start.leaf ≡ dropped = ap (λ (s : LeafStart). s.leaf) (sym (removed_start low starts after dropped k.rising f rem)) ∙ f.same in
     let alone = stands_alone (length slots) rem.front rem.start rem.back free retired (subst (λ ss. StandOnce (length slots) ss free retired) rem.was k.once) in
@@ -505,7 +505,7 @@ removed_apart slots starts after free retired low dropped k f rem =
     subst (λ m. Apart m after) number (subst (Apart rem.start.leaf) (sym rem.is) apart)
 
 -- the slot of a leaf that isn't live may be any
-idle_changed : (slots : List Slot) (starts : List LeafStart) (free : List ℕ) (retired : List Retired) (leaf : ℕ) (x : Slot) → Apart leaf starts → IsKept slots starts free retired → IsKept (set slots leaf x) starts free retired
+idle_changed : (slots : List IndexSlot) (starts : List LeafStart) (free : List ℕ) (retired : List Retired) (leaf : ℕ) (x : IndexSlot) → Apart leaf starts → IsKept slots starts free retired → IsKept (set slots leaf x) starts free retired
 idle_changed slots starts free retired leaf x apart k =
     let count = length-set slots leaf x in
     record {
@@ -516,7 +516,7 @@ idle_changed slots starts free retired leaf x apart k =
       few = omega (arith, k.few, count);
     }
 
-pub drop_changed : (slots : List Slot) (starts after : List LeafStart) (free : List ℕ) (retired : List Retired) (entries : List Entry) (low : Key) (dropped before : ℕ) (gone now y : Slot) → IsKept slots starts free retired → (can : CanDrop low entries)
+pub drop_changed : (slots : List IndexSlot) (starts after : List LeafStart) (free : List ℕ) (retired : List Retired) (entries : List Entry) (low : Key) (dropped before : ℕ) (gone now y : IndexSlot) → IsKept slots starts free retired → (can : CanDrop low entries)
     → (n : Neighbours slots starts low entries can) → IsFloorStart low starts dropped → slice_get slots dropped ≡ Some gone → BeginsBefore low starts before → slice_get slots before ≡ Some now → Removes low starts after
     → DropChanged after free retired slots (set (set slots before (record { cuts = now.cuts; high = gone.high })) dropped y) (without_leaf low entries can)
 drop_changed slots starts after free retired entries low dropped before gone now y k can n f there_gone b there_now rem =

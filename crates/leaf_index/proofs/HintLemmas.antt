@@ -9,7 +9,7 @@ use Rattle.graph_model.proofs.KeyLemmas.{below_chain, between_parts}
 use Rattle.leaf_trie.specs.declared.start.LeafStart.{LeafStart}
 use Rattle.leaf_trie.specs.Leaves.{Inserts, Removes, BeginAbove as StartAbove}
 use Rattle.leaf_trie.proofs.ListLemmas.{all_map}
-use Rattle.leaf_index.specs.declared.slot.Slot.{Slot}
+use Rattle.leaf_index.specs.declared.slot.IndexSlot.{IndexSlot}
 use Rattle.leaf_index.specs.Index.{NotAbove, first_or}
 use Rattle.leaf_index.specs.Slots.{AreRisingStarts, BeginsBefore, HaveSlots, IsFloorStart, IsLive, OnlyLiveHold, begin_or, empty_slot, first_slots, holds_key, whole_slot}
 use Rattle.leaf_index.proofs.CountLemmas.{count_append, count_cons, worth}
@@ -84,14 +84,14 @@ first_read [] low high e = cc
 first_read (k ∷ ks) low high e = same_some e
 
 -- THE LEAF WHOSE SLOT HOLDS A KEY IS THE LAST ONE THAT DOES NOT BEGIN ABOVE IT
-pub hinted : (slots : List Slot) (starts : List LeafStart) (key : Key) (leaf : ℕ) (now : Slot) → AreRisingStarts starts → HaveSlots slots end_key starts → OnlyLiveHold slots starts → slice_get slots leaf ≡ Some now → holds_key now key ≡ true → IsFloorStart key starts leaf
+pub hinted : (slots : List IndexSlot) (starts : List LeafStart) (key : Key) (leaf : ℕ) (now : IndexSlot) → AreRisingStarts starts → HaveSlots slots end_key starts → OnlyLiveHold slots starts → slice_get slots leaf ≡ Some now → holds_key now key ≡ true → IsFloorStart key starts leaf
 hinted slots starts key leaf now rising have only there held =
     let p = place_of leaf starts (only leaf now key there held) in
     let end = begin_or p.back end_key in
     let h = slot_at slots end_key p.front p.start p.back (subst (HaveSlots slots end_key) p.is have) in
     let slot = slot_read slots p.start leaf end now h p.same there in
     let low = first_read now.cuts p.start.low end_key (low_read slots p.start leaf end now h p.same there) in
-    let high : now.high ≡ end = ap (λ (x : Slot). x.high) (sym slot) ∙ h.ends in
+    let high : now.high ≡ end = ap (λ (x : IndexSlot). x.high) (sym slot) ∙ h.ends in
     let parts = between_parts (first_or now.cuts end_key) now.high key held in
     record {
       start = p.start;
@@ -108,10 +108,10 @@ hinted slots starts key leaf now rising have only there held =
 -- ---- slots that change
 
 -- one slot changes, and the leaves with it
-set_live : (slots : List Slot) (starts after : List LeafStart) (leaf : ℕ) (x : Slot) → OnlyLiveHold slots starts → ((q : ℕ) → q ≢ leaf → IsLive q starts → IsLive q after) → ((key : Key) → holds_key x key ≡ true → IsLive leaf after) → OnlyLiveHold (set slots leaf x) after
+set_live : (slots : List IndexSlot) (starts after : List LeafStart) (leaf : ℕ) (x : IndexSlot) → OnlyLiveHold slots starts → ((q : ℕ) → q ≢ leaf → IsLive q starts → IsLive q after) → ((key : Key) → holds_key x key ≡ true → IsLive leaf after) → OnlyLiveHold (set slots leaf x) after
 set_live slots starts after leaf x only others here = λ q now key there held. by_number q now key there held (eqb q leaf) refl
   where
-    by_number : (q : ℕ) (now : Slot) (key : Key) → slice_get (set slots leaf x) q ≡ Some now → holds_key now key ≡ true → (t : Bool) → eqb q leaf ≡ t → IsLive q after
+    by_number : (q : ℕ) (now : IndexSlot) (key : Key) → slice_get (set slots leaf x) q ≡ Some now → holds_key now key ≡ true → (t : Bool) → eqb q leaf ≡ t → IsLive q after
     by_number q now key there held true t =
         let same : q ≡ leaf = eqb-true q leaf t in
         let at : slice_get (set slots leaf x) leaf ≡ Some now = subst (λ n. slice_get (set slots leaf x) n ≡ Some now) same there in
@@ -135,20 +135,20 @@ new_live leaves =
     set_live (replicate leaves empty_slot) (s ∷ []) (s ∷ []) 0 whole_slot (λ q now key there held. absurd (none_within end_key key (subst (λ x. holds_key x key ≡ true) (sym (one_of leaves q now there)) held))) (λ q other live. live)
     (λ key held. live_at 0 (s ∷ []) [] s [] refl refl)
   where
-    one_of : (n i : ℕ) (now : Slot) → slice_get (replicate n empty_slot) i ≡ Some now → empty_slot ≡ now
+    one_of : (n i : ℕ) (now : IndexSlot) → slice_get (replicate n empty_slot) i ≡ Some now → empty_slot ≡ now
     one_of zero i now e = cc
     one_of (suc n) zero now e = same_some e
     one_of (suc n) (suc i) now e = one_of n i now e
 
-pub cut_live : (slots : List Slot) (starts : List LeafStart) (low : Key) (leaf : ℕ) (x : Slot) → OnlyLiveHold slots starts → IsFloorStart low starts leaf → OnlyLiveHold (set slots leaf x) starts
+pub cut_live : (slots : List IndexSlot) (starts : List LeafStart) (low : Key) (leaf : ℕ) (x : IndexSlot) → OnlyLiveHold slots starts → IsFloorStart low starts leaf → OnlyLiveHold (set slots leaf x) starts
 cut_live slots starts low leaf x only f = set_live slots starts starts leaf x only (λ q other live. live) (λ key held. floor_live low starts leaf f)
 
-pub add_live : (slots : List Slot) (starts after : List LeafStart) (low : Key) (leaf before : ℕ) (x y : Slot) → OnlyLiveHold slots starts → IsFloorStart low starts before → Inserts (record { low = low; leaf = leaf }) starts after → OnlyLiveHold (set (set slots before x) leaf y) after
+pub add_live : (slots : List IndexSlot) (starts after : List LeafStart) (low : Key) (leaf before : ℕ) (x y : IndexSlot) → OnlyLiveHold slots starts → IsFloorStart low starts before → Inserts (record { low = low; leaf = leaf }) starts after → OnlyLiveHold (set (set slots before x) leaf y) after
 add_live slots starts after low leaf before x y only f ins =
     let s : LeafStart = record { low = low; leaf = leaf } in
     set_live (set slots before x) starts after leaf y (cut_live slots starts low before x only f) (λ q other live. inserted_live s starts after q ins live) (λ key held. live_at leaf after ins.front s ins.back ins.is refl)
 
-pub drop_live : (slots : List Slot) (starts after : List LeafStart) (low : Key) (dropped before : ℕ) (gone x : Slot) → AreRisingStarts starts → HaveSlots slots end_key starts → OnlyLiveHold slots starts → IsFloorStart low starts dropped → slice_get slots dropped ≡ Some gone
+pub drop_live : (slots : List IndexSlot) (starts after : List LeafStart) (low : Key) (dropped before : ℕ) (gone x : IndexSlot) → AreRisingStarts starts → HaveSlots slots end_key starts → OnlyLiveHold slots starts → IsFloorStart low starts dropped → slice_get slots dropped ≡ Some gone
     → BeginsBefore low starts before → Removes low starts after → OnlyLiveHold (set (set slots before x) dropped (record { cuts = gone.cuts; high = low })) after
 drop_live slots starts after low dropped before gone x rising have only f there b rem =
     let same = removed_start low starts after dropped rising f rem in

@@ -7,7 +7,7 @@ use Rattle.std.proofs.lemmas.List.{length-replicate, take-append-drop}
 use Rattle.graph_model.specs.declared.row.Key.{Key}
 use Rattle.graph_model.specs.Rows.{first_key, end_key}
 use Rattle.leaf_trie.specs.declared.start.LeafStart.{LeafStart}
-use Rattle.leaf_index.specs.declared.slot.Slot.{Slot}
+use Rattle.leaf_index.specs.declared.slot.IndexSlot.{IndexSlot}
 use Rattle.leaf_index.specs.declared.route.Retired.{Retired}
 use Rattle.leaf_index.specs.Index.{Entry, Index, AreCuts, AreRising, HaveCuts, IsIndex, IsTaken, uses}
 use Rattle.leaf_index.specs.Idle.{Idle, IsOutside}
@@ -17,21 +17,21 @@ use Rattle.leaf_index.proofs.CountLemmas.{count_cons, count_append, count_range,
 use Rattle.leaf_index.proofs.SlotLemmas.{end_begin, entries_above}
 
 -- what contracts see of an index
-abbrev pub seen : List Slot → List LeafStart → List ℕ → List Retired → Index
+abbrev pub seen : List IndexSlot → List LeafStart → List ℕ → List Retired → Index
 seen slots starts free retired = record { leaves = length slots; entries = entries_of slots starts; free = free; retired = retired }
 
-count_entries : (slots : List Slot) (starts : List LeafStart) (leaf : ℕ) → count_by (λ (e : Entry). e.leaf == leaf) (entries_of slots starts) ≡ count_by (λ (s : LeafStart). s.leaf == leaf) starts
+count_entries : (slots : List IndexSlot) (starts : List LeafStart) (leaf : ℕ) → count_by (λ (e : Entry). e.leaf == leaf) (entries_of slots starts) ≡ count_by (λ (s : LeafStart). s.leaf == leaf) starts
 count_entries slots [] leaf = refl
 count_entries slots (s ∷ ss) leaf = count_cons (λ (e : Entry). e.leaf == leaf) (entry_of slots s) (entries_of slots ss) ∙ ap (λ n. cond (s.leaf == leaf) 1 0 + n) (count_entries slots ss leaf) ∙ sym (count_cons (λ (r : LeafStart). r.leaf == leaf) s ss)
 
-pub uses_times : (slots : List Slot) (starts : List LeafStart) (free : List ℕ) (retired : List Retired) (leaf : ℕ) → uses (seen slots starts free retired) leaf ≡ times leaf starts free retired
+pub uses_times : (slots : List IndexSlot) (starts : List LeafStart) (free : List ℕ) (retired : List Retired) (leaf : ℕ) → uses (seen slots starts free retired) leaf ≡ times leaf starts free retired
 uses_times slots starts free retired leaf = ap (λ n. n + count_by (λ f. f == leaf) free + count_by (λ (r : Retired). r.leaf == leaf) retired) (count_entries slots starts leaf)
 
-rising_entries : (slots : List Slot) (starts : List LeafStart) → AreRisingStarts starts → AreRising (entries_of slots starts)
+rising_entries : (slots : List IndexSlot) (starts : List LeafStart) → AreRisingStarts starts → AreRising (entries_of slots starts)
 rising_entries slots [] h = tt
 rising_entries slots (s ∷ ss) h = (entries_above slots s.low ss h.0, rising_entries slots ss h.1)
 
-cuts_of_slots : (slots : List Slot) (starts : List LeafStart) → HaveSlots slots end_key starts → HaveCuts (entries_of slots starts)
+cuts_of_slots : (slots : List IndexSlot) (starts : List LeafStart) → HaveSlots slots end_key starts → HaveCuts (entries_of slots starts)
 cuts_of_slots slots [] h = tt
 cuts_of_slots slots (s ∷ ss) h =
     let k = h.0 in
@@ -39,7 +39,7 @@ cuts_of_slots slots (s ∷ ss) h =
     (subst (AreCuts s.low (cuts_or_none (slice_get slots s.leaf))) (sym (end_begin slots ss)) (subst (λ ks. AreCuts s.low ks (begin_or ss end_key)) cuts k.cuts), cuts_of_slots slots ss h.1)
 
 -- what is kept shows an index
-pub kept_index : (slots : List Slot) (starts : List LeafStart) (free : List ℕ) (retired : List Retired) → IsKept slots starts free retired → IsIndex (seen slots starts free retired)
+pub kept_index : (slots : List IndexSlot) (starts : List LeafStart) (free : List ℕ) (retired : List Retired) → IsKept slots starts free retired → IsIndex (seen slots starts free retired)
 kept_index slots starts free retired k =
     record {
       first = end_begin slots starts ∙ k.first;
@@ -48,28 +48,28 @@ kept_index slots starts free retired k =
       once = λ leaf. omega (arith, uses_times slots starts free retired leaf, k.once leaf);
     }
 
-pub record Unused (slots : List Slot) (starts : List LeafStart) (free : List ℕ) (retired : List Retired) (leaf : ℕ) : Type 0 where
+pub record Unused (slots : List IndexSlot) (starts : List LeafStart) (free : List ℕ) (retired : List Retired) (leaf : ℕ) : Type 0 where
   pub exists : leaf < length slots
   pub unused : times leaf starts free retired ≡ 0
 
-pub unused : (slots : List Slot) (starts : List LeafStart) (free : List ℕ) (retired : List Retired) (index : Index) (leaf : ℕ) → seen slots starts free retired ≡ index → IsTaken index leaf → Unused slots starts free retired leaf
+pub unused : (slots : List IndexSlot) (starts : List LeafStart) (free : List ℕ) (retired : List Retired) (index : Index) (leaf : ℕ) → seen slots starts free retired ≡ index → IsTaken index leaf → Unused slots starts free retired leaf
 unused slots starts free retired index leaf view taken =
     let t : IsTaken (seen slots starts free retired) leaf = subst (λ i. IsTaken i leaf) (sym view) taken in
     record { exists = t.exists; unused = sym (uses_times slots starts free retired leaf) ∙ t.unused }
 
 -- so it stands in neither list
-pub idle_outside : (slots : List Slot) (starts : List LeafStart) (idle : Idle) (leaf : ℕ) → idle.leaves ≡ length slots → Unused slots starts idle.free idle.retired leaf → IsOutside idle leaf
+pub idle_outside : (slots : List IndexSlot) (starts : List LeafStart) (idle : Idle) (leaf : ℕ) → idle.leaves ≡ length slots → Unused slots starts idle.free idle.retired leaf → IsOutside idle leaf
 idle_outside slots starts idle leaf same u = record { exists = omega (arith, u.exists, same); unused = omega (arith, u.unused) }
 
 -- the same lists are kept
-pub kept_with : (slots : List Slot) (starts : List LeafStart) (old new : Idle) → new ≡ old → IsKept slots starts old.free old.retired → IsKept slots starts new.free new.retired
+pub kept_with : (slots : List IndexSlot) (starts : List LeafStart) (old new : Idle) → new ≡ old → IsKept slots starts old.free old.retired → IsKept slots starts new.free new.retired
 kept_with slots starts old new same k = subst (λ i. IsKept slots starts i.free i.retired) (sym same) k
 
 -- one more stands in a list
 more_at : {X : Type 0} (f : X → ℕ) (q : ℕ) (xs : List X) (x : X) → count_by (λ y. f y == q) (xs ++ x ∷ []) ≡ count_by (λ y. f y == q) xs + cond (f x == q) 1 0
 more_at f q xs x = omega (arith, count_append (λ y. f y == q) xs (x ∷ []), count_cons (λ y. f y == q) x [])
 
-pub given_back : (slots : List Slot) (starts : List LeafStart) (free : List ℕ) (retired : List Retired) (leaf : ℕ) (new : List ℕ) → IsKept slots starts free retired → Unused slots starts free retired leaf → new ≡ free ++ leaf ∷ [] → IsKept slots starts new retired
+pub given_back : (slots : List IndexSlot) (starts : List LeafStart) (free : List ℕ) (retired : List Retired) (leaf : ℕ) (new : List ℕ) → IsKept slots starts free retired → Unused slots starts free retired leaf → new ≡ free ++ leaf ∷ [] → IsKept slots starts new retired
 given_back slots starts free retired leaf new k u is =
     record {
       first = k.first;
@@ -80,7 +80,7 @@ given_back slots starts free retired leaf new k u is =
           (let more = ap (λ fs. count_by (λ f. f == q) fs) is ∙ more_at (λ f. f) q free leaf in omega (arith, more));
     }
 
-pub retired_more : (slots : List Slot) (starts : List LeafStart) (free : List ℕ) (retired : List Retired) (one : Retired) (new : List Retired) → IsKept slots starts free retired → Unused slots starts free retired one.leaf → new ≡ retired ++ one ∷ [] → IsKept slots starts free new
+pub retired_more : (slots : List IndexSlot) (starts : List LeafStart) (free : List ℕ) (retired : List Retired) (one : Retired) (new : List Retired) → IsKept slots starts free retired → Unused slots starts free retired one.leaf → new ≡ retired ++ one ∷ [] → IsKept slots starts free new
 retired_more slots starts free retired one new k u is =
     record {
       first = k.first;
@@ -92,7 +92,7 @@ retired_more slots starts free retired one new k u is =
     }
 
 -- the leaf that is taken stands nowhere any more
-pub taken : (slots : List Slot) (starts : List LeafStart) (free new : List ℕ) (retired : List Retired) (leaf : ℕ) → IsKept slots starts free retired → free ≡ new ++ leaf ∷ [] → IsTaken (seen slots starts new retired) leaf
+pub taken : (slots : List IndexSlot) (starts : List LeafStart) (free new : List ℕ) (retired : List Retired) (leaf : ℕ) → IsKept slots starts free retired → free ≡ new ++ leaf ∷ [] → IsTaken (seen slots starts new retired) leaf
 taken slots starts free new retired leaf k is =
     let here : times leaf starts free retired ≡ times leaf starts new retired + 1 =
     let more = ap (λ fs. count_by (λ f. f == leaf) fs) is ∙ more_at (λ f. f) leaf new leaf in
@@ -105,7 +105,7 @@ taken slots starts free new retired leaf k is =
       unused = omega (arith, here, k.once leaf, at_most_one leaf (length slots), uses_times slots starts new retired leaf);
     }
 
-pub fewer_free : (slots : List Slot) (starts : List LeafStart) (free new : List ℕ) (retired : List Retired) (o : Option ℕ) → IsKept slots starts free retired → free ≡ new ++ option_to_list o → IsKept slots starts new retired
+pub fewer_free : (slots : List IndexSlot) (starts : List LeafStart) (free new : List ℕ) (retired : List Retired) (o : Option ℕ) → IsKept slots starts free retired → free ≡ new ++ option_to_list o → IsKept slots starts new retired
 fewer_free slots starts free new retired o k is =
     record {
       first = k.first;
@@ -115,7 +115,7 @@ fewer_free slots starts free new retired o k is =
       once = λ q. let parts = ap (λ fs. count_by (λ f. f == q) fs) is ∙ count_append (λ f. f == q) new (option_to_list o) in omega (arith, parts, k.once q);
     }
 
-pub takes_free : (slots : List Slot) (starts : List LeafStart) (free new : List ℕ) (retired : List Retired) (index : Index) (o : Option ℕ) → seen slots starts free retired ≡ index → IsKept slots starts free retired → free ≡ new ++ option_to_list o → (o ≡ None → new ≡ [])
+pub takes_free : (slots : List IndexSlot) (starts : List LeafStart) (free new : List ℕ) (retired : List Retired) (index : Index) (o : Option ℕ) → seen slots starts free retired ≡ index → IsKept slots starts free retired → free ≡ new ++ option_to_list o → (o ≡ None → new ≡ [])
     → TakesFree index (seen slots starts new retired) o
 takes_free slots starts free new retired index None view k is none =
     let empty : new ≡ [] = none refl in
@@ -167,7 +167,7 @@ count_filter p q (r ∷ rs) = by_test (p r) refl (count_filter p q rs)
     by_test false t rest = let here = count_cons (λ (s : Retired). s.leaf == q) r (filter (λ s. not (p s)) rs) in let whole = count_cons (λ (s : Retired). s.leaf == q) r rs in omega (arith, here, whole, rest)
 
 -- each leaf stands as often as before
-pub kept_freed : (slots : List Slot) (starts : List LeafStart) (free new_free : List ℕ) (retired new_retired : List Retired) (until upto : ℕ) → IsKept slots starts free retired → new_free ≡ free ++ freed_of until (take upto retired)
+pub kept_freed : (slots : List IndexSlot) (starts : List LeafStart) (free new_free : List ℕ) (retired new_retired : List Retired) (until upto : ℕ) → IsKept slots starts free retired → new_free ≡ free ++ freed_of until (take upto retired)
     → new_retired ≡ kept_of until (take upto retired) ++ drop upto retired → IsKept slots starts new_free new_retired
 kept_freed slots starts free new_free retired new_retired until upto k is_free is_retired =
     record {

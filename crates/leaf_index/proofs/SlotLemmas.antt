@@ -14,7 +14,7 @@ use Rattle.leaf_trie.specs.declared.start.Candidates.{Candidates}
 use Rattle.leaf_trie.specs.Starts.{or_else, last_leaf}
 use Rattle.leaf_trie.specs.Leaves.{Finds, BeginAbove as StartAbove, BeginBelow as StartBelow}
 use Rattle.leaf_trie.proofs.ListLemmas.{all_back}
-use Rattle.leaf_index.specs.declared.slot.Slot.{Slot}
+use Rattle.leaf_index.specs.declared.slot.IndexSlot.{IndexSlot}
 use Rattle.leaf_index.specs.Slots.{HasSlot, HaveSlots, IsBeforeStart, BeginsBefore, IsFloorStart, IsRange, begin_or, cuts_or_none, entry_of, entries_of}
 use Rattle.leaf_index.specs.Calls.{BeginsBelow, IsLeafRange, IsRangeOf}
 use Rattle.leaf_index.specs.declared.route.LeafRange.{LeafRange}
@@ -59,20 +59,20 @@ pub same_some : {X : Type 0} {x y : X} → Some x ≡ Some y → x ≡ y
 same_some e = cc
 
 -- the slot of a leaf among others
-pub slot_at : (slots : List Slot) (high : Key) (front : List LeafStart) (s : LeafStart) (back : List LeafStart) → HaveSlots slots high (front ++ s ∷ back) → HasSlot slots s (begin_or back high)
+pub slot_at : (slots : List IndexSlot) (high : Key) (front : List LeafStart) (s : LeafStart) (back : List LeafStart) → HaveSlots slots high (front ++ s ∷ back) → HasSlot slots s (begin_or back high)
 slot_at slots high [] s back h = h.0
 slot_at slots high (f ∷ front) s back h = slot_at slots high front s back h.1
 
 -- what was read by the number of a leaf is its slot
-pub slot_read : (slots : List Slot) (s : LeafStart) (leaf : ℕ) (high : Key) (now : Slot) → (h : HasSlot slots s high) → s.leaf ≡ leaf → slice_get slots leaf ≡ Some now → h.slot ≡ now
+pub slot_read : (slots : List IndexSlot) (s : LeafStart) (leaf : ℕ) (high : Key) (now : IndexSlot) → (h : HasSlot slots s high) → s.leaf ≡ leaf → slice_get slots leaf ≡ Some now → h.slot ≡ now
 slot_read slots s leaf high now h same there = same_some (sym h.there ∙ ap (slice_get slots) same ∙ there)
 
-pub slot_within : (slots : List Slot) (s : LeafStart) (leaf : ℕ) (high : Key) → HasSlot slots s high → s.leaf ≡ leaf → leaf < length slots
+pub slot_within : (slots : List IndexSlot) (s : LeafStart) (leaf : ℕ) (high : Key) → HasSlot slots s high → s.leaf ≡ leaf → leaf < length slots
 slot_within slots s leaf high h same = within_there slots leaf h.slot (ap (slice_get slots) (sym same) ∙ h.there)
 
 -- its first cut is the leaf's least key
-pub low_read : (slots : List Slot) (s : LeafStart) (leaf : ℕ) (high : Key) (now : Slot) → HasSlot slots s high → s.leaf ≡ leaf → slice_get slots leaf ≡ Some now → slice_get now.cuts 0 ≡ Some s.low
-low_read slots s leaf high now h same there = ap (λ (x : Slot). slice_get x.cuts 0) (sym (slot_read slots s leaf high now h same there)) ∙ h.cuts.begin
+pub low_read : (slots : List IndexSlot) (s : LeafStart) (leaf : ℕ) (high : Key) (now : IndexSlot) → HasSlot slots s high → s.leaf ≡ leaf → slice_get slots leaf ≡ Some now → slice_get now.cuts 0 ≡ Some s.low
+low_read slots s leaf high now h same there = ap (λ (x : IndexSlot). slice_get x.cuts 0) (sym (slot_read slots s leaf high now h same there)) ∙ h.cuts.begin
 
 -- a candidate is one of the leaves
 pub record Candidate (key : Key) (starts : List LeafStart) (leaf : ℕ) : Type 0 where
@@ -83,7 +83,7 @@ pub record Candidate (key : Key) (starts : List LeafStart) (leaf : ℕ) : Type 0
   pub same : start.leaf ≡ leaf
   pub above : StartAbove key back
 
-pub candidate_within : (slots : List Slot) (key : Key) (starts : List LeafStart) (leaf : ℕ) → HaveSlots slots end_key starts → Candidate key starts leaf → leaf < length slots
+pub candidate_within : (slots : List IndexSlot) (key : Key) (starts : List LeafStart) (leaf : ℕ) → HaveSlots slots end_key starts → Candidate key starts leaf → leaf < length slots
 candidate_within slots key starts leaf have m = slot_within slots m.start leaf (begin_or m.back end_key) (slot_at slots end_key m.front m.start m.back (subst (HaveSlots slots end_key) m.is have)) m.same
 
 pub candidate : (key : Key) (starts : List LeafStart) (found : Candidates) (leaf : ℕ) → Finds key starts found → found.at ≡ Some leaf → Candidate key starts leaf
@@ -109,7 +109,7 @@ beyond_none key starts found f e = of_middle f.middle f.is (sym f.at ∙ e)
     of_middle None is e = record { front = f.front; back = f.back; is = is; below = f.below; above = f.above; before = f.before }
     of_middle (Some s) is e = cc
 
-pub beyond_some : (slots : List Slot) (key : Key) (starts : List LeafStart) (found : Candidates) (leaf : ℕ) (now : Slot) (none : Key) → HaveSlots slots end_key starts → Finds key starts found → found.at ≡ Some leaf → slice_get slots leaf ≡ Some now
+pub beyond_some : (slots : List IndexSlot) (key : Key) (starts : List LeafStart) (found : Candidates) (leaf : ℕ) (now : IndexSlot) (none : Key) → HaveSlots slots end_key starts → Finds key starts found → found.at ≡ Some leaf → slice_get slots leaf ≡ Some now
     → is_below key (get_or now.cuts 0 none) ≡ true → Beyond key starts found
 beyond_some slots key starts found leaf now none have f e there below = of_middle f.middle f.is (sym f.at ∙ e)
   where
@@ -189,20 +189,20 @@ no_before key starts found b e first = of_back b.back (b.is ∙ ap (λ xs. xs ++
 
 -- ---- entries of leaves
 
-pub entries_append : (slots : List Slot) (front back : List LeafStart) → entries_of slots (front ++ back) ≡ entries_of slots front ++ entries_of slots back
+pub entries_append : (slots : List IndexSlot) (front back : List LeafStart) → entries_of slots (front ++ back) ≡ entries_of slots front ++ entries_of slots back
 entries_append slots [] back = refl
 entries_append slots (s ∷ front) back = ap (λ es. entry_of slots s ∷ es) (entries_append slots front back)
 
-pub end_begin : (slots : List Slot) (back : List LeafStart) → end_of (entries_of slots back) ≡ begin_or back end_key
+pub end_begin : (slots : List IndexSlot) (back : List LeafStart) → end_of (entries_of slots back) ≡ begin_or back end_key
 end_begin slots [] = refl
 end_begin slots (s ∷ back) = refl
 
-pub entries_above : (slots : List Slot) (key : Key) (back : List LeafStart) → StartAbove key back → BeginAbove key (entries_of slots back)
+pub entries_above : (slots : List IndexSlot) (key : Key) (back : List LeafStart) → StartAbove key back → BeginAbove key (entries_of slots back)
 entries_above slots key [] h = tt
 entries_above slots key (s ∷ back) h = (h.0, entries_above slots key back h.1)
 
 -- the entry of the leaf is the last one that does not begin above the key
-pub floor_entry : (slots : List Slot) (key : Key) (starts : List LeafStart) (entries : List Entry) (leaf : ℕ) → entries_of slots starts ≡ entries → (f : IsFloorStart key starts leaf) → IsFloor key entries (entry_of slots f.start)
+pub floor_entry : (slots : List IndexSlot) (key : Key) (starts : List LeafStart) (entries : List Entry) (leaf : ℕ) → entries_of slots starts ≡ entries → (f : IsFloorStart key starts leaf) → IsFloor key entries (entry_of slots f.start)
 floor_entry slots key starts entries leaf view f =
     record {
       front = entries_of slots f.last.front;
@@ -213,14 +213,14 @@ floor_entry slots key starts entries leaf view f =
     }
 
 -- the cell of a segment of that leaf is the key's route
-pub route_of : (slots : List Slot) (key : Key) (starts : List LeafStart) (entries : List Entry) (leaf segment : ℕ) (now : Slot) (route : Route) → entries_of slots starts ≡ entries → HaveSlots slots end_key starts → IsFloorStart key starts leaf
+pub route_of : (slots : List IndexSlot) (key : Key) (starts : List LeafStart) (entries : List Entry) (leaf segment : ℕ) (now : IndexSlot) (route : Route) → entries_of slots starts ≡ entries → HaveSlots slots end_key starts → IsFloorStart key starts leaf
     → slice_get slots leaf ≡ Some now → IsSegment now.cuts key segment → route.cell ≡ 8 * leaf + segment → slice_get now.cuts segment ≡ Some route.low → route.high ≡ unwrap_or (slice_get now.cuts (segment + 1)) now.high → IsRoute key entries route
 unfolding floor_entry
 route_of slots key starts entries leaf segment now route view have f there seg cell low high =
     let h = slot_at slots end_key f.last.front f.start f.last.back (subst (HaveSlots slots end_key) f.last.is have) in
     let same = slot_read slots f.start leaf (begin_or f.last.back end_key) now h f.same there in
-    let cuts : cuts_or_none (slice_get slots f.start.leaf) ≡ now.cuts = ap cuts_or_none h.there ∙ ap (λ (x : Slot). x.cuts) same in
-    let ends : now.high ≡ end_of (entries_of slots f.last.back) = sym (ap (λ (x : Slot). x.high) same) ∙ h.ends ∙ sym (end_begin slots f.last.back) in
+    let cuts : cuts_or_none (slice_get slots f.start.leaf) ≡ now.cuts = ap cuts_or_none h.there ∙ ap (λ (x : IndexSlot). x.cuts) same in
+    let ends : now.high ≡ end_of (entries_of slots f.last.back) = sym (ap (λ (x : IndexSlot). x.high) same) ∙ h.ends ∙ sym (end_begin slots f.last.back) in
     record {
       entry = entry_of slots f.start;
       floor = floor_entry slots key starts entries leaf view f;
@@ -260,7 +260,7 @@ before_found key starts front rest (Some leaf) is below above e =
 pub before_none : (key : Key) (starts : List LeafStart) (found : Candidates) → Finds key starts found → found.at ≡ None → IsBeforeStart key starts found.before
 before_none key starts found f e = let b = beyond_none key starts found f e in before_found key starts b.front b.back found.before b.is b.below (not_above_of key b.back b.above) b.before
 
-pub before_some : (slots : List Slot) (key : Key) (starts : List LeafStart) (found : Candidates) (leaf : ℕ) (now : Slot) (none : Key) → HaveSlots slots end_key starts → Finds key starts found → found.at ≡ Some leaf → slice_get slots leaf ≡ Some now
+pub before_some : (slots : List IndexSlot) (key : Key) (starts : List LeafStart) (found : Candidates) (leaf : ℕ) (now : IndexSlot) (none : Key) → HaveSlots slots end_key starts → Finds key starts found → found.at ≡ Some leaf → slice_get slots leaf ≡ Some now
     → is_below (get_or now.cuts 0 none) key ≡ false → IsBeforeStart key starts found.before
 before_some slots key starts found leaf now none have f e there not_below = of_middle f.middle f.is (sym f.at ∙ e)
   where
@@ -273,29 +273,29 @@ before_some slots key starts found leaf now none have f e there not_below = of_m
 
 -- ---- ranges
 
-pub range_of_slot : (slots : List Slot) (s : LeafStart) (back : List LeafStart) (leaf : ℕ) (range : LeafRange) → HasSlot slots s (begin_or back end_key) → s.leaf ≡ leaf → IsRange slots leaf range → IsRangeOf (entry_of slots s) (entries_of slots back) range
+pub range_of_slot : (slots : List IndexSlot) (s : LeafStart) (back : List LeafStart) (leaf : ℕ) (range : LeafRange) → HasSlot slots s (begin_or back end_key) → s.leaf ≡ leaf → IsRange slots leaf range → IsRangeOf (entry_of slots s) (entries_of slots back) range
 range_of_slot slots s back leaf range h same r =
     let slot = slot_read slots s leaf (begin_or back end_key) r.slot h same r.there in
     record {
       leaf = r.same ∙ sym same;
       low = same_some (sym r.low ∙ low_read slots s leaf (begin_or back end_key) r.slot h same r.there);
-      high = r.high ∙ sym (ap (λ (x : Slot). x.high) slot) ∙ h.ends ∙ sym (end_begin slots back);
+      high = r.high ∙ sym (ap (λ (x : IndexSlot). x.high) slot) ∙ h.ends ∙ sym (end_begin slots back);
     }
 
-pub floor_range : (slots : List Slot) (key : Key) (starts : List LeafStart) (entries : List Entry) (leaf : ℕ) (range : LeafRange) → entries_of slots starts ≡ entries → HaveSlots slots end_key starts → IsFloorStart key starts leaf → IsRange slots leaf range → IsLeafRange key entries range
+pub floor_range : (slots : List IndexSlot) (key : Key) (starts : List LeafStart) (entries : List Entry) (leaf : ℕ) (range : LeafRange) → entries_of slots starts ≡ entries → HaveSlots slots end_key starts → IsFloorStart key starts leaf → IsRange slots leaf range → IsLeafRange key entries range
 unfolding floor_entry
 floor_range slots key starts entries leaf range view have f r =
     let h = slot_at slots end_key f.last.front f.start f.last.back (subst (HaveSlots slots end_key) f.last.is have) in
     record { entry = entry_of slots f.start; floor = floor_entry slots key starts entries leaf view f; range_is = range_of_slot slots f.start f.last.back leaf range h f.same r }
 
-entries_not_above : (slots : List Slot) (key : Key) (ss : List LeafStart) → AllByRecursion (λ (s : LeafStart). NotAbove key s.low) ss → AllByRecursion (λ (e : Entry). NotAbove key e.low) (entries_of slots ss)
+entries_not_above : (slots : List IndexSlot) (key : Key) (ss : List LeafStart) → AllByRecursion (λ (s : LeafStart). NotAbove key s.low) ss → AllByRecursion (λ (e : Entry). NotAbove key e.low) (entries_of slots ss)
 entries_not_above slots key [] h = tt
 entries_not_above slots key (s ∷ ss) h = (h.0, entries_not_above slots key ss h.1)
 
-pub none_before : (slots : List Slot) (key : Key) (starts : List LeafStart) (entries : List Entry) → entries_of slots starts ≡ entries → AllByRecursion (λ (s : LeafStart). NotAbove key s.low) starts → AllByRecursion (λ (e : Entry). NotAbove key e.low) entries
+pub none_before : (slots : List IndexSlot) (key : Key) (starts : List LeafStart) (entries : List Entry) → entries_of slots starts ≡ entries → AllByRecursion (λ (s : LeafStart). NotAbove key s.low) starts → AllByRecursion (λ (e : Entry). NotAbove key e.low) entries
 none_before slots key starts entries view h = subst (AllByRecursion (λ (e : Entry). NotAbove key e.low)) view (entries_not_above slots key starts h)
 
-pub before_range : (slots : List Slot) (key : Key) (starts : List LeafStart) (entries : List Entry) (leaf : ℕ) (range : LeafRange) → entries_of slots starts ≡ entries → HaveSlots slots end_key starts → BeginsBefore key starts leaf → IsRange slots leaf range → BeginsBelow key entries range
+pub before_range : (slots : List IndexSlot) (key : Key) (starts : List LeafStart) (entries : List Entry) (leaf : ℕ) (range : LeafRange) → entries_of slots starts ≡ entries → HaveSlots slots end_key starts → BeginsBefore key starts leaf → IsRange slots leaf range → BeginsBelow key entries range
 before_range slots key starts entries leaf range view have b r =
     let h = slot_at slots end_key b.last.front b.start b.last.back (subst (HaveSlots slots end_key) b.last.is have) in
     record {
@@ -310,8 +310,8 @@ before_range slots key starts entries leaf range view have b r =
       range_is = range_of_slot slots b.start b.last.back leaf range h b.same r;
     }
 
-pub floor_within : (slots : List Slot) (key : Key) (starts : List LeafStart) (leaf : ℕ) → HaveSlots slots end_key starts → IsFloorStart key starts leaf → leaf < length slots
+pub floor_within : (slots : List IndexSlot) (key : Key) (starts : List LeafStart) (leaf : ℕ) → HaveSlots slots end_key starts → IsFloorStart key starts leaf → leaf < length slots
 floor_within slots key starts leaf have f = slot_within slots f.start leaf (begin_or f.last.back end_key) (slot_at slots end_key f.last.front f.start f.last.back (subst (HaveSlots slots end_key) f.last.is have)) f.same
 
-pub before_within : (slots : List Slot) (key : Key) (starts : List LeafStart) (leaf : ℕ) → HaveSlots slots end_key starts → BeginsBefore key starts leaf → leaf < length slots
+pub before_within : (slots : List IndexSlot) (key : Key) (starts : List LeafStart) (leaf : ℕ) → HaveSlots slots end_key starts → BeginsBefore key starts leaf → leaf < length slots
 before_within slots key starts leaf have b = slot_within slots b.start leaf (begin_or b.last.back end_key) (slot_at slots end_key b.last.front b.start b.last.back (subst (HaveSlots slots end_key) b.last.is have)) b.same

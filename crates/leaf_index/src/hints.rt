@@ -11,7 +11,7 @@
 ghost use Rattle.std.specs.Prelude.{◌≡◌, ◌-◌, ◌/◌, ◌≤◌, length};
 ghost use Rattle.leaf_index.specs.Hinted.{IsRun};
 
-use crate::slot::Slot;
+use crate::slot::IndexSlot;
 use graph_model::{Key, NoMemory};
 use std::alloc::Global;
 use std::marker::Model;
@@ -45,7 +45,7 @@ impl Hint {
     }
 
     /// Whether the leaf is live and begins at the key.
-    fn is_true(self, slots: &Vec<Slot>) -> bool {
+    fn is_true(self, slots: &Vec<IndexSlot>) -> bool {
         match slots.get(self.leaf as usize) {
             Some(slot) => {
                 let low = slot.cuts[0];
@@ -58,24 +58,24 @@ impl Hint {
 
 /// Hints one after the other, the last of which that is not above a key is looked for.
 #[derive(Clone, Copy)]
-pub struct Run {
+pub struct HintRun {
     /// The place of the first one.
     pub first: usize,
     /// How many there are, at least one.
     pub count: usize,
 }
 
-impl Run {
+impl HintRun {
     /// The half in which the hint that is looked for is. There is no branch on it, since every other one would be
     /// foretold wrongly.
-    fn half(self, hints: &[Hint], wanted: u64) -> Run
+    fn half(self, hints: &[Hint], wanted: u64) -> HintRun
         requires { IsRun (length hints.now) self }
         ensures run { IsRun (length hints.now) result }
         ensures count { result.count ≡ self.count - self.count / 2 }
     {
         let half = self.count / 2;
         let is_behind = (hints[self.first + half].number() <= wanted) as usize;
-        Run {
+        HintRun {
             first: self.first + half * is_behind,
             count: self.count - half,
         }
@@ -174,7 +174,7 @@ impl Hints {
     }
 
     /// Reads the slots of four hints, so that these reads too wait for memory together.
-    pub fn read_ahead(&mut self, slots: &Vec<Slot>, hints: [u32; 4]) {
+    pub fn read_ahead(&mut self, slots: &Vec<IndexSlot>, hints: [u32; 4]) {
         let [first, second, third, fourth] = hints;
         self.ahead = sum_of(slots, first)
             .wrapping_add(sum_of(slots, second))
@@ -183,13 +183,13 @@ impl Hints {
     }
 
     /// Notes that a leaf has the keys from this one on. Where memory is refused there is no hint of it.
-    pub fn note(&mut self, slots: &Vec<Slot>, low: Key, leaf: u32) {
+    pub fn note(&mut self, slots: &Vec<IndexSlot>, low: Key, leaf: u32) {
         self.note_change(slots);
         let _ = self.hints.push(Hint::new(low, leaf));
     }
 
     /// Notes that a leaf has come or gone.
-    pub fn note_change(&mut self, slots: &Vec<Slot>) {
+    pub fn note_change(&mut self, slots: &Vec<IndexSlot>) {
         let count = self.hints.len();
         let is_full = count >= self.hints.capacity();
         if is_full || self.changes >= count / HINTS_A_CHANGE {
@@ -199,7 +199,7 @@ impl Hints {
     }
 
     /// Lets go of the hints that are wrong, and puts all others in order.
-    fn put_in_order(&mut self, slots: &Vec<Slot>) {
+    fn put_in_order(&mut self, slots: &Vec<IndexSlot>) {
         self.hints.retain(|hint| hint.is_true(slots));
         self.hints.sort_unstable();
         self.hints.dedup();
@@ -210,7 +210,7 @@ impl Hints {
 }
 
 /// The hints of a source's group, and the one before them.
-fn run_of(hints: &[Hint], starts: &Vec<u32>, width: u32, src: u32) -> Run
+fn run_of(hints: &[Hint], starts: &Vec<u32>, width: u32, src: u32) -> HintRun
     requires some { 1 ≤ length hints.now }
     requires width { 1 ≤ width }
     ensures { IsRun (length hints.now) result }
@@ -220,7 +220,7 @@ fn run_of(hints: &[Hint], starts: &Vec<u32>, width: u32, src: u32) -> Run
     let before = start_of(starts, group).saturating_sub(1);
     let end = start_of(starts, group + 1).min(hints.len()).max(1);
     let first = before.min(end - 1);
-    Run {
+    HintRun {
         first,
         count: end - first,
     }
@@ -267,7 +267,7 @@ fn last_bits(number: u64) -> u32 {
 }
 
 /// The sum of what lies in different lines of memory of a leaf's slot.
-fn sum_of(slots: &Vec<Slot>, leaf: u32) -> u64 {
+fn sum_of(slots: &Vec<IndexSlot>, leaf: u32) -> u64 {
     match slots.get(leaf as usize) {
         Some(slot) => slot.cuts[0]
             .src

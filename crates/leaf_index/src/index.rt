@@ -16,7 +16,7 @@ ghost use Rattle.leaf_index.specs.Calls.{CanAdd, CanCut, CanDrop, IsLeafBefore, 
 use crate::hints::Hints;
 use crate::idle::IdleLeaves;
 use crate::route::{LeafRange, Route};
-use crate::slot::{Slot, high_of, segment_near, segment_of};
+use crate::slot::{IndexSlot, high_of, segment_near, segment_of};
 use graph_model::{Key, NoMemory};
 use leaf_trie::{LeafStart, LeafTrie};
 use std::alloc::Global;
@@ -28,7 +28,7 @@ pub struct LeafIndex {
     /// All live leaves.
     trie: LeafTrie,
     /// By the number of a leaf.
-    slots: Vec<Slot>,
+    slots: Vec<IndexSlot>,
     /// All leaves that aren't live.
     idle: IdleLeaves,
     /// A guess at the leaf of a key.
@@ -55,14 +55,14 @@ impl Model for LeafIndex {
 }
 
 /// So many slots. The first has the whole key range, all of it in its first segment, and the others hold no key.
-fn new_slots(alloc: Global, leaves: u32) -> Result<Vec<Slot>, NoMemory>
+fn new_slots(alloc: Global, leaves: u32) -> Result<Vec<IndexSlot>, NoMemory>
     requires { 1 ≤ leaves }
     ensures { IfOk result (λ v. v.items ≡ first_slots leaves) }
 {
     let low = Key { src: 0, second: 0 };
     let end = Key::END;
     // A leaf that isn't live has no keys, so a hint that names it is found to be wrong by its slot.
-    let empty = Slot {
+    let empty = IndexSlot {
         cuts: [end, end, end, end, end, end, end, end],
         high: end,
     };
@@ -70,7 +70,7 @@ fn new_slots(alloc: Global, leaves: u32) -> Result<Vec<Slot>, NoMemory>
     'fill: for _leaf in 0..leaves {
         slots.push(empty)?;
     }
-    slots[0] = Slot {
+    slots[0] = IndexSlot {
         cuts: [low, end, end, end, end, end, end, end],
         high: end,
     };
@@ -78,7 +78,7 @@ fn new_slots(alloc: Global, leaves: u32) -> Result<Vec<Slot>, NoMemory>
 }
 
 /// The last leaf that does not begin above the key.
-fn floor_of(trie: &LeafTrie, slots: &Vec<Slot>, key: Key) -> u32
+fn floor_of(trie: &LeafTrie, slots: &Vec<IndexSlot>, key: Key) -> u32
     requires first { begin_or trie.now end_key ≡ first_key }
     requires slots { HaveSlots slots.now.items end_key trie.now }
     ensures { IsFloorStart key trie.now result }
@@ -95,7 +95,7 @@ fn floor_of(trie: &LeafTrie, slots: &Vec<Slot>, key: Key) -> u32
 }
 
 /// The last leaf that does not begin above the key: the hinted one where its slot holds the key, whatever the hint.
-fn leaf_of(trie: &LeafTrie, slots: &Vec<Slot>, hint: u32, key: Key) -> u32
+fn leaf_of(trie: &LeafTrie, slots: &Vec<IndexSlot>, hint: u32, key: Key) -> u32
     requires first { begin_or trie.now end_key ≡ first_key }
     requires rising { AreRisingStarts trie.now }
     requires slots { HaveSlots slots.now.items end_key trie.now }
@@ -109,7 +109,7 @@ fn leaf_of(trie: &LeafTrie, slots: &Vec<Slot>, hint: u32, key: Key) -> u32
 }
 
 /// The last leaf that begins below the key.
-fn before_of(trie: &LeafTrie, slots: &Vec<Slot>, key: Key) -> Option<u32>
+fn before_of(trie: &LeafTrie, slots: &Vec<IndexSlot>, key: Key) -> Option<u32>
     requires { HaveSlots slots.now.items end_key trie.now }
     ensures { IsBeforeStart key trie.now result }
 {
@@ -121,7 +121,7 @@ fn before_of(trie: &LeafTrie, slots: &Vec<Slot>, key: Key) -> Option<u32>
 }
 
 /// The range of a live leaf.
-fn range_of(slots: &Vec<Slot>, leaf: u32) -> LeafRange
+fn range_of(slots: &Vec<IndexSlot>, leaf: u32) -> LeafRange
     requires { (start : _) × (high : _) × HasSlot slots.now.items start high × (start.leaf ≡ leaf) }
     ensures { IsRange slots.now.items leaf result }
 {
@@ -206,7 +206,7 @@ impl LeafIndex {
         self.trie.insert(alloc, LeafStart { low, leaf })?;
         let high = self.slots[before as usize].high;
         self.slots[before as usize].high = low;
-        self.slots[leaf as usize] = Slot { cuts, high };
+        self.slots[leaf as usize] = IndexSlot { cuts, high };
         self.hints.note(&self.slots, low, leaf);
         Ok(())
     }
@@ -224,10 +224,10 @@ impl LeafIndex {
             unreachable!();
         };
         self.trie.remove(low);
-        let Slot { cuts, high } = self.slots[dropped as usize];
+        let IndexSlot { cuts, high } = self.slots[dropped as usize];
         self.slots[before as usize].high = high;
         // Its range is empty from here on, so that hints which still name it are found to be wrong.
-        self.slots[dropped as usize] = Slot { cuts, high: low };
+        self.slots[dropped as usize] = IndexSlot { cuts, high: low };
         self.hints.note_change(&self.slots);
     }
 
@@ -240,7 +240,7 @@ impl LeafIndex {
     {
         let leaf = leaf_of(&self.trie, &self.slots, self.hints.of(low), low);
         let high = self.slots[leaf as usize].high;
-        self.slots[leaf as usize] = Slot { cuts, high };
+        self.slots[leaf as usize] = IndexSlot { cuts, high };
     }
 
     /// Takes a free leaf, if there is one.

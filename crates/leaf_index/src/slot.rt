@@ -12,14 +12,14 @@ use graph_model::{Key, LEAF_SEGMENTS};
 
 /// The least keys of a leaf's segments, and the end of its range. That of a leaf that isn't live holds no key.
 #[derive(Clone, Copy, Debug, PartialEq, Eq)]
-pub struct Slot {
+pub struct IndexSlot {
     /// In rising order; a segment without keys begins where the next one does.
     pub cuts: [Key; 8],
     /// The first key beyond the leaf.
     pub high: Key,
 }
 
-impl Slot {
+impl IndexSlot {
     /// Whether the range holds the key.
     pub fn holds(&self, key: Key) -> bool
         ensures { result ≡ holds_key self.now key }
@@ -53,7 +53,7 @@ pub fn segment_of(cuts: &[Key; 8], key: Key) -> usize
 }
 
 /// Where the segment's range ends.
-pub fn high_of(slot: &Slot, segment: usize) -> Key
+pub fn high_of(slot: &IndexSlot, segment: usize) -> Key
     requires { segment < 8 }
     ensures { result ≡ unwrap_or (slice_get slot.now.cuts (segment + 1)) slot.now.high }
 {

@@ -7,8 +7,8 @@ use Rattle.std.proofs.lemmas.Option.{get_or_from_slice_get, slice_get_within, sl
 use Rattle.graph_model.specs.Rows.{is_below}
 use Rattle.graph_model.proofs.KeyLemmas.{below_flip, below_self, upto_chain}
 use Rattle.graph_model.proofs.PlaceLemmas.{get_drop, get_in_drop}
-use Rattle.leaf_queue.specs.declared.waiting.Stage.{Stage}
-use Rattle.leaf_queue.specs.declared.waiting.Stage.TheVariants.{Windows, Neighbours}
+use Rattle.leaf_queue.specs.declared.waiting.WaitStage.{WaitStage}
+use Rattle.leaf_queue.specs.declared.waiting.WaitStage.TheVariants.{Windows, Neighbours}
 use Rattle.leaf_queue.specs.declared.waiting.Waiting.{Waiting}
 use Rattle.leaf_queue.specs.Queue.{by_stage, comes_before, first_of, IsFirst, Waits}
 use Rattle.leaf_queue.specs.Tree.{IsTree, IsWon, node_at}
@@ -16,7 +16,7 @@ use Rattle.leaf_queue.proofs.ListLemmas.{get_set_same, get_set_other, same_or_no
 
 -- ---- which comes first
 
-stage_chain : (s t u : Stage) (x y z : Bool) → (x ≡ false → y ≡ false → z ≡ false) → by_stage s t x ≡ false → by_stage t u y ≡ false → by_stage s u z ≡ false
+stage_chain : (s t u : WaitStage) (x y z : Bool) → (x ≡ false → y ≡ false → z ≡ false) → by_stage s t x ≡ false → by_stage t u y ≡ false → by_stage s u z ≡ false
 stage_chain Windows Windows Windows x y z h a b = h a b
 stage_chain Windows Windows Neighbours x y z h a b = absurd (cc)
 stage_chain Windows Neighbours u x y z h a b = absurd (cc)
@@ -25,13 +25,13 @@ stage_chain Neighbours Windows Neighbours x y z h a b = absurd (cc)
 stage_chain Neighbours Neighbours Windows x y z h a b = refl
 stage_chain Neighbours Neighbours Neighbours x y z h a b = h a b
 
-stage_flip : (s t : Stage) (x y : Bool) → (x ≡ true → y ≡ false) → by_stage s t x ≡ true → by_stage t s y ≡ false
+stage_flip : (s t : WaitStage) (x y : Bool) → (x ≡ true → y ≡ false) → by_stage s t x ≡ true → by_stage t s y ≡ false
 stage_flip Windows Windows x y h a = h a
 stage_flip Windows Neighbours x y h a = refl
 stage_flip Neighbours Windows x y h a = absurd (cc)
 stage_flip Neighbours Neighbours x y h a = h a
 
-stage_self : (s : Stage) (x : Bool) → x ≡ false → by_stage s s x ≡ false
+stage_self : (s : WaitStage) (x : Bool) → x ≡ false → by_stage s s x ≡ false
 stage_self Windows x is = is
 stage_self Neighbours x is = is
 

@@ -2,12 +2,12 @@
 use Rattle.std.specs.Prelude.{◌≡◌, ℕ, Bool, true, false, cond, List, Option, Some, None, slice_get}
 use Rattle.graph_model.specs.declared.row.Key.{Key}
 use Rattle.graph_model.specs.Rows.{is_below}
-use Rattle.leaf_queue.specs.declared.waiting.Stage.{Stage}
-use Rattle.leaf_queue.specs.declared.waiting.Stage.TheVariants.{Windows, Neighbours}
+use Rattle.leaf_queue.specs.declared.waiting.WaitStage.{WaitStage}
+use Rattle.leaf_queue.specs.declared.waiting.WaitStage.TheVariants.{Windows, Neighbours}
 use Rattle.leaf_queue.specs.declared.waiting.Waiting.{Waiting}
 
 -- of two stages the first decides, and between equal ones the test
-abbrev pub by_stage : Stage → Stage → Bool → Bool
+abbrev pub by_stage : WaitStage → WaitStage → Bool → Bool
 by_stage Windows Windows is = is
 by_stage Windows Neighbours is = true
 by_stage Neighbours Windows is = false
@@ -33,7 +33,7 @@ first_of (Some a) None = Some a
 first_of (Some a) (Some b) = cond (comes_before b a) (Some b) (Some a)
 
 -- behind its windows its neighbours are looked at, and behind these it doesn't wait any more
-abbrev pub next_at : Stage → Key → ℕ → Option Waiting
+abbrev pub next_at : WaitStage → Key → ℕ → Option Waiting
 next_at Windows low leaf = Some (record { stage = Neighbours; low = low; leaf = leaf })
 next_at Neighbours low leaf = None
 

@@ -8,4 +8,4 @@ mod queue;
 mod waiting;
 
 pub use queue::LeafQueue;
-pub use waiting::{Stage, Waiting};
+pub use waiting::{WaitStage, Waiting};

@@ -108,7 +108,7 @@ fn set_place(nodes: &mut Vec<Option<Waiting>>, leaves: usize, leaf: usize, waiti
 #[cfg(test)]
 mod tests {
     use super::*;
-    use crate::waiting::Stage;
+    use crate::waiting::WaitStage;
     use graph_model::Key;
     use std::test::Fail;
 
@@ -117,7 +117,7 @@ mod tests {
         ensures { result.leaf ≡ leaf }
     {
         Waiting {
-            stage: Stage::Windows,
+            stage: WaitStage::Windows,
             low: Key { src, second: 0 },
             leaf,
         }
@@ -131,12 +131,12 @@ mod tests {
         queue.add(waiting(1, 20));
         queue.add(waiting(2, 10));
         for want in [
-            (2, Stage::Windows),
-            (1, Stage::Windows),
-            (0, Stage::Windows),
-            (2, Stage::Neighbours),
-            (1, Stage::Neighbours),
-            (0, Stage::Neighbours),
+            (2, WaitStage::Windows),
+            (1, WaitStage::Windows),
+            (0, WaitStage::Windows),
+            (2, WaitStage::Neighbours),
+            (1, WaitStage::Neighbours),
+            (0, WaitStage::Neighbours),
         ] {
             let first = queue.first();
             assert_eq!(rt; first.map(|w| (w.leaf, w.stage)), Some(want), "the next");

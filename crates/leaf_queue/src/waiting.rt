@@ -9,7 +9,7 @@ use graph_model::Key;
 
 /// For what a leaf waits. All windows are looked at before any neighbours are.
 #[derive(Clone, Copy, Debug, PartialEq, Eq)]
-pub enum Stage {
+pub enum WaitStage {
     /// That its windows are looked at, and then its neighbours.
     Windows,
     /// That its neighbours are looked at.
@@ -20,7 +20,7 @@ pub enum Stage {
 #[derive(Clone, Copy, Debug, PartialEq, Eq)]
 pub struct Waiting {
     /// What it waits for: all windows come before all neighbours.
-    pub stage: Stage,
+    pub stage: WaitStage,
     /// Its least key when it was put into the queue, by which those of one stage are in order.
     pub low: Key,
     /// Its number.
@@ -33,10 +33,10 @@ impl Waiting {
         ensures { result ≡ comes_before self other }
     {
         match (self.stage, other.stage) {
-            (Stage::Windows, Stage::Neighbours) => true,
-            (Stage::Neighbours, Stage::Windows) => false,
-            (Stage::Windows, Stage::Windows) => self.low.is_below(other.low),
-            (Stage::Neighbours, Stage::Neighbours) => self.low.is_below(other.low),
+            (WaitStage::Windows, WaitStage::Neighbours) => true,
+            (WaitStage::Neighbours, WaitStage::Windows) => false,
+            (WaitStage::Windows, WaitStage::Windows) => self.low.is_below(other.low),
+            (WaitStage::Neighbours, WaitStage::Neighbours) => self.low.is_below(other.low),
         }
     }
 
@@ -46,11 +46,11 @@ impl Waiting {
         ensures same { IfSome result (λ w. w.leaf ≡ self.leaf) }
     {
         match self.stage {
-            Stage::Windows => Some(Waiting {
-                stage: Stage::Neighbours,
+            WaitStage::Windows => Some(Waiting {
+                stage: WaitStage::Neighbours,
                 ..self
             }),
-            Stage::Neighbours => None,
+            WaitStage::Neighbours => None,
         }
     }
 

@@ -12,7 +12,7 @@ ghost use Rattle.txn_manager.specs.Manager.{open_start};
 ghost use Rattle.leaf_rows.specs.Checks.{IsChecked, FitsKind};
 ghost use Rattle.leaf_rows.specs.Readers.{Shows};
 
-use crate::held::Fingers;
+use crate::held::LeafFingers;
 use crate::reader::Reader;
 use crate::rows::LeafRows;
 use graph_model::{Kind, Refusal, Write};
@@ -25,7 +25,7 @@ impl LeafRows {
         kind: Kind,
         reader: &Reader,
         write: Write,
-        near: &Fingers,
+        near: &LeafFingers,
     ) -> Result<(), Refusal>
         requires within { IsWithinLimits write }
         requires started { reader.now.start ≤ length reader.now.manager.now.journal }

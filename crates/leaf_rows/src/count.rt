@@ -10,19 +10,19 @@ ghost use Rattle.leaf_rows.specs.Counted.{is_vertex_row};
 ghost use Rattle.leaf_rows.specs.Readers.{Shows};
 
 use crate::reader::Reader;
-use crate::rows::{Counts, LeafRows};
+use crate::rows::{LeafRows, SeenCounts};
 use graph_model::{Key, Row};
 use row_writes::below::Rows32;
 
 impl LeafRows {
     /// Counts the vertices and the arcs that a reader sees.
-    pub fn count(&self, reader: &Reader) -> Counts
+    pub fn count(&self, reader: &Reader) -> SeenCounts
         requires { reader.now.start ≤ length reader.now.manager.now.journal }
         ensures vertices { (g : Graph) → Shows reader.now self.now g → result.vertices ≡ length (vertices_of g) }
         ensures arcs { (g : Graph) → Shows reader.now self.now g → result.arcs ≡ fin_map.len g.arcs }
     {
         self.store.is_sound();
-        let mut counts = Counts {
+        let mut counts = SeenCounts {
             vertices: 0,
             arcs: 0,
         };

@@ -13,10 +13,10 @@ use row_writes::HeldCells;
 use row_writes::below::{RowChange, RowView};
 
 /// Where the rows of a write were found in leaves.
-pub type Fingers = row_writes::Fingers<Finger>;
+pub type LeafFingers = row_writes::Fingers<Finger>;
 
 /// The rows of a write, and where they were found in leaves.
-pub type FoundRows = row_writes::FoundRows<Finger>;
+pub type FoundInLeaves = row_writes::FoundRows<Finger>;
 
 impl HeldCells for LeafRows {
     type Finger = Finger;

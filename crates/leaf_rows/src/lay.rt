@@ -13,7 +13,7 @@ ghost use Rattle.leaf_store.specs.Leaves.{contents_of, has_row, weight};
 ghost use Rattle.row_writes.specs.Written.{AreRows, rows_after, touched_keys, written_keys};
 ghost use Rattle.leaf_rows.specs.Laying.{HasTouchedNone, HaveRoom, HaveRows, Stays};
 
-use crate::held::{Fingers, FoundRows};
+use crate::held::{FoundInLeaves, LeafFingers};
 use crate::rows::LeafRows;
 use graph_model::{Kind, NoMemory, TxnName, Write};
 use leaf_store::Finger;
@@ -22,7 +22,12 @@ use undo_chain::Touched;
 
 impl LeafRows {
     /// Puts a write into its rows, for which there is room.
-    pub fn lay(&mut self, by: TxnName, found: &FoundRows, earlier: Touched) -> Result<(), NoMemory>
+    pub fn lay(
+        &mut self,
+        by: TxnName,
+        found: &FoundInLeaves,
+        earlier: Touched,
+    ) -> Result<(), NoMemory>
         requires rows { AreRows found.now.rows }
         requires ends { HaveRows self.old (touched_keys found.now.rows) }
         requires never { earlier ≡ Never → HasTouchedNone self.old by }
@@ -44,9 +49,9 @@ impl LeafRows {
         ensures limit { self.new.limit ≡ self.old.limit }
         ensures weight { weight self.new ≤ weight self.old }
     {
-        let found = FoundRows {
+        let found = FoundInLeaves {
             rows: WrittenRows::of(kind, write),
-            near: Fingers::alike(Finger::nowhere()),
+            near: LeafFingers::alike(Finger::nowhere()),
         };
         row_writes::undo(self, by, &found);
     }

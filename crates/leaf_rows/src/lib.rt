@@ -24,8 +24,8 @@ mod scan;
 mod settle;
 
 pub use edges::any_with;
-pub use held::{Fingers, FoundRows};
+pub use held::{FoundInLeaves, LeafFingers};
 pub use leaf_store::{Pruned, STAMPS_END};
 pub use reader::Reader;
 pub use row_writes::{EndKeys, WrittenRows};
-pub use rows::{Counts, LeafRows};
+pub use rows::{LeafRows, SeenCounts};

@@ -4,7 +4,7 @@ ghost use Rattle.std.specs.Prelude.{◌≡◌};
 ghost use Rattle.graph_model.specs.Refused.{IsWithinLimits};
 ghost use Rattle.row_writes.specs.Written.{rows_of};
 
-use crate::held::{Fingers, FoundRows};
+use crate::held::{FoundInLeaves, LeafFingers};
 use crate::rows::LeafRows;
 use graph_model::{Kind, Write};
 use leaf_store::Finger;
@@ -12,7 +12,7 @@ use row_writes::{EndKeys, WrittenRows};
 
 impl LeafRows {
     /// Finds the rows of a write, and those of an edge's ends. Nothing that contracts see changes.
-    pub fn find(&mut self, kind: Kind, write: Write) -> FoundRows
+    pub fn find(&mut self, kind: Kind, write: Write) -> FoundInLeaves
         requires { IsWithinLimits write }
         ensures rows { result.rows ≡ rows_of kind write }
         ensures kept { self.new ≡ self.old }
@@ -20,16 +20,16 @@ impl LeafRows {
         let rows = WrittenRows::of(kind, write);
         let near = match rows.ends {
             Some(ends) => self.find_edge(&rows, ends),
-            None => Fingers {
+            None => LeafFingers {
                 row: self.store.find(rows.row),
-                ..Fingers::alike(Finger::nowhere())
+                ..LeafFingers::alike(Finger::nowhere())
             },
         };
-        FoundRows { rows, near }
+        FoundInLeaves { rows, near }
     }
 
     /// Finds the rows of an edge and of its ends side by side.
-    fn find_edge(&mut self, rows: &WrittenRows, ends: EndKeys) -> Fingers
+    fn find_edge(&mut self, rows: &WrittenRows, ends: EndKeys) -> LeafFingers
         ensures { self.new ≡ self.old }
     {
         let keys = [
@@ -40,7 +40,7 @@ impl LeafRows {
             ends.target,
         ];
         let [row, back, source, target] = self.store.find_four(keys, rows.touches);
-        Fingers {
+        LeafFingers {
             row,
             back,
             source,

@@ -13,7 +13,7 @@ ghost use Rattle.row_writes.specs.Written.{AreRows, written_keys};
 ghost use Rattle.leaf_rows.specs.Laying.{HaveRoom, IsNoPlace, IsSpent, KeepsContents};
 ghost use Rattle.leaf_rows.specs.Placing.{MakesRoomOrFrees, PlacesOrFrees};
 
-use crate::held::FoundRows;
+use crate::held::FoundInLeaves;
 use crate::rows::LeafRows;
 use graph_model::{Key, NoMemory};
 use txn_manager::RoomRefusal;
@@ -64,7 +64,11 @@ impl LeafRows {
 
     /// Makes room for the rows of a write that are missing. Where no leaf is free the retired ones with a stamp below
     /// the given one are freed for it.
-    pub fn make_room_or_free(&mut self, found: &FoundRows, until: u64) -> Result<(), RoomRefusal>
+    pub fn make_room_or_free(
+        &mut self,
+        found: &FoundInLeaves,
+        until: u64,
+    ) -> Result<(), RoomRefusal>
         requires { AreRows found.now.rows }
         ensures contents { KeepsContents self.old self.new }
         ensures ok { OnOk result (HaveRoom self.new (written_keys found.now.rows)) }

@@ -18,7 +18,7 @@ ghost use Rattle.leaf_rows.specs.Laying.{HaveRoom};
 ghost use Rattle.leaf_rows.specs.Placing.{PlacesKeys};
 ghost use Rattle.row_writes.specs.Written.{AreRows, written_keys};
 
-use crate::held::FoundRows;
+use crate::held::FoundInLeaves;
 use crate::rows::LeafRows;
 use graph_model::Key;
 use leaf_store::Finger;
@@ -36,7 +36,7 @@ struct KeyAt {
 
 impl LeafRows {
     /// Makes room for the rows of a write that are missing, that of the lesser key first.
-    pub fn make_room(&mut self, found: &FoundRows) -> Result<(), RoomRefusal>
+    pub fn make_room(&mut self, found: &FoundInLeaves) -> Result<(), RoomRefusal>
         requires { AreRows found.now.rows }
         ensures stays { Stays self.old self.new }
         ensures ok { OnOk result (HaveRoom self.new (written_keys found.now.rows)) }

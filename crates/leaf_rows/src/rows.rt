@@ -33,7 +33,7 @@ impl Model for LeafRows {
 
 /// How many vertices and arcs a graph has.
 #[derive(Clone, Copy, Debug, PartialEq, Eq)]
-pub struct Counts {
+pub struct SeenCounts {
     /// Rows of vertices that have a value.
     pub vertices: usize,
     /// Rows of arcs that have one.

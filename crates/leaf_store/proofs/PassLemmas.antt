@@ -5,8 +5,8 @@ use Rattle.std.specs.List.{AllByRecursion}
 use Rattle.graph_model.specs.declared.row.Key.{Key}
 use Rattle.graph_model.specs.Rows.{is_below, end_key}
 use Rattle.leaf_table.specs.LeafArray.Segments.{low_or}
-use Rattle.leaf_queue.specs.declared.waiting.Stage.{Stage}
-use Rattle.leaf_queue.specs.declared.waiting.Stage.TheVariants.{Windows, Neighbours}
+use Rattle.leaf_queue.specs.declared.waiting.WaitStage.{WaitStage}
+use Rattle.leaf_queue.specs.declared.waiting.WaitStage.TheVariants.{Windows, Neighbours}
 use Rattle.leaf_queue.specs.declared.waiting.Waiting.{Waiting}
 use Rattle.leaf_queue.specs.Queue.{IsFirst, Waits, next_at}
 use Rattle.leaf_queue.proofs.ListLemmas.{get_set_other, get_set_same, same_or_not}
@@ -20,7 +20,7 @@ use Rattle.leaf_store.proofs.QueueLemmas.{Places}
 -- ---- the places of leaves that wait
 
 -- how many looks the queue asks for at most
-abbrev looks_at : Stage → ℕ
+abbrev looks_at : WaitStage → ℕ
 looks_at Windows = 2
 looks_at Neighbours = 1
 
@@ -32,7 +32,7 @@ abbrev pub looks_left : Places → ℕ
 looks_left [] = 0
 looks_left (x ∷ xs) = looks_for x + looks_left xs
 
-fewer_next : (stage : Stage) (low : Key) (leaf : ℕ) → looks_for (next_at stage low leaf) < looks_at stage
+fewer_next : (stage : WaitStage) (low : Key) (leaf : ℕ) → looks_for (next_at stage low leaf) < looks_at stage
 fewer_next Windows low leaf = omega arith
 fewer_next Neighbours low leaf = omega arith
 
@@ -56,7 +56,7 @@ one_place places n m v w at_n at_m same =
     cc
 
 module _ (places : Places) (low : Key) (leaf : ℕ) where
-  abbrev pub first_at : Stage → Waiting
+  abbrev pub first_at : WaitStage → Waiting
   first_at stage = record { stage = stage; low = low; leaf = leaf }
 
   -- behind its windows its neighbours are to be looked at
@@ -192,7 +192,7 @@ module _ (places : Places) (low : Key) (leaf : ℕ) where
         level (inl is) = is
         level (inr waits) = let test : true ≡ false = first.least (waiting_of Windows p) waits in cc
 
-    not_queued : (stage : Stage) (p : Part) → is_below (low_or p.segments end_key) low ≡ true → Waits places (waiting_of stage p) → ⊥
+    not_queued : (stage : WaitStage) (p : Part) → is_below (low_or p.segments end_key) low ≡ true → Waits places (waiting_of stage p) → ⊥
     not_queued Windows p below waits = let test : true ≡ false = first.least (waiting_of Windows p) waits in cc
     not_queued Neighbours p below waits = clash (is_below (low_or p.segments end_key) low) below (first.least (waiting_of Neighbours p) waits)
 

@@ -6,8 +6,8 @@ use Rattle.std.proofs.Math.ListN.{length-set}
 use Rattle.graph_model.specs.Rows.{end_key}
 use Rattle.leaf_table.specs.VersionSegment.Rows.{VersionedRows}
 use Rattle.leaf_table.specs.LeafArray.Segments.{AreSame, counts_of, low_or}
-use Rattle.leaf_queue.specs.declared.waiting.Stage.{Stage}
-use Rattle.leaf_queue.specs.declared.waiting.Stage.TheVariants.{Windows}
+use Rattle.leaf_queue.specs.declared.waiting.WaitStage.{WaitStage}
+use Rattle.leaf_queue.specs.declared.waiting.WaitStage.TheVariants.{Windows}
 use Rattle.leaf_queue.specs.declared.waiting.Waiting.{Waiting}
 use Rattle.leaf_queue.specs.Queue.{Waits}
 use Rattle.leaf_queue.proofs.ListLemmas.{get_set_other, get_set_same}
@@ -134,7 +134,7 @@ AreLike [] (q ∷ qs) = ⊥
 AreLike (p ∷ ps) [] = ⊥
 
 module _ (places : Places) where
-  like_waits : (stage : Stage) (p q : Part) → IsLike p q → Waits places (waiting_of stage p) → Waits places (waiting_of stage q)
+  like_waits : (stage : WaitStage) (p q : Part) → IsLike p q → Waits places (waiting_of stage p) → Waits places (waiting_of stage q)
   like_waits stage p q like waits =
       ap (slice_get places) like.leaf ∙ waits ∙ (λ i. Some (Some (record { stage = stage; low = sym like.low i; leaf = sym like.leaf i })))
 

@@ -14,7 +14,7 @@ use Rattle.leaf_table.specs.LeafArrayDeclared.leaf.Leaf.{Leaf}
 use Rattle.leaf_table.specs.LeafArray.Leaves.{IsLeaf}
 use Rattle.leaf_table.specs.LeafArray.Segments.{counts_of}
 use Rattle.leaf_index.specs.Index.{Index, Entry}
-use Rattle.leaf_queue.specs.declared.waiting.Stage.TheVariants.{Windows}
+use Rattle.leaf_queue.specs.declared.waiting.WaitStage.TheVariants.{Windows}
 use Rattle.leaf_queue.proofs.ListLemmas.{get_set_other, get_set_same, same_or_not}
 use Rattle.leaf_table.specs.declared.place.Place.{Place}
 use Rattle.leaf_store.specs.Leaves.{Leaves, Part}

@@ -17,14 +17,14 @@ use Rattle.leaf_table.proofs.LeafArray.LeafLemmas.{Follow}
 use Rattle.leaf_index.specs.declared.route.LeafRange.{LeafRange}
 use Rattle.leaf_index.specs.Calls.{BeginsBelow, IsLeafRange, IsRangeOf}
 use Rattle.leaf_index.specs.Index.{AreCuts, AreRising, BeginAbove, Entry, HaveCuts, Index, NotAbove, end_of}
-use Rattle.leaf_queue.specs.declared.waiting.Stage.{Stage}
-use Rattle.leaf_queue.specs.declared.waiting.Stage.TheVariants.{Windows, Neighbours}
+use Rattle.leaf_queue.specs.declared.waiting.WaitStage.{WaitStage}
+use Rattle.leaf_queue.specs.declared.waiting.WaitStage.TheVariants.{Windows, Neighbours}
 use Rattle.leaf_queue.specs.declared.waiting.Waiting.{Waiting}
 use Rattle.leaf_queue.specs.Queue.{IsFirst, Waits, next_at, next_of}
 use Rattle.leaf_store.specs.declared.pair.Pair.{Pair}
 use Rattle.leaf_store.specs.declared.sparse.SparseWindow.{SparseWindow}
-use Rattle.leaf_store.specs.declared.work.Work.{Work}
-use Rattle.leaf_store.specs.declared.work.Work.TheVariants.{Spread}
+use Rattle.leaf_store.specs.declared.work.QueuedWork.{QueuedWork}
+use Rattle.leaf_store.specs.declared.work.QueuedWork.TheVariants.{Spread}
 use Rattle.leaf_store.specs.Leaves.{Part}
 use Rattle.leaf_store.specs.Merging.{AreApart, IsApart, IsCompact, IsLeftmostWindow, IsLevel}
 use Rattle.leaf_store.specs.Pairs.{IsApartBehind, IsFirstFoundPair, IsFoundPair, IsFoundWindow, IsPairAhead, IsPairBehind, Stands}
@@ -161,7 +161,7 @@ module _ (index : Index) (table : Table) (kept : IsKept index table) where
   -- ---- nothing to do
 
   module _ (low : Key) (leaf : ℕ) where
-    abbrev at_stage : Stage → Waiting
+    abbrev at_stage : WaitStage → Waiting
     at_stage stage = record { stage = stage; low = low; leaf = leaf }
 
     idle_windows : IsNotLiveAs index.entries (at_stage Windows) → (front es : List Entry) → index.entries ≡ front ++ es → AllByRecursion (λ (p : Part). waiting_of Windows p ≡ at_stage Windows → IsLevel p.segments) (map (part_of table) es)
@@ -177,7 +177,7 @@ module _ (index : Index) (table : Table) (kept : IsKept index table) where
         let waits : waiting_of Neighbours (part_of table e.entry) ≡ at_stage Neighbours = ap (waiting_of Neighbours) (sym e.part_is) ∙ same in
         absurd (none e.before e.entry e.behind e.is (ap (λ (w : Waiting). w.leaf) waits) (sym (entry_low e.before e.entry e.behind e.is) ∙ ap (λ (w : Waiting). w.low) waits))
 
-    idle_at : (stage : Stage) → IsNotLiveAs index.entries (at_stage stage) → IsDoneAt stage parts (at_stage stage)
+    idle_at : (stage : WaitStage) → IsNotLiveAs index.entries (at_stage stage) → IsDoneAt stage parts (at_stage stage)
     idle_at Windows none = idle_windows none [] index.entries refl
     idle_at Neighbours none = idle_neighbours none
 
@@ -193,7 +193,7 @@ module _ (index : Index) (table : Table) (kept : IsKept index table) where
         let before = subst (λ q. IsApartBefore front q) (sym e.part_is) (subst (λ ps. IsApartBefore ps (part_of table e.entry)) (sym e.front_is) (ahead e.before e.entry e.behind e.is here)) in
         (before, subst (λ q. IsApart q back) (sym e.part_is) (subst (λ ps. IsApart (part_of table e.entry) ps) (sym e.back_is) (behind e.before e.entry e.behind e.is here)))
 
-    passed_at : (places : Places) (stage : Stage) → Waits places (at_stage stage) → IsDoneAt stage parts (at_stage stage) → AreQueued places parts → AreQueued (set places leaf (next_at stage low leaf)) parts
+    passed_at : (places : Places) (stage : WaitStage) → Waits places (at_stage stage) → IsDoneAt stage parts (at_stage stage) → AreQueued places parts → AreQueued (set places leaf (next_at stage low leaf)) parts
     passed_at places Windows waits done was = windows_passed places low leaf waits (slice_get_within places leaf (Some (at_stage Windows)) waits) parts done was
     passed_at places Neighbours waits done was = neighbours_passed places low leaf waits parts done [] parts refl was
 
@@ -301,5 +301,5 @@ pair_behind index table range pair ahead b = record {
   left = inr (sym b.range_is.low, ahead b.found.front b.found.left (b.found.right ∷ b.found.back) b.found.is b.range_is);
 }
 
-pub work_window : (index : Index) (table : Table) (work : Work) (found : SparseWindow) → work ≡ Spread found → IsWork index table work → IsFoundWindow index table found
+pub work_window : (index : Index) (table : Table) (work : QueuedWork) (found : SparseWindow) → work ≡ Spread found → IsWork index table work → IsFoundWindow index table found
 work_window index table work found is work_is = subst (IsWork index table) is work_is

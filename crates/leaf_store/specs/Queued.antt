@@ -11,24 +11,24 @@ use Rattle.leaf_table.specs.LeafArray.Segments.{counts_of, low_or}
 use Rattle.leaf_index.specs.declared.route.LeafRange.{LeafRange}
 use Rattle.leaf_index.specs.Calls.{IsRangeOf}
 use Rattle.leaf_index.specs.Index.{Entry, Index}
-use Rattle.leaf_queue.specs.declared.waiting.Stage.{Stage}
-use Rattle.leaf_queue.specs.declared.waiting.Stage.TheVariants.{Windows, Neighbours}
+use Rattle.leaf_queue.specs.declared.waiting.WaitStage.{WaitStage}
+use Rattle.leaf_queue.specs.declared.waiting.WaitStage.TheVariants.{Windows, Neighbours}
 use Rattle.leaf_queue.specs.declared.waiting.Waiting.{Waiting}
 use Rattle.leaf_queue.specs.Queue.{Waits}
 use Rattle.leaf_store.specs.declared.pair.TheConstants.{MERGE_ROWS}
 use Rattle.leaf_store.specs.declared.pair.Pair.{Pair}
-use Rattle.leaf_store.specs.declared.work.Work.{Work}
-use Rattle.leaf_store.specs.declared.work.Work.TheVariants.{Spread, Merge}
+use Rattle.leaf_store.specs.declared.work.QueuedWork.{QueuedWork}
+use Rattle.leaf_store.specs.declared.work.QueuedWork.TheVariants.{Spread, Merge}
 use Rattle.leaf_store.specs.Leaves.{Part}
 use Rattle.leaf_store.specs.Merging.{IsApart, IsLevel, rows_in_part}
 use Rattle.leaf_store.specs.Pairs.{IsFirstFoundPair, IsFoundPair, IsFoundWindow}
 use Rattle.leaf_store.specs.Table.{IsKept, part_of, segments_at}
 
 -- how a leaf with this number and these segments waits
-abbrev pub waiting_with : Stage → ℕ → List VersionedRows → Waiting
+abbrev pub waiting_with : WaitStage → ℕ → List VersionedRows → Waiting
 waiting_with stage leaf ss = record { stage = stage; low = low_or ss end_key; leaf = leaf }
 
-abbrev pub waiting_of : Stage → Part → Waiting
+abbrev pub waiting_of : WaitStage → Part → Waiting
 waiting_of stage p = waiting_with stage p.leaf p.segments
 
 -- the leaf waits that its windows are looked at
@@ -37,7 +37,7 @@ AwaitsWindows places p = Waits places (waiting_of Windows p)
 
 -- it waits for that, or that its neighbours are
 abbrev pub IsQueued : List (Option Waiting) → Part → Type 0
-IsQueued places p = (stage : Stage) × Waits places (waiting_of stage p)
+IsQueued places p = (stage : WaitStage) × Waits places (waiting_of stage p)
 
 -- a leaf has no sparse window, or waits that its windows are looked at
 abbrev pub IsLevelOrQueued : List (Option Waiting) → Part → Type 0
@@ -90,7 +90,7 @@ IsThickOrQueued index table places leaf = IsNotLive index.entries leaf ⊎ (IsTh
 -- ---- what there is to do
 
 -- the first window that is to be spread, or the first two neighbours that are to become one leaf
-abbrev pub IsWork : Index → List (Option (Box Leaf Global)) → Work → Type 0
+abbrev pub IsWork : Index → List (Option (Box Leaf Global)) → QueuedWork → Type 0
 IsWork index table (Spread found) = IsFoundWindow index table found
 IsWork index table (Merge pair) = IsFirstFoundPair index table pair
 
@@ -120,7 +120,7 @@ pub record IsNextPair (index : Index) (table : List (Option (Box Leaf Global))) 
       × IsApartBefore (map (part_of table) found.front) (part_of table found.left))
 
 -- there is nothing to do at this stage with the leaf that waits so, if it is live
-abbrev pub IsDoneAt : Stage → List Part → Waiting → Type 0
+abbrev pub IsDoneAt : WaitStage → List Part → Waiting → Type 0
 IsDoneAt Windows parts waiting = AllByRecursion (λ p. waiting_of Windows p ≡ waiting → IsLevel p.segments) parts
 IsDoneAt Neighbours parts waiting = (front : List Part) (p : Part) (back : List Part) → parts ≡ front ++ p ∷ back
     → waiting_of Neighbours p ≡ waiting → IsApartBefore front p × IsApart p back

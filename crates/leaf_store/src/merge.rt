@@ -16,7 +16,7 @@ use crate::pair::{Pair, STAMPS_END, merge_pair};
 use crate::queue::enqueue;
 use crate::room::spread_queued;
 use crate::store::LeafStore;
-use crate::work::{Work, find_work};
+use crate::work::{QueuedWork, find_work};
 use graph_model::NoMemory;
 use leaf_index::LeafIndex;
 use leaf_queue::LeafQueue;
@@ -36,7 +36,7 @@ impl LeafStore {
         ensures settled { record_count self.old ≡ 0 → IsOk result }
     {
         match find_work(&self.index, &self.leaves, &mut self.queue) {
-            Some(Work::Spread(found)) => {
+            Some(QueuedWork::Spread(found)) => {
                 let (leaf, window) = (found.leaf, found.window);
                 spread_queued(
                     &mut self.index,
@@ -48,7 +48,7 @@ impl LeafStore {
                 )?;
                 Ok(true)
             }
-            Some(Work::Merge(pair)) => {
+            Some(QueuedWork::Merge(pair)) => {
                 merge_queued(
                     &mut self.index,
                     &mut self.leaves,

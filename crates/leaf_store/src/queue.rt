@@ -4,7 +4,7 @@ ghost use Rattle.std.specs.Prelude.{◌≡◌, ◌<◌, ◌≤◌, ℕ, true, No
 ghost use Rattle.leaf_table.specs.LeafArray.Leaves.{IsLeaf};
 ghost use Rattle.leaf_table.specs.LeafArray.Segments.{counts_of};
 ghost use Rattle.leaf_index.specs.Calls.{IsLeafRange};
-ghost use Rattle.leaf_queue.specs.declared.waiting.Stage.TheVariants.{Windows};
+ghost use Rattle.leaf_queue.specs.declared.waiting.WaitStage.TheVariants.{Windows};
 ghost use Rattle.leaf_store.specs.Queued.{IsNotLiveAs, IsThick, IsThickOrQueued, QueuesChange, waiting_with, with_leaf};
 ghost use Rattle.leaf_store.specs.Table.{IsKept, segments_at};
 
@@ -12,7 +12,7 @@ use crate::pair::{MERGE_ROWS, total};
 use density_tree::LOWER_LIMITS;
 use graph_model::LEAF_SEGMENTS;
 use leaf_index::{LeafIndex, LeafRange};
-use leaf_queue::{LeafQueue, Stage, Waiting};
+use leaf_queue::{LeafQueue, WaitStage, Waiting};
 use leaf_table::below::Leaf;
 use leaf_table::counts_of;
 
@@ -22,7 +22,7 @@ fn waiting(leaf: &Leaf, number: usize) -> Waiting
     ensures { result ≡ waiting_with Windows number leaf.now.segments }
 {
     Waiting {
-        stage: Stage::Windows,
+        stage: WaitStage::Windows,
         low: leaf.segments[0].low(),
         leaf: number,
     }
@@ -90,7 +90,7 @@ fn queue_if_thin(
         return;
     };
     let low = memory.segments[0].low();
-    let stage = Stage::Windows;
+    let stage = WaitStage::Windows;
     let Some(_range) = live_range(index, leaves, Waiting { stage, low, leaf }) else {
         return;
     };

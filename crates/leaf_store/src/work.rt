@@ -15,12 +15,12 @@ use crate::pair::{Pair, pair_at};
 use crate::queue::live_range;
 use crate::sparse::{SparseWindow, sparse_at};
 use leaf_index::{LeafIndex, LeafRange};
-use leaf_queue::{LeafQueue, Stage, Waiting};
+use leaf_queue::{LeafQueue, WaitStage, Waiting};
 use leaf_table::below::Leaf;
 
 /// A window that is to be spread, or two leaves that are to become one.
 #[derive(Clone, Copy, Debug, PartialEq, Eq)]
-pub(crate) enum Work {
+pub(crate) enum QueuedWork {
     Spread(SparseWindow),
     Merge(Pair),
 }
@@ -30,7 +30,7 @@ pub(crate) fn find_work(
     index: &LeafIndex,
     leaves: &Vec<Option<Box<Leaf>>>,
     queue: &mut LeafQueue,
-) -> Option<Work>
+) -> Option<QueuedWork>
     requires { IsTended index.now leaves.now.items queue.old }
     ensures tended { IsTended index.now leaves.now.items queue.new }
     ensures some { IfSome result (IsWork index.now leaves.now.items) }
@@ -53,7 +53,7 @@ fn work_at(
     leaves: &Vec<Option<Box<Leaf>>>,
     queue: &LeafQueue,
     first: Waiting,
-) -> Option<Work>
+) -> Option<QueuedWork>
     requires tended { IsTended index.now leaves.now.items queue.now }
     requires first { IsFirst queue.now first }
     ensures some { IfSome result (IsWork index.now leaves.now.items) }
@@ -63,15 +63,15 @@ fn work_at(
         return None;
     };
     match first.stage {
-        Stage::Windows => match sparse_at(leaves, first.leaf) {
-            Some(window) => Some(Work::Spread(SparseWindow {
+        WaitStage::Windows => match sparse_at(leaves, first.leaf) {
+            Some(window) => Some(QueuedWork::Spread(SparseWindow {
                 leaf: first.leaf,
                 window,
             })),
             None => None,
         },
-        Stage::Neighbours => match next_pair(index, leaves, range) {
-            Some(pair) => Some(Work::Merge(pair)),
+        WaitStage::Neighbours => match next_pair(index, leaves, range) {
+            Some(pair) => Some(QueuedWork::Merge(pair)),
             None => None,
         },
     }

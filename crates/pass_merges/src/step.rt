@@ -14,7 +14,7 @@ ghost use Rattle.pass_merges.specs.Turns.{IsTurnOf};
 use crate::hand::{merge_with, spread_in_hand};
 use crate::pair::LeafPair;
 use crate::turn::MergeTurn;
-use crate::work::{Work, find_work};
+use crate::work::{MergeWork, find_work};
 use graph_model::{Key, NoMemory};
 use pass_moves::below::{CellHints, Leaf, LeafInHand, Pass, PassLeaves, Store};
 use pass_sweeps::key_after;
@@ -88,7 +88,7 @@ fn take_turn(
     // The key goes on whatever comes of this leaf, so one leaf that stays busy or full doesn't hold up the others.
     key.next = key_after(range.high);
     match work {
-        Work::Spread(window) => {
+        MergeWork::Spread(window) => {
             let turn = spread_in_hand(
                 store,
                 pass,
@@ -103,14 +103,14 @@ fn take_turn(
             turn
         }
         // The right leaf's cells come before the index in the order, which is in hand: so all goes back first.
-        Work::Look(right) => {
+        MergeWork::Look(right) => {
             leaves.put_back(store, pass, index);
             let pair = LeafPair { left: leaf, right };
             merge_with(
                 rt, store, pass, leaves, space, hints, range.low, pair, alloc,
             )
         }
-        Work::Nothing => {
+        MergeWork::Nothing => {
             leaves.put_back(store, pass, index);
             Ok(MergeTurn::Nothing)
         }

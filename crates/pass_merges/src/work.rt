@@ -17,7 +17,7 @@ use pass_moves::counts_in;
 
 /// What it is.
 #[derive(Clone, Copy, Debug, PartialEq, Eq)]
-pub(crate) enum Work {
+pub(crate) enum MergeWork {
     /// This window is to be spread.
     Spread(Window),
     /// The leaf has few rows, and this one is after it.
@@ -27,20 +27,20 @@ pub(crate) enum Work {
 }
 
 /// Looks at a leaf with this range.
-pub(crate) fn find_work(cells: &[TakenCell], index: &LeafIndex, range: LeafRange) -> Work
+pub(crate) fn find_work(cells: &[TakenCell], index: &LeafIndex, range: LeafRange) -> MergeWork
     requires { length cells.now ≡ 8 }
     ensures { IsWork (values_of cells.now) result }
 {
     // A window first: it needs this leaf alone.
     if let Some(window) = sparse_window(counts_in(cells)) {
-        return Work::Spread(window);
+        return MergeWork::Spread(window);
     }
     // Both leaves together may have so many at most, so a fuller one need not be looked at together with the next; and
     // the last leaf has none after it.
     if rows_in(cells) > MERGE_ROWS || !range.high.is_below(Key::END) {
-        return Work::Nothing;
+        return MergeWork::Nothing;
     }
-    Work::Look(index.leaf_at(range.high).leaf)
+    MergeWork::Look(index.leaf_at(range.high).leaf)
 }
 
 /// Whether the leaf of the key is the left one, and the next one the right one.

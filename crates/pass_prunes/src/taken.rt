@@ -19,12 +19,12 @@ use pass_sweeps::{learn_writers, prune_rows};
 
 /// The pass has pruned the rows in hand.
 #[derive(Drop)]
-struct KnowsPruned<'a> {
+struct KnowsTakenPruned<'a> {
     /// The cells in hand, with their rows as they are now.
     taken: &'a TakenCells,
 }
 
-impl Change for KnowsPruned<'_> {
+impl Change for KnowsTakenPruned<'_> {
     ghost use Rattle.pass_cells.specs.RuleModel.Sight.{with_cells};
     ghost use Rattle.pass_cells.specs.RuleModel.Steps.{Nothing};
     ghost use Rattle.pass_cells.specs.Changes.{news_of};
@@ -50,7 +50,7 @@ pub fn prune_taken(store: &Store, pass: &mut Pass, cells: &mut PassCells, sweep:
     // records stay than must.
     let horizon = store.pins().horizon(sweep);
     prune_each(store, pass, horizon, cells.taken.list.as_mut_slice());
-    let planned = KnowsPruned {
+    let planned = KnowsTakenPruned {
         taken: &cells.taken,
     };
     store.change(pass, &planned);

@@ -12,6 +12,7 @@ mod hand;
 mod rows;
 mod view;
 
+pub use checks::combined;
 pub use found::{FoundRow, find_row, insert_row, prune_row, set_row, value_in};
 pub use rows::RowTable;
 pub use view::{NOWHERE, RowView, look_up};

@@ -7,7 +7,6 @@ ghost use Rattle.graph_model.specs.declared.refusal.Refusal.TheVariants as refus
 ghost use Rattle.graph_model.specs.Graph.{Graph, has_arc};
 ghost use Rattle.graph_model.specs.Refused.{IsWithinLimits, unless_ends};
 ghost use Rattle.graph_model.specs.Rows.{vertex_key, arc_key};
-ghost use Rattle.store_model.specs.Check.{combine};
 ghost use Rattle.undo_chain.specs.States.{Grows};
 ghost use Rattle.version_segment.specs.Checks.{newest_of};
 ghost use Rattle.version_segment.specs.Rows.{or_nothing};
@@ -20,6 +19,7 @@ use crate::written::Fingers;
 use graph_model::{Cause, Key, Refusal, Write};
 use undo_chain::{Snapshot, States};
 use version_segment::RowView;
+use version_segment::below::combined;
 
 /// The rows of an edge's ends.
 #[derive(Drop)]
@@ -216,23 +216,5 @@ fn unless_met(cause: Option<Cause>) -> Result<(), Refusal>
     match cause {
         Some(cause) => Err(Refusal::Conflict { cause }),
         None => Ok(()),
-    }
-}
-
-/// Of two answers the one that counts.
-fn combined(one: Option<Cause>, other: Option<Cause>) -> Option<Cause>
-    ensures { result ≡ combine one other }
-{
-    match (one, other) {
-        (None, answer) => answer,
-        (answer, None) => answer,
-        (Some(Cause::Holder { by: x }), Some(Cause::Holder { by: y })) => Some(Cause::Holder {
-            by: if x.job <= y.job { x } else { y },
-        }),
-        (Some(Cause::Later { stamp: c }), Some(Cause::Later { stamp: d })) => {
-            Some(Cause::Later { stamp: c.max(d) })
-        }
-        (Some(Cause::Holder { by }), Some(Cause::Later { stamp: _ })) => Some(Cause::Holder { by }),
-        (Some(Cause::Later { stamp: _ }), Some(Cause::Holder { by })) => Some(Cause::Holder { by }),
     }
 }

@@ -17,7 +17,7 @@ use txn_manager::Totals;
 
 /// How many rows have a value, and how many of these are vertices'.
 #[derive(Clone, Copy, Debug)]
-pub struct Counts {
+pub struct RowCounts {
     /// Those of vertices and of arcs.
     pub rows: u64,
     /// Those of vertices alone.
@@ -50,7 +50,7 @@ fn edges_in(kind: Kind, arcs: u64) -> u64
 }
 
 /// Counts the rows of all cells.
-fn count_rows(cells: &mut ClosedCells, index: &LeafIndex) -> Counts
+fn count_rows(cells: &mut ClosedCells, index: &LeafIndex) -> RowCounts
     requires { (g : Graph) × HoldsGraph cells.old index.now g }
     ensures few { result.vertices ≤ result.rows }
     ensures vertices { (g : Graph) → HoldsGraph cells.old index.now g → result.vertices ≡ length (vertices_of g) }
@@ -58,7 +58,7 @@ fn count_rows(cells: &mut ClosedCells, index: &LeafIndex) -> Counts
         → (arcs : _) → result.vertices + arcs ≡ result.rows → arcs ≡ fin_map.len g.arcs }
 {
     index.is_index();
-    let mut counts = Counts {
+    let mut counts = RowCounts {
         rows: 0,
         vertices: 0,
     };
@@ -77,12 +77,12 @@ fn count_rows(cells: &mut ClosedCells, index: &LeafIndex) -> Counts
 }
 
 /// Counts the rows of a cell from a key on, which have their value words.
-fn count_from(run: &[Row], from: Key) -> Counts
+fn count_from(run: &[Row], from: Key) -> RowCounts
     ensures rows { result.rows ≡ count_by (is_seen from) run.now }
     ensures vertices { result.vertices ≡ count_by (is_seen_vertex from) run.now }
     ensures few { (result.vertices ≤ result.rows) × (result.rows ≤ length run.now) }
 {
-    let mut counts = Counts {
+    let mut counts = RowCounts {
         rows: 0,
         vertices: 0,
     };

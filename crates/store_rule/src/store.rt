@@ -15,7 +15,7 @@ use store_words::{Account, AccountRule, AccountSight, Accounts, Beginning};
 use txn_manager::Config;
 
 /// The seat of a pass on the latch table.
-pub type LatchPass = latch_table::Pass<StoreSlot, Room>;
+pub type LatchPass = latch_table::LatchSeat<StoreSlot, Room>;
 
 /// A graph under transactions of many passes.
 ///

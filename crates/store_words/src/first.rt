@@ -19,11 +19,11 @@ pub trait Begins {
 }
 
 /// No rule: the table's first seat knows that.
-struct Known<B> {
+struct KnownBegin<B> {
     of: PhantomData<B>,
 }
 
-impl<B: Begins> TableRule<(), AccountSight, B> for Known<B> {
+impl<B: Begins> TableRule<(), AccountSight, B> for KnownBegin<B> {
     ghost holds = { λ _ _. Unit {0} };
 
     ghost first = { λ b. B.sight b };
@@ -34,7 +34,7 @@ pub fn first_seat<B: Begins>(alloc: Global, begins: &B) -> Result<Account, NoMem
     ensures { IfOk result (λ seat. seat.me ≡ (B.sight begins.now, [])) }
 {
     let word = [0];
-    let (_table, seat) = Table::<(), AccountSight, B, Known<B>, Global>::of_words(
+    let (_table, seat) = Table::<(), AccountSight, B, KnownBegin<B>, Global>::of_words(
         alloc, &word, begins,
     )?;
     Ok(seat)

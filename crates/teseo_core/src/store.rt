@@ -15,7 +15,7 @@ ghost use Rattle.teseo_core.specs.Keeping.{IsNewStore, KeepsService, states_of};
 
 use crate::pass::Pass;
 use crate::serve::ServiceTurn;
-use crate::sweep::SweepKey;
+use crate::sweep::SweepStart;
 use graph_model::{BeginRefusal, Begun, Commit, Kind, NoMemory, TxnName};
 use leaf_rows::{LeafRows, Reader};
 use std::alloc::Global;
@@ -41,7 +41,7 @@ pub struct Core {
     /// What the leaves hold.
     pub(crate) rows: LeafRows,
     /// Where the next sweep begins.
-    pub(crate) next: SweepKey,
+    pub(crate) next: SweepStart,
     /// What the next turn of the service does.
     pub(crate) turn: ServiceTurn,
 }
@@ -84,7 +84,7 @@ impl Core {
             selected: 0,
             served: 0,
             rows,
-            next: SweepKey::first(),
+            next: SweepStart::first(),
             turn: ServiceTurn::Sweep,
         })
     }

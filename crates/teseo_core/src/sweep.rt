@@ -13,30 +13,30 @@ use graph_model::Key;
 
 /// The key whose leaf the next sweep takes.
 #[derive(Clone, Copy)]
-pub(crate) struct SweepKey {
+pub(crate) struct SweepStart {
     /// The leaf that has it is the next one.
     pub(crate) key: Key,
     ghost within: { is_below key end_key ≡ true },
 }
 
-impl SweepKey {
+impl SweepStart {
     /// That of the first leaf.
-    pub(crate) fn first() -> SweepKey
+    pub(crate) fn first() -> SweepStart
         ensures { result.key ≡ first_key }
     {
-        SweepKey {
+        SweepStart {
             key: Key::of_vertex(0),
         }
     }
 
     /// This key, or after the last leaf that of the first one.
-    fn from_first(key: Key) -> SweepKey
+    fn from_first(key: Key) -> SweepStart
         ensures { result.key ≡ from_first key }
     {
         if key.is_below(Key::end()) {
-            SweepKey { key }
+            SweepStart { key }
         } else {
-            SweepKey::first()
+            SweepStart::first()
         }
     }
 }
@@ -51,7 +51,7 @@ impl Core {
         self.manager.is_managed();
         let horizon = self.manager.horizon();
         let pruned = self.rows.sweep_leaf(self.next.key, &self.manager, horizon);
-        self.next = SweepKey::from_first(pruned.high);
+        self.next = SweepStart::from_first(pruned.high);
         free_behind(&mut self.rows, &self.manager, pruned.high);
         pruned.records > 0
     }

@@ -24,7 +24,7 @@ use crate::free::free_bound;
 use crate::pass::Pass;
 use crate::store::{Core, reader_of};
 use graph_model::{Key, NoMemory, Refusal, TxnName, Write};
-use leaf_rows::{FoundRows, LeafRows};
+use leaf_rows::{FoundInLeaves, LeafRows};
 use txn_manager::RoomRefusal;
 use undo_chain::Touched;
 
@@ -63,7 +63,7 @@ impl Core {
     }
 
     /// Finds the rows of a write for the calls to come.
-    fn find(&mut self, write: Write) -> FoundRows
+    fn find(&mut self, write: Write) -> FoundInLeaves
         requires { IsWithinLimits write }
         ensures rows { result.rows ≡ rows_of self.old.core.kind write }
         ensures kept { self.new ≡ self.old }
@@ -72,7 +72,7 @@ impl Core {
     }
 
     /// Makes a write whose rows are found, or says why it isn't made.
-    fn write_here(&mut self, write: Write, found: &FoundRows) -> Result<(), Refusal>
+    fn write_here(&mut self, write: Write, found: &FoundInLeaves) -> Result<(), Refusal>
         requires current { IsSome (current self.old.core).start }
         requires within { IsWithinLimits write }
         requires rows { found.now.rows ≡ rows_of self.old.core.kind write }
@@ -112,7 +112,7 @@ fn put(
     pass: &mut Pass,
     by: TxnName,
     write: Write,
-    found: &FoundRows,
+    found: &FoundInLeaves,
     until: u64,
     earlier: Touched,
 ) -> Result<(), Refusal>
@@ -146,7 +146,7 @@ fn lay(
     pass: &mut Pass,
     by: TxnName,
     write: Write,
-    found: &FoundRows,
+    found: &FoundInLeaves,
     earlier: Touched,
 ) -> Result<(), NoMemory>
     requires current { IsSome pass.old.state.start }

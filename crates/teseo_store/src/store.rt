@@ -44,10 +44,8 @@ impl Store {
         ensures config { IfOk result (λ store. store.shared.accounts.config ≡ config) }
         ensures sessions { IfOk result (λ store. AreNew store.shared store.passes.list.items) }
     {
-        match new(alloc, config) {
-            Ok((shared, passes)) => Ok(Store { shared, passes }),
-            Err(refused) => Err(refused),
-        }
+        let (shared, passes) = new(alloc, config)?;
+        Ok(Store { shared, passes })
     }
 
     /// Opens a store with a graph in it, as if session 0 had added and committed it. Where there is nothing to load it is
@@ -61,10 +59,8 @@ impl Store {
         ensures config { IfOk result (λ store. store.shared.accounts.config ≡ config) }
         ensures sessions { IfOk result (λ store. AreLoaded graph store.shared store.passes.list.items) }
     {
-        match loaded(alloc, config, graph) {
-            Ok((shared, passes)) => Ok(Store { shared, passes }),
-            Err(refused) => Err(refused),
-        }
+        let (shared, passes) = loaded(alloc, config, graph)?;
+        Ok(Store { shared, passes })
     }
 
     /// How many sessions it has.

@@ -7,8 +7,8 @@ use Rattle.std.proofs.lemmas.List.Sums.{sum_by-set, sum_by_push}
 use Rattle.std.proofs.lemmas.Option.{slice_get_within, slice_get-get_or, slice_get_read, get_or_from_slice_get}
 use Rattle.undo_chain.specs.declared.undo.Undo.{Undo}
 use Rattle.undo_chain.specs.declared.link.TheConstants.{MOST_RECORDS}
-use Rattle.undo_chain.specs.declared.packed.Slot.{Slot}
-use Rattle.undo_chain.specs.declared.packed.Slot.TheVariants.{Vacant, Occupied}
+use Rattle.undo_chain.specs.declared.packed.UndoSlot.{UndoSlot}
+use Rattle.undo_chain.specs.declared.packed.UndoSlot.TheVariants.{Vacant, Occupied}
 use Rattle.undo_chain.specs.Chains.{record_at}
 use Rattle.undo_chain.specs.Walks.{ChangesRecord}
 use Rattle.undo_chain.specs.Packed.{record_in}
@@ -17,7 +17,7 @@ use Rattle.undo_chain.specs.Slots.{records_in, IsVacantList, AreSlots}
 -- ---- the list of vacant slots
 
 -- a key starts one list of vacant slots at most
-count_unique : (s : List Slot) (m n key : ℕ) → IsVacantList s m key → IsVacantList s n key → m ≡ n
+count_unique : (s : List UndoSlot) (m n key : ℕ) → IsVacantList s m key → IsVacantList s n key → m ≡ n
 count_unique s zero zero key p q = refl
 count_unique s zero (suc n) key p q = absurd (omega (arith, slice_get_within s key _ q.1))
 count_unique s (suc m) zero key p q = absurd (omega (arith, slice_get_within s key _ p.1))
@@ -28,7 +28,7 @@ count_unique s (suc m) (suc n) key p q =
     ap suc (count_unique s m n p.0 p.2 (subst (IsVacantList s n) same q.2))
 
 -- a write at a key that isn't on the list keeps the list
-kept_list : (s : List Slot) (key : ℕ) (e : Slot) (n from : ℕ) → ((m : ℕ) → m < n → IsVacantList s (suc m) key → ⊥) → IsVacantList s n from → IsVacantList (set s key e) n from
+kept_list : (s : List UndoSlot) (key : ℕ) (e : UndoSlot) (n from : ℕ) → ((m : ℕ) → m < n → IsVacantList s (suc m) key → ⊥) → IsVacantList s n from → IsVacantList (set s key e) n from
 kept_list s key e zero from off p = p ∙ sym (length-set s key e)
 kept_list s key e (suc n) from off p =
     let other : from ≢ key = λ same. off n (omega arith) (subst (IsVacantList s (suc n)) same p) in
@@ -39,11 +39,11 @@ kept_list s key e (suc n) from off p =
     (p.0, kept, kept_list s key e n p.0 (λ m below. off m (omega arith)) p.2)
 
 -- a record's key is on no list of vacant slots
-off_list : (s : List Slot) (key : ℕ) (u : Undo) → slice_get s key ≡ Some (Occupied u) → (m : ℕ) → IsVacantList s (suc m) key → ⊥
+off_list : (s : List UndoSlot) (key : ℕ) (u : Undo) → slice_get s key ≡ Some (Occupied u) → (m : ℕ) → IsVacantList s (suc m) key → ⊥
 off_list s key u found m p = let listed = p.1 in cc
 
 -- how many records there are after a write
-count_set : (s : List Slot) (key : ℕ) (old new : Slot) → slice_get s key ≡ Some old → count_by is_some (records_in (set s key new)) + cond (is_some (record_in old)) 1 0 ≡ count_by is_some (records_in s) + cond (is_some (record_in new)) 1 0
+count_set : (s : List UndoSlot) (key : ℕ) (old new : UndoSlot) → slice_get s key ≡ Some old → count_by is_some (records_in (set s key new)) + cond (is_some (record_in old)) 1 0 ≡ count_by is_some (records_in s) + cond (is_some (record_in new)) 1 0
 count_set s key old new found =
     let within = slice_get_within s key old found in
     let read : get_or (records_in s) key None ≡ record_in old = get_or-map record_in s key old None within ∙ ap record_in (get_or_from_slice_get s key old old found) in
@@ -53,28 +53,28 @@ count_set s key old new found =
 -- ---- keys
 
 -- a key that has a record is that of a slot
-pub key_within : (s : List Slot) (key : ℕ) → IsSome (record_at (records_in s) key) → key < length s
+pub key_within : (s : List UndoSlot) (key : ℕ) → IsSome (record_at (records_in s) key) → key < length s
 key_within s key there =
     let inside : key < length (records_in s) = grind (arith, get_or_past) in
     omega (arith, length-map s record_in)
 
-record_of : (s : List Slot) (key : ℕ) (d : Slot) → key < length s → record_at (records_in s) key ≡ record_in (get_or s key d)
+record_of : (s : List UndoSlot) (key : ℕ) (d : UndoSlot) → key < length s → record_at (records_in s) key ≡ record_in (get_or s key d)
 record_of s key d lt = get_or-map record_in s key d None lt
 
 -- the slot at a key with a record
-is_record : (e : Slot) (u : Undo) → record_in e ≡ Some u → e ≡ Occupied u
+is_record : (e : UndoSlot) (u : Undo) → record_in e ≡ Some u → e ≡ Occupied u
 is_record (Vacant n) u is = cc
 is_record (Occupied v) u is = cc
 
 -- the next key is the end of slots that all have records, or a vacant slot
-next_cases : (s : List Slot) (len next : ℕ) → AreSlots s len next → ((next ≡ length s) × (len ≡ length s)) ⊎ ((after : ℕ) × (slice_get s next ≡ Some (Vacant after)))
+next_cases : (s : List UndoSlot) (len next : ℕ) → AreSlots s len next → ((next ≡ length s) × (len ≡ length s)) ⊎ ((after : ℕ) × (slice_get s next ≡ Some (Vacant after)))
 next_cases s len next is = by_count is.vacant is.total is.linked
   where
     by_count : (n : ℕ) → len + n ≡ length s → IsVacantList s n next → ((next ≡ length s) × (len ≡ length s)) ⊎ ((after : ℕ) × (slice_get s next ≡ Some (Vacant after)))
     by_count zero total linked = inl (linked, omega arith)
     by_count (suc n) total linked = inr (linked.0, linked.1)
 
-module _ (s : List Slot) (len next : ℕ) (is : AreSlots s len next) where
+module _ (s : List UndoSlot) (len next : ℕ) (is : AreSlots s len next) where
   -- the next key has no record
   pub next_is_vacant : record_at (records_in s) next ≡ None
   next_is_vacant =
@@ -107,10 +107,10 @@ module _ (s : List Slot) (len next : ℕ) (is : AreSlots s len next) where
   next_within before = slice_get_within s next _ (vacant_before_end before).1
 
   -- what is read at the next key before the end is vacant
-  pub read_at_next : (e : Slot) → next ≢ length s → e ≡ get_or s next e → slice_get s next ≡ Some e
+  pub read_at_next : (e : UndoSlot) → next ≢ length s → e ≡ get_or s next e → slice_get s next ≡ Some e
   read_at_next e before read = slice_get_read s (length s) next e refl (next_within before) read
 
-  pub read_vacant : (e : Slot) → next ≢ length s → e ≡ get_or s next e → record_in e ≡ None
+  pub read_vacant : (e : UndoSlot) → next ≢ length s → e ≡ get_or s next e → record_in e ≡ None
   read_vacant e before read =
       let found = vacant_before_end before in
       let same : slice_get s next ≡ Some e = read_at_next e before read in
@@ -183,18 +183,18 @@ module _ (s : List Slot) (len next : ℕ) (is : AreSlots s len next) where
 
 -- ---- what stands at keys after a write
 
-pub record_set_same : (s : List Slot) (key : ℕ) (e : Slot) → key < length s → record_at (records_in (set s key e)) key ≡ record_in e
+pub record_set_same : (s : List UndoSlot) (key : ℕ) (e : UndoSlot) → key < length s → record_at (records_in (set s key e)) key ≡ record_in e
 record_set_same s key e lt = ap (λ rs. record_at rs key) (map-set record_in s key e) ∙ get_or-set_same (records_in s) key (record_in e) None (omega (arith, length-map s record_in))
 
-pub record_set_other : (s : List Slot) (key : ℕ) (e : Slot) (k : ℕ) → k ≢ key → record_at (records_in (set s key e)) k ≡ record_at (records_in s) k
+pub record_set_other : (s : List UndoSlot) (key : ℕ) (e : UndoSlot) (k : ℕ) → k ≢ key → record_at (records_in (set s key e)) k ≡ record_at (records_in s) k
 record_set_other s key e k other = ap (λ rs. record_at rs k) (map-set record_in s key e) ∙ get_or-set_other (records_in s) key k (record_in e) None other
 
 -- the slot that is read at the key of a record
-pub read_record : (s : List Slot) (key : ℕ) (e : Slot) (u : Undo) → key < length s → e ≡ get_or s key e → record_in e ≡ Some u → slice_get s key ≡ Some (Occupied u)
+pub read_record : (s : List UndoSlot) (key : ℕ) (e : UndoSlot) (u : Undo) → key < length s → e ≡ get_or s key e → record_in e ≡ Some u → slice_get s key ≡ Some (Occupied u)
 read_record s key e u lt read there = slice_get_read s (length s) key e refl lt read ∙ ap Some (is_record e u there)
 
 -- the record that is written has changed, and no other one
-pub record_changed : (f : Undo → Undo) (s : List Slot) (key spare : ℕ) (e : Slot) (u : Undo) → slice_get s key ≡ Some (Occupied u) → e ≡ Occupied (f u)
+pub record_changed : (f : Undo → Undo) (s : List UndoSlot) (key spare : ℕ) (e : UndoSlot) (u : Undo) → slice_get s key ≡ Some (Occupied u) → e ≡ Occupied (f u)
     → ChangesRecord f (record { slots = records_in s; spare = spare }) (record { slots = records_in (set s key e); spare = spare }) key
 record_changed f s key spare e u found is =
     let within = slice_get_within s key _ found in
@@ -207,7 +207,7 @@ record_changed f s key spare e u found is =
     }
 
 -- the record that was there
-pub changed_slot : (f : Undo → Undo) (e g : Slot) → IsSomeAnd (record_in e) (λ u. g ≡ Occupied (f u)) → (u : Undo) × (record_in e ≡ Some u) × (g ≡ Occupied (f u))
+pub changed_slot : (f : Undo → Undo) (e g : UndoSlot) → IsSomeAnd (record_in e) (λ u. g ≡ Occupied (f u)) → (u : Undo) × (record_in e ≡ Some u) × (g ≡ Occupied (f u))
 changed_slot f (Vacant n) g is = absurd is
 changed_slot f (Occupied u) g is = (u, refl, is)
 

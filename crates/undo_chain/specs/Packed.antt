@@ -4,10 +4,10 @@ use Rattle.std.specs.Option.{unwrap_or}
 use Rattle.graph_model.specs.declared.journal.TxnName.{TxnName}
 use Rattle.undo_chain.specs.declared.undo.Undo.{Undo}
 use Rattle.undo_chain.specs.declared.link.TheConstants.{MOST_RECORDS}
-use Rattle.undo_chain.specs.declared.packed.Content.{Content}
-use Rattle.undo_chain.specs.declared.packed.Content.TheVariants.{Nothing, Unstamped, Stamped, AllStamped}
-use Rattle.undo_chain.specs.declared.packed.Slot.{Slot}
-use Rattle.undo_chain.specs.declared.packed.Slot.TheVariants.{Vacant, Occupied}
+use Rattle.undo_chain.specs.declared.packed.SlotContent.{SlotContent}
+use Rattle.undo_chain.specs.declared.packed.SlotContent.TheVariants.{Nothing, Unstamped, Stamped, AllStamped}
+use Rattle.undo_chain.specs.declared.packed.UndoSlot.{UndoSlot}
+use Rattle.undo_chain.specs.declared.packed.UndoSlot.TheVariants.{Vacant, Occupied}
 
 -- a number, if it is there
 abbrev pub part : Bool → ℕ → Option ℕ
@@ -28,7 +28,7 @@ IsNameable None = Unit {0}
 IsNameable (Some key) = key ≤ MOST_RECORDS
 
 -- what a slot holds: the place of the next vacant one, or a record, which has a stamp or none
-abbrev pub slot_of : Content → TxnName → ℕ → Option ℕ → Option ℕ → Slot
+abbrev pub slot_of : SlotContent → TxnName → ℕ → Option ℕ → Option ℕ → UndoSlot
 slot_of Nothing by stamp older link = Vacant (unwrap_or link 0)
 slot_of Unstamped by stamp older link =
     Occupied (record { by = by; stamp = None; older = older; next = link; all_stamped = false })
@@ -38,6 +38,6 @@ slot_of AllStamped by stamp older link =
     Occupied (record { by = by; stamp = Some stamp; older = older; next = link; all_stamped = true })
 
 -- the record in a slot
-abbrev pub record_in : Slot → Option Undo
+abbrev pub record_in : UndoSlot → Option Undo
 record_in (Vacant next) = None
 record_in (Occupied undo) = Some undo

@@ -5,7 +5,7 @@
 
 ghost use Rattle.std.specs.Prelude.{◌≡◌, ◌≤◌, false, None, Some, IsSome, IsSomeAnd};
 ghost use Rattle.undo_chain.specs.declared.link.TheConstants.{MOST_RECORDS};
-ghost use Rattle.undo_chain.specs.declared.packed.Slot.TheVariants.{Vacant, Occupied};
+ghost use Rattle.undo_chain.specs.declared.packed.UndoSlot.TheVariants.{Vacant, Occupied};
 ghost use Rattle.undo_chain.specs.Packed.{IsNameable, record_in};
 ghost use Rattle.undo_chain.specs.Walks.{marked, with_stamp};
 
@@ -15,7 +15,7 @@ use graph_model::TxnName;
 use std::marker::Model;
 
 /// What stands in a slot: the place of the next vacant one, or a record.
-pub enum Slot {
+pub enum UndoSlot {
     /// It has no record.
     Vacant(usize),
     /// It has this one.
@@ -24,7 +24,7 @@ pub enum Slot {
 
 /// Whether a slot has a record, and whether that has a stamp, or all from it on.
 #[derive(Clone, Copy)]
-pub enum Content {
+pub enum SlotContent {
     /// It is vacant.
     Nothing,
     /// The writer's word is asked.
@@ -47,16 +47,16 @@ pub(crate) struct PackedSlot {
     /// The next record of the list, or the next vacant slot.
     link: Link,
     /// What the others mean.
-    content: Content,
+    content: SlotContent,
     /// Whether the row had a value before.
     has_older: bool,
 }
 
 impl Model for PackedSlot {
-    ghost use Rattle.undo_chain.specs.declared.packed.Slot.{Slot};
+    ghost use Rattle.undo_chain.specs.declared.packed.UndoSlot.{UndoSlot};
     ghost use Rattle.undo_chain.specs.Packed.{part, slot_of};
 
-    ghost Value = { Slot };
+    ghost Value = { UndoSlot };
 
     ghost view = { λ p. slot_of p.content p.by p.stamp (part p.has_older p.older) p.link };
 }
@@ -75,8 +75,8 @@ impl PackedSlot {
             older: undo.older.unwrap_or(0),
             link: Link::new(undo.next),
             content: match undo.stamp {
-                Some(_) => Content::Stamped,
-                None => Content::Unstamped,
+                Some(_) => SlotContent::Stamped,
+                None => SlotContent::Unstamped,
             },
             has_older: undo.older.is_some(),
         }
@@ -92,7 +92,7 @@ impl PackedSlot {
             stamp: 0,
             older: 0,
             link: Link::new(Some(next)),
-            content: Content::Nothing,
+            content: SlotContent::Nothing,
             has_older: false,
         }
     }
@@ -105,12 +105,12 @@ impl PackedSlot {
         Undo {
             by: self.by,
             stamp: match self.content {
-                Content::Stamped | Content::AllStamped => Some(self.stamp),
+                SlotContent::Stamped | SlotContent::AllStamped => Some(self.stamp),
                 _ => None,
             },
             older: self.has_older.then_some(self.older),
             next: self.link.key(),
-            all_stamped: matches!(self.content, Content::AllStamped),
+            all_stamped: matches!(self.content, SlotContent::AllStamped),
         }
     }
 
@@ -133,7 +133,7 @@ impl PackedSlot {
         ensures { IsSomeAnd (record_in self.old) (λ undo. self.new ≡ Occupied (with_stamp stamp undo)) }
     {
         self.stamp = stamp;
-        self.content = Content::Stamped;
+        self.content = SlotContent::Stamped;
     }
 
     /// Says of the record that from it on all have stamps.
@@ -141,6 +141,6 @@ impl PackedSlot {
         requires { IsSomeAnd (record_in self.old) (λ undo. IsSome undo.stamp) }
         ensures { IsSomeAnd (record_in self.old) (λ undo. self.new ≡ Occupied (marked undo)) }
     {
-        self.content = Content::AllStamped;
+        self.content = SlotContent::AllStamped;
     }
 }

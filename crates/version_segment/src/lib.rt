@@ -7,6 +7,7 @@
 #![tactic(auto)]
 
 mod ahead;
+pub mod below;
 mod buffer;
 mod change;
 mod fill;

@@ -1,5 +1,5 @@
 use Rattle.std.proofs.Common.{◌<◌, length, sym, ◌∙◌, subst, refl, arith, inl}
-use Rattle.leaf_queue.specs.declared.waiting.Stage.TheVariants.{Windows}
+use Rattle.leaf_queue.specs.declared.waiting.WaitStage.TheVariants.{Windows}
 use Rattle.leaf_store.specs.Queued.{IsThickOrQueued}
 use Rattle.leaf_store.proofs.RoomLemmas.{stands_leaf}
 use Rattle.leaf_store.proofs.TendLemmas.{here_thin, still_thin}

@@ -3,7 +3,7 @@ use Rattle.std.specs.Prelude.{slice_get, unwrap_or}
 use Rattle.std.proofs.lemmas.Option.{slice_get_read}
 use Rattle.graph_model.specs.Rows.{end_key}
 use Rattle.leaf_index.specs.declared.route.Route.{Route}
-use Rattle.leaf_index.specs.declared.slot.Slot.{Slot}
+use Rattle.leaf_index.specs.declared.slot.IndexSlot.{IndexSlot}
 use Rattle.leaf_index.specs.Index.{AreSorted, Index}
 use Rattle.leaf_index.specs.Slots.{HaveSlots, begin_or}
 use Rattle.leaf_index.proofs.HintLemmas.{hinted}
@@ -28,7 +28,7 @@ segment_near-requires-clause-sorted c =
     let there = slice_get_read slots _ (c.args.near / 8) c.in-Some.slot.now refl found.3.0 found.1 in
     let f = hinted slots c.self.inside.trie c.args.key (c.args.near / 8) c.in-Some.slot.now is.0.rising is.0.have is.2 there (sym c.holds.ensures ∙ c.if-holds.true) in
     let h = slot_at slots end_key f.last.front f.start f.last.back (subst (HaveSlots slots end_key) f.last.is is.0.have) in
-    (begin_or f.last.back end_key, subst (λ (slot : Slot). AreSorted slot.cuts (begin_or f.last.back end_key)) (slot_read slots f.start (c.args.near / 8) _ c.in-Some.slot.now h f.same there) h.cuts.sorted)
+    (begin_or f.last.back end_key, subst (λ (slot : IndexSlot). AreSorted slot.cuts (begin_or f.last.back end_key)) (slot_read slots f.start (c.args.near / 8) _ c.in-Some.slot.now h f.same there) h.cuts.sorted)
 
 pub returns-in-Some : goal.returns-in-Some
 returns-in-Some c =

@@ -3,7 +3,7 @@ use Rattle.graph_model.specs.Graph.{Graph}
 use Rattle.graph_image.specs.Images.{IsImageOf}
 use Rattle.desk.specs.declared.ring.Ring.{Ring}
 use Rattle.desk.specs.Rings.{IsRing}
-use Rattle.desk.proofs.known.Known.new_rings.Given as given
+use Rattle.desk.proofs.known.KnownRings.new_rings.Given as given
 
 -- all that were found so far are rings
 abbrev pub invariant-places : given.invariant-places
