@@ -1,4 +1,6 @@
 //! A ring, as it is said.
+//!
+//! 1. The list leads from each account to who paid it, so it is said from its end back to its first one.
 
 use graph_image::{Entry, Image, Table, Value};
 use std::fmt;

@@ -1,4 +1,6 @@
 //! How long something takes.
+//!
+//! 1. A clock may fail. Then no time is said, and the work goes on.
 
 use std::io;
 use std::rt::Clock;

@@ -1,4 +1,7 @@
 //! The watcher, who looks for rings while clerks book.
+//!
+//! 1. Its last look begins after the last clerk is done, so it has all transfers.
+//! 2. While it waits it serves the store, which keeps it small.
 
 use crate::known::Known;
 use crate::leave::Leave;
