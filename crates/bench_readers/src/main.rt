@@ -1,8 +1,9 @@
 //! Times scans of all rows by several readers of one transaction, by calls of `reader_parts`.
 //!
-//! 1. Called with five numbers, of vertices, edges, a seed, readers and rounds, it draws a graph by R-MAT from the seed,
-//!    makes a store with it, and has that many readers of one open transaction read all rows into lists, once a round.
-//!    It prints a line a round: how many rows there were, and how many a second. Called with no words it does nothing.
+//! 1. Called with five numbers, of vertices, edges, a seed, readers and rounds, it draws a graph by R-MAT from the
+//!    seed, makes a store with it, and has that many readers of one open transaction read all rows into lists, once a
+//!    round. It prints a line a round: how many rows there were, and how many a second. Called with no words it does
+//!    nothing.
 //! 2. Nothing is read, parsed or written while a round runs.
 #![tactic(auto)]
 

@@ -1,7 +1,7 @@
 //! Clerks, who book transfers.
 //!
-//! 1. A transfer is one transaction: it is booked whole or not at all.
-//! 2. One that meets a write of somebody else is tried anew, on what that one has left.
+//! 1. A transfer is booked whole or not at all: one transaction opens its accounts and adds the amount.
+//! 2. One that meets somebody else's write is tried again. One that would pass the greatest weight is refused.
 
 ghost use Rattle.std.specs.Prelude.{◌≤◌};
 ghost use Rattle.graph_model.specs.declared.limits.TheConstants.{MAX_ID};

@@ -1,6 +1,6 @@
 //! What is done at the desk.
 //!
-//! 1. A store runs works of one type side by side, so a clerk and the watcher are variants of one.
+//! 1. Clerks and the watcher are of one type, so one call can lend sessions to all of them.
 
 use crate::clerk::Clerk;
 use crate::known::KnownRings;

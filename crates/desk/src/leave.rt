@@ -1,7 +1,8 @@
 //! The leave to start threads, apart from the handle that gave it.
 //!
-//! 1. A kernel shares what it is given as a handle among its threads. That a handle may be shared is known of a function's
-//!    parameter, and not of what a work has in itself. The leave alone has no bytes, and so any thread may have it.
+//! 1. A kernel shares what it is given as a handle among its threads. That a handle may be shared is known of a
+//!    function's parameter, and not of what a work has in itself. The leave alone has no bytes, and so any thread may
+//!    have it.
 
 use std::marker::PhantomData;
 use std::thread::Threads;

@@ -1,7 +1,7 @@
 //! A look at a snapshot.
 //!
-//! 1. All kernels run on one image, so what they say is of one moment, whatever is booked meanwhile.
-//! 2. The transaction ends before they run, since the image has all that they need.
+//! 1. The transaction ends as soon as the image is made, so it keeps no records while the kernels run.
+//! 2. All that a look says is of one snapshot, and it says how many commits that has.
 
 ghost use Rattle.std.specs.Prelude.{◌≡◌, IfOk};
 ghost use Rattle.std.specs.List.{AllByRecursion};
@@ -34,8 +34,8 @@ pub struct Look {
     pub rings: Vec<Ring>,
 }
 
-/// Looks at what the store has now. The transaction ends as soon as there is an image of it, so it holds nobody up. What it
-/// finds are rings of the graph of so many commits as it has seen.
+/// Looks at what the store has now. The transaction ends as soon as there is an image of it, so it holds nobody up.
+/// What it finds are rings of the graph of so many commits as it has seen.
 pub fn take_look<R: Threads + Sync, E: VertexEngine, P: Place>(
     rt: &R,
     alloc: Global,

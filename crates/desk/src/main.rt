@@ -1,11 +1,11 @@
 //! A desk that takes transfers while it looks for rings of money.
 //!
-//! 1. Two clerks, each in a thread of its own, book the transfers of a file as if these came in: the one has the first half
-//!    of them, the other one the rest.
+//! 1. Two clerks, each in a thread of its own, book the transfers of a file as if these came in: the one has the first
+//!    half of them, the other one the rest.
 //! 2. A watcher in a third thread looks for rings again and again, each time on a snapshot. What it sees depends on the
 //!    threads, so it says that on the standard error.
-//! 3. Once all transfers are booked, all accounts are looked at once more. What is said of that on the standard output is
-//!    the same in each run.
+//! 3. Once all transfers are booked, all accounts are looked at once more. What is said of that on the standard output
+//!    is the same in each run.
 #![tactic(auto)]
 
 mod clerk;

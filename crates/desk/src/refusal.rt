@@ -1,6 +1,6 @@
 //! Why a look has found nothing out.
 //!
-//! 1. A look writes nothing, so one that is refused leaves the store as it was.
+//! 1. The refusals of all calls of a look become this one by `?`, so the look itself has no case for them.
 
 use graph_image::{KernelRefusal, NoMemory};
 use std::alloc::{AllocError, AllocFailed};

@@ -1,7 +1,6 @@
 //! A ring, as it is said.
 //!
-//! 1. Accounts are kept in the order in which each was paid by the next one, and said the other way round, as the money
-//!    went.
+//! 1. The list leads from each account to who paid it, so it is said from its end back to its first one.
 
 use graph_image::{Entry, Image, Table, Value};
 use std::fmt;

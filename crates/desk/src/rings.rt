@@ -1,7 +1,7 @@
 //! Rings: ways by which money comes back to who paid it.
 //!
-//! 1. One search tells how far from the account each other one is; the way back goes each time to who is nearer. So a
-//!    ring is a shortest one through its account.
+//! 1. A search tells how many hops each account is away. Going back by the fewest hops gives a shortest ring.
+//! 2. The way back takes no more steps than there are accounts.
 
 ghost use Rattle.std.specs.Prelude.{◌≡◌, ◌<◌, Some, IfOk, IfSome, length, slice_get};
 ghost use Rattle.graph_model.specs.Graph.{Graph};

@@ -1,6 +1,6 @@
 //! How long something takes.
 //!
-//! 1. Where the clock fails a figure is missing, and nothing else is wrong.
+//! 1. A clock may fail. Then no time is said, and the work goes on.
 
 use std::io;
 use std::rt::Clock;

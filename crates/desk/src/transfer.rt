@@ -1,6 +1,7 @@
 //! Transfers, and how a file tells them.
 //!
-//! 1. A line that tells none within the limits stops the program before the first transfer is booked.
+//! 1. A line that isn't a transfer is named with its number, and then no transfer of the file is taken.
+//! 2. Ids and amounts are within the store's limits, so none is refused for that later.
 
 ghost use Rattle.std.specs.Prelude.{◌≤◌};
 ghost use Rattle.graph_model.specs.declared.limits.TheConstants.{MAX_ID, MAX_WEIGHT};

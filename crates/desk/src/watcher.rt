@@ -1,8 +1,7 @@
 //! The watcher, who looks for rings while clerks book.
 //!
-//! 1. It looks once more after the last clerk is done, so what was booked last is seen.
-//! 2. Between looks its session serves, which keeps the store small while clerks write.
-//! 3. What it says depends on the threads, so it says it on the standard error.
+//! 1. Its last look begins after the last clerk is done, so it has all transfers.
+//! 2. While it waits it serves the store, which keeps it small.
 
 use crate::known::KnownRings;
 use crate::leave::Leave;

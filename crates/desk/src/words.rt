@@ -1,6 +1,6 @@
 //! The words after the program's name.
 //!
-//! 1. A number that isn't there is 0: nobody waits then.
+//! 1. Pauses are in milliseconds, and 0 where none is stated.
 
 use anyhow::{Context, Result, bail};
 use std::alloc::Global;

@@ -186,8 +186,8 @@ impl Segment {
         run_in(self.rows.as_slice(), from, until)
     }
 
-    /// Moves the rows from the place on into an empty segment. The fence key between both is that of
-    /// the first moved row, or the high one where none is moved. Leaves divide their rows by `share`, and don't call it.
+    /// Moves the rows from the place on into an empty segment. The fence key between both is that of the first moved
+    /// row, or the high one where none is moved. Leaves divide their rows by `share`, and don't call it.
     pub fn split_off(&mut self, place: usize, right: &mut Segment)
         requires place { place ≤ length self.old.rows }
         requires empty { right.old.rows ≡ [] }

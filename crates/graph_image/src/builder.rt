@@ -26,6 +26,7 @@ pub struct Builder {
     alloc: Global,
     /// The sources of the rows, each once.
     sources: RoomyItems<u64>,
+    /// All rows, each with the place of its source.
     rows: RoomyItems<PlacedRow>,
 }
 

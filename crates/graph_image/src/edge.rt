@@ -1,4 +1,7 @@
 //! Arcs between places.
+//!
+//! 1. A place and a weight have 32 bits each, so a line of the cache has eight arcs.
+//! 2. An arc is listed at both of its ends, each time with the place of the other one.
 
 ghost use Rattle.std.specs.Prelude.{◌≡◌};
 ghost use Rattle.graph_image.specs.Edges.{key_of, arc_of};

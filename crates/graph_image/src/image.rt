@@ -1,4 +1,7 @@
-//! The image.
+//! The image: the vertices of a graph by their places, and the arcs out of and into each.
+//!
+//! 1. Ids rise from place to place, and the arcs at a place rise by the place of their other end.
+//! 2. Where the arcs into each vertex are those out of it, as in an undirected graph, one list serves for both.
 
 ghost use Rattle.std.specs.Prelude.{◌≡◌, ℕ, ◌<◌, ◌^◌, ◌==◌, length, slice_get, unwrap_or, Some, IfSome, IfNone, IsTrue};
 ghost use Rattle.graph_image.specs.Images.{IdsRise, AreWithin, arcs_at, Listed};
@@ -86,8 +89,8 @@ impl Image {
         }
     }
 
-    /// Whether the arcs that lead to each vertex are known to be those that lead from it, so whoever wants both may read
-    /// one of them.
+    /// Whether the arcs that lead to each vertex are known to be those that lead from it, so whoever wants both may
+    /// read one of them.
     pub fn into_is_out(&self) -> bool
         ensures { IsTrue result → self.now.into ≡ self.now.out }
     {

@@ -27,7 +27,9 @@ const PART_ROWS: usize = 524_288;
 #[derive(Drop)]
 pub struct PartBuilder {
     alloc: Global,
+    /// Parts that no row comes to any more.
     full: RoomyItems<RowList>,
+    /// The part that rows come to.
     last: RoomyItems<Row>,
 }
 

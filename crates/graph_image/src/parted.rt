@@ -1,4 +1,7 @@
 //! An image of rows in lists, made by several threads.
+//!
+//! 1. The rows of each list are counted first, so each thread writes into slices of its own and none waits.
+//! 2. An array has its length before a thread writes into it, so no thread takes memory.
 
 ghost use Rattle.std.specs.Prelude.{◌≡◌, List, ◌+◌, ◌<◌, ◌^◌, [], ◌∷◌, ◌++◌, length, IfOk};
 ghost use Rattle.std.specs.List.{AllZip};

@@ -1,4 +1,6 @@
 //! Where an id stands among rising ids.
+//!
+//! 1. Consecutive ids need no search. It is asked for each arc of an image, so this is worth a case of its own.
 
 ghost use Rattle.std.specs.Prelude.{◌≡◌, ℕ, slice_get, IfSome, IfNone};
 ghost use Rattle.graph_image.specs.Images.{IdsRise};

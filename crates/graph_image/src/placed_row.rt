@@ -1,4 +1,6 @@
 //! A row whose source is known by its place.
+//!
+//! 1. Rows come in the order of their sources, so only the place of the target is searched for.
 
 ghost use Rattle.std.specs.Prelude.{◌≡◌, ℕ, ◌-◌, ◌<◌, ◌^◌, length, slice_get, Some, IfSome, IfNone};
 ghost use Rattle.graph_image.specs.Images.{IdsRise};

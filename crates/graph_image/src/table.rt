@@ -1,4 +1,6 @@
 //! Tables of values by place.
+//!
+//! 1. Kernels reckon with places alone. Here each place becomes its id again, so lines come in the order of ids.
 
 ghost use Rattle.std.specs.Prelude.{◌≡◌, length, IfOk};
 ghost use Rattle.graph_image.specs.Entries.{AreEntries};

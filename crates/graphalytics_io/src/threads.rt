@@ -1,4 +1,6 @@
 //! How work is shared out among threads.
+//!
+//! 1. The processors of the machine decide how many parts there are, and nothing else: what comes out is the same.
 
 use rayon::current_num_threads;
 use std::thread::Threads;

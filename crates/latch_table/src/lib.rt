@@ -1,4 +1,8 @@
 //! The latch table: cells that one pass at a time holds.
+//!
+//! 1. A cell's word is odd exactly while a pass holds it, and no two passes hold one.
+//! 2. The slot of a free cell has a value that fits. Whoever takes the cell finds it, and puts one back.
+//! 3. The word is two higher after each hold that changed the cell, so an equal word means an unchanged cell.
 #![tactic(auto)]
 
 mod backoff;

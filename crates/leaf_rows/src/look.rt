@@ -1,4 +1,6 @@
 //! The rows of a write are found once, for all that its check, its room and its writing ask of them.
+//!
+//! 1. The places that are found are guesses: a wrong one costs a search, and no contract reads it.
 
 ghost use Rattle.std.specs.Prelude.{◌≡◌};
 ghost use Rattle.graph_model.specs.Refused.{IsWithinLimits};

@@ -1,4 +1,6 @@
 //! What nobody can see any more is taken away, cell by cell: in all rows, or in those of a leaf.
+//!
+//! 1. It changes the view of no open transaction and takes no memory, so it may be done between any two calls.
 
 ghost use Rattle.std.specs.Prelude.{◌≡◌, ◌+◌, ◌<◌, ◌≤◌, ◌^◌, true, length};
 ghost use Rattle.graph_model.specs.declared.row.Key.{Key};

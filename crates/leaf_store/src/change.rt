@@ -57,6 +57,7 @@ impl LeafStore {
             }
             None => unreachable!(),
         };
+        // Only other numbers of rows make a window sparse, or two neighbours one leaf.
         queue_change(&mut self.queue, &self.leaves, place.leaf, before, rows);
     }
 
@@ -76,6 +77,7 @@ impl LeafStore {
                 let segment = &mut leaf.segments[place.segment];
                 let before = segment.len();
                 let records = segment.prune(horizon, states);
+                // A settled cell needs no room for records until its next write, which takes it before it begins.
                 segment.release(alloc);
                 let rows = segment.len();
                 let high = segment.high();

@@ -1,4 +1,6 @@
 //! How many records and retired leaves there are.
+//!
+//! 1. Leaves are counted by their keys, so one that is free or retired counts nothing.
 
 ghost use Rattle.std.specs.Prelude.{◌≡◌, ◌-◌, ◌^◌, length, min};
 ghost use Rattle.leaf_table.specs.LeafArray.Leaves.{IsLeaf};

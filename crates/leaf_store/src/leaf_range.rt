@@ -1,4 +1,6 @@
 //! Which keys a leaf has.
+//!
+//! 1. It has all keys of its range and no others, so whoever goes by ranges comes to each leaf once.
 
 ghost use Rattle.std.specs.Prelude.{◌≡◌, true, false};
 ghost use Rattle.graph_model.specs.Rows.{is_below, is_between, end_key};

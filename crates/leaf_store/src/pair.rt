@@ -21,7 +21,8 @@ use leaf_table::{counts_of, cuts_of, put_leaf};
 use std::alloc::Global;
 use std::mem::replace;
 
-/// How many rows two neighbours have together at most that become one leaf.
+/// How many rows two neighbours have together at most that become one leaf: half of those to which windows of a whole
+/// leaf are filled, so that a leaf that was merged isn't split by the next few rows.
 pub const MERGE_ROWS: usize = 104;
 
 /// The stamps of retired leaves are below this one, so that all of them can be freed.
@@ -108,6 +109,7 @@ fn merge_entries(
 {
     let low = left.segments[0].low();
     let cut = right.segments[0].low();
+    // The only step that takes memory, so it comes before the index changes.
     merge_leaves(left, right, alloc)?;
     index.drop_leaf(cut);
     index.retire(number, stamp);
@@ -147,6 +149,7 @@ pub(crate) fn merge_pair(
             Ok(())
         }
         Err(refused) => {
+            // As it was: it is still live, with its rows.
             put_leaf(leaves, pair.right as usize, right);
             Err(refused)
         }

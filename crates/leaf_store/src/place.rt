@@ -1,4 +1,6 @@
 //! Where the cell of a key stands.
+//!
+//! 1. A cell that was found before is tried first, where there is one. If it isn't the key's the index is asked.
 
 ghost use Rattle.leaf_store.specs.Table.{IsPlace};
 

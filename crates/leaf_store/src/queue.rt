@@ -1,4 +1,7 @@
 //! Leaves that come into the queue: those that may have a sparse window, or too few rows beside a neighbour.
+//!
+//! 1. An entry is a guess. Whoever takes it out looks at the leaf again, which may have changed or be retired.
+//! 2. A thick leaf needs no entry: each segment has enough rows, and all of them too many to be merged.
 
 ghost use Rattle.std.specs.Prelude.{◌≡◌, ◌<◌, ◌≤◌, ℕ, true, None, IfSome, length, slice_index, sum};
 ghost use Rattle.leaf_table.specs.LeafArray.Leaves.{IsLeaf};

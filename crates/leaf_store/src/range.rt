@@ -1,4 +1,7 @@
 //! The range of a leaf, given in two.
+//!
+//! 1. The cuts make way before the new leaf gets its entry. Where that is refused memory they are set back, so the
+//!    index is as it was.
 
 ghost use Rattle.std.specs.Prelude.{◌≡◌, ◌++◌, ◌∷◌, OnErr, OnOk};
 ghost use Rattle.leaf_index.specs.Index.{IsTaken};

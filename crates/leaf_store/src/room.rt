@@ -59,6 +59,7 @@ impl LeafStore {
                 )?;
                 Ok(())
             }
+            // No window of the leaf has room, so its rows are divided between two leaves.
             None => split_queued(
                 &mut self.index,
                 &mut self.leaves,

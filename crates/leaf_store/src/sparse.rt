@@ -1,4 +1,6 @@
 //! Windows that have a segment with too few rows.
+//!
+//! 1. The smallest window that has enough rows for all its segments is spread, so few rows move.
 
 ghost use Rattle.std.specs.Prelude.{◌≡◌, None, IfSome, length};
 ghost use Rattle.leaf_table.specs.LeafArray.Leaves.{IsLeaf};

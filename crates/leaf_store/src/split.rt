@@ -58,6 +58,7 @@ pub fn split_entry(
 {
     let cuts = cuts_of(left);
     let key = split_key(left);
+    // The entry first: it may be refused memory, and then no row has moved.
     halve_range(index, alloc, cuts[0], cuts, key, leaf)?;
     match split_leaf(left, right, alloc) {
         Ok(_key) => {
@@ -90,6 +91,7 @@ fn split_with(
     ensures err { OnErr result (index.new ≡ index.old) }
     ensures same { OnErr result (KeepsLeaves leaves.old.items leaves.new.items leaf) }
 {
+    // The memory of the new leaf comes before the index or a row changes.
     let mut right = empty_leaf(alloc)?;
     match &mut leaves[leaf] {
         Some(left) => split_entry(index, alloc, left, &mut right, other)?,
@@ -134,6 +136,7 @@ pub(crate) fn split_at(
             Ok(leaf)
         }
         Err(_) => {
+            // The number is free again, as if it had never been taken.
             index.give_back(leaf);
             Err(RoomRefusal::NoMemory)
         }

@@ -28,9 +28,13 @@ use txn_manager::RoomRefusal;
 #[derive(Drop)]
 pub struct LeafStore {
     pub(crate) alloc: Global,
+    /// Which leaf has which keys.
     pub(crate) index: LeafIndex,
+    /// By their numbers; none of a number that isn't live.
     pub(crate) leaves: Vec<Option<Box<Leaf>>>,
+    /// Those that wait to be looked at.
     pub(crate) queue: LeafQueue,
+    /// What was read ahead, kept so that no compiler leaves out the reads.
     pub(crate) ahead: u64,
 }
 
@@ -55,6 +59,7 @@ impl LeafStore {
     {
         let index = LeafIndex::new(alloc, leaves)?;
         index.is_index();
+        // One leaf covers all keys, so each key has a cell before there is a row.
         let first = Leaf::new(alloc, Key { src: 0, second: 0 }, Key::END)?;
         let _cuts = cuts_of(&first);
         let memory = Box::new(alloc, first)?;

@@ -43,6 +43,7 @@ pub(crate) fn find_work(
         if let Some(work) = work_at(index, leaves, queue, first) {
             return Some(work);
         }
+        // Nothing to do at this stage: it waits for the next one, or not any more.
         queue.pass(first);
     }
 }

@@ -1,4 +1,7 @@
 //! What a line is answered, and what a turn makes of it.
+//!
+//! 1. A line has one answer, however many turns it takes.
+//! 2. The image of an open transaction stays for its next kernel, until a write is done.
 
 ghost use Rattle.std.specs.Prelude.{◌≡◌, None};
 ghost use Rattle.line_runner.specs.Phases.{image_behind};

@@ -1,4 +1,6 @@
 //! The image of what a transaction sees, which is kept for its next kernels.
+//!
+//! 1. It is kept for as long as the transaction is open and writes nothing, so it is what a new scan would give.
 
 ghost use Rattle.std.specs.Prelude.{◌≡◌, IfOk};
 ghost use Rattle.graph_model.specs.declared.write.Kind.TheVariants.{Undirected};

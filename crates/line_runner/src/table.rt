@@ -1,4 +1,6 @@
 //! The tables of kernels, by the names of their files.
+//!
+//! 1. All six kernels are called here and nowhere else in a run, so one more is one arm more.
 
 ghost use Rattle.std.specs.Prelude.{◌≡◌, List, length, Err, IfOk, IfSome, IsSome};
 ghost use Rattle.graph_model.specs.Graph.{Graph};

@@ -1,4 +1,7 @@
 //! One try of a reader to read a run of rows without a latch.
+//!
+//! 1. The loads are those of a pass. Only what the second load of the version word tells is of another view: that of
+//!    the transaction when its account was lent.
 
 ghost use Rattle.std.specs.Prelude.{◌≡◌, ◌<◌, true, [], ◌∷◌};
 ghost use Rattle.graph_model.specs.History.{view};

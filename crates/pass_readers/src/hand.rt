@@ -1,4 +1,7 @@
 //! Cells that a reader takes for a call, and puts back before it ends.
+//!
+//! 1. A reader holds nothing between two calls, so nobody waits for its next one.
+//! 2. It has no transaction of its own: the rows that it puts back are those that it found.
 
 ghost use Rattle.std.specs.Prelude.{◌≤◌, length};
 ghost use Rattle.pass_cells.specs.RowWrites.Held.{AreHeld};
@@ -27,6 +30,7 @@ pub(crate) fn take_cells(
     ensures held { AreHeld (held_rows cells.new.taken.list.items) keys.now }
     ensures kept { KeepsReader reader.old reader.new }
 {
+    // By hints first, and by the index where they are wrong, as for a pass with a transaction.
     cells.take(rt, store, reader, keys);
 }
 

@@ -1,4 +1,6 @@
 //! What one load of the clock tells a reader of the rows in cells that it holds.
+//!
+//! 1. The load changes no word. What it teaches is what the rule allows to whoever holds the rows at that moment.
 
 ghost use Rattle.std.specs.Prelude.{◌≡◌, [], ◌∷◌};
 ghost use Rattle.pass_steps.specs.RuleModel.NoteSteps.{LearnsRows};

@@ -1,4 +1,7 @@
 //! The account of a pass is lent to another one, and given back.
+//!
+//! 1. Both steps divide and join what seats know. They change no word, so nobody else notices them.
+//! 2. The pass counts its readers that are out, and that count is what keeps it from writing and from ending.
 
 ghost use Rattle.std.specs.Prelude.{◌≡◌, ◌<◌, [], ◌∷◌};
 ghost use Rattle.pass_steps.specs.StoreRelationDeclared.stage.Stage.TheVariants.{Open};
@@ -45,6 +48,7 @@ fn lend(store: &Store, from: &mut Pass, to: &mut Pass)
 {
     let reader = split_off(&store.accounts, &mut from.account, from.number);
     let own = replace(&mut to.account, reader);
+    // What the pass knows of itself stays beside the lent account, and is all that is left once that goes back.
     store.accounts.join(&mut to.account, own);
 }
 
@@ -73,6 +77,7 @@ fn take_back(store: &Store, from: &mut Pass, to: &mut Pass)
     ensures state { (state_of to.new ≡ state_of to.old) × (pin_of to.new ≡ pin_of to.old) }
     ensures number { to.new.number ≡ to.old.number }
 {
+    // First what was its own, so that nothing of it goes away with the lent account.
     let own = take_own(&store.accounts, &mut to.account);
     let reader = replace(&mut to.account, own);
     take_in(&store.accounts, &mut from.account, reader, from.number);

@@ -75,6 +75,7 @@ impl<'a, B: Reading> ReaderStates<'a, B> {
         ensures kept { OnlyAccount reader.old reader.new no_sight }
         ensures lent { result ≡ reader.old.account.me.0 }
     {
+        // A pass has a seat at any time, so one that knows nothing stands in for the one that is lent.
         let rest = cut_nothing(&store.accounts, &mut reader.account);
         let seat = replace(&mut reader.account, rest);
         ReaderStates {
@@ -144,6 +145,7 @@ fn state_by(word: u64, clock: u64) -> State
         if stamp <= clock {
             return State::Committed { stamp };
         }
+        // Stored, and not yet published when the clock was loaded: to this reader it is still open.
         return State::Live;
     }
     if word == 1 {

@@ -1,4 +1,7 @@
 //! Runs of rows that a reader reads in a cell that it takes.
+//!
+//! 1. The cell stays in hand from before the clock is loaded until the last row is copied, so no record in it gets its
+//!    stamp meanwhile.
 
 ghost use Rattle.std.specs.Prelude.{◌≡◌, ◌≤◌, true, false, length};
 ghost use Rattle.graph_model.specs.Rows.{is_below, rows};
@@ -19,8 +22,8 @@ use std::marker::Brand;
 use std::sync::Wait;
 use undo_chain::Snapshot;
 
-/// Reads the rows that the reader sees from a key on and before another, as far as the first key's cell goes, and answers
-/// where they end. They take the place of those in the buffer. May wait, and takes no memory.
+/// Reads the rows that the reader sees from a key on and before another, as far as the first key's cell goes, and
+/// answers where they end. They take the place of those in the buffer. May wait, and takes no memory.
 pub fn read_run(
     rt: &impl Wait,
     store: &Store,
@@ -39,6 +42,7 @@ pub fn read_run(
     ensures run { IsRunTo result (seen_by store.now.accounts.config (read_by reader.old)) from until run.new }
 {
     take_cells(rt, store, reader, cells, &[from]);
+    // Once, with the cell in hand: a commit is published by then or isn't, and that for all rows of the run alike.
     let clock = learn_in_hand(store, reader, cells);
     let end = read_in_hand(
         store,
@@ -102,6 +106,7 @@ fn read_as<B: Reading>(
     let mut buffer = Rows32::new();
     let mut states = ReaderStates::<B>::lend(store, reader, clock);
     let lent = taken.run(from, until, snapshot, &mut states, &mut buffer);
+    // Rows without records are lent as they stand in the cell, so they are copied before it is given back.
     copy_rows(lent.rows, run);
     let end = lent.end;
     states.give_back(reader);

@@ -32,6 +32,7 @@ pub(crate) fn load_packed(
 {
     let is_last = raise_cell(store, pass, cell);
     let fences = load_words(store, pass, cell, words);
+    // No word was stored, so the old number comes back: a read that began before it was odd is still right.
     lower_cell(store, pass, cell, is_last);
     fences
 }

@@ -1,4 +1,7 @@
 //! Runs of rows: those of a key range, as far as a cell goes.
+//!
+//! 1. Words and records are of one moment: the cell stays in hand from the first load to the last row.
+//! 2. The clock is loaded in that time too, so no record gets its stamp between the load and the look at it.
 
 ghost use Rattle.std.specs.Prelude.{◌≡◌, true, IfSome};
 ghost use Rattle.graph_model.specs.Rows.{is_below, is_between, rows};
@@ -21,9 +24,9 @@ use std::marker::Brand;
 use std::sync::Wait;
 use undo_chain::Snapshot;
 
-/// Reads the rows that the open transaction sees from a key on and before another, as far as a cell goes, given what its
-/// begin has answered. Answers where they end, or nothing where the cell isn't the first key's. The rows take the place
-/// of those in the buffer. May wait for the cell, and takes no memory.
+/// Reads the rows that the open transaction sees from a key on and before another, as far as a cell goes, given what
+/// its begin has answered. Answers where they end, or nothing where the cell isn't the first key's. The rows take the
+/// place of those in the buffer. May wait for the cell, and takes no memory.
 pub fn read_packed(
     rt: &impl Wait,
     store: &Store,
@@ -52,6 +55,7 @@ pub fn read_packed(
         start: begun.start,
         own: begun.by,
     };
+    // With nothing in hand, so it may be waited for as long as it takes.
     let held = take_cell(rt, store, pass, cell);
     let end = read_held(
         store,
@@ -91,9 +95,11 @@ fn read_held(
 {
     let mut words = Rows32::new();
     let (low, high) = load_packed(store, pass, cell, &mut words);
+    // The number was a guess, and rows have moved since.
     if !holds(low, high, from) {
         return None;
     }
+    // Once for the whole cell: a commit is published by then or isn't, and that for all of its rows alike.
     let clock = learn(store, pass);
     let end = lesser(high, until);
     read_rows(

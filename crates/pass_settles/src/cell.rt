@@ -60,8 +60,10 @@ pub(crate) fn settle_cell(
     } = held;
     raise_cell(store, pass, cell);
     know_stamped(store, pass, cell, by, stamp);
+    // Only now: a row settles once its newest record has a stamp.
     know_settled(store, pass, cell);
     clear_cell(store, pass, cell, &value);
+    // Two higher: a read that began before finds that words have changed.
     lower_cell(store, pass, cell, true);
     Held {
         cell,
@@ -97,6 +99,7 @@ pub(crate) fn stamp_cell(
     let mut value = value;
     let is_last = raise_cell(store, pass, cell);
     know_stamped(store, pass, cell, by, stamp);
+    // The old number: a stamp stands in what is kept of the rows, and in no word, so a read that began before is right.
     lower_cell(store, pass, cell, is_last);
     value.stamp(by, stamp);
     Held {

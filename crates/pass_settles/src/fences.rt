@@ -1,4 +1,6 @@
 //! Fence keys of cells, as the words of their blocks tell them.
+//!
+//! 1. Four loads tell whether a cell is the key's, where unpacking it would load all its words.
 
 ghost use Rattle.std.specs.Prelude.{◌≡◌, ◌<◌, ◌+◌, false, slice_index};
 ghost use Rattle.graph_model.specs.declared.row.Key.{Key};

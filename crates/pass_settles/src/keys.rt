@@ -35,8 +35,11 @@ pub enum Unsettled {
 
 /// How a cell is given back.
 enum CellEnd {
+    /// Its rows are stamped, and their records go.
     Settle,
+    /// Its rows are stamped, and their records stay.
     Stamp,
+    /// As it was found.
     Leave,
 }
 
@@ -114,6 +117,7 @@ fn settle_key(
     if cell >= store.index_place() {
         return None;
     }
+    // With nothing in hand, so it may be waited for as long as it takes.
     let held = take_cell(rt, store, pass, cell);
     let fences = load_fences(store, pass, cell);
     if !fences.holds(key) {
@@ -167,11 +171,14 @@ fn end_of(
     requires whole { sweep.now.looked ≡ store.now.accounts.config.passes }
     ensures { result ≡ Settle → (stamp ≤ horizon_of sweep.now) × CanSettle by (horizon_of sweep.now) resting.now.rows }
 {
+    // Of a sweep that was made after the pass had unpinned itself, so its own start is not among the pins.
     let horizon = store.pins().horizon(sweep);
     if stamp <= horizon {
+        // All who are open began with the commit or after it, so nobody needs an older value of these rows.
         if resting.can_settle(by, horizon) {
             return CellEnd::Settle;
         }
+        // A row without a value goes with a prune, which shifts other rows, so the cell has to be unpacked.
         if !resting.has_values() {
             return CellEnd::Leave;
         }

@@ -1,4 +1,8 @@
 //! Words of a block whose rows are settled: the marks go, and the words stay that have none.
+//!
+//! 1. A mark tells reads without a latch that the row has records. A settled row has none, so what is left of its word
+//!    is the value that each of them sees.
+//! 2. The last row goes first: what is kept of a packed cell tells which changed row comes before another one.
 
 ghost use Rattle.std.specs.Prelude.{◌≡◌, ◌<◌, ◌≤◌, ◌+◌, ℕ, true, length};
 ghost use Rattle.pass_sweeps.specs.VersionSegment.Rows.{VersionedRows};
@@ -22,6 +26,7 @@ pub(crate) fn clear_marks(accounts: &Accounts, seat: &mut Account, cell: u32, re
 {
     resting.is_at_rest();
     let mut end = resting.len();
+    // Also where no word has a mark: a version word rises by two only where a word was stored.
     store_count(accounts, seat, cell, end);
     'marks: while let Some(place) = resting.changed_before(end) {
         clear_mark(accounts, seat, cell, place as u32);
@@ -57,6 +62,7 @@ fn clear_mark(accounts: &Accounts, seat: &mut Account, cell: u32, place: u32)
     let at = 8 + 3 * place;
     let word = accounts.holder_load(seat, cell, at);
     let plain = value_in_word(word).unwrap_or(word);
+    // A word without a mark isn't stored anew, so its line stays in the caches of those who read it.
     if plain != word {
         accounts.store_word(seat, cell, at, plain);
     }

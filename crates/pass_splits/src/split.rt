@@ -1,4 +1,6 @@
 //! The leaf in hand is split into a free one in hand.
+//!
+//! 1. Both leaves were chosen while nothing was in hand, so they are looked at again here before anything moves.
 
 ghost use Rattle.std.specs.Prelude.{◌≡◌, ◌≤◌, ℕ, true, [], ◌∷◌, take, List, Some, IfOk, OnErr, OnOk};
 ghost use Rattle.graph_model.specs.Rows.{is_below, end_key};

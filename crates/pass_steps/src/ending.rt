@@ -1,4 +1,7 @@
 //! The end of a transaction that isn't committed: it stops, its writes are taken back, and it has ended.
+//!
+//! 1. It stops first: from then on it can't commit, so a half of its writes never does.
+//! 2. Its word changes last: whoever meets one of its records asks that word, as long as there is a record.
 
 ghost use Rattle.std.specs.Prelude.{◌≡◌, [], None};
 ghost use Rattle.store_rule.specs.RuleModel.Sight.{with_pass};
@@ -21,6 +24,7 @@ pub fn stop(store: &Store, pass: &mut Pass)
     ensures { OnlyAccount pass.old pass.new (with_pass pass.old.account.me.0 pass.old.number
         (stopped (state_of pass.old))) }
 {
+    // Changes no word: to others it stays open until its records are gone, and so they keep off its rows.
     let planned = Stops {
         number: pass.number,
     };

@@ -1,4 +1,7 @@
 //! The journal is seen, or what another pass has seen of it.
+//!
+//! 1. What a pass has seen never shrinks.
+//! 2. Who holds the journal sees all of it. From another pass it is taken by a note, and nobody waits.
 
 ghost use Rattle.std.specs.Prelude.{◌≡◌, ◌+◌, [], length};
 ghost use Rattle.graph_model.specs.Legal.{IsLegal};
@@ -34,6 +37,7 @@ pub fn refresh(rt: &impl Wait, store: &Store, pass: &mut Pass) -> u64
     ensures same { IsSamePass pass.old pass.new }
 {
     let held = take_journal(rt, store, pass);
+    // With the journal in hand: nobody commits meanwhile, so all that is published is seen.
     let clock = see_journal(store, pass);
     give_journal(store, pass, held);
     clock
@@ -87,6 +91,7 @@ pub fn meet(store: &Store, from: &mut Pass, to: &mut Pass)
     ensures number { to.new.number ≡ to.old.number }
 {
     let note = copy_seen(store, from);
+    // What was seen is known to be so for good, so a copy of it may be anybody's.
     store.accounts.join(&mut to.account, note);
     see_told(store, to);
     forget_told(store, to);

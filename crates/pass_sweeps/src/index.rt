@@ -1,4 +1,7 @@
 //! The index in hand, and retired leaves that are freed while it is.
+//!
+//! 1. Whoever notes a leaf holds the index, so while a sweep has it nobody notes one that is about to be freed.
+//! 2. A leaf is free once each pass that is pinned began after it was retired: none of these can have noted it.
 
 ghost use Rattle.std.specs.Prelude.{◌≡◌, ◌≤◌, Some, None, length};
 ghost use Rattle.leaf_index.specs.Calls.{freed};
@@ -114,6 +117,7 @@ pub(crate) fn sweep_and_free(
     ensures until { until_of result.2 ≡ free_bound result.1 }
     ensures same { IsSamePass pass.old pass.new }
 {
+    // With the index in hand: a retired leaf isn't in it, so whoever noted one did so before, and is pinned.
     let mut sweep = begin_with_index(store, pass);
     look_at_all(store, pass, &mut sweep);
     let held = free_leaves(store, pass, held, &sweep);

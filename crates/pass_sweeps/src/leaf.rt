@@ -1,4 +1,7 @@
 //! The cells of a leaf are pruned, each held by itself.
+//!
+//! 1. One cell is in hand at a time, so others wait for a sweep no longer than a prune of one cell takes.
+//! 2. The count of cells can't be copied or made elsewhere: whoever has one of eight has pruned a leaf.
 
 ghost use Rattle.std.specs.Prelude.{◌≡◌, ◌<◌, ◌&&◌, ◌||◌, Bool, false, true};
 ghost use Rattle.epoch_reclaim.specs.Pinned.{horizon_of};

@@ -1,4 +1,7 @@
 //! A turn of the sweep: the next leaf in the order of keys, by a sweep over the pins of its own.
+//!
+//! 1. A key is kept between two turns and no number of a leaf, since leaves come and go meanwhile.
+//! 2. Retired leaves are freed once a round, after its last leaf was found.
 
 ghost use Rattle.std.specs.Prelude.{◌≡◌, ◌<◌, ◌≤◌, None, length};
 ghost use Rattle.graph_model.specs.Rows.{first_key};
@@ -59,6 +62,7 @@ pub fn sweep_step(rt: &impl Wait, store: &Store, pass: &mut Pass, key: &mut Swee
 {
     let (leaf, sweep, freed) = choose_leaf(rt, store, pass, key);
     let swept = sweep_leaf(rt, store, pass, &sweep, leaf);
+    // The horizon is used up: the next turn sweeps again, and finds one that is later.
     end_sweep(store, pass);
     SweepTurn { swept, freed }
 }

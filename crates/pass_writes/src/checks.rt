@@ -1,4 +1,6 @@
 //! Whether a write may be made, as its pass finds in the cells in hand.
+//!
+//! 1. The cells stay in hand from the check to the change, so what was found still holds when rows change.
 
 ghost use Rattle.std.specs.Prelude.{◌≡◌, Bool};
 ghost use Rattle.graph_model.specs.Refused.{IsWithinLimits};
@@ -66,7 +68,9 @@ fn check_as<B: Asker>(
         write result }
 {
     rows_in_hand_are_known();
+    // Where a writer stands is asked by loads that the pass's own seat makes, so the seat is lent meanwhile.
     let mut states = PassStates::<B>::lend(store, pass, clock);
+    // Looked for before a cell was taken: a scan takes cells, and none is taken while others are in hand.
     let seen_before = |_v: u64| -> bool
         ensures { result ≡ has_edges }
     { has_edges };

@@ -1,4 +1,7 @@
 //! The rows of a transaction that ends: those of an abort are as they were, those of a commit get its stamp.
+//!
+//! 1. The cells of one write are back before those of the next are taken, so an end holds four at a time at most.
+//! 2. A commit is published before its first row has its stamp. Whoever meets a row before asks its pass's word.
 
 ghost use Rattle.std.specs.Prelude.{◌≡◌, ◌≤◌, [], ◌∷◌, ◌++◌, length, take};
 ghost use Rattle.std.specs.List.{AllByRecursion};
@@ -23,12 +26,12 @@ use pass_settles::{Unsettled, settle_keys};
 use std::sync::Wait;
 
 /// A commit leaves the prune to the sweeps where its horizon is more commits behind. A transaction is open that long:
-/// what it sees stays, and a row that was written often has a record for each commit since, through all of which a prune
-/// would go.
+/// what it sees stays, and a row that was written often has a record for each commit since, through all of which a
+/// prune would go.
 const MOST_COMMITS_BEHIND: u64 = 64;
 
-/// One commit of so many prunes the cells that it can't settle, where its horizon is near. The others stamp them in their
-/// place, which is much cheaper. So a row that is written often has a few records more than a reader needs.
+/// One commit of so many prunes the cells that it can't settle, where its horizon is near. The others stamp them in
+/// their place, which is much cheaper. So a row that is written often has a few records more than a reader needs.
 const COMMITS_A_PRUNE: u64 = 8;
 
 /// Takes all writes of a transaction that is being aborted back, the newest first. Takes no memory.
@@ -50,6 +53,7 @@ pub fn undo_all(
     ensures pin { pin_of pass.new ≡ pin_of pass.old }
     ensures same { IsSamePass pass.old pass.new }
 {
+    // The newest first, as the records of a row stand: each undo finds its own record in front.
     let mut left = writes.len();
     'writes: while left > 0 {
         left -= 1;
@@ -83,9 +87,9 @@ fn undo_one(
     put_cells_back(store, pass, cells);
 }
 
-/// Gives the records in all rows of the last commit its stamp, given its writes, and settles or prunes the cells of these
-/// rows at the horizon of the pass's sweep, where that is near. Takes no memory. The journal is free meanwhile: whoever
-/// meets a record without a stamp is told by the pass's word.
+/// Gives the records in all rows of the last commit its stamp, given its writes, and settles or prunes the cells of
+/// these rows at the horizon of the pass's sweep, where that is near. Takes no memory. The journal is free meanwhile:
+/// whoever meets a record without a stamp is told by the pass's word.
 pub fn stamp_all(
     rt: &impl Wait,
     store: &Store,
@@ -138,14 +142,16 @@ fn stamp_one(
     let rows = WrittenRows::of(store.config().kind, write);
     let few = FewKeys::of_changes(&rows);
     let keys = few.as_slice();
+    // Most cells need not be unpacked, which is the cheap way. From the first key on whose cell has to be, the rest is
+    // stamped in hand.
     let settled = settle_cells(rt, store, pass, cells, sweep, by, stamp, keys);
     if settled < keys.len() {
         stamp_in_hand(rt, store, pass, cells, sweep, by, stamp, &keys[settled..]);
     }
 }
 
-/// Settles the cells of these keys, or stamps them in their place, until one is to be unpacked. Answers of how many keys
-/// the rows are stamped then.
+/// Settles the cells of these keys, or stamps them in their place, until one is to be unpacked. Answers of how many
+/// keys the rows are stamped then.
 fn settle_cells(
     rt: &impl Wait,
     store: &Store,
@@ -168,6 +174,8 @@ fn settle_cells(
     ensures pin { pin_of pass.new ≡ pin_of pass.old }
     ensures same { IsSamePass pass.old pass.new }
 {
+    // The cells of a write are asked for once more, so the hints still have most of them. A wrong guess ends the cheap
+    // way at its key.
     let guesses = cells.hints.of_all(store, keys);
     let unsettled = unsettled_cells(store, sweep, stamp);
     settle_keys(rt, store, pass, sweep, by, stamp, unsettled, keys, &guesses)
@@ -198,6 +206,7 @@ fn stamp_in_hand(
 {
     take_cells(rt, store, pass, cells, keys);
     cells.stamp(store, pass, by, stamp, keys);
+    // The cells are unpacked already, so a prune costs a look at their records alone.
     if is_worth_a_prune(store, sweep, stamp) {
         prune_taken(store, pass, cells, sweep);
     }
@@ -208,6 +217,7 @@ fn stamp_in_hand(
 fn unsettled_cells(store: &Store, sweep: &Sweep, stamp: u64) -> Unsettled
     requires whole { sweep.now.looked ≡ store.now.accounts.config.passes }
 {
+    // A cell that is left is taken in hand next, where it is stamped and pruned.
     if stamp % COMMITS_A_PRUNE == 0 && is_worth_a_prune(store, sweep, stamp) {
         Unsettled::Leave
     } else {

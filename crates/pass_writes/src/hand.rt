@@ -1,4 +1,6 @@
 //! Cells are taken for a call, and put back before it ends.
+//!
+//! 1. All cells of a call are taken before a row is looked at, and no other place while one of them is in hand.
 
 ghost use Rattle.std.specs.Prelude.{◌≤◌, length};
 ghost use Rattle.pass_prunes.specs.RowWrites.Held.{AreHeld};

@@ -1,4 +1,7 @@
 //! The keys whose cells a write needs.
+//!
+//! 1. They are four at most: a row, the same edge's row the other way, and the rows of both ends. So they take no
+//!    memory.
 
 ghost use Rattle.std.specs.Prelude.{◌≡◌, ◌≤◌, ◌++◌, length};
 ghost use Rattle.pass_prunes.specs.RowWrites.Written.{all_keys, ends_in, touched_keys, with_back, written_keys};

@@ -1,4 +1,7 @@
 //! Writes of an open transaction.
+//!
+//! 1. Check, room and change are made with the same cells in hand, so others meet a write whole or not at all.
+//! 2. A write that is refused, or finds no place, changes no row.
 
 ghost use Rattle.std.specs.Prelude.{◌≡◌, Err, IfOk, OnErr};
 ghost use Rattle.graph_model.specs.Refused.{IsWithinLimits};
@@ -62,6 +65,7 @@ pub fn write(
     let keys = FewKeys::of_write(&rows);
     take_cells(rt, store, pass, cells, keys.as_slice());
     let written = write_in_hand(store, pass, cells, begun, write, &rows, has_edges);
+    // All of them, once the view knows the write: nobody finds one row of it without the others.
     put_cells_back(store, pass, cells);
     written
 }
@@ -92,6 +96,7 @@ fn write_in_hand(
     ensures same { IsSamePass pass.old pass.new }
 {
     rows_in_hand_are_known();
+    // Once, with all cells in hand: a commit is published by then or isn't, and that for all of its rows alike.
     let clock = learn(store, pass);
     let snapshot = Snapshot {
         start: begun.start,
@@ -178,6 +183,7 @@ fn lay(
     ensures pin { pin_of pass.new ≡ pin_of pass.old }
     ensures same { IsSamePass pass.old pass.new }
 {
+    // Before a row changes: a write with places for some of its rows alone would have to be taken back.
     if let Some(short) = cells.taken.room_need(rows) {
         return Ok(Written::NeedRoom(short));
     }

@@ -1,4 +1,6 @@
 //! What an open transaction reads in a cell that its pass takes for it.
+//!
+//! 1. The clock is loaded with the cell in hand, so no record in it gets its stamp between the load and the read.
 
 ghost use Rattle.std.specs.Prelude.{◌≡◌, true};
 ghost use Rattle.graph_model.specs.Rows.{value_at};

@@ -50,6 +50,7 @@ pub fn scan(
 {
     rows.clear();
     let mut buffer = Rows32::new();
+    // A cell may have no row of the range, so there is no bound on how many a portion takes.
     'cells: for _cell in rt.forever() {
         if !has_more(cursor) {
             cursor.done = true;
@@ -93,6 +94,7 @@ fn scan_cell(
     ensures same { IsSamePass pass.old pass.new }
 {
     take_cells(rt, store, pass, cells, &[cursor.next]);
+    // Each cell by a clock of its own: whoever commits meanwhile has a stamp above the transaction's start.
     let clock = learn(store, pass);
     let snapshot = Snapshot {
         start: begun.start,
@@ -108,6 +110,7 @@ fn scan_cell(
         rows,
         buffer,
     );
+    // Before the next cell is taken: rows may move in between, and the cursor's key finds them where they are.
     put_cells_back(store, pass, cells);
     whole
 }

@@ -26,6 +26,7 @@ pub(crate) fn cut_keys(alloc: Global, store: &Store, parts: usize) -> Result<Vec
     let mut keys = Vec::with_capacity(alloc, parts)?;
     let mut last = Key::of_vertex(0);
     'parts: for part in 1..parts {
+        // Never below the key before: a part may be empty then, and no row is in two of them.
         last = later_key(
             last,
             lows.as_slice(),
@@ -67,6 +68,7 @@ fn low_keys(alloc: Global, store: &Store, wanted: usize) -> Result<Vec<Key>, NoM
             lows.push(low)?;
         }
     }
+    // The numbers of leaves aren't in the order of their keys.
     lows.sort_unstable();
     Ok(lows)
 }
@@ -85,6 +87,7 @@ fn step_of(leaves: usize, wanted: usize) -> usize
 fn low_of(store: &Store, cell: u32) -> Option<Key>
     requires { cell < cells_of store.now.accounts.config }
 {
+    // These loads need no order: a pair that is half of a change gives a part another size, and no other rows.
     let low = Key {
         src: store.accounts.peek_word(cell, 2),
         second: store.accounts.peek_word(cell, 3),

@@ -1,4 +1,7 @@
 //! Readers of all parts join their pass, which has its transaction as before.
+//!
+//! 1. All of them join, also where memory ran out in one: a pass with a reader out couldn't end its transaction.
+//! 2. Both lists have their room from before the first split, so nothing fails here.
 
 ghost use Rattle.std.specs.Prelude.{◌≡◌, ◌≤◌, ◌+◌, [], false, length, map};
 ghost use Rattle.std.specs.List.{AllByRecursion};
@@ -13,8 +16,8 @@ use part_scan::RowList;
 use shared_readers::below::{Pass, Store};
 use shared_readers::join_reader;
 
-/// Joins each reader, and has its pass and its rows in the lists. Answers whether memory ran out in some thread. Takes no
-/// memory, and waits for nobody.
+/// Joins each reader, and has its pass and its rows in the lists. Answers whether memory ran out in some thread. Takes
+/// no memory, and waits for nobody.
 pub(crate) fn join_all(
     store: &Store,
     pass: &mut Pass,

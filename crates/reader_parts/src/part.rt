@@ -1,4 +1,7 @@
 //! One part of a view, with the reader that reads it.
+//!
+//! 1. Each part has a list of its own, so threads share nothing but the store and the hints of the pass.
+//! 2. Out of memory a part says so and keeps its reader, which has to be joined all the same.
 
 ghost use Rattle.reader_parts.specs.Parts.{HasRead, MayRead};
 
@@ -9,10 +12,15 @@ use std::sync::Wait;
 
 /// The rows from a key on and before another, as far as they were read. Where memory ran out in the thread it says so.
 pub struct ReaderPart {
+    /// Whoever reads it, in a thread of its own.
     pub(crate) reader: Reader,
+    /// Where it begins.
     pub(crate) from: Key,
+    /// Where it ends, and the next part begins.
     pub(crate) until: Key,
+    /// Those that were read.
     pub(crate) rows: Vec<Row>,
+    /// Whether the thread ended for lack of memory.
     pub(crate) ran_out: bool,
 }
 
@@ -32,6 +40,7 @@ impl ReaderPart {
             self.until,
             &mut self.rows,
         );
+        // Kept and not answered: a thread among others has nobody to answer, and its reader has to be joined first.
         self.ran_out = ended.is_err();
     }
 }

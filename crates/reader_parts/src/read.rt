@@ -1,4 +1,6 @@
 //! All parts are read at once.
+//!
+//! 1. The call ends when the last part is read, so whatever threads were lent is the caller's again.
 
 ghost use Rattle.std.specs.Prelude.{All};
 ghost use Rattle.std.specs.List.{AllByRecursion, AllZip};
@@ -32,6 +34,7 @@ fn read_each<R: Threads + Wait + Sync>(
     requires unread { AllByRecursion (MayRead store.now) parts.old }
     ensures read { AllZip (HasRead store.now) parts.old parts.new }
 {
+    // A thread for each part. None is started where there are no parts, but the number may not be 0.
     let count = parts.len().max(1);
     for_each_mut(
         rt,

@@ -1,4 +1,7 @@
 //! The view of an open transaction, read in parts.
+//!
+//! 1. Memory is taken, readers are split off, all parts are read and all readers join, in this order. So whichever step
+//!    is refused memory, no reader stays out.
 
 ghost use Rattle.std.specs.Prelude.{◌≡◌, ◌<◌, IfOk, length, map};
 ghost use Rattle.std.specs.List.{AllByRecursion};

@@ -1,4 +1,7 @@
 //! Readers of all parts are split off a pass.
+//!
+//! 1. Each part begins where the one before ends, the first at the least key, and the last one ends at the end of all
+//!    keys: each row is in one part.
 
 ghost use Rattle.std.specs.Prelude.{◌≡◌, ◌≤◌, ◌+◌, [], false, length, map};
 ghost use Rattle.std.specs.List.{AllByRecursion};

@@ -1,4 +1,6 @@
 //! Calls on a pass that is ready, which leave it so.
+//!
+//! 1. A pass that is ready holds no latch: any call may come next, and nobody waits for it between two calls.
 
 ghost use Rattle.std.specs.Prelude.{◌≡◌, ◌≤◌, ℕ, IsSome, None, Some, false};
 ghost use Rattle.graph_model.specs.declared.limits.TheConstants.{MAX_ID};

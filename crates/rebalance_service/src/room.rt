@@ -1,4 +1,7 @@
 //! Room for the rows of a write of the open transaction.
+//!
+//! 1. It is made with no cell of the write in hand, since it takes whole leaves.
+//! 2. It changes no view, so nothing has to be taken back where the write isn't made after all.
 
 ghost use Rattle.std.specs.Prelude.{◌≡◌, ◌≤◌, true, IfErr, IsSome, OnOk};
 ghost use Rattle.graph_model.specs.Rows.{is_below, end_key};

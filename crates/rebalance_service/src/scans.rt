@@ -152,8 +152,8 @@ fn is_last(end: Key, until: Key, rows: &Rows64) -> bool
     !end.is_below(until) && rows.len() < 64
 }
 
-/// Reads rows by latches, where one has undo records: those of this cell as they lie, or where it isn't the next key's any
-/// more, those before this end. Answers false where they are too many for one portion.
+/// Reads rows by latches, where one has undo records: those of this cell as they lie, or where it isn't the next key's
+/// any more, those before this end. Answers false where they are too many for one portion.
 fn read_chained(
     rt: &impl Wait,
     store: &Store,

@@ -1,4 +1,6 @@
 //! Turns of the service: a sweep, then a turn of merging, and so on in turn.
+//!
+//! 1. No turn changes a view. One that is refused memory has changed nothing, and the other kind comes next.
 
 ghost use Rattle.std.specs.Prelude.{◌≡◌};
 ghost use Rattle.graph_model.specs.AccountSteps.{ReadsBy};

@@ -1,4 +1,7 @@
 //! A pass of a store, with what its calls keep from one to the next.
+//!
+//! 1. What is kept beside the pass are room for rows that move, guesses, and where the service goes on. No answer of a
+//!    transaction depends on any of it.
 
 ghost use Rattle.std.specs.Prelude.{◌≡◌, Some};
 ghost use Rattle.optimistic_read.specs.StoreRuleDeclared.store.Store.{Store};

@@ -1,4 +1,7 @@
 //! Writes that make the room that they need.
+//!
+//! 1. A try that finds no place has changed nothing and holds nothing, so room may be made and the write tried again.
+//! 2. Others may take the room that was made. So there may be any number of tries, and no clause says how many.
 
 ghost use Rattle.std.specs.Prelude.{◌≡◌, IsSome, OnOk, IfErr, Err};
 ghost use Rattle.graph_model.specs.AccountSteps.{WritesBy};

@@ -3,8 +3,8 @@
 //! 1. A commit is a line with its stamp, start and name, and a line for each of its writes, in the order in which they
 //!    were made.
 //! 2. Where memory is refused the text is as it was.
-//! 3. The first commit is mostly that of a load, with more writes than all others together: so several threads share its
-//!    writes, and then the other commits.
+//! 3. The first commit is mostly that of a load, with more writes than all others together: so several threads share
+//!    its writes, and then the other commits.
 
 ghost use Rattle.std.specs.Prelude.{◌≡◌, ◌++◌, ◌∷◌, [], codes, IfOk, OnOk, OnErr};
 ghost use Rattle.run_model.specs.Texts.{field, name_text, write_text, commit_text, journal_text};

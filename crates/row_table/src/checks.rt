@@ -1,4 +1,7 @@
 //! Who stands against a write, in the lists of one row.
+//!
+//! 1. A record that has its stamp says itself when it was committed. Only for one without a stamp its writer is asked.
+//! 2. All records that count are asked, so the cause that is named doesn't depend on their order.
 
 ghost use Rattle.std.specs.Prelude.{◌≡◌, ℕ, take, None, true, Option};
 ghost use Rattle.graph_model.specs.Conflict.{same_name};

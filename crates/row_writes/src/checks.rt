@@ -1,4 +1,6 @@
 //! Whether a write may be made: what its view refuses, and who stands against it.
+//!
+//! 1. It reads rows by a trait of cells, so the engine of one owner and that of many passes have one check.
 
 ghost use Rattle.std.specs.Prelude.{◌≡◌, ◌≤◌, ℕ, ◌∷◌, [], cond, None, Some, IfOk};
 ghost use Rattle.graph_model.specs.declared.limits.TheConstants.{MAX_ID};

@@ -1,4 +1,6 @@
 //! The fields of a line after its word.
+//!
+//! 1. All of them are read. Of several faults the one is named whose check comes first, wherever its field stands.
 
 ghost use Rattle.std.specs.Prelude.{◌≡◌, ◌≤◌, None, Some, MatchResult};
 ghost use Rattle.std.specs.List.{list_all};

@@ -1,4 +1,7 @@
 //! The rows of a part of a view, in a list.
+//!
+//! 1. Each run begins at the key where the last one ended, so rows that move between cells meanwhile are neither left
+//!    out nor read twice.
 
 ghost use Rattle.std.specs.Prelude.{◌≡◌, false, ◌++◌, OnOk};
 ghost use Rattle.graph_model.specs.Rows.{is_below, rows};
@@ -34,6 +37,7 @@ pub fn read_part(
             return Ok(());
         }
         let end = read_run(rt, store, reader, place, next, until, &mut run);
+        // Only rows of a run that is whole come into the list: a torn read never gets this far.
         list.extend_from_slice(run.as_slice())?;
         next = end;
     }

@@ -1,4 +1,6 @@
 //! Where a reader looks for the rows that come next.
+//!
+//! 1. It decides which cell is tried first, and never what is read.
 
 use graph_model::Key;
 use optimistic_read::TriedRun;
@@ -12,8 +14,8 @@ const NOWHERE: u32 = u32::MAX;
 
 /// Where a reader has come to, and the hints that it asks, which any number of readers may share. Kept: the cell in
 /// which the next rows are likely to stand. It may be wrong, since rows move, and a run may begin elsewhere. That is
-/// harmless: a cell's fence keys tell whether it is the key's, and where no cell that is tried has the key its own one is
-/// taken. It costs 16 bytes, and spares each run but the first one of a leaf the search among the hints.
+/// harmless: a cell's fence keys tell whether it is the key's, and where no cell that is tried has the key its own one
+/// is taken. It costs 16 bytes, and spares each run but the first one of a leaf the search among the hints.
 #[derive(Drop)]
 pub struct ReadPlace<'a> {
     hints: &'a CellHints,

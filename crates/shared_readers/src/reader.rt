@@ -1,4 +1,7 @@
 //! A reader is split off a pass with an open transaction, and joined with it.
+//!
+//! 1. The snapshot is copied once. It stays right, since the pass can't write while a reader is out.
+//! 2. The pass that the reader was made of comes back with the account that it had.
 
 ghost use Rattle.std.specs.Prelude.{◌≡◌};
 ghost use Rattle.shared_store.specs.Passes.{IsIdle, account_of, view_in};
@@ -11,7 +14,9 @@ use undo_chain::Snapshot;
 /// Whoever reads by the account of a pass: another pass, which has no transaction of its own, with the snapshot of the
 /// transaction that is read.
 pub struct Reader {
+    /// The pass that reads, with the account that it was lent.
     pub(crate) pass: Pass,
+    /// When the transaction began, and its name, by which its own writes are seen.
     pub(crate) snapshot: Snapshot,
 }
 
@@ -27,6 +32,7 @@ pub fn split_reader(store: &Store, from: &mut Pass, to: Pass) -> Reader
 {
     let begun = from.latest();
     let mut pass = to;
+    // From here until the reader is joined the other pass neither writes nor ends its transaction.
     split_seats(store, &mut from.seats, &mut pass.seats);
     Reader {
         pass,

@@ -1,4 +1,7 @@
 //! Runs of rows that a reader reads.
+//!
+//! 1. First without a latch, for as many tries as a change of a cell may last; then by the cell's latch.
+//! 2. Each run ends after its first key, so whoever goes on from there gets to the end.
 
 ghost use Rattle.std.specs.Prelude.{◌≡◌, true, IfSome};
 ghost use Rattle.graph_model.specs.Rows.{is_below};
@@ -19,7 +22,7 @@ use std::sync::Wait;
 /// a few reads.
 const TRIES: u32 = 4;
 
-/// So many cells are looked at for a key.
+/// So many cells are looked at for a key: as many as a leaf has.
 const MOST_LOOKS: u32 = 8;
 
 /// Reads the rows that the reader sees from a key on and before another, as far as one cell goes at most, and answers
@@ -40,6 +43,7 @@ pub fn read_run(
 {
     match try_run(store, reader, place, from, until, run) {
         Some(end) => end,
+        // The latch is waited for, so a cell that stays busy keeps nobody from its rows for good.
         None => read_held(rt, store, reader, from, until, run),
     }
 }
@@ -87,12 +91,14 @@ fn try_run(
     ensures run { IfSome result (λ end. IsRunTo end (seen_in store.now reader.old) from until run.new) }
 {
     'tries: for _ in 0..TRIES {
+        // A torn read may have left anything in the buffer.
         run.clear();
         let tried = try_near(store, reader, place, from, until, run);
         if !matches!(tried, TriedRun::Busy { .. }) {
             place.go_behind(&tried);
             return end_of(&tried, from);
         }
+        // A pause and no wait: a change of a cell is over before a thread would be woken.
         spin_loop();
     }
     None
@@ -135,6 +141,7 @@ fn try_near(
     if !has_moved(&tried) {
         return tried;
     }
+    // Rows have moved, or the reader begins elsewhere: the hints are asked once for it.
     place.go_to(from);
     try_on(store, reader, place, from, until, run)
 }
@@ -159,6 +166,7 @@ fn try_on(
         if !is_behind(&tried, from) {
             return tried;
         }
+        // The cells of a leaf stand in the order of their keys, so a later one may have the key.
         place.go_on();
         tried = try_cell(store, reader, place.cell, from, until, run);
     }

@@ -1,4 +1,6 @@
 //! Scans of a reader, cell after cell.
+//!
+//! 1. A cursor keeps a key and no position, so rows may move between two cells.
 
 ghost use Rattle.std.specs.Prelude.{◌≡◌, ◌⊎◌, [], true, false, length, ◌<◌};
 ghost use Rattle.graph_model.specs.declared.row.Cursor.{Cursor};
@@ -33,6 +35,7 @@ pub fn scan_reader(
 {
     let mut run = Rows64::new();
     rows.clear();
+    // A cell may have no row of the range, so there is no bound on how many a portion takes.
     'cells: for _cell in rt.forever() {
         if !has_more(cursor) {
             cursor.done = true;

@@ -1,4 +1,7 @@
 //! Versions of rows, and what a store holds.
+//!
+//! 1. A row is its newest value and what takes each write back. Definitions say how it is read, checked and pruned.
+//! 2. Laws say what each kind of change keeps. A store of any kind cites them, and proves none of them again.
 #![tactic(auto)]
 
 mod laws;

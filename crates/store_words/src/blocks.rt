@@ -51,8 +51,8 @@ impl Accounts {
         ensures stored { (c : CellState) → HasCell seat.old.me.0 cell c
             → Knows seat.old seat.new (with_cell seat.old.me.0 cell (stored c word value)) }
     {
-        // Has to be a release, after the odd version word: a read that finds this word finds another version word at its
-        // second load.
+        // Has to be a release, after the odd version word: a read that finds this word finds another version word at
+        // its second load.
         let place = self.block_place(cell, word);
         self.store_as::<Brand, (u32, u32)>(seat, place, value, &(cell, word));
     }

@@ -1,8 +1,8 @@
 //! Sessions are lent to works, each in a thread of its own, and come back.
 //!
 //! 1. The last pass of a list leaves it, is lent beside those before it, and stands behind them again.
-//! 2. A closure that threads run holds nothing that has to be closed. So a pass lies in a slot beside it, and is a session
-//!    only in the thread that works with it.
+//! 2. A closure that threads run holds nothing that has to be closed. So a pass lies in a slot beside it, and is a
+//!    session only in the thread that works with it.
 
 ghost use Rattle.std.specs.Prelude.{◌≡◌, ◌≤◌, ◌+◌, ◌++◌, [], ◌∷◌, Some, length};
 ghost use Rattle.std.specs.Thread.{IsSend, IsSync};

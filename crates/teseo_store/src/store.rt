@@ -48,8 +48,8 @@ impl Store {
         Ok(Store { shared, passes })
     }
 
-    /// Opens a store with a graph in it, as if session 0 had added and committed it. Where there is nothing to load it is
-    /// as `open` makes it.
+    /// Opens a store with a graph in it, as if session 0 had added and committed it. Where there is nothing to load it
+    /// is as `open` makes it.
     pub fn load(alloc: Global, config: Config, graph: Writes) -> Result<Store, LoadedRefusal>
         requires adds { AllByRecursion IsAdd graph }
         requires allowed { AllAllowed config.kind empty_graph graph }

@@ -1,4 +1,6 @@
 //! A buffer for the rows of one segment.
+//!
+//! 1. It has room for as many rows as a segment may have, so those of one segment always fit.
 
 ghost use Rattle.std.specs.Prelude.{◌≡◌, ◌<◌, ◌==◌, [], ◌∷◌, ◌++◌, length};
 ghost use Rattle.row_table.specs.Rows.{with_row};

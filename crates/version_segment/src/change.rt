@@ -1,4 +1,6 @@
 //! The changes that a transaction makes of a row, as one value.
+//!
+//! 1. Whoever holds cells lends them through one function for all changes, so each kind of cell implements one.
 
 ghost use Rattle.std.specs.Prelude.{◌≤◌, ◌+◌};
 ghost use Rattle.row_table.specs.Rows.{versions_at, ChangesKey};

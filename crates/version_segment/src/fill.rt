@@ -1,4 +1,6 @@
-//! Rows laid all at once, none of which has a record.
+//! Rows that are written all at once, none of which has a record.
+//!
+//! 1. They come in the order of their keys, so none is searched for or shifted.
 
 ghost use Rattle.std.specs.Prelude.{◌≡◌, ◌≤◌, false, [], length};
 ghost use Rattle.graph_model.specs.Rows.{is_below};

@@ -2,8 +2,8 @@
 //!
 //! 1. At rest a segment keeps where the records of its rows begin, and the records, in one box. It has no room for
 //!    rows, and where all of them are settled no box.
-//! 2. Its rows are handed out in the room that they had, with value words in place of weights, and it wakes with them in
-//!    any room for rows.
+//! 2. Its rows are handed out in the room that they had, with value words in place of weights, and it wakes with them
+//!    in any room for rows.
 //! 3. No call takes memory.
 
 ghost use Rattle.std.specs.Prelude.{◌≡◌, ◌++◌, ◌≤◌, ◌<◌, ◌==◌, ℕ, true, [], length, slice_get, Some, IfSome};
@@ -128,8 +128,8 @@ impl Resting {
         self.heads.value_at(row.undos, newest, snapshot, states)
     }
 
-    /// Puts the rows of a key range that a snapshot sees into a buffer, given all rows, each with the word that tells its
-    /// newest value.
+    /// Puts the rows of a key range that a snapshot sees into a buffer, given all rows, each with the word that tells
+    /// its newest value.
     pub fn run_at<S: States>(
         &self,
         words: &[Row],
@@ -171,8 +171,8 @@ impl Resting {
         stamp_all(&mut self.heads, by, stamp);
     }
 
-    /// Whether each row has a value, and no record would be left by a prune at the horizon once this writer's have a stamp
-    /// up to it. Only what is kept here is looked at, and nobody is asked for a writer.
+    /// Whether each row has a value, and no record would be left by a prune at the horizon once this writer's have a
+    /// stamp up to it. Only what is kept here is looked at, and nobody is asked for a writer.
     pub fn can_settle(&self, by: TxnName, horizon: u64) -> bool
         ensures { result ≡ true → CanSettle by horizon self.now.rows }
     {
@@ -214,8 +214,8 @@ impl Resting {
 }
 
 impl VersionSegment {
-    /// Lays the segment to rest. Its rows come in the room that they had, between its fence keys, each with its value word
-    /// in place of a weight. Where all rows are settled the memory of records is given back.
+    /// Lays the segment to rest. Its rows come in the room that they had, between its fence keys, each with its value
+    /// word in place of a weight. Where all rows are settled the memory of records is given back.
     pub fn rest(self) -> (Resting, Segment)
         requires weights { HasSmallWeights self }
         ensures resting { result.0.rows ≡ (resting_of self).rows }
@@ -233,8 +233,8 @@ impl VersionSegment {
         (resting, room)
     }
 
-    /// Wakes a segment at rest, with these fence keys and rows, each of which has its value word in place of a weight, and
-    /// with this room for rows.
+    /// Wakes a segment at rest, with these fence keys and rows, each of which has its value word in place of a weight,
+    /// and with this room for rows.
     pub fn wake(
         resting: Resting,
         low: Key,

@@ -1,4 +1,8 @@
 //! Rows with their versions, between fence keys.
+//!
+//! 1. A row without records is settled: each snapshot sees its value, and no list is looked at.
+//! 2. Memory for records is taken by `reserve` alone, so a write that has begun can't run out of it.
+//! 3. A place that a caller gives is a guess: a wrong one costs a search.
 
 ghost use Rattle.std.specs.Prelude.{◌≡◌, ◌+◌, ◌-◌, ◌<◌, ◌≤◌, ◌==◌, true, false, [], ◌∷◌, Some, length, slice_get, IfOk, OnOk, OnErr, IsOk, IsSomeAnd};
 ghost use Rattle.graph_model.specs.declared.limits.TheConstants.{SEGMENT_ROWS};
