@@ -19,7 +19,7 @@ use anyhow::Result;
 use bench_kernel::{BenchKernel, table_of};
 use checks::{are_ended, are_storable};
 use graph_image::{Builder, Image};
-use graph_model::Row;
+use graph_model::{Kind, Row};
 use part_scan::cut_rows;
 use std::alloc::Global;
 use std::env;
@@ -91,14 +91,14 @@ fn time<R: Threads + Sync + Clock + Print>(rt: &R, alloc: Global, rows: &[Row]) 
     Ok(())
 }
 
-/// Makes the image of the rows in 4 parts, and prints a line for it.
+/// Makes the image of the rows in 4 parts, which are told to be those of an undirected graph, and prints a line for it.
 fn time_parts<R: Threads + Sync + Clock + Print>(rt: &R, alloc: Global, rows: &[Row]) -> Result<()>
     requires storable { AreStorable rows.now }
     requires ended { AreEnded rows.now }
 {
     let lists = cut_rows(alloc, rows, 4)?;
     let begun = Instant::now(rt)?;
-    let _image = Image::from_parts(rt, alloc, &lists)?;
+    let _image = Image::from_parts(rt, alloc, Kind::Undirected, &lists)?;
     say(rt, "image/4", begun)
 }
 

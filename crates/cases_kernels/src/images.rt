@@ -4,7 +4,7 @@ ghost use Rattle.graph_image.specs.Building.{AreStorable, AreEnded};
 
 use crate::graphs::{image_of, rows_of};
 use graph_image::Image;
-use graph_model::Row;
+use graph_model::{Kind, Row};
 use part_scan::cut_rows;
 use std::alloc::Global;
 use std::process::Abort;
@@ -28,7 +28,8 @@ fn parts_give_the_image_of_edges(rt: HostRuntime) -> Result<(), Fail> {
             (4, 0, 0),
         ],
     )?;
-    assert_same_in_parts(&rt, alloc, rows.as_slice())
+    let kinds = [Kind::Undirected, Kind::Directed];
+    assert_same_in_parts(&rt, alloc, &kinds, rows.as_slice())
 }
 
 /// Arcs from 1 to 3, from 3 to 1 and from 2 to 1.
@@ -46,13 +47,14 @@ fn parts_give_the_image_of_arcs(rt: HostRuntime) -> Result<(), Fail> {
             (3, 2, 1),
         ],
     )?;
-    assert_same_in_parts(&rt, alloc, rows.as_slice())
+    assert_same_in_parts(&rt, alloc, &[Kind::Directed], rows.as_slice())
 }
 
-/// Asserts that the image of the rows in 1, 2 and 7 parts is that of a builder.
+/// Asserts that the image of the rows in 1, 2 and 7 parts, of a graph of each of these kinds, is that of a builder.
 fn assert_same_in_parts<R: Threads + Sync + Abort>(
     rt: &R,
     alloc: Global,
+    kinds: &[Kind],
     rows: &[Row],
 ) -> Result<(), Fail>
     requires storable { AreStorable rows.now }
@@ -61,8 +63,10 @@ fn assert_same_in_parts<R: Threads + Sync + Abort>(
     let whole = image_of(alloc, rows)?;
     for parts in [1, 2, 7] {
         let lists = cut_rows(alloc, rows, parts)?;
-        let image = Image::from_parts(rt, alloc, &lists)?;
-        assert_same(rt, &image, &whole, parts)?;
+        for kind in kinds {
+            let image = Image::from_parts(rt, alloc, *kind, &lists)?;
+            assert_same(rt, &image, &whole, parts)?;
+        }
     }
     Ok(())
 }

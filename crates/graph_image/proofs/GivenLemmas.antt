@@ -1,13 +1,13 @@
 -- The rows of a graph may be pushed, and make an image: what callers of a builder owe.
-use Rattle.std.proofs.Common.{◌≡◌, ℕ, zero, suc, ◌-◌, ◌<◌, ◌≤◌, ◌^◌, ⊎_elim, List, [], ◌∷◌, Bool, true, cond, ◌&&◌, length, slice_get, Some, None, is_some, refl, sym, ap, ◌∙◌, subst, arith}
+use Rattle.std.proofs.Common.{◌≡◌, ℕ, zero, suc, ◌+◌, ◌-◌, ◌<◌, ◌≤◌, ◌^◌, ⊎_elim, List, [], ◌∷◌, Bool, true, cond, ◌&&◌, length, slice_get, Option, Some, None, is_some, refl, sym, ap, ◌∙◌, subst, arith}
 use Rattle.std.specs.Prelude.{nat_le}
 use Rattle.std.proofs.lemmas.Bool.{cases_eq, ne_eqb, leb-true, and_parts}
 use Rattle.std.proofs.lemmas.Option.{same_Some, none-some}
 use Rattle.graph_model.specs.declared.limits.TheConstants.{MAX_WEIGHT}
 use Rattle.graph_model.specs.declared.row.Key.{Key}
 use Rattle.graph_model.specs.declared.row.Row.{Row}
-use Rattle.graph_model.specs.Graph.{Graph, has_vertex, weight_of, IsBounded}
-use Rattle.graph_model.specs.Rows.{AreRowsOf, value_at, vertex_key}
+use Rattle.graph_model.specs.Graph.{Graph, has_vertex, weight_of, IsBounded, IsSymmetric}
+use Rattle.graph_model.specs.Rows.{AreRowsOf, value_at, vertex_key, arc_key}
 use Rattle.graph_model.proofs.RowLemmas.{has_source, rows_rise, row_is, row_at}
 use Rattle.graph_image.specs.Building.{AreStorable, HasVertexRow, AreEnded}
 use Rattle.graph_image.proofs.LiteralGraphs.{rows_from, all_small, all_ended, literal_rows_at}
@@ -45,6 +45,30 @@ rows_ended rows g are = record {
       let weight : weight_of g r.key.src (r.key.second - 1) ≡ Some r.weight = sym (arc_entry_is g r.key arc) ∙ row_is are i r at in
       vertex_row rows g are (r.key.second - 1) (are.ends r.key.src (r.key.second - 1) (ap is_some weight)).1;
 }
+
+-- ---- graphs with the same rows
+
+-- an arc of the one is an arc of the other, with the same weight
+weights_carried : (rows : List Row) (g h : Graph) → AreRowsOf rows g → AreRowsOf rows h → (u v w : ℕ) → weight_of g u v ≡ Some w → weight_of h u v ≡ Some w
+weights_carried rows g h of_g of_h u v w is =
+    let key : Key = arc_key u v in
+    let behind : v + 1 - 1 ≡ v = omega arith in
+    let arc : 0 < key.second = omega arith in
+    let here : value_at g key ≡ Some w = arc_entry_is g key arc ∙ ap (weight_of g u) behind ∙ is in
+    let row = row_at of_g key w here in
+    sym (ap (weight_of h u) behind) ∙ sym (arc_entry_is h key arc) ∙ row_is of_h row.0 (record { key = key; weight = w }) row.1
+
+same_if_carried : (x y : Option ℕ) → ((w : ℕ) → x ≡ Some w → y ≡ Some w) → ((w : ℕ) → y ≡ Some w → x ≡ Some w) → x ≡ y
+same_if_carried (Some w) y to from = sym (to w refl)
+same_if_carried None (Some w) to from = from w refl
+same_if_carried None None to from = refl
+
+same_weights : (rows : List Row) (g h : Graph) → AreRowsOf rows g → AreRowsOf rows h → (u v : ℕ) → weight_of g u v ≡ weight_of h u v
+same_weights rows g h of_g of_h u v = same_if_carried (weight_of g u v) (weight_of h u v) (weights_carried rows g h of_g of_h u v) (weights_carried rows h g of_h of_g u v)
+
+-- both are symmetric, or neither is
+pub symmetric_too : (rows : List Row) (g h : Graph) → AreRowsOf rows g → AreRowsOf rows h → IsSymmetric g → IsSymmetric h
+symmetric_too rows g h of_g of_h symmetric u v = same_weights rows h g of_h of_g u v ∙ symmetric u v ∙ same_weights rows g h of_g of_h v u
 
 -- ---- literal rows
 

@@ -25,18 +25,21 @@ use std::alloc::Global;
 use std::thread::Threads;
 
 impl Image {
-    /// The image of the graph whose rows these lists are, one behind the other, by a thread for each list.
+    /// The image of the graph whose rows these lists are, one behind the other, by a thread for each list. Who says
+    /// that it is undirected says that each arc has one that leads back, with the same weight: nobody looks.
     pub fn from_parts<R: Threads + Sync>(
         rt: &R,
         alloc: Global,
+        kind: Kind,
         parts: &RowLists,
     ) -> Result<Image, NoMemory>
         requires storable { AreStorable (rows_in parts.now) }
         requires ended { AreEnded (rows_in parts.now) }
-        ensures { IfOk result (λ image. (g : Graph) → AreRowsOf (rows_in parts.now) g → IsImageOf image g) }
+        ensures { IfOk result (λ image. (g : Graph) → AreRowsOf (rows_in parts.now) g
+            → (kind ≡ Undirected → IsSymmetric g) → IsImageOf image g) }
     {
         let (vertices, out) = out_of(rt, alloc, parts.as_slice())?;
-        with_arcs_in(alloc, Kind::Directed, vertices, out)
+        with_arcs_in(alloc, kind, vertices, out)
     }
 }
 
@@ -48,10 +51,10 @@ pub fn with_arcs_in(
     vertices: Vec<u64>,
     out: Adjacency,
 ) -> Result<Image, NoMemory>
-    requires laid { (rows : List Row) × AreStorable rows × AreEnded rows × AreLaidOut rows vertices.items out
-        × (kind ≡ Undirected → (g : Graph) × AreRowsOf rows g × IsSymmetric g) }
+    requires laid { (rows : List Row) × AreStorable rows × AreEnded rows × AreLaidOut rows vertices.items out }
     ensures { IfOk result (λ image. (rows : List Row) (g : Graph) → AreStorable rows → AreEnded rows
-        → AreLaidOut rows vertices.items out → AreRowsOf rows g → IsImageOf image g) }
+        → AreLaidOut rows vertices.items out → AreRowsOf rows g → (kind ≡ Undirected → IsSymmetric g)
+        → IsImageOf image g) }
 {
     let count = vertices.len();
     if kind == Kind::Undirected || out.is_mirrored(alloc, count)? {

@@ -29,14 +29,12 @@ pub image_of-requires-clause-out : goal.image_of-requires-clause-out
 image_of-requires-clause-out c = let r = c.requires.laid in laid_listed r.0 r.1 r.2 c.args.vertices.items c.args.out r.3
 
 pub returns-then-eq : goal.returns-then-eq
-returns-then-eq c = λ rows g storable ended laid are.
-    let r = c.requires.laid in
+returns-then-eq c = λ rows g storable ended laid are symmetric.
     let vertices = c.args.vertices.items in
     let count : length vertices ≡ c.len-count.result = omega (arith, c.len-count.ensures, c.args.vertices.ok) in
     let mirrored : IsMirrored (length vertices) c.args.out = elim c.then-eq.branch [
       | then-eq-via-then-eq w ↦ (let undirected : c.args.kind ≡ Undirected = search (rules, w.if-eq.true, c.eq.ensures) in
-          let symmetric = r.4 undirected in
-          symmetric_mirrored r.0 r.1 r.2 vertices c.args.out r.3 symmetric.0 symmetric.1 symmetric.2)
+          symmetric_mirrored rows storable ended vertices c.args.out laid g are (symmetric undirected))
       | then-eq-via-else-eq+in_ok-is_mirrored+then-branch w ↦ (let told : IsMirrored c.len-count.result c.args.out = search (rules, w.in_ok-is_mirrored.ensures, w.if-branch) in
           subst (λ n. IsMirrored n c.args.out) (sym count) told)
     ] in
@@ -72,7 +70,7 @@ pub image_of-requires-2-clause-out : goal.image_of-requires-2-clause-out
 image_of-requires-2-clause-out c = let r = c.requires.laid in laid_listed r.0 r.1 r.2 c.args.vertices.items c.args.out r.3
 
 pub returns : goal.returns
-returns c = λ rows g storable ended laid are.
+returns c = λ rows g storable ended laid are symmetric.
     let count : length c.args.vertices.items ≡ c.len-count.result = omega (arith, c.len-count.ensures, c.args.vertices.ok) in
     let grouped = subst (λ n. (es : _) → AreListedOut n es c.args.out → IsGrouped Into n es c.in_ok-into.into) (sym count) c.in_ok-into.ensures.grouped in
     turned_image rows storable ended c.args.vertices.items c.args.out laid c.in_ok-into.into grouped c.image_of-2.result c.image_of-2.ensures g are

@@ -4,6 +4,7 @@ use Rattle.part_scan.specs.Parts.{rows_in}
 use Rattle.graph_image.specs.Building.{AreStorable, AreEnded}
 use Rattle.graph_image.specs.Parts.{AreLaidOut}
 use Rattle.graph_image.proofs.PartLemmas.{rows_in_last}
+use Rattle.graph_image.proofs.GivenLemmas.{symmetric_too}
 use Rattle.graph_image.proofs.part_builder.PartBuilder.finish.Goals as goal
 
 pub out_of-requires-clause-storable : goal.out_of-requires-clause-storable
@@ -27,7 +28,6 @@ with_arcs_in-requires g c =
         subst AreStorable (sym inside) c.self.invariant,
         subst AreEnded (sym whole) c.requires.ended,
         c.in_ok-vertices.ensures,
-        λ undirected. (let symmetric = c.requires.symmetric undirected in (symmetric.0, subst (λ rs. AreRowsOf rs symmetric.0) (sym whole) symmetric.1, symmetric.2)),
       );
     }
 
@@ -37,3 +37,4 @@ returns g c =
     let inside = ap rows_in parts ∙ rows_in_last c.self.inside.full.items c.self.inside.last.items in
     let whole = inside ∙ c.self.view_is in
     λ h are. c.in_ok-image.ensures (rows_in c.as_slice.result.now) h (subst AreStorable (sym inside) c.self.invariant) (subst AreEnded (sym whole) c.requires.ended) c.in_ok-vertices.ensures (subst (λ rs. AreRowsOf rs h) (sym whole) are)
+    (λ undirected. (let told = c.requires.symmetric undirected in symmetric_too _ told.0 h told.1 are told.2))
