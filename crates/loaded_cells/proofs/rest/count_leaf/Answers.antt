@@ -1,10 +1,16 @@
-use Rattle.std.proofs.Common.{◌≡◌, ◌∙◌, suc, ◌+◌, ◌-◌, ◌++◌, ◌∷◌, [], ap, arith, length, sym}
+use Rattle.std.proofs.Common.{◌≡◌, ◌∙◌, suc, ◌+◌, ◌-◌, ◌++◌, ◌∷◌, [], ap, arith, length, sym, take}
 use Rattle.std.proofs.lemmas.List.{length-map, length-take}
 use Rattle.rule_model.specs.VersionSegment.Rows.{settled_row}
 use Rattle.loaded_cells.specs.Ranges.{leaf_segments, segment_of}
 use Rattle.loaded_cells.proofs.RangeLemmas.{next_segment}
 use Rattle.loaded_cells.proofs.WordLemmas.{count_more}
 use Rattle.loaded_cells.proofs.rest.count_leaf.Goals as goal
+
+pub overflow_cast-segment : goal.overflow_cast-segment
+overflow_cast-segment c =
+    let front = length-take 26 c.segments.rest.rows.now in
+    let own = ap length c.split.ensures.front in
+    omega (arith, front, own)
 
 pub segments-preserved : goal.segments-preserved
 segments-preserved c =
