@@ -130,8 +130,8 @@ fn lay_load(
 fn fill_both(alloc: Global, laid: LaidLoad) -> Result<(Store, Passes), NoMemory>
     requires sized { too_large laid.config ≡ false }
     requires laid { IsLaidLoad laid }
-    ensures config { IfOk result (λ made. made.0.accounts.config ≡ laid.entry.config) }
-    ensures passes { IfOk result (λ made. AreLoadedPasses laid.entry.load made.0.latches.table.shared.key
+    ensures config { IfOk result (λ made. made.0.accounts.config ≡ laid.config) }
+    ensures passes { IfOk result (λ made. AreLoadedPasses laid.load made.0.latches.table.shared.key
         made.0.latches.table.shared.table_id made.0.accounts.table.shared.table_id made.1.list.items) }
     ensures seats { IfOk result (λ made. AreIn made.0 made.1) }
 {
