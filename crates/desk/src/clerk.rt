@@ -20,13 +20,17 @@ const TRIES: u32 = 1_000_000;
 /// Books transfers, one after the other, each in a transaction of its own.
 #[derive(Drop)]
 pub struct Clerk<'a, R: Clock> {
+    /// Tells the time, and sleeps.
     pub rt: &'a R,
     /// How long it waits for the next one.
     pub pause: Duration,
+    /// In the order in which they are booked.
     pub transfers: &'a [Transfer],
     /// How many clerks have transfers yet.
     pub busy: &'a AtomicU64,
+    /// How many were booked.
     pub booked: u64,
+    /// How many were refused, also after all tries.
     pub refused: u64,
     /// How long it took, if the clock has said.
     pub taken: Option<Duration>,
@@ -55,6 +59,7 @@ impl<'a, R: Clock> Work for Clerk<'a, R> {
         }
         self.taken = since(self.rt, begun);
         // After its last transfer is booked: whoever finds nobody busy sees all transfers when it looks next.
+        // After its last commit, and sequentially consistent: a watcher that finds no clerk busy sees all transfers.
         self.busy.fetch_sub(1, Ordering::SeqCst);
         session
     }

@@ -59,6 +59,7 @@ impl<'a, R: Threads + Clock + Eprint + Sync> Work for Watcher<'a, R> {
 
 /// Whether no clerk is busy any more.
 fn is_over(busy: &AtomicU64) -> bool {
+    // May be past: then there is one more look. A zero never is, since no clerk becomes busy again.
     busy.load(Ordering::SeqCst) == 0
 }
 

@@ -26,6 +26,7 @@ impl KeptImage {
         requires graph { (g : Graph) × HasAllRows g scan × (kind ≡ Undirected → IsSymmetric g) }
         ensures { IfOk result (λ kept. (g : Graph) → HasAllRows g scan → IsKeptImage g kept) }
     {
+        // Taken down before the rows go: a later line on this image takes as many turns as their scan did.
         let rows = scan.rows;
         let image = scan.into_rows().finish(rt, kind)?;
         Ok(KeptImage { image, rows })

@@ -166,6 +166,7 @@ fn stop<E: Engine>(engine: &mut E, answer: Answer) -> LineAnswer
     ensures answer { result ≡ plain answer Phase.Skipping }
     ensures did { E.did_abort engine.old engine.new }
 {
+    // At once, so that no row of it stands in the way of others while its lines are skipped.
     engine.abort();
     LineAnswer::plain(answer, Phase::Skipping)
 }

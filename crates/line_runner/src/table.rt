@@ -25,7 +25,9 @@ use std::thread::Threads;
 /// A kernel's table, and the name of the file that it is for.
 #[derive(Drop)]
 pub struct NamedTable {
+    /// As the script states it.
     pub name: Name,
+    /// A line for each vertex.
     pub table: Table,
 }
 

@@ -45,6 +45,7 @@ pub(crate) fn join_all(
             rows,
             ran_out: gave_up,
         } = parts.remove(0);
+        // In the order in which they were split off, so that each pass is where the caller had it.
         idle.push_reserved(join_reader(store, pass, reader));
         lists.push_reserved(RowList::from_vec(rows));
         ran_out = ran_out | gave_up;
