@@ -44,12 +44,14 @@ impl Store {
         ensures config { IfOk result (λ store. store.shared.accounts.config ≡ config) }
         ensures sessions { IfOk result (λ store. AreNew store.shared store.passes.list.items) }
     {
-        let (shared, passes) = new(alloc, config)?;
-        Ok(Store { shared, passes })
+        match new(alloc, config) {
+            Ok((shared, passes)) => Ok(Store { shared, passes }),
+            Err(refused) => Err(refused),
+        }
     }
 
-    /// Opens a store with a graph in it, as if session 0 had added and committed it. Where there is nothing to load it
-    /// is as `open` makes it.
+    /// Opens a store with a graph in it, as if session 0 had added and committed it. Where there is nothing to load it is
+    /// as `open` makes it.
     pub fn load(alloc: Global, config: Config, graph: Writes) -> Result<Store, LoadedRefusal>
         requires adds { AllByRecursion IsAdd graph }
         requires allowed { AllAllowed config.kind empty_graph graph }
@@ -59,8 +61,10 @@ impl Store {
         ensures config { IfOk result (λ store. store.shared.accounts.config ≡ config) }
         ensures sessions { IfOk result (λ store. AreLoaded graph store.shared store.passes.list.items) }
     {
-        let (shared, passes) = loaded(alloc, config, graph)?;
-        Ok(Store { shared, passes })
+        match loaded(alloc, config, graph) {
+            Ok((shared, passes)) => Ok(Store { shared, passes }),
+            Err(refused) => Err(refused),
+        }
     }
 
     /// How many sessions it has.

@@ -69,8 +69,15 @@ fn run_at_home<R: Threads + Wait + Sync, G: Gate, H: Home + Send>(
     let mut seats = Vec::with_capacity(alloc, scripts.len())?;
     // Pass 0 has made the load, and serves from now on.
     let mut loader = passes.remove(0);
-    let scripts = scripts.into_vec();
-    seat_all(rt, alloc, store, &mut loader, passes, scripts, &mut seats);
+    seat_all(
+        rt,
+        alloc,
+        store,
+        &mut loader,
+        passes,
+        scripts.into_vec(),
+        &mut seats,
+    );
     let mut over: JobsOver<Worker<'_, R, H>> = JobsOver {
         jobs: seats,
         service: Worker::new(rt, store, loader),

@@ -32,12 +32,12 @@ run_threads-ended-requires-clause-ready g c κs within =
     let can = c.requires.can.1 in
     let split = first_out c.args.passes.now.items c.remove-loader.new.self.items c.remove-loader.result (some_passes inputs c.args.store.now c.args.passes.now.items c.args.scripts can) c.remove-loader.ensures.value c.remove-loader.ensures.items in
     are_ready inputs c.args.store.now c.args.passes.now.items c.args.scripts can c.remove-loader.result c.remove-loader.new.self.items split (λ w. w.store.now) (λ w. w.pass) c.seat_all.new.seats.items c.seat_all.ensures.store
-    (subst (λ cs. AreSeated c.args.store.now (account_of c.args.store.now c.remove-loader.result).seen 1 cs c.remove-loader.new.self.items (map (λ x. (x.0, x.1.pass)) c.seat_all.new.seats.items)) c.into_vec-scripts.ensures c.seat_all.ensures.seated)
+    (subst (λ cs. AreSeated c.args.store.now (account_of c.args.store.now c.remove-loader.result).seen 1 cs c.remove-loader.new.self.items (map (λ x. (x.0, x.1.pass)) c.seat_all.new.seats.items)) c.into_vec.ensures c.seat_all.ensures.seated)
 
 pub leave_all-requires-clause-passes : goal.leave_all-requires-clause-passes
 leave_all-requires-clause-passes g c =
     let all = zip_count _ c.seat_all.new.seats.items c.run_threads-ended.new.jobs.jobs.items c.run_threads-ended.ensures.ran in
-    let seats = seats_count c.args.store.now _ 1 c.into_vec-scripts.result.items c.remove-loader.new.self.items (λ x. (x.0, x.1.pass)) c.seat_all.new.seats.items c.seat_all.ensures.seated in
+    let seats = seats_count c.args.store.now _ 1 c.into_vec.result.items c.remove-loader.new.self.items (λ x. (x.0, x.1.pass)) c.seat_all.new.seats.items c.seat_all.ensures.seated in
     let none = ap length c.seat_all.ensures.passes.0 in
     let pushed = c.push_reserved.ensures.len in
     let kept = c.push_reserved.ensures.capacity in
@@ -51,7 +51,7 @@ leave_all-requires-clause-passes g c =
 pub leave_all-requires-clause-jobs : goal.leave_all-requires-clause-jobs
 leave_all-requires-clause-jobs g c =
     let all = zip_count _ c.seat_all.new.seats.items c.run_threads-ended.new.jobs.jobs.items c.run_threads-ended.ensures.ran in
-    let seats = seats_count c.args.store.now _ 1 c.into_vec-scripts.result.items c.remove-loader.new.self.items (λ x. (x.0, x.1.pass)) c.seat_all.new.seats.items c.seat_all.ensures.seated in
+    let seats = seats_count c.args.store.now _ 1 c.into_vec.result.items c.remove-loader.new.self.items (λ x. (x.0, x.1.pass)) c.seat_all.new.seats.items c.seat_all.ensures.seated in
     let inputs = c.requires.can.0 in
     let can = c.requires.can.1 in
     let split = first_out c.args.passes.now.items c.remove-loader.new.self.items c.remove-loader.result (some_passes inputs c.args.store.now c.args.passes.now.items c.args.scripts can) c.remove-loader.ensures.value c.remove-loader.ensures.items in
@@ -72,7 +72,7 @@ returns-in_err-ended-clause-idle g c =
     let ys = c.run_threads-ended.new.jobs.jobs.items in
     let service = c.take_pass.result in
     let split = first_out c.args.passes.now.items rest loader (some_passes inputs store c.args.passes.now.items c.args.scripts can) c.remove-loader.ensures.value c.remove-loader.ensures.items in
-    let seated = subst (λ cs. AreSeated store (account_of store loader).seen 1 cs rest (map (λ x. (x.0, x.1.pass)) xs)) c.into_vec-scripts.ensures c.seat_all.ensures.seated in
+    let seated = subst (λ cs. AreSeated store (account_of store loader).seen 1 cs rest (map (λ x. (x.0, x.1.pass)) xs)) c.into_vec.ensures c.seat_all.ensures.seated in
     let served = served_as _ _ (account_of store loader) (account_of store service) c.run_threads-ended.ensures.service
     ((λ i. account_of (c.new.ensures.store i) (c.new.ensures.pass i)) ∙ c.seat_all.ensures.account) (λ i. account_of (c.take_pass.ensures.store i) (sym c.take_pass.ensures.pass i)) in
     let are = c.leave_all.ensures.passes ∙ ap (λ zs. zs ++ map (λ z. z.1.pass) ys) (c.push_reserved.ensures.items ∙ ap (λ zs. zs ++ service ∷ []) c.seat_all.ensures.passes.0) in
@@ -90,7 +90,7 @@ returns-clause-idle g c =
     let ys = c.run_threads-ended.new.jobs.jobs.items in
     let service = c.take_pass.result in
     let split = first_out c.args.passes.now.items rest loader (some_passes inputs store c.args.passes.now.items c.args.scripts can) c.remove-loader.ensures.value c.remove-loader.ensures.items in
-    let seated = subst (λ cs. AreSeated store (account_of store loader).seen 1 cs rest (map (λ x. (x.0, x.1.pass)) xs)) c.into_vec-scripts.ensures c.seat_all.ensures.seated in
+    let seated = subst (λ cs. AreSeated store (account_of store loader).seen 1 cs rest (map (λ x. (x.0, x.1.pass)) xs)) c.into_vec.ensures c.seat_all.ensures.seated in
     let served = served_as _ _ (account_of store loader) (account_of store service) c.run_threads-ended.ensures.service
     ((λ i. account_of (c.new.ensures.store i) (c.new.ensures.pass i)) ∙ c.seat_all.ensures.account) (λ i. account_of (c.take_pass.ensures.store i) (sym c.take_pass.ensures.pass i)) in
     let are = c.leave_all.ensures.passes ∙ ap (λ zs. zs ++ map (λ z. z.1.pass) ys) (c.push_reserved.ensures.items ∙ ap (λ zs. zs ++ service ∷ []) c.seat_all.ensures.passes.0) in
@@ -106,7 +106,7 @@ returns-clause-ran g c = λ inputs can.
     let ys = c.run_threads-ended.new.jobs.jobs.items in
     let service = c.take_pass.result in
     let split = first_out c.args.passes.now.items rest loader (some_passes inputs store c.args.passes.now.items c.args.scripts can) c.remove-loader.ensures.value c.remove-loader.ensures.items in
-    let seated = subst (λ cs. AreSeated store (account_of store loader).seen 1 cs rest (map (λ x. (x.0, x.1.pass)) xs)) c.into_vec-scripts.ensures c.seat_all.ensures.seated in
+    let seated = subst (λ cs. AreSeated store (account_of store loader).seen 1 cs rest (map (λ x. (x.0, x.1.pass)) xs)) c.into_vec.ensures c.seat_all.ensures.seated in
     let served = served_as _ _ (account_of store loader) (account_of store service) c.run_threads-ended.ensures.service
     ((λ i. account_of (c.new.ensures.store i) (c.new.ensures.pass i)) ∙ c.seat_all.ensures.account) (λ i. account_of (c.take_pass.ensures.store i) (sym c.take_pass.ensures.pass i)) in
     let are = c.leave_all.ensures.passes ∙ ap (λ zs. zs ++ map (λ z. z.1.pass) ys) (c.push_reserved.ensures.items ∙ ap (λ zs. zs ++ service ∷ []) c.seat_all.ensures.passes.0) in
