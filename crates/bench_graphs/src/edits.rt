@@ -7,7 +7,7 @@
 ghost use Rattle.std.specs.Prelude.{◌<◌};
 
 use crate::graph::Graph;
-use crate::rmat::Ends;
+use crate::rmat::DrawnEnds;
 use graph_model::NoMemory;
 use rand_core::SeedableRng;
 use rand_core::utils::NextWord;
@@ -66,8 +66,8 @@ pub fn edits_of(
 /// as far from one another in the order of the graph's edges as they can be.
 pub fn spread_edits(
     alloc: Global,
-    edges: &[Ends],
-    others: &[Ends],
+    edges: &[DrawnEnds],
+    others: &[DrawnEnds],
     count: u32,
 ) -> Result<Vec<Edit>, NoMemory> {
     let apart = (edges.len() as u64 / u64::from(count / 2).max(1)).max(1);

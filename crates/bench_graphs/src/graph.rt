@@ -9,7 +9,7 @@ ghost use Rattle.graph_model.specs.Refused.{AllAllowed, IsWithinLimits};
 ghost use Rattle.graph_model.specs.declared.write.Kind.TheVariants.{Undirected};
 ghost use Rattle.graphalytics_io.specs.Load.{load_of};
 
-use crate::rmat::{Ends, edge_text};
+use crate::rmat::{DrawnEnds, edge_text};
 use anyhow::Result;
 use graph_files::{Weights, files_are_loadable, load_is_legal, read_edges, read_vertices};
 use graph_maker::make_graph;
@@ -46,7 +46,7 @@ pub fn made_graph(alloc: Global, seed: u64, vertices: u32, edges: u32) -> Result
 }
 
 /// A graph of so many vertices, from 1 on, and these edges.
-pub fn drawn_graph(alloc: Global, vertices: u32, edges: &[Ends]) -> Result<Graph>
+pub fn drawn_graph(alloc: Global, vertices: u32, edges: &[DrawnEnds]) -> Result<Graph>
     requires { 0 < vertices }
     ensures { IfOk result IsLoadableGraph }
 {

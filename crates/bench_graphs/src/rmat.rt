@@ -15,7 +15,7 @@ use std::collections::HashSet;
 
 /// The ends of an edge.
 #[derive(Clone, Copy, Debug, PartialEq, Eq, Hash)]
-pub struct Ends {
+pub struct DrawnEnds {
     pub u: u64,
     pub v: u64,
 }
@@ -27,7 +27,7 @@ pub fn drawn_ends(
     seed: u64,
     vertices: u32,
     count: u64,
-) -> Result<Vec<Ends>, NoMemory> {
+) -> Result<Vec<DrawnEnds>, NoMemory> {
     let levels = levels_for(u64::from(vertices));
     let mut generator = SplitMix64::from_seed(seed.to_le_bytes());
     let mut seen = HashSet::new(alloc);
@@ -59,7 +59,7 @@ fn levels_for(vertices: u64) -> u32 {
 
 /// Goes down to a cell of the matrix: at each level to the quarter at the upper left with a chance of 57 in 100, to the
 /// upper right and to the lower left with 19 each, and to the lower right with 5.
-fn draw(generator: &mut SplitMix64, levels: u32) -> Ends {
+fn draw(generator: &mut SplitMix64, levels: u32) -> DrawnEnds {
     let mut u: u64 = 0;
     let mut v: u64 = 0;
     'levels: for _ in 0..levels {
@@ -69,18 +69,18 @@ fn draw(generator: &mut SplitMix64, levels: u32) -> Ends {
         u = u.wrapping_mul(2).wrapping_add(u64::from(is_lower));
         v = v.wrapping_mul(2).wrapping_add(u64::from(is_right));
     }
-    Ends {
+    DrawnEnds {
         u: u.wrapping_add(1),
         v: v.wrapping_add(1),
     }
 }
 
 /// The same ends with the lesser one first.
-fn in_order(ends: Ends) -> Ends {
+fn in_order(ends: DrawnEnds) -> DrawnEnds {
     if ends.u <= ends.v {
         ends
     } else {
-        Ends {
+        DrawnEnds {
             u: ends.v,
             v: ends.u,
         }
@@ -88,7 +88,7 @@ fn in_order(ends: Ends) -> Ends {
 }
 
 /// The text of an edge file.
-pub fn edge_text(alloc: Global, edges: &[Ends]) -> Result<Text, NoMemory> {
+pub fn edge_text(alloc: Global, edges: &[DrawnEnds]) -> Result<Text, NoMemory> {
     let mut text = Text::new(alloc);
     for edge in edges {
         text.push_number(edge.u)?;

@@ -15,11 +15,11 @@ const HEAVIEST: u64 = 1_000_000;
 
 /// Numbers without a pattern, by Marsaglia's xorshift.
 #[derive(Clone, Copy)]
-struct Random {
+struct GraphRandom {
     state: u64,
 }
 
-impl Random {
+impl GraphRandom {
     fn draw(&mut self) -> u64 {
         let mut state = self.state;
         state ^= state << 13;
@@ -79,7 +79,7 @@ fn push_arcs(rows: &mut Vec<Row>, arcs: &[u64], first: usize, src: u64) -> Resul
 
 /// Each edge as two arcs, in rising order.
 fn arcs_of(alloc: Global, vertices: u64, edges: u64, seed: u64) -> Result<Vec<u64>, NoMemory> {
-    let mut random = Random {
+    let mut random = GraphRandom {
         state: seed.wrapping_add(88172645463325252),
     };
     let mut arcs = Vec::new(alloc);

@@ -11,15 +11,15 @@ pub const ROUNDS: u64 = 40;
 
 /// The least that a call took in one of the rounds so far, in picoseconds, and the sum of what all calls gave.
 #[derive(Clone, Copy)]
-pub struct Best {
+pub struct BestCall {
     picoseconds: u128,
     sum: u64,
 }
 
-impl Best {
+impl BestCall {
     /// Before the first round.
-    pub fn new() -> Best {
-        Best {
+    pub fn new() -> BestCall {
+        BestCall {
             picoseconds: u128::MAX,
             sum: 0,
         }

@@ -5,8 +5,8 @@ ghost use Rattle.std.specs.Thread.{IsSync};
 ghost use Rattle.latch_table.specs.Latched.{IsIdle};
 ghost use Rattle.latch_table.specs.Opening.{HasPasses};
 
-use crate::best::Best;
-use crate::random::Random;
+use crate::best::BestCall;
+use crate::random::CellRandom;
 use crate::spots::{Spot, open, touch, touch_many};
 use anyhow::Result;
 use latch_table::{Cells, LatchSeat, LatchTable};
@@ -26,7 +26,7 @@ const ROUND: u128 = 100_000_000;
 
 /// What the threads do in a round.
 #[derive(Clone, Copy)]
-enum Work {
+enum TouchOrder {
     /// So many cells, drawn from all.
     Drawn,
     /// The first cell, for as long as a round takes.
@@ -53,8 +53,8 @@ pub fn time<R: Threads + Wait + Clock + Print + Sync>(
     requires { IsSync R.row }
 {
     let (table, mut all) = open(alloc, MANY as usize)?;
-    let drawn = rounds(rt, &table, &mut all, Work::Drawn, 32, seed);
-    let first = rounds(rt, &table, &mut all, Work::First, 0, seed);
+    let drawn = rounds(rt, &table, &mut all, TouchOrder::Drawn, 32, seed);
+    let first = rounds(rt, &table, &mut all, TouchOrder::First, 0, seed);
     drop(all);
     drop(table);
     drawn.best.say(rt, "cell-far-4")?;
@@ -67,7 +67,7 @@ pub fn time<R: Threads + Wait + Clock + Print + Sync>(
 #[derive(Clone, Copy, Drop)]
 struct Shown {
     /// The nanoseconds of a call.
-    best: Best,
+    best: BestCall,
     /// How many hundredths of the mean the slowest thread did, in the worst round.
     least: u64,
     calls: u64,
@@ -78,7 +78,7 @@ fn rounds<R: Threads + Wait + Clock + Sync>(
     rt: &R,
     table: &Spots,
     all: &mut Seat,
-    work: Work,
+    work: TouchOrder,
     from: u32,
     seed: u64,
 ) -> Shown
@@ -90,7 +90,7 @@ fn rounds<R: Threads + Wait + Clock + Sync>(
     ensures passes { HasPasses tt from all.new.me.0 }
 {
     let mut shown = Shown {
-        best: Best::new(),
+        best: BestCall::new(),
         least: 100,
         calls: 0,
     };
@@ -110,7 +110,7 @@ fn rounds<R: Threads + Wait + Clock + Sync>(
 
 impl Shown {
     /// Takes in what four threads did.
-    fn add(&mut self, work: Work, laps: [Lap; 4]) {
+    fn add(&mut self, work: TouchOrder, laps: [Lap; 4]) {
         let mut nanoseconds: u64 = 0;
         let mut calls: u64 = 0;
         let mut sum: u64 = 0;
@@ -122,8 +122,8 @@ impl Shown {
             least = least.min(lap.calls);
         }
         let each = match work {
-            Work::Drawn => calls / 4,
-            Work::First => calls,
+            TouchOrder::Drawn => calls / 4,
+            TouchOrder::First => calls,
         };
         self.best.add(Duration::from_nanos(nanoseconds), each, sum);
         self.calls = self.calls.wrapping_add(calls);
@@ -139,7 +139,7 @@ fn by_four<R: Threads + Wait + Clock + Sync>(
     b: Seat,
     c: Seat,
     d: Seat,
-    work: Work,
+    work: TouchOrder,
     seed: u64,
 ) -> [Lap; 4]
     requires sync { IsSync R.row }
@@ -170,7 +170,7 @@ fn by_two<R: Threads + Wait + Clock + Sync>(
     table: &Spots,
     a: Seat,
     b: Seat,
-    work: Work,
+    work: TouchOrder,
     seed: u64,
 ) -> (Lap, Lap)
     requires sync { IsSync R.row }
@@ -192,12 +192,18 @@ fn by_two<R: Threads + Wait + Clock + Sync>(
 }
 
 /// What one thread does; nothing, where the clock can't be read.
-fn by_one<R: Wait + Clock>(rt: &R, table: &Spots, mut pass: Seat, work: Work, seed: u64) -> Lap
+fn by_one<R: Wait + Clock>(
+    rt: &R,
+    table: &Spots,
+    mut pass: Seat,
+    work: TouchOrder,
+    seed: u64,
+) -> Lap
     requires pass { IsIdle 64 tt table.now.table.shared.table_id pass }
     requires table { table.now.table.shared.table_id.words ≡ 1048576 }
 {
     let cells = table.cells();
-    let mut random = Random::new(seed);
+    let mut random = CellRandom::new(seed);
     let Ok(begun) = Instant::now(rt) else {
         return Lap {
             nanoseconds: 0,
@@ -206,11 +212,11 @@ fn by_one<R: Wait + Clock>(rt: &R, table: &Spots, mut pass: Seat, work: Work, se
         };
     };
     let (calls, sum) = match work {
-        Work::Drawn => (
+        TouchOrder::Drawn => (
             CALLS,
             touch_many(rt, &cells, &mut pass, MANY, CALLS, &mut random),
         ),
-        Work::First => touch_first(rt, &cells, &mut pass, begun),
+        TouchOrder::First => touch_first(rt, &cells, &mut pass, begun),
     };
     let nanoseconds = match begun.elapsed(rt) {
         Ok(took) => took.as_nanos().min(1_000_000_000_000) as u64,

@@ -3,8 +3,8 @@
 ghost use Rattle.std.specs.Prelude.{◌<◌, ◌≤◌};
 ghost use Rattle.latch_table.specs.Latched.{IsIdle};
 
-use crate::best::{Best, CALLS, ROUNDS};
-use crate::random::Random;
+use crate::best::{BestCall, CALLS, ROUNDS};
+use crate::random::CellRandom;
 use crate::spots::{Spot, cell_below, open, touch_many};
 use anyhow::Result;
 use latch_table::{Cells, LatchSeat};
@@ -45,8 +45,8 @@ fn time_touches<R: Clock + Print + Wait>(
     requires below { (0 < below) × (below ≤ cells.now.table.now.table_id.words) }
     ensures pass { IsIdle 64 tt cells.now.table.now.table_id pass.new }
 {
-    let mut random = Random::new(seed);
-    let mut best = Best::new();
+    let mut random = CellRandom::new(seed);
+    let mut best = BestCall::new();
     'rounds: for _round in 0..ROUNDS {
         let begun = Instant::now(rt)?;
         let sum = touch_many(rt, cells, pass, below, CALLS, &mut random);
@@ -57,8 +57,8 @@ fn time_touches<R: Clock + Print + Wait>(
 
 /// Draws cells, and does nothing else.
 fn time_draws<R: Clock + Print>(rt: &R, seed: u64) -> Result<()> {
-    let mut random = Random::new(seed);
-    let mut best = Best::new();
+    let mut random = CellRandom::new(seed);
+    let mut best = BestCall::new();
     for _round in 0..ROUNDS {
         let mut sum: u64 = 0;
         let begun = Instant::now(rt)?;

@@ -2,7 +2,7 @@
 
 ghost use Rattle.std.specs.Prelude.{◌≡◌, ◌<◌};
 
-use crate::best::{Best, CALLS, ROUNDS};
+use crate::best::{BestCall, CALLS, ROUNDS};
 use anyhow::Result;
 use atomic_table::{Play, Table, TableRule};
 use epoch_reclaim::{PinPlaces, PinSeat, Pins};
@@ -35,7 +35,7 @@ pub fn time<R: Clock + Print>(rt: &R, alloc: Global) -> Result<()> {
             passes: 64,
         },
     };
-    let mut best = Best::new();
+    let mut best = BestCall::new();
     'rounds: for _round in 0..ROUNDS {
         let begun = Instant::now(rt)?;
         let sum = pin_often(&pins, &mut pass);

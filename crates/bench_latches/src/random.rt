@@ -2,13 +2,13 @@
 
 /// Numbers from a seed, by Marsaglia's xorshift.
 #[derive(Clone, Copy)]
-pub struct Random {
+pub struct CellRandom {
     state: u64,
 }
 
-impl Random {
-    pub fn new(seed: u64) -> Random {
-        Random {
+impl CellRandom {
+    pub fn new(seed: u64) -> CellRandom {
+        CellRandom {
             state: seed.wrapping_add(88172645463325252),
         }
     }

@@ -4,7 +4,7 @@ ghost use Rattle.std.specs.Prelude.{◌≡◌, ◌<◌, ◌≤◌, IfOk};
 ghost use Rattle.latch_table.specs.Latched.{IsIdle};
 ghost use Rattle.latch_table.specs.Opening.{HasPasses};
 
-use crate::random::Random;
+use crate::random::CellRandom;
 use latch_table::{Cells, LatchSeat, LatchTable, Slot};
 use std::alloc::{AllocError, Global};
 use std::sync::Wait;
@@ -79,7 +79,7 @@ pub fn touch_many(
     pass: &mut LatchSeat<Spot, ()>,
     below: u32,
     calls: u64,
-    random: &mut Random,
+    random: &mut CellRandom,
 ) -> u64
     requires pass { IsIdle 64 tt cells.now.table.now.table_id pass.old }
     requires below { (0 < below) × (below ≤ cells.now.table.now.table_id.words) }
@@ -94,7 +94,7 @@ pub fn touch_many(
 }
 
 /// A number below another one.
-pub fn cell_below(random: &mut Random, below: u32) -> u32
+pub fn cell_below(random: &mut CellRandom, below: u32) -> u32
     requires { 0 < below }
     ensures { result < below }
 {

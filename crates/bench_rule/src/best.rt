@@ -4,14 +4,14 @@ use std::time::Duration;
 
 /// The least that a round took, in nanoseconds.
 #[derive(Clone, Copy)]
-pub struct Best {
+pub struct LeastTime {
     nanoseconds: u128,
 }
 
-impl Best {
+impl LeastTime {
     /// Before the first round.
-    pub fn new() -> Best {
-        Best {
+    pub fn new() -> LeastTime {
+        LeastTime {
             nanoseconds: u128::MAX,
         }
     }

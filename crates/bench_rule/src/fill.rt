@@ -2,7 +2,7 @@
 
 ghost use Rattle.bench_rule.specs.Sourced.{IsSource};
 
-use crate::best::Best;
+use crate::best::LeastTime;
 use crate::source::Source;
 use anyhow::Result;
 use std::alloc::Global;
@@ -13,7 +13,7 @@ use std::time::Instant;
 pub fn time<R: Clock + Print>(rt: &R, alloc: Global, source: &Source, rounds: u64) -> Result<()>
     requires { IsSource source.now }
 {
-    let mut best = Best::new();
+    let mut best = LeastTime::new();
     'rounds: for _round in 0..rounds {
         let rows = source.copy_of_rows(alloc)?;
         let copy = source.copy(alloc)?;

@@ -9,7 +9,7 @@ ghost use Rattle.cases_store.specs.Visits.{AreAtEase, IsAtEase};
 ghost use Rattle.cases_store.specs.RuleModel.Sight.{cells_of};
 ghost use Rattle.bench_rule.specs.Sourced.{IsSource};
 
-use crate::best::Best;
+use crate::best::LeastTime;
 use crate::source::Source;
 use anyhow::Result;
 use cases_store::below::{Pass, Store};
@@ -48,21 +48,21 @@ fn time_by_first<R: Clock + Wait>(
     store: &Store,
     passes: &mut Vec<Pass>,
     trips: u64,
-) -> Result<Best>
+) -> Result<LeastTime>
     requires { AreAtEase store.now passes.old.items }
 {
     if passes.is_empty() || store.index_place() == 0 {
-        return Ok(Best::new());
+        return Ok(LeastTime::new());
     }
     time_by(rt, store, &mut passes[0], trips)
 }
 
 /// This pass makes the trips.
-fn time_by<R: Clock + Wait>(rt: &R, store: &Store, pass: &mut Pass, trips: u64) -> Result<Best>
+fn time_by<R: Clock + Wait>(rt: &R, store: &Store, pass: &mut Pass, trips: u64) -> Result<LeastTime>
     requires pass { IsAtEase store.now pass.old }
     requires cell { 0 < cells_of store.now.accounts.config }
 {
-    let mut best = Best::new();
+    let mut best = LeastTime::new();
     'rounds: for _round in 0..ROUNDS {
         let begun = Instant::now(rt)?;
         'trips: for _trip in 0..trips {

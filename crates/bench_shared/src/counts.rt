@@ -5,7 +5,7 @@ use std::sync::atomic::{AtomicU64, Ordering};
 /// How many changes were made, how many found no place for a row in its cell, and how many were refused. Threads add
 /// what they have counted once they are through.
 #[derive(Drop)]
-pub struct Counts {
+pub struct EditCounts {
     made: AtomicU64,
     crowded: AtomicU64,
     refused: AtomicU64,
@@ -19,9 +19,9 @@ pub struct Tally {
     pub refused: u64,
 }
 
-impl Counts {
-    pub fn new() -> Counts {
-        Counts {
+impl EditCounts {
+    pub fn new() -> EditCounts {
+        EditCounts {
             made: AtomicU64::new(0),
             crowded: AtomicU64::new(0),
             refused: AtomicU64::new(0),

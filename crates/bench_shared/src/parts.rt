@@ -6,7 +6,7 @@ ghost use Rattle.std.specs.Prelude.{◌≡◌};
 ghost use Rattle.shared_store.specs.Ends.{AreIdle};
 ghost use Rattle.shared_store.specs.Passes.{IsIdle, IsOpen};
 
-use crate::counts::{Counts, Tally};
+use crate::counts::{EditCounts, Tally};
 use bench_graphs::{Act, Edit};
 use graph_model::{Refusal, Write};
 use shared_store::{Pass, Store, Written, begin, commit, write};
@@ -19,7 +19,7 @@ pub fn run_parts<R: Threads + Wait + Sync>(
     store: &Store,
     passes: &mut [Pass],
     edits: &[Edit],
-    counts: &Counts,
+    counts: &EditCounts,
 )
     requires { AreIdle store.now passes.old }
     ensures { AreIdle store.now passes.new }
@@ -57,9 +57,9 @@ fn run_part(rt: &impl Wait, store: &Store, pass: &mut Pass, edits: &[Edit]) -> T
     };
     'edits: for number in 0..edits.len() {
         match make(rt, store, pass, edits[number]) {
-            Outcome::Made => tally.made = tally.made.wrapping_add(1),
-            Outcome::Crowded => tally.crowded = tally.crowded.wrapping_add(1),
-            Outcome::Refused => tally.refused = tally.refused.wrapping_add(1),
+            EditOutcome::Made => tally.made = tally.made.wrapping_add(1),
+            EditOutcome::Crowded => tally.crowded = tally.crowded.wrapping_add(1),
+            EditOutcome::Refused => tally.refused = tally.refused.wrapping_add(1),
         }
     }
     tally
@@ -67,21 +67,21 @@ fn run_part(rt: &impl Wait, store: &Store, pass: &mut Pass, edits: &[Edit]) -> T
 
 /// What becomes of a change.
 #[derive(Clone, Copy, Debug, PartialEq, Eq)]
-enum Outcome {
+enum EditOutcome {
     Made,
     Crowded,
     Refused,
 }
 
 /// Makes a change in a transaction of its own.
-fn make(rt: &impl Wait, store: &Store, pass: &mut Pass, edit: Edit) -> Outcome
+fn make(rt: &impl Wait, store: &Store, pass: &mut Pass, edit: Edit) -> EditOutcome
     requires idle { IsIdle store.now pass.old }
     ensures idle { IsIdle store.now pass.new }
     ensures number { pass.new.seats.number ≡ pass.old.seats.number }
 {
     match begin(rt, store, pass) {
         Ok(_) => {}
-        Err(_) => return Outcome::Refused,
+        Err(_) => return EditOutcome::Refused,
     }
     let outcome = try_write(rt, store, pass, edit);
     commit(rt, store, pass);
@@ -89,7 +89,7 @@ fn make(rt: &impl Wait, store: &Store, pass: &mut Pass, edit: Edit) -> Outcome
 }
 
 /// Makes a change in the open transaction.
-fn try_write(rt: &impl Wait, store: &Store, pass: &mut Pass, edit: Edit) -> Outcome
+fn try_write(rt: &impl Wait, store: &Store, pass: &mut Pass, edit: Edit) -> EditOutcome
     requires opened { IsOpen store.now pass.old }
     ensures opened { IsOpen store.now pass.new }
     ensures number { pass.new.seats.number ≡ pass.old.seats.number }
@@ -104,10 +104,10 @@ fn try_write(rt: &impl Wait, store: &Store, pass: &mut Pass, edit: Edit) -> Outc
     outcome_of(&written)
 }
 
-fn outcome_of(written: &Result<Written, Refusal>) -> Outcome {
+fn outcome_of(written: &Result<Written, Refusal>) -> EditOutcome {
     match written {
-        Ok(Written::Done) => Outcome::Made,
-        Ok(_) => Outcome::Crowded,
-        Err(_) => Outcome::Refused,
+        Ok(Written::Done) => EditOutcome::Made,
+        Ok(_) => EditOutcome::Crowded,
+        Err(_) => EditOutcome::Refused,
     }
 }

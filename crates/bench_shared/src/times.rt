@@ -2,7 +2,7 @@
 
 ghost use Rattle.bench_graphs.specs.Loadable.{IsLoadableGraph};
 
-use crate::counts::{Counts, Tally};
+use crate::counts::{EditCounts, Tally};
 use crate::parts::run_parts;
 use anyhow::Result;
 use bench_graphs::Workload;
@@ -47,7 +47,7 @@ pub fn time<R: Threads + Wait + Clock + Sync>(
     let load = graph.load(alloc)?;
     let begun = Instant::now(rt)?;
     let (store, mut passes) = loaded(alloc, config, load)?;
-    let counts = Counts::new();
+    let counts = EditCounts::new();
     let stored = Instant::now(rt);
     run_parts(
         rt,

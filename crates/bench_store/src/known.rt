@@ -7,9 +7,9 @@ use undo_chain::States;
 
 /// All transactions have committed with stamp 3.
 #[derive(Drop)]
-pub struct Known {}
+pub struct AllCommitted {}
 
-impl States for Known {
+impl States for AllCommitted {
     ghost use Rattle.std.specs.Prelude.{true, Some};
 
     ghost knowledge = { λ s. record {

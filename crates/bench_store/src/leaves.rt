@@ -132,16 +132,16 @@ fn time_calls<R: Clock + Print, F: Fn(Key) -> u64>(
 
 /// A leaf with its range, as whoever searched last keeps it.
 #[derive(Clone, Copy)]
-struct Kept {
+struct KeptLeaf {
     leaf: u64,
     low: Key,
     high: Key,
 }
 
-impl Kept {
+impl KeptLeaf {
     /// A leaf whose range goes to where the next one begins.
-    fn new(leaf: u64) -> Kept {
-        Kept {
+    fn new(leaf: u64) -> KeptLeaf {
+        KeptLeaf {
             leaf,
             low: Key {
                 src: leaf.wrapping_mul(APART),
@@ -162,7 +162,7 @@ impl Kept {
 /// Searches again and again, but only where the leaf that was found last doesn't hold the key.
 fn time_kept<R: Clock + Print>(rt: &R, trie: &LeafTrie, random: &mut Random) -> Result<()> {
     let mut best = Best::new();
-    let mut kept = Kept::new(0);
+    let mut kept = KeptLeaf::new(0);
     for _round in 0..ROUNDS {
         let mut sum: u64 = 0;
         let begun = Instant::now(rt)?;
@@ -175,7 +175,7 @@ fn time_kept<R: Clock + Print>(rt: &R, trie: &LeafTrie, random: &mut Random) -> 
                     second: src % 8,
                 };
                 if !kept.holds(key) {
-                    kept = Kept::new(search(trie, key));
+                    kept = KeptLeaf::new(search(trie, key));
                 }
                 sum = sum.wrapping_add(kept.leaf);
             }

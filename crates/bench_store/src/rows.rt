@@ -7,7 +7,7 @@ ghost use Rattle.std.specs.Prelude.{◌≡◌};
 ghost use Rattle.leaf_array.specs.Segments.{KeepsFences};
 
 use crate::best::{Best, CALLS, ROUNDS};
-use crate::known::Known;
+use crate::known::AllCommitted;
 use crate::random::{Random, drawn_order};
 use crate::segments::{FEW, FULL, USUAL, row};
 use anyhow::Result;
@@ -69,7 +69,7 @@ pub(crate) fn write(segment: &mut VersionSegment, key: Key, value: u64) -> Resul
 pub(crate) fn settle(segment: &mut VersionSegment) -> usize
     ensures { KeepsFences segment.old segment.new }
 {
-    segment.prune(9, &mut Known {})
+    segment.prune(9, &mut AllCommitted {})
 }
 
 fn settle_all(segments: &mut [VersionSegment]) {
@@ -121,7 +121,7 @@ fn time_reads<R: Clock + Print>(
 
 /// The value of a key, or nothing.
 fn read(segment: &VersionSegment, key: Key) -> u64 {
-    match segment.read(key, &READER, &mut Known {}) {
+    match segment.read(key, &READER, &mut AllCommitted {}) {
         Some(value) => value,
         None => 0,
     }
@@ -161,7 +161,7 @@ fn run(segment: &VersionSegment, s: u64, place: u64, buffer: &mut Rows32) -> u64
         src: row(s, FULL).key.src,
         second: place,
     };
-    match segment.run_at(from, until, &READER, &mut Known {}, buffer) {
+    match segment.run_at(from, until, &READER, &mut AllCommitted {}, buffer) {
         [first, .., last] => first.weight.wrapping_add(last.weight),
         _ => 0,
     }

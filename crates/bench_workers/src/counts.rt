@@ -4,7 +4,7 @@ use std::sync::atomic::{AtomicU64, Ordering};
 
 /// What the engines of a round have done so far. Each adds what it has counted once it is through.
 #[derive(Drop)]
-pub struct Counts {
+pub struct RoundCounts {
     /// Reads that found an edge, rows of scans, or edges that were set, by those that work.
     done: AtomicU64,
     /// Edges that were set by those beside them.
@@ -13,9 +13,9 @@ pub struct Counts {
     through: AtomicU64,
 }
 
-impl Counts {
-    pub fn new() -> Counts {
-        Counts {
+impl RoundCounts {
+    pub fn new() -> RoundCounts {
+        RoundCounts {
             done: AtomicU64::new(0),
             beside: AtomicU64::new(0),
             through: AtomicU64::new(0),

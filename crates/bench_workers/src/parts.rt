@@ -3,7 +3,7 @@
 ghost use Rattle.std.specs.Prelude.{◌≡◌, None, IsSome};
 ghost use Rattle.cases_workers.specs.Cases.{StaysClosed};
 
-use crate::round::{Beside, Round, Work};
+use crate::round::{Beside, PartWork, Round};
 use bench_graphs::Edit;
 use graph_model::{Cursor, Engine, Key, Rows64};
 
@@ -33,10 +33,10 @@ fn work<E: Engine>(round: &Round, place: u64, engine: &mut E) -> u64
     ensures { StaysClosed (E.account engine.old) (E.account engine.new) }
 {
     match round.work {
-        Work::Read => read_part(engine, part_of(round, place)),
-        Work::Scan => scan_often(engine, round.amount),
-        Work::Set => set_often(engine, round, place),
-        Work::Serve => serve_often(engine, round.amount),
+        PartWork::Read => read_part(engine, part_of(round, place)),
+        PartWork::Scan => scan_often(engine, round.amount),
+        PartWork::Set => set_often(engine, round, place),
+        PartWork::Serve => serve_often(engine, round.amount),
     }
 }
 

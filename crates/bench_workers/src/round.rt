@@ -4,7 +4,7 @@ ghost use Rattle.std.specs.Prelude.{◌≡◌, None};
 ghost use Rattle.cases_workers.specs.Cases.{StaysClosed};
 ghost use Rattle.bench_workers.specs.Engines.{AreClosed, jobs_of};
 
-use crate::counts::Counts;
+use crate::counts::RoundCounts;
 use crate::parts::take_part;
 use anyhow::Result;
 use bench_graphs::Edit;
@@ -15,7 +15,7 @@ use std::time::{Duration, Instant};
 
 /// What the engines of the first places do.
 #[derive(Clone, Copy, Debug, PartialEq, Eq)]
-pub enum Work {
+pub enum PartWork {
     /// Each reads its part of the edges.
     Read,
     /// Each scans all rows so many times.
@@ -41,14 +41,14 @@ pub enum Beside {
 /// What engines do at once.
 #[derive(Drop)]
 pub struct Round {
-    pub work: Work,
+    pub work: PartWork,
     /// So many engines work.
     pub workers: u64,
     /// So much is done by each of them.
     pub amount: u64,
     pub beside: Beside,
     pub edges: Vec<Edit>,
-    pub counts: Counts,
+    pub counts: RoundCounts,
 }
 
 impl Round {
@@ -62,7 +62,7 @@ impl Round {
         ensures closed { AreClosed E.account engines.new }
         ensures jobs { jobs_of E.account engines.new ≡ jobs_of E.account engines.old }
     {
-        self.counts = Counts::new();
+        self.counts = RoundCounts::new();
         let begun = Instant::now(rt)?;
         run_parts(rt, engines, self);
         Ok(begun.elapsed(rt)?)

@@ -9,14 +9,14 @@ ghost use Rattle.cases_workers.specs.SharedStore.Ends.{AreIdle};
 ghost use Rattle.cases_workers.specs.SharedStore.Passes.{IsIdle};
 
 use crate::churn::time_churn;
-use crate::counts::Counts;
+use crate::counts::RoundCounts;
 use crate::edges::drawn_edges;
 use crate::held_back::time_held;
 use crate::hire::{dismiss_all, hire_all};
 use crate::reads::time_beside_writer;
-use crate::round::{Beside, Round, Work};
+use crate::round::{Beside, PartWork, Round};
 use crate::turns::time_turns;
-use crate::words::{Part, Words};
+use crate::words::{PartWords, TimedPart};
 use anyhow::Result;
 use bench_graphs::Graph;
 use cases_workers::below::{Home, Pass, Store, Worker, close, loaded};
@@ -45,7 +45,7 @@ pub fn time_in_store<R: Threads + Wait + Clock + Print + Sync>(
     rt: &R,
     alloc: Global,
     graph: &Graph,
-    words: &Words,
+    words: &PartWords,
 ) -> Result<()>
     requires { IsLoadableGraph graph.now }
 {
@@ -72,27 +72,27 @@ fn config_for(graph: &Graph, workers: u64) -> Config
 }
 
 /// What engines do in the first round of a part.
-fn round_of(alloc: Global, graph: &Graph, words: &Words) -> Result<Round, NoMemory> {
+fn round_of(alloc: Global, graph: &Graph, words: &PartWords) -> Result<Round, NoMemory> {
     let workers = words.threads.max(1);
     let (work, amount, drawn) = match words.part {
-        Part::Reads => (
-            Work::Read,
+        TimedPart::Reads => (
+            PartWork::Read,
             0,
             words.count.saturating_mul(workers.saturating_add(1)),
         ),
-        Part::Scans => (
-            Work::Scan,
+        TimedPart::Scans => (
+            PartWork::Scan,
             words.count,
             DRAWN.saturating_mul(workers.saturating_add(1)),
         ),
-        Part::Turns => (Work::Serve, words.count, 0),
-        Part::Churn => (Work::Set, words.count / ROUNDS / workers, AGAIN),
-        Part::Held => (Work::Set, words.count / workers, words.count),
+        TimedPart::Turns => (PartWork::Serve, words.count, 0),
+        TimedPart::Churn => (PartWork::Set, words.count / ROUNDS / workers, AGAIN),
+        TimedPart::Held => (PartWork::Set, words.count / workers, words.count),
     };
     let beside = match words.part {
-        Part::Reads | Part::Scans | Part::Turns => Beside::Rest,
-        Part::Churn => Beside::Serve,
-        Part::Held => Beside::Read,
+        TimedPart::Reads | TimedPart::Scans | TimedPart::Turns => Beside::Rest,
+        TimedPart::Churn => Beside::Serve,
+        TimedPart::Held => Beside::Read,
     };
     Ok(Round {
         work,
@@ -100,7 +100,7 @@ fn round_of(alloc: Global, graph: &Graph, words: &Words) -> Result<Round, NoMemo
         amount,
         beside,
         edges: drawn_edges(alloc, graph, drawn, words.seed)?,
-        counts: Counts::new(),
+        counts: RoundCounts::new(),
     })
 }
 
@@ -110,7 +110,7 @@ fn time_on_passes<R: Threads + Wait + Clock + Print + Sync, H: Home + Send>(
     alloc: Global,
     store: &Store,
     list: &mut Vec<Pass>,
-    part: Part,
+    part: TimedPart,
     round: &mut Round,
 ) -> Result<()>
     requires home { H.home ≡ Some store.now }
@@ -147,7 +147,7 @@ fn time<R: Threads + Wait + Clock + Print + Sync, E: Engine + Send>(
     store: &Store,
     watcher: &mut Pass,
     engines: &mut Vec<E>,
-    part: Part,
+    part: TimedPart,
     round: &mut Round,
 ) -> Result<()>
     requires idle { IsIdle store.now watcher.old }
@@ -159,10 +159,10 @@ fn time<R: Threads + Wait + Clock + Print + Sync, E: Engine + Send>(
 {
     let engines = engines.as_mut_slice();
     match part {
-        Part::Reads => time_beside_writer(rt, engines, round, "reads"),
-        Part::Scans => time_beside_writer(rt, engines, round, "scans"),
-        Part::Turns => time_turns(rt, store, watcher, engines, round),
-        Part::Churn => time_churn(rt, store, watcher, engines, round),
-        Part::Held => time_held(rt, store, watcher, engines, round),
+        TimedPart::Reads => time_beside_writer(rt, engines, round, "reads"),
+        TimedPart::Scans => time_beside_writer(rt, engines, round, "scans"),
+        TimedPart::Turns => time_turns(rt, store, watcher, engines, round),
+        TimedPart::Churn => time_churn(rt, store, watcher, engines, round),
+        TimedPart::Held => time_held(rt, store, watcher, engines, round),
     }
 }

@@ -6,7 +6,7 @@ use std::env::Env;
 
 /// What is timed.
 #[derive(Clone, Copy, Debug, PartialEq, Eq)]
-pub enum Part {
+pub enum TimedPart {
     /// Reads of edges, alone and beside a writer.
     Reads,
     /// Scans of all rows, alone and beside a writer.
@@ -21,8 +21,8 @@ pub enum Part {
 
 /// What is timed, and how much of it.
 #[derive(Clone, Copy, Debug, PartialEq, Eq)]
-pub struct Words {
-    pub part: Part,
+pub struct PartWords {
+    pub part: TimedPart,
     pub vertices: u64,
     pub edges: u64,
     pub seed: u64,
@@ -31,7 +31,7 @@ pub struct Words {
 }
 
 /// The words, or none where the first isn't the name of a part. A number that isn't there is 0.
-pub fn read_words<R: Env + Alloc>(rt: &R) -> Result<Option<Words>> {
+pub fn read_words<R: Env + Alloc>(rt: &R) -> Result<Option<PartWords>> {
     let mut part = None;
     let mut numbers = [0; 5];
     let mut count = 0;
@@ -49,7 +49,7 @@ pub fn read_words<R: Env + Alloc>(rt: &R) -> Result<Option<Words>> {
         return Ok(None);
     };
     let [vertices, edges, seed, threads, count] = numbers;
-    Ok(Some(Words {
+    Ok(Some(PartWords {
         part,
         vertices,
         edges,
@@ -60,18 +60,18 @@ pub fn read_words<R: Env + Alloc>(rt: &R) -> Result<Option<Words>> {
 }
 
 /// The part of this name.
-fn part_named(name: &str) -> Option<Part> {
+fn part_named(name: &str) -> Option<TimedPart> {
     if name == "reads" {
-        return Some(Part::Reads);
+        return Some(TimedPart::Reads);
     }
     if name == "scans" {
-        return Some(Part::Scans);
+        return Some(TimedPart::Scans);
     }
     if name == "turns" {
-        return Some(Part::Turns);
+        return Some(TimedPart::Turns);
     }
     if name == "churn" {
-        return Some(Part::Churn);
+        return Some(TimedPart::Churn);
     }
-    (name == "held").then_some(Part::Held)
+    (name == "held").then_some(TimedPart::Held)
 }

@@ -41,14 +41,14 @@ fn nine_leaves_with_forty_rows_become_one(rt: HostRuntime) -> Result<(), Fail> {
 }
 
 /// Leaves in use, and what they hold.
-type Leaves = (u32, Totals);
+type LeavesWithTotals = (u32, Totals);
 
 /// Adds 1,000 vertices and removes all but 40 of them, sweeps all leaves, makes nine steps of merging, and sweeps once
 /// more. Answers how many leaves were in use before the sweeps, whether each of eight steps found something to do, and
 /// whether the ninth did; and what is left before the last sweep and after it.
 fn merge_nine_leaves<E: LeafEngine + Drop>(
     mut engine: E,
-) -> Result<((u32, bool, bool), (Leaves, Leaves)), Fail>
+) -> Result<((u32, bool, bool), (LeavesWithTotals, LeavesWithTotals)), Fail>
     requires { (E.account engine).start ≡ None }
 {
     commit_vertices(&mut engine, 1001)?;

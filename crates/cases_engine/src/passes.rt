@@ -73,13 +73,21 @@ fn the_first_writer_of_a_vertex_wins(rt: HostRuntime) -> Result<(), Fail> {
 }
 
 /// What adding a vertex is answered.
-type Added = Result<(), Refusal>;
+type AddResult = Result<(), Refusal>;
 
 /// Two passes add vertex 5, and the later one does again when the earlier one has committed. Answers the name of the
 /// earlier one's transaction, what each adding was answered, the stamp, and whether the later one sees the vertex then.
 fn add_by_two<E: StepEngine + Drop>(
     mut engine: E,
-) -> Result<(TxnName, (Added, Added, Added), Option<u64>, bool), BeginRefusal>
+) -> Result<
+    (
+        TxnName,
+        (AddResult, AddResult, AddResult),
+        Option<u64>,
+        bool,
+    ),
+    BeginRefusal,
+>
     requires { open_of (E.core engine) ≡ false ∷ false ∷ false ∷ [] }
 {
     let (winner, first) = begin_and_add(&mut engine, 1)?;
@@ -90,7 +98,10 @@ fn add_by_two<E: StepEngine + Drop>(
 }
 
 /// Selects the pass, begins a transaction, and adds vertex 5.
-fn begin_and_add<E: StepEngine>(engine: &mut E, pass: u32) -> Result<(TxnName, Added), BeginRefusal>
+fn begin_and_add<E: StepEngine>(
+    engine: &mut E,
+    pass: u32,
+) -> Result<(TxnName, AddResult), BeginRefusal>
     requires { slice_get (open_of (E.core engine.old)) pass ≡ Some false }
     ensures { OnOk result (SetsOpen pass true (E.core engine.old) (E.core engine.new)) }
 {
@@ -99,7 +110,7 @@ fn begin_and_add<E: StepEngine>(engine: &mut E, pass: u32) -> Result<(TxnName, A
 }
 
 /// Selects the pass, adds vertex 5 in its transaction, and looks whether it is there.
-fn add_and_look<E: StepEngine>(engine: &mut E, pass: u32) -> (Added, bool)
+fn add_and_look<E: StepEngine>(engine: &mut E, pass: u32) -> (AddResult, bool)
     requires { slice_get (open_of (E.core engine.old)) pass ≡ Some true }
 {
     engine.select(pass);

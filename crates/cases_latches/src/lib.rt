@@ -9,4 +9,4 @@ mod tests;
 
 pub use counters::{Counter, add, count_of, even_out, lists_for_two};
 pub use counting::{Opened, count_by_two, open, share_seven, want_by_two};
-pub use retired::{AnyStep, Retired, reclaim, reclaim_three_times};
+pub use retired::{AnyStep, RetiredBuffer, reclaim, reclaim_three_times};

@@ -21,13 +21,17 @@ impl Play<(), ()> for AnyStep {
 
 /// A buffer that was taken out at a stamp. Whoever began at or below it may still read it.
 #[derive(Drop)]
-pub struct Retired {
+pub struct RetiredBuffer {
     pub stamp: u64,
     pub buffer: Vec<u8>,
 }
 
 /// Frees the buffers that nobody can read any more: those that were taken out below the horizon.
-pub fn reclaim(pins: &Pins<'_, (), (), AnyStep>, pass: &mut PinSeat<()>, retired: &mut Vec<Retired>)
+pub fn reclaim(
+    pins: &Pins<'_, (), (), AnyStep>,
+    pass: &mut PinSeat<()>,
+    retired: &mut Vec<RetiredBuffer>,
+)
     requires table { (pass.old.table_id ≡ pins.now.table.now.table_id)
         × (pins.now.table.now.table_id.words ≡ 48) }
     requires places { (pins.now.places.clock ≡ 8) × (pins.now.places.first ≡ 16)
@@ -48,7 +52,7 @@ pub fn reclaim_three_times(alloc: Global) -> Result<[usize; 3], AllocError> {
     let words = vec![in alloc; 0u64; 48]?;
     let mut retired = Vec::with_capacity(alloc, 3)?;
     for stamp in [3, 5, 7] {
-        retired.push(Retired {
+        retired.push(RetiredBuffer {
             stamp,
             buffer: vec![in alloc; 0u8; 100]?,
         })?;

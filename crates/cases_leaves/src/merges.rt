@@ -9,7 +9,7 @@ use std::test::Fail;
 /// Rows that are put, of which those in two ranges are taken back; and what is left then: how many steps there were to
 /// do, how many leaves are live and retired, a vertex, and the counts from its segment on.
 #[derive(Clone, Copy)]
-struct Case {
+struct MergeCase {
     rows: u32,
     gone: [(u32, u32); 2],
     steps: u32,
@@ -29,7 +29,7 @@ struct Case {
 #[test]
 fn leaves_that_lose_rows_are_spread_and_become_one(rt: HostRuntime) -> Result<(), Fail> {
     for case in [
-        Case {
+        MergeCase {
             rows: 220,
             gone: [(0, 50), (110, 176)],
             steps: 1,
@@ -37,7 +37,7 @@ fn leaves_that_lose_rows_are_spread_and_become_one(rt: HostRuntime) -> Result<()
             first: 50,
             counts: [13, 13, 13, 13, 13, 13, 13, 13],
         },
-        Case {
+        MergeCase {
             rows: 220,
             gone: [(0, 50), (110, 175)],
             steps: 0,
@@ -45,7 +45,7 @@ fn leaves_that_lose_rows_are_spread_and_become_one(rt: HostRuntime) -> Result<()
             first: 50,
             counts: [6, 14, 14, 13, 13, 0, 0, 0],
         },
-        Case {
+        MergeCase {
             rows: 600,
             gone: [(0, 16), (0, 0)],
             steps: 1,
@@ -53,7 +53,7 @@ fn leaves_that_lose_rows_are_spread_and_become_one(rt: HostRuntime) -> Result<()
             first: 16,
             counts: [6, 6, 14, 14, 14, 14, 13, 13],
         },
-        Case {
+        MergeCase {
             rows: 600,
             gone: [(0, 550), (0, 0)],
             steps: 5,
@@ -61,7 +61,7 @@ fn leaves_that_lose_rows_are_spread_and_become_one(rt: HostRuntime) -> Result<()
             first: 550,
             counts: [7, 7, 6, 6, 6, 6, 6, 6],
         },
-        Case {
+        MergeCase {
             rows: 600,
             gone: [(0, 589), (0, 0)],
             steps: 4,
@@ -77,7 +77,11 @@ fn leaves_that_lose_rows_are_spread_and_become_one(rt: HostRuntime) -> Result<()
 }
 
 /// Asserts what the case says of the store, which has no rows.
-fn check<S: VertexStore + Drop>(rt: &impl Abort, mut store: S, case: Case) -> Result<(), Fail> {
+fn check<S: VertexStore + Drop>(
+    rt: &impl Abort,
+    mut store: S,
+    case: MergeCase,
+) -> Result<(), Fail> {
     'more: for id in 0..case.rows {
         store.put(id)?;
     }

@@ -9,7 +9,7 @@ use Rattle.graph_model.specs.declared.row.Key.{Key}
 use Rattle.graph_model.specs.declared.row.Row.{Row}
 use Rattle.graph_model.specs.Rows.{is_below}
 use Rattle.graph_image.specs.declared.placed_row.PlacedRow.{PlacedRow}
-use Rattle.graph_image.specs.declared.edge.Edge.{Edge}
+use Rattle.graph_image.specs.declared.edge.PlacedArc.{PlacedArc}
 use Rattle.graph_image.specs.Images.{IdsRise}
 use Rattle.graph_image.specs.Edges.{AreEdges}
 use Rattle.graph_image.specs.Building.{AreStorable, HasVertexRow, AreEnded, shown, IsBuilt, Appends, HavePlaces, IsEdge, AreEdgesOf}
@@ -169,7 +169,7 @@ edges_none sources rows = record {
   count = omega arith;
 }
 
-module _ (sources : List ℕ) (rows : List PlacedRow) (built : IsBuilt sources rows) (n : ℕ) (edges : List Edge) (are : AreEdgesOf sources rows n edges) (r : PlacedRow) (r_at : slice_get rows n ≡ Some r) where
+module _ (sources : List ℕ) (rows : List PlacedRow) (built : IsBuilt sources rows) (n : ℕ) (edges : List PlacedArc) (are : AreEdgesOf sources rows n edges) (r : PlacedRow) (r_at : slice_get rows n ≡ Some r) where
   -- past the row of a vertex
   pub edges_same : r.second ≡ 0 → AreEdgesOf sources rows (n + 1) edges
   edges_same vertex = record {
@@ -180,9 +180,9 @@ module _ (sources : List ℕ) (rows : List PlacedRow) (built : IsBuilt sources r
     count = (let count = are.count in omega arith);
   }
 
-  module _ (e : Edge) (is : IsEdge sources r e) where
+  module _ (e : PlacedArc) (is : IsEdge sources r e) where
     -- how the row of an edge before stands to this one
-    rows_order : (k : ℕ) (f : Edge) → slice_get edges k ≡ Some f → (f.from ≤ e.from) × (f.from ≡ e.from → f.to < e.to)
+    rows_order : (k : ℕ) (f : PlacedArc) → slice_get edges k ≡ Some f → (f.from ≤ e.from) × (f.from ≡ e.from → f.to < e.to)
     rows_order k f at =
         let there = are.sound k f at in
         let s = there.1 in
@@ -212,18 +212,18 @@ module _ (sources : List ℕ) (rows : List PlacedRow) (built : IsBuilt sources r
           (λ same. (length edges, e, get_last edges e, subst (λ x. IsEdge sources x e) (same_Some r s (sym r_at ∙ ap (slice_get rows) (sym same) ∙ at)) is))
           (below_cases i n below);
       froms = λ k l f h less at_k at_l. ⊎_elim
-          (λ old_k. ⊎_elim (λ old_l. are.froms k l f h less old_k old_l) (λ new_l. subst (λ (x : Edge). f.from ≤ x.from) new_l.1 (rows_order k f old_k).0) (get_push_cases edges e l h at_l))
+          (λ old_k. ⊎_elim (λ old_l. are.froms k l f h less old_k old_l) (λ new_l. subst (λ (x : PlacedArc). f.from ≤ x.from) new_l.1 (rows_order k f old_k).0) (get_push_cases edges e l h at_l))
           (λ new_k. absurd (let within = slice_get_within (edges ++ e ∷ []) l h at_l in let more = length_push edges e in omega arith))
           (get_push_cases edges e k f at_k);
       tos = λ k l f h less at_k at_l. ⊎_elim
-          (λ old_k. ⊎_elim (λ old_l. are.tos k l f h less old_k old_l) (λ new_l. subst (λ (x : Edge). f.from ≡ x.from → f.to < x.to) new_l.1 (rows_order k f old_k).1) (get_push_cases edges e l h at_l))
+          (λ old_k. ⊎_elim (λ old_l. are.tos k l f h less old_k old_l) (λ new_l. subst (λ (x : PlacedArc). f.from ≡ x.from → f.to < x.to) new_l.1 (rows_order k f old_k).1) (get_push_cases edges e l h at_l))
           (λ new_k. absurd (let within = slice_get_within (edges ++ e ∷ []) l h at_l in let more = length_push edges e in omega arith))
           (get_push_cases edges e k f at_k);
       count = (let count = are.count in let more = length_push edges e in omega arith);
     }
 
 -- the ends of the edges are places
-pub edges_within : (sources : List ℕ) (rows : List PlacedRow) (n : ℕ) (edges : List Edge) → IsBuilt sources rows → n ≤ length rows → AreEdgesOf sources rows n edges → AreEdges (length sources) edges
+pub edges_within : (sources : List ℕ) (rows : List PlacedRow) (n : ℕ) (edges : List PlacedArc) → IsBuilt sources rows → n ≤ length rows → AreEdgesOf sources rows n edges → AreEdges (length sources) edges
 edges_within sources rows n edges built bound are = record {
   from = λ k e at. (let there = are.sound k e at in let low = built.placed there.0 there.1 there.3 in let is = there.4.from in omega arith);
   to = λ k e at. (let there = are.sound k e at in slice_get_within sources e.to (there.1.second - 1) there.4.to);

@@ -18,7 +18,7 @@ use Rattle.graph_model.proofs.RowLemmas.{has_source, row_is, row_at}
 use Rattle.graph_model.proofs.ItemLemmas.{sorted_items}
 use Rattle.graph_image.specs.declared.placed_row.PlacedRow.{PlacedRow}
 use Rattle.graph_image.specs.declared.edge.Arc.{Arc}
-use Rattle.graph_image.specs.declared.edge.Edge.{Edge}
+use Rattle.graph_image.specs.declared.edge.PlacedArc.{PlacedArc}
 use Rattle.graph_image.specs.declared.edge.Side.TheVariants.{Out, Into}
 use Rattle.graph_image.specs.Images.{Listed, arcs_at, Places, LeadsBy, Leads, AreArcs, IsImageOf}
 use Rattle.graph_image.specs.Edges.{group, IsMirrored}
@@ -90,9 +90,9 @@ module _ (sources : List ℕ) (rows : List PlacedRow) (built : IsBuilt sources r
       (λ any. let place = place_from_any sources v any in source_vertex place.0 v place.1)
       (λ is. let place = vertex_source v is in any_at sources v place.0 place.1))
 
-  module _ (edges : List Edge) (listed : AreEdgesOf sources rows (length rows) edges) where
+  module _ (edges : List PlacedArc) (listed : AreEdgesOf sources rows (length rows) edges) where
     -- an edge is an arc
-    edge_leads : (k : ℕ) (e : Edge) → slice_get edges k ≡ Some e → LeadsBy g sources e.from e.to e.weight
+    edge_leads : (k : ℕ) (e : PlacedArc) → slice_get edges k ≡ Some e → LeadsBy g sources e.from e.to e.weight
     edge_leads k e at =
         let there = listed.sound k e at in
         let r = there.1 in
@@ -109,7 +109,7 @@ module _ (sources : List ℕ) (rows : List PlacedRow) (built : IsBuilt sources r
         }
 
     -- an arc is an edge
-    leads_edge : (p q weight : ℕ) → LeadsBy g sources p q weight → (k : ℕ) × (e : Edge) × (slice_get edges k ≡ Some e) × (e.from ≡ p) × (e.to ≡ q) × (e.weight ≡ weight)
+    leads_edge : (p q weight : ℕ) → LeadsBy g sources p q weight → (k : ℕ) × (e : PlacedArc) × (slice_get edges k ≡ Some e) × (e.from ≡ p) × (e.to ≡ q) × (e.weight ≡ weight)
     leads_edge p q weight leads =
         let row = value_row (arc_key leads.from leads.to) weight (arc_value g leads.from leads.to ∙ leads.weighs) in
         let r = row.1 in

@@ -9,7 +9,7 @@ use Rattle.graph_model.specs.declared.row.Key.{Key}
 use Rattle.graph_model.specs.declared.row.Row.{Row}
 use Rattle.graph_image.specs.declared.placed_row.PlacedRow.{PlacedRow}
 use Rattle.graph_image.specs.declared.edge.Arc.{Arc}
-use Rattle.graph_image.specs.declared.edge.Edge.{Edge}
+use Rattle.graph_image.specs.declared.edge.PlacedArc.{PlacedArc}
 use Rattle.graph_image.specs.declared.edge.Side.TheVariants.{Out}
 use Rattle.graph_image.specs.Images.{IdsRise}
 use Rattle.graph_image.specs.Edges.{key_of, arc_of, before, AreStarts, IsListed}
@@ -171,14 +171,14 @@ module _ (rows : List Row) (placed : List PlacedRow) (is : ArePlacedRows rows pl
   ids = ids_of rows
 
   -- the arcs of the rows so far are laid, and the starts of their vertices are right
-  pub record AreLaidBy (front : List Row) (edges : List Edge) (starts : List ℕ) : Type 0 where
+  pub record AreLaidBy (front : List Row) (edges : List PlacedArc) (starts : List ℕ) : Type 0 where
     pub are : AreEdgesOf ids placed (length front) edges
     pub count : length edges ≡ arcs_in front
     pub starts_count : length starts ≡ vertices_in front
     pub begun : (p : ℕ) → p < length starts → slice_index starts p ≡ before Out edges p
 
   -- the edges so far lead from the vertices so far
-  froms_low : (front back : List Row) → front ++ back ≡ rows → (edges : List Edge) → AreEdgesOf ids placed (length front) edges → (k : ℕ) (e : Edge) → slice_get edges k ≡ Some e → e.from < vertices_in front
+  froms_low : (front back : List Row) → front ++ back ≡ rows → (edges : List PlacedArc) → AreEdgesOf ids placed (length front) edges → (k : ℕ) (e : PlacedArc) → slice_get edges k ≡ Some e → e.from < vertices_in front
   froms_low front back split edges are k e at =
       let there = are.sound k e at in
       let from = there.4.from in
@@ -188,11 +188,11 @@ module _ (rows : List Row) (placed : List PlacedRow) (is : ArePlacedRows rows pl
       let few = vertices_few (there.0 + 1) front in
       omega arith
 
-  all_before : (front back : List Row) → front ++ back ≡ rows → (edges : List Edge) → AreEdgesOf ids placed (length front) edges → before Out edges (vertices_in front) ≡ length edges
+  all_before : (front back : List Row) → front ++ back ≡ rows → (edges : List PlacedArc) → AreEdgesOf ids placed (length front) edges → before Out edges (vertices_in front) ≡ length edges
   unfolding before
   all_before front back split edges are = below_whole (key_of Out) (vertices_in front) edges (froms_low front back split edges are)
 
-  module _ (front : List Row) (r : Row) (back : List Row) (split : front ++ r ∷ back ≡ rows) (edges : List Edge) (starts : List ℕ) (laid : AreLaidBy front edges starts) where
+  module _ (front : List Row) (r : Row) (back : List Row) (split : front ++ r ∷ back ≡ rows) (edges : List PlacedArc) (starts : List ℕ) (laid : AreLaidBy front edges starts) where
     next_front : List Row
     next_front = front ++ r ∷ []
 
@@ -223,7 +223,7 @@ module _ (rows : List Row) (placed : List PlacedRow) (is : ArePlacedRows rows pl
         }
 
     module _ (arc : r.key.second ≡ 0 → ⊥) (a : Arc) (a_is : IsArcOf ids r a) where
-      abbrev edge : Edge
+      abbrev edge : PlacedArc
       edge = record { from = row_here.0.source; to = a.other; weight = a.weight }
 
       edge_is : IsEdge ids row_here.0 edge
@@ -261,11 +261,11 @@ module _ (rows : List Row) (placed : List PlacedRow) (is : ArePlacedRows rows pl
 
   -- all rows are laid, by these arcs and starts
   pub record AreLaidWhole (arcs : List Arc) (starts : List ℕ) : Type 0 where
-    pub edges : List Edge
+    pub edges : List PlacedArc
     pub laid : AreLaidBy rows edges starts
     pub arcs_are : arcs ≡ map (arc_of Out) edges
 
-  laid_end : (front : List Row) → front ++ [] ≡ rows → (edges : List Edge) (starts : List ℕ) → AreLaidBy front edges starts → (arcs : List Arc) → map (arc_of Out) edges ++ [] ≡ arcs
+  laid_end : (front : List Row) → front ++ [] ≡ rows → (edges : List PlacedArc) (starts : List ℕ) → AreLaidBy front edges starts → (arcs : List Arc) → map (arc_of Out) edges ++ [] ≡ arcs
       → (all : List ℕ) → starts ++ [] ≡ all → AreLaidWhole arcs all
   laid_end front split edges starts laid arcs arcs_are all starts_are = record {
     edges = edges;
@@ -274,7 +274,7 @@ module _ (rows : List Row) (placed : List PlacedRow) (is : ArePlacedRows rows pl
   }
 
   -- step by step: by what is left of the rows and the arcs
-  pub laid_all : (front back : List Row) → front ++ back ≡ rows → (edges : List Edge) (starts : List ℕ) → AreLaidBy front edges starts → (left : List Arc) → AllZip (IsArcOf ids) (arc_rows back) left
+  pub laid_all : (front back : List Row) → front ++ back ≡ rows → (edges : List PlacedArc) (starts : List ℕ) → AreLaidBy front edges starts → (left : List Arc) → AllZip (IsArcOf ids) (arc_rows back) left
       → (arcs : List Arc) → map (arc_of Out) edges ++ left ≡ arcs → (all : List ℕ) → starts ++ starts_from (length edges) back ≡ all → AreLaidWhole arcs all
   laid_all front [] split edges starts laid [] zip arcs arcs_are all starts_are = laid_end front split edges starts laid arcs arcs_are all starts_are
   laid_all front [] split edges starts laid (a ∷ left) zip arcs arcs_are all starts_are = absurd zip

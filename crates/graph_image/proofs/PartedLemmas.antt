@@ -8,7 +8,7 @@ use Rattle.graph_model.specs.declared.row.Row.{Row}
 use Rattle.graph_model.specs.Graph.{Graph, IsSymmetric}
 use Rattle.graph_model.specs.Rows.{AreRowsOf}
 use Rattle.graph_image.specs.Images.{Listed, Places, IdsRise, IsImageOf, LeadsBy}
-use Rattle.graph_image.specs.declared.edge.Edge.{Edge}
+use Rattle.graph_image.specs.declared.edge.PlacedArc.{PlacedArc}
 use Rattle.graph_image.specs.declared.edge.Side.TheVariants.{Into}
 use Rattle.graph_image.specs.Edges.{AreListedOut, IsGrouped, IsListed, IsMirrored}
 use Rattle.graph_image.specs.Building.{AreStorable, AreEnded, shown}
@@ -58,7 +58,7 @@ module _ (rows : List Row) (storable : AreStorable rows) (ended : AreEnded rows)
         (omega (arith, n, low), omega (arith, m, few))
 
     -- the edges of the rows are listed at the places that they lead from
-    abbrev edges : List Edge
+    abbrev edges : List PlacedArc
     edges = laid.has.0
 
     edges_are : AreListedOut (length (ids_of rows)) edges out
@@ -71,7 +71,7 @@ module _ (rows : List Row) (storable : AreStorable rows) (ended : AreEnded rows)
     edges_here : AreListedOut (length vertices) edges out
     edges_here = subst (λ vs. AreListedOut (length vs) edges out) (sym is.vertices) edges_are
 
-    pub laid_edges : (es : List Edge) × AreListedOut (length vertices) es out
+    pub laid_edges : (es : List PlacedArc) × AreListedOut (length vertices) es out
     laid_edges = (edges, edges_here)
 
     -- where each arc is listed at its other end as well, the arcs out serve
@@ -93,7 +93,7 @@ module _ (rows : List Row) (storable : AreStorable rows) (ended : AreEnded rows)
         })
 
     -- else those in are the same edges, listed at their other ends
-    pub turned_image : (into : Listed) → ((es : List Edge) → AreListedOut (length vertices) es out → IsGrouped Into (length vertices) es into)
+    pub turned_image : (into : Listed) → ((es : List PlacedArc) → AreListedOut (length vertices) es out → IsGrouped Into (length vertices) es into)
         → (image : Places) → image ≡ record { vertices = vertices; out = out; into = unwrap_or (Some into) out } → (g : Graph) → AreRowsOf rows g → IsImageOf image g
     turned_image into grouped image image_is g are =
         let here : IsGrouped Into (length (ids_of rows)) edges into = subst (λ vs. IsGrouped Into (length vs) edges into) is.vertices (grouped edges edges_here) in

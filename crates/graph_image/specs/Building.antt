@@ -4,7 +4,7 @@ use Rattle.graph_model.specs.declared.limits.TheConstants.{MAX_WEIGHT}
 use Rattle.graph_model.specs.declared.row.Row.{Row}
 use Rattle.graph_model.specs.Rows.{vertex_key, is_below}
 use Rattle.graph_image.specs.declared.placed_row.PlacedRow.{PlacedRow}
-use Rattle.graph_image.specs.declared.edge.Edge.{Edge}
+use Rattle.graph_image.specs.declared.edge.PlacedArc.{PlacedArc}
 use Rattle.graph_image.specs.declared.edge.Side.{Side}
 use Rattle.graph_image.specs.Images.{IdsRise, Listed}
 use Rattle.graph_image.specs.Edges.{IsGrouped}
@@ -60,24 +60,24 @@ HavePlaces sources rows = (i : ℕ) (r : PlacedRow) → slice_get rows i ≡ Som
     → (q : ℕ) × (slice_get sources q ≡ Some (r.second - 1))
 
 -- the edge is that of an arc's row
-pub record IsEdge (sources : List ℕ) (r : PlacedRow) (e : Edge) : Type 0 where
+pub record IsEdge (sources : List ℕ) (r : PlacedRow) (e : PlacedArc) : Type 0 where
   pub arc : 0 < r.second
   pub from : e.from ≡ r.source
   pub to : slice_get sources e.to ≡ Some (r.second - 1)
   pub weight : e.weight ≡ r.weight
 
 -- these are the edges of the first n rows, in the order of the rows
-pub record AreEdgesOf (sources : List ℕ) (rows : List PlacedRow) (n : ℕ) (edges : List Edge) : Type 0 where
-  pub sound : (k : ℕ) (e : Edge) → slice_get edges k ≡ Some e
+pub record AreEdgesOf (sources : List ℕ) (rows : List PlacedRow) (n : ℕ) (edges : List PlacedArc) : Type 0 where
+  pub sound : (k : ℕ) (e : PlacedArc) → slice_get edges k ≡ Some e
       → (i : ℕ) × (r : PlacedRow) × (i < n) × (slice_get rows i ≡ Some r) × IsEdge sources r e
   pub complete : (i : ℕ) (r : PlacedRow) → i < n → slice_get rows i ≡ Some r → 0 < r.second
-      → (k : ℕ) × (e : Edge) × (slice_get edges k ≡ Some e) × IsEdge sources r e
-  pub froms : (k l : ℕ) (e f : Edge) → k < l → slice_get edges k ≡ Some e → slice_get edges l ≡ Some f → e.from ≤ f.from
-  pub tos : (k l : ℕ) (e f : Edge) → k < l → slice_get edges k ≡ Some e → slice_get edges l ≡ Some f
+      → (k : ℕ) × (e : PlacedArc) × (slice_get edges k ≡ Some e) × IsEdge sources r e
+  pub froms : (k l : ℕ) (e f : PlacedArc) → k < l → slice_get edges k ≡ Some e → slice_get edges l ≡ Some f → e.from ≤ f.from
+  pub tos : (k l : ℕ) (e f : PlacedArc) → k < l → slice_get edges k ≡ Some e → slice_get edges l ≡ Some f
       → e.from ≡ f.from → e.to < f.to
   pub count : length edges ≤ n
 
 -- at each place stand the arcs of the rows that have it on this side, in the order of the rows
 abbrev pub HaveArcsOf : Side → List ℕ → List PlacedRow → Listed → Type 0
 HaveArcsOf side sources rows listed =
-    (edges : List Edge) × AreEdgesOf sources rows (length rows) edges × IsGrouped side (length sources) edges listed
+    (edges : List PlacedArc) × AreEdgesOf sources rows (length rows) edges × IsGrouped side (length sources) edges listed

@@ -12,7 +12,7 @@ ghost use Rattle.graph_image.specs.Building.{AreStorable, AreEnded, shown, IsBui
 ghost use Rattle.graph_image.specs.declared.edge.Side.TheVariants.{Into};
 
 use crate::adjacency::Adjacency;
-use crate::edge::{Edge, Side};
+use crate::edge::{PlacedArc, Side};
 use crate::image::{Image, image_of};
 use crate::placed_row::{PlacedRow, edge_of};
 use graph_model::{NoMemory, Row};
@@ -129,7 +129,7 @@ fn into_of(
 }
 
 /// The edges of the rows, in their order.
-fn edges_of(alloc: Global, sources: &[u64], rows: &[PlacedRow]) -> Result<Vec<Edge>, NoMemory>
+fn edges_of(alloc: Global, sources: &[u64], rows: &[PlacedRow]) -> Result<Vec<PlacedArc>, NoMemory>
     requires built { IsBuilt sources.now rows.now }
     requires targets { HavePlaces sources.now rows.now }
     ensures edges { IfOk result (λ edges. AreEdgesOf sources.now rows.now (length rows.now) edges.items) }

@@ -15,7 +15,7 @@ pub struct Arc {
 
 /// An arc between the vertices at two places.
 #[derive(Clone, Copy, Debug, PartialEq, Eq)]
-pub struct Edge {
+pub struct PlacedArc {
     pub from: u32,
     pub to: u32,
     pub weight: u32,
@@ -28,7 +28,7 @@ pub enum Side {
     Into,
 }
 
-impl Edge {
+impl PlacedArc {
     /// The place that lists it.
     pub fn key(self, side: Side) -> u32
         ensures { result ≡ key_of side self }

@@ -39,7 +39,8 @@ pub fn shares_of<R: Threads + Sync>(
     Ok(shares)
 }
 
-/// The share of all lists.
+/// The share of all lists, whose own shares were counted by all threads before: it adds up a few numbers, and looks at
+/// no row.
 pub fn total_of(lists: &[RowList], shares: &[Share]) -> Share
     requires shares { AllZip IsShareOf lists.now shares.now }
     requires few { length (rows_in lists.now) < 2 ^ 32 }
@@ -80,7 +81,6 @@ pub fn lay_vertices<R: Threads + Sync>(
     }
     let (front, back) = lists.split_at(count / 2);
     let (front_shares, back_shares) = shares.split_at(count / 2);
-    // The shares were counted by all threads before, so this adds up a few numbers and looks at no row.
     let share = total_of(front, front_shares);
     let (front_vertices, back_vertices) = vertices.split_at_mut(share.vertices);
     let (front_starts, back_starts) = starts.split_at_mut(share.vertices);

@@ -6,7 +6,7 @@ ghost use Rattle.std.specs.Prelude.{◌≡◌, ℕ, ◌-◌, ◌<◌, ◌^◌, l
 ghost use Rattle.graph_image.specs.Images.{IdsRise};
 ghost use Rattle.graph_image.specs.Building.{IsEdge};
 
-use crate::edge::Edge;
+use crate::edge::PlacedArc;
 use crate::place::place_of;
 
 /// A row, with the place of its source in place of the source.
@@ -18,7 +18,7 @@ pub struct PlacedRow {
 }
 
 /// The edge of an arc's row; none of a vertex's own row.
-pub fn edge_of(sources: &[u64], row: PlacedRow) -> Option<Edge>
+pub fn edge_of(sources: &[u64], row: PlacedRow) -> Option<PlacedArc>
     requires rise { IdsRise sources.now }
     requires few { length sources.now < 2 ^ 32 }
     requires target { 0 < row.second → (q : ℕ) × (slice_get sources.now q ≡ Some (row.second - 1)) }
@@ -29,7 +29,7 @@ pub fn edge_of(sources: &[u64], row: PlacedRow) -> Option<Edge>
         return None;
     }
     let to = place_of(sources, row.second - 1)?;
-    Some(Edge {
+    Some(PlacedArc {
         from: row.source,
         to: to as u32,
         weight: row.weight,

@@ -34,9 +34,9 @@ pub struct PackedRun {
     pub may_settle: bool,
 }
 
-/// Reads the rows that the open transaction sees from a key on and before another, as far as a cell goes, given what its
-/// begin has answered. Answers where they end, or nothing where the cell isn't the first key's. The rows take the place
-/// of those in the buffer. May wait for the cell, and takes no memory.
+/// Reads the rows that the open transaction sees from a key on and before another, as far as a cell goes, given what
+/// its begin has answered. Answers where they end, or nothing where the cell isn't the first key's. The rows take the
+/// place of those in the buffer. May wait for the cell, and takes no memory.
 pub fn read_packed(
     rt: &impl Wait,
     store: &Store,

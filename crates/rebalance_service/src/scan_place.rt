@@ -16,10 +16,10 @@ const LEFT_OUT: u32 = 64;
 
 /// Where a worker's last scan has come to. Kept: the cell in which its last step ended, which is likely to have the
 /// next key; a cell in which that step has met records that nobody may need any more; and how many of those are left
-/// out. All of it may be wrong, since rows move, and the next scan may begin elsewhere. That is harmless: a cell's fence
-/// keys tell whether it is the key's, a hint is asked where it isn't, and a cell that settles changes no view. It costs
-/// 16 bytes, and a look at another cell's fence keys where a scan begins elsewhere. It spares each step of a scan the
-/// search among the hints.
+/// out. All of it may be wrong, since rows move, and the next scan may begin elsewhere. That is harmless: a cell's
+/// fence keys tell whether it is the key's, a hint is asked where it isn't, and a cell that settles changes no view.
+/// It costs 16 bytes, and a look at another cell's fence keys where a scan begins elsewhere. It spares each step of a
+/// scan the search among the hints.
 #[derive(Clone, Copy, Debug, PartialEq, Eq)]
 pub struct ScanPlace {
     /// In which its last step has ended.

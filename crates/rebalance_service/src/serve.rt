@@ -21,7 +21,7 @@ use std::sync::Wait;
 
 /// What a turn of the service does.
 #[derive(Clone, Copy, Debug, PartialEq, Eq)]
-pub enum ServiceTurn {
+pub enum WorkerTurn {
     /// Rows of a leaf are pruned.
     Sweep,
     /// A window is spread, or two leaves become one.
@@ -32,7 +32,7 @@ pub enum ServiceTurn {
 #[derive(Clone, Copy, Debug, PartialEq, Eq)]
 pub struct ServiceKeys {
     /// Which comes next.
-    pub turn: ServiceTurn,
+    pub turn: WorkerTurn,
     /// Where sweeps go on.
     pub sweep: SweepKey,
     /// Where merging goes on.
@@ -43,7 +43,7 @@ impl ServiceKeys {
     /// The first leaf is swept first.
     pub(crate) fn first() -> ServiceKeys {
         ServiceKeys {
-            turn: ServiceTurn::Sweep,
+            turn: WorkerTurn::Sweep,
             sweep: SweepKey::first(),
             merge: MergeKey::first(),
         }
@@ -66,13 +66,13 @@ pub(crate) fn serve(
     ensures turn { keys.new.turn ≡ next_turn keys.old.turn }
 {
     match keys.turn {
-        ServiceTurn::Sweep => {
+        WorkerTurn::Sweep => {
             // The turn is passed on first, so that neither step can hold up the other.
-            keys.turn = ServiceTurn::Merge;
+            keys.turn = WorkerTurn::Merge;
             Ok(sweep(rt, store, pass, settled, &mut keys.sweep))
         }
-        ServiceTurn::Merge => {
-            keys.turn = ServiceTurn::Sweep;
+        WorkerTurn::Merge => {
+            keys.turn = WorkerTurn::Sweep;
             merge(rt, store, pass, room, settled, &mut keys.merge)
         }
     }
@@ -104,7 +104,7 @@ fn sweep(
 }
 
 /// Prunes the next leaf, and answers what was swept.
-pub(crate) fn sweep_here(
+fn sweep_here(
     rt: &impl Wait,
     store: &Store,
     pass: &mut Pass,

@@ -8,6 +8,7 @@
 
 ghost use Rattle.std.specs.Prelude.{◌≡◌, [], ◌∷◌, false, IfErr, IfOk};
 ghost use Rattle.loaded_cells.specs.LeafStore.Changes.{IsFillRefusal};
+ghost use Rattle.loaded_cells.specs.Laid.{AreLaid};
 ghost use Rattle.loaded_cells.specs.Numbered.{AreRowsOf};
 ghost use Rattle.loaded_cells.specs.StoreRelation.Loads.{load_commit};
 ghost use Rattle.store_rule.specs.Filling.{IsLaidLoad};
@@ -96,7 +97,8 @@ fn lay_load(
     requires sized { too_large config ≡ false }
     requires rows { AreRowsOf config load rows.now }
     ensures full { IfErr result (λ refusal. IsFillRefusal config.leaves rows.now refusal) }
-    ensures entry { IfOk result (λ laid. (laid.config ≡ config) × (laid.load ≡ load)) }
+    ensures config { IfOk result (λ laid. laid.config ≡ config) }
+    ensures load { IfOk result (λ laid. laid.load ≡ load) }
     ensures laid { IfOk result IsLaidLoad }
 {
     // Which rows a cell has is told by slices of the load, so no row is copied before it stands in the words.
@@ -107,6 +109,19 @@ fn lay_load(
         index,
         ranges,
     };
+    let laid = lay_plan(alloc, plan)?;
+    Ok(laid)
+}
+
+/// What a store of this plan begins with.
+fn lay_plan(alloc: Global, plan: Plan) -> Result<LaidLoad, NoMemory>
+    requires sized { too_large plan.config ≡ false }
+    requires laid { (rows : _) × AreRowsOf plan.config plan.load rows
+        × AreLaid plan.config.leaves rows plan.index plan.ranges.items }
+    ensures config { IfOk result (λ laid. laid.config ≡ plan.entry.config) }
+    ensures load { IfOk result (λ laid. laid.load ≡ plan.entry.load) }
+    ensures laid { IfOk result IsLaidLoad }
+{
     let first = first_seat(alloc, &plan)?;
     let Plan {
         config,
@@ -130,8 +145,8 @@ fn lay_load(
 fn fill_both(alloc: Global, laid: LaidLoad) -> Result<(Store, Passes), NoMemory>
     requires sized { too_large laid.config ≡ false }
     requires laid { IsLaidLoad laid }
-    ensures config { IfOk result (λ made. made.0.accounts.config ≡ laid.entry.config) }
-    ensures passes { IfOk result (λ made. AreLoadedPasses laid.entry.load made.0.latches.table.shared.key
+    ensures config { IfOk result (λ made. made.0.accounts.config ≡ laid.config) }
+    ensures passes { IfOk result (λ made. AreLoadedPasses laid.load made.0.latches.table.shared.key
         made.0.latches.table.shared.table_id made.0.accounts.table.shared.table_id made.1.list.items) }
     ensures seats { IfOk result (λ made. AreIn made.0 made.1) }
 {

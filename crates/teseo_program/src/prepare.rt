@@ -52,8 +52,10 @@ pub fn prepare<R: Threads + Wait + Sync, D: Desk, G: Gate>(
     ensures refused { IfErr result (IsUnprepared (run_request words.now) (D.files desk.old) (D.files desk.new)) }
 {
     let input = read_input(rt, alloc, desk, words)?;
-    let prepared = make(rt, alloc, words, input, gate)?;
-    Ok(prepared)
+    match make(rt, alloc, words, input, gate) {
+        Ok(prepared) => Ok(prepared),
+        Err(refusal) => Err(Outcome::from(refusal)),
+    }
 }
 
 /// Reads the sources, and parses them. Creates nothing.

@@ -10,12 +10,12 @@ use Rattle.std.proofs.Crossing.{crosses}
 use Rattle.std.specs.Prelude.{slice_index_or}
 use Rattle.shared_store.proofs.SendLemmas.{pass_send, store_sync}
 use Rattle.bench_graphs.specs.contracts.edits.Edit as Edit
-use Rattle.bench_shared.specs.contracts.counts.Counts as Counts
+use Rattle.bench_shared.specs.contracts.counts.EditCounts as EditCounts
 use Rattle.bench_shared.proofs.PartLemmas.{StaysIdle, all_stay, idle_at}
 use Rattle.bench_shared.proofs.parts.run_parts.Lts as lts
 use Rattle.bench_shared.proofs.parts.run_parts.Goals as goal
 
-counts_sync : IsSync Counts.the_row
+counts_sync : IsSync EditCounts.the_row
 counts_sync = search (sendable, crosses) depth 30
 
 edit_sync : IsSync Edit.the_row

@@ -5,10 +5,10 @@ use Rattle.rebalance_service.proofs.PropLemmas.{is_ready}
 use Rattle.rebalance_service.proofs.RoomLemmas.{goes_on}
 use Rattle.rebalance_service.proofs.scan_place.settle_met.Goals as goal
 
-pub returns-else-clause-legal : goal.returns-else-clause-legal
-returns-else-clause-legal g c =
+pub returns-in_default-clause-legal : goal.returns-in_default-clause-legal
+returns-in_default-clause-legal g c =
     legal_ready c.args.store.now c.args.pass.now (is_ready c.args.store.now c.args.pass.now c.requires.ready)
 
-pub returns-else-clause-reads : goal.returns-else-clause-reads
-returns-else-clause-reads g c =
+pub returns-in_default-clause-reads : goal.returns-in_default-clause-reads
+returns-in_default-clause-reads g c =
     goes_on (account_of c.args.store.now c.args.pass.now) (account_of c.args.store.now c.args.pass.now) refl

@@ -33,7 +33,8 @@ open_at-requires-clause-begins c =
 pub rest_cells-requires : goal.rest_cells-requires
 rest_cells-requires c =
     let h = c.requires.laid in
-    subst (AllByRecursion (λ count. count ≤ 32)) (sym (c.as_slice-2.ensures.value ∙ h.counts)) (counts_few h.ranges)
+    let are = sym (c.as_slice-2.ensures.value ∙ h.counts) in
+    record { few = subst (AllByRecursion (λ count. count ≤ 32)) are (counts_few h.ranges) }
 
 pub deal_out-requires-clause-seat : goal.deal_out-requires-clause-seat
 deal_out-requires-clause-seat c =
