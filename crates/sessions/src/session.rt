@@ -73,9 +73,10 @@ impl<E: VertexEngine, P: Place> Session<E, P> {
     }
 
     /// Takes a turn of the service, which keeps the store small and changes nothing that anybody sees. Answers whether
-    /// it changed a cell of the store.
+    /// it changed a cell of the store. The turn is the engine's own, and is counted, also where memory was refused.
     pub fn serve(&mut self) -> Result<bool, NoMemory>
-        ensures { ReadsBy (E.account self.old.engine) (E.account self.new.engine) }
+        ensures reads { ReadsBy (E.account self.old.engine) (E.account self.new.engine) }
+        ensures served { E.did_serve self.old.engine result self.new.engine }
     {
         self.engine.service_step()
     }
