@@ -7,7 +7,7 @@ use std::alloc::Global;
 use std::sync::Wait;
 use std::thread::Threads;
 use teseo_store::{
-    Closed, Committed, Config, Kind, NotBegun, Place, Refusal, Session, Store, StoreRefusal,
+    Closed, Committed, Config, Kind, NotBegun, Refusal, Session, SessionPlace, Store, StoreRefusal,
     Transaction, VertexEngine, Work,
 };
 
@@ -21,7 +21,7 @@ pub struct FirstPayment {
 impl Work for FirstPayment {
     ghost did = { λ old before new after. old.stamp ≡ None → IfSome new.stamp (HasPaid after.seen) };
 
-    fn work<E: VertexEngine, P: Place>(&mut self, session: Session<E, P>) -> Session<E, P> {
+    fn work<E: VertexEngine, P: SessionPlace>(&mut self, session: Session<E, P>) -> Session<E, P> {
         let mut txn = match session.begin() {
             Ok(txn) => txn,
             Err(NotBegun { session, why: _ }) => return session,
@@ -41,7 +41,9 @@ impl Work for FirstPayment {
 }
 
 /// Opens the accounts 1 and 2, and pays 250 from the first to the second.
-fn open_and_pay<E: VertexEngine, P: Place>(txn: &mut Transaction<E, P>) -> Result<(), Refusal>
+fn open_and_pay<E: VertexEngine, P: SessionPlace>(
+    txn: &mut Transaction<E, P>,
+) -> Result<(), Refusal>
     ensures { OnOk result ((E.account txn.new.engine).own ≡ (E.account txn.old.engine).own ++ first_payment) }
 {
     txn.add_vertex(1)?;

@@ -5,7 +5,7 @@ use std::alloc::Global;
 use std::sync::{Barrier, Wait};
 use std::thread::Threads;
 use teseo_store::{
-    Closed, Committed, Config, Kind, NotBegun, Place, Refusal, RetryError, Session, Store,
+    Closed, Committed, Config, Kind, NotBegun, Refusal, RetryError, Session, SessionPlace, Store,
     StoreRefusal, VertexEngine, Work,
 };
 
@@ -20,7 +20,7 @@ pub enum Party<'a, R: Wait> {
 }
 
 impl<'a, R: Wait> Work for Party<'a, R> {
-    fn work<E: VertexEngine, P: Place>(&mut self, session: Session<E, P>) -> Session<E, P> {
+    fn work<E: VertexEngine, P: SessionPlace>(&mut self, session: Session<E, P>) -> Session<E, P> {
         match self {
             Party::Holder(holder) => holder.work(session),
             Party::Rival(rival) => rival.work(session),
@@ -39,7 +39,7 @@ pub struct Holder<'a, R: Wait> {
 }
 
 impl<'a, R: Wait> Work for Holder<'a, R> {
-    fn work<E: VertexEngine, P: Place>(&mut self, session: Session<E, P>) -> Session<E, P> {
+    fn work<E: VertexEngine, P: SessionPlace>(&mut self, session: Session<E, P>) -> Session<E, P> {
         let mut txn = match session.begin() {
             Ok(txn) => txn,
             Err(NotBegun { session, why: _ }) => {
@@ -75,7 +75,7 @@ pub struct Rival<'a, R: Wait> {
 }
 
 impl<'a, R: Wait> Work for Rival<'a, R> {
-    fn work<E: VertexEngine, P: Place>(&mut self, session: Session<E, P>) -> Session<E, P> {
+    fn work<E: VertexEngine, P: SessionPlace>(&mut self, session: Session<E, P>) -> Session<E, P> {
         let mut pay = Pay { is_over: false };
         self.meeting.wait(self.rt);
         let (session, while_held) = session.with_retry(TRIES, &mut pay);

@@ -4,7 +4,7 @@ use std::alloc::Global;
 use std::sync::Wait;
 use std::thread::Threads;
 use teseo_store::{
-    Change, Closed, Config, Kind, Place, Refusal, Session, Store, StoreRefusal, Transaction,
+    Change, Closed, Config, Kind, Refusal, Session, SessionPlace, Store, StoreRefusal, Transaction,
     VertexEngine, Work,
 };
 
@@ -21,7 +21,7 @@ pub struct Pay {
 }
 
 impl Change for Pay {
-    fn make<E: VertexEngine, P: Place>(
+    fn make<E: VertexEngine, P: SessionPlace>(
         &mut self,
         txn: &mut Transaction<E, P>,
     ) -> Result<(), Refusal> {
@@ -44,7 +44,7 @@ pub struct Clerk {
 }
 
 impl Work for Clerk {
-    fn work<E: VertexEngine, P: Place>(&mut self, session: Session<E, P>) -> Session<E, P> {
+    fn work<E: VertexEngine, P: SessionPlace>(&mut self, session: Session<E, P>) -> Session<E, P> {
         let mut session = session;
         let mut pay = Pay { is_over: false };
         'times: for _time in 0..self.times {
@@ -67,7 +67,7 @@ pub struct OpenAccounts {
 }
 
 impl Change for OpenAccounts {
-    fn make<E: VertexEngine, P: Place>(
+    fn make<E: VertexEngine, P: SessionPlace>(
         &mut self,
         txn: &mut Transaction<E, P>,
     ) -> Result<(), Refusal> {
@@ -77,7 +77,7 @@ impl Change for OpenAccounts {
 }
 
 impl Work for OpenAccounts {
-    fn work<E: VertexEngine, P: Place>(&mut self, session: Session<E, P>) -> Session<E, P> {
+    fn work<E: VertexEngine, P: SessionPlace>(&mut self, session: Session<E, P>) -> Session<E, P> {
         let (session, result) = session.with_retry(1, self);
         self.is_refused = result.is_err();
         session

@@ -6,8 +6,8 @@ ghost use Rattle.cases_library.specs.Payments.{three_accounts};
 use std::alloc::Global;
 use std::sync::Wait;
 use teseo_store::{
-    Closed, Committed, Config, Cursor, Key, Kind, LoadedRefusal, NoMemory, NotBegun, Place,
-    Refusal, Rows64, Session, Store, Transaction, VertexEngine, Work, Write, Writes,
+    Closed, Committed, Config, Cursor, Key, Kind, LoadedRefusal, NoMemory, NotBegun, Refusal,
+    Rows64, Session, SessionPlace, Store, Transaction, VertexEngine, Work, Write, Writes,
 };
 
 /// What a transaction sees of an account.
@@ -37,7 +37,7 @@ pub struct Survey {
 }
 
 impl Work for Survey {
-    fn work<E: VertexEngine, P: Place>(&mut self, session: Session<E, P>) -> Session<E, P> {
+    fn work<E: VertexEngine, P: SessionPlace>(&mut self, session: Session<E, P>) -> Session<E, P> {
         let mut txn = match session.begin() {
             Ok(txn) => txn,
             Err(NotBegun { session, why: _ }) => return session,
@@ -56,7 +56,7 @@ impl Work for Survey {
 }
 
 /// What is to be seen of account 1.
-fn look<E: VertexEngine, P: Place>(
+fn look<E: VertexEngine, P: SessionPlace>(
     alloc: Global,
     txn: &mut Transaction<E, P>,
 ) -> Result<Seen, NoMemory> {
@@ -77,7 +77,7 @@ fn look<E: VertexEngine, P: Place>(
 }
 
 /// How many rows the whole graph has: one for each account, and one for each payment.
-fn count_rows<E: VertexEngine, P: Place>(txn: &mut Transaction<E, P>) -> usize {
+fn count_rows<E: VertexEngine, P: SessionPlace>(txn: &mut Transaction<E, P>) -> usize {
     let mut rows = Rows64::new();
     let mut cursor = Cursor {
         next: Key::of_vertex(0),
@@ -96,7 +96,7 @@ fn count_rows<E: VertexEngine, P: Place>(txn: &mut Transaction<E, P>) -> usize {
 }
 
 /// Takes account 3 away, and what it was paid.
-fn take_away<E: VertexEngine, P: Place>(txn: &mut Transaction<E, P>) -> Result<(), Refusal> {
+fn take_away<E: VertexEngine, P: SessionPlace>(txn: &mut Transaction<E, P>) -> Result<(), Refusal> {
     txn.drop_edge(1, 3)?;
     txn.drop_vertex(3)
 }

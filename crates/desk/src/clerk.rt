@@ -12,7 +12,9 @@ use std::rt::Clock;
 use std::sync::atomic::{AtomicU64, Ordering};
 use std::thread;
 use std::time::{Duration, Instant};
-use teseo_store::{Change, MAX_WEIGHT, Place, Refusal, Session, Transaction, VertexEngine, Work};
+use teseo_store::{
+    Change, MAX_WEIGHT, Refusal, Session, SessionPlace, Transaction, VertexEngine, Work,
+};
 
 /// How often a transfer is tried. Each try that meets a conflict has met somebody else's write, which is booked.
 const TRIES: u32 = 1_000_000;
@@ -37,7 +39,7 @@ pub struct Clerk<'a, R: Clock> {
 }
 
 impl<'a, R: Clock> Work for Clerk<'a, R> {
-    fn work<E: VertexEngine, P: Place>(&mut self, session: Session<E, P>) -> Session<E, P> {
+    fn work<E: VertexEngine, P: SessionPlace>(&mut self, session: Session<E, P>) -> Session<E, P> {
         let begun = Instant::now(self.rt);
         let mut session = session;
         'transfers: for transfer in self.transfers {
@@ -75,7 +77,7 @@ struct Booking {
 }
 
 impl Change for Booking {
-    fn make<E: VertexEngine, P: Place>(
+    fn make<E: VertexEngine, P: SessionPlace>(
         &mut self,
         txn: &mut Transaction<E, P>,
     ) -> Result<(), Refusal> {
@@ -96,7 +98,7 @@ impl Change for Booking {
 }
 
 /// Opens an account that isn't there.
-fn open_account<E: VertexEngine, P: Place>(
+fn open_account<E: VertexEngine, P: SessionPlace>(
     txn: &mut Transaction<E, P>,
     account: u64,
 ) -> Result<(), Refusal>

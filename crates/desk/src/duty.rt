@@ -11,7 +11,7 @@ use crate::watcher::Watcher;
 use std::alloc::Global;
 use std::rt::Clock;
 use std::thread::Threads;
-use teseo_store::{Place, Session, VertexEngine, Work};
+use teseo_store::{Session, SessionPlace, VertexEngine, Work};
 
 /// What one of those at the desk does.
 #[derive(Drop)]
@@ -21,7 +21,7 @@ pub enum Duty<'a, R: Threads + Clock + Eprint + Sync> {
 }
 
 impl<'a, R: Threads + Clock + Eprint + Sync> Work for Duty<'a, R> {
-    fn work<E: VertexEngine, P: Place>(&mut self, session: Session<E, P>) -> Session<E, P> {
+    fn work<E: VertexEngine, P: SessionPlace>(&mut self, session: Session<E, P>) -> Session<E, P> {
         match self {
             Duty::Book(clerk) => clerk.work(session),
             Duty::Watch(watcher) => watcher.work(session),
@@ -38,7 +38,7 @@ pub struct LastLook<'a, R: Threads + Sync> {
 }
 
 impl<'a, R: Threads + Sync> Work for LastLook<'a, R> {
-    fn work<E: VertexEngine, P: Place>(&mut self, session: Session<E, P>) -> Session<E, P> {
+    fn work<E: VertexEngine, P: SessionPlace>(&mut self, session: Session<E, P>) -> Session<E, P> {
         let mut known = KnownRings::nothing(self.alloc);
         let (session, seen) = take_look(&Leave::of(self.rt), self.alloc, session, &mut known);
         self.seen = Some(seen);

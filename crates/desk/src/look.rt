@@ -15,7 +15,7 @@ use crate::ring::Ring;
 use graph_image::{Image, Table, Value};
 use std::alloc::Global;
 use std::thread::Threads;
-use teseo_store::{NotBegun, Place, Session, VertexEngine};
+use teseo_store::{NotBegun, Session, SessionPlace, VertexEngine};
 
 /// So many rounds labels go from account to account.
 const ROUNDS: u32 = 10;
@@ -36,7 +36,7 @@ pub struct Look {
 
 /// Looks at what the store has now. The transaction ends as soon as there is an image of it, so it holds nobody up.
 /// What it finds are rings of the graph of so many commits as it has seen.
-pub fn take_look<R: Threads + Sync, E: VertexEngine, P: Place>(
+pub fn take_look<R: Threads + Sync, E: VertexEngine, P: SessionPlace>(
     rt: &R,
     alloc: Global,
     session: Session<E, P>,
@@ -60,7 +60,7 @@ pub fn take_look<R: Threads + Sync, E: VertexEngine, P: Place>(
 }
 
 /// How many commits there are now.
-pub fn count_commits<E: VertexEngine, P: Place>(
+pub fn count_commits<E: VertexEngine, P: SessionPlace>(
     session: Session<E, P>,
 ) -> (Session<E, P>, Result<u64, LookRefusal>) {
     match session.begin() {

@@ -13,7 +13,7 @@ use std::sync::atomic::{AtomicU64, Ordering};
 use std::thread::Threads;
 use std::time::{Duration, Instant};
 use std::{io, thread};
-use teseo_store::{Place, Session, VertexEngine, Work};
+use teseo_store::{Session, SessionPlace, VertexEngine, Work};
 
 /// So often a watcher looks at most.
 const MOST_LOOKS: u32 = 1_000_000;
@@ -34,7 +34,7 @@ pub struct Watcher<'a, R: Threads + Clock + Eprint + Sync> {
 }
 
 impl<'a, R: Threads + Clock + Eprint + Sync> Work for Watcher<'a, R> {
-    fn work<E: VertexEngine, P: Place>(&mut self, session: Session<E, P>) -> Session<E, P> {
+    fn work<E: VertexEngine, P: SessionPlace>(&mut self, session: Session<E, P>) -> Session<E, P> {
         let mut session = session;
         'looks: for _look in 0..MOST_LOOKS {
             // Before the look: clerks that are done by now have booked all that it is to see.
@@ -64,7 +64,7 @@ fn is_over(busy: &AtomicU64) -> bool {
 }
 
 /// Waits for the next look, but no longer than a clerk is busy, and keeps the store small meanwhile.
-fn rests<R: Clock, E: VertexEngine, P: Place>(
+fn rests<R: Clock, E: VertexEngine, P: SessionPlace>(
     clock: &R,
     busy: &AtomicU64,
     pause: u64,

@@ -12,7 +12,7 @@ mod scans;
 mod session;
 mod transaction;
 
-pub use place::Place;
+pub use place::SessionPlace;
 pub use retry::{Change, RetryError};
 pub use scans::Neighbour;
 pub use session::{NotBegun, Session};

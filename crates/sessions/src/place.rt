@@ -6,12 +6,12 @@ use std::marker::Brand;
 
 /// Which session of its store a session is. Whoever lends sessions says so by a pick, and knows when one comes back
 /// that it is the one that was lent.
-pub trait Place {
+pub trait SessionPlace {
     ghost use Rattle.std.specs.Prelude.{ℕ};
 
     ghost number: { ℕ };
 }
 
-impl Place for Brand {
+impl SessionPlace for Brand {
     ghost number = { 0 };
 }

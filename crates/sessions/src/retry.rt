@@ -6,7 +6,7 @@
 ghost use Rattle.std.specs.Prelude.{IfErr, IfOk};
 ghost use Rattle.sessions.specs.Retries.{EndsAfter, FailsOnce, IsCommitted, IsStopped, TellsConflict};
 
-use crate::place::Place;
+use crate::place::SessionPlace;
 use crate::session::{NotBegun, Session};
 use crate::transaction::{Committed, Transaction};
 use graph_model::{BeginRefusal, Refusal, VertexEngine};
@@ -23,7 +23,7 @@ pub trait Change {
     ghost did: { Self → Account → Result (Unit {0}) Refusal → Self → Account → Type 0 } = { λ _ _ _ _ _. Unit {0} };
 
     /// Reads and writes. Where it answers a refusal, all of it is taken back.
-    fn make<E: VertexEngine, P: Place>(
+    fn make<E: VertexEngine, P: SessionPlace>(
         &mut self,
         txn: &mut Transaction<E, P>,
     ) -> Result<(), Refusal>
@@ -44,7 +44,7 @@ pub enum RetryError {
     Conflicts { tries: u32 },
 }
 
-impl<E: VertexEngine, P: Place> Session<E, P> {
+impl<E: VertexEngine, P: SessionPlace> Session<E, P> {
     /// Makes a change in a transaction of its own and commits it. Where a write meets a conflict the transaction is
     /// taken back, and the change is made again in a new one, which sees more: so many times at most.
     pub fn with_retry<C: Change>(

@@ -9,7 +9,7 @@ ghost use Rattle.graph_model.specs.AccountSteps.{ReadsBy, view_of};
 ghost use Rattle.graph_image.specs.Images.{IsImageOf};
 ghost use Rattle.sessions.specs.Scanned.{neighbour_of, neighbours_of};
 
-use crate::place::Place;
+use crate::place::SessionPlace;
 use crate::transaction::Transaction;
 use graph_image::{Builder, Image};
 use graph_model::{Cursor, Key, NoMemory, Row, Rows64, VertexEngine};
@@ -25,7 +25,7 @@ pub struct Neighbour {
     pub weight: u64,
 }
 
-impl<E: VertexEngine, P: Place> Transaction<E, P> {
+impl<E: VertexEngine, P: SessionPlace> Transaction<E, P> {
     /// The ends of all arcs that lead from a vertex, in rising order.
     pub fn neighbours(&mut self, alloc: Global, v: u64) -> Result<Items<Neighbour>, NoMemory>
         requires within { v ≤ MAX_ID }

@@ -7,13 +7,13 @@ ghost use Rattle.std.specs.Prelude.{◌≡◌, Ok, Err, IfOk, IfErr};
 ghost use Rattle.graph_model.specs.AccountSteps.{BeginsBy, ReadsBy};
 ghost use Rattle.sessions.specs.Sessions.{HasNone};
 
-use crate::place::Place;
+use crate::place::SessionPlace;
 use crate::transaction::Transaction;
 use graph_model::{BeginRefusal, NoMemory, VertexEngine};
 use std::marker::PhantomData;
 
 /// Runs transactions, one after the other. It has none open.
-pub struct Session<E: VertexEngine, P: Place> {
+pub struct Session<E: VertexEngine, P: SessionPlace> {
     /// It has no transaction.
     pub(crate) engine: E,
     pub(crate) of: PhantomData<P>,
@@ -21,14 +21,14 @@ pub struct Session<E: VertexEngine, P: Place> {
 }
 
 /// A session that couldn't begin a transaction, and why.
-pub struct NotBegun<E: VertexEngine, P: Place> {
+pub struct NotBegun<E: VertexEngine, P: SessionPlace> {
     /// As it was.
     pub session: Session<E, P>,
     /// What stood against it.
     pub why: BeginRefusal,
 }
 
-impl<E: VertexEngine, P: Place> Session<E, P> {
+impl<E: VertexEngine, P: SessionPlace> Session<E, P> {
     /// A session of an engine that has no transaction. Whoever lends sessions makes them so.
     pub fn of(engine: E) -> Session<E, P>
         requires { HasNone P.number (E.account engine) }

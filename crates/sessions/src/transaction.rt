@@ -12,13 +12,13 @@ ghost use Rattle.graph_model.specs.Refused.{IsWithinLimits};
 ghost use Rattle.graph_model.specs.Scans.{ScansBy};
 ghost use Rattle.sessions.specs.Sessions.{HasOpen};
 
-use crate::place::Place;
+use crate::place::SessionPlace;
 use crate::session::Session;
 use graph_model::{Begun, Cursor, Refusal, Rows64, VertexEngine, Write};
 use std::marker::PhantomData;
 
 /// A transaction of a session. It sees the commits up to its start, with its own writes, whatever others do.
-pub struct Transaction<E: VertexEngine, P: Place> {
+pub struct Transaction<E: VertexEngine, P: SessionPlace> {
     /// It has this transaction open.
     pub(crate) engine: E,
     /// Its name and its start.
@@ -28,14 +28,14 @@ pub struct Transaction<E: VertexEngine, P: Place> {
 }
 
 /// A session whose transaction was committed, and the stamp, if there was anything to commit.
-pub struct Committed<E: VertexEngine, P: Place> {
+pub struct Committed<E: VertexEngine, P: SessionPlace> {
     /// It has no transaction any more.
     pub session: Session<E, P>,
     /// None where nothing was written.
     pub stamp: Option<u64>,
 }
 
-impl<E: VertexEngine, P: Place> Transaction<E, P> {
+impl<E: VertexEngine, P: SessionPlace> Transaction<E, P> {
     /// How many commits it sees.
     pub fn start(&self) -> u64
         ensures { result ≡ self.now.begun.start }

@@ -14,7 +14,7 @@ ghost use Rattle.teseo_store.specs.Lending.{AreDone, AreInOrder, HoldsIdle, IsDo
 use graph_model::VertexEngine;
 use rebalance_service::below::{Pass, Store};
 use rebalance_service::{Home, Worker};
-use sessions::{Place, Session};
+use sessions::{Session, SessionPlace};
 use std::marker::Brand;
 use std::sync::Wait;
 use std::thread::{Threads, join_mut};
@@ -28,7 +28,7 @@ pub trait Work {
     ghost did: { Self → Account → Self → Account → Type 0 } = { λ _ _ _ _. Unit {0} };
 
     /// Runs transactions, and gives the session back.
-    fn work<E: VertexEngine, P: Place>(&mut self, session: Session<E, P>) -> Session<E, P>
+    fn work<E: VertexEngine, P: SessionPlace>(&mut self, session: Session<E, P>) -> Session<E, P>
         ensures { did self.old (E.account session.engine) self.new (E.account result.engine) };
 }
 
@@ -138,7 +138,7 @@ fn work_in_slot<R: Wait, W: Work>(rt: &R, store: &Store, slot: &mut Option<Pass>
 }
 
 /// Lends a pass as a session, and takes it back.
-fn lend<R: Wait, W: Work, H: Home, P: Place>(
+fn lend<R: Wait, W: Work, H: Home, P: SessionPlace>(
     rt: &R,
     store: &Store,
     pass: Pass,

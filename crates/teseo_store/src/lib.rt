@@ -16,7 +16,7 @@ pub use graph_model::{
 pub use lend::Work;
 pub use rebalance_service::below::{Closed, LoadedRefusal};
 pub use sessions::{
-    Change, Committed, Neighbour, NotBegun, Place, RetryError, Session, Transaction,
+    Change, Committed, Neighbour, NotBegun, RetryError, Session, SessionPlace, Transaction,
 };
 pub use store::Store;
 pub use txn_manager::{Config, StoreRefusal};

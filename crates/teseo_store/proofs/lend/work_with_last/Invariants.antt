@@ -4,5 +4,5 @@ use Rattle.teseo_store.proofs.lend.work_with_last.Given as given
 abbrev pub ghosts-lend-H-Home : given.ghosts-lend-H-Home
 ghosts-lend-H-Home g a = record { home = Some a.store.now }
 
-abbrev pub ghosts-lend-P-Place : given.ghosts-lend-P-Place
-ghosts-lend-P-Place g a = record { number = a.pass.seats.number }
+abbrev pub ghosts-lend-P-SessionPlace : given.ghosts-lend-P-SessionPlace
+ghosts-lend-P-SessionPlace g a = record { number = a.pass.seats.number }

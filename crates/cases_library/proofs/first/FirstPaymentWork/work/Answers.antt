@@ -9,4 +9,4 @@ returns-in-Ok-open_and_pay g c =
     let made = c.open_and_pay.new.txn in
     λ none. committed_payment (account c.args.session.engine) (account begun.engine) (account made.engine) _
     begun.begun.start made.begun.start _ c.in-Ok.ensures.begun.opened c.in-Ok-open_and_pay.ensures
-    (has_open g.P.Place.number made.begun.start (account made.engine) made.is).opened c.commit-session.ensures
+    (has_open g.P.SessionPlace.number made.begun.start (account made.engine) made.is).opened c.commit-session.ensures

@@ -11,8 +11,8 @@ invariant_of-result g c =
     let new = c.begin.new.self in
     let did = g.met.E.Engine.begins old new c.begin.result c.begin.ensures in
     record {
-      is = ∣ begun_open g.P.Place.number _ _ (account old) (account new) did.1 c.in-Ok.begun
-          (has_none g.P.Place.number (account old) c.args.self.is)
+      is = ∣ begun_open g.P.SessionPlace.number _ _ (account old) (account new) did.1 c.in-Ok.begun
+          (has_none g.P.SessionPlace.number (account old) c.args.self.is)
           (subst (λ r. BeginsBy (account old) r (account new)) c.in-Ok.is did.0) ∣₁;
     }
 
@@ -23,7 +23,7 @@ invariant_of-result-in-Err g c =
     let new = c.begin.new.self in
     let did = g.met.E.Engine.begins old new c.begin.result c.begin.ensures in
     record {
-      is = ∣ refused_none g.P.Place.number _ _ (account old) (account new) did.1 c.in-Err.why
-          (has_none g.P.Place.number (account old) c.args.self.is)
+      is = ∣ refused_none g.P.SessionPlace.number _ _ (account old) (account new) did.1 c.in-Err.why
+          (has_none g.P.SessionPlace.number (account old) c.args.self.is)
           (subst (λ r. BeginsBy (account old) r (account new)) c.in-Err.is did.0) ∣₁;
     }

@@ -7,7 +7,7 @@ returns-in-Err-clause-stopped g c =
     let account = g.E.Engine.account in (
       refl {a = c.args.change.now},
       account c.args.self.engine,
-      has_none g.P.Place.number (account c.args.self.engine) c.args.self.is,
+      has_none g.P.SessionPlace.number (account c.args.self.engine) c.args.self.is,
       c.in-Err.ensures.refused,
     )
 
@@ -21,7 +21,7 @@ returns-in-Ok-make-clause-committed g c =
       makes = record {
         start = txn.begun.start;
         opened = account txn.engine;
-        is_open = has_open g.P.Place.number txn.begun.start (account txn.engine) txn.is;
+        is_open = has_open g.P.SessionPlace.number txn.begun.start (account txn.engine) txn.is;
         did_so = subst (λ r. g.C.Change.did c.args.change.now (account txn.engine) r c.make.new.self made)
             c.in-Ok-make.is c.make.ensures;
       };
@@ -38,7 +38,7 @@ returns-in-Err-make-clause-stopped g c =
       makes = record {
         start = txn.begun.start;
         opened = account txn.engine;
-        is_open = has_open g.P.Place.number txn.begun.start (account txn.engine) txn.is;
+        is_open = has_open g.P.SessionPlace.number txn.begun.start (account txn.engine) txn.is;
         did_so = subst (λ r. g.C.Change.did c.args.change.now (account txn.engine) r c.make.new.self made)
             c.in-Err-make.is c.make.ensures;
       };

@@ -9,6 +9,6 @@ invariant_of-result g c =
     let new = c.abort.new.self in
     let did = g.met.E.Engine.aborts old.engine new c.abort.ensures in
     record {
-      is = ∣ aborted_none g.P.Place.number old.begun.start _ _ (account old.engine) (account new) did.1
-          (has_open g.P.Place.number old.begun.start (account old.engine) old.is) did.0 ∣₁;
+      is = ∣ aborted_none g.P.SessionPlace.number old.begun.start _ _ (account old.engine) (account new) did.1
+          (has_open g.P.SessionPlace.number old.begun.start (account old.engine) old.is) did.0 ∣₁;
     }

@@ -9,6 +9,6 @@ invariant_of-result g c =
     let new = c.commit-stamp.new.self in
     let did = g.met.E.Engine.commits old.engine new c.commit-stamp.result c.commit-stamp.ensures in
     record {
-      is = ∣ committed_none g.P.Place.number old.begun.start _ _ (account old.engine) (account new) did.1 c.commit-stamp.result
-          (has_open g.P.Place.number old.begun.start (account old.engine) old.is) did.0 ∣₁;
+      is = ∣ committed_none g.P.SessionPlace.number old.begun.start _ _ (account old.engine) (account new) did.1 c.commit-stamp.result
+          (has_open g.P.SessionPlace.number old.begun.start (account old.engine) old.is) did.0 ∣₁;
     }

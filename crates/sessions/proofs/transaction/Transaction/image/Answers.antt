@@ -11,9 +11,9 @@ pub turns-smaller : goal.turns-smaller
 turns-smaller g c =
     let account = g.E.Engine.account in
     let first = c.args.self.now in
-    let is = has_open g.P.Place.number first.begun.start (account first.engine) first.is in
+    let is = has_open g.P.SessionPlace.number first.begun.start (account first.engine) first.is in
     less_left (view_of (account first.engine) first.begun.start) c.turns.cursor c.scan.new.cursor c.scan.new.rows
-    (scans_first g.P.Place.number first.begun c.turns.self.begun (account first.engine) (account c.turns.self.engine) is
+    (scans_first g.P.SessionPlace.number first.begun c.turns.self.begun (account first.engine) (account c.turns.self.engine) is
     c.turns.invariant.reads c.turns.invariant.begun c.turns.cursor c.scan.new.cursor c.scan.new.rows c.scan.ensures.answer)
     c.turns-test.true
 
@@ -21,7 +21,7 @@ pub push-requires : goal.push-requires
 push-requires g c =
     let account = g.E.Engine.account in
     let first = c.args.self.now in
-    let is = has_open g.P.Place.number first.begun.start (account first.engine) first.is in
+    let is = has_open g.P.SessionPlace.number first.begun.start (account first.engine) first.is in
     let view = view_of (account first.engine) first.begun.start in
     let given = c.scan.new.rows in
     let added = c.saturating_add-count.ensures in
@@ -32,8 +32,8 @@ push-requires g c =
     let count = length-append c.turns.builder given in
     subst (λ more. AreStorable (c.turns.builder ++ more)) (sym c.as_slice.ensures)
     (next_storable view c.turns.builder given c.turns.cursor c.scan.new.cursor
-    (seen_now g.P.Place.number first.begun.start (account first.engine) is) c.turns-test.true c.turns.invariant.scanning
-    (scans_first g.P.Place.number first.begun c.turns.self.begun (account first.engine) (account c.turns.self.engine) is
+    (seen_now g.P.SessionPlace.number first.begun.start (account first.engine) is) c.turns-test.true c.turns.invariant.scanning
+    (scans_first g.P.SessionPlace.number first.begun c.turns.self.begun (account first.engine) (account c.turns.self.engine) is
     c.turns.invariant.reads c.turns.invariant.begun c.turns.cursor c.scan.new.cursor given c.scan.ensures.answer)
     (omega (arith, added, counted, portion, few, most, count)))
 
@@ -41,7 +41,7 @@ pub turns-preserved : goal.turns-preserved
 turns-preserved g c =
     let account = g.E.Engine.account in
     let first = c.args.self.now in
-    let is = has_open g.P.Place.number first.begun.start (account first.engine) first.is in
+    let is = has_open g.P.SessionPlace.number first.begun.start (account first.engine) first.is in
     let view = view_of (account first.engine) first.begun.start in
     let given = c.scan.new.rows in
     let inv = c.turns.invariant in
@@ -59,7 +59,7 @@ turns-preserved g c =
       begun = c.scan.ensures.begun ∙ inv.begun;
       scanning = subst (λ rows. IsScanning view (all_rows view) rows c.scan.new.cursor) (sym pushed)
           (scans_on view (all_rows view) c.turns.builder given c.turns.cursor c.scan.new.cursor c.turns-test.true
-          inv.scanning (scans_first g.P.Place.number first.begun c.turns.self.begun (account first.engine)
+          inv.scanning (scans_first g.P.SessionPlace.number first.begun c.turns.self.begun (account first.engine)
           (account c.turns.self.engine) is inv.reads inv.begun c.turns.cursor c.scan.new.cursor given
           c.scan.ensures.answer));
       counted = omega (arith, added, counted, portion, few, most, count);
@@ -69,17 +69,17 @@ pub finish-requires : goal.finish-requires
 finish-requires g c =
     let account = g.E.Engine.account in
     let first = c.args.self.now in
-    let is = has_open g.P.Place.number first.begun.start (account first.engine) first.is in
+    let is = has_open g.P.SessionPlace.number first.begun.start (account first.engine) first.is in
     let view = view_of (account first.engine) first.begun.start in
     rows_ended c.turns.builder view (subst (λ rows. AreRowsOf rows view)
-    (sym (c.turns.invariant.scanning.all c.turns-test.false)) (seen_now g.P.Place.number first.begun.start (account first.engine) is).rows)
+    (sym (c.turns.invariant.scanning.all c.turns-test.false)) (seen_now g.P.SessionPlace.number first.begun.start (account first.engine) is).rows)
 
 pub returns-clause-answer : goal.returns-clause-answer
 returns-clause-answer g c =
     let account = g.E.Engine.account in
     let first = c.args.self.now in
-    let is = has_open g.P.Place.number first.begun.start (account first.engine) first.is in
+    let is = has_open g.P.SessionPlace.number first.begun.start (account first.engine) first.is in
     let view = view_of (account first.engine) first.begun.start in
     built c.finish.result view (subst (λ rows. AreRowsOf rows view)
     (sym (c.turns.invariant.scanning.all c.turns-test.false))
-    (seen_now g.P.Place.number first.begun.start (account first.engine) is).rows) c.finish.ensures
+    (seen_now g.P.SessionPlace.number first.begun.start (account first.engine) is).rows) c.finish.ensures

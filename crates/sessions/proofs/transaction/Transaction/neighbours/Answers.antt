@@ -11,9 +11,9 @@ pub turns-smaller : goal.turns-smaller
 turns-smaller g c =
     let account = g.E.Engine.account in
     let first = c.args.self.now in
-    let is = has_open g.P.Place.number first.begun.start (account first.engine) first.is in
+    let is = has_open g.P.SessionPlace.number first.begun.start (account first.engine) first.is in
     less_left (view_of (account first.engine) first.begun.start) c.turns.cursor c.scan.new.cursor c.scan.new.rows
-    (scans_first g.P.Place.number first.begun c.turns.self.begun (account first.engine) (account c.turns.self.engine) is
+    (scans_first g.P.SessionPlace.number first.begun c.turns.self.begun (account first.engine) (account c.turns.self.engine) is
     c.turns.invariant.reads c.turns.invariant.begun c.turns.cursor c.scan.new.cursor c.scan.new.rows c.scan.ensures.answer)
     c.turns-test.true
 
@@ -21,7 +21,7 @@ pub turns-preserved : goal.turns-preserved
 turns-preserved g c =
     let account = g.E.Engine.account in
     let first = c.args.self.now in
-    let is = has_open g.P.Place.number first.begun.start (account first.engine) first.is in
+    let is = has_open g.P.SessionPlace.number first.begun.start (account first.engine) first.is in
     let view = view_of (account first.engine) first.begun.start in
     let more = c.scan.new.rows in
     let inv = c.turns.invariant in
@@ -36,7 +36,7 @@ turns-preserved g c =
             ∙ ap (λ ids. ids ++ map neighbour_of more) inv.given.1 ∙ sym (map-append neighbour_of given more),
         scans_on view (rows view (record { src = c.args.v; second = 1 }) (record { src = c.args.v + 1; second = 0 })) given
             more c.turns.cursor c.scan.new.cursor c.turns-test.true inv.given.2
-            (scans_first g.P.Place.number first.begun c.turns.self.begun (account first.engine) (account c.turns.self.engine) is
+            (scans_first g.P.SessionPlace.number first.begun c.turns.self.begun (account first.engine) (account c.turns.self.engine) is
             inv.reads inv.begun c.turns.cursor c.scan.new.cursor more c.scan.ensures.answer),
       );
     }

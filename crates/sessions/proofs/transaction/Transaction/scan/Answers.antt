@@ -11,12 +11,12 @@ invariant_of-self g c =
     let new = c.scan_step.new.self in
     let did = g.met.E.Engine.reads old.engine new c.scan_step.ensures.did in
     record {
-      is = ∣ read_open g.P.Place.number old.begun.start _ _ (account old.engine) (account new) did.1
-          (has_open g.P.Place.number old.begun.start (account old.engine) old.is) did.0 ∣₁;
+      is = ∣ read_open g.P.SessionPlace.number old.begun.start _ _ (account old.engine) (account new) did.1
+          (has_open g.P.SessionPlace.number old.begun.start (account old.engine) old.is) did.0 ∣₁;
     }
 
 pub returns-clause-answer : goal.returns-clause-answer
 returns-clause-answer g c =
     let account = g.E.Engine.account in
     let old = c.args.self.now in
-    at_start g.P.Place.number old.begun.start (account old.engine) old.is (λ s. ScansBy (view_of (account old.engine) s) c.args.cursor.now c.scan_step.new.cursor c.scan_step.new.rows) c.scan_step.ensures.answer
+    at_start g.P.SessionPlace.number old.begun.start (account old.engine) old.is (λ s. ScansBy (view_of (account old.engine) s) c.args.cursor.now c.scan_step.new.cursor c.scan_step.new.rows) c.scan_step.ensures.answer

@@ -12,12 +12,12 @@ invariant_of-self g c =
     let new = c.weight.new.self in
     let did = g.met.E.Engine.reads old.engine new c.weight.ensures.did in
     record {
-      is = ∣ read_open g.P.Place.number old.begun.start _ _ (account old.engine) (account new) did.1
-          (has_open g.P.Place.number old.begun.start (account old.engine) old.is) did.0 ∣₁;
+      is = ∣ read_open g.P.SessionPlace.number old.begun.start _ _ (account old.engine) (account new) did.1
+          (has_open g.P.SessionPlace.number old.begun.start (account old.engine) old.is) did.0 ∣₁;
     }
 
 pub returns-clause-answer : goal.returns-clause-answer
 returns-clause-answer g c =
     let account = g.E.Engine.account in
     let old = c.args.self.now in
-    at_start g.P.Place.number old.begun.start (account old.engine) old.is (λ s. c.weight.result ≡ weight_of (view_of (account old.engine) s) c.args.u c.args.v) c.weight.ensures.answer
+    at_start g.P.SessionPlace.number old.begun.start (account old.engine) old.is (λ s. c.weight.result ≡ weight_of (view_of (account old.engine) s) c.args.u c.args.v) c.weight.ensures.answer
