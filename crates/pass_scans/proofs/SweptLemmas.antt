@@ -45,11 +45,11 @@ not_nobody z v m writer = ap (λ t. t && (m.number == 0)) (apart (nat_lt m.job z
   where
     first : (s t : Bool) → (s && t) ≡ true → s ≡ true
     first true t e = refl
-    first false t e = e
+    first false t e = cc
 
     apart : (t : Bool) → nat_lt m.job z.passes ≡ t → t ≡ true → (m.job == z.passes) ≡ false
-    apart true e yes = grind (arith, nat_tests)
-    apart false e yes = cc
+    apart true e h = grind (arith, nat_tests)
+    apart false e h = cc
 
 module _ (z : Config) (v : Sight) (n : ℕ) where
   -- so a stamp of nobody's changes no record

@@ -29,14 +29,18 @@ end_swept-held-requires-clause-swept g c =
 pub give_cell-requires : goal.give_cell-requires
 give_cell-requires g c =
     let p2 = c.end_swept-held.new.pass in
-    let t = c.end_swept-held.ensures.taken in (
-      state_of p2,
-      pin_of p2,
-      t.0,
-      subst (λ k. HasCellOnly c.args.store.now p2 (state_of p2) (pin_of p2) k t.0 0) (sym c.end_swept-held.ensures.held) t.1.only,
-      t.1.packed,
-      t.1.rests,
-    )
+    let t = c.end_swept-held.ensures.taken in
+    record {
+      taken = (
+        state_of p2,
+        pin_of p2,
+        t.0,
+        subst (λ k. HasCellOnly c.args.store.now p2 (state_of p2) (pin_of p2) k t.0 0) (sym c.end_swept-held.ensures.held)
+            t.1.only,
+        t.1.packed,
+        t.1.rests,
+      );
+    }
 
 pub returns-clause-found : goal.returns-clause-found
 returns-clause-found g c =
