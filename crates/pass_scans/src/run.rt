@@ -67,16 +67,9 @@ pub fn read_packed(
     };
     // With nothing in hand, so it may be waited for as long as it takes.
     let held = take_cell(rt, store, pass, cell);
-    let read = read_held(
-        store,
-        pass,
-        held.cell,
-        &held.value,
-        &snapshot,
-        from,
-        until,
-        run,
-    );
+    let cell = held.cell;
+    let resting = &held.value;
+    let read = read_held(store, pass, cell, resting, &snapshot, from, until, run);
     give_cell(store, pass, held);
     read
 }
@@ -112,17 +105,9 @@ fn read_held(
     // Once for the whole cell: a commit is published by then or isn't, and that for all of its rows alike.
     let clock = learn(store, pass);
     let end = lesser(high, until);
+    let words = words.as_slice();
     read_rows(
-        store,
-        pass,
-        cell,
-        resting,
-        words.as_slice(),
-        clock,
-        snapshot,
-        from,
-        end,
-        run,
+        store, pass, cell, resting, words, clock, snapshot, from, end, run,
     );
     // A guess at what a sweep would find: no clause speaks of it.
     let may_settle = resting.can_settle(snapshot.own, snapshot.start);

@@ -102,15 +102,8 @@ fn write_in_hand(
         start: begun.start,
         own: begun.by,
     };
-    match check(
-        store,
-        pass,
-        &cells.taken,
-        clock,
-        &snapshot,
-        write,
-        has_edges,
-    ) {
+    let taken = &cells.taken;
+    match check(store, pass, taken, clock, &snapshot, write, has_edges) {
         Ok(()) => match lay(store, pass, cells, begun.by, write, rows) {
             Ok(written) => Ok(written),
             Err(NoMemory) => Err(Refusal::NoMemory),
