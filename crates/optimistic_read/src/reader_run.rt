@@ -68,14 +68,8 @@ fn read_block_run(
     }
     let begin = accounts.block_begin(cell);
     let block = Block { cell, begin };
-    let loaded = load_run(
-        accounts,
-        seat,
-        BlockRead { block, first },
-        from,
-        until,
-        rows,
-    );
+    let read = BlockRead { block, first };
+    let loaded = load_run(accounts, seat, read, from, until, rows);
     let second = accounts.reader_second_load(seat, cell);
     if second != first {
         return TriedRun::Busy {

@@ -78,14 +78,8 @@ fn try_block_run(
     }
     let begin = accounts.block_begin(cell);
     let block = Block { cell, begin };
-    let loaded = load_run(
-        accounts,
-        seat,
-        BlockRead { block, first },
-        from,
-        until,
-        rows,
-    );
+    let read = BlockRead { block, first };
+    let loaded = load_run(accounts, seat, read, from, until, rows);
     let second = accounts.second_load(seat, cell);
     if second != first {
         return TriedRun::Busy {

@@ -89,16 +89,8 @@ fn take_turn(
     key.next = key_after(range.high);
     match work {
         MergeWork::Spread(window) => {
-            let turn = spread_in_hand(
-                store,
-                pass,
-                &mut leaves.cells,
-                &mut index,
-                leaf,
-                window,
-                space,
-                alloc,
-            );
+            let cells = &mut leaves.cells;
+            let turn = spread_in_hand(store, pass, cells, &mut index, leaf, window, space, alloc);
             leaves.put_back(store, pass, index);
             turn
         }
@@ -106,9 +98,8 @@ fn take_turn(
         MergeWork::Look(right) => {
             leaves.put_back(store, pass, index);
             let pair = LeafPair { left: leaf, right };
-            merge_with(
-                rt, store, pass, leaves, space, hints, range.low, pair, alloc,
-            )
+            let low = range.low;
+            merge_with(rt, store, pass, leaves, space, hints, low, pair, alloc)
         }
         MergeWork::Nothing => {
             leaves.put_back(store, pass, index);

@@ -38,20 +38,6 @@ use Rattle.pass_scans.specs.Packed.{HasPacked, MayRead, view_seen}
 
 -- ---- the words
 
--- another state of the cell is known
-pub cell_now : (store : Store) (old new : Pass) (st : PassState) (x : PinState) (k : ℕ) (c d : CellState)
-    → HasCellOnly store old st x k c 0 → OnlyAccount old new (with_cell old.account.me.0 k d)
-    → HasCellOnly store new st x k d 0
-cell_now store old new st x k c d has step =
-    let kept = account_keeps old new (with_cell old.account.me.0 k d) step refl refl refl refl refl in
-    let cells = old.account.me.0.cells in
-    cell_stays store old new st st x k c d 0 0 has (self_of store old new has.of kept) step.latch
-    (let room = has.buffers in let same = step.buffers in omega (arith, room, same))
-    (self_state store old new has.of kept ∙ has.state) (self_pin store old new has.of kept)
-    ((λ i. kept_at (step.account.me i).0.cells k) ∙ kept_here cells k d)
-    (λ l other. (λ i. kept_at (step.account.me i).0.cells l) ∙ kept_else cells k d l other)
-    (λ i. (step.account.me i).0.indexes) (λ i. (step.account.me i).0.journals)
-
 -- the block of a cell spells its contents where its version word is odd as well
 pub spells_raised : (c : CellState) → Spells c.block c.segment → Spells (unpacked c).block c.segment
 spells_raised c spells = record {

@@ -1,3 +1,4 @@
 pub mod Packed
+pub mod Swept
 pub mod PassSteps
 pub mod PassSweeps

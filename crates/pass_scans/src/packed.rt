@@ -3,11 +3,11 @@
 //! Its version word becomes odd first, and even again at the end, as it was. Only then it is known that the words are
 //! those of its rows. Whoever reads it without its latch meanwhile tries again.
 
-ghost use Rattle.std.specs.Prelude.{◌≡◌, ◌<◌, ◌==◌, true, false};
-ghost use Rattle.pass_sweeps.specs.CellsModel.Cells.{CellState, last_word, packed, unpacked, version_word};
+ghost use Rattle.std.specs.Prelude.{◌≡◌, ◌<◌};
+ghost use Rattle.pass_sweeps.specs.CellsModel.Cells.{CellState};
 ghost use Rattle.pass_sweeps.specs.CellsModel.Words.{Spells};
 ghost use Rattle.pass_sweeps.specs.Pruning.{FindsWords};
-ghost use Rattle.pass_sweeps.specs.RuleModel.Sight.{HasCell, cells_of, with_cell};
+ghost use Rattle.pass_sweeps.specs.RuleModel.Sight.{HasCell, cells_of};
 ghost use Rattle.pass_sweeps.specs.StoreRule.Passes.{OnlyAccount};
 ghost use Rattle.pass_sweeps.specs.StoreWords.Spelling.{CanSpell};
 ghost use Rattle.pass_sweeps.specs.PassSteps.Passes.{pin_of, state_of};
@@ -15,6 +15,7 @@ ghost use Rattle.pass_scans.specs.Packed.{HasPacked};
 
 use graph_model::Key;
 use pass_cells::below::Rows32;
+use pass_settles::{lower_cell, raise_cell};
 use pass_sweeps::below::{Pass, Store};
 
 /// Loads the rows of a packed cell in hand, each with its value word in place of a weight, and answers its fence keys.
@@ -37,21 +38,6 @@ pub(crate) fn load_packed(
     fences
 }
 
-/// Makes the version word odd, and answers whether it is the last one, which stays for good.
-fn raise_cell(store: &Store, pass: &mut Pass, cell: u32) -> bool
-    requires table { pass.old.account.table_id ≡ store.now.accounts.table.shared.table_id }
-    requires cell { cell < cells_of store.now.accounts.config }
-    requires held { (c : CellState) × HasCell pass.old.account.me.0 cell c × (c.unpacked ≡ false) }
-    ensures raised { (c : CellState) → HasCell pass.old.account.me.0 cell c
-        → OnlyAccount pass.old pass.new (with_cell pass.old.account.me.0 cell (unpacked c)) }
-    ensures told { (c : CellState) → HasCell pass.old.account.me.0 cell c → Spells c.block c.segment }
-    ensures last { (c : CellState) → HasCell pass.old.account.me.0 cell c → result ≡ (version_word c == last_word) }
-{
-    let found = store.accounts.holder_load(&mut pass.account, cell, 0);
-    store.accounts.raise(&mut pass.account, cell);
-    found == u64::MAX
-}
-
 /// Loads its words.
 fn load_words(store: &Store, pass: &mut Pass, cell: u32, words: &mut Rows32) -> (Key, Key)
     requires table { pass.old.account.table_id ≡ store.now.accounts.table.shared.table_id }
@@ -62,16 +48,4 @@ fn load_words(store: &Store, pass: &mut Pass, cell: u32, words: &mut Rows32) -> 
         → CanSpell result.0 result.1 words.new c.segment }
 {
     store.accounts.load_rows(&mut pass.account, cell, words)
-}
-
-/// Makes the version word even again.
-fn lower_cell(store: &Store, pass: &mut Pass, cell: u32, changed: bool)
-    requires table { pass.old.account.table_id ≡ store.now.accounts.table.shared.table_id }
-    requires cell { cell < cells_of store.now.accounts.config }
-    requires held { (c : CellState) × HasCell pass.old.account.me.0 cell c × (c.unpacked ≡ true)
-        × (c.changed ≡ changed) × Spells c.block c.segment }
-    ensures { (c : CellState) → HasCell pass.old.account.me.0 cell c
-        → OnlyAccount pass.old pass.new (with_cell pass.old.account.me.0 cell (packed c)) }
-{
-    store.accounts.lower(&mut pass.account, cell, changed);
 }

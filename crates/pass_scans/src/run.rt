@@ -24,9 +24,19 @@ use std::marker::Brand;
 use std::sync::Wait;
 use undo_chain::Snapshot;
 
-/// Reads the rows that the open transaction sees from a key on and before another, as far as a cell goes, given what its
-/// begin has answered. Answers where they end, or nothing where the cell isn't the first key's. The rows take the place
-/// of those in the buffer. May wait for the cell, and takes no memory.
+/// What was read of a cell.
+#[derive(Clone, Copy, Debug, PartialEq, Eq)]
+pub struct PackedRun {
+    /// Where the rows end that were read.
+    pub end: Key,
+    /// Whether no record in the cell is of a later commit than the transaction's start, or of an open transaction. Then
+    /// a sweep may settle it, unless an older transaction needs its records.
+    pub may_settle: bool,
+}
+
+/// Reads the rows that the open transaction sees from a key on and before another, as far as a cell goes, given what
+/// its begin has answered. Answers where they end, or nothing where the cell isn't the first key's. The rows take the
+/// place of those in the buffer. May wait for the cell, and takes no memory.
 pub fn read_packed(
     rt: &impl Wait,
     store: &Store,
@@ -36,7 +46,7 @@ pub fn read_packed(
     from: Key,
     until: Key,
     run: &mut Rows32,
-) -> Option<Key>
+) -> Option<PackedRun>
     requires pass { IsPassOf store.now pass.old }
     requires none { HoldsNone pass.old }
     requires opened { (state_of pass.old).stage ≡ Open }
@@ -45,8 +55,8 @@ pub fn read_packed(
     ensures pass { IsPassOf store.now pass.new }
     ensures none { HoldsNone pass.new }
     ensures found { FindsWords pass.old pass.new }
-    ensures run { IfSome result (λ end. IsRunTo end (view_seen store.now.accounts.config (state_of pass.old)) from until
-        run.new) }
+    ensures run { IfSome result (λ read. IsRunTo read.end (view_seen store.now.accounts.config (state_of pass.old))
+        from until run.new) }
 {
     if cell >= store.index_place() {
         return None;
@@ -57,18 +67,11 @@ pub fn read_packed(
     };
     // With nothing in hand, so it may be waited for as long as it takes.
     let held = take_cell(rt, store, pass, cell);
-    let end = read_held(
-        store,
-        pass,
-        held.cell,
-        &held.value,
-        &snapshot,
-        from,
-        until,
-        run,
-    );
+    let cell = held.cell;
+    let resting = &held.value;
+    let read = read_held(store, pass, cell, resting, &snapshot, from, until, run);
     give_cell(store, pass, held);
-    end
+    read
 }
 
 /// The same where the cell is in hand.
@@ -81,7 +84,7 @@ fn read_held(
     from: Key,
     until: Key,
     run: &mut Rows32,
-) -> Option<Key>
+) -> Option<PackedRun>
     requires taken { (c : CellState) × HasPacked store.now pass.old (state_of pass.old) (pin_of pass.old) cell c
         × RestsAs c.segment resting.now }
     requires opened { (state_of pass.old).stage ≡ Open }
@@ -90,8 +93,8 @@ fn read_held(
     ensures taken { (c : CellState) × HasPacked store.now pass.new (state_of pass.new) (pin_of pass.new) cell c
         × RestsAs c.segment resting.now }
     ensures found { FindsWords pass.old pass.new }
-    ensures run { IfSome result (λ end. IsRunTo end (view_seen store.now.accounts.config (state_of pass.old)) from until
-        run.new) }
+    ensures run { IfSome result (λ read. IsRunTo read.end (view_seen store.now.accounts.config (state_of pass.old))
+        from until run.new) }
 {
     let mut words = Rows32::new();
     let (low, high) = load_packed(store, pass, cell, &mut words);
@@ -102,19 +105,13 @@ fn read_held(
     // Once for the whole cell: a commit is published by then or isn't, and that for all of its rows alike.
     let clock = learn(store, pass);
     let end = lesser(high, until);
+    let words = words.as_slice();
     read_rows(
-        store,
-        pass,
-        cell,
-        resting,
-        words.as_slice(),
-        clock,
-        snapshot,
-        from,
-        end,
-        run,
+        store, pass, cell, resting, words, clock, snapshot, from, end, run,
     );
-    Some(end)
+    // A guess at what a sweep would find: no clause speaks of it.
+    let may_settle = resting.can_settle(snapshot.own, snapshot.start);
+    Some(PackedRun { end, may_settle })
 }
 
 /// Whether a key stands between fence keys.

@@ -111,7 +111,7 @@ pub(crate) fn stamp_cell(
 }
 
 /// Makes the version word odd, and answers whether it is the last one, which stays for good.
-fn raise_cell(store: &Store, pass: &mut Pass, cell: u32) -> bool
+pub fn raise_cell(store: &Store, pass: &mut Pass, cell: u32) -> bool
     requires table { pass.old.account.table_id ≡ store.now.accounts.table.shared.table_id }
     requires cell { cell < cells_of store.now.accounts.config }
     requires held { (c : CellState) × HasCell pass.old.account.me.0 cell c × (c.unpacked ≡ false) }
@@ -126,7 +126,7 @@ fn raise_cell(store: &Store, pass: &mut Pass, cell: u32) -> bool
 }
 
 /// And even again: two higher than it was, where a word was stored.
-fn lower_cell(store: &Store, pass: &mut Pass, cell: u32, changed: bool)
+pub fn lower_cell(store: &Store, pass: &mut Pass, cell: u32, changed: bool)
     requires table { pass.old.account.table_id ≡ store.now.accounts.table.shared.table_id }
     requires cell { cell < cells_of store.now.accounts.config }
     requires held { (c : CellState) × HasCell pass.old.account.me.0 cell c × (c.unpacked ≡ true)
@@ -138,7 +138,7 @@ fn lower_cell(store: &Store, pass: &mut Pass, cell: u32, changed: bool)
 }
 
 /// Takes the marks off its words.
-fn clear_cell(store: &Store, pass: &mut Pass, cell: u32, resting: &Resting)
+pub fn clear_cell(store: &Store, pass: &mut Pass, cell: u32, resting: &Resting)
     requires table { pass.old.account.table_id ≡ store.now.accounts.table.shared.table_id }
     requires cell { cell < cells_of store.now.accounts.config }
     requires held { (c : CellState) × HasCell pass.old.account.me.0 cell c × (c.unpacked ≡ true) }
@@ -168,7 +168,7 @@ fn know_stamped(store: &Store, pass: &mut Pass, cell: u32, by: TxnName, stamp: u
 }
 
 /// And that they are settled.
-fn know_settled(store: &Store, pass: &mut Pass, cell: u32)
+pub fn know_settled(store: &Store, pass: &mut Pass, cell: u32)
     requires table { pass.old.account.table_id ≡ store.now.accounts.table.shared.table_id }
     requires may { (sweep : Sweep) × CanPruneSeen store.now.accounts.config pass.old.account.me.0 pass.old.number
         (state_of pass.old) (pin_of pass.old) sweep (news_of pass.old.account.me.0 cell

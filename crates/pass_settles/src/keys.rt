@@ -70,20 +70,12 @@ pub fn settle_keys(
 {
     let mut fences = Fences::empty();
     'keys: for place in 0..keys.len() {
-        if fences.holds(keys[place]) {
+        let key = keys[place];
+        let cell = cells[place];
+        if fences.holds(key) {
             continue;
         }
-        match settle_key(
-            rt,
-            store,
-            pass,
-            sweep,
-            by,
-            stamp,
-            unsettled,
-            keys[place],
-            cells[place],
-        ) {
+        match settle_key(rt, store, pass, sweep, by, stamp, unsettled, key, cell) {
             Some(found) => fences = found,
             None => return place,
         }

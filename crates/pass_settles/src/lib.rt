@@ -10,5 +10,6 @@ mod fences;
 mod keys;
 mod marks;
 
+pub use cell::{clear_cell, know_settled, lower_cell, raise_cell};
 pub use fences::Fences;
 pub use keys::{Unsettled, settle_keys};

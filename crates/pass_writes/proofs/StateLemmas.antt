@@ -2,7 +2,9 @@
 use Rattle.std.proofs.Common.{◌≡◌, inl, inr, ℕ, zero, suc, ◌+◌, ◌-◌, ◌≤◌, List, [], ◌∷◌, ◌++◌, take, drop, length, length-append, take_all, refl, sym, ◌∙◌, ap, subst, cond, arith}
 use Rattle.std.specs.Prelude.{Bool, true, false, ◌&&◌, ◌||◌, not, Option, Some, Err, slice_get}
 use Rattle.std.proofs.lemmas.Bool.{or_left, or_right, true≢false}
+use Rattle.epoch_reclaim.specs.declared.sweep.Sweep.{Sweep}
 use Rattle.graph_model.specs.declared.journal.Begun.{Begun}
+use Rattle.graph_model.specs.declared.journal.TxnName.{TxnName}
 use Rattle.graph_model.specs.declared.refusal.Cause.{Cause}
 use Rattle.graph_model.specs.declared.refusal.Cause.TheVariants.{Later, Holder}
 use Rattle.graph_model.specs.declared.refusal.Refusal.{Refusal}
@@ -25,7 +27,7 @@ use Rattle.pass_prunes.specs.StoreRelation.Steps.{meeting, sighting, with_holder
 use Rattle.pass_prunes.specs.StoreRelation.Words.{Look}
 use Rattle.pass_prunes.specs.CellsModel.Cells.{CellState}
 use Rattle.pass_prunes.specs.RuleModel.NoteSteps.{LearnsRows}
-use Rattle.pass_prunes.specs.RuleModel.Sight.{Sight, with_pass, with_rows}
+use Rattle.pass_prunes.specs.RuleModel.Sight.{PinState, Sight, with_pass, with_rows}
 use Rattle.pass_prunes.specs.StoreRule.Passes.{OnlyAccount}
 use Rattle.pass_prunes.specs.StoreRuleDeclared.store.Pass.{Pass}
 use Rattle.pass_prunes.specs.StoreRuleDeclared.store.Store.{Store}
@@ -33,10 +35,11 @@ use Rattle.pass_prunes.specs.PassCells.Changes.{keys_beside}
 use Rattle.pass_prunes.specs.PassCellsDeclared.taken.TakenCell.{TakenCell}
 use Rattle.pass_prunes.specs.PassCells.Holding.{Holds}
 use Rattle.pass_prunes.specs.PassSteps.Asking.{HasLooked, IsSnapshotOf, KnowsLooks}
+use Rattle.pass_prunes.specs.PassSteps.Txns.{HasCommitted}
 use Rattle.pass_prunes.specs.PassSteps.Passes.{IsSamePass, pin_of, reader_of_pass, state_in, state_of}
 use Rattle.pass_prunes.proofs.PassSteps.PassLemmas.{pass_after, pass_has_looked, pass_is_stepped, pin_is, sight_is, state_is}
 use Rattle.pass_prunes.proofs.PassSteps.SightLemmas.{own_rows, state_here}
-use Rattle.pass_settles.specs.Settled.{StampsKeys}
+use Rattle.pass_settles.specs.Settled.{IsSettling, StampsKeys}
 use Rattle.pass_writes.specs.Ending.{AreLeft, AreStampedTo, LeavesRows, keys_changed}
 use Rattle.pass_writes.specs.Found.{Finds}
 use Rattle.pass_writes.specs.Hand.{HasInHand}
@@ -327,6 +330,31 @@ stamps_on kind first old new w ws was left is = (
     not_gone : (q : Key) (b : Bool) → has_key (keys_changed kind w) q ≡ b → has_key new.unstamped q ≡ true → has_key (keys_changed kind w) q ≡ false
     not_gone q true e h = let clash : true ≡ false = sym h ∙ is.gone q e in cc
     not_gone q false e h = e
+
+-- the pass may settle cells of its last commit still
+pub settling_on : (store : Store) (old new : Pass) (sweep : Sweep) (by : TxnName) (stamp : ℕ) (keys : List Key)
+    → IsSettling store old sweep by stamp → LeavesRows keys (state_of old) (state_of new) → pin_of new ≡ pin_of old
+    → IsSamePass old new → IsSettling store new sweep by stamp
+settling_on store old new sweep by stamp keys is state pin same = record {
+  stamping = record {
+    stage = ap (λ (u : PassState). u.stage) state ∙ is.stamping.stage;
+    committed = subst (λ (u : ℕ × PassState). HasCommitted u.0 u.1 stamp) (λ i. (sym same.number i, sym state i)) (record {
+      place = is.stamping.committed.place;
+      commit = is.stamping.committed.commit;
+      at = is.stamping.committed.at;
+      by = is.stamping.committed.by;
+      stamped = is.stamping.committed.stamped;
+    });
+    name = is.stamping.name ∙ (λ i. name_at (sym same.number i) (sym state i));
+  };
+  swept = record {
+    is = ap (λ (x : PinState). x.sweep) pin ∙ is.swept.is;
+    whole = is.swept.whole;
+    seen =
+        let as_far = ap (λ (u : PassState). length u.seen) state in
+        let had = is.swept.seen in omega (arith, as_far, had);
+  };
+}
 
 -- ---- keys whose rows are stamped in part by settling their cells
 

@@ -13,27 +13,27 @@ ghost use Rattle.pass_prunes.specs.PassSteps.Passes.{reader_of_pass, state_of};
 ghost use Rattle.pass_writes.specs.Found.{Finds, view_of};
 ghost use Rattle.pass_writes.specs.Hand.{HasInHand};
 
-use graph_model::{Refusal, Write};
+use graph_model::{Begun, Refusal, Write};
 use pass_prunes::below::{
     Asker, Fingers, NOWHERE, Pass, PassStates, Store, TakenCells, rows_in_hand_are_known,
 };
 use std::marker::Brand;
 use undo_chain::Snapshot;
 
-/// Whether a write of the open transaction may be made, of whose rows the pass has learnt at this clock. Whether the
-/// vertex that it removes has edges was looked for before.
+/// Whether a write of the open transaction, given what its begin has answered, may be made. The pass has learnt of its
+/// rows at this clock. Whether the vertex that it removes has edges was looked for before.
 pub fn check(
     store: &Store,
     pass: &mut Pass,
     taken: &TakenCells,
     clock: u64,
-    snapshot: &Snapshot,
+    begun: Begun,
     write: Write,
     has_edges: bool,
 ) -> Result<(), Refusal>
     requires hand { HasInHand store.now pass.old taken.now.list.items }
     requires learnt { LearnsRows store.now.accounts.config pass.old.account.me.0 (reader_of_pass pass.old) clock }
-    requires snapshot { IsSnapshotOf pass.old snapshot.now }
+    requires begun { IsSnapshotOf pass.old (record { start = begun.start; own = begun.by }) }
     requires within { IsWithinLimits write }
     requires held { AreHeld (rows_in taken.now) (looked_keys write) }
     requires edges { TellsEdges (λ _ answer. answer ≡ has_edges)
@@ -42,7 +42,11 @@ pub fn check(
     ensures found { Finds store.now.accounts.config pass.new.account.me.0 pass.old.number (state_of pass.new)
         write result }
 {
-    check_as::<Brand>(store, pass, taken, clock, snapshot, write, has_edges)
+    let snapshot = Snapshot {
+        start: begun.start,
+        own: begun.by,
+    };
+    check_as::<Brand>(store, pass, taken, clock, &snapshot, write, has_edges)
 }
 
 /// The same by whoever asks.

@@ -6,13 +6,11 @@
 ghost use Rattle.std.specs.Prelude.{◌≡◌, ◌≤◌, [], ◌∷◌, ◌++◌, length, take};
 ghost use Rattle.std.specs.List.{AllByRecursion};
 ghost use Rattle.graph_model.specs.Refused.{IsWithinLimits};
-ghost use Rattle.pass_prunes.specs.StoreRelationDeclared.stage.Stage.TheVariants.{Aborting, Idle};
+ghost use Rattle.pass_prunes.specs.StoreRelationDeclared.stage.Stage.TheVariants.{Aborting};
 ghost use Rattle.pass_prunes.specs.StoreRelation.Steps.{taken_back};
 ghost use Rattle.pass_prunes.specs.PassCells.Changes.{but_newest, keys_beside};
 ghost use Rattle.pass_prunes.specs.PassSteps.Passes.{IsSamePass, name_of_pass, pin_of, state_of};
-ghost use Rattle.pass_prunes.specs.PassSteps.Txns.{HasCommitted};
-ghost use Rattle.pass_prunes.specs.PassSweeps.Sweeping.{HasSwept};
-ghost use Rattle.pass_settles.specs.Settled.{StampsKeys};
+ghost use Rattle.pass_settles.specs.Settled.{IsSettling, StampsKeys};
 ghost use Rattle.pass_writes.specs.Ending.{AreLeft, AreStampedTo, LeavesRows};
 ghost use Rattle.pass_writes.specs.Hand.{HasNothing};
 
@@ -101,11 +99,8 @@ pub fn stamp_all(
     writes: &[Write],
 )
     requires none { HasNothing store.now pass.old cells.old.taken.list.items }
-    requires stage { (state_of pass.old).stage ≡ Idle }
-    requires committed { HasCommitted pass.old.number (state_of pass.old) stamp }
-    requires name { by ≡ name_of_pass pass.old }
+    requires settling { IsSettling store.now pass.old sweep.now by stamp }
     requires left { AreLeft store.now.accounts.config.kind writes.now (state_of pass.old).unstamped }
-    requires swept { HasSwept store.now pass.old sweep.now }
     requires within { AllByRecursion IsWithinLimits writes.now }
     ensures none { HasNothing store.now pass.new cells.new.taken.list.items }
     ensures stamped { LeavesRows [] (state_of pass.old) (state_of pass.new) }
@@ -129,10 +124,7 @@ fn stamp_one(
     write: Write,
 )
     requires none { HasNothing store.now pass.old cells.old.taken.list.items }
-    requires stage { (state_of pass.old).stage ≡ Idle }
-    requires committed { HasCommitted pass.old.number (state_of pass.old) stamp }
-    requires name { by ≡ name_of_pass pass.old }
-    requires swept { HasSwept store.now pass.old sweep.now }
+    requires settling { IsSettling store.now pass.old sweep.now by stamp }
     requires within { IsWithinLimits write }
     ensures none { HasNothing store.now pass.new cells.new.taken.list.items }
     ensures stamped { AreStampedTo store.now.accounts.config.kind write (state_of pass.old) (state_of pass.new) }
@@ -163,10 +155,7 @@ fn settle_cells(
     keys: &[Key],
 ) -> usize
     requires none { HasNothing store.now pass.old cells.old.taken.list.items }
-    requires stage { (state_of pass.old).stage ≡ Idle }
-    requires committed { HasCommitted pass.old.number (state_of pass.old) stamp }
-    requires name { by ≡ name_of_pass pass.old }
-    requires swept { HasSwept store.now pass.old sweep.now }
+    requires settling { IsSettling store.now pass.old sweep.now by stamp }
     requires few { length keys.now ≤ 4 }
     ensures count { result ≤ length keys.now }
     ensures none { HasNothing store.now pass.new cells.new.taken.list.items }
@@ -193,10 +182,7 @@ fn stamp_in_hand(
     keys: &[Key],
 )
     requires none { HasNothing store.now pass.old cells.old.taken.list.items }
-    requires stage { (state_of pass.old).stage ≡ Idle }
-    requires committed { HasCommitted pass.old.number (state_of pass.old) stamp }
-    requires name { by ≡ name_of_pass pass.old }
-    requires swept { HasSwept store.now pass.old sweep.now }
+    requires settling { IsSettling store.now pass.old sweep.now by stamp }
     requires few { length keys.now ≤ 4 }
     ensures none { HasNothing store.now pass.new cells.new.taken.list.items }
     ensures stamped { LeavesRows (keys_beside keys.now (state_of pass.old).unstamped) (state_of pass.old)

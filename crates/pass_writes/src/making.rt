@@ -28,7 +28,7 @@ use pass_prunes::below::{
     name_holder, note_later, rows_in_hand_are_known,
 };
 use std::sync::Wait;
-use undo_chain::{Snapshot, Touched};
+use undo_chain::Touched;
 
 /// What a write that its view allows is answered, and that nobody stands against.
 #[derive(Debug, Drop, PartialEq, Eq)]
@@ -98,19 +98,8 @@ fn write_in_hand(
     rows_in_hand_are_known();
     // Once, with all cells in hand: a commit is published by then or isn't, and that for all of its rows alike.
     let clock = learn(store, pass);
-    let snapshot = Snapshot {
-        start: begun.start,
-        own: begun.by,
-    };
-    match check(
-        store,
-        pass,
-        &cells.taken,
-        clock,
-        &snapshot,
-        write,
-        has_edges,
-    ) {
+    let taken = &cells.taken;
+    match check(store, pass, taken, clock, begun, write, has_edges) {
         Ok(()) => match lay(store, pass, cells, begun.by, write, rows) {
             Ok(written) => Ok(written),
             Err(NoMemory) => Err(Refusal::NoMemory),

@@ -100,16 +100,8 @@ fn scan_cell(
         start: begun.start,
         own: begun.by,
     };
-    let whole = scan_in_hand(
-        store,
-        pass,
-        &cells.taken,
-        clock,
-        &snapshot,
-        cursor,
-        rows,
-        buffer,
-    );
+    let taken = &cells.taken;
+    let whole = scan_in_hand(store, pass, taken, clock, &snapshot, cursor, rows, buffer);
     // Before the next cell is taken: rows may move in between, and the cursor's key finds them where they are.
     put_cells_back(store, pass, cells);
     whole

@@ -29,6 +29,7 @@ use Rattle.pass_room.specs.declared.made.RoomMade.{RoomMade}
 use Rattle.shared_store.specs.declared.pass.Pass.{Pass}
 use Rattle.optimistic_read.specs.Runs.{EndsRun}
 use Rattle.pass_scans.specs.Packed.{IsRunTo, view_seen}
+use Rattle.pass_scans.specs.declared.run.PackedRun.{PackedRun}
 use Rattle.pass_scans.specs.PassSteps.Asking.{IsSnapshotOf}
 use Rattle.pass_scans.specs.PassSweeps.Pruning.{FindsWords}
 use Rattle.shared_store.specs.Passes.{IsIdle, IsOpen, KeepsOpen, account_of, view_in}
@@ -234,11 +235,11 @@ seen_snapshot store pass was begun by start = record {
 }
 
 -- and the rows that were read are those of its view
-pub seen_run : (store : Store) (pass : Pass) → IsOpen store pass → (o : Option Key) (from until : Key) (run : List Row)
-    → IfSome o (λ end. IsRunTo end (view_seen store.accounts.config (state_of pass.seats)) from until run)
-    → IfSome o (λ end. EndsRun end from until × (run ≡ rows (view_in store pass) from end))
-seen_run store pass was None from until run read = tt
-seen_run store pass was (Some end) from until run read = (
-  record { ahead = read.ahead; inside = read.inside },
-  read.run_is ∙ (λ i. rows (view_of (account_of store pass) (sym was.start i)) from end),
+pub seen_run : (store : Store) (pass : Pass) → IsOpen store pass → (o : Option PackedRun) (from until : Key) (run : List Row)
+    → IfSome o (λ read. IsRunTo read.end (view_seen store.accounts.config (state_of pass.seats)) from until run)
+    → IfSome o (λ read. EndsRun read.end from until × (run ≡ rows (view_in store pass) from read.end))
+seen_run store pass was None from until run there = tt
+seen_run store pass was (Some read) from until run there = (
+  record { ahead = there.ahead; inside = there.inside },
+  there.run_is ∙ (λ i. rows (view_of (account_of store pass) (sym was.start i)) from read.end),
 )

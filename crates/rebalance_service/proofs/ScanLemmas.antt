@@ -16,6 +16,7 @@ use Rattle.optimistic_read.specs.declared.tried.TriedRun.{TriedRun}
 use Rattle.optimistic_read.specs.declared.tried.TriedRun.TheVariants.{Rows, Chained}
 use Rattle.optimistic_read.specs.Runs.{EndsRun, IsRun, IsRunUpTo}
 use Rattle.optimistic_read.specs.StoreRuleDeclared.store.Store.{Store}
+use Rattle.pass_scans.specs.declared.run.PackedRun.{PackedRun}
 use Rattle.shared_store.specs.declared.pass.Pass.{Pass}
 use Rattle.shared_store.specs.Passes.{KeepsOpen, view_in}
 
@@ -102,10 +103,11 @@ pub chained_there : (t : TriedRun) (key end : Key) (g : Graph) (from until : Key
 chained_there t key end g from until before after run is = subst (λ a. IsRun a g from until before after) is run
 
 -- what a cell in hand has given
-pub run_there : (o : Option Key) (end : Key) (g : Graph) (from until : Key) (run : List Row)
-    → IfSome o (λ e. EndsRun e from until × (run ≡ rows g from e)) → o ≡ Some end
-    → EndsRun end from until × (run ≡ rows g from end)
-run_there o end g from until run read is = subst (λ a. IfSome a (λ e. EndsRun e from until × (run ≡ rows g from e))) is read
+pub run_there : (o : Option PackedRun) (read : PackedRun) (g : Graph) (from until : Key) (run : List Row)
+    → IfSome o (λ r. EndsRun r.end from until × (run ≡ rows g from r.end)) → o ≡ Some read
+    → EndsRun read.end from until × (run ≡ rows g from read.end)
+run_there o read g from until run there is =
+    subst (λ a. IfSome a (λ (r : PackedRun). EndsRun r.end from until × (run ≡ rows g from r.end))) is there
 
 -- ---- a scan
 

@@ -10,7 +10,7 @@ ghost use Rattle.graph_model.specs.Scans.{ScansBy};
 ghost use Rattle.shared_store.specs.Passes.{account_of};
 ghost use Rattle.rebalance_service.specs.Ready.{HasSeenLegal, IsReady};
 
-use crate::scan_place::{ScanPlace, prune_ahead};
+use crate::scan_place::{ScanPlace, settle_met};
 use crate::{reads, scans};
 use graph_model::{BeginRefusal, Begun, Cursor, Rows64};
 use shared_store::{Pass, Store};
@@ -56,7 +56,7 @@ pub(crate) fn weight(rt: &impl Wait, store: &Store, pass: &mut Pass, u: u64, v: 
     reads::weight(rt, store, pass, u, v)
 }
 
-/// Takes one turn of a scan. Where it has met records, the leaf in which the scan goes on is pruned.
+/// Takes one turn of a scan. A cell in which it has met records is settled after it, where nobody needs them any more.
 pub(crate) fn scan_step(
     rt: &impl Wait,
     store: &Store,
@@ -75,7 +75,7 @@ pub(crate) fn scan_step(
         → ScansBy (view_of (account_of store.now pass.old) start) cursor.old cursor.new rows.new }
 {
     scans::scan_step(rt, store, pass, place, cursor, rows);
-    prune_ahead(rt, store, pass, place, cursor);
+    settle_met(rt, store, pass, place);
 }
 
 /// Commits the open transaction, and answers the stamp, or none where nothing was written.

@@ -1,50 +1,41 @@
-//! Where scans have come to, and leaves that are pruned on their way.
+//! Where a worker's scan has come to, from one step to the next.
 //!
-//! A transaction that scans all rows is open for long, and what is written meanwhile keeps its records until a sweep
-//! comes by. So a scan that meets records prunes the leaf in which it goes on: of that leaf it has less to take by
-//! latches then, and the next scan finds its rows settled.
+//! A scan that has met records in a cell settles that cell after its step, where nobody needs them any more: the next
+//! scan finds its rows settled, and takes no latch.
 
 ghost use Rattle.graph_model.specs.AccountSteps.{ReadsBy};
 ghost use Rattle.shared_store.specs.Passes.{account_of};
 ghost use Rattle.rebalance_service.specs.Ready.{HasSeenLegal, IsReady};
 
-use crate::serve::sweep_here;
-use graph_model::{Cursor, Key};
-use pass_room::below::SweepKey;
+use pass_scans::settle_swept;
 use shared_store::{Pass, Store};
 use std::sync::Wait;
 
-/// After a prune that took no record so many are left out: another transaction is likely to hold them all back.
+/// After a cell that could not be settled so many are left out: another transaction is likely to hold them all back.
 const LEFT_OUT: u32 = 64;
 
 /// Where a worker's last scan has come to. Kept: the cell in which its last step ended, which is likely to have the
-/// next key; whether that step has met records; the leaf that was pruned last, by its keys from where the scan was in
-/// it on; and how many prunes are left out. All of it may be wrong, since rows move, and the next scan may begin
-/// elsewhere. That is harmless: a cell's fence keys tell whether it is the key's, a hint is asked where it isn't, and a
-/// prune changes no view. It costs 48 bytes, and a look at another cell's fence keys where a scan begins elsewhere. It
-/// spares each step of a scan the search among the hints, and prunes no leaf twice.
+/// next key; a cell in which that step has met records that nobody may need any more; and how many of those are left
+/// out. All of it may be wrong, since rows move, and the next scan may begin elsewhere. That is harmless: a cell's
+/// fence keys tell whether it is the key's, a hint is asked where it isn't, and a cell that settles changes no view.
+/// It costs 16 bytes, and a look at another cell's fence keys where a scan begins elsewhere. It spares each step of a
+/// scan the search among the hints.
 #[derive(Clone, Copy, Debug, PartialEq, Eq)]
 pub struct ScanPlace {
     /// In which its last step has ended.
     pub(crate) cell: u32,
-    /// Whether that step has met records.
-    pub(crate) has_met_records: bool,
-    /// Where the leaf that was pruned last begins.
-    from: Key,
-    /// Where it ends.
-    until: Key,
-    /// How many prunes are still left out.
+    /// In which it has met records that a sweep may take.
+    met: Option<u32>,
+    /// How many such cells are still left out.
     left_out: u32,
 }
 
 impl ScanPlace {
-    /// No cell has this number, and no leaf was pruned.
+    /// No cell has this number, and none was met.
     pub(crate) fn nowhere() -> ScanPlace {
         ScanPlace {
             cell: u32::MAX,
-            has_met_records: false,
-            from: Key::END,
-            until: Key::END,
+            met: None,
             left_out: 0,
         }
     }
@@ -54,56 +45,53 @@ impl ScanPlace {
         self.cell = self.cell.saturating_add(1);
     }
 
-    /// Whether the leaf in which a scan goes on is to be pruned: its last step has met records, and the leaf wasn't
-    /// pruned before.
-    fn wants_prune(&mut self, cursor: &Cursor) -> bool {
-        let has_met = self.has_met_records;
-        // What the last step has met is used up, whatever comes of it.
-        self.has_met_records = false;
-        if !has_met || cursor.done || self.is_pruned(cursor.next) {
-            return false;
+    /// Records were met in this cell.
+    pub(crate) fn note_met(&mut self, cell: u32, may_settle: bool) {
+        if may_settle {
+            self.met = Some(cell);
         }
+    }
+
+    /// The cell that is to be settled. What the last step has met is used up, whatever comes of it.
+    fn take_met(&mut self) -> Option<u32> {
+        let cell = self.met?;
+        self.met = None;
         if self.left_out > 0 {
-            // After a prune that took nothing somebody else is likely to hold the records back, so the next ones are
-            // left out.
+            // After a cell that kept its records somebody else is likely to hold back those of the next ones.
             self.left_out -= 1;
-            return false;
+            return None;
         }
-        true
+        Some(cell)
     }
 
-    /// Whether a key is of the leaf that was pruned last.
-    fn is_pruned(&self, key: Key) -> bool {
-        !key.is_below(self.from) && key.is_below(self.until)
-    }
-
-    /// The leaf of a key was pruned. The next one begins there.
-    fn note_pruned(&mut self, key: Key, next: Key, took: bool) {
-        self.from = key;
-        self.until = next;
-        if !took {
+    /// Whether it has settled.
+    fn note_end(&mut self, settled: bool) {
+        if !settled {
             self.left_out = LEFT_OUT;
         }
     }
 }
 
-/// Prunes the leaf in which a scan goes on, where its last step has met records.
-pub(crate) fn prune_ahead(
-    rt: &impl Wait,
-    store: &Store,
-    pass: &mut Pass,
-    place: &mut ScanPlace,
-    cursor: &Cursor,
-)
+/// Settles a cell in which the last step of a scan has met records.
+pub(crate) fn settle_met(rt: &impl Wait, store: &Store, pass: &mut Pass, place: &mut ScanPlace)
     requires ready { ∥ IsReady store.now pass.old ∥₁ }
     ensures ready { ∥ IsReady store.now pass.new ∥₁ }
     ensures legal { HasSeenLegal (account_of store.now pass.new) }
     ensures reads { ReadsBy (account_of store.now pass.old) (account_of store.now pass.new) }
 {
-    if !place.wants_prune(cursor) {
+    let Some(cell) = place.take_met() else {
         return;
-    }
-    let mut key = SweepKey { next: cursor.next };
-    let swept = sweep_here(rt, store, pass, &mut key);
-    place.note_pruned(cursor.next, key.next, swept.took());
+    };
+    let settled = settle_cell(rt, store, pass, cell);
+    place.note_end(settled);
+}
+
+/// Settles a cell of which nobody needs a record, and answers whether it is one.
+fn settle_cell(rt: &impl Wait, store: &Store, pass: &mut Pass, cell: u32) -> bool
+    requires ready { ∥ IsReady store.now pass.old ∥₁ }
+    ensures ready { ∥ IsReady store.now pass.new ∥₁ }
+    ensures legal { HasSeenLegal (account_of store.now pass.new) }
+    ensures reads { ReadsBy (account_of store.now pass.old) (account_of store.now pass.new) }
+{
+    settle_swept(rt, store, &mut pass.seats, &[cell])
 }

@@ -24,7 +24,7 @@ use edge_scan::step;
 use graph_model::{Cursor, Key, Row, Rows64};
 use optimistic_read::{Route, TriedRun, try_run};
 use pass_scans::below::Rows32;
-use pass_scans::read_packed;
+use pass_scans::{PackedRun, read_packed};
 use shared_store::{Pass, Store};
 use std::hint::spin_loop;
 use std::sync::Wait;
@@ -128,8 +128,7 @@ fn read_on(
         TriedRun::Chained { key, end } => {
             // The rows before this one are in the buffer and right; from it on records have to be read.
             cursor.next = key;
-            place.has_met_records = true;
-            read_chained(rt, store, pass, place.cell, cursor, end, rows)
+            read_chained(rt, store, pass, place, cursor, end, rows)
         }
         _ => false,
     }
@@ -152,13 +151,13 @@ fn is_last(end: Key, until: Key, rows: &Rows64) -> bool
     !end.is_below(until) && rows.len() < 64
 }
 
-/// Reads rows by latches, where one has undo records: those of this cell as they lie, or where it isn't the next key's any
-/// more, those before this end. Answers false where they are too many for one portion.
+/// Reads rows by latches, where one has undo records: those of the scan's cell as they lie, or where it isn't the next
+/// key's any more, those before this end. Answers false where they are too many for one portion.
 fn read_chained(
     rt: &impl Wait,
     store: &Store,
     pass: &mut Pass,
-    cell: u32,
+    place: &mut ScanPlace,
     cursor: &mut Cursor,
     end: Key,
     rows: &mut Rows64,
@@ -172,9 +171,11 @@ fn read_chained(
         → IsUnderWay (view_in store.now pass.old) first cursor.new rows.new }
 {
     let mut run = Rows32::new();
+    let cell = place.cell;
     match read_cell(rt, store, pass, cell, cursor.next, cursor.until, &mut run) {
-        Some(end) => {
-            take_run(cursor, end, run.as_slice(), rows);
+        Some(read) => {
+            place.note_met(cell, read.may_settle);
+            take_run(cursor, read.end, run.as_slice(), rows);
             true
         }
         None => read_held(rt, store, pass, cursor, end, rows),
@@ -191,12 +192,12 @@ fn read_cell(
     from: Key,
     until: Key,
     run: &mut Rows32,
-) -> Option<Key>
+) -> Option<PackedRun>
     requires opened { IsOpen store.now pass.old }
     requires ahead { is_below from until ≡ true }
     ensures kept { KeepsOpen store.now pass.old pass.new }
-    ensures run { IfSome result (λ end. EndsRun end from until
-        × (run.new ≡ rows (view_in store.now pass.old) from end)) }
+    ensures run { IfSome result (λ read. EndsRun read.end from until
+        × (run.new ≡ rows (view_in store.now pass.old) from read.end)) }
 {
     let begun = pass.latest();
     read_packed(rt, store, &mut pass.seats, begun, cell, from, until, run)

@@ -104,7 +104,7 @@ fn sweep(
 }
 
 /// Prunes the next leaf, and answers what was swept.
-pub(crate) fn sweep_here(
+fn sweep_here(
     rt: &impl Wait,
     store: &Store,
     pass: &mut Pass,

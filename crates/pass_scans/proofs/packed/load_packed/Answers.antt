@@ -4,7 +4,8 @@ use Rattle.pass_sweeps.specs.CellsModel.Cells.{CellState, packed, unpacked}
 use Rattle.pass_sweeps.specs.PassSteps.Passes.{pin_of, state_of}
 use Rattle.pass_sweeps.proofs.CellLemmas.{account_found, after_learning}
 use Rattle.pass_sweeps.proofs.HandLemmas.{finds_then}
-use Rattle.pass_scans.proofs.PackedLemmas.{cell_now, spells_raised}
+use Rattle.pass_settles.proofs.StepLemmas.{cell_now}
+use Rattle.pass_scans.proofs.PackedLemmas.{spells_raised}
 use Rattle.pass_scans.proofs.packed.load_packed.Goals as goal
 
 pub load_words-fences-requires-clause-table : goal.load_words-fences-requires-clause-table

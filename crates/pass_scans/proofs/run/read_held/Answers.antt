@@ -74,7 +74,7 @@ read_rows-requires-clause-may c =
         sound = spell.sound;
         small = spell.small;
         rests = t.2 ∙ ap (λ (s : VersionedRows). (resting_of s).rows) (sym l.2);
-        words_are = c.as_slice.ensures ∙ spell.rows_are;
+        words_are = c.as_slice-words.ensures ∙ spell.rows_are;
         covered = λ q between. (λ i. is_between (sym spell.low_is i) (sym spell.high_is i) q)
             ∙ run_covered low high c.args.from c.args.until holds q (ap (λ e. is_between c.args.from e q) (sym c.lesser-end.ensures) ∙ between);
       },

@@ -4,8 +4,14 @@ use Rattle.graph_model.specs.declared.write.Write.{Write}
 use Rattle.graph_model.specs.declared.write.Write.TheVariants.{AddVertex}
 use Rattle.pass_prunes.specs.PassSteps.Passes.{state_of}
 use Rattle.pass_writes.specs.Ending.{AreLeft}
-use Rattle.pass_writes.proofs.StateLemmas.{drop_at, drop_end, none_left, same_again, stamps_on}
+use Rattle.pass_writes.proofs.StateLemmas.{drop_at, drop_end, none_left, same_again, settling_on, stamps_on}
 use Rattle.pass_writes.proofs.ending.stamp_all.Goals as goal
+
+pub stamp_one-requires-clause-settling : goal.stamp_one-requires-clause-settling
+stamp_one-requires-clause-settling g c =
+    let inv = c.writes.invariant in
+    settling_on c.args.store.now c.args.pass.now c.writes.pass c.args.sweep.now c.args.by c.args.stamp
+    (state_of c.writes.pass).unstamped c.requires.settling inv.state inv.pin inv.same
 
 pub writes-preserved : goal.writes-preserved
 writes-preserved g c =

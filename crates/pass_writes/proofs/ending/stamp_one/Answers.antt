@@ -3,9 +3,16 @@ use Rattle.graph_model.specs.declared.row.Key.{Key}
 use Rattle.pass_prunes.specs.RowWrites.Written.{rows_of, touched_keys, written_keys}
 use Rattle.pass_prunes.specs.PassCells.Changes.{keys_beside}
 use Rattle.pass_prunes.specs.PassSteps.Passes.{state_of}
+use Rattle.pass_settles.proofs.KeyLemmas.{settling_still}
 use Rattle.pass_writes.specs.Ending.{LeavesRows, keys_changed}
 use Rattle.pass_writes.proofs.StateLemmas.{slice_end, stamps_both}
 use Rattle.pass_writes.proofs.ending.stamp_one.Goals as goal
+
+pub stamp_in_hand-requires-clause-settling : goal.stamp_in_hand-requires-clause-settling
+stamp_in_hand-requires-clause-settling g c =
+    let out = c.settle_cells-settled.ensures in
+    settling_still c.args.store.now c.args.pass.now c.settle_cells-settled.new.pass c.args.sweep.now c.args.by c.args.stamp
+    c.requires.settling out.same.number (state_of c.settle_cells-settled.new.pass).unstamped out.stamped.is out.pin
 
 pub returns-then-settled-keys-clause-stamped : goal.returns-then-settled-keys-clause-stamped
 returns-then-settled-keys-clause-stamped g c =

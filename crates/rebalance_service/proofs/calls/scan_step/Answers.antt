@@ -8,15 +8,15 @@ use Rattle.rebalance_service.proofs.calls.scan_step.Goals as goal
 pub scan_step-requires-clause-opened : goal.scan_step-requires-clause-opened
 scan_step-requires-clause-opened g c = open_kept c.args.store.now c.args.pass.now c.requires.ready c.requires.current
 
-pub prune_ahead-requires : goal.prune_ahead-requires
-prune_ahead-requires g c = record {
+pub settle_met-requires : goal.settle_met-requires
+settle_met-requires g c = record {
   ready = ready_open c.args.store.now c.scan_step.new.pass c.scan_step.ensures.kept.opened;
 }
 
 pub returns-clause-reads : goal.returns-clause-reads
 returns-clause-reads g c =
-    subst (λ a. ReadsBy a (account_of c.args.store.now c.prune_ahead.new.pass)) c.scan_step.ensures.kept.account
-    c.prune_ahead.ensures.reads
+    subst (λ a. ReadsBy a (account_of c.args.store.now c.settle_met.new.pass)) c.scan_step.ensures.kept.account
+    c.settle_met.ensures.reads
 
 pub returns-clause-answer : goal.returns-clause-answer
 returns-clause-answer g c =

@@ -10,12 +10,12 @@ read_cell-requires-clause-ahead g c =
 
 pub take_run-requires-clause-ends : goal.take_run-requires-clause-ends
 take_run-requires-clause-ends g c =
-    (run_there c.read_cell.result c.in-Some.end (view_in c.args.store.now c.args.pass.now) c.args.cursor.now.next c.args.cursor.now.until
+    (run_there c.read_cell.result c.in-Some.read (view_in c.args.store.now c.args.pass.now) c.args.cursor.now.next c.args.cursor.now.until
     c.read_cell.new.run c.read_cell.ensures.run c.in-Some.is).0
 
 pub returns-in-Some-clause-on : goal.returns-in-Some-clause-on
 returns-in-Some-clause-on g c = λ yes first under_way.
     let graph = view_in c.args.store.now c.args.pass.now in
-    let read = run_there c.read_cell.result c.in-Some.end graph c.args.cursor.now.next c.args.cursor.now.until c.read_cell.new.run
+    let read = run_there c.read_cell.result c.in-Some.read graph c.args.cursor.now.next c.args.cursor.now.until c.read_cell.new.run
     c.read_cell.ensures.run c.in-Some.is in
     c.take_run.ensures.under_way graph first (c.as_slice.ensures ∙ read.1) under_way
