@@ -1,2 +1,3 @@
 pub mod WeightLemmas
 pub mod SearchLemmas
+pub mod LotLemmas

@@ -1,7 +1,7 @@
 //! The table of the least weights.
 //!
 //! 1. Buckets are settled one after the other, the least first, until none is in use.
-//! 2. The width of buckets matters for time alone: the contract is that of `kernel_sssp`, and names no width.
+//! 2. The width of buckets matters for time alone, so the contract names none.
 
 ghost use Rattle.std.specs.Prelude.{◌≡◌, ◌<◌, false, length, Err, IfOk, IsTrue};
 ghost use Rattle.graph_model.specs.Graph.{Graph, has_vertex};
@@ -10,16 +10,25 @@ ghost use Rattle.graph_model.specs.declared.table.KernelRefusal.TheVariants as K
 ghost use Rattle.graph_image.specs.Images.{IsImageOf};
 ghost use Rattle.kernel_sssp.specs.Search.{LinkOut, IsSearched};
 
+use crate::lot::Lot;
 use crate::search::BucketSearch;
+use crate::width::width_for;
 use graph_image::{Image, KernelRefusal, NoMemory, Table};
 use kernel_sssp::table_by;
+use rayon::current_num_threads;
 use std::alloc::Global;
 use std::thread::Threads;
+
+/// An image of fewer places isn't worth a thread.
+const SMALL: usize = 16384;
+
+/// More threads than these share the visits no better.
+const MOST_THREADS: usize = 32;
 
 /// The least weight of a walk from the root to each vertex, by buckets of this width, with the answers of
 /// `kernel_sssp`. No clause speaks of running out of memory.
 pub fn run<R: Threads + Sync>(
-    _rt: &R,
+    rt: &R,
     alloc: Global,
     image: &Image,
     root: u64,
@@ -34,13 +43,29 @@ pub fn run<R: Threads + Sync>(
     let Some(place) = image.position(root) else {
         return Err(KernelRefusal::NoRoot);
     };
-    let distances = least_weights(alloc, image, place, width)?;
+    let distances = least_weights(rt, alloc, image, place, width)?;
     let table = table_by(alloc, image, distances.as_slice())?;
     Ok(table)
 }
 
+/// The same by buckets of a width that suits the graph. No clause speaks of running out of memory.
+pub fn run_by_graph<R: Threads + Sync>(
+    rt: &R,
+    alloc: Global,
+    image: &Image,
+    root: u64,
+) -> Result<Table, KernelRefusal>
+    ensures table { IfOk result (λ table. (g : Graph) → IsImageOf image.now g
+        → IsTrue (has_vertex g root) × IsSssp g root table) }
+    ensures no_root { result ≡ Err KernelRefusal.NoRoot → (g : Graph) → IsImageOf image.now g
+        → has_vertex g root ≡ false }
+{
+    run(rt, alloc, image, root, width_for(image))
+}
+
 /// The least weight of a path from the root to each place.
-fn least_weights(
+fn least_weights<R: Threads + Sync>(
+    rt: &R,
     alloc: Global,
     image: &Image,
     root: usize,
@@ -52,9 +77,10 @@ fn least_weights(
         IsSearched (LinkOut image.now) root (length image.now.vertices) distances.items) }
 {
     let mut search = BucketSearch::new(alloc, image.len(), root, width)?;
+    let mut lots = lots_for(rt, alloc, image.len())?;
     'buckets: loop {
         // All visits of the bucket at hand, those that come while it is made among them.
-        search.settle(image)?;
+        search.settle(rt, image, lots.as_mut_slice())?;
         if !search.advance() {
             let BucketSearch {
                 stage: _,
@@ -66,4 +92,16 @@ fn least_weights(
             return Ok(distances);
         }
     }
+}
+
+/// A lot for each thread; none where there is one thread, or the image is small.
+fn lots_for<R: Threads>(rt: &R, alloc: Global, places: usize) -> Result<Vec<Lot>, NoMemory> {
+    let threads = current_num_threads(rt).min(MOST_THREADS);
+    let mut lots = Vec::new(alloc);
+    if places >= SMALL && threads > 1 {
+        'lots: for _lot in 0..threads {
+            lots.push(Lot::new(alloc))?;
+        }
+    }
+    Ok(lots)
 }

@@ -9,8 +9,8 @@ ghost use Rattle.run_model.specs.Commands.{root_of};
 ghost use Rattle.run_model.specs.Answering.{kernel_answer, IsKernelTable};
 ghost use Rattle.line_runner.specs.Kernels.{IsKernelImage};
 
-use delta_sssp::below::run as shortest_paths;
 use delta_sssp::run as shortest_paths_by_buckets;
+use delta_sssp::run_by_graph as shortest_paths;
 use fast_bfs::below::run as breadth_first_search;
 use fast_bfs::run as search_both_ways;
 use graph_image::Image;

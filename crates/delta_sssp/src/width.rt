@@ -1,0 +1,59 @@
+//! The width of buckets that suits a graph.
+//!
+//! 1. The more arcs a place has, the sooner a light one of them leads on, and the narrower are buckets in which hardly a
+//!    place is visited twice: the mean weight divided by the mean number of arcs (Meyer and Sanders divide the greatest
+//!    weight by the greatest number; a few heavy places would make that far too narrow).
+//! 2. With two arcs or fewer at a place, as on a path or in a tree, few ways lead to a place, and narrow buckets would
+//!    hold one or none. They are as wide as some mean weights.
+//! 3. Both are the means of some places alone. The table is the same for any width, so no clause speaks of it.
+
+ghost use Rattle.std.specs.Prelude.{◌<◌};
+
+use graph_image::{Arc, Image};
+
+/// About so many places are looked at.
+const LOOKED_AT: usize = 4096;
+
+/// How many mean weights a bucket is wide where places have few arcs.
+const WIDE: u64 = 64;
+
+/// A width for the search of a graph, at least 1.
+pub fn width_for(image: &Image) -> u32
+    ensures { 0 < result }
+{
+    let stride = image.len() / LOOKED_AT + 1;
+    let mut places = 0u64;
+    let mut arcs = 0u64;
+    let mut weight = 0u64;
+    'places: for number in 0..LOOKED_AT {
+        let place = number.saturating_mul(stride);
+        if place < image.len() {
+            let out = image.out(place);
+            places = places.saturating_add(1);
+            arcs = arcs.saturating_add(out.len() as u64);
+            weight = weight.saturating_add(weight_of(out));
+        }
+    }
+    let mean = weight / arcs.max(1);
+    if arcs <= places.saturating_mul(2) {
+        narrowed(mean.saturating_mul(WIDE))
+    } else {
+        narrowed(mean.saturating_mul(places) / arcs.max(1))
+    }
+}
+
+/// The weight of all of the arcs.
+fn weight_of(arcs: &[Arc]) -> u64 {
+    let mut weight = 0u64;
+    'arcs: for arc in arcs {
+        weight = weight.saturating_add(arc.weight as u64);
+    }
+    weight
+}
+
+/// The nearest width that buckets can have.
+fn narrowed(width: u64) -> u32
+    ensures { 0 < result }
+{
+    width.max(1).min(u32::MAX as u64) as u32
+}
